@@ -1,0 +1,4 @@
+pub mod Fault
+pub mod Numbers
+pub mod Reading
+pub mod Value

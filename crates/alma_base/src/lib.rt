@@ -1,0 +1,12 @@
+//! What every layer speaks of: faults, places, values and the numbers of the language.
+#![tactic(auto)]
+
+mod fault;
+mod number;
+mod place;
+mod value;
+
+pub use fault::{CheckFault, LexFault, NoMemory, RunFault, SyntaxFault};
+pub use number::{Range, ReadInt};
+pub use place::{Place, Status};
+pub use value::{Value, write_value};
