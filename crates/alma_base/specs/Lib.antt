@@ -1,3 +1,5 @@
+pub mod Carry
+pub mod Choice
 pub mod Fault
 pub mod Numbers
 pub mod Reading

@@ -1,5 +1,6 @@
 -- What READ finds in the input, on an INTEGER type.
 use Rattle.std.specs.Prelude.{ℕ, suc, ◌+◌, ◌-◌, ◌*◌, Bool, true, false, ◌&&◌, ◌||◌, nat_eq, nat_le, ℤ, pos, neg_ℤ, List, [], ◌∷◌, drop}
+use Rattle.alma_base.specs.Choice.{if_true}
 use Rattle.alma_base.specs.Numbers.{is_integer}
 use Rattle.alma_base.specs.declared.number.ReadInt.{ReadInt}
 use Rattle.alma_base.specs.declared.number.ReadInt.TheVariants.{Number, NoNumber, TooLarge}
@@ -11,11 +12,6 @@ is_blank c = nat_eq c 32 || nat_eq c 9 || nat_eq c 13 || nat_eq c 10
 -- one of 0 to 9
 abbrev pub is_digit : ℕ → Bool
 is_digit c = nat_le 48 c && nat_le c 57
-
--- the first where the test is true, and else the second
-abbrev pub go_if : {A : Type 0} → Bool → (Unit {0} → A) → A → A
-go_if true go stay = go tt
-go_if false go stay = stay
 
 -- the value with its sign
 abbrev pub signed_value : (negative : Bool) → ℕ → ℤ
@@ -36,20 +32,22 @@ ended true negative value place = sized (is_integer (signed_value negative value
 abbrev pub digits_on : (any negative : Bool) (value place : ℕ) → List ℕ → ReadInt
 digits_on any negative value place [] = ended any negative value place
 digits_on any negative value place (c ∷ rest) =
-    go_if (is_digit c) (λ _. digits_on true negative (value * 10 + (c - 48)) (suc place) rest) (ended any negative value place)
+    if_true (is_digit c) (λ _. digits_on true negative (value * 10 + (c - 48)) (suc place) rest)
+    (λ _. ended any negative value place)
 
 -- an optional sign, and then digits
 abbrev pub sign_on : (place : ℕ) → List ℕ → ReadInt
 sign_on place [] = NoNumber
 sign_on place (c ∷ rest) =
-    go_if (nat_eq c 45) (λ _. digits_on false true 0 (suc place) rest)
-    (go_if (nat_eq c 43) (λ _. digits_on false false 0 (suc place) rest)
-    (digits_on false false 0 place (c ∷ rest)))
+    if_true (nat_eq c 45) (λ _. digits_on false true 0 (suc place) rest)
+    (λ _. if_true (nat_eq c 43) (λ _. digits_on false false 0 (suc place) rest)
+    (λ _. digits_on false false 0 place (c ∷ rest)))
 
 -- any blanks, an optional sign, and then digits
 abbrev pub number_on : (place : ℕ) → List ℕ → ReadInt
 number_on place [] = NoNumber
-number_on place (c ∷ rest) = go_if (is_blank c) (λ _. number_on (suc place) rest) (sign_on place (c ∷ rest))
+number_on place (c ∷ rest) =
+    if_true (is_blank c) (λ _. number_on (suc place) rest) (λ _. sign_on place (c ∷ rest))
 
 -- what READ finds from a place of the input on: the number, and the place behind its last digit
 abbrev pub number_from : List ℕ → ℕ → ReadInt
