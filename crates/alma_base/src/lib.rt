@@ -7,6 +7,6 @@ mod place;
 mod value;
 
 pub use fault::{CheckFault, LexFault, NoMemory, RunFault, SyntaxFault};
-pub use number::{Range, ReadInt};
+pub use number::{Range, ReadInt, div_down, mod_down};
 pub use place::{Place, Status};
 pub use value::{Value, write_value};
