@@ -22,7 +22,7 @@ less_one : (n : ℕ) → pos 1 -ℤ pos (suc n) ≡ neg_ℤ (pos n)
 less_one n = omega (arith, ints)
 
 -- the size of the quotient of a positive number by a negative one
-above_size : (n b : ℕ) → (suc n + b) / suc b ≡ n / suc b + 1
+pub above_size : (n b : ℕ) → (suc n + b) / suc b ≡ n / suc b + 1
 above_size n b =
     let shifted : suc n + b ≡ n + suc b = omega arith in
     ap (λ m. m / suc b) shifted ∙ add-div_right n (omega arith)
