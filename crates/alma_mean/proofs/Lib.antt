@@ -2,3 +2,4 @@ pub mod Extending
 pub mod Rising
 pub mod Results
 pub mod Turns
+pub mod Choices

@@ -4,3 +4,5 @@ pub mod Arithmetic
 pub mod Rows
 pub mod Meaning
 pub mod Laws
+pub mod Build
+pub mod Choices
