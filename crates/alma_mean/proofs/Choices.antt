@@ -3,6 +3,7 @@ use Rattle.std.proofs.Common.{refl}
 use Rattle.alma_mean.specs.Meaning.{ev_stmts}
 use Rattle.alma_mean.specs.Choices.{ChoicesRun}
 
+-- each side computes
 pub choices_run : ChoicesRun
 unfolding ev_stmts
 choices_run = record {

@@ -1,16 +1,14 @@
 -- Words for small programs and for what they print. Variables are named by their slots.
-use Rattle.std.specs.Prelude.{◌≡◌, ℕ, suc, ◌-◌, ◌^◌, Bool, true, false, ℤ, pos, negsuc, List, [], ◌∷◌, ◌++◌, Option, None, Some, codes}
+use Rattle.std.specs.Prelude.{◌≡◌, ℕ, suc, ◌-◌, ◌^◌, true, false, pos, negsuc, List, [], ◌∷◌, ◌++◌, None, Some, codes}
 use Rattle.std.specs.Fmt.{decimal}
 use Rattle.alma_base.specs.declared.number.Range.{Range}
 use Rattle.alma_ir.specs.declared.program.ArgKind.{ArgKind}
 use Rattle.alma_ir.specs.declared.program.Param.{Param}
-use Rattle.alma_ir.specs.declared.phrase.Root.{Root}
 use Rattle.alma_ir.specs.declared.phrase.Root.TheVariants as root
 use Rattle.alma_ir.specs.declared.phrase.Op.{Op}
 use Rattle.alma_ir.specs.declared.phrase.Op.TheVariants as op
-use Rattle.alma_ir.specs.declared.phrase.Cmp.{Cmp}
 use Rattle.alma_ir.specs.declared.phrase.WriteAs.TheVariants as write_as
-use Rattle.alma_ir.specs.Tree.{Stmts, Stmt, Arms, CaseArms, Branches, Test, Tests, Expr, Links, Args, Arg, Desig, Sels, Sel, Routine, Program, no_stmts, more_stmts, TestStmt, Assign, If, ForTo, SomeOf, Either, Forall, WriteExpr, WriteText, no_arms, more_arms, no_cases, more_cases, no_branches, more_branches, a_loop, Value, Bind, Seq, CallTest, no_tests, more_tests, Const, Load, Chain, Compare, Known, CallExpr, no_links, more_links, no_args, more_args, a_desig, no_sels, more_sels, Index}
+use Rattle.alma_ir.specs.Tree.{Stmts, Stmt, Arms, CaseArms, Branches, Test, Tests, Expr, Links, Args, Arg, Desig, Sels, Sel, Routine, Program, no_stmts, more_stmts, TestStmt, Assign, ForTo, SomeOf, Either, Forall, WriteExpr, no_arms, more_arms, no_cases, more_cases, no_branches, more_branches, a_loop, Value, Bind, CallTest, no_tests, more_tests, Const, Load, Chain, Known, CallExpr, no_links, more_links, no_args, more_args, a_desig, no_sels, more_sels, Index}
 use Rattle.alma_mean.specs.Events.{End, first, visit_count}
 use Rattle.alma_mean.specs.Meaning.{ev_program, result}
 
