@@ -1,9 +1,11 @@
 -- More levels only extend the result.
 use Rattle.std.proofs.Common.{◌≡◌, ℕ, zero, suc, ◌+◌, List, [], ◌++◌, refl, ap, ◌∙◌, subst, append_assoc, arith}
+use Rattle.std.specs.Prelude.{false}
+use Rattle.std.proofs.lemmas.Bool.{true≢false}
 use Rattle.alma_ir.specs.Tree.{Program}
-use Rattle.alma_mean.specs.Events.{Events, NoYield, first, prints, end_of, CutOff}
+use Rattle.alma_mean.specs.Events.{Events, NoYield, Visit, Print, Alt, first, prints, end_of, CutOff}
 use Rattle.alma_mean.specs.Meaning.{ev_program}
-use Rattle.alma_mean.specs.Laws.{Extends, on_visit, on_print, on_alt, at_fail, at_fault, at_cut, IsPrefix, ResultStays, PrintsGrow}
+use Rattle.alma_mean.specs.Laws.{Extends, on_visit, on_print, on_alt, at_fail, at_fault, at_cut, IsPrefix, ResultStays, PrintsGrow, ends_in_cut, UncutListsStay}
 use Rattle.alma_mean.proofs.Extending.{same}
 use Rattle.alma_mean.proofs.Rising.{levels_rise}
 
@@ -46,3 +48,20 @@ result_stays p input n k h = let r = stays (further p input n k) h in ap (λ x. 
 
 pub prints_grow : (p : Program) (input : List ℕ) → PrintsGrow p input
 prints_grow p input n k = grows (further p input n k)
+
+-- a list with no Cut is extended by itself alone
+unchanged : {A : Type 0} {e f : Events A} → Extends A e f → ends_in_cut e ≡ false → f ≡ e
+unchanged (on_visit h) n = ap Visit (unchanged h n)
+unchanged (on_print {b = b} h) n = ap (Print b) (unchanged h n)
+unchanged (on_alt {s = s} {w = w} h) n = ap (Alt s w) (unchanged h n)
+unchanged at_fail n = refl
+unchanged at_fault n = refl
+unchanged at_cut n = absurd (true≢false n)
+
+pub uncut_lists_stay : UncutListsStay
+uncut_lists_stay = record {
+  statements = λ e f h n. unchanged h n;
+  expressions = λ e f h n. unchanged h n;
+  designators = λ e f h n. unchanged h n;
+  arguments = λ e f h n. unchanged h n;
+}
