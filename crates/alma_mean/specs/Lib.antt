@@ -12,3 +12,4 @@ pub mod Calls
 pub mod InOut
 pub mod Visits
 pub mod Choices
+pub mod Conditions

@@ -5,6 +5,7 @@ ghost use Rattle.alma_mean.specs.Loops.{LoopsRun, QueensRun};
 ghost use Rattle.alma_mean.specs.Foralls.{ForallsRun};
 ghost use Rattle.alma_mean.specs.Calls.{CallsRun};
 ghost use Rattle.alma_mean.specs.InOut.{InOutRuns};
+ghost use Rattle.alma_mean.specs.Conditions.{ConditionsTell};
 ghost use Rattle.alma_mean.specs.Visits.{VisitsCount};
 
 /// Programs that choose.
@@ -59,4 +60,10 @@ pub fn in_out_runs()
 #[tactic(auto, using(crate::proofs::Visits::visits_count))]
 pub fn visits_count()
     ensures { VisitsCount }
+{}
+
+/// What the conditions on a checked program let through and refuse.
+#[tactic(auto, using(crate::proofs::Conditions::conditions_tell))]
+pub fn conditions_tell()
+    ensures { ConditionsTell }
 {}
