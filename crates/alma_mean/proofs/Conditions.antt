@@ -1,18 +1,20 @@
 -- What the conditions let through and refuse.
-use Rattle.std.proofs.Common.{◌≡◌, ℕ, zero, suc, ◌+◌, ◌<◌, ◌≤◌, refl, ap, arith, inl, inr}
+use Rattle.std.proofs.Common.{◌≡◌, ℕ, zero, suc, ◌<◌, ◌≤◌, refl, ap, arith, inl, inr}
 use Rattle.std.specs.Prelude.{pos, nat_abs, ◌⊎◌, None, Some, is_some, sum_by}
 use Rattle.std.specs.Int.Signed.{le_z_yes}
 use Rattle.std.specs.List.{AllByRecursion}
 use Rattle.std.proofs.lemmas.Bool.{false≢true}
 use Rattle.alma_ir.specs.Phrases.{stmts_phrases}
 use Rattle.alma_ir.specs.Tree.{Routine, routine_at, a_loop, Assign, more_stmts, no_stmts}
-use Rattle.alma_ir.specs.Checked.{IsChecked, ParamsFirst, DeclaredFits, HeadRangesOrdered, RoutineKeepsLimits, EachRoutine, EachPhrase, IsHiddenSlot, CountsApart, RootLeaves, RootExists, PartsExist, CellsAgree, RangesOrdered, IsOrdered, HasStep, LoopIsApart, loops_of, CalleeExists, ResultAgrees, CallFits, HasChoice, ReturnAgrees, ReturnsStay, text_bytes}
+use Rattle.alma_ir.specs.Checked.{IsChecked, ParamsFirst, DeclaredFits, HeadRangesOrdered, RoutineKeepsLimits, EachRoutine, EachPhrase, IsHiddenSlot, RootLeaves, RootExists, PartsExist, CellsAgree, RangesOrdered, IsOrdered, HasStep, LoopIsApart, loops_of, CalleeExists, ResultAgrees, CallFits, HasChoice, ReturnAgrees, ReturnsStay, text_bytes}
 use Rattle.alma_mean.specs.Build.{int, var, held, number, load}
 use Rattle.alma_mean.specs.Conditions.{lives_again, ConditionsTell}
 
+-- the range of INTEGER is in order
 in_order : IsOrdered int
 in_order = le_z_yes tt
 
+-- a step of 1 is no step of 0
 not_zero : pos 1 ≡ pos 0 → ⊥
 not_zero e = let n : 1 ≡ 0 = ap nat_abs e in omega (arith, n)
 
@@ -30,7 +32,7 @@ hidden slot l h = record {
   position = λ e. omega arith;
   params = (inr (omega arith), tt);
   globals = λ e. tt;
-  roots = both (λ holder routine. AllByRecursion (RootLeaves holder 1 slot)  (stmts_phrases routine.body)) (tt, (tt, (tt, (λ e. absurd (omega arith), (tt, (tt, (tt, (tt, (λ e. absurd (omega arith), (tt, (tt, (tt, (λ e. absurd (omega arith), tt))))))))))))) (tt, (λ e. inr (omega arith), (tt, (tt, (tt, (tt, (tt, (λ e. inr (omega arith), tt))))))));
+  roots = both (λ holder routine. AllByRecursion (RootLeaves holder 1 slot) (stmts_phrases routine.body)) (tt, (tt, (tt, (λ e. absurd (omega arith), (tt, (tt, (tt, (tt, (λ e. absurd (omega arith), (tt, (tt, (tt, (λ e. absurd (omega arith), tt))))))))))))) (tt, (λ e. inr (omega arith), (tt, (tt, (tt, (tt, (tt, (λ e. inr (omega arith), tt))))))));
 }
 
 -- the loop's counter and limit
@@ -43,6 +45,7 @@ apart = record {
   nested = (tt, (tt, (tt, (tt, (tt, (tt, (tt, tt)))))));
 }
 
+-- each condition on the phrases of the program that is let through, phrase by phrase
 roots : EachPhrase lives_again (RootExists lives_again)
 unfolding stmts_phrases
 roots = both (λ r routine. AllByRecursion (RootExists lives_again r routine) (stmts_phrases routine.body)) (tt, (tt, (tt, ((record { exist = omega arith; kinds = tt }, λ e. omega arith), (tt, (tt, (tt, (tt, ((record { exist = omega arith; kinds = tt }, λ e. omega arith), (tt, (tt, (tt, ((record { exist = omega arith; kinds = tt }, λ e. omega arith), tt))))))))))))) (tt, ((record { exist = omega arith; kinds = (λ h. inl (omega arith), tt) }, λ e. omega arith), (tt, (tt, (tt, (inl (tt, refl, refl), (tt, ((record { exist = omega arith; kinds = (λ h. inl (omega arith), tt) }, λ e. omega arith), tt))))))))
@@ -100,10 +103,12 @@ outside : (2 < 2) ⊎ (3 ≤ 2) → ⊥
 outside (inl l) = omega (arith, l)
 outside (inr l) = omega (arith, l)
 
+-- that program prints no texts
 texts : sum_by (λ r. sum_by text_bytes (stmts_phrases r.body)) lives_again.routines ≤ 16777216
 unfolding stmts_phrases
 texts = let l : 0 ≤ 16777216 = omega arith in l
 
+-- the program is let through
 passes : IsChecked lives_again
 passes = record {
   body = (omega arith, omega arith);
@@ -129,9 +134,11 @@ passes = record {
   routine_limits = both (λ r routine. RoutineKeepsLimits routine) (record { declared = omega arith; slots = omega arith }) (record { declared = omega arith; slots = omega arith });
 }
 
+-- there is a routine 0
 first_of_one : {r : ℕ} → 0 < suc r
 first_of_one = omega arith
 
+-- and each of the others breaks the condition that is named
 pub conditions_tell : ConditionsTell
 unfolding stmts_phrases
 conditions_tell = record {

@@ -9,7 +9,9 @@ use Rattle.alma_mean.specs.Laws.{Extends, on_visit, on_print, on_alt, at_fail, a
 use Rattle.alma_mean.proofs.Extending.{same}
 use Rattle.alma_mean.proofs.Rising.{levels_rise}
 
-chained : {A : Type 0} {e f g : Events A} → Extends A e f → Extends A f g → Extends A e g
+-- ---- how a list that extends another goes on
+
+pub chained : {A : Type 0} {e f g : Events A} → Extends A e f → Extends A f g → Extends A e g
 chained (on_visit h) (on_visit k) = on_visit (chained h k)
 chained (on_print h) (on_print k) = on_print (chained h k)
 chained (on_alt h) (on_alt k) = on_alt (chained h k)
@@ -26,6 +28,7 @@ stays at_fail n = (refl, refl)
 stays at_fault n = (refl, refl)
 stays at_cut n = absurd (n refl)
 
+-- and in any case its prints are the front of those of the longer list
 grows : {e f : Events NoYield} → Extends NoYield e f → IsPrefix (prints (first e)) (prints (first f))
 grows (on_visit h) = grows h
 grows (on_print {b = b} {e = e} h) = let r = grows h in (r.0, append_assoc b (prints (first e)) r.0 ∙ ap (λ x. b ++ x) r.1)
@@ -34,7 +37,9 @@ grows at_fail = ([], refl)
 grows at_fault = ([], refl)
 grows (at_cut {f = f}) = (prints (first f), refl)
 
-further : (p : Program) (input : List ℕ) (n k : ℕ) → Extends NoYield (ev_program n p input) (ev_program (k + n) p input)
+-- ---- from a level to each higher one, and the laws
+
+pub further : (p : Program) (input : List ℕ) (n k : ℕ) → Extends NoYield (ev_program n p input) (ev_program (k + n) p input)
 further p input n zero =
     let e : n ≡ 0 + n = omega arith in
     subst (λ m. Extends NoYield (ev_program n p input) (ev_program m p input)) e (same _)
@@ -43,9 +48,11 @@ further p input n (suc k) =
     subst (λ m. Extends NoYield (ev_program n p input) (ev_program m p input)) e
     (chained (further p input n k) ((levels_rise p input).program (k + n)))
 
+-- a result that is not cut off is that of each higher level
 pub result_stays : (p : Program) (input : List ℕ) → ResultStays p input
 result_stays p input n k h = let r = stays (further p input n k) h in ap (λ x. (x, end_of (first (ev_program (k + n) p input)))) r.0 ∙ ap (λ x. (prints (first (ev_program n p input)), x)) r.1
 
+-- what is printed is the front of what is printed at each higher level
 pub prints_grow : (p : Program) (input : List ℕ) → PrintsGrow p input
 prints_grow p input n k = grows (further p input n k)
 
@@ -58,6 +65,7 @@ unchanged at_fail n = refl
 unchanged at_fault n = refl
 unchanged at_cut n = absurd (true≢false n)
 
+-- so it is for each sort of phrase
 pub uncut_lists_stay : UncutListsStay
 uncut_lists_stay = record {
   statements = λ e f h n. unchanged h n;
