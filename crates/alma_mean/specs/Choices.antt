@@ -32,8 +32,8 @@ pub record ChoicesRun : Type 0 where
       write (Load (element 1 2 (number 1))) ∷ write (Load (element 1 2 (number 2))) ∷ [])) [] (digits_of (3 ∷ 0 ∷ [])) Succeeded
   -- COMMIT EITHER x := 1 ORELSE x := 2 END END; WRITE(x); x = 2
   pub commit_takes_the_first : Gives 1 (module_of 2 (Commit (stmts (either ((let_be 1 (number 1) ∷ []) ∷ (let_be 1 (number 2) ∷ []) ∷ []) ∷ [])) ∷ write_var 1 ∷ is 1 2 ∷ [])) [] (digits_of (1 ∷ [])) Failed
-  -- EITHER COMMIT FALSE END ORELSE WRITE(1) END: older choices stay
-  pub commit_keeps_older_choices : Gives 1 (module_of 2 (either ((Commit (stmts (fail ∷ [])) ∷ []) ∷ (write (number 1) ∷ []) ∷ []) ∷ [])) [] (digits_of (1 ∷ [])) Succeeded
+  -- EITHER COMMIT TRUE END ORELSE WRITE(1) END; FALSE: older choices stay
+  pub commit_keeps_older_choices : Gives 1 (module_of 2 (either ((Commit (stmts (succeed ∷ [])) ∷ []) ∷ (write (number 1) ∷ []) ∷ []) ∷ fail ∷ [])) [] (digits_of (1 ∷ [])) Failed
   -- NOT (x = 1; FALSE); WRITE(KNOWN(x))
   pub not_binds_nothing : Gives 1 (module_of 2 (TestStmt (Not (Seq (stmts (is 1 1 ∷ fail ∷ [])))) ∷ write_known 1 ∷ [])) [] (codes "FALSE") Succeeded
   -- NOT (WRITE(1); x = 1)
