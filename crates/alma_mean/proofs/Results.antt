@@ -1,4 +1,4 @@
--- More levels only extend the result.
+-- More levels only extend the result: `chained` goes on from list to list, `further` from a level to each higher one.
 use Rattle.std.proofs.Common.{◌≡◌, ℕ, zero, suc, ◌+◌, List, [], ◌++◌, refl, ap, ◌∙◌, subst, append_assoc, arith}
 use Rattle.std.specs.Prelude.{false}
 use Rattle.std.proofs.lemmas.Bool.{true≢false}
@@ -8,8 +8,6 @@ use Rattle.alma_mean.specs.Meaning.{ev_program}
 use Rattle.alma_mean.specs.Laws.{Extends, on_visit, on_print, on_alt, at_fail, at_fault, at_cut, IsPrefix, ResultStays, PrintsGrow, ends_in_cut, UncutListsStay}
 use Rattle.alma_mean.proofs.Extending.{same}
 use Rattle.alma_mean.proofs.Rising.{levels_rise}
-
--- ---- how a list that extends another goes on
 
 pub chained : {A : Type 0} {e f g : Events A} → Extends A e f → Extends A f g → Extends A e g
 chained (on_visit h) (on_visit k) = on_visit (chained h k)
@@ -36,8 +34,6 @@ grows (on_alt h) = ([], refl)
 grows at_fail = ([], refl)
 grows at_fault = ([], refl)
 grows (at_cut {f = f}) = (prints (first f), refl)
-
--- ---- from a level to each higher one, and the laws
 
 pub further : (p : Program) (input : List ℕ) (n k : ℕ) → Extends NoYield (ev_program n p input) (ev_program (k + n) p input)
 further p input n zero =
