@@ -1,7 +1,7 @@
 // Files in memory.
 ghost use Rattle.std.specs.Prelude.{◌≡◌, ◌≢◌, ◌≤◌, ◌<◌, ◌^◌, ◌↔◌, List, ℕ, None, Some, length, IfOk, OnOk, OnErr, IsErrOf, MatchOption};
 ghost use Rattle.std.specs.FinMap as map;
-ghost use Rattle.alma_io.specs.Files.{IsFetched, IsStored};
+ghost use Rattle.alma_io.specs.Files.{MayPass, IsFetched, IsStored};
 ghost use Rattle.alma_io.specs.Memory.{told_by, FailsNext, after_fetch, after_store};
 ghost use Rattle.alma_io.specs.Named.{named_bytes};
 
@@ -106,6 +106,10 @@ impl Files for MemFiles {
 
         // Which calls fail, and what stays.
         ensures fails { IsErrOf result Fetch.Failed ↔ FailsNext self.old.schedule }
+        ensures absent { IsErrOf result Fetch.Absent ↔ (¬ FailsNext self.old.schedule
+            × (map.get self.old.files name.now ≡ None)) }
+        ensures too_long { IsErrOf result Fetch.TooLong ↔ (¬ FailsNext self.old.schedule
+            × MayPass (told_by (map.get self.old.files name.now)) limit) }
         ensures after { self.new ≡ after_fetch self.old result }
     {
         if self.schedule.fails_next() {
