@@ -24,8 +24,8 @@ find-map : (name : List ℕ) (files : List (String Global × Vec ℕ))
 find-map name [] = refl
 find-map name (file ∷ files) =
     elim (is_eq (slice_cmp nat_cmp name (string_bytes file.0))) as (λ b.
-      cond b (Some file.1.items) (finite.find (slice_cmp nat_cmp) name (map (λ file. (string_bytes file.0, file.1.items)) files))
-      ≡ option_map (λ v. v.items) (cond b (Some file.1) (lookup (is_at (λ k. slice_cmp nat_cmp name (string_bytes k))) files)))
+    cond b (Some file.1.items) (finite.find (slice_cmp nat_cmp) name (map (λ file. (string_bytes file.0, file.1.items)) files))
+    ≡ option_map (λ v. v.items) (cond b (Some file.1) (lookup (is_at (λ k. slice_cmp nat_cmp name (string_bytes k))) files)))
     [ true ↦ refl | false ↦ find-map name files ]
 
 -- what a map has at a name is what the names with their bytes have
@@ -49,12 +49,12 @@ pub named_bytes-insert : (old new : BTreeMap (String Global) (Vec ℕ)) (key : S
     → named_bytes new ≡ finite.insert (named_bytes old) (string_bytes key) v.items
 named_bytes-insert old new key v h =
     finite.same_map nat_list_cmp_total (finite.slice_cmp-IsAntisymmetric finite.nat_cmp-IsAntisymmetric) _ _ (λ q.
-      get-named_bytes new q
-      ∙ ap (option_map (λ w. w.items)) (btree_map_updates_text (string_bytes key) old new (Some v) h q)
-      ∙ option_map-cond (bytes_eq (string_bytes key) q) v (get_by_text old q)
-      ∙ ap (cond (bytes_eq (string_bytes key) q) (Some v.items)) (sym (get-named_bytes old q))
-      ∙ ap (λ b. cond b (Some v.items) (finite.get (named_bytes old) q)) (sym (ties q (string_bytes key)))
-      ∙ sym (finite.get-insert nat_list_cmp_total (named_bytes old) (string_bytes key) v.items q))
+    get-named_bytes new q
+    ∙ ap (option_map (λ w. w.items)) (btree_map_updates_text (string_bytes key) old new (Some v) h q)
+    ∙ option_map-cond (bytes_eq (string_bytes key) q) v (get_by_text old q)
+    ∙ ap (cond (bytes_eq (string_bytes key) q) (Some v.items)) (sym (get-named_bytes old q))
+    ∙ ap (λ b. cond b (Some v.items) (finite.get (named_bytes old) q)) (sym (ties q (string_bytes key)))
+    ∙ sym (finite.get-insert nat_list_cmp_total (named_bytes old) (string_bytes key) v.items q))
 
 -- the name that was set
 pub get-insert_same : (files : NamedBytes) (name bytes : List ℕ) → finite.get (finite.insert files name bytes) name ≡ Some bytes
@@ -68,7 +68,7 @@ pub get-insert_other : (files : NamedBytes) (name bytes other : List ℕ) → ot
 get-insert_other files name bytes other apart =
     finite.get-insert nat_list_cmp_total files name bytes other
     ∙ ap (λ b. cond b (Some bytes) (finite.get files other))
-      (ties other name ∙ false_from_ne_true (bytes_eq name other) (λ e. apart (sym ((bytes_decides name other).0 e))))
+    (ties other name ∙ false_from_ne_true (bytes_eq name other) (λ e. apart (sym ((bytes_decides name other).0 e))))
 
 -- a name that is told to have these bytes now
 pub now_has : (old new : Told) (bytes : List ℕ) → new ≡ Has bytes → NowHas old new bytes

@@ -64,7 +64,11 @@ impl MemFiles {
     /// No files. `fails` lists the calls, from 1, that fail.
     pub fn new(alloc: Global, fails: &[u64]) -> Result<MemFiles, NoMemory>
         ensures { IfOk result (λ files. files ≡ record {
-            files = map.empty; schedule = record { fails = fails.now; calls = 0 }; fetch_faults = 0; store_faults = 0 }) }
+          files = map.empty;
+          schedule = record { fails = fails.now; calls = 0 };
+          fetch_faults = 0;
+          store_faults = 0;
+        }) }
     {
         Ok(MemFiles {
             files: BTreeMap::new(alloc),
@@ -147,5 +151,99 @@ impl Files for MemFiles {
             Ok(()) => Ok(()),
             Err(NoMemory) => Err(StoreFault::Memory),
         }
+    }
+}
+
+#[cfg(test)]
+mod tests {
+    use super::*;
+    use std::test::Fail;
+
+    struct Row {
+        fails: &'static [u64],
+        stored: Result<(), StoreFault>,
+        name: &'static str,
+        limit: usize,
+        fetched: Result<&'static [u8], Fetch>,
+        got: Option<&'static [u8]>,
+    }
+
+    const ROWS: [Row; 7] = [
+        Row {
+            fails: &[],
+            stored: Ok(()),
+            name: "b.al",
+            limit: 5,
+            fetched: Ok(b"later"),
+            got: Some(b"later"),
+        },
+        Row {
+            fails: &[],
+            stored: Ok(()),
+            name: "b.al",
+            limit: 4,
+            fetched: Err(Fetch::TooLong),
+            got: Some(b"later"),
+        },
+        Row {
+            fails: &[],
+            stored: Ok(()),
+            name: "a.al",
+            limit: 5,
+            fetched: Ok(b"first"),
+            got: Some(b"first"),
+        },
+        Row {
+            fails: &[],
+            stored: Ok(()),
+            name: "c.al",
+            limit: 5,
+            fetched: Err(Fetch::Absent),
+            got: None,
+        },
+        Row {
+            fails: &[1],
+            stored: Err(StoreFault::Failed),
+            name: "b.al",
+            limit: 5,
+            fetched: Ok(b"other"),
+            got: Some(b"other"),
+        },
+        Row {
+            fails: &[2],
+            stored: Ok(()),
+            name: "b.al",
+            limit: 5,
+            fetched: Err(Fetch::Failed),
+            got: Some(b"later"),
+        },
+        Row {
+            fails: &[1, 2],
+            stored: Err(StoreFault::Failed),
+            name: "c.al",
+            limit: 5,
+            fetched: Err(Fetch::Failed),
+            got: None,
+        },
+    ];
+
+    #[test]
+    fn files_are_stored_and_fetched_and_fail_as_listed(rt: HostRuntime) -> Result<(), Fail> {
+        for row in &ROWS {
+            assert!(rt; row.limit < 10);
+            let mut files = MemFiles::new(rt.alloc(), row.fails)?;
+            files.put(rt.alloc(), "a.al", b"first")?;
+            files.put(rt.alloc(), "b.al", b"other")?;
+            assert_eq!(rt; files.store(rt.alloc(), "b.al", b"later"), row.stored);
+            match (files.fetch(rt.alloc(), row.name, row.limit), row.fetched) {
+                (Ok(bytes), Ok(want)) => assert_eq!(rt; bytes.as_slice(), want),
+                (got, want) => assert_eq!(rt; got.err(), want.err()),
+            }
+            match (files.get(row.name), row.got) {
+                (Some(bytes), Some(want)) => assert_eq!(rt; bytes, want),
+                (got, want) => assert_eq!(rt; got.is_some(), want.is_some()),
+            }
+        }
+        Ok(())
     }
 }

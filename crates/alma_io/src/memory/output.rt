@@ -37,7 +37,12 @@ impl MemSink {
     pub fn new(alloc: Global, room: usize, piece: usize, fails: &[u64]) -> Result<MemSink, NoMemory>
         requires { 0 < piece }
         ensures { IfOk result (λ sink. sink ≡ record {
-            written = []; room = room; piece = piece; schedule = record { fails = fails.now; calls = 0 }; faults = 0 }) }
+          written = [];
+          room = room;
+          piece = piece;
+          schedule = record { fails = fails.now; calls = 0 };
+          faults = 0;
+        }) }
     {
         Ok(MemSink {
             bytes: Vec::with_capacity(alloc, room)?,
@@ -84,5 +89,64 @@ impl Sink for MemSink {
             Ok(()) => Ok(count),
             Err(_) => unreachable!(),
         }
+    }
+}
+
+#[cfg(test)]
+mod tests {
+    use super::*;
+    use std::test::Fail;
+
+    struct Row {
+        room: usize,
+        piece: usize,
+        fails: &'static [u64],
+        // How many bytes each write of "abc" takes, and None where it fails.
+        writes: &'static [Option<usize>],
+        bytes: &'static [u8],
+    }
+
+    const ROWS: [Row; 4] = [
+        Row {
+            room: 9,
+            piece: 9,
+            fails: &[],
+            writes: &[Some(3), Some(3)],
+            bytes: b"abcabc",
+        },
+        Row {
+            room: 9,
+            piece: 2,
+            fails: &[1, 3],
+            writes: &[None, Some(2), None, Some(2)],
+            bytes: b"abab",
+        },
+        Row {
+            room: 4,
+            piece: 9,
+            fails: &[],
+            writes: &[Some(3), Some(1), None, None],
+            bytes: b"abca",
+        },
+        Row {
+            room: 0,
+            piece: 1,
+            fails: &[],
+            writes: &[None],
+            bytes: b"",
+        },
+    ];
+
+    #[test]
+    fn a_sink_takes_pieces_and_fails_as_listed_or_full(rt: HostRuntime) -> Result<(), Fail> {
+        for row in &ROWS {
+            assert!(rt; row.piece > 0);
+            let mut sink = MemSink::new(rt.alloc(), row.room, row.piece, row.fails)?;
+            for want in row.writes {
+                assert_eq!(rt; sink.write(b"abc").ok(), *want);
+            }
+            assert_eq!(rt; sink.bytes(), row.bytes);
+        }
+        Ok(())
     }
 }

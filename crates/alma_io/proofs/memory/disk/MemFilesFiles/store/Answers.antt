@@ -22,9 +22,9 @@ returns-clause-answer c =
     let counts : c.self.inside.store_faults ≡ c.args.self.now.store_faults = ap (λ s. s.store_faults) c.self.view_is in
     elim c.match-set_file.branch [
       | in-Ok w ↦ rw w.result-is (
-          now_has _ _ _ (ap (λ (m : NamedBytes). told_by (get m c.args.name.now)) w.in-Ok.ensures.ok
+        now_has _ _ _ (ap (λ (m : NamedBytes). told_by (get m c.args.name.now)) w.in-Ok.ensures.ok
             ∙ ap told_by (get-insert_same _ c.args.name.now c.args.bytes.now)),
-          counts,
-        )
+        counts,
+      )
       | in-Err w ↦ rw w.result-is (ap (λ (m : NamedBytes). told_by (get m c.args.name.now)) (w.in-Err.ensures.err ∙ old), counts)
     ]
