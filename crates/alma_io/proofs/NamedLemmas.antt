@@ -1,6 +1,6 @@
 -- Names with their bytes, in a map with texts as keys.
 use Rattle.std.proofs.Common.{◌≡◌, ◌≢◌, ◌∙◌, ℕ, List, [], ◌∷◌, Bool, true, false, cond, map, ap, sym, refl}
-use Rattle.std.specs.Prelude.{Option, None, Some, String}
+use Rattle.std.specs.Prelude.{Option, Some, String}
 use Rattle.std.specs.Option.{option_map}
 use Rattle.std.specs.Global.{Vec}
 use Rattle.std.specs.declared.alloc.Global.{Global}

@@ -1,5 +1,5 @@
 -- A map with texts as keys, seen as names with their bytes.
-use Rattle.std.specs.Prelude.{ℕ, List, String, map}
+use Rattle.std.specs.Prelude.{ℕ, String, map}
 use Rattle.std.specs.Global.{Vec}
 use Rattle.std.specs.declared.alloc.Global.{Global}
 use Rattle.std.specs.String.{string_bytes}

@@ -1,4 +1,4 @@
-use Rattle.std.proofs.Common.{◌≡◌, ◌≤◌, ◌<◌, ◌∙◌, ◌++◌, true, is_ok, arith, rules, length, take, vec_len}
+use Rattle.std.proofs.Common.{◌≡◌, ◌<◌, ◌∙◌, ◌++◌, true, is_ok, arith, rules, length, take, vec_len}
 use Rattle.std.proofs.lemmas.List.{take_all, take-append-le}
 use Rattle.alma_io.proofs.Known.{consumes_none, consumes_trans}
 use Rattle.alma_io.proofs.ReadLemmas.{read_all_gives, read_past}

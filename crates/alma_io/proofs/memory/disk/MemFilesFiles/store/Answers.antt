@@ -1,5 +1,5 @@
 use Rattle.std.proofs.Common.{◌≡◌, ◌∙◌, ap}
-use Rattle.std.specs.FinMap.{get, insert}
+use Rattle.std.specs.FinMap.{get}
 use Rattle.alma_io.specs.Memory.{told_by, NamedBytes}
 use Rattle.alma_io.specs.Named.{named_bytes}
 use Rattle.alma_io.proofs.NamedLemmas.{get-insert_same, get-insert_other, now_has}
