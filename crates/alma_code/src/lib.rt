@@ -2,7 +2,13 @@
 #![tactic(auto)]
 
 mod cell;
+mod code;
 mod head;
+mod instr;
+mod step;
 
 pub use cell::{Cell, CellPlace, ChoiceKind, SlotKind};
+pub use code::{Code, CodeGlobal, RoutineHead};
 pub use head::{CodeParam, Head, ParamKind, Run};
+pub use instr::{Instr, Word};
+pub use step::{End, Step, VerifyFault};
