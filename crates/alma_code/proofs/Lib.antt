@@ -1,1 +1,10 @@
+mod Acts
+mod Calls
 pub mod Heads
+mod Ranges
+pub mod Ready
+pub mod Runs
+mod Steps
+pub mod Tables
+pub mod Verdicts
+pub mod Writes
