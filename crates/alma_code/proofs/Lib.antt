@@ -7,4 +7,5 @@ pub mod Runs
 mod Steps
 pub mod Tables
 pub mod Verdicts
+mod Computed
 pub mod Writes

@@ -1,0 +1,212 @@
+//! Small codes that are run and judged by computing, each in the contract of a function that does nothing.
+ghost use Rattle.std.specs.Prelude.{◌≡◌, ◌-◌, ◌^◌, true, false, pos, negsuc, [], ◌∷◌, length, take, codes, None};
+ghost use Rattle.std.specs.Fmt.{decimal, signed_decimal};
+ghost use Rattle.alma_base.specs.declared.fault.RunFault.TheVariants as fault;
+ghost use Rattle.alma_code.specs.declared.cell.Cell.TheVariants as cell;
+ghost use Rattle.alma_code.specs.declared.head.ParamKind.TheVariants as param;
+ghost use Rattle.alma_code.specs.declared.instr.Instr.TheVariants as I;
+ghost use Rattle.alma_code.specs.declared.step.End.TheVariants as end;
+ghost use Rattle.alma_code.specs.declared.step.Step.TheVariants as answer;
+ghost use Rattle.alma_code.specs.Picture.{last_frame, top_of};
+ghost use Rattle.alma_code.specs.Machine.{step, start};
+ghost use Rattle.alma_code.specs.Rules.{code_fault};
+ghost use Rattle.alma_code.specs.Worked.{Ends, Prints, Breaks, state_after, change_of, param_of, numbers_to, places_to, marks_to, routine_to, code_with, main_with, plain_main, least, branch_undone, choices_cut, sum_carried, carry_grows, left_unknown, right_unknown, both_unknown, out_of_range, cells_equated, mix_called, frame_again, function_called, frame_too_large, input_again, read_one, loop_counts, values_print, operation, index_outside};
+
+/// The least code is sound, and its first step ends it in success.
+#[tactic(auto, using(crate::proofs::Computed::least_code_sound, crate::proofs::Computed::least_code_ends, crate::proofs::Computed::least_code_prints))]
+pub fn least_code()
+    ensures sound { code_fault least ≡ None }
+    ensures ends { Ends least [] 1 end.Succeeded }
+    ensures prints { Prints least [] 1 [] }
+{}
+
+/// A failing branch leaves the frames as they were when its entry was pushed. What it printed stays.
+#[tactic(auto, using(crate::proofs::Computed::branch_comes_back_sound, crate::proofs::Computed::branch_comes_back_restores, crate::proofs::Computed::branch_comes_back_popped, crate::proofs::Computed::branch_comes_back_ends, crate::proofs::Computed::branch_comes_back_prints))]
+pub fn branch_comes_back()
+    ensures sound { code_fault branch_undone ≡ None }
+    ensures restores { (state_after branch_undone [] 5).now ≡ (start branch_undone).now }
+    ensures popped { (step branch_undone [] (state_after branch_undone [] 4)).answer ≡ answer.Popped 1 }
+    ensures ends { Ends branch_undone [] 6 end.Succeeded }
+    ensures prints { Prints branch_undone [] 6 (codes "Hi" ∷ []) }
+{}
+
+/// After a cut a failure finds no entry. The pop that finds none is a step and is not counted in the pops.
+#[tactic(auto, using(crate::proofs::Computed::cut_drops_choices_sound, crate::proofs::Computed::cut_drops_choices_cut, crate::proofs::Computed::cut_drops_choices_ends, crate::proofs::Computed::cut_drops_choices_prints, crate::proofs::Computed::cut_drops_choices_steps, crate::proofs::Computed::cut_drops_choices_choices, crate::proofs::Computed::cut_drops_choices_fails))]
+pub fn cut_drops_choices()
+    ensures sound { code_fault choices_cut ≡ None }
+    ensures cut { (step choices_cut [] (state_after choices_cut [] 4)).answer ≡ answer.Cut 0 }
+    ensures ends { Ends choices_cut [] 8 end.Failed }
+    ensures prints { Prints choices_cut [] 8 (decimal 1 ∷ []) }
+    ensures steps { (state_after choices_cut [] 8).steps ≡ 8 }
+    ensures choices { (state_after choices_cut [] 8).choices ≡ 1 }
+    ensures fails { (state_after choices_cut [] 8).fails ≡ 0 }
+{}
+
+/// A body sees what the bodies before it kept, and the variable of the alternatives is unknown at the end.
+#[tactic(auto, using(crate::proofs::Computed::forall_carries_a_sum_sound, crate::proofs::Computed::forall_carries_a_sum_ends, crate::proofs::Computed::forall_carries_a_sum_prints, crate::proofs::Computed::forall_carries_a_sum_cells, crate::proofs::Computed::forall_carries_a_sum_choices, crate::proofs::Computed::forall_carries_a_sum_fails))]
+pub fn forall_carries_a_sum()
+    ensures sound { code_fault sum_carried ≡ None }
+    ensures ends { Ends sum_carried [] 19 end.Succeeded }
+    ensures prints { Prints sum_carried [] 19 (decimal 3 ∷ []) }
+    ensures cells { take 3 (last_frame (state_after sum_carried [] 19).now).cells ≡ cell.Int (pos 0) ∷ cell.Int (pos 3) ∷ cell.Unknown ∷ [] }
+    ensures choices { (state_after sum_carried [] 19).choices ≡ 4 }
+    ensures fails { (state_after sum_carried [] 19).fails ≡ 2 }
+{}
+
+/// A carry gains the places that later bodies change, in order of slot.
+#[tactic(auto, using(crate::proofs::Computed::forall_carry_grows_sound, crate::proofs::Computed::forall_carry_grows_first, crate::proofs::Computed::forall_carry_grows_carry, crate::proofs::Computed::forall_carry_grows_ends, crate::proofs::Computed::forall_carry_grows_prints))]
+pub fn forall_carry_grows()
+    ensures sound { code_fault carry_grows ≡ None }
+    ensures first { (top_of (state_after carry_grows [] 9).held).carry ≡ [] }
+    ensures carry { (top_of (state_after carry_grows [] 18).held).carry ≡ change_of 0 1 (pos 1) ∷ change_of 0 2 (pos 2) ∷ [] }
+    ensures ends { Ends carry_grows [] 22 end.Succeeded }
+    ensures prints { Prints carry_grows [] 22 (decimal 1 ∷ decimal 2 ∷ []) }
+{}
+
+/// An equation whose left side is unknown gives it the number of the right side.
+#[tactic(auto, using(crate::proofs::Computed::equation_binds_left_sound, crate::proofs::Computed::equation_binds_left_ends, crate::proofs::Computed::equation_binds_left_prints))]
+pub fn equation_binds_left()
+    ensures sound { code_fault left_unknown ≡ None }
+    ensures ends { Ends left_unknown [] 6 end.Succeeded }
+    ensures prints { Prints left_unknown [] 6 (decimal 5 ∷ []) }
+{}
+
+/// An equation whose right side is unknown gives it the number of the left side.
+#[tactic(auto, using(crate::proofs::Computed::equation_binds_right_sound, crate::proofs::Computed::equation_binds_right_ends, crate::proofs::Computed::equation_binds_right_prints))]
+pub fn equation_binds_right()
+    ensures sound { code_fault right_unknown ≡ None }
+    ensures ends { Ends right_unknown [] 6 end.Succeeded }
+    ensures prints { Prints right_unknown [] 6 (decimal 5 ∷ []) }
+{}
+
+/// An equation of two unknown cells is a fault, and so is one that would put a number out of its range.
+#[tactic(auto, using(crate::proofs::Computed::equation_faults_unknown, crate::proofs::Computed::equation_faults_range))]
+pub fn equation_faults()
+    ensures unknown { Ends both_unknown [] 3 (end.Fault fault.Unknown) }
+    ensures range { Ends out_of_range [] 4 (end.Fault fault.Range) }
+{}
+
+/// Cells are equated one after another, each way.
+#[tactic(auto, using(crate::proofs::Computed::cells_are_equated_sound, crate::proofs::Computed::cells_are_equated_ends, crate::proofs::Computed::cells_are_equated_prints))]
+pub fn cells_are_equated()
+    ensures sound { code_fault cells_equated ≡ None }
+    ensures ends { Ends cells_equated [] 10 end.Succeeded }
+    ensures prints { Prints cells_equated [] 10 (decimal 1 ∷ decimal 2 ∷ decimal 1 ∷ decimal 2 ∷ []) }
+{}
+
+/// A MIX argument that is a place goes by reference, and one that is a number has a cell of its own.
+#[tactic(auto, using(crate::proofs::Computed::mix_takes_both_sound, crate::proofs::Computed::mix_takes_both_called, crate::proofs::Computed::mix_takes_both_returned, crate::proofs::Computed::mix_takes_both_ends, crate::proofs::Computed::mix_takes_both_prints))]
+pub fn mix_takes_both()
+    ensures sound { code_fault mix_called ≡ None }
+    ensures called { (step mix_called [] (state_after mix_called [] 1)).answer ≡ answer.Called 1 2 }
+    ensures returned { (step mix_called [] (state_after mix_called [] 4)).answer ≡ answer.Returned 1 }
+    ensures ends { Ends mix_called [] 16 end.Failed }
+    ensures prints { Prints mix_called [] 16 (decimal 7 ∷ []) }
+{}
+
+/// A frame that was left is live again where a choice in it is retried.
+#[tactic(auto, using(crate::proofs::Computed::frame_lives_again_sound, crate::proofs::Computed::frame_lives_again_left, crate::proofs::Computed::frame_lives_again_again, crate::proofs::Computed::frame_lives_again_ends, crate::proofs::Computed::frame_lives_again_prints))]
+pub fn frame_lives_again()
+    ensures sound { code_fault frame_again ≡ None }
+    ensures left { length (state_after frame_again [] 10).now ≡ 1 }
+    ensures again { length (state_after frame_again [] 11).now ≡ 2 }
+    ensures ends { Ends frame_again [] 19 end.Succeeded }
+    ensures prints { Prints frame_again [] 19 (decimal 2 ∷ []) }
+{}
+
+/// A routine with a result puts it into the slot that the call names.
+#[tactic(auto, using(crate::proofs::Computed::function_gives_its_number_sound, crate::proofs::Computed::function_gives_its_number_ends, crate::proofs::Computed::function_gives_its_number_prints))]
+pub fn function_gives_its_number()
+    ensures sound { code_fault function_called ≡ None }
+    ensures ends { Ends function_called [] 5 end.Succeeded }
+    ensures prints { Prints function_called [] 5 (decimal 4 ∷ []) }
+{}
+
+/// A call whose declared cells do not fit is a fault.
+#[tactic(auto, using(crate::proofs::Computed::too_many_cells_ends))]
+pub fn too_many_cells()
+    ensures { Ends frame_too_large [] 1 (end.Fault fault.CellsFull) }
+{}
+
+/// A failing branch gives back what it read.
+#[tactic(auto, using(crate::proofs::Computed::input_comes_back_sound, crate::proofs::Computed::input_comes_back_ends, crate::proofs::Computed::input_comes_back_prints))]
+pub fn input_comes_back()
+    ensures sound { code_fault input_again ≡ None }
+    ensures ends { Ends input_again (codes "5 6") 9 end.Succeeded }
+    ensures prints { Prints input_again (codes "5 6") 9 (decimal 5 ∷ []) }
+{}
+
+/// A READ that finds no number fails, and one that finds a number outside 64 bits is a fault.
+#[tactic(auto, using(crate::proofs::Computed::read_finds_nothing_none, crate::proofs::Computed::read_finds_nothing_fault))]
+pub fn read_finds_nothing()
+    ensures none { Ends read_one (codes " x") 3 end.Failed }
+    ensures fault { Ends read_one (codes "9223372036854775808") 2 (end.Fault fault.ReadRange) }
+{}
+
+/// A loop goes up to its limit.
+#[tactic(auto, using(crate::proofs::Computed::loop_goes_to_its_limit_sound, crate::proofs::Computed::loop_goes_to_its_limit_ends, crate::proofs::Computed::loop_goes_to_its_limit_prints))]
+pub fn loop_goes_to_its_limit()
+    ensures sound { code_fault loop_counts ≡ None }
+    ensures ends { Ends loop_counts [] 12 end.Succeeded }
+    ensures prints { Prints loop_counts [] 12 (decimal 1 ∷ decimal 2 ∷ decimal 3 ∷ []) }
+{}
+
+/// A number prints in decimal, a byte modulo 256, a truth by its name.
+#[tactic(auto, using(crate::proofs::Computed::values_are_printed_sound, crate::proofs::Computed::values_are_printed_prints))]
+pub fn values_are_printed()
+    ensures sound { code_fault values_print ≡ None }
+    ensures prints { Prints values_print [] 6 (signed_decimal (negsuc 0) ∷ (255 ∷ []) ∷ codes "TRUE" ∷ (10 ∷ []) ∷ []) }
+{}
+
+/// A quotient is rounded down, and the remainder is what it leaves.
+#[tactic(auto, using(crate::proofs::Computed::arithmetic_rounds_down_quotient, crate::proofs::Computed::arithmetic_rounds_down_remainder, crate::proofs::Computed::arithmetic_rounds_down_negative, crate::proofs::Computed::arithmetic_rounds_down_least))]
+pub fn arithmetic_rounds_down()
+    ensures quotient { Prints (operation (I.Div 3 1 2) (negsuc 6) (pos 2)) [] 5 (signed_decimal (negsuc 3) ∷ []) }
+    ensures remainder { Prints (operation (I.Mod 3 1 2) (negsuc 6) (pos 2)) [] 5 (decimal 1 ∷ []) }
+    ensures negative { Prints (operation (I.Mod 3 1 2) (pos 7) (negsuc 1)) [] 5 (signed_decimal (negsuc 0) ∷ []) }
+    ensures least { Prints (operation (I.Mod 3 1 2) (negsuc (2 ^ 63 - 1)) (negsuc 0)) [] 5 (decimal 0 ∷ []) }
+{}
+
+/// A result outside INTEGER is a fault, and so are a zero divisor, an index outside its range and an unknown number.
+#[tactic(auto, using(crate::proofs::Computed::arithmetic_faults_sum, crate::proofs::Computed::arithmetic_faults_quotient, crate::proofs::Computed::arithmetic_faults_divisor, crate::proofs::Computed::arithmetic_faults_index, crate::proofs::Computed::arithmetic_faults_unknown))]
+pub fn arithmetic_faults()
+    ensures sum { Ends (operation (I.Add 3 1 2) (pos (2 ^ 63 - 1)) (pos 1)) [] 3 (end.Fault fault.Overflow) }
+    ensures quotient { Ends (operation (I.Div 3 1 2) (negsuc (2 ^ 63 - 1)) (negsuc 0)) [] 3 (end.Fault fault.Overflow) }
+    ensures divisor { Ends (operation (I.Mod 3 1 2) (pos 1) (pos 0)) [] 3 (end.Fault fault.ZeroDivide) }
+    ensures index { Ends index_outside [] 3 (end.Fault fault.Index) }
+    ensures unknown { Ends (plain_main (I.Check 1 ∷ I.Return ∷ [])) [] 1 (end.Fault fault.Unknown) }
+{}
+
+/// Rules 1 to 3, of the head of a routine.
+#[tactic(auto, using(crate::proofs::Computed::routines_are_refused_empty_code, crate::proofs::Computed::routines_are_refused_main_result, crate::proofs::Computed::routines_are_refused_slot_count, crate::proofs::Computed::routines_are_refused_position, crate::proofs::Computed::routines_are_refused_param_slots))]
+pub fn routines_are_refused()
+    ensures empty_code { Breaks (code_with (routine_to 1 (numbers_to 1 ∷ []) [] false 1 ∷ routine_to 1 (numbers_to 1 ∷ []) [] false 1 ∷ []) (I.Return ∷ [])) 1 1 }
+    ensures main_result { Breaks (code_with (routine_to 1 (numbers_to 1 ∷ []) [] true 1 ∷ []) (I.ReturnValue 0 ∷ [])) 1 0 }
+    ensures slot_count { Breaks (main_with 2 (numbers_to 1 ∷ []) (I.Return ∷ [])) 2 0 }
+    ensures position { Breaks (main_with 1 (marks_to 1 ∷ []) (I.Return ∷ [])) 3 0 }
+    ensures param_slots { Breaks (code_with (routine_to 1 (numbers_to 1 ∷ []) [] false 1 ∷ routine_to 1 (numbers_to 1 ∷ []) (param_of param.Mix 1 ∷ []) false 2 ∷ []) (I.Return ∷ I.Return ∷ [])) 3 1 }
+{}
+
+/// Rules 4 to 7, of the slots that an instruction names.
+#[tactic(auto, using(crate::proofs::Computed::slots_are_refused_wrong_kind, crate::proofs::Computed::slots_are_refused_input_position, crate::proofs::Computed::slots_are_refused_place_of_place, crate::proofs::Computed::slots_are_refused_part_outside, crate::proofs::Computed::slots_are_refused_elements_outside, crate::proofs::Computed::slots_are_refused_many_cells))]
+pub fn slots_are_refused()
+    ensures wrong_kind { Breaks (plain_main (I.Const 4 (pos 1) ∷ I.Return ∷ [])) 4 0 }
+    ensures input_position { Breaks (plain_main (I.Const 0 (pos 1) ∷ I.Return ∷ [])) 4 0 }
+    ensures place_of_place { Breaks (plain_main (I.Local 4 5 ∷ I.Return ∷ [])) 5 0 }
+    ensures part_outside { Breaks (plain_main (I.Local 4 1 ∷ I.Field 5 4 1 ∷ I.Return ∷ [])) 5 1 }
+    ensures elements_outside { Breaks (plain_main (I.Local 4 1 ∷ I.Const 3 (pos 1) ∷ I.Index 5 4 3 1 ∷ I.Return ∷ [])) 6 2 }
+    ensures many_cells { Breaks (main_with 5 (numbers_to 4 ∷ places_to 2 5 ∷ []) (I.Local 4 1 ∷ I.Load 1 4 ∷ I.Return ∷ [])) 7 1 }
+{}
+
+/// Rules 8 to 12, of what else an instruction names and of where it stands.
+#[tactic(auto, using(crate::proofs::Computed::words_are_refused_no_range, crate::proofs::Computed::words_are_refused_no_text, crate::proofs::Computed::words_are_refused_jump_out, crate::proofs::Computed::words_are_refused_call_of_main, crate::proofs::Computed::words_are_refused_call_last, crate::proofs::Computed::words_are_refused_no_end, crate::proofs::Computed::words_are_refused_other_fault, crate::proofs::Computed::words_are_refused_no_result))]
+pub fn words_are_refused()
+    ensures no_range { Breaks (plain_main (I.InRange 1 2 ∷ I.Return ∷ [])) 8 0 }
+    ensures no_text { Breaks (plain_main (I.WriteText 1 ∷ I.Return ∷ [])) 8 0 }
+    ensures jump_out { Breaks (plain_main (I.Jump 2 ∷ I.Return ∷ [])) 9 0 }
+    ensures call_of_main { Breaks (plain_main (I.Call 0 0 0 ∷ I.Return ∷ [])) 10 0 }
+    ensures call_last { Breaks (code_with (routine_to 1 (numbers_to 1 ∷ []) [] false 1 ∷ routine_to 1 (numbers_to 1 ∷ []) [] false 2 ∷ []) (I.Call 1 0 0 ∷ I.Return ∷ [])) 10 0 }
+    ensures no_end { Breaks (plain_main (I.WriteLine ∷ [])) 11 0 }
+    ensures other_fault { Breaks (plain_main (I.Fault 4 ∷ [])) 12 0 }
+    ensures no_result { Breaks (plain_main (I.ReturnValue 1 ∷ [])) 12 0 }
+{}
