@@ -8,10 +8,10 @@ use Rattle.alma_code.specs.declared.head.ParamKind.TheVariants as param
 use Rattle.alma_code.specs.declared.instr.Instr.TheVariants as I
 use Rattle.alma_code.specs.declared.step.End.TheVariants as end
 use Rattle.alma_code.specs.declared.step.Step.TheVariants as answer
-use Rattle.alma_code.specs.Picture.{last_frame, top_of}
+use Rattle.alma_code.specs.Picture.{cell_at, last_frame, top_of, entry_at}
 use Rattle.alma_code.specs.Machine.{step, start, act}
 use Rattle.alma_code.specs.Rules.{code_fault, instr_fault, instrs_fault, routine_fault, routines_fault, rule_5, rule_6, rule_7, rule_10, rule_11, rule_12}
-use Rattle.alma_code.specs.Worked.{Ends, Prints, Breaks, state_after, change_of, param_of, numbers_to, places_to, marks_to, routine_to, code_with, main_with, plain_main, least, branch_undone, choices_cut, sum_carried, carry_grows, left_unknown, right_unknown, both_unknown, out_of_range, cells_equated, mix_called, frame_again, function_called, frame_too_large, input_again, read_one, loop_counts, values_print, operation, index_outside}
+use Rattle.alma_code.specs.Worked.{Ends, Prints, Breaks, state_after, change_of, param_of, numbers_to, places_to, marks_to, routine_to, code_with, main_with, plain_main, least, branch_undone, choices_cut, sum_carried, carry_grows, left_unknown, right_unknown, both_unknown, out_of_range, cells_equated, mix_called, frame_again, function_called, frame_too_large, input_again, read_one, loop_counts, values_print, operation, index_outside, part_named, global_written, array_copied, copy_overlaps, equation_overlaps, equation_stops, jump_if_zero, bound_to, byte_read, small_read, nothing_held, kept_below, unset_argument, loop_by}
 use Rattle.alma_code.specs.Words.{words}
 
 pub least_code_sound : code_fault least ≡ None
@@ -369,3 +369,219 @@ words_are_refused_other_fault = refl
 pub words_are_refused_no_result : Breaks (plain_main (I.ReturnValue 1 ∷ [])) 12 0
 unfolding words instr_fault instrs_fault routine_fault routines_fault rule_5 rule_6 rule_7 rule_10 rule_11 rule_12
 words_are_refused_no_result = refl
+
+pub operations_compute_copy : Prints (operation (I.Move 3 1) (pos 5) (pos 0)) [] 5 (decimal 5 ∷ [])
+unfolding act
+operations_compute_copy = refl
+
+pub operations_compute_difference : Prints (operation (I.Sub 3 1 2) (pos 7) (pos 9)) [] 5 (signed_decimal (negsuc 1) ∷ [])
+unfolding act
+operations_compute_difference = refl
+
+pub operations_compute_product : Prints (operation (I.Mul 3 1 2) (negsuc 2) (pos 4)) [] 5 (signed_decimal (negsuc 11) ∷ [])
+unfolding act
+operations_compute_product = refl
+
+pub operations_compute_opposite : Prints (operation (I.Neg 3 1) (pos 5) (pos 0)) [] 5 (signed_decimal (negsuc 4) ∷ [])
+unfolding act
+operations_compute_opposite = refl
+
+pub operations_compute_equal : Prints (operation (I.Equal 3 1 2) (pos 5) (pos 5)) [] 5 (decimal 1 ∷ [])
+unfolding act
+operations_compute_equal = refl
+
+pub operations_compute_less : Prints (operation (I.Less 3 1 2) (pos 5) (pos 5)) [] 5 (decimal 0 ∷ [])
+unfolding act
+operations_compute_less = refl
+
+pub operations_compute_less_or_equal : Prints (operation (I.LessEq 3 1 2) (pos 5) (pos 5)) [] 5 (decimal 1 ∷ [])
+unfolding act
+operations_compute_less_or_equal = refl
+
+pub operations_compute_flip : Prints (operation (I.Flip 3 1) (pos 7) (pos 0)) [] 5 (decimal 0 ∷ [])
+unfolding act
+operations_compute_flip = refl
+
+pub operations_compute_flip_zero : Prints (operation (I.Flip 3 1) (pos 0) (pos 0)) [] 5 (decimal 1 ∷ [])
+unfolding act
+operations_compute_flip_zero = refl
+
+pub operations_compute_range : Ends (operation (I.InRange 1 1) (pos 3) (pos 0)) [] 3 (end.Fault fault.Range)
+unfolding act
+operations_compute_range = refl
+
+pub places_name_parts_sound : code_fault part_named ≡ None
+unfolding words instr_fault instrs_fault routine_fault routines_fault rule_5 rule_6 rule_7 rule_10 rule_11 rule_12
+places_name_parts_sound = refl
+
+pub places_name_parts_ends : Ends part_named [] 12 end.Succeeded
+unfolding act
+places_name_parts_ends = refl
+
+pub places_name_parts_prints : Prints part_named [] 12 (decimal 9 ∷ decimal 1 ∷ decimal 9 ∷ [])
+unfolding act
+places_name_parts_prints = refl
+
+pub globals_are_shared_sound : code_fault global_written ≡ None
+unfolding words instr_fault instrs_fault routine_fault routines_fault rule_5 rule_6 rule_7 rule_10 rule_11 rule_12
+globals_are_shared_sound = refl
+
+pub globals_are_shared_ends : Ends global_written [] 7 end.Succeeded
+unfolding act
+globals_are_shared_ends = refl
+
+pub globals_are_shared_prints : Prints global_written [] 7 (decimal 8 ∷ [])
+unfolding act
+globals_are_shared_prints = refl
+
+pub arrays_go_by_value_sound : code_fault array_copied ≡ None
+unfolding words instr_fault instrs_fault routine_fault routines_fault rule_5 rule_6 rule_7 rule_10 rule_11 rule_12
+arrays_go_by_value_sound = refl
+
+pub arrays_go_by_value_ends : Ends array_copied [] 9 end.Succeeded
+unfolding act
+arrays_go_by_value_ends = refl
+
+pub arrays_go_by_value_prints : Prints array_copied [] 9 (decimal 6 ∷ decimal 5 ∷ [])
+unfolding act
+arrays_go_by_value_prints = refl
+
+pub cells_overlap_copy : Prints copy_overlaps [] 9 (decimal 1 ∷ decimal 1 ∷ decimal 2 ∷ [])
+unfolding act
+cells_overlap_copy = refl
+
+pub cells_overlap_equation : Prints equation_overlaps [] 8 (decimal 1 ∷ decimal 1 ∷ decimal 1 ∷ [])
+unfolding act
+cells_overlap_equation = refl
+
+pub cells_overlap_fault : Ends equation_stops [] 4 (end.Fault fault.Unknown)
+unfolding act
+cells_overlap_fault = refl
+
+pub cells_overlap_written : cell_at (state_after equation_stops [] 4).now 0 3 cell.Unset ≡ cell.Int (pos 7)
+unfolding act
+cells_overlap_written = refl
+
+pub jumps_test_zero_sound : code_fault (jump_if_zero (pos 0)) ≡ None
+unfolding words instr_fault instrs_fault routine_fault routines_fault rule_5 rule_6 rule_7 rule_10 rule_11 rule_12
+jumps_test_zero_sound = refl
+
+pub jumps_test_zero_zero : Ends (jump_if_zero (pos 0)) [] 3 end.Succeeded
+unfolding act
+jumps_test_zero_zero = refl
+
+pub jumps_test_zero_other : Ends (jump_if_zero (pos 1)) [] 3 (end.Fault fault.NoCase)
+unfolding act
+jumps_test_zero_other = refl
+
+pub known_cells_are_compared_same : Ends (bound_to (pos 1)) [] 5 end.Succeeded
+unfolding act
+known_cells_are_compared_same = refl
+
+pub known_cells_are_compared_other : Ends (bound_to (pos 3)) [] 5 end.Failed
+unfolding act
+known_cells_are_compared_other = refl
+
+pub bytes_are_read_sound : code_fault byte_read ≡ None
+unfolding words instr_fault instrs_fault routine_fault routines_fault rule_5 rule_6 rule_7 rule_10 rule_11 rule_12
+bytes_are_read_sound = refl
+
+pub bytes_are_read_prints : Prints byte_read (codes "x") 4 (codes "x" ∷ [])
+unfolding act
+bytes_are_read_prints = refl
+
+pub bytes_are_read_end : Ends byte_read [] 3 end.Failed
+unfolding act
+bytes_are_read_end = refl
+
+pub range_leaves_input_fault : Ends small_read (codes "5") 2 (end.Fault fault.Range)
+unfolding act
+range_leaves_input_fault = refl
+
+pub range_leaves_input_position : cell_at (state_after small_read (codes "5") 2).now 0 0 cell.Unset ≡ cell.Int (pos 0)
+unfolding act
+range_leaves_input_position = refl
+
+pub range_leaves_input_moved : cell_at (state_after small_read (codes "2") 2).now 0 0 cell.Unset ≡ cell.Int (pos 1)
+unfolding act
+range_leaves_input_moved = refl
+
+pub nothing_to_keep_sound : code_fault nothing_held ≡ None
+unfolding words instr_fault instrs_fault routine_fault routines_fault rule_5 rule_6 rule_7 rule_10 rule_11 rule_12
+nothing_to_keep_sound = refl
+
+pub nothing_to_keep_finish : (step nothing_held [] (state_after nothing_held [] 1)).answer ≡ answer.Went
+unfolding act
+nothing_to_keep_finish = refl
+
+pub nothing_to_keep_keep : (step nothing_held [] (state_after nothing_held [] 2)).answer ≡ answer.Went
+unfolding act
+nothing_to_keep_keep = refl
+
+pub nothing_to_keep_cut : (step nothing_held [] (state_after nothing_held [] 3)).answer ≡ answer.Went
+unfolding act
+nothing_to_keep_cut = refl
+
+pub nothing_to_keep_overlay : (step nothing_held [] (state_after nothing_held [] 4)).answer ≡ answer.Chose 1
+unfolding act
+nothing_to_keep_overlay = refl
+
+pub body_kept_below_sound : code_fault kept_below ≡ None
+unfolding words instr_fault instrs_fault routine_fault routines_fault rule_5 rule_6 rule_7 rule_10 rule_11 rule_12
+body_kept_below_sound = refl
+
+pub body_kept_below_answer : (step kept_below [] (state_after kept_below [] 4)).answer ≡ answer.Cut 2
+unfolding act
+body_kept_below_answer = refl
+
+pub body_kept_below_first : (entry_at (state_after kept_below [] 5).held 1).carry ≡ change_of 0 1 (pos 7) ∷ []
+unfolding act
+body_kept_below_first = refl
+
+pub body_kept_below_second : (entry_at (state_after kept_below [] 5).held 2).carry ≡ []
+unfolding act
+body_kept_below_second = refl
+
+pub forall_copies_old_mark_copy : cell_at (entry_at (state_after sum_carried [] 2).held 1).frames 0 6 cell.Unknown ≡ cell.Unset
+unfolding act
+forall_copies_old_mark_copy = refl
+
+pub forall_copies_old_mark_now : cell_at (state_after sum_carried [] 2).now 0 6 cell.Unknown ≡ cell.Mark 1
+unfolding act
+forall_copies_old_mark_now = refl
+
+pub forall_copies_old_mark_popped : (step sum_carried [] (state_after sum_carried [] 15)).answer ≡ answer.Popped 1
+unfolding act
+forall_copies_old_mark_popped = refl
+
+pub forall_copies_old_mark_height : length (state_after sum_carried [] 16).held ≡ 1
+unfolding act
+forall_copies_old_mark_height = refl
+
+pub unset_words_fault_place : Ends (plain_main (I.Load 1 4 ∷ I.Return ∷ [])) [] 1 (end.Fault fault.Unknown)
+unfolding act
+unset_words_fault_place = refl
+
+pub unset_words_fault_mark : Ends (plain_main (I.Cut 6 ∷ I.Return ∷ [])) [] 1 (end.Fault fault.Unknown)
+unfolding act
+unset_words_fault_mark = refl
+
+pub unset_words_fault_argument : Ends unset_argument [] 1 (end.Fault fault.Unknown)
+unfolding act
+unset_words_fault_argument = refl
+
+pub ended_machine_stays_address : (state_after both_unknown [] 3).at ≡ 3
+unfolding act
+ended_machine_stays_address = refl
+
+pub ended_machine_stays_stays : (state_after both_unknown [] 9) ≡ (state_after both_unknown [] 3)
+unfolding act
+ended_machine_stays_stays = refl
+
+pub loops_step_exactly_down : Prints (loop_by (pos 5) (pos 1) (negsuc 1)) [] 12 (decimal 5 ∷ decimal 3 ∷ decimal 1 ∷ [])
+unfolding act
+loops_step_exactly_down = refl
+
+pub loops_step_exactly_edge : Ends (loop_by (pos (2 ^ 63 - 1)) (pos (2 ^ 63 - 1)) (pos 1)) [] 6 end.Succeeded
+unfolding act
+loops_step_exactly_edge = refl

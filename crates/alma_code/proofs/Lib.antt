@@ -1,11 +1,12 @@
-mod Acts
-mod Calls
+pub mod Acts
+pub mod Calls
+mod Computed
+pub mod Entering
 pub mod Heads
-mod Ranges
+pub mod Ranges
 pub mod Ready
 pub mod Runs
-mod Steps
+pub mod Steps
 pub mod Tables
 pub mod Verdicts
-mod Computed
 pub mod Writes

@@ -197,3 +197,80 @@ index_outside = main_with 6 (numbers_to 4 ∷ places_to 2 5 ∷ places_to 1 6 �
 -- READ(x); WRITE(x)
 abbrev pub read_one : PlainCode
 read_one = plain_main (I.Local 4 1 ∷ I.ReadInt 4 0 ∷ I.WriteInt 1 ∷ I.Return ∷ [])
+
+-- ---- codes that show a choice of the machine
+
+-- a record of three cells in slots 1 to 3, of which the last is read through its place
+abbrev pub part_named : PlainCode
+part_named =
+    main_with 7 (numbers_to 4 ∷ places_to 3 6 ∷ places_to 1 7 ∷ [])
+    (I.Const 3 (pos 9) ∷ I.Local 4 1 ∷ I.Same 5 4 ∷ I.Field 6 5 2 ∷ I.Load 1 6 ∷ I.Known 2 6 ∷ I.WriteInt 1 ∷ I.WriteInt 2
+    ∷ I.Field 6 5 1 ∷ I.Store 6 1 ∷ I.WriteInt 2 ∷ I.Return ∷ [])
+
+-- a procedure that writes slot 1 of the module
+abbrev pub global_written : PlainCode
+global_written =
+    code_with (routine_to 2 (numbers_to 2 ∷ []) [] false 3 ∷ routine_to 2 (places_to 1 1 ∷ numbers_to 2 ∷ []) [] false 7 ∷ [])
+    (I.Call 1 0 0 ∷ I.WriteInt 1 ∷ I.Return ∷ I.Global 0 1 ∷ I.Const 1 (pos 8) ∷ I.Store 0 1 ∷ I.Return ∷ [])
+
+-- a procedure with an array of two cells by value, that writes its first cell
+abbrev pub array_copied : PlainCode
+array_copied =
+    code_with (routine_to 4 (numbers_to 3 ∷ places_to 2 4 ∷ []) [] false 6
+    ∷ routine_to 2 (numbers_to 2 ∷ []) (param_of param.Cells 2 ∷ []) false 9 ∷ [])
+    (I.Const 1 (pos 5) ∷ I.Const 2 (pos 6) ∷ I.Local 3 1 ∷ I.Call 1 3 0 ∷ I.WriteInt 1 ∷ I.Return ∷ I.Const 0 (pos 9) ∷ I.WriteInt 1 ∷ I.Return ∷ [])
+
+-- the cells 2 and 3 := the cells 1 and 2, which are 1 and 2
+abbrev pub copy_overlaps : PlainCode
+copy_overlaps =
+    main_with 6 (numbers_to 4 ∷ places_to 2 6 ∷ [])
+    (I.Const 1 (pos 1) ∷ I.Const 2 (pos 2) ∷ I.Local 4 1 ∷ I.Local 5 2 ∷ I.CopyCells 5 4 ∷ I.WriteInt 1 ∷ I.WriteInt 2 ∷ I.WriteInt 3 ∷ I.Return ∷ [])
+
+-- the cells 1 and 2 = the cells 2 and 3, of which the first is 1 and the others are unknown
+abbrev pub equation_overlaps : PlainCode
+equation_overlaps =
+    main_with 6 (numbers_to 4 ∷ places_to 2 6 ∷ [])
+    (I.Const 1 (pos 1) ∷ I.Local 4 1 ∷ I.Local 5 2 ∷ I.SameCells 4 5 ∷ I.WriteInt 1 ∷ I.WriteInt 2 ∷ I.WriteInt 3 ∷ I.Return ∷ [])
+
+-- the cells 1 and 2 = the cells 3 and 4, of which the first is 7 and the others are unknown
+abbrev pub equation_stops : PlainCode
+equation_stops = main_with 7 (numbers_to 5 ∷ places_to 2 7 ∷ []) (I.Const 1 (pos 7) ∷ I.Local 5 1 ∷ I.Local 6 3 ∷ I.SameCells 5 6 ∷ I.Return ∷ [])
+
+-- a jump over a fault where the number is 0
+abbrev pub jump_if_zero : ℤ → PlainCode
+jump_if_zero v = plain_main (I.Const 1 v ∷ I.JumpZero 1 3 ∷ I.Fault 5 ∷ I.Return ∷ [])
+
+-- x := 1, and then x = v, where x has the range 1 to 2
+abbrev pub bound_to : ℤ → PlainCode
+bound_to v = plain_main (I.Const 1 (pos 1) ∷ I.Const 2 v ∷ I.Local 4 1 ∷ I.Bind 4 2 1 ∷ I.Return ∷ [])
+
+-- prints a byte of the input
+abbrev pub byte_read : PlainCode
+byte_read = plain_main (I.Local 4 1 ∷ I.ReadChar 4 0 ∷ I.WriteChar 1 ∷ I.Return ∷ [])
+
+-- reads a number of the range 1 to 2
+abbrev pub small_read : PlainCode
+small_read = plain_main (I.Local 4 1 ∷ I.ReadInt 4 1 ∷ I.Return ∷ [])
+
+-- a Finish, a Keep, a Cut and an Overlay where no entry is
+abbrev pub nothing_held : PlainCode
+nothing_held = plain_main (I.Mark 6 ∷ I.Finish ∷ I.Keep 6 ∷ I.Cut 6 ∷ I.Overlay 6 5 ∷ I.Return ∷ [])
+
+-- two Foralls, and a Body of the second that is kept in the first
+abbrev pub kept_below : PlainCode
+kept_below = main_with 5 (numbers_to 3 ∷ marks_to 5 ∷ []) (I.Forall 3 5 ∷ I.Forall 4 5 ∷ I.Overlay 4 5 ∷ I.Const 1 (pos 7) ∷ I.Keep 3 ∷ I.Return ∷ [])
+
+-- a call of a routine that has too many declared cells, with a place that was not set
+abbrev pub unset_argument : PlainCode
+unset_argument =
+    code_with (routine_to 2 (numbers_to 1 ∷ places_to 1 2 ∷ []) [] false 2
+    ∷ record {
+      name = codes "P";
+      head = record { slots = 1048577; declared = 1048577; params = param_of param.Place 1 ∷ []; runs = places_to 1 1 ∷ numbers_to 1048577 ∷ []; has_result = false };
+      code_end = 3;
+    } ∷ [])
+    (I.Call 1 1 0 ∷ I.Return ∷ I.Return ∷ [])
+
+-- a loop from a number to another by steps
+abbrev pub loop_by : (first last by : ℤ) → PlainCode
+loop_by first last by = plain_main (I.Const 1 first ∷ I.Const 2 last ∷ I.Const 3 by ∷ I.WriteInt 1 ∷ I.Step 1 2 3 6 ∷ I.Jump 3 ∷ I.Return ∷ [])

@@ -7,10 +7,10 @@ ghost use Rattle.alma_code.specs.declared.head.ParamKind.TheVariants as param;
 ghost use Rattle.alma_code.specs.declared.instr.Instr.TheVariants as I;
 ghost use Rattle.alma_code.specs.declared.step.End.TheVariants as end;
 ghost use Rattle.alma_code.specs.declared.step.Step.TheVariants as answer;
-ghost use Rattle.alma_code.specs.Picture.{last_frame, top_of};
+ghost use Rattle.alma_code.specs.Picture.{cell_at, last_frame, top_of, entry_at};
 ghost use Rattle.alma_code.specs.Machine.{step, start};
 ghost use Rattle.alma_code.specs.Rules.{code_fault};
-ghost use Rattle.alma_code.specs.Worked.{Ends, Prints, Breaks, state_after, change_of, param_of, numbers_to, places_to, marks_to, routine_to, code_with, main_with, plain_main, least, branch_undone, choices_cut, sum_carried, carry_grows, left_unknown, right_unknown, both_unknown, out_of_range, cells_equated, mix_called, frame_again, function_called, frame_too_large, input_again, read_one, loop_counts, values_print, operation, index_outside};
+ghost use Rattle.alma_code.specs.Worked.{Ends, Prints, Breaks, state_after, change_of, param_of, numbers_to, places_to, marks_to, routine_to, code_with, main_with, plain_main, least, branch_undone, choices_cut, sum_carried, carry_grows, left_unknown, right_unknown, both_unknown, out_of_range, cells_equated, mix_called, frame_again, function_called, frame_too_large, input_again, read_one, loop_counts, values_print, operation, index_outside, part_named, global_written, array_copied, copy_overlaps, equation_overlaps, equation_stops, jump_if_zero, bound_to, byte_read, small_read, nothing_held, kept_below, unset_argument, loop_by};
 
 /// The least code is sound, and its first step ends it in success.
 #[tactic(auto, using(crate::proofs::Computed::least_code_sound, crate::proofs::Computed::least_code_ends, crate::proofs::Computed::least_code_prints))]
@@ -209,4 +209,133 @@ pub fn words_are_refused()
     ensures no_end { Breaks (plain_main (I.WriteLine ∷ [])) 11 0 }
     ensures other_fault { Breaks (plain_main (I.Fault 4 ∷ [])) 12 0 }
     ensures no_result { Breaks (plain_main (I.ReturnValue 1 ∷ [])) 12 0 }
+{}
+
+/// Each operation writes its result; a truth is 1 or 0.
+#[tactic(auto, using(crate::proofs::Computed::operations_compute_copy, crate::proofs::Computed::operations_compute_difference, crate::proofs::Computed::operations_compute_product, crate::proofs::Computed::operations_compute_opposite, crate::proofs::Computed::operations_compute_equal, crate::proofs::Computed::operations_compute_less, crate::proofs::Computed::operations_compute_less_or_equal, crate::proofs::Computed::operations_compute_flip, crate::proofs::Computed::operations_compute_flip_zero, crate::proofs::Computed::operations_compute_range))]
+pub fn operations_compute()
+    ensures copy { Prints (operation (I.Move 3 1) (pos 5) (pos 0)) [] 5 (decimal 5 ∷ []) }
+    ensures difference { Prints (operation (I.Sub 3 1 2) (pos 7) (pos 9)) [] 5 (signed_decimal (negsuc 1) ∷ []) }
+    ensures product { Prints (operation (I.Mul 3 1 2) (negsuc 2) (pos 4)) [] 5 (signed_decimal (negsuc 11) ∷ []) }
+    ensures opposite { Prints (operation (I.Neg 3 1) (pos 5) (pos 0)) [] 5 (signed_decimal (negsuc 4) ∷ []) }
+    ensures equal { Prints (operation (I.Equal 3 1 2) (pos 5) (pos 5)) [] 5 (decimal 1 ∷ []) }
+    ensures less { Prints (operation (I.Less 3 1 2) (pos 5) (pos 5)) [] 5 (decimal 0 ∷ []) }
+    ensures less_or_equal { Prints (operation (I.LessEq 3 1 2) (pos 5) (pos 5)) [] 5 (decimal 1 ∷ []) }
+    ensures flip { Prints (operation (I.Flip 3 1) (pos 7) (pos 0)) [] 5 (decimal 0 ∷ []) }
+    ensures flip_zero { Prints (operation (I.Flip 3 1) (pos 0) (pos 0)) [] 5 (decimal 1 ∷ []) }
+    ensures range { Ends (operation (I.InRange 1 1) (pos 3) (pos 0)) [] 3 (end.Fault fault.Range) }
+{}
+
+/// A place is copied and narrowed, and its cells are read, looked at and written.
+#[tactic(auto, using(crate::proofs::Computed::places_name_parts_sound, crate::proofs::Computed::places_name_parts_ends, crate::proofs::Computed::places_name_parts_prints))]
+pub fn places_name_parts()
+    ensures sound { code_fault part_named ≡ None }
+    ensures ends { Ends part_named [] 12 end.Succeeded }
+    ensures prints { Prints part_named [] 12 (decimal 9 ∷ decimal 1 ∷ decimal 9 ∷ []) }
+{}
+
+/// A procedure reaches the variables of the module.
+#[tactic(auto, using(crate::proofs::Computed::globals_are_shared_sound, crate::proofs::Computed::globals_are_shared_ends, crate::proofs::Computed::globals_are_shared_prints))]
+pub fn globals_are_shared()
+    ensures sound { code_fault global_written ≡ None }
+    ensures ends { Ends global_written [] 7 end.Succeeded }
+    ensures prints { Prints global_written [] 7 (decimal 8 ∷ []) }
+{}
+
+/// An array by value is a copy.
+#[tactic(auto, using(crate::proofs::Computed::arrays_go_by_value_sound, crate::proofs::Computed::arrays_go_by_value_ends, crate::proofs::Computed::arrays_go_by_value_prints))]
+pub fn arrays_go_by_value()
+    ensures sound { code_fault array_copied ≡ None }
+    ensures ends { Ends array_copied [] 9 end.Succeeded }
+    ensures prints { Prints array_copied [] 9 (decimal 6 ∷ decimal 5 ∷ []) }
+{}
+
+/// A copy takes all cells as they were; an equation sees what the one before it wrote, and a fault leaves that.
+#[tactic(auto, using(crate::proofs::Computed::cells_overlap_copy, crate::proofs::Computed::cells_overlap_equation, crate::proofs::Computed::cells_overlap_fault, crate::proofs::Computed::cells_overlap_written))]
+pub fn cells_overlap()
+    ensures copy { Prints copy_overlaps [] 9 (decimal 1 ∷ decimal 1 ∷ decimal 2 ∷ []) }
+    ensures equation { Prints equation_overlaps [] 8 (decimal 1 ∷ decimal 1 ∷ decimal 1 ∷ []) }
+    ensures fault { Ends equation_stops [] 4 (end.Fault fault.Unknown) }
+    ensures written { cell_at (state_after equation_stops [] 4).now 0 3 cell.Unset ≡ cell.Int (pos 7) }
+{}
+
+/// A jump on a number is taken where it is 0.
+#[tactic(auto, using(crate::proofs::Computed::jumps_test_zero_sound, crate::proofs::Computed::jumps_test_zero_zero, crate::proofs::Computed::jumps_test_zero_other))]
+pub fn jumps_test_zero()
+    ensures sound { code_fault (jump_if_zero (pos 0)) ≡ None }
+    ensures zero { Ends (jump_if_zero (pos 0)) [] 3 end.Succeeded }
+    ensures other { Ends (jump_if_zero (pos 1)) [] 3 (end.Fault fault.NoCase) }
+{}
+
+/// A cell that is known is compared, and its range is not asked.
+#[tactic(auto, using(crate::proofs::Computed::known_cells_are_compared_same, crate::proofs::Computed::known_cells_are_compared_other))]
+pub fn known_cells_are_compared()
+    ensures same { Ends (bound_to (pos 1)) [] 5 end.Succeeded }
+    ensures other { Ends (bound_to (pos 3)) [] 5 end.Failed }
+{}
+
+/// A byte is read, and the end of the input is a failure.
+#[tactic(auto, using(crate::proofs::Computed::bytes_are_read_sound, crate::proofs::Computed::bytes_are_read_prints, crate::proofs::Computed::bytes_are_read_end))]
+pub fn bytes_are_read()
+    ensures sound { code_fault byte_read ≡ None }
+    ensures prints { Prints byte_read (codes "x") 4 (codes "x" ∷ []) }
+    ensures end { Ends byte_read [] 3 end.Failed }
+{}
+
+/// A number that is read outside its range is a fault and leaves the input position.
+#[tactic(auto, using(crate::proofs::Computed::range_leaves_input_fault, crate::proofs::Computed::range_leaves_input_position, crate::proofs::Computed::range_leaves_input_moved))]
+pub fn range_leaves_input()
+    ensures fault { Ends small_read (codes "5") 2 (end.Fault fault.Range) }
+    ensures position { cell_at (state_after small_read (codes "5") 2).now 0 0 cell.Unset ≡ cell.Int (pos 0) }
+    ensures moved { cell_at (state_after small_read (codes "2") 2).now 0 0 cell.Unset ≡ cell.Int (pos 1) }
+{}
+
+/// Where there is no entry for them, Finish, Keep and Cut do nothing, and an Overlay pushes its Body all the same.
+#[tactic(auto, using(crate::proofs::Computed::nothing_to_keep_sound, crate::proofs::Computed::nothing_to_keep_finish, crate::proofs::Computed::nothing_to_keep_keep, crate::proofs::Computed::nothing_to_keep_cut, crate::proofs::Computed::nothing_to_keep_overlay))]
+pub fn nothing_to_keep()
+    ensures sound { code_fault nothing_held ≡ None }
+    ensures finish { (step nothing_held [] (state_after nothing_held [] 1)).answer ≡ answer.Went }
+    ensures keep { (step nothing_held [] (state_after nothing_held [] 2)).answer ≡ answer.Went }
+    ensures cut { (step nothing_held [] (state_after nothing_held [] 3)).answer ≡ answer.Went }
+    ensures overlay { (step nothing_held [] (state_after nothing_held [] 4)).answer ≡ answer.Chose 1 }
+{}
+
+/// A Body may be kept in any Forall below it.
+#[tactic(auto, using(crate::proofs::Computed::body_kept_below_sound, crate::proofs::Computed::body_kept_below_answer, crate::proofs::Computed::body_kept_below_first, crate::proofs::Computed::body_kept_below_second))]
+pub fn body_kept_below()
+    ensures sound { code_fault kept_below ≡ None }
+    ensures answer { (step kept_below [] (state_after kept_below [] 4)).answer ≡ answer.Cut 2 }
+    ensures first { (entry_at (state_after kept_below [] 5).held 1).carry ≡ change_of 0 1 (pos 7) ∷ [] }
+    ensures second { (entry_at (state_after kept_below [] 5).held 2).carry ≡ [] }
+{}
+
+/// The copy of a Forall has its mark slot as it was before; a pop of a Forall leaves it as a Done and answers the height before.
+#[tactic(auto, using(crate::proofs::Computed::forall_copies_old_mark_copy, crate::proofs::Computed::forall_copies_old_mark_now, crate::proofs::Computed::forall_copies_old_mark_popped, crate::proofs::Computed::forall_copies_old_mark_height))]
+pub fn forall_copies_old_mark()
+    ensures copy { cell_at (entry_at (state_after sum_carried [] 2).held 1).frames 0 6 cell.Unknown ≡ cell.Unset }
+    ensures now { cell_at (state_after sum_carried [] 2).now 0 6 cell.Unknown ≡ cell.Mark 1 }
+    ensures popped { (step sum_carried [] (state_after sum_carried [] 15)).answer ≡ answer.Popped 1 }
+    ensures height { length (state_after sum_carried [] 16).held ≡ 1 }
+{}
+
+/// A place or a mark that was not set is a fault, and arguments are read before the cells are counted.
+#[tactic(auto, using(crate::proofs::Computed::unset_words_fault_place, crate::proofs::Computed::unset_words_fault_mark, crate::proofs::Computed::unset_words_fault_argument))]
+pub fn unset_words_fault()
+    ensures place { Ends (plain_main (I.Load 1 4 ∷ I.Return ∷ [])) [] 1 (end.Fault fault.Unknown) }
+    ensures mark { Ends (plain_main (I.Cut 6 ∷ I.Return ∷ [])) [] 1 (end.Fault fault.Unknown) }
+    ensures argument { Ends unset_argument [] 1 (end.Fault fault.Unknown) }
+{}
+
+/// A fault leaves the address at the next instruction, and an ended machine does not change.
+#[tactic(auto, using(crate::proofs::Computed::ended_machine_stays_address, crate::proofs::Computed::ended_machine_stays_stays))]
+pub fn ended_machine_stays()
+    ensures address { (state_after both_unknown [] 3).at ≡ 3 }
+    ensures stays { (state_after both_unknown [] 9) ≡ (state_after both_unknown [] 3) }
+{}
+
+/// A loop goes down too, and its counter never overflows.
+#[tactic(auto, using(crate::proofs::Computed::loops_step_exactly_down, crate::proofs::Computed::loops_step_exactly_edge))]
+pub fn loops_step_exactly()
+    ensures down { Prints (loop_by (pos 5) (pos 1) (negsuc 1)) [] 12 (decimal 5 ∷ decimal 3 ∷ decimal 1 ∷ []) }
+    ensures edge { Ends (loop_by (pos (2 ^ 63 - 1)) (pos (2 ^ 63 - 1)) (pos 1)) [] 6 end.Succeeded }
 {}
