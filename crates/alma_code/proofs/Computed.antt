@@ -1,6 +1,6 @@
 -- Small codes, run and judged by computing.
 use Rattle.std.specs.Prelude.{◌≡◌, ◌-◌, ◌^◌, true, false, pos, negsuc, [], ◌∷◌, length, take, codes, None}
-use Rattle.std.proofs.Common.{refl}
+use Rattle.std.proofs.Common.{◌<◌, ◌≤◌, zero, suc, refl, arith, lit<, lit≤}
 use Rattle.std.specs.Fmt.{decimal, signed_decimal}
 use Rattle.alma_base.specs.declared.fault.RunFault.TheVariants as fault
 use Rattle.alma_code.specs.declared.cell.Cell.TheVariants as cell
@@ -10,9 +10,36 @@ use Rattle.alma_code.specs.declared.step.End.TheVariants as end
 use Rattle.alma_code.specs.declared.step.Step.TheVariants as answer
 use Rattle.alma_code.specs.Picture.{cell_at, last_frame, top_of, entry_at}
 use Rattle.alma_code.specs.Machine.{step, start, act}
-use Rattle.alma_code.specs.Rules.{code_fault, instr_fault, instrs_fault, routine_fault, routines_fault, rule_5, rule_6, rule_7, rule_10, rule_11, rule_12}
+use Rattle.alma_code.specs.Layout.{RunsRise}
+use Rattle.alma_code.specs.Plain.{head_at, start_at, end_at}
+use Rattle.alma_code.specs.Records.{KeepsCounts, KeepsRecords}
+use Rattle.alma_code.specs.Rules.{IsTable, last_end, code_fault, instr_fault, instrs_fault, routine_fault, routines_fault, rule_5, rule_6, rule_7, rule_10, rule_11, rule_12}
 use Rattle.alma_code.specs.Worked.{Ends, Prints, Breaks, state_after, change_of, param_of, numbers_to, places_to, marks_to, routine_to, code_with, main_with, plain_main, least, branch_undone, choices_cut, sum_carried, carry_grows, left_unknown, right_unknown, both_unknown, out_of_range, cells_equated, mix_called, frame_again, function_called, frame_too_large, input_again, read_one, loop_counts, values_print, operation, index_outside, part_named, global_written, array_copied, copy_overlaps, equation_overlaps, equation_stops, jump_if_zero, bound_to, byte_read, small_read, nothing_held, kept_below, unset_argument, loop_by}
 use Rattle.alma_code.specs.Words.{words}
+
+pub least_code_table : IsTable least
+least_code_table = record {
+  some = lit≤ tt;
+  rise = λ r. elim r as (λ r. r < 1 → start_at least r ≤ end_at least r) [ zero ↦ λ _. lit≤ tt | suc k ↦ λ lt. absurd (omega arith) ];
+  last = refl;
+  runs = λ r. elim r as (λ r. r < 1 → RunsRise 0 (head_at least r).runs (last_end 0 (head_at least r).runs)) [ zero ↦ λ _. (lit< tt, refl) | suc k ↦ λ lt. absurd (omega arith) ];
+}
+
+pub least_code_counts : KeepsCounts least
+least_code_counts = record {
+  routines = lit≤ tt;
+  globals = lit≤ tt;
+  params = lit≤ tt;
+  runs = lit≤ tt;
+  ranges = lit≤ tt;
+  texts = lit≤ tt;
+  names = lit≤ tt;
+  text_bytes = lit≤ tt;
+  instrs = lit≤ tt;
+}
+
+pub least_code_records : KeepsRecords least
+least_code_records = record { routines = refl; globals = refl; ranges = refl }
 
 pub least_code_sound : code_fault least ≡ None
 unfolding words instr_fault instrs_fault routine_fault routines_fault rule_5 rule_6 rule_7 rule_10 rule_11 rule_12
