@@ -41,14 +41,17 @@ use Rattle.alma_code.specs.Fits.{routines_of, IsPosition, IsReturn, FitsFrame, F
 use Rattle.alma_code.proofs.Heads.{number_is}
 use Rattle.alma_code.proofs.Ready.{Ready, last-routine, Good, place_is, if_true_keeps, went_good, fails_good, fault_good, number_good, place_good, put_number_good, put_place_good, store_good, ranged_good, equation_good, cell_ready, slot_ready, has_slot, number_there, number_at_is, content_any}
 
+-- no fault of a test and of what comes after it: the test holds, and nothing comes after
 unless_none : (b : Bool) (rule at : ℕ) (rest : Option VerifyFault) → unless b rule at rest ≡ None → (b ≡ true) × (rest ≡ None)
 unless_none true rule at rest e = (refl, e)
 unless_none false rule at rest e = absurd (cc)
 
+-- a test of which the other half is false
 pub or_false : (b : Bool) → (b || false) ≡ true → b ≡ true
 or_false true e = refl
 or_false false e = e
 
+-- a test of all four words holds of each
 pub all_four : (p : Word → Bool) (a b c d : Word) → list_all p (four a b c d) ≡ true → (p a ≡ true) × (p b ≡ true) × (p c ≡ true) × (p d ≡ true)
 all_four p a b c d e =
     let x = and_parts (p a) (p b && (p c && (p d && true))) e in
@@ -57,6 +60,7 @@ all_four p a b c d e =
     (x.0, y.0, z.0, (and_parts (p d) true z.1).0)
 
 module _ (code : PlainCode) where
+  -- an instruction keeps each of its rules
   pub record Obeys (r at : ℕ) (i : Instr) : Type 0 where
     pub r4 : rule_4 code r i ≡ true
     pub r5 : rule_5 code r i ≡ true
@@ -68,6 +72,7 @@ module _ (code : PlainCode) where
     pub r11 : rule_11 code r at i ≡ true
     pub r12 : rule_12 code r i ≡ true
 
+  -- an instruction without a fault keeps each of its rules
   pub obeys : (r at : ℕ) (i : Instr) → instr_fault code r at i ≡ None → Obeys r at i
   unfolding instr_fault
   obeys r at i e =
@@ -94,29 +99,35 @@ module _ (code : PlainCode) where
       (names_slot code r a ≡ true) × (names_slot code r b ≡ true) × (names_slot code r c ≡ true) × (names_slot code r d ≡ true)
   slots r at i a b c d e o = all_four (names_slot code r) a b c d (subst (λ ws. list_all (names_slot code r) ws ≡ true) e o.r4)
 
+  -- the range words and text words of an instruction
   pub entries : (r at : ℕ) (i : Instr) (a b c d : Word) → words i ≡ four a b c d → Obeys r at i →
       (names_entry code a ≡ true) × (names_entry code b ≡ true) × (names_entry code c ≡ true) × (names_entry code d ≡ true)
   entries r at i a b c d e o = all_four (names_entry code) a b c d (subst (λ ws. list_all (names_entry code) ws ≡ true) e o.r8)
 
+  -- the address words of an instruction
   pub addresses : (r at : ℕ) (i : Instr) (a b c d : Word) → words i ≡ four a b c d → Obeys r at i →
       (names_address code r a ≡ true) × (names_address code r b ≡ true) × (names_address code r c ≡ true) × (names_address code r d ≡ true)
   addresses r at i a b c d e o = all_four (names_address code r) a b c d (subst (λ ws. list_all (names_address code r) ws ≡ true) e o.r9)
 
+  -- the slots of a routine
   abbrev pub head_slots : ℕ → ℕ
   head_slots r = (head_at code r).slots
 
-  pub num : (r n : ℕ) → names_slot code r (W.Number n) ≡ true → (is_free code r n ≡ true) × (is_number (kind_in code r n) ≡ true)
-  num r n e =
+  -- a word that names a number slot
+  pub number_word : (r n : ℕ) → names_slot code r (W.Number n) ≡ true → (is_free code r n ≡ true) × (is_number (kind_in code r n) ≡ true)
+  number_word r n e =
       let x = and_parts (nat_lt n (head_slots r) && is_free code r n) (is_number (kind_in code r n)) e in
       ((and_parts (nat_lt n (head_slots r)) (is_free code r n) x.0).1, x.1)
 
-  pub plc : (r n : ℕ) → names_slot code r (W.Place n) ≡ true → (is_free code r n ≡ true) × (kind_in code r n ≡ Some (slot.Place (length_in code r n)))
-  plc r n e =
+  -- a word that names a place slot
+  pub place_word : (r n : ℕ) → names_slot code r (W.Place n) ≡ true → (is_free code r n ≡ true) × (kind_in code r n ≡ Some (slot.Place (length_in code r n)))
+  place_word r n e =
       let x = and_parts (nat_lt n (head_slots r) && is_free code r n) (is_place (kind_in code r n)) e in
       ((and_parts (nat_lt n (head_slots r)) (is_free code r n) x.0).1, place_is (kind_in code r n) x.1)
 
-  pub mrk : (r n : ℕ) → names_slot code r (W.Mark n) ≡ true → (is_free code r n ≡ true) × (is_mark (kind_in code r n) ≡ true)
-  mrk r n e =
+  -- a word that names a mark slot
+  pub mark_word : (r n : ℕ) → names_slot code r (W.Mark n) ≡ true → (is_free code r n ≡ true) × (is_mark (kind_in code r n) ≡ true)
+  mark_word r n e =
       let x = and_parts (nat_lt n (head_slots r) && is_free code r n) (is_mark (kind_in code r n)) e in
       ((and_parts (nat_lt n (head_slots r)) (is_free code r n) x.0).1, x.1)
 
@@ -131,11 +142,13 @@ module _ (code : PlainCode) where
   pub two_good : (r at : ℕ) (s : State) (b c : ℕ) (k : ℤ → ℤ → Stepped) → Here r at s → names_slot code r (W.Number b) ≡ true → names_slot code r (W.Number c) ≡ true →
       ((x y : ℤ) → Good code (k x y)) → Good code (number s b (λ x. number s c (λ y. k x y)))
   two_good r at s b c k h wb wc good =
-      number_good code r s b (λ x. number s c (λ y. k x y)) h.ready (num r b wb).1 (λ x. number_good code r s c (λ y. k x y) h.ready (num r c wc).1 (λ y. good x y))
+      number_good code r s b (λ x. number s c (λ y. k x y)) h.ready (number_word r b wb).1 (λ x. number_good code r s c (λ y. k x y) h.ready (number_word r c wc).1 (λ y. good x y))
 
+  -- a number is put into a slot that a word names
   pub put_good : (r at : ℕ) (s : State) (a : ℕ) (v : ℤ) → Here r at s → names_slot code r (W.Number a) ≡ true → (nat_lt (suc at) (end_at code r) || false) ≡ true → Good code (put_number s a v)
-  put_good r at s a v h wa e = put_number_good code r s a v h.ready (num r a wa).1 (num r a wa).0 (next r at s h e)
+  put_good r at s a v h wa e = put_number_good code r s a v h.ready (number_word r a wa).1 (number_word r a wa).0 (next r at s h e)
 
+  -- a jump to an address of the routine
   pub goes_good : (r at : ℕ) (s : State) (l : ℕ) → Here r at s → is_address code r l ≡ true → Good code (goes_to l s)
   goes_good r at s l h e =
       let ready : Ready code r (record s { at = l }) = record { frames = h.ready.frames; held = h.ready.held; routine = h.ready.routine; going = h.ready.going } in
@@ -145,6 +158,7 @@ module _ (code : PlainCode) where
   pub frame_live : (r : ℕ) (s : State) (p : CellPlace) → Ready code r s → IsPlace code (routines_of s.now) (top s) p → p.frame < length s.now
   frame_live r s p h fits = omega (arith, h.frames.some, fits.frame)
 
+  -- the cell at a place of one cell
   pub one_cell : (rs : List ℕ) (f : ℕ) (p : CellPlace) → p.len ≡ 1 → IsPlace code rs f p → IsCell code rs p.frame p.slot
   one_cell rs f p e fits =
       let z : p.slot + 0 ≡ p.slot = omega arith in
@@ -154,9 +168,10 @@ module _ (code : PlainCode) where
   pub one_good : (r at : ℕ) (s : State) (n : ℕ) (k : CellPlace → Stepped) → Here r at s → names_slot code r (W.Place n) ≡ true → nat_eq (length_in code r n) 1 ≡ true →
       ((p : CellPlace) → p.frame < length s.now → IsCell code (routines_of s.now) p.frame p.slot → Good code (k p)) → Good code (place s n k)
   one_good r at s n k h w e good =
-      place_good code r s n (length_in code r n) k h.ready (plc r n w).1
+      place_good code r s n (length_in code r n) k h.ready (place_word r n w).1
       (λ p len fits. good p (frame_live r s p h.ready fits) (one_cell (routines_of s.now) (top s) p (len ∙ eqb-true (length_in code r n) 1 e) fits))
 
+  -- each of the number slots from one on is one
   pub numbers_from_at : (n : ℕ) (kinds : List SlotKind) (i k : ℕ) → numbers_from n kinds i ≡ true → k < n → slice_get kinds (i + k) ≡ Some slot.Number
   numbers_from_at zero kinds i k e lt = absurd (omega arith)
   numbers_from_at (suc n) kinds i zero e lt =
@@ -177,14 +192,17 @@ module _ (code : PlainCode) where
         free = elim (cases_eq f 0) [ inl f0 ↦ let r0 : r ≡ 0 = z f0 in omega arith | inr ne ↦ omega arith ];
       }
 
+  -- the routine of the top frame, among the routines of the frames
   pub top_is : (r : ℕ) (s : State) → Ready code r s → get_or (routines_of s.now) (top s) 0 ≡ r
   top_is r s h = sym (last-routine s.now) ∙ h.routine
 
+  -- where the top frame is the only one, its routine is the first
   pub top_main : (r : ℕ) (s : State) → Ready code r s → top s ≡ 0 → r ≡ 0
   top_main r s h e =
       let lt : top s < length s.now = omega (arith, h.frames.some) in
       sym h.routine ∙ (h.frames.each (top s) lt).main e
 
+  -- the routine of the first frame
   pub first_is : (r : ℕ) (s : State) → Ready code r s → get_or (routines_of s.now) 0 0 ≡ 0
   first_is r s h = get_or-map (λ g. g.routine) s.now 0 no_frame ∙ (h.frames.each 0 h.frames.some).main refl
 
@@ -192,8 +210,9 @@ module _ (code : PlainCode) where
   pub put_place_at : (r at : ℕ) (s : State) (a frame : ℕ) (first : ℕ → ℕ) → Here r at s → names_slot code r (W.Place a) ≡ true → (nat_lt (suc at) (end_at code r) || false) ≡ true →
       frame ≤ top s → ((k : ℕ) → k < length_in code r a → IsCell code (routines_of s.now) frame (first (length_in code r a) + k)) → Good code (put_place s a frame first)
   put_place_at r at s a frame first h w e le cells =
-      put_place_good code r s a (length_in code r a) frame first h.ready (plc r a w).1 (plc r a w).0 (record { frame = le; cells = cells }) (next r at s h e)
+      put_place_good code r s a (length_in code r a) frame first h.ready (place_word r a w).1 (place_word r a w).0 (record { frame = le; cells = cells }) (next r at s h e)
 
+  -- a cell has a number, or gets it
   pub bound_good : (r at : ℕ) (s : State) (p : CellPlace) (t : Range) (v : ℤ) (u : Option ℤ) → Here r at s → p.frame < length s.now → IsCell code (routines_of s.now) p.frame p.slot →
       is_address code r s.at ≡ true → Good code (bound s p t v u)
   bound_good r at s p t v (Some u) h lf c e = if_true_keeps (Good code) (int_eq u v) (λ _. went s) (λ _. fails_now s) (λ _. went_good code r s h.ready e) (λ _. fails_good code r s h.ready)
@@ -201,6 +220,7 @@ module _ (code : PlainCode) where
       ranged_good code r s t fault.Range v (λ _. store s p.frame p.slot v went) h.ready
       (λ _. store_good code r s p.frame p.slot v went h.ready lf c (λ h'. went_good code r (with_cell s p.frame p.slot (cell.Int v)) h' e))
 
+  -- as many frames as routines
   pub same_length : (fs gs : List PlainFrame) → routines_of fs ≡ routines_of gs → length fs ≡ length gs
   same_length fs gs e = sym (length-map fs (λ f. f.routine)) ∙ ap length e ∙ length-map gs (λ f. f.routine)
 
@@ -220,6 +240,7 @@ module _ (code : PlainCode) where
       (λ k lt. let x : i + suc k ≡ suc i + k = omega arith in subst (λ m. IsCell code (routines_of s.now) f m) x (cf (suc k) (omega arith)))
       (λ k lt. let x : j + suc k ≡ suc j + k = omega arith in subst (λ m. IsCell code (routines_of s.now) g m) x (cg (suc k) (omega arith))))
 
+  -- n cells are copied, from a state that has come from s by such
   pub copied_good : (r : ℕ) (s : State) → is_address code r s.at ≡ true → Ready code r s → (n : ℕ) (t : State) (f i g j : ℕ) → Ready code r t → routines_of t.now ≡ routines_of s.now → t.at ≡ s.at →
       f < length s.now → g < length s.now → ((k : ℕ) → k < n → IsCell code (routines_of s.now) f (i + k)) → ((k : ℕ) → k < n → IsCell code (routines_of s.now) g (j + k)) →
       Good code (copied n s.now t f i g j)
@@ -245,6 +266,7 @@ module _ (code : PlainCode) where
 
   -- ---- entries
 
+  -- an entry is pushed
   pub pushed_ready : (r : ℕ) (s : State) (kind : ChoiceKind) (resume : ℕ) → Ready code r s → is_address code r resume ≡ true → Ready code r (pushed s kind resume)
   pushed_ready r s kind resume h e =
       let entry : PlainEntry = record { kind = kind; resume = resume; frames = s.now; carry = [] } in
@@ -268,6 +290,7 @@ module _ (code : PlainCode) where
         going = h.going;
       }
 
+  -- entries fall
   pub cut_good : (r : ℕ) (s : State) (n : ℕ) → Ready code r s → is_address code r s.at ≡ true → Good code (cut_to s n)
   cut_good r s n h e =
       if_true_keeps (Good code) (nat_lt n (length s.held)) _ _
@@ -299,6 +322,7 @@ module _ (code : PlainCode) where
         | inr le ↦ absurd (false≢true (sym (ap (λ x. is_number (slice_get x.kinds i)) (get_or_past fs f no_frame le)) ∙ e))
       ]
 
+  -- where there is no entry there is no kind
   pub no_kind : (kind : ChoiceKind) → is_kind kind None ≡ true → ⊥
   no_kind choice.Branch e = false≢true e
   no_kind choice.Forall e = false≢true e
@@ -312,6 +336,7 @@ module _ (code : PlainCode) where
       let ff = h.frames.each 0 h.frames.some in
       ap is_number (ap (λ ks. slice_get ks 0) (ff.kinds ∙ ap (kinds_at code) (ff.main refl)) ∙ here.first)
 
+  -- a cell that is an input position is read as one
   position_cell : (c : Cell) (s : State) (k : ℕ → Stepped) → IsPosition c → ((n : ℕ) → Good code (k n)) → Good code (as_position (Some c) s k)
   position_cell (cell.Int (pos n)) s k h good = good n
   position_cell (cell.Int (negsuc n)) s k h good = absurd h
@@ -320,10 +345,12 @@ module _ (code : PlainCode) where
   position_cell (cell.Place p) s k h good = absurd h
   position_cell (cell.Mark m) s k h good = absurd h
 
+  -- a list whose first cell is an input position has a first cell
   pub has_cell : (cs : List Cell) → IsPosition (get_or cs 0 cell.Unset) → slice_get cs 0 ≡ Some (get_or cs 0 cell.Unset)
   has_cell [] h = absurd h
   has_cell (c ∷ cs) h = refl
 
+  -- the input position is read
   pub position_good : (r : ℕ) (s : State) (k : ℕ → Stepped) → Ready code r s → ((n : ℕ) → slice_get (get_or s.now 0 no_frame).cells 0 ≡ Some (get_or (get_or s.now 0 no_frame).cells 0 cell.Unset) → 0 < length s.now → Good code (k n)) → Good code (position s k)
   position_good r s k h good =
       let is = has_cell (get_or s.now 0 no_frame).cells h.frames.position in
@@ -340,6 +367,7 @@ module _ (code : PlainCode) where
       cell_ready code r s 0 0 (cell.Int (pos n)) h h.frames.some lt
       (subst (λ q. FitsSlot code (routines_of s.now) 0 q (cell.Int (pos n))) (sym (number_at_live s.now 0 0 e).2) tt) (λ _. tt)
 
+  -- a number that was read goes to its place
   pub took_good : (r at : ℕ) (s : State) (t : Range) (p : CellPlace) (v : ℤ) (n : ℕ) → Here r at s → p.frame < length s.now → IsCell code (routines_of s.now) p.frame p.slot →
       slice_get (get_or s.now 0 no_frame).cells 0 ≡ Some (get_or (get_or s.now 0 no_frame).cells 0 cell.Unset) → 0 < length s.now → is_address code r s.at ≡ true → Good code (took s t p v n)
   took_good r at s t p v n h lf cf is ll e =
@@ -353,12 +381,14 @@ module _ (code : PlainCode) where
       (store_good code r u p.frame p.slot v went hu (omega arith) (subst (λ rs. IsCell code rs p.frame p.slot) (sym same) cf)
       (λ h'. went_good code r (with_cell u p.frame p.slot (cell.Int v)) h' e)))
 
+  -- what was found where a number is read
   pub found_good : (r at : ℕ) (s : State) (t : Range) (p : CellPlace) (f : ReadInt) → Here r at s → p.frame < length s.now → IsCell code (routines_of s.now) p.frame p.slot →
       slice_get (get_or s.now 0 no_frame).cells 0 ≡ Some (get_or (get_or s.now 0 no_frame).cells 0 cell.Unset) → 0 < length s.now → is_address code r s.at ≡ true → Good code (found s t p f)
   found_good r at s t p NoNumber h lf cf is ll e = fails_good code r s h.ready
   found_good r at s t p TooLarge h lf cf is ll e = fault_good code r s fault.ReadRange h.ready
   found_good r at s t p (Number v n) h lf cf is ll e = took_good r at s t p v n h lf cf is ll e
 
+  -- what was found where a byte is read
   pub char_good : (r at : ℕ) (s : State) (t : Range) (p : CellPlace) (n : ℕ) (f : Option ℕ) → Here r at s → p.frame < length s.now → IsCell code (routines_of s.now) p.frame p.slot →
       slice_get (get_or s.now 0 no_frame).cells 0 ≡ Some (get_or (get_or s.now 0 no_frame).cells 0 cell.Unset) → 0 < length s.now → is_address code r s.at ≡ true → Good code (char_found s t p n f)
   char_good r at s t p n None h lf cf is ll e = fails_good code r s h.ready
@@ -379,10 +409,12 @@ module _ (code : PlainCode) where
       ] in
       ready (number_at s.now c.frame c.slot) refl
 
+  -- a carry is laid over the frames
   pub overlaid_ready : (r : ℕ) (s : State) (cs : Carry Cell) → Ready code r s → AllFit code cs → Ready code r (record s { now = overlaid s.now cs })
   overlaid_ready r s [] h f = record { frames = h.frames; held = h.held; routine = h.routine; going = h.going }
   overlaid_ready r s (c ∷ cs) h f = overlaid_ready r (record s { now = laid s.now c }) cs (laid_fits r s c h f.0) f.1
 
+  -- a height at which there is a kind is one of the stack
   pub is_kind_within : (kind : ChoiceKind) (held : List PlainEntry) (h : ℕ) → is_kind kind (kind_at held h) ≡ true → (1 ≤ h) × (h ≤ length held)
   is_kind_within kind held zero e = absurd (no_kind kind e)
   is_kind_within kind held (suc h) e =
@@ -393,14 +425,17 @@ module _ (code : PlainCode) where
             absurd (no_kind kind (subst (λ o. is_kind kind o ≡ true) (slice_get_past (map (λ e. e.kind) held) h past) e))
       ]
 
+  -- the carry of an entry is laid over
   pub laid_ready : (r : ℕ) (s : State) (n : ℕ) → Ready code r s → (1 ≤ n) × (n ≤ length s.held) → Ready code r (laid_over s n)
   laid_ready r s n h w = overlaid_ready r s (entry_at s.held n).carry h (h.held (n - 1) (omega arith)).carry
 
+  -- the carry of a Forall is laid over, where there is one
   pub overlay_ready : (r : ℕ) (s : State) (n : ℕ) → Ready code r s → Ready code r (overlay s n) × ((overlay s n).at ≡ s.at)
   overlay_ready r s n h =
       if_true_keeps (λ t. Ready code r t × (t.at ≡ s.at)) (is_forall_at s.held n) (λ _. laid_over s n) (λ _. s)
       (λ e. (laid_ready r s n h (is_kind_within choice.Forall s.held n e), refl)) (λ _. (h, refl))
 
+  -- the top entry is dropped
   pub without_top : (r : ℕ) (s : State) → Ready code r s → Ready code r (record s { held = take (length s.held - 1) s.held })
   without_top r s h = record {
     frames = h.frames;
@@ -412,6 +447,7 @@ module _ (code : PlainCode) where
     going = h.going;
   }
 
+  -- a Done on top is finished
   pub finish_good : (r : ℕ) (s : State) → Ready code r s → is_address code r s.at ≡ true → Good code (finish s)
   finish_good r s h e =
       if_true_keeps (Good code) (is_kind choice.Done (kind_at s.held (length s.held))) _ _
@@ -423,6 +459,7 @@ module _ (code : PlainCode) where
 
   -- ---- keeping
 
+  -- changes that fit, one list after the other
   pub fit-append : (cs ds : Carry Cell) → AllFit code cs → AllFit code ds → AllFit code (cs ++ ds)
   fit-append [] ds h k = k
   fit-append (c ∷ cs) ds h k = (h.0, fit-append cs ds h.1 k)
@@ -439,6 +476,7 @@ module _ (code : PlainCode) where
       let kind : get_or fr.kinds i slot.Mark ≡ slot.Number = live.2 in
       (subst IsContent (sym same) (subst (λ k. FitsSlot code (routines_of s.now) f k (get_or fr.cells i cell.Unset)) kind (fits.cells i live.1)), same)
 
+  -- the first cell of the first frame, by its place
   pub cell_zero : (fs : List PlainFrame) (f i : ℕ) → f + i ≡ 0 → cell_at fs 0 0 cell.Unset ≡ cell_at fs f i cell.Unset
   cell_zero fs f i e =
       let f0 : 0 ≡ f = omega arith in
@@ -456,10 +494,12 @@ module _ (code : PlainCode) where
       (λ _. (fx, f.1))
       (λ _. (f.0, fit-change x rest fx f.1)))
 
+  -- changes that are laid into a carry, one after another
   fit-changes : (xs : List (Change Cell)) (cs : Carry Cell) → AllFit code xs → AllFit code cs → AllFit code (with_changes xs cs)
   fit-changes [] cs fx f = f
   fit-changes (x ∷ xs) cs fx f = fit-changes xs (with_change x cs) fx.1 (fit-change x cs fx.0 f)
 
+  -- a change at one place fits
   pub diff_fits : (r : ℕ) (s : State) (before : List PlainFrame) (f i : ℕ) → Ready code r s → AllFit code (diff_at before s.now f i)
   diff_fits r s before f i h =
       let c : Change Cell = record { frame = f; slot = i; cell = cell_at s.now f i cell.Unknown } in
@@ -479,16 +519,19 @@ module _ (code : PlainCode) where
       ] in
       goal (differs before s.now f i) refl
 
+  -- the changes in a frame fit
   pub slot_diffs_fit : (r : ℕ) (s : State) (before : List PlainFrame) (f n : ℕ) → Ready code r s → AllFit code (slot_diffs before s.now f n)
   slot_diffs_fit r s before f zero h = tt
   slot_diffs_fit r s before f (suc n) h = fit-append (slot_diffs before s.now f n) (diff_at before s.now f n) (slot_diffs_fit r s before f n h) (diff_fits r s before f n h)
 
+  -- the changes in the frames fit
   pub frame_diffs_fit : (r : ℕ) (s : State) (before : List PlainFrame) (n : ℕ) → Ready code r s → AllFit code (frame_diffs before s.now n)
   frame_diffs_fit r s before zero h = tt
   frame_diffs_fit r s before (suc n) h =
       fit-append (frame_diffs before s.now n) (slot_diffs before s.now n (length (get_or s.now n no_frame).cells)) (frame_diffs_fit r s before n h)
       (slot_diffs_fit r s before n (length (get_or s.now n no_frame).cells) h)
 
+  -- the stack after a Body is kept
   pub kept_held : (r : ℕ) (s : State) (n : ℕ) → Ready code r s → (1 ≤ n) × (n ≤ length s.held) → FitsHeld code (kept s.held n s.now)
   kept_held r s n h w k lk =
       let old = entry_at s.held n in
@@ -507,6 +550,7 @@ module _ (code : PlainCode) where
         | inr ne ↦ subst (λ x. FitsEntry code x) (sym (get_or-set_other s.held (n - 1) k new no_entry ne)) (h.held k (omega arith))
       ])
 
+  -- a Body is kept
   pub keep_good : (r : ℕ) (s : State) (n : ℕ) → Ready code r s → is_address code r s.at ≡ true → Good code (keep s n)
   keep_good r s n h e =
       let rest = nat_lt n (length s.held) && is_kind choice.Body (kind_at s.held (length s.held)) in
@@ -518,9 +562,11 @@ module _ (code : PlainCode) where
 
   -- ---- leaving
 
+  -- a cell that a place may name, after frames above its own came or went
   pub cell_kept : (rs qs : List ℕ) (f i : ℕ) → get_or qs f 0 ≡ get_or rs f 0 → IsCell code rs f i → IsCell code qs f i
   cell_kept rs qs f i e c = record { number = ap (λ r. slice_get (kinds_at code r) i) e ∙ c.number; free = c.free }
 
+  -- what fits a slot, after frames above its own came or went
   pub slot_kept : (rs qs : List ℕ) (f : ℕ) (k : SlotKind) (c : Cell) → ((g : ℕ) → g ≤ f → get_or qs g 0 ≡ get_or rs g 0) → FitsSlot code rs f k c → FitsSlot code qs f k c
   slot_kept rs qs f slot.Number c same h = h
   slot_kept rs qs f (slot.Place n) (cell.Place p) same h =
@@ -535,6 +581,7 @@ module _ (code : PlainCode) where
   slot_kept rs qs f slot.Mark (cell.Int v) same h = h
   slot_kept rs qs f slot.Mark (cell.Place p) same h = h
 
+  -- a frame that fits, after frames above it came or went
   pub frame_kept : (rs qs : List ℕ) (f : ℕ) (fr : PlainFrame) → ((g : ℕ) → g ≤ f → get_or qs g 0 ≡ get_or rs g 0) → FitsFrame code rs f fr → FitsFrame code qs f fr
   frame_kept rs qs f fr same h = record {
     routine = h.routine;
@@ -545,6 +592,7 @@ module _ (code : PlainCode) where
     called = λ le. ((h.called le).0, subst (λ q. IsReturn code q fr.back fr.routine) (sym (same (f - 1) (omega arith))) (h.called le).1);
   }
 
+  -- the state after the top frame is left goes on behind the call of it
   pub record Left (s : State) : Type 0 where
     pub caller : ℕ
     pub ready : Ready code caller (left s)
@@ -552,6 +600,7 @@ module _ (code : PlainCode) where
     pub called : IsReturn code caller (last_frame s.now).back (last_frame s.now).routine
     pub routine : caller < length code.routines
 
+  -- a frame that is not the last is left
   pub left_ready : (r : ℕ) (s : State) → Ready code r s → 2 ≤ length s.now → Left s
   left_ready r s h two =
       let n = length s.now - 1 in
@@ -588,6 +637,7 @@ module _ (code : PlainCode) where
       }
 
   module _ (sound : IsSound code) where
+    -- the first routine has no result
     main_has_no_result : (head_at code 0).has_result ≡ false
     main_has_no_result =
         let one = (sound.heads 0 sound.table.some).0 in
@@ -595,12 +645,14 @@ module _ (code : PlainCode) where
         let y = (and_parts (nat_eq (length (head_at code 0).params) 0) (not (head_at code 0).has_result && list_all (is_global code) code.globals) x).1 in
         not-true (head_at code 0).has_result (and_parts (not (head_at code 0).has_result) (list_all (is_global code) code.globals) y).0
 
+    -- a Call in the code of a routine keeps the rule of calls
     pub call_rule : (caller at callee first to : ℕ) → caller < length code.routines → start_at code caller ≤ at → at < end_at code caller → slice_get code.instrs at ≡ Some (I.Call callee first to) →
         rule_10 code caller at (I.Call callee first to) ≡ true
     call_rule caller at callee first to lr low high is =
         let same : get_or code.instrs at I.Fail ≡ I.Call callee first to = get_or_from_slice_get code.instrs at (I.Call callee first to) I.Fail is in
         (obeys caller at (I.Call callee first to) (subst (λ i. instr_fault code caller at i ≡ None) same (sound.instrs caller at lr low high))).r10
 
+    -- the rule of calls gives a slot to the result
     pub holds_of_call : (caller at callee first to : ℕ) → rule_10 code caller at (I.Call callee first to) ≡ true → holds_result code caller (head_at code callee).has_result to ≡ true
     unfolding rule_10
     holds_of_call caller at callee first to e =
@@ -609,6 +661,7 @@ module _ (code : PlainCode) where
         let y = (and_parts (fit_arguments code caller h.params first && holds_first h.params first) (holds_result code caller h.has_result to && nat_lt (suc at) (end_at code caller)) x).1 in
         (and_parts (holds_result code caller h.has_result to) (nat_lt (suc at) (end_at code caller)) y).0
 
+    -- a result goes to the slot that the Call names
     pub result_good : (r : ℕ) (s : State) (v : ℤ) → Ready code r s → (head_at code r).has_result ≡ true → Good code (result_to (slice_get code.instrs ((last_frame s.now).back - 1)) (left s) v)
     result_good r s v h has =
         let ff = h.frames.each (top s) (omega (arith, h.frames.some)) in

@@ -34,6 +34,7 @@ use Rattle.alma_code.proofs.Ready.{Ready, Good, if_true_keeps, went_good, fault_
 use Rattle.alma_code.proofs.Acts.{Here, cell_kept, frame_kept, frame_live, numbers_from_at, top_is}
 
 module _ (code : PlainCode) where
+  -- cells that a place may name are live number slots
   numbers_are : (n : ℕ) (r : ℕ) (s : State) (f i : ℕ) → Ready code r s → f < length s.now → ((k : ℕ) → k < n → IsCell code (routines_of s.now) f (i + k)) → numbers_at n s.now f i ≡ true
   numbers_are zero r s f i h lf c = refl
   numbers_are (suc n) r s f i h lf c =
@@ -41,6 +42,7 @@ module _ (code : PlainCode) where
       and_from (number_at s.now f i) (numbers_at n s.now f (suc i)) (number_at_is code r s f i h lf (subst (λ m. IsCell code (routines_of s.now) f m) z (c 0 (omega arith))))
       (numbers_are n r s f (suc i) h lf (λ k lt. let x : i + suc k ≡ suc i + k = omega arith in subst (λ m. IsCell code (routines_of s.now) f m) x (c (suc k) (omega arith))))
 
+  -- the content of a number slot is read as an argument
   value_good : (r : ℕ) (s : State) (n : ℕ) (kind : ParamKind) (c : Cell) (k : Cell → Stepped) → Ready code r s → (kind ≡ param.Value) ⊎ (kind ≡ param.Mix) → IsContent c →
       ((c : Cell) → FitsParam (IsPlace code (routines_of s.now) (top s)) kind n c → Good code (k c)) → Good code (as_argument kind n (Some c) s k)
   value_good r s n param.Value (cell.Int v) k h w f good = good (cell.Int v) tt
@@ -62,6 +64,7 @@ module _ (code : PlainCode) where
   size_of param.Cells n = n
   size_of param.Mix n = 1
 
+  -- the cell of a place slot is read as an argument
   spot_good : (r : ℕ) (s : State) (n : ℕ) (kind : ParamKind) (c : Cell) (k : Cell → Stepped) → Ready code r s → (kind ≡ param.Value → ⊥) → FitsSlot code (routines_of s.now) (top s) (slot.Place (size_of kind n)) c →
       ((c : Cell) → FitsParam (IsPlace code (routines_of s.now) (top s)) kind n c → Good code (k c)) → Good code (as_argument kind n (Some c) s k)
   spot_good r s n param.Value c k h w f good = absurd (w refl)
@@ -85,18 +88,21 @@ module _ (code : PlainCode) where
   spot_good r s n param.Place (cell.Mark m) k h w f good = absurd f
   spot_good r s n param.Cells (cell.Mark m) k h w f good = absurd f
 
+  -- a number slot is read as an argument
   number_argument : (r : ℕ) (s : State) (i n : ℕ) (kind : ParamKind) (k : Cell → Stepped) → Ready code r s → (kind ≡ param.Value) ⊎ (kind ≡ param.Mix) → is_number (kind_in code r i) ≡ true →
       ((c : Cell) → FitsParam (IsPlace code (routines_of s.now) (top s)) kind n c → Good code (k c)) → Good code (as_argument kind n (slot_of s i) s k)
   number_argument r s i n kind k h w e good =
       let has = has_slot code r s i slot.Number h (number_is (kind_in code r i) e) in
       subst (λ o. Good code (as_argument kind n o s k)) (sym has.is) (value_good r s n kind has.cell k h w has.fits good)
 
+  -- a place slot is read as an argument
   place_argument : (r : ℕ) (s : State) (i n : ℕ) (kind : ParamKind) (k : Cell → Stepped) → Ready code r s → (kind ≡ param.Value → ⊥) → is_place_of (size_of kind n) (kind_in code r i) ≡ true →
       ((c : Cell) → FitsParam (IsPlace code (routines_of s.now) (top s)) kind n c → Good code (k c)) → Good code (as_argument kind n (slot_of s i) s k)
   place_argument r s i n kind k h w e good =
       let has = has_slot code r s i (slot.Place (size_of kind n)) h (place_of_is (size_of kind n) (kind_in code r i) e) in
       subst (λ o. Good code (as_argument kind n o s k)) (sym has.is) (spot_good r s n kind has.cell k h w has.fits good)
 
+  -- a slot that can be the argument of a parameter is read as one
   argument_good : (r : ℕ) (s : State) (i n : ℕ) (kind : ParamKind) (k : Cell → Stepped) → Ready code r s → fits_argument code r kind n i ≡ true →
       ((c : Cell) → FitsParam (IsPlace code (routines_of s.now) (top s)) kind n c → Good code (k c)) → Good code (as_argument kind n (slot_of s i) s k)
   argument_good r s i n param.Value k h e good = number_argument r s i n param.Value k h (inl refl) e good
@@ -108,6 +114,7 @@ module _ (code : PlainCode) where
         | inr a ↦ place_argument r s i n param.Mix k h (λ q. cc) a good
       ]
 
+  -- one argument more that fits one parameter more
   one_more : (rs : List ℕ) (f : ℕ) (p : CodeParam) (ps : List CodeParam) (c : Cell) (cs : List Cell) → FitsParam (IsPlace code rs f) p.kind p.cells c → FitsParams (IsPlace code rs f) ps cs → FitsParams (IsPlace code rs f) (p ∷ ps) (c ∷ cs)
   one_more rs f p ps c cs a h = record {
     count = ap suc h.count;
@@ -117,6 +124,7 @@ module _ (code : PlainCode) where
     ];
   }
 
+  -- the argument slots of a call are read
   pub arguments_good : (r : ℕ) (s : State) (ps : List CodeParam) (i : ℕ) (k : List Cell → Stepped) → Ready code r s → fit_arguments code r ps i ≡ true →
       ((cs : List Cell) → FitsParams (IsPlace code (routines_of s.now) (top s)) ps cs → Good code (k cs)) → Good code (arguments ps s i k)
   arguments_good r s [] i k h e good = good [] (record { count = refl; each = λ j lt. absurd (omega arith) })
@@ -129,15 +137,19 @@ module _ (code : PlainCode) where
   -- ---- the frame that a call enters
 
   module _ (r : ℕ) (s : State) (h : Ready code r s) (c : ℕ) where
+    -- the frames before the call
     abbrev fs : List PlainFrame
     fs = s.now
 
+    -- the number of the new frame
     abbrev me : ℕ
     me = length s.now
 
+    -- the routines after the call
     abbrev rs : List ℕ
     rs = routines_of s.now ++ c ∷ []
 
+    -- the kinds of the slots of the new frame
     abbrev kinds : List SlotKind
     kinds = kinds_at code c
 
@@ -146,22 +158,26 @@ module _ (code : PlainCode) where
       pub within : at + length xs ≤ length kinds
       pub each : (j : ℕ) → j < length xs → FitsSlot code rs me (get_or kinds (at + j) slot.Mark) (get_or xs j cell.Unset)
 
+    -- the routine of the new frame
     mine : get_or rs me 0 ≡ c
     mine =
         let len : me ≡ length (routines_of s.now) = sym (length-map s.now (λ f. f.routine)) in
         ap (λ q. get_or rs q 0) len ∙ get_or-append_seam (routines_of s.now) c [] 0
 
+    -- the routines of the frames below it are as before
     under : (f : ℕ) → f < me → get_or rs f 0 ≡ get_or (routines_of s.now) f 0
     under f lt =
         let below : f < length (routines_of s.now) = omega (arith, length-map s.now (λ f. f.routine)) in
         get_or-append (routines_of s.now) (c ∷ []) 0 f below
 
+    -- a place that the caller may hold is one that the new frame may hold
     place_moved : (p : CellPlace) → IsPlace code (routines_of s.now) (top s) p → IsPlace code rs me p
     place_moved p fits = record {
       frame = omega (arith, fits.frame);
       cells = λ k lt. cell_kept code (routines_of s.now) rs p.frame (p.slot + k) (under p.frame (frame_live code r s p h fits)) (fits.cells k lt);
     }
 
+    -- one cell that fits its slot
     one_slot : (at : ℕ) (k : SlotKind) (x : Cell) → slice_get kinds at ≡ Some k → FitsSlot code rs me k x → FitsFrom at (x ∷ [])
     one_slot at k x e fits =
         let lt = slice_get_within kinds at k e in
@@ -174,6 +190,7 @@ module _ (code : PlainCode) where
               (subst (λ q. FitsSlot code rs me q x) (sym (ap (λ q. get_or kinds q slot.Mark) (sym a0) ∙ get_or_from_slice_get kinds at k slot.Mark e)) fits);
         }
 
+    -- cells that fit, after cells that fit
     joined : (at : ℕ) (xs ys : List Cell) → FitsFrom at xs → FitsFrom (at + length xs) ys → FitsFrom at (xs ++ ys)
     joined at xs ys a b =
         let len = length-append xs ys in
@@ -189,6 +206,7 @@ module _ (code : PlainCode) where
               ];
         }
 
+    -- as many cells are copied as the place has
     copied_length : (p : CellPlace) → IsPlace code (routines_of s.now) (top s) p → length (cells_at fs p) ≡ p.len
     copied_length p fits =
         let cs = (get_or fs p.frame no_frame).cells in
@@ -203,6 +221,7 @@ module _ (code : PlainCode) where
         let le : p.len ≤ length (drop p.slot cs) = elim room [ inl a ↦ omega (arith, length-drop p.slot cs) | inr e ↦ omega arith ] in
         length-take-le p.len (drop p.slot cs) le
 
+    -- copied cells fit number slots
     copied_fit : (at n : ℕ) (p : CellPlace) → p.len ≡ n → IsPlace code (routines_of s.now) (top s) p → numbers_from n kinds at ≡ true → at + n ≤ length kinds → FitsFrom at (cells_at fs p)
     copied_fit at n p e fits numbers room =
         let cs = (get_or fs p.frame no_frame).cells in
@@ -219,6 +238,7 @@ module _ (code : PlainCode) where
               (subst IsContent (sym same) (content_is code r s p.frame (p.slot + j) h lf (fits.cells j (omega arith))));
         }
 
+    -- number slots from one on are inside
     numbers_room : (n : ℕ) (at : ℕ) → at ≤ length kinds → numbers_from n kinds at ≡ true → at + n ≤ length kinds
     numbers_room zero at le e = omega arith
     numbers_room (suc n) at le e =
@@ -275,10 +295,12 @@ module _ (code : PlainCode) where
     argument_fits at n param.Cells cell.Unset le e f = absurd f
     argument_fits at n param.Cells (cell.Mark m) le e f = absurd f
 
+    -- the first n arguments fill the slots of their parameters, and the slots of the others come next
     record Begun (ps : List CodeParam) (args : List Cell) (n : ℕ) : Type 0 where
       pub fits : FitsFrom 0 (args_cells fs ps args n)
       pub rest : hold_params (kinds_at code c) (drop n ps) (length (args_cells fs ps args n)) ≡ true
 
+    -- the arguments fill the slots of their parameters, one after another
     begun : (ps : List CodeParam) (args : List Cell) (n : ℕ) → n ≤ length ps → hold_params (kinds_at code c) ps 0 ≡ true → FitsParams (IsPlace code (routines_of s.now) (top s)) ps args → Begun ps args n
     begun ps args zero le e f = record { fits = record { within = omega arith; each = λ j lt. absurd (omega arith) }; rest = e }
     begun ps args (suc n) le e f =
@@ -297,11 +319,13 @@ module _ (code : PlainCode) where
           rest = subst (λ q. hold_params (kinds_at code c) (drop (suc n) ps) q ≡ true) len parts.1;
         }
 
+    -- a blank cell fits its slot
     blank_fits : (k : SlotKind) → FitsSlot code rs me k (blank_of k)
     blank_fits slot.Number = tt
     blank_fits (slot.Place n) = tt
     blank_fits slot.Mark = tt
 
+    -- the blank cells from a slot on fit
     blanks_fit : (n : ℕ) → n ≤ length kinds → FitsFrom n (drop n (map blank_of kinds))
     blanks_fit n le =
         let len : length (drop n (map blank_of kinds)) ≡ length kinds - n = length-drop n (map blank_of kinds) ∙ ap (λ q. q - n) (length-map kinds blank_of) in
@@ -349,6 +373,7 @@ module _ (code : PlainCode) where
           );
         }
 
+    -- a routine is entered
     entered_good : (at first to : ℕ) (args : List Cell) → 0 < c → c < length code.routines → start_at code c < end_at code c → hold_params (kinds_at code c) (head_at code c).params 0 ≡ true →
         FitsParams (IsPlace code (routines_of s.now) (top s)) (head_at code c).params args → s.at ≡ suc at → slice_get code.instrs at ≡ Some (I.Call c first to) → start_at code r ≤ at → suc at < end_at code r →
         Good code (entered s c (start_at code c) (head_at code c) args)
@@ -384,6 +409,7 @@ module _ (code : PlainCode) where
         (λ _. fault_good code r s fault.CellsFull h))
         (λ _. fault_good code r s fault.DepthFull h)
 
+  -- a Call that keeps its rule
   pub call_good : (sound : IsSound code) (r at : ℕ) (s : State) (c first to : ℕ) → Here code r at s → rule_10 code r at (I.Call c first to) ≡ true → slice_get code.instrs at ≡ Some (I.Call c first to) →
       Good code (as_routine (slice_get code.routines c) s (λ h. arguments h.params s first (λ args. entered s c (start_at code c) h args)))
   unfolding rule_10

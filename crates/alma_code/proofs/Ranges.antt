@@ -7,6 +7,7 @@ use Rattle.std.proofs.lemmas.Float.{T_from_true}
 use Rattle.std.proofs.Math.Nat.{mul-le-mul_right}
 use Rattle.std.specs.Int.Signed.{le_z_yes, pos-nat_abs, yes_non_neg}
 
+-- a number of a range is no further from its low end than the high end is
 pub offset_le : (low v high : ℤ) → low ≤ℤ v → v ≤ℤ high → nat_abs (v -ℤ low) ≤ nat_abs (high -ℤ low)
 offset_le low v high a b =
     let p : pos 0 ≤ℤ (v -ℤ low) = omega (arith, ints) in
@@ -15,6 +16,7 @@ offset_le low v high a b =
     let y : pos (nat_abs (high -ℤ low)) ≡ high -ℤ low = pos-nat_abs (high -ℤ low) (yes_non_neg q) in
     omega (arith, ints)
 
+-- a part at an index of a range is inside what has room for all of them
 pub offset_within : (low v high : ℤ) (l k n : ℕ) → (int_le low v && int_le v high) ≡ true → (nat_abs (high -ℤ low) + 1) * l ≤ n → k < l → nat_abs (v -ℤ low) * l + k < n
 offset_within low v high l k n e room lt =
     let x = and_parts (int_le low v) (int_le v high) e in

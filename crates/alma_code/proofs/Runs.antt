@@ -27,11 +27,13 @@ use Rattle.alma_code.proofs.Acts.{obeys}
 use Rattle.alma_code.proofs.Steps.{act_good}
 
 module _ (code : PlainCode) (sound : IsSound code) where
+  -- the input position is a number slot
   pub first_number : slice_get (kinds_at code 0) 0 ≡ Some slot.Number
   first_number =
       let rules = sound.heads 0 sound.table.some in
       number_is (kind_in code 0 0) (and_parts (hold_params (kinds_at code 0) (head_at code 0).params 0) (has_position code 0) rules.2).1
 
+  -- what a pop leaves of an entry fits
   left_fits : (kind : ChoiceKind) (e : PlainEntry) → FitsEntry code e → FitsHeld code (left_as kind e)
   left_fits choice.Forall e h zero lt = record { frames = h.frames; resume = h.resume; carry = h.carry }
   left_fits choice.Forall e h (suc k) lt = absurd (omega arith)
@@ -39,6 +41,7 @@ module _ (code : PlainCode) (sound : IsSound code) where
   left_fits choice.Body e h k lt = absurd (omega arith)
   left_fits choice.Done e h k lt = absurd (omega arith)
 
+  -- the stack after a pop fits
   popped_fits : (held : List PlainEntry) → 1 ≤ length held → FitsHeld code held → FitsHeld code (popped held)
   popped_fits held some h k lk =
       let n = length held - 1 in
@@ -55,6 +58,7 @@ module _ (code : PlainCode) (sound : IsSound code) where
             subst (λ x. FitsEntry code x) (sym (get_or-append_right rest left n k no_entry len le)) fits
       ]
 
+  -- a pop, where the entries are these
   pop_good : (held : List PlainEntry) (s : State) → s.held ≡ held → FitsFrames code s.now → FitsHeld code s.held → Good code (popped_to s held)
   pop_good [] s e f h = record { frames = f; held = h; mode = tt }
   pop_good (x ∷ xs) s e f h =
@@ -63,6 +67,7 @@ module _ (code : PlainCode) (sound : IsSound code) where
       record { frames = entry.frames; held = popped_fits s.held some h; mode = entry.resume }
 
   module _ (input : List ℕ) where
+    -- a step, in each mode
     step_in_good : (m : Mode) (s : State) → s.mode ≡ m → FitsFrames code s.now → FitsHeld code s.held → FitsMode code m s → Good code (step_in code input m s)
     step_in_good Going s going f h at =
         let r = (last_frame s.now).routine in
@@ -83,18 +88,22 @@ module _ (code : PlainCode) (sound : IsSound code) where
     step_in_good (Ended e) s going f h at = record { frames = f; held = h; mode = subst (λ m. FitsMode code m s) (sym going) tt }
     step_in_good Stuck s going f h at = absurd at
 
+    -- a step keeps what fits
     step_good : (s : State) → Fits code s → Fits code (step code input s).state
     step_good s h = step_in_good s.mode s refl h.frames h.held h.mode
 
+    -- the state after n steps fits
     after_fits : (n : ℕ) (s : State) → Fits code s → Fits code (after code input n s)
     after_fits zero s h = h
     after_fits (suc n) s h = after_fits n (step code input s).state (step_good s h)
 
+  -- a blank cell fits its slot in the first frame
   blank_fits : (k : SlotKind) → FitsSlot code (0 ∷ []) 0 k (blank_of k)
   blank_fits slot.Number = tt
   blank_fits (slot.Place n) = tt
   blank_fits slot.Mark = tt
 
+  -- the start fits
   start_good : Fits code (start code)
   start_good =
       let kinds = kinds_at code 0 in
@@ -128,18 +137,22 @@ module _ (code : PlainCode) (sound : IsSound code) where
         mode = and_from (nat_le 0 0) (nat_lt 0 (end_at code 0)) (le-leb 0 0 (omega arith)) (lt-ltb 0 (end_at code 0) room);
       }
 
+-- the machine begins a sound code in a state that fits it
 pub start_fits : (code : PlainCode) → IsSound code → Fits code (start code)
 start_fits code sound = start_good code sound
 
+-- a step of a sound code keeps what fits
 pub stays_fit : (code : PlainCode) (input : List ℕ) → IsSound code → StaysFit code input
 stays_fit code input sound s h = step_good code sound input s h
 
+-- a state that fits is not stuck
 not_stuck : (code : PlainCode) (m : Mode) (s : State) → m ≡ Stuck → FitsMode code m s → ⊥
 not_stuck code Stuck s e h = h
 not_stuck code Going s e h = cc
 not_stuck code Failing s e h = cc
 not_stuck code (Ended x) s e h = cc
 
+-- a sound code never gets stuck
 pub never_stuck : (code : PlainCode) (input : List ℕ) → IsSound code → NeverStuck code input
 never_stuck code input sound n e =
     let h = after_fits code sound input n (start code) (start_good code sound) in

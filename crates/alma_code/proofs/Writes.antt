@@ -37,6 +37,7 @@ module _ (code : PlainCode) where
     called = h.called;
   }
 
+  -- frames that fit, after a write of what fits its slot
   pub frames-written : (fs : List PlainFrame) (f i : ℕ) (c : Cell) → FitsFrames code fs → f < length fs → i < length (get_or fs f no_frame).kinds →
       FitsSlot code (routines_of fs) f (get_or (get_or fs f no_frame).kinds i slot.Mark) c → (f + i ≡ 0 → IsPosition c) → FitsFrames code (written fs f i c)
   frames-written fs f i c h lf li fits position =

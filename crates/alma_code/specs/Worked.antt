@@ -40,13 +40,15 @@ Breaks code rule at = code_fault code ≡ Some (record { rule = rule; at = at })
 
 -- ---- parts of codes
 
--- runs of each kind, up to an end
+-- number slots up to an end
 abbrev pub numbers_to : ℕ → Run
 numbers_to end = record { kind = slot.Number; end = end }
 
+-- place slots up to an end
 abbrev pub places_to : (len end : ℕ) → Run
 places_to len end = record { kind = slot.Place len; end = end }
 
+-- mark slots up to an end
 abbrev pub marks_to : ℕ → Run
 marks_to end = record { kind = slot.Mark; end = end }
 
