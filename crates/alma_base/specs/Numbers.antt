@@ -1,5 +1,5 @@
 -- The numbers of the language: INTEGER, ranges of it, and division that rounds down.
-use Rattle.std.specs.Prelude.{ℕ, zero, suc, ◌+◌, ◌-◌, ◌/◌, ◌^◌, Bool, true, false, ◌&&◌, nat_eq, ℤ, pos, negsuc, ◌-ℤ◌, ◌*ℤ◌, neg_ℤ, int_le}
+use Rattle.std.specs.Prelude.{◌≢◌, zero, suc, ◌+◌, ◌-◌, ◌/◌, ◌^◌, Bool, true, false, ◌&&◌, nat_eq, ℤ, pos, negsuc, ◌-ℤ◌, ◌*ℤ◌, neg_ℤ, ◌≤ℤ◌, ◌<ℤ◌, int_le}
 use Rattle.alma_base.specs.declared.number.Range.{Range}
 
 -- the number is in the range
@@ -38,3 +38,12 @@ div_down_of (negsuc a) (negsuc b) = pos (suc a / suc b)
 -- what the quotient rounded down leaves, computed exactly
 abbrev pub mod_down_of : ℤ → ℤ → ℤ
 mod_down_of a b = a -ℤ (b *ℤ div_down_of a b)
+
+-- what a quotient rounded down leaves of a divisor: it has the divisor's sign, and is nearer to 0
+abbrev pub IsRest : (divisor rest : ℤ) → Type 0
+IsRest (pos n) rest = (pos 0 ≤ℤ rest) × (rest <ℤ pos n)
+IsRest (negsuc n) rest = (negsuc n <ℤ rest) × (rest ≤ℤ pos 0)
+
+-- the division is the one that rounds down
+abbrev pub RoundsDown : Type 0
+RoundsDown = (a b : ℤ) → b ≢ pos 0 → IsRest b (mod_down_of a b)

@@ -2,11 +2,12 @@
 #![tactic(auto)]
 
 mod fault;
+pub mod laws;
 mod number;
 mod place;
 mod value;
 
 pub use fault::{CheckFault, LexFault, NoMemory, RunFault, SyntaxFault};
-pub use number::{Range, ReadInt};
+pub use number::{Range, ReadInt, div_down, mod_down};
 pub use place::{Place, Status};
 pub use value::{Value, write_value};

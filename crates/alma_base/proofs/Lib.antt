@@ -1,0 +1,2 @@
+mod Division
+pub mod Rests
