@@ -1,0 +1,129 @@
+// A code: its routines, its tables and its instructions.
+ghost use Rattle.std.specs.Prelude.{◌<◌, ◌^◌, length};
+
+use crate::head::{CodeParam, Head, Run};
+use crate::instr::Instr;
+use alma_base::Range;
+
+/// A routine of a code. Its instructions begin where those of the routine before end, or at 0, and end before `code_end`.
+#[derive(Debug, Drop)]
+pub struct RoutineHead {
+    pub name: Vec<u8>,
+    pub slots: u32,
+    pub declared: u32,
+    pub kinds: Vec<Run>,
+    pub params: Vec<CodeParam>,
+    pub result: bool,
+    pub code_end: u32,
+    ghost few_runs: { length kinds.items < 2 ^ 32 },
+    ghost few_params: { length params.items < 2 ^ 32 },
+}
+
+impl Head for RoutineHead {
+    ghost use Rattle.alma_code.specs.Plain.{head_of};
+
+    ghost head = { head_of };
+
+    fn slots(&self) -> u32 {
+        self.slots
+    }
+
+    fn declared(&self) -> u32 {
+        self.declared
+    }
+
+    fn param_count(&self) -> u32 {
+        self.params.len() as u32
+    }
+
+    fn param(&self, i: u32) -> CodeParam {
+        self.params[i as usize]
+    }
+
+    fn run_count(&self) -> u32 {
+        self.kinds.len() as u32
+    }
+
+    fn run(&self, i: u32) -> Run {
+        self.kinds[i as usize]
+    }
+
+    fn has_result(&self) -> bool {
+        self.result
+    }
+}
+
+/// A variable of the module, as a tool shows it.
+#[derive(Debug, Drop)]
+pub struct CodeGlobal {
+    pub name: Vec<u8>,
+    pub slot: u32,
+    pub cells: u32,
+}
+
+/// A code. Instructions name routines, ranges and texts by their places here, and one another by address.
+#[derive(Debug, Drop)]
+pub struct Code {
+    pub routines: Vec<RoutineHead>,
+    pub globals: Vec<CodeGlobal>,
+    pub ranges: Vec<Range>,
+    pub texts: Vec<Vec<u8>>,
+    pub code: Vec<Instr>,
+}
+
+#[cfg(test)]
+mod tests {
+    use super::*;
+    use crate::cell::SlotKind;
+    use crate::head::ParamKind;
+    use std::test::Fail;
+
+    // The slots of the last run, by the words of a Head alone.
+    fn last_run<H: Head>(head: &H) -> Option<Run> {
+        match head.run_count() {
+            0 => None,
+            count => Some(head.run(count - 1)),
+        }
+    }
+
+    #[test]
+    fn a_routine_is_a_head(rt: HostRuntime) -> Result<(), Fail> {
+        let mut kinds = Vec::new(rt.alloc());
+        kinds.push(Run {
+            kind: SlotKind::Place(1),
+            end: 1,
+        })?;
+        kinds.push(Run {
+            kind: SlotKind::Number,
+            end: 3,
+        })?;
+        let mut params = Vec::new(rt.alloc());
+        params.push(CodeParam {
+            kind: ParamKind::Mix,
+            cells: 1,
+        })?;
+        let routine = RoutineHead {
+            name: Vec::new(rt.alloc()),
+            slots: 3,
+            declared: 1,
+            kinds,
+            params,
+            result: true,
+            code_end: 7,
+        };
+        assert_eq!(rt;
+            last_run(&routine),
+            Some(Run {
+                kind: SlotKind::Number,
+                end: 3
+            })
+        );
+        assert_eq!(rt; routine.param_count(), 1);
+        assert_eq!(rt; routine.param(0).kind, ParamKind::Mix);
+        assert_eq!(rt;
+            (routine.slots(), routine.declared(), routine.has_result()),
+            (3, 1, true)
+        );
+        Ok(())
+    }
+}
