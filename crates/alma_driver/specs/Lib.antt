@@ -1,0 +1,12 @@
+pub mod Words
+pub mod Program
+pub mod Meaning
+pub mod Tokens
+pub mod Source
+pub mod Code
+pub mod Outside
+pub mod Machine
+pub mod Ends
+pub mod Outcome
+pub mod Course
+pub mod Causes
