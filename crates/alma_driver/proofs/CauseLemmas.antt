@@ -7,7 +7,7 @@ use Rattle.alma_io.specs.Fronts.{AppendsFront}
 use Rattle.alma_io.specs.Causes.{Rose}
 use Rattle.alma_io.specs.Files.{Told, Missing, MayHave, MayPass}
 use Rattle.alma_driver.specs.Words.{Request, Run, Asks}
-use Rattle.alma_driver.specs.Outside.{SinkState, FilesState, Outside}
+use Rattle.alma_driver.specs.Outside.{SinkSide, FilesSide, Outside}
 use Rattle.alma_driver.specs.Ends.{run_end, status_of, text_of}
 use Rattle.alma_driver.specs.Outcome.{Due, SourceOutcome, ran, not_yet, RequestOutcome, absent, too_long, fetched, Outcome, bad_word, asks, silent, Lacks, source_limit}
 use Rattle.alma_driver.specs.Course.{Gains, FailsWithin, GainsPrefix, Goes, Fetches, Reports, Answers}
@@ -16,12 +16,12 @@ use Rattle.alma_driver.specs.declared.end.End.{End}
 use Rattle.alma_driver.specs.declared.end.End.TheVariants.{Succeeded, Failed, BadWord, ReadFault, WriteFault, Memory, TooLong, NotYet}
 
 -- the ways in which a call may go, by the end that it comes to
-data Way (P : Due → Type 0) (a b : SinkState) (end : End) : Type 0 where
+data Way (P : Due → Type 0) (a b : SinkSide) (end : End) : Type 0 where
   broken : end ≡ WriteFault → (due : Due) → P due → FailsWithin a b due.out → Way P a b end
   starved : end ≡ Memory → GainsPrefix P a b → b.faults ≡ a.faults → Way P a b end
   ended : (status_of end ≡ 7 → ⊥) → (due : Due) → due.end ≡ end → P due → Gains a b due.out → Way P a b end
 
-way_of : (P : Due → Type 0) (a b : SinkState) (end : End) → Goes P a b end → Way P a b end
+way_of : (P : Due → Type 0) (a b : SinkSide) (end : End) → Goes P a b end → Way P a b end
 way_of P a b WriteFault g = broken refl g.0 g.1 g.2
 way_of P a b Memory g = starved refl g.0 g.1
 way_of P a b Succeeded g = ended (λ e. absurd (omega (arith, e))) g.0 g.1 g.2 g.3

@@ -4,7 +4,7 @@ use Rattle.std.specs.Prelude.{Option}
 use Rattle.std.specs.Io.KnownBytes.{Appends}
 use Rattle.alma_io.proofs.Known.{appends_trans}
 use Rattle.alma_io.specs.Fronts.{AppendsFront}
-use Rattle.alma_driver.specs.Outside.{SinkState, HasRisen}
+use Rattle.alma_driver.specs.Outside.{SinkSide, HasRisen}
 use Rattle.alma_driver.specs.Machine.{printed, ends_well, step_text, after, match_next, Halts}
 use Rattle.alma_driver.specs.declared.machine.Slot.{Slot}
 use Rattle.alma_driver.specs.declared.machine.Next.{Next}
@@ -37,7 +37,7 @@ front_after front bytes rest whole a b c e h x = (
 )
 
 -- a step that was halted halts the run
-pub halts_after : (halt : Halt) (front bytes rest whole : List ℕ) (a b c : SinkState) → whole ≡ front ++ (bytes ++ rest)
+pub halts_after : (halt : Halt) (front bytes rest whole : List ℕ) (a b c : SinkSide) → whole ≡ front ++ (bytes ++ rest)
     → Appends a.written b.written front → b.faults ≡ a.faults → Halts bytes b c halt → Halts whole a c halt
 halts_after WriteFault front bytes rest whole a b c e h q x = (
   front_after front bytes rest whole a.written b.written c.written e h x.0,

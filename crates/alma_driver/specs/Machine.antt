@@ -5,7 +5,7 @@ use Rattle.alma_io.specs.Fronts.{AppendsFront}
 use Rattle.alma_base.specs.Numbers.{is_zero}
 use Rattle.alma_base.specs.Value.{value_text}
 use Rattle.alma_base.specs.declared.value.Value.TheVariants.{Int, Bool as Truth}
-use Rattle.alma_driver.specs.Outside.{SinkState, HasRisen}
+use Rattle.alma_driver.specs.Outside.{SinkSide, HasRisen}
 use Rattle.alma_driver.specs.declared.code.Instr.{Instr}
 use Rattle.alma_driver.specs.declared.code.Instr.TheVariants.{Const, WriteInt, WriteBool, Check, Return}
 use Rattle.alma_driver.specs.declared.machine.Slot.{Slot}
@@ -50,11 +50,11 @@ ends_well slot [] = true
 ends_well slot (instr ∷ code) = match_next (after slot instr) (λ s. ends_well s code) (λ success. success)
 
 -- A run that prints these bytes was halted: out gained a prefix of them.
-abbrev pub Halts : List ℕ → SinkState → SinkState → Halt → Type 0
+abbrev pub Halts : List ℕ → SinkSide → SinkSide → Halt → Type 0
 Halts bytes old new WriteFault = AppendsFront old.written new.written bytes × HasRisen old.faults new.faults
 Halts bytes old new Memory = AppendsFront old.written new.written bytes × (new.faults ≡ old.faults)
 
 -- A run that prints these bytes and answers this went to its end, or was halted.
-abbrev pub Runs : {A : Type 0} → List ℕ → A → SinkState → SinkState → Result A Halt → Type 0
+abbrev pub Runs : {A : Type 0} → List ℕ → A → SinkSide → SinkSide → Result A Halt → Type 0
 Runs bytes answer old new (Ok x) = (x ≡ answer) × Appends old.written new.written bytes × (new.faults ≡ old.faults)
 Runs bytes answer old new (Err halt) = Halts bytes old new halt

@@ -1,7 +1,7 @@
 // The top call: from the words to the status.
 ghost use Rattle.std.specs.Prelude.{◌≡◌};
 ghost use Rattle.alma_driver.specs.Words.{Run, texts, asked};
-ghost use Rattle.alma_driver.specs.Outside.{sink_state, source_state, files_state, outside_of};
+ghost use Rattle.alma_driver.specs.Outside.{sink_side, source_side, files_side, outside_of};
 ghost use Rattle.alma_driver.specs.Outcome.{SourceOutcome, RequestOutcome, Outcome};
 ghost use Rattle.alma_driver.specs.Course.{Goes, Performs, Answers};
 ghost use Rattle.alma_driver.specs.Causes.{Causes};
@@ -21,8 +21,8 @@ const SOURCE_LIMIT: usize = 1_048_576;
 
 // Compiles a source and runs it.
 fn run_source<O: Sink>(alloc: Global, source: &[u8], out: &mut O) -> End
-    ensures { Goes (SourceOutcome source.now) (sink_state (O.written out.old) (O.faults out.old))
-        (sink_state (O.written out.new) (O.faults out.new)) result }
+    ensures { Goes (SourceOutcome source.now) (sink_side (O.written out.old) (O.faults out.old))
+        (sink_side (O.written out.new) (O.faults out.new)) result }
 {
     let module = match read_source(alloc, source) {
         Ok(module) => module,
@@ -40,9 +40,9 @@ fn run_source<O: Sink>(alloc: Global, source: &[u8], out: &mut O) -> End
 // Runs a file.
 fn run_file<F: Files, O: Sink>(alloc: Global, name: &str, files: &mut F, out: &mut O) -> End
     ensures { Performs (RequestOutcome (F.told files.old) (Run name.now))
-        (files_state (F.told files.old) (F.fetch_faults files.old) (F.store_faults files.old))
-        (files_state (F.told files.new) (F.fetch_faults files.new) (F.store_faults files.new))
-        (sink_state (O.written out.old) (O.faults out.old)) (sink_state (O.written out.new) (O.faults out.new)) result }
+        (files_side (F.told files.old) (F.fetch_faults files.old) (F.store_faults files.old))
+        (files_side (F.told files.new) (F.fetch_faults files.new) (F.store_faults files.new))
+        (sink_side (O.written out.old) (O.faults out.old)) (sink_side (O.written out.new) (O.faults out.new)) result }
 {
     match files.fetch(alloc, name, SOURCE_LIMIT) {
         Ok(source) => run_source(alloc, &source, out),
@@ -53,9 +53,9 @@ fn run_file<F: Files, O: Sink>(alloc: Global, name: &str, files: &mut F, out: &m
 // Does what is asked.
 fn serve<F: Files, O: Sink>(alloc: Global, request: Request<'_>, files: &mut F, out: &mut O) -> End
     ensures { Performs (RequestOutcome (F.told files.old) (asked request.entry))
-        (files_state (F.told files.old) (F.fetch_faults files.old) (F.store_faults files.old))
-        (files_state (F.told files.new) (F.fetch_faults files.new) (F.store_faults files.new))
-        (sink_state (O.written out.old) (O.faults out.old)) (sink_state (O.written out.new) (O.faults out.new)) result }
+        (files_side (F.told files.old) (F.fetch_faults files.old) (F.store_faults files.old))
+        (files_side (F.told files.new) (F.fetch_faults files.new) (F.store_faults files.new))
+        (sink_side (O.written out.old) (O.faults out.old)) (sink_side (O.written out.new) (O.faults out.new)) result }
 {
     match request {
         Request::Run(file) => run_file(alloc, file, files, out),
@@ -65,9 +65,9 @@ fn serve<F: Files, O: Sink>(alloc: Global, request: Request<'_>, files: &mut F, 
 // Does what the words ask.
 fn perform<F: Files, O: Sink>(alloc: Global, words: &[String], files: &mut F, out: &mut O) -> End
     ensures { Performs (Outcome (texts words.now) (F.told files.old))
-        (files_state (F.told files.old) (F.fetch_faults files.old) (F.store_faults files.old))
-        (files_state (F.told files.new) (F.fetch_faults files.new) (F.store_faults files.new))
-        (sink_state (O.written out.old) (O.faults out.old)) (sink_state (O.written out.new) (O.faults out.new)) result }
+        (files_side (F.told files.old) (F.fetch_faults files.old) (F.store_faults files.old))
+        (files_side (F.told files.new) (F.fetch_faults files.new) (F.store_faults files.new))
+        (sink_side (O.written out.old) (O.faults out.old)) (sink_side (O.written out.new) (O.faults out.new)) result }
 {
     match read_words(words) {
         Ok(request) => serve(alloc, request, files, out),
@@ -86,24 +86,24 @@ pub fn alma<F: Files, I: Source, O: Sink, E: Sink>(
     err: &mut E,
 ) -> Status
     ensures answer { Answers (texts words.now)
-        (outside_of (files_state (F.told files.old) (F.fetch_faults files.old) (F.store_faults files.old))
-            (source_state (I.left input.old) (I.faults input.old))
-            (sink_state (O.written out.old) (O.faults out.old))
-            (sink_state (E.written err.old) (E.faults err.old)))
-        (outside_of (files_state (F.told files.new) (F.fetch_faults files.new) (F.store_faults files.new))
-            (source_state (I.left input.new) (I.faults input.new))
-            (sink_state (O.written out.new) (O.faults out.new))
-            (sink_state (E.written err.new) (E.faults err.new)))
+        (outside_of (files_side (F.told files.old) (F.fetch_faults files.old) (F.store_faults files.old))
+            (source_side (I.left input.old) (I.faults input.old))
+            (sink_side (O.written out.old) (O.faults out.old))
+            (sink_side (E.written err.old) (E.faults err.old)))
+        (outside_of (files_side (F.told files.new) (F.fetch_faults files.new) (F.store_faults files.new))
+            (source_side (I.left input.new) (I.faults input.new))
+            (sink_side (O.written out.new) (O.faults out.new))
+            (sink_side (E.written err.new) (E.faults err.new)))
         result.0 }
     ensures causes { Causes (texts words.now)
-        (outside_of (files_state (F.told files.old) (F.fetch_faults files.old) (F.store_faults files.old))
-            (source_state (I.left input.old) (I.faults input.old))
-            (sink_state (O.written out.old) (O.faults out.old))
-            (sink_state (E.written err.old) (E.faults err.old)))
-        (outside_of (files_state (F.told files.new) (F.fetch_faults files.new) (F.store_faults files.new))
-            (source_state (I.left input.new) (I.faults input.new))
-            (sink_state (O.written out.new) (O.faults out.new))
-            (sink_state (E.written err.new) (E.faults err.new)))
+        (outside_of (files_side (F.told files.old) (F.fetch_faults files.old) (F.store_faults files.old))
+            (source_side (I.left input.old) (I.faults input.old))
+            (sink_side (O.written out.old) (O.faults out.old))
+            (sink_side (E.written err.old) (E.faults err.old)))
+        (outside_of (files_side (F.told files.new) (F.fetch_faults files.new) (F.store_faults files.new))
+            (source_side (I.left input.new) (I.faults input.new))
+            (sink_side (O.written out.new) (O.faults out.new))
+            (sink_side (E.written err.new) (E.faults err.new)))
         result.0 }
 {
     let _ = input;

@@ -1,7 +1,7 @@
 // The machine that runs code.
 ghost use Rattle.std.specs.Prelude.{◌≡◌};
 ghost use Rattle.alma_base.specs.Value.{value_text};
-ghost use Rattle.alma_driver.specs.Outside.{sink_state};
+ghost use Rattle.alma_driver.specs.Outside.{sink_side};
 ghost use Rattle.alma_driver.specs.Machine.{start, step_text, after, printed, ends_well, Runs};
 ghost use Rattle.alma_driver.specs.declared.machine.Halt.TheVariants.{Memory, WriteFault};
 
@@ -52,8 +52,8 @@ enum Next {
 
 // Prints a value. `text` is a buffer to make its bytes in.
 fn print<O: Sink>(text: &mut Vec<u8>, value: Value, out: &mut O) -> Result<(), Halt>
-    ensures { Runs (value_text value) tt (sink_state (O.written out.old) (O.faults out.old))
-        (sink_state (O.written out.new) (O.faults out.new)) result }
+    ensures { Runs (value_text value) tt (sink_side (O.written out.old) (O.faults out.old))
+        (sink_side (O.written out.new) (O.faults out.new)) result }
 {
     text.clear();
     write_value(text, &value)?;
@@ -68,8 +68,8 @@ fn step<O: Sink>(
     slot: Slot,
     out: &mut O,
 ) -> Result<Next, Halt>
-    ensures { Runs (step_text slot instr) (after slot instr) (sink_state (O.written out.old) (O.faults out.old))
-        (sink_state (O.written out.new) (O.faults out.new)) result }
+    ensures { Runs (step_text slot instr) (after slot instr) (sink_side (O.written out.old) (O.faults out.old))
+        (sink_side (O.written out.new) (O.faults out.new)) result }
 {
     match instr {
         Instr::Const(value) => Ok(Next::On(Slot { value })),
@@ -89,8 +89,8 @@ fn step<O: Sink>(
 
 /// Runs code, with one write for each print, in order. Answers whether it ended in success.
 pub fn run<O: Sink>(alloc: Global, code: &[Instr], out: &mut O) -> Result<bool, Halt>
-    ensures { Runs (printed start code.now) (ends_well start code.now) (sink_state (O.written out.old) (O.faults out.old))
-        (sink_state (O.written out.new) (O.faults out.new)) result }
+    ensures { Runs (printed start code.now) (ends_well start code.now) (sink_side (O.written out.old) (O.faults out.old))
+        (sink_side (O.written out.new) (O.faults out.new)) result }
 {
     let mut text = Vec::new(alloc);
     let mut slot = Slot { value: 0 };

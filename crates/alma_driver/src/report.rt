@@ -3,7 +3,7 @@ ghost use Rattle.std.specs.Prelude.{flat_map, OnOk, OnErr};
 ghost use Rattle.std.specs.Io.KnownBytes.{Appends};
 ghost use Rattle.alma_io.specs.Causes.{HasCause};
 ghost use Rattle.alma_io.specs.Fronts.{AppendsFront};
-ghost use Rattle.alma_driver.specs.Outside.{sink_state};
+ghost use Rattle.alma_driver.specs.Outside.{sink_side};
 ghost use Rattle.alma_driver.specs.Ends.{text_of};
 ghost use Rattle.alma_driver.specs.Course.{Reports};
 
@@ -48,7 +48,7 @@ fn write_end<E: Sink>(err: &mut E, end: End) -> Result<(), WriteFault>
 
 /// Writes the text of an end to err, and gives the status: that of a write fault where err fails.
 pub fn report<E: Sink>(err: &mut E, end: End) -> Status
-    ensures { Reports end (sink_state (E.written err.old) (E.faults err.old)) (sink_state (E.written err.new) (E.faults err.new)) result.0 }
+    ensures { Reports end (sink_side (E.written err.old) (E.faults err.old)) (sink_side (E.written err.new) (E.faults err.new)) result.0 }
 {
     match write_end(err, end) {
         Ok(()) => Status(end.status()),
