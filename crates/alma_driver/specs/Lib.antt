@@ -1,0 +1,5 @@
+pub mod Program
+pub mod Tokens
+pub mod Scan
+pub mod Parse
+pub mod Source

@@ -1,0 +1,7 @@
+//! Sources of the first grammar, read to trees.
+#![tactic(auto)]
+
+mod parse;
+mod scan;
+mod source;
+mod tree;
