@@ -1,5 +1,7 @@
 // Trees of the first grammar.
-ghost use Rattle.std.specs.Prelude.{◌≡◌, ◌∷◌, ◌↔◌, [], codes, IsTrue, MatchOption};
+ghost use Rattle.std.specs.Prelude.{◌≡◌, ◌≤◌, ◌∷◌, ◌↔◌, [], codes, drop, length, IsTrue, MatchOption};
+ghost use Rattle.std.specs.Str.{bytes_eq};
+ghost use Rattle.std.specs.List.{list_any};
 ghost use Rattle.alma_driver.specs.Program.{statement as plain_statement, statements as plain_statements};
 ghost use Rattle.alma_driver.specs.Tokens as spelled;
 ghost use Rattle.alma_driver.specs.Tokens.{is_reserved as is_reserved_word, item_tokens, statement_tokens, body_tokens, separated};
@@ -55,10 +57,16 @@ const RESERVED: [&[u8]; 40] = [
     b"WRITELN",
 ];
 
+fn is_one_of(words: &[&[u8]], text: &[u8]) -> bool
+    ensures { result ≡ list_any (λ word. bytes_eq text.now word.now) words.now }
+{
+    words.iter().any(|word| text == *word)
+}
+
 fn is_reserved(text: &[u8]) -> bool
     ensures { result ≡ is_reserved_word text.now }
 {
-    RESERVED.iter().any(|word| text == *word)
+    is_one_of(&RESERVED, text)
 }
 
 // The first token and the rest.
@@ -124,6 +132,14 @@ fn item<'t, 's>(tokens: &'t [Token<'s>]) -> Option<(Item, &'t [Token<'s>])>
     }
 }
 
+// The tokens from a place on.
+fn tokens_from<'t, 's>(tokens: &'t [Token<'s>], place: usize) -> &'t [Token<'s>]
+    requires { place ≤ length tokens.now }
+    ensures { plain result.now ≡ drop place (plain tokens.now) }
+{
+    &tokens[place..]
+}
+
 // Items, each behind a comma, as long as commas follow.
 fn other_items<'t, 's>(
     alloc: Global,
@@ -134,14 +150,14 @@ fn other_items<'t, 's>(
 {
     let mut found = Vec::new(alloc);
     let mut at = 0;
-    while let Some(behind) = symbol(&tokens[at..], SymbolKind::Comma) {
+    while let Some(behind) = symbol(tokens_from(tokens, at), SymbolKind::Comma) {
         let Some((next, rest)) = item(behind) else {
             return Err(ReadError::NotYet);
         };
         found.push(next)?;
         at = tokens.len() - rest.len();
     }
-    Ok((found, &tokens[at..]))
+    Ok((found, tokens_from(tokens, at)))
 }
 
 // One or more items in brackets.
@@ -192,12 +208,12 @@ fn statements<'t, 's>(
     let (first, rest) = statement(alloc, tokens)?;
     found.push(first)?;
     let mut at = tokens.len() - rest.len();
-    while let Some(behind) = symbol(&tokens[at..], SymbolKind::Semicolon) {
+    while let Some(behind) = symbol(tokens_from(tokens, at), SymbolKind::Semicolon) {
         let (next, rest) = statement(alloc, behind)?;
         found.push(next)?;
         at = tokens.len() - rest.len();
     }
-    Ok((found, &tokens[at..]))
+    Ok((found, tokens_from(tokens, at)))
 }
 
 fn body<'t, 's>(
