@@ -146,3 +146,31 @@ statement_more (s ∷ parts) behind h = inl (statement_tokens s (separated (Symb
 
 pub statement_list : IsList (Symbol Semicolon) statement_tokens (Follows (Word (codes "END"))) EndsStatement
 statement_list = record { apart = λ rest h. cc (h.1); more = statement_more }
+
+body_here : (ts : List Token) (found : List Statement) (left : List Token) → 0 < length found
+    → Symbol Semicolon ∷ ts ≡ separated (Symbol Semicolon) statement_tokens found left → Word (codes "BEGIN") ∷ ts ≡ body_tokens found left
+body_here ts [] left h e = absurd (omega arith)
+body_here ts (s ∷ ss) left h e =
+    let same : ts ≡ statement_tokens s (separated (Symbol Semicolon) statement_tokens ss left) = cc e in
+    ap (λ (z : List Token). Word (codes "BEGIN") ∷ z) same
+
+body_once : (ts left : List Token)
+    → ((other : List Statement) (behind : List Token) → Follows (Word (codes "END")) behind → Symbol Semicolon ∷ ts ≡ separated (Symbol Semicolon) statement_tokens other behind → behind ≡ left)
+    → (other : List Statement) (behind : List Token) → Follows (Word (codes "END")) behind → Word (codes "BEGIN") ∷ ts ≡ body_tokens other behind → behind ≡ left
+body_once ts left once [] behind h e = let q : Word (codes "BEGIN") ∷ ts ≡ Word (codes "END") ∷ h.0 = e ∙ h.1 in cc q
+body_once ts left once (s ∷ ss) behind h e =
+    let same : ts ≡ statement_tokens s (separated (Symbol Semicolon) statement_tokens ss behind) = cc e in
+    once (s ∷ ss) behind h (ap (λ (z : List Token). Symbol Semicolon ∷ z) same)
+
+-- statements behind a semicolon are a body behind BEGIN
+pub body_begins : (ts : List Token) (found : List Statement) (left : List Token) → 0 < length found
+    → Begins (Follows (Word (codes "END"))) (separated (Symbol Semicolon) statement_tokens) (Symbol Semicolon ∷ ts) found left
+    → Begins (Follows (Word (codes "END"))) body_tokens (Word (codes "BEGIN") ∷ ts) found left
+body_begins ts found left h b = record { here = body_here ts found left h b.here; once = body_once ts left b.once }
+
+pub body_lacks : (ts : List Token) → Lacks (Follows (Word (codes "END"))) (separated (Symbol Semicolon) statement_tokens) (Symbol Semicolon ∷ ts)
+    → Lacks (Follows (Word (codes "END"))) body_tokens (Word (codes "BEGIN") ∷ ts)
+body_lacks ts none [] behind h e = let q : Word (codes "BEGIN") ∷ ts ≡ Word (codes "END") ∷ h.0 = e ∙ h.1 in cc q
+body_lacks ts none (s ∷ ss) behind h e =
+    let same : ts ≡ statement_tokens s (separated (Symbol Semicolon) statement_tokens ss behind) = cc e in
+    none (s ∷ ss) behind h (ap (λ (z : List Token). Symbol Semicolon ∷ z) same)
