@@ -1,2 +1,3 @@
 pub mod ScanLemmas
 pub mod ParseLemmas
+pub mod ReadLemmas

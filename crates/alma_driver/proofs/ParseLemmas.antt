@@ -1,5 +1,5 @@
 -- A list of parts, each behind a separator, is read in one way.
-use Rattle.std.proofs.Common.{◌≡◌, ◌≤◌, ◌<◌, ◌+◌, ◌-◌, ◌⊎◌, ℕ, List, [], ◌∷◌, ◌++◌, length, drop, take, ap, sym, subst, refl, ◌∙◌, arith, append_assoc, codes, inl, inr, map, length-append, length-drop}
+use Rattle.std.proofs.Common.{◌≡◌, ◌≤◌, ◌<◌, ◌+◌, ◌-◌, ◌⊎◌, ℕ, List, [], ◌∷◌, ◌++◌, length, drop, take, get_or, ap, sym, subst, refl, ◌∙◌, arith, append_assoc, codes, inl, inr, map, length-append, length-drop}
 use Rattle.std.proofs.Math.Seq.{drop-append_seam}
 use Rattle.std.proofs.lemmas.List.{take-append-drop, length-map, length-take}
 use Rattle.alma_driver.specs.declared.tree.Item.{Item}
@@ -9,7 +9,13 @@ use Rattle.alma_driver.specs.Program.{Statement, Nothing, Test, Write}
 use Rattle.alma_driver.specs.Tokens.{Token, Word, Number, Symbol, truth_word, separated, item_tokens, statement_tokens, body_tokens}
 use Rattle.alma_driver.specs.declared.scan.Token as scan
 use Rattle.alma_driver.specs.Scan.{token}
-use Rattle.alma_driver.specs.Parse.{plain, Begins, Lacks, Anything, Follows, EndsStatement}
+use Rattle.alma_driver.specs.declared.source.ReadError.{ReadError}
+use Rattle.alma_driver.specs.declared.source.ReadError.TheVariants.{NotYet, Memory}
+use Rattle.alma_driver.specs.Parse.{plain, Begins, Lacks, Anything, Follows, EndsStatement, Refuses, Parses, list_tokens}
+use Rattle.std.specs.Prelude.{Result, Err, Bool, true, false}
+use Rattle.std.specs.Result.{IsErrAnd}
+use Rattle.std.proofs.lemmas.Result.{err_from_is_err_and}
+use Rattle.std.specs.Borrow.{Bor}
 
 -- what may end a list begins with no separator, and a part may stand before the others and what ends the list
 pub record IsList {X : Type 0} (separator : Token) (spell : X → List Token → List Token) (ends follows : List Token → Type 0) : Type 0 where
@@ -107,35 +113,47 @@ statement_keeps (Write first others) rest =
     here.1 ∙ ap (λ (z : List Token). here.0 ++ z) behind.1 ∙ simp append_assoc in
     (Word (codes "WRITE") ∷ Symbol OpenParen ∷ (here.0 ++ (behind.0 ++ Symbol CloseParen ∷ [])), ap (λ (z : List Token). Word (codes "WRITE") ∷ Symbol OpenParen ∷ z) both)
 
--- the place behind a part that was read
-pub record Behind (tokens : List scan.Token) (at : ℕ) (rest : List scan.Token) : Type 0 where
+-- what stands behind a part that was read is what is left at its place
+pub record Behind (tokens rest : List scan.Token) : Type 0 where
   pub fits : length rest ≤ length tokens
-  pub later : at < length tokens - length rest
   pub there : drop (length tokens - length rest) (plain tokens) ≡ plain rest
 
--- what stands behind a front is what is left at its place
-pub place_behind : (tokens rest : List scan.Token) (at : ℕ) (front : List Token) → plain tokens ≡ front ++ plain rest → at < length front → Behind tokens at rest
-place_behind tokens rest at front e h =
-    let whole : length tokens ≡ length front + length rest = sym (length-map tokens token) ∙ ap length e ∙ length-append front (plain rest) ∙ ap (λ n. length front + n) (length-map rest token) in
+lengths : (tokens rest : List scan.Token) (front : List Token) → plain tokens ≡ front ++ plain rest → length tokens ≡ length front + length rest
+lengths tokens rest front e =
+    sym (length-map tokens token) ∙ ap length e ∙ length-append front (plain rest) ∙ ap (λ n. length front + n) (length-map rest token)
+
+behind_front : (tokens rest : List scan.Token) (front : List Token) → plain tokens ≡ front ++ plain rest → Behind tokens rest
+behind_front tokens rest front e =
+    let whole = lengths tokens rest front e in
     let same : length front ≡ length tokens - length rest = omega arith in
     record {
       fits = omega arith;
-      later = omega arith;
       there = subst (λ n. drop n (plain tokens) ≡ plain rest) same (ap (drop (length front)) e ∙ drop-append_seam front (plain rest));
     }
 
+pub behind_part : {X : Type 0} (spell : X → List Token → List Token) → Keeps spell → (tokens : List scan.Token) (x : X) (rest : List scan.Token)
+    → plain tokens ≡ spell x (plain rest) → Behind tokens rest
+behind_part spell keeps tokens x rest b = let k = keeps x (plain rest) in behind_front tokens rest k.0 (b ∙ k.1)
+
 -- a part read behind a separator leaves the tokens at a later place
-pub place_next : {X : Type 0} (spell : X → List Token → List Token) → Keeps spell → (separator : Token) (tokens : List scan.Token) (at : ℕ) (after : List Token) (x : X) (rest : List scan.Token)
-    → at ≤ length tokens → drop at (plain tokens) ≡ separator ∷ after → after ≡ spell x (plain rest) → Behind tokens at rest
-place_next spell keeps separator tokens at after x rest h d b =
+pub record Later (tokens : List scan.Token) (at : ℕ) (rest : List scan.Token) : Type 0 where
+  pub behind : Behind tokens rest
+  pub later : at < length tokens - length rest
+
+pub later_part : {X : Type 0} (spell : X → List Token → List Token) → Keeps spell → (separator : Token) (tokens : List scan.Token) (at : ℕ) (after : List Token) (x : X) (rest : List scan.Token)
+    → at ≤ length tokens → drop at (plain tokens) ≡ separator ∷ after → after ≡ spell x (plain rest) → Later tokens at rest
+later_part spell keeps separator tokens at after x rest h d b =
     let k = keeps x (plain rest) in
     let left : drop at (plain tokens) ≡ separator ∷ (k.0 ++ plain rest) = d ∙ ap (λ (z : List Token). separator ∷ z) (b ∙ k.1) in
     let whole : plain tokens ≡ (take at (plain tokens) ++ separator ∷ k.0) ++ plain rest =
         sym (take-append-drop at (plain tokens)) ∙ ap (λ (z : List Token). take at (plain tokens) ++ z) left
         ∙ sym (append_assoc (take at (plain tokens)) (separator ∷ k.0) (plain rest)) in
     let taken : length (take at (plain tokens)) ≡ at = omega (arith, length-take at (plain tokens), length-map tokens token) in
-    let longer : at < length (take at (plain tokens) ++ separator ∷ k.0) = omega (arith, taken, length-append (take at (plain tokens)) (separator ∷ k.0)) in
-    place_behind tokens rest at (take at (plain tokens) ++ separator ∷ k.0) whole longer
+    let size = lengths tokens rest (take at (plain tokens) ++ separator ∷ k.0) whole in
+    record {
+      behind = behind_front tokens rest (take at (plain tokens) ++ separator ∷ k.0) whole;
+      later = omega (arith, taken, size, length-append (take at (plain tokens)) (separator ∷ k.0));
+    }
 
 pub item_list : IsList (Symbol Comma) item_tokens (Follows (Symbol CloseParen)) Anything
 item_list = record { apart = λ rest h. cc (h.1); more = λ parts behind h. tt }
@@ -174,3 +192,49 @@ body_lacks ts none [] behind h e = let q : Word (codes "BEGIN") ∷ ts ≡ Word 
 body_lacks ts none (s ∷ ss) behind h e =
     let same : ts ≡ statement_tokens s (separated (Symbol Semicolon) statement_tokens ss behind) = cc e in
     none (s ∷ ss) behind h (ap (λ (z : List Token). Symbol Semicolon ∷ z) same)
+
+refuses : {X Z : Type 0} (follows ends : List Token → Type 0) (spell : X → List Token → List Token) (spell_all : Z → List Token → List Token) (ts us : List Token)
+    → (Lacks follows spell ts → Lacks ends spell_all us) → (error : ReadError) → Refuses follows spell ts error → Refuses ends spell_all us error
+refuses follows ends spell spell_all ts us none NotYet h = none h
+refuses follows ends spell spell_all ts us none Memory h = tt
+
+-- an error handed on from a part
+pub refused : {X Z W : Type 0} (follows ends : List Token → Type 0) (spell : X → List Token → List Token) (spell_all : Z → List Token → List Token) (view : W → Z) (ts us : List Token)
+    → (Lacks follows spell ts → Lacks ends spell_all us) → (error : ReadError) → Refuses follows spell ts error
+    → (result : Result (W × Bor (List scan.Token)) ReadError) → IsErrAnd result (λ e. e ≡ error) → Parses ends spell_all view us result
+refused follows ends spell spell_all view ts us none error h result same =
+    let p = err_from_is_err_and result same in
+    rw (p.1, p.2) (refuses follows ends spell spell_all ts us none error h)
+
+no_end : (w : List ℕ) (rest behind : List Token) → EndsStatement behind → Word w ∷ rest ≡ behind → w ≡ codes "END"
+no_end w rest behind (inl h) e = let q : Word w ∷ rest ≡ Symbol Semicolon ∷ h.0 = e ∙ h.1 in cc q
+no_end w rest behind (inr h) e = let q : Word w ∷ rest ≡ Word (codes "END") ∷ h.0 = e ∙ h.1 in cc q
+
+different : (a b : ℕ) → a ≡ b → a < b → ⊥
+different a b e h = omega arith
+
+no_truth : (value : Bool) → codes "WRITE" ≡ truth_word value → ⊥
+no_truth true e = cc e
+no_truth false e = different 70 87 (ap (λ (bytes : List ℕ). get_or bytes 0 0) (sym e)) (omega arith)
+
+write_once : (rest left : List Token) → ((items : Item × List Item) (behind : List Token) → rest ≡ list_tokens items behind → behind ≡ left)
+    → (s : Statement) (behind : List Token) → EndsStatement behind → Word (codes "WRITE") ∷ rest ≡ statement_tokens s behind → behind ≡ left
+write_once rest left once Nothing behind h e = let q = no_end (codes "WRITE") rest behind h e in cc q
+write_once rest left once (Test value) behind h e = absurd (no_truth value (cc e))
+write_once rest left once (Write first others) behind h e = once (first, others) behind (cc e)
+
+pub write_begins : (ts rest left : List Token) (items : Item × List Item) → ts ≡ Word (codes "WRITE") ∷ rest → Begins Anything list_tokens rest items left
+    → Begins EndsStatement statement_tokens ts (Write items.0 items.1) left
+write_begins ts rest left items e b = record {
+  here = e ∙ ap (λ (z : List Token). Word (codes "WRITE") ∷ z) b.here;
+  once = λ s behind h q. write_once rest left (λ items behind. b.once items behind tt) s behind h (sym e ∙ q);
+}
+
+write_never : (rest : List Token) → Lacks Anything list_tokens rest
+    → (s : Statement) (behind : List Token) → EndsStatement behind → Word (codes "WRITE") ∷ rest ≡ statement_tokens s behind → ⊥
+write_never rest none Nothing behind h e = let q = no_end (codes "WRITE") rest behind h e in cc q
+write_never rest none (Test value) behind h e = no_truth value (cc e)
+write_never rest none (Write first others) behind h e = none (first, others) behind tt (cc e)
+
+pub write_lacks : (ts rest : List Token) → ts ≡ Word (codes "WRITE") ∷ rest → Lacks Anything list_tokens rest → Lacks EndsStatement statement_tokens ts
+write_lacks ts rest e none s behind h q = write_never rest none s behind h (sym e ∙ q)

@@ -45,11 +45,15 @@ abbrev pub Finds : {X : Type 0} → (X → List Token → List Token) → List T
 Finds spell ts None = Lacks Anything spell ts
 Finds spell ts (Some x) = Begins Anything spell ts x.0 (plain x.1.now)
 
--- the same for a part that takes memory, of which a view is spelled
+-- not yet only where there is none; want of memory is free
+abbrev pub Refuses : {X : Type 0} → (List Token → Type 0) → (X → List Token → List Token) → List Token → ReadError → Type 0
+Refuses follows spell ts NotYet = Lacks follows spell ts
+Refuses follows spell ts Memory = Unit {0}
+
+-- the same as `Finds` for a part that takes memory, of which a view is spelled
 abbrev pub Parses : {X Y : Type 0} → (List Token → Type 0) → (X → List Token → List Token) → (Y → X) → List Token → Result (Y × Bor (List scan.Token)) ReadError → Type 0
 Parses follows spell view ts (Ok y) = Begins follows spell ts (view y.0) (plain y.1.now)
-Parses follows spell view ts (Err NotYet) = Lacks follows spell ts
-Parses follows spell view ts (Err Memory) = Unit {0}
+Parses follows spell view ts (Err error) = Refuses follows spell ts error
 
 -- a word that is no reserved one, or none is there
 abbrev pub IsName : List Token → Option (Bor (List ℕ) × Bor (List scan.Token)) → Type 0

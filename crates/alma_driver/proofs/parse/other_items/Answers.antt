@@ -5,7 +5,7 @@ use Rattle.alma_driver.specs.declared.scan.SymbolKind.TheVariants.{Comma, CloseP
 use Rattle.alma_driver.specs.Scan.{token}
 use Rattle.alma_driver.specs.Tokens.{Token, Symbol, item_tokens}
 use Rattle.alma_driver.specs.Parse.{plain, Follows}
-use Rattle.alma_driver.proofs.ParseLemmas.{Listed, listed_next, listed_bad, listed_all, item_list, item_keeps, Behind, place_next}
+use Rattle.alma_driver.proofs.ParseLemmas.{Listed, listed_next, listed_bad, listed_all, item_list, item_keeps, later_part}
 use Rattle.alma_driver.proofs.parse.other_items.Goals as goal
 
 pub returns-in_default-item : goal.returns-in_default-item
@@ -15,11 +15,11 @@ returns-in_default-item c =
 pub loop-behind-preserved : goal.loop-behind-preserved
 loop-behind-preserved c =
     let left = sym c.tokens_from.ensures ∙ c.in-Some.ensures in
-    let behind = place_next item_tokens item_keeps (Symbol Comma) c.args.tokens.now c.loop-behind.at _ _ _ c.loop-behind.invariant.within left c.in-Some-item.ensures.here in
+    let next_place = later_part item_tokens item_keeps (Symbol Comma) c.args.tokens.now c.loop-behind.at _ _ _ c.loop-behind.invariant.within left c.in-Some-item.ensures.here in
     let next = listed_next _ _ _ _ item_list _ _ _ _ _ _ c.loop-behind.invariant.list left c.in-Some-item.ensures in
     record {
       within = omega arith;
-      list = rw (c.in_ok-push.ensures.items, behind.there) next;
+      list = rw (c.in_ok-push.ensures.items, next_place.behind.there) next;
     }
 
 pub returns : goal.returns
