@@ -146,8 +146,8 @@ later_part spell keeps separator tokens at after x rest h d b =
     let k = keeps x (plain rest) in
     let left : drop at (plain tokens) ≡ separator ∷ (k.0 ++ plain rest) = d ∙ ap (λ (z : List Token). separator ∷ z) (b ∙ k.1) in
     let whole : plain tokens ≡ (take at (plain tokens) ++ separator ∷ k.0) ++ plain rest =
-        sym (take-append-drop at (plain tokens)) ∙ ap (λ (z : List Token). take at (plain tokens) ++ z) left
-        ∙ sym (append_assoc (take at (plain tokens)) (separator ∷ k.0) (plain rest)) in
+    sym (take-append-drop at (plain tokens)) ∙ ap (λ (z : List Token). take at (plain tokens) ++ z) left
+    ∙ sym (append_assoc (take at (plain tokens)) (separator ∷ k.0) (plain rest)) in
     let taken : length (take at (plain tokens)) ≡ at = omega (arith, length-take at (plain tokens), length-map tokens token) in
     let size = lengths tokens rest (take at (plain tokens) ++ separator ∷ k.0) whole in
     record {

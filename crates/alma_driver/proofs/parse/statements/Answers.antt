@@ -11,8 +11,8 @@ pub returns-in_err-first : goal.returns-in_err-first
 returns-in_err-first c =
     let ts = plain c.args.tokens.now in
     refused EndsStatement (Follows (Word (codes "END"))) statement_tokens body_tokens _ ts _
-        (λ none. body_lacks ts (listed_bad _ _ _ _ statement_list (Symbol Semicolon ∷ ts) [] (Symbol Semicolon ∷ ts) ts (listed_none _ _ _ _) refl none))
-        _ c.in_err-first.ensures _ c.from_residual.ensures.1
+    (λ none. body_lacks ts (listed_bad _ _ _ _ statement_list (Symbol Semicolon ∷ ts) [] (Symbol Semicolon ∷ ts) ts (listed_none _ _ _ _) refl none))
+    _ c.in_err-first.ensures _ c.from_residual.ensures.1
 
 pub overflow_sub-at : goal.overflow_sub-at
 overflow_sub-at c = let behind = behind_part statement_tokens statement_keeps c.args.tokens.now _ _ c.in_ok-first.ensures.here in behind.fits
@@ -32,8 +32,8 @@ pub returns-in_err-next : goal.returns-in_err-next
 returns-in_err-next c =
     let left = sym c.tokens_from.ensures ∙ c.in-Some.ensures in
     refused EndsStatement (Follows (Word (codes "END"))) statement_tokens body_tokens _ _ _
-        (λ none. body_lacks _ (listed_bad _ _ _ _ statement_list _ _ _ _ c.loop-behind.invariant.list left none))
-        _ c.in_err-next.ensures _ c.from_residual-in_err-next.ensures.1
+    (λ none. body_lacks _ (listed_bad _ _ _ _ statement_list _ _ _ _ c.loop-behind.invariant.list left none))
+    _ c.in_err-next.ensures _ c.from_residual-in_err-next.ensures.1
 
 pub overflow_sub-at-in-Some : goal.overflow_sub-at-in-Some
 overflow_sub-at-in-Some c =
@@ -62,4 +62,4 @@ loop-behind-preserved c =
 pub returns : goal.returns
 returns c =
     rw c.tokens_from-2.ensures (body_begins _ _ _ c.loop-behind.invariant.some
-        (listed_all _ _ _ _ _ _ c.loop-behind.invariant.list (λ rest e. c.in_default.ensures rest (c.tokens_from.ensures ∙ e))))
+    (listed_all _ _ _ _ _ _ c.loop-behind.invariant.list (λ rest e. c.in_default.ensures rest (c.tokens_from.ensures ∙ e))))
