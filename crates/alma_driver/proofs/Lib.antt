@@ -1,3 +1,4 @@
 pub mod ScanLemmas
 pub mod ParseLemmas
+pub mod SpellingLemmas
 pub mod ReadLemmas

@@ -165,6 +165,9 @@ statement_more (s ∷ parts) behind h = inl (statement_tokens s (separated (Symb
 pub statement_list : IsList (Symbol Semicolon) statement_tokens (Follows (Word (codes "END"))) EndsStatement
 statement_list = record { apart = λ rest h. cc (h.1); more = statement_more }
 
+pub no_begin : (ts us : List Token) → Word (codes "BEGIN") ∷ ts ≡ Word (codes "END") ∷ us → ⊥
+no_begin ts us e = cc e
+
 body_here : (ts : List Token) (found : List Statement) (left : List Token) → 0 < length found
     → Symbol Semicolon ∷ ts ≡ separated (Symbol Semicolon) statement_tokens found left → Word (codes "BEGIN") ∷ ts ≡ body_tokens found left
 body_here ts [] left h e = absurd (omega arith)
@@ -175,7 +178,7 @@ body_here ts (s ∷ ss) left h e =
 body_once : (ts left : List Token)
     → ((other : List Statement) (behind : List Token) → Follows (Word (codes "END")) behind → Symbol Semicolon ∷ ts ≡ separated (Symbol Semicolon) statement_tokens other behind → behind ≡ left)
     → (other : List Statement) (behind : List Token) → Follows (Word (codes "END")) behind → Word (codes "BEGIN") ∷ ts ≡ body_tokens other behind → behind ≡ left
-body_once ts left once [] behind h e = let q : Word (codes "BEGIN") ∷ ts ≡ Word (codes "END") ∷ h.0 = e ∙ h.1 in cc q
+body_once ts left once [] behind h e = absurd (no_begin ts h.0 (e ∙ h.1))
 body_once ts left once (s ∷ ss) behind h e =
     let same : ts ≡ statement_tokens s (separated (Symbol Semicolon) statement_tokens ss behind) = cc e in
     once (s ∷ ss) behind h (ap (λ (z : List Token). Symbol Semicolon ∷ z) same)
@@ -188,7 +191,7 @@ body_begins ts found left h b = record { here = body_here ts found left h b.here
 
 pub body_lacks : (ts : List Token) → Lacks (Follows (Word (codes "END"))) (separated (Symbol Semicolon) statement_tokens) (Symbol Semicolon ∷ ts)
     → Lacks (Follows (Word (codes "END"))) body_tokens (Word (codes "BEGIN") ∷ ts)
-body_lacks ts none [] behind h e = let q : Word (codes "BEGIN") ∷ ts ≡ Word (codes "END") ∷ h.0 = e ∙ h.1 in cc q
+body_lacks ts none [] behind h e = no_begin ts h.0 (e ∙ h.1)
 body_lacks ts none (s ∷ ss) behind h e =
     let same : ts ≡ statement_tokens s (separated (Symbol Semicolon) statement_tokens ss behind) = cc e in
     none (s ∷ ss) behind h (ap (λ (z : List Token). Symbol Semicolon ∷ z) same)
@@ -206,14 +209,14 @@ refused follows ends spell spell_all view ts us none error h result same =
     let p = err_from_is_err_and result same in
     rw (p.1, p.2) (refuses follows ends spell spell_all ts us none error h)
 
-no_end : (w : List ℕ) (rest behind : List Token) → EndsStatement behind → Word w ∷ rest ≡ behind → w ≡ codes "END"
+pub no_end : (w : List ℕ) (rest behind : List Token) → EndsStatement behind → Word w ∷ rest ≡ behind → w ≡ codes "END"
 no_end w rest behind (inl h) e = let q : Word w ∷ rest ≡ Symbol Semicolon ∷ h.0 = e ∙ h.1 in cc q
 no_end w rest behind (inr h) e = let q : Word w ∷ rest ≡ Word (codes "END") ∷ h.0 = e ∙ h.1 in cc q
 
-different : (a b : ℕ) → a ≡ b → a < b → ⊥
+pub different : (a b : ℕ) → a ≡ b → a < b → ⊥
 different a b e h = omega arith
 
-no_truth : (value : Bool) → codes "WRITE" ≡ truth_word value → ⊥
+pub no_truth : (value : Bool) → codes "WRITE" ≡ truth_word value → ⊥
 no_truth true e = cc e
 no_truth false e = different 70 87 (ap (λ (bytes : List ℕ). get_or bytes 0 0) (sym e)) (omega arith)
 

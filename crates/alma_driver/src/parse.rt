@@ -148,16 +148,16 @@ fn other_items<'t, 's>(
     ensures { Parses (Follows (spelled.Symbol SymbolKind.CloseParen)) (separated (spelled.Symbol SymbolKind.Comma) item_tokens)
         (λ items. items.items) (plain tokens.now) result }
 {
-    let mut found = Vec::new(alloc);
+    let mut others = Vec::new(alloc);
     let mut at = 0;
     while let Some(behind) = symbol(tokens_from(tokens, at), SymbolKind::Comma) {
         let Some((next, rest)) = item(behind) else {
             return Err(ReadError::NotYet);
         };
-        found.push(next)?;
+        others.push(next)?;
         at = tokens.len() - rest.len();
     }
-    Ok((found, tokens_from(tokens, at)))
+    Ok((others, tokens_from(tokens, at)))
 }
 
 // One or more items in brackets.

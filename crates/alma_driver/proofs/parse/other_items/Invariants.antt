@@ -8,7 +8,7 @@ use Rattle.alma_driver.proofs.parse.other_items.Given as goal
 abbrev pub invariant-loop-behind : goal.invariant-loop-behind
 invariant-loop-behind l = record {
   within : l.at ≤ length l.tokens;
-  list : Listed (Symbol Comma) item_tokens (Follows (Symbol CloseParen)) (plain l.tokens) l.found.items (drop l.at (plain l.tokens));
+  list : Listed (Symbol Comma) item_tokens (Follows (Symbol CloseParen)) (plain l.tokens) l.others.items (drop l.at (plain l.tokens));
 }
 
 abbrev pub decreases-loop-behind : goal.decreases-loop-behind
