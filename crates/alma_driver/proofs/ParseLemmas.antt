@@ -1,5 +1,5 @@
 -- A list of parts, each behind a separator, is read in one way.
-use Rattle.std.proofs.Common.{◌≡◌, ◌≤◌, ◌<◌, ◌+◌, ◌-◌, ◌⊎◌, ℕ, List, [], ◌∷◌, ◌++◌, length, drop, take, get_or, ap, sym, subst, refl, ◌∙◌, arith, append_assoc, codes, inl, inr, map, length-append, length-drop}
+use Rattle.std.proofs.Common.{◌≡◌, ◌≤◌, ◌<◌, ◌+◌, ◌-◌, ℕ, List, [], ◌∷◌, ◌++◌, length, drop, take, get_or, ap, sym, subst, refl, ◌∙◌, arith, append_assoc, codes, inl, inr, length-append}
 use Rattle.std.proofs.Math.Seq.{drop-append_seam}
 use Rattle.std.proofs.lemmas.List.{take-append-drop, length-map, length-take}
 use Rattle.alma_driver.specs.declared.tree.Item.{Item}
@@ -12,7 +12,7 @@ use Rattle.alma_driver.specs.Scan.{token}
 use Rattle.alma_driver.specs.declared.source.ReadError.{ReadError}
 use Rattle.alma_driver.specs.declared.source.ReadError.TheVariants.{NotYet, Memory}
 use Rattle.alma_driver.specs.Parse.{plain, Begins, Lacks, Anything, Follows, EndsStatement, Refuses, Parses, list_tokens}
-use Rattle.std.specs.Prelude.{Result, Err, Bool, true, false}
+use Rattle.std.specs.Prelude.{Result, Bool, true, false}
 use Rattle.std.specs.Result.{IsErrAnd}
 use Rattle.std.proofs.lemmas.Result.{err_from_is_err_and}
 use Rattle.std.specs.Borrow.{Bor}

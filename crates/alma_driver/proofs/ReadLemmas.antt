@@ -1,15 +1,12 @@
 -- What was scanned and parsed is what the source is.
-use Rattle.std.proofs.Common.{◌≡◌, ℕ, List, sym, subst, ◌∙◌}
+use Rattle.std.proofs.Common.{◌≡◌, ℕ, List, subst}
 use Rattle.std.specs.Prelude.{Result, Ok, Err}
 use Rattle.std.specs.Result.{IsErrAnd}
 use Rattle.std.proofs.lemmas.Result.{err_from_is_err_and}
-use Rattle.std.specs.Global.{Vec}
 use Rattle.alma_driver.specs.declared.tree.Module.{Module}
-use Rattle.alma_driver.specs.declared.scan.Token as scan
 use Rattle.alma_driver.specs.declared.source.ReadError.{ReadError}
 use Rattle.alma_driver.specs.declared.source.ReadError.TheVariants.{NotYet, Memory}
-use Rattle.alma_driver.specs.Program.{Program, program}
-use Rattle.alma_driver.specs.Tokens.{Token, AreTokens, IsSource, spelling}
+use Rattle.alma_driver.specs.Tokens.{Token, AreTokens, spelling}
 use Rattle.alma_driver.specs.Scan.{IsScanned}
 use Rattle.alma_driver.specs.Parse.{IsParsed}
 use Rattle.alma_driver.specs.Source.{IsRead}

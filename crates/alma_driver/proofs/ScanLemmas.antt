@@ -2,7 +2,7 @@
 use Rattle.std.proofs.Common.{◌≡◌, ◌≤◌, ◌<◌, ◌+◌, ◌*◌, ◌-◌, ℕ, List, [], ◌∷◌, ◌++◌, length, take, drop, get_or, suc, zero, drop-cons, ap, sym, subst, refl, ◌∙◌, arith, append_assoc, ◌^◌}
 use Rattle.std.proofs.lemmas.List.{append-nil}
 use Rattle.alma_driver.specs.Scan.{IsLetterFirst, IsDigitFirst, IsOtherFirst}
-use Rattle.std.specs.Prelude.{Bool, true, false, Option, Some, None, pos, ◌==◌, if◌then◌else◌}
+use Rattle.std.specs.Prelude.{Bool, true, false, Option, Some, pos, ◌==◌, if◌then◌else◌}
 use Rattle.std.proofs.lemmas.Bool.Decides.{nat_tests}
 use Rattle.alma_driver.specs.declared.scan.SymbolKind.{SymbolKind}
 use Rattle.alma_driver.specs.declared.scan.SymbolKind.TheVariants.{Semicolon, Comma, Dot, OpenParen, CloseParen}

@@ -1,11 +1,11 @@
 -- A source is one program at most.
-use Rattle.std.proofs.Common.{◌≡◌, ◌⊎◌, ℕ, List, [], ◌∷◌, ap, sym, subst, refl, ◌∙◌, codes, inl, inr, get_or, arith}
+use Rattle.std.proofs.Common.{◌≡◌, ℕ, List, [], ◌∷◌, ap, sym, subst, refl, ◌∙◌, codes, get_or, arith}
 use Rattle.std.specs.Prelude.{Bool, true, false}
 use Rattle.alma_driver.specs.declared.tree.Item.{Item}
 use Rattle.alma_driver.specs.declared.tree.Item.TheVariants as item
 use Rattle.alma_driver.specs.declared.scan.SymbolKind.TheVariants.{Semicolon, Comma, Dot, OpenParen, CloseParen}
 use Rattle.alma_driver.specs.Program.{Statement, Nothing, Test, Write, Program}
-use Rattle.alma_driver.specs.Tokens.{Token, Word, Number, Symbol, AreTokens, IsSource, truth_word, separated, item_tokens, statement_tokens, body_tokens, spelling}
+use Rattle.alma_driver.specs.Tokens.{Token, Word, Symbol, AreTokens, IsSource, truth_word, separated, item_tokens, statement_tokens, body_tokens, spelling}
 use Rattle.alma_driver.specs.Parse.{Anything, Follows, EndsStatement}
 use Rattle.alma_driver.proofs.ScanLemmas.{front_once, front_no_blanks}
 use Rattle.alma_driver.proofs.ParseLemmas.{IsList, item_list, statement_list, no_truth, no_end, no_begin, different}

@@ -1,5 +1,5 @@
 -- What the parser's functions may answer.
-use Rattle.std.specs.Prelude.{◌≡◌, ◌⊎◌, List, ℕ, Bool, true, false, [], ◌∷◌, codes, map, Option, None, Some, Result, Ok, Err}
+use Rattle.std.specs.Prelude.{◌≡◌, ◌⊎◌, List, ℕ, Bool, false, ◌∷◌, codes, map, Option, None, Some, Result, Ok, Err}
 use Rattle.std.specs.Borrow.{Bor}
 use Rattle.alma_driver.specs.declared.scan.Token as scan
 use Rattle.alma_driver.specs.declared.scan.SymbolKind.TheVariants.{Semicolon, Comma, OpenParen, CloseParen}

@@ -2,6 +2,7 @@
 #![tactic(auto)]
 
 mod parse;
+mod reserved;
 mod scan;
 mod source;
 mod tree;

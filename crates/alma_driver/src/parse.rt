@@ -1,73 +1,16 @@
 // Trees of the first grammar.
 ghost use Rattle.std.specs.Prelude.{◌≡◌, ◌≤◌, ◌∷◌, ◌↔◌, [], codes, drop, length, IsTrue, MatchOption};
-ghost use Rattle.std.specs.Str.{bytes_eq};
-ghost use Rattle.std.specs.List.{list_any};
 ghost use Rattle.alma_driver.specs.Program.{statement as plain_statement, statements as plain_statements};
 ghost use Rattle.alma_driver.specs.Tokens as spelled;
-ghost use Rattle.alma_driver.specs.Tokens.{is_reserved as is_reserved_word, item_tokens, statement_tokens, body_tokens, separated};
+ghost use Rattle.alma_driver.specs.Tokens.{item_tokens, statement_tokens, body_tokens, separated};
 ghost use Rattle.alma_driver.specs.Scan.{token};
 ghost use Rattle.alma_driver.specs.Parse.{plain, Expects, Finds, Parses, Anything, Follows, EndsStatement, IsName, IsHeading, IsParsed, truth_tokens, list_tokens};
 
+use crate::reserved::is_reserved;
 use crate::scan::{SymbolKind, Token};
 use crate::source::ReadError;
 use crate::tree::{Item, Module, Stmt};
 use std::alloc::Global;
-
-/// The words that are no names.
-const RESERVED: [&[u8]; 40] = [
-    b"AND",
-    b"ARRAY",
-    b"BEGIN",
-    b"BY",
-    b"CASE",
-    b"CHR",
-    b"COMMIT",
-    b"CONST",
-    b"DIV",
-    b"DO",
-    b"EITHER",
-    b"ELSE",
-    b"ELSIF",
-    b"END",
-    b"FOR",
-    b"FORALL",
-    b"IF",
-    b"KNOWN",
-    b"MIX",
-    b"MOD",
-    b"MODULE",
-    b"NOT",
-    b"OF",
-    b"OR",
-    b"ORD",
-    b"ORELSE",
-    b"PROCEDURE",
-    b"READ",
-    b"RECORD",
-    b"REPEAT",
-    b"RETURN",
-    b"SOME",
-    b"THEN",
-    b"TO",
-    b"TYPE",
-    b"UNTIL",
-    b"VAR",
-    b"WHILE",
-    b"WRITE",
-    b"WRITELN",
-];
-
-fn is_one_of(words: &[&[u8]], text: &[u8]) -> bool
-    ensures { result ≡ list_any (λ word. bytes_eq text.now word.now) words.now }
-{
-    words.iter().any(|word| text == *word)
-}
-
-fn is_reserved(text: &[u8]) -> bool
-    ensures { result ≡ is_reserved_word text.now }
-{
-    is_one_of(&RESERVED, text)
-}
 
 // The first token and the rest.
 fn first<'t, 's>(tokens: &'t [Token<'s>]) -> Option<(Token<'s>, &'t [Token<'s>])>

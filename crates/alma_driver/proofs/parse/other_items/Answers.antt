@@ -1,11 +1,7 @@
-use Rattle.std.proofs.Common.{◌≡◌, ◌≤◌, ◌-◌, ◌++◌, ◌∷◌, [], List, length, drop, ap, sym, subst, ◌∙◌, arith}
-use Rattle.std.proofs.lemmas.List.{length-map}
-use Rattle.alma_driver.specs.declared.tree.Item.{Item}
-use Rattle.alma_driver.specs.declared.scan.SymbolKind.TheVariants.{Comma, CloseParen}
-use Rattle.alma_driver.specs.Scan.{token}
-use Rattle.alma_driver.specs.Tokens.{Token, Symbol, item_tokens}
-use Rattle.alma_driver.specs.Parse.{plain, Follows}
-use Rattle.alma_driver.proofs.ParseLemmas.{Listed, listed_next, listed_bad, listed_all, item_list, item_keeps, later_part}
+use Rattle.std.proofs.Common.{sym, ◌∙◌, arith}
+use Rattle.alma_driver.specs.declared.scan.SymbolKind.TheVariants.{Comma}
+use Rattle.alma_driver.specs.Tokens.{Symbol, item_tokens}
+use Rattle.alma_driver.proofs.ParseLemmas.{listed_next, listed_bad, listed_all, item_list, item_keeps, later_part}
 use Rattle.alma_driver.proofs.parse.other_items.Goals as goal
 
 pub returns-in_default-item : goal.returns-in_default-item

@@ -1,4 +1,3 @@
-use Rattle.std.proofs.Common.{◌≡◌}
 use Rattle.alma_driver.specs.Parse.{Anything, EndsStatement, list_tokens}
 use Rattle.alma_driver.specs.Tokens.{statement_tokens}
 use Rattle.alma_driver.proofs.ParseLemmas.{refused, write_begins, write_lacks}

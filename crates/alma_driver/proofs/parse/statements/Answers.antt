@@ -1,10 +1,10 @@
-use Rattle.std.proofs.Common.{◌≡◌, ◌≤◌, ◌<◌, ◌-◌, ◌+◌, ◌++◌, ◌∷◌, [], List, length, drop, ap, sym, subst, refl, ◌∙◌, arith, codes, map, length-append}
-use Rattle.std.proofs.lemmas.List.{length-map, map-append}
+use Rattle.std.proofs.Common.{◌∷◌, [], ap, sym, refl, ◌∙◌, arith, codes, length-append}
+use Rattle.std.proofs.lemmas.List.{map-append}
 use Rattle.alma_driver.specs.declared.scan.SymbolKind.TheVariants.{Semicolon}
-use Rattle.alma_driver.specs.Program.{Statement, statement, statements}
-use Rattle.alma_driver.specs.Tokens.{Token, Word, Symbol, statement_tokens, body_tokens, separated}
+use Rattle.alma_driver.specs.Program.{statement, statements}
+use Rattle.alma_driver.specs.Tokens.{Word, Symbol, statement_tokens, body_tokens}
 use Rattle.alma_driver.specs.Parse.{plain, Follows, EndsStatement}
-use Rattle.alma_driver.proofs.ParseLemmas.{Listed, listed_none, listed_next, listed_bad, listed_all, statement_list, statement_keeps, behind_part, later_part, refused, body_begins, body_lacks}
+use Rattle.alma_driver.proofs.ParseLemmas.{listed_none, listed_next, listed_bad, listed_all, statement_list, statement_keeps, behind_part, later_part, refused, body_begins, body_lacks}
 use Rattle.alma_driver.proofs.parse.statements.Goals as goal
 
 pub returns-in_err-first : goal.returns-in_err-first

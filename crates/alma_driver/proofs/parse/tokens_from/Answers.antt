@@ -1,4 +1,4 @@
-use Rattle.std.proofs.Common.{◌≡◌, ◌≤◌, ◌-◌, length, drop, take, ap, sym, ◌∙◌, arith, map, List, length-drop}
+use Rattle.std.proofs.Common.{◌-◌, length, drop, ap, sym, ◌∙◌, arith, length-drop}
 use Rattle.std.proofs.lemmas.List.{drop-map, take_all}
 use Rattle.alma_driver.specs.Scan.{token}
 use Rattle.alma_driver.specs.Parse.{plain}

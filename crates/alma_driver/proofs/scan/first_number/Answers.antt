@@ -1,4 +1,3 @@
-use Rattle.std.proofs.Common.{◌≡◌}
 use Rattle.alma_driver.proofs.ScanLemmas.{digits_none}
 use Rattle.alma_driver.proofs.scan.first_number.Goals as goal
 

@@ -1,4 +1,4 @@
-use Rattle.std.proofs.Common.{◌≡◌, [], length, ap, ℕ, List, arith}
+use Rattle.std.proofs.Common.{◌≡◌, length, ap, arith}
 use Rattle.std.proofs.lemmas.Bool.Decides.{nat_tests}
 use Rattle.alma_driver.proofs.ScanLemmas.{split_bad}
 use Rattle.alma_driver.proofs.scan.next_front.Goals as goal
