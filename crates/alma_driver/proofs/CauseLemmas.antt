@@ -1,5 +1,5 @@
 -- Why a call answers a fault, and that none is hidden.
-use Rattle.std.proofs.Common.{◌≡◌, ◌<◌, ◌∙◌, ℕ, List, [], ◌++◌, refl, sym, ap, subst, inl, inr, arith}
+use Rattle.std.proofs.Common.{◌≡◌, ◌<◌, ◌∙◌, ℕ, List, [], refl, sym, ap, subst, inl, inr, arith}
 use Rattle.std.proofs.lemmas.List.{append-nil}
 use Rattle.std.specs.Prelude.{Bool, true, false, ◌⊎◌, Option}
 use Rattle.std.specs.Io.KnownBytes.{Appends}
@@ -7,7 +7,7 @@ use Rattle.alma_io.specs.Fronts.{AppendsFront}
 use Rattle.alma_io.specs.Causes.{Rose}
 use Rattle.alma_io.specs.Files.{Told, Missing, MayHave, MayPass}
 use Rattle.alma_driver.specs.Words.{Request, Run, Asks}
-use Rattle.alma_driver.specs.Outside.{SinkSide, FilesSide, Outside}
+use Rattle.alma_driver.specs.Outside.{SinkSide, Outside}
 use Rattle.alma_driver.specs.Ends.{run_end, status_of, text_of}
 use Rattle.alma_driver.specs.Outcome.{Due, SourceOutcome, ran, not_yet, RequestOutcome, absent, too_long, fetched, Outcome, bad_word, asks, silent, Lacks, source_limit}
 use Rattle.alma_driver.specs.Course.{Gains, FailsWithin, GainsPrefix, Goes, Fetches, Reports, Answers}

@@ -1,9 +1,7 @@
 -- From what the parts of a call ensure to how the call may go.
-use Rattle.std.proofs.Common.{◌≡◌, ◌≤◌, ℕ, List, [], length, ap, sym, refl, ◌∙◌, inl, inr}
-use Rattle.std.specs.Prelude.{Bool, true, false, ◌⊎◌, Err}
-use Rattle.std.specs.Io.KnownBytes.{Appends}
-use Rattle.alma_io.specs.Fronts.{AppendsFront}
-use Rattle.alma_io.specs.Files.{Told, MayHave, IsFetched}
+use Rattle.std.proofs.Common.{◌≡◌, ◌≤◌, ℕ, List, [], length, ap, refl, ◌∙◌, inl, inr}
+use Rattle.std.specs.Prelude.{Bool, true, false, Err}
+use Rattle.alma_io.specs.Files.{MayHave, IsFetched}
 use Rattle.alma_io.proofs.Known.{appends_none}
 use Rattle.alma_driver.specs.Words.{Request, Run, Asks, Reads}
 use Rattle.alma_driver.specs.Program.{statements, program}

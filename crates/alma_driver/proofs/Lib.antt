@@ -1,7 +1,10 @@
+pub mod ScanLemmas
+pub mod ParseLemmas
+pub mod SpellingLemmas
+pub mod ReadLemmas
 pub mod WordLemmas
-pub mod MachineLemmas
 pub mod CodeLemmas
+pub mod MachineLemmas
 pub mod ReportLemmas
 pub mod DriverLemmas
 pub mod CauseLemmas
-pub mod OneProgram

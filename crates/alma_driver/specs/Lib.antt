@@ -1,8 +1,10 @@
 pub mod Words
 pub mod Program
-pub mod Meaning
 pub mod Tokens
+pub mod Scan
+pub mod Parse
 pub mod Source
+pub mod Meaning
 pub mod Code
 pub mod Outside
 pub mod Machine
