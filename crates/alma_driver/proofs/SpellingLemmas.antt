@@ -7,8 +7,9 @@ use Rattle.alma_driver.specs.declared.scan.SymbolKind.TheVariants.{Semicolon, Co
 use Rattle.alma_driver.specs.Program.{Statement, Nothing, Test, Write, Program}
 use Rattle.alma_driver.specs.Tokens.{Token, Word, Symbol, AreTokens, IsSource, truth_word, separated, item_tokens, statement_tokens, body_tokens, spelling}
 use Rattle.alma_driver.specs.Parse.{Anything, Follows, EndsStatement}
-use Rattle.alma_driver.proofs.ScanLemmas.{front_once, front_no_blanks}
-use Rattle.alma_driver.proofs.ParseLemmas.{IsList, item_list, statement_list, no_truth, no_end, no_begin, different}
+use Rattle.alma_driver.proofs.TokenLemmas.{front_once, front_no_blanks}
+use Rattle.alma_driver.proofs.ListLemmas.{IsList}
+use Rattle.alma_driver.proofs.ParseLemmas.{item_list, statement_list, no_truth, no_end, no_begin, different}
 
 -- two parts of one spelling before tokens that may follow are one, and so is what follows
 abbrev pub Once : {X : Type 0} → (List Token → Type 0) → (X → List Token → List Token) → Type 0

@@ -11,6 +11,7 @@ use Rattle.alma_driver.specs.Program.{Program, program}
 use Rattle.alma_driver.specs.Scan.{token}
 use Rattle.alma_driver.specs.Tokens.{Token, Word, Symbol, is_reserved, truth_word, item_tokens, separated, spelling}
 
+-- the plain tokens that ones with borrowed text stand for
 abbrev pub plain : List scan.Token → List Token
 plain ts = map token ts
 
@@ -65,10 +66,11 @@ abbrev pub IsHeading : List Token → Option (Bor (List ℕ) × Bor (List scan.T
 IsHeading ts None = (name : List ℕ) (rest : List Token) → is_reserved name ≡ false → ts ≡ Word (codes "MODULE") ∷ Word name ∷ Symbol Semicolon ∷ rest → ⊥
 IsHeading ts (Some x) = (is_reserved x.0.now ≡ false) × (ts ≡ Word (codes "MODULE") ∷ Word x.0.now ∷ Symbol Semicolon ∷ plain x.1.now)
 
+-- a truth by its word
 abbrev pub truth_tokens : Bool → List Token → List Token
 truth_tokens value rest = Word (truth_word value) ∷ rest
 
--- one or more items in brackets
+-- one or more items in parentheses
 abbrev pub list_tokens : Item × List Item → List Token → List Token
 list_tokens items rest = Symbol OpenParen ∷ item_tokens items.0 (separated (Symbol Comma) item_tokens items.1 (Symbol CloseParen ∷ rest))
 

@@ -15,6 +15,7 @@ use Rattle.alma_driver.specs.declared.source.ReadError.TheVariants.{NotYet, Memo
 use Rattle.alma_driver.specs.Tokens as tokens
 use Rattle.alma_driver.specs.Tokens.{is_letter, symbol_byte, is_word_byte, AllIn, Stops, Spells, HasFront, AreTokens, value_of}
 
+-- the test of a class
 abbrev pub in_class : ByteClass → ℕ → Bool
 in_class class.Blank = is_blank
 in_class class.Digit = is_digit

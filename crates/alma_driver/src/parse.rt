@@ -42,6 +42,7 @@ fn symbol<'t, 's>(tokens: &'t [Token<'s>], kind: SymbolKind) -> Option<&'t [Toke
     }
 }
 
+// A word that is not reserved, and the tokens behind it.
 fn name<'t, 's>(tokens: &'t [Token<'s>]) -> Option<(&'s [u8], &'t [Token<'s>])>
     ensures { IsName (plain tokens.now) result }
 {
@@ -51,18 +52,18 @@ fn name<'t, 's>(tokens: &'t [Token<'s>]) -> Option<(&'s [u8], &'t [Token<'s>])>
     }
 }
 
+// TRUE or FALSE.
 fn truth<'t, 's>(tokens: &'t [Token<'s>]) -> Option<(bool, &'t [Token<'s>])>
     ensures { Finds truth_tokens (plain tokens.now) result }
 {
     if let Some(rest) = word(tokens, b"TRUE") {
         return Some((true, rest));
     }
-    match word(tokens, b"FALSE") {
-        Some(rest) => Some((false, rest)),
-        None => None,
-    }
+    let rest = word(tokens, b"FALSE")?;
+    Some((false, rest))
 }
 
+// A number or a truth.
 fn item<'t, 's>(tokens: &'t [Token<'s>]) -> Option<(Item, &'t [Token<'s>])>
     ensures { Finds item_tokens (plain tokens.now) result }
 {
@@ -103,7 +104,7 @@ fn other_items<'t, 's>(
     Ok((others, tokens_from(tokens, at)))
 }
 
-// One or more items in brackets.
+// One or more items in parentheses.
 fn items<'t, 's>(
     alloc: Global,
     tokens: &'t [Token<'s>],
@@ -123,6 +124,7 @@ fn items<'t, 's>(
     }
 }
 
+// A statement, which may be nothing.
 fn statement<'t, 's>(
     alloc: Global,
     tokens: &'t [Token<'s>],
@@ -159,6 +161,7 @@ fn statements<'t, 's>(
     Ok((found, tokens_from(tokens, at)))
 }
 
+// The statements behind BEGIN, or none where BEGIN is missing.
 fn body<'t, 's>(
     alloc: Global,
     tokens: &'t [Token<'s>],
@@ -172,6 +175,7 @@ fn body<'t, 's>(
     }
 }
 
+// MODULE, a name and a semicolon.
 fn heading<'t, 's>(tokens: &'t [Token<'s>]) -> Option<(&'s [u8], &'t [Token<'s>])>
     ensures { IsHeading (plain tokens.now) result }
 {
@@ -198,7 +202,7 @@ fn is_ending(tokens: &[Token<'_>], name: &[u8]) -> bool
     }
 }
 
-/// The tree of all the tokens.
+/// The tree that all the tokens spell. `NotYet` where they spell none.
 pub fn parse<'s>(alloc: Global, tokens: &[Token<'s>]) -> Result<Module<'s>, ReadError>
     ensures { IsParsed (plain tokens.now) result }
 {

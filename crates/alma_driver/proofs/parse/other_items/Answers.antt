@@ -1,7 +1,9 @@
 use Rattle.std.proofs.Common.{sym, ◌∙◌, arith}
 use Rattle.alma_driver.specs.declared.scan.SymbolKind.TheVariants.{Comma}
 use Rattle.alma_driver.specs.Tokens.{Symbol, item_tokens}
-use Rattle.alma_driver.proofs.ParseLemmas.{listed_next, listed_bad, listed_all, item_list, item_keeps, later_part}
+use Rattle.alma_driver.proofs.ListLemmas.{listed_next, listed_bad, listed_all}
+use Rattle.alma_driver.proofs.ParseLemmas.{item_list}
+use Rattle.alma_driver.proofs.PlaceLemmas.{item_keeps, later_part}
 use Rattle.alma_driver.proofs.parse.other_items.Goals as goal
 
 pub returns-in_default-item : goal.returns-in_default-item

@@ -2,7 +2,7 @@ use Rattle.std.proofs.Common.{◌≤◌, ◌-◌, length, drop}
 use Rattle.alma_driver.specs.declared.scan.SymbolKind.TheVariants.{Comma, CloseParen}
 use Rattle.alma_driver.specs.Tokens.{Symbol, item_tokens}
 use Rattle.alma_driver.specs.Parse.{plain, Follows}
-use Rattle.alma_driver.proofs.ParseLemmas.{Listed}
+use Rattle.alma_driver.proofs.ListLemmas.{Listed}
 use Rattle.alma_driver.proofs.parse.other_items.Given as goal
 
 abbrev pub invariant-loop-behind : goal.invariant-loop-behind

@@ -4,7 +4,9 @@ use Rattle.alma_driver.specs.declared.scan.SymbolKind.TheVariants.{Semicolon}
 use Rattle.alma_driver.specs.Program.{statement, statements}
 use Rattle.alma_driver.specs.Tokens.{Word, Symbol, statement_tokens, body_tokens}
 use Rattle.alma_driver.specs.Parse.{plain, Follows, EndsStatement}
-use Rattle.alma_driver.proofs.ParseLemmas.{listed_none, listed_next, listed_bad, listed_all, statement_list, statement_keeps, behind_part, later_part, refused, body_begins, body_lacks}
+use Rattle.alma_driver.proofs.ListLemmas.{listed_none, listed_next, listed_bad, listed_all}
+use Rattle.alma_driver.proofs.ParseLemmas.{statement_list, refused, body_begins, body_lacks}
+use Rattle.alma_driver.proofs.PlaceLemmas.{statement_keeps, behind_part, later_part}
 use Rattle.alma_driver.proofs.parse.statements.Goals as goal
 
 pub returns-in_err-first : goal.returns-in_err-first

@@ -3,7 +3,7 @@ use Rattle.alma_driver.specs.declared.scan.SymbolKind.TheVariants.{Semicolon}
 use Rattle.alma_driver.specs.Program.{statements}
 use Rattle.alma_driver.specs.Tokens.{Word, Symbol, statement_tokens}
 use Rattle.alma_driver.specs.Parse.{plain, Follows}
-use Rattle.alma_driver.proofs.ParseLemmas.{Listed}
+use Rattle.alma_driver.proofs.ListLemmas.{Listed}
 use Rattle.alma_driver.proofs.parse.statements.Given as goal
 
 abbrev pub invariant-loop-behind : goal.invariant-loop-behind

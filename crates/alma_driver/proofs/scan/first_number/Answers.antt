@@ -1,4 +1,4 @@
-use Rattle.alma_driver.proofs.ScanLemmas.{digits_none}
+use Rattle.alma_driver.proofs.TokenLemmas.{digits_none}
 use Rattle.alma_driver.proofs.scan.first_number.Goals as goal
 
 pub returns-in-None : goal.returns-in-None
