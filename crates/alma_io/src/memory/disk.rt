@@ -1,5 +1,5 @@
 // Files in memory.
-ghost use Rattle.std.specs.Prelude.{◌≡◌, ◌≢◌, ◌≤◌, ◌<◌, ◌^◌, ◌↔◌, List, ℕ, None, Some, length, IfOk, OnOk, OnErr, IsErrOf, MatchOption};
+ghost use Rattle.std.specs.Prelude.{◌≡◌, ◌≢◌, ◌<◌, ◌^◌, ◌↔◌, List, ℕ, None, Some, IfOk, OnOk, OnErr, IsErrOf, MatchOption};
 ghost use Rattle.std.specs.FinMap as map;
 ghost use Rattle.alma_io.specs.Files.{MayPass, IsFetched, IsStored};
 ghost use Rattle.alma_io.specs.Memory.{told_by, FailsNext, after_fetch, after_store};
