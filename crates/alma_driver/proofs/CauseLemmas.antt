@@ -99,6 +99,7 @@ read_fault_of words before after status x e = by_parts x.performed.1 x.reported 
   by_way (ended n due q o g) r =
       let due_read = outcome_reads before.files.told words due o (q ∙ r) in
       (inr due_read.0, subst (λ (d : Due). Appends before.out.written after.out.written d.out) due_read.1 g.0)
+
   by_parts : Fetches (Outcome words before.files.told) before.files after.files before.out after.out x.end → Reports x.end before.err after.err status
       → (Rose before.files.fetch_faults after.files.fetch_faults ⊎ Lacks words before.files.told) × Appends before.out.written after.out.written []
   by_parts p (inr r) = absurd (omega (arith, e, r.0))
@@ -111,6 +112,7 @@ write_fault_of words before after status x e = by_parts x.performed.1 x.reported
   by_way (broken q due o f) s = inl f.1.1
   by_way (starved q g k) s = absurd (omega (arith, s, ap status_of q))
   by_way (ended n due q o g) s = absurd (n s)
+
   by_parts : Fetches (Outcome words before.files.told) before.files after.files before.out after.out x.end → Reports x.end before.err after.err status → WriteFailed before after
   by_parts p (inr r) = inr r.1.1.1
   by_parts (inl p) (inl r) = absurd (omega (arith, e, r.0, ap status_of p.0))
@@ -122,6 +124,7 @@ prefix_of words before after status x = by_parts x.performed.1 where
   by_way (broken q due o f) = inr (due, o, f.0)
   by_way (starved q g k) = g
   by_way (ended n due q o g) = inr (due, o, whole_front before.out.written after.out.written due.out g.0)
+
   by_parts : Fetches (Outcome words before.files.told) before.files after.files before.out after.out x.end → GainsPrefix (Outcome words before.files.told) before.out after.out
   by_parts (inl p) = inl p.2.0
   by_parts (inr p) = by_way (way_of (Outcome words before.files.told) before.out after.out x.end p.1)
@@ -138,6 +141,7 @@ whole_of words before after status x no_read no_write no_want = by_parts x.perfo
   by_way (broken q due o f) s t = absurd (no_write (s ∙ ap status_of q))
   by_way (starved q g k) s t = absurd (no_want (s ∙ ap status_of q))
   by_way (ended n due q o g) s t = (due, o, s ∙ ap status_of (sym q), g, subst (λ (end : End). Gains before.err after.err (text_of end)) (sym q) t)
+
   by_parts : Fetches (Outcome words before.files.told) before.files after.files before.out after.out x.end → Reports x.end before.err after.err status → IsWhole words before after status
   by_parts p (inr r) = absurd (no_write r.0)
   by_parts (inl p) (inl r) = absurd (no_read (r.0 ∙ ap status_of p.0))
@@ -149,6 +153,7 @@ writes_shown_of words before after status x w = by_parts w x.performed.1 x.repor
   by_way h (broken q due o f) s = inl (s ∙ ap status_of q)
   by_way h (starved q g k) s = absurd (omega (arith, h, k))
   by_way h (ended n due q o g) s = absurd (omega (arith, h, g.1))
+
   by_parts : WritesGrew before after → Fetches (Outcome words before.files.told) before.files after.files before.out after.out x.end → Reports x.end before.err after.err status
       → (status ≡ 7) ⊎ (status ≡ 8)
   by_parts w p (inr r) = inl r.0
@@ -173,6 +178,7 @@ absence_shown_of words before after status x l = by_parts x.performed.1 x.report
   by_way (broken q due o f) s = inr (inl (s ∙ ap status_of q))
   by_way (starved q g k) s = inr (inr (s ∙ ap status_of q))
   by_way (ended n due q o g) s = inl (s ∙ ap status_of (sym q ∙ outcome_absent before.files.told words due l o))
+
   by_parts : Fetches (Outcome words before.files.told) before.files after.files before.out after.out x.end → Reports x.end before.err after.err status
       → (status ≡ 6) ⊎ ((status ≡ 7) ⊎ (status ≡ 8))
   by_parts p (inr r) = inr (inl r.0)

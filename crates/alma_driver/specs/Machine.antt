@@ -14,7 +14,6 @@ use Rattle.alma_driver.specs.declared.machine.Next.TheVariants.{On, Done}
 use Rattle.alma_driver.specs.declared.machine.Halt.{Halt}
 use Rattle.alma_driver.specs.declared.machine.Halt.TheVariants.{WriteFault, Memory}
 
-
 -- what the slot holds at first
 abbrev pub start : Slot
 start = record { value = pos 0 }

@@ -75,8 +75,11 @@ fn perform<F: Files, O: Sink>(alloc: Global, words: &[String], files: &mut F, ou
     }
 }
 
-/// All that the program does: it does what the words ask, over the files, the input and the two outputs, says on `err`
-/// how that ended, and gives the exit status. `words` are those behind the program's name.
+/// All that the program does: what the words ask, over the files, the input and the two outputs. `words` are those behind
+/// the program's name. Programs print on `out`; what stands in the way is told on `err`.
+///
+/// The status is 0 for success, 1 for a program that fails, 2 for a bad word, 6 for a read fault, 7 for a write fault,
+/// 8 for want of memory, 10 for a source of more than 1,048,576 bytes, and 12 for a source that is no program yet.
 pub fn alma<F: Files, I: Source, O: Sink, E: Sink>(
     alloc: Global,
     words: &[String],
@@ -87,23 +90,23 @@ pub fn alma<F: Files, I: Source, O: Sink, E: Sink>(
 ) -> Status
     ensures answer { Answers (texts words.now)
         (outside_of (files_side (F.told files.old) (F.fetch_faults files.old) (F.store_faults files.old))
-            (source_side (I.left input.old) (I.faults input.old))
-            (sink_side (O.written out.old) (O.faults out.old))
-            (sink_side (E.written err.old) (E.faults err.old)))
+        (source_side (I.left input.old) (I.faults input.old))
+        (sink_side (O.written out.old) (O.faults out.old))
+        (sink_side (E.written err.old) (E.faults err.old)))
         (outside_of (files_side (F.told files.new) (F.fetch_faults files.new) (F.store_faults files.new))
-            (source_side (I.left input.new) (I.faults input.new))
-            (sink_side (O.written out.new) (O.faults out.new))
-            (sink_side (E.written err.new) (E.faults err.new)))
+        (source_side (I.left input.new) (I.faults input.new))
+        (sink_side (O.written out.new) (O.faults out.new))
+        (sink_side (E.written err.new) (E.faults err.new)))
         result.0 }
     ensures causes { Causes (texts words.now)
         (outside_of (files_side (F.told files.old) (F.fetch_faults files.old) (F.store_faults files.old))
-            (source_side (I.left input.old) (I.faults input.old))
-            (sink_side (O.written out.old) (O.faults out.old))
-            (sink_side (E.written err.old) (E.faults err.old)))
+        (source_side (I.left input.old) (I.faults input.old))
+        (sink_side (O.written out.old) (O.faults out.old))
+        (sink_side (E.written err.old) (E.faults err.old)))
         (outside_of (files_side (F.told files.new) (F.fetch_faults files.new) (F.store_faults files.new))
-            (source_side (I.left input.new) (I.faults input.new))
-            (sink_side (O.written out.new) (O.faults out.new))
-            (sink_side (E.written err.new) (E.faults err.new)))
+        (source_side (I.left input.new) (I.faults input.new))
+        (sink_side (O.written out.new) (O.faults out.new))
+        (sink_side (E.written err.new) (E.faults err.new)))
         result.0 }
 {
     let _ = input;

@@ -10,14 +10,21 @@ use alma_io::Fetch;
 /// How a call ends, but for what becomes of its text on err.
 #[derive(Clone, Copy, Debug, PartialEq, Eq)]
 pub enum End {
+    /// The program succeeded.
     Succeeded,
+    /// The program failed.
     Failed,
     /// The first word, from 1, that cannot stand where it is, or one more than there are.
     BadWord(usize),
+    /// The file is missing, or a fetch failed.
     ReadFault,
+    /// A write failed.
     WriteFault,
+    /// Memory ran out.
     Memory,
+    /// The source is past its greatest length.
     TooLong,
+    /// The source is no program of the grammar so far.
     NotYet,
 }
 

@@ -62,12 +62,7 @@ fn print<O: Sink>(text: &mut Vec<u8>, value: Value, out: &mut O) -> Result<(), H
 }
 
 // Takes one instruction.
-fn step<O: Sink>(
-    text: &mut Vec<u8>,
-    instr: Instr,
-    slot: Slot,
-    out: &mut O,
-) -> Result<Next, Halt>
+fn step<O: Sink>(text: &mut Vec<u8>, instr: Instr, slot: Slot, out: &mut O) -> Result<Next, Halt>
     ensures { Runs (step_text slot instr) (after slot instr) (sink_side (O.written out.old) (O.faults out.old))
         (sink_side (O.written out.new) (O.faults out.new)) result }
 {

@@ -2,10 +2,10 @@
 ghost use Rattle.std.specs.Prelude.{◌≡◌, ◌∷◌, [], ◌↔◌, IsTrue, MatchOption};
 ghost use Rattle.alma_driver.specs.Words.{Reads, texts, IsFileName};
 
-/// What the words ask for: a run of a file.
+/// What the words ask for.
 #[derive(Clone, Copy, Debug, PartialEq, Eq)]
 pub enum Request<'w> {
-    /// `run FILE`
+    /// `run FILE`: compiles and runs the source of this name.
     Run(&'w str),
 }
 
@@ -14,6 +14,7 @@ pub enum Request<'w> {
 pub enum WordsError {
     /// The first word, from 1, that cannot stand where it is, or one more than there are.
     Bad(usize),
+    /// Memory ran out. The words that are read so far take none.
     Memory,
 }
 
@@ -37,7 +38,7 @@ fn split_word(words: &[String]) -> Option<(&str, &[String])>
     }
 }
 
-/// The request that the words are.
+/// The request that the words are. They are those behind the program's name.
 pub fn read_words(words: &[String]) -> Result<Request<'_>, WordsError>
     ensures { Reads (texts words.now) result }
 {

@@ -3,4 +3,3 @@ use Rattle.alma_driver.proofs.laws.sources_are_one_program.Goals as goal
 
 pub returns : goal.returns
 returns c = source_once
-
