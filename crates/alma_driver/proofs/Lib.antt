@@ -1,0 +1,14 @@
+pub mod ByteLemmas
+pub mod TokenLemmas
+pub mod ScanLemmas
+pub mod ListLemmas
+pub mod PlaceLemmas
+pub mod ParseLemmas
+pub mod SpellingLemmas
+pub mod ReadLemmas
+pub mod WordLemmas
+pub mod CodeLemmas
+pub mod MachineLemmas
+pub mod ReportLemmas
+pub mod DriverLemmas
+pub mod CauseLemmas

@@ -1,0 +1,36 @@
+-- When a fault is answered, that none is hidden, and what out gained by then.
+use Rattle.std.specs.Prelude.{◌≡◌, ◌<◌, ◌⊎◌, List, ℕ, []}
+use Rattle.std.specs.Io.KnownBytes.{Appends}
+use Rattle.alma_io.specs.Causes.{Rose}
+use Rattle.alma_driver.specs.Outside.{Outside}
+use Rattle.alma_driver.specs.Ends.{status_of, text_of}
+use Rattle.alma_driver.specs.Outcome.{Due, Outcome, Lacks}
+use Rattle.alma_driver.specs.Course.{Gains, GainsPrefix}
+
+-- a write failed in the call
+abbrev pub WriteFailed : Outside → Outside → Type 0
+WriteFailed before after = Rose before.out.faults after.out.faults ⊎ Rose before.err.faults after.err.faults
+
+-- a count of failed writes is greater now
+abbrev pub WritesGrew : Outside → Outside → Type 0
+WritesGrew before after = (before.out.faults < after.out.faults) ⊎ (before.err.faults < after.err.faults)
+
+-- What each status says of the call, and what a call shows that met a fault.
+pub record Causes (words : List (List ℕ)) (before after : Outside) (status : ℕ) : Type 0 where
+  -- a read fault comes only where a fetch failed, or where the file is told to be missing
+  pub read_fault : status ≡ 6 → Rose before.files.fetch_faults after.files.fetch_faults ⊎ Lacks words before.files.told
+  -- at a read fault nothing was written to out
+  pub nothing : status ≡ 6 → Appends before.out.written after.out.written []
+  -- a write fault comes only where a write failed
+  pub write_fault : status ≡ 7 → WriteFailed before after
+  -- whatever the status, out gained no more than what is due
+  pub prefix : GainsPrefix (Outcome words before.files.told) before.out after.out
+  -- but for faults and want of memory, status, out and err are all that is due
+  pub whole : (status ≡ 6 → ⊥) → (status ≡ 7 → ⊥) → (status ≡ 8 → ⊥)
+      → (due : Due) × Outcome words before.files.told due × (status ≡ status_of due.end) × Gains before.out after.out due.out × Gains before.err after.err (text_of due.end)
+  -- a failed write is not hidden: write fault, or want of memory
+  pub writes_shown : WritesGrew before after → (status ≡ 7) ⊎ (status ≡ 8)
+  -- nor a failed fetch, where no write failed: read fault, or want of memory
+  pub fetches_shown : before.files.fetch_faults < after.files.fetch_faults → WriteFailed before after ⊎ ((status ≡ 6) ⊎ (status ≡ 8))
+  -- nor that the file is missing
+  pub absence_shown : Lacks words before.files.told → (status ≡ 6) ⊎ ((status ≡ 7) ⊎ (status ≡ 8))
