@@ -1,0 +1,12 @@
+pub mod Carries
+pub mod Fits
+pub mod Head
+pub mod Kinds
+pub mod Laws
+pub mod Layout
+pub mod Machine
+pub mod Picture
+pub mod Plain
+pub mod Records
+pub mod Rules
+pub mod Words

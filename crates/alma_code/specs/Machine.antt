@@ -1,0 +1,545 @@
+-- The copying code machine: what each instruction does, where each choice entry holds a whole copy of the live frames.
+-- A read looks at what the slot holds, a write at the kind of the slot, and a place is looked at when one of its cells is used.
+use Rattle.std.specs.Prelude.{ℕ, zero, suc, ◌+◌, ◌-◌, ◌*◌, Bool, true, false, not, ◌&&◌, nat_eq, nat_lt, nat_le, ℤ, pos, negsuc, ◌+ℤ◌, ◌-ℤ◌, ◌*ℤ◌, neg_ℤ, int_lt, int_le, nat_abs, List, [], ◌∷◌, ◌++◌, length, get_or, take, Option, Some, None, slice_get}
+use Rattle.std.specs.Int.{int_rem_euclid}
+use Rattle.alma_base.specs.declared.fault.RunFault.{RunFault}
+use Rattle.alma_base.specs.declared.fault.RunFault.TheVariants as fault
+use Rattle.alma_base.specs.declared.number.Range.{Range}
+use Rattle.alma_base.specs.declared.number.ReadInt.{ReadInt}
+use Rattle.alma_base.specs.declared.number.ReadInt.TheVariants.{Number, NoNumber, TooLarge}
+use Rattle.alma_base.specs.declared.value.Value.TheVariants as value
+use Rattle.alma_base.specs.Choice.{if_true}
+use Rattle.alma_base.specs.Numbers.{within, is_integer, int_eq, is_zero, bit, div_down_of, mod_down_of}
+use Rattle.alma_base.specs.Reading.{number_from}
+use Rattle.alma_base.specs.Value.{value_text}
+use Rattle.alma_code.specs.declared.cell.Cell.{Cell}
+use Rattle.alma_code.specs.declared.cell.Cell.TheVariants as cell
+use Rattle.alma_code.specs.declared.cell.CellPlace.{CellPlace}
+use Rattle.alma_code.specs.declared.cell.SlotKind.{SlotKind}
+use Rattle.alma_code.specs.declared.cell.SlotKind.TheVariants as slot
+use Rattle.alma_code.specs.declared.cell.ChoiceKind.{ChoiceKind}
+use Rattle.alma_code.specs.declared.cell.ChoiceKind.TheVariants as choice
+use Rattle.alma_code.specs.declared.head.ParamKind.{ParamKind}
+use Rattle.alma_code.specs.declared.head.ParamKind.TheVariants as param
+use Rattle.alma_code.specs.declared.head.CodeParam.{CodeParam}
+use Rattle.alma_code.specs.declared.instr.Instr.{Instr}
+use Rattle.alma_code.specs.declared.instr.Instr.TheVariants as I
+use Rattle.alma_code.specs.declared.step.Step.{Step}
+use Rattle.alma_code.specs.declared.step.Step.TheVariants as answer
+use Rattle.alma_code.specs.declared.step.End.{End}
+use Rattle.alma_code.specs.declared.step.End.TheVariants as end
+use Rattle.alma_code.specs.Head.{PlainHead}
+use Rattle.alma_code.specs.Picture.{PlainFrame, PlainEntry, no_frame, written, cell_at, last_frame, without_last, live_cells, top_of, entry_at, kind_at, popped}
+use Rattle.alma_code.specs.Layout.{start_frame, entered_frame}
+use Rattle.alma_code.specs.Carries.{number_at, overlaid, kept}
+use Rattle.alma_code.specs.Plain.{PlainCode, PlainRoutine, head_at, start_at}
+
+-- ---- the state
+
+-- Stuck: a slot of a wrong kind, a dead place, or an address or a number that is not in the code; a sound code never comes there
+pub data Mode : Type 0 where
+  Going : Mode
+  Failing : Mode
+  Ended : End → Mode
+  Stuck : Mode
+
+-- the next address, the live frames, the choice entries from the bottom, and the counts of steps, of entries pushed and of entries popped
+pub record State : Type 0 where
+  pub at : ℕ
+  pub mode : Mode
+  pub now : List PlainFrame
+  pub held : List PlainEntry
+  pub steps : ℕ
+  pub choices : ℕ
+  pub fails : ℕ
+
+-- what a step answers, what it prints, and the state after it
+pub record Stepped : Type 0 where
+  pub answer : Step
+  pub printed : List ℕ
+  pub state : State
+
+-- ---- how a step ends
+
+-- with an answer, and no print
+abbrev pub answered : Step → State → Stepped
+answered a s = record { answer = a; printed = []; state = s }
+
+-- with nothing to tell
+abbrev pub went : State → Stepped
+went s = answered answer.Went s
+
+-- with a print, which may be of no bytes
+abbrev pub printed : List ℕ → State → Stepped
+printed bytes s = record { answer = answer.Printed; printed = bytes; state = s }
+
+-- at what a sound code never comes to
+abbrev pub stuck : State → Stepped
+stuck s = went (record s { mode = Stuck })
+
+-- with the end of the run; the address stays at the next instruction
+abbrev pub ended : End → State → Stepped
+ended e s = answered (answer.Done e) (record s { mode = Ended e })
+
+-- with a fault; what was written before it in the same step stays written
+abbrev pub faulted : RunFault → State → Stepped
+faulted f s = ended (end.Fault f) s
+
+-- with a failure: the next step is a pop
+abbrev pub fails_now : State → Stepped
+fails_now s = went (record s { mode = Failing })
+
+-- with a jump
+abbrev pub goes_to : ℕ → State → Stepped
+goes_to at s = went (record s { at = at })
+
+-- ---- slots of the top frame
+
+-- the number of the top frame
+abbrev pub top : State → ℕ
+top s = length s.now - 1
+
+-- what a slot of the top frame holds
+abbrev pub slot_of : State → ℕ → Option Cell
+slot_of s n = slice_get (last_frame s.now).cells n
+
+-- the kind of a slot of the top frame
+abbrev pub kind_of : State → ℕ → Option SlotKind
+kind_of s n = slice_get (last_frame s.now).kinds n
+
+-- a cell that is read as a number
+abbrev pub as_number : Option Cell → State → (ℤ → Stepped) → Stepped
+as_number (Some (cell.Int v)) s k = k v
+as_number (Some cell.Unknown) s k = faulted fault.Unknown s
+as_number (Some cell.Unset) s k = stuck s
+as_number (Some (cell.Place p)) s k = stuck s
+as_number (Some (cell.Mark h)) s k = stuck s
+as_number None s k = stuck s
+
+-- a cell that is read as a place
+abbrev pub as_place : Option Cell → State → (CellPlace → Stepped) → Stepped
+as_place (Some (cell.Place p)) s k = k p
+as_place (Some cell.Unset) s k = faulted fault.Unknown s
+as_place (Some cell.Unknown) s k = stuck s
+as_place (Some (cell.Int v)) s k = stuck s
+as_place (Some (cell.Mark h)) s k = stuck s
+as_place None s k = stuck s
+
+-- a cell that is read as a mark
+abbrev pub as_mark : Option Cell → State → (ℕ → Stepped) → Stepped
+as_mark (Some (cell.Mark h)) s k = k h
+as_mark (Some cell.Unset) s k = faulted fault.Unknown s
+as_mark (Some cell.Unknown) s k = stuck s
+as_mark (Some (cell.Int v)) s k = stuck s
+as_mark (Some (cell.Place p)) s k = stuck s
+as_mark None s k = stuck s
+
+-- goes on with the number in a slot
+abbrev pub number : State → ℕ → (ℤ → Stepped) → Stepped
+number s n k = as_number (slot_of s n) s k
+
+-- goes on with the place in a slot
+abbrev pub place : State → ℕ → (CellPlace → Stepped) → Stepped
+place s n k = as_place (slot_of s n) s k
+
+-- goes on with the mark in a slot
+abbrev pub mark : State → ℕ → (ℕ → Stepped) → Stepped
+mark s n k = as_mark (slot_of s n) s k
+
+-- the state after a write to a slot of a frame
+abbrev pub with_cell : State → ℕ → ℕ → Cell → State
+with_cell s frame n c = record s { now = written s.now frame n c }
+
+-- the state after a write to a slot of the top frame
+abbrev pub with_slot : State → ℕ → Cell → State
+with_slot s n c = with_cell s (top s) n c
+
+-- goes on where the slot that is written is a number slot
+abbrev pub to_number : Option SlotKind → State → (Unit {0} → Stepped) → Stepped
+to_number (Some slot.Number) s k = k tt
+to_number (Some (slot.Place l)) s k = stuck s
+to_number (Some slot.Mark) s k = stuck s
+to_number None s k = stuck s
+
+-- goes on where it is a place slot, with the length that its places have
+abbrev pub to_place : Option SlotKind → State → (ℕ → Stepped) → Stepped
+to_place (Some (slot.Place l)) s k = k l
+to_place (Some slot.Number) s k = stuck s
+to_place (Some slot.Mark) s k = stuck s
+to_place None s k = stuck s
+
+-- goes on where it is a mark slot
+abbrev pub to_mark : Option SlotKind → State → (Unit {0} → Stepped) → Stepped
+to_mark (Some slot.Mark) s k = k tt
+to_mark (Some slot.Number) s k = stuck s
+to_mark (Some (slot.Place l)) s k = stuck s
+to_mark None s k = stuck s
+
+-- slot n := the number
+abbrev pub put_number : State → ℕ → ℤ → Stepped
+put_number s n v = to_number (kind_of s n) s (λ _. went (with_slot s n (cell.Int v)))
+
+-- slot n := the place in a frame, of as many cells as the slot's places have; the first cell may depend on that length
+abbrev pub put_place : State → ℕ → ℕ → (ℕ → ℕ) → Stepped
+put_place s n frame first = to_place (kind_of s n) s (λ l. went (with_slot s n (cell.Place (record { frame = frame; slot = first l; len = l }))))
+
+-- slot n := the mark
+abbrev pub put_mark : State → ℕ → ℕ → Stepped
+put_mark s n h = to_mark (kind_of s n) s (λ _. went (with_slot s n (cell.Mark h)))
+
+-- goes on with a result that is in INTEGER
+abbrev pub fitted : State → ℤ → (ℤ → Stepped) → Stepped
+fitted s v k = if_true (is_integer v) (λ _. k v) (λ _. faulted fault.Overflow s)
+
+-- ---- cells at places
+
+-- a cell that is looked at as the content of a number slot
+abbrev pub as_content : Bool → Cell → State → (Option ℤ → Stepped) → Stepped
+as_content true (cell.Int v) s k = k (Some v)
+as_content true cell.Unknown s k = k None
+as_content true cell.Unset s k = stuck s
+as_content true (cell.Place p) s k = stuck s
+as_content true (cell.Mark h) s k = stuck s
+as_content false c s k = stuck s
+
+-- goes on with the content of a live number slot of a frame
+abbrev pub content : State → ℕ → ℕ → (Option ℤ → Stepped) → Stepped
+content s frame n k = as_content (number_at s.now frame n) (cell_at s.now frame n cell.Unset) s k
+
+-- a live number slot of a frame := the number
+abbrev pub store : State → ℕ → ℕ → ℤ → (State → Stepped) → Stepped
+store s frame n v k = if_true (number_at s.now frame n) (λ _. k (with_cell s frame n (cell.Int v))) (λ _. stuck s)
+
+-- goes on with a content that is known
+abbrev pub known : State → Option ℤ → (ℤ → Stepped) → Stepped
+known s (Some v) k = k v
+known s None k = faulted fault.Unknown s
+
+-- the content is known
+abbrev pub is_known : Option ℤ → Bool
+is_known (Some v) = true
+is_known None = false
+
+-- ---- ranges
+
+-- goes on with a range that is there
+abbrev pub as_range : Option Range → State → (Range → Stepped) → Stepped
+as_range (Some r) s k = k r
+as_range None s k = stuck s
+
+-- goes on where the number is in the range
+abbrev pub ranged : Range → RunFault → State → ℤ → (Unit {0} → Stepped) → Stepped
+ranged r f s v k = if_true (within r v) k (λ _. faulted f s)
+
+-- the same where there is a range; with none any number will do
+abbrev pub ranged_if : Option Range → State → ℤ → (Unit {0} → Stepped) → Stepped
+ranged_if (Some r) s v k = ranged r fault.Range s v k
+ranged_if None s v k = k tt
+
+-- a cell with this content has the number, or gets it
+abbrev pub bound : State → CellPlace → Range → ℤ → Option ℤ → Stepped
+bound s p r v (Some u) = if_true (int_eq u v) (λ _. went s) (λ _. fails_now s)
+bound s p r v None = ranged r fault.Range s v (λ _. store s p.frame p.slot v went)
+
+-- ---- equations
+
+-- the equation of two cells by their contents: an unknown one gets the other's number
+abbrev pub equated : State → (f i : ℕ) → Option Range → Option ℤ → (g j : ℕ) → Option Range → Option ℤ → (State → Stepped) → Stepped
+equated s f i r None g j t None k = faulted fault.Unknown s
+equated s f i r None g j t (Some v) k = ranged_if r s v (λ _. store s f i v k)
+equated s f i r (Some u) g j t None k = ranged_if t s u (λ _. store s g j u k)
+equated s f i r (Some u) g j t (Some v) k = if_true (int_eq u v) (λ _. k s) (λ _. fails_now s)
+
+-- the equation of two cells
+abbrev pub equation : State → (f i : ℕ) → Option Range → (g j : ℕ) → Option Range → (State → Stepped) → Stepped
+equation s f i r g j t k = content s f i (λ u. content s g j (λ v. equated s f i r u g j t v k))
+
+-- the equations of n cells, one after another: each sees what the one before wrote
+abbrev pub equations : ℕ → State → (f i g j : ℕ) → Stepped
+equations zero s f i g j = went s
+equations (suc n) s f i g j = equation s f i None g j None (λ t. equations n t f (suc i) g (suc j))
+
+-- n cells := cells of other frames, which are taken as they all were before
+abbrev pub copied : ℕ → (before : List PlainFrame) → State → (f i g j : ℕ) → Stepped
+copied zero before s f i g j = went s
+copied (suc n) before s f i g j =
+    if_true (number_at s.now f i && number_at before g j)
+    (λ _. copied n before (with_cell s f i (cell_at before g j cell.Unknown)) f (suc i) g (suc j))
+    (λ _. stuck s)
+
+-- ---- choice entries; heights count from 1 at the bottom
+
+-- there is an entry, and it is of the kind
+abbrev pub is_kind : ChoiceKind → Option ChoiceKind → Bool
+is_kind choice.Branch (Some choice.Branch) = true
+is_kind choice.Forall (Some choice.Forall) = true
+is_kind choice.Body (Some choice.Body) = true
+is_kind choice.Done (Some choice.Done) = true
+is_kind _ _ = false
+
+-- a Forall is at the height
+abbrev pub is_forall_at : List PlainEntry → ℕ → Bool
+is_forall_at held h = is_kind choice.Forall (kind_at held h)
+
+-- the state after a push of an entry with a copy of the frames; entries of all kinds count as pushed
+abbrev pub pushed : State → ChoiceKind → ℕ → State
+pushed s kind resume =
+    record s { held = s.held ++ record { kind = kind; resume = resume; frames = s.now; carry = [] } ∷ []; choices = s.choices + 1 }
+
+-- answers the new height
+abbrev pub chose : State → Stepped
+chose s = answered (answer.Chose (length s.held)) s
+
+-- answers the height after entries fell
+abbrev pub fell : State → Stepped
+fell s = answered (answer.Cut (length s.held)) s
+
+-- drops the entries above a height, where there are any
+abbrev pub cut_to : State → ℕ → Stepped
+cut_to s h = if_true (nat_lt h (length s.held)) (λ _. fell (record s { held = take h s.held })) (λ _. went s)
+
+-- the state after the carry of an entry is laid over the frames
+abbrev pub laid_over : State → ℕ → State
+laid_over s h = record s { now = overlaid s.now (entry_at s.held h).carry }
+
+-- lays the carry of a Forall over; where there is none at the height, nothing is laid over
+abbrev pub overlay : State → ℕ → State
+overlay s h = if_true (is_forall_at s.held h) (λ _. laid_over s h) (λ _. s)
+
+-- keeps the Body on top in the Forall at a height below it, whichever Forall that is; else does nothing
+abbrev pub keep : State → ℕ → Stepped
+keep s h =
+    if_true (is_forall_at s.held h && (nat_lt h (length s.held) && is_kind choice.Body (kind_at s.held (length s.held))))
+    (λ _. fell (record s { held = kept s.held h s.now }))
+    (λ _. went s)
+
+-- lays the carry of the Done on top over and drops that entry; else does nothing
+abbrev pub finish : State → Stepped
+finish s =
+    if_true (is_kind choice.Done (kind_at s.held (length s.held)))
+    (λ _. fell (record (laid_over s (length s.held)) { held = take (length s.held - 1) s.held }))
+    (λ _. went s)
+
+-- a pop of the entries that are left: with none the run ends, and no pop is counted
+abbrev pub popped_to : State → List PlainEntry → Stepped
+popped_to s [] = ended end.Failed s
+popped_to s (e ∷ rest) =
+    answered (answer.Popped (length s.held))
+    (record s { mode = Going; at = (top_of s.held).resume; now = (top_of s.held).frames; held = popped s.held; fails = s.fails + 1 })
+
+-- what a failing machine does: it takes the top copy; a Forall that becomes a Done is a pop too
+abbrev pub pop : State → Stepped
+pop s = popped_to s s.held
+
+-- ---- calls
+
+-- n live number slots
+abbrev pub numbers_at : ℕ → List PlainFrame → ℕ → ℕ → Bool
+numbers_at zero frames f i = true
+numbers_at (suc n) frames f i = number_at frames f i && numbers_at n frames f (suc i)
+
+-- a cell that is read as the argument of a parameter
+abbrev pub as_argument : ParamKind → ℕ → Option Cell → State → (Cell → Stepped) → Stepped
+as_argument kind n None s k = stuck s
+as_argument kind n (Some cell.Unknown) s k = faulted fault.Unknown s
+as_argument kind n (Some cell.Unset) s k = faulted fault.Unknown s
+as_argument kind n (Some (cell.Mark h)) s k = stuck s
+as_argument param.Value n (Some (cell.Int v)) s k = k (cell.Int v)
+as_argument param.Mix n (Some (cell.Int v)) s k = k (cell.Int v)
+as_argument param.Place n (Some (cell.Int v)) s k = stuck s
+as_argument param.Cells n (Some (cell.Int v)) s k = stuck s
+as_argument param.Value n (Some (cell.Place p)) s k = stuck s
+as_argument param.Mix n (Some (cell.Place p)) s k = if_true (nat_eq p.len 1) (λ _. k (cell.Place p)) (λ _. stuck s)
+as_argument param.Place n (Some (cell.Place p)) s k = if_true (nat_eq p.len n) (λ _. k (cell.Place p)) (λ _. stuck s)
+as_argument param.Cells n (Some (cell.Place p)) s k =
+    if_true (nat_eq p.len n && numbers_at n s.now p.frame p.slot) (λ _. k (cell.Place p)) (λ _. stuck s)
+
+-- the argument slots from n on are all read, in order, before anything else is done
+abbrev pub arguments : List CodeParam → State → ℕ → (List Cell → Stepped) → Stepped
+arguments [] s n k = k []
+arguments (p ∷ ps) s n k = as_argument p.kind p.cells (slot_of s n) s (λ c. arguments ps s (suc n) (λ cs. k (c ∷ cs)))
+
+-- enters a routine: DepthFull comes before CellsFull, and only then are the cells of arguments copied
+abbrev pub entered : State → ℕ → ℕ → PlainHead → List Cell → Stepped
+entered s r start h args =
+    if_true (nat_lt (length s.now) 10000)
+    (λ _. if_true (nat_le (live_cells s.now + h.declared) 1048576)
+    (λ _. answered (answer.Called r (length s.now + 1)) (record s { at = start; now = s.now ++ entered_frame s.now h r s.at args ∷ [] }))
+    (λ _. faulted fault.CellsFull s))
+    (λ _. faulted fault.DepthFull s)
+
+-- goes on with the head of a routine that is there
+abbrev pub as_routine : Option PlainRoutine → State → (PlainHead → Stepped) → Stepped
+as_routine (Some r) s k = k r.head
+as_routine None s k = stuck s
+
+-- the state after the top frame is left
+abbrev pub left : State → State
+left s = record s { at = (last_frame s.now).back; now = without_last s.now }
+
+-- answers how many frames are left
+abbrev pub returned : State → Stepped
+returned s = answered (answer.Returned (length s.now)) s
+
+-- the slot of the caller that the Call before the return address names := the number
+abbrev pub result_to : Option Instr → State → ℤ → Stepped
+result_to (Some (I.Call r first to)) s v =
+    to_number (kind_of s to) s (λ _. returned (with_slot s to (cell.Int v)))
+result_to _ s v = stuck s
+
+-- ---- input
+
+-- a cell that is read as the input position
+abbrev pub as_position : Option Cell → State → (ℕ → Stepped) → Stepped
+as_position (Some (cell.Int (pos n))) s k = k n
+as_position _ s k = stuck s
+
+-- goes on with the input position, which is slot 0 of frame 0
+abbrev pub position : State → (ℕ → Stepped) → Stepped
+position s k = as_position (slice_get (get_or s.now 0 no_frame).cells 0) s k
+
+-- the number goes to the place and the position behind it; with fault Range neither moves
+abbrev pub took : State → Range → CellPlace → ℤ → ℕ → Stepped
+took s r p v behind = ranged r fault.Range s v (λ _. store s 0 0 (pos behind) (λ t. store t p.frame p.slot v went))
+
+-- what was found where a number is read
+abbrev pub found : State → Range → CellPlace → ReadInt → Stepped
+found s r p NoNumber = fails_now s
+found s r p TooLarge = faulted fault.ReadRange s
+found s r p (Number v behind) = took s r p v behind
+
+-- what was found where a byte is read
+abbrev pub char_found : State → Range → CellPlace → ℕ → Option ℕ → Stepped
+char_found s r p at None = fails_now s
+char_found s r p at (Some byte) = took s r p (pos byte) (at + 1)
+
+-- ---- texts and faults by their numbers
+
+-- prints a text that is there
+abbrev pub as_text : Option (List ℕ) → State → Stepped
+as_text (Some t) s = printed t s
+as_text None s = stuck s
+
+-- the run faults in the order of their numbers, from 0 on
+abbrev pub run_faults : List RunFault
+run_faults =
+    fault.Unknown ∷ fault.Range ∷ fault.Index ∷ fault.Overflow ∷ fault.ZeroDivide ∷ fault.NoCase
+    ∷ fault.NoReturn ∷ fault.ReadRange ∷ fault.DepthFull ∷ fault.CellsFull ∷ []
+
+-- ends in a fault that is there
+abbrev pub as_fault : Option RunFault → State → Stepped
+as_fault (Some f) s = faulted f s
+as_fault None s = stuck s
+
+-- a counter beyond the limit of a loop: above it where the step is at least 0, and else below it
+abbrev pub is_beyond : (next limit by : ℤ) → Bool
+is_beyond next limit (pos n) = int_lt limit next
+is_beyond next limit (negsuc n) = int_lt next limit
+
+-- ---- the instructions, in the order of their opcodes
+
+module _ (code : PlainCode) (input : List ℕ) where
+  -- goes on with a range of the code
+  abbrev pub range_at : State → ℕ → (Range → Stepped) → Stepped
+  range_at s r k = as_range (slice_get code.ranges r) s k
+
+  -- what an instruction does in a state that already goes on at the next address; words are read in their order
+  unfoldable pub act : Instr → State → Stepped
+  act (I.Const a v) s = put_number s a v
+  act (I.Move a b) s = number s b (λ v. put_number s a v)
+  act (I.Add a b c) s = number s b (λ x. number s c (λ y. fitted s (x +ℤ y) (λ v. put_number s a v)))
+  act (I.Sub a b c) s = number s b (λ x. number s c (λ y. fitted s (x -ℤ y) (λ v. put_number s a v)))
+  act (I.Mul a b c) s = number s b (λ x. number s c (λ y. fitted s (x *ℤ y) (λ v. put_number s a v)))
+  act (I.Div a b c) s =
+      number s b (λ x. number s c (λ y. if_true (is_zero y) (λ _. faulted fault.ZeroDivide s) (λ _. fitted s (div_down_of x y) (λ v. put_number s a v))))
+  act (I.Mod a b c) s =
+      number s b (λ x. number s c (λ y. if_true (is_zero y) (λ _. faulted fault.ZeroDivide s) (λ _. fitted s (mod_down_of x y) (λ v. put_number s a v))))
+  act (I.Neg a b) s = number s b (λ x. fitted s (neg_ℤ x) (λ v. put_number s a v))
+  act (I.Equal a b c) s = number s b (λ x. number s c (λ y. put_number s a (bit (int_eq x y))))
+  act (I.Less a b c) s = number s b (λ x. number s c (λ y. put_number s a (bit (int_lt x y))))
+  act (I.LessEq a b c) s = number s b (λ x. number s c (λ y. put_number s a (bit (int_le x y))))
+  act (I.Flip a b) s = number s b (λ x. put_number s a (bit (is_zero x)))
+  act (I.InRange a r) s = number s a (λ v. range_at s r (λ t. ranged t fault.Range s v (λ _. went s)))
+  act (I.Local a b) s = put_place s a (top s) (λ _. b)
+  act (I.Global a b) s = put_place s a 0 (λ _. b)
+  act (I.Same a b) s = place s b (λ p. put_place s a p.frame (λ _. p.slot))
+  act (I.Field a b c) s = place s b (λ p. put_place s a p.frame (λ _. p.slot + c))
+  act (I.Index a b c d) s =
+      place s b (λ p. number s c (λ v. range_at s d (λ t. ranged t fault.Index s v (λ _. put_place s a p.frame (λ l. p.slot + nat_abs (v -ℤ t.low) * l)))))
+  act (I.Load a b) s = place s b (λ p. content s p.frame p.slot (λ c. known s c (λ v. put_number s a v)))
+  act (I.Store a b) s = place s a (λ p. number s b (λ v. store s p.frame p.slot v went))
+  act (I.Known a b) s = place s b (λ p. content s p.frame p.slot (λ c. put_number s a (bit (is_known c))))
+  act (I.Bind a b c) s =
+      place s a (λ p. number s b (λ v. range_at s c (λ t. content s p.frame p.slot (λ u. bound s p t v u))))
+  act (I.Unify a b c d) s =
+      place s a (λ p. range_at s b (λ r. place s c (λ q. range_at s d (λ t. equation s p.frame p.slot (Some r) q.frame q.slot (Some t) went))))
+  act (I.CopyCells a b) s = place s a (λ p. place s b (λ q. copied p.len s.now s p.frame p.slot q.frame q.slot))
+  act (I.SameCells a b) s = place s a (λ p. place s b (λ q. equations p.len s p.frame p.slot q.frame q.slot))
+  act (I.Jump a) s = goes_to a s
+  act (I.JumpZero a b) s = number s a (λ v. if_true (is_zero v) (λ _. goes_to b s) (λ _. went s))
+  act (I.Check a) s = number s a (λ v. if_true (is_zero v) (λ _. fails_now s) (λ _. went s))
+  act I.Fail s = fails_now s
+  act (I.Mark a) s = put_mark s a (length s.held)
+  act (I.Cut a) s = mark s a (λ h. cut_to s h)
+  act (I.Choose a) s = chose (pushed s choice.Branch a)
+  -- the copy in the entry has the mark slot as it was before
+  act (I.Forall a b) s =
+      to_mark (kind_of s a) s (λ _. chose (with_slot (pushed s choice.Forall b) a (cell.Mark (length s.held + 1))))
+  -- the copy in the entry has the cells that were laid over
+  act (I.Overlay a b) s = mark s a (λ h. chose (pushed (overlay s h) choice.Body b))
+  act (I.Keep a) s = mark s a (λ h. keep s h)
+  act I.Finish s = finish s
+  act (I.Call r b c) s =
+      as_routine (slice_get code.routines r) s (λ h. arguments h.params s b (λ args. entered s r (start_at code r) h args))
+  act I.Return s = if_true (nat_eq (length s.now) 1) (λ _. ended end.Succeeded s) (λ _. returned (left s))
+  act (I.ReturnValue a) s =
+      number s a (λ v. result_to (slice_get code.instrs ((last_frame s.now).back - 1)) (left s) v)
+  act (I.ReadInt a r) s =
+      place s a (λ p. range_at s r (λ t. position s (λ n. found s t p (number_from input n))))
+  act (I.ReadChar a r) s =
+      place s a (λ p. range_at s r (λ t. position s (λ n. char_found s t p n (slice_get input n))))
+  act (I.WriteInt a) s = number s a (λ v. printed (value_text (value.Int v)) s)
+  act (I.WriteChar a) s = number s a (λ v. printed (value_text (value.Char (nat_abs (int_rem_euclid v (pos 256))))) s)
+  act (I.WriteBool a) s = number s a (λ v. printed (value_text (value.Bool (not (is_zero v)))) s)
+  act (I.WriteText a) s = as_text (slice_get code.texts a) s
+  act I.WriteLine s = printed (10 ∷ []) s
+  act (I.Fault n) s = as_fault (slice_get run_faults n) s
+  act (I.Step a b c d) s =
+      number s a (λ x. number s b (λ y. number s c (λ z.
+      if_true (is_beyond (x +ℤ z) y z) (λ _. goes_to d s) (λ _. put_number s a (x +ℤ z)))))
+
+  -- ---- steps
+
+  -- the state with one more step counted
+  abbrev pub ticked : State → State
+  ticked s = record s { steps = s.steps + 1 }
+
+  -- takes the instruction at the address
+  abbrev pub fetched : Option Instr → State → Stepped
+  fetched (Some i) s = act i (record (ticked s) { at = s.at + 1 })
+  fetched None s = stuck s
+
+  -- a step is one instruction, or a pop after one that failed; the pop that ends the run is a step too, and an ended machine does not change
+  abbrev pub step_in : Mode → State → Stepped
+  step_in Going s = fetched (slice_get code.instrs s.at) s
+  step_in Failing s = pop (ticked s)
+  step_in (Ended e) s = answered (answer.Done e) s
+  step_in Stuck s = stuck s
+
+  -- one step
+  abbrev pub step : State → Stepped
+  step s = step_in s.mode s
+
+  -- the state after n steps
+  abbrev pub after : ℕ → State → State
+  after zero s = s
+  after (suc n) s = after n (step s).state
+
+  -- what n steps print
+  abbrev pub prints : ℕ → State → List ℕ
+  prints zero s = []
+  prints (suc n) s = (step s).printed ++ prints n (step s).state
+
+-- the state in which a run begins
+abbrev pub start : PlainCode → State
+start code = record { at = 0; mode = Going; now = start_frame (head_at code 0) ∷ []; held = []; steps = 0; choices = 0; fails = 0 }

@@ -1,0 +1,35 @@
+// What a step answers, how a run ends, and which rule a code breaks.
+use alma_base::RunFault;
+
+/// How a run ends.
+#[derive(Clone, Copy, Debug, PartialEq, Eq)]
+pub enum End {
+    Succeeded,
+    Failed,
+    Fault(RunFault),
+}
+
+/// What a step did.
+#[derive(Clone, Copy, Debug, PartialEq, Eq)]
+pub enum Step {
+    Went,
+    /// Pushed a choice entry; the height after it.
+    Chose(usize),
+    /// Failed back to the top entry; the height before it.
+    Popped(usize),
+    /// Dropped choice entries; the height after it.
+    Cut(usize),
+    /// Entered a routine; how many frames live after it.
+    Called(u32, u32),
+    /// Left a routine; how many frames live after it.
+    Returned(u32),
+    Printed,
+    Done(End),
+}
+
+/// The first broken rule, from 1 to 12, and the routine (for 1 to 3) or the address where it is broken.
+#[derive(Clone, Copy, Debug, PartialEq, Eq)]
+pub struct VerifyFault {
+    pub rule: u8,
+    pub at: u32,
+}
