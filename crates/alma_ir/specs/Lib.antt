@@ -1,0 +1,5 @@
+pub mod Tree
+pub mod View
+pub mod Count
+pub mod Phrases
+pub mod Checked

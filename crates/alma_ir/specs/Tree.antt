@@ -1,0 +1,138 @@
+-- The resolved program as a plain tree of numbers and lists. A list of phrases is a type of its own.
+use Rattle.std.specs.Prelude.{ℕ, ℤ, Bool, List, [], Option, None, get_or}
+use Rattle.alma_base.specs.declared.number.Range.{Range}
+use Rattle.alma_ir.specs.declared.phrase.ReadAs.{ReadAs}
+use Rattle.alma_ir.specs.declared.phrase.WriteAs.{WriteAs}
+use Rattle.alma_ir.specs.declared.phrase.Op.{Op}
+use Rattle.alma_ir.specs.declared.phrase.Cmp.{Cmp}
+use Rattle.alma_ir.specs.declared.phrase.Root.{Root}
+use Rattle.alma_ir.specs.declared.program.Param.{Param}
+
+mutual
+  -- statements in order
+  pub data Stmts : Type 0 where
+    no_stmts : Stmts
+    more_stmts : Stmt → Stmts → Stmts
+
+  pub data Stmt : Type 0 where
+    TestStmt : Test → Stmt
+    Assign : Desig → Expr → Range → Stmt
+    CopyCells : Desig → Desig → Stmt
+    If : Arms → Stmts → Stmt
+    While : Test → Stmts → Stmt
+    Repeat : Stmts → Test → Stmt
+    ForTo : Loop → Stmt
+    SomeOf : Loop → Stmt
+    Case : Expr → CaseArms → Else → Stmt
+    Either : Branches → Stmt
+    Forall : Stmts → Stmts → Stmt
+    Commit : Stmts → Stmt
+    Return : ReturnExpr → Stmt
+    Read : Desig → ReadAs → Range → Stmt
+    WriteExpr : Expr → WriteAs → Stmt
+    WriteText : List ℕ → Stmt
+    WriteLine : Stmt
+
+  -- the arms of IF, each a condition and a body
+  pub data Arms : Type 0 where
+    no_arms : Arms
+    more_arms : (cond : Test) (body : Stmts) → Arms → Arms
+
+  -- the arms of CASE, each with its labels
+  pub data CaseArms : Type 0 where
+    no_cases : CaseArms
+    more_cases : (labels : List Range) (body : Stmts) → CaseArms → CaseArms
+
+  -- the ELSE part of CASE
+  pub data Else : Type 0 where
+    no_else : Else
+    else_part : Stmts → Else
+
+  pub data Branches : Type 0 where
+    no_branches : Branches
+    more_branches : (body : Stmts) → Branches → Branches
+
+  pub data Loop : Type 0 where
+    a_loop : (var : Desig) (range : Range) (counter limit : ℕ) (from to : Expr) (by : ℤ) (body : Stmts) → Loop
+
+  -- what RETURN gives
+  pub data ReturnExpr : Type 0 where
+    no_result : ReturnExpr
+    some_result : Expr → ReturnExpr
+
+  pub data Test : Type 0 where
+    Value : Expr → Test
+    Bind : Desig → Expr → Range → Bool → Test
+    Unify : Desig → Range → Desig → Range → Test
+    SameCells : Desig → Desig → Test
+    Seq : Stmts → Test
+    And : Tests → Test
+    Or : Tests → Test
+    Not : Test → Test
+    CallTest : (routine : ℕ) → Args → Test
+
+  pub data Tests : Type 0 where
+    no_tests : Tests
+    more_tests : Test → Tests → Tests
+
+  pub data Expr : Type 0 where
+    Const : ℤ → Expr
+    Load : Desig → Expr
+    Chain : Bool → Expr → Links → Expr
+    Compare : Cmp → Expr → Expr → Expr
+    Truth : Test → Expr
+    Known : Desig → Expr
+    Chr : Expr → Expr
+    CallExpr : (routine : ℕ) → Args → Expr
+
+  pub data Links : Type 0 where
+    no_links : Links
+    more_links : Op → (operand : Expr) → Links → Links
+
+  pub data Args : Type 0 where
+    no_args : Args
+    more_args : Arg → Args → Args
+
+  pub data Arg : Type 0 where
+    ByValue : Expr → Range → Arg
+    ByCells : Desig → Arg
+    ByPlace : Desig → Arg
+    MixValue : Expr → Range → Arg
+    MixPlace : Desig → Arg
+
+  pub data Desig : Type 0 where
+    a_desig : (root : Root) (cells : ℕ) → Sels → Desig
+
+  pub data Sels : Type 0 where
+    no_sels : Sels
+    more_sels : Sel → Sels → Sels
+
+  pub data Sel : Type 0 where
+    Field : (offset cells : ℕ) → Sel
+    Index : Expr → Range → (cells : ℕ) → Sel
+
+pub record Routine : Type 0 where
+  pub name : List ℕ
+  pub params : List Param
+  pub result : Option Range
+  pub declared : ℕ
+  pub slots : ℕ
+  pub body : Stmts
+
+pub record Global : Type 0 where
+  pub name : List ℕ
+  pub slot : ℕ
+  pub cells : ℕ
+
+pub record Program : Type 0 where
+  pub name : List ℕ
+  pub globals : List Global
+  pub routines : List Routine
+
+-- a routine that does nothing
+abbrev pub no_routine : Routine
+no_routine = record { name = []; params = []; result = None; declared = 0; slots = 0; body = no_stmts }
+
+-- the routine with this number, or one that does nothing where there is none
+abbrev pub routine_at : Program → ℕ → Routine
+routine_at p r = get_or p.routines r no_routine

@@ -1,0 +1,4 @@
+pub mod Extending
+pub mod Rising
+pub mod Results
+pub mod Turns

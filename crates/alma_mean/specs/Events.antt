@@ -1,0 +1,110 @@
+-- Event lists: what a phrase does, in order, with its alternatives.
+use Rattle.std.specs.Prelude.{ℕ, suc, ℤ, List, [], ◌++◌, Option}
+use Rattle.alma_base.specs.declared.fault.RunFault.{RunFault}
+use Rattle.alma_mean.specs.Store.{Store}
+
+-- the yield of a statement or a test
+abbrev pub NoYield : Type 0
+NoYield = Unit {0}
+
+-- how an alternative goes on: with a yield, or by RETURN, with its number where it has one
+pub data Flow (A : Type 0) : Type 0 where
+  Go : A → Flow A
+  Return : Option ℤ → Flow A
+
+-- a list of events, of which an alternative that goes on yields an A; it closes with one end.
+-- Fail says that there are no more alternatives, Cut that the level was too low to say more
+pub data Events (A : Type 0) : Type 0 where
+  Visit : Events A → Events A
+  Print : List ℕ → Events A → Events A
+  Alt : Store → Flow A → Events A → Events A
+  Fail : Events A
+  Fault : RunFault → Events A
+  Cut : Events A
+
+-- one alternative
+abbrev pub one : {A : Type 0} → Store → A → Events A
+one s y = Alt s (Go y) Fail
+
+-- the first list, and then the second where the first ends in Fail
+abbrev pub join : {A : Type 0} → Events A → Events A → Events A
+join (Visit e) f = Visit (join e f)
+join (Print b e) f = Print b (join e f)
+join (Alt s w e) f = Alt s w (join e f)
+join Fail f = f
+join (Fault x) f = Fault x
+join Cut f = Cut
+
+-- the events of k in place of each alternative that goes on; one by RETURN stays
+abbrev pub bind : {A B : Type 0} → Events A → (Store → A → Events B) → Events B
+bind (Visit e) k = Visit (bind e k)
+bind (Print b e) k = Print b (bind e k)
+bind (Alt s (Go y) e) k = join (k s y) (bind e k)
+bind (Alt s (Return n) e) k = Alt s (Return n) (bind e k)
+bind Fail k = Fail
+bind (Fault x) k = Fault x
+bind Cut k = Cut
+
+-- a visit before each alternative
+abbrev pub visit_each : {A : Type 0} → Events A → Events A
+visit_each (Visit e) = Visit (visit_each e)
+visit_each (Print b e) = Print b (visit_each e)
+visit_each (Alt s w e) = Visit (Alt s w (visit_each e))
+visit_each Fail = Fail
+visit_each (Fault x) = Fault x
+visit_each Cut = Cut
+
+-- a node is visited at its start, and again with each alternative of its parts
+abbrev pub node : {A : Type 0} → Events A → Events A
+node e = Visit (visit_each e)
+
+-- the events up to the first alternative, that one included
+abbrev pub first : {A : Type 0} → Events A → Events A
+first (Visit e) = Visit (first e)
+first (Print b e) = Print b (first e)
+first (Alt s w e) = Alt s w Fail
+first Fail = Fail
+first (Fault x) = Fault x
+first Cut = Cut
+
+-- the events before the first alternative, then k at its store, or z where there is none
+abbrev pub on_first : {A B : Type 0} → Events A → (Store → Flow A → Events B) → (Unit {0} → Events B) → Events B
+on_first (Visit e) k z = Visit (on_first e k z)
+on_first (Print b e) k z = Print b (on_first e k z)
+on_first (Alt s w e) k z = k s w
+on_first Fail k z = z tt
+on_first (Fault x) k z = Fault x
+on_first Cut k z = Cut
+
+-- how a program ends
+pub data End : Type 0 where
+  Succeeded : End
+  Failed : End
+  Faulted : RunFault → End
+  CutOff : End
+
+-- an alternative of any flow is success
+abbrev pub end_of : {A : Type 0} → Events A → End
+end_of (Visit e) = end_of e
+end_of (Print b e) = end_of e
+end_of (Alt s w e) = Succeeded
+end_of Fail = Failed
+end_of (Fault x) = Faulted x
+end_of Cut = CutOff
+
+-- all that is printed
+abbrev pub prints : {A : Type 0} → Events A → List ℕ
+prints (Visit e) = prints e
+prints (Print b e) = b ++ prints e
+prints (Alt s w e) = prints e
+prints Fail = []
+prints (Fault x) = []
+prints Cut = []
+
+abbrev pub visit_count : {A : Type 0} → Events A → ℕ
+visit_count (Visit e) = suc (visit_count e)
+visit_count (Print b e) = visit_count e
+visit_count (Alt s w e) = visit_count e
+visit_count Fail = 0
+visit_count (Fault x) = 0
+visit_count Cut = 0
