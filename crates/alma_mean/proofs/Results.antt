@@ -7,7 +7,7 @@ use Rattle.alma_mean.specs.Laws.{Extends, on_visit, on_print, on_alt, at_fail, a
 use Rattle.alma_mean.proofs.Extending.{same}
 use Rattle.alma_mean.proofs.Rising.{levels_rise}
 
-chained : {A : Type 0} {e f g : Events A} → Extends A e f → Extends A f g → Extends A e g
+pub chained : {A : Type 0} {e f g : Events A} → Extends A e f → Extends A f g → Extends A e g
 chained (on_visit h) (on_visit k) = on_visit (chained h k)
 chained (on_print h) (on_print k) = on_print (chained h k)
 chained (on_alt h) (on_alt k) = on_alt (chained h k)
@@ -32,7 +32,7 @@ grows at_fail = ([], refl)
 grows at_fault = ([], refl)
 grows (at_cut {f = f}) = (prints (first f), refl)
 
-further : (p : Program) (input : List ℕ) (n k : ℕ) → Extends NoYield (ev_program n p input) (ev_program (k + n) p input)
+pub further : (p : Program) (input : List ℕ) (n k : ℕ) → Extends NoYield (ev_program n p input) (ev_program (k + n) p input)
 further p input n zero =
     let e : n ≡ 0 + n = omega arith in
     subst (λ m. Extends NoYield (ev_program n p input) (ev_program m p input)) e (same _)
