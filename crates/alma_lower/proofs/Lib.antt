@@ -1,2 +1,3 @@
 pub mod Enough
 pub mod Goes
+pub mod Follows
