@@ -1,3 +1,5 @@
 pub mod Enough
 pub mod Goes
 pub mod Follows
+pub mod Frames
+pub mod Steps
