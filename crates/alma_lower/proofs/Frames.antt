@@ -4,6 +4,7 @@ use Rattle.std.specs.Prelude.{slice_get, ℤ}
 use Rattle.alma_code.specs.declared.cell.Cell.{Cell}
 use Rattle.alma_code.specs.declared.cell.Cell.TheVariants as cell
 use Rattle.alma_code.specs.declared.cell.SlotKind.{SlotKind}
+use Rattle.alma_code.specs.declared.cell.SlotKind.TheVariants as slot
 use Rattle.alma_code.specs.Picture.{PlainFrame, PlainEntry, last_frame}
 use Rattle.alma_code.specs.Picture as picture
 use Rattle.alma_code.specs.Plain.{PlainCode, kinds_at}
@@ -13,13 +14,13 @@ use Rattle.alma_mean.specs.Store.{Store, Frame, Unknown, Number, At, top_frame}
 use Rattle.alma_mean.specs.Store as store
 use Rattle.alma_mean.specs.Events.{Flow, Go, Return}
 
--- a cell of the machine holds what a cell of the store is; a slot that is not in use is unknown
-abbrev pub SameContent : store.Cell → Cell → Type 0
-SameContent Unknown cell.Unknown = Unit {0}
-SameContent Unknown cell.Unset = Unit {0}
-SameContent (Number a) (cell.Int b) = a ≡ b
-SameContent (At p) (cell.Place q) = (p.frame ≡ q.frame) × (p.slot ≡ q.slot) × (p.size ≡ q.len)
-SameContent _ _ = ⊥
+-- a cell of the machine, in a slot of this kind, holds what a cell of the store is
+abbrev pub SameContent : SlotKind → store.Cell → Cell → Type 0
+SameContent slot.Number Unknown cell.Unknown = Unit {0}
+SameContent slot.Number (Number a) (cell.Int b) = a ≡ b
+SameContent (slot.Place l) Unknown cell.Unset = Unit {0}
+SameContent (slot.Place l) (At p) (cell.Place q) = (p.frame ≡ q.frame) × (p.slot ≡ q.slot) × (p.size ≡ q.len)
+SameContent _ _ _ = ⊥
 
 module _ (p : Program) (code : PlainCode) where
   -- a frame of the machine stands for a frame of the store: its first slots are the cells of the store, behind them
@@ -30,7 +31,7 @@ module _ (p : Program) (code : PlainCode) where
     pub full : length g.cells ≡ length g.kinds
     pub slots : length f.cells ≡ (routine_at p f.routine).slots
     pub within : length f.cells ≤ length g.cells
-    pub cells : (i : ℕ) → i < length f.cells → SameContent (get_or f.cells i Unknown) (get_or g.cells i cell.Unset)
+    pub cells : (i : ℕ) → i < length f.cells → SameContent (get_or g.kinds i slot.Mark) (get_or f.cells i Unknown) (get_or g.cells i cell.Unset)
 
   -- the frames of the machine stand for a store
   pub record StandFor (v : Store) (now : List PlainFrame) : Type 0 where
