@@ -1,4 +1,5 @@
 pub mod Enough
+pub mod ExprRows
 pub mod Goes
 pub mod Follows
 pub mod Frames
