@@ -21,7 +21,7 @@ use Rattle.alma_ir.specs.Tree.{Program, routine_at}
 use Rattle.alma_mean.specs.Store.{Store, Place, top, top_frame}
 use Rattle.alma_mean.specs.Events.{Events, Flow, Go, Return, Fault, one, bind, node}
 use Rattle.alma_lower.proofs.Goes.{Silently, IsGoing, Goes, before, weaker, bind_goes, node_goes, one_goes, no_step}
-use Rattle.alma_lower.proofs.Frames.{StandFor, Fits, HasSlots, IsAt}
+use Rattle.alma_lower.proofs.Frames.{StandFor, Fits, AreNumbers, SamePlace, HasSlots, IsAt}
 use Rattle.alma_lower.proofs.FrameLemmas.{top_same, fits_self, fits_on, fits_less, fits_temp, holds_written, holds_other}
 use Rattle.alma_lower.proofs.Steps.{top_written, Holds, HasKind, InstrAt, Writes, Faults, const_step, local_step}
 
@@ -39,13 +39,9 @@ module _ (p : Program) (code : PlainCode) (input : List ℕ) where
   LeavesValue exit lo r before v (Go x) t = Left exit lo r before v t × Holds t.now lo (cell.Int x)
   LeavesValue exit lo r before v (Return n) t = ⊥
 
-  -- a place of the machine is one of the store
-  abbrev pub SamePlace : Place → CellPlace → Type 0
-  SamePlace q c = (q.frame ≡ c.frame) × (q.slot ≡ c.slot) × (q.size ≡ c.len)
-
   -- the place in its slot
   abbrev pub LeavesPlace : (exit lo r : ℕ) → List PlainFrame → Store → Flow Place → State → Type 0
-  LeavesPlace exit lo r before v (Go q) t = Left exit lo r before v t × ((c : CellPlace) × SamePlace q c × Holds t.now lo (cell.Place c))
+  LeavesPlace exit lo r before v (Go q) t = Left exit lo r before v t × AreNumbers p code v t.now q × ((c : CellPlace) × SamePlace q c × Holds t.now lo (cell.Place c))
   LeavesPlace exit lo r before v (Return n) t = ⊥
 
   -- ---- what the code of a phrase does

@@ -1,20 +1,23 @@
 -- Writes to the top frame, and what they leave of the frames that stand for a store.
-use Rattle.std.proofs.Common.{◌≡◌, ◌≢◌, ℕ, zero, suc, ◌+◌, ◌-◌, ◌<◌, ◌≤◌, ◌⊎◌, inl, inr, List, [], ◌∷◌, length, get_or, set, Some, refl, sym, ap, ◌∙◌, subst, arith, ℤ}
+use Rattle.std.proofs.Common.{◌≡◌, ◌≢◌, Bool, true, ℕ, zero, suc, ◌+◌, ◌-◌, ◌<◌, ◌≤◌, ◌⊎◌, inl, inr, List, [], ◌∷◌, length, get_or, set, Some, refl, sym, ap, ◌∙◌, subst, arith, ℤ}
 use Rattle.std.specs.Prelude.{slice_get}
-use Rattle.std.proofs.lemmas.Bool.{cases_eq}
+use Rattle.std.proofs.lemmas.Bool.{cases_eq, cases_lt}
 use Rattle.std.proofs.lemmas.List.{get_or-set_same, get_or-set_other, length-set}
 use Rattle.std.proofs.lemmas.Option.{slice_get-get_or, slice_get_within, get_or_from_slice_get}
 use Rattle.alma_code.specs.declared.cell.Cell.{Cell}
 use Rattle.alma_code.specs.declared.cell.Cell.TheVariants as cell
 use Rattle.alma_code.specs.declared.cell.SlotKind.{SlotKind}
 use Rattle.alma_code.specs.declared.cell.SlotKind.TheVariants as slot
-use Rattle.alma_code.specs.Picture.{PlainFrame, last_frame, frame_with, written}
+use Rattle.alma_code.specs.declared.cell.CellPlace.{CellPlace}
+use Rattle.alma_code.specs.Kinds.{is_number}
+use Rattle.alma_code.specs.Carries.{number_at}
+use Rattle.alma_code.specs.Picture.{PlainFrame, last_frame, frame_with, written, cell_at}
 use Rattle.alma_code.specs.Picture as picture
 use Rattle.alma_code.specs.Plain.{PlainCode, kinds_at}
 use Rattle.alma_ir.specs.Tree.{Program, routine_at}
-use Rattle.alma_mean.specs.Store.{Store, Frame, Unknown, Number, with_cell, put, top, top_frame}
+use Rattle.alma_mean.specs.Store.{Store, Place, Frame, Unknown, Number, with_cell, put, top, top_frame, cell_of}
 use Rattle.alma_mean.specs.Store as store
-use Rattle.alma_lower.proofs.Frames.{SameContent, SameFrame, StandFor, KeptBelow, Fits, HasSlots}
+use Rattle.alma_lower.proofs.Frames.{SameContent, SameFrame, StandFor, KeptBelow, Fits, AreNumbers, SamePlace}
 use Rattle.alma_lower.proofs.Steps.{top_written, Holds, HasKind}
 
 -- ---- the top frame after a write
@@ -229,3 +232,55 @@ module _ (p : Program) (code : PlainCode) where
     });
     others = λ i lt. others_kept now n i (cell.Int x) lt;
   }
+
+  -- ---- places
+
+  -- each frame is of the routine that it was of, and has the kinds that it had
+  frame_routine : (lo k : ℕ) (v v' : Store) (now later : List PlainFrame) → k < length v → StandFor p code v now → Fits p code lo now v' later
+      → (get_or later k picture.no_frame).routine ≡ (get_or now k picture.no_frame).routine
+  frame_routine lo k v v' now later lt h fit = by (cases_lt (suc k) (length later))
+    where
+      by : (suc k < length later) ⊎ (length later ≤ suc k) → (get_or later k picture.no_frame).routine ≡ (get_or now k picture.no_frame).routine
+      by (inl below) = (fit.others k below).routine
+      by (inr last) =
+          let at_later : length later - 1 ≡ k = omega (arith, last, lt, h.count, fit.same_count) in
+          let at_now : length now - 1 ≡ k = omega (arith, last, lt, h.count, fit.same_count) in
+          ap (λ m. (get_or later m picture.no_frame).routine) (sym at_later) ∙ fit.top.routine ∙ ap (λ m. (get_or now m picture.no_frame).routine) at_now
+
+  -- numbers stay numbers
+  pub numbers_kept : (lo : ℕ) (q : Place) (v v' : Store) (now later : List PlainFrame) → StandFor p code v now → Fits p code lo now v' later → AreNumbers p code v now q → AreNumbers p code v' later q
+  numbers_kept lo q v v' now later h fit numbers = record {
+    frame = omega (arith, numbers.frame, h.count, fit.same_count, fit.stand.count);
+    cells = λ k lt. there k lt;
+    kinds = λ k lt. ap (λ ks. get_or ks (q.slot + k) slot.Mark) same_kinds ∙ numbers.kinds k lt;
+  }
+    where
+      in_later : q.frame < length v'
+      in_later = omega (arith, numbers.frame, h.count, fit.same_count, fit.stand.count)
+      same_routine : (get_or later q.frame picture.no_frame).routine ≡ (get_or now q.frame picture.no_frame).routine
+      same_routine = frame_routine lo q.frame v v' now later numbers.frame h fit
+      same_kinds : (get_or later q.frame picture.no_frame).kinds ≡ (get_or now q.frame picture.no_frame).kinds
+      same_kinds = (fit.stand.frames q.frame in_later).kinds ∙ ap (kinds_at code) same_routine ∙ sym (h.frames q.frame numbers.frame).kinds
+      same_slots : length (get_or v' q.frame store.no_frame).cells ≡ length (get_or v q.frame store.no_frame).cells
+      same_slots =
+          (fit.stand.frames q.frame in_later).slots
+          ∙ ap (λ r. (routine_at p r).slots) ((fit.stand.frames q.frame in_later).routine ∙ same_routine ∙ sym (h.frames q.frame numbers.frame).routine)
+          ∙ sym (h.frames q.frame numbers.frame).slots
+      there : (k : ℕ) → k < q.size → q.slot + k < length (get_or v' q.frame store.no_frame).cells
+      there k lt = omega (arith, numbers.cells k lt, same_slots)
+
+  -- what is at a place of one cell
+  pub content_there : (v : Store) (now : List PlainFrame) (q : Place) (c : CellPlace) → StandFor p code v now → AreNumbers p code v now q → 0 < q.size → SamePlace q c
+      → (number_at now c.frame c.slot ≡ true) × SameContent slot.Number (cell_of v q) (cell_at now c.frame c.slot cell.Unset)
+  content_there v now q c h numbers some same =
+      let at : q.slot + 0 ≡ q.slot = omega arith in
+      let frame = h.frames q.frame numbers.frame in
+      let there : q.slot < length (get_or v q.frame store.no_frame).cells = omega (arith, numbers.cells 0 some) in
+      let kind : get_or (get_or now q.frame picture.no_frame).kinds q.slot slot.Mark ≡ slot.Number = ap (λ n. get_or (get_or now q.frame picture.no_frame).kinds n slot.Mark) (sym at) ∙ numbers.kinds 0 some in
+      let kinds_long : q.slot < length (get_or now q.frame picture.no_frame).kinds = omega (arith, there, frame.within, frame.full) in
+      let found : number_at now q.frame q.slot ≡ true = ap is_number (slice_get-get_or (get_or now q.frame picture.no_frame).kinds q.slot slot.Mark kinds_long ∙ ap Some kind) in
+      let content : SameContent slot.Number (cell_of v q) (cell_at now q.frame q.slot cell.Unset) =
+          subst (λ k. SameContent k (cell_of v q) (cell_at now q.frame q.slot cell.Unset)) kind (frame.cells q.slot there) in
+      (ap (λ f. number_at now f c.slot) (sym same.frame) ∙ ap (number_at now q.frame) (sym same.slot) ∙ found,
+       subst (λ f. SameContent slot.Number (cell_of v q) (cell_at now f c.slot cell.Unset)) same.frame
+       (subst (λ n. SameContent slot.Number (cell_of v q) (cell_at now q.frame n cell.Unset)) same.slot content))

@@ -3,6 +3,7 @@ use Rattle.std.proofs.Common.{◌≡◌, ℕ, suc, ◌+◌, ◌-◌, ◌<◌, �
 use Rattle.std.specs.Prelude.{slice_get, ℤ}
 use Rattle.alma_code.specs.declared.cell.Cell.{Cell}
 use Rattle.alma_code.specs.declared.cell.Cell.TheVariants as cell
+use Rattle.alma_code.specs.declared.cell.CellPlace.{CellPlace}
 use Rattle.alma_code.specs.declared.cell.SlotKind.{SlotKind}
 use Rattle.alma_code.specs.declared.cell.SlotKind.TheVariants as slot
 use Rattle.alma_code.specs.Picture.{PlainFrame, PlainEntry, last_frame}
@@ -10,7 +11,7 @@ use Rattle.alma_code.specs.Picture as picture
 use Rattle.alma_code.specs.Plain.{PlainCode, kinds_at}
 use Rattle.alma_code.specs.Machine.{State, Going}
 use Rattle.alma_ir.specs.Tree.{Program, routine_at}
-use Rattle.alma_mean.specs.Store.{Store, Frame, Unknown, Number, At, top_frame}
+use Rattle.alma_mean.specs.Store.{Store, Place, Frame, Unknown, Number, At, top_frame}
 use Rattle.alma_mean.specs.Store as store
 use Rattle.alma_mean.specs.Events.{Flow, Go, Return}
 
@@ -55,10 +56,22 @@ module _ (p : Program) (code : PlainCode) where
     pub top : KeptBelow lo (last_frame before) (last_frame now)
     pub others : (k : ℕ) → suc k < length now → KeptBelow (length (get_or before k picture.no_frame).cells) (get_or before k picture.no_frame) (get_or now k picture.no_frame)
 
+  -- a place of the store whose cells are live numbers, of the frames that stand for it too
+  pub record AreNumbers (v : Store) (now : List PlainFrame) (q : Place) : Type 0 where
+    pub frame : q.frame < length v
+    pub cells : (k : ℕ) → k < q.size → q.slot + k < length (get_or v q.frame store.no_frame).cells
+    pub kinds : (k : ℕ) → k < q.size → get_or (get_or now q.frame picture.no_frame).kinds (q.slot + k) slot.Mark ≡ slot.Number
+
   -- the slots of a routine from lo on are of these kinds
   pub record HasSlots (r lo : ℕ) (kinds : List SlotKind) : Type 0 where
     pub each : (i : ℕ) → i < length kinds → slice_get (kinds_at code r) (lo + i) ≡ slice_get kinds i
     pub behind : (routine_at p r).slots ≤ lo
+
+-- a place of the machine is one of the store
+pub record SamePlace (q : Place) (c : CellPlace) : Type 0 where
+  pub frame : q.frame ≡ c.frame
+  pub slot : q.slot ≡ c.slot
+  pub size : q.size ≡ c.len
 
 -- a machine that goes on at this address with these frames and entries
 pub record IsAt (at : ℕ) (now : List PlainFrame) (held : List PlainEntry) (s : State) : Type 0 where
