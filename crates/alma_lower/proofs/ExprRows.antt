@@ -13,17 +13,20 @@ use Rattle.alma_code.specs.declared.cell.SlotKind.{SlotKind}
 use Rattle.alma_code.specs.declared.cell.SlotKind.TheVariants as slot
 use Rattle.alma_code.specs.declared.instr.Instr.{Instr}
 use Rattle.alma_code.specs.declared.instr.Instr.TheVariants as I
-use Rattle.alma_code.specs.Picture.{PlainFrame, PlainEntry, last_frame}
+use Rattle.alma_code.specs.Carries.{number_at}
+use Rattle.alma_code.specs.Picture.{PlainFrame, PlainEntry, last_frame, cell_at}
 use Rattle.alma_code.specs.Picture as picture
 use Rattle.alma_code.specs.Plain.{PlainCode, kinds_at}
 use Rattle.alma_code.specs.Machine.{State}
 use Rattle.alma_ir.specs.Tree.{Program, routine_at}
-use Rattle.alma_mean.specs.Store.{Store, Place, top, top_frame}
+use Rattle.alma_mean.specs.Store.{Store, Place, top, top_frame, cell_of}
+use Rattle.alma_mean.specs.Store as store
+use Rattle.alma_mean.specs.Rows.{read_cell}
 use Rattle.alma_mean.specs.Events.{Events, Flow, Go, Return, Fault, one, bind, node}
 use Rattle.alma_lower.proofs.Goes.{Silently, IsGoing, Goes, before, weaker, bind_goes, node_goes, one_goes, no_step}
-use Rattle.alma_lower.proofs.Frames.{StandFor, Fits, AreNumbers, SamePlace, HasSlots, IsAt}
-use Rattle.alma_lower.proofs.FrameLemmas.{top_same, fits_self, fits_on, fits_less, fits_temp, holds_written, holds_other}
-use Rattle.alma_lower.proofs.Steps.{top_written, Holds, HasKind, InstrAt, Writes, Faults, const_step, local_step}
+use Rattle.alma_lower.proofs.Frames.{SameContent, StandFor, Fits, AreNumbers, SamePlace, HasSlots, IsAt}
+use Rattle.alma_lower.proofs.FrameLemmas.{top_same, fits_self, fits_on, fits_less, fits_temp, holds_written, holds_other, content_there}
+use Rattle.alma_lower.proofs.Steps.{top_written, Holds, HasKind, InstrAt, Writes, Faults, const_step, local_step, load_step, load_unknown}
 
 module _ (p : Program) (code : PlainCode) (input : List ℕ) where
   -- ---- where a phrase leaves off
@@ -138,3 +141,123 @@ module _ (p : Program) (code : PlainCode) (input : List ℕ) where
           one_more 0 24 (LeavesValue (at + 1) lo r now) held (one v x) s w.to 39 q w.silently
           (one_goes code input 0 24 (LeavesValue (at + 1) lo r now) held v x w.to 39 q (omega arith) (record { mode = w.is.mode; entries = w.is.entries })
           (record { here = w.is.here; fits = subst (Fits p code lo now v) (sym w.is.frames) fit; routine = routine }, subst (λ z. Holds z lo (cell.Int x)) (sym w.is.frames) there))
+
+  -- ---- places
+
+  -- the place that a name stands for, in the frame on top
+  abbrev pub local_place : (from cells : ℕ) → Store → Place
+  local_place from cells v = record { frame = top v; slot = from; size = cells }
+
+  -- number slots of a routine
+  pub record AreVariables (r from cells : ℕ) : Type 0 where
+    pub exist : from + cells ≤ (routine_at p r).slots
+    pub numbers : (k : ℕ) → k < cells → slice_get (kinds_at code r) (from + k) ≡ Some slot.Number
+
+  variables_are_numbers : (r from cells : ℕ) (v : Store) (now : List PlainFrame) → StandFor p code v now → (top_frame v).routine ≡ r → AreVariables r from cells → AreNumbers p code v now (local_place from cells v)
+  variables_are_numbers r from cells v now stand routine h =
+      let same = top_same p code v now stand in
+      let slots : length (top_frame v).cells ≡ (routine_at p r).slots = same.slots ∙ ap (λ x. (routine_at p x).slots) routine in
+      let at : length now - 1 ≡ top v = ap (λ n. n - 1) stand.count in
+      record {
+        frame = omega (arith, stand.some);
+        cells = λ k lt. omega (arith, lt, h.exist, slots);
+        kinds = λ k lt.
+            subst (λ n. get_or (get_or now n picture.no_frame).kinds (from + k) slot.Mark ≡ slot.Number) at
+            (get_or_from_slice_get (last_frame now).kinds (from + k) slot.Number slot.Mark (kind_there v now r stand routine (from + k) slot.Number (h.numbers k lt)));
+      }
+
+  pub local_row : (at lo r from cells : ℕ) (q : ℕ) → InstrAt code input at (I.Local lo from) → HasSlots p code r lo (slot.Place cells ∷ []) → AreVariables r from cells
+      → RunsPlace at (at + 1) lo r (λ v. node (one v (local_place from cells v))) q
+  local_row at lo r from cells q i slots variables = as_node at r (LeavesPlace (at + 1) lo r) (λ v. one v (local_place from cells v)) q inside
+    where
+      inside : InsideOf at r (LeavesPlace (at + 1) lo r) (λ v. one v (local_place from cells v)) q
+      inside v now held s is stand routine =
+          let kind = first_kind r lo (slot.Place cells) [] slots in
+          let c : CellPlace = record { frame = length now - 1; slot = from; len = cells } in
+          let w = local_step code input at now held s is lo from cells i (kind_there v now r stand routine lo (slot.Place cells) kind) in
+          let fit : Fits p code lo now v (top_written now lo (cell.Place c)) = fits_temp p code lo v now lo (cell.Place c) (omega arith) (slots_behind_routine v now r stand routine lo slots.behind) stand in
+          let there = holds_written now lo (cell.Place c) (some_frames v now r stand routine) (within_frame v now r stand routine lo (slot.Place cells) kind) in
+          let numbers = variables_are_numbers r from cells v (top_written now lo (cell.Place c)) fit.stand routine variables in
+          let same : SamePlace (local_place from cells v) c = record { frame = ap (λ n. n - 1) (sym stand.count); slot = refl; size = refl } in
+          one_more 0 24 (LeavesPlace (at + 1) lo r now) held (one v (local_place from cells v)) s w.to 39 q w.silently
+          (one_goes code input 0 24 (LeavesPlace (at + 1) lo r now) held v (local_place from cells v) w.to 39 q (omega arith) (record { mode = w.is.mode; entries = w.is.entries })
+          (record { here = w.is.here; fits = subst (Fits p code lo now v) (sym w.is.frames) fit; routine = routine },
+           subst (λ z. AreNumbers p code v z (local_place from cells v)) (sym w.is.frames) numbers,
+           (c, same, subst (λ z. Holds z lo (cell.Place c)) (sym w.is.frames) there)))
+
+  -- ---- what a part has left is where the next part begins
+
+  pub left_is_at : (exit lo r : ℕ) (before : List PlainFrame) (v : Store) (t : State) (held : List PlainEntry) → IsGoing held t → Left exit lo r before v t → IsAt exit t.now held t
+  left_is_at exit lo r before v t held going left = record { mode = going.mode; here = left.here; frames = refl; entries = going.entries }
+
+  -- one phrase after another, in words of where they leave off
+  pub left_on : (exit exit' lo lo' r : ℕ) (before : List PlainFrame) (v v' : Store) (t t' : State) → lo ≤ lo' → Left exit lo r before v t → Left exit' lo' r t.now v' t' → Left exit' lo r before v' t'
+  left_on exit exit' lo lo' r before v v' t t' le a b = record { here = b.here; fits = fits_on p code lo lo' v v' before t.now t'.now le a.fits b.fits; routine = b.routine }
+
+  -- a slot of the phrases before keeps what it holds
+  pub kept_slot : (exit lo r n : ℕ) (c : Cell) (v v' : Store) (now : List PlainFrame) (t : State) → StandFor p code v now → (top_frame v).routine ≡ r → (routine_at p r).slots ≤ n → n < lo → Left exit lo r now v' t → Holds now n c → Holds t.now n c
+  kept_slot exit lo r n c v v' now t stand routine behind lt left h =
+      let same = top_same p code v now stand in
+      let is : (routine_at p (last_frame now).routine).slots ≡ (routine_at p r).slots = ap (λ x. (routine_at p x).slots) (sym same.routine ∙ routine) in
+      let within : n < length (last_frame now).cells = slice_get_within (last_frame now).cells n c h in
+      let later : n < length (last_frame t.now).cells = omega (arith, within, left.fits.top.long) in
+      slice_get-get_or (last_frame t.now).cells n cell.Unset later
+      ∙ ap Some (left.fits.top.cells n (omega (arith, is, behind)) lt ∙ get_or_from_slice_get (last_frame now).cells n c cell.Unset h)
+
+  -- ---- LOAD
+
+  -- the number at a place of one cell
+  load_cell : (mid lo r : ℕ) (before : List PlainFrame) (held : List PlainEntry) (v : Store) (c : Place) (t : State) (q : ℕ) → InstrAt code input mid (I.Load lo (lo + 1)) → HasSlots p code r lo (slot.Number ∷ []) → 0 < c.size
+      → IsGoing held t → Left mid (lo + 1) r before v t → AreNumbers p code v t.now c → (m : CellPlace) → SamePlace c m → Holds t.now (lo + 1) (cell.Place m)
+      → Goes code input 0 24 (LeavesValue (mid + 1) lo r before) held (read_cell (cell_of v c) (λ x. one v x)) t 8 q
+  load_cell mid lo r before held v c t q i slots some going left numbers m same there =
+      let content = content_there p code v t.now c m left.fits.stand numbers some same in
+      by (cell_of v c) (cell_at t.now m.frame m.slot cell.Unset) content.1 content.0 refl
+    where
+      is : IsAt mid t.now held t
+      is = left_is_at mid (lo + 1) r before v t held going left
+      kind : slice_get (kinds_at code r) lo ≡ Some slot.Number
+      kind = first_kind r lo slot.Number [] slots
+      by : (a : store.Cell) (b : Cell) → SameContent slot.Number a b → number_at t.now m.frame m.slot ≡ true → cell_at t.now m.frame m.slot cell.Unset ≡ b
+          → Goes code input 0 24 (LeavesValue (mid + 1) lo r before) held (read_cell a (λ x. one v x)) t 8 q
+      by store.Unknown cell.Unknown content live e =
+          let f = load_unknown code input mid t.now held t is lo (lo + 1) m i there (live, e) in
+          (1, f.to, omega arith, f.silently, f.is)
+      by (store.Number x) (cell.Int y) content live e =
+          let w = load_step code input mid t.now held t is lo (lo + 1) m y i (kind_there v t.now r left.fits.stand left.routine lo slot.Number kind) there (live, e) in
+          let fit : Fits p code lo t.now v (top_written t.now lo (cell.Int y)) = fits_temp p code lo v t.now lo (cell.Int y) (omega arith) (slots_behind_routine v t.now r left.fits.stand left.routine lo slots.behind) left.fits.stand in
+          let whole : Fits p code lo before v (top_written t.now lo (cell.Int y)) = fits_on p code lo lo v v before t.now (top_written t.now lo (cell.Int y)) (omega arith) (fits_less p code lo (lo + 1) v before t.now (omega arith) left.fits) fit in
+          let holds = holds_written t.now lo (cell.Int y) (some_frames v t.now r left.fits.stand left.routine) (within_frame v t.now r left.fits.stand left.routine lo slot.Number kind) in
+          one_more 0 24 (LeavesValue (mid + 1) lo r before) held (one v x) t w.to 7 q w.silently
+          (one_goes code input 0 24 (LeavesValue (mid + 1) lo r before) held v x w.to 7 q (omega arith) (record { mode = w.is.mode; entries = w.is.entries })
+          (record { here = w.is.here; fits = subst (Fits p code lo before v) (sym w.is.frames) whole; routine = left.routine },
+           subst (λ z. Holds z lo (cell.Int x)) (sym w.is.frames) (subst (λ z. Holds (top_written t.now lo (cell.Int y)) lo (cell.Int z)) (sym content) holds)))
+      by store.Unknown (cell.Int y) content live e = absurd content
+      by store.Unknown cell.Unset content live e = absurd content
+      by store.Unknown (cell.Place y) content live e = absurd content
+      by store.Unknown (cell.Mark y) content live e = absurd content
+      by (store.Number x) cell.Unknown content live e = absurd content
+      by (store.Number x) cell.Unset content live e = absurd content
+      by (store.Number x) (cell.Place y) content live e = absurd content
+      by (store.Number x) (cell.Mark y) content live e = absurd content
+      by (store.At x) cell.Unknown content live e = absurd content
+      by (store.At x) (cell.Int y) content live e = absurd content
+      by (store.At x) cell.Unset content live e = absurd content
+      by (store.At x) (cell.Place y) content live e = absurd content
+      by (store.At x) (cell.Mark y) content live e = absurd content
+
+  -- a designator's events give places of one cell
+  abbrev pub GivesOneCell : (exit lo r : ℕ) → List PlainFrame → Store → Flow Place → State → Type 0
+  GivesOneCell exit lo r before v (Go c) t = LeavesPlace exit lo r before v (Go c) t × (0 < c.size)
+  GivesOneCell exit lo r before v (Return n) t = ⊥
+
+  pub load_row : (at mid lo r : ℕ) (d : Store → Events Place) (q : ℕ) → RunsFrom at r (GivesOneCell mid (lo + 1) r) d q → InstrAt code input mid (I.Load lo (lo + 1)) → HasSlots p code r lo (slot.Number ∷ [])
+      → RunsExpr at (mid + 1) lo r (λ v. node (bind (d v) (λ t c. read_cell (cell_of t c) (λ x. one t x)))) q
+  load_row at mid lo r d q place i slots = as_node at r (LeavesValue (mid + 1) lo r) (λ v. bind (d v) (λ t c. read_cell (cell_of t c) (λ x. one t x))) q inside
+    where
+      inside : InsideOf at r (LeavesValue (mid + 1) lo r) (λ v. bind (d v) (λ t c. read_cell (cell_of t c) (λ x. one t x))) q
+      inside v now held s is stand routine =
+          bind_goes code input 8 0 24 (GivesOneCell mid (lo + 1) r now) (LeavesValue (mid + 1) lo r now) held (d v) (λ t c. read_cell (cell_of t c) (λ x. one t x)) s 40 q 8 (omega arith) (omega arith)
+          (weaker code input 8 0 (GivesOneCell mid (lo + 1) r now) held (d v) s 40 8 q q (omega arith) (omega arith) (place v now held s is stand routine))
+          (λ x c t base going left. load_cell mid lo r now base x c t q i slots left.1 going left.0.0 left.0.1 left.0.2.0 left.0.2.1 left.0.2.2)
+          (λ x n t left. absurd left)
