@@ -1,2 +1,2 @@
 mod Division
-mod Rests
+pub mod Rests
