@@ -37,9 +37,9 @@ module _ (p : Program) (code : PlainCode) (input : List ℕ) where
     pub fits : Fits p code lo before v t.now
     pub routine : (top_frame v).routine ≡ r
 
-  -- the value in its slot
+  -- the value in its slot, a number of INTEGER
   abbrev pub LeavesValue : (exit lo r : ℕ) → List PlainFrame → Store → Flow ℤ → State → Type 0
-  LeavesValue exit lo r before v (Go x) t = Left exit lo r before v t × Holds t.now lo (cell.Int x)
+  LeavesValue exit lo r before v (Go x) t = Left exit lo r before v t × Holds t.now lo (cell.Int x) × (is_integer x ≡ true)
   LeavesValue exit lo r before v (Return n) t = ⊥
 
   -- the place in its slot
@@ -52,7 +52,7 @@ module _ (p : Program) (code : PlainCode) (input : List ℕ) where
   -- from its start, in any state whose frames stand for the store
   abbrev pub RunsFrom : {A : Type 0} → (at r : ℕ) → (leaves : List PlainFrame → Store → Flow A → State → Type 0) → (Store → Events A) → (q : ℕ) → Type 0
   RunsFrom at r leaves f q = (v : Store) (now : List PlainFrame) (held : List PlainEntry) (s : State) → IsAt at now held s → StandFor p code v now → (top_frame v).routine ≡ r
-      → Goes code input 8 0 (leaves now) held (f v) s 8 q
+      → Goes code input 8 0 (leaves now) held (f v) s 0 q
 
   abbrev pub RunsExpr : (at exit lo r : ℕ) → (Store → Events ℤ) → (q : ℕ) → Type 0
   RunsExpr at exit lo r f q = RunsFrom at r (LeavesValue exit lo r) f q
@@ -63,10 +63,10 @@ module _ (p : Program) (code : PlainCode) (input : List ℕ) where
   -- inside of a node: its own visit has paid for 32 steps, and so will the one before each alternative
   abbrev pub InsideOf : {A : Type 0} → (at r : ℕ) → (leaves : List PlainFrame → Store → Flow A → State → Type 0) → (Store → Events A) → (q : ℕ) → Type 0
   InsideOf at r leaves f q = (v : Store) (now : List PlainFrame) (held : List PlainEntry) (s : State) → IsAt at now held s → StandFor p code v now → (top_frame v).routine ≡ r
-      → Goes code input 0 24 (leaves now) held (f v) s 40 q
+      → Goes code input 0 24 (leaves now) held (f v) s 32 q
 
   pub as_node : {A : Type 0} (at r : ℕ) (leaves : List PlainFrame → Store → Flow A → State → Type 0) (f : Store → Events A) (q : ℕ) → InsideOf at r leaves f q → RunsFrom at r leaves (λ v. node (f v)) q
-  as_node at r leaves f q h v now held s is stand routine = node_goes code input 0 8 24 (leaves now) held (f v) s 8 q (omega arith) (h v now held s is stand routine)
+  as_node at r leaves f q h v now held s is stand routine = node_goes code input 0 8 24 (leaves now) held (f v) s 0 q (omega arith) (h v now held s is stand routine)
 
   -- one step more
   pub one_more : {A : Type 0} (left more : ℕ) (fits : Store → Flow A → State → Type 0) (base : List PlainEntry) (e : Events A) (s t : State) (r q : ℕ) → Silently code input 1 s t → Goes code input left more fits base e t r q → Goes code input left more fits base e s (suc r) q
@@ -129,8 +129,8 @@ module _ (p : Program) (code : PlainCode) (input : List ℕ) where
 
   -- ---- constants
 
-  pub const_row : (at lo r : ℕ) (x : ℤ) (q : ℕ) → InstrAt code input at (I.Const lo x) → HasSlots p code r lo (slot.Number ∷ []) → RunsExpr at (at + 1) lo r (λ v. node (one v x)) q
-  const_row at lo r x q i slots = as_node at r (LeavesValue (at + 1) lo r) (λ v. one v x) q inside
+  pub const_row : (at lo r : ℕ) (x : ℤ) (q : ℕ) → is_integer x ≡ true → InstrAt code input at (I.Const lo x) → HasSlots p code r lo (slot.Number ∷ []) → RunsExpr at (at + 1) lo r (λ v. node (one v x)) q
+  const_row at lo r x q integer i slots = as_node at r (LeavesValue (at + 1) lo r) (λ v. one v x) q inside
     where
       inside : InsideOf at r (LeavesValue (at + 1) lo r) (λ v. one v x) q
       inside v now held s is stand routine =
@@ -138,9 +138,9 @@ module _ (p : Program) (code : PlainCode) (input : List ℕ) where
           let w = const_step code input at now held s is lo x i (kind_there v now r stand routine lo slot.Number kind) in
           let fit : Fits p code lo now v (top_written now lo (cell.Int x)) = fits_temp p code lo v now lo (cell.Int x) (omega arith) (slots_behind_routine v now r stand routine lo slots.behind) stand in
           let there = holds_written now lo (cell.Int x) (some_frames v now r stand routine) (within_frame v now r stand routine lo slot.Number kind) in
-          one_more 0 24 (LeavesValue (at + 1) lo r now) held (one v x) s w.to 39 q w.silently
-          (one_goes code input 0 24 (LeavesValue (at + 1) lo r now) held v x w.to 39 q (omega arith) (record { mode = w.is.mode; entries = w.is.entries })
-          (record { here = w.is.here; fits = subst (Fits p code lo now v) (sym w.is.frames) fit; routine = routine }, subst (λ z. Holds z lo (cell.Int x)) (sym w.is.frames) there))
+          one_more 0 24 (LeavesValue (at + 1) lo r now) held (one v x) s w.to 31 q w.silently
+          (one_goes code input 0 24 (LeavesValue (at + 1) lo r now) held v x w.to 31 q (omega arith) (record { mode = w.is.mode; entries = w.is.entries })
+          (record { here = w.is.here; fits = subst (Fits p code lo now v) (sym w.is.frames) fit; routine = routine }, subst (λ z. Holds z lo (cell.Int x)) (sym w.is.frames) there, integer))
 
   -- ---- places
 
@@ -179,8 +179,8 @@ module _ (p : Program) (code : PlainCode) (input : List ℕ) where
           let there = holds_written now lo (cell.Place c) (some_frames v now r stand routine) (within_frame v now r stand routine lo (slot.Place cells) kind) in
           let numbers = variables_are_numbers r from cells v (top_written now lo (cell.Place c)) fit.stand routine variables in
           let same : SamePlace (local_place from cells v) c = record { frame = ap (λ n. n - 1) (sym stand.count); slot = refl; size = refl } in
-          one_more 0 24 (LeavesPlace (at + 1) lo r now) held (one v (local_place from cells v)) s w.to 39 q w.silently
-          (one_goes code input 0 24 (LeavesPlace (at + 1) lo r now) held v (local_place from cells v) w.to 39 q (omega arith) (record { mode = w.is.mode; entries = w.is.entries })
+          one_more 0 24 (LeavesPlace (at + 1) lo r now) held (one v (local_place from cells v)) s w.to 31 q w.silently
+          (one_goes code input 0 24 (LeavesPlace (at + 1) lo r now) held v (local_place from cells v) w.to 31 q (omega arith) (record { mode = w.is.mode; entries = w.is.entries })
           (record { here = w.is.here; fits = subst (Fits p code lo now v) (sym w.is.frames) fit; routine = routine },
            subst (λ z. AreNumbers p code v z (local_place from cells v)) (sym w.is.frames) numbers,
            (c, same, subst (λ z. Holds z lo (cell.Place c)) (sym w.is.frames) there)))
@@ -231,7 +231,7 @@ module _ (p : Program) (code : PlainCode) (input : List ℕ) where
           one_more 0 24 (LeavesValue (mid + 1) lo r before) held (one v x) t w.to 7 q w.silently
           (one_goes code input 0 24 (LeavesValue (mid + 1) lo r before) held v x w.to 7 q (omega arith) (record { mode = w.is.mode; entries = w.is.entries })
           (record { here = w.is.here; fits = subst (Fits p code lo before v) (sym w.is.frames) whole; routine = left.routine },
-           subst (λ z. Holds z lo (cell.Int x)) (sym w.is.frames) (subst (λ z. Holds (top_written t.now lo (cell.Int y)) lo (cell.Int z)) (sym content) holds)))
+           subst (λ z. Holds z lo (cell.Int x)) (sym w.is.frames) (subst (λ z. Holds (top_written t.now lo (cell.Int y)) lo (cell.Int z)) (sym content.0) holds), content.1))
       by store.Unknown (cell.Int y) content live e = absurd content
       by store.Unknown cell.Unset content live e = absurd content
       by store.Unknown (cell.Place y) content live e = absurd content
@@ -257,7 +257,7 @@ module _ (p : Program) (code : PlainCode) (input : List ℕ) where
     where
       inside : InsideOf at r (LeavesValue (mid + 1) lo r) (λ v. bind (d v) (λ t c. read_cell (cell_of t c) (λ x. one t x))) q
       inside v now held s is stand routine =
-          bind_goes code input 8 0 24 (GivesOneCell mid (lo + 1) r now) (LeavesValue (mid + 1) lo r now) held (d v) (λ t c. read_cell (cell_of t c) (λ x. one t x)) s 40 q 8 (omega arith) (omega arith)
-          (weaker code input 8 0 (GivesOneCell mid (lo + 1) r now) held (d v) s 40 8 q q (omega arith) (omega arith) (place v now held s is stand routine))
+          bind_goes code input 8 0 24 (GivesOneCell mid (lo + 1) r now) (LeavesValue (mid + 1) lo r now) held (d v) (λ t c. read_cell (cell_of t c) (λ x. one t x)) s 32 q 8 (omega arith) (omega arith)
+          (weaker code input 8 0 (GivesOneCell mid (lo + 1) r now) held (d v) s 32 0 q q (omega arith) (omega arith) (place v now held s is stand routine))
           (λ x c t base going left. load_cell mid lo r now base x c t q i slots left.1 going left.0.0 left.0.1 left.0.2.0 left.0.2.1 left.0.2.2)
           (λ x n t left. absurd left)

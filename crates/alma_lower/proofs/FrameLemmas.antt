@@ -4,6 +4,7 @@ use Rattle.std.specs.Prelude.{slice_get}
 use Rattle.std.proofs.lemmas.Bool.{cases_eq, cases_lt}
 use Rattle.std.proofs.lemmas.List.{get_or-set_same, get_or-set_other, length-set}
 use Rattle.std.proofs.lemmas.Option.{slice_get-get_or, slice_get_within, get_or_from_slice_get}
+use Rattle.alma_base.specs.Numbers.{is_integer}
 use Rattle.alma_code.specs.declared.cell.Cell.{Cell}
 use Rattle.alma_code.specs.declared.cell.Cell.TheVariants as cell
 use Rattle.alma_code.specs.declared.cell.SlotKind.{SlotKind}
@@ -70,8 +71,8 @@ module _ (p : Program) (code : PlainCode) where
     cells = λ i lt. subst (SameContent (get_or g.kinds i slot.Mark) (get_or f.cells i Unknown)) (sym (get_or-set_other g.cells n i c cell.Unset (λ e. omega (arith, e)))) (h.cells i lt);
   }
 
-  same_var : (f : Frame) (g : PlainFrame) (n : ℕ) (x : ℤ) → n < length f.cells → get_or g.kinds n slot.Mark ≡ slot.Number → SameFrame p code f g → SameFrame p code (with_cell f n (Number x)) (frame_with g n (cell.Int x))
-  same_var f g n x there kind h = record {
+  same_var : (f : Frame) (g : PlainFrame) (n : ℕ) (x : ℤ) → n < length f.cells → get_or g.kinds n slot.Mark ≡ slot.Number → is_integer x ≡ true → SameFrame p code f g → SameFrame p code (with_cell f n (Number x)) (frame_with g n (cell.Int x))
+  same_var f g n x there kind fits h = record {
     routine = h.routine;
     kinds = h.kinds;
     full = length-set g.cells n (cell.Int x) ∙ h.full;
@@ -85,7 +86,7 @@ module _ (p : Program) (code : PlainCode) where
           let left : get_or (set f.cells n (Number x)) i Unknown ≡ Number x = ap (λ m. get_or (set f.cells n (Number x)) m Unknown) e ∙ get_or-set_same f.cells n (Number x) Unknown there in
           let right : get_or (set g.cells n (cell.Int x)) i cell.Unset ≡ cell.Int x = ap (λ m. get_or (set g.cells n (cell.Int x)) m cell.Unset) e ∙ get_or-set_same g.cells n (cell.Int x) cell.Unset (omega (arith, h.within)) in
           let kind_i : get_or g.kinds i slot.Mark ≡ slot.Number = ap (λ m. get_or g.kinds m slot.Mark) e ∙ kind in
-          let same : SameContent slot.Number (Number x) (cell.Int x) = refl in
+          let same : SameContent slot.Number (Number x) (cell.Int x) = (refl, fits) in
           subst (λ k. SameContent k (get_or (set f.cells n (Number x)) i Unknown) (get_or (set g.cells n (cell.Int x)) i cell.Unset)) (sym kind_i)
           (subst (λ a. SameContent slot.Number a (get_or (set g.cells n (cell.Int x)) i cell.Unset)) (sym left) (subst (SameContent slot.Number (Number x)) (sym right) same))
       by i lt (inr ne) =
@@ -122,8 +123,8 @@ module _ (p : Program) (code : PlainCode) where
           subst (SameFrame p code (get_or v k store.no_frame)) (sym (get_or-set_other now (length now - 1) k (frame_with (last_frame now) n c) picture.no_frame ne)) (h.frames k lt)
 
   -- a number that is stored in a slot of the routine is stored in the store
-  pub stand_var : (v : Store) (now : List PlainFrame) (n : ℕ) (x : ℤ) → n < length (top_frame v).cells → get_or (last_frame now).kinds n slot.Mark ≡ slot.Number → StandFor p code v now → StandFor p code (put v (top v) n (Number x)) (top_written now n (cell.Int x))
-  stand_var v now n x there kind h =
+  pub stand_var : (v : Store) (now : List PlainFrame) (n : ℕ) (x : ℤ) → n < length (top_frame v).cells → get_or (last_frame now).kinds n slot.Mark ≡ slot.Number → is_integer x ≡ true → StandFor p code v now → StandFor p code (put v (top v) n (Number x)) (top_written now n (cell.Int x))
+  stand_var v now n x there kind fits h =
       let w = set v (top v) (with_cell (top_frame v) n (Number x)) in
       let is : put v (top v) n (Number x) ≡ w = put_is v (top v) n (Number x) (omega (arith, h.some)) in
       subst (λ z. StandFor p code z (top_written now n (cell.Int x))) (sym is) (record {
@@ -143,7 +144,7 @@ module _ (p : Program) (code : PlainCode) where
           let left : get_or (set v (top v) (with_cell (top_frame v) n (Number x))) k store.no_frame ≡ with_cell (top_frame v) n (Number x) =
               ap (λ m. get_or (set v (top v) (with_cell (top_frame v) n (Number x))) m store.no_frame) (e ∙ at) ∙ get_or-set_same v (top v) (with_cell (top_frame v) n (Number x)) store.no_frame (omega (arith, h.some)) in
           subst (λ f. SameFrame p code f (get_or (top_written now n (cell.Int x)) k picture.no_frame)) (sym left)
-          (subst (SameFrame p code (with_cell (top_frame v) n (Number x))) (sym right) (same_var (top_frame v) (last_frame now) n x there kind (top_same v now h)))
+          (subst (SameFrame p code (with_cell (top_frame v) n (Number x))) (sym right) (same_var (top_frame v) (last_frame now) n x there kind fits (top_same v now h)))
       by k lt (inr ne) =
           subst (λ f. SameFrame p code f (get_or (top_written now n (cell.Int x)) k picture.no_frame)) (sym (get_or-set_other v (top v) k (with_cell (top_frame v) n (Number x)) store.no_frame (λ e. ne (e ∙ sym at))))
           (subst (SameFrame p code (get_or v k store.no_frame)) (sym (get_or-set_other now (length now - 1) k (frame_with (last_frame now) n (cell.Int x)) picture.no_frame ne)) (h.frames k lt))
@@ -218,10 +219,10 @@ module _ (p : Program) (code : PlainCode) where
   }
 
   -- a number stored in a slot of the routine
-  pub fits_var : (lo : ℕ) (v : Store) (now : List PlainFrame) (n : ℕ) (x : ℤ) → n < length (top_frame v).cells → get_or (last_frame now).kinds n slot.Mark ≡ slot.Number → StandFor p code v now
+  pub fits_var : (lo : ℕ) (v : Store) (now : List PlainFrame) (n : ℕ) (x : ℤ) → n < length (top_frame v).cells → get_or (last_frame now).kinds n slot.Mark ≡ slot.Number → is_integer x ≡ true → StandFor p code v now
       → Fits p code lo now (put v (top v) n (Number x)) (top_written now n (cell.Int x))
-  fits_var lo v now n x there kind h = record {
-    stand = stand_var v now n x there kind h;
+  fits_var lo v now n x there kind integer h = record {
+    stand = stand_var v now n x there kind integer h;
     same_count = count_kept now n (cell.Int x);
     top = subst (KeptBelow p code lo (last_frame now)) (sym (top_is now n (cell.Int x) (omega (arith, h.some, h.count)))) (record {
       back = refl;

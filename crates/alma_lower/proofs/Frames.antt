@@ -1,6 +1,7 @@
 -- How the frames of the machine stand for a store, and where a phrase leaves them.
 use Rattle.std.proofs.Common.{◌≡◌, ℕ, suc, ◌+◌, ◌-◌, ◌<◌, ◌≤◌, List, length, get_or, Some}
-use Rattle.std.specs.Prelude.{slice_get, ℤ}
+use Rattle.std.specs.Prelude.{slice_get, true}
+use Rattle.alma_base.specs.Numbers.{is_integer}
 use Rattle.alma_code.specs.declared.cell.Cell.{Cell}
 use Rattle.alma_code.specs.declared.cell.Cell.TheVariants as cell
 use Rattle.alma_code.specs.declared.cell.CellPlace.{CellPlace}
@@ -15,10 +16,10 @@ use Rattle.alma_mean.specs.Store.{Store, Place, Frame, Unknown, Number, At, top_
 use Rattle.alma_mean.specs.Store as store
 use Rattle.alma_mean.specs.Events.{Flow, Go, Return}
 
--- a cell of the machine, in a slot of this kind, holds what a cell of the store is
+-- a cell of the machine, in a slot of this kind, holds what a cell of the store is; each number is one of INTEGER
 abbrev pub SameContent : SlotKind → store.Cell → Cell → Type 0
 SameContent slot.Number Unknown cell.Unknown = Unit {0}
-SameContent slot.Number (Number a) (cell.Int b) = a ≡ b
+SameContent slot.Number (Number a) (cell.Int b) = (a ≡ b) × (is_integer a ≡ true)
 SameContent (slot.Place l) Unknown cell.Unset = Unit {0}
 SameContent (slot.Place l) (At p) (cell.Place q) = (p.frame ≡ q.frame) × (p.slot ≡ q.slot) × (p.size ≡ q.len)
 SameContent _ _ _ = ⊥
