@@ -1,5 +1,6 @@
 pub mod Enough
 pub mod ExprRows
+pub mod OperatorRows
 pub mod Goes
 pub mod Follows
 pub mod Frames

@@ -1,0 +1,98 @@
+-- The rows of operators and comparisons.
+use Rattle.std.proofs.Common.{◌≡◌, ◌≢◌, ℕ, zero, suc, ◌+◌, ◌-◌, ◌<◌, ◌≤◌, Bool, true, false, not, List, [], ◌∷◌, length, Some, refl, sym, ap, ◌∙◌, subst, arith, ℤ, pos, negsuc, ◌+ℤ◌, ◌-ℤ◌, ◌*ℤ◌, neg_ℤ, ◌≤ℤ◌}
+use Rattle.std.specs.Prelude.{slice_get, int_lt, int_le}
+use Rattle.std.proofs.lemmas.Int.{ints}
+use Rattle.std.proofs.lemmas.Bool.Decides.{nat_tests}
+use Rattle.alma_base.specs.declared.fault.RunFault.TheVariants as fault
+use Rattle.alma_base.specs.Choice.{if_true}
+use Rattle.alma_base.specs.Numbers.{is_integer, is_zero, int_eq, bit, div_down_of, mod_down_of, IsRest}
+use Rattle.alma_base.proofs.Rests.{rounds_down}
+use Rattle.alma_code.specs.declared.cell.Cell.{Cell}
+use Rattle.alma_code.specs.declared.cell.Cell.TheVariants as cell
+use Rattle.alma_code.specs.declared.cell.SlotKind.TheVariants as slot
+use Rattle.alma_code.specs.declared.instr.Instr.{Instr}
+use Rattle.alma_code.specs.declared.instr.Instr.TheVariants as I
+use Rattle.alma_code.specs.Picture.{PlainFrame, PlainEntry, last_frame}
+use Rattle.alma_code.specs.Plain.{PlainCode, kinds_at}
+use Rattle.alma_code.specs.Machine.{State, Stepped, step, put_number, fitted, faulted}
+use Rattle.alma_ir.specs.declared.phrase.Op.{Op}
+use Rattle.alma_ir.specs.declared.phrase.Op.TheVariants as op
+use Rattle.alma_ir.specs.declared.phrase.Cmp.{Cmp}
+use Rattle.alma_ir.specs.declared.phrase.Cmp.TheVariants as cmp
+use Rattle.alma_ir.specs.Tree.{Program, routine_at}
+use Rattle.alma_mean.specs.Store.{Store, top_frame}
+use Rattle.alma_mean.specs.Events.{Events, Flow, Go, Return, Fault, one, bind, node}
+use Rattle.alma_mean.specs.Arithmetic.{apply_op, apply_sign, check_integer, fault_unless, compares}
+use Rattle.alma_lower.specs.Templates.{op_code, cmp_code}
+use Rattle.alma_lower.proofs.Goes.{Silently, IsGoing, Goes, before, weaker, bind_goes, one_goes, no_step, and_then}
+use Rattle.alma_lower.proofs.Frames.{StandFor, Fits, HasSlots, IsAt}
+use Rattle.alma_lower.proofs.FrameLemmas.{fits_self, fits_on, fits_less, fits_temp, holds_written, holds_other}
+use Rattle.alma_lower.proofs.Steps.{top_written, Holds, HasKind, InstrAt, passed, Writes, Faults, flip_step, equal_step, less_step, less_eq_step, fits_step, overflow_step, neg_does, add_does, sub_does, mul_does, div_does, mod_does, divided, faults_now}
+use Rattle.alma_lower.proofs.ExprRows.{Left, LeavesValue, RunsFrom, RunsExpr, InsideOf, as_node, one_more, kind_there, within_frame, slots_behind_routine, some_frames, left_is_at, left_on, kept_slot}
+
+-- ---- numbers
+
+-- a truth is a number of INTEGER, and is 0 where it is false
+bit_integer : (t : Bool) → is_integer (bit t) ≡ true
+bit_integer true = refl
+bit_integer false = refl
+
+zero_bit : (t : Bool) → is_zero (bit t) ≡ not t
+zero_bit true = refl
+zero_bit false = refl
+
+-- what a division leaves is a number of INTEGER, where the divisor is one
+rest_integer : (b r : ℤ) → is_integer b ≡ true → IsRest b r → is_integer r ≡ true
+rest_integer (pos n) (pos m) fits h = grind (arith, ints, nat_tests)
+rest_integer (pos n) (negsuc m) fits h = absurd (let low : pos 0 ≤ℤ negsuc m = h.0 in omega (arith, ints))
+rest_integer (negsuc n) (pos m) fits h = grind (arith, ints, nat_tests)
+rest_integer (negsuc n) (negsuc m) fits h = grind (arith, ints, nat_tests)
+
+nonzero : (b : ℤ) → is_zero b ≡ false → b ≢ pos 0
+nonzero b h e = absurd (let bad : true ≡ false = ap is_zero (sym e) ∙ h in cc)
+
+module _ (p : Program) (code : PlainCode) (input : List ℕ) where
+  -- a value that was written into the first slot of a phrase
+  pub value_left : (at exit lo r : ℕ) (before : List PlainFrame) (held : List PlainEntry) (v : Store) (t : State) (x : ℤ) → (routine_at p r).slots ≤ lo → slice_get (kinds_at code r) lo ≡ Some slot.Number → is_integer x ≡ true
+      → Left p code input exit lo r before v t → (w : Writes code input at t.now held t lo (cell.Int x)) → LeavesValue p code input (at + 1) lo r before v (Go x) w.to
+  value_left at exit lo r before held v t x behind kind integer left w =
+      let fit : Fits p code lo t.now v (top_written t.now lo (cell.Int x)) = fits_temp p code lo v t.now lo (cell.Int x) (omega arith) (slots_behind_routine p code input v t.now r left.fits.stand left.routine lo behind) left.fits.stand in
+      let whole : Fits p code lo before v (top_written t.now lo (cell.Int x)) = fits_on p code lo lo v v before t.now (top_written t.now lo (cell.Int x)) (omega arith) left.fits fit in
+      let holds = holds_written t.now lo (cell.Int x) (some_frames p code input v t.now r left.fits.stand left.routine) (within_frame p code input v t.now r left.fits.stand left.routine lo slot.Number kind) in
+      (record { here = w.is.here; fits = subst (Fits p code lo before v) (sym w.is.frames) whole; routine = left.routine },
+       subst (λ z. Holds z lo (cell.Int x)) (sym w.is.frames) holds,
+       integer)
+
+  pub going_on : (at : ℕ) (now : List PlainFrame) (held : List PlainEntry) (s : State) (n : ℕ) (c : Cell) → (w : Writes code input at now held s n c) → IsGoing held w.to
+  going_on at now held s n c w = record { mode = w.is.mode; entries = w.is.entries }
+
+  -- one step that writes the value of a phrase
+  pub value_goes : (at exit lo r left_over more : ℕ) (before : List PlainFrame) (held : List PlainEntry) (v : Store) (t : State) (x : ℤ) (c q : ℕ) → (routine_at p r).slots ≤ lo → slice_get (kinds_at code r) lo ≡ Some slot.Number → is_integer x ≡ true → left_over ≤ c + more
+      → Left p code input exit lo r before v t → Writes code input at t.now held t lo (cell.Int x) → Goes code input left_over more (LeavesValue p code input (at + 1) lo r before) held (one v x) t (suc c) q
+  value_goes at exit lo r left_over more before held v t x c q behind kind integer le left w =
+      one_more p code input left_over more (LeavesValue p code input (at + 1) lo r before) held (one v x) t w.to c q w.silently
+      (one_goes code input left_over more (LeavesValue p code input (at + 1) lo r before) held v x w.to c q le (going_on at t.now held t lo (cell.Int x) w)
+      (value_left at exit lo r before held v t x behind kind integer left w))
+
+  -- ---- two parts
+
+  -- the second part begins where the first has left off, and keeps the first value
+  pub two_parts : {B : Type 0} (at m1 m2 lo lo2 r : ℕ) (x y : Store → Events ℤ) (fits2 : List PlainFrame → Store → Flow B → State → Type 0) (k : Store → ℤ → ℤ → Events B) (q : ℕ) → lo < lo2 → (routine_at p r).slots ≤ lo
+      → RunsExpr p code input at m1 lo r x q → RunsExpr p code input m1 m2 lo2 r y q
+      → ((before : List PlainFrame) (held : List PlainEntry) (v : Store) (a b : ℤ) (t : State) → IsGoing held t → Left p code input m2 lo r before v t → Holds t.now lo (cell.Int a) → is_integer a ≡ true → Holds t.now lo2 (cell.Int b) → is_integer b ≡ true
+          → Goes code input 0 24 (fits2 before) held (k v a b) t 8 q)
+      → ((before : List PlainFrame) (v : Store) (n : _) (t : State) → ⊥ → fits2 before v (Return n) t)
+      → InsideOf p code input at r fits2 (λ v. bind (x v) (λ t a. bind (y t) (λ u b. k u a b))) q
+  two_parts at m1 m2 lo lo2 r x y fits2 k q lt behind runs_x runs_y finish never v now held s is stand routine =
+      bind_goes code input 8 0 24 (LeavesValue p code input m1 lo r now) (fits2 now) held (x v) (λ t a. bind (y t) (λ u b. k u a b)) s 32 q 8 (omega arith) (omega arith)
+      (weaker code input 8 0 (LeavesValue p code input m1 lo r now) held (x v) s 32 0 q q (omega arith) (omega arith) (runs_x v now held s is stand routine))
+      (λ v1 a t1 held1 going1 left1.
+        bind_goes code input 8 0 24 (LeavesValue p code input m2 lo2 r t1.now) (fits2 now) held1 (y v1) (λ u b. k u a b) t1 8 q 8 (omega arith) (omega arith)
+        (weaker code input 8 0 (LeavesValue p code input m2 lo2 r t1.now) held1 (y v1) t1 8 0 q q (omega arith) (omega arith)
+          (runs_y v1 t1.now held1 t1 (left_is_at p code input m1 lo r now v1 t1 held1 going1 left1.0) left1.0.fits.stand left1.0.routine))
+        (λ v2 b t2 held2 going2 left2.
+          let both = left_on p code input m1 m2 lo lo2 r now v1 v2 t1 t2 (omega arith) left1.0 left2.0 in
+          finish now held2 v2 a b t2 going2 both
+          (kept_slot p code input m2 lo2 r lo (cell.Int a) v1 v2 t1.now t2 left1.0.fits.stand left1.0.routine behind lt left2.0 left1.1) left1.2 left2.1 left2.2)
+        (λ v2 n t2 no. never now v2 n t2 no))
+      (λ v1 n t1 no. never now v1 n t1 no)
