@@ -96,3 +96,91 @@ module _ (p : Program) (code : PlainCode) (input : List ℕ) where
           (kept_slot p code input m2 lo2 r lo (cell.Int a) v1 v2 t1.now t2 left1.0.fits.stand left1.0.routine behind lt left2.0 left1.1) left1.2 left2.1 left2.2)
         (λ v2 n t2 no. never now v2 n t2 no))
       (λ v1 n t1 no. never now v1 n t1 no)
+
+  -- ---- comparisons
+
+  module _ (at lo lo2 r : ℕ) (before : List PlainFrame) (held : List PlainEntry) (v : Store) (a b : ℤ) (t : State) (q : ℕ) (behind : (routine_at p r).slots ≤ lo) (kind : slice_get (kinds_at code r) lo ≡ Some slot.Number)
+      (going : IsGoing held t) (left : Left p code input at lo r before v t) (has_a : Holds t.now lo (cell.Int a)) (has_b : Holds t.now lo2 (cell.Int b)) where
+    is_at : IsAt at t.now held t
+    is_at = left_is_at p code input at lo r before v t held going left
+
+    kind_now : HasKind t.now lo slot.Number
+    kind_now = kind_there p code input v t.now r left.fits.stand left.routine lo slot.Number kind
+
+    -- the comparison's code, and where it leaves off
+    abbrev pub Compares : Cmp → (exit : ℕ) → Type 0
+    Compares how exit = Goes code input 0 24 (LeavesValue p code input exit lo r before) held (one v (bit (compares how a b))) t 8 q
+
+    pub equal_goes : InstrAt code input at (I.Equal lo lo lo2) → Compares cmp.Equal (at + 1)
+    equal_goes i = value_goes at at lo r 0 24 before held v t (bit (int_eq a b)) 7 q behind kind (bit_integer (int_eq a b)) (omega arith) left (equal_step code input at t.now held t is_at lo lo lo2 a b i kind_now has_a has_b)
+
+    pub less_goes : InstrAt code input at (I.Less lo lo lo2) → Compares cmp.Less (at + 1)
+    less_goes i = value_goes at at lo r 0 24 before held v t (bit (int_lt a b)) 7 q behind kind (bit_integer (int_lt a b)) (omega arith) left (less_step code input at t.now held t is_at lo lo lo2 a b i kind_now has_a has_b)
+
+    pub less_eq_goes : InstrAt code input at (I.LessEq lo lo lo2) → Compares cmp.LessEq (at + 1)
+    less_eq_goes i = value_goes at at lo r 0 24 before held v t (bit (int_le a b)) 7 q behind kind (bit_integer (int_le a b)) (omega arith) left (less_eq_step code input at t.now held t is_at lo lo lo2 a b i kind_now has_a has_b)
+
+    pub greater_goes : InstrAt code input at (I.Less lo lo2 lo) → Compares cmp.Greater (at + 1)
+    greater_goes i = value_goes at at lo r 0 24 before held v t (bit (int_lt b a)) 7 q behind kind (bit_integer (int_lt b a)) (omega arith) left (less_step code input at t.now held t is_at lo lo2 lo b a i kind_now has_b has_a)
+
+    pub greater_eq_goes : InstrAt code input at (I.LessEq lo lo2 lo) → Compares cmp.GreaterEq (at + 1)
+    greater_eq_goes i = value_goes at at lo r 0 24 before held v t (bit (int_le b a)) 7 q behind kind (bit_integer (int_le b a)) (omega arith) left (less_eq_step code input at t.now held t is_at lo lo2 lo b a i kind_now has_b has_a)
+
+    pub unequal_goes : InstrAt code input at (I.Equal lo lo lo2) → InstrAt code input (at + 1) (I.Flip lo lo) → Compares cmp.Unequal (at + 1 + 1)
+    unequal_goes i j =
+        let w = equal_step code input at t.now held t is_at lo lo lo2 a b i kind_now has_a has_b in
+        let mid = value_left at at lo r before held v t (bit (int_eq a b)) behind kind (bit_integer (int_eq a b)) left w in
+        let going1 = going_on at t.now held t lo (cell.Int (bit (int_eq a b))) w in
+        let kind1 = kind_there p code input v w.to.now r mid.0.fits.stand mid.0.routine lo slot.Number kind in
+        let f = flip_step code input (at + 1) w.to.now held w.to (left_is_at p code input (at + 1) lo r before v w.to held going1 mid.0) lo lo (bit (int_eq a b)) j kind1 mid.1 in
+        let said : bit (is_zero (bit (int_eq a b))) ≡ bit (not (int_eq a b)) = ap bit (zero_bit (int_eq a b)) in
+        one_more p code input 0 24 (LeavesValue p code input (at + 1 + 1) lo r before) held (one v (bit (not (int_eq a b)))) t w.to 7 q w.silently
+        (subst (λ x. Goes code input 0 24 (LeavesValue p code input (at + 1 + 1) lo r before) held (one v x) w.to 7 q) said
+        (value_goes (at + 1) (at + 1) lo r 0 24 before held v w.to (bit (is_zero (bit (int_eq a b)))) 6 q behind kind (bit_integer (is_zero (bit (int_eq a b)))) (omega arith) mid.0 f))
+
+    -- ---- operators
+
+    abbrev pub Applies : Events ℤ → (exit : ℕ) → Type 0
+    Applies e exit = Goes code input 7 0 (LeavesValue p code input exit lo r before) held e t 8 q
+
+    -- a result that must be one of INTEGER
+    checked_goes : (z : ℤ) → step code input t ≡ fitted (passed code input t) z (λ x. put_number (passed code input t) lo x) → Applies (check_integer v z) (at + 1)
+    checked_goes z e = by (is_integer z) refl
+      where
+        by : (b : Bool) → is_integer z ≡ b → Applies (fault_unless fault.Overflow b (λ _. one v z)) (at + 1)
+        by true fits = value_goes at at lo r 7 0 before held v t z 7 q behind kind fits (omega arith) left (fits_step code input at t.now held t is_at lo z kind_now fits e)
+        by false fits = let f = overflow_step code input at t.now held t is_at lo z fits e in (1, f.to, omega arith, f.silently, f.is)
+
+    divided_goes : (y z : ℤ) (e : Events ℤ) → (is_zero y ≡ false → Applies e (at + 1)) → step code input t ≡ divided code input at t.now held t is_at lo y z → Applies (fault_unless fault.ZeroDivide (not (is_zero y)) (λ _. e)) (at + 1)
+    divided_goes y z e goes does = by (is_zero y) refl
+      where
+        by : (b : Bool) → is_zero y ≡ b → Applies (fault_unless fault.ZeroDivide (not b) (λ _. e)) (at + 1)
+        by false other = goes other
+        by true zero_there =
+            let f = faults_now code input t (passed code input t) fault.ZeroDivide
+                (does ∙ ap (λ b. if_true b (λ _. faulted fault.ZeroDivide (passed code input t)) (λ _. fitted (passed code input t) z (λ x. put_number (passed code input t) lo x))) zero_there) in
+            (1, f.to, omega arith, f.silently, f.is)
+
+    -- past the test of the divisor
+    not_zero : (y z : ℤ) → is_zero y ≡ false → step code input t ≡ divided code input at t.now held t is_at lo y z → step code input t ≡ fitted (passed code input t) z (λ x. put_number (passed code input t) lo x)
+    not_zero y z other does =
+        does ∙ ap (λ b. if_true b (λ _. faulted fault.ZeroDivide (passed code input t)) (λ _. fitted (passed code input t) z (λ x. put_number (passed code input t) lo x))) other
+
+    pub op_goes : (how : Op) → is_integer b ≡ true → InstrAt code input at (op_code how lo lo2) → Applies (apply_op v how a b) (at + 1)
+    op_goes op.Add fits_b i = checked_goes (a +ℤ b) (add_does code input at t.now held t is_at lo lo lo2 a b i has_a has_b)
+    op_goes op.Sub fits_b i = checked_goes (a -ℤ b) (sub_does code input at t.now held t is_at lo lo lo2 a b i has_a has_b)
+    op_goes op.Mul fits_b i = checked_goes (a *ℤ b) (mul_does code input at t.now held t is_at lo lo lo2 a b i has_a has_b)
+    op_goes op.Div fits_b i =
+        let does = div_does code input at t.now held t is_at lo lo lo2 a b i has_a has_b in
+        divided_goes b (div_down_of a b) (check_integer v (div_down_of a b)) (λ other. checked_goes (div_down_of a b) (not_zero b (div_down_of a b) other does)) does
+    op_goes op.Mod fits_b i =
+        let does = mod_does code input at t.now held t is_at lo lo lo2 a b i has_a has_b in
+        divided_goes b (mod_down_of a b) (one v (mod_down_of a b))
+        (λ other.
+          let fits = rest_integer b (mod_down_of a b) fits_b (rounds_down a b (nonzero b other)) in
+          value_goes at at lo r 7 0 before held v t (mod_down_of a b) 7 q behind kind fits (omega arith) left
+          (fits_step code input at t.now held t is_at lo (mod_down_of a b) kind_now fits (not_zero b (mod_down_of a b) other does)))
+        does
+
+    pub neg_goes : InstrAt code input at (I.Neg lo lo) → Applies (apply_sign true v a) (at + 1)
+    neg_goes i = checked_goes (neg_ℤ a) (neg_does code input at t.now held t is_at lo lo a i has_a)
