@@ -37,22 +37,36 @@ module _ (p : Program) (code : PlainCode) (input : List ℕ) where
     pub fits : Fits p code lo before v t.now
     pub routine : (top_frame v).routine ≡ r
 
-  -- the value in its slot, a number of INTEGER
-  abbrev pub LeavesValue : (exit lo r : ℕ) → List PlainFrame → Store → Flow ℤ → State → Type 0
-  LeavesValue exit lo r before v (Go x) t = Left exit lo r before v t × Holds t.now lo (cell.Int x) × (is_integer x ≡ true)
-  LeavesValue exit lo r before v (Return n) t = ⊥
+  -- the store, the frames and the entries at the start of a phrase
+  pub record Begun : Type 0 where
+    pub store : Store
+    pub frames : List PlainFrame
+    pub entries : List PlainEntry
 
-  -- the place in its slot
-  abbrev pub LeavesPlace : (exit lo r : ℕ) → List PlainFrame → Store → Flow Place → State → Type 0
-  LeavesPlace exit lo r before v (Go q) t = Left exit lo r before v t × AreNumbers p code v t.now q × ((c : CellPlace) × SamePlace q c × Holds t.now lo (cell.Place c))
-  LeavesPlace exit lo r before v (Return n) t = ⊥
+  -- a phrase that has changed nothing of the store and has left no entry
+  pub record Stays (b : Begun) (v : Store) (t : State) : Type 0 where
+    pub same : v ≡ b.store
+    pub none : t.held ≡ b.entries
+
+  -- the value in its slot, a number of INTEGER
+  abbrev pub LeavesValue : (exit lo r : ℕ) → Begun → Store → Flow ℤ → State → Type 0
+  LeavesValue exit lo r b v (Go x) t = Left exit lo r b.frames v t × Holds t.now lo (cell.Int x) × (is_integer x ≡ true) × Stays b v t
+  LeavesValue exit lo r b v (Return n) t = ⊥
+
+  -- the place of one cell in its slot
+  abbrev pub LeavesPlace : (exit lo r : ℕ) → Begun → Store → Flow Place → State → Type 0
+  LeavesPlace exit lo r b v (Go q) t = Left exit lo r b.frames v t × AreNumbers p code v t.now q × (0 < q.size) × ((c : CellPlace) × SamePlace q c × Holds t.now lo (cell.Place c)) × Stays b v t
+  LeavesPlace exit lo r b v (Return n) t = ⊥
 
   -- ---- what the code of a phrase does
 
+  abbrev pub begun : Store → List PlainFrame → List PlainEntry → Begun
+  begun v now held = record { store = v; frames = now; entries = held }
+
   -- from its start, in any state whose frames stand for the store
-  abbrev pub RunsFrom : {A : Type 0} → (at r : ℕ) → (leaves : List PlainFrame → Store → Flow A → State → Type 0) → (Store → Events A) → (q : ℕ) → Type 0
+  abbrev pub RunsFrom : {A : Type 0} → (at r : ℕ) → (leaves : Begun → Store → Flow A → State → Type 0) → (Store → Events A) → (q : ℕ) → Type 0
   RunsFrom at r leaves f q = (v : Store) (now : List PlainFrame) (held : List PlainEntry) (s : State) → IsAt at now held s → StandFor p code v now → (top_frame v).routine ≡ r
-      → Goes code input 8 0 (leaves now) held (f v) s 0 q
+      → Goes code input 8 0 (leaves (begun v now held)) held (f v) s 0 q
 
   abbrev pub RunsExpr : (at exit lo r : ℕ) → (Store → Events ℤ) → (q : ℕ) → Type 0
   RunsExpr at exit lo r f q = RunsFrom at r (LeavesValue exit lo r) f q
@@ -61,12 +75,12 @@ module _ (p : Program) (code : PlainCode) (input : List ℕ) where
   RunsPlace at exit lo r f q = RunsFrom at r (LeavesPlace exit lo r) f q
 
   -- inside of a node: its own visit has paid for 32 steps, and so will the one before each alternative
-  abbrev pub InsideOf : {A : Type 0} → (at r : ℕ) → (leaves : List PlainFrame → Store → Flow A → State → Type 0) → (Store → Events A) → (q : ℕ) → Type 0
+  abbrev pub InsideOf : {A : Type 0} → (at r : ℕ) → (leaves : Begun → Store → Flow A → State → Type 0) → (Store → Events A) → (q : ℕ) → Type 0
   InsideOf at r leaves f q = (v : Store) (now : List PlainFrame) (held : List PlainEntry) (s : State) → IsAt at now held s → StandFor p code v now → (top_frame v).routine ≡ r
-      → Goes code input 0 24 (leaves now) held (f v) s 32 q
+      → Goes code input 0 24 (leaves (begun v now held)) held (f v) s 32 q
 
-  pub as_node : {A : Type 0} (at r : ℕ) (leaves : List PlainFrame → Store → Flow A → State → Type 0) (f : Store → Events A) (q : ℕ) → InsideOf at r leaves f q → RunsFrom at r leaves (λ v. node (f v)) q
-  as_node at r leaves f q h v now held s is stand routine = node_goes code input 0 8 24 (leaves now) held (f v) s 0 q (omega arith) (h v now held s is stand routine)
+  pub as_node : {A : Type 0} (at r : ℕ) (leaves : Begun → Store → Flow A → State → Type 0) (f : Store → Events A) (q : ℕ) → InsideOf at r leaves f q → RunsFrom at r leaves (λ v. node (f v)) q
+  as_node at r leaves f q h v now held s is stand routine = node_goes code input 0 8 24 (leaves (begun v now held)) held (f v) s 0 q (omega arith) (h v now held s is stand routine)
 
   -- one step more
   pub one_more : {A : Type 0} (left more : ℕ) (fits : Store → Flow A → State → Type 0) (base : List PlainEntry) (e : Events A) (s t : State) (r q : ℕ) → Silently code input 1 s t → Goes code input left more fits base e t r q → Goes code input left more fits base e s (suc r) q
@@ -138,9 +152,9 @@ module _ (p : Program) (code : PlainCode) (input : List ℕ) where
           let w = const_step code input at now held s is lo x i (kind_there v now r stand routine lo slot.Number kind) in
           let fit : Fits p code lo now v (top_written now lo (cell.Int x)) = fits_temp p code lo v now lo (cell.Int x) (omega arith) (slots_behind_routine v now r stand routine lo slots.behind) stand in
           let there = holds_written now lo (cell.Int x) (some_frames v now r stand routine) (within_frame v now r stand routine lo slot.Number kind) in
-          one_more 0 24 (LeavesValue (at + 1) lo r now) held (one v x) s w.to 31 q w.silently
-          (one_goes code input 0 24 (LeavesValue (at + 1) lo r now) held v x w.to 31 q (omega arith) (record { mode = w.is.mode; entries = w.is.entries })
-          (record { here = w.is.here; fits = subst (Fits p code lo now v) (sym w.is.frames) fit; routine = routine }, subst (λ z. Holds z lo (cell.Int x)) (sym w.is.frames) there, integer))
+          one_more 0 24 (LeavesValue (at + 1) lo r (begun v now held)) held (one v x) s w.to 31 q w.silently
+          (one_goes code input 0 24 (LeavesValue (at + 1) lo r (begun v now held)) held v x w.to 31 q (omega arith) (record { mode = w.is.mode; entries = w.is.entries })
+          (record { here = w.is.here; fits = subst (Fits p code lo now v) (sym w.is.frames) fit; routine = routine }, subst (λ z. Holds z lo (cell.Int x)) (sym w.is.frames) there, integer, record { same = refl; none = w.is.entries }))
 
   -- ---- places
 
@@ -166,9 +180,9 @@ module _ (p : Program) (code : PlainCode) (input : List ℕ) where
             (get_or_from_slice_get (last_frame now).kinds (from + k) slot.Number slot.Mark (kind_there v now r stand routine (from + k) slot.Number (h.numbers k lt)));
       }
 
-  pub local_row : (at lo r from cells : ℕ) (q : ℕ) → InstrAt code input at (I.Local lo from) → HasSlots p code r lo (slot.Place cells ∷ []) → AreVariables r from cells
+  pub local_row : (at lo r from cells : ℕ) (q : ℕ) → 0 < cells → InstrAt code input at (I.Local lo from) → HasSlots p code r lo (slot.Place cells ∷ []) → AreVariables r from cells
       → RunsPlace at (at + 1) lo r (λ v. node (one v (local_place from cells v))) q
-  local_row at lo r from cells q i slots variables = as_node at r (LeavesPlace (at + 1) lo r) (λ v. one v (local_place from cells v)) q inside
+  local_row at lo r from cells q some i slots variables = as_node at r (LeavesPlace (at + 1) lo r) (λ v. one v (local_place from cells v)) q inside
     where
       inside : InsideOf at r (LeavesPlace (at + 1) lo r) (λ v. one v (local_place from cells v)) q
       inside v now held s is stand routine =
@@ -179,11 +193,13 @@ module _ (p : Program) (code : PlainCode) (input : List ℕ) where
           let there = holds_written now lo (cell.Place c) (some_frames v now r stand routine) (within_frame v now r stand routine lo (slot.Place cells) kind) in
           let numbers = variables_are_numbers r from cells v (top_written now lo (cell.Place c)) fit.stand routine variables in
           let same : SamePlace (local_place from cells v) c = record { frame = ap (λ n. n - 1) (sym stand.count); slot = refl; size = refl } in
-          one_more 0 24 (LeavesPlace (at + 1) lo r now) held (one v (local_place from cells v)) s w.to 31 q w.silently
-          (one_goes code input 0 24 (LeavesPlace (at + 1) lo r now) held v (local_place from cells v) w.to 31 q (omega arith) (record { mode = w.is.mode; entries = w.is.entries })
+          one_more 0 24 (LeavesPlace (at + 1) lo r (begun v now held)) held (one v (local_place from cells v)) s w.to 31 q w.silently
+          (one_goes code input 0 24 (LeavesPlace (at + 1) lo r (begun v now held)) held v (local_place from cells v) w.to 31 q (omega arith) (record { mode = w.is.mode; entries = w.is.entries })
           (record { here = w.is.here; fits = subst (Fits p code lo now v) (sym w.is.frames) fit; routine = routine },
            subst (λ z. AreNumbers p code v z (local_place from cells v)) (sym w.is.frames) numbers,
-           (c, same, subst (λ z. Holds z lo (cell.Place c)) (sym w.is.frames) there)))
+           some,
+           (c, same, subst (λ z. Holds z lo (cell.Place c)) (sym w.is.frames) there),
+           record { same = refl; none = w.is.entries }))
 
   -- ---- what a part has left is where the next part begins
 
@@ -207,31 +223,34 @@ module _ (p : Program) (code : PlainCode) (input : List ℕ) where
   -- ---- LOAD
 
   -- the number at a place of one cell
-  load_cell : (mid lo r : ℕ) (before : List PlainFrame) (held : List PlainEntry) (v : Store) (c : Place) (t : State) (q : ℕ) → InstrAt code input mid (I.Load lo (lo + 1)) → HasSlots p code r lo (slot.Number ∷ []) → 0 < c.size
-      → IsGoing held t → Left mid (lo + 1) r before v t → AreNumbers p code v t.now c → (m : CellPlace) → SamePlace c m → Holds t.now (lo + 1) (cell.Place m)
-      → Goes code input 0 24 (LeavesValue (mid + 1) lo r before) held (read_cell (cell_of v c) (λ x. one v x)) t 8 q
-  load_cell mid lo r before held v c t q i slots some going left numbers m same there =
-      let content = content_there p code v t.now c m left.fits.stand numbers some same in
-      by (cell_of v c) (cell_at t.now m.frame m.slot cell.Unset) content.1 content.0 refl
+  load_cell : (mid lo r : ℕ) (b : Begun) (held : List PlainEntry) (v : Store) (c : Place) (t : State) (q : ℕ) → InstrAt code input mid (I.Load lo (lo + 1)) → HasSlots p code r lo (slot.Number ∷ [])
+      → IsGoing held t → LeavesPlace mid (lo + 1) r b v (Go c) t → Goes code input 0 24 (LeavesValue (mid + 1) lo r b) held (read_cell (cell_of v c) (λ x. one v x)) t 8 q
+  load_cell mid lo r b held v c t q i slots going (left, numbers, some, place, stays) =
+      let content = content_there p code v t.now c place.0 left.fits.stand numbers some place.1 in
+      by (cell_of v c) (cell_at t.now place.0.frame place.0.slot cell.Unset) content.1 content.0 refl
     where
+      m : CellPlace
+      m = place.0
       is : IsAt mid t.now held t
-      is = left_is_at mid (lo + 1) r before v t held going left
+      is = left_is_at mid (lo + 1) r b.frames v t held going left
       kind : slice_get (kinds_at code r) lo ≡ Some slot.Number
       kind = first_kind r lo slot.Number [] slots
-      by : (a : store.Cell) (b : Cell) → SameContent slot.Number a b → number_at t.now m.frame m.slot ≡ true → cell_at t.now m.frame m.slot cell.Unset ≡ b
-          → Goes code input 0 24 (LeavesValue (mid + 1) lo r before) held (read_cell a (λ x. one v x)) t 8 q
+      by : (a : store.Cell) (d : Cell) → SameContent slot.Number a d → number_at t.now m.frame m.slot ≡ true → cell_at t.now m.frame m.slot cell.Unset ≡ d
+          → Goes code input 0 24 (LeavesValue (mid + 1) lo r b) held (read_cell a (λ x. one v x)) t 8 q
       by store.Unknown cell.Unknown content live e =
-          let f = load_unknown code input mid t.now held t is lo (lo + 1) m i there (live, e) in
+          let f = load_unknown code input mid t.now held t is lo (lo + 1) m i place.2 (live, e) in
           (1, f.to, omega arith, f.silently, f.is)
       by (store.Number x) (cell.Int y) content live e =
-          let w = load_step code input mid t.now held t is lo (lo + 1) m y i (kind_there v t.now r left.fits.stand left.routine lo slot.Number kind) there (live, e) in
+          let w = load_step code input mid t.now held t is lo (lo + 1) m y i (kind_there v t.now r left.fits.stand left.routine lo slot.Number kind) place.2 (live, e) in
           let fit : Fits p code lo t.now v (top_written t.now lo (cell.Int y)) = fits_temp p code lo v t.now lo (cell.Int y) (omega arith) (slots_behind_routine v t.now r left.fits.stand left.routine lo slots.behind) left.fits.stand in
-          let whole : Fits p code lo before v (top_written t.now lo (cell.Int y)) = fits_on p code lo lo v v before t.now (top_written t.now lo (cell.Int y)) (omega arith) (fits_less p code lo (lo + 1) v before t.now (omega arith) left.fits) fit in
+          let whole : Fits p code lo b.frames v (top_written t.now lo (cell.Int y)) = fits_on p code lo lo v v b.frames t.now (top_written t.now lo (cell.Int y)) (omega arith) (fits_less p code lo (lo + 1) v b.frames t.now (omega arith) left.fits) fit in
           let holds = holds_written t.now lo (cell.Int y) (some_frames v t.now r left.fits.stand left.routine) (within_frame v t.now r left.fits.stand left.routine lo slot.Number kind) in
-          one_more 0 24 (LeavesValue (mid + 1) lo r before) held (one v x) t w.to 7 q w.silently
-          (one_goes code input 0 24 (LeavesValue (mid + 1) lo r before) held v x w.to 7 q (omega arith) (record { mode = w.is.mode; entries = w.is.entries })
-          (record { here = w.is.here; fits = subst (Fits p code lo before v) (sym w.is.frames) whole; routine = left.routine },
-           subst (λ z. Holds z lo (cell.Int x)) (sym w.is.frames) (subst (λ z. Holds (top_written t.now lo (cell.Int y)) lo (cell.Int z)) (sym content.0) holds), content.1))
+          one_more 0 24 (LeavesValue (mid + 1) lo r b) held (one v x) t w.to 7 q w.silently
+          (one_goes code input 0 24 (LeavesValue (mid + 1) lo r b) held v x w.to 7 q (omega arith) (record { mode = w.is.mode; entries = w.is.entries })
+          (record { here = w.is.here; fits = subst (Fits p code lo b.frames v) (sym w.is.frames) whole; routine = left.routine },
+           subst (λ z. Holds z lo (cell.Int x)) (sym w.is.frames) (subst (λ z. Holds (top_written t.now lo (cell.Int y)) lo (cell.Int z)) (sym content.0) holds),
+           content.1,
+           record { same = stays.same; none = w.is.entries ∙ sym going.entries ∙ stays.none }))
       by store.Unknown (cell.Int y) content live e = absurd content
       by store.Unknown cell.Unset content live e = absurd content
       by store.Unknown (cell.Place y) content live e = absurd content
@@ -246,18 +265,13 @@ module _ (p : Program) (code : PlainCode) (input : List ℕ) where
       by (store.At x) (cell.Place y) content live e = absurd content
       by (store.At x) (cell.Mark y) content live e = absurd content
 
-  -- a designator's events give places of one cell
-  abbrev pub GivesOneCell : (exit lo r : ℕ) → List PlainFrame → Store → Flow Place → State → Type 0
-  GivesOneCell exit lo r before v (Go c) t = LeavesPlace exit lo r before v (Go c) t × (0 < c.size)
-  GivesOneCell exit lo r before v (Return n) t = ⊥
-
-  pub load_row : (at mid lo r : ℕ) (d : Store → Events Place) (q : ℕ) → RunsFrom at r (GivesOneCell mid (lo + 1) r) d q → InstrAt code input mid (I.Load lo (lo + 1)) → HasSlots p code r lo (slot.Number ∷ [])
+  pub load_row : (at mid lo r : ℕ) (d : Store → Events Place) (q : ℕ) → RunsPlace at mid (lo + 1) r d q → InstrAt code input mid (I.Load lo (lo + 1)) → HasSlots p code r lo (slot.Number ∷ [])
       → RunsExpr at (mid + 1) lo r (λ v. node (bind (d v) (λ t c. read_cell (cell_of t c) (λ x. one t x)))) q
   load_row at mid lo r d q place i slots = as_node at r (LeavesValue (mid + 1) lo r) (λ v. bind (d v) (λ t c. read_cell (cell_of t c) (λ x. one t x))) q inside
     where
       inside : InsideOf at r (LeavesValue (mid + 1) lo r) (λ v. bind (d v) (λ t c. read_cell (cell_of t c) (λ x. one t x))) q
       inside v now held s is stand routine =
-          bind_goes code input 8 0 24 (GivesOneCell mid (lo + 1) r now) (LeavesValue (mid + 1) lo r now) held (d v) (λ t c. read_cell (cell_of t c) (λ x. one t x)) s 32 q 8 (omega arith) (omega arith)
-          (weaker code input 8 0 (GivesOneCell mid (lo + 1) r now) held (d v) s 32 0 q q (omega arith) (omega arith) (place v now held s is stand routine))
-          (λ x c t base going left. load_cell mid lo r now base x c t q i slots left.1 going left.0.0 left.0.1 left.0.2.0 left.0.2.1 left.0.2.2)
+          bind_goes code input 8 0 24 (LeavesPlace mid (lo + 1) r (begun v now held)) (LeavesValue (mid + 1) lo r (begun v now held)) held (d v) (λ t c. read_cell (cell_of t c) (λ x. one t x)) s 32 q 8 (omega arith) (omega arith)
+          (weaker code input 8 0 (LeavesPlace mid (lo + 1) r (begun v now held)) held (d v) s 32 0 q q (omega arith) (omega arith) (place v now held s is stand routine))
+          (λ x c t base going left. load_cell mid lo r (begun v now held) base x c t q i slots going left)
           (λ x n t left. absurd left)
