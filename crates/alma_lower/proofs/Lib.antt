@@ -1,5 +1,6 @@
 pub mod Enough
 pub mod ExprRows
+pub mod ExprRuns
 pub mod OperatorRows
 pub mod Goes
 pub mod Follows
