@@ -164,3 +164,81 @@ module _ (p : Program) (code : PlainCode) (input : List ℕ) where
           (λ v2 b t2 held2 going2 left2. weaker code input 0 24 (LeavesValue p code input exit lo r b0) held2 (f b v2) t2 7 0 q q (omega arith) (omega arith) (runs_f b0 held2 v2 b t2 going2 left2))
           (λ v2 n t2 no. no))
         (λ v1 n t1 no. no))
+
+  -- ---- the induction
+
+  module _ (below : Level) (q : ℕ) where
+    -- a name of the routine
+    desig_runs : (at lo r : ℕ) (d : Desig) → FineDesig r d → HasAt code input at (desig_code lo d) → HasSlots p code r lo (desig_slots d)
+        → RunsPlace p code input at (at + length (desig_code lo d)) lo r (λ v. ev_desig p input below d v) q
+    unfolding ev_expr
+    desig_runs at lo r (a_desig (root.Local from) cells no_sels) fine i slots =
+        local_row p code input at lo r from cells q (omega (arith, fine.0)) i.0 slots fine.1
+    desig_runs at lo r (a_desig (root.Local from) cells (more_sels x rest)) fine i slots = absurd fine
+    desig_runs at lo r (a_desig (root.Global from) cells sels) fine i slots = absurd fine
+    desig_runs at lo r (a_desig (root.Param from) cells sels) fine i slots = absurd fine
+
+    mutual
+      unfolding ev_expr
+
+      pub expr_runs : (at lo r : ℕ) (e : Expr) → FineExpr r e → HasAt code input at (expr_code lo e) → HasSlots p code r lo (expr_slots e)
+          → RunsExpr p code input at (at + length (expr_code lo e)) lo r (λ v. ev_expr p input below e v) q
+      expr_runs at lo r (Const n) fine i slots = const_row p code input at lo r n q fine i.0 slots
+      expr_runs at lo r (Load d) fine i slots =
+          let own = slots_first p code input r lo (slot.Number ∷ []) (desig_slots d) slots in
+          let place = slots_behind p code input r lo (slot.Number ∷ []) (desig_slots d) slots in
+          let front = at_front code input at (desig_code (lo + 1) d) (I.Load lo (lo + 1) ∷ []) i in
+          let back = at_back code input at (desig_code (lo + 1) d) (I.Load lo (lo + 1) ∷ []) i in
+          let e : at + length (desig_code (lo + 1) d) + 1 ≡ at + length (desig_code (lo + 1) d ++ I.Load lo (lo + 1) ∷ []) = omega (arith, length-append (desig_code (lo + 1) d) (I.Load lo (lo + 1) ∷ [])) in
+          ends_at at _ _ lo r (λ v. ev_expr p input below (Load d) v) q e
+          (load_row p code input at (at + length (desig_code (lo + 1) d)) lo r (λ v. ev_desig p input below d v) q (desig_runs at (lo + 1) r d fine front place) back.0 own)
+      expr_runs at lo r (Chain negated e links) fine i slots =
+          let kind = first_slot r lo e fine.0 (slots_first p code input r lo (expr_slots e) (links_slots links) slots) in
+          let rest = neg_code negated lo ++ links_code lo (lo + length (expr_slots e)) links in
+          let front = at_front code input at (expr_code lo e) rest i in
+          let back = at_back code input at (expr_code lo e) rest i in
+          let sign = at_front code input (at + length (expr_code lo e)) (neg_code negated lo) (links_code lo (lo + length (expr_slots e)) links) back in
+          let operands = at_back code input (at + length (expr_code lo e)) (neg_code negated lo) (links_code lo (lo + length (expr_slots e)) links) back in
+          let m2 = at + length (expr_code lo e) + length (neg_code negated lo) in
+          let n : m2 + length (links_code lo (lo + length (expr_slots e)) links) ≡ at + length (expr_code lo (Chain negated e links)) =
+              omega (arith, length-append (expr_code lo e) rest, length-append (neg_code negated lo) (links_code lo (lo + length (expr_slots e)) links)) in
+          ends_at at _ _ lo r (λ v. ev_expr p input below (Chain negated e links) v) q n
+          (chain_row at (at + length (expr_code lo e)) (m2 + length (links_code lo (lo + length (expr_slots e)) links)) lo r negated (λ v. ev_expr p input below e v) (λ a v. ev_links p input below links a v) q slots.behind kind
+          (expr_runs at lo r e fine.0 front (slots_first p code input r lo (expr_slots e) (links_slots links) slots)) sign
+          (links_run m2 lo (lo + length (expr_slots e)) r links fine.1 operands (slots_behind p code input r lo (expr_slots e) (links_slots links) slots) (omega (arith, some_slots r e fine.0)) slots.behind kind))
+      expr_runs at lo r (Compare how x y) fine i slots =
+          let kind = first_slot r lo x fine.0 (slots_first p code input r lo (expr_slots x) (expr_slots y) slots) in
+          let lo2 = lo + length (expr_slots x) in
+          let rest = expr_code lo2 y ++ cmp_code how lo lo2 in
+          let front = at_front code input at (expr_code lo x) rest i in
+          let back = at_back code input at (expr_code lo x) rest i in
+          let m1 = at + length (expr_code lo x) in
+          let m2 = m1 + length (expr_code lo2 y) in
+          let n : m2 + length (cmp_code how lo lo2) ≡ at + length (expr_code lo (Compare how x y)) =
+              omega (arith, length-append (expr_code lo x) rest, length-append (expr_code lo2 y) (cmp_code how lo lo2)) in
+          ends_at at _ _ lo r (λ v. ev_expr p input below (Compare how x y) v) q n
+          (compare_row at m1 m2 lo lo2 r how (λ v. ev_expr p input below x v) (λ v. ev_expr p input below y v) q (omega (arith, some_slots r x fine.0)) slots.behind kind
+          (expr_runs at lo r x fine.0 front (slots_first p code input r lo (expr_slots x) (expr_slots y) slots))
+          (expr_runs m1 lo2 r y fine.1 (at_front code input m1 (expr_code lo2 y) (cmp_code how lo lo2) back) (slots_behind p code input r lo (expr_slots x) (expr_slots y) slots))
+          (at_back code input m1 (expr_code lo2 y) (cmp_code how lo lo2) back))
+      expr_runs at lo r (Truth t) fine i slots = absurd fine
+      expr_runs at lo r (Known d) fine i slots = absurd fine
+      expr_runs at lo r (Chr e) fine i slots = absurd fine
+      expr_runs at lo r (CallExpr s args) fine i slots = absurd fine
+
+      links_run : (at lo next r : ℕ) (links : Links) → FineLinks r links → HasAt code input at (links_code lo next links) → HasSlots p code r next (links_slots links) → lo < next → (routine_at p r).slots ≤ lo → slice_get (kinds_at code r) lo ≡ Some slot.Number
+          → RunsLinks at (at + length (links_code lo next links)) lo r (λ a v. ev_links p input below links a v) q
+      links_run at lo next r no_links fine i slots lt behind kind =
+          let n : at ≡ at + 0 = omega arith in
+          subst (λ m. RunsLinks at m lo r (λ a v. one v a) q) n (no_links_row at lo r q)
+      links_run at lo next r (more_links how e rest) fine i slots lt behind kind =
+          let later = op_code how lo next ∷ links_code lo (next + length (expr_slots e)) rest in
+          let front = at_front code input at (expr_code next e) later i in
+          let back = at_back code input at (expr_code next e) later i in
+          let m1 = at + length (expr_code next e) in
+          let exit = m1 + 1 + length (links_code lo (next + length (expr_slots e)) rest) in
+          let n : exit ≡ at + length (links_code lo next (more_links how e rest)) = omega (arith, length-append (expr_code next e) later) in
+          subst (λ m. RunsLinks at m lo r (λ a v. ev_links p input below (more_links how e rest) a v) q) n
+          (more_links_row at m1 exit lo next r how (λ v. ev_expr p input below e v) (λ a v. ev_links p input below rest a v) q lt behind kind
+          (expr_runs at next r e fine.0 front (slots_first p code input r next (expr_slots e) (links_slots rest) slots)) back.0
+          (links_run (m1 + 1) lo (next + length (expr_slots e)) r rest fine.1 back.1 (slots_behind p code input r next (expr_slots e) (links_slots rest) slots) (omega arith) behind kind))
