@@ -278,3 +278,15 @@ module _ (code : PlainCode) (input : List ℕ) where
   one_goes left more fits base v y s r q le going fit =
       (0, s, omega arith, no_step s, [], record { mode = going.mode; entries = going.entries ∙ sym (append-nil base) }, fit,
        λ base2 u like failing. (0, u, omega arith, no_step u, record { mode = failing.mode; entries = failing.entries ∙ append-nil base2 }))
+
+  -- ---- what is left at an alternative, in other words
+
+  pub credited : {A : Type 0} (left left2 more more2 : ℕ) (fits : Store → Flow A → State → Type 0) (base : List PlainEntry) (e : Events A) (s : State) (r q : ℕ) → left2 + more ≤ left + more2 → Goes left more fits base e s r q → Goes left2 more2 fits base e s r q
+  credited left left2 more more2 fits base Fail s r q le h = h
+  credited left left2 more more2 fits base (Fault x) s r q le h = h
+  credited left left2 more more2 fits base Cut s r q le h = h
+  credited left left2 more more2 fits base (Visit e) s r q le h = credited left left2 more more2 fits base e s (r + 32) q le h
+  credited left left2 more more2 fits base (Print bytes e) s r q le h =
+      (h.0, h.1, h.2, h.3, h.4, h.5, h.6, credited left left2 more more2 fits base e h.4 (r - suc h.0) (q - suc h.0) le h.7)
+  credited left left2 more more2 fits base (Alt v w e) s r q le h =
+      (h.0, h.1, omega (arith, h.2), h.3, h.4, h.5, h.6, λ base2 u like failing. credited left left2 more more2 fits base2 e u 0 (q - h.0) le (h.7 base2 u like failing))

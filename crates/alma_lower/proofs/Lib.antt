@@ -6,4 +6,5 @@ pub mod Goes
 pub mod Follows
 pub mod Frames
 pub mod FrameLemmas
+pub mod Simple
 pub mod Steps
