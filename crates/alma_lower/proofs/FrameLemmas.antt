@@ -122,32 +122,31 @@ module _ (p : Program) (code : PlainCode) where
       by k lt (inr ne) =
           subst (SameFrame p code (get_or v k store.no_frame)) (sym (get_or-set_other now (length now - 1) k (frame_with (last_frame now) n c) picture.no_frame ne)) (h.frames k lt)
 
-  -- a number that is stored in a slot of the routine is stored in the store
-  pub stand_var : (v : Store) (now : List PlainFrame) (n : ℕ) (x : ℤ) → n < length (top_frame v).cells → get_or (last_frame now).kinds n slot.Mark ≡ slot.Number → is_integer x ≡ true → StandFor p code v now → StandFor p code (put v (top v) n (Number x)) (top_written now n (cell.Int x))
-  stand_var v now n x there kind fits h =
-      let w = set v (top v) (with_cell (top_frame v) n (Number x)) in
-      let is : put v (top v) n (Number x) ≡ w = put_is v (top v) n (Number x) (omega (arith, h.some)) in
-      subst (λ z. StandFor p code z (top_written now n (cell.Int x))) (sym is) (record {
-        count = count_kept now n (cell.Int x) ∙ h.count ∙ sym (length-set v (top v) (with_cell (top_frame v) n (Number x)));
-        some = omega (arith, h.some, length-set v (top v) (with_cell (top_frame v) n (Number x)));
-        frames = λ k lt. by k (omega (arith, lt, length-set v (top v) (with_cell (top_frame v) n (Number x)))) (cases_eq k (length now - 1));
+  -- a number that is stored in a number slot of a frame is stored in the store
+  pub stand_put : (v : Store) (now : List PlainFrame) (f n : ℕ) (x : ℤ) → f < length v → n < length (get_or v f store.no_frame).cells → get_or (get_or now f picture.no_frame).kinds n slot.Mark ≡ slot.Number → is_integer x ≡ true
+      → StandFor p code v now → StandFor p code (put v f n (Number x)) (written now f n (cell.Int x))
+  stand_put v now f n x live there kind fits h =
+      let w = set v f (with_cell (get_or v f store.no_frame) n (Number x)) in
+      let is : put v f n (Number x) ≡ w = put_is v f n (Number x) live in
+      let long : length w ≡ length v = length-set v f (with_cell (get_or v f store.no_frame) n (Number x)) in
+      subst (λ z. StandFor p code z (written now f n (cell.Int x))) (sym is) (record {
+        count = length-set now f (frame_with (get_or now f picture.no_frame) n (cell.Int x)) ∙ h.count ∙ sym long;
+        some = omega (arith, h.some, long);
+        frames = λ k lt. by k (omega (arith, lt, long)) (cases_eq k f);
       })
     where
-      at : length now - 1 ≡ length v - 1
-      at = ap (λ m. m - 1) h.count
-      by : (k : ℕ) → k < length v → (k ≡ length now - 1) ⊎ (k ≡ length now - 1 → ⊥)
-          → SameFrame p code (get_or (set v (top v) (with_cell (top_frame v) n (Number x))) k store.no_frame) (get_or (top_written now n (cell.Int x)) k picture.no_frame)
+      by : (k : ℕ) → k < length v → (k ≡ f) ⊎ (k ≡ f → ⊥)
+          → SameFrame p code (get_or (set v f (with_cell (get_or v f store.no_frame) n (Number x))) k store.no_frame) (get_or (written now f n (cell.Int x)) k picture.no_frame)
       by k lt (inl e) =
-          let now_there : length now - 1 < length now = omega (arith, h.count, h.some) in
-          let right : get_or (top_written now n (cell.Int x)) k picture.no_frame ≡ frame_with (last_frame now) n (cell.Int x) =
-              ap (λ m. get_or (top_written now n (cell.Int x)) m picture.no_frame) e ∙ get_or-set_same now (length now - 1) (frame_with (last_frame now) n (cell.Int x)) picture.no_frame now_there in
-          let left : get_or (set v (top v) (with_cell (top_frame v) n (Number x))) k store.no_frame ≡ with_cell (top_frame v) n (Number x) =
-              ap (λ m. get_or (set v (top v) (with_cell (top_frame v) n (Number x))) m store.no_frame) (e ∙ at) ∙ get_or-set_same v (top v) (with_cell (top_frame v) n (Number x)) store.no_frame (omega (arith, h.some)) in
-          subst (λ f. SameFrame p code f (get_or (top_written now n (cell.Int x)) k picture.no_frame)) (sym left)
-          (subst (SameFrame p code (with_cell (top_frame v) n (Number x))) (sym right) (same_var (top_frame v) (last_frame now) n x there kind fits (top_same v now h)))
+          let right : get_or (written now f n (cell.Int x)) k picture.no_frame ≡ frame_with (get_or now f picture.no_frame) n (cell.Int x) =
+              ap (λ m. get_or (written now f n (cell.Int x)) m picture.no_frame) e ∙ get_or-set_same now f (frame_with (get_or now f picture.no_frame) n (cell.Int x)) picture.no_frame (omega (arith, live, h.count)) in
+          let left : get_or (set v f (with_cell (get_or v f store.no_frame) n (Number x))) k store.no_frame ≡ with_cell (get_or v f store.no_frame) n (Number x) =
+              ap (λ m. get_or (set v f (with_cell (get_or v f store.no_frame) n (Number x))) m store.no_frame) e ∙ get_or-set_same v f (with_cell (get_or v f store.no_frame) n (Number x)) store.no_frame live in
+          subst (λ g. SameFrame p code g (get_or (written now f n (cell.Int x)) k picture.no_frame)) (sym left)
+          (subst (SameFrame p code (with_cell (get_or v f store.no_frame) n (Number x))) (sym right) (same_var (get_or v f store.no_frame) (get_or now f picture.no_frame) n x there kind fits (h.frames f live)))
       by k lt (inr ne) =
-          subst (λ f. SameFrame p code f (get_or (top_written now n (cell.Int x)) k picture.no_frame)) (sym (get_or-set_other v (top v) k (with_cell (top_frame v) n (Number x)) store.no_frame (λ e. ne (e ∙ sym at))))
-          (subst (SameFrame p code (get_or v k store.no_frame)) (sym (get_or-set_other now (length now - 1) k (frame_with (last_frame now) n (cell.Int x)) picture.no_frame ne)) (h.frames k lt))
+          subst (λ g. SameFrame p code g (get_or (written now f n (cell.Int x)) k picture.no_frame)) (sym (get_or-set_other v f k (with_cell (get_or v f store.no_frame) n (Number x)) store.no_frame ne))
+          (subst (SameFrame p code (get_or v k store.no_frame)) (sym (get_or-set_other now f k (frame_with (get_or now f picture.no_frame) n (cell.Int x)) picture.no_frame ne)) (h.frames k lt))
 
   -- ---- where a phrase leaves the frames
 
@@ -218,21 +217,43 @@ module _ (p : Program) (code : PlainCode) where
     others = λ i lt. others_kept now n i c lt;
   }
 
-  -- a number stored in a slot of the routine
-  pub fits_var : (lo : ℕ) (v : Store) (now : List PlainFrame) (n : ℕ) (x : ℤ) → n < length (top_frame v).cells → get_or (last_frame now).kinds n slot.Mark ≡ slot.Number → is_integer x ≡ true → StandFor p code v now
-      → Fits p code lo now (put v (top v) n (Number x)) (top_written now n (cell.Int x))
-  fits_var lo v now n x there kind integer h = record {
-    stand = stand_var v now n x there kind integer h;
-    same_count = count_kept now n (cell.Int x);
-    top = subst (KeptBelow p code lo (last_frame now)) (sym (top_is now n (cell.Int x) (omega (arith, h.some, h.count)))) (record {
-      back = refl;
-      routine = refl;
-      declared = refl;
-      long = length-set (last_frame now).cells n (cell.Int x);
-      cells = λ i a b. get_or-set_other (last_frame now).cells n i (cell.Int x) cell.Unset (λ e. (omega (arith, e, a, there, slots_are v now h)));
-    });
-    others = λ i lt. others_kept now n i (cell.Int x) lt;
+  -- a frame after a number was stored in one of the slots of its routine
+  kept_put : (lo : ℕ) (f : Frame) (g : PlainFrame) (n : ℕ) (c : Cell) → n < length f.cells → SameFrame p code f g → KeptBelow p code lo g (frame_with g n c)
+  kept_put lo f g n c there same = record {
+    back = refl;
+    routine = refl;
+    declared = refl;
+    long = length-set g.cells n c;
+    cells = λ i a b. get_or-set_other g.cells n i c cell.Unset (λ e. omega (arith, e, a, there, same.slots ∙ ap (λ r. (routine_at p r).slots) same.routine));
   }
+
+  -- a number stored in a slot of a routine
+  pub fits_put : (lo : ℕ) (v : Store) (now : List PlainFrame) (f n : ℕ) (x : ℤ) → f < length v → n < length (get_or v f store.no_frame).cells → get_or (get_or now f picture.no_frame).kinds n slot.Mark ≡ slot.Number → is_integer x ≡ true
+      → StandFor p code v now → Fits p code lo now (put v f n (Number x)) (written now f n (cell.Int x))
+  fits_put lo v now f n x live there kind integer h = record {
+    stand = stand_put v now f n x live there kind integer h;
+    same_count = long;
+    top = ap_top;
+    others = λ k lt. at k (length (get_or now k picture.no_frame).cells) (cases_eq k f);
+  }
+    where
+      long : length (written now f n (cell.Int x)) ≡ length now
+      long = length-set now f (frame_with (get_or now f picture.no_frame) n (cell.Int x))
+      at : (k lo2 : ℕ) → (k ≡ f) ⊎ (k ≡ f → ⊥) → KeptBelow p code lo2 (get_or now k picture.no_frame) (get_or (written now f n (cell.Int x)) k picture.no_frame)
+      at k lo2 (inl e) =
+          let is : get_or (written now f n (cell.Int x)) k picture.no_frame ≡ frame_with (get_or now k picture.no_frame) n (cell.Int x) =
+              ap (λ m. get_or (written now f n (cell.Int x)) m picture.no_frame) e ∙ get_or-set_same now f (frame_with (get_or now f picture.no_frame) n (cell.Int x)) picture.no_frame (omega (arith, live, h.count))
+              ∙ ap (λ m. frame_with (get_or now m picture.no_frame) n (cell.Int x)) (sym e) in
+          let here : n < length (get_or v k store.no_frame).cells = subst (λ m. n < length (get_or v m store.no_frame).cells) (sym e) there in
+          subst (KeptBelow p code lo2 (get_or now k picture.no_frame)) (sym is)
+          (kept_put lo2 (get_or v k store.no_frame) (get_or now k picture.no_frame) n (cell.Int x) here (h.frames k (omega (arith, e, live))))
+      at k lo2 (inr ne) =
+          subst (KeptBelow p code lo2 (get_or now k picture.no_frame)) (sym (get_or-set_other now f k (frame_with (get_or now f picture.no_frame) n (cell.Int x)) picture.no_frame ne))
+          (kept_self lo2 (get_or now k picture.no_frame))
+      ap_top : KeptBelow p code lo (last_frame now) (last_frame (written now f n (cell.Int x)))
+      ap_top =
+          let last : length (written now f n (cell.Int x)) - 1 ≡ length now - 1 = ap (λ m. m - 1) long in
+          subst (λ m. KeptBelow p code lo (last_frame now) (get_or (written now f n (cell.Int x)) m picture.no_frame)) (sym last) (at (length now - 1) lo (cases_eq (length now - 1) f))
 
   -- ---- places
 
