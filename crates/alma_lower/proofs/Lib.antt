@@ -8,3 +8,4 @@ pub mod Frames
 pub mod FrameLemmas
 pub mod Simple
 pub mod Steps
+pub mod StmtRows
