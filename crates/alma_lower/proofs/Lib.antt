@@ -3,6 +3,7 @@ pub mod ExprRows
 pub mod ExprRuns
 pub mod OperatorRows
 pub mod Goes
+pub mod LoopRows
 pub mod Follows
 pub mod Frames
 pub mod FrameLemmas
