@@ -267,3 +267,6 @@ field_view o c = refl
 pub index_view : (e : E.Expr) (r c : _) → View.sel_of (L.Index e r c) ≡ Tree.Index (View.expr_of e) r c
 unfolding View.stmts_of
 index_view e r c = refl
+
+-- all of these, for tactics
+pub ruleset viewed = (teststmt_view, assign_view, copycells_view, if_view, while_view, repeat_view, forto_view, someof_view, either_view, forall_view, commit_view, load_view, chain_view, not_view, callexpr_view, return_view, case_view, read_view, writeexpr_view, writetext_view, writeline_view, value_view, bind_view, unify_view, samecells_view, seq_view, and_view, or_view, calltest_view, const_view, compare_view, truth_view, known_view, chr_view, byvalue_view, bycells_view, byplace_view, mixvalue_view, mixplace_view, field_view, index_view)

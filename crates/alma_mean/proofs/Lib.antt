@@ -2,3 +2,11 @@ pub mod Extending
 pub mod Rising
 pub mod Results
 pub mod Turns
+pub mod Equations
+pub mod Loops
+pub mod Foralls
+pub mod Calls
+pub mod InOut
+pub mod Visits
+pub mod Choices
+pub mod Conditions

@@ -17,39 +17,48 @@ Over {A} f g = (s : Store) → Extends A (f s) (g s)
 
 -- ---- turns of loops
 
+-- a turn of WHILE, where its parts are extended
 while_over : {c c' b b' a a' : Store → Events NoYield} → Over c c' → Over b b' → Over a a' → Over (while_turn c b a) (while_turn c' b' a')
 while_over c b a s = on_visit (first_taken (c s) (λ t _. bound (b t) (λ u _. a u)) (λ _. same _))
 
+-- a turn of REPEAT
 repeat_over : {b b' c c' a a' : Store → Events NoYield} → Over b b' → Over c c' → Over a a' → Over (repeat_turn b c a) (repeat_turn b' c' a')
 repeat_over b c a s = on_visit (bound (b s) (λ t _. first_taken (c t) (λ u _. same _) (λ _. a t)))
 
+-- the end of a turn
 stepped : (counter limit : ℕ) (by : ℤ) {a a' : Store → Events NoYield} → Over a a' → (s : Store) (last : Events NoYield) → Extends NoYield (next_turn counter limit by a s last) (next_turn counter limit by a' s last)
 stepped counter limit by a s last =
     read (top_cell s counter) (λ v. read (top_cell s limit) (λ l. chosen _ (λ _. same last) (λ _. a _)))
 
+-- the setting of the variable
 with_var : {d d' : Store → Events Place} → Over d d' → (range : Range) (s : Store) (v : ℤ) {k k' : Store → Events NoYield} → Over k k' → Extends NoYield (set_variable d range s v k) (set_variable d' range s v k')
 with_var d range s v k = checked fault.Range _ (λ _. bound (d s) (λ t p. k _))
 
+-- a turn of FOR
 for_over : {d d' : Store → Events Place} → Over d d' → (range : Range) (counter limit : ℕ) (by : ℤ) {b b' a a' : Store → Events NoYield} → Over b b' → Over a a' → Over (for_turn d range counter limit by b a) (for_turn d' range counter limit by b' a')
 for_over d range counter limit by b a s =
     on_visit (read (top_cell s counter) (λ v. with_var d range s v (λ t. bound (b t) (λ u _. stepped counter limit by a u (one u tt)))))
 
+-- a turn of SOME
 some_over : {d d' : Store → Events Place} → Over d d' → (range : Range) (counter limit : ℕ) {b b' a a' : Store → Events NoYield} → Over b b' → Over a a' → Over (some_turn d range counter limit b a) (some_turn d' range counter limit b' a')
 some_over d range counter limit b a s =
     on_visit (read (top_cell s counter) (λ v. with_var d range s v (λ t. joined (b t) (stepped counter limit (pos 1) a s Fail))))
 
+-- the begin of a loop
 begun : (counter limit : ℕ) (by v l : ℤ) (s : Store) {f f' : Store → Events NoYield} → Over f f' → (z : Store → Events NoYield) → Extends NoYield (begin_loop counter limit by v l s f z) (begin_loop counter limit by v l s f' z)
 begun counter limit by v l s f z = chosen (beyond by l v) (λ _. same _) (λ _. f _)
 
 -- ---- the rows
 
 module _ (p : Program) (input : List ℕ) (b c : Level) (h : IsBelow b c) where
+  -- the body of a call, where it stands one level below
   entered : (r : ℕ) (s : Store) (hs : List ArgValue) → Extends NoYield (enter p (b.routine r) r s hs) (enter p (c.routine r) r s hs)
   entered r s hs =
       checked fault.DepthFull (nat_lt (length s) 10000) (λ _.
       checked fault.CellsFull (nat_le (declared_cells p s + (routine_at p r).declared) 1048576) (λ _.
       h.routine r (s ++ frame_of s r (routine_at p r) hs ∷ [])))
 
+  -- each phrase, where what stands one level below is extended
   mutual
     unfolding ev_stmts
 
@@ -168,6 +177,7 @@ module _ (p : Program) (input : List ℕ) (b c : Level) (h : IsBelow b c) where
     sel_over (Field offset cells) q s = same _
     sel_over (Index e range cells) q s = noded (bound (expr_over e s) (λ t v. same _))
 
+  -- the turns of loops that the level above begins
   for_again_over : (l : Loop) → Over (turn_for p input b l) (turn_for p input c l)
   for_again_over (a_loop d range counter limit from to by body) =
       for_over (desig_over d) range counter limit by (h.stmts body) (h.for (a_loop d range counter limit from to by body))
@@ -176,6 +186,7 @@ module _ (p : Program) (input : List ℕ) (b c : Level) (h : IsBelow b c) where
   some_again_over (a_loop d range counter limit from to by body) =
       some_over (desig_over d) range counter limit (h.stmts body) (h.some (a_loop d range counter limit from to by body))
 
+  -- so a level that is extended lies below, level above for level above
   pub next_over : IsBelow (level_above p input b) (level_above p input c)
   next_over = record {
     stmts = stmts_over;
@@ -192,6 +203,7 @@ module _ (p : Program) (input : List ℕ) (b c : Level) (h : IsBelow b c) where
     some = some_again_over;
   }
 
+-- each phrase at a level is extended by itself at the next
 pub phrases_rise : (p : Program) (input : List ℕ) (n : ℕ) → IsBelow (level p input n) (level p input (suc n))
 phrases_rise p input zero = record {
   stmts = λ x s. at_cut;
@@ -214,5 +226,6 @@ program_rises : (p : Program) (input : List ℕ) (n : ℕ) → Extends NoYield (
 program_rises p input zero = at_cut
 program_rises p input (suc n) = noded ((phrases_rise p input (suc n)).routine 0 (start p))
 
+-- both together
 pub levels_rise : (p : Program) (input : List ℕ) → LevelsRise p input
 levels_rise p input = record { phrases = phrases_rise p input; program = program_rises p input }

@@ -1,5 +1,5 @@
 -- What the laws of the meaning say.
-use Rattle.std.specs.Prelude.{◌≡◌, ℕ, suc, ◌+◌, List, ◌++◌, ℤ, pos}
+use Rattle.std.specs.Prelude.{◌≡◌, ℕ, suc, ◌+◌, Bool, true, false, List, ◌++◌, ℤ, pos}
 use Rattle.alma_base.specs.declared.number.Range.{Range}
 use Rattle.alma_base.specs.declared.fault.RunFault.{RunFault}
 use Rattle.alma_ir.specs.Tree.{Stmts, Stmt, Test, Expr, Arg, Desig, Sel, Loop, Program, While, Repeat, ForTo, SomeOf, a_loop}
@@ -16,6 +16,26 @@ pub data Extends (A : Type 0) : Events A → Events A → Type 0 where
   at_fail : Extends A Fail Fail
   at_fault : {x : RunFault} → Extends A (Fault x) (Fault x)
   at_cut : {f : Events A} → Extends A Cut f
+
+-- the list closes with Cut
+abbrev pub ends_in_cut : {A : Type 0} → Events A → Bool
+ends_in_cut (Visit e) = ends_in_cut e
+ends_in_cut (Print b e) = ends_in_cut e
+ends_in_cut (Alt s w e) = ends_in_cut e
+ends_in_cut Fail = false
+ends_in_cut (Fault x) = false
+ends_in_cut Cut = true
+
+-- a list with no Cut is extended by itself alone
+abbrev pub IsWhole : (A : Type 0) → Type 0
+IsWhole A = (e f : Events A) → Extends A e f → ends_in_cut e ≡ false → f ≡ e
+
+-- so it is for each sort of phrase
+pub record UncutListsStay : Type 0 where
+  pub statements : IsWhole NoYield
+  pub expressions : IsWhole ℤ
+  pub designators : IsWhole Place
+  pub arguments : IsWhole ArgValue
 
 -- the events of each phrase at the first level are extended by those at the second
 pub record IsBelow (b c : Level) : Type 0 where

@@ -4,3 +4,12 @@ pub mod Arithmetic
 pub mod Rows
 pub mod Meaning
 pub mod Laws
+pub mod Build
+pub mod Equations
+pub mod Loops
+pub mod Foralls
+pub mod Calls
+pub mod InOut
+pub mod Visits
+pub mod Choices
+pub mod Conditions

@@ -2,12 +2,18 @@
 ghost use Rattle.std.specs.Prelude.{List, ℕ};
 ghost use Rattle.alma_ir.specs.Tree.{Program};
 ghost use Rattle.alma_mean.specs.Meaning.{Level};
-ghost use Rattle.alma_mean.specs.Laws.{LevelsRise, ResultStays, PrintsGrow, TurnsAgree};
+ghost use Rattle.alma_mean.specs.Laws.{LevelsRise, UncutListsStay, ResultStays, PrintsGrow, TurnsAgree};
 
 /// The events of each phrase, and of the program, at a level are extended by those at the next.
 #[tactic(auto, using(crate::proofs::Rising::levels_rise))]
 pub fn levels_rise()
     ensures { (p : Program) (input : List ℕ) → LevelsRise p input }
+{}
+
+/// Events with no cut are extended by themselves alone.
+#[tactic(auto, using(crate::proofs::Results::uncut_lists_stay))]
+pub fn uncut_lists_stay()
+    ensures { UncutListsStay }
 {}
 
 /// A result that is not cut off stays at higher levels.

@@ -1,0 +1,4 @@
+MODULE Hello;
+BEGIN
+  WRITE(1, TRUE)
+END Hello.
