@@ -169,7 +169,7 @@ module _ (p : Program) (code : PlainCode) (input : List ℕ) where
 
   module _ (below : Level) (q : ℕ) where
     -- a name of the routine
-    desig_runs : (at lo r : ℕ) (d : Desig) → FineDesig r d → HasAt code input at (desig_code lo d) → HasSlots p code r lo (desig_slots d)
+    pub desig_runs : (at lo r : ℕ) (d : Desig) → FineDesig r d → HasAt code input at (desig_code lo d) → HasSlots p code r lo (desig_slots d)
         → RunsPlace p code input at (at + length (desig_code lo d)) lo r (λ v. ev_desig p input below d v) q
     unfolding ev_expr
     desig_runs at lo r (a_desig (root.Local from) cells no_sels) fine i slots =

@@ -10,3 +10,4 @@ pub mod FrameLemmas
 pub mod Simple
 pub mod Steps
 pub mod StmtRows
+pub mod StmtRuns
