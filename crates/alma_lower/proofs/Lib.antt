@@ -1,3 +1,4 @@
+pub mod Correct
 pub mod Enough
 pub mod ExprRows
 pub mod ExprRuns

@@ -83,7 +83,7 @@ module _ (p : Program) (code : PlainCode) (input : List ℕ) where
 
   mutual
     built_expr : (r : ℕ) (e : Expr) → FineExpr p code input r e → BuiltExpr e
-    built_expr r (Const n) fine = tt
+    built_expr r (Const n) fine = fine
     built_expr r (Load d) fine = built_desig r d fine
     built_expr r (Chain negated e links) fine = (built_expr r e fine.0, built_links r links fine.1)
     built_expr r (Compare how x y) fine = (built_expr r x fine.0, built_expr r y fine.1)

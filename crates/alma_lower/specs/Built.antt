@@ -1,6 +1,7 @@
 -- The forms of the resolved program that are compiled so far: a body of the module alone, with variables of one cell,
 -- numbers of the whole of INTEGER, arithmetic, comparisons, IF, WHILE, REPEAT and WRITE.
-use Rattle.std.specs.Prelude.{◌≡◌, ◌^◌, ◌-◌, ℕ, pos, negsuc, List, [], ◌∷◌}
+use Rattle.std.specs.Prelude.{◌≡◌, ◌^◌, ◌-◌, true, pos, negsuc, [], ◌∷◌}
+use Rattle.alma_base.specs.Numbers.{is_integer}
 use Rattle.alma_base.specs.declared.number.Range.{Range}
 use Rattle.alma_ir.specs.declared.phrase.Root.{Root}
 use Rattle.alma_ir.specs.declared.phrase.Root.TheVariants as root
@@ -21,7 +22,7 @@ BuiltDesig (a_desig (root.Param slot) cells sels) = ⊥
 
 abbrev mutual
   pub BuiltExpr : Expr → Type 0
-  BuiltExpr (Const n) = Unit {0}
+  BuiltExpr (Const n) = is_integer n ≡ true
   BuiltExpr (Load d) = BuiltDesig d
   BuiltExpr (Chain negated e links) = BuiltExpr e × BuiltLinks links
   BuiltExpr (Compare cmp x y) = BuiltExpr x × BuiltExpr y

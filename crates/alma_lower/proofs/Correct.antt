@@ -1,0 +1,145 @@
+-- Code that is a program's implements it.
+use Rattle.std.proofs.Common.{◌≡◌, ℕ, zero, suc, ◌+◌, ◌-◌, ◌*◌, ◌/◌, ◌<◌, ◌≤◌, List, [], ◌∷◌, ◌++◌, length, map, replicate, get_or, set, Option, Some, None, true, refl, sym, ap, ◌∙◌, subst, arith, ℤ, pos, length-append, append_assoc}
+use Rattle.std.specs.Prelude.{slice_get}
+use Rattle.std.specs.List.{AllByRecursion}
+use Rattle.std.proofs.lemmas.Bool.{cases_eq}
+use Rattle.std.proofs.lemmas.List.{get_or-set_same, get_or-set_other, length-set, get_or_append_left, length-map, length-replicate, get_or-replicate, get_or-map}
+use Rattle.std.proofs.lemmas.Option.{slice_get-get_or}
+use Rattle.std.proofs.Math.Nat.{mul-div-le}
+use Rattle.std.proofs.Math.Seq.{get_or-append_seam}
+use Rattle.alma_base.specs.Numbers.{is_integer}
+use Rattle.alma_code.specs.declared.cell.Cell.{Cell}
+use Rattle.alma_code.specs.declared.cell.Cell.TheVariants as cell
+use Rattle.alma_code.specs.declared.cell.SlotKind.{SlotKind}
+use Rattle.alma_code.specs.declared.cell.SlotKind.TheVariants as slot
+use Rattle.alma_code.specs.declared.head.Run.{Run}
+use Rattle.alma_code.specs.declared.instr.Instr.{Instr}
+use Rattle.alma_code.specs.declared.instr.Instr.TheVariants as I
+use Rattle.alma_code.specs.declared.step.End.TheVariants as end
+use Rattle.alma_code.specs.Layout.{kinds_of, blank_of, start_frame}
+use Rattle.alma_code.specs.Picture.{PlainFrame, PlainEntry}
+use Rattle.alma_code.specs.Picture as picture
+use Rattle.alma_code.specs.Plain.{PlainCode, head_at, kinds_at}
+use Rattle.alma_code.specs.Machine.{Mode, Going, Failing, Ended, Stuck, State, start, step}
+use Rattle.alma_ir.specs.declared.phrase.Root.TheVariants as root
+use Rattle.alma_ir.specs.Tree.{Program, Routine, routine_at, Stmts, Stmt, Arms, Test, Expr, Links, Desig, no_stmts, more_stmts, TestStmt, Assign, CopyCells, If, While, Repeat, ForTo, SomeOf, Case, Either, Forall, Commit, Return, Read, WriteExpr, WriteText, WriteLine, no_arms, more_arms, Value, Bind, Unify, SameCells, Seq, And, Or, Not, CallTest, Const, Load, Chain, Compare, Truth, Known, Chr, CallExpr, no_links, more_links, a_desig, no_sels, more_sels}
+use Rattle.alma_ir.specs.Phrases.{Phrase, stmts_phrases, stmt_phrases, arms_phrases, test_phrases, expr_phrases, links_phrases, desig_phrases}
+use Rattle.alma_ir.specs.Checked.{IsChecked, RootExists}
+use Rattle.alma_ir.proofs.Each.{each_of_front, each_of_back}
+use Rattle.alma_mean.specs.Store.{Store, Unknown, Number, top_frame, start_cells}
+use Rattle.alma_mean.specs.Store as store
+use Rattle.alma_mean.specs.Events.{Events, NoYield, Flow, Go, first, node, prints, end_of}
+use Rattle.alma_mean.specs.Events as events
+use Rattle.alma_mean.specs.Meaning.{level, ev_program, result}
+use Rattle.alma_mean.specs.Meaning as meaning
+use Rattle.alma_lower.specs.Built.{IsBuilt, BuiltDesig, BuiltExpr, BuiltLinks, BuiltTest, BuiltStmts, BuiltStmt, BuiltArms}
+use Rattle.alma_lower.specs.Implements.{Covers, ComesTo, Implements, meant_end, state_after, printed_by}
+use Rattle.alma_lower.specs.Templates.{stmts_slots, stmts_code, body_kinds, body_code, program_code, NamesKinds, IsCodeOf}
+use Rattle.alma_lower.proofs.Goes.{IsGoing, Goes, weaker, node_goes}
+use Rattle.alma_lower.proofs.Follows.{AgreesFrom, CoversFrom, EndsWell, follows}
+use Rattle.alma_lower.proofs.Frames.{SameContent, SameFrame, StandFor, Fits, HasSlots, IsAt}
+use Rattle.alma_lower.proofs.Steps.{InstrAt, return_ends}
+use Rattle.alma_lower.proofs.ExprRows.{Left, AreVariables, begun}
+use Rattle.alma_lower.proofs.ExprRuns.{HasAt, at_front, at_back, FineDesig, FineExpr, FineLinks}
+use Rattle.alma_lower.proofs.StmtRows.{LeavesStmt}
+use Rattle.alma_lower.proofs.StmtRuns.{FineTest, FineStmts, FineStmt, FineArms, RunsAt, runs_at}
+
+module _ (p : Program) (code : PlainCode) (input : List ℕ) where
+  abbrev own : Routine
+  own = routine_at p 0
+
+  -- ---- a checked program of built forms keeps what its code needs
+
+  abbrev Roots : List Phrase → Type 0
+  Roots xs = AllByRecursion (RootExists p 0 own) xs
+
+  module _ (numbers : (n : ℕ) → n < own.slots → slice_get (kinds_at code 0) n ≡ Some slot.Number) where
+    fine_desig : (d : Desig) → BuiltDesig d → Roots (desig_phrases d) → FineDesig p code input 0 d
+    unfolding stmts_phrases
+    fine_desig (a_desig (root.Local from) cells no_sels) built roots =
+        (built, record { exist = roots.0.0.exist; numbers = λ k lt. numbers (from + k) (omega (arith, lt, roots.0.0.exist)) })
+    fine_desig (a_desig (root.Local from) cells (more_sels x rest)) built roots = built
+    fine_desig (a_desig (root.Global from) cells sels) built roots = built
+    fine_desig (a_desig (root.Param from) cells sels) built roots = built
+
+    mutual
+      unfolding stmts_phrases
+
+      fine_expr : (e : Expr) → BuiltExpr e → Roots (expr_phrases e) → FineExpr p code input 0 e
+      fine_expr (Const n) built roots = built
+      fine_expr (Load d) built roots = fine_desig d built roots.1
+      fine_expr (Chain negated e links) built roots =
+          (fine_expr e built.0 (each_of_front _ (expr_phrases e) (links_phrases links) roots.1), fine_links links built.1 (each_of_back _ (expr_phrases e) (links_phrases links) roots.1))
+      fine_expr (Compare how x y) built roots =
+          (fine_expr x built.0 (each_of_front _ (expr_phrases x) (expr_phrases y) roots.1), fine_expr y built.1 (each_of_back _ (expr_phrases x) (expr_phrases y) roots.1))
+      fine_expr (Truth t) built roots = built
+      fine_expr (Known d) built roots = built
+      fine_expr (Chr e) built roots = built
+      fine_expr (CallExpr r args) built roots = built
+
+      fine_links : (links : Links) → BuiltLinks links → Roots (links_phrases links) → FineLinks p code input 0 links
+      fine_links no_links built roots = tt
+      fine_links (more_links how e rest) built roots =
+          (fine_expr e built.0 (each_of_front _ (expr_phrases e) (links_phrases rest) roots), fine_links rest built.1 (each_of_back _ (expr_phrases e) (links_phrases rest) roots))
+
+    fine_test : (t : Test) → BuiltTest t → Roots (test_phrases t) → FineTest p code input 0 t
+    unfolding stmts_phrases
+    fine_test (Value e) built roots = fine_expr e built roots.1
+    fine_test (Bind d e range left) built roots = built
+    fine_test (Unify d range e range') built roots = built
+    fine_test (SameCells d e) built roots = built
+    fine_test (Seq x) built roots = built
+    fine_test (And ts) built roots = built
+    fine_test (Or ts) built roots = built
+    fine_test (Not t) built roots = built
+    fine_test (CallTest r args) built roots = built
+
+    mutual
+      unfolding stmts_phrases
+
+      fine_stmts : (x : Stmts) → BuiltStmts x → Roots (stmts_phrases x) → FineStmts p code input 0 x
+      fine_stmts no_stmts built roots = tt
+      fine_stmts (more_stmts x rest) built roots =
+          (fine_stmt x built.0 (each_of_front _ (stmt_phrases x) (stmts_phrases rest) roots), fine_stmts rest built.1 (each_of_back _ (stmt_phrases x) (stmts_phrases rest) roots))
+
+      fine_stmt : (x : Stmt) → BuiltStmt x → Roots (stmt_phrases x) → FineStmt p code input 0 x
+      fine_stmt (TestStmt t) built roots = fine_test t built roots.1
+      fine_stmt (Assign d e range) built roots =
+          (fine_desig d built.0 (each_of_front _ (desig_phrases d) (expr_phrases e) roots.1), fine_expr e built.1 (each_of_back _ (desig_phrases d) (expr_phrases e) roots.1), built.2)
+      fine_stmt (If arms rest) built roots =
+          (fine_arms arms built.0 (each_of_front _ (arms_phrases arms) (stmts_phrases rest) roots.1), fine_stmts rest built.1 (each_of_back _ (arms_phrases arms) (stmts_phrases rest) roots.1))
+      fine_stmt (While t body) built roots =
+          (fine_test t built.0 (each_of_front _ (test_phrases t) (stmts_phrases body) roots.1), fine_stmts body built.1 (each_of_back _ (test_phrases t) (stmts_phrases body) roots.1))
+      fine_stmt (Repeat body t) built roots =
+          (fine_stmts body built.0 (each_of_front _ (stmts_phrases body) (test_phrases t) roots.1), fine_test t built.1 (each_of_back _ (stmts_phrases body) (test_phrases t) roots.1))
+      fine_stmt (WriteExpr e how) built roots = (fine_expr e built.0 roots.1, built.1)
+      fine_stmt (CopyCells d e) built roots = built
+      fine_stmt (ForTo l) built roots = built
+      fine_stmt (SomeOf l) built roots = built
+      fine_stmt (Case e arms rest) built roots = built
+      fine_stmt (Either _) built roots = built
+      fine_stmt (Forall x y) built roots = built
+      fine_stmt (Commit x) built roots = built
+      fine_stmt (Return e) built roots = built
+      fine_stmt (Read d how range) built roots = built
+      fine_stmt (WriteText text) built roots = built
+      fine_stmt WriteLine built roots = built
+
+      fine_arms : (arms : Arms) → BuiltArms arms → Roots (arms_phrases arms) → FineArms p code input 0 arms
+      fine_arms no_arms built roots = tt
+      fine_arms (more_arms t body rest) built roots =
+          let parts = test_phrases t ++ stmts_phrases body in
+          let two = each_of_front _ parts (arms_phrases rest) roots in
+          (fine_test t built.0 (each_of_front _ (test_phrases t) (stmts_phrases body) two), fine_stmts body built.1 (each_of_back _ (test_phrases t) (stmts_phrases body) two), fine_arms rest built.2 (each_of_back _ parts (arms_phrases rest) roots))
+
+  -- ---- the slots and the instructions of the code
+
+  -- instructions behind others stand where these end
+  stand_behind : (is before : List Instr) → code.instrs ≡ before ++ is → HasAt code input (length before) is
+  stand_behind [] before e = tt
+  stand_behind (i ∷ is) before e =
+      let longer : code.instrs ≡ (before ++ i ∷ []) ++ is = e ∙ sym (append_assoc before (i ∷ []) is) in
+      let at : length (before ++ i ∷ []) ≡ length before + 1 = length-append before (i ∷ []) in
+      let there : slice_get (before ++ i ∷ is) (length before) ≡ Some i =
+          slice_get-get_or (before ++ i ∷ is) (length before) i (omega (arith, length-append before (i ∷ is))) ∙ ap Some (get_or-append_seam before i is i) in
+      (ap (λ xs. slice_get xs (length before)) e ∙ there, subst (λ n. HasAt code input n is) at (stand_behind is (before ++ i ∷ []) longer))
