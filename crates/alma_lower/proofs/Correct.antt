@@ -1,26 +1,22 @@
 -- Code that is a program's implements it.
-use Rattle.std.proofs.Common.{◌≡◌, ℕ, zero, suc, ◌+◌, ◌-◌, ◌*◌, ◌/◌, ◌<◌, ◌≤◌, List, [], ◌∷◌, ◌++◌, length, map, replicate, get_or, set, Option, Some, None, true, refl, sym, ap, ◌∙◌, subst, arith, ℤ, pos, length-append, append_assoc}
+use Rattle.std.proofs.Common.{◌≡◌, ℕ, zero, suc, ◌+◌, ◌<◌, ◌≤◌, List, [], ◌∷◌, ◌++◌, length, map, replicate, get_or, set, Some, refl, sym, ap, ◌∙◌, subst, arith, pos, length-append, append_assoc}
 use Rattle.std.specs.Prelude.{slice_get}
 use Rattle.std.specs.List.{AllByRecursion}
-use Rattle.std.proofs.lemmas.Bool.{cases_eq}
 use Rattle.std.proofs.lemmas.List.{get_or-set_same, get_or-set_other, length-set, get_or_append_left, get_or-append-add, length-map, length-replicate, get_or-replicate, get_or-map}
 use Rattle.std.proofs.lemmas.Option.{slice_get-get_or, get_or_from_slice_get}
 use Rattle.std.proofs.Math.Nat.{mul-div-le}
 use Rattle.std.proofs.Math.Seq.{get_or-append_seam}
-use Rattle.alma_base.specs.Numbers.{is_integer}
 use Rattle.alma_code.specs.declared.cell.Cell.{Cell}
 use Rattle.alma_code.specs.declared.cell.Cell.TheVariants as cell
 use Rattle.alma_code.specs.declared.cell.SlotKind.{SlotKind}
 use Rattle.alma_code.specs.declared.cell.SlotKind.TheVariants as slot
-use Rattle.alma_code.specs.declared.head.Run.{Run}
 use Rattle.alma_code.specs.declared.instr.Instr.{Instr}
 use Rattle.alma_code.specs.declared.instr.Instr.TheVariants as I
-use Rattle.alma_code.specs.declared.step.End.TheVariants as end
-use Rattle.alma_code.specs.Layout.{kinds_of, blank_of, start_frame}
+use Rattle.alma_code.specs.Layout.{blank_of, start_frame}
 use Rattle.alma_code.specs.Picture.{PlainFrame, PlainEntry}
 use Rattle.alma_code.specs.Picture as picture
 use Rattle.alma_code.specs.Plain.{PlainCode, head_at, kinds_at}
-use Rattle.alma_code.specs.Machine.{Mode, Going, Failing, Ended, Stuck, State, start, step}
+use Rattle.alma_code.specs.Machine.{Mode, Going, Failing, Ended, Stuck, start}
 use Rattle.alma_ir.specs.declared.phrase.Root.TheVariants as root
 use Rattle.alma_ir.specs.Tree.{Program, Routine, routine_at, no_routine, Stmts, Stmt, Arms, Test, Expr, Links, Desig, no_stmts, more_stmts, TestStmt, Assign, CopyCells, If, While, Repeat, ForTo, SomeOf, Case, Either, Forall, Commit, Return, Read, WriteExpr, WriteText, WriteLine, no_arms, more_arms, Value, Bind, Unify, SameCells, Seq, And, Or, Not, CallTest, Const, Load, Chain, Compare, Truth, Known, Chr, CallExpr, no_links, more_links, a_desig, no_sels, more_sels}
 use Rattle.alma_ir.specs.Phrases.{Phrase, stmts_phrases, stmt_phrases, arms_phrases, test_phrases, expr_phrases, links_phrases, desig_phrases}
@@ -33,16 +29,16 @@ use Rattle.alma_mean.specs.Events as events
 use Rattle.alma_mean.specs.Meaning.{level, ev_program, result}
 use Rattle.alma_mean.specs.Meaning as meaning
 use Rattle.alma_lower.specs.Built.{IsBuilt, BuiltDesig, BuiltExpr, BuiltLinks, BuiltTest, BuiltStmts, BuiltStmt, BuiltArms}
-use Rattle.alma_lower.specs.Implements.{Covers, ComesTo, Implements, meant_end, state_after, printed_by}
-use Rattle.alma_lower.specs.Templates.{stmts_slots, stmts_code, body_kinds, body_code, program_code, NamesKinds, IsCodeOf}
-use Rattle.alma_lower.proofs.Goes.{IsGoing, Goes, weaker, node_goes}
-use Rattle.alma_lower.proofs.Follows.{AgreesFrom, CoversFrom, EndsWell, follows}
-use Rattle.alma_lower.proofs.Frames.{SameContent, SameFrame, StandFor, Fits, HasSlots, IsAt}
+use Rattle.alma_lower.specs.Implements.{ComesTo, Implements, state_after, printed_by}
+use Rattle.alma_lower.specs.Templates.{stmts_slots, stmts_code, body_kinds, body_code, IsCodeOf}
+use Rattle.alma_lower.proofs.Goes.{weaker, node_goes}
+use Rattle.alma_lower.proofs.Follows.{AgreesFrom, EndsWell, follows}
+use Rattle.alma_lower.proofs.Frames.{SameContent, SameFrame, StandFor, HasSlots}
 use Rattle.alma_lower.proofs.Steps.{InstrAt, return_ends}
-use Rattle.alma_lower.proofs.ExprRows.{Left, AreVariables, begun}
+use Rattle.alma_lower.proofs.ExprRows.{begun}
 use Rattle.alma_lower.proofs.ExprRuns.{HasAt, at_front, at_back, FineDesig, FineExpr, FineLinks}
 use Rattle.alma_lower.proofs.StmtRows.{LeavesStmt}
-use Rattle.alma_lower.proofs.StmtRuns.{FineTest, FineStmts, FineStmt, FineArms, RunsAt, runs_at}
+use Rattle.alma_lower.proofs.StmtRuns.{FineTest, FineStmts, FineStmt, FineArms, runs_at}
 
 module _ (p : Program) (code : PlainCode) (input : List ℕ) where
   abbrev own : Routine
@@ -141,7 +137,7 @@ module _ (p : Program) (code : PlainCode) (input : List ℕ) where
       let longer : code.instrs ≡ (before ++ i ∷ []) ++ is = e ∙ sym (append_assoc before (i ∷ []) is) in
       let at : length (before ++ i ∷ []) ≡ length before + 1 = length-append before (i ∷ []) in
       let there : slice_get (before ++ i ∷ is) (length before) ≡ Some i =
-          slice_get-get_or (before ++ i ∷ is) (length before) i (omega (arith, length-append before (i ∷ is))) ∙ ap Some (get_or-append_seam before i is i) in
+      slice_get-get_or (before ++ i ∷ is) (length before) i (omega (arith, length-append before (i ∷ is))) ∙ ap Some (get_or-append_seam before i is i) in
       (ap (λ xs. slice_get xs (length before)) e ∙ there, subst (λ n. HasAt code input n is) at (stand_behind is (before ++ i ∷ []) longer))
 
   module _ (is_code : IsCodeOf p code) where
@@ -190,18 +186,25 @@ module _ (p : Program) (code : PlainCode) (input : List ℕ) where
       where
         kinds : List SlotKind
         kinds = kinds_at code 0
+
         blanks : List Cell
         blanks = map blank_of kinds
+
         unknowns : List store.Cell
         unknowns = replicate own.slots Unknown
+
         blanks_long : length (set blanks 0 (cell.Int (pos 0))) ≡ length kinds
         blanks_long = length-set blanks 0 (cell.Int (pos 0)) ∙ length-map kinds blank_of
+
         unknowns_long : length (set unknowns 0 (Number (pos 0))) ≡ own.slots
         unknowns_long = length-set unknowns 0 (Number (pos 0)) ∙ length-replicate own.slots Unknown
+
         kinds_long : own.slots ≤ length kinds
         kinds_long = omega (arith, ap length kinds_are, length-append (replicate own.slots slot.Number) (stmts_slots own.body), length-replicate own.slots slot.Number)
+
         kind_at : (i : ℕ) → i < own.slots → get_or kinds i slot.Mark ≡ slot.Number
         kind_at i lt = get_or_from_slice_get kinds i slot.Number slot.Mark (own_numbers i lt)
+
         content : (i : ℕ) → i < own.slots → SameContent slot.Number (get_or (set unknowns 0 (Number (pos 0))) i Unknown) (get_or (set blanks 0 (cell.Int (pos 0))) i cell.Unset)
         content zero lt =
             let left : get_or (set unknowns 0 (Number (pos 0))) 0 Unknown ≡ Number (pos 0) = get_or-set_same unknowns 0 (Number (pos 0)) Unknown (omega (arith, lt, length-replicate own.slots Unknown)) in
@@ -212,9 +215,10 @@ module _ (p : Program) (code : PlainCode) (input : List ℕ) where
             let other : suc i ≡ 0 → ⊥ = λ e. omega (arith, e) in
             let left : get_or (set unknowns 0 (Number (pos 0))) (suc i) Unknown ≡ Unknown = get_or-set_other unknowns 0 (suc i) (Number (pos 0)) Unknown other ∙ get_or-replicate own.slots (suc i) Unknown Unknown lt in
             let right : get_or (set blanks 0 (cell.Int (pos 0))) (suc i) cell.Unset ≡ cell.Unknown =
-                get_or-set_other blanks 0 (suc i) (cell.Int (pos 0)) cell.Unset other ∙ get_or-map blank_of kinds (suc i) slot.Mark cell.Unset (omega (arith, lt, kinds_long)) ∙ ap blank_of (kind_at (suc i) lt) in
+            get_or-set_other blanks 0 (suc i) (cell.Int (pos 0)) cell.Unset other ∙ get_or-map blank_of kinds (suc i) slot.Mark cell.Unset (omega (arith, lt, kinds_long)) ∙ ap blank_of (kind_at (suc i) lt) in
             let there : SameContent slot.Number Unknown cell.Unknown = tt in
             subst (λ a. SameContent slot.Number a (get_or (set blanks 0 (cell.Int (pos 0))) (suc i) cell.Unset)) (sym left) (subst (SameContent slot.Number Unknown) (sym right) there)
+
         same : SameFrame p code (record { routine = 0; cells = start_cells own.slots }) (start_frame (head_at code 0))
         same = record {
           routine = refl;
@@ -258,7 +262,7 @@ module _ (p : Program) (code : PlainCode) (input : List ℕ) where
         let runs = (runs_at p code input (suc n)).stmts own.body 0 own.slots 0 fine (at_front code input 0 (stmts_code 0 own.slots own.body) (I.Return ∷ []) all_instrs) phrase_slots in
         let goes = runs 8 (omega arith) (meaning.start p) frames [] (start code) (record { mode = refl; here = refl; frames = refl; entries = refl }) starts_alike refl in
         let as_node = node_goes code input 8 8 0 (LeavesStmt p code input (0 + exit) own.slots 0 b) [] ((level p input (suc n)).stmts own.body (meaning.start p)) (start code) 0 n (omega arith)
-            (weaker code input 8 0 (LeavesStmt p code input (0 + exit) own.slots 0 b) [] ((level p input (suc n)).stmts own.body (meaning.start p)) (start code) 32 8 n n (omega arith) (omega arith) goes) in
+        (weaker code input 8 0 (LeavesStmt p code input (0 + exit) own.slots 0 b) [] ((level p input (suc n)).stmts own.body (meaning.start p)) (start code) 32 8 n n (omega arith) (omega arith) goes) in
         comes_to n (state_after code input n).mode (printed_by code input n)
         (follows code input 8 (LeavesStmt p code input (0 + exit) own.slots 0 b) (ev_program (suc n) p input) (start code) 0 n n (omega arith) ends_well as_node)
 

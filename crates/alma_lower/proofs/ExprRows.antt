@@ -1,17 +1,14 @@
 -- The rows of expressions and designators: each is what its code does, given what its parts do.
-use Rattle.std.proofs.Common.{◌≡◌, ◌≢◌, ℕ, zero, suc, ◌+◌, ◌-◌, ◌<◌, ◌≤◌, Bool, true, false, not, List, [], ◌∷◌, ◌++◌, length, get_or, Option, Some, None, refl, sym, ap, ◌∙◌, subst, arith, ℤ, pos, ◌+ℤ◌, ◌-ℤ◌, ◌*ℤ◌, neg_ℤ, length-append}
-use Rattle.std.specs.Prelude.{slice_get, int_lt, int_le}
+use Rattle.std.proofs.Common.{◌≡◌, ℕ, suc, ◌+◌, ◌-◌, ◌<◌, ◌≤◌, true, List, [], ◌∷◌, ◌++◌, length, get_or, Some, refl, sym, ap, ◌∙◌, subst, arith, ℤ, length-append}
+use Rattle.std.specs.Prelude.{slice_get}
 use Rattle.std.proofs.lemmas.List.{get_or_append_left, get_or-append-add}
 use Rattle.std.proofs.lemmas.Option.{slice_get-get_or, slice_get_within, get_or_from_slice_get}
-use Rattle.alma_base.specs.declared.fault.RunFault.{RunFault}
-use Rattle.alma_base.specs.declared.fault.RunFault.TheVariants as fault
-use Rattle.alma_base.specs.Numbers.{is_integer, is_zero, int_eq, bit, div_down_of, mod_down_of}
+use Rattle.alma_base.specs.Numbers.{is_integer}
 use Rattle.alma_code.specs.declared.cell.Cell.{Cell}
 use Rattle.alma_code.specs.declared.cell.Cell.TheVariants as cell
 use Rattle.alma_code.specs.declared.cell.CellPlace.{CellPlace}
 use Rattle.alma_code.specs.declared.cell.SlotKind.{SlotKind}
 use Rattle.alma_code.specs.declared.cell.SlotKind.TheVariants as slot
-use Rattle.alma_code.specs.declared.instr.Instr.{Instr}
 use Rattle.alma_code.specs.declared.instr.Instr.TheVariants as I
 use Rattle.alma_code.specs.Carries.{number_at}
 use Rattle.alma_code.specs.Picture.{PlainFrame, PlainEntry, last_frame, cell_at}
@@ -22,11 +19,11 @@ use Rattle.alma_ir.specs.Tree.{Program, routine_at}
 use Rattle.alma_mean.specs.Store.{Store, Place, top, top_frame, cell_of}
 use Rattle.alma_mean.specs.Store as store
 use Rattle.alma_mean.specs.Rows.{read_cell}
-use Rattle.alma_mean.specs.Events.{Events, Flow, Go, Return, Fault, one, bind, node}
-use Rattle.alma_lower.proofs.Goes.{Silently, IsGoing, Goes, before, weaker, bind_goes, node_goes, one_goes, no_step}
+use Rattle.alma_mean.specs.Events.{Events, Flow, Go, Return, one, bind, node}
+use Rattle.alma_lower.proofs.Goes.{Silently, IsGoing, Goes, before, weaker, bind_goes, node_goes, one_goes}
 use Rattle.alma_lower.proofs.Frames.{SameContent, StandFor, Fits, AreNumbers, SamePlace, HasSlots, IsAt}
-use Rattle.alma_lower.proofs.FrameLemmas.{top_same, fits_self, fits_on, fits_less, fits_temp, holds_written, holds_other, content_there}
-use Rattle.alma_lower.proofs.Steps.{top_written, Holds, HasKind, InstrAt, Writes, Faults, const_step, local_step, load_step, load_unknown}
+use Rattle.alma_lower.proofs.FrameLemmas.{top_same, fits_on, fits_less, fits_temp, holds_written, content_there}
+use Rattle.alma_lower.proofs.Steps.{top_written, Holds, HasKind, InstrAt, const_step, local_step, load_step, load_unknown}
 
 module _ (p : Program) (code : PlainCode) (input : List ℕ) where
   -- ---- where a phrase leaves off
@@ -113,6 +110,7 @@ module _ (p : Program) (code : PlainCode) (input : List ℕ) where
     where
       at : (i : ℕ) → slice_get (kinds_at code r) (lo + length a + i) ≡ slice_get (kinds_at code r) (lo + (length a + i))
       at i = let e : lo + length a + i ≡ lo + (length a + i) = omega arith in ap (slice_get (kinds_at code r)) e
+
       in_second : (i : ℕ) → i < length b → slice_get (a ++ b) (length a + i) ≡ slice_get b i
       in_second i lt =
           slice_get-get_or (a ++ b) (length a + i) slot.Mark (omega (arith, lt, length-append a b)) ∙ ap Some (get_or-append-add a b i slot.Mark) ∙ sym (slice_get-get_or b i slot.Mark lt)
@@ -194,12 +192,13 @@ module _ (p : Program) (code : PlainCode) (input : List ℕ) where
           let numbers = variables_are_numbers r from cells v (top_written now lo (cell.Place c)) fit.stand routine variables in
           let same : SamePlace (local_place from cells v) c = record { frame = ap (λ n. n - 1) (sym stand.count); slot = refl; size = refl } in
           one_more 0 24 (LeavesPlace (at + 1) lo r (begun v now held)) held (one v (local_place from cells v)) s w.to 31 q w.silently
-          (one_goes code input 0 24 (LeavesPlace (at + 1) lo r (begun v now held)) held v (local_place from cells v) w.to 31 q (omega arith) (record { mode = w.is.mode; entries = w.is.entries })
-          (record { here = w.is.here; fits = subst (Fits p code lo now v) (sym w.is.frames) fit; routine = routine },
-           subst (λ z. AreNumbers p code v z (local_place from cells v)) (sym w.is.frames) numbers,
-           some,
-           (c, same, subst (λ z. Holds z lo (cell.Place c)) (sym w.is.frames) there),
-           record { same = refl; none = w.is.entries }))
+          (one_goes code input 0 24 (LeavesPlace (at + 1) lo r (begun v now held)) held v (local_place from cells v) w.to 31 q (omega arith) (record { mode = w.is.mode; entries = w.is.entries }) (
+            record { here = w.is.here; fits = subst (Fits p code lo now v) (sym w.is.frames) fit; routine = routine },
+            subst (λ z. AreNumbers p code v z (local_place from cells v)) (sym w.is.frames) numbers,
+            some,
+            (c, same, subst (λ z. Holds z lo (cell.Place c)) (sym w.is.frames) there),
+            record { same = refl; none = w.is.entries },
+          ))
 
   -- ---- what a part has left is where the next part begins
 
@@ -231,10 +230,13 @@ module _ (p : Program) (code : PlainCode) (input : List ℕ) where
     where
       m : CellPlace
       m = place.0
+
       is : IsAt mid t.now held t
       is = left_is_at mid (lo + 1) r b.frames v t held going left
+
       kind : slice_get (kinds_at code r) lo ≡ Some slot.Number
       kind = first_kind r lo slot.Number [] slots
+
       by : (a : store.Cell) (d : Cell) → SameContent slot.Number a d → number_at t.now m.frame m.slot ≡ true → cell_at t.now m.frame m.slot cell.Unset ≡ d
           → Goes code input 0 24 (LeavesValue (mid + 1) lo r b) held (read_cell a (λ x. one v x)) t 8 q
       by store.Unknown cell.Unknown content live e =
@@ -246,11 +248,12 @@ module _ (p : Program) (code : PlainCode) (input : List ℕ) where
           let whole : Fits p code lo b.frames v (top_written t.now lo (cell.Int y)) = fits_on p code lo lo v v b.frames t.now (top_written t.now lo (cell.Int y)) (omega arith) (fits_less p code lo (lo + 1) v b.frames t.now (omega arith) left.fits) fit in
           let holds = holds_written t.now lo (cell.Int y) (some_frames v t.now r left.fits.stand left.routine) (within_frame v t.now r left.fits.stand left.routine lo slot.Number kind) in
           one_more 0 24 (LeavesValue (mid + 1) lo r b) held (one v x) t w.to 7 q w.silently
-          (one_goes code input 0 24 (LeavesValue (mid + 1) lo r b) held v x w.to 7 q (omega arith) (record { mode = w.is.mode; entries = w.is.entries })
-          (record { here = w.is.here; fits = subst (Fits p code lo b.frames v) (sym w.is.frames) whole; routine = left.routine },
-           subst (λ z. Holds z lo (cell.Int x)) (sym w.is.frames) (subst (λ z. Holds (top_written t.now lo (cell.Int y)) lo (cell.Int z)) (sym content.0) holds),
-           content.1,
-           record { same = stays.same; none = w.is.entries ∙ sym going.entries ∙ stays.none }))
+          (one_goes code input 0 24 (LeavesValue (mid + 1) lo r b) held v x w.to 7 q (omega arith) (record { mode = w.is.mode; entries = w.is.entries }) (
+            record { here = w.is.here; fits = subst (Fits p code lo b.frames v) (sym w.is.frames) whole; routine = left.routine },
+            subst (λ z. Holds z lo (cell.Int x)) (sym w.is.frames) (subst (λ z. Holds (top_written t.now lo (cell.Int y)) lo (cell.Int z)) (sym content.0) holds),
+            content.1,
+            record { same = stays.same; none = w.is.entries ∙ sym going.entries ∙ stays.none },
+          ))
       by store.Unknown (cell.Int y) content live e = absurd content
       by store.Unknown cell.Unset content live e = absurd content
       by store.Unknown (cell.Place y) content live e = absurd content

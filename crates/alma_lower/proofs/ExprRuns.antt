@@ -1,13 +1,12 @@
 -- The code of each expression does what its events say: the induction over expressions.
-use Rattle.std.proofs.Common.{◌≡◌, ℕ, zero, suc, ◌+◌, ◌-◌, ◌<◌, ◌≤◌, Bool, true, false, List, [], ◌∷◌, ◌++◌, length, Some, refl, sym, ap, ◌∙◌, subst, arith, ℤ, length-append, append_assoc}
+use Rattle.std.proofs.Common.{◌≡◌, ℕ, suc, ◌+◌, ◌<◌, ◌≤◌, Bool, true, false, List, [], ◌∷◌, ◌++◌, length, Some, sym, ◌∙◌, subst, arith, ℤ, length-append}
 use Rattle.std.specs.Prelude.{slice_get}
 use Rattle.alma_base.specs.Numbers.{is_integer, bit}
 use Rattle.alma_code.specs.declared.cell.Cell.TheVariants as cell
-use Rattle.alma_code.specs.declared.cell.SlotKind.{SlotKind}
 use Rattle.alma_code.specs.declared.cell.SlotKind.TheVariants as slot
 use Rattle.alma_code.specs.declared.instr.Instr.{Instr}
 use Rattle.alma_code.specs.declared.instr.Instr.TheVariants as I
-use Rattle.alma_code.specs.Picture.{PlainFrame, PlainEntry}
+use Rattle.alma_code.specs.Picture.{PlainEntry}
 use Rattle.alma_code.specs.Plain.{PlainCode, kinds_at}
 use Rattle.alma_code.specs.Machine.{State}
 use Rattle.alma_ir.specs.declared.phrase.Op.{Op}
@@ -15,15 +14,15 @@ use Rattle.alma_ir.specs.declared.phrase.Cmp.{Cmp}
 use Rattle.alma_ir.specs.declared.phrase.Cmp.TheVariants as cmp
 use Rattle.alma_ir.specs.declared.phrase.Root.TheVariants as root
 use Rattle.alma_ir.specs.Tree.{Program, routine_at, Expr, Links, Desig, Const, Load, Chain, Compare, Truth, Known, Chr, CallExpr, no_links, more_links, a_desig, no_sels, more_sels}
-use Rattle.alma_mean.specs.Store.{Store, Place}
-use Rattle.alma_mean.specs.Events.{Events, Flow, Go, Return, one, bind, node}
+use Rattle.alma_mean.specs.Store.{Store}
+use Rattle.alma_mean.specs.Events.{Events, Go, one, bind, node}
 use Rattle.alma_mean.specs.Arithmetic.{apply_op, apply_sign, compares}
 use Rattle.alma_mean.specs.Meaning.{Level, ev_expr, ev_links, ev_desig}
 use Rattle.alma_lower.specs.Templates.{desig_code, desig_slots, expr_slots, links_slots, expr_code, links_code, neg_code, op_code, cmp_code}
-use Rattle.alma_lower.proofs.Goes.{IsGoing, Goes, before, weaker, bind_goes, one_goes, no_step}
+use Rattle.alma_lower.proofs.Goes.{IsGoing, Goes, weaker, bind_goes, one_goes}
 use Rattle.alma_lower.proofs.Frames.{HasSlots}
 use Rattle.alma_lower.proofs.Steps.{Holds, InstrAt}
-use Rattle.alma_lower.proofs.ExprRows.{Left, LeavesValue, LeavesPlace, Begun, begun, Stays, RunsFrom, RunsExpr, RunsPlace, InsideOf, AreVariables, as_node, first_kind, slots_first, slots_behind, left_is_at, left_on, kept_slot, const_row, local_row, load_row}
+use Rattle.alma_lower.proofs.ExprRows.{Left, LeavesValue, Begun, begun, Stays, RunsExpr, RunsPlace, AreVariables, as_node, first_kind, slots_first, slots_behind, left_is_at, left_on, kept_slot, const_row, local_row, load_row}
 use Rattle.alma_lower.proofs.OperatorRows.{two_parts, equal_goes, unequal_goes, less_goes, less_eq_goes, greater_goes, greater_eq_goes, op_goes, neg_goes}
 
 module _ (code : PlainCode) (input : List ℕ) where
@@ -130,13 +129,13 @@ module _ (p : Program) (code : PlainCode) (input : List ℕ) where
       bind_goes code input 8 0 24 (LeavesValue p code input m1 next r b1) (LeavesValue p code input exit lo r b0) held (x v) (λ t1 b. bind (apply_op t1 how a b) (λ u c. f c u)) t 0 q 8 (omega arith) (omega arith)
       (runs_x v t.now held t (left_is_at p code input at lo r b0.frames v t held going left.0) left.0.fits.stand left.0.routine)
       (λ v1 b t1 held1 going1 left1.
-        let both = left_on p code input at m1 lo next r b0.frames v v1 t t1 (omega arith) left.0 left1.0 in
-        let ha = kept_slot p code input m1 next r lo (cell.Int a) v v1 t.now t1 left.0.fits.stand left.0.routine behind lt left1.0 left.1 in
-        let stays : Stays p code input b0 v1 t1 = record { same = left1.3.same ∙ left.3.same; none = left1.3.none ∙ sym going.entries ∙ left.3.none } in
-        bind_goes code input 7 0 24 (LeavesValue p code input (m1 + 1) lo r b0) (LeavesValue p code input exit lo r b0) held1 (apply_op v1 how a b) (λ u c. f c u) t1 8 q 7 (omega arith) (omega arith)
-        (op_goes p code input m1 lo next r b0 held1 v1 a b t1 q behind kind going1 both stays ha left1.1 how left1.2 i)
-        (λ v2 c t2 held2 going2 left2. weaker code input 0 24 (LeavesValue p code input exit lo r b0) held2 (f c v2) t2 7 0 q q (omega arith) (omega arith) (runs_f b0 held2 v2 c t2 going2 left2))
-        (λ v2 n t2 no. no))
+      let both = left_on p code input at m1 lo next r b0.frames v v1 t t1 (omega arith) left.0 left1.0 in
+      let ha = kept_slot p code input m1 next r lo (cell.Int a) v v1 t.now t1 left.0.fits.stand left.0.routine behind lt left1.0 left.1 in
+      let stays : Stays p code input b0 v1 t1 = record { same = left1.3.same ∙ left.3.same; none = left1.3.none ∙ sym going.entries ∙ left.3.none } in
+      bind_goes code input 7 0 24 (LeavesValue p code input (m1 + 1) lo r b0) (LeavesValue p code input exit lo r b0) held1 (apply_op v1 how a b) (λ u c. f c u) t1 8 q 7 (omega arith) (omega arith)
+      (op_goes p code input m1 lo next r b0 held1 v1 a b t1 q behind kind going1 both stays ha left1.1 how left1.2 i)
+      (λ v2 c t2 held2 going2 left2. weaker code input 0 24 (LeavesValue p code input exit lo r b0) held2 (f c v2) t2 7 0 q q (omega arith) (omega arith) (runs_f b0 held2 v2 c t2 going2 left2))
+      (λ v2 n t2 no. no))
       (λ v1 n t1 no. no)
 
   -- the sign of the first operand
@@ -155,15 +154,15 @@ module _ (p : Program) (code : PlainCode) (input : List ℕ) where
   chain_row at m1 exit lo r negated x f q behind kind runs_x i runs_f =
       as_node p code input at r (LeavesValue p code input exit lo r) (λ v. bind (x v) (λ t a. bind (apply_sign negated t a) (λ u b. f b u))) q
       (λ v now held s is stand routine.
-        let b0 = begun p code input v now held in
-        bind_goes code input 8 0 24 (LeavesValue p code input m1 lo r b0) (LeavesValue p code input exit lo r b0) held (x v) (λ t a. bind (apply_sign negated t a) (λ u b. f b u)) s 32 q 8 (omega arith) (omega arith)
-        (weaker code input 8 0 (LeavesValue p code input m1 lo r b0) held (x v) s 32 0 q q (omega arith) (omega arith) (runs_x v now held s is stand routine))
-        (λ v1 a t1 held1 going1 left1.
-          bind_goes code input 7 0 24 (LeavesValue p code input (m1 + length (neg_code negated lo)) lo r b0) (LeavesValue p code input exit lo r b0) held1 (apply_sign negated v1 a) (λ u b. f b u) t1 8 q 7 (omega arith) (omega arith)
-          (sign_goes m1 lo r negated q behind kind i b0 held1 v1 a t1 going1 left1)
-          (λ v2 b t2 held2 going2 left2. weaker code input 0 24 (LeavesValue p code input exit lo r b0) held2 (f b v2) t2 7 0 q q (omega arith) (omega arith) (runs_f b0 held2 v2 b t2 going2 left2))
-          (λ v2 n t2 no. no))
-        (λ v1 n t1 no. no))
+      let b0 = begun p code input v now held in
+      bind_goes code input 8 0 24 (LeavesValue p code input m1 lo r b0) (LeavesValue p code input exit lo r b0) held (x v) (λ t a. bind (apply_sign negated t a) (λ u b. f b u)) s 32 q 8 (omega arith) (omega arith)
+      (weaker code input 8 0 (LeavesValue p code input m1 lo r b0) held (x v) s 32 0 q q (omega arith) (omega arith) (runs_x v now held s is stand routine))
+      (λ v1 a t1 held1 going1 left1.
+      bind_goes code input 7 0 24 (LeavesValue p code input (m1 + length (neg_code negated lo)) lo r b0) (LeavesValue p code input exit lo r b0) held1 (apply_sign negated v1 a) (λ u b. f b u) t1 8 q 7 (omega arith) (omega arith)
+      (sign_goes m1 lo r negated q behind kind i b0 held1 v1 a t1 going1 left1)
+      (λ v2 b t2 held2 going2 left2. weaker code input 0 24 (LeavesValue p code input exit lo r b0) held2 (f b v2) t2 7 0 q q (omega arith) (omega arith) (runs_f b0 held2 v2 b t2 going2 left2))
+      (λ v2 n t2 no. no))
+      (λ v1 n t1 no. no))
 
   -- ---- the induction
 
@@ -201,7 +200,7 @@ module _ (p : Program) (code : PlainCode) (input : List ℕ) where
           let operands = at_back code input (at + length (expr_code lo e)) (neg_code negated lo) (links_code lo (lo + length (expr_slots e)) links) back in
           let m2 = at + length (expr_code lo e) + length (neg_code negated lo) in
           let n : m2 + length (links_code lo (lo + length (expr_slots e)) links) ≡ at + length (expr_code lo (Chain negated e links)) =
-              omega (arith, length-append (expr_code lo e) rest, length-append (neg_code negated lo) (links_code lo (lo + length (expr_slots e)) links)) in
+          omega (arith, length-append (expr_code lo e) rest, length-append (neg_code negated lo) (links_code lo (lo + length (expr_slots e)) links)) in
           ends_at at _ _ lo r (λ v. ev_expr p input below (Chain negated e links) v) q n
           (chain_row at (at + length (expr_code lo e)) (m2 + length (links_code lo (lo + length (expr_slots e)) links)) lo r negated (λ v. ev_expr p input below e v) (λ a v. ev_links p input below links a v) q slots.behind kind
           (expr_runs at lo r e fine.0 front (slots_first p code input r lo (expr_slots e) (links_slots links) slots)) sign
@@ -215,7 +214,7 @@ module _ (p : Program) (code : PlainCode) (input : List ℕ) where
           let m1 = at + length (expr_code lo x) in
           let m2 = m1 + length (expr_code lo2 y) in
           let n : m2 + length (cmp_code how lo lo2) ≡ at + length (expr_code lo (Compare how x y)) =
-              omega (arith, length-append (expr_code lo x) rest, length-append (expr_code lo2 y) (cmp_code how lo lo2)) in
+          omega (arith, length-append (expr_code lo x) rest, length-append (expr_code lo2 y) (cmp_code how lo lo2)) in
           ends_at at _ _ lo r (λ v. ev_expr p input below (Compare how x y) v) q n
           (compare_row at m1 m2 lo lo2 r how (λ v. ev_expr p input below x v) (λ v. ev_expr p input below y v) q (omega (arith, some_slots r x fine.0)) slots.behind kind
           (expr_runs at lo r x fine.0 front (slots_first p code input r lo (expr_slots x) (expr_slots y) slots))

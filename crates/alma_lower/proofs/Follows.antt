@@ -10,7 +10,7 @@ use Rattle.alma_code.specs.Machine as machine
 use Rattle.alma_mean.specs.Store.{Store}
 use Rattle.alma_mean.specs.Events.{Events, NoYield, Flow, Visit, Print, Alt, Fail, Fault, Cut, first, end_of, prints}
 use Rattle.alma_lower.specs.Implements.{HasFront, nothing, a_visit, a_print, meant_end}
-use Rattle.alma_lower.proofs.Goes.{IsOn, IsFailing, IsGoing, Silently, Prints, Goes, after_sum, prints_sum, and_then}
+use Rattle.alma_lower.proofs.Goes.{IsOn, IsFailing, IsGoing, Silently, Goes, after_sum, prints_sum}
 
 -- a front of the events with at least so many visits, where r steps were paid for before
 pub record CoversFrom {A : Type 0} (r n : ℕ) (e : Events A) (printed : List ℕ) : Type 0 where
@@ -40,17 +40,19 @@ module _ (code : PlainCode) (input : List ℕ) where
   ended_stays zero s x e = (e, refl)
   ended_stays (suc k) s x e =
       let p = still s x e in
-      let rest = ended_stays k s x e in
-      (ap (λ t. (after code input k t).mode) p.0 ∙ rest.0,
-       ap (λ b. b ++ machine.prints code input k (step code input s).state) p.1 ∙ ap (machine.prints code input k) p.0 ∙ rest.1)
+      let rest = ended_stays k s x e in (
+        ap (λ t. (after code input k t).mode) p.0 ∙ rest.0,
+        ap (λ b. b ++ machine.prints code input k (step code input s).state) p.1 ∙ ap (machine.prints code input k) p.0 ∙ rest.1,
+      )
 
   -- the state after fewer steps
   split : (k n : ℕ) (s t : State) → n ≤ k → Silently code input k s t
       → (after code input (k - n) (after code input n s) ≡ t) × (machine.prints code input n s ≡ [])
   split k n s t le h =
-      let sum : n + (k - n) ≡ k = omega arith in
-      (sym (after_sum code input n (k - n) s) ∙ ap (λ m. after code input m s) sum ∙ h.steps,
-       front_of_nothing _ _ (sym (prints_sum code input n (k - n) s) ∙ ap (λ m. machine.prints code input m s) sum ∙ h.silent))
+      let sum : n + (k - n) ≡ k = omega arith in (
+        sym (after_sum code input n (k - n) s) ∙ ap (λ m. after code input m s) sum ∙ h.steps,
+        front_of_nothing _ _ (sym (prints_sum code input n (k - n) s) ∙ ap (λ m. machine.prints code input m s) sum ∙ h.silent),
+      )
 
   -- before a state that has not ended the machine had not ended
   agrees_before : {A : Type 0} (r n j : ℕ) (e : Events A) (u t : State) (printed : List ℕ) → after code input j u ≡ t → IsOn t.mode → printed ≡ [] → n ≤ r → (m : Mode) → u.mode ≡ m → AgreesFrom r n e m printed
@@ -83,12 +85,12 @@ module _ (code : PlainCode) (input : List ℕ) where
       let sum : k + suc (n - suc k) ≡ n = omega arith in
       let rest = ended_stays (n - suc k) (step code input t).state x ends in
       let state : after code input n s ≡ after code input (n - suc k) (step code input t).state =
-          ap (λ m. after code input m s) (sym sum) ∙ after_sum code input k (suc (n - suc k)) s ∙ ap (after code input (suc (n - suc k))) h.steps in
+      ap (λ m. after code input m s) (sym sum) ∙ after_sum code input k (suc (n - suc k)) s ∙ ap (after code input (suc (n - suc k))) h.steps in
       let printed : machine.prints code input n s ≡ [] =
-          ap (λ m. machine.prints code input m s) (sym sum) ∙ prints_sum code input k (suc (n - suc k)) s
-          ∙ ap (λ b. b ++ machine.prints code input (suc (n - suc k)) (after code input k s)) h.silent
-          ∙ ap (machine.prints code input (suc (n - suc k))) h.steps
-          ∙ ap (λ b. b ++ machine.prints code input (n - suc k) (step code input t).state) none ∙ rest.1 in
+      ap (λ m. machine.prints code input m s) (sym sum) ∙ prints_sum code input k (suc (n - suc k)) s
+      ∙ ap (λ b. b ++ machine.prints code input (suc (n - suc k)) (after code input k s)) h.silent
+      ∙ ap (machine.prints code input (suc (n - suc k))) h.steps
+      ∙ ap (λ b. b ++ machine.prints code input (n - suc k) (step code input t).state) none ∙ rest.1 in
       agrees_ended r n e (after code input n s).mode x (machine.prints code input n s) (ap (λ z. z.mode) state ∙ rest.0) printed means says
 
   -- one more visit
@@ -112,7 +114,7 @@ module _ (code : PlainCode) (input : List ℕ) where
   no_entry_ends : (t : State) → IsFailing [] t → ((step code input t).state.mode ≡ Ended end.Failed) × ((step code input t).printed ≡ [])
   no_entry_ends t h =
       let is : step code input t ≡ machine.popped_to (machine.ticked code input t) [] =
-          ap (λ m. machine.step_in code input m t) h.mode ∙ ap (machine.popped_to (machine.ticked code input t)) h.entries in
+      ap (λ m. machine.step_in code input m t) h.mode ∙ ap (machine.popped_to (machine.ticked code input t)) h.entries in
       (ap (λ z. z.state.mode) is, ap (λ z. z.printed) is)
 
   -- one step of a state where an alternative of the whole program leaves off ends in success
@@ -137,6 +139,7 @@ module _ (code : PlainCode) (input : List ℕ) where
       at_n ge Going is none = record { visits = 0; front = subst (λ b. HasFront {A = NoYield} (Fault f) b 0) (sym none) nothing; paid = omega (arith, h.2) }
       at_n ge Failing is none = record { visits = 0; front = subst (λ b. HasFront {A = NoYield} (Fault f) b 0) (sym none) nothing; paid = omega (arith, h.2) }
       at_n ge Stuck is none = record { visits = 0; front = subst (λ b. HasFront {A = NoYield} (Fault f) b 0) (sym none) nothing; paid = omega (arith, h.2) }
+
       by : (h.0 < n) ⊎ (n ≤ h.0) → AgreesFrom {A = NoYield} r n (Fault f) (after code input n s).mode (machine.prints code input n s)
       by (inl lt) = let z = still h.1 (end.Fault f) h.4 in
           past_end h.0 n r s h.1 (end.Fault f) (Fault f) lt h.3 (ap (λ y. y.mode) z.0 ∙ h.4) z.1 refl refl
@@ -154,13 +157,13 @@ module _ (code : PlainCode) (input : List ℕ) where
           let sum : h.0 + suc (n - suc h.0) ≡ n = omega arith in
           let rest : after code input (suc (n - suc h.0)) h.1 ≡ after code input (n - suc h.0) h.4 = ap (after code input (n - suc h.0)) h.5.leads in
           let state : after code input n s ≡ after code input (n - suc h.0) h.4 =
-              ap (λ m. after code input m s) (sym sum) ∙ after_sum code input h.0 (suc (n - suc h.0)) s ∙ ap (after code input (suc (n - suc h.0))) h.3.steps ∙ rest in
+          ap (λ m. after code input m s) (sym sum) ∙ after_sum code input h.0 (suc (n - suc h.0)) s ∙ ap (after code input (suc (n - suc h.0))) h.3.steps ∙ rest in
           let printed : machine.prints code input n s ≡ bytes ++ machine.prints code input (n - suc h.0) h.4 =
-              ap (λ m. machine.prints code input m s) (sym sum) ∙ prints_sum code input h.0 (suc (n - suc h.0)) s
-              ∙ ap (λ b. b ++ machine.prints code input (suc (n - suc h.0)) (after code input h.0 s)) h.3.silent
-              ∙ ap (machine.prints code input (suc (n - suc h.0))) h.3.steps
-              ∙ ap (λ b. b ++ machine.prints code input (n - suc h.0) (step code input h.1).state) h.5.printed
-              ∙ ap (λ t. bytes ++ machine.prints code input (n - suc h.0) t) h.5.leads in
+          ap (λ m. machine.prints code input m s) (sym sum) ∙ prints_sum code input h.0 (suc (n - suc h.0)) s
+          ∙ ap (λ b. b ++ machine.prints code input (suc (n - suc h.0)) (after code input h.0 s)) h.3.silent
+          ∙ ap (machine.prints code input (suc (n - suc h.0))) h.3.steps
+          ∙ ap (λ b. b ++ machine.prints code input (n - suc h.0) (step code input h.1).state) h.5.printed
+          ∙ ap (λ t. bytes ++ machine.prints code input (n - suc h.0) t) h.5.leads in
           print_agrees r n (suc h.0) bytes (first e) (after code input n s).mode (machine.prints code input (n - suc h.0) h.4) (machine.prints code input n s)
           (omega arith) h.2 printed
           (subst (λ t. AgreesFrom (r - suc h.0) (n - suc h.0) (first e) t.mode (machine.prints code input (n - suc h.0) h.4)) (sym state) later)

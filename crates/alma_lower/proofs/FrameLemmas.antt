@@ -1,5 +1,5 @@
 -- Writes to the top frame, and what they leave of the frames that stand for a store.
-use Rattle.std.proofs.Common.{◌≡◌, ◌≢◌, Bool, true, ℕ, zero, suc, ◌+◌, ◌-◌, ◌<◌, ◌≤◌, ◌⊎◌, inl, inr, List, [], ◌∷◌, length, get_or, set, Some, refl, sym, ap, ◌∙◌, subst, arith, ℤ}
+use Rattle.std.proofs.Common.{◌≡◌, ◌≢◌, true, ℕ, zero, suc, ◌+◌, ◌-◌, ◌<◌, ◌≤◌, ◌⊎◌, inl, inr, List, [], ◌∷◌, length, get_or, set, Some, refl, sym, ap, ◌∙◌, subst, arith, ℤ}
 use Rattle.std.specs.Prelude.{slice_get}
 use Rattle.std.proofs.lemmas.Bool.{cases_eq, cases_lt}
 use Rattle.std.proofs.lemmas.List.{get_or-set_same, get_or-set_other, length-set}
@@ -111,11 +111,12 @@ module _ (p : Program) (code : PlainCode) where
     where
       at : length now - 1 ≡ length v - 1
       at = ap (λ m. m - 1) h.count
+
       by : (k : ℕ) → k < length v → (k ≡ length now - 1) ⊎ (k ≡ length now - 1 → ⊥) → SameFrame p code (get_or v k store.no_frame) (get_or (top_written now n c) k picture.no_frame)
       by k lt (inl e) =
           let there : length now - 1 < length now = omega (arith, h.count, h.some) in
           let is : get_or (top_written now n c) k picture.no_frame ≡ frame_with (last_frame now) n c =
-              ap (λ m. get_or (top_written now n c) m picture.no_frame) e ∙ get_or-set_same now (length now - 1) (frame_with (last_frame now) n c) picture.no_frame there in
+          ap (λ m. get_or (top_written now n c) m picture.no_frame) e ∙ get_or-set_same now (length now - 1) (frame_with (last_frame now) n c) picture.no_frame there in
           let of_top : get_or v k store.no_frame ≡ top_frame v = ap (λ m. get_or v m store.no_frame) (e ∙ at) in
           subst (λ f. SameFrame p code f (get_or (top_written now n c) k picture.no_frame)) (sym of_top)
           (subst (SameFrame p code (top_frame v)) (sym is) (same_temp (top_frame v) (last_frame now) n c behind (top_same v now h)))
@@ -139,9 +140,9 @@ module _ (p : Program) (code : PlainCode) where
           → SameFrame p code (get_or (set v f (with_cell (get_or v f store.no_frame) n (Number x))) k store.no_frame) (get_or (written now f n (cell.Int x)) k picture.no_frame)
       by k lt (inl e) =
           let right : get_or (written now f n (cell.Int x)) k picture.no_frame ≡ frame_with (get_or now f picture.no_frame) n (cell.Int x) =
-              ap (λ m. get_or (written now f n (cell.Int x)) m picture.no_frame) e ∙ get_or-set_same now f (frame_with (get_or now f picture.no_frame) n (cell.Int x)) picture.no_frame (omega (arith, live, h.count)) in
+          ap (λ m. get_or (written now f n (cell.Int x)) m picture.no_frame) e ∙ get_or-set_same now f (frame_with (get_or now f picture.no_frame) n (cell.Int x)) picture.no_frame (omega (arith, live, h.count)) in
           let left : get_or (set v f (with_cell (get_or v f store.no_frame) n (Number x))) k store.no_frame ≡ with_cell (get_or v f store.no_frame) n (Number x) =
-              ap (λ m. get_or (set v f (with_cell (get_or v f store.no_frame) n (Number x))) m store.no_frame) e ∙ get_or-set_same v f (with_cell (get_or v f store.no_frame) n (Number x)) store.no_frame live in
+          ap (λ m. get_or (set v f (with_cell (get_or v f store.no_frame) n (Number x))) m store.no_frame) e ∙ get_or-set_same v f (with_cell (get_or v f store.no_frame) n (Number x)) store.no_frame live in
           subst (λ g. SameFrame p code g (get_or (written now f n (cell.Int x)) k picture.no_frame)) (sym left)
           (subst (SameFrame p code (with_cell (get_or v f store.no_frame) n (Number x))) (sym right) (same_var (get_or v f store.no_frame) (get_or now f picture.no_frame) n x there kind fits (h.frames f live)))
       by k lt (inr ne) =
@@ -239,17 +240,19 @@ module _ (p : Program) (code : PlainCode) where
     where
       long : length (written now f n (cell.Int x)) ≡ length now
       long = length-set now f (frame_with (get_or now f picture.no_frame) n (cell.Int x))
+
       at : (k lo2 : ℕ) → (k ≡ f) ⊎ (k ≡ f → ⊥) → KeptBelow p code lo2 (get_or now k picture.no_frame) (get_or (written now f n (cell.Int x)) k picture.no_frame)
       at k lo2 (inl e) =
           let is : get_or (written now f n (cell.Int x)) k picture.no_frame ≡ frame_with (get_or now k picture.no_frame) n (cell.Int x) =
-              ap (λ m. get_or (written now f n (cell.Int x)) m picture.no_frame) e ∙ get_or-set_same now f (frame_with (get_or now f picture.no_frame) n (cell.Int x)) picture.no_frame (omega (arith, live, h.count))
-              ∙ ap (λ m. frame_with (get_or now m picture.no_frame) n (cell.Int x)) (sym e) in
+          ap (λ m. get_or (written now f n (cell.Int x)) m picture.no_frame) e ∙ get_or-set_same now f (frame_with (get_or now f picture.no_frame) n (cell.Int x)) picture.no_frame (omega (arith, live, h.count))
+          ∙ ap (λ m. frame_with (get_or now m picture.no_frame) n (cell.Int x)) (sym e) in
           let here : n < length (get_or v k store.no_frame).cells = subst (λ m. n < length (get_or v m store.no_frame).cells) (sym e) there in
           subst (KeptBelow p code lo2 (get_or now k picture.no_frame)) (sym is)
           (kept_put lo2 (get_or v k store.no_frame) (get_or now k picture.no_frame) n (cell.Int x) here (h.frames k (omega (arith, e, live))))
       at k lo2 (inr ne) =
           subst (KeptBelow p code lo2 (get_or now k picture.no_frame)) (sym (get_or-set_other now f k (frame_with (get_or now f picture.no_frame) n (cell.Int x)) picture.no_frame ne))
           (kept_self lo2 (get_or now k picture.no_frame))
+
       ap_top : KeptBelow p code lo (last_frame now) (last_frame (written now f n (cell.Int x)))
       ap_top =
           let last : length (written now f n (cell.Int x)) - 1 ≡ length now - 1 = ap (λ m. m - 1) long in
@@ -279,15 +282,19 @@ module _ (p : Program) (code : PlainCode) where
     where
       in_later : q.frame < length v'
       in_later = omega (arith, numbers.frame, h.count, fit.same_count, fit.stand.count)
+
       same_routine : (get_or later q.frame picture.no_frame).routine ≡ (get_or now q.frame picture.no_frame).routine
       same_routine = frame_routine lo q.frame v v' now later numbers.frame h fit
+
       same_kinds : (get_or later q.frame picture.no_frame).kinds ≡ (get_or now q.frame picture.no_frame).kinds
       same_kinds = (fit.stand.frames q.frame in_later).kinds ∙ ap (kinds_at code) same_routine ∙ sym (h.frames q.frame numbers.frame).kinds
+
       same_slots : length (get_or v' q.frame store.no_frame).cells ≡ length (get_or v q.frame store.no_frame).cells
       same_slots =
           (fit.stand.frames q.frame in_later).slots
           ∙ ap (λ r. (routine_at p r).slots) ((fit.stand.frames q.frame in_later).routine ∙ same_routine ∙ sym (h.frames q.frame numbers.frame).routine)
           ∙ sym (h.frames q.frame numbers.frame).slots
+
       there : (k : ℕ) → k < q.size → q.slot + k < length (get_or v' q.frame store.no_frame).cells
       there k lt = omega (arith, numbers.cells k lt, same_slots)
 
@@ -302,7 +309,8 @@ module _ (p : Program) (code : PlainCode) where
       let kinds_long : q.slot < length (get_or now q.frame picture.no_frame).kinds = omega (arith, there, frame.within, frame.full) in
       let found : number_at now q.frame q.slot ≡ true = ap is_number (slice_get-get_or (get_or now q.frame picture.no_frame).kinds q.slot slot.Mark kinds_long ∙ ap Some kind) in
       let content : SameContent slot.Number (cell_of v q) (cell_at now q.frame q.slot cell.Unset) =
-          subst (λ k. SameContent k (cell_of v q) (cell_at now q.frame q.slot cell.Unset)) kind (frame.cells q.slot there) in
-      (ap (λ f. number_at now f c.slot) (sym same.frame) ∙ ap (number_at now q.frame) (sym same.slot) ∙ found,
-       subst (λ f. SameContent slot.Number (cell_of v q) (cell_at now f c.slot cell.Unset)) same.frame
-       (subst (λ n. SameContent slot.Number (cell_of v q) (cell_at now q.frame n cell.Unset)) same.slot content))
+      subst (λ k. SameContent k (cell_of v q) (cell_at now q.frame q.slot cell.Unset)) kind (frame.cells q.slot there) in (
+        ap (λ f. number_at now f c.slot) (sym same.frame) ∙ ap (number_at now q.frame) (sym same.slot) ∙ found,
+        subst (λ f. SameContent slot.Number (cell_of v q) (cell_at now f c.slot cell.Unset)) same.frame
+            (subst (λ n. SameContent slot.Number (cell_of v q) (cell_at now q.frame n cell.Unset)) same.slot content),
+      )

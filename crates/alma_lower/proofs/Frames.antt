@@ -1,5 +1,5 @@
 -- How the frames of the machine stand for a store, and where a phrase leaves them.
-use Rattle.std.proofs.Common.{◌≡◌, ℕ, suc, ◌+◌, ◌-◌, ◌<◌, ◌≤◌, List, length, get_or, Some}
+use Rattle.std.proofs.Common.{◌≡◌, ℕ, suc, ◌+◌, ◌<◌, ◌≤◌, List, length, get_or}
 use Rattle.std.specs.Prelude.{slice_get, true}
 use Rattle.alma_base.specs.Numbers.{is_integer}
 use Rattle.alma_code.specs.declared.cell.Cell.{Cell}
@@ -14,7 +14,6 @@ use Rattle.alma_code.specs.Machine.{State, Going}
 use Rattle.alma_ir.specs.Tree.{Program, routine_at}
 use Rattle.alma_mean.specs.Store.{Store, Place, Frame, Unknown, Number, At, top_frame}
 use Rattle.alma_mean.specs.Store as store
-use Rattle.alma_mean.specs.Events.{Flow, Go, Return}
 
 -- a cell of the machine, in a slot of this kind, holds what a cell of the store is; each number is one of INTEGER
 abbrev pub SameContent : SlotKind → store.Cell → Cell → Type 0

@@ -4,7 +4,7 @@
 -- `base` below its own. r steps are paid for, each visit pays for 32 more; at an alternative `left` steps are still paid
 -- for, where `more` steps may be had on credit; q steps must still be made before a cut. `fits` says where and how an
 -- alternative leaves the machine. When something fails again, the entries of `base` may have got other carries.
-use Rattle.std.proofs.Common.{◌≡◌, ℕ, zero, suc, ◌+◌, ◌-◌, ◌≤◌, List, [], ◌∷◌, ◌++◌, refl, sym, ap, ◌∙◌, subst, arith, append_assoc, append-nil}
+use Rattle.std.proofs.Common.{◌≡◌, ℕ, zero, suc, ◌+◌, ◌-◌, ◌≤◌, List, [], ◌∷◌, ◌++◌, refl, sym, ap, ◌∙◌, arith, append_assoc, append-nil}
 use Rattle.alma_code.specs.declared.step.End.TheVariants as end
 use Rattle.alma_code.specs.Picture.{PlainEntry}
 use Rattle.alma_code.specs.Plain.{PlainCode}
@@ -269,15 +269,29 @@ module _ (code : PlainCode) (input : List ℕ) where
   then_goes left left2 more j fits fits2 base (Print bytes e) s r q le k h =
       (h.0, h.1, h.2, h.3, h.4, h.5, h.6, then_goes left left2 more j fits fits2 base e h.4 (r - suc h.0) (q - suc h.0) le k h.7)
   then_goes left left2 more j fits fits2 base (Alt v w e) s r q le k h =
-      let more_steps = k v w h.1 (base ++ h.4) h.5 h.6 in
-      (h.0 + j, more_steps.0, omega (arith, h.2), and_then h.3 more_steps.1, h.4, more_steps.2, more_steps.3,
-       λ base2 u like failing. weaker left2 more fits2 base2 e u 0 0 (q - (h.0 + j)) (q - h.0) (omega arith) (omega arith) (then_goes left left2 more j fits fits2 base2 e u 0 (q - h.0) le k (h.7 base2 u like failing)))
+      let more_steps = k v w h.1 (base ++ h.4) h.5 h.6 in (
+        h.0 + j,
+        more_steps.0,
+        omega (arith, h.2),
+        and_then h.3 more_steps.1,
+        h.4,
+        more_steps.2,
+        more_steps.3,
+        λ base2 u like failing. weaker left2 more fits2 base2 e u 0 0 (q - (h.0 + j)) (q - h.0) (omega arith) (omega arith) (then_goes left left2 more j fits fits2 base2 e u 0 (q - h.0) le k (h.7 base2 u like failing)),
+      )
 
   -- an alternative at hand
   pub one_goes : {A : Type 0} (left more : ℕ) (fits : Store → Flow A → State → Type 0) (base : List PlainEntry) (v : Store) (y : A) (s : State) (r q : ℕ) → left ≤ r + more → IsGoing base s → fits v (Go y) s → Goes left more fits base (one v y) s r q
-  one_goes left more fits base v y s r q le going fit =
-      (0, s, omega arith, no_step s, [], record { mode = going.mode; entries = going.entries ∙ sym (append-nil base) }, fit,
-       λ base2 u like failing. (0, u, omega arith, no_step u, record { mode = failing.mode; entries = failing.entries ∙ append-nil base2 }))
+  one_goes left more fits base v y s r q le going fit = (
+    0,
+    s,
+    omega arith,
+    no_step s,
+    [],
+    record { mode = going.mode; entries = going.entries ∙ sym (append-nil base) },
+    fit,
+    λ base2 u like failing. (0, u, omega arith, no_step u, record { mode = failing.mode; entries = failing.entries ∙ append-nil base2 }),
+  )
 
   -- ---- what is left at an alternative, in other words
 

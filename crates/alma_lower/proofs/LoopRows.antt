@@ -1,19 +1,18 @@
 -- The rows of IF, WHILE and REPEAT.
-use Rattle.std.proofs.Common.{◌≡◌, ℕ, zero, suc, ◌+◌, ◌-◌, ◌<◌, ◌≤◌, List, [], ◌∷◌, length, refl, sym, ap, ◌∙◌, subst, arith, ℤ}
+use Rattle.std.proofs.Common.{◌≡◌, ℕ, suc, ◌+◌, ◌≤◌, List, sym, subst, arith, ℤ}
 use Rattle.alma_code.specs.declared.instr.Instr.TheVariants as I
 use Rattle.alma_code.specs.Picture.{PlainFrame, PlainEntry}
 use Rattle.alma_code.specs.Plain.{PlainCode}
 use Rattle.alma_code.specs.Machine.{State}
-use Rattle.alma_ir.specs.Tree.{Program, routine_at}
+use Rattle.alma_ir.specs.Tree.{Program}
 use Rattle.alma_mean.specs.Store.{Store, top_frame}
 use Rattle.alma_mean.specs.Events.{Events, NoYield, Flow, Go, Return, Visit, Cut, one, bind, visit_each, node, on_first}
 use Rattle.alma_mean.specs.Rows.{while_turn, repeat_turn}
-use Rattle.alma_lower.proofs.Goes.{Silently, IsGoing, IsOn, and_then, Goes, before, weaker, bind_goes, node_goes, one_goes, no_step, then_goes, visited_goes, credited}
+use Rattle.alma_lower.proofs.Goes.{Silently, IsGoing, IsOn, and_then, Goes, before, weaker, bind_goes, one_goes, no_step, then_goes, visited_goes, credited}
 use Rattle.alma_lower.proofs.Frames.{StandFor, Fits, IsAt}
-use Rattle.alma_lower.proofs.FrameLemmas.{fits_self}
 use Rattle.alma_lower.proofs.Simple.{GivesOne}
 use Rattle.alma_lower.proofs.Steps.{InstrAt, jump_step, Moves}
-use Rattle.alma_lower.proofs.ExprRows.{Left, Begun, begun, RunsFrom, RunsExpr, InsideOf, as_node, one_more, left_is_at, left_on}
+use Rattle.alma_lower.proofs.ExprRows.{Left, Begun, begun, RunsExpr, as_node, one_more, left_is_at, left_on}
 use Rattle.alma_lower.proofs.StmtRows.{LeavesStmt, RunsStmt, RunsStmts, whole_leaves, tested, condition_goes}
 
 module _ (p : Program) (code : PlainCode) (input : List ℕ) where
@@ -59,21 +58,23 @@ module _ (p : Program) (code : PlainCode) (input : List ℕ) where
     where
       b0 : Begun p code input
       b0 = begun p code input v now held
+
       on_none : (t : State) → IsGoing held t → Left p code input (end_at + 1) lo r now v t → Goes code input 0 24 (LeavesStmt p code input (end_at + 1) lo r b0) held (one v tt) t 7 q
       on_none t going left = one_goes code input 0 24 (LeavesStmt p code input (end_at + 1) lo r b0) held v tt t 7 q (omega arith) going left
+
       on_found : (t : State) → IsGoing held t → Left p code input (m + 1) lo r now v t → Goes code input 0 24 (LeavesStmt p code input (end_at + 1) lo r b0) held (bind (body v) (λ u _. again u)) t 39 q
       on_found t going left =
           let b1 = begun p code input v t.now held in
           bind_goes code input 8 0 24 (LeavesStmt p code input end_at lo2 r b1) (LeavesStmt p code input (end_at + 1) lo r b0) held (body v) (λ u _. again u) t 39 q 8 (omega arith) (omega arith)
           (weaker code input 8 0 (LeavesStmt p code input end_at lo2 r b1) held (body v) t 39 8 q q (omega arith) (omega arith) (runs_body 8 (omega arith) v t.now held t (left_is_at p code input (m + 1) lo r now v t held going left) left.fits.stand left.routine))
           (λ v1 y t1 held1 going1 left1.
-            let both = left_on p code input (m + 1) end_at lo lo2 r now v v1 t t1 lt left left1 in
-            let z = jump_step code input end_at t1.now held1 t1 (left_is_at p code input end_at lo2 r t.now v1 t1 held1 going1 left1) top back in
-            let at_top = jumped_left end_at top lo r now v1 t1 held1 both _ z in
-            let going2 = moved_going end_at top t1.now held1 t1 _ z in
-            before code input 0 24 (LeavesStmt p code input (end_at + 1) lo r b0) held1 (again v1) t1 z.to 1 8 0 q q z.silently (omega arith) (omega arith)
-            (whole_leaves p code input top (end_at + 1) lo lo r 0 24 b0 v1 z.to held1 (again v1) z.to 0 q (omega arith) at_top
-            (runs_again v1 z.to.now held1 z.to (left_is_at p code input top lo r now v1 z.to held1 going2 at_top) at_top.fits.stand at_top.routine)))
+          let both = left_on p code input (m + 1) end_at lo lo2 r now v v1 t t1 lt left left1 in
+          let z = jump_step code input end_at t1.now held1 t1 (left_is_at p code input end_at lo2 r t.now v1 t1 held1 going1 left1) top back in
+          let at_top = jumped_left end_at top lo r now v1 t1 held1 both _ z in
+          let going2 = moved_going end_at top t1.now held1 t1 _ z in
+          before code input 0 24 (LeavesStmt p code input (end_at + 1) lo r b0) held1 (again v1) t1 z.to 1 8 0 q q z.silently (omega arith) (omega arith)
+          (whole_leaves p code input top (end_at + 1) lo lo r 0 24 b0 v1 z.to held1 (again v1) z.to 0 q (omega arith) at_top
+          (runs_again v1 z.to.now held1 z.to (left_is_at p code input top lo r now v1 z.to held1 going2 at_top) at_top.fits.stand at_top.routine)))
           (λ v1 n t1 no. no)
 
   -- a turn whose condition is cut off
@@ -95,23 +96,24 @@ module _ (p : Program) (code : PlainCode) (input : List ℕ) where
     where
       module_leaves : (exit : ℕ) → Store → Flow NoYield → State → Type 0
       module_leaves exit = LeavesStmt p code input exit lo r (begun p code input v now held)
+
       decides : (v1 : Store) (t1 : State) (held1 : List PlainEntry) → IsGoing held1 t1 → Left p code input c lo r now v1 t1
           → Goes code input 0 24 (LeavesStmt p code input (m + 3) lo r (begun p code input v now held)) held1 (on_first (cond v1) (λ x _. one x tt) (λ _. again v1)) t1 8 q
       decides v1 t1 held1 going1 left1 =
           subst (λ e. Goes code input 0 24 (LeavesStmt p code input (m + 3) lo r (begun p code input v now held)) held1 (on_first e (λ x _. one x tt) (λ _. again v1)) t1 8 q) (sym (condition.is v1))
           (condition_goes p code input 0 24 (LeavesStmt p code input (m + 3) lo r (begun p code input v now held)) (λ x _. one x tt) (λ _. again v1) m (m + 2) lo2 r (begun p code input v1 t1.now held1) q test
           (λ t2 going2 left2.
-            let both = left_on p code input c (m + 1) lo lo2 r now v1 v1 t1 t2 lt left1 left2 in
-            let z = jump_step code input (m + 1) t2.now held1 t2 (left_is_at p code input (m + 1) lo2 r t1.now v1 t2 held1 going2 left2) (m + 3) out in
-            one_more p code input 0 24 (LeavesStmt p code input (m + 3) lo r (begun p code input v now held)) held1 (one v1 tt) t2 z.to 38 q z.silently
-            (one_goes code input 0 24 (LeavesStmt p code input (m + 3) lo r (begun p code input v now held)) held1 v1 tt z.to 38 q (omega arith) (moved_going (m + 1) (m + 3) t2.now held1 t2 _ z) (jumped_left (m + 1) (m + 3) lo r now v1 t2 held1 both _ z)))
+          let both = left_on p code input c (m + 1) lo lo2 r now v1 v1 t1 t2 lt left1 left2 in
+          let z = jump_step code input (m + 1) t2.now held1 t2 (left_is_at p code input (m + 1) lo2 r t1.now v1 t2 held1 going2 left2) (m + 3) out in
+          one_more p code input 0 24 (LeavesStmt p code input (m + 3) lo r (begun p code input v now held)) held1 (one v1 tt) t2 z.to 38 q z.silently
+          (one_goes code input 0 24 (LeavesStmt p code input (m + 3) lo r (begun p code input v now held)) held1 v1 tt z.to 38 q (omega arith) (moved_going (m + 1) (m + 3) t2.now held1 t2 _ z) (jumped_left (m + 1) (m + 3) lo r now v1 t2 held1 both _ z)))
           (λ t2 going2 left2.
-            let both = left_on p code input c (m + 2) lo lo2 r now v1 v1 t1 t2 lt left1 left2 in
-            let z = jump_step code input (m + 2) t2.now held1 t2 (left_is_at p code input (m + 2) lo2 r t1.now v1 t2 held1 going2 left2) top back in
-            let at_top = jumped_left (m + 2) top lo r now v1 t2 held1 both _ z in
-            before code input 0 24 (LeavesStmt p code input (m + 3) lo r (begun p code input v now held)) held1 (again v1) t2 z.to 1 7 0 q u z.silently (omega arith) (omega arith)
-            (whole_leaves p code input top (m + 3) lo lo r 0 24 (begun p code input v now held) v1 z.to held1 (again v1) z.to 0 u (omega arith) at_top
-            (runs_again v1 z.to.now held1 z.to (left_is_at p code input top lo r now v1 z.to held1 (moved_going (m + 2) top t2.now held1 t2 _ z) at_top) at_top.fits.stand at_top.routine)))
+          let both = left_on p code input c (m + 2) lo lo2 r now v1 v1 t1 t2 lt left1 left2 in
+          let z = jump_step code input (m + 2) t2.now held1 t2 (left_is_at p code input (m + 2) lo2 r t1.now v1 t2 held1 going2 left2) top back in
+          let at_top = jumped_left (m + 2) top lo r now v1 t2 held1 both _ z in
+          before code input 0 24 (LeavesStmt p code input (m + 3) lo r (begun p code input v now held)) held1 (again v1) t2 z.to 1 7 0 q u z.silently (omega arith) (omega arith)
+          (whole_leaves p code input top (m + 3) lo lo r 0 24 (begun p code input v now held) v1 z.to held1 (again v1) z.to 0 u (omega arith) at_top
+          (runs_again v1 z.to.now held1 z.to (left_is_at p code input top lo r now v1 z.to held1 (moved_going (m + 2) top t2.now held1 t2 _ z) at_top) at_top.fits.stand at_top.routine)))
           c condition.value condition.runs (condition.gives v1) t1 8 q (omega arith) (left_is_at p code input c lo r now v1 t1 held1 going1 left1) left1.fits.stand left1.routine)
 
   -- ---- IF
@@ -125,11 +127,13 @@ module _ (p : Program) (code : PlainCode) (input : List ℕ) where
     where
       b0 : Begun p code input
       b0 = begun p code input v now held
+
       on_none : (t : State) → IsGoing held t → Left p code input (end_at + 1) lo r now v t → Goes code input 0 24 (LeavesStmt p code input exit lo r b0) held (rest v) t 7 q
       on_none t going left =
           weaker code input 0 24 (LeavesStmt p code input exit lo r b0) held (rest v) t 7 0 q q (omega arith) (omega arith)
           (whole_leaves p code input (end_at + 1) exit lo lo3 r 0 24 b0 v t held (rest v) t 0 q le3 left
           (runs_rest v t.now held t (left_is_at p code input (end_at + 1) lo r now v t held going left) left.fits.stand left.routine))
+
       -- the two jumps out of an arm
       leaves : (t : State) → Left p code input (m + 1) lo r now v t → (x : Store) (w : Flow NoYield) (u : State) (base : List PlainEntry) → IsGoing base u → LeavesStmt p code input end_at lo2 r (begun p code input v t.now held) x w u
           → (z : State) × Silently code input 2 u z × IsGoing base z × LeavesStmt p code input exit lo r b0 x w z
@@ -140,6 +144,7 @@ module _ (p : Program) (code : PlainCode) (input : List ℕ) where
           let b = jump_step code input out a.to.now base a.to (left_is_at p code input out lo r now x a.to base (moved_going end_at out u.now base u _ a) at_out) exit jump in
           (b.to, and_then code input a.silently b.silently, moved_going out exit a.to.now base a.to _ b, jumped_left out exit lo r now x a.to base at_out _ b)
       leaves t left x (Return n) u base going never = absurd never
+
       on_found : (t : State) → IsGoing held t → Left p code input (m + 1) lo r now v t → Goes code input 0 24 (LeavesStmt p code input exit lo r b0) held (visit_each (body v)) t 39 q
       on_found t going left =
           let b1 = begun p code input v t.now held in
@@ -153,10 +158,10 @@ module _ (p : Program) (code : PlainCode) (input : List ℕ) where
   if_row at exit lo r arms q jump runs_arms =
       as_node p code input at r (LeavesStmt p code input exit lo r) arms q
       (λ v now held s is stand routine.
-        let b0 = begun p code input v now held in
-        let w = jump_step code input at now held s is (at + 2) jump in
-        before code input 0 24 (LeavesStmt p code input exit lo r b0) held (arms v) s w.to 1 32 0 q q w.silently (omega arith) (omega arith)
-        (runs_arms v now held w.to w.is stand routine))
+      let b0 = begun p code input v now held in
+      let w = jump_step code input at now held s is (at + 2) jump in
+      before code input 0 24 (LeavesStmt p code input exit lo r b0) held (arms v) s w.to 1 32 0 q q w.silently (omega arith) (omega arith)
+      (runs_arms v now held w.to w.is stand routine))
 
   -- a part as a whole statement
   pub part_as_stmt : (at exit lo r : ℕ) (f : Store → Events NoYield) (q : ℕ) → RunsPart at exit lo r f q → RunsStmt p code input at exit lo r (λ v. node (f v)) q

@@ -1,5 +1,5 @@
 -- The rows of operators and comparisons.
-use Rattle.std.proofs.Common.{◌≡◌, ◌≢◌, ℕ, zero, suc, ◌+◌, ◌-◌, ◌<◌, ◌≤◌, Bool, true, false, not, List, [], ◌∷◌, length, Some, refl, sym, ap, ◌∙◌, subst, arith, ℤ, pos, negsuc, ◌+ℤ◌, ◌-ℤ◌, ◌*ℤ◌, neg_ℤ, ◌≤ℤ◌}
+use Rattle.std.proofs.Common.{◌≡◌, ◌≢◌, ℕ, suc, ◌+◌, ◌<◌, ◌≤◌, Bool, true, false, not, List, Some, refl, sym, ap, ◌∙◌, subst, arith, ℤ, pos, negsuc, ◌+ℤ◌, ◌-ℤ◌, ◌*ℤ◌, neg_ℤ, ◌≤ℤ◌}
 use Rattle.std.specs.Prelude.{slice_get, int_lt, int_le}
 use Rattle.std.proofs.lemmas.Int.{ints}
 use Rattle.std.proofs.lemmas.Bool.Decides.{nat_tests}
@@ -10,25 +10,24 @@ use Rattle.alma_base.proofs.Rests.{rounds_down}
 use Rattle.alma_code.specs.declared.cell.Cell.{Cell}
 use Rattle.alma_code.specs.declared.cell.Cell.TheVariants as cell
 use Rattle.alma_code.specs.declared.cell.SlotKind.TheVariants as slot
-use Rattle.alma_code.specs.declared.instr.Instr.{Instr}
 use Rattle.alma_code.specs.declared.instr.Instr.TheVariants as I
-use Rattle.alma_code.specs.Picture.{PlainFrame, PlainEntry, last_frame}
+use Rattle.alma_code.specs.Picture.{PlainFrame, PlainEntry}
 use Rattle.alma_code.specs.Plain.{PlainCode, kinds_at}
-use Rattle.alma_code.specs.Machine.{State, Stepped, step, put_number, fitted, faulted}
+use Rattle.alma_code.specs.Machine.{State, step, put_number, fitted, faulted}
 use Rattle.alma_ir.specs.declared.phrase.Op.{Op}
 use Rattle.alma_ir.specs.declared.phrase.Op.TheVariants as op
 use Rattle.alma_ir.specs.declared.phrase.Cmp.{Cmp}
 use Rattle.alma_ir.specs.declared.phrase.Cmp.TheVariants as cmp
 use Rattle.alma_ir.specs.Tree.{Program, routine_at}
-use Rattle.alma_mean.specs.Store.{Store, top_frame}
-use Rattle.alma_mean.specs.Events.{Events, Flow, Go, Return, Fault, one, bind, node}
+use Rattle.alma_mean.specs.Store.{Store}
+use Rattle.alma_mean.specs.Events.{Events, Flow, Go, Return, one, bind}
 use Rattle.alma_mean.specs.Arithmetic.{apply_op, apply_sign, check_integer, fault_unless, compares}
-use Rattle.alma_lower.specs.Templates.{op_code, cmp_code}
-use Rattle.alma_lower.proofs.Goes.{Silently, IsGoing, Goes, before, weaker, bind_goes, one_goes, no_step, and_then}
-use Rattle.alma_lower.proofs.Frames.{StandFor, Fits, HasSlots, IsAt}
-use Rattle.alma_lower.proofs.FrameLemmas.{fits_self, fits_on, fits_less, fits_temp, holds_written, holds_other}
-use Rattle.alma_lower.proofs.Steps.{top_written, Holds, HasKind, InstrAt, passed, Writes, Faults, flip_step, equal_step, less_step, less_eq_step, fits_step, overflow_step, neg_does, add_does, sub_does, mul_does, div_does, mod_does, divided, faults_now}
-use Rattle.alma_lower.proofs.ExprRows.{Left, LeavesValue, Begun, begun, Stays, RunsFrom, RunsExpr, InsideOf, as_node, one_more, kind_there, within_frame, slots_behind_routine, some_frames, left_is_at, left_on, kept_slot}
+use Rattle.alma_lower.specs.Templates.{op_code}
+use Rattle.alma_lower.proofs.Goes.{IsGoing, Goes, weaker, bind_goes, one_goes}
+use Rattle.alma_lower.proofs.Frames.{Fits, IsAt}
+use Rattle.alma_lower.proofs.FrameLemmas.{fits_on, fits_temp, holds_written}
+use Rattle.alma_lower.proofs.Steps.{top_written, Holds, HasKind, InstrAt, passed, Writes, flip_step, equal_step, less_step, less_eq_step, fits_step, overflow_step, neg_does, add_does, sub_does, mul_does, div_does, mod_does, divided, faults_now}
+use Rattle.alma_lower.proofs.ExprRows.{Left, LeavesValue, Begun, begun, Stays, RunsExpr, InsideOf, one_more, kind_there, within_frame, slots_behind_routine, some_frames, left_is_at, left_on, kept_slot}
 
 -- ---- numbers
 
@@ -58,11 +57,12 @@ module _ (p : Program) (code : PlainCode) (input : List ℕ) where
   value_left at exit lo r b0 held v t x behind kind integer left going stays w =
       let fit : Fits p code lo t.now v (top_written t.now lo (cell.Int x)) = fits_temp p code lo v t.now lo (cell.Int x) (omega arith) (slots_behind_routine p code input v t.now r left.fits.stand left.routine lo behind) left.fits.stand in
       let whole : Fits p code lo b0.frames v (top_written t.now lo (cell.Int x)) = fits_on p code lo lo v v b0.frames t.now (top_written t.now lo (cell.Int x)) (omega arith) left.fits fit in
-      let holds = holds_written t.now lo (cell.Int x) (some_frames p code input v t.now r left.fits.stand left.routine) (within_frame p code input v t.now r left.fits.stand left.routine lo slot.Number kind) in
-      (record { here = w.is.here; fits = subst (Fits p code lo b0.frames v) (sym w.is.frames) whole; routine = left.routine },
-       subst (λ z. Holds z lo (cell.Int x)) (sym w.is.frames) holds,
-       integer,
-       record { same = stays.same; none = w.is.entries ∙ sym going.entries ∙ stays.none })
+      let holds = holds_written t.now lo (cell.Int x) (some_frames p code input v t.now r left.fits.stand left.routine) (within_frame p code input v t.now r left.fits.stand left.routine lo slot.Number kind) in (
+        record { here = w.is.here; fits = subst (Fits p code lo b0.frames v) (sym w.is.frames) whole; routine = left.routine },
+        subst (λ z. Holds z lo (cell.Int x)) (sym w.is.frames) holds,
+        integer,
+        record { same = stays.same; none = w.is.entries ∙ sym going.entries ∙ stays.none },
+      )
 
   pub going_on : (at : ℕ) (now : List PlainFrame) (held : List PlainEntry) (s : State) (n : ℕ) (c : Cell) → (w : Writes code input at now held s n c) → IsGoing held w.to
   going_on at now held s n c w = record { mode = w.is.mode; entries = w.is.entries }
@@ -81,7 +81,7 @@ module _ (p : Program) (code : PlainCode) (input : List ℕ) where
   pub two_parts : {B : Type 0} (at m1 m2 lo lo2 r : ℕ) (x y : Store → Events ℤ) (fits2 : Begun p code input → Store → Flow B → State → Type 0) (k : Store → ℤ → ℤ → Events B) (q : ℕ) → lo < lo2 → (routine_at p r).slots ≤ lo
       → RunsExpr p code input at m1 lo r x q → RunsExpr p code input m1 m2 lo2 r y q
       → ((b0 : Begun p code input) (held : List PlainEntry) (v : Store) (a b : ℤ) (t : State) → IsGoing held t → Left p code input m2 lo r b0.frames v t → Stays p code input b0 v t → Holds t.now lo (cell.Int a) → is_integer a ≡ true → Holds t.now lo2 (cell.Int b) → is_integer b ≡ true
-          → Goes code input 0 24 (fits2 b0) held (k v a b) t 8 q)
+      → Goes code input 0 24 (fits2 b0) held (k v a b) t 8 q)
       → ((b0 : Begun p code input) (v : Store) (n : _) (t : State) → ⊥ → fits2 b0 v (Return n) t)
       → InsideOf p code input at r fits2 (λ v. bind (x v) (λ t a. bind (y t) (λ u b. k u a b))) q
   two_parts at m1 m2 lo lo2 r x y fits2 k q lt behind runs_x runs_y finish never v now held s is stand routine =
@@ -89,16 +89,16 @@ module _ (p : Program) (code : PlainCode) (input : List ℕ) where
       bind_goes code input 8 0 24 (LeavesValue p code input m1 lo r b0) (fits2 b0) held (x v) (λ t a. bind (y t) (λ u b. k u a b)) s 32 q 8 (omega arith) (omega arith)
       (weaker code input 8 0 (LeavesValue p code input m1 lo r b0) held (x v) s 32 0 q q (omega arith) (omega arith) (runs_x v now held s is stand routine))
       (λ v1 a t1 held1 going1 left1.
-        let b1 = begun p code input v1 t1.now held1 in
-        bind_goes code input 8 0 24 (LeavesValue p code input m2 lo2 r b1) (fits2 b0) held1 (y v1) (λ u b. k u a b) t1 8 q 8 (omega arith) (omega arith)
-        (weaker code input 8 0 (LeavesValue p code input m2 lo2 r b1) held1 (y v1) t1 8 0 q q (omega arith) (omega arith)
-          (runs_y v1 t1.now held1 t1 (left_is_at p code input m1 lo r now v1 t1 held1 going1 left1.0) left1.0.fits.stand left1.0.routine))
-        (λ v2 b t2 held2 going2 left2.
-          let both = left_on p code input m1 m2 lo lo2 r now v1 v2 t1 t2 (omega arith) left1.0 left2.0 in
-          finish b0 held2 v2 a b t2 going2 both
-          (record { same = left2.3.same ∙ left1.3.same; none = left2.3.none ∙ sym going1.entries ∙ left1.3.none })
-          (kept_slot p code input m2 lo2 r lo (cell.Int a) v1 v2 t1.now t2 left1.0.fits.stand left1.0.routine behind lt left2.0 left1.1) left1.2 left2.1 left2.2)
-        (λ v2 n t2 no. never b0 v2 n t2 no))
+      let b1 = begun p code input v1 t1.now held1 in
+      bind_goes code input 8 0 24 (LeavesValue p code input m2 lo2 r b1) (fits2 b0) held1 (y v1) (λ u b. k u a b) t1 8 q 8 (omega arith) (omega arith)
+      (weaker code input 8 0 (LeavesValue p code input m2 lo2 r b1) held1 (y v1) t1 8 0 q q (omega arith) (omega arith)
+      (runs_y v1 t1.now held1 t1 (left_is_at p code input m1 lo r now v1 t1 held1 going1 left1.0) left1.0.fits.stand left1.0.routine))
+      (λ v2 b t2 held2 going2 left2.
+      let both = left_on p code input m1 m2 lo lo2 r now v1 v2 t1 t2 (omega arith) left1.0 left2.0 in
+      finish b0 held2 v2 a b t2 going2 both
+      (record { same = left2.3.same ∙ left1.3.same; none = left2.3.none ∙ sym going1.entries ∙ left1.3.none })
+      (kept_slot p code input m2 lo2 r lo (cell.Int a) v1 v2 t1.now t2 left1.0.fits.stand left1.0.routine behind lt left2.0 left1.1) left1.2 left2.1 left2.2)
+      (λ v2 n t2 no. never b0 v2 n t2 no))
       (λ v1 n t1 no. never b0 v1 n t1 no)
 
   -- ---- comparisons
@@ -162,7 +162,7 @@ module _ (p : Program) (code : PlainCode) (input : List ℕ) where
         by false other = goes other
         by true zero_there =
             let f = faults_now code input t (passed code input t) fault.ZeroDivide
-                (does ∙ ap (λ b. if_true b (λ _. faulted fault.ZeroDivide (passed code input t)) (λ _. fitted (passed code input t) z (λ x. put_number (passed code input t) lo x))) zero_there) in
+            (does ∙ ap (λ b. if_true b (λ _. faulted fault.ZeroDivide (passed code input t)) (λ _. fitted (passed code input t) z (λ x. put_number (passed code input t) lo x))) zero_there) in
             (1, f.to, omega arith, f.silently, f.is)
 
     -- past the test of the divisor
@@ -181,9 +181,9 @@ module _ (p : Program) (code : PlainCode) (input : List ℕ) where
         let does = mod_does code input at t.now held t is_at lo lo lo2 a b i has_a has_b in
         divided_goes b (mod_down_of a b) (one v (mod_down_of a b))
         (λ other.
-          let fits = rest_integer b (mod_down_of a b) fits_b (rounds_down a b (nonzero b other)) in
-          value_goes at at lo r 7 0 b0 held v t (mod_down_of a b) 7 q behind kind fits (omega arith) left going stays
-          (fits_step code input at t.now held t is_at lo (mod_down_of a b) kind_now fits (not_zero b (mod_down_of a b) other does)))
+        let fits = rest_integer b (mod_down_of a b) fits_b (rounds_down a b (nonzero b other)) in
+        value_goes at at lo r 7 0 b0 held v t (mod_down_of a b) 7 q behind kind fits (omega arith) left going stays
+        (fits_step code input at t.now held t is_at lo (mod_down_of a b) kind_now fits (not_zero b (mod_down_of a b) other does)))
         does
 
     pub neg_goes : InstrAt code input at (I.Neg lo lo) → Applies (apply_sign true v a) (at + 1)

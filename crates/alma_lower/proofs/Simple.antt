@@ -1,16 +1,16 @@
 -- Expressions of the built forms give one value and change nothing: what their events are like.
-use Rattle.std.proofs.Common.{◌≡◌, Bool, true, false, not, List, ℕ, ℤ, refl, sym, subst}
+use Rattle.std.proofs.Common.{Bool, true, false, not, List, ℕ, ℤ}
 use Rattle.alma_base.specs.declared.fault.RunFault.{RunFault}
-use Rattle.alma_base.specs.Numbers.{is_integer, is_zero}
+use Rattle.alma_base.specs.Numbers.{is_zero}
 use Rattle.alma_ir.specs.declared.phrase.Op.{Op}
 use Rattle.alma_ir.specs.declared.phrase.Op.TheVariants as op
 use Rattle.alma_ir.specs.declared.phrase.Root.TheVariants as root
 use Rattle.alma_ir.specs.Tree.{Program, Expr, Links, Desig, Const, Load, Chain, Compare, Truth, Known, Chr, CallExpr, no_links, more_links, a_desig, no_sels, more_sels}
 use Rattle.alma_mean.specs.Store.{Store, Place, cell_of}
 use Rattle.alma_mean.specs.Store as store
-use Rattle.alma_mean.specs.Events.{Events, Flow, Go, Return, Visit, Print, Alt, Fail, Fault, Cut, one, join, bind, visit_each, node}
+use Rattle.alma_mean.specs.Events.{Events, Go, Visit, Alt, Fail, Fault, Cut, one, join, bind, visit_each, node}
 use Rattle.alma_mean.specs.Rows.{read_cell}
-use Rattle.alma_mean.specs.Arithmetic.{apply_op, apply_sign, check_integer, fault_unless}
+use Rattle.alma_mean.specs.Arithmetic.{apply_op, apply_sign, fault_unless}
 use Rattle.alma_mean.specs.Meaning.{Level, ev_expr, ev_links, ev_desig}
 use Rattle.alma_lower.specs.Built.{BuiltDesig, BuiltExpr, BuiltLinks}
 

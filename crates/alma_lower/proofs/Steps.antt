@@ -1,5 +1,5 @@
 -- One step of the machine: what an instruction at the address does to the state.
-use Rattle.std.proofs.Common.{◌≡◌, ℕ, zero, suc, ◌+◌, ◌-◌, ◌<◌, Bool, true, false, not, List, [], ◌∷◌, ◌++◌, length, get_or, set, Option, Some, None, refl, sym, ap, ◌∙◌, subst, arith, append-nil, ℤ, ◌+ℤ◌, ◌-ℤ◌, ◌*ℤ◌, neg_ℤ}
+use Rattle.std.proofs.Common.{◌≡◌, ℕ, ◌+◌, ◌-◌, true, false, not, List, [], length, Option, Some, refl, sym, ap, ◌∙◌, subst, append-nil, ℤ, ◌+ℤ◌, ◌-ℤ◌, ◌*ℤ◌, neg_ℤ}
 use Rattle.std.specs.Prelude.{slice_get, int_lt, int_le, nat_eq}
 use Rattle.alma_base.specs.declared.fault.RunFault.{RunFault}
 use Rattle.alma_base.specs.declared.fault.RunFault.TheVariants as fault
@@ -18,7 +18,7 @@ use Rattle.alma_base.specs.Value.{value_text}
 use Rattle.alma_code.specs.Picture.{PlainFrame, PlainEntry, last_frame, written, cell_at}
 use Rattle.alma_code.specs.Carries.{number_at}
 use Rattle.alma_code.specs.Plain.{PlainCode}
-use Rattle.alma_code.specs.Machine.{Mode, Going, Failing, Ended, State, Stepped, act, step, step_in, fetched, ticked, went, faulted, fails_now, goes_to, answered, printed, as_number, number, put_number, to_number, to_place, put_place, fitted, with_slot, with_cell, place, as_place, content, as_content, known, store, stuck, ended, returned, left}
+use Rattle.alma_code.specs.Machine.{Failing, Ended, State, Stepped, act, step, step_in, fetched, ticked, went, faulted, fails_now, goes_to, printed, as_number, number, put_number, to_number, to_place, fitted, with_slot, with_cell, place, as_place, content, as_content, known, store, stuck, ended, returned, left}
 use Rattle.alma_lower.proofs.Goes.{Silently, Prints, IsOn, IsFailing}
 use Rattle.alma_lower.proofs.Frames.{IsAt}
 
@@ -208,11 +208,11 @@ module _ (code : PlainCode) (input : List ℕ) where
     unfolding act
     store_step a b q x i ha hb live =
         let e : step code input s ≡ went (with_cell (passed s) q.frame q.slot (cell.Int x)) =
-            does at now held s (I.Store a b) h i
-            ∙ place_is now (passed s) a q (λ p. number (passed s) b (λ v. store (passed s) p.frame p.slot v went)) h.frames ha
-            ∙ number_is now (passed s) b x (λ v. store (passed s) q.frame q.slot v went) h.frames hb
-            ∙ ap (λ z. if_true (number_at z q.frame q.slot) (λ _. went (with_cell (passed s) q.frame q.slot (cell.Int x))) (λ _. stuck (passed s))) h.frames
-            ∙ ap (λ t. if_true t (λ _. went (with_cell (passed s) q.frame q.slot (cell.Int x))) (λ _. stuck (passed s))) live in
+        does at now held s (I.Store a b) h i
+        ∙ place_is now (passed s) a q (λ p. number (passed s) b (λ v. store (passed s) p.frame p.slot v went)) h.frames ha
+        ∙ number_is now (passed s) b x (λ v. store (passed s) q.frame q.slot v went) h.frames hb
+        ∙ ap (λ z. if_true (number_at z q.frame q.slot) (λ _. went (with_cell (passed s) q.frame q.slot (cell.Int x))) (λ _. stuck (passed s))) h.frames
+        ∙ ap (λ t. if_true t (λ _. went (with_cell (passed s) q.frame q.slot (cell.Int x))) (λ _. stuck (passed s))) live in
         record {
           to = with_cell (passed s) q.frame q.slot (cell.Int x);
           silently = went_on s (with_cell (passed s) q.frame q.slot (cell.Int x)) e;
@@ -250,9 +250,9 @@ module _ (code : PlainCode) (input : List ℕ) where
     unfolding act
     other_goes_on a l x i ha other =
         let e : step code input s ≡ went (passed s) =
-            does at now held s (I.JumpZero a l) h i
-            ∙ number_is now (passed s) a x (λ v. if_true (is_zero v) (λ _. goes_to l (passed s)) (λ _. went (passed s))) h.frames ha
-            ∙ ap (λ t. if_true t (λ _. goes_to l (passed s)) (λ _. went (passed s))) other in
+        does at now held s (I.JumpZero a l) h i
+        ∙ number_is now (passed s) a x (λ v. if_true (is_zero v) (λ _. goes_to l (passed s)) (λ _. went (passed s))) h.frames ha
+        ∙ ap (λ t. if_true t (λ _. goes_to l (passed s)) (λ _. went (passed s))) other in
         record { to = passed s; silently = went_on s (passed s) e; is = record { mode = h.mode; here = ap (λ n. n + 1) h.here; frames = h.frames; entries = h.entries } }
 
     pub record FailsNow : Type 0 where
@@ -279,9 +279,9 @@ module _ (code : PlainCode) (input : List ℕ) where
     unfolding act
     check_passes a x i ha other =
         let e : step code input s ≡ went (passed s) =
-            does at now held s (I.Check a) h i
-            ∙ number_is now (passed s) a x (λ v. if_true (is_zero v) (λ _. fails_now (passed s)) (λ _. went (passed s))) h.frames ha
-            ∙ ap (λ t. if_true t (λ _. fails_now (passed s)) (λ _. went (passed s))) other in
+        does at now held s (I.Check a) h i
+        ∙ number_is now (passed s) a x (λ v. if_true (is_zero v) (λ _. fails_now (passed s)) (λ _. went (passed s))) h.frames ha
+        ∙ ap (λ t. if_true t (λ _. fails_now (passed s)) (λ _. went (passed s))) other in
         record { to = passed s; silently = went_on s (passed s) e; is = record { mode = h.mode; here = ap (λ n. n + 1) h.here; frames = h.frames; entries = h.entries } }
 
     pub fail_step : InstrAt at I.Fail → FailsNow
@@ -293,9 +293,9 @@ module _ (code : PlainCode) (input : List ℕ) where
     unfolding act
     return_ends i alone =
         let e : step code input s ≡ ended end.Succeeded (passed s) =
-            does at now held s I.Return h i
-            ∙ ap (λ z. if_true (nat_eq (length z) 1) (λ _. ended end.Succeeded (passed s)) (λ _. returned (left (passed s)))) h.frames
-            ∙ ap (λ n. if_true (nat_eq n 1) (λ _. ended end.Succeeded (passed s)) (λ _. returned (left (passed s)))) alone in
+        does at now held s I.Return h i
+        ∙ ap (λ z. if_true (nat_eq (length z) 1) (λ _. ended end.Succeeded (passed s)) (λ _. returned (left (passed s)))) h.frames
+        ∙ ap (λ n. if_true (nat_eq n 1) (λ _. ended end.Succeeded (passed s)) (λ _. returned (left (passed s)))) alone in
         (ap (λ x. x.state.mode) e, ap (λ x. x.printed) e)
 
     -- ---- prints

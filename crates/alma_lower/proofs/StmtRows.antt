@@ -1,8 +1,7 @@
 -- The rows of statements: each is what its code does, given what its parts do.
-use Rattle.std.proofs.Common.{◌≡◌, ◌⊎◌, inl, inr, ℕ, zero, suc, ◌+◌, ◌-◌, ◌<◌, ◌≤◌, Bool, true, false, not, List, [], ◌∷◌, ◌++◌, length, get_or, set, Some, refl, sym, ap, ◌∙◌, subst, arith, ℤ}
+use Rattle.std.proofs.Common.{◌≡◌, ◌⊎◌, inl, inr, ℕ, ◌+◌, ◌-◌, ◌<◌, ◌≤◌, Bool, true, false, List, length, get_or, set, refl, sym, ap, ◌∙◌, subst, arith, ℤ}
 use Rattle.std.proofs.lemmas.Bool.{cases_eq}
 use Rattle.std.proofs.lemmas.List.{get_or-set_same, get_or-set_other, length-set}
-use Rattle.alma_base.specs.declared.fault.RunFault.{RunFault}
 use Rattle.alma_base.specs.declared.fault.RunFault.TheVariants as fault
 use Rattle.alma_base.specs.Choice.{if_true}
 use Rattle.alma_base.specs.Numbers.{is_integer, is_zero}
@@ -19,16 +18,16 @@ use Rattle.alma_ir.specs.declared.phrase.WriteAs.TheVariants as write_as
 use Rattle.alma_ir.specs.Tree.{Program, routine_at}
 use Rattle.alma_mean.specs.Store.{Store, Place, Number, put_at, top_frame}
 use Rattle.alma_mean.specs.Store as store
-use Rattle.alma_mean.specs.Events.{Events, NoYield, Flow, Go, Return, Visit, Print, Alt, Fail, Fault, Cut, one, join, bind, visit_each, node, on_first}
+use Rattle.alma_mean.specs.Events.{Events, NoYield, Flow, Go, Return, Visit, Print, Fail, Fault, Cut, one, join, bind, visit_each, node, on_first}
 use Rattle.alma_mean.specs.Arithmetic.{check_range, fault_unless, written_text}
 use Rattle.alma_lower.specs.Built.{whole_range}
 use Rattle.alma_lower.specs.Templates.{write_code}
-use Rattle.alma_lower.proofs.Goes.{Silently, IsGoing, IsOn, and_then, Goes, before, weaker, bind_goes, node_goes, one_goes, no_step, then_goes, visited_goes, credited}
+use Rattle.alma_lower.proofs.Goes.{Silently, IsGoing, IsOn, and_then, Goes, before, weaker, bind_goes, node_goes, one_goes, no_step, then_goes, credited}
 use Rattle.alma_lower.proofs.Frames.{StandFor, Fits, AreNumbers, SamePlace, IsAt}
-use Rattle.alma_lower.proofs.FrameLemmas.{fits_self, fits_on, fits_less, fits_put, put_is, numbers_kept, content_there}
+use Rattle.alma_lower.proofs.FrameLemmas.{fits_self, fits_on, fits_put, put_is, numbers_kept, content_there}
 use Rattle.alma_lower.proofs.Simple.{GivesOne, on_visit, on_one, at_fault, at_cut}
-use Rattle.alma_lower.proofs.Steps.{Holds, InstrAt, check_fails, check_passes, zero_jumps, other_goes_on, jump_step, store_step, write_int_step, write_bool_step}
-use Rattle.alma_lower.proofs.ExprRows.{Left, LeavesValue, LeavesPlace, Begun, begun, Stays, RunsFrom, RunsExpr, RunsPlace, InsideOf, as_node, one_more, left_is_at, left_on, kept_slot}
+use Rattle.alma_lower.proofs.Steps.{Holds, InstrAt, check_fails, check_passes, zero_jumps, other_goes_on, store_step, write_int_step, write_bool_step}
+use Rattle.alma_lower.proofs.ExprRows.{Left, LeavesValue, LeavesPlace, Begun, begun, RunsFrom, RunsExpr, RunsPlace, as_node, one_more, left_is_at, left_on, kept_slot}
 use Rattle.alma_lower.proofs.ExprRuns.{HasAt}
 
 -- a write changes the routine of no frame
@@ -87,9 +86,9 @@ module _ (p : Program) (code : PlainCode) (input : List ℕ) where
       bind_goes code input 8 c 0 (LeavesStmt m lo r b0) (LeavesStmt exit lo r b0) held (x v) (λ t _. rest t) s c q 8 (omega arith) (omega arith)
       (weaker code input 8 0 (LeavesStmt m lo r b0) held (x v) s c 0 q q (omega arith) (omega arith) (runs_x v now held s is stand routine))
       (λ v1 y t1 held1 going1 left1.
-        whole_leaves m exit lo lo2 r c 0 b0 v1 t1 held1 (rest v1) t1 8 q lt left1
-        (weaker code input c 0 (LeavesStmt exit lo2 r (begun p code input v1 t1.now held1)) held1 (rest v1) t1 8 c q q (omega arith) (omega arith)
-        (runs_rest c le v1 t1.now held1 t1 (left_is_at p code input m lo r now v1 t1 held1 going1 left1) left1.fits.stand left1.routine)))
+      whole_leaves m exit lo lo2 r c 0 b0 v1 t1 held1 (rest v1) t1 8 q lt left1
+      (weaker code input c 0 (LeavesStmt exit lo2 r (begun p code input v1 t1.now held1)) held1 (rest v1) t1 8 c q q (omega arith) (omega arith)
+      (runs_rest c le v1 t1.now held1 t1 (left_is_at p code input m lo r now v1 t1 held1 going1 left1) left1.fits.stand left1.routine)))
       (λ v1 n t1 no. no)
 
   -- ---- tests
@@ -104,6 +103,7 @@ module _ (p : Program) (code : PlainCode) (input : List ℕ) where
     where
       is : IsAt m t.now held t
       is = left_is_at p code input m lo r b0.frames v t held going left.0
+
       by : (z : Bool) → is_zero n ≡ z → Goes code input 0 24 (LeavesStmt (m + 1) lo r b0) held (if_true z (λ _. Fail) (λ _. one v tt)) t 8 q
       by true zero_there = let f = check_fails code input m t.now held t is lo n i left.1 zero_there in (1, f.to, omega arith, f.silently, f.is)
       by false other =
@@ -116,13 +116,13 @@ module _ (p : Program) (code : PlainCode) (input : List ℕ) where
   value_row at m lo r x q runs_x i =
       as_node p code input at r (LeavesStmt (m + 1) lo r) (λ v. node (bind (x v) (λ t n. tested n t))) q
       (λ v now held s is stand routine.
-        let b0 = begun p code input v now held in
-        credited code input 8 0 0 24 (LeavesStmt (m + 1) lo r b0) held (node (bind (x v) (λ t n. tested n t))) s 32 q (omega arith)
-        (node_goes code input 0 8 24 (LeavesStmt (m + 1) lo r b0) held (bind (x v) (λ t n. tested n t)) s 32 q (omega arith)
-        (bind_goes code input 8 0 24 (LeavesValue p code input m lo r b0) (LeavesStmt (m + 1) lo r b0) held (x v) (λ t n. tested n t) s 64 q 8 (omega arith) (omega arith)
-        (weaker code input 8 0 (LeavesValue p code input m lo r b0) held (x v) s 64 0 q q (omega arith) (omega arith) (runs_x v now held s is stand routine))
-        (λ v1 n t1 held1 going1 left1. check_goes m lo r b0 held1 v1 n t1 q i going1 left1)
-        (λ v1 n t1 no. no))))
+      let b0 = begun p code input v now held in
+      credited code input 8 0 0 24 (LeavesStmt (m + 1) lo r b0) held (node (bind (x v) (λ t n. tested n t))) s 32 q (omega arith)
+      (node_goes code input 0 8 24 (LeavesStmt (m + 1) lo r b0) held (bind (x v) (λ t n. tested n t)) s 32 q (omega arith)
+      (bind_goes code input 8 0 24 (LeavesValue p code input m lo r b0) (LeavesStmt (m + 1) lo r b0) held (x v) (λ t n. tested n t) s 64 q 8 (omega arith) (omega arith)
+      (weaker code input 8 0 (LeavesValue p code input m lo r b0) held (x v) s 64 0 q q (omega arith) (omega arith) (runs_x v now held s is stand routine))
+      (λ v1 n t1 held1 going1 left1. check_goes m lo r b0 held1 v1 n t1 q i going1 left1)
+      (λ v1 n t1 no. no))))
 
   -- ---- conditions: the value of a simple expression decides, and no entry is pushed
 
@@ -165,15 +165,29 @@ module _ (p : Program) (code : PlainCode) (input : List ℕ) where
   write_goes : (m lo r : ℕ) (how : WriteAs) (b0 : Begun p code input) (held : List PlainEntry) (v : Store) (n : ℤ) (t : State) (q : ℕ) → HasAt code input m (write_code how lo) → 0 < length (write_code how lo) → IsGoing held t → LeavesValue p code input m lo r b0 v (Go n) t
       → Goes code input 0 24 (LeavesStmt (m + length (write_code how lo)) lo r b0) held (Print (written_text how n) (one v tt)) t 8 q
   write_goes m lo r write_as.Int b0 held v n t q i some going left =
-      let w = write_int_step code input m t.now held t (left_is_at p code input m lo r b0.frames v t held going left.0) lo n i.0 left.1 in
-      (0, t, omega arith, no_step code input t, w.to, w.prints, subst IsOn (sym w.is.mode) tt,
-       one_goes code input 0 24 (LeavesStmt (m + 1) lo r b0) held v tt w.to 7 (q - 1) (omega arith) (record { mode = w.is.mode; entries = w.is.entries })
-       (record { here = w.is.here; fits = subst (Fits p code lo b0.frames v) (sym w.is.frames) left.0.fits; routine = left.0.routine }))
+      let w = write_int_step code input m t.now held t (left_is_at p code input m lo r b0.frames v t held going left.0) lo n i.0 left.1 in (
+        0,
+        t,
+        omega arith,
+        no_step code input t,
+        w.to,
+        w.prints,
+        subst IsOn (sym w.is.mode) tt,
+        one_goes code input 0 24 (LeavesStmt (m + 1) lo r b0) held v tt w.to 7 (q - 1) (omega arith) (record { mode = w.is.mode; entries = w.is.entries })
+            (record { here = w.is.here; fits = subst (Fits p code lo b0.frames v) (sym w.is.frames) left.0.fits; routine = left.0.routine }),
+      )
   write_goes m lo r write_as.Bool b0 held v n t q i some going left =
-      let w = write_bool_step code input m t.now held t (left_is_at p code input m lo r b0.frames v t held going left.0) lo n i.0 left.1 in
-      (0, t, omega arith, no_step code input t, w.to, w.prints, subst IsOn (sym w.is.mode) tt,
-       one_goes code input 0 24 (LeavesStmt (m + 1) lo r b0) held v tt w.to 7 (q - 1) (omega arith) (record { mode = w.is.mode; entries = w.is.entries })
-       (record { here = w.is.here; fits = subst (Fits p code lo b0.frames v) (sym w.is.frames) left.0.fits; routine = left.0.routine }))
+      let w = write_bool_step code input m t.now held t (left_is_at p code input m lo r b0.frames v t held going left.0) lo n i.0 left.1 in (
+        0,
+        t,
+        omega arith,
+        no_step code input t,
+        w.to,
+        w.prints,
+        subst IsOn (sym w.is.mode) tt,
+        one_goes code input 0 24 (LeavesStmt (m + 1) lo r b0) held v tt w.to 7 (q - 1) (omega arith) (record { mode = w.is.mode; entries = w.is.entries })
+            (record { here = w.is.here; fits = subst (Fits p code lo b0.frames v) (sym w.is.frames) left.0.fits; routine = left.0.routine }),
+      )
   write_goes m lo r write_as.Char b0 held v n t q i some going left = absurd (omega (arith, some))
 
   pub write_row : (at m lo r : ℕ) (how : WriteAs) (x : Store → Events ℤ) (q : ℕ) → RunsExpr p code input at m lo r x q → HasAt code input m (write_code how lo) → 0 < length (write_code how lo)
@@ -181,11 +195,11 @@ module _ (p : Program) (code : PlainCode) (input : List ℕ) where
   write_row at m lo r how x q runs_x i some =
       as_node p code input at r (LeavesStmt (m + length (write_code how lo)) lo r) (λ v. bind (x v) (λ t n. Print (written_text how n) (one t tt))) q
       (λ v now held s is stand routine.
-        let b0 = begun p code input v now held in
-        bind_goes code input 8 0 24 (LeavesValue p code input m lo r b0) (LeavesStmt (m + length (write_code how lo)) lo r b0) held (x v) (λ t n. Print (written_text how n) (one t tt)) s 32 q 8 (omega arith) (omega arith)
-        (weaker code input 8 0 (LeavesValue p code input m lo r b0) held (x v) s 32 0 q q (omega arith) (omega arith) (runs_x v now held s is stand routine))
-        (λ v1 n t1 held1 going1 left1. write_goes m lo r how b0 held1 v1 n t1 q i some going1 left1)
-        (λ v1 n t1 no. no))
+      let b0 = begun p code input v now held in
+      bind_goes code input 8 0 24 (LeavesValue p code input m lo r b0) (LeavesStmt (m + length (write_code how lo)) lo r b0) held (x v) (λ t n. Print (written_text how n) (one t tt)) s 32 q 8 (omega arith) (omega arith)
+      (weaker code input 8 0 (LeavesValue p code input m lo r b0) held (x v) s 32 0 q q (omega arith) (omega arith) (runs_x v now held s is stand routine))
+      (λ v1 n t1 held1 going1 left1. write_goes m lo r how b0 held1 v1 n t1 q i some going1 left1)
+      (λ v1 n t1 no. no))
 
   -- ---- assignment
 
@@ -202,7 +216,7 @@ module _ (p : Program) (code : PlainCode) (input : List ℕ) where
       let fit : Fits p code lo t.now (put_at v c (Number n)) (written t.now c.frame c.slot (cell.Int n)) = fits_put p code lo v t.now c.frame c.slot n numbers.frame there kind integer left.fits.stand in
       let here : written t.now mc.frame mc.slot (cell.Int n) ≡ written t.now c.frame c.slot (cell.Int n) = ap (λ f. written t.now f mc.slot (cell.Int n)) (sym same.frame) ∙ ap (λ x. written t.now c.frame x (cell.Int n)) (sym same.slot) in
       let whole : Fits p code lo b0.frames (put_at v c (Number n)) w.to.now =
-          subst (Fits p code lo b0.frames (put_at v c (Number n))) (sym (w.is.frames ∙ here)) (fits_on p code lo lo v (put_at v c (Number n)) b0.frames t.now (written t.now c.frame c.slot (cell.Int n)) (omega arith) left.fits fit) in
+      subst (Fits p code lo b0.frames (put_at v c (Number n))) (sym (w.is.frames ∙ here)) (fits_on p code lo lo v (put_at v c (Number n)) b0.frames t.now (written t.now c.frame c.slot (cell.Int n)) (omega arith) left.fits fit) in
       let routine : (top_frame (put_at v c (Number n))).routine ≡ r = top_routine v c (Number n) numbers.frame ∙ left.routine in
       subst (λ e. Goes code input 0 24 (LeavesStmt (m2 + 1) lo r b0) held e t 8 q) (sym (ap (λ b. fault_unless fault.Range b (λ _. one (put_at v c (Number n)) tt)) integer))
       (one_more p code input 0 24 (LeavesStmt (m2 + 1) lo r b0) held (one (put_at v c (Number n)) tt) t w.to 7 q w.silently
@@ -218,16 +232,16 @@ module _ (p : Program) (code : PlainCode) (input : List ℕ) where
   assign_row at m1 m2 lo lo2 r d x q lt behind runs_d runs_x i =
       as_node p code input at r (LeavesStmt (m2 + 1) lo r) (λ v. bind (d v) (λ t c. bind (x t) (λ u n. check_range whole_range n (λ _. one (put_at u c (Number n)) tt)))) q
       (λ v now held s is stand routine.
-        let b0 = begun p code input v now held in
-        bind_goes code input 8 0 24 (LeavesPlace p code input m1 lo r b0) (LeavesStmt (m2 + 1) lo r b0) held (d v) (λ t c. bind (x t) (λ u n. check_range whole_range n (λ _. one (put_at u c (Number n)) tt))) s 32 q 8 (omega arith) (omega arith)
-        (weaker code input 8 0 (LeavesPlace p code input m1 lo r b0) held (d v) s 32 0 q q (omega arith) (omega arith) (runs_d v now held s is stand routine))
-        (λ v1 c t1 held1 going1 left1.
-          let b1 = begun p code input v1 t1.now held1 in
-          bind_goes code input 8 0 24 (LeavesValue p code input m2 lo2 r b1) (LeavesStmt (m2 + 1) lo r b0) held1 (x v1) (λ u n. check_range whole_range n (λ _. one (put_at u c (Number n)) tt)) t1 8 q 8 (omega arith) (omega arith)
-          (weaker code input 8 0 (LeavesValue p code input m2 lo2 r b1) held1 (x v1) t1 8 0 q q (omega arith) (omega arith) (runs_x v1 t1.now held1 t1 (left_is_at p code input m1 lo r now v1 t1 held1 going1 left1.0) left1.0.fits.stand left1.0.routine))
-          (λ v2 n t2 held2 going2 left2.
-            assign_goes m2 lo lo2 r b0 held2 v2 c left1.3.0 n t2 q i going2 (left_on p code input m1 m2 lo lo2 r now v1 v2 t1 t2 (omega arith) left1.0 left2.0)
-            (numbers_kept p code lo2 c v1 v2 t1.now t2.now left1.0.fits.stand left2.0.fits left1.1) left1.2 left1.3.1
-            (kept_slot p code input m2 lo2 r lo (cell.Place left1.3.0) v1 v2 t1.now t2 left1.0.fits.stand left1.0.routine behind lt left2.0 left1.3.2) left2.1 left2.2)
-          (λ v2 n t2 no. no))
-        (λ v1 n t1 no. no))
+      let b0 = begun p code input v now held in
+      bind_goes code input 8 0 24 (LeavesPlace p code input m1 lo r b0) (LeavesStmt (m2 + 1) lo r b0) held (d v) (λ t c. bind (x t) (λ u n. check_range whole_range n (λ _. one (put_at u c (Number n)) tt))) s 32 q 8 (omega arith) (omega arith)
+      (weaker code input 8 0 (LeavesPlace p code input m1 lo r b0) held (d v) s 32 0 q q (omega arith) (omega arith) (runs_d v now held s is stand routine))
+      (λ v1 c t1 held1 going1 left1.
+      let b1 = begun p code input v1 t1.now held1 in
+      bind_goes code input 8 0 24 (LeavesValue p code input m2 lo2 r b1) (LeavesStmt (m2 + 1) lo r b0) held1 (x v1) (λ u n. check_range whole_range n (λ _. one (put_at u c (Number n)) tt)) t1 8 q 8 (omega arith) (omega arith)
+      (weaker code input 8 0 (LeavesValue p code input m2 lo2 r b1) held1 (x v1) t1 8 0 q q (omega arith) (omega arith) (runs_x v1 t1.now held1 t1 (left_is_at p code input m1 lo r now v1 t1 held1 going1 left1.0) left1.0.fits.stand left1.0.routine))
+      (λ v2 n t2 held2 going2 left2.
+      assign_goes m2 lo lo2 r b0 held2 v2 c left1.3.0 n t2 q i going2 (left_on p code input m1 m2 lo lo2 r now v1 v2 t1 t2 (omega arith) left1.0 left2.0)
+      (numbers_kept p code lo2 c v1 v2 t1.now t2.now left1.0.fits.stand left2.0.fits left1.1) left1.2 left1.3.1
+      (kept_slot p code input m2 lo2 r lo (cell.Place left1.3.0) v1 v2 t1.now t2 left1.0.fits.stand left1.0.routine behind lt left2.0 left1.3.2) left2.1 left2.2)
+      (λ v2 n t2 no. no))
+      (λ v1 n t1 no. no))

@@ -1,28 +1,25 @@
 -- The code of each statement does what its events say at each level: the induction over statements and levels.
-use Rattle.std.proofs.Common.{◌≡◌, ℕ, zero, suc, ◌+◌, ◌-◌, ◌<◌, ◌≤◌, List, [], ◌∷◌, ◌++◌, length, refl, sym, ap, ◌∙◌, subst, arith, ℤ, length-append}
-use Rattle.alma_code.specs.declared.cell.SlotKind.{SlotKind}
+use Rattle.std.proofs.Common.{◌≡◌, ℕ, zero, suc, ◌+◌, ◌<◌, ◌≤◌, List, [], ◌∷◌, ◌++◌, length, refl, sym, subst, arith, length-append}
 use Rattle.alma_code.specs.declared.instr.Instr.{Instr}
 use Rattle.alma_code.specs.declared.instr.Instr.TheVariants as I
-use Rattle.alma_code.specs.Picture.{PlainFrame, PlainEntry}
 use Rattle.alma_code.specs.Plain.{PlainCode}
-use Rattle.alma_code.specs.Machine.{State}
 use Rattle.alma_ir.specs.declared.phrase.Root.TheVariants as root
 use Rattle.alma_ir.specs.declared.phrase.WriteAs.{WriteAs}
 use Rattle.alma_ir.specs.declared.phrase.WriteAs.TheVariants as write_as
-use Rattle.alma_ir.specs.Tree.{Program, routine_at, Stmts, Stmt, Arms, Test, Expr, Links, Desig, no_stmts, more_stmts, TestStmt, Assign, CopyCells, If, While, Repeat, ForTo, SomeOf, Case, Either, Forall, Commit, Return, Read, WriteExpr, WriteText, WriteLine, no_arms, more_arms, Value, Bind, Unify, SameCells, Seq, And, Or, Not, CallTest, Const, Load, Chain, Compare, Truth, Known, Chr, CallExpr, no_links, more_links, a_desig, no_sels, more_sels}
-use Rattle.alma_mean.specs.Store.{Store, top_frame}
-use Rattle.alma_mean.specs.Events.{Events, NoYield, Cut, one}
+use Rattle.alma_ir.specs.Tree.{Program, Stmts, Stmt, Arms, Test, Expr, Links, Desig, no_stmts, more_stmts, TestStmt, Assign, CopyCells, If, While, Repeat, ForTo, SomeOf, Case, Either, Forall, Commit, Return, Read, WriteExpr, WriteText, WriteLine, no_arms, more_arms, Value, Bind, Unify, SameCells, Seq, And, Or, Not, CallTest, Const, Load, Chain, Compare, Truth, Known, Chr, CallExpr, no_links, more_links, a_desig, no_sels, more_sels}
+use Rattle.alma_mean.specs.Store.{Store}
+use Rattle.alma_mean.specs.Events.{Events, NoYield, one}
 use Rattle.alma_mean.specs.Meaning.{Level, level, ev_stmts, ev_stmt, ev_test, ev_expr, ev_desig, ev_arms}
 use Rattle.alma_lower.specs.Built.{whole_range, BuiltDesig, BuiltExpr, BuiltLinks, BuiltWrite}
-use Rattle.alma_lower.specs.Templates.{desig_code, desig_slots, expr_slots, expr_code, test_slots, test_code, condition_code, write_code, stmts_slots, stmt_slots, arms_slots, stmts_code, stmt_code, arms_code, guarded_code}
-use Rattle.alma_lower.proofs.Goes.{Goes, no_step, IsOn}
-use Rattle.alma_lower.proofs.Frames.{HasSlots, StandFor, IsAt}
+use Rattle.alma_lower.specs.Templates.{desig_code, desig_slots, expr_slots, expr_code, test_slots, test_code, condition_code, write_code, stmts_slots, stmt_slots, arms_slots, stmts_code, stmt_code, arms_code}
+use Rattle.alma_lower.proofs.Goes.{no_step, IsOn}
+use Rattle.alma_lower.proofs.Frames.{HasSlots}
 use Rattle.alma_lower.proofs.Simple.{expr_one}
 use Rattle.alma_lower.proofs.Steps.{InstrAt}
-use Rattle.alma_lower.proofs.ExprRows.{RunsExpr, RunsPlace, slots_first, slots_behind}
+use Rattle.alma_lower.proofs.ExprRows.{slots_first, slots_behind}
 use Rattle.alma_lower.proofs.ExprRuns.{HasAt, at_front, at_back, FineDesig, FineExpr, FineLinks, desig_runs, expr_runs}
-use Rattle.alma_lower.proofs.StmtRows.{LeavesStmt, RunsStmt, RunsStmts, no_stmts_row, more_stmts_row, value_row, write_row, assign_row}
-use Rattle.alma_lower.proofs.LoopRows.{RunsPart, list_as_part, part_owes_less, IsCondition, while_row, while_cut_row, repeat_row, arm_row, if_row, part_as_stmt}
+use Rattle.alma_lower.proofs.StmtRows.{RunsStmt, RunsStmts, no_stmts_row, more_stmts_row, value_row, write_row, assign_row}
+use Rattle.alma_lower.proofs.LoopRows.{RunsPart, list_as_part, IsCondition, while_row, while_cut_row, repeat_row, arm_row, if_row, part_as_stmt}
 
 -- the steps that must still be made before a cut, of what is taken at a level
 abbrev pub owed : ℕ → ℕ
@@ -319,7 +316,7 @@ module _ (p : Program) (code : PlainCode) (input : List ℕ) where
           let e : next ≡ end_at + 1 = omega (arith, length-append c leave, length-append b (I.Jump out ∷ [])) in
           let e2 : at + length (arm ++ d) ≡ next + length d = omega (arith, length-append arm d) in
           let e3 : lo + length (test_slots t ++ (stmts_slots body ++ arms_slots more)) ≡ lo3 + length (arms_slots more) =
-              omega (arith, length-append (test_slots t) (stmts_slots body ++ arms_slots more), length-append (stmts_slots body) (arms_slots more)) in
+          omega (arith, length-append (test_slots t) (stmts_slots body ++ arms_slots more), length-append (stmts_slots body) (arms_slots more)) in
           let later = slots_behind p code input r lo (test_slots t) (stmts_slots body ++ arms_slots more) slots in
           arm_row p code input at m end_at out exit lo lo2 lo3 r (λ v. ev_test p input (level p input n) t v) (λ v. ev_stmts p input (level p input n) body v) (λ v. ev_arms p input (level p input n) more v (ev_stmts p input (level p input n) rest)) n (omega arith) (omega arith)
           (condition_is (level p input n) n at lo r t fine.0 (at_front code input at c leave first) (slots_first p code input r lo (test_slots t) (stmts_slots body ++ arms_slots more) slots))

@@ -8,7 +8,6 @@ use Rattle.alma_code.specs.Machine.{Mode, Going, Failing, Ended, Stuck, State, s
 use Rattle.alma_ir.specs.Tree.{Program}
 use Rattle.alma_mean.specs.Events as events
 use Rattle.alma_mean.specs.Events.{Events, NoYield, Visit, Print, Alt, Flow, first, end_of, visit_count, CutOff}
-use Rattle.alma_mean.specs.Store.{Store}
 use Rattle.alma_mean.specs.Meaning.{ev_program, result}
 
 -- the greatest length of an input
