@@ -1,0 +1,14 @@
+pub mod Correct
+pub mod Enough
+pub mod ExprRows
+pub mod ExprRuns
+pub mod OperatorRows
+pub mod Goes
+pub mod LoopRows
+pub mod Follows
+pub mod Frames
+pub mod FrameLemmas
+pub mod Simple
+pub mod Steps
+pub mod StmtRows
+pub mod StmtRuns

@@ -1,0 +1,87 @@
+-- The forms of the resolved program that are compiled so far: a body of the module alone, with variables of one cell,
+-- numbers of the whole of INTEGER, arithmetic, comparisons, IF, WHILE, REPEAT and WRITE.
+use Rattle.std.specs.Prelude.{◌≡◌, ◌^◌, ◌-◌, true, pos, negsuc, [], ◌∷◌}
+use Rattle.alma_base.specs.Numbers.{is_integer}
+use Rattle.alma_base.specs.declared.number.Range.{Range}
+use Rattle.alma_ir.specs.declared.phrase.Root.TheVariants as root
+use Rattle.alma_ir.specs.declared.phrase.WriteAs.{WriteAs}
+use Rattle.alma_ir.specs.declared.phrase.WriteAs.TheVariants as write_as
+use Rattle.alma_ir.specs.Tree.{Stmts, Stmt, Arms, Test, Expr, Links, Desig, Routine, Program, no_stmts, more_stmts, TestStmt, Assign, CopyCells, If, While, Repeat, ForTo, SomeOf, Case, Either, Forall, Commit, Return, Read, WriteExpr, WriteText, WriteLine, no_arms, more_arms, Value, Bind, Unify, SameCells, Seq, And, Or, Not, CallTest, Const, Load, Chain, Compare, Truth, Known, Chr, CallExpr, no_links, more_links, a_desig, no_sels, more_sels}
+
+-- all numbers of INTEGER
+abbrev pub whole_range : Range
+whole_range = record { low = negsuc (2 ^ 63 - 1); high = pos (2 ^ 63 - 1) }
+
+-- a variable of the module, of one cell
+abbrev pub BuiltDesig : Desig → Type 0
+BuiltDesig (a_desig (root.Local slot) cells no_sels) = cells ≡ 1
+BuiltDesig (a_desig (root.Local slot) cells (more_sels x rest)) = ⊥
+BuiltDesig (a_desig (root.Global slot) cells sels) = ⊥
+BuiltDesig (a_desig (root.Param slot) cells sels) = ⊥
+
+abbrev mutual
+  pub BuiltExpr : Expr → Type 0
+  BuiltExpr (Const n) = is_integer n ≡ true
+  BuiltExpr (Load d) = BuiltDesig d
+  BuiltExpr (Chain negated e links) = BuiltExpr e × BuiltLinks links
+  BuiltExpr (Compare cmp x y) = BuiltExpr x × BuiltExpr y
+  BuiltExpr (Truth t) = ⊥
+  BuiltExpr (Known d) = ⊥
+  BuiltExpr (Chr e) = ⊥
+  BuiltExpr (CallExpr r args) = ⊥
+
+  pub BuiltLinks : Links → Type 0
+  BuiltLinks no_links = Unit {0}
+  BuiltLinks (more_links op e rest) = BuiltExpr e × BuiltLinks rest
+
+-- a test that is the value of an expression
+abbrev pub BuiltTest : Test → Type 0
+BuiltTest (Value e) = BuiltExpr e
+BuiltTest (Bind d e range left) = ⊥
+BuiltTest (Unify d range e range') = ⊥
+BuiltTest (SameCells d e) = ⊥
+BuiltTest (Seq x) = ⊥
+BuiltTest (And ts) = ⊥
+BuiltTest (Or ts) = ⊥
+BuiltTest (Not t) = ⊥
+BuiltTest (CallTest r args) = ⊥
+
+-- a number or a truth is written
+abbrev pub BuiltWrite : WriteAs → Type 0
+BuiltWrite write_as.Int = Unit {0}
+BuiltWrite write_as.Bool = Unit {0}
+BuiltWrite write_as.Char = ⊥
+
+abbrev mutual
+  pub BuiltStmts : Stmts → Type 0
+  BuiltStmts no_stmts = Unit {0}
+  BuiltStmts (more_stmts x rest) = BuiltStmt x × BuiltStmts rest
+
+  pub BuiltStmt : Stmt → Type 0
+  BuiltStmt (TestStmt t) = BuiltTest t
+  BuiltStmt (Assign d e range) = BuiltDesig d × BuiltExpr e × (range ≡ whole_range)
+  BuiltStmt (If arms rest) = BuiltArms arms × BuiltStmts rest
+  BuiltStmt (While t body) = BuiltTest t × BuiltStmts body
+  BuiltStmt (Repeat body t) = BuiltStmts body × BuiltTest t
+  BuiltStmt (WriteExpr e how) = BuiltExpr e × BuiltWrite how
+  BuiltStmt (CopyCells d e) = ⊥
+  BuiltStmt (ForTo l) = ⊥
+  BuiltStmt (SomeOf l) = ⊥
+  BuiltStmt (Case e arms rest) = ⊥
+  BuiltStmt (Either _) = ⊥
+  BuiltStmt (Forall x y) = ⊥
+  BuiltStmt (Commit x) = ⊥
+  BuiltStmt (Return e) = ⊥
+  BuiltStmt (Read d how range) = ⊥
+  BuiltStmt (WriteText text) = ⊥
+  BuiltStmt WriteLine = ⊥
+
+  pub BuiltArms : Arms → Type 0
+  BuiltArms no_arms = Unit {0}
+  BuiltArms (more_arms t body rest) = BuiltTest t × BuiltStmts body × BuiltArms rest
+
+-- the program is the body of the module alone, of forms that are built
+pub record IsBuilt (p : Program) : Type 0 where
+  pub routine : Routine
+  pub alone : p.routines ≡ routine ∷ []
+  pub body : BuiltStmts routine.body

@@ -1,0 +1,4 @@
+//! From the resolved program to code.
+#![tactic(auto)]
+
+pub mod laws;
