@@ -1,0 +1,11 @@
+pub mod Bytes
+pub mod Classes
+pub mod Comments
+pub mod Spellings
+pub mod Tables
+pub mod Tokens
+pub mod Faults
+pub mod Unread
+pub mod Scanned
+pub mod Fronts
+pub mod Places
