@@ -1,0 +1,4 @@
+pub mod Basics
+pub mod Comments
+pub mod Gaps
+pub mod Runs

@@ -18,6 +18,7 @@ pub fn skip_two(bytes: &[u8], first: u8, second: u8) -> Option<&[u8]>
 }
 
 /// What stands behind a comment, of which these bytes stand behind `(*`; None where it does not end.
+#[tactic(auto, using(crate::proofs::Comments::same_start, crate::proofs::Comments::same_opened, crate::proofs::Comments::same_closed, crate::proofs::Comments::same_end, crate::proofs::Comments::same_byte, crate::proofs::Comments::same_none))]
 fn skip_comment(bytes: &[u8]) -> Option<&[u8]>
     ensures { MatchOption result ((rest : List ℕ) → Closes bytes.now rest → ⊥) (λ rest. Closes bytes.now rest.now) }
 {
@@ -50,6 +51,7 @@ fn behind_comment(bytes: &[u8]) -> Option<&[u8]>
 }
 
 /// What stands behind all blanks and whole comments.
+#[tactic(auto, using(crate::proofs::Gaps::gap_then, crate::proofs::Gaps::gap_blanks, crate::proofs::Gaps::gap_comment, crate::proofs::Gaps::closes_shorter))]
 pub fn skip_gap(bytes: &[u8]) -> &[u8]
     ensures gap { Gap bytes.now result.now }
     ensures end { IsGapEnd result.now }
