@@ -5,3 +5,4 @@ pub mod Runs
 pub mod Lines
 pub mod Spelled
 pub mod Values
+pub mod Standing
