@@ -69,15 +69,14 @@ fn literal_front(bytes: &[u8]) -> Result<Front<'_>, LexFault>
         return Err(LexFault::OpenString);
     };
     let (inside, end) = split_run(Class::Inside(*quote), inner);
-    if end.first() != Some(quote) {
-        return Err(LexFault::OpenString);
+    match end.split_first() {
+        Some((closing, rest)) if *closing == *quote => Ok(Front {
+            kind: Kind::Literal,
+            text: &bytes[..inside.len() + 2],
+            rest,
+        }),
+        _ => Err(LexFault::OpenString),
     }
-    let (text, rest) = bytes.split_at(inside.len() + 2);
-    Ok(Front {
-        kind: Kind::Literal,
-        text,
-        rest,
-    })
 }
 
 /// The symbol of this length at the front.
@@ -97,7 +96,7 @@ fn symbol_front(bytes: &[u8]) -> Result<Front<'_>, LexFault>
     requires other { IsOtherFirst bytes.now }
     ensures { IsFront bytes.now result }
 {
-    if skip_two(bytes, b'(', b'*').is_some() {
+    if let Some(_inner) = skip_two(bytes, b'(', b'*') {
         return Err(LexFault::OpenComment);
     }
     if let Some(front) = symbol_of(bytes, 2) {
