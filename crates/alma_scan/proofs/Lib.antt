@@ -6,3 +6,4 @@ pub mod Lines
 pub mod Spelled
 pub mod Values
 pub mod Standing
+pub mod Lists

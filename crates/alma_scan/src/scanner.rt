@@ -5,7 +5,7 @@ use crate::front::read_front;
 use crate::gap::skip_gap;
 use alma_base::LexFault;
 use alma_tree::Kind;
-use std::alloc::Global;
+use std::alloc::{AllocFailed, Global};
 use std::marker::Model;
 use thiserror::Error;
 
@@ -35,6 +35,17 @@ pub enum ScanError {
     /// Memory ran out.
     #[error("out of memory")]
     Memory,
+}
+
+impl<T: Drop> From<AllocFailed<T>> for ScanError {
+    ghost use Rattle.std.specs.Prelude.{◌≡◌};
+    ghost use Rattle.alma_scan.specs.declared.scanner.ScanError.TheVariants.{Memory};
+
+    ghost from_gives = { λ _ error. error ≡ Memory };
+
+    fn from(_: AllocFailed<T>) -> Self {
+        ScanError::Memory
+    }
 }
 
 /// Gives the tokens of a source in order. It takes no memory.
@@ -73,6 +84,7 @@ impl<'s> Scanner<'s> {
     }
 
     /// The next token, `None` behind the last, or the first lexical fault; the last two for good.
+    #[tactic(auto, using(crate::proofs::Gaps::gap_shorter))]
     pub fn next(&mut self) -> Result<Option<Token<'s>>, LexStop>
         ensures size { self.new.size ≡ self.old.size }
         ensures token { IfOk result (λ found. IfSome found (λ token.
@@ -112,7 +124,7 @@ pub fn scan(alloc: Global, source: &[u8]) -> Result<Vec<Token<'_>>, ScanError>
     let mut tokens = Vec::new(alloc);
     loop {
         match scanner.next() {
-            Ok(Some(token)) => tokens.push(token).map_err(|_| ScanError::Memory)?,
+            Ok(Some(token)) => tokens.push(token)?,
             Ok(None) => return Ok(tokens),
             Err(stop) => return Err(ScanError::Lex(stop.fault, stop.at)),
         }
