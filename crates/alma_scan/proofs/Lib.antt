@@ -7,3 +7,4 @@ pub mod Spelled
 pub mod Values
 pub mod Standing
 pub mod Lists
+pub mod Once

@@ -18,7 +18,7 @@ letter_no_digit b h k = grind (arith, nat_tests)
 letter_no_quote : (b : ℕ) → is_letter b ≡ true → is_quote b ≡ true → ⊥
 letter_no_quote b h k = grind (arith, nat_tests)
 
-digit_no_quote : (b : ℕ) → is_digit b ≡ true → is_quote b ≡ true → ⊥
+pub digit_no_quote : (b : ℕ) → is_digit b ≡ true → is_quote b ≡ true → ⊥
 digit_no_quote b h k = grind (arith, nat_tests)
 
 pub letter_no_blank : (b : ℕ) → is_letter b ≡ true → is_blank b ≡ false

@@ -89,7 +89,7 @@ number_token text rest l a s v =
     }
 
 -- the same quote may not stand inside a literal
-quote_stops : (quote : ℕ) → may_stand_in quote quote ≡ false
+pub quote_stops : (quote : ℕ) → may_stand_in quote quote ≡ false
 quote_stops quote = grind (arith, nat_tests)
 
 -- what stands between the quotes is one
@@ -100,7 +100,7 @@ literal_once quote other inner inside rest after e a b =
     let t : inner ++ quote ∷ rest ≡ inside ++ quote ∷ after = tails e ∙ ap (λ (x : ℕ). inside ++ x ∷ after) q in
     (run_once (may_stand_in quote) inner (quote ∷ rest) inside (quote ∷ after) t a (quote_stops quote) (subst (λ (x : ℕ). AllIn (may_stand_in x) inside) q b) (quote_stops quote)).0
 
-literal_whole : (quote : ℕ) (inner rest : List ℕ) → (quote ∷ (inner ++ quote ∷ [])) ++ rest ≡ quote ∷ (inner ++ quote ∷ rest)
+pub literal_whole : (quote : ℕ) (inner rest : List ℕ) → (quote ∷ (inner ++ quote ∷ [])) ++ rest ≡ quote ∷ (inner ++ quote ∷ rest)
 literal_whole quote inner rest = ap (λ (z : List ℕ). quote ∷ z) (append_assoc inner (quote ∷ []) rest)
 
 literal_longest : (quote : ℕ) (inner rest : List ℕ) → is_quote quote ≡ true → AllIn (may_stand_in quote) inner

@@ -4,6 +4,7 @@
 mod byte;
 mod front;
 mod gap;
+pub mod laws;
 mod line;
 mod scanner;
 mod spelling;
