@@ -66,11 +66,11 @@ pub record SameEnd (depth : ℕ) (bytes whole : List ℕ) : Type 0 where
 pub same_start : (whole : List ℕ) → SameEnd 0 whole whole
 same_start whole = record { sound = λ rest h. h; complete = λ rest h. h }
 
-opened : (depth : ℕ) (bytes rest : List ℕ) → ClosesAll (suc depth) bytes rest → ClosesAll depth (40 ∷ 42 ∷ bytes) rest
+pub opened : (depth : ℕ) (bytes rest : List ℕ) → ClosesAll (suc depth) bytes rest → ClosesAll depth (40 ∷ 42 ∷ bytes) rest
 opened zero bytes rest h = nested bytes h.0 rest h.1 h.2
 opened (suc depth) bytes rest h = (h.2.0, nested bytes h.0 h.2.0 h.1 h.2.1, h.2.2)
 
-opened_back : (depth : ℕ) (bytes rest : List ℕ) → ClosesAll depth (40 ∷ 42 ∷ bytes) rest → ClosesAll (suc depth) bytes rest
+pub opened_back : (depth : ℕ) (bytes rest : List ℕ) → ClosesAll depth (40 ∷ 42 ∷ bytes) rest → ClosesAll (suc depth) bytes rest
 opened_back zero bytes rest h = open_back bytes rest h
 opened_back (suc depth) bytes rest h = let k = open_back bytes h.0 h.1 in (k.0, k.1, (h.0, k.2, h.2))
 
@@ -83,7 +83,7 @@ same_opened depth bytes after whole e s =
       complete = λ rest h. opened_back depth after rest (t.complete rest h);
     }
 
-closed_back : (depth : ℕ) (bytes rest : List ℕ) → ClosesAll (suc depth) (42 ∷ 41 ∷ bytes) rest → ClosesAll depth bytes rest
+pub closed_back : (depth : ℕ) (bytes rest : List ℕ) → ClosesAll (suc depth) (42 ∷ 41 ∷ bytes) rest → ClosesAll depth bytes rest
 closed_back depth bytes rest h = subst (λ (z : List ℕ). ClosesAll depth z rest) (sym (close_back bytes h.0 h.1)) h.2
 
 closed : (depth : ℕ) (after whole : List ℕ) → SameEnd (suc depth) (42 ∷ 41 ∷ after) whole → SameEnd depth after whole
@@ -104,11 +104,11 @@ same_end depth bytes after whole e z s =
     let t : SameEnd 0 (42 ∷ 41 ∷ after) whole = subst (λ (l : List ℕ). SameEnd 0 l whole) e (subst (λ (n : ℕ). SameEnd n bytes whole) z s) in
     t.sound after (here after)
 
-byted : (depth b : ℕ) (bytes rest : List ℕ) → opens (b ∷ bytes) ≡ false → closes (b ∷ bytes) ≡ false → ClosesAll depth bytes rest → ClosesAll depth (b ∷ bytes) rest
+pub byted : (depth b : ℕ) (bytes rest : List ℕ) → opens (b ∷ bytes) ≡ false → closes (b ∷ bytes) ≡ false → ClosesAll depth bytes rest → ClosesAll depth (b ∷ bytes) rest
 byted zero b bytes rest o c h = byte b bytes rest o c h
 byted (suc depth) b bytes rest o c h = (h.0, byte b bytes h.0 o c h.1, h.2)
 
-byted_back : (depth b : ℕ) (bytes rest : List ℕ) → opens (b ∷ bytes) ≡ false → closes (b ∷ bytes) ≡ false → ClosesAll depth (b ∷ bytes) rest → ClosesAll depth bytes rest
+pub byted_back : (depth b : ℕ) (bytes rest : List ℕ) → opens (b ∷ bytes) ≡ false → closes (b ∷ bytes) ≡ false → ClosesAll depth (b ∷ bytes) rest → ClosesAll depth bytes rest
 byted_back zero b bytes rest o c h = byte_back b bytes rest o c h
 byted_back (suc depth) b bytes rest o c h = (h.0, byte_back b bytes h.0 o c h.1, h.2)
 
@@ -123,7 +123,7 @@ same_byte depth b bytes after whole e o c s =
       complete = λ rest h. byted_back depth b after rest no nc (t.complete rest h);
     }
 
-no_all : (depth : ℕ) (rest : List ℕ) → ClosesAll depth [] rest → ⊥
+pub no_all : (depth : ℕ) (rest : List ℕ) → ClosesAll depth [] rest → ⊥
 no_all zero rest h = end_back rest h
 no_all (suc depth) rest h = end_back h.0 h.1
 

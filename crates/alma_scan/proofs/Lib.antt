@@ -8,3 +8,4 @@ pub mod Values
 pub mod Standing
 pub mod Lists
 pub mod Once
+pub mod Always

@@ -19,13 +19,13 @@ use Rattle.alma_scan.proofs.Spelled.{word_only, number_only, literal_only, symbo
 use Rattle.alma_scan.proofs.Standing.{no_open, quote_stops, literal_whole}
 
 -- what the first byte of a spelled text is
-data First (b : ℕ) : Type 0 where
+pub data First (b : ℕ) : Type 0 where
   is_a_letter : is_letter b ≡ true → First b
   is_a_digit : is_digit b ≡ true → First b
   is_a_quote : is_quote b ≡ true → First b
   is_another : is_letter b ≡ false → is_digit b ≡ false → is_quote b ≡ false → First b
 
-first : (b : ℕ) → First b
+pub first : (b : ℕ) → First b
 first b = go (is_letter b) (is_digit b) (is_quote b) refl refl refl where
   go : (l d q : Bool) → is_letter b ≡ l → is_digit b ≡ d → is_quote b ≡ q → First b
   go true d q e f g = is_a_letter e
@@ -62,7 +62,7 @@ token_end k text rest h = record {
   no_comment = λ inner after e c. closed_open (text ++ rest) inner h.no_comment e;
 }
 
-empty_end : IsGapEnd []
+pub empty_end : IsGapEnd []
 empty_end = record { no_blank = tt; no_comment = λ inner rest e c. some_none (sym e) }
 
 quoted_end : (quote : ℕ) (bytes : List ℕ) → is_quote quote ≡ true → IsGapEnd (quote ∷ bytes)
@@ -91,7 +91,7 @@ fault_end OpenComment bytes h = open_end bytes h
 fault_end OpenString bytes h = subst IsGapEnd (sym h.whole) (quoted_end h.quote (h.inner ++ h.rest) h.quoted)
 fault_end NumberTooLarge bytes h = subst IsGapEnd (sym h.whole) (digits_end h.digits h.rest h.run)
 
-same_front : (a x b y : List ℕ) → a ++ x ≡ b ++ y → length a ≡ length b → (a ≡ b) × (x ≡ y)
+pub same_front : (a x b y : List ℕ) → a ++ x ≡ b ++ y → length a ≡ length b → (a ≡ b) × (x ≡ y)
 same_front [] x [] y e l = (refl, e)
 same_front [] x (c ∷ b) y e l = absurd (omega (arith, l))
 same_front (c ∷ a) x [] y e l = absurd (omega (arith, l))

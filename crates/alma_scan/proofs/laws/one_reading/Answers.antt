@@ -1,5 +1,6 @@
 use Rattle.std.proofs.Common.{length}
 use Rattle.alma_scan.proofs.Once.{tokens_once, faults_once, never_both}
+use Rattle.alma_scan.proofs.Always.{always}
 use Rattle.alma_scan.proofs.laws.one_reading.Goals as goal
 
 pub returns-clause-tokens : goal.returns-clause-tokens
@@ -12,4 +13,4 @@ pub returns-clause-never_both : goal.returns-clause-never_both
 returns-clause-never_both c = λ source tokens fault at h i. never_both (length source) source tokens i.0 fault at h i.1
 
 pub returns-clause-always : goal.returns-clause-always
-returns-clause-always c = ?
+returns-clause-always c = always
