@@ -76,20 +76,28 @@ gap_comment n bytes inner l e (closed_at rest c) more =
     let shorter = closes_shorter c in
     let r = more rest (omega (arith, l, whole, shorter)) in
     (r.0, subst (λ (z : List ℕ). Gap z r.0) (sym e) (comment inner rest r.0 c r.1), r.2)
-gap_comment n bytes inner l e (never o) more = (bytes, none bytes, record {
-  no_blank = subst (Stops is_blank) (sym e) refl;
-  no_comment = λ other rest f c. o rest (subst (λ (z : List ℕ). Closes z rest) (sym (tails (tails (sym e ∙ f)))) c);
-})
+gap_comment n bytes inner l e (never o) more = (
+  bytes,
+  none bytes,
+  record {
+    no_blank = subst (Stops is_blank) (sym e) refl;
+    no_comment = λ other rest f c. o rest (subst (λ (z : List ℕ). Closes z rest) (sym (tails (tails (sym e ∙ f)))) c);
+  },
+)
 
 gap_step : (n b : ℕ) (bytes : List ℕ) → length (b ∷ bytes) ≤ suc n → ((more : List ℕ) → length more ≤ n → GapOf more) → (t o : Bool) → is_blank b ≡ t → opens (b ∷ bytes) ≡ o → GapOf (b ∷ bytes)
 gap_step n b bytes l more true o t e = let r = more bytes (omega (arith, l)) in (r.0, blank b bytes r.0 t r.1, r.2)
 gap_step n b bytes l more false true t e =
     let i = open_inner (b ∷ bytes) e in
     gap_comment n (b ∷ bytes) i.0 l i.1 (ends_total i.0 0) more
-gap_step n b bytes l more false false t e = (b ∷ bytes, none (b ∷ bytes), record {
-  no_blank = t;
-  no_comment = λ inner rest f c. true_false (sym (ap opens f) ∙ e);
-})
+gap_step n b bytes l more false false t e = (
+  b ∷ bytes,
+  none (b ∷ bytes),
+  record {
+    no_blank = t;
+    no_comment = λ inner rest f c. true_false (sym (ap opens f) ∙ e);
+  },
+)
 
 gap_total : (n : ℕ) (bytes : List ℕ) → length bytes ≤ n → GapOf bytes
 gap_total n [] l = ([], none [], empty_end)
@@ -151,8 +159,8 @@ string_closes b c bytes inner rest q e a s true t =
     a_token kinds.Literal (b ∷ (inner ++ b ∷ [])) rest (literal_rest b c (b ∷ bytes) bytes inner (c ∷ rest) rest refl e refl same) (literal_token b inner rest q a)
 string_closes b c bytes inner rest q e a s false t =
     string_open b bytes inner (c ∷ rest) q e a (ends_line b (c ∷ rest) s (λ d more f g. differs c b t (heads f ∙ g))) where
-  differs : (c b : ℕ) → nat_eq c b ≡ false → c ≡ b → ⊥
-  differs c b h e = grind (arith, nat_tests)
+      differs : (c b : ℕ) → nat_eq c b ≡ false → c ≡ b → ⊥
+      differs c b h e = grind (arith, nat_tests)
 
 string_stands : (b : ℕ) (bytes inner rest : List ℕ) → is_quote b ≡ true → bytes ≡ inner ++ rest → AllIn (may_stand_in b) inner → Stops (may_stand_in b) rest → Stands (b ∷ bytes)
 string_stands b bytes inner [] q e a s = string_open b bytes inner [] q e a tt
@@ -191,10 +199,11 @@ other_stands bytes g o false t = symbols_stand bytes o g.no_blank t (symbol_tota
 stands : (bytes : List ℕ) → IsGapEnd bytes → Stands bytes
 stands [] g = nothing refl
 stands (b ∷ bytes) g = elim (first b) [
-    is_a_letter e ↦ word_stands (b ∷ bytes) e
+  | is_a_letter e ↦ word_stands (b ∷ bytes) e
   | is_a_digit e ↦ let r = run_total is_digit (b ∷ bytes) in digits_stand (b ∷ bytes) e r (nat_le (value_of r.run) greatest_number) refl
   | is_a_quote e ↦ let r = run_total (may_stand_in b) bytes in string_stands b bytes r.run r.rest e r.whole r.inside r.stop
-  | is_another e f h ↦ other_stands (b ∷ bytes) g (e, f, h) (opens (b ∷ bytes)) refl ]
+  | is_another e f h ↦ other_stands (b ∷ bytes) g (e, f, h) (opens (b ∷ bytes)) refl
+]
 
 -- the last bytes of a source have tokens or a fault
 data Reading (size : ℕ) (bytes : List ℕ) : Type 0 where

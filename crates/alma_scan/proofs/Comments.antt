@@ -20,30 +20,34 @@ closes_by (nested bytes inner rest h k) = by_nested bytes inner refl h k
 -- what opens a comment goes on with a whole comment
 open_back : (bytes rest : List ℕ) → Closes (40 ∷ 42 ∷ bytes) rest → (inner : List ℕ) × Closes bytes inner × Closes inner rest
 open_back bytes rest h = elim (closes_by h) [
-    by_here e ↦ absurd (true_false (ap opens e))
+  | by_here e ↦ absurd (true_false (ap opens e))
   | by_byte b more e o c k ↦ absurd (true_false o)
-  | by_nested more inner e k m ↦ (inner, subst (λ (z : List ℕ). Closes z inner) (sym (tails (tails e))) k, m) ]
+  | by_nested more inner e k m ↦ (inner, subst (λ (z : List ℕ). Closes z inner) (sym (tails (tails e))) k, m)
+]
 
 -- what closes a comment has the rest behind it
 close_back : (bytes rest : List ℕ) → Closes (42 ∷ 41 ∷ bytes) rest → bytes ≡ rest
 close_back bytes rest h = elim (closes_by h) [
-    by_here e ↦ tails (tails e)
+  | by_here e ↦ tails (tails e)
   | by_byte b more e o c k ↦ absurd (true_false c)
-  | by_nested more inner e k m ↦ absurd (true_false (sym (ap opens e))) ]
+  | by_nested more inner e k m ↦ absurd (true_false (sym (ap opens e)))
+]
 
 -- any other byte goes on with the comment
 byte_back : (b : ℕ) (bytes rest : List ℕ) → opens (b ∷ bytes) ≡ false → closes (b ∷ bytes) ≡ false → Closes (b ∷ bytes) rest → Closes bytes rest
 byte_back b bytes rest o c h = elim (closes_by h) [
-    by_here e ↦ absurd (true_false (sym (ap closes e) ∙ c))
+  | by_here e ↦ absurd (true_false (sym (ap closes e) ∙ c))
   | by_byte b' more e o' c' k ↦ subst (λ (z : List ℕ). Closes z rest) (sym (tails e)) k
-  | by_nested more inner e k m ↦ absurd (true_false (sym (ap opens e) ∙ o)) ]
+  | by_nested more inner e k m ↦ absurd (true_false (sym (ap opens e) ∙ o))
+]
 
 -- no comment ends where the source ends
 end_back : (rest : List ℕ) → Closes [] rest → ⊥
 end_back rest h = elim (closes_by h) [
-    by_here e ↦ some_none (sym e)
+  | by_here e ↦ some_none (sym e)
   | by_byte b more e o c k ↦ some_none (sym e)
-  | by_nested more inner e k m ↦ some_none (sym e) ]
+  | by_nested more inner e k m ↦ some_none (sym e)
+]
 
 -- a comment has one end
 pub closes_once : {bytes rest : List ℕ} → Closes bytes rest → (other : List ℕ) → Closes bytes other → rest ≡ other

@@ -52,23 +52,26 @@ gap_by (comment bytes after rest c h) = by_comment bytes after refl c h
 -- no gap goes on where one ends
 pub gap_end : (bytes rest : List ℕ) → IsGapEnd bytes → Gap bytes rest → bytes ≡ rest
 gap_end bytes rest n h = elim (gap_by h) [
-    by_none e ↦ e
+  | by_none e ↦ e
   | by_blank b more e t k ↦ absurd (both (is_blank b) t (let s : Stops is_blank (b ∷ more) = subst (Stops is_blank) e n.no_blank in s))
-  | by_comment more after e c k ↦ absurd (n.no_comment more after e c) ]
+  | by_comment more after e c k ↦ absurd (n.no_comment more after e c)
+]
 
 blank_back : (b : ℕ) (bytes rest : List ℕ) → is_blank b ≡ true → IsGapEnd rest → Gap (b ∷ bytes) rest → Gap bytes rest
 blank_back b bytes rest t n h = elim (gap_by h) [
-    by_none e ↦ absurd (both (is_blank b) t (let s : Stops is_blank (b ∷ bytes) = subst (Stops is_blank) (sym e) n.no_blank in s))
+  | by_none e ↦ absurd (both (is_blank b) t (let s : Stops is_blank (b ∷ bytes) = subst (Stops is_blank) (sym e) n.no_blank in s))
   | by_blank b' more e t' k ↦ subst (λ (z : List ℕ). Gap z rest) (sym (tails e)) k
-  | by_comment more after e c k ↦ absurd (true_false (sym t ∙ ap is_blank (heads e))) ]
+  | by_comment more after e c k ↦ absurd (true_false (sym t ∙ ap is_blank (heads e)))
+]
 
 comment_back : (bytes after rest : List ℕ) → Closes bytes after → IsGapEnd rest → Gap (40 ∷ 42 ∷ bytes) rest → Gap after rest
 comment_back bytes after rest c n h = elim (gap_by h) [
-    by_none e ↦ absurd (n.no_comment bytes after (sym e) c)
+  | by_none e ↦ absurd (n.no_comment bytes after (sym e) c)
   | by_blank b more e t k ↦ absurd (true_false (sym t ∙ ap is_blank (sym (heads e))))
   | by_comment more other e c' k ↦
       let d : Closes bytes other = subst (λ (z : List ℕ). Closes z other) (sym (tails (tails e))) c' in
-      subst (λ (z : List ℕ). Gap z rest) (sym (closes_once c other d)) k ]
+      subst (λ (z : List ℕ). Gap z rest) (sym (closes_once c other d)) k
+]
 
 -- a gap has one end at which no more of it comes
 pub gap_once : {bytes rest : List ℕ} → Gap bytes rest → (other : List ℕ) → IsGapEnd rest → IsGapEnd other → Gap bytes other → rest ≡ other

@@ -37,10 +37,11 @@ first b = go (is_letter b) (is_digit b) (is_quote b) refl refl refl where
 kind_once : (k j : Kind) (text : List ℕ) → Spells k text → Spells j text → k ≡ j
 kind_once k j [] h i = absurd (spells_some k h)
 kind_once k j (b ∷ bytes) h i = elim (first b) [
-    is_a_letter e ↦ (word_only k b bytes h e).1 ∙ sym (word_only j b bytes i e).1
+  | is_a_letter e ↦ (word_only k b bytes h e).1 ∙ sym (word_only j b bytes i e).1
   | is_a_digit e ↦ (number_only k b bytes h e).1 ∙ sym (number_only j b bytes i e).1
   | is_a_quote e ↦ (literal_only k b bytes h e).1 ∙ sym (literal_only j b bytes i e).1
-  | is_another e f g ↦ some_once k j (sym (symbol_only k b bytes h (e, f, g)) ∙ symbol_only j b bytes i (e, f, g)) ] where
+  | is_another e f g ↦ some_once k j (sym (symbol_only k b bytes h (e, f, g)) ∙ symbol_only j b bytes i (e, f, g))
+] where
   some_once : (k j : Kind) → Some k ≡ Some j → k ≡ j
   some_once k j e = cc e
 
@@ -48,10 +49,11 @@ kind_once k j (b ∷ bytes) h i = elim (first b) [
 spelled_no_blank : (k : Kind) (text rest : List ℕ) → Spells k text → Stops is_blank (text ++ rest)
 spelled_no_blank k [] rest h = absurd (spells_some k h)
 spelled_no_blank k (b ∷ bytes) rest h = elim (first b) [
-    is_a_letter e ↦ letter_no_blank b e
+  | is_a_letter e ↦ letter_no_blank b e
   | is_a_digit e ↦ digit_no_blank b e
   | is_a_quote e ↦ quote_no_blank b e
-  | is_another e f g ↦ starter_blank b (sign_starter b bytes k (symbol_only k b bytes h (e, f, g))) ]
+  | is_another e f g ↦ starter_blank b (sign_starter b bytes k (symbol_only k b bytes h (e, f, g)))
+]
 
 closed_open : (bytes inner : List ℕ) → opens bytes ≡ false → bytes ≡ 40 ∷ 42 ∷ inner → ⊥
 closed_open bytes inner o e = true_false (sym (ap opens e) ∙ o)
@@ -128,7 +130,7 @@ closed_string : (quote other : ℕ) (inner rest inside after : List ℕ) → quo
 closed_string quote other inner rest inside after e q a b s =
     let same = sym (heads e) in
     let once = run_once (may_stand_in quote) inner (quote ∷ rest) inside after (tails e) a (quote_stops quote)
-      (subst (λ (x : ℕ). AllIn (may_stand_in x) inside) same b) (end_stops quote after s) in
+    (subst (λ (x : ℕ). AllIn (may_stand_in x) inside) same b) (end_stops quote after s) in
     quote_no_end quote rest after q once.1 s
 
 string_first : (b : ℕ) (bytes : List ℕ) → IsOpenString (b ∷ bytes) → is_quote b ≡ true

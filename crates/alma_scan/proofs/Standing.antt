@@ -169,9 +169,9 @@ one_longest : (bytes : List ℕ) → IsOtherFirst bytes → NoSymbol bytes 2 →
 one_longest bytes o n other longer after e h =
     let s = short_symbol other longer bytes after e o h in
     go (nat_eq (length longer) 2) refl s where
-  go : (two : Bool) → nat_eq (length longer) 2 ≡ two → (look_up symbols longer ≡ Some other) × (length longer ≤ 2) × (1 ≤ length longer) → length longer ≤ 1
-  go true t s = absurd (let c : None ≡ Some other = sym (n longer after e (grind (arith, nat_tests))) ∙ s.0 in cc c)
-  go false t s = grind (arith, nat_tests)
+      go : (two : Bool) → nat_eq (length longer) 2 ≡ two → (look_up symbols longer ≡ Some other) × (length longer ≤ 2) × (1 ≤ length longer) → length longer ≤ 1
+      go true t s = absurd (let c : None ≡ Some other = sym (n longer after e (grind (arith, nat_tests))) ∙ s.0 in cc c)
+      go false t s = grind (arith, nat_tests)
 
 symbol_token : (kind : Kind) (bytes text rest : List ℕ) → bytes ≡ text ++ rest → look_up symbols text ≡ Some kind → opens bytes ≡ false → IsOtherFirst bytes
     → ((other : Kind) (longer after : List ℕ) → bytes ≡ longer ++ after → Spells other longer → length longer ≤ length text) → IsToken kind text rest
@@ -206,11 +206,11 @@ bad_byte bytes o b c two one = record {
   there = other_cons bytes o;
   no_blank = b;
   no_token = λ kind text rest e h.
-    let s = short_symbol kind text bytes rest e o h in
-    let l = one_longest bytes o two kind text rest e h in
-    let n = one text rest e (omega (arith, l, s.2)) in
-    let q : None ≡ Some kind = sym n ∙ s.0 in
-    cc q;
+      let s = short_symbol kind text bytes rest e o h in
+      let l = one_longest bytes o two kind text rest e h in
+      let n = one text rest e (omega (arith, l, s.2)) in
+      let q : None ≡ Some kind = sym n ∙ s.0 in
+      cc q;
   no_comment = c;
   no_string = no_string bytes o;
   no_number = no_number bytes o;

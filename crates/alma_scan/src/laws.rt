@@ -15,8 +15,7 @@ pub fn one_reading()
         Tokens source tokens → FaultAt source fault at → ⊥ }
     ensures always { (source : List ℕ) →
         ((tokens : List Lexeme) × Tokens source tokens) ⊎ ((fault : LexFault) × (at : ℕ) × FaultAt source fault at) }
-{
-}
+{}
 
 /// What is left of a source goes on with one token, or to its end, or to one fault.
 pub fn one_step()
@@ -30,5 +29,4 @@ pub fn one_step()
         HasToken size bytes token rest → HasFault size bytes [] fault at → ⊥ }
     ensures end_or_fault { (size : ℕ) (bytes : List ℕ) (fault : LexFault) (at : ℕ) →
         Gap bytes [] → HasFault size bytes [] fault at → ⊥ }
-{
-}
+{}
