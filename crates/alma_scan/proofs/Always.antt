@@ -9,11 +9,11 @@ use Rattle.alma_base.specs.declared.fault.LexFault.TheVariants.{BadByte, OpenCom
 use Rattle.alma_tree.specs.declared.kind.Kind.{Kind}
 use Rattle.alma_tree.specs.declared.kind.Kind.TheVariants as kinds
 use Rattle.alma_scan.specs.Bytes.{is_letter, is_word_byte, is_quote, may_stand_in, AllIn, Begins, Stops, value_of}
-use Rattle.alma_scan.specs.Comments.{Closes, here, Gap, none, blank, comment, opens, closes, IsGapEnd}
+use Rattle.alma_scan.specs.Comments.{Closes, here, Gap, none, blank, comment, opens, closes}
 use Rattle.alma_scan.specs.Spellings.{look_up, symbols, reserved_words, greatest_number}
 use Rattle.alma_scan.specs.Tokens.{Lexeme, IsToken, HasToken, HasTokens}
 use Rattle.alma_scan.specs.Faults.{IsOpenString, IsTooLarge, IsFault, EndsLine, HasFault}
-use Rattle.alma_scan.specs.Fronts.{IsOtherFirst}
+use Rattle.alma_scan.specs.Fronts.{IsGapEnd, IsOtherFirst}
 use Rattle.alma_scan.proofs.Basics.{true_false, both, heads, tails, some_none}
 use Rattle.alma_scan.proofs.Comments.{ClosesAll, opened, opened_back, closed_back, byted, byted_back, no_all}
 use Rattle.alma_scan.proofs.Gaps.{gap_shorter, closes_shorter}

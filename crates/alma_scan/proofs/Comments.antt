@@ -3,7 +3,8 @@ use Rattle.std.proofs.Common.{◌≡◌, ◌<◌, ℕ, zero, suc, ◌+◌, ◌-�
 use Rattle.std.proofs.Math.Numerals.{sub-one}
 use Rattle.alma_base.specs.Reading.{is_blank}
 use Rattle.alma_scan.specs.Bytes.{Stops}
-use Rattle.alma_scan.specs.Comments.{Closes, here, byte, nested, Gap, none, blank, comment, opens, closes, starts_with_two, IsGapEnd}
+use Rattle.alma_scan.specs.Comments.{Closes, here, byte, nested, Gap, none, blank, comment, opens, closes, starts_with_two}
+use Rattle.alma_scan.specs.Fronts.{IsGapEnd}
 use Rattle.alma_scan.proofs.Basics.{true_false, both, heads, tails, some_none}
 
 -- the ways in which a comment goes on, with equations in the place of patterns

@@ -9,3 +9,4 @@ pub mod Standing
 pub mod Lists
 pub mod Once
 pub mod Always
+pub mod Slices

@@ -8,7 +8,8 @@ use Rattle.alma_base.specs.declared.fault.LexFault.TheVariants.{BadByte, OpenCom
 use Rattle.alma_tree.specs.declared.kind.Kind.{Kind}
 use Rattle.alma_tree.specs.declared.kind.Kind.TheVariants as kinds
 use Rattle.alma_scan.specs.Bytes.{is_letter, is_quote, is_line_end, may_stand_in, AllIn, Stops, value_of}
-use Rattle.alma_scan.specs.Comments.{Closes, Gap, opens, IsGapEnd}
+use Rattle.alma_scan.specs.Comments.{Closes, Gap, opens}
+use Rattle.alma_scan.specs.Fronts.{IsGapEnd}
 use Rattle.alma_scan.specs.Spellings.{Spells, IsDigits, IsLiteral, look_up, symbols, greatest_number}
 use Rattle.alma_scan.specs.Tokens.{Lexeme, IsToken, HasToken, HasTokens}
 use Rattle.alma_scan.specs.Faults.{IsOpenComment, IsOpenString, IsTooLarge, IsBadByte, IsFault, EndsLine, HasFault}

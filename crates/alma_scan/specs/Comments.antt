@@ -1,7 +1,6 @@
 -- Comments, which nest, and what may stand between two tokens. 40 is `(`, 41 is `)`, 42 is `*`.
 use Rattle.std.specs.Prelude.{◌≡◌, ℕ, Bool, true, false, ◌&&◌, nat_eq, List, [], ◌∷◌}
 use Rattle.alma_base.specs.Reading.{is_blank}
-use Rattle.alma_scan.specs.Bytes.{Stops}
 
 -- the bytes begin with these two
 abbrev pub starts_with_two : ℕ → ℕ → List ℕ → Bool
@@ -29,8 +28,3 @@ pub data Gap : List ℕ → List ℕ → Type 0 where
   none : (rest : List ℕ) → Gap rest rest
   blank : (b : ℕ) (bytes rest : List ℕ) → is_blank b ≡ true → Gap bytes rest → Gap (b ∷ bytes) rest
   comment : (bytes after rest : List ℕ) → Closes bytes after → Gap after rest → Gap (40 ∷ 42 ∷ bytes) rest
-
--- the bytes begin with no blank and with no whole comment
-pub record IsGapEnd (bytes : List ℕ) : Type 0 where
-  pub no_blank : Stops is_blank bytes
-  pub no_comment : (inner rest : List ℕ) → bytes ≡ 40 ∷ 42 ∷ inner → Closes inner rest → ⊥

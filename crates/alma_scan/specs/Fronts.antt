@@ -1,12 +1,18 @@
 -- What stands at the front of bytes.
 use Rattle.std.specs.Prelude.{◌≡◌, ◌≤◌, ℕ, true, false, List, [], ◌∷◌, ◌++◌, length, take, Option, None, Some, Result, Ok, Err}
-use Rattle.alma_base.specs.Reading.{is_digit}
+use Rattle.alma_base.specs.Reading.{is_blank, is_digit}
 use Rattle.alma_base.specs.declared.fault.LexFault.{LexFault}
 use Rattle.alma_scan.specs.declared.front.Front.{Front}
-use Rattle.alma_scan.specs.Bytes.{is_letter, is_quote}
+use Rattle.alma_scan.specs.Bytes.{is_letter, is_quote, Stops}
+use Rattle.alma_scan.specs.Comments.{Closes}
 use Rattle.alma_scan.specs.Spellings.{look_up, symbols}
 use Rattle.alma_scan.specs.Tokens.{IsToken}
 use Rattle.alma_scan.specs.Faults.{IsFault}
+
+-- the bytes begin with no blank and with no whole comment
+pub record IsGapEnd (bytes : List ℕ) : Type 0 where
+  pub no_blank : Stops is_blank bytes
+  pub no_comment : (inner rest : List ℕ) → bytes ≡ 40 ∷ 42 ∷ inner → Closes inner rest → ⊥
 
 -- the bytes begin with this token
 pub record IsFrontOf (bytes : List ℕ) (front : Front) : Type 0 where

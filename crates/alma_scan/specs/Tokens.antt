@@ -1,5 +1,5 @@
 -- The tokens of a source.
-use Rattle.std.specs.Prelude.{◌≡◌, ◌≤◌, ◌+◌, ℕ, false, List, [], ◌∷◌, ◌++◌, length}
+use Rattle.std.specs.Prelude.{◌≡◌, ◌≤◌, ◌+◌, ℕ, false, List, [], ◌∷◌, ◌++◌, length, slice_range}
 use Rattle.alma_base.specs.Reading.{is_digit}
 use Rattle.alma_tree.specs.declared.kind.Kind.{Kind}
 use Rattle.alma_tree.specs.declared.kind.Kind.TheVariants as kinds
@@ -34,3 +34,8 @@ HasTokens size bytes (token ∷ tokens) rest = (after : List ℕ) × HasToken si
 -- the source is these tokens in order, with gaps before, between and behind them
 abbrev pub Tokens : List ℕ → List Lexeme → Type 0
 Tokens source tokens = HasTokens (length source) source tokens []
+
+-- the token's text is the slice of the source at its start
+pub record IsSlice (source : List ℕ) (token : Lexeme) : Type 0 where
+  pub text : slice_range source token.start (token.start + length token.text) ≡ token.text
+  pub within : token.start + length token.text ≤ length source

@@ -2,9 +2,8 @@
 ghost use Rattle.std.specs.Prelude.{◌≡◌, ◌++◌, nat_le, [], false, IfOk, IfErr, MatchOption};
 ghost use Rattle.alma_base.specs.Reading.{is_digit};
 ghost use Rattle.alma_scan.specs.Bytes.{Begins, AllIn, Stops, is_letter, is_quote, value_of};
-ghost use Rattle.alma_scan.specs.Comments.{IsGapEnd};
 ghost use Rattle.alma_scan.specs.Spellings.{greatest_number};
-ghost use Rattle.alma_scan.specs.Fronts.{IsFront, IsFrontOf, IsOtherFirst, IsSymbolAt};
+ghost use Rattle.alma_scan.specs.Fronts.{IsGapEnd, IsFront, IsFrontOf, IsOtherFirst, IsSymbolAt};
 
 use crate::byte::{Class, is_digit, is_letter, is_quote, split_run};
 use crate::gap::skip_two;

@@ -1,8 +1,8 @@
 //! Laws of the definition: a source is read in one way.
-ghost use Rattle.std.specs.Prelude.{◌≡◌, ◌⊎◌, ℕ, List, []};
+ghost use Rattle.std.specs.Prelude.{◌≡◌, ◌≤◌, ◌⊎◌, ℕ, List, [], length, All};
 ghost use Rattle.alma_base.specs.declared.fault.LexFault.{LexFault};
 ghost use Rattle.alma_scan.specs.Comments.{Gap};
-ghost use Rattle.alma_scan.specs.Tokens.{Lexeme, HasToken, Tokens};
+ghost use Rattle.alma_scan.specs.Tokens.{Lexeme, HasToken, Tokens, IsSlice};
 ghost use Rattle.alma_scan.specs.Faults.{HasFault, FaultAt};
 
 /// A source has one list of tokens or one fault, and never both.
@@ -29,4 +29,10 @@ pub fn one_step()
         HasToken size bytes token rest → HasFault size bytes [] fault at → ⊥ }
     ensures end_or_fault { (size : ℕ) (bytes : List ℕ) (fault : LexFault) (at : ℕ) →
         Gap bytes [] → HasFault size bytes [] fault at → ⊥ }
+{}
+
+/// The tokens of a source are slices of it, and no more than its bytes.
+pub fn tokens_are_slices()
+    ensures slices { (source : List ℕ) (tokens : List Lexeme) → Tokens source tokens → All (IsSlice source) tokens }
+    ensures count { (source : List ℕ) (tokens : List Lexeme) → Tokens source tokens → length tokens ≤ length source }
 {}

@@ -1,5 +1,5 @@
 // Tokens, the scanner that gives them one by one, and all tokens of a source.
-ghost use Rattle.std.specs.Prelude.{IfOk, IfErr};
+ghost use Rattle.std.specs.Prelude.{◌≤◌, length, vec_len, All, IfOk, IfErr};
 
 use crate::front::read_front;
 use crate::gap::skip_gap;
@@ -112,12 +112,14 @@ impl<'s> Scanner<'s> {
     }
 }
 
-ghost use Rattle.alma_scan.specs.Tokens.{Tokens};
+ghost use Rattle.alma_scan.specs.Tokens.{Tokens, IsSlice};
 ghost use Rattle.alma_scan.specs.Scanned.{lexemes, IsStopOf};
 
 /// All tokens of a source, or its first lexical fault.
 pub fn scan(alloc: Global, source: &[u8]) -> Result<Vec<Token<'_>>, ScanError>
     ensures tokens { IfOk result (λ tokens. Tokens source.now (lexemes tokens.items)) }
+    ensures slices { IfOk result (λ tokens. All (IsSlice source.now) (lexemes tokens.items)) }
+    ensures count { IfOk result (λ tokens. vec_len tokens ≤ length source.now) }
     ensures fault { IfErr result (λ error. IsStopOf source.now error) }
 {
     let mut scanner = Scanner::new(source);

@@ -1,8 +1,10 @@
-use Rattle.std.proofs.Common.{◌≡◌, ℕ, List, [], length, subst, ◌∙◌}
+use Rattle.std.proofs.Common.{◌≡◌, ◌≤◌, arith, ℕ, List, [], length, subst, ◌∙◌}
+use Rattle.std.proofs.lemmas.List.{length-map}
 use Rattle.alma_scan.specs.Tokens.{HasToken}
 use Rattle.alma_scan.specs.Faults.{HasFault}
 use Rattle.alma_scan.specs.Scanned.{lexeme, lexemes}
 use Rattle.alma_scan.proofs.Lists.{token_shorter, found_all, found_fault, found_push}
+use Rattle.alma_scan.proofs.Slices.{slices, count_of}
 use Rattle.alma_scan.proofs.scanner.scan.Goals as goal
 
 pub loop-token-smaller : goal.loop-token-smaller
@@ -26,3 +28,16 @@ pub returns-in-Err-clause-fault : goal.returns-in-Err-clause-fault
 returns-in-Err-clause-fault c =
     let fault = subst (λ (n : ℕ). HasFault n c.loop-token.scanner.bytes [] c.in-Err.stop.fault c.in-Err.stop.at) c.loop-token.invariant.size c.in-Err.ensures.fault.0 in
     (lexemes c.loop-token.tokens.items, found_fault _ _ _ _ _ _ c.loop-token.invariant.found fault)
+
+pub returns-in-Ok-None-clause-slices : goal.returns-in-Ok-None-clause-slices
+returns-in-Ok-None-clause-slices c =
+    let end = rw c.in-Ok-None.field-0-is at c.in-Ok-None.ensures.end in
+    slices _ _ (found_all _ _ _ _ _ c.loop-token.invariant.found end.0)
+
+pub returns-in-Ok-None-clause-count : goal.returns-in-Ok-None-clause-count
+returns-in-Ok-None-clause-count c =
+    let end = rw c.in-Ok-None.field-0-is at c.in-Ok-None.ensures.end in
+    let count = count_of _ _ _ _ (found_all _ _ _ _ _ c.loop-token.invariant.found end.0) in
+    let mapped = length-map c.loop-token.tokens.items lexeme in
+    let kept = c.loop-token.tokens.ok in
+    omega (arith, count, mapped, kept)
