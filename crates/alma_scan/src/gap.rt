@@ -52,7 +52,6 @@ fn behind_comment(bytes: &[u8]) -> Option<&[u8]>
 }
 
 /// What stands behind all blanks and whole comments.
-#[tactic(auto, using(crate::proofs::Gaps::gap_then, crate::proofs::Gaps::gap_blanks, crate::proofs::Gaps::gap_comment, crate::proofs::Gaps::closes_shorter))]
 pub fn skip_gap(bytes: &[u8]) -> &[u8]
     ensures gap { Gap bytes.now result.now }
     ensures end { IsGapEnd result.now }

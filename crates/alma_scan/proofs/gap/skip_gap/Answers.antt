@@ -17,3 +17,6 @@ pub loop-after-preserved : goal.loop-after-preserved
 loop-after-preserved c =
     gap_comment _ _ _ _ (gap_blanks _ _ _ _ c.loop-after.invariant c.split_run.ensures.whole c.split_run.ensures.run)
     c.in-Some.ensures.1 c.in-Some.ensures.2
+
+pub returns-in-None-clause-gap : goal.returns-in-None-clause-gap
+returns-in-None-clause-gap c = gap_blanks _ _ _ _ c.loop-after.invariant c.split_run.ensures.whole c.split_run.ensures.run

@@ -3,5 +3,5 @@ use Rattle.alma_scan.specs.Spellings.{look_up}
 use Rattle.alma_scan.specs.Tables.{entries}
 use Rattle.alma_scan.proofs.spelling.find.Given as goal
 
-abbrev pub invariant-loop-entry : goal.invariant-loop-entry
-invariant-loop-entry l = look_up (entries (drop l.entry-index l.table)) l.text ≡ look_up (entries l.table) l.text
+abbrev pub invariant-loop-spelling : goal.invariant-loop-spelling
+invariant-loop-spelling l = look_up (entries (drop l.spelling-index l.table)) l.text ≡ look_up (entries l.table) l.text
