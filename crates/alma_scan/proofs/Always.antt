@@ -1,5 +1,5 @@
 -- Each source can be read: it has tokens or a fault.
-use Rattle.std.proofs.Common.{◌≡◌, ◌≤◌, ◌<◌, ℕ, zero, suc, ◌+◌, ◌-◌, Bool, true, false, ◌&&◌, List, [], ◌∷◌, ◌++◌, Option, None, Some, length, take, drop, refl, ap, sym, ◌∙◌, subst, arith, length-append, inl, inr}
+use Rattle.std.proofs.Common.{◌≡◌, ◌≤◌, ◌<◌, ℕ, zero, suc, ◌-◌, Bool, true, false, ◌&&◌, List, [], ◌∷◌, ◌++◌, Option, None, Some, length, take, drop, refl, ap, sym, ◌∙◌, subst, arith, length-append, inl, inr}
 use Rattle.std.specs.Prelude.{◌⊎◌, nat_eq, nat_le, unwrap_or}
 use Rattle.std.proofs.lemmas.List.{take-append-drop, length-take-le}
 use Rattle.std.proofs.lemmas.Bool.Decides.{nat_tests}
@@ -12,14 +12,14 @@ use Rattle.alma_scan.specs.Bytes.{is_letter, is_word_byte, is_quote, may_stand_i
 use Rattle.alma_scan.specs.Comments.{Closes, here, Gap, none, blank, comment, opens, closes}
 use Rattle.alma_scan.specs.Spellings.{look_up, symbols, reserved_words, greatest_number}
 use Rattle.alma_scan.specs.Tokens.{Lexeme, IsToken, HasToken, HasTokens}
-use Rattle.alma_scan.specs.Faults.{IsOpenString, IsTooLarge, IsFault, EndsLine, HasFault}
+use Rattle.alma_scan.specs.Faults.{IsFault, EndsLine, HasFault}
 use Rattle.alma_scan.specs.Fronts.{IsGapEnd, IsOtherFirst}
-use Rattle.alma_scan.proofs.Basics.{true_false, both, heads, tails, some_none}
+use Rattle.alma_scan.proofs.Basics.{true_false, heads, tails}
 use Rattle.alma_scan.proofs.Comments.{ClosesAll, opened, opened_back, closed_back, byted, byted_back, no_all}
 use Rattle.alma_scan.proofs.Gaps.{gap_shorter, closes_shorter}
 use Rattle.alma_scan.proofs.Standing.{word_token, number_token, digits_text, literal_token, literal_rest, ends_line, NoSymbol, two_token, one_token, bad_byte}
 use Rattle.alma_scan.proofs.Lists.{token_shorter}
-use Rattle.alma_scan.proofs.Once.{First, is_a_letter, is_a_digit, is_a_quote, is_another, first, empty_end, same_front}
+use Rattle.alma_scan.proofs.Once.{is_a_letter, is_a_digit, is_a_quote, is_another, first, empty_end, same_front}
 
 -- the bytes close so many comments and one more, or they do not
 data Ends (depth : ℕ) (bytes : List ℕ) : Type 0 where

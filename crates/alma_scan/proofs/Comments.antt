@@ -1,11 +1,8 @@
 -- How comments and gaps go on: each has one end.
-use Rattle.std.proofs.Common.{◌≡◌, ◌<◌, ℕ, zero, suc, ◌+◌, ◌-◌, Bool, true, false, List, [], ◌∷◌, length, refl, ap, sym, ◌∙◌, subst, add-one, arith}
+use Rattle.std.proofs.Common.{◌≡◌, ℕ, zero, suc, ◌+◌, ◌-◌, false, List, [], ◌∷◌, refl, ap, sym, ◌∙◌, subst, add-one}
 use Rattle.std.proofs.Math.Numerals.{sub-one}
-use Rattle.alma_base.specs.Reading.{is_blank}
-use Rattle.alma_scan.specs.Bytes.{Stops}
-use Rattle.alma_scan.specs.Comments.{Closes, here, byte, nested, Gap, none, blank, comment, opens, closes, starts_with_two}
-use Rattle.alma_scan.specs.Fronts.{IsGapEnd}
-use Rattle.alma_scan.proofs.Basics.{true_false, both, heads, tails, some_none}
+use Rattle.alma_scan.specs.Comments.{Closes, here, byte, nested, opens, closes}
+use Rattle.alma_scan.proofs.Basics.{true_false, tails, some_none}
 
 -- the ways in which a comment goes on, with equations in the place of patterns
 pub data ClosesBy (bytes rest : List ℕ) : Type 0 where

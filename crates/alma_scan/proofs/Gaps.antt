@@ -1,8 +1,8 @@
 -- How gaps go on: each has one end, where a token or a fault stands.
-use Rattle.std.proofs.Common.{◌≡◌, ◌≤◌, ◌<◌, ℕ, suc, ◌+◌, Bool, true, false, List, [], ◌∷◌, ◌++◌, length, refl, ap, sym, ◌∙◌, subst, arith}
+use Rattle.std.proofs.Common.{◌≡◌, ◌≤◌, ◌<◌, ℕ, true, List, [], ◌∷◌, ◌++◌, length, refl, ap, sym, ◌∙◌, subst, arith}
 use Rattle.alma_base.specs.Reading.{is_blank}
 use Rattle.alma_scan.specs.Bytes.{AllIn, Stops}
-use Rattle.alma_scan.specs.Comments.{Closes, here, byte, nested, Gap, none, blank, comment, opens}
+use Rattle.alma_scan.specs.Comments.{Closes, here, byte, nested, Gap, none, blank, comment}
 use Rattle.alma_scan.specs.Fronts.{IsGapEnd}
 use Rattle.alma_scan.proofs.Basics.{true_false, both, heads, tails}
 use Rattle.alma_scan.proofs.Comments.{closes_once}

@@ -1,19 +1,17 @@
 -- A source is read in at most one way.
-use Rattle.std.proofs.Common.{◌≡◌, ◌≤◌, ◌<◌, ℕ, zero, suc, ◌+◌, Bool, true, false, List, [], ◌∷◌, ◌++◌, Option, None, Some, length, refl, ap, sym, ◌∙◌, subst, arith, length-append}
-use Rattle.std.specs.Prelude.{nat_eq, unwrap_or}
+use Rattle.std.proofs.Common.{◌≡◌, ℕ, Bool, true, false, List, [], ◌∷◌, ◌++◌, Some, length, refl, ap, sym, ◌∙◌, subst, arith}
 use Rattle.std.proofs.lemmas.Bool.Decides.{nat_tests}
 use Rattle.alma_base.specs.Reading.{is_blank, is_digit}
 use Rattle.alma_base.specs.declared.fault.LexFault.{LexFault}
 use Rattle.alma_base.specs.declared.fault.LexFault.TheVariants.{BadByte, OpenComment, OpenString, NumberTooLarge}
 use Rattle.alma_tree.specs.declared.kind.Kind.{Kind}
-use Rattle.alma_tree.specs.declared.kind.Kind.TheVariants as kinds
 use Rattle.alma_scan.specs.Bytes.{is_letter, is_quote, is_line_end, may_stand_in, AllIn, Stops, value_of}
 use Rattle.alma_scan.specs.Comments.{Closes, Gap, opens}
 use Rattle.alma_scan.specs.Fronts.{IsGapEnd}
-use Rattle.alma_scan.specs.Spellings.{Spells, IsDigits, IsLiteral, look_up, symbols, greatest_number}
+use Rattle.alma_scan.specs.Spellings.{Spells, IsDigits}
 use Rattle.alma_scan.specs.Tokens.{Lexeme, IsToken, HasToken, HasTokens}
-use Rattle.alma_scan.specs.Faults.{IsOpenComment, IsOpenString, IsTooLarge, IsBadByte, IsFault, EndsLine, HasFault}
-use Rattle.alma_scan.proofs.Basics.{true_false, both, heads, tails, some_none}
+use Rattle.alma_scan.specs.Faults.{IsOpenComment, IsOpenString, IsTooLarge, IsFault, EndsLine, HasFault}
+use Rattle.alma_scan.proofs.Basics.{true_false, heads, tails, some_none}
 use Rattle.alma_scan.proofs.Runs.{run_once}
 use Rattle.alma_scan.proofs.Gaps.{gap_once}
 use Rattle.alma_scan.proofs.Spelled.{word_only, number_only, literal_only, symbol_only, spells_some, starter_blank, sign_starter, letter_no_blank, digit_no_blank, quote_no_blank, digit_no_quote, digit_no_paren, quote_no_paren}

@@ -1,11 +1,9 @@
 -- Tokens are slices of their source.
-use Rattle.std.proofs.Common.{◌≡◌, ◌≤◌, ◌<◌, ◌+◌, ◌-◌, ℕ, zero, suc, List, [], ◌∷◌, ◌++◌, length, take, drop, get_or, refl, ap, sym, ◌∙◌, subst, arith, append_assoc, length-append}
-use Rattle.std.specs.Prelude.{All, map, slice_range}
+use Rattle.std.proofs.Common.{◌≡◌, ◌≤◌, ◌+◌, ◌-◌, ℕ, zero, suc, List, [], ◌∷◌, ◌++◌, length, take, drop, refl, ap, sym, ◌∙◌, arith, append_assoc, length-append}
+use Rattle.std.specs.Prelude.{All, slice_range}
 use Rattle.std.proofs.Math.Seq.{take-append_seam, drop-append_seam}
-use Rattle.std.proofs.lemmas.List.{length-map}
 use Rattle.alma_scan.specs.Comments.{Closes, here, byte, nested, Gap, none, blank, comment}
-use Rattle.alma_scan.specs.Tokens.{Lexeme, HasToken, HasTokens, IsSlice}
-use Rattle.alma_scan.proofs.Gaps.{gap_shorter}
+use Rattle.alma_scan.specs.Tokens.{Lexeme, HasTokens, IsSlice}
 use Rattle.alma_scan.proofs.Lists.{token_shorter}
 
 -- the rest behind a comment is the last of it

@@ -1,16 +1,15 @@
 -- What the first byte of a spelled text tells of it.
-use Rattle.std.proofs.Common.{◌≡◌, ◌≤◌, ◌<◌, ℕ, zero, suc, ◌+◌, Bool, true, false, ◌&&◌, ◌||◌, List, [], ◌∷◌, ◌++◌, Option, None, Some, length, drop, get_or, refl, ap, sym, ◌∙◌, subst, arith}
-use Rattle.std.specs.Prelude.{not, nat_eq, nat_le, nat_lt, bytes_eq, unwrap_or, if◌then◌else◌}
+use Rattle.std.proofs.Common.{◌≡◌, ◌≤◌, ℕ, Bool, true, false, ◌&&◌, ◌||◌, List, [], ◌∷◌, ◌++◌, Option, None, Some, length, refl, ap, sym, ◌∙◌, subst, arith}
+use Rattle.std.specs.Prelude.{not, nat_eq, nat_le, bytes_eq, unwrap_or, if◌then◌else◌}
 use Rattle.std.proofs.lemmas.Bool.Decides.{nat_tests}
 use Rattle.std.proofs.lemmas.Slice.Eq.{bytes_eq-Decides}
 use Rattle.alma_base.specs.Reading.{is_blank, is_digit}
 use Rattle.alma_tree.specs.declared.kind.Kind.{Kind}
 use Rattle.alma_tree.specs.declared.kind.Kind.TheVariants as kinds
-use Rattle.alma_scan.specs.Bytes.{is_letter, is_word_byte, is_quote, is_line_end, may_stand_in, AllIn, Begins, Stops, value_of}
-use Rattle.alma_scan.specs.Comments.{opens}
-use Rattle.alma_scan.specs.Spellings.{Spelling, symbols, reserved_words, look_up, IsWord, IsDigits, IsLiteral, greatest_number, Spells, name, number, literal, symbol, reserved}
+use Rattle.alma_scan.specs.Bytes.{is_letter, is_word_byte, is_quote, AllIn, value_of}
+use Rattle.alma_scan.specs.Spellings.{Spelling, symbols, reserved_words, look_up, IsDigits, IsLiteral, greatest_number, Spells, name, number, literal, symbol, reserved}
 use Rattle.alma_scan.specs.Fronts.{IsOtherFirst}
-use Rattle.alma_scan.proofs.Basics.{true_false, both, heads, tails}
+use Rattle.alma_scan.proofs.Basics.{true_false, both, heads}
 
 pub letter_no_digit : (b : ℕ) → is_letter b ≡ true → is_digit b ≡ true → ⊥
 letter_no_digit b h k = grind (arith, nat_tests)

@@ -1,19 +1,19 @@
 -- Which token or fault stands at the front of bytes.
-use Rattle.std.proofs.Common.{◌≡◌, ◌≤◌, ◌<◌, ℕ, zero, suc, ◌+◌, Bool, true, false, ◌&&◌, List, [], ◌∷◌, ◌++◌, Option, None, Some, length, refl, ap, sym, ◌∙◌, subst, arith, append_assoc, length-append, take}
+use Rattle.std.proofs.Common.{◌≡◌, ◌≤◌, ℕ, ◌+◌, Bool, true, false, List, [], ◌∷◌, ◌++◌, Option, None, Some, length, refl, ap, sym, ◌∙◌, subst, arith, append_assoc, length-append, take}
 use Rattle.std.proofs.Math.Seq.{take-append_seam}
 use Rattle.std.proofs.lemmas.Bool.Decides.{nat_tests}
-use Rattle.std.specs.Prelude.{not, nat_eq, unwrap_or, ok_or}
+use Rattle.std.specs.Prelude.{nat_eq, unwrap_or, ok_or}
 use Rattle.alma_base.specs.Reading.{is_blank, is_digit}
 use Rattle.alma_tree.specs.declared.kind.Kind.{Kind}
 use Rattle.alma_tree.specs.declared.kind.Kind.TheVariants as kinds
 use Rattle.alma_scan.specs.Bytes.{is_letter, is_word_byte, is_quote, is_line_end, may_stand_in, AllIn, Begins, Stops, value_of}
 use Rattle.alma_scan.specs.Comments.{opens}
-use Rattle.alma_scan.specs.Spellings.{symbols, reserved_words, look_up, IsWord, IsDigits, IsLiteral, greatest_number, Spells, name, number, literal, symbol, reserved}
+use Rattle.alma_scan.specs.Spellings.{symbols, reserved_words, look_up, IsWord, IsDigits, greatest_number, Spells, name, number, literal, symbol, reserved}
 use Rattle.alma_scan.specs.Tokens.{IsToken}
 use Rattle.alma_scan.specs.Faults.{EndsLine, IsOpenString, IsTooLarge, IsBadByte}
 use Rattle.alma_base.specs.declared.fault.LexFault.TheVariants.{BadByte}
 use Rattle.alma_scan.specs.declared.front.Front.{Front}
-use Rattle.alma_scan.specs.Fronts.{IsOtherFirst, IsFront, IsFrontOf, IsSymbolAt}
+use Rattle.alma_scan.specs.Fronts.{IsOtherFirst, IsFront, IsSymbolAt}
 use Rattle.alma_scan.proofs.Basics.{true_false, both, heads, tails}
 use Rattle.alma_scan.proofs.Runs.{run_longest, run_once}
 use Rattle.alma_scan.proofs.Spelled.{word_only, number_only, literal_only, symbol_only, spells_some, letter_no_digit, letter_no_paren, digit_no_paren, quote_no_paren, number_digits, symbol_short}

@@ -1,6 +1,6 @@
 -- Classes of bytes, and runs of one class.
 use Rattle.std.specs.Prelude.{◌≡◌, ℕ, ◌+◌, ◌-◌, ◌*◌, Bool, true, false, ◌&&◌, ◌||◌, not, nat_le, nat_eq, List, [], ◌∷◌}
-use Rattle.alma_base.specs.Reading.{is_blank, is_digit}
+use Rattle.alma_base.specs.Reading.{is_digit}
 
 -- one of A to Z and a to z, or _
 abbrev pub is_letter : ℕ → Bool

@@ -1,11 +1,11 @@
 -- The lexical faults of a source.
-use Rattle.std.specs.Prelude.{◌≡◌, ◌≤◌, ◌<◌, ◌+◌, ℕ, true, false, List, [], ◌∷◌, ◌++◌, length}
+use Rattle.std.specs.Prelude.{◌≡◌, ◌<◌, ◌+◌, ℕ, true, false, List, [], ◌∷◌, ◌++◌, length}
 use Rattle.alma_base.specs.Reading.{is_blank, is_digit}
 use Rattle.alma_base.specs.declared.fault.LexFault.{LexFault}
 use Rattle.alma_base.specs.declared.fault.LexFault.TheVariants.{BadByte, OpenComment, OpenString, NumberTooLarge}
 use Rattle.alma_tree.specs.declared.kind.Kind.{Kind}
 use Rattle.alma_scan.specs.Bytes.{is_quote, is_line_end, may_stand_in, AllIn, Stops, value_of}
-use Rattle.alma_scan.specs.Comments.{Gap, Closes, opens}
+use Rattle.alma_scan.specs.Comments.{Closes, opens}
 use Rattle.alma_scan.specs.Spellings.{Spells, IsDigits, greatest_number}
 use Rattle.alma_scan.specs.Tokens.{Lexeme, HasTokens}
 

@@ -1,5 +1,5 @@
 -- What the scanner's calls show.
-use Rattle.std.specs.Prelude.{◌≡◌, ℕ, List, [], length, map, Result, Ok, Err, Option, None, Some}
+use Rattle.std.specs.Prelude.{ℕ, List, map}
 use Rattle.alma_scan.specs.declared.scanner.Token.{Token}
 use Rattle.alma_scan.specs.declared.scanner.ScanError.{ScanError}
 use Rattle.alma_scan.specs.declared.scanner.ScanError.TheVariants.{Lex, Memory}

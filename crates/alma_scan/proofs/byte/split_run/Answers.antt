@@ -1,4 +1,4 @@
-use Rattle.std.proofs.Common.{◌≡◌, arith, add-one, ℕ, length, take, suc}
+use Rattle.std.proofs.Common.{arith, add-one}
 use Rattle.alma_scan.specs.Classes.{in_class}
 use Rattle.alma_scan.proofs.Runs.{all_in_more}
 use Rattle.alma_scan.proofs.byte.split_run.Goals as goal

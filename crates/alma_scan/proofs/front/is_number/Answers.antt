@@ -1,6 +1,6 @@
-use Rattle.std.proofs.Common.{◌≡◌, ◌≤◌, ◌<◌, ◌*◌, ◌+◌, ◌-◌, ◌/◌, arith, ℕ, false, get_or, sym}
+use Rattle.std.proofs.Common.{◌<◌, arith}
 use Rattle.std.proofs.lemmas.Bool.Decides.{nat_tests}
-use Rattle.alma_scan.specs.Bytes.{value_behind, value_of}
+use Rattle.alma_scan.specs.Bytes.{value_of}
 use Rattle.alma_scan.specs.Spellings.{greatest_number}
 use Rattle.alma_scan.proofs.Values.{value_behind_past}
 use Rattle.alma_scan.proofs.front.is_number.Goals as goal

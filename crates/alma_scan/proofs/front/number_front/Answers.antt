@@ -1,10 +1,10 @@
-use Rattle.std.proofs.Common.{◌≡◌, ◌≤◌, ◌<◌, ◌++◌, arith, subst, sym, ◌∙◌, true}
+use Rattle.std.proofs.Common.{◌≡◌, ◌++◌, arith, subst, sym, ◌∙◌, true}
 use Rattle.std.specs.Prelude.{nat_le}
 use Rattle.std.proofs.lemmas.Bool.Decides.{nat_tests}
 use Rattle.alma_base.specs.Reading.{is_digit}
 use Rattle.alma_scan.specs.Bytes.{Begins, value_of}
 use Rattle.alma_scan.specs.Spellings.{greatest_number}
-use Rattle.alma_scan.proofs.Standing.{number_token, digits_text}
+use Rattle.alma_scan.proofs.Standing.{number_token}
 use Rattle.alma_scan.proofs.front.number_front.Goals as goal
 
 pub returns-then-is_number : goal.returns-then-is_number

@@ -1,9 +1,9 @@
-use Rattle.std.proofs.Common.{◌≡◌, List, ℕ, subst, sym}
+use Rattle.std.proofs.Common.{subst, sym}
 use Rattle.std.specs.Prelude.{Result}
 use Rattle.alma_base.specs.declared.fault.LexFault.{LexFault}
 use Rattle.alma_scan.specs.declared.front.Front.{Front}
 use Rattle.alma_scan.specs.Fronts.{IsFront}
-use Rattle.alma_scan.proofs.Standing.{two_token, last_symbol}
+use Rattle.alma_scan.proofs.Standing.{last_symbol}
 use Rattle.alma_scan.proofs.front.symbol_front.Goals as goal
 
 pub returns : goal.returns

@@ -1,5 +1,5 @@
-use Rattle.std.proofs.Common.{◌≡◌, ◌<◌, length, ap, arith}
-use Rattle.alma_scan.specs.Comments.{Gap, none}
+use Rattle.std.proofs.Common.{length, ap, arith}
+use Rattle.alma_scan.specs.Comments.{none}
 use Rattle.alma_scan.proofs.Gaps.{gap_blanks, gap_comment, gap_shorter, closes_shorter}
 use Rattle.alma_scan.proofs.gap.skip_gap.Goals as goal
 

@@ -1,4 +1,4 @@
-use Rattle.std.proofs.Common.{◌≡◌, ◌≤◌, arith, ℕ, List, [], length, subst, ◌∙◌}
+use Rattle.std.proofs.Common.{arith, ℕ, [], subst, ◌∙◌}
 use Rattle.std.proofs.lemmas.List.{length-map}
 use Rattle.alma_scan.specs.Tokens.{HasToken}
 use Rattle.alma_scan.specs.Faults.{HasFault}

@@ -1,4 +1,4 @@
-use Rattle.std.proofs.Common.{◌≡◌, ◌+◌, ◌≤◌, length, ap, ◌∙◌, length-append, arith}
+use Rattle.std.proofs.Common.{◌≤◌, length, ap, ◌∙◌, length-append, arith}
 use Rattle.alma_scan.proofs.Gaps.{gap_shorter}
 use Rattle.alma_scan.proofs.scanner.Scanner.next.Goals as goal
 
