@@ -9,9 +9,11 @@ true_false e = cc e
 pub both : (b : Bool) → b ≡ true → b ≡ false → ⊥
 both b h k = cc (h, k)
 
+-- equal lists have equal first elements
 pub heads : {x y : ℕ} {xs ys : List ℕ} → x ∷ xs ≡ y ∷ ys → x ≡ y
 heads e = cc e
 
+-- equal lists have equal rests
 pub tails : {x y : ℕ} {xs ys : List ℕ} → x ∷ xs ≡ y ∷ ys → xs ≡ ys
 tails e = cc e
 

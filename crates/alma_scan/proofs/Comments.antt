@@ -10,6 +10,7 @@ pub data ClosesBy (bytes rest : List ℕ) : Type 0 where
   by_byte : (b : ℕ) (more : List ℕ) → bytes ≡ b ∷ more → opens bytes ≡ false → closes bytes ≡ false → Closes more rest → ClosesBy bytes rest
   by_nested : (more inner : List ℕ) → bytes ≡ 40 ∷ 42 ∷ more → Closes more inner → Closes inner rest → ClosesBy bytes rest
 
+-- each comment goes on in one of these ways
 pub closes_by : {bytes rest : List ℕ} → Closes bytes rest → ClosesBy bytes rest
 closes_by (here rest) = by_here refl
 closes_by (byte b bytes rest o c h) = by_byte b bytes refl o c h
@@ -65,13 +66,16 @@ pub record SameEnd (depth : ℕ) (bytes whole : List ℕ) : Type 0 where
   pub sound : (rest : List ℕ) → ClosesAll depth bytes rest → Closes whole rest
   pub complete : (rest : List ℕ) → Closes whole rest → ClosesAll depth bytes rest
 
+-- a comment has its own end
 pub same_start : (whole : List ℕ) → SameEnd 0 whole whole
 same_start whole = record { sound = λ rest h. h; complete = λ rest h. h }
 
+-- an opening is closed with one more
 pub opened : (depth : ℕ) (bytes rest : List ℕ) → ClosesAll (suc depth) bytes rest → ClosesAll depth (40 ∷ 42 ∷ bytes) rest
 opened zero bytes rest h = nested bytes h.0 rest h.1 h.2
 opened (suc depth) bytes rest h = (h.2.0, nested bytes h.0 h.2.0 h.1 h.2.1, h.2.2)
 
+-- an opening was closed with one more
 pub opened_back : (depth : ℕ) (bytes rest : List ℕ) → ClosesAll depth (40 ∷ 42 ∷ bytes) rest → ClosesAll (suc depth) bytes rest
 opened_back zero bytes rest h = open_back bytes rest h
 opened_back (suc depth) bytes rest h = let k = open_back bytes h.0 h.1 in (k.0, k.1, (h.0, k.2, h.2))
@@ -85,9 +89,11 @@ same_opened depth bytes after whole e s =
       complete = λ rest h. opened_back depth after rest (t.complete rest h);
     }
 
+-- a closing was one less to close
 pub closed_back : (depth : ℕ) (bytes rest : List ℕ) → ClosesAll (suc depth) (42 ∷ 41 ∷ bytes) rest → ClosesAll depth bytes rest
 closed_back depth bytes rest h = subst (λ (z : List ℕ). ClosesAll depth z rest) (sym (close_back bytes h.0 h.1)) h.2
 
+-- a closing leaves one less to close
 closed : (depth : ℕ) (after whole : List ℕ) → SameEnd (suc depth) (42 ∷ 41 ∷ after) whole → SameEnd depth after whole
 closed depth after whole s = record {
   sound = λ rest h. s.sound rest (after, here after, h);
@@ -106,10 +112,12 @@ same_end depth bytes after whole e z s =
     let t : SameEnd 0 (42 ∷ 41 ∷ after) whole = subst (λ (l : List ℕ). SameEnd 0 l whole) e (subst (λ (n : ℕ). SameEnd n bytes whole) z s) in
     t.sound after (here after)
 
+-- a byte leaves as many to close
 pub byted : (depth b : ℕ) (bytes rest : List ℕ) → opens (b ∷ bytes) ≡ false → closes (b ∷ bytes) ≡ false → ClosesAll depth bytes rest → ClosesAll depth (b ∷ bytes) rest
 byted zero b bytes rest o c h = byte b bytes rest o c h
 byted (suc depth) b bytes rest o c h = (h.0, byte b bytes h.0 o c h.1, h.2)
 
+-- a byte left as many to close
 pub byted_back : (depth b : ℕ) (bytes rest : List ℕ) → opens (b ∷ bytes) ≡ false → closes (b ∷ bytes) ≡ false → ClosesAll depth (b ∷ bytes) rest → ClosesAll depth bytes rest
 byted_back zero b bytes rest o c h = byte_back b bytes rest o c h
 byted_back (suc depth) b bytes rest o c h = (h.0, byte_back b bytes h.0 o c h.1, h.2)
@@ -125,6 +133,7 @@ same_byte depth b bytes after whole e o c s =
       complete = λ rest h. byted_back depth b after rest no nc (t.complete rest h);
     }
 
+-- nothing closes where the source ends
 pub no_all : (depth : ℕ) (rest : List ℕ) → ClosesAll depth [] rest → ⊥
 no_all zero rest h = end_back rest h
 no_all (suc depth) rest h = end_back h.0 h.1

@@ -45,6 +45,7 @@ data GapBy (bytes rest : List ℕ) : Type 0 where
   by_blank : (b : ℕ) (more : List ℕ) → bytes ≡ b ∷ more → is_blank b ≡ true → Gap more rest → GapBy bytes rest
   by_comment : (more after : List ℕ) → bytes ≡ 40 ∷ 42 ∷ more → Closes more after → Gap after rest → GapBy bytes rest
 
+-- each gap goes on in one of these ways
 gap_by : {bytes rest : List ℕ} → Gap bytes rest → GapBy bytes rest
 gap_by (none rest) = by_none refl
 gap_by (blank b bytes rest t h) = by_blank b bytes refl t h
@@ -58,6 +59,7 @@ gap_end bytes rest n h = elim (gap_by h) [
   | by_comment more after e c k ↦ absurd (n.no_comment more after e c)
 ]
 
+-- a gap that begins with a blank goes on behind it
 blank_back : (b : ℕ) (bytes rest : List ℕ) → is_blank b ≡ true → IsGapEnd rest → Gap (b ∷ bytes) rest → Gap bytes rest
 blank_back b bytes rest t n h = elim (gap_by h) [
   | by_none e ↦ absurd (both (is_blank b) t (let s : Stops is_blank (b ∷ bytes) = subst (Stops is_blank) (sym e) n.no_blank in s))
@@ -65,6 +67,7 @@ blank_back b bytes rest t n h = elim (gap_by h) [
   | by_comment more after e c k ↦ absurd (true_false (sym t ∙ ap is_blank (heads e)))
 ]
 
+-- a gap that begins with a whole comment goes on behind it
 comment_back : (bytes after rest : List ℕ) → Closes bytes after → IsGapEnd rest → Gap (40 ∷ 42 ∷ bytes) rest → Gap after rest
 comment_back bytes after rest c n h = elim (gap_by h) [
   | by_none e ↦ absurd (n.no_comment bytes after (sym e) c)

@@ -28,6 +28,7 @@ token_shorter size bytes t rest h =
 pub record Found (size : ℕ) (found : List Lexeme) (source rest : List ℕ) : Type 0 where
   pub sound : (tokens : List Lexeme) (end : List ℕ) → HasTokens size rest tokens end → HasTokens size source (found ++ tokens) end
 
+-- at the start all is left
 pub found_none : (size : ℕ) (source : List ℕ) → Found size [] source source
 found_none size source = record { sound = λ tokens end h. h }
 

@@ -24,6 +24,7 @@ pub data First (b : ℕ) : Type 0 where
   is_a_quote : is_quote b ≡ true → First b
   is_another : is_letter b ≡ false → is_digit b ≡ false → is_quote b ≡ false → First b
 
+-- each byte is of one of these sorts
 pub first : (b : ℕ) → First b
 first b = go (is_letter b) (is_digit b) (is_quote b) refl refl refl where
   go : (l d q : Bool) → is_letter b ≡ l → is_digit b ≡ d → is_quote b ≡ q → First b
@@ -54,24 +55,29 @@ spelled_no_blank k (b ∷ bytes) rest h = elim (first b) [
   | is_another e f g ↦ starter_blank b (sign_starter b bytes k (symbol_only k b bytes h (e, f, g)))
 ]
 
+-- no comment opens where the test says so
 closed_open : (bytes inner : List ℕ) → opens bytes ≡ false → bytes ≡ 40 ∷ 42 ∷ inner → ⊥
 closed_open bytes inner o e = true_false (sym (ap opens e) ∙ o)
 
+-- no gap goes on where a token stands
 token_end : (k : Kind) (text rest : List ℕ) → IsToken k text rest → IsGapEnd (text ++ rest)
 token_end k text rest h = record {
   no_blank = spelled_no_blank k text rest h.spelled;
   no_comment = λ inner after e c. closed_open (text ++ rest) inner h.no_comment e;
 }
 
+-- no gap goes on where the source ends
 pub empty_end : IsGapEnd []
 empty_end = record { no_blank = tt; no_comment = λ inner rest e c. some_none (sym e) }
 
+-- no gap goes on where a quote stands
 quoted_end : (quote : ℕ) (bytes : List ℕ) → is_quote quote ≡ true → IsGapEnd (quote ∷ bytes)
 quoted_end quote bytes q = record {
   no_blank = quote_no_blank quote q;
   no_comment = λ inner rest e c. closed_open (quote ∷ bytes) inner (no_open quote bytes (quote_no_paren quote q)) e;
 }
 
+-- no gap goes on where a digit stands
 digits_end : (digits rest : List ℕ) → IsDigits digits → IsGapEnd (digits ++ rest)
 digits_end [] rest d = absurd d
 digits_end (b ∷ digits) rest d = record {
@@ -79,6 +85,7 @@ digits_end (b ∷ digits) rest d = record {
   no_comment = λ inner after e c. closed_open (b ∷ (digits ++ rest)) inner (no_open b (digits ++ rest) (digit_no_paren b d.0)) e;
 }
 
+-- no gap goes on where an open comment stands
 open_end : (bytes : List ℕ) → IsOpenComment bytes → IsGapEnd bytes
 open_end bytes o = subst IsGapEnd (sym o.1) record {
   no_blank = refl;
@@ -92,6 +99,7 @@ fault_end OpenComment bytes h = open_end bytes h
 fault_end OpenString bytes h = subst IsGapEnd (sym h.whole) (quoted_end h.quote (h.inner ++ h.rest) h.quoted)
 fault_end NumberTooLarge bytes h = subst IsGapEnd (sym h.whole) (digits_end h.digits h.rest h.run)
 
+-- fronts of one length of equal lists are equal
 pub same_front : (a x b y : List ℕ) → a ++ x ≡ b ++ y → length a ≡ length b → (a ≡ b) × (x ≡ y)
 same_front [] x [] y e l = (refl, e)
 same_front [] x (c ∷ b) y e l = absurd (omega (arith, l))
@@ -109,16 +117,20 @@ token_once k j text other rest after e h i =
     let same = same_front text rest other after e (omega (arith, above, below)) in
     (kind_once k j text h.spelled (subst (Spells j) (sym same.0) i.spelled), same.0, same.1)
 
+-- what ends a line may not stand in a literal
 line_stops : (quote b : ℕ) → is_line_end b ≡ true → may_stand_in quote b ≡ false
 line_stops quote b h = grind (arith, nat_tests)
 
+-- no quote ends a line
 quote_no_line_end : (quote : ℕ) → is_quote quote ≡ true → is_line_end quote ≡ true → ⊥
 quote_no_line_end quote h k = grind (arith, nat_tests)
 
+-- the inside of a literal stops where its line ends
 end_stops : (quote : ℕ) (rest : List ℕ) → EndsLine rest → Stops (may_stand_in quote) rest
 end_stops quote [] h = tt
 end_stops quote (b ∷ rest) h = line_stops quote b h
 
+-- no line ends at a quote
 quote_no_end : (quote : ℕ) (rest other : List ℕ) → is_quote quote ≡ true → quote ∷ rest ≡ other → EndsLine other → ⊥
 quote_no_end quote rest [] q e h = some_none e
 quote_no_end quote rest (b ∷ other) q e h = quote_no_line_end quote q (ap is_line_end (heads e) ∙ h)
@@ -132,9 +144,11 @@ closed_string quote other inner rest inside after e q a b s =
     (subst (λ (x : ℕ). AllIn (may_stand_in x) inside) same b) (end_stops quote after s) in
     quote_no_end quote rest after q once.1 s
 
+-- an open literal begins with a quote
 string_first : (b : ℕ) (bytes : List ℕ) → IsOpenString (b ∷ bytes) → is_quote b ≡ true
 string_first b bytes o = ap is_quote (heads o.whole) ∙ o.quoted
 
+-- no open literal begins with a token
 string_no_text : (k : Kind) (text rest : List ℕ) → Spells k text → IsOpenString (text ++ rest) → ⊥
 string_no_text k [] rest h o = spells_some k h
 string_no_text k (b ∷ text) rest h o =
@@ -142,14 +156,17 @@ string_no_text k (b ∷ text) rest h o =
     let e : l.0 ∷ (l.1 ++ l.0 ∷ rest) ≡ o.quote ∷ (o.inner ++ o.rest) = sym (literal_whole l.0 l.1 rest) ∙ ap (λ (z : List ℕ). z ++ rest) (sym l.2) ∙ o.whole in
     closed_string l.0 o.quote l.1 rest o.inner o.rest e l.3 l.4 o.inside o.ends
 
+-- digits begin with a digit
 first_digit : (b : ℕ) (bytes digits rest : List ℕ) → b ∷ bytes ≡ digits ++ rest → IsDigits digits → is_digit b ≡ true
 first_digit b bytes [] rest e d = absurd d
 first_digit b bytes (c ∷ digits) rest e d = ap is_digit (heads e) ∙ d.0
 
+-- one or more digits are all digits
 digits_all : (digits : List ℕ) → IsDigits digits → AllIn is_digit digits
 digits_all [] d = absurd d
 digits_all (b ∷ digits) d = d
 
+-- no number that is too large begins with a token
 large_no_text : (k : Kind) (text rest : List ℕ) → IsToken k text rest → IsTooLarge (text ++ rest) → ⊥
 large_no_text k [] rest h f = spells_some k h.spelled
 large_no_text k (b ∷ text) rest h f =
@@ -167,12 +184,15 @@ token_no_fault k text rest OpenComment h f = closed_open (text ++ rest) f.0 h.no
 token_no_fault k text rest OpenString h f = string_no_text k text rest h.spelled f
 token_no_fault k text rest NumberTooLarge h f = large_no_text k text rest h f
 
+-- an open comment is no open literal
 open_no_string : (bytes : List ℕ) → IsOpenComment bytes → IsOpenString bytes → ⊥
 open_no_string bytes f g = true_false (sym (string_first 40 (42 ∷ f.0) (subst IsOpenString f.1 g)))
 
+-- an open comment is no number
 open_no_number : (bytes : List ℕ) → IsOpenComment bytes → IsTooLarge bytes → ⊥
 open_no_number bytes f g = true_false (sym (first_digit 40 (42 ∷ f.0) g.digits g.rest (sym f.1 ∙ g.whole) g.run))
 
+-- an open literal is no number
 string_no_number : (bytes : List ℕ) → IsOpenString bytes → IsTooLarge bytes → ⊥
 string_no_number bytes f g = digit_no_quote f.quote (first_digit f.quote (f.inner ++ f.rest) g.digits g.rest (sym f.whole ∙ g.whole) g.run) f.quoted
 
@@ -195,6 +215,7 @@ fault_once NumberTooLarge OpenComment bytes f g = absurd (open_no_number bytes g
 fault_once NumberTooLarge OpenString bytes f g = absurd (string_no_number bytes g f)
 fault_once NumberTooLarge NumberTooLarge bytes f g = refl
 
+-- digits have a byte
 digits_some : (digits rest : List ℕ) → [] ≡ digits ++ rest → IsDigits digits → ⊥
 digits_some [] rest e d = d
 digits_some (b ∷ digits) rest e d = some_none (sym e)
@@ -206,6 +227,7 @@ fault_some OpenComment f = some_none (sym f.1)
 fault_some OpenString f = some_none (sym f.whole)
 fault_some NumberTooLarge f = digits_some f.digits f.rest f.whole f.run
 
+-- a spelled text has a byte
 text_some : (k : Kind) (text rest : List ℕ) → Spells k text → [] ≡ text ++ rest → ⊥
 text_some k [] rest h e = spells_some k h
 text_some k (b ∷ text) rest h e = some_none (sym e)
@@ -215,15 +237,18 @@ pub record Final (rest : List ℕ) : Type 0 where
   pub end : IsGapEnd rest
   pub no_token : (k : Kind) (text after : List ℕ) → rest ≡ text ++ after → IsToken k text after → ⊥
 
+-- nothing goes on at the end of the source
 final_end : Final []
 final_end = record { end = empty_end; no_token = λ k text after e h. text_some k text after h.spelled e }
 
+-- nothing goes on at a fault
 final_fault : (fault : LexFault) (rest : List ℕ) → IsFault fault rest → Final rest
 final_fault fault rest f = record {
   end = fault_end fault rest f;
   no_token = λ k text after e h. token_no_fault k text after fault h (subst (IsFault fault) e f);
 }
 
+-- tokens with equal parts are equal
 lexeme_same : (t u : Lexeme) → t.kind ≡ u.kind → t.text ≡ u.text → t.start ≡ u.start → t ≡ u
 lexeme_same t u k x s =
     ap (λ (z : Kind). record { kind = z; text = t.text; start = t.start }) k
@@ -277,8 +302,10 @@ never_both size bytes ts us fault at h i =
     let same = (lists_once size bytes ts us [] i.rest h i.front final_end (final_fault fault i.rest i.is_fault)).1 in
     fault_some fault (subst (IsFault fault) (sym same) i.is_fault)
 
+-- no source ends where a token comes
 pub token_or_end : (size : ℕ) (bytes : List ℕ) (t : Lexeme) (rest : List ℕ) → HasToken size bytes t rest → Gap bytes [] → ⊥
 token_or_end size bytes t rest h g = next_none size bytes t rest [] h g final_end
 
+-- no fault comes where a token does
 pub token_or_fault : (size : ℕ) (bytes : List ℕ) (t : Lexeme) (rest : List ℕ) (fault : LexFault) (at : ℕ) → HasToken size bytes t rest → HasFault size bytes [] fault at → ⊥
 token_or_fault size bytes t rest fault at h i = next_none size bytes t rest i.rest h i.front (final_fault fault i.rest i.is_fault)

@@ -33,6 +33,7 @@ slice_at front text rest start e =
     ∙ ap (take (length text)) (drop-append_seam front (text ++ rest))
     ∙ take-append_seam text rest
 
+-- a token behind a front is a slice
 one_slice : (source front text rest : List ℕ) (t : Lexeme) → source ≡ front ++ (text ++ rest) → t.text ≡ text → t.start + length (text ++ rest) ≡ length source → IsSlice source t
 one_slice source front text rest t e x s =
     let whole = ap length e in
@@ -45,10 +46,12 @@ one_slice source front text rest t e x s =
       within = omega (arith, size, s, length-append text rest);
     }
 
+-- what holds of the first and of the others holds of all
 all_more : (P : Lexeme → Type 0) (t : Lexeme) (ts : List Lexeme) → P t → All P ts → All P (t ∷ ts)
 all_more P t ts h k zero d l = h
 all_more P t ts h k (suc n) d l = k n d (omega (arith, l))
 
+-- the tokens behind a front are slices
 all_slices : (source front bytes : List ℕ) (ts : List Lexeme) (rest : List ℕ) → source ≡ front ++ bytes → HasTokens (length source) bytes ts rest → All (IsSlice source) ts
 all_slices source front bytes [] rest e h = λ k d l. absurd (omega (arith, l))
 all_slices source front bytes (t ∷ ts) rest e h =

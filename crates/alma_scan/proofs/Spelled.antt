@@ -11,33 +11,43 @@ use Rattle.alma_scan.specs.Spellings.{Spelling, symbols, reserved_words, look_up
 use Rattle.alma_scan.specs.Fronts.{IsOtherFirst}
 use Rattle.alma_scan.proofs.Basics.{true_false, both, heads}
 
+-- no letter is a digit
 pub letter_no_digit : (b : ℕ) → is_letter b ≡ true → is_digit b ≡ true → ⊥
 letter_no_digit b h k = grind (arith, nat_tests)
 
+-- no letter is a quote
 letter_no_quote : (b : ℕ) → is_letter b ≡ true → is_quote b ≡ true → ⊥
 letter_no_quote b h k = grind (arith, nat_tests)
 
+-- no digit is a quote
 pub digit_no_quote : (b : ℕ) → is_digit b ≡ true → is_quote b ≡ true → ⊥
 digit_no_quote b h k = grind (arith, nat_tests)
 
+-- no letter is a blank
 pub letter_no_blank : (b : ℕ) → is_letter b ≡ true → is_blank b ≡ false
 letter_no_blank b h = grind (arith, nat_tests)
 
+-- no digit is a blank
 pub digit_no_blank : (b : ℕ) → is_digit b ≡ true → is_blank b ≡ false
 digit_no_blank b h = grind (arith, nat_tests)
 
+-- no quote is a blank
 pub quote_no_blank : (b : ℕ) → is_quote b ≡ true → is_blank b ≡ false
 quote_no_blank b h = grind (arith, nat_tests)
 
+-- no letter is (
 pub letter_no_paren : (b : ℕ) → is_letter b ≡ true → nat_eq b 40 ≡ false
 letter_no_paren b h = grind (arith, nat_tests)
 
+-- no digit is (
 pub digit_no_paren : (b : ℕ) → is_digit b ≡ true → nat_eq b 40 ≡ false
 digit_no_paren b h = grind (arith, nat_tests)
 
+-- no quote is (
 pub quote_no_paren : (b : ℕ) → is_quote b ≡ true → nat_eq b 40 ≡ false
 quote_no_paren b h = grind (arith, nat_tests)
 
+-- a letter may stand in a word
 letter_in_word : (b : ℕ) → is_letter b ≡ true → is_word_byte b ≡ true
 letter_in_word b h = rw h refl
 
@@ -46,14 +56,17 @@ abbrev all_pass : (Spelling → Bool) → List Spelling → Bool
 all_pass test [] = true
 all_pass test (e ∷ table) = test e && all_pass test table
 
+-- of two tests that pass the first does
 and_left : (a b : Bool) → (a && b) ≡ true → a ≡ true
 and_left true b h = refl
 and_left false b h = h
 
+-- of two tests that pass the second does
 and_right : (a b : Bool) → (a && b) ≡ true → b ≡ true
 and_right true b h = h
 and_right false b h = absurd (true_false (sym h))
 
+-- a table gives its first entry or one of the others
 taken : (test : Spelling → Bool) (e : Spelling) (table : List Spelling) (text : List ℕ) (kind : Kind) → test e ≡ true
     → (look_up table text ≡ Some kind → test (record { text = text; kind = kind }) ≡ true)
     → (same : Bool) → bytes_eq e.text text ≡ same → (if same then Some e.kind else look_up table text) ≡ Some kind → test (record { text = text; kind = kind }) ≡ true
@@ -71,14 +84,17 @@ looked_up test [] text kind a h = let n : None ≡ Some kind = h in cc n
 looked_up test (e ∷ table) text kind a h =
     taken test e table text kind (and_left (test e) (all_pass test table) a) (λ k. looked_up test table text kind (and_right (test e) (all_pass test table) a) k) (bytes_eq e.text text) refl h
 
+-- of two tests that fail the first does
 or_left : (a b : Bool) → (a || b) ≡ false → a ≡ false
 or_left true b h = h
 or_left false b h = refl
 
+-- of two tests that fail the second does
 or_right : (a b : Bool) → (a || b) ≡ false → b ≡ false
 or_right true b h = absurd (true_false h)
 or_right false b h = h
 
+-- a test of which the opposite passes fails
 not_true : (a : Bool) → not a ≡ true → a ≡ false
 not_true true h = absurd (true_false (sym h))
 not_true false h = refl
@@ -94,27 +110,34 @@ is_table_kind _ = true
 abbrev is_starter : ℕ → Bool
 is_starter b = is_letter b || is_digit b || is_quote b || is_blank b
 
+-- the first byte passes
 abbrev first_of : (ℕ → Bool) → List ℕ → Bool
 first_of test [] = false
 first_of test (b ∷ bytes) = test b
 
+-- a text of one byte or two that begins as a symbol may
 abbrev is_sign : Spelling → Bool
 is_sign e = first_of (λ b. not (is_starter b)) e.text && (nat_le (length e.text) 2 && is_table_kind e.kind)
 
+-- each byte passes
 abbrev all_in : (ℕ → Bool) → List ℕ → Bool
 all_in test [] = true
 all_in test (b ∷ bytes) = test b && all_in test bytes
 
+-- a text of letters that begins as a word does
 abbrev is_reserved : Spelling → Bool
 is_reserved e = first_of is_letter e.text && (all_in is_word_byte e.text && is_table_kind e.kind)
 
+-- what the test says of each byte
 all_in_so : (test : ℕ → Bool) (bytes : List ℕ) → all_in test bytes ≡ true → AllIn test bytes
 all_in_so test [] h = tt
 all_in_so test (b ∷ bytes) h = (and_left (test b) (all_in test bytes) h, all_in_so test bytes (and_right (test b) (all_in test bytes) h))
 
+-- each symbol is such a text
 signs : all_pass is_sign symbols ≡ true
 signs = refl
 
+-- each reserved word is such a text
 reserveds : all_pass is_reserved reserved_words ≡ true
 reserveds = refl
 
@@ -124,6 +147,7 @@ record Sign (text : List ℕ) (kind : Kind) : Type 0 where
   short : nat_le (length text) 2 ≡ true
   table : is_table_kind kind ≡ true
 
+-- what a symbol looks like
 sign_so : (text : List ℕ) (kind : Kind) → look_up symbols text ≡ Some kind → Sign text kind
 sign_so text kind h =
     let t = looked_up is_sign symbols text kind signs h in
@@ -139,6 +163,7 @@ record Word (text : List ℕ) (kind : Kind) : Type 0 where
   word : AllIn is_word_byte text
   table : is_table_kind kind ≡ true
 
+-- what a reserved word looks like
 word_so : (text : List ℕ) (kind : Kind) → look_up reserved_words text ≡ Some kind → Word text kind
 word_so text kind h =
     let t = looked_up is_reserved reserved_words text kind reserveds h in
@@ -157,15 +182,19 @@ symbol_short text kind h = let s = (sign_so text kind h).short in grind (arith, 
 pub sign_starter : (b : ℕ) (bytes : List ℕ) (kind : Kind) → look_up symbols (b ∷ bytes) ≡ Some kind → is_starter b ≡ false
 sign_starter b bytes kind h = not_true (is_starter b) (sign_so (b ∷ bytes) kind h).first
 
+-- no symbol begins with a letter
 starter_letter : (b : ℕ) → is_starter b ≡ false → is_letter b ≡ false
 starter_letter b h = or_left (is_letter b) (is_digit b) (or_left (is_letter b || is_digit b) (is_quote b) (or_left (is_letter b || is_digit b || is_quote b) (is_blank b) h))
 
+-- no symbol begins with a digit
 starter_digit : (b : ℕ) → is_starter b ≡ false → is_digit b ≡ false
 starter_digit b h = or_right (is_letter b) (is_digit b) (or_left (is_letter b || is_digit b) (is_quote b) (or_left (is_letter b || is_digit b || is_quote b) (is_blank b) h))
 
+-- no symbol begins with a quote
 starter_quote : (b : ℕ) → is_starter b ≡ false → is_quote b ≡ false
 starter_quote b h = or_right (is_letter b || is_digit b) (is_quote b) (or_left (is_letter b || is_digit b || is_quote b) (is_blank b) h)
 
+-- no symbol begins with a blank
 pub starter_blank : (b : ℕ) → is_starter b ≡ false → is_blank b ≡ false
 starter_blank b h = or_right (is_letter b || is_digit b || is_quote b) (is_blank b) h
 

@@ -23,15 +23,18 @@ pub no_open : (b : ℕ) (bytes : List ℕ) → nat_eq b 40 ≡ false → opens (
 no_open b [] h = refl
 no_open b (c ∷ bytes) h = rw h refl
 
+-- a run behind a letter is a word
 word_text : (text rest : List ℕ) → Begins is_letter (text ++ rest) → AllIn is_word_byte text → Stops is_word_byte rest → IsWord text
 word_text [] [] l a s = l
 word_text [] (c ∷ rest) l a s = absurd (true_false (sym (let w : is_word_byte c ≡ true = rw l refl in w) ∙ s))
 word_text (b ∷ text) rest l a s = (l, a.1)
 
+-- a word is a reserved one or a name
 word_spelled : (text : List ℕ) (found : Option Kind) → look_up reserved_words text ≡ found → IsWord text → Spells (unwrap_or found kinds.Name) text
 word_spelled text None e w = name refl w e
 word_spelled text (Some kind) e w = reserved e
 
+-- no token is longer than the run of a word
 word_longest : (text rest : List ℕ) → IsWord text → Stops is_word_byte rest
     → (other : Kind) (longer after : List ℕ) → text ++ rest ≡ longer ++ after → Spells other longer → length longer ≤ length text
 word_longest [] rest w s other longer after e h = absurd w
@@ -39,10 +42,12 @@ word_longest (b ∷ text) rest w s other [] after e h = absurd (spells_some othe
 word_longest (b ∷ text) rest w s other (c ∷ longer) after e h =
     run_longest is_word_byte (b ∷ text) rest (c ∷ longer) after e s (word_only other c longer h (sym (ap is_letter (heads e)) ∙ w.0)).0
 
+-- no word is digits
 word_no_digits : (text : List ℕ) → IsWord text → IsDigits text → ⊥
 word_no_digits [] w d = w
 word_no_digits (b ∷ text) w d = letter_no_digit b w.0 d.0
 
+-- no comment opens at a word
 word_no_open : (text rest : List ℕ) → IsWord text → opens (text ++ rest) ≡ false
 word_no_open [] rest w = absurd w
 word_no_open (b ∷ text) rest w = no_open b (text ++ rest) (letter_no_paren b w.0)
@@ -60,11 +65,13 @@ word_token text rest l a s =
       no_comment = word_no_open text rest w;
     }
 
+-- a run behind a digit is digits
 pub digits_text : (text rest : List ℕ) → Begins is_digit (text ++ rest) → AllIn is_digit text → Stops is_digit rest → IsDigits text
 digits_text [] [] l a s = l
 digits_text [] (c ∷ rest) l a s = absurd (both (is_digit c) l s)
 digits_text (b ∷ text) rest l a s = a
 
+-- no token is longer than the run of digits
 number_longest : (text rest : List ℕ) → IsDigits text → Stops is_digit rest
     → (other : Kind) (longer after : List ℕ) → text ++ rest ≡ longer ++ after → Spells other longer → length longer ≤ length text
 number_longest [] rest d s other longer after e h = absurd d
@@ -72,6 +79,7 @@ number_longest (b ∷ text) rest d s other [] after e h = absurd (spells_some ot
 number_longest (b ∷ text) rest d s other (c ∷ longer) after e h =
     run_longest is_digit (b ∷ text) rest (c ∷ longer) after e s (number_only other c longer h (sym (ap is_digit (heads e)) ∙ d.0)).0
 
+-- no comment opens at digits
 digits_no_open : (text rest : List ℕ) → IsDigits text → opens (text ++ rest) ≡ false
 digits_no_open [] rest d = absurd d
 digits_no_open (b ∷ text) rest d = no_open b (text ++ rest) (digit_no_paren b d.0)
@@ -100,9 +108,11 @@ literal_once quote other inner inside rest after e a b =
     let t : inner ++ quote ∷ rest ≡ inside ++ quote ∷ after = tails e ∙ ap (λ (x : ℕ). inside ++ x ∷ after) q in
     (run_once (may_stand_in quote) inner (quote ∷ rest) inside (quote ∷ after) t a (quote_stops quote) (subst (λ (x : ℕ). AllIn (may_stand_in x) inside) q b) (quote_stops quote)).0
 
+-- a literal and what stands behind it
 pub literal_whole : (quote : ℕ) (inner rest : List ℕ) → (quote ∷ (inner ++ quote ∷ [])) ++ rest ≡ quote ∷ (inner ++ quote ∷ rest)
 literal_whole quote inner rest = ap (λ (z : List ℕ). quote ∷ z) (append_assoc inner (quote ∷ []) rest)
 
+-- no token is longer than the literal
 literal_longest : (quote : ℕ) (inner rest : List ℕ) → is_quote quote ≡ true → AllIn (may_stand_in quote) inner
     → (other : Kind) (longer after : List ℕ) → (quote ∷ (inner ++ quote ∷ [])) ++ rest ≡ longer ++ after → Spells other longer
     → length longer ≤ length (quote ∷ (inner ++ quote ∷ []))
@@ -141,15 +151,18 @@ literal_text quote bytes inside rest whole =
 line_end : (quote b : ℕ) → may_stand_in quote b ≡ false → (b ≡ quote → ⊥) → is_line_end b ≡ true
 line_end quote b h n = grind (arith, nat_tests)
 
+-- where the inside stops at no closing quote the line ends
 pub ends_line : (quote : ℕ) (end : List ℕ) → Stops (may_stand_in quote) end → ((b : ℕ) (rest : List ℕ) → end ≡ b ∷ rest → b ≡ quote → ⊥) → EndsLine end
 ends_line quote [] s n = tt
 ends_line quote (b ∷ end) s n = line_end quote b s (n b end refl)
 
 -- symbols --
 
+-- a first byte is there
 other_cons : (bytes : List ℕ) → IsOtherFirst bytes → bytes ≡ [] → ⊥
 other_cons bytes h e = subst IsOtherFirst e h
 
+-- no digits stand where another byte does
 other_no_digits : (text rest : List ℕ) → IsOtherFirst (text ++ rest) → IsDigits text → ⊥
 other_no_digits [] rest h d = d
 other_no_digits (b ∷ text) rest h d = both (is_digit b) d.0 h.1
@@ -158,6 +171,7 @@ other_no_digits (b ∷ text) rest h d = both (is_digit b) d.0 h.1
 abbrev pub NoSymbol : List ℕ → ℕ → Type 0
 NoSymbol bytes size = (text rest : List ℕ) → bytes ≡ text ++ rest → length text ≡ size → look_up symbols text ≡ None
 
+-- what is spelled there is a symbol of one byte or two
 short_symbol : (other : Kind) (longer : List ℕ) (bytes after : List ℕ) → bytes ≡ longer ++ after → IsOtherFirst bytes → Spells other longer
     → (look_up symbols longer ≡ Some other) × (length longer ≤ 2) × (1 ≤ length longer)
 short_symbol other [] bytes after e o h = absurd (spells_some other h)
@@ -165,6 +179,7 @@ short_symbol other (c ∷ longer) bytes after e o h =
     let s = symbol_only other c longer h (subst IsOtherFirst e o) in
     (s, symbol_short (c ∷ longer) other s, omega arith)
 
+-- no token there is longer than one byte where no symbol of two stands
 one_longest : (bytes : List ℕ) → IsOtherFirst bytes → NoSymbol bytes 2 → (other : Kind) (longer after : List ℕ) → bytes ≡ longer ++ after → Spells other longer → length longer ≤ 1
 one_longest bytes o n other longer after e h =
     let s = short_symbol other longer bytes after e o h in
@@ -173,6 +188,7 @@ one_longest bytes o n other longer after e h =
       go true t s = absurd (let c : None ≡ Some other = sym (n longer after e (grind (arith, nat_tests))) ∙ s.0 in cc c)
       go false t s = grind (arith, nat_tests)
 
+-- a symbol is a token where none is longer
 symbol_token : (kind : Kind) (bytes text rest : List ℕ) → bytes ≡ text ++ rest → look_up symbols text ≡ Some kind → opens bytes ≡ false → IsOtherFirst bytes
     → ((other : Kind) (longer after : List ℕ) → bytes ≡ longer ++ after → Spells other longer → length longer ≤ length text) → IsToken kind text rest
 symbol_token kind bytes text rest e s c o l = record {
@@ -194,9 +210,11 @@ pub one_token : (kind : Kind) (bytes text rest : List ℕ) → bytes ≡ text ++
 one_token kind bytes text rest e one s c o n =
     symbol_token kind bytes text rest e s c o (λ other longer after f h. let k = one_longest bytes o n other longer after f h in omega (arith, k))
 
+-- no open literal begins there
 no_string : (bytes : List ℕ) → IsOtherFirst bytes → IsOpenString bytes → ⊥
 no_string bytes o s = let f : IsOtherFirst (s.quote ∷ (s.inner ++ s.rest)) = subst IsOtherFirst s.whole o in both (is_quote s.quote) s.quoted f.2
 
+-- no number begins there
 no_number : (bytes : List ℕ) → IsOtherFirst bytes → IsTooLarge bytes → ⊥
 no_number bytes o s = other_no_digits s.digits s.rest (subst IsOtherFirst s.whole o) s.run
 

@@ -2,6 +2,7 @@
 use Rattle.std.proofs.Common.{◌≡◌, ◌≤◌, ◌<◌, ℕ, suc, ◌+◌, ◌-◌, ◌*◌, List, [], ◌∷◌, drop, length, get_or, drop-cons, ap, arith}
 use Rattle.alma_scan.specs.Bytes.{value_behind}
 
+-- more digits give no smaller value
 value_behind-ge : (digits : List ℕ) (value : ℕ) → value ≤ value_behind value digits
 value_behind-ge [] value = omega arith
 value_behind-ge (d ∷ digits) value = let more = value_behind-ge digits (value * 10 + (d - 48)) in omega (arith, more)

@@ -29,12 +29,13 @@ abbrev pub IsOtherFirst : List ℕ → Type 0
 IsOtherFirst [] = ⊥
 IsOtherFirst (b ∷ bytes) = (is_letter b ≡ false) × (is_digit b ≡ false) × (is_quote b ≡ false)
 
--- the first bytes, so many, are a symbol; or they are none
+-- the first bytes, so many, are this symbol
 pub record IsSymbol (bytes : List ℕ) (size : ℕ) (front : Front) : Type 0 where
   pub whole : bytes ≡ front.text.now ++ front.rest.now
   pub length_is : length front.text.now ≡ size
   pub kind : look_up symbols front.text.now ≡ Some front.kind
 
+-- the first bytes, so many, are a symbol; or they are none
 abbrev pub IsSymbolAt : List ℕ → ℕ → Option Front → Type 0
 IsSymbolAt bytes size (Some front) = IsSymbol bytes size front
 IsSymbolAt bytes size None = (text rest : List ℕ) → bytes ≡ text ++ rest → length text ≡ size → look_up symbols text ≡ None

@@ -10,6 +10,7 @@ use Rattle.alma_scan.specs.Faults.{FaultAt}
 abbrev pub lexeme : Token → Lexeme
 lexeme token = record { kind = token.kind; text = token.text.now; start = token.start }
 
+-- the plain tokens of a list
 abbrev pub lexemes : List Token → List Lexeme
 lexemes tokens = map lexeme tokens
 

@@ -10,6 +10,7 @@ pub record Spelling : Type 0 where
   pub text : List ℕ
   pub kind : Kind
 
+-- an entry of a table
 abbrev pub spelling : List ℕ → Kind → Spelling
 spelling text kind = record { text = text; kind = kind }
 

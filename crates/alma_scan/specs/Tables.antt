@@ -8,5 +8,6 @@ use Rattle.alma_scan.specs.Spellings.{Spelling}
 abbrev pub entry : Bor (List ℕ) × Kind → Spelling
 entry e = record { text = e.0.now; kind = e.1 }
 
+-- the plain entries of a table
 abbrev pub entries : List (Bor (List ℕ) × Kind) → List Spelling
 entries table = map entry table
