@@ -67,7 +67,7 @@ impl<'s> Model for Scanner<'s> {
 }
 
 impl<'s> Scanner<'s> {
-    ghost use Rattle.std.specs.Prelude.{◌≡◌, [], length, IfSome, IfNone};
+    ghost use Rattle.std.specs.Prelude.{◌≡◌, [], length, IfSome, IfNone, OnErr};
     ghost use Rattle.alma_scan.specs.Comments.{Gap};
     ghost use Rattle.alma_scan.specs.Tokens.{HasToken};
     ghost use Rattle.alma_scan.specs.Faults.{HasFault};
@@ -89,9 +89,10 @@ impl<'s> Scanner<'s> {
         ensures size { self.new.size ≡ self.old.size }
         ensures token { IfOk result (λ found. IfSome found (λ token.
             HasToken self.old.size self.old.bytes (lexeme token) self.new.bytes)) }
-        ensures end { IfOk result (λ found. IfNone found (Gap self.old.bytes [] × (self.new ≡ self.old))) }
-        ensures fault { IfErr result (λ stop.
-            HasFault self.old.size self.old.bytes [] stop.fault stop.at × (self.new ≡ self.old)) }
+        ensures end { IfOk result (λ found. IfNone found (Gap self.old.bytes [])) }
+        ensures end_stays { IfOk result (λ found. IfNone found (self.new ≡ self.old)) }
+        ensures fault { IfErr result (λ stop. HasFault self.old.size self.old.bytes [] stop.fault stop.at) }
+        ensures fault_stays { OnErr result (self.new ≡ self.old) }
     {
         let bytes = skip_gap(self.rest);
         if bytes.is_empty() {

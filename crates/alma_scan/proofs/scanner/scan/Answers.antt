@@ -22,22 +22,22 @@ loop-token-preserved c =
 pub returns-in-Ok-None-clause-tokens : goal.returns-in-Ok-None-clause-tokens
 returns-in-Ok-None-clause-tokens c =
     let end = rw c.in-Ok-None.field-0-is at c.in-Ok-None.ensures.end in
-    found_all _ _ _ _ _ c.loop-token.invariant.found end.0
+    found_all _ _ _ _ _ c.loop-token.invariant.found end
 
 pub returns-in-Err-clause-fault : goal.returns-in-Err-clause-fault
 returns-in-Err-clause-fault c =
-    let fault = subst (λ (n : ℕ). HasFault n c.loop-token.scanner.bytes [] c.in-Err.stop.fault c.in-Err.stop.at) c.loop-token.invariant.size c.in-Err.ensures.fault.0 in
+    let fault = subst (λ (n : ℕ). HasFault n c.loop-token.scanner.bytes [] c.in-Err.stop.fault c.in-Err.stop.at) c.loop-token.invariant.size c.in-Err.ensures.fault in
     (lexemes c.loop-token.tokens.items, found_fault _ _ _ _ _ _ c.loop-token.invariant.found fault)
 
 pub returns-in-Ok-None-clause-slices : goal.returns-in-Ok-None-clause-slices
 returns-in-Ok-None-clause-slices c =
     let end = rw c.in-Ok-None.field-0-is at c.in-Ok-None.ensures.end in
-    slices _ _ (found_all _ _ _ _ _ c.loop-token.invariant.found end.0)
+    slices _ _ (found_all _ _ _ _ _ c.loop-token.invariant.found end)
 
 pub returns-in-Ok-None-clause-count : goal.returns-in-Ok-None-clause-count
 returns-in-Ok-None-clause-count c =
     let end = rw c.in-Ok-None.field-0-is at c.in-Ok-None.ensures.end in
-    let count = count_of _ _ _ _ (found_all _ _ _ _ _ c.loop-token.invariant.found end.0) in
+    let count = count_of _ _ _ _ (found_all _ _ _ _ _ c.loop-token.invariant.found end) in
     let mapped = length-map c.loop-token.tokens.items lexeme in
     let kept = c.loop-token.tokens.ok in
     omega (arith, count, mapped, kept)
