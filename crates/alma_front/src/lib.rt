@@ -1,0 +1,7 @@
+//! Sources of the small language as resolved programs: the module's variables, whole numbers, comparisons, IF, WHILE, REPEAT
+//! and WRITE. It serves until the crates of the whole language take its place.
+#![tactic(auto)]
+
+mod source;
+
+pub use source::{ReadError, read_source};
