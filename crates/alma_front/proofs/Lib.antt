@@ -1,0 +1,2 @@
+pub mod LawsForms
+pub mod LawsWords

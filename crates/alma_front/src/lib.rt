@@ -2,6 +2,7 @@
 //! and WRITE. It serves until the crates of the whole language take its place.
 #![tactic(auto)]
 
+pub mod laws;
 mod source;
 
 pub use source::{ReadError, read_source};
