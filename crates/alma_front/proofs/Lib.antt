@@ -1,2 +1,3 @@
-pub mod LawsForms
 pub mod LawsWords
+pub mod LawsForms
+pub mod LawsChecked

@@ -1,10 +1,16 @@
 //! Laws of the definitions that the contracts cite: functions without work, whose contracts are the laws.
-ghost use Rattle.std.specs.Prelude.{ℕ, List};
+ghost use Rattle.std.specs.Prelude.{ℕ, ◌≤◌, List, length};
 ghost use Rattle.alma_ir.specs.Tree.{Program};
+ghost use Rattle.alma_ir.specs.Checked.{IsChecked};
 ghost use Rattle.alma_lower.specs.Built.{IsBuilt};
 ghost use Rattle.alma_front.specs.Source.{IsSource};
 
 /// A source's program is of the forms that are compiled.
 pub fn sources_are_built()
     ensures { (source : List ℕ) (p : Program) → IsSource source p → IsBuilt p }
+{}
+
+/// The program of a source of at most 1,048,576 bytes keeps all conditions on programs.
+pub fn sources_are_checked()
+    ensures { (source : List ℕ) (p : Program) → length source ≤ 1048576 → IsSource source p → IsChecked p }
 {}
