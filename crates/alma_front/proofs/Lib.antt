@@ -1,3 +1,5 @@
 pub mod LawsWords
 pub mod LawsForms
 pub mod LawsChecked
+pub mod LawsSums
+pub mod LawsOnce
