@@ -16,18 +16,21 @@ use Rattle.alma_lower.specs.Built as built
 use Rattle.alma_front.specs.Words.{Word, Named, Digits, Fixed}
 use Rattle.alma_front.specs.Grammar.{IsNames, last_name, more_names, HasVariables, no_variables, variables, globals_from, IsModule, body_routine, program}
 use Rattle.alma_front.specs.Source.{IsSource}
-use Rattle.alma_front.proofs.LawsWords.{SoundWord, SoundWords, sound_words, words_bytes, words_short}
+use Rattle.alma_front.proofs.LawsWords.{none_some, SoundWord, SoundWords, sound_words, words_bytes, words_short}
 use Rattle.alma_front.proofs.LawsForms.{FormDesig, FormExpr, FormLinks, FormTest, FormStmts, FormStmt, FormArms, form_module}
 
 -- ---- the phrases of the body
 
 module _ (name : List ℕ) (names : List (List ℕ)) (stmts : Stmts) where
+  -- the body of the module
   abbrev own : Routine
   own = body_routine name names stmts
 
+  -- the program
   abbrev whole : Program
   whole = program name names stmts
 
+  -- how many variables there are
   abbrev count : ℕ
   count = length names
 
@@ -37,21 +40,26 @@ module _ (name : List ℕ) (names : List (List ℕ)) (stmts : Stmts) where
       RootExists whole 0 own x × PartsExist x × CellsAgree x × RangesOrdered x × AllByRecursion HasStep (loops_of x) × AllByRecursion (LoopIsApart whole 0) (loops_of x)
       × CalleeExists whole x × ResultAgrees whole x × CallFits whole x × HasChoice x × ReturnAgrees own x × ReturnsStay x × (text_bytes x ≡ 0)
 
+  -- of each of these phrases
   abbrev Each : List Phrase → Type 0
   Each xs = AllByRecursion Keeps xs
 
+  -- two lists in a row
   joined : (xs ys : List Phrase) → Each xs → Each ys → Each (xs ++ ys)
   joined xs ys h k = each_of_append Keeps xs ys h k
 
+  -- a variable has one cell
   one_cell : (d : Desig) → FormDesig count d → desig_cells d ≡ 1
   one_cell (a_desig (root.Local slot) cells no_sels) f = f.0
   one_cell (a_desig (root.Local slot) cells (more_sels x rest)) f = absurd f
   one_cell (a_desig (root.Global slot) cells sels) f = absurd f
   one_cell (a_desig (root.Param slot) cells sels) f = absurd f
 
+  -- the range of all numbers is in order
   ordered : (range : Range) → range ≡ built.whole_range → IsOrdered range
   ordered range e = subst IsOrdered (sym e) (omega arith)
 
+  -- the phrases of each part
   each_desig : (d : Desig) → FormDesig count d → Each (desig_phrases d)
   unfolding stmts_phrases
   each_desig (a_desig (root.Local slot) cells no_sels) f =
@@ -123,15 +131,18 @@ module _ (name : List ℕ) (names : List (List ℕ)) (stmts : Stmts) where
 
   -- ---- the variables
 
+  -- their slots exist
   globals_within : (slot : ℕ) (ns : List (List ℕ)) → 1 ≤ slot → slot + length ns ≤ count + 1 → AllByRecursion (IsGlobal whole) (globals_from slot ns)
   globals_within slot [] h k = tt
   globals_within slot (n ∷ ns) h k =
       (record { slots = record { exist = omega (arith, k); kinds = tt }; position = h }, globals_within (slot + 1) ns (omega (arith, h)) (omega (arith, k)))
 
+  -- their names are spelled
   globals_spelled : (slot : ℕ) (ns : List (List ℕ)) → AllByRecursion IsName ns → AllByRecursion (λ (g : Global). IsName g.name) (globals_from slot ns)
   globals_spelled slot [] h = tt
   globals_spelled slot (n ∷ ns) h = (h.0, globals_spelled (slot + 1) ns h.1)
 
+  -- there is one for each name, with the bytes of the name
   globals_count : (slot : ℕ) (ns : List (List ℕ)) → length (globals_from slot ns) ≡ length ns
   globals_count slot [] = refl
   globals_count slot (n ∷ ns) = omega (arith, globals_count (slot + 1) ns)
@@ -144,24 +155,25 @@ module _ (name : List ℕ) (names : List (List ℕ)) (stmts : Stmts) where
       let right = sum_by-cons length n ns in
       omega (arith, more, left, right)
 
+  -- a name has a byte
   names_some : (ns : List (List ℕ)) → AllByRecursion IsName ns → length ns ≤ sum_by length ns
   names_some [] h = omega arith
   names_some ([] ∷ ns) h = absurd h.0
   names_some ((c ∷ n) ∷ ns) h = omega (arith, names_some ns h.1, sum_by-cons length (c ∷ n) ns)
 
+  -- the phrases print no texts
   no_texts : (xs : List Phrase) → AllByRecursion (λ x. text_bytes x ≡ 0) xs → sum_by text_bytes xs ≡ 0
   no_texts [] h = refl
   no_texts (x ∷ xs) h = omega (arith, h.0, no_texts xs h.1, sum_by-cons text_bytes x xs)
 
   -- ---- all conditions
 
+  -- there is one routine
   only : (Fact : ℕ → Routine → Type 0) → Fact 0 own → EachRoutine whole Fact
   only Fact h zero lt = h
   only Fact h (suc r) lt = absurd (omega (arith, lt))
 
-  none_some : {range : Range} → None ≡ Some range → ⊥
-  none_some e = cc e
-
+  -- all conditions, where names are spelled and take few bytes
   module_checked : FormStmts count stmts → IsName name → AllByRecursion IsName names → length name + sum_by length names ≤ 1048576 → IsChecked whole
   module_checked form spelled all size =
       let each = each_stmts stmts form in
@@ -201,6 +213,7 @@ module _ (name : List ℕ) (names : List (List ℕ)) (stmts : Stmts) where
 
 -- ---- names of a source
 
+-- bytes of words are bytes of names
 word_bytes_named : (bytes : List ℕ) → AllIn is_word_byte bytes → AllByRecursion (λ b. IsTrue (checked.is_word_byte b)) bytes
 word_bytes_named [] h = tt
 word_bytes_named (b ∷ bytes) h = (h.0, word_bytes_named bytes h.1)
@@ -214,6 +227,7 @@ word_named (b ∷ bytes) h = (h.0, word_bytes_named bytes h.1)
 abbrev NamesKept : (words : List Word) (names : List (List ℕ)) (rest : List Word) → Type 0
 NamesKept words names rest = AllByRecursion IsName names × (sum_by length names + words_bytes rest ≤ words_bytes words)
 
+-- so are those of declarations
 names_kept : {words : List Word} {names : List (List ℕ)} {rest : List Word} → IsNames words names rest → SoundWords words → NamesKept words names rest
 names_kept {words = words} {rest = rest} (last_name name e k) s =
     let size = ap words_bytes e in

@@ -11,7 +11,7 @@ use Rattle.alma_lower.specs.Built as built
 use Rattle.alma_front.specs.Words.{Word, Named, Digits, Fixed, slot_from}
 use Rattle.alma_front.specs.Grammar.{truth_number, chained, followed_by, HasSign, no_sign, plus_sign, minus_sign, IsOperand, number, variable_named, nested, IsFactors, no_factors, more_factors, IsProduct, product, IsTerms, no_terms, more_terms, IsSum, sum, IsCondition, truth, compared, IsItem, truth_item, sum_item, IsItems, last_item, more_items, IsStatement, nothing, test, assignment, write, if_else, while_loop, repeat_loop, IsArms, last_arm, elsif, IsElse, no_else, else_part, IsStatements, last_statement, more_statements, IsNames, last_name, more_names, HasVariables, no_variables, variables, HasBody, no_body, body, IsModule, body_routine}
 use Rattle.alma_front.specs.Source.{IsSource}
-use Rattle.alma_front.proofs.LawsWords.{SoundWord, SoundWords, sound_words, small_integer}
+use Rattle.alma_front.proofs.LawsWords.{none_some, some_same, SoundWord, SoundWords, sound_words, small_integer}
 
 -- ---- the forms, with this many variables
 
@@ -22,6 +22,7 @@ FormDesig count (a_desig (root.Local slot) cells (more_sels x rest)) = ⊥
 FormDesig count (a_desig (root.Global slot) cells sels) = ⊥
 FormDesig count (a_desig (root.Param slot) cells sels) = ⊥
 
+-- numbers, variables, chains and comparisons
 abbrev mutual
   pub FormExpr : (count : ℕ) → Expr → Type 0
   FormExpr count (Const n) = is_integer n ≡ true
@@ -37,6 +38,7 @@ abbrev mutual
   FormLinks count no_links = Unit {0}
   FormLinks count (more_links op e rest) = FormExpr count e × FormLinks count rest
 
+-- a test that is the value of an expression
 abbrev pub FormTest : (count : ℕ) → Test → Type 0
 FormTest count (Value e) = FormExpr count e
 FormTest count (Bind d e range left) = ⊥
@@ -48,6 +50,7 @@ FormTest count (Or ts) = ⊥
 FormTest count (Not t) = ⊥
 FormTest count (CallTest r args) = ⊥
 
+-- truths, assignments, IF, WHILE, REPEAT and WRITE
 abbrev mutual
   pub FormStmts : (count : ℕ) → Stmts → Type 0
   FormStmts count no_stmts = Unit {0}
@@ -78,19 +81,15 @@ abbrev mutual
 
 -- ---- putting them together
 
-none_some : {X : Type 0} {x : X} → None ≡ Some x → ⊥
-none_some e = cc e
-
 -- the slot of a name is one of those that the names have
 slot_within : (from : ℕ) (names : List (List ℕ)) (name : List ℕ) (slot : ℕ) → slot_from from names name ≡ Some slot → (from ≤ slot) × (slot < from + length names)
 slot_within from [] name slot e = absurd (none_some e)
 slot_within from (other ∷ names) name slot e = go (slot_within (from + 1) names name slot) (bytes_eq name other) e where
-  same : Some from ≡ Some slot → from ≡ slot
-  same x = cc x
   go : (slot_from (from + 1) names name ≡ Some slot → (from + 1 ≤ slot) × (slot < from + 1 + length names)) → (b : Bool) → (if b then Some from else slot_from (from + 1) names name) ≡ Some slot → (from ≤ slot) × (slot < from + length (other ∷ names))
-  go next true x = let s = same x in (omega (arith, s), omega (arith, s))
+  go next true x = let s : from ≡ slot = some_same x in (omega (arith, s), omega (arith, s))
   go next false x = let more = next x in (omega (arith, more.0), omega (arith, more.1))
 
+-- operands in a row, and statements in a row
 form_chained : (count : ℕ) (negated : Bool) (first : Expr) (links : Links) → FormExpr count first → FormLinks count links → FormExpr count (chained negated first links)
 form_chained count false first no_links f l = f
 form_chained count true first no_links f l = (f, l)
@@ -101,17 +100,20 @@ form_followed : (count : ℕ) (first others : Stmts) → FormStmts count first �
 form_followed count no_stmts others f o = o
 form_followed count (more_stmts x rest) others f o = (f.0, form_followed count rest others f.1 o)
 
+-- the number of a truth
 form_truth : (count : ℕ) (value : Bool) → FormExpr count (Const (truth_number value))
 form_truth count true = refl
 form_truth count false = refl
 
 -- ---- what the grammar gives
 
+-- words behind a sign are sound
 sign_sound : {words : List Word} {negated : Bool} {behind : List Word} → HasSign words negated behind → SoundWords words → SoundWords behind
 sign_sound (no_sign n e) s = subst SoundWords e s
 sign_sound (plus_sign n e) s = (subst SoundWords e s).1
 sign_sound (minus_sign n e) s = (subst SoundWords e s).1
 
+-- sums and their parts
 mutual
   form_operand : {names : List (List ℕ)} {words : List Word} {e : Expr} {rest : List Word} → IsOperand names words e rest → SoundWords words
       → FormExpr (length names) e × SoundWords rest
@@ -156,6 +158,7 @@ mutual
       let j = form_terms more i.1 in
       (subst (FormExpr (length names)) (sym k) (form_chained (length names) negated first links i.0 j.0), j.1)
 
+-- conditions and items
 form_condition : {names : List (List ℕ)} {words : List Word} {t : Test} {rest : List Word} → IsCondition names words t rest → SoundWords words
     → FormTest (length names) t × SoundWords rest
 form_condition {names = names} (truth value e k) s = (subst (FormTest (length names)) (sym k) (form_truth (length names) value), (subst SoundWords e s).1)
@@ -177,6 +180,7 @@ form_items {names = names} (more_items item others inner h more k) s =
     let j = form_items more i.1.1 in
     (subst (FormStmts (length names)) (sym k) (i.0, j.0), j.1)
 
+-- statements and their parts
 mutual
   form_statement : {names : List (List ℕ)} {words : List Word} {stmts : Stmts} {rest : List Word} → IsStatement names words stmts rest → SoundWords words
       → FormStmts (length names) stmts × SoundWords rest
@@ -234,6 +238,7 @@ variables_sound : {words : List Word} {names : List (List ℕ)} {rest : List Wor
 variables_sound (no_variables e k) s = subst SoundWords e s
 variables_sound (variables inner e h) s = (names_sound h (subst SoundWords e s).1).1.1.1
 
+-- the statements of a body
 form_body : {names : List (List ℕ)} {words : List Word} {stmts : Stmts} {rest : List Word} → HasBody names words stmts rest → SoundWords words → FormStmts (length names) stmts
 form_body {names = names} (no_body e k) s = subst (FormStmts (length names)) (sym k) tt
 form_body (body inner e h) s = (form_statements h (subst SoundWords e s).1).0

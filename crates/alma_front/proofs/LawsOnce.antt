@@ -7,7 +7,9 @@ use Rattle.alma_ir.specs.Tree.{Program, Stmts, Arms, Expr, Assign}
 use Rattle.alma_front.specs.Words.{Word, Named, Digits, Fixed, word, slot_of}
 use Rattle.alma_front.specs.Grammar.{variable, whole_range, one, followed_by, IsSum, IsCondition, IsItems, IsStatement, nothing, test, assignment, write, if_else, while_loop, repeat_loop, IsArms, last_arm, elsif, IsElse, no_else, else_part, IsStatements, last_statement, more_statements, IsNames, last_name, more_names, HasVariables, no_variables, variables, HasBody, no_body, body, IsModule, program}
 use Rattle.alma_front.specs.Source.{IsSource}
-use Rattle.alma_front.proofs.LawsSums.{true_false, some_same, first_is, first_apart, factor_word, term_word, start_word, NoTruth, no_truth, same_sum, same_condition, condition_starts, no_assigned, same_items}
+use Rattle.alma_scan.proofs.Basics.{true_false}
+use Rattle.alma_front.proofs.LawsWords.{some_same}
+use Rattle.alma_front.proofs.LawsSums.{first_is, first_apart, factor_word, term_word, start_word, NoTruth, no_truth, same_sum, same_condition, condition_starts, no_assigned, same_items}
 
 -- ---- the word behind
 
@@ -34,6 +36,7 @@ ends_arms (Fixed kinds.End) = true
 ends_arms (Fixed kinds.Else) = true
 ends_arms word = false
 
+-- it is no operator, and begins no sum
 ends_no_factor : (w : Word) → ends_word w ≡ true → factor_word w ≡ false
 ends_no_factor (Named text) h = refl
 ends_no_factor (Digits text) h = refl
@@ -57,6 +60,7 @@ ends_no_start (Fixed kinds.Plus) h = absurd (true_false (sym h))
 ends_no_start (Fixed kinds.Minus) h = absurd (true_false (sym h))
 ends_no_start (Fixed kind) h = refl
 
+-- what ends arms ends statements, and what ends these ends a statement
 list_ends : (w : Word) → ends_list w ≡ true → ends_word w ≡ true
 list_ends (Named text) h = h
 list_ends (Digits text) h = h
@@ -75,6 +79,7 @@ first_wider : (sort other : Word → Bool) → ((w : Word) → sort w ≡ true �
 first_wider sort other f [] h = h
 first_wider sort other f (w ∷ words) h = f w h
 
+-- the same of lists of words
 no_factor : (words : List Word) → first_is ends_word words ≡ true → first_is factor_word words ≡ false
 no_factor words h = first_apart ends_word factor_word ends_no_factor words h
 
@@ -92,10 +97,12 @@ end_arms words h = first_wider ends_arms ends_list arms_end words h
 
 -- ---- statements
 
+-- arms are ended by END or ELSE
 else_ends : {names : List (List ℕ)} {words : List Word} {other : Stmts} {rest : List Word} → IsElse names words other rest → first_is ends_arms words ≡ true
 else_ends (no_else w k) = ap (first_is ends_arms) w
 else_ends (else_part inner w h) = ap (first_is ends_arms) w
 
+-- one statement, and so on
 mutual
   same_statement : {names : List (List ℕ)} {words : List Word} {x d : Stmts} {rest after : List Word} → NoTruth names → IsStatement names words x rest → IsStatement names words d after
       → first_is ends_word rest ≡ true → first_is ends_word after ≡ true → (x ≡ d) × (rest ≡ after)
@@ -224,6 +231,7 @@ mutual
 
 -- ---- modules
 
+-- the first words of what stands in a module
 abbrev comma_word : Word → Bool
 comma_word (Fixed kinds.Comma) = true
 comma_word word = false

@@ -8,20 +8,14 @@ use Rattle.alma_ir.specs.declared.phrase.Op.{Op}
 use Rattle.alma_ir.specs.declared.phrase.Cmp.{Cmp}
 use Rattle.alma_ir.specs.declared.phrase.WriteAs.TheVariants as write_as
 use Rattle.alma_ir.specs.Tree.{Stmts, Stmt, Test, Expr, Links, more_stmts, no_stmts, WriteExpr, Value, Const, Load, Compare, no_links, more_links}
+use Rattle.alma_scan.proofs.Basics.{true_false}
 use Rattle.alma_front.specs.Words.{Word, Named, Digits, Fixed, factor_op, term_op, comparison, truth_word, predeclared, is_one_of, slot_from, slot_of, AreNew}
+use Rattle.alma_front.proofs.LawsWords.{none_some, some_same}
 use Rattle.alma_front.specs.Grammar.{variable, truth_number, chained, one, HasSign, no_sign, plus_sign, minus_sign, IsOperand, number, variable_named, nested, IsFactors, no_factors, more_factors, IsProduct, product, IsTerms, no_terms, more_terms, IsSum, sum, IsCondition, truth, compared, IsItem, truth_item, sum_item, IsItems, last_item, more_items}
 
 -- ---- the first word
 
-pub true_false : true ≡ false → ⊥
-true_false e = cc e
-
-pub none_some : {X : Type 0} {x : X} → None ≡ Some x → ⊥
-none_some e = cc e
-
-pub some_same : {X : Type 0} {x y : X} → Some x ≡ Some y → x ≡ y
-some_same e = cc e
-
+-- one kind
 fixed_same : {k j : Kind} {ws vs : List Word} → Fixed k ∷ ws ≡ Fixed j ∷ vs → k ≡ j
 fixed_same e = cc e
 
@@ -86,6 +80,7 @@ comparison_no_term kinds.Plus c h = absurd (none_some h)
 comparison_no_term kinds.Minus c h = absurd (none_some h)
 comparison_no_term kind c h = refl
 
+-- ) is an operator of neither
 close_no_factor : (w : Word) → close_word w ≡ true → factor_word w ≡ false
 close_no_factor (Named text) h = refl
 close_no_factor (Digits text) h = refl
@@ -116,6 +111,7 @@ terms_end_factors : {names : List (List ℕ)} {words : List Word} {links : Links
 terms_end_factors (no_terms w k) f = ap (first_is factor_word) w ∙ f
 terms_end_factors (more_terms kind o inner behind operand others w op h more k) f = ap (first_is factor_word) w ∙ term_no_factor kind o op
 
+-- a product begins with no sign
 product_no_sign : {names : List (List ℕ)} {words : List Word} {e : Expr} {rest : List Word} → IsProduct names words e rest → first_is sign_word words ≡ false
 product_no_sign (product first links behind h more k) = go h where
   go : {names : List (List ℕ)} {words : List Word} {e : Expr} {rest : List Word} → IsOperand names words e rest → first_is sign_word words ≡ false
@@ -136,6 +132,7 @@ same_sign (minus_sign n w) (no_sign m v) f g = absurd (true_false (sym (ap (firs
 same_sign (minus_sign n w) (plus_sign m v) f g = absurd (cc (w, v))
 same_sign (minus_sign n w) (minus_sign m v) f g = (n ∙ sym m, cc (w, v))
 
+-- one operand, and so on
 mutual
   same_operand : {names : List (List ℕ)} {words : List Word} {e d : Expr} {rest after : List Word} → IsOperand names words e rest → IsOperand names words d after
       → (e ≡ d) × (rest ≡ after)
@@ -205,6 +202,7 @@ mutual
 abbrev pub NoTruth : List (List ℕ) → Type 0
 NoTruth names = (value : Bool) (slot : ℕ) → slot_of names (truth_word value) ≡ Some slot → ⊥
 
+-- truths are declared from the start
 truth_declared : (value : Bool) → is_one_of predeclared (truth_word value) ≡ true
 truth_declared true = refl
 truth_declared false = refl
@@ -218,6 +216,7 @@ no_truth_from value from slot (name ∷ names) new e = go (no_truth_from value (
   go more true h x = true_false (sym (truth_declared value) ∙ ap (is_one_of predeclared) ((bytes_eq-Decides (truth_word value) name).0 h) ∙ new.0)
   go more false h x = more x
 
+-- new names leave the truths out
 pub no_truth : (names : List (List ℕ)) → AreNew names → NoTruth names
 no_truth names new value slot e = no_truth_from value 1 slot names new e
 
@@ -226,6 +225,7 @@ abbrev is_true_word : List ℕ → Bool
 is_true_word [] = false
 is_true_word (b ∷ bytes) = nat_eq b 84
 
+-- one truth
 truth_same : (value other : Bool) → truth_word value ≡ truth_word other → value ≡ other
 truth_same true true e = refl
 truth_same true false e = ap is_true_word e
@@ -264,7 +264,7 @@ same_condition {names = names} {after = after} free (compared left right kind c 
     let p = comparison_same kind kind' c c' (fixed_same i.1) cmp cmp' in
     (cc (k, l, p, i.0, j.0), j.1)
 
--- a condition begins with a word that may begin one
+-- a sum begins with a word that may begin one
 sum_starts : {names : List (List ℕ)} {words : List Word} {e : Expr} {rest : List Word} → IsSum names words e rest → first_is start_word words ≡ true
 sum_starts (sum negated first links signed behind (plus_sign n w) h more k) = ap (first_is start_word) w
 sum_starts (sum negated first links signed behind (minus_sign n w) h more k) = ap (first_is start_word) w
@@ -274,6 +274,7 @@ sum_starts (sum negated first links signed behind (no_sign n w) (product first' 
   go (variable_named name slot w found k) = ap (first_is start_word) w
   go (nested inner w h) = ap (first_is start_word) w
 
+-- so does a condition
 pub condition_starts : {names : List (List ℕ)} {words : List Word} {t : Test} {rest : List Word} → IsCondition names words t rest → first_is start_word words ≡ true
 condition_starts (truth value w k) = ap (first_is start_word) w
 condition_starts (compared left right kind c inner h cmp more k) = sum_starts h
