@@ -1,22 +1,21 @@
 -- The program of a source keeps all conditions on programs.
-use Rattle.std.proofs.Common.{◌≡◌, ◌≤◌, ◌<◌, ◌+◌, ℕ, zero, suc, List, [], ◌∷◌, ◌++◌, length, map, sum_by, Some, None, refl, sym, ap, ◌∙◌, subst, arith, IsTrue, IsNone}
+use Rattle.std.proofs.Common.{◌≡◌, ◌≤◌, ◌+◌, ℕ, zero, suc, List, [], ◌∷◌, ◌++◌, length, sum_by, refl, sym, ap, subst, arith, IsTrue}
 use Rattle.std.specs.List.{AllByRecursion}
 use Rattle.std.proofs.lemmas.List.Sums.{sum_by-cons}
 use Rattle.alma_base.specs.declared.number.Range.{Range}
-use Rattle.alma_tree.specs.declared.kind.Kind.TheVariants as kinds
 use Rattle.alma_scan.specs.Bytes.{AllIn, is_word_byte}
 use Rattle.alma_scan.specs.Spellings.{IsWord}
 use Rattle.alma_ir.specs.declared.phrase.Root.TheVariants as root
-use Rattle.alma_ir.specs.Tree.{Program, Routine, Global, routine_at, Stmts, Stmt, Arms, Test, Expr, Links, Desig, no_stmts, more_stmts, TestStmt, Assign, CopyCells, If, While, Repeat, ForTo, SomeOf, Case, Either, Forall, Commit, Return, Read, WriteExpr, WriteText, WriteLine, no_arms, more_arms, Value, Bind, Unify, SameCells, Seq, And, Or, Not, CallTest, Const, Load, Chain, Compare, Truth, Known, Chr, CallExpr, no_links, more_links, a_desig, no_sels, more_sels}
+use Rattle.alma_ir.specs.Tree.{Program, Routine, Global, Stmts, Stmt, Arms, Test, Expr, Links, Desig, no_stmts, more_stmts, TestStmt, Assign, CopyCells, If, While, Repeat, ForTo, SomeOf, Case, Either, Forall, Commit, Return, Read, WriteExpr, WriteText, WriteLine, no_arms, more_arms, Value, Bind, Unify, SameCells, Seq, And, Or, Not, CallTest, Const, Load, Chain, Compare, Truth, Known, Chr, CallExpr, no_links, more_links, a_desig, no_sels, more_sels}
 use Rattle.alma_ir.specs.Phrases.{Phrase, stmts_phrases, stmt_phrases, arms_phrases, test_phrases, expr_phrases, links_phrases, desig_phrases}
 use Rattle.alma_ir.specs.Checked.{EachRoutine, EachPhrase, loops_of, RootExists, PartsExist, CellsAgree, desig_cells, IsOrdered, RangesOrdered, HasStep, LoopIsApart, CalleeExists, ResultAgrees, CallFits, HasChoice, ReturnAgrees, ReturnsStay, text_bytes, AreNumbers, IsGlobal, IsName, IsChecked}
 use Rattle.alma_ir.specs.Checked as checked
 use Rattle.alma_ir.proofs.Each.{each_of_append, each_follows}
 use Rattle.alma_lower.specs.Built as built
-use Rattle.alma_front.specs.Words.{Word, Named, Digits, Fixed}
-use Rattle.alma_front.specs.Grammar.{IsNames, last_name, more_names, HasVariables, no_variables, variables, globals_from, IsModule, body_routine, program}
+use Rattle.alma_front.specs.Words.{Word}
+use Rattle.alma_front.specs.Grammar.{IsNames, last_name, more_names, HasVariables, no_variables, variables, globals_from, body_routine, program}
 use Rattle.alma_front.specs.Source.{IsSource}
-use Rattle.alma_front.proofs.LawsWords.{none_some, SoundWord, SoundWords, sound_words, words_bytes, words_short}
+use Rattle.alma_front.proofs.LawsWords.{none_some, SoundWords, sound_words, words_bytes, words_short}
 use Rattle.alma_front.proofs.LawsForms.{FormDesig, FormExpr, FormLinks, FormTest, FormStmts, FormStmt, FormArms, form_module}
 
 -- ---- the phrases of the body

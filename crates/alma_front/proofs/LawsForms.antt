@@ -1,17 +1,14 @@
 -- What the grammar gives is of the forms that are compiled, with variables among those that are declared.
-use Rattle.std.proofs.Common.{◌≡◌, ◌≤◌, ◌<◌, ◌+◌, ℕ, Bool, true, false, List, [], ◌∷◌, length, Option, Some, None, refl, sym, ap, subst, arith, if◌then◌else◌, bytes_eq}
+use Rattle.std.proofs.Common.{◌≡◌, ◌≤◌, ◌<◌, ◌+◌, ℕ, Bool, true, false, List, [], ◌∷◌, length, Some, refl, sym, subst, arith, if◌then◌else◌, bytes_eq}
 use Rattle.alma_base.specs.Numbers.{is_integer}
-use Rattle.alma_tree.specs.declared.kind.Kind.TheVariants as kinds
 use Rattle.alma_ir.specs.declared.phrase.Root.TheVariants as root
-use Rattle.alma_ir.specs.declared.phrase.WriteAs.{WriteAs}
-use Rattle.alma_ir.specs.declared.phrase.WriteAs.TheVariants as write_as
 use Rattle.alma_ir.specs.Tree.{Program, Stmts, Stmt, Arms, Test, Expr, Links, Desig, no_stmts, more_stmts, TestStmt, Assign, CopyCells, If, While, Repeat, ForTo, SomeOf, Case, Either, Forall, Commit, Return, Read, WriteExpr, WriteText, WriteLine, no_arms, more_arms, Value, Bind, Unify, SameCells, Seq, And, Or, Not, CallTest, Const, Load, Chain, Compare, Truth, Known, Chr, CallExpr, no_links, more_links, a_desig, no_sels, more_sels}
 use Rattle.alma_lower.specs.Built.{BuiltDesig, BuiltExpr, BuiltLinks, BuiltTest, BuiltWrite, BuiltStmts, BuiltStmt, BuiltArms, IsBuilt}
 use Rattle.alma_lower.specs.Built as built
-use Rattle.alma_front.specs.Words.{Word, Named, Digits, Fixed, slot_from}
+use Rattle.alma_front.specs.Words.{Word, slot_from}
 use Rattle.alma_front.specs.Grammar.{truth_number, chained, followed_by, HasSign, no_sign, plus_sign, minus_sign, IsOperand, number, variable_named, nested, IsFactors, no_factors, more_factors, IsProduct, product, IsTerms, no_terms, more_terms, IsSum, sum, IsCondition, truth, compared, IsItem, truth_item, sum_item, IsItems, last_item, more_items, IsStatement, nothing, test, assignment, write, if_else, while_loop, repeat_loop, IsArms, last_arm, elsif, IsElse, no_else, else_part, IsStatements, last_statement, more_statements, IsNames, last_name, more_names, HasVariables, no_variables, variables, HasBody, no_body, body, IsModule, body_routine}
 use Rattle.alma_front.specs.Source.{IsSource}
-use Rattle.alma_front.proofs.LawsWords.{none_some, some_same, SoundWord, SoundWords, sound_words, small_integer}
+use Rattle.alma_front.proofs.LawsWords.{none_some, some_same, SoundWords, sound_words, small_integer}
 
 -- ---- the forms, with this many variables
 

@@ -1,5 +1,5 @@
 -- Words begin with one statement, where the word behind tells that it ends; words are one module, and a source is one program.
-use Rattle.std.proofs.Common.{◌≡◌, ℕ, Bool, true, false, List, [], ◌∷◌, length, map, Some, refl, sym, ap, ◌∙◌, subst, codes}
+use Rattle.std.proofs.Common.{◌≡◌, ℕ, Bool, true, false, List, [], ◌∷◌, length, map, refl, sym, ap, ◌∙◌, subst, codes}
 use Rattle.alma_tree.specs.declared.kind.Kind.TheVariants as kinds
 use Rattle.alma_scan.specs.Tokens.{Lexeme}
 use Rattle.alma_scan.proofs.Once.{tokens_once}

@@ -1,13 +1,12 @@
 -- Words begin with one sum, one condition and one item, where the word behind tells that it ends.
-use Rattle.std.proofs.Common.{◌≡◌, ◌+◌, ℕ, pos, Bool, true, false, List, [], ◌∷◌, Option, Some, None, is_some, refl, sym, ap, ◌∙◌, subst, codes, nat_eq, if◌then◌else◌, bytes_eq}
+use Rattle.std.proofs.Common.{◌≡◌, ◌+◌, ℕ, Bool, true, false, List, [], ◌∷◌, Some, is_some, refl, sym, ap, ◌∙◌, subst, nat_eq, if◌then◌else◌, bytes_eq}
 use Rattle.std.proofs.lemmas.Slice.Eq.{bytes_eq-Decides}
 use Rattle.alma_tree.specs.declared.kind.Kind.{Kind}
 use Rattle.alma_tree.specs.declared.kind.Kind.TheVariants as kinds
-use Rattle.alma_scan.specs.Bytes.{value_of}
 use Rattle.alma_ir.specs.declared.phrase.Op.{Op}
 use Rattle.alma_ir.specs.declared.phrase.Cmp.{Cmp}
 use Rattle.alma_ir.specs.declared.phrase.WriteAs.TheVariants as write_as
-use Rattle.alma_ir.specs.Tree.{Stmts, Stmt, Test, Expr, Links, more_stmts, no_stmts, WriteExpr, Value, Const, Load, Compare, no_links, more_links}
+use Rattle.alma_ir.specs.Tree.{Stmts, Stmt, Test, Expr, Links, WriteExpr, Value, Const, Load, no_links}
 use Rattle.alma_scan.proofs.Basics.{true_false}
 use Rattle.alma_front.specs.Words.{Word, Named, Digits, Fixed, factor_op, term_op, comparison, truth_word, predeclared, is_one_of, slot_from, slot_of, AreNew}
 use Rattle.alma_front.proofs.LawsWords.{none_some, some_same}
