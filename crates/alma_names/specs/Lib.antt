@@ -1,2 +1,4 @@
 pub mod Shapes
 pub mod Kept
+pub mod Blocks
+pub mod Scopes
