@@ -5,9 +5,9 @@ use Rattle.std.specs.Prelude.{bytes_eq, option_map}
 use Rattle.alma_names.specs.declared.shapes.FieldOf.{FieldOf}
 use Rattle.alma_names.specs.declared.shapes.Shape.{Shape}
 use Rattle.alma_names.specs.declared.shapes.ShapeId.{ShapeId}
-use Rattle.alma_names.specs.Kept.{IsKept}
-use Rattle.alma_names.proofs.Tables.{table_push, kept_push}
-use Rattle.alma_names.specs.Shapes.{limit, plain_of, table_of, field_named, PlainShape, PlainField, integer, char, boolean, listed, sub, row, fields, field_of, fields_of, cells_in, cell_counts, sum_of_cells, placed, placed_shape, AllBelow, NamesOnlyBelow, HasIndex, HasCount, HasBase, HasDistinctNames, names_of, IsShapeAt}
+use Rattle.alma_names.specs.Table.{IsTable}
+use Rattle.alma_names.proofs.Tables.{table_push, table_more}
+use Rattle.alma_names.specs.Shapes.{limit, plain_of, table_of, field_named, PlainShape, PlainField, fields, field_of, fields_of, cells_in, cell_counts, sum_of_cells, placed, placed_shape, AllBelow, NamesOnlyBelow, HasIndex, HasCount, HasBase, HasDistinctNames, names_of, IsShapeAt}
 
 -- the fields of one more
 pub fields_push : (fs : List FieldOf) (f : FieldOf) → fields_of (fs ++ f ∷ []) ≡ fields_of fs ++ field_of f ∷ []
@@ -24,8 +24,8 @@ pub placed_push : (cs : List ℕ) (offset : ℕ) (fs : List FieldOf) (f : FieldO
 placed_push cs offset [] f = ap (λ n. record { name = f.name.items; offset = n; shape = f.shape.0 } ∷ []) (omega arith)
 placed_push cs offset (x ∷ xs) f =
     ap (λ t. record { name = x.name.items; offset = offset; shape = x.shape.0 } ∷ t)
-      (placed_push cs (offset + get_or cs x.shape.0 0) xs f
-        ∙ ap (λ n. placed cs (offset + get_or cs x.shape.0 0) (fields_of xs) ++ record { name = f.name.items; offset = n; shape = f.shape.0 } ∷ []) (omega arith))
+    (placed_push cs (offset + get_or cs x.shape.0 0) xs f
+    ∙ ap (λ n. placed cs (offset + get_or cs x.shape.0 0) (fields_of xs) ++ record { name = f.name.items; offset = n; shape = f.shape.0 } ∷ []) (omega arith))
 
 placed_sum : (cs ds : List ℕ) (offset : ℕ) (fs : List PlainField) → sum_of_cells cs (placed ds offset fs) ≡ sum_of_cells cs fs
 placed_sum cs ds offset [] = refl
@@ -33,13 +33,8 @@ placed_sum cs ds offset (f ∷ fs) = ap (λ n. get_or cs f.shape 0 + n) (placed_
 
 -- an offset changes no size
 pub cells_placed : (t : List PlainShape) (cs ds : List ℕ) (s : PlainShape) → cells_in t cs (placed_shape ds s) ≡ cells_in t cs s
-cells_placed t cs ds integer = refl
-cells_placed t cs ds char = refl
-cells_placed t cs ds boolean = refl
-cells_placed t cs ds (listed n) = refl
-cells_placed t cs ds (sub b r) = refl
-cells_placed t cs ds (row i e) = refl
 cells_placed t cs ds (fields fs) = placed_sum cs ds 0 fs
+cells_placed t cs ds s = refl
 
 placed_below : (n : ℕ) (ds : List ℕ) (offset : ℕ) (fs : List PlainField) → AllBelow n fs → AllBelow n (placed ds offset fs)
 placed_below n ds offset [] h = h
@@ -51,13 +46,8 @@ placed_names ds offset (f ∷ fs) = ap (λ t. f.name ∷ t) (placed_names ds (of
 
 -- an offset breaks no condition
 pub shape_placed : (t : List PlainShape) (n : ℕ) (ds : List ℕ) (s : PlainShape) → NamesOnlyBelow n s → HasIndex t s → HasCount s → HasBase t s → HasDistinctNames s → IsShapeAt t n (placed_shape ds s)
-shape_placed t n ds integer a b c d e = record { names = a; index = b; count = c; base = d; fields = e }
-shape_placed t n ds char a b c d e = record { names = a; index = b; count = c; base = d; fields = e }
-shape_placed t n ds boolean a b c d e = record { names = a; index = b; count = c; base = d; fields = e }
-shape_placed t n ds (listed k) a b c d e = record { names = a; index = b; count = c; base = d; fields = e }
-shape_placed t n ds (sub k r) a b c d e = record { names = a; index = b; count = c; base = d; fields = e }
-shape_placed t n ds (row i k) a b c d e = record { names = a; index = b; count = c; base = d; fields = e }
 shape_placed t n ds (fields fs) a b c d e = record { names = placed_below n ds 0 fs a; index = b; count = c; base = d; fields = rw (placed_names ds 0 fs) e }
+shape_placed t n ds s a b c d e = record { names = a; index = b; count = c; base = d; fields = e }
 
 pub sum_push : (cs : List ℕ) (fs : List FieldOf) (f : FieldOf) → sum_of_cells cs (fields_of (fs ++ f ∷ [])) ≡ sum_of_cells cs (fields_of fs) + get_or cs f.shape.0 0
 sum_push cs [] f = omega arith
@@ -110,10 +100,10 @@ field_below n name fs None h e = tt
 field_below n name fs (Some f) h e = subst (λ o. IfSome o (λ g. g.1 < n)) (sym e) (named_below n name fs h)
 
 -- a table with one more shape, whose offsets were set
-pub kept_add : (t : List PlainShape) (ss : List Shape) (cs : List ℕ) (s : PlainShape) (x : Shape) (n : ℕ) → IsKept (table_of ss) cs → table_of ss ≡ t
+pub table_added : (t : List PlainShape) (ss : List Shape) (cs : List ℕ) (s : PlainShape) (x : Shape) (n : ℕ) → IsTable (table_of ss) cs → table_of ss ≡ t
     → NamesOnlyBelow (length t) s → HasIndex t s → HasCount s → HasBase t s → HasDistinctNames s
-    → plain_of x ≡ placed_shape (cell_counts t) s → n ≡ cells_in t (cell_counts t) s → n ≤ limit → IsKept (table_of (ss ++ x ∷ [])) (cs ++ n ∷ [])
-kept_add t ss cs s x n k v a b c d e p m le =
-    rw (table_push ss x, v, p) (kept_push t cs (placed_shape (cell_counts t) s) n (rw v at k) (shape_placed t (length t) (cell_counts t) s a b c d e) (m ∙ sym (cells_placed t (cell_counts t) (cell_counts t) s)) le)
+    → plain_of x ≡ placed_shape (cell_counts t) s → n ≡ cells_in t (cell_counts t) s → n ≤ limit → IsTable (table_of (ss ++ x ∷ [])) (cs ++ n ∷ [])
+table_added t ss cs s x n k v a b c d e p m le =
+    rw (table_push ss x, v, p) (table_more t cs (placed_shape (cell_counts t) s) n (rw v at k) (shape_placed t (length t) (cell_counts t) s a b c d e) (m ∙ sym (cells_placed t (cell_counts t) (cell_counts t) s)) le)
 
 pub ruleset placing = (fields_push, fields_len, placed_push, cells_placed, place_front, place_rest, place_sum)

@@ -2,7 +2,7 @@
 use Rattle.std.specs.Global.{Global}
 use Rattle.std.specs.Prelude.{ℕ, pos, Bool, false, if◌then◌else◌, nat_le, List, [], ◌∷◌, map, slice_get, position, bytes_eq, codes, Option, None, Some, option_and_then, Vec}
 use Rattle.std.specs.HashMap.{HashMap}
-use Rattle.alma_names.specs.declared.block.Kept.{Kept}
+use Rattle.alma_names.specs.declared.block.Declaration.{Declaration}
 use Rattle.alma_names.specs.declared.block.Entry.{Entry}
 use Rattle.alma_names.specs.declared.block.Entry.TheVariants.{Constant, Named, Bad}
 use Rattle.alma_names.specs.declared.shapes.ShapeId.{ShapeId}
@@ -14,10 +14,10 @@ pub record Declared : Type 0 where
   pub entry : Entry
 
 -- the declarations of a map from names
-abbrev pub declared_of : Vec ℕ Global × Kept → Declared
+abbrev pub declared_of : Vec ℕ Global × Declaration → Declared
 declared_of e = record { name = e.0.items; from = e.1.from; entry = e.1.entry }
 
-abbrev pub block_of : {S : Type 0} → HashMap (Vec ℕ Global) Kept S → List Declared
+abbrev pub block_of : {S : Type 0} → HashMap (Vec ℕ Global) Declaration S → List Declared
 block_of m = map declared_of m.entries
 
 -- the shape of a number
@@ -28,11 +28,11 @@ shape_id n = record { 0 = n }
 abbrev pub predeclared : List Declared
 predeclared =
     record { name = codes "INTEGER"; from = 0; entry = Named (shape_id 0) }
-      ∷ record { name = codes "CHAR"; from = 0; entry = Named (shape_id 1) }
-      ∷ record { name = codes "BOOLEAN"; from = 0; entry = Named (shape_id 2) }
-      ∷ record { name = codes "TRUE"; from = 0; entry = Constant (shape_id 2) (pos 1) }
-      ∷ record { name = codes "FALSE"; from = 0; entry = Constant (shape_id 2) (pos 0) }
-      ∷ []
+    ∷ record { name = codes "CHAR"; from = 0; entry = Named (shape_id 1) }
+    ∷ record { name = codes "BOOLEAN"; from = 0; entry = Named (shape_id 2) }
+    ∷ record { name = codes "TRUE"; from = 0; entry = Constant (shape_id 2) (pos 1) }
+    ∷ record { name = codes "FALSE"; from = 0; entry = Constant (shape_id 2) (pos 0) }
+    ∷ []
 
 -- the place of a name in a block
 abbrev pub place : List ℕ → List Declared → Option ℕ

@@ -1,4 +1,4 @@
 pub mod Shapes
-pub mod Kept
+pub mod Table
 pub mod Blocks
 pub mod Scopes

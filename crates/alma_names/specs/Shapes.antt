@@ -1,5 +1,5 @@
 -- A table of shapes as a list of plain shapes, in which a shape's number is its place, and what each shape holds.
-use Rattle.std.specs.Prelude.{◌≡◌, ◌≢◌, ℕ, ◌+◌, ◌-◌, ◌*◌, ◌^◌, ◌<◌, ◌≤◌, ℤ, pos, negsuc, ◌-ℤ◌, ◌≤ℤ◌, nat_abs, nat_lt, Bool, true, false, ◌||◌, IsTrue, IsFalse, List, [], ◌∷◌, ◌++◌, map, length, get_or, slice_get, AllPairs, bytes_eq, Option, None, Some, IsSomeAnd, option_map, option_and_then, unwrap_or, Result, Ok, Err, if◌then◌else◌}
+use Rattle.std.specs.Prelude.{◌≢◌, ℕ, ◌+◌, ◌-◌, ◌*◌, ◌^◌, ◌<◌, ◌≤◌, pos, negsuc, ◌-ℤ◌, ◌≤ℤ◌, nat_abs, nat_lt, Bool, true, false, ◌||◌, IsTrue, IsFalse, List, [], ◌∷◌, ◌++◌, map, get_or, slice_get, AllPairs, bytes_eq, Option, None, Some, IsSomeAnd, option_map, option_and_then, unwrap_or, Result, Ok, Err, if◌then◌else◌}
 use Rattle.alma_base.specs.declared.number.Range.{Range}
 use Rattle.alma_names.specs.declared.shapes.FieldOf.{FieldOf}
 use Rattle.alma_names.specs.declared.shapes.Shape.{Shape}
@@ -60,21 +60,15 @@ range_of char = Some (record { low = pos 0; high = pos 255 })
 range_of boolean = Some (record { low = pos 0; high = pos 1 })
 range_of (listed n) = Some (record { low = pos 0; high = pos n -ℤ pos 1 })
 range_of (sub b r) = Some r
-range_of (row i e) = None
-range_of (fields fs) = None
+range_of s = None
 
 abbrev pub range_at : List PlainShape → ℕ → Option Range
 range_at t id = option_and_then range_of (slice_get t id)
 
 -- the base type of a subrange, and any other shape itself
 abbrev pub base_of : ℕ → PlainShape → ℕ
-base_of id integer = id
-base_of id char = id
-base_of id boolean = id
-base_of id (listed n) = id
 base_of id (sub b r) = b
-base_of id (row i e) = id
-base_of id (fields fs) = id
+base_of id s = id
 
 abbrev pub base_at : List PlainShape → ℕ → ℕ
 base_at t id = unwrap_or (option_map (base_of id) (slice_get t id)) id
@@ -97,13 +91,9 @@ sum_of_cells cs (f ∷ fs) = get_or cs f.shape 0 + sum_of_cells cs fs
 
 -- the number of cells of a shape over a table whose shapes have the cells cs
 abbrev pub cells_in : List PlainShape → List ℕ → PlainShape → ℕ
-cells_in t cs integer = 1
-cells_in t cs char = 1
-cells_in t cs boolean = 1
-cells_in t cs (listed n) = 1
-cells_in t cs (sub b r) = 1
 cells_in t cs (row i e) = values_at t i * get_or cs e 0
 cells_in t cs (fields fs) = sum_of_cells cs fs
+cells_in t cs s = 1
 
 -- the number of cells of each shape of a table, in order: each over the shapes t before it, which have the cells cs
 abbrev pub cell_counts_from : List PlainShape → List ℕ → List PlainShape → List ℕ
@@ -118,13 +108,8 @@ cells_at t id = get_or (cell_counts t) id 0
 
 -- the number of elements of a row
 abbrev pub elements : List PlainShape → PlainShape → ℕ
-elements t integer = 0
-elements t char = 0
-elements t boolean = 0
-elements t (listed n) = 0
-elements t (sub b r) = 0
 elements t (row i e) = values_at t i
-elements t (fields fs) = 0
+elements t s = 0
 
 -- the shape has too many cells or, a row, too many elements
 abbrev pub is_too_large : List PlainShape → PlainShape → Bool
@@ -136,33 +121,24 @@ AllBelow n [] = Unit {0}
 AllBelow n (f ∷ fs) = (f.shape < n) × AllBelow n fs
 
 abbrev pub NamesOnlyBelow : ℕ → PlainShape → Type 0
-NamesOnlyBelow n integer = Unit {0}
-NamesOnlyBelow n char = Unit {0}
-NamesOnlyBelow n boolean = Unit {0}
-NamesOnlyBelow n (listed k) = Unit {0}
 NamesOnlyBelow n (sub b r) = b < n
 NamesOnlyBelow n (row i e) = (i < n) × (e < n)
 NamesOnlyBelow n (fields fs) = AllBelow n fs
+NamesOnlyBelow n s = Unit {0}
 
 -- what may index a row: a simple shape other than INTEGER itself
 abbrev pub is_index : PlainShape → Bool
 is_index integer = false
-is_index char = true
-is_index boolean = true
-is_index (listed n) = true
-is_index (sub b r) = true
 is_index (row i e) = false
 is_index (fields fs) = false
+is_index s = true
 
 -- what may be the base of a subrange: a simple shape that is no subrange
 abbrev pub is_base : PlainShape → Bool
-is_base integer = true
-is_base char = true
-is_base boolean = true
-is_base (listed n) = true
 is_base (sub b r) = false
 is_base (row i e) = false
 is_base (fields fs) = false
+is_base s = true
 
 -- the range is one, and lies in the other
 pub record LiesIn (inner outer : Range) : Type 0 where
@@ -180,46 +156,26 @@ IsBaseFor t id range = IsSomeAnd (slice_get t id) (λ s. IsBaseOf range s)
 
 -- the index shape of a row may index one
 abbrev pub HasIndex : List PlainShape → PlainShape → Type 0
-HasIndex t integer = Unit {0}
-HasIndex t char = Unit {0}
-HasIndex t boolean = Unit {0}
-HasIndex t (listed n) = Unit {0}
-HasIndex t (sub b r) = Unit {0}
 HasIndex t (row i e) = IsSomeAnd (slice_get t i) (λ s. IsTrue (is_index s))
-HasIndex t (fields fs) = Unit {0}
+HasIndex t s = Unit {0}
 
 -- an enumeration has a name
 abbrev pub HasCount : PlainShape → Type 0
-HasCount integer = Unit {0}
-HasCount char = Unit {0}
-HasCount boolean = Unit {0}
 HasCount (listed n) = 1 ≤ n
-HasCount (sub b r) = Unit {0}
-HasCount (row i e) = Unit {0}
-HasCount (fields fs) = Unit {0}
+HasCount s = Unit {0}
 
 -- the base of a subrange may be one, with its range
 abbrev pub HasBase : List PlainShape → PlainShape → Type 0
-HasBase t integer = Unit {0}
-HasBase t char = Unit {0}
-HasBase t boolean = Unit {0}
-HasBase t (listed n) = Unit {0}
 HasBase t (sub b r) = IsBaseFor t b r
-HasBase t (row i e) = Unit {0}
-HasBase t (fields fs) = Unit {0}
+HasBase t s = Unit {0}
 
 -- the fields of a record have different names
 abbrev pub names_of : List PlainField → List (List ℕ)
 names_of fs = map (λ f. f.name) fs
 
 abbrev pub HasDistinctNames : PlainShape → Type 0
-HasDistinctNames integer = Unit {0}
-HasDistinctNames char = Unit {0}
-HasDistinctNames boolean = Unit {0}
-HasDistinctNames (listed n) = Unit {0}
-HasDistinctNames (sub b r) = Unit {0}
-HasDistinctNames (row i e) = Unit {0}
 HasDistinctNames (fields fs) = AllPairs (λ a b. a ≢ b) (names_of fs)
+HasDistinctNames s = Unit {0}
 
 -- all five hold of a shape of the table, that of number n
 pub record IsShapeAt (t : List PlainShape) (n : ℕ) (s : PlainShape) : Type 0 where
@@ -235,13 +191,8 @@ placed cs offset [] = []
 placed cs offset (f ∷ fs) = record { name = f.name; offset = offset; shape = f.shape } ∷ placed cs (offset + get_or cs f.shape 0) fs
 
 abbrev pub placed_shape : List ℕ → PlainShape → PlainShape
-placed_shape cs integer = integer
-placed_shape cs char = char
-placed_shape cs boolean = boolean
-placed_shape cs (listed n) = listed n
-placed_shape cs (sub b r) = sub b r
-placed_shape cs (row i e) = row i e
 placed_shape cs (fields fs) = fields (placed cs 0 fs)
+placed_shape cs s = s
 
 -- a shape that is too large is refused, and only such a one is refused as too large
 abbrev pub Refuses : Bool → Result ShapeId ShapeError → Type 0
@@ -255,13 +206,8 @@ field_named name [] = None
 field_named name (f ∷ fs) = if bytes_eq f.name name then Some (f.offset, f.shape) else field_named name fs
 
 abbrev pub field_in : List ℕ → PlainShape → Option (ℕ × ℕ)
-field_in name integer = None
-field_in name char = None
-field_in name boolean = None
-field_in name (listed n) = None
-field_in name (sub b r) = None
-field_in name (row i e) = None
 field_in name (fields fs) = field_named name fs
+field_in name s = None
 
 abbrev pub field_at : List ℕ → Option PlainShape → Option (ℕ × ℕ)
 field_at name s = option_and_then (field_in name) s

@@ -32,7 +32,7 @@ pub enum Entry {
 
 /// What a name stands for, and the token from which on it is visible.
 #[derive(Clone, Copy)]
-pub struct Kept {
+pub struct Declaration {
     pub from: u32,
     pub entry: Entry,
 }
@@ -40,7 +40,7 @@ pub struct Kept {
 /// The names of one block, in order of declaration.
 #[derive(Drop)]
 pub struct Block {
-    names: IndexMap<Vec<u8>, Kept>,
+    names: IndexMap<Vec<u8>, Declaration>,
 }
 
 impl Model for Block {
@@ -94,8 +94,8 @@ impl Block {
         ensures within { IfSome result (λ i. i < length self.now) }
     {
         match self.names.get_full(name) {
-            Some((i, _name, kept)) => {
-                if kept.from <= at {
+            Some((i, _name, declaration)) => {
+                if declaration.from <= at {
                     Some(i)
                 } else {
                     None
@@ -114,13 +114,19 @@ impl Block {
     }
 
     /// Declares a name that the block does not have.
-    pub fn add(&mut self, alloc: Global, name: &[u8], from: u32, entry: Entry) -> Result<(), NoMemory>
+    pub fn add(
+        &mut self,
+        alloc: Global,
+        name: &[u8],
+        from: u32,
+        entry: Entry,
+    ) -> Result<(), NoMemory>
         requires { place name.now self.old ≡ None }
         ensures ok { OnOk result (self.new ≡ self.old ++ record { name = name.now; from = from; entry = entry } ∷ []) }
         ensures err { OnErr result (self.new ≡ self.old) }
     {
         let key = name.to_vec(alloc)?;
-        self.names.insert(key, Kept { from, entry })?;
+        self.names.insert(key, Declaration { from, entry })?;
         Ok(())
     }
 }

@@ -75,7 +75,13 @@ impl Scopes {
     }
 
     /// Declares a name in the top block, visible from the token `from` on.
-    pub fn declare(&mut self, alloc: Global, name: &[u8], from: u32, entry: Entry) -> Result<Id, DeclareError>
+    pub fn declare(
+        &mut self,
+        alloc: Global,
+        name: &[u8],
+        from: u32,
+        entry: Entry,
+    ) -> Result<Id, DeclareError>
         requires { entry_count self.old < 2 ^ 32 }
 
         ensures id { IfOk result (λ id. id.0 ≡ entry_count self.old) }

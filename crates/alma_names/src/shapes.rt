@@ -3,7 +3,7 @@
 
 ghost use Rattle.std.specs.Prelude.{◌≡◌, ℕ, ◌+◌, ◌*◌, ◌^◌, ◌<◌, ◌≤◌, ◌⊎◌, ◌≤ℤ◌, List, [], ◌∷◌, ◌++◌, Option, None, Some, IsTrue, IsFalse, length, get_or, slice_get, option_map, MatchOption, IfSome, IfOk, OnOk, OnErr};
 ghost use Rattle.alma_names.specs.Shapes.{PlainShape, plain_of, fields_of, table_of, first_shapes, limit, range_size, range_at, base_at, IsBaseFor, values_at, cells_in, cell_counts, cells_at, is_too_large, sum_of_cells, NamesOnlyBelow, HasIndex, HasCount, HasBase, HasDistinctNames, AllBelow, IsShapeAt, placed, placed_shape, field_at, field_named, Refuses};
-ghost use Rattle.alma_names.specs.Kept.{IsKept};
+ghost use Rattle.alma_names.specs.Table.{IsTable};
 
 use alma_base::{NoMemory, Range};
 use std::alloc::Global;
@@ -61,7 +61,7 @@ impl Model for Shapes {
 
     ghost view = { λ s. table_of s.shapes.items };
 
-    ghost invariant = { λ s. IsKept (table_of s.shapes.items) s.cells.items };
+    ghost invariant = { λ s. IsTable (table_of s.shapes.items) s.cells.items };
 }
 
 impl Shapes {
@@ -144,7 +144,10 @@ impl Shapes {
             Shape::Char => id,
             Shape::Boolean => id,
             Shape::Listed { count: _ } => id,
-            Shape::Row { index: _, element: _ } => id,
+            Shape::Row {
+                index: _,
+                element: _,
+            } => id,
             Shape::Fields { fields: _ } => id,
         }
     }
@@ -156,12 +159,21 @@ impl Shapes {
         ensures ordered { IfSome result (λ range. range.low ≤ℤ range.high) }
     {
         match self.get(id) {
-            Shape::Integer => Some(Range { low: i64::MIN, high: i64::MAX }),
+            Shape::Integer => Some(Range {
+                low: i64::MIN,
+                high: i64::MAX,
+            }),
             Shape::Char => Some(Range { low: 0, high: 255 }),
             Shape::Boolean => Some(Range { low: 0, high: 1 }),
-            Shape::Listed { count } => Some(Range { low: 0, high: i64::from(*count) - 1 }),
+            Shape::Listed { count } => Some(Range {
+                low: 0,
+                high: i64::from(*count) - 1,
+            }),
             Shape::Sub { base: _, range } => Some(*range),
-            Shape::Row { index: _, element: _ } => None,
+            Shape::Row {
+                index: _,
+                element: _,
+            } => None,
             Shape::Fields { fields: _ } => None,
         }
     }
@@ -179,7 +191,10 @@ impl Shapes {
             Shape::Boolean => None,
             Shape::Listed { count: _ } => None,
             Shape::Sub { base: _, range: _ } => None,
-            Shape::Row { index: _, element: _ } => None,
+            Shape::Row {
+                index: _,
+                element: _,
+            } => None,
         }
     }
 
@@ -214,11 +229,9 @@ impl Shapes {
     fn row_size(&self, index: ShapeId, element: ShapeId) -> Option<u32>
         requires index { index.0 < length self.now }
         requires element { element.0 < length self.now }
-        ensures {
-            MatchOption result
-                ((limit < values_at self.now index.0) ⊎ (limit < values_at self.now index.0 * cells_at self.now element.0))
-                (λ n. (n ≡ values_at self.now index.0 * cells_at self.now element.0) × (n ≤ limit) × (values_at self.now index.0 ≤ limit))
-        }
+        ensures { MatchOption result
+            ((limit < values_at self.now index.0) ⊎ (limit < values_at self.now index.0 * cells_at self.now element.0))
+            (λ n. (n ≡ values_at self.now index.0 * cells_at self.now element.0) × (n ≤ limit) × (values_at self.now index.0 ≤ limit)) }
     {
         match self.values(index) {
             None => None,

@@ -9,11 +9,18 @@ use std::alloc::{AllocError, Global};
 use std::test::Fail;
 
 const INTEGER: ShapeId = ShapeId(0);
+
 const CHAR: ShapeId = ShapeId(1);
+
 const BOOLEAN: ShapeId = ShapeId(2);
 
 // ARRAY [1..count] OF element
-fn add_row(alloc: Global, shapes: &mut Shapes, count: i64, element: ShapeId) -> Result<ShapeId, ShapeError>
+fn add_row(
+    alloc: Global,
+    shapes: &mut Shapes,
+    count: i64,
+    element: ShapeId,
+) -> Result<ShapeId, ShapeError>
     requires integer { slice_get shapes.old 0 ≡ Some integer }
     requires element { element.0 < length shapes.old }
     requires room { length shapes.old + 2 < 2 ^ 32 }
@@ -23,8 +30,17 @@ fn add_row(alloc: Global, shapes: &mut Shapes, count: i64, element: ShapeId) -> 
     ensures kept { length shapes.old ≤ length shapes.new }
     ensures within { IfOk result (λ id. id.0 < length shapes.new) }
 {
-    let range = Range { low: 1, high: count };
-    let index = shapes.add(alloc, Shape::Sub { base: INTEGER, range })?;
+    let range = Range {
+        low: 1,
+        high: count,
+    };
+    let index = shapes.add(
+        alloc,
+        Shape::Sub {
+            base: INTEGER,
+            range,
+        },
+    )?;
     shapes.add(alloc, Shape::Row { index, element })
 }
 
@@ -47,7 +63,12 @@ fn row_cells(alloc: Global, count: i64, element: Element) -> Result<u32, ShapeEr
     };
     let element = match element {
         Element::Char => CHAR,
-        Element::Nothing => shapes.add(alloc, Shape::Fields { fields: Vec::new(alloc) })?,
+        Element::Nothing => shapes.add(
+            alloc,
+            Shape::Fields {
+                fields: Vec::new(alloc),
+            },
+        )?,
         Element::Row(n) => add_row(alloc, &mut shapes, n.max(1), CHAR)?,
     };
     let id = add_row(alloc, &mut shapes, count, element)?;
@@ -69,7 +90,11 @@ fn a_row_has_up_to_1048576_cells_and_elements(rt: HostRuntime) {
         (2, Element::Row(1_048_576), large),
         (1, Element::Row(1_048_577), large),
     ] {
-        assert_eq!(rt; row_cells(rt.alloc(), count, element), want, "at {count} of {element:?}");
+        assert_eq!(rt;
+            row_cells(rt.alloc(), count, element),
+            want,
+            "at {count} of {element:?}"
+        );
     }
 }
 
@@ -85,7 +110,12 @@ fn named(alloc: Global, name: &[u8], shape: ShapeId) -> Result<FieldOf, AllocErr
 }
 
 // RECORD a: RECORD END; b: row; A: INTEGER END, where `nothing` is a record with no fields
-fn add_record(alloc: Global, shapes: &mut Shapes, nothing: ShapeId, row: ShapeId) -> Result<ShapeId, Fail>
+fn add_record(
+    alloc: Global,
+    shapes: &mut Shapes,
+    nothing: ShapeId,
+    row: ShapeId,
+) -> Result<ShapeId, Fail>
     requires nothing { nothing.0 < length shapes.old }
     requires row { row.0 < length shapes.old }
     requires integer { 0 < length shapes.old }
@@ -104,7 +134,12 @@ fn add_record(alloc: Global, shapes: &mut Shapes, nothing: ShapeId, row: ShapeId
 fn fields_stand_behind_each_other(rt: HostRuntime) -> Result<(), Fail> {
     let alloc = rt.alloc();
     let mut shapes = Shapes::new(alloc)?;
-    let nothing = shapes.add(alloc, Shape::Fields { fields: Vec::new(alloc) })?;
+    let nothing = shapes.add(
+        alloc,
+        Shape::Fields {
+            fields: Vec::new(alloc),
+        },
+    )?;
     let row = add_row(alloc, &mut shapes, 3, CHAR)?;
     let record = add_record(alloc, &mut shapes, nothing, row)?;
     assert_eq!(rt; shapes.cells(record), 4);
@@ -135,8 +170,19 @@ fn make_colours(alloc: Global) -> Result<Colours, Fail> {
     let all = shapes.add(alloc, Shape::Listed { count: 3 })?;
     let range = Range { low: 1, high: 2 };
     let some = shapes.add(alloc, Shape::Sub { base: all, range })?;
-    let row = shapes.add(alloc, Shape::Row { index: some, element: BOOLEAN })?;
-    Ok(Colours { shapes, all, some, row })
+    let row = shapes.add(
+        alloc,
+        Shape::Row {
+            index: some,
+            element: BOOLEAN,
+        },
+    )?;
+    Ok(Colours {
+        shapes,
+        all,
+        some,
+        row,
+    })
 }
 
 #[test]
@@ -168,6 +214,7 @@ fn meaning(scopes: &Scopes, name: &[u8], at: u32) -> Option<Entry> {
 }
 
 const OUTER: Entry = Entry::Routine(1);
+
 const INNER: Entry = Entry::Variable(CHAR, Access::Local(2));
 
 // A block with `x` from `outer` on, and on it one with `x` from `inner` on.
@@ -196,7 +243,11 @@ fn the_highest_block_in_which_a_name_is_visible_counts(rt: HostRuntime) -> Resul
         (5, 5, 5, Some(INNER)),
     ] {
         let mut scopes = two_blocks(rt.alloc(), outer, inner)?;
-        assert_eq!(rt; meaning(&scopes, b"x", at), want, "from {outer} and {inner} at {at}");
+        assert_eq!(rt;
+            meaning(&scopes, b"x", at),
+            want,
+            "from {outer} and {inner} at {at}"
+        );
         scopes.pop_block();
         assert_eq!(rt; meaning(&scopes, b"x", 9), Some(OUTER));
     }
@@ -212,7 +263,10 @@ fn names_that_differ_in_case_are_two(rt: HostRuntime) -> Result<(), Fail> {
     let second = scopes.declare(alloc, b"X", 0, INNER)?;
     assert_eq!(rt; scopes.find(b"x", 0), Some(first));
     assert_eq!(rt; scopes.find(b"X", 0), Some(second));
-    assert_eq!(rt; scopes.declare(alloc, b"X", 0, Entry::Bad), Err(DeclareError::Twice(second)));
+    assert_eq!(rt;
+        scopes.declare(alloc, b"X", 0, Entry::Bad),
+        Err(DeclareError::Twice(second))
+    );
     assert_eq!(rt; meaning(&scopes, b"X", 0), Some(INNER));
     Ok(())
 }
@@ -233,7 +287,10 @@ fn predeclared_names_may_be_declared_again(rt: HostRuntime) -> Result<(), Fail> 
     }
     scopes.push_block(alloc)?;
     scopes.declare(alloc, b"TRUE", 4, OUTER)?;
-    assert_eq!(rt; meaning(&scopes, b"TRUE", 3), Some(Entry::Constant(BOOLEAN, 1)));
+    assert_eq!(rt;
+        meaning(&scopes, b"TRUE", 3),
+        Some(Entry::Constant(BOOLEAN, 1))
+    );
     assert_eq!(rt; meaning(&scopes, b"TRUE", 4), Some(OUTER));
     Ok(())
 }

@@ -6,4 +6,5 @@ abbrev pub invariant-loop-field : goal.invariant-loop-field
 invariant-loop-field l = record {
   left : l.total + sum_of_cells (cell_counts l.self) (fields_of (drop l.field-index l.fields)) ≡ sum_of_cells (cell_counts l.self) (fields_of l.fields);
   small : l.total ≤ limit;
-  below : AllBelow (length l.self) (fields_of (drop l.field-index l.fields)) }
+  below : AllBelow (length l.self) (fields_of (drop l.field-index l.fields));
+}

@@ -1,12 +1,12 @@
 -- What a table of shapes keeps beside its list.
-use Rattle.std.specs.Prelude.{◌≡◌, ℕ, ◌≤◌, List, length, All, Option, Some, slice_get}
+use Rattle.std.specs.Prelude.{◌≡◌, ℕ, ◌≤◌, List, length, All, Some, slice_get}
 use Rattle.alma_names.specs.Shapes.{PlainShape, limit, cell_counts, IsShapeAt}
 
 abbrev pub IsSmall : ℕ → Type 0
 IsSmall n = n ≤ limit
 
 -- cs is the number of cells of each shape, none is too many, and the five conditions of `add` hold of each shape
-pub record IsKept (t : List PlainShape) (cs : List ℕ) : Type 0 where
+pub record IsTable (t : List PlainShape) (cs : List ℕ) : Type 0 where
   pub counted : cs ≡ cell_counts t
   pub long : length cs ≡ length t
   pub small : All IsSmall cs
