@@ -1,5 +1,5 @@
--- What a table of shapes keeps beside its list.
-use Rattle.std.specs.Prelude.{◌≡◌, ℕ, ◌≤◌, List, length, All, Some, slice_get}
+-- What a table of shapes keeps beside its list, and how its code counts.
+use Rattle.std.specs.Prelude.{◌≡◌, ℕ, ◌≤◌, List, length, All, Some, ◌<◌, Option, MatchOption, slice_get}
 use Rattle.alma_names.specs.Shapes.{PlainShape, limit, cell_counts, IsShapeAt}
 
 abbrev pub IsSmall : ℕ → Type 0
@@ -11,3 +11,7 @@ pub record IsTable (t : List PlainShape) (cs : List ℕ) : Type 0 where
   pub long : length cs ≡ length t
   pub small : All IsSmall cs
   pub shapes : (n : ℕ) (s : PlainShape) → slice_get t n ≡ Some s → IsShapeAt t n s
+
+-- the number n, or nothing where it is past the limit
+abbrev pub CountsUpToLimit : Option ℕ → ℕ → Type 0
+CountsUpToLimit answer n = MatchOption answer (limit < n) (λ m. (m ≡ n) × (m ≤ limit))

@@ -3,7 +3,7 @@
 
 ghost use Rattle.std.specs.Prelude.{◌≡◌, ℕ, ◌+◌, ◌*◌, ◌^◌, ◌<◌, ◌≤◌, ◌⊎◌, ◌≤ℤ◌, List, [], ◌∷◌, ◌++◌, Option, None, Some, IsTrue, IsFalse, length, get_or, slice_get, option_map, MatchOption, IfSome, IfOk, OnOk, OnErr};
 ghost use Rattle.alma_names.specs.Shapes.{PlainShape, plain_of, fields_of, table_of, first_shapes, limit, range_size, range_at, base_at, IsBaseFor, values_at, cells_in, cell_counts, cells_at, is_too_large, sum_of_cells, NamesOnlyBelow, HasIndex, HasCount, HasBase, HasDistinctNames, AllBelow, IsShapeAt, placed, placed_shape, field_at, field_named, Refuses};
-ghost use Rattle.alma_names.specs.Table.{IsTable};
+ghost use Rattle.alma_names.specs.Table.{IsTable, CountsUpToLimit};
 
 use alma_base::{NoMemory, Range};
 use std::alloc::Global;
@@ -139,16 +139,9 @@ impl Shapes {
         ensures simple { IfSome (range_at self.now id.0) (λ range. IsBaseFor self.now result.0 range) }
     {
         match self.get(id) {
-            Shape::Sub { base, range: _ } => *base,
-            Shape::Integer => id,
-            Shape::Char => id,
-            Shape::Boolean => id,
-            Shape::Listed { count: _ } => id,
-            Shape::Row {
-                index: _,
-                element: _,
-            } => id,
-            Shape::Fields { fields: _ } => id,
+            Shape::Sub { base, .. } => *base,
+            Shape::Integer | Shape::Char | Shape::Boolean | Shape::Listed { .. } => id,
+            Shape::Row { .. } | Shape::Fields { .. } => id,
         }
     }
 
@@ -169,12 +162,8 @@ impl Shapes {
                 low: 0,
                 high: i64::from(*count) - 1,
             }),
-            Shape::Sub { base: _, range } => Some(*range),
-            Shape::Row {
-                index: _,
-                element: _,
-            } => None,
-            Shape::Fields { fields: _ } => None,
+            Shape::Sub { range, .. } => Some(*range),
+            Shape::Row { .. } | Shape::Fields { .. } => None,
         }
     }
 
@@ -186,22 +175,15 @@ impl Shapes {
     {
         match self.get(id) {
             Shape::Fields { fields } => find_field(fields, name),
-            Shape::Integer => None,
-            Shape::Char => None,
-            Shape::Boolean => None,
-            Shape::Listed { count: _ } => None,
-            Shape::Sub { base: _, range: _ } => None,
-            Shape::Row {
-                index: _,
-                element: _,
-            } => None,
+            Shape::Integer | Shape::Char | Shape::Boolean => None,
+            Shape::Listed { .. } | Shape::Sub { .. } | Shape::Row { .. } => None,
         }
     }
 
     // The number of values of an index shape, where there are not too many.
     fn values(&self, index: ShapeId) -> Option<u32>
         requires { index.0 < length self.now }
-        ensures { MatchOption result (limit < values_at self.now index.0) (λ n. (n ≡ values_at self.now index.0) × (n ≤ limit)) }
+        ensures { CountsUpToLimit result (values_at self.now index.0) }
     {
         match self.range(index) {
             Some(range) => count_values(range),
@@ -212,16 +194,15 @@ impl Shapes {
     // The number of cells of a shape, where it is not too large.
     fn size(&self, shape: &Shape) -> Option<u32>
         requires { NamesOnlyBelow (length self.now) (plain_of shape.now) }
-        ensures { MatchOption result (IsTrue (is_too_large self.now (plain_of shape.now))) (λ n. (n ≡ cells_in self.now (cell_counts self.now) (plain_of shape.now)) × (n ≤ limit) × IsFalse (is_too_large self.now (plain_of shape.now))) }
+        ensures { MatchOption result
+            (IsTrue (is_too_large self.now (plain_of shape.now)))
+            (λ n. (n ≡ cells_in self.now (cell_counts self.now) (plain_of shape.now)) × (n ≤ limit) × IsFalse (is_too_large self.now (plain_of shape.now))) }
     {
         match shape {
             Shape::Row { index, element } => self.row_size(*index, *element),
             Shape::Fields { fields } => self.sum(fields),
-            Shape::Integer => Some(1),
-            Shape::Char => Some(1),
-            Shape::Boolean => Some(1),
-            Shape::Listed { count: _ } => Some(1),
-            Shape::Sub { base: _, range: _ } => Some(1),
+            Shape::Integer | Shape::Char | Shape::Boolean => Some(1),
+            Shape::Listed { .. } | Shape::Sub { .. } => Some(1),
         }
     }
 
@@ -248,7 +229,7 @@ impl Shapes {
     // The number of cells of all fields, where there are not too many.
     fn sum(&self, fields: &[FieldOf]) -> Option<u32>
         requires { AllBelow (length self.now) (fields_of fields.now) }
-        ensures { MatchOption result (limit < sum_of_cells (cell_counts self.now) (fields_of fields.now)) (λ n. (n ≡ sum_of_cells (cell_counts self.now) (fields_of fields.now)) × (n ≤ limit)) }
+        ensures { CountsUpToLimit result (sum_of_cells (cell_counts self.now) (fields_of fields.now)) }
     {
         let mut total: u32 = 0;
         for field in fields {
@@ -299,7 +280,7 @@ impl Shapes {
 // The number of values of a range, where there are not too many.
 fn count_values(range: Range) -> Option<u32>
     requires { range.low ≤ℤ range.high }
-    ensures { MatchOption result (limit < range_size range) (λ n. (n ≡ range_size range) × (n ≤ limit)) }
+    ensures { CountsUpToLimit result (range_size range) }
 {
     match range.high.checked_sub(range.low) {
         None => None,
