@@ -1,5 +1,5 @@
 // The names of one block, and what each stands for.
-ghost use Rattle.std.specs.Prelude.{◌≡◌, ℕ, ◌+◌, ◌^◌, ◌<◌, List, [], ◌∷◌, ◌++◌, Option, None, Some, length, slice_get, IfSome, IfOk, OnErr, OnOk};
+ghost use Rattle.std.specs.Prelude.{◌≡◌, ◌^◌, ◌<◌, List, [], ◌∷◌, ◌++◌, Option, None, Some, length, slice_get, IfSome, IfOk, OnErr, OnOk};
 ghost use Rattle.alma_names.specs.Blocks.{Declared, block_of, predeclared, place, seen, entry_in};
 
 use crate::shapes::ShapeId;

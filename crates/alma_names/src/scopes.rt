@@ -1,7 +1,7 @@
 // A stack of blocks.
 #![tactic(auto, using(crate::proofs::Stacks::entries_push, std::proofs::lemmas::Grind::common_steps))]
 
-ghost use Rattle.std.specs.Prelude.{◌≡◌, ℕ, ◌+◌, ◌-◌, ◌*◌, ◌^◌, ◌<◌, ◌≤◌, List, [], ◌∷◌, ◌++◌, Option, None, Some, length, take, slice_get, option_map, MatchResult, MatchOption, IfSome, IfOk, OnErr, OnOk};
+ghost use Rattle.std.specs.Prelude.{◌≡◌, ◌+◌, ◌-◌, ◌^◌, ◌<◌, ◌≤◌, Option, None, Some, length, option_map, IfSome, IfOk, OnErr, OnOk};
 ghost use Rattle.alma_names.specs.Scopes.{Blocks, first_blocks, entries_of, entry_count, visible, entry_at, opened, closed, with_declared, taken, RefusesTwice};
 
 use crate::block::{Block, Entry};

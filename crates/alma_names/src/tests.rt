@@ -1,7 +1,7 @@
 // What each table answers on its happy path and at its limits.
-ghost use Rattle.std.specs.Prelude.{◌≡◌, ◌+◌, ◌^◌, ◌<◌, ◌≤◌, ◌≤ℤ◌, pos, Some, slice_get, length, IfOk, OnOk};
-ghost use Rattle.alma_names.specs.Shapes.{integer, char};
-ghost use Rattle.alma_names.specs.Scopes.{entry_count};
+ghost use Rattle.std.specs.Prelude.{◌≡◌, ◌+◌, ◌^◌, ◌<◌, ◌≤◌, ◌≤ℤ◌, pos, Some, slice_get, length, IfOk};
+ghost use Rattle.alma_names.specs.Shapes.{integer};
+ghost use Rattle.alma_names.specs.Scopes.{};
 
 use crate::{Access, DeclareError, Entry, FieldOf, Id, Scopes, Shape, ShapeError, ShapeId, Shapes};
 use alma_base::{NoMemory, Range};
