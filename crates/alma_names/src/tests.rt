@@ -1,10 +1,9 @@
 // What each table answers on its happy path and at its limits.
 ghost use Rattle.std.specs.Prelude.{◌≡◌, ◌+◌, ◌^◌, ◌<◌, ◌≤◌, ◌≤ℤ◌, pos, Some, slice_get, length, IfOk};
 ghost use Rattle.alma_names.specs.Shapes.{integer};
-ghost use Rattle.alma_names.specs.Scopes.{};
 
 use crate::{Access, DeclareError, Entry, FieldOf, Id, Scopes, Shape, ShapeError, ShapeId, Shapes};
-use alma_base::{NoMemory, Range};
+use alma_base::Range;
 use std::alloc::{AllocError, Global};
 use std::test::Fail;
 
