@@ -1,0 +1,11 @@
+pub mod Basics
+pub mod Comments
+pub mod Gaps
+pub mod Runs
+pub mod Spelled
+pub mod Values
+pub mod Standing
+pub mod Lists
+pub mod Once
+pub mod Always
+pub mod Slices
