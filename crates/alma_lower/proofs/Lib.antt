@@ -5,3 +5,4 @@ pub mod Follows
 pub mod Frames
 pub mod FrameLemmas
 pub mod Steps
+pub mod Emits

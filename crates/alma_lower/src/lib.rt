@@ -1,4 +1,5 @@
 //! From the resolved program to code.
 #![tactic(auto)]
 
+mod emit;
 pub mod laws;
