@@ -62,7 +62,8 @@ impl Emit {
     #[tactic(auto, unfolding(crate::specs::Emitted::filled))]
     pub(crate) fn here(&self) -> u32
         requires room { filled self.now ≤ 8388608 }
-        ensures { result ≡ length self.now.code.items }
+        ensures address { result ≡ length self.now.code.items }
+        ensures small { result ≤ filled self.now }
     {
         self.code.len() as u32
     }
@@ -95,7 +96,7 @@ fn aimed_at(jump: Instr, to: u32) -> Instr
 }
 
 // The place of a variable, and its slot.
-fn emit_desig(emit: &mut Emit, desig: &Desig) -> Result<u32, NoMemory>
+pub(crate) fn emit_desig(emit: &mut Emit, desig: &Desig) -> Result<u32, NoMemory>
     requires built { BuiltDesig (desig_of desig.now) }
     requires room { filled emit.old + 16 * desig_nodes (desig_of desig.now) ≤ 8388608 }
     ensures slot { IfOk result (λ slot. slot ≡ next_slot emit.old) }

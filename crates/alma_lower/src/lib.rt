@@ -2,4 +2,5 @@
 #![tactic(auto)]
 
 mod emit;
+mod emit_body;
 pub mod laws;
