@@ -6,3 +6,4 @@ pub mod Frames
 pub mod FrameLemmas
 pub mod Steps
 pub mod Emits
+pub mod EmitsBody
