@@ -83,3 +83,147 @@ emit_stmt-unreachable-requires-in-WriteText t c = subst BuiltStmt (ap stmt_of c.
 pub emit_stmt-unreachable-requires-in-WriteLine : goal.emit_stmt-unreachable-requires-in-WriteLine
 emit_stmt-unreachable-requires-in-WriteLine t c = subst BuiltStmt (ap stmt_of c.in-WriteLine.is ∙ Views.writeline_view) c.requires.built
 
+pub emit_stmt-emit_test-requires-clause-built : goal.emit_stmt-emit_test-requires-clause-built
+emit_stmt-emit_test-requires-clause-built t c =
+    let view : stmt_of c.args.stmt.now ≡ tree.TestStmt (test_of c.in-Test.test) = ap stmt_of c.in-Test.is ∙ Views.teststmt_view _ in
+    subst BuiltStmt view c.requires.built
+
+pub emit_stmt-emit_test-requires-clause-room : goal.emit_stmt-emit_test-requires-clause-room
+emit_stmt-emit_test-requires-clause-room t c =
+    let view : stmt_of c.args.stmt.now ≡ tree.TestStmt (test_of c.in-Test.test) = ap stmt_of c.in-Test.is ∙ Views.teststmt_view _ in
+    omega (arith, c.requires.room, ap stmt_nodes view)
+
+pub emit_stmt-emit_assign-requires-clause-desig : goal.emit_stmt-emit_assign-requires-clause-desig
+emit_stmt-emit_assign-requires-clause-desig t c =
+    let view : stmt_of c.args.stmt.now ≡ tree.Assign (desig_of c.in-Assign.desig) (expr_of c.in-Assign.value) c.in-Assign.field-2 = ap stmt_of c.in-Assign.is ∙ Views.assign_view _ _ _ in
+    let built : BuiltStmt (tree.Assign (desig_of c.in-Assign.desig) (expr_of c.in-Assign.value) c.in-Assign.field-2) = subst BuiltStmt view c.requires.built in
+    built.0
+
+pub emit_stmt-emit_assign-requires-clause-value : goal.emit_stmt-emit_assign-requires-clause-value
+emit_stmt-emit_assign-requires-clause-value t c =
+    let view : stmt_of c.args.stmt.now ≡ tree.Assign (desig_of c.in-Assign.desig) (expr_of c.in-Assign.value) c.in-Assign.field-2 = ap stmt_of c.in-Assign.is ∙ Views.assign_view _ _ _ in
+    let built : BuiltStmt (tree.Assign (desig_of c.in-Assign.desig) (expr_of c.in-Assign.value) c.in-Assign.field-2) = subst BuiltStmt view c.requires.built in
+    built.1
+
+pub emit_stmt-emit_assign-requires-clause-room : goal.emit_stmt-emit_assign-requires-clause-room
+emit_stmt-emit_assign-requires-clause-room t c =
+    let view : stmt_of c.args.stmt.now ≡ tree.Assign (desig_of c.in-Assign.desig) (expr_of c.in-Assign.value) c.in-Assign.field-2 = ap stmt_of c.in-Assign.is ∙ Views.assign_view _ _ _ in
+    omega (arith, c.requires.room, ap stmt_nodes view)
+
+pub emit_stmt-here-exit-requires : goal.emit_stmt-here-exit-requires
+emit_stmt-here-exit-requires t c =
+    let view : stmt_of c.args.stmt.now ≡ tree.If (arms_list c.in-If.arms.items) (stmts_list c.in-If.rest.items) = ap stmt_of c.in-If.is ∙ Views.if_view _ _ in
+    record { room = omega (arith, c.requires.room, ap stmt_nodes view, c.in_ok-put-in-If.ensures.few) }
+
+pub emit_stmt-emit_arms-requires : goal.emit_stmt-emit_arms-requires
+emit_stmt-emit_arms-requires t c =
+    let view : stmt_of c.args.stmt.now ≡ tree.If (arms_list c.in-If.arms.items) (stmts_list c.in-If.rest.items) = ap stmt_of c.in-If.is ∙ Views.if_view _ _ in
+    let is : arms_list c.deref.result.now ≡ arms_list c.in-If.arms.items = ap arms_list c.deref.ensures.value in
+    let built : BuiltStmt (tree.If (arms_list c.in-If.arms.items) (stmts_list c.in-If.rest.items)) = subst BuiltStmt view c.requires.built in
+    (search (rules, the_lemmas), (subst BuiltArms (sym is) built.0, omega (arith, c.requires.room, ap stmt_nodes view, ap arms_nodes is, c.in_ok-put-in-If.ensures.few, c.in_ok-put-in-If-2.ensures.few)))
+
+pub emit_stmt-emit_stmts-requires : goal.emit_stmt-emit_stmts-requires
+emit_stmt-emit_stmts-requires t c =
+    let view : stmt_of c.args.stmt.now ≡ tree.If (arms_list c.in-If.arms.items) (stmts_list c.in-If.rest.items) = ap stmt_of c.in-If.is ∙ Views.if_view _ _ in
+    let is : arms_list c.deref.result.now ≡ arms_list c.in-If.arms.items = ap arms_list c.deref.ensures.value in
+    let is2 : stmts_list c.deref-in-If.result.now ≡ stmts_list c.in-If.rest.items = ap stmts_list c.deref-in-If.ensures.value in
+    let built : BuiltStmt (tree.If (arms_list c.in-If.arms.items) (stmts_list c.in-If.rest.items)) = subst BuiltStmt view c.requires.built in
+    (search (rules, the_lemmas), (subst BuiltStmts (sym is2) built.1, omega (arith, c.requires.room, ap stmt_nodes view, ap arms_nodes is, ap stmts_nodes is2, c.in_ok-put-in-If.ensures.few, c.in_ok-put-in-If-2.ensures.few, c.in_ok-emit_arms-in-If.ensures.few)))
+
+pub emit_stmt-aim-requires-clause-room : goal.emit_stmt-aim-requires-clause-room
+emit_stmt-aim-requires-clause-room t c =
+    let view : stmt_of c.args.stmt.now ≡ tree.If (arms_list c.in-If.arms.items) (stmts_list c.in-If.rest.items) = ap stmt_of c.in-If.is ∙ Views.if_view _ _ in
+    let is : arms_list c.deref.result.now ≡ arms_list c.in-If.arms.items = ap arms_list c.deref.ensures.value in
+    let is2 : stmts_list c.deref-in-If.result.now ≡ stmts_list c.in-If.rest.items = ap stmts_list c.deref-in-If.ensures.value in
+    omega (arith, c.requires.room, ap stmt_nodes view, ap arms_nodes is, ap stmts_nodes is2, c.in_ok-put-in-If.ensures.few, c.in_ok-put-in-If-2.ensures.few, c.in_ok-emit_arms-in-If.ensures.few, c.in_ok-emit_stmts-in-If.ensures.few)
+
+pub emit_stmt-emit_while-requires : goal.emit_stmt-emit_while-requires
+emit_stmt-emit_while-requires t c =
+    let view : stmt_of c.args.stmt.now ≡ tree.While (test_of c.in-While.test) (stmts_list c.deref-in-While.result.now) = ap stmt_of c.in-While.is ∙ Views.while_view _ _ ∙ ap (λ x. tree.While (test_of c.in-While.test) (stmts_list x)) (sym c.deref-in-While.ensures.value) in
+    let built : BuiltStmt (tree.While (test_of c.in-While.test) (stmts_list c.deref-in-While.result.now)) = subst BuiltStmt view c.requires.built in
+    (search (rules, the_lemmas), (built.1, (built.0, omega (arith, c.requires.room, ap stmt_nodes view))))
+
+pub emit_stmt-emit_repeat-requires : goal.emit_stmt-emit_repeat-requires
+emit_stmt-emit_repeat-requires t c =
+    let view : stmt_of c.args.stmt.now ≡ tree.Repeat (stmts_list c.deref-in-Repeat.result.now) (test_of c.in-Repeat.test) = ap stmt_of c.in-Repeat.is ∙ Views.repeat_view _ _ ∙ ap (λ x. tree.Repeat (stmts_list x) (test_of c.in-Repeat.test)) (sym c.deref-in-Repeat.ensures.value) in
+    let built : BuiltStmt (tree.Repeat (stmts_list c.deref-in-Repeat.result.now) (test_of c.in-Repeat.test)) = subst BuiltStmt view c.requires.built in
+    (search (rules, the_lemmas), (built.0, (built.1, omega (arith, c.requires.room, ap stmt_nodes view))))
+
+pub emit_stmt-emit_write-requires-clause-value : goal.emit_stmt-emit_write-requires-clause-value
+emit_stmt-emit_write-requires-clause-value t c =
+    let view : stmt_of c.args.stmt.now ≡ tree.WriteExpr (expr_of c.in-WriteExpr.value) c.in-WriteExpr.how = ap stmt_of c.in-WriteExpr.is ∙ Views.writeexpr_view _ _ in
+    let built : BuiltStmt (tree.WriteExpr (expr_of c.in-WriteExpr.value) c.in-WriteExpr.how) = subst BuiltStmt view c.requires.built in
+    built.0
+
+pub emit_stmt-emit_write-requires-clause-how : goal.emit_stmt-emit_write-requires-clause-how
+emit_stmt-emit_write-requires-clause-how t c =
+    let view : stmt_of c.args.stmt.now ≡ tree.WriteExpr (expr_of c.in-WriteExpr.value) c.in-WriteExpr.how = ap stmt_of c.in-WriteExpr.is ∙ Views.writeexpr_view _ _ in
+    let built : BuiltStmt (tree.WriteExpr (expr_of c.in-WriteExpr.value) c.in-WriteExpr.how) = subst BuiltStmt view c.requires.built in
+    built.1
+
+pub emit_stmt-emit_write-requires-clause-room : goal.emit_stmt-emit_write-requires-clause-room
+emit_stmt-emit_write-requires-clause-room t c =
+    let view : stmt_of c.args.stmt.now ≡ tree.WriteExpr (expr_of c.in-WriteExpr.value) c.in-WriteExpr.how = ap stmt_of c.in-WriteExpr.is ∙ Views.writeexpr_view _ _ in
+    omega (arith, c.requires.room, ap stmt_nodes view)
+
+pub emit_stmt-returns-in-Test-clause-puts : goal.emit_stmt-returns-in-Test-clause-puts
+emit_stmt-returns-in-Test-clause-puts t c =
+    let view : stmt_of c.args.stmt.now ≡ tree.TestStmt (test_of c.in-Test.test) = ap stmt_of c.in-Test.is ∙ Views.teststmt_view _ in
+    stmt_as c.emit_test.result _ _ _ _ view (on_ok_map c.emit_test.result (λ h. record { all = h.all }) c.emit_test.ensures.puts)
+
+pub emit_stmt-returns-in-Test-clause-few : goal.emit_stmt-returns-in-Test-clause-few
+emit_stmt-returns-in-Test-clause-few t c =
+    let view : stmt_of c.args.stmt.now ≡ tree.TestStmt (test_of c.in-Test.test) = ap stmt_of c.in-Test.is ∙ Views.teststmt_view _ in
+    on_ok_map c.emit_test.result (λ h. omega (arith, h, ap stmt_nodes view)) c.emit_test.ensures.few
+
+pub emit_stmt-returns-in-Assign-clause-puts : goal.emit_stmt-returns-in-Assign-clause-puts
+emit_stmt-returns-in-Assign-clause-puts t c =
+    let view : stmt_of c.args.stmt.now ≡ tree.Assign (desig_of c.in-Assign.desig) (expr_of c.in-Assign.value) c.in-Assign.field-2 = ap stmt_of c.in-Assign.is ∙ Views.assign_view _ _ _ in
+    stmt_as c.emit_assign.result _ _ _ _ view (on_ok_map c.emit_assign.result (λ h. record { all = h.all }) c.emit_assign.ensures.puts)
+
+pub emit_stmt-returns-in-Assign-clause-few : goal.emit_stmt-returns-in-Assign-clause-few
+emit_stmt-returns-in-Assign-clause-few t c =
+    let view : stmt_of c.args.stmt.now ≡ tree.Assign (desig_of c.in-Assign.desig) (expr_of c.in-Assign.value) c.in-Assign.field-2 = ap stmt_of c.in-Assign.is ∙ Views.assign_view _ _ _ in
+    on_ok_map c.emit_assign.result (λ h. omega (arith, h, ap stmt_nodes view)) c.emit_assign.ensures.few
+
+pub emit_stmt-returns-in_ok-emit_stmts-in-If-clause-puts : goal.emit_stmt-returns-in_ok-emit_stmts-in-If-clause-puts
+emit_stmt-returns-in_ok-emit_stmts-in-If-clause-puts t c =
+    let view : stmt_of c.args.stmt.now ≡ tree.If (arms_list c.deref.result.now) (stmts_list c.deref-in-If.result.now) = ap stmt_of c.in-If.is ∙ Views.if_view _ _ ∙ ap (λ x. tree.If (arms_list x) (stmts_list c.in-If.rest.items)) (sym c.deref.ensures.value) ∙ ap (λ x. tree.If (arms_list c.deref.result.now) (stmts_list x)) (sym c.deref-in-If.ensures.value) in
+    subst (PutsStmt c.args.emit.now c.aim.new.self) (sym view) (if_put _ _ _ _ _ _ _ _ _ _ c.here-start.ensures.address c.in_ok-put-in-If.ensures.puts c.here-exit.ensures.address c.in_ok-put-in-If-2.ensures.puts c.in_ok-emit_arms-in-If.ensures.puts c.in_ok-emit_stmts-in-If.ensures.puts c.aim.ensures.code c.aim.ensures.kinds c.aim.ensures.base)
+
+pub emit_stmt-returns-in_ok-emit_stmts-in-If-clause-few : goal.emit_stmt-returns-in_ok-emit_stmts-in-If-clause-few
+emit_stmt-returns-in_ok-emit_stmts-in-If-clause-few t c =
+    let view : stmt_of c.args.stmt.now ≡ tree.If (arms_list c.in-If.arms.items) (stmts_list c.in-If.rest.items) = ap stmt_of c.in-If.is ∙ Views.if_view _ _ in
+    let is : arms_list c.deref.result.now ≡ arms_list c.in-If.arms.items = ap arms_list c.deref.ensures.value in
+    let is2 : stmts_list c.deref-in-If.result.now ≡ stmts_list c.in-If.rest.items = ap stmts_list c.deref-in-If.ensures.value in
+    omega (arith, ap stmt_nodes view, ap arms_nodes is, ap stmts_nodes is2, c.in_ok-put-in-If.ensures.few, c.in_ok-put-in-If-2.ensures.few, c.in_ok-emit_arms-in-If.ensures.few, c.in_ok-emit_stmts-in-If.ensures.few, c.aim.ensures.few)
+
+pub emit_stmt-returns-in-While-clause-puts : goal.emit_stmt-returns-in-While-clause-puts
+emit_stmt-returns-in-While-clause-puts t c =
+    let view : stmt_of c.args.stmt.now ≡ tree.While (test_of c.in-While.test) (stmts_list c.deref-in-While.result.now) = ap stmt_of c.in-While.is ∙ Views.while_view _ _ ∙ ap (λ x. tree.While (test_of c.in-While.test) (stmts_list x)) (sym c.deref-in-While.ensures.value) in
+    stmt_as c.emit_while.result _ _ _ _ view c.emit_while.ensures.puts
+
+pub emit_stmt-returns-in-While-clause-few : goal.emit_stmt-returns-in-While-clause-few
+emit_stmt-returns-in-While-clause-few t c =
+    let view : stmt_of c.args.stmt.now ≡ tree.While (test_of c.in-While.test) (stmts_list c.deref-in-While.result.now) = ap stmt_of c.in-While.is ∙ Views.while_view _ _ ∙ ap (λ x. tree.While (test_of c.in-While.test) (stmts_list x)) (sym c.deref-in-While.ensures.value) in
+    on_ok_map c.emit_while.result (λ h. omega (arith, h, ap stmt_nodes view)) c.emit_while.ensures.few
+
+pub emit_stmt-returns-in-Repeat-clause-puts : goal.emit_stmt-returns-in-Repeat-clause-puts
+emit_stmt-returns-in-Repeat-clause-puts t c =
+    let view : stmt_of c.args.stmt.now ≡ tree.Repeat (stmts_list c.deref-in-Repeat.result.now) (test_of c.in-Repeat.test) = ap stmt_of c.in-Repeat.is ∙ Views.repeat_view _ _ ∙ ap (λ x. tree.Repeat (stmts_list x) (test_of c.in-Repeat.test)) (sym c.deref-in-Repeat.ensures.value) in
+    stmt_as c.emit_repeat.result _ _ _ _ view c.emit_repeat.ensures.puts
+
+pub emit_stmt-returns-in-Repeat-clause-few : goal.emit_stmt-returns-in-Repeat-clause-few
+emit_stmt-returns-in-Repeat-clause-few t c =
+    let view : stmt_of c.args.stmt.now ≡ tree.Repeat (stmts_list c.deref-in-Repeat.result.now) (test_of c.in-Repeat.test) = ap stmt_of c.in-Repeat.is ∙ Views.repeat_view _ _ ∙ ap (λ x. tree.Repeat (stmts_list x) (test_of c.in-Repeat.test)) (sym c.deref-in-Repeat.ensures.value) in
+    on_ok_map c.emit_repeat.result (λ h. omega (arith, h, ap stmt_nodes view)) c.emit_repeat.ensures.few
+
+pub emit_stmt-returns-in-WriteExpr-clause-puts : goal.emit_stmt-returns-in-WriteExpr-clause-puts
+emit_stmt-returns-in-WriteExpr-clause-puts t c =
+    let view : stmt_of c.args.stmt.now ≡ tree.WriteExpr (expr_of c.in-WriteExpr.value) c.in-WriteExpr.how = ap stmt_of c.in-WriteExpr.is ∙ Views.writeexpr_view _ _ in
+    stmt_as c.emit_write.result _ _ _ _ view c.emit_write.ensures.puts
+
+pub emit_stmt-returns-in-WriteExpr-clause-few : goal.emit_stmt-returns-in-WriteExpr-clause-few
+emit_stmt-returns-in-WriteExpr-clause-few t c =
+    let view : stmt_of c.args.stmt.now ≡ tree.WriteExpr (expr_of c.in-WriteExpr.value) c.in-WriteExpr.how = ap stmt_of c.in-WriteExpr.is ∙ Views.writeexpr_view _ _ in
+    on_ok_map c.emit_write.result (λ h. omega (arith, h, ap stmt_nodes view)) c.emit_write.ensures.few
