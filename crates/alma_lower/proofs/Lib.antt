@@ -7,3 +7,4 @@ pub mod FrameLemmas
 pub mod Steps
 pub mod Emits
 pub mod EmitsBody
+pub mod RunLemmas

@@ -23,10 +23,12 @@ pub(crate) struct Emit {
 
 impl Emit {
     // No code yet.
+    #[tactic(auto, unfolding(crate::specs::Emitted::filled))]
     pub(crate) fn new(alloc: Global, base: u32) -> Emit
         ensures code { result.code.items ≡ [] }
         ensures kinds { result.kinds.items ≡ [] }
         ensures base { result.base ≡ base }
+        ensures empty { filled result ≡ base }
     {
         Emit {
             code: Vec::new(alloc),

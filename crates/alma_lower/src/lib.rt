@@ -3,4 +3,8 @@
 
 mod emit;
 mod emit_body;
+mod emit_tables;
 pub mod laws;
+mod lowering;
+
+pub use lowering::{LowerError, lower};
