@@ -81,6 +81,7 @@ fn compiled(alloc: Global, program: &Program) -> Result<Code, NoMemory>
 }
 
 // The instructions and slots of the body of the module.
+#[tactic(auto, unfolding(crate::specs::Emitted::filled))]
 fn emitted(alloc: Global, body: &Routine) -> Result<Emit, NoMemory>
     requires built { BuiltStmts (stmts_list body.now.body.items) }
     requires slots { body.now.slots ≤ 4194304 }
@@ -88,7 +89,9 @@ fn emitted(alloc: Global, body: &Routine) -> Result<Emit, NoMemory>
     ensures code { IfOk result (λ emit. emit.code.items ≡ body_code (routine_of body.now)) }
     ensures kinds { IfOk result (λ emit. emit.kinds.items ≡ stmts_slots (stmts_list body.now.body.items)) }
     ensures base { IfOk result (λ emit. emit.base ≡ body.now.slots) }
-    ensures few { IfOk result (λ emit. filled emit ≤ body.now.slots + 1 + 16 * stmts_nodes (stmts_list body.now.body.items)) }
+    ensures few { IfOk result (λ emit. length emit.code.items ≤ 16 + 16 * stmts_nodes (stmts_list body.now.body.items)) }
+    ensures room { IfOk result (λ emit. emit.base + length emit.kinds.items ≤ 8388608) }
+    ensures full { IfOk result (λ emit. filled emit ≤ 8388608) }
 {
     let mut emit = Emit::new(alloc, body.slots);
     emit_stmts(&mut emit, &body.body)?;
