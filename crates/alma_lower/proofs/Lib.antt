@@ -8,3 +8,4 @@ pub mod Steps
 pub mod Emits
 pub mod EmitsBody
 pub mod RunLemmas
+pub mod Sizes
