@@ -9,3 +9,4 @@ pub mod Emits
 pub mod EmitsBody
 pub mod RunLemmas
 pub mod Sizes
+pub mod Examples
