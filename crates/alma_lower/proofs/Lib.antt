@@ -17,3 +17,5 @@ pub mod Sizes
 pub mod Steps
 pub mod StmtRows
 pub mod StmtRuns
+pub mod Forms
+pub mod Sound
