@@ -10,3 +10,4 @@ pub mod EmitsBody
 pub mod RunLemmas
 pub mod Sizes
 pub mod Examples
+pub mod ExampleViews

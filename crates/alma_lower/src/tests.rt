@@ -1,7 +1,7 @@
 // Two programs built by hand, and their code.
 ghost use Rattle.std.specs.Prelude.{◌≡◌, [], ◌∷◌, None, IfOk};
 ghost use Rattle.alma_ir.specs.declared.phrase.Root.TheVariants as root;
-ghost use Rattle.alma_ir.specs.View.{program_of, desig_of, expr_of, stmts_list};
+ghost use Rattle.alma_ir.specs.View.{program_of, desig_of, expr_of, test_of, stmts_list};
 ghost use Rattle.alma_ir.specs.Tree as tree;
 ghost use Rattle.alma_ir.specs.Checked.{IsChecked};
 ghost use Rattle.alma_lower.specs.Built.{IsBuilt};
@@ -52,22 +52,47 @@ fn module_of(alloc: Global, body: Vec<Stmt>) -> Result<Program, NoMemory>
     })
 }
 
+// A comparison as a condition.
+#[tactic(auto, using(alma_ir::proofs::Views::value_view, alma_ir::proofs::Views::compare_view))]
+fn compared(alloc: Global, cmp: Cmp, left: Expr, right: Expr) -> Result<Test, NoMemory>
+    ensures { IfOk result (λ test. test_of test ≡ tree.Value (tree.Compare cmp (expr_of left) (expr_of right))) }
+{
+    let left = Box::new(alloc, left)?;
+    let right = Box::new(alloc, right)?;
+    Ok(Test::Value(Expr::Compare(cmp, left, right)))
+}
+
+// WRITE of an expression, alone.
+#[tactic(auto, using(alma_ir::proofs::Views::writeexpr_view))]
+fn written(alloc: Global, value: Expr, how: WriteAs) -> Result<Vec<Stmt>, NoMemory>
+    ensures { IfOk result (λ body. stmts_list body.items ≡ tree.more_stmts (tree.WriteExpr (expr_of value) how) tree.no_stmts) }
+{
+    let mut body = Vec::new(alloc);
+    body.push(Stmt::WriteExpr(value, how))?;
+    Ok(body)
+}
+
+// A number.
+#[tactic(auto, using(alma_ir::proofs::Views::const_view))]
+fn number(value: i64) -> Expr
+    ensures { expr_of result ≡ tree.Const value }
+{
+    Expr::Const(value)
+}
+
 // x := 3; WHILE x > 0 DO WRITE(x) END
 fn loop_program(alloc: Global) -> Result<Program, NoMemory>
     ensures built { IfOk result (λ p. IsBuilt (program_of p)) }
     ensures checked { IfOk result (λ p. IsChecked (program_of p)) }
 {
-    let mut inside = Vec::new(alloc);
-    inside.push(Stmt::WriteExpr(load(alloc), WriteAs::Int))?;
-    let left = Box::new(alloc, load(alloc))?;
-    let right = Box::new(alloc, Expr::Const(0))?;
-    let test = Test::Value(Expr::Compare(Cmp::Greater, left, right));
+    let inside = written(alloc, load(alloc), WriteAs::Int)?;
+    let test = compared(alloc, Cmp::Greater, load(alloc), number(0))?;
     let all = Range {
         low: i64::MIN,
         high: i64::MAX,
     };
     let mut body = Vec::new(alloc);
-    body.push(Stmt::Assign(variable(alloc), Expr::Const(3), all))?;
+    body.push(Stmt::Assign(variable(alloc), number(3), all))?;
     body.push(Stmt::While(test, inside))?;
     module_of(alloc, body)
 }
@@ -77,20 +102,14 @@ fn if_program(alloc: Global) -> Result<Program, NoMemory>
     ensures built { IfOk result (λ p. IsBuilt (program_of p)) }
     ensures checked { IfOk result (λ p. IsChecked (program_of p)) }
 {
-    let mut first = Vec::new(alloc);
-    first.push(Stmt::WriteExpr(load(alloc), WriteAs::Int))?;
-    let mut second = Vec::new(alloc);
-    second.push(Stmt::WriteExpr(Expr::Const(1), WriteAs::Bool))?;
-    let left = Box::new(alloc, load(alloc))?;
-    let right = Box::new(alloc, Expr::Const(1))?;
     let mut arms = Vec::new(alloc);
     arms.push(Arm {
-        cond: Test::Value(Expr::Compare(Cmp::Equal, left, right)),
-        body: first,
+        cond: compared(alloc, Cmp::Equal, load(alloc), number(1))?,
+        body: written(alloc, load(alloc), WriteAs::Int)?,
     })?;
     arms.push(Arm {
         cond: Test::Value(load(alloc)),
-        body: second,
+        body: written(alloc, number(1), WriteAs::Bool)?,
     })?;
     let mut body = Vec::new(alloc);
     body.push(Stmt::If(arms, Vec::new(alloc)))?;
