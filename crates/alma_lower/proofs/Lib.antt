@@ -11,3 +11,4 @@ pub mod RunLemmas
 pub mod Sizes
 pub mod Examples
 pub mod ExampleViews
+pub mod SoundInstrs
