@@ -1,5 +1,5 @@
 -- What an emitter has appended, one phrase after another.
-use Rattle.std.proofs.Common.{◌≡◌, ℕ, ◌+◌, ◌<◌, ◌≤◌, List, [], ◌∷◌, ◌++◌, length, drop, get_or, refl, sym, ap, ◌∙◌, arith, append_assoc, length-append, drop-cons, add-one, add-zero, subst}
+use Rattle.std.proofs.Common.{◌≡◌, ℕ, ◌+◌, ◌<◌, List, [], ◌∷◌, ◌++◌, length, drop, get_or, refl, sym, ap, ◌∙◌, arith, append_assoc, length-append, drop-cons, add-one, add-zero, subst}
 use Rattle.std.specs.Prelude.{Bool, suc, Result, Ok, Err, OnOk}
 use Rattle.std.proofs.lemmas.List.{append-nil}
 use Rattle.alma_code.specs.declared.cell.SlotKind.{SlotKind}
@@ -8,8 +8,8 @@ use Rattle.alma_ir.specs.Tree.{Expr, Links, more_links, no_links, Chain, Compare
 use Rattle.alma_ir.specs.declared.phrase.Cmp.{Cmp}
 use Rattle.alma_ir.specs.declared.phrase.Op.{Op}
 use Rattle.alma_lower.specs.declared.emit.Emit.{Emit}
-use Rattle.alma_lower.specs.Templates.{expr_code, expr_slots, links_code, links_slots, op_code, cmp_code, neg_code}
-use Rattle.alma_lower.specs.Emitted.{next_slot, filled, Appends, Puts, PutsExpr, PutsLinks}
+use Rattle.alma_lower.specs.Templates.{expr_code, expr_slots, links_code, op_code, cmp_code, neg_code}
+use Rattle.alma_lower.specs.Emitted.{next_slot, Appends, Puts, PutsExpr, PutsLinks}
 
 -- a clause on success that follows from another
 pub on_ok_map : {T E : Type 0} {P Q : Type 0} (r : Result T E) → (P → Q) → OnOk r P → OnOk r Q
@@ -29,10 +29,10 @@ append_then a b c f g k l h j =
     let slot : next_slot b ≡ lo + length k = omega (arith, h.base, ap length h.kinds, length-append a.kinds.items k) in
     record {
       instrs = j.instrs
-        ∙ ap (λ y. y ++ g (length b.code.items) (next_slot b)) h.instrs
-        ∙ ap (λ n. (a.code.items ++ f at lo) ++ g n (next_slot b)) len
-        ∙ ap (λ n. (a.code.items ++ f at lo) ++ g (at + length (f at lo)) n) slot
-        ∙ append_assoc a.code.items (f at lo) (g (at + length (f at lo)) (lo + length k));
+          ∙ ap (λ y. y ++ g (length b.code.items) (next_slot b)) h.instrs
+          ∙ ap (λ n. (a.code.items ++ f at lo) ++ g n (next_slot b)) len
+          ∙ ap (λ n. (a.code.items ++ f at lo) ++ g (at + length (f at lo)) n) slot
+          ∙ append_assoc a.code.items (f at lo) (g (at + length (f at lo)) (lo + length k));
       kinds = j.kinds ∙ ap (λ y. y ++ l) h.kinds ∙ append_assoc a.kinds.items k l;
       base = j.base ∙ h.base;
     }

@@ -1,5 +1,5 @@
 -- What an emitter has appended for tests and statements: the jumps that are aimed late, and the lists.
-use Rattle.std.proofs.Common.{◌≡◌, ℕ, ◌+◌, ◌<◌, ◌≤◌, List, [], ◌∷◌, ◌++◌, length, refl, sym, ap, ◌∙◌, arith, append_assoc, length-append, subst}
+use Rattle.std.proofs.Common.{◌≡◌, ℕ, ◌+◌, ◌≤◌, List, [], ◌∷◌, ◌++◌, length, sym, ap, ◌∙◌, arith, append_assoc, length-append, subst}
 use Rattle.std.specs.Prelude.{Result, OnOk}
 use Rattle.std.proofs.lemmas.List.{append-nil}
 use Rattle.alma_code.specs.declared.cell.SlotKind.{SlotKind}
@@ -7,7 +7,7 @@ use Rattle.alma_code.specs.declared.instr.Instr.{Instr}
 use Rattle.alma_code.specs.declared.instr.Instr.TheVariants as I
 use Rattle.alma_ir.specs.Tree.{Stmts, Stmt, Arms, Test, If, no_stmts, more_stmts, no_arms, more_arms}
 use Rattle.alma_lower.specs.declared.emit.Emit.{Emit}
-use Rattle.alma_lower.specs.Templates.{condition_code, test_slots, guarded_code, stmts_code, stmts_slots, stmt_code, stmt_slots, arms_code, arms_slots}
+use Rattle.alma_lower.specs.Templates.{condition_code, test_slots, guarded_code, stmts_code, stmts_slots, arms_code, arms_slots}
 use Rattle.alma_lower.specs.Emitted.{next_slot, aimed, Appends, Puts, PutsGuarded, PutsStmts, PutsStmt, PutsArms}
 use Rattle.alma_lower.proofs.Emits.{on_ok_map, nothing, append_then, append_as, slot_after, address_after}
 
@@ -51,7 +51,7 @@ guarded_put a b c d e t body back jump h1 at h2 h3 aim kinds base =
     let front = a.code.items ++ cond in
     let tail = done ++ I.Jump back ∷ [] in
     let all : d.code.items ≡ ((a.code.items ++ (cond ++ I.JumpZero lo 0 ∷ [])) ++ done) ++ I.Jump back ∷ [] =
-      h3.all.instrs ∙ ap (λ y. y ++ I.Jump back ∷ []) (h2.all.instrs ∙ ap (λ y. b.code.items ++ y) is ∙ ap (λ y. y ++ done) h1.instrs) in
+    h3.all.instrs ∙ ap (λ y. y ++ I.Jump back ∷ []) (h2.all.instrs ∙ ap (λ y. b.code.items ++ y) is ∙ ap (λ y. y ++ done) h1.instrs) in
     let flat : ((a.code.items ++ (cond ++ I.JumpZero lo 0 ∷ [])) ++ done) ++ I.Jump back ∷ [] ≡ front ++ I.JumpZero lo 0 ∷ tail = simp append_assoc in
     let place : length front ≡ jump = omega (arith, length-append a.code.items cond, at, len) in
     let ends : length d.code.items ≡ n + length done + 1 = omega (arith, address_after c d _ _ h3.all, address_after b c _ _ h2.all, len, ap length is) in
@@ -93,12 +93,12 @@ if_put a b c d e f arms rest start exit is h1 out h2 h3 h4 aim kinds base =
     let parts = append_then c d e _ _ _ _ h3.all h4.all in
     let code : ℕ → ℕ → ℕ → List Instr = λ x y z. arms_code x y z arms ++ stmts_code (x + length (arms_code x y z arms)) (y + length (arms_slots arms)) rest in
     let mine : code (length c.code.items) (next_slot c) exit ≡ code (at + 2) lo (at + 1) =
-      ap (λ x. code x (next_slot c) exit) c1 ∙ ap (λ y. code (at + 2) y exit) slot ∙ ap (code (at + 2) lo) (out ∙ b1) in
+    ap (λ x. code x (next_slot c) exit) c1 ∙ ap (λ y. code (at + 2) y exit) slot ∙ ap (code (at + 2) lo) (out ∙ b1) in
     let done = code (at + 2) lo (at + 1) in
     let front = a.code.items ++ I.Jump (at + 2) ∷ [] in
     let first : b.code.items ≡ front = h1.all.instrs ∙ ap (λ x. a.code.items ++ I.Jump (x + 2) ∷ []) is in
     let all : e.code.items ≡ (front ++ I.Jump 0 ∷ []) ++ done =
-      parts.instrs ∙ ap (λ y. c.code.items ++ y) mine ∙ ap (λ y. y ++ done) (h2.all.instrs ∙ ap (λ y. y ++ I.Jump 0 ∷ []) first) in
+    parts.instrs ∙ ap (λ y. c.code.items ++ y) mine ∙ ap (λ y. y ++ done) (h2.all.instrs ∙ ap (λ y. y ++ I.Jump 0 ∷ []) first) in
     let place : length front ≡ exit = omega (arith, length-append a.code.items (I.Jump (at + 2) ∷ []), out, b1) in
     let ends : length e.code.items ≡ at + 2 + length done = omega (arith, address_after c e _ _ parts, c1, ap length mine) in
     record {

@@ -1,10 +1,10 @@
 -- The programs of the tests are built and checked.
-use Rattle.std.proofs.Common.{rules, ◌≡◌, ℕ, zero, suc, ◌+◌, ◌<◌, ◌≤◌, List, [], ◌∷◌, refl, arith}
-use Rattle.std.specs.Prelude.{None, pos, false, sum_by}
+use Rattle.std.proofs.Common.{rules, ◌≡◌, ℕ, zero, suc, [], ◌∷◌, refl, arith}
+use Rattle.std.specs.Prelude.{None, pos, sum_by}
 use Rattle.alma_ir.specs.declared.phrase.Cmp.TheVariants as cmp
 use Rattle.alma_ir.specs.declared.phrase.Root.TheVariants as root
 use Rattle.alma_ir.specs.declared.phrase.WriteAs.TheVariants as write_as
-use Rattle.alma_ir.specs.Tree.{Routine, Program, routine_at, Stmts, Desig, Expr, no_stmts, more_stmts, Assign, If, While, WriteExpr, no_arms, more_arms, Value, Const, Load, Compare, a_desig, no_sels}
+use Rattle.alma_ir.specs.Tree.{Routine, Program, routine_at, Stmts, Desig, no_stmts, more_stmts, Assign, If, While, WriteExpr, no_arms, more_arms, Value, Const, Load, Compare, a_desig, no_sels}
 use Rattle.std.specs.List.{AllByRecursion}
 use Rattle.alma_ir.specs.Checked.{EachRoutine, EachPhrase, IsChecked, ParamsFirst, DeclaredFits, HeadRangesOrdered, RoutineKeepsLimits, AreNumbers, RootExists, PartsExist, CellsAgree, RangesOrdered, HasStep, LoopIsApart, loops_of, CalleeExists, ResultAgrees, CallFits, HasChoice, ReturnAgrees, ReturnsStay, text_bytes}
 use Rattle.alma_ir.specs.Phrases.{Phrase, stmts_phrases}
@@ -27,6 +27,18 @@ loop_body =
     more_stmts (Assign variable (Const (pos 3)) whole_range)
     (more_stmts (While (Value (Compare cmp.Greater (Load variable) (Const (pos 0)))) (more_stmts (WriteExpr (Load variable) write_as.Int) no_stmts))
     no_stmts)
+
+-- IF x = 1 THEN WRITE(x) ELSIF x THEN WRITE(1 as a truth) END
+abbrev pub if_body : Stmts
+if_body =
+    more_stmts (If
+    (more_arms (Value (Compare cmp.Equal (Load variable) (Const (pos 1)))) (more_stmts (WriteExpr (Load variable) write_as.Int) no_stmts)
+    (more_arms (Value (Load variable)) (more_stmts (WriteExpr (Const (pos 1)) write_as.Bool) no_stmts) no_arms))
+    no_stmts)
+    no_stmts
+
+pub if_built : IsBuilt (module_of if_body)
+if_built = record { routine = record { name = 65 ∷ []; params = []; result = None; declared = 1; slots = 2; body = if_body }; alone = refl; body = search rules }
 
 pub loop_built : IsBuilt (module_of loop_body)
 loop_built = record { routine = record { name = 65 ∷ []; params = []; result = None; declared = 1; slots = 2; body = loop_body }; alone = refl; body = search rules }
@@ -104,3 +116,24 @@ loop_plain = record {
 
 pub loop_checked : IsChecked (module_of loop_body)
 loop_checked = plain_checked loop_body loop_plain
+
+if_plain : IsPlain if_body
+unfolding stmts_phrases
+if_plain = record {
+  roots = search (rules, numbers);
+  parts = search rules;
+  cells = search rules;
+  ranges = search rules;
+  steps = search rules;
+  loops = search rules;
+  callees = search rules;
+  results = search rules;
+  arguments = search rules;
+  choices = search rules;
+  returns = search rules;
+  returns_stay = search rules;
+  texts = refl;
+}
+
+pub if_checked : IsChecked (module_of if_body)
+if_checked = plain_checked if_body if_plain

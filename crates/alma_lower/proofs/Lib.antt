@@ -2,10 +2,12 @@ pub mod Correct
 pub mod Emits
 pub mod EmitsBody
 pub mod Enough
+pub mod ExampleViews
 pub mod Examples
 pub mod ExprRows
 pub mod ExprRuns
 pub mod Follows
+pub mod Forms
 pub mod FrameLemmas
 pub mod Frames
 pub mod Goes
@@ -14,8 +16,8 @@ pub mod OperatorRows
 pub mod RunLemmas
 pub mod Simple
 pub mod Sizes
+pub mod Sound
+pub mod SoundInstrs
 pub mod Steps
 pub mod StmtRows
 pub mod StmtRuns
-pub mod Forms
-pub mod Sound

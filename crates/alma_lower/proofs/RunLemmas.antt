@@ -1,5 +1,5 @@
 -- Runs of kinds of slots, of which the last is still latest.
-use Rattle.std.proofs.Common.{◌≡◌, ℕ, ◌+◌, ◌-◌, ◌<◌, ◌≤◌, List, [], ◌∷◌, ◌++◌, length, refl, sym, ap, ◌∙◌, arith, append_assoc, length-append, subst, take, get_or, add-one}
+use Rattle.std.proofs.Common.{◌≡◌, ℕ, ◌+◌, ◌-◌, ◌<◌, List, [], ◌∷◌, ◌++◌, length, refl, sym, ap, ◌∙◌, arith, append_assoc, length-append, subst, take, get_or, add-one}
 use Rattle.std.proofs.Math.Nat.{sub-zero}
 use Rattle.std.proofs.Math.Seq.{take-suc}
 use Rattle.std.specs.Prelude.{replicate}
@@ -61,14 +61,14 @@ opens_same runs latest kinds x h is =
     let last = last_end 0 runs in
     let one : latest.end + 1 - last ≡ latest.end - last + 1 = omega (arith, h.more) in
     let grown : replicate (latest.end + 1 - last) latest.kind ≡ replicate (latest.end - last) latest.kind ++ latest.kind ∷ [] =
-      ap (λ n. replicate n latest.kind) one ∙ sym (replicate_more (latest.end - last) latest.kind) in
+    ap (λ n. replicate n latest.kind) one ∙ sym (replicate_more (latest.end - last) latest.kind) in
     record {
       rise = h.rise;
       more = omega (arith, h.more);
       names = ap (λ y. kinds_of 0 runs ++ y) grown
-        ∙ sym (append_assoc (kinds_of 0 runs) (replicate (latest.end - last) latest.kind) (latest.kind ∷ []))
-        ∙ ap (λ y. y ++ latest.kind ∷ []) h.names
-        ∙ ap (λ k. kinds ++ k ∷ []) (sym is);
+          ∙ sym (append_assoc (kinds_of 0 runs) (replicate (latest.end - last) latest.kind) (latest.kind ∷ []))
+          ∙ ap (λ y. y ++ latest.kind ∷ []) h.names
+          ∙ ap (λ k. kinds ++ k ∷ []) (sym is);
       differ = differ_same runs latest (record { kind = latest.kind; end = latest.end + 1 }) h.differ refl;
       ends = omega (arith, h.ends, length-append kinds (x ∷ []));
       few = omega (arith, h.few);
@@ -83,7 +83,7 @@ opens_other runs latest kinds x h other =
       rise = subst (RunsRise 0 (runs ++ latest ∷ [])) (sym last) (rise_snoc 0 (last_end 0 runs) runs latest h.rise h.more);
       more = omega (arith, last);
       names = ap (λ n. kinds_of 0 (runs ++ latest ∷ []) ++ replicate n x) one
-        ∙ ap (λ y. y ++ x ∷ []) (kinds_snoc 0 runs latest ∙ h.names);
+          ∙ ap (λ y. y ++ x ∷ []) (kinds_snoc 0 runs latest ∙ h.names);
       differ = differ_snoc runs latest (record { kind = x; end = latest.end + 1 }) h.differ (λ e. other (sym e));
       ends = omega (arith, h.ends, length-append kinds (x ∷ []));
       few = omega (arith, h.few, length-append runs (latest ∷ []));

@@ -1,7 +1,6 @@
 -- The code and the slots of a phrase are at most 16 for each of its nodes.
 use Rattle.std.proofs.Common.{◌≡◌, ℕ, ◌+◌, ◌*◌, ◌≤◌, List, [], ◌∷◌, ◌++◌, length, arith, length-append}
 use Rattle.std.specs.Prelude.{Bool, true, false}
-use Rattle.std.proofs.lemmas.List.{length-replicate}
 use Rattle.alma_code.specs.declared.instr.Instr.{Instr}
 use Rattle.alma_code.specs.declared.instr.Instr.TheVariants as I
 use Rattle.alma_ir.specs.declared.phrase.Cmp.{Cmp}

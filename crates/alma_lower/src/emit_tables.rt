@@ -18,11 +18,7 @@ fn is_same(kind: SlotKind, other: SlotKind) -> bool
 }
 
 // The runs of so many slots for numbers and then slots of these kinds, each run as long as it can be.
-pub(crate) fn runs_of(
-    alloc: Global,
-    numbers: u32,
-    kinds: &[SlotKind],
-) -> Result<Vec<Run>, NoMemory>
+pub(crate) fn runs_of(alloc: Global, numbers: u32, kinds: &[SlotKind]) -> Result<Vec<Run>, NoMemory>
     requires some { 0 < numbers }
     requires room { numbers + length kinds.now ≤ 8388608 }
     ensures names { IfOk result (λ runs. NamesKinds runs.items (replicate numbers slot.Number ++ kinds.now)) }

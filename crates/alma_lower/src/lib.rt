@@ -6,5 +6,7 @@ mod emit_body;
 mod emit_tables;
 pub mod laws;
 mod lowering;
+#[cfg(test)]
+mod tests;
 
 pub use lowering::{LowerError, lower};

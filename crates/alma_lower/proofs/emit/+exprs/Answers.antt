@@ -1,13 +1,12 @@
-use Rattle.std.proofs.Common.{rules, ◌≡◌, ◌+◌, ◌*◌, ◌≤◌, [], ◌∷◌, drop, length, refl, sym, ap, ◌∙◌, subst, arith}
+use Rattle.std.proofs.Common.{rules, ◌≡◌, [], drop, sym, ap, ◌∙◌, subst, arith}
 use Rattle.alma_ir.specs.declared.phrase.Arg.TheFolds.{the_lemmas}
 use Rattle.alma_ir.specs.Tree as tree
 use Rattle.alma_ir.specs.View.{desig_of, expr_of, links_list}
-use Rattle.alma_ir.specs.Count.{desig_nodes, expr_nodes, links_nodes}
+use Rattle.alma_ir.specs.Count.{expr_nodes, links_nodes}
 use Rattle.alma_ir.proofs.Views
 use Rattle.std.proofs.Math.ListN.{drop_of_length-le}
-use Rattle.alma_lower.specs.Built.{BuiltDesig, BuiltExpr, BuiltLinks}
-use Rattle.alma_lower.specs.Emitted.{filled, Puts, PutsExpr, PutsLinks}
-use Rattle.alma_lower.specs.Templates.{op_code}
+use Rattle.alma_lower.specs.Built.{BuiltExpr, BuiltLinks}
+use Rattle.alma_lower.specs.Emitted.{Puts, PutsLinks}
 use Rattle.alma_lower.proofs.Emits.{on_ok_map, expr_as, drop_one, links_put, no_links_put, chain_put, compare_put}
 use Rattle.alma_lower.proofs.emit.+exprs.Goals as goal
 

@@ -1,14 +1,14 @@
-use Rattle.std.proofs.Common.{rules, ◌≡◌, ◌+◌, ◌*◌, ◌≤◌, [], ◌∷◌, drop, length, sym, ap, ◌∙◌, subst, arith}
+use Rattle.std.proofs.Common.{rules, ◌≡◌, [], drop, sym, ap, ◌∙◌, subst, arith}
 use Rattle.std.proofs.Math.ListN.{drop_of_length-le}
 use Rattle.alma_ir.specs.declared.phrase.Arg.TheFolds.{the_lemmas}
 use Rattle.alma_ir.specs.Tree as tree
 use Rattle.alma_ir.specs.View.{desig_of, expr_of, test_of, stmt_of, stmts_list, arms_list}
-use Rattle.alma_ir.specs.Count.{stmt_nodes, stmts_nodes, test_nodes, arms_nodes}
+use Rattle.alma_ir.specs.Count.{stmt_nodes, stmts_nodes, arms_nodes}
 use Rattle.alma_ir.proofs.Views
 use Rattle.alma_lower.specs.Built.{BuiltStmts, BuiltStmt, BuiltArms}
 use Rattle.alma_lower.specs.Emitted.{PutsStmts, PutsStmt, PutsArms, PutsGuarded}
 use Rattle.alma_lower.proofs.Emits.{on_ok_map, drop_one}
-use Rattle.alma_lower.proofs.EmitsBody.{stmt_as, longer, no_stmts_put, stmts_put, no_arms_put, arms_put, guarded_put, if_put}
+use Rattle.alma_lower.proofs.EmitsBody.{stmt_as, no_stmts_put, stmts_put, no_arms_put, arms_put, guarded_put, if_put}
 use Rattle.alma_lower.proofs.emit_body.+body.Goals as goal
 
 pub emit_arms-loop-arm-preserved : goal.emit_arms-loop-arm-preserved

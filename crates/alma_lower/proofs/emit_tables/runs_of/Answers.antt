@@ -1,4 +1,4 @@
-use Rattle.std.proofs.Common.{rules, ◌≡◌, ◌++◌, ◌∷◌, [], ◌+◌, take, length, sym, ap, ◌∙◌, subst, arith, get_or}
+use Rattle.std.proofs.Common.{◌≡◌, ◌++◌, take, length, sym, ap, ◌∙◌, subst, arith, get_or}
 use Rattle.std.specs.Prelude.{replicate}
 use Rattle.std.proofs.Math.Seq.{take-length}
 use Rattle.alma_code.specs.declared.cell.SlotKind.TheVariants as slot
@@ -22,10 +22,10 @@ loop-kind-preserved c =
     let before = replicate c.args.numbers slot.Number in
     let more = front_one before c.args.kinds.now l.kind-index slot.Number c.loop-kind-test.true in
     elim c.if-is_same.branch [
-      then-is_same w ↦
-        moved _ _ _ _ _ _ (ap (λ (v : Vec Run Global). v.items) w.runs-is) w.latest-is more (opens_same l.runs.items l.latest _ x l.invariant (c.is_same.ensures.same w.if-is_same.true))
-    | else-is_same+in_ok-push w ↦
-        moved _ _ _ _ _ _ (ap (λ (v : Vec Run Global). v.items) w.runs-is ∙ w.in_ok-push.ensures.items) w.latest-is more (opens_other l.runs.items l.latest _ x l.invariant (c.is_same.ensures.different w.if-is_same.false))
+      | then-is_same w ↦
+          moved _ _ _ _ _ _ (ap (λ (v : Vec Run Global). v.items) w.runs-is) w.latest-is more (opens_same l.runs.items l.latest _ x l.invariant (c.is_same.ensures.same w.if-is_same.true))
+      | else-is_same+in_ok-push w ↦
+          moved _ _ _ _ _ _ (ap (λ (v : Vec Run Global). v.items) w.runs-is ∙ w.in_ok-push.ensures.items) w.latest-is more (opens_other l.runs.items l.latest _ x l.invariant (c.is_same.ensures.different w.if-is_same.false))
     ]
 
 pub returns-clause-names : goal.returns-clause-names
