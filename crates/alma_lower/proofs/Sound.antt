@@ -309,7 +309,7 @@ or_true true = refl
 or_true false = refl
 
 -- an element of a list has what each has
-each_at : {X : Type 0} (P : X → Type 0) (xs : List X) (i : ℕ) (d : X) → AllByRecursion P xs → i < length xs → P (get_or xs i d)
+pub each_at : {X : Type 0} (P : X → Type 0) (xs : List X) (i : ℕ) (d : X) → AllByRecursion P xs → i < length xs → P (get_or xs i d)
 each_at P [] i d h lt = absurd (omega (arith, lt))
 each_at P (x ∷ xs) zero d h lt = h.0
 each_at P (x ∷ xs) (suc i) d h lt = each_at P xs i d h.1 (omega (arith, lt))
