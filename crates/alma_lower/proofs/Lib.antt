@@ -17,7 +17,6 @@ pub mod RunLemmas
 pub mod Simple
 pub mod Sizes
 pub mod Sound
-pub mod SoundInstrs
 pub mod Steps
 pub mod StmtRows
 pub mod StmtRuns
