@@ -1,5 +1,5 @@
 -- What each instruction of compiled code keeps, and that no rule of a sound code is broken by one that keeps it.
-use Rattle.std.proofs.Common.{◌≡◌, ℕ, suc, ◌+◌, ◌<◌, ℤ, List, [], ◌∷◌, length, refl, ap, ◌∙◌, arith, Some, None}
+use Rattle.std.proofs.Common.{◌≡◌, ℕ, ◌+◌, ◌<◌, ℤ, length, refl, ap, ◌∙◌, arith, Some, None}
 use Rattle.std.specs.Prelude.{Bool, true, false, not, ◌&&◌, Option}
 use Rattle.std.specs.List.{list_all, slice_get}
 use Rattle.std.proofs.lemmas.Bool.{lt-ltb, le-leb, eq-eqb}
@@ -8,13 +8,12 @@ use Rattle.alma_code.specs.declared.cell.SlotKind.{SlotKind}
 use Rattle.alma_code.specs.declared.cell.SlotKind.TheVariants as slot
 use Rattle.alma_code.specs.declared.instr.Instr.{Instr}
 use Rattle.alma_code.specs.declared.instr.Instr.TheVariants as I
-use Rattle.alma_code.specs.declared.instr.Word.{Word}
 use Rattle.alma_code.specs.declared.instr.Word.TheVariants as W
 use Rattle.alma_code.specs.declared.step.VerifyFault.{VerifyFault}
-use Rattle.alma_code.specs.Kinds.{is_number, is_place, numbers_from}
-use Rattle.alma_code.specs.Plain.{PlainCode, head_at, start_at, end_at, kinds_at}
+use Rattle.alma_code.specs.Kinds.{is_number, is_place}
+use Rattle.alma_code.specs.Plain.{PlainCode, head_at, end_at, kinds_at}
 use Rattle.alma_code.specs.Words.{words, four}
-use Rattle.alma_code.specs.Rules.{unless, instr_fault, rule_4, rule_5, rule_6, rule_7, rule_8, rule_9, rule_10, rule_11, rule_12, names_slot, names_address, is_slot, is_free, is_address, kind_in, length_in, place_length, cells_in, ends_routine}
+use Rattle.alma_code.specs.Rules.{unless, instr_fault, rule_4, rule_5, rule_6, rule_7, rule_8, rule_9, rule_10, rule_11, rule_12, names_slot, names_address, is_slot, length_in, place_length, cells_in}
 
 -- both of two tests pass
 pub two_true : {a b : Bool} → a ≡ true → b ≡ true → (a && b) ≡ true

@@ -1,6 +1,6 @@
 -- Code by template is sound: each instruction keeps its form, by induction over the phrases.
-use Rattle.std.proofs.Common.{◌≡◌, ℕ, zero, suc, ◌+◌, ◌-◌, ◌*◌, ◌≤◌, ◌<◌, ◌⊎◌, inl, inr, List, [], ◌∷◌, ◌++◌, length, get_or, replicate, refl, sym, ap, ◌∙◌, subst, arith, length-append, Some, None}
-use Rattle.std.specs.Prelude.{Bool, true, false, not, map, ◌&&◌, ◌||◌, nat_lt, nat_eq}
+use Rattle.std.proofs.Common.{◌≡◌, ℕ, zero, suc, ◌+◌, ◌*◌, ◌≤◌, ◌<◌, ◌⊎◌, inl, inr, List, [], ◌∷◌, ◌++◌, length, get_or, replicate, refl, sym, ap, ◌∙◌, subst, arith, length-append, Some, None}
+use Rattle.std.specs.Prelude.{Bool, true, false, not, map, ◌||◌, nat_lt, nat_eq}
 use Rattle.std.specs.List.{AllByRecursion, slice_get, list_all}
 use Rattle.std.proofs.lemmas.Bool.{lt-ltb, le-leb, eq-eqb, cases_lt}
 use Rattle.std.proofs.lemmas.List.{length-replicate}
@@ -11,7 +11,7 @@ use Rattle.alma_code.specs.declared.instr.Instr.{Instr}
 use Rattle.alma_code.specs.declared.instr.Instr.TheVariants as I
 use Rattle.alma_code.specs.Kinds.{is_number, numbers_from}
 use Rattle.alma_code.specs.Layout.{RunsRise, hold_params}
-use Rattle.alma_code.specs.Plain.{PlainCode, PlainGlobal, kinds_at, head_at, start_at, end_at}
+use Rattle.alma_code.specs.Plain.{PlainCode, kinds_at, head_at, start_at, end_at}
 use Rattle.alma_code.specs.Rules.{last_end, is_global, cells_in, ends_routine, instr_fault, rule_1, rule_2, rule_3, rule_11, IsTable, IsSound}
 use Rattle.alma_ir.specs.declared.phrase.Op.{Op}
 use Rattle.alma_ir.specs.declared.phrase.Op.TheVariants as op
@@ -24,9 +24,9 @@ use Rattle.alma_ir.specs.Tree.{Stmts, Stmt, Arms, Test, Expr, Links, Desig, Rout
 use Rattle.alma_ir.specs.Phrases.{Phrase, stmts_phrases, stmt_phrases, arms_phrases, test_phrases, expr_phrases, links_phrases, desig_phrases}
 use Rattle.alma_ir.specs.Checked.{IsChecked, IsGlobal, RootExists}
 use Rattle.alma_ir.specs.Count.{nodes, routines_nodes, stmts_nodes}
-use Rattle.alma_ir.proofs.Each.{each_of_front, each_of_back, each_of_append, each_follows}
+use Rattle.alma_ir.proofs.Each.{each_of_front, each_of_back, each_of_append}
 use Rattle.alma_lower.specs.Built.{IsBuilt, BuiltDesig, BuiltExpr, BuiltLinks, BuiltTest, BuiltWrite, BuiltStmts, BuiltStmt, BuiltArms}
-use Rattle.alma_lower.specs.Templates.{desig_code, desig_slots, op_code, cmp_code, neg_code, expr_slots, links_slots, expr_code, links_code, test_slots, test_code, condition_code, write_code, stmts_slots, stmt_slots, arms_slots, guarded_code, stmts_code, stmt_code, arms_code, body_kinds, body_code, global_named, program_code, IsCodeOf}
+use Rattle.alma_lower.specs.Templates.{desig_code, desig_slots, op_code, cmp_code, neg_code, expr_slots, links_slots, expr_code, links_code, test_slots, test_code, condition_code, write_code, stmts_slots, stmt_slots, arms_slots, guarded_code, stmts_code, stmt_code, arms_code, body_kinds, body_code, global_named, IsCodeOf}
 use Rattle.alma_lower.proofs.Frames.{HasSlots}
 use Rattle.alma_lower.proofs.ExprRows.{first_kind, slots_first, slots_behind}
 use Rattle.alma_lower.proofs.Sizes.{stmts_few}
@@ -73,7 +73,7 @@ module _ (p : Program) (code : PlainCode) (top : ℕ) where
     unfolding stmts_phrases
     keep_desig to (a_desig (root.Local from) cells no_sels) built roots h = (
       local (place_slot to (a_desig (root.Local from) cells no_sels) built h)
-      (record { kind = numbers from (omega (arith, built, roots.0.0.exist)); free = roots.0.1 refl }),
+          (record { kind = numbers from (omega (arith, built, roots.0.0.exist)); free = roots.0.1 refl }),
       tt,
     )
     keep_desig to (a_desig (root.Local from) cells (more_sels x rest)) built roots h = absurd built
@@ -146,9 +146,10 @@ module _ (p : Program) (code : PlainCode) (top : ℕ) where
           let after = next + length (expr_slots e) in
           let first = front next (expr_slots e) (links_slots rest) h in
           both (expr_code next e) (op_code o to next ∷ links_code to after rest)
-          (keep_expr next e built.0 (each_of_front _ (expr_phrases e) (links_phrases rest) roots) first)
-          (keep_op o to next value (value_slot next e built.0 first),
-           keep_links to after rest value built.1 (each_of_back _ (expr_phrases e) (links_phrases rest) roots) (behind next (expr_slots e) (links_slots rest) h))
+          (keep_expr next e built.0 (each_of_front _ (expr_phrases e) (links_phrases rest) roots) first) (
+            keep_op o to next value (value_slot next e built.0 first),
+            keep_links to after rest value built.1 (each_of_back _ (expr_phrases e) (links_phrases rest) roots) (behind next (expr_slots e) (links_slots rest) h),
+          )
 
     -- ---- tests
 
@@ -232,10 +233,12 @@ module _ (p : Program) (code : PlainCode) (top : ℕ) where
           let others = stmts_code (at + 2 + length first) (lo + length (arms_slots arms)) rest in
           let long = length-append first others in (
             jump (omega (arith, lt, long)),
-            (jump (omega (arith, lt, long)),
-            both first others
-            (keep_arms (at + 2) lo (at + 1) arms built.0 (each_of_front _ (arms_phrases arms) (stmts_phrases rest) roots.1) (front lo (arms_slots arms) (stmts_slots rest) h) (omega (arith, lt, long)) (omega (arith, lt, long)))
-            (keep_stmts (at + 2 + length first) (lo + length (arms_slots arms)) rest built.1 (each_of_back _ (arms_phrases arms) (stmts_phrases rest) roots.1) (behind lo (arms_slots arms) (stmts_slots rest) h) (omega (arith, lt, long)))),
+            (
+              jump (omega (arith, lt, long)),
+              both first others
+                  (keep_arms (at + 2) lo (at + 1) arms built.0 (each_of_front _ (arms_phrases arms) (stmts_phrases rest) roots.1) (front lo (arms_slots arms) (stmts_slots rest) h) (omega (arith, lt, long)) (omega (arith, lt, long)))
+                  (keep_stmts (at + 2 + length first) (lo + length (arms_slots arms)) rest built.1 (each_of_back _ (arms_phrases arms) (stmts_phrases rest) roots.1) (behind lo (arms_slots arms) (stmts_slots rest) h) (omega (arith, lt, long))),
+            ),
           )
       keep_stmt at lo (While t body) built roots h lt =
           let condition = condition_code lo t in
@@ -244,9 +247,9 @@ module _ (p : Program) (code : PlainCode) (top : ℕ) where
           let first = front lo (test_slots t) (stmts_slots body) h in (
             jump (omega (arith, lt, long)),
             keep_guard lo condition inner (at + 1) at
-            (keep_condition lo t built.0 (each_of_front _ (test_phrases t) (stmts_phrases body) roots.1) first) (test_value lo t built.0 first)
-            (keep_stmts (at + 1 + length condition + 1) (lo + length (test_slots t)) body built.1 (each_of_back _ (test_phrases t) (stmts_phrases body) roots.1) (behind lo (test_slots t) (stmts_slots body) h) (omega (arith, lt, long)))
-            (omega (arith, lt, long)) (omega (arith, lt, long)),
+                (keep_condition lo t built.0 (each_of_front _ (test_phrases t) (stmts_phrases body) roots.1) first) (test_value lo t built.0 first)
+                (keep_stmts (at + 1 + length condition + 1) (lo + length (test_slots t)) body built.1 (each_of_back _ (test_phrases t) (stmts_phrases body) roots.1) (behind lo (test_slots t) (stmts_slots body) h) (omega (arith, lt, long)))
+                (omega (arith, lt, long)) (omega (arith, lt, long)),
           )
       keep_stmt at lo (Repeat body t) built roots h lt =
           let first = stmts_code at lo body in

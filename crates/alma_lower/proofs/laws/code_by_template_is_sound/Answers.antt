@@ -1,4 +1,3 @@
-use Rattle.std.proofs.Common.{rules}
 use Rattle.alma_lower.proofs.Sound.{is_sound}
 use Rattle.alma_lower.proofs.laws.code_by_template_is_sound.Goals as goal
 
