@@ -1,0 +1,5 @@
+pub mod Carries
+pub mod Head
+pub mod Kinds
+pub mod Layout
+pub mod Picture
