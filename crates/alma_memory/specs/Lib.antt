@@ -1,0 +1,6 @@
+pub mod Carries
+pub mod Counted
+pub mod Frames
+pub mod Held
+pub mod Picture
+pub mod Trail

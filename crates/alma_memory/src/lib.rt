@@ -1,0 +1,11 @@
+//! The memory of the machine: a stack of whole copies of the frames, kept as one store and a trail of notes.
+#![tactic(auto)]
+
+mod carry;
+mod frame;
+mod frames;
+mod layout;
+mod trail;
+
+pub use alma_base::NoMemory;
+pub use alma_code::{Cell, CellPlace, ChoiceKind, CodeParam, Head, ParamKind, Run, SlotKind};
