@@ -1,5 +1,7 @@
 pub mod Carrying
 pub mod Indexed
 pub mod Layouts
+pub mod Lays
 pub mod Rising
 pub mod Stores
+pub mod Trails

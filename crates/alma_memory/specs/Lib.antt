@@ -3,4 +3,5 @@ pub mod Counted
 pub mod Frames
 pub mod Held
 pub mod Picture
+pub mod Refusals
 pub mod Trail

@@ -19,7 +19,7 @@ pub struct SlotPlace {
 /// Cells for slots, one for each, in the order of the slots.
 #[derive(Drop)]
 pub struct Carry {
-    cells: BTreeMap<SlotPlace, Cell>,
+    pub cells: BTreeMap<SlotPlace, Cell>,
 }
 
 impl Model for Carry {

@@ -4,8 +4,11 @@
 mod carry;
 mod frame;
 mod frames;
+mod lay;
 mod layout;
+mod memory;
 mod trail;
 
 pub use alma_base::NoMemory;
 pub use alma_code::{Cell, CellPlace, ChoiceKind, CodeParam, Head, ParamKind, Run, SlotKind};
+pub use memory::{EnterError, Memory, Resumed};

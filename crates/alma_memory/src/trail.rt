@@ -170,3 +170,34 @@ fn put_back(entries: &mut Vec<Entry>, entry: Entry)
         }
     }
 }
+
+/// Undoes what came after an entry that was taken from the top, and pushes again what a pop leaves of it.
+pub fn fail_to(entries: &mut Vec<Entry>, frames: &mut Frames, trail: &mut Vec<Note>, entry: Entry)
+    requires room { vec_len entries.old < vec_capacity entries.old }
+    requires trailed { IsTrailed (entries.old.items ++ entry ∷ []) trail.old.items frames.old }
+    ensures now { frames.new ≡ (top_of (held_of trail.old.items frames.old (entries.old.items ++ entry ∷ []))).frames }
+    ensures held { held_of trail.new.items frames.new entries.new.items ≡ popped (held_of trail.old.items frames.old (entries.old.items ++ entry ∷ [])) }
+    ensures trailed { IsTrailed entries.new.items trail.new.items frames.new }
+    ensures choice_capacity { vec_capacity entries.old ≤ vec_capacity entries.new }
+    ensures choice_len { vec_len entries.new ≤ vec_len entries.old + 1 }
+    ensures trail_capacity { vec_capacity trail.new ≡ vec_capacity trail.old }
+    ensures trail_len { vec_len trail.new ≤ vec_len trail.old }
+{
+    unwind_to(frames, trail, entry.mark);
+    put_back(entries, entry);
+    settle(entries.as_slice(), trail);
+}
+
+/// Drops the entries above a height.
+pub fn cut_to(entries: &mut Vec<Entry>, frames: &Frames, trail: &mut Vec<Note>, height: usize)
+    requires { IsTrailed entries.old.items trail.old.items frames.now }
+    ensures held { held_of trail.new.items frames.now entries.new.items ≡ take height (held_of trail.old.items frames.now entries.old.items) }
+    ensures trailed { IsTrailed entries.new.items trail.new.items frames.now }
+    ensures choice_capacity { vec_capacity entries.new ≡ vec_capacity entries.old }
+    ensures choice_len { vec_len entries.new ≤ vec_len entries.old }
+    ensures trail_capacity { vec_capacity trail.new ≡ vec_capacity trail.old }
+    ensures trail_len { vec_len trail.new ≤ vec_len trail.old }
+{
+    entries.truncate(height);
+    settle(entries.as_slice(), trail);
+}
