@@ -7,6 +7,7 @@ mod frames;
 mod lay;
 mod layout;
 mod memory;
+mod past;
 mod trail;
 
 pub use alma_base::NoMemory;
