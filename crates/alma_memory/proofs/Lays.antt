@@ -8,7 +8,9 @@ use Rattle.alma_memory.specs.declared.carry.SlotPlace.{SlotPlace}
 use Rattle.alma_memory.specs.declared.trail.Note.{Note}
 use Rattle.alma_memory.specs.declared.trail.Entry.{Entry}
 use Rattle.alma_memory.specs.Carries.{change_of, listed}
-use Rattle.alma_memory.specs.Held.{Keeps, IsTrailed, HasNoteRoom}
+use Rattle.alma_memory.specs.Trail.{settled}
+use Rattle.alma_memory.specs.Held.{Keeps, IsTrailed, HasNoteRoom, Rises}
+use Rattle.alma_memory.proofs.Trails.{rises-pop, rises-more, settled-keeps}
 
 -- what two changes one after another keep
 pub keeps-then : (es : List Entry) (t0 t1 t2 : List Note) (f0 f1 f2 : List PlainFrame) → Keeps es t0 t1 f0 f1 → Keeps es t1 t2 f1 f2 → Keeps es t0 t2 f0 f2
@@ -50,3 +52,15 @@ room-one (e ∷ es) n len cap h l = omega arith
 pub room-less : (es : List Entry) (n len cap len' cap' : ℕ) → HasNoteRoom es (n + 1) len cap → len' ≤ len + 1 → cap ≤ cap' → HasNoteRoom es n len' cap'
 room-less [] n len cap len' cap' h l c = tt
 room-less (e ∷ es) n len cap len' cap' h l c = omega arith
+
+-- without its last entry a trail is settled
+pub last-settled : (es : List Entry) (e : Entry) (trail after : List Note) (fs : List PlainFrame) → after ≡ settled es trail →
+    IsTrailed (es ++ e ∷ []) trail fs → Keeps es trail after fs fs
+last-settled es e trail after fs q t =
+    let r : Rises 0 es e.mark × (e.mark ≤ length trail) = rises-pop 0 (length trail) es e t.rises in
+    rw q (settled-keeps es trail fs t.fits (rises-more 0 e.mark (length trail) es r.0 r.1))
+
+-- room stays where the notes get fewer
+pub room-fewer : (es : List Entry) (n len len' cap : ℕ) → HasNoteRoom es n len cap → len' ≤ len → HasNoteRoom es n len' cap
+room-fewer [] n len len' cap h l = tt
+room-fewer (e ∷ es) n len len' cap h l = omega arith

@@ -59,8 +59,8 @@ fn add_note(entries: &[Entry], trail: &mut Vec<Note>, note: Note)
     }
 }
 
-// Forgets the notes where no entry is left that needs them.
-fn settle(entries: &[Entry], trail: &mut Vec<Note>)
+/// Forgets the notes where no entry is left that needs them.
+pub fn settle(entries: &[Entry], trail: &mut Vec<Note>)
     ensures items { trail.new.items ≡ settled entries.now trail.old.items }
     ensures capacity { vec_capacity trail.new ≡ vec_capacity trail.old }
     ensures len { vec_len trail.new ≤ vec_len trail.old }
