@@ -1,6 +1,9 @@
 pub mod Carrying
+pub mod Contents
+pub mod Gains
 pub mod Indexed
 pub mod Layouts
+pub mod Keeping
 pub mod Lays
 pub mod Pasts
 pub mod Rising

@@ -1,6 +1,7 @@
 pub mod Carries
 pub mod Counted
 pub mod Frames
+pub mod Gain
 pub mod Held
 pub mod Past
 pub mod Picture

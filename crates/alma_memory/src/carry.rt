@@ -52,6 +52,12 @@ impl Carry {
         self.cells.len()
     }
 
+    pub fn get(&self, place: SlotPlace) -> Option<Cell>
+        ensures { result ≡ carried_at place.frame place.slot self.now }
+    {
+        self.cells.get(&place).copied()
+    }
+
     /// Sets the cell of a slot, and answers what the carry had for it.
     pub fn set(&mut self, place: SlotPlace, cell: Cell) -> Result<Option<Cell>, NoMemory>
         ensures carry { self.new ≡ (if is_ok result then with_change (change_of place cell) self.old else self.old) }

@@ -2,6 +2,8 @@
 ghost use Rattle.std.specs.Prelude.{◌≡◌, ◌<◌, length, slice_get, slice_index_or, IfOk};
 ghost use Rattle.alma_code.specs.Picture.{frame_with};
 ghost use Rattle.alma_code.specs.Kinds.{is_number};
+ghost use Rattle.alma_memory.specs.Frames.{IsWhole};
+ghost use Rattle.alma_memory.specs.Past.{number_in};
 ghost use Rattle.alma_code.specs.declared.cell.Cell.TheVariants as cell;
 
 use alma_base::NoMemory;
@@ -70,6 +72,21 @@ impl Frame {
         ensures { result ≡ is_number (slice_get self.now.kinds slot) }
     {
         matches!(self.kinds.get(slot as usize), Some(SlotKind::Number))
+    }
+
+    /// The cell of a number slot.
+    pub fn number(&self, slot: u32) -> Option<Cell>
+        requires { IsWhole self.now }
+        ensures { result ≡ number_in self.now slot }
+    {
+        if self.is_number(slot) { Some(self.cell(slot)) } else { None }
+    }
+
+    pub fn slots(&self) -> u32
+        requires { IsWhole self.now }
+        ensures { result ≡ length self.now.cells }
+    {
+        self.cells.len() as u32
     }
 
     pub fn cells(&self) -> &[Cell]

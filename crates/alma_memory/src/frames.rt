@@ -2,6 +2,8 @@
 ghost use Rattle.std.specs.Prelude.{◌≡◌, ℕ, ◌+◌, ◌<◌, ◌≤◌, [], ◌∷◌, ◌++◌, length, slice_index_or, IfOk};
 ghost use Rattle.alma_code.specs.Picture.{no_frame, written, cell_at, last_frame, without_last, live_cells};
 ghost use Rattle.alma_code.specs.Carries.{number_at};
+ghost use Rattle.alma_memory.specs.Frames.{AreWhole};
+ghost use Rattle.alma_memory.specs.Past.{number_of};
 ghost use Rattle.alma_code.specs.declared.cell.Cell.TheVariants as cell;
 
 use alma_base::NoMemory;
@@ -83,6 +85,18 @@ impl Frames {
         ensures { result ≡ number_at self.now place.frame place.slot }
     {
         place.frame < self.len() && self.at(place.frame).is_number(place.slot)
+    }
+
+    /// The cell of a live number slot.
+    pub fn number(&self, place: SlotPlace) -> Option<Cell>
+        requires { AreWhole self.now }
+        ensures { result ≡ number_of self.now place.frame place.slot }
+    {
+        if place.frame < self.len() {
+            self.at(place.frame).number(place.slot)
+        } else {
+            None
+        }
     }
 
     pub fn write(&mut self, place: SlotPlace, cell: Cell)

@@ -47,6 +47,7 @@ pub fn lay_last(entries: &[Entry], frames: &mut Frames, trail: &mut Vec<Note>, e
     ensures held { held_of trail.new.items frames.new entries.now ≡ held_of trail.old.items frames.old entries.now }
     ensures trailed { IsTrailed entries.now trail.new.items frames.new }
     ensures capacity { vec_capacity trail.old ≤ vec_capacity trail.new }
+    ensures len { vec_len trail.new ≤ vec_len trail.old + length entry.carry }
 {
     settle(entries, trail);
     lay(entries, frames, trail, &entry.carry);

@@ -4,6 +4,7 @@
 mod carry;
 mod frame;
 mod frames;
+mod keep;
 mod lay;
 mod layout;
 mod memory;

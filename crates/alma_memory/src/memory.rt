@@ -1,7 +1,8 @@
 // The memory of the machine, and its calls.
 ghost use Rattle.std.specs.Prelude.{◌≡◌, ◌≢◌, ◌+◌, ◌-◌, ◌<◌, ◌≤◌, [], ◌∷◌, ◌++◌, length, take, is_ok, slice_index_or, IfOk, OnOk, OnErr, IsOk, IsSome, IsNone, IfSome, IfNone, MatchResult, if◌then◌else◌, ◌↔◌};
 ghost use Rattle.alma_code.specs.Picture.{no_frame, written, cell_at, kind_at, last_frame, without_last, live_cells, popped, top_of, entry_at};
-ghost use Rattle.alma_code.specs.Carries.{IsLive, IsForallAt, IsTop, overlaid};
+ghost use Rattle.alma_code.specs.Carries.{IsLive, IsForallAt, IsTop, kept, overlaid};
+ghost use Rattle.alma_memory.specs.Past.{HoldNumbers};
 ghost use Rattle.alma_code.specs.Layout.{IsHead, FitsParams, start_frame, entered_frame};
 ghost use Rattle.alma_code.specs.declared.cell.Cell.TheVariants as cell;
 ghost use Rattle.alma_memory.specs.Picture.{KeepsRooms};
@@ -14,6 +15,7 @@ use std::marker::Model;
 
 use crate::carry::{Carry, SlotPlace};
 use crate::frames::{Frames, MAX_CELLS, MAX_FRAMES};
+use crate::keep::keep_top;
 use crate::lay::{lay, lay_last};
 use crate::layout::{frame_from, start_from};
 use crate::trail::{Entry, Note, cut_to, enter_noted, fail_to, leave_noted, room_for_notes, write_noted};
@@ -262,12 +264,26 @@ impl Memory {
         ensures now { self.new.now ≡ (if is_ok result then overlaid self.old.now (entry_at self.old.held height).carry else self.old.now) }
         ensures held { self.new.held ≡ self.old.held }
         ensures choice_room { self.old.choice_room ≤ self.new.choice_room }
-        ensures refused { OnErr result (self.old.trail_room ≤ self.new.trail_room) }
+        ensures trail_room { self.old.trail_room ≤ self.new.trail_room + (if is_ok result then length (entry_at self.old.held height).carry else 0) }
     {
         let carry = &self.entries[height - 1].carry;
         room_for_notes(self.entries.as_slice(), &mut self.trail, carry.len())?;
         lay(self.entries.as_slice(), &mut self.frames, &mut self.trail, carry);
         Ok(())
+    }
+
+    /// Drops the Body on top: each number slot that is live in its copy and now and differs enters the carry of the Forall at the height.
+    /// It costs as much as the changes since the Body was pushed.
+    pub fn keep(&mut self, height: usize) -> Result<(), NoMemory>
+        requires body { IsTop self.old.held ChoiceKind.Body }
+        requires forall { IsForallAt self.old.held height }
+        requires below { height < length self.old.held }
+        requires numbers { HoldNumbers self.old.now }
+        ensures now { self.new.now ≡ self.old.now }
+        ensures held { self.new.held ≡ (if is_ok result then kept self.old.held height self.old.now else self.old.held) }
+        ensures rooms { KeepsRooms self.old self.new }
+    {
+        keep_top(self.alloc, &mut self.entries, &self.frames, self.trail.as_slice(), height)
     }
 
     /// Drops the Done on top, and lays its carry over the frames.
@@ -276,7 +292,7 @@ impl Memory {
         ensures now { self.new.now ≡ (if is_ok result then overlaid self.old.now (top_of self.old.held).carry else self.old.now) }
         ensures held { self.new.held ≡ (if is_ok result then take (length self.old.held - 1) self.old.held else self.old.held) }
         ensures choice_room { self.old.choice_room ≤ self.new.choice_room }
-        ensures refused { OnErr result (self.old.trail_room ≤ self.new.trail_room) }
+        ensures trail_room { self.old.trail_room ≤ self.new.trail_room + (if is_ok result then length (top_of self.old.held).carry else 0) }
     {
         let carry = &self.entries[self.entries.len() - 1].carry;
         room_for_notes(self.entries.as_slice(), &mut self.trail, carry.len())?;
