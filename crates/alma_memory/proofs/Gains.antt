@@ -209,7 +209,8 @@ parts before now f s d =
 unchanged : (now : List PlainFrame) (f s : ℕ) → HoldNumbers now → number_at now f s ≡ true → changed (number_of now f s) (number_of now f s) ≡ None
 unchanged now f s h e = let same = h f s e in rw (e, same) refl
 
-or-above : (f n : ℕ) → (f < n) ⊎ (n ≤ f)
+-- a number is below another or not
+pub or-above : (f n : ℕ) → (f < n) ⊎ (n ≤ f)
 or-above f n = choose (nat_lt f n) refl
   where
   choose : (b : Bool) → nat_lt f n ≡ b → (f < n) ⊎ (n ≤ f)

@@ -1,3 +1,4 @@
+pub mod Back
 pub mod Carrying
 pub mod Contents
 pub mod Gains

@@ -6,6 +6,7 @@ mod frame;
 mod frames;
 mod keep;
 mod lay;
+pub mod laws;
 mod layout;
 mod memory;
 mod past;

@@ -1,10 +1,11 @@
 // The memory of the machine, and its calls.
-ghost use Rattle.std.specs.Prelude.{◌≡◌, ◌≢◌, ◌+◌, ◌-◌, ◌<◌, ◌≤◌, [], ◌∷◌, ◌++◌, length, take, is_ok, slice_index_or, IfOk, OnOk, OnErr, IsOk, IsSome, IsNone, IfSome, IfNone, MatchResult, if◌then◌else◌, ◌↔◌};
+ghost use Rattle.std.specs.Prelude.{◌≡◌, ◌≢◌, ◌+◌, ◌-◌, ◌<◌, ◌≤◌, [], ◌∷◌, ◌++◌, length, take, is_ok, is_some, slice_index_or, IfOk, OnOk, OnErr, IsOk, IsSome, IsNone, IfSome, IfNone, MatchResult, if◌then◌else◌, ◌↔◌};
 ghost use Rattle.alma_code.specs.Picture.{no_frame, written, cell_at, kind_at, last_frame, without_last, live_cells, popped, top_of, entry_at};
 ghost use Rattle.alma_code.specs.Carries.{IsLive, IsForallAt, IsTop, kept, overlaid};
 ghost use Rattle.alma_memory.specs.Past.{HoldNumbers};
 ghost use Rattle.alma_code.specs.Layout.{IsHead, FitsParams, start_frame, entered_frame};
 ghost use Rattle.alma_code.specs.declared.cell.Cell.TheVariants as cell;
+ghost use Rattle.alma_memory.specs.Calls.{Choose, Cut, Enter, Fail, Finish, Keep, Leave, Makes, Nothing, Overlay, Write};
 ghost use Rattle.alma_memory.specs.Picture.{KeepsRooms};
 ghost use Rattle.alma_memory.specs.Refusals.{HasFrameRoom, RefusesFor};
 
@@ -88,6 +89,7 @@ impl Memory {
         ensures rooms { KeepsRooms self.old self.new }
         ensures choice_room { OnOk result (choices ≤ self.new.choice_room) }
         ensures trail_room { OnOk result (trail ≤ self.new.trail_room) }
+        ensures call { Makes Nothing self.old self.new }
     {
         self.entries.reserve(choices)?;
         self.trail.reserve(trail)?;
@@ -145,6 +147,7 @@ impl Memory {
         ensures succeeds { 1 ≤ self.old.trail_room → IsOk result }
         ensures choice_room { self.old.choice_room ≤ self.new.choice_room }
         ensures trail_room { self.old.trail_room ≤ self.new.trail_room + (if is_ok result then 1 else 0) }
+        ensures call { Makes (if is_ok result then Write frame slot cell else Nothing) self.old self.new }
     {
         room_for_notes(self.entries.as_slice(), &mut self.trail, 1)?;
         write_noted(self.entries.as_slice(), &mut self.frames, &mut self.trail, SlotPlace { frame, slot }, cell);
@@ -160,6 +163,7 @@ impl Memory {
         ensures answer { MatchResult result (λ _. HasFrameRoom self.old.now (H.head head.now).declared) (λ e. RefusesFor e self.old.now (H.head head.now).declared) }
         ensures choice_room { self.old.choice_room ≤ self.new.choice_room }
         ensures trail_room { self.old.trail_room ≤ self.new.trail_room + (if is_ok result then 1 else 0) }
+        ensures call { Makes (if is_ok result then Enter (entered_frame self.old.now (H.head head.now) routine ret args.now) else Nothing) self.old self.new }
     {
         if self.frames.len() >= MAX_FRAMES {
             return Err(EnterError::DepthFull);
@@ -186,6 +190,7 @@ impl Memory {
         ensures succeeds { 1 ≤ self.old.trail_room → IsOk result }
         ensures choice_room { self.old.choice_room ≤ self.new.choice_room }
         ensures trail_room { self.old.trail_room ≤ self.new.trail_room + (if is_ok result then 1 else 0) }
+        ensures call { Makes (if is_ok result then Leave else Nothing) self.old self.new }
     {
         room_for_notes(self.entries.as_slice(), &mut self.trail, 1)?;
         Ok(leave_noted(self.entries.as_slice(), &mut self.frames, &mut self.trail))
@@ -201,6 +206,7 @@ impl Memory {
         ensures succeeds { 1 ≤ self.old.choice_room → IsOk result }
         ensures choice_room { self.old.choice_room ≤ self.new.choice_room + (if is_ok result then 1 else 0) }
         ensures trail_room { self.old.trail_room ≤ self.new.trail_room }
+        ensures call { Makes (if is_ok result then Choose kind resume else Nothing) self.old self.new }
     {
         let entry = Entry {
             kind,
@@ -222,6 +228,7 @@ impl Memory {
         ensures held { IsSome result → self.new.held ≡ popped self.old.held }
         ensures empty { IfNone result (self.new ≡ self.old) }
         ensures rooms { KeepsRooms self.old self.new }
+        ensures call { Makes (if is_some result then Fail else Nothing) self.old self.new }
     {
         let entry = self.entries.pop()?;
         let resumed = Resumed {
@@ -237,6 +244,7 @@ impl Memory {
         ensures now { self.new.now ≡ self.old.now }
         ensures held { self.new.held ≡ take height self.old.held }
         ensures rooms { KeepsRooms self.old self.new }
+        ensures call { Makes (Cut height) self.old self.new }
     {
         cut_to(&mut self.entries, &self.frames, &mut self.trail, height);
     }
@@ -265,6 +273,7 @@ impl Memory {
         ensures held { self.new.held ≡ self.old.held }
         ensures choice_room { self.old.choice_room ≤ self.new.choice_room }
         ensures trail_room { self.old.trail_room ≤ self.new.trail_room + (if is_ok result then length (entry_at self.old.held height).carry else 0) }
+        ensures call { Makes (if is_ok result then Overlay height else Nothing) self.old self.new }
     {
         let carry = &self.entries[height - 1].carry;
         room_for_notes(self.entries.as_slice(), &mut self.trail, carry.len())?;
@@ -282,6 +291,7 @@ impl Memory {
         ensures now { self.new.now ≡ self.old.now }
         ensures held { self.new.held ≡ (if is_ok result then kept self.old.held height self.old.now else self.old.held) }
         ensures rooms { KeepsRooms self.old self.new }
+        ensures call { Makes (if is_ok result then Keep height else Nothing) self.old self.new }
     {
         keep_top(self.alloc, &mut self.entries, &self.frames, self.trail.as_slice(), height)
     }
@@ -293,6 +303,7 @@ impl Memory {
         ensures held { self.new.held ≡ (if is_ok result then take (length self.old.held - 1) self.old.held else self.old.held) }
         ensures choice_room { self.old.choice_room ≤ self.new.choice_room }
         ensures trail_room { self.old.trail_room ≤ self.new.trail_room + (if is_ok result then length (top_of self.old.held).carry else 0) }
+        ensures call { Makes (if is_ok result then Finish else Nothing) self.old self.new }
     {
         let carry = &self.entries[self.entries.len() - 1].carry;
         room_for_notes(self.entries.as_slice(), &mut self.trail, carry.len())?;
