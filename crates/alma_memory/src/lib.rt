@@ -15,3 +15,6 @@ mod trail;
 pub use alma_base::NoMemory;
 pub use alma_code::{Cell, CellPlace, ChoiceKind, CodeParam, Head, ParamKind, Run, SlotKind};
 pub use memory::{EnterError, Memory, Resumed};
+
+#[cfg(test)]
+mod tests;
