@@ -51,14 +51,15 @@ copy-popped held i l m =
     let less : n ≤ length held = omega arith in
     let len : length (take n held) ≡ n = length-take-le n held less in
     elim (or-above i n) [
-      inl lt ↦ copy-append (take n held) (left_of (top_of held)) i (rw len lt) ∙ copy-take n held i lt
-    | inr le ↦ (
-      let here : i ≡ n = omega arith in
-      let sum = length-append (take n held) (left_of (top_of held)) in
-      let some : 1 ≤ length (left_of (top_of held)) = omega (arith, l, sum, len, here) in
-      let z : i - n ≡ 0 = omega arith in
-      ap (λ (e : PlainEntry). e.frames) (get_or-append_right (take n held) (left_of (top_of held)) n i no_entry len le)
-      ∙ (ap (copy_at (left_of (top_of held))) z ∙ (copy-left (top_of held).kind (top_of held) some ∙ ap (copy_at held) (sym here)))) ]
+      | inl lt ↦ copy-append (take n held) (left_of (top_of held)) i (rw len lt) ∙ copy-take n held i lt
+      | inr le ↦ (
+          let here : i ≡ n = omega arith in
+          let sum = length-append (take n held) (left_of (top_of held)) in
+          let some : 1 ≤ length (left_of (top_of held)) = omega (arith, l, sum, len, here) in
+          let z : i - n ≡ 0 = omega arith in
+          ap (λ (e : PlainEntry). e.frames) (get_or-append_right (take n held) (left_of (top_of held)) n i no_entry len le)
+          ∙ (ap (copy_at (left_of (top_of held))) z ∙ (copy-left (top_of held).kind (top_of held) some ∙ ap (copy_at held) (sym here))))
+    ]
 
 -- a call that leaves an entry leaves its copy
 copy-kept : (call : Call) (old new : Picture) (i : ℕ) → Makes call old new → i < length old.held → i < length new.held → copy_at new.held i ≡ copy_at old.held i

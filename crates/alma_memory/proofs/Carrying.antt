@@ -77,13 +77,13 @@ pub insert-listed : (es : List (SlotPlace × Cell)) (k : SlotPlace) (v : Cell) �
 insert-listed [] k v = refl
 insert-listed (e ∷ es) k v =
     let order = ordered-by (nat_lt k.frame e.0.frame) (nat_eq k.frame e.0.frame) (nat_lt k.slot e.0.slot) (nat_eq k.slot e.0.slot)
-        ((k, v) ∷ e ∷ es) ((e.0, v) ∷ es) (e ∷ insert_entry slot_cmp es k v) in
+    ((k, v) ∷ e ∷ es) ((e.0, v) ∷ es) (e ∷ insert_entry slot_cmp es k v) in
     ap listed order
     ∙ chosen-listed (is_before k.frame k.slot e.0.frame e.0.slot) (is_same_place k.frame k.slot e.0.frame e.0.slot)
-      ((k, v) ∷ e ∷ es) ((e.0, v) ∷ es) (e ∷ insert_entry slot_cmp es k v)
-      (change_of k v ∷ listed es) (change_of e.0 e.1 ∷ with_change (change_of k v) (listed es))
-      (λ s. let one = same-place-is k.frame k.slot e.0.frame e.0.slot s in rw (one.0, one.1) refl)
-      (ap (λ rest. change_of e.0 e.1 ∷ rest) (insert-listed es k v))
+    ((k, v) ∷ e ∷ es) ((e.0, v) ∷ es) (e ∷ insert_entry slot_cmp es k v)
+    (change_of k v ∷ listed es) (change_of e.0 e.1 ∷ with_change (change_of k v) (listed es))
+    (λ s. let one = same-place-is k.frame k.slot e.0.frame e.0.slot s in rw (one.0, one.1) refl)
+    (ap (λ rest. change_of e.0 e.1 ∷ rest) (insert-listed es k v))
 
 -- a choice by a test, and the same choice in a carry
 by-test : {A : Type 0} (t b : Bool) (x y y' : A) → t ≡ b → y ≡ y' → cond t x y ≡ if_true b (λ _. x) (λ _. y')
@@ -99,21 +99,21 @@ pub lookup-listed : (es : List (SlotPlace × Cell)) (k : SlotPlace) → lookup (
 lookup-listed [] k = refl
 lookup-listed (e ∷ es) k =
     by-test (is_at (slot_cmp k) e.0) (is_same_place e.0.frame e.0.slot k.frame k.slot) (Some e.1) (lookup (is_at (slot_cmp k)) es)
-      (carried_at k.frame k.slot (listed es)) (at-same k e.0) (lookup-listed es k)
+    (carried_at k.frame k.slot (listed es)) (at-same k e.0) (lookup-listed es k)
 
 -- a removal takes a place away
 pub remove-listed : (es : List (SlotPlace × Cell)) (k : SlotPlace) → listed (remove_entry (is_at (slot_cmp k)) es) ≡ without_place k.frame k.slot (listed es)
 remove-listed [] k = refl
 remove-listed (e ∷ es) k =
     by-test-listed (is_at (slot_cmp k) e.0) (is_same_place e.0.frame e.0.slot k.frame k.slot) es (e ∷ remove_entry (is_at (slot_cmp k)) es)
-      (change_of e.0 e.1 ∷ without_place k.frame k.slot (listed es)) (at-same k e.0) (ap (λ rest. change_of e.0 e.1 ∷ rest) (remove-listed es k))
+    (change_of e.0 e.1 ∷ without_place k.frame k.slot (listed es)) (at-same k e.0) (ap (λ rest. change_of e.0 e.1 ∷ rest) (remove-listed es k))
 
 -- a write through the map changes the cell of a place
 pub set-listed : (es : List (SlotPlace × Cell)) (k : SlotPlace) (v : Cell) → listed (set_value (is_at (slot_cmp k)) es v) ≡ with_cell k.frame k.slot v (listed es)
 set-listed [] k v = refl
 set-listed (e ∷ es) k v =
     by-test-listed (is_at (slot_cmp k) e.0) (is_same_place e.0.frame e.0.slot k.frame k.slot) ((e.0, v) ∷ es) (e ∷ set_value (is_at (slot_cmp k)) es v)
-      (change_of e.0 e.1 ∷ with_cell k.frame k.slot v (listed es)) (at-same k e.0) (ap (λ rest. change_of e.0 e.1 ∷ rest) (set-listed es k v))
+    (change_of e.0 e.1 ∷ with_cell k.frame k.slot v (listed es)) (at-same k e.0) (ap (λ rest. change_of e.0 e.1 ∷ rest) (set-listed es k v))
 
 above-listed : (k : SlotPlace) (es : List (SlotPlace × Cell)) → AllByRecursion (λ y. slot_cmp k y ≡ Less) (keys_of es) → IsAbove k.frame k.slot (listed es)
 above-listed k [] h = tt
@@ -131,7 +131,7 @@ pub with-absent : (f s : ℕ) (v : Cell) (cs : Carry Cell) → carried_at f s cs
 with-absent f s v [] e = refl
 with-absent f s v (x ∷ cs) e = choose (is_same_place x.frame x.slot f s) (with-absent f s v cs) e
   where
-  choose : (b : Bool) → (carried_at f s cs ≡ None → with_cell f s v cs ≡ cs) → if_true b (λ _. Some x.cell) (λ _. carried_at f s cs) ≡ None →
-      if_true b (λ _. record x { cell = v } ∷ cs) (λ _. x ∷ with_cell f s v cs) ≡ x ∷ cs
-  choose true ih h = absurd (cc)
-  choose false ih h = ap (λ rest. x ∷ rest) (ih h)
+    choose : (b : Bool) → (carried_at f s cs ≡ None → with_cell f s v cs ≡ cs) → if_true b (λ _. Some x.cell) (λ _. carried_at f s cs) ≡ None →
+        if_true b (λ _. record x { cell = v } ∷ cs) (λ _. x ∷ with_cell f s v cs) ≡ x ∷ cs
+    choose true ih h = absurd (cc)
+    choose false ih h = ap (λ rest. x ∷ rest) (ih h)

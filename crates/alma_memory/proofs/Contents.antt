@@ -34,13 +34,13 @@ over-over (Some a) (Some b) c = refl
 number-here : (g : PlainFrame) (s : ℕ) (c : Cell) → IsWhole g → number_in (frame_with g s c) s ≡ over (number_in g s) (Some c)
 number-here g s c w = choose (is_number (slice_get g.kinds s)) refl
   where
-  choose : (b : Bool) → b ≡ is_number (slice_get g.kinds s) →
-      (if b then Some (get_or (set g.cells s c) s Unknown) else None) ≡ over (if b then Some (get_or g.cells s Unknown) else None) (Some c)
-  choose true e =
-      let slot : s < length g.kinds = number-slot g.kinds s (sym e) in
-      let lt : s < length g.cells = omega (arith, slot, w.kinds) in
-      ap Some (get_or-set_same g.cells s c Unknown lt)
-  choose false e = refl
+    choose : (b : Bool) → b ≡ is_number (slice_get g.kinds s) →
+        (if b then Some (get_or (set g.cells s c) s Unknown) else None) ≡ over (if b then Some (get_or g.cells s Unknown) else None) (Some c)
+    choose true e =
+        let slot : s < length g.kinds = number-slot g.kinds s (sym e) in
+        let lt : s < length g.cells = omega (arith, slot, w.kinds) in
+        ap Some (get_or-set_same g.cells s c Unknown lt)
+    choose false e = refl
 
 number-same : (fs : List PlainFrame) (f s : ℕ) (c : Cell) → AreWhole fs → number_of (written fs f s c) f s ≡ over (number_of fs f s) (Some c)
 number-same [] f s c w = refl
@@ -61,7 +61,7 @@ whole-rewritten fs [] w = w
 whole-rewritten fs (x ∷ cs) w =
     let r = whole-rewritten fs cs w in
     whole-set (rewritten fs cs) x.frame (frame_with (get_or (rewritten fs cs) x.frame no_frame) x.slot x.cell)
-      (whole-with (get_or (rewritten fs cs) x.frame no_frame) x.slot x.cell (whole-at (rewritten fs cs) x.frame r)) r
+    (whole-with (get_or (rewritten fs cs) x.frame no_frame) x.slot x.cell (whole-at (rewritten fs cs) x.frame r)) r
 
 -- the cells of a carry are laid over the number slots
 pub number-rewritten : (fs : List PlainFrame) (cs : Carry Cell) (f s : ℕ) → AreWhole fs →
@@ -72,12 +72,12 @@ number-rewritten fs (x ∷ cs) f s w =
     let P : Option Cell → Type 0 = (λ o. number_of (written R x.frame x.slot x.cell) f s ≡ over (number_of fs f s) o) in
     let rest : number_of R f s ≡ over (number_of fs f s) (carried_at f s cs) = number-rewritten fs cs f s w in
     if-keeps P (is_same_place x.frame x.slot f s) (λ _. Some x.cell) (λ _. carried_at f s cs)
-      (λ e. let one = same-place-is x.frame x.slot f s e in
-        ap (λ g. number_of (written R g x.slot x.cell) f s) one.0 ∙ (ap (λ t. number_of (written R f t x.cell) f s) one.1
-        ∙ (number-same R f s x.cell (whole-rewritten fs cs w)
-        ∙ (ap (λ o. over o (Some x.cell)) rest ∙ over-over (number_of fs f s) (carried_at f s cs) x.cell))))
-      (λ ns. number-other R f s x.frame x.slot x.cell
-          (λ e d. let no : true ≡ false = sym (rw (e, d) (same-itself x.frame x.slot)) ∙ ns in absurd (cc)) ∙ rest)
+    (λ e. let one = same-place-is x.frame x.slot f s e in
+    ap (λ g. number_of (written R g x.slot x.cell) f s) one.0 ∙ (ap (λ t. number_of (written R f t x.cell) f s) one.1
+    ∙ (number-same R f s x.cell (whole-rewritten fs cs w)
+    ∙ (ap (λ o. over o (Some x.cell)) rest ∙ over-over (number_of fs f s) (carried_at f s cs) x.cell))))
+    (λ ns. number-other R f s x.frame x.slot x.cell
+    (λ e d. let no : true ≡ false = sym (rw (e, d) (same-itself x.frame x.slot)) ∙ ns in absurd (cc)) ∙ rest)
 
 -- ---- before
 
@@ -113,4 +113,4 @@ diff-by true true false f s a b e = rw e refl
 pub diff-changed : (before now : List PlainFrame) (f s : ℕ) → diff_at before now f s ≡ change_at f s (changed (number_of before f s) (number_of now f s))
 diff-changed before now f s =
     diff-by (number_at before f s) (number_at now f s) (same_number (cell_at before f s Unknown) (cell_at now f s Unknown)) f s
-      (cell_at before f s Unknown) (cell_at now f s Unknown) refl
+    (cell_at before f s Unknown) (cell_at now f s Unknown) refl

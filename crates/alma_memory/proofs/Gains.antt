@@ -41,9 +41,9 @@ both-ways false false h k = refl
 below-suc : (s k : ℕ) → s < suc k → (s < k) ⊎ (s ≡ k)
 below-suc s k l = choose (nat_lt s k) refl
   where
-  choose : (b : Bool) → nat_lt s k ≡ b → (s < k) ⊎ (s ≡ k)
-  choose true e = inl (ltb-true s k e)
-  choose false e = inr (grind (arith, nat_tests))
+    choose : (b : Bool) → nat_lt s k ≡ b → (s < k) ⊎ (s ≡ k)
+    choose true e = inl (ltb-true s k e)
+    choose false e = inr (grind (arith, nat_tests))
 
 -- ---- places of changes
 
@@ -56,8 +56,9 @@ has-left : (f s : ℕ) (xs ys : List (Change Cell)) → has_place f s xs ≡ tru
 has-left f s [] ys h = absurd (cc)
 has-left f s (x ∷ xs) ys h =
     elim (or-cases (is_same_place x.frame x.slot f s) (has_place f s xs) h) [
-      inl a ↦ or-first (is_same_place x.frame x.slot f s) (has_place f s (xs ++ ys)) a
-    | inr b ↦ or-second (is_same_place x.frame x.slot f s) (has_place f s (xs ++ ys)) (has-left f s xs ys b) ]
+      | inl a ↦ or-first (is_same_place x.frame x.slot f s) (has_place f s (xs ++ ys)) a
+      | inr b ↦ or-second (is_same_place x.frame x.slot f s) (has_place f s (xs ++ ys)) (has-left f s xs ys b)
+    ]
 
 has-right : (f s : ℕ) (xs ys : List (Change Cell)) → has_place f s ys ≡ true → has_place f s (xs ++ ys) ≡ true
 has-right f s [] ys h = h
@@ -67,9 +68,9 @@ none-carried : (f s : ℕ) (cs : Carry Cell) → has_place f s cs ≡ false → 
 none-carried f s [] h = refl
 none-carried f s (x ∷ cs) h = choose (is_same_place x.frame x.slot f s) (none-carried f s cs) h
   where
-  choose : (b : Bool) → (has_place f s cs ≡ false → carried_at f s cs ≡ None) → b || has_place f s cs ≡ false → if_true b (λ _. Some x.cell) (λ _. carried_at f s cs) ≡ None
-  choose true ih e = absurd (cc)
-  choose false ih e = ih e
+    choose : (b : Bool) → (has_place f s cs ≡ false → carried_at f s cs ≡ None) → b || has_place f s cs ≡ false → if_true b (λ _. Some x.cell) (λ _. carried_at f s cs) ≡ None
+    choose true ih e = absurd (cc)
+    choose false ih e = ih e
 
 -- ---- each change is one
 
@@ -86,10 +87,10 @@ module _ (before now : List PlainFrame) where
   all-diff : (f s : ℕ) → AllChanged (diff_at before now f s)
   all-diff f s = choose (differs before now f s) refl
     where
-    choose : (b : Bool) → differs before now f s ≡ b →
-        AllChanged (if b then (record { frame = f; slot = s; cell = cell_at now f s Unknown }) ∷ [] else [])
-    choose true e = ((e, refl), tt)
-    choose false e = tt
+      choose : (b : Bool) → differs before now f s ≡ b →
+          AllChanged (if b then (record { frame = f; slot = s; cell = cell_at now f s Unknown }) ∷ [] else [])
+      choose true e = ((e, refl), tt)
+      choose false e = tt
 
   all-slots : (f n : ℕ) → AllChanged (slot_diffs before now f n)
   all-slots f zero = tt
@@ -114,9 +115,10 @@ module _ (before now : List PlainFrame) where
   sound f s [] h e = absurd (cc)
   sound f s (x ∷ xs) h e =
       elim (or-cases (is_same_place x.frame x.slot f s) (has_place f s xs) e) [
-        inl a ↦ (let one = same-place-is x.frame x.slot f s a in
-          ap (λ g. differs before now g s) (sym one.0) ∙ (ap (λ t. differs before now x.frame t) (sym one.1) ∙ h.0.0))
-      | inr b ↦ sound f s xs h.1 b ]
+        | inl a ↦ (let one = same-place-is x.frame x.slot f s a in
+            ap (λ g. differs before now g s) (sym one.0) ∙ (ap (λ t. differs before now x.frame t) (sym one.1) ∙ h.0.0))
+        | inr b ↦ sound f s xs h.1 b
+      ]
 
   -- ---- each place that differs is changed
 
@@ -129,18 +131,20 @@ module _ (before now : List PlainFrame) where
   has-slots f s zero d l = absurd (omega arith)
   has-slots f s (suc n) d l =
       elim (below-suc s n l) [
-        inl lt ↦ has-left f s (slot_diffs before now f n) (diff_at before now f n) (has-slots f s n d lt)
-      | inr e ↦ has-right f s (slot_diffs before now f n) (diff_at before now f n)
-          (ap (λ t. has_place f s (diff_at before now f t)) (sym e) ∙ has-diff f s d) ]
+        | inl lt ↦ has-left f s (slot_diffs before now f n) (diff_at before now f n) (has-slots f s n d lt)
+        | inr e ↦ has-right f s (slot_diffs before now f n) (diff_at before now f n)
+            (ap (λ t. has_place f s (diff_at before now f t)) (sym e) ∙ has-diff f s d)
+      ]
 
   has-frames : (f s n : ℕ) → differs before now f s ≡ true → f < n → s < length (get_or now f no_frame).cells → has_place f s (frame_diffs before now n) ≡ true
   has-frames f s zero d l w = absurd (omega arith)
   has-frames f s (suc n) d l w =
       elim (below-suc f n l) [
-        inl lt ↦ has-left f s (frame_diffs before now n) (slot_diffs before now n (length (get_or now n no_frame).cells)) (has-frames f s n d lt w)
-      | inr e ↦ has-right f s (frame_diffs before now n) (slot_diffs before now n (length (get_or now n no_frame).cells))
-          (ap (λ g. has_place f s (slot_diffs before now g (length (get_or now g no_frame).cells))) (sym e)
-          ∙ has-slots f s (length (get_or now f no_frame).cells) d w) ]
+        | inl lt ↦ has-left f s (frame_diffs before now n) (slot_diffs before now n (length (get_or now n no_frame).cells)) (has-frames f s n d lt w)
+        | inr e ↦ has-right f s (frame_diffs before now n) (slot_diffs before now n (length (get_or now n no_frame).cells))
+            (ap (λ g. has_place f s (slot_diffs before now g (length (get_or now g no_frame).cells))) (sym e)
+            ∙ has-slots f s (length (get_or now f no_frame).cells) d w)
+      ]
 
   has-between : (low n f s : ℕ) → differs before now f s ≡ true → low ≤ f → f < low + n → s < length (get_or now f no_frame).cells →
       has_place f s (diffs_between before now low n) ≡ true
@@ -148,20 +152,22 @@ module _ (before now : List PlainFrame) where
   has-between low (suc n) f s d le l w =
       let l' : f < suc (low + n) = omega arith in
       elim (below-suc f (low + n) l') [
-        inl lt ↦ has-left f s (diffs_between before now low n) (slot_diffs before now (low + n) (length (get_or now (low + n) no_frame).cells))
-          (has-between low n f s d le lt w)
-      | inr e ↦ has-right f s (diffs_between before now low n) (slot_diffs before now (low + n) (length (get_or now (low + n) no_frame).cells))
-          (ap (λ g. has_place f s (slot_diffs before now g (length (get_or now g no_frame).cells))) (sym e)
-          ∙ has-slots f s (length (get_or now f no_frame).cells) d w) ]
+        | inl lt ↦ has-left f s (diffs_between before now low n) (slot_diffs before now (low + n) (length (get_or now (low + n) no_frame).cells))
+            (has-between low n f s d le lt w)
+        | inr e ↦ has-right f s (diffs_between before now low n) (slot_diffs before now (low + n) (length (get_or now (low + n) no_frame).cells))
+            (ap (λ g. has_place f s (slot_diffs before now g (length (get_or now g no_frame).cells))) (sym e)
+            ∙ has-slots f s (length (get_or now f no_frame).cells) d w)
+      ]
 
   has-at : (f s : ℕ) (cs : Carry Cell) → has_place f s cs ≡ true → differs before now f s ≡ true → has_place f s (diffs_at before now cs) ≡ true
   has-at f s [] h d = absurd (cc)
   has-at f s (x ∷ cs) h d =
       elim (or-cases (is_same_place x.frame x.slot f s) (has_place f s cs) h) [
-        inl a ↦ (let one = same-place-is x.frame x.slot f s a in
-          has-left f s (diff_at before now x.frame x.slot) (diffs_at before now cs)
+        | inl a ↦ (let one = same-place-is x.frame x.slot f s a in
+            has-left f s (diff_at before now x.frame x.slot) (diffs_at before now cs)
             (ap (λ g. has_place f s (diff_at before now g x.slot)) one.0 ∙ (ap (λ t. has_place f s (diff_at before now f t)) one.1 ∙ has-diff f s d)))
-      | inr b ↦ has-right f s (diff_at before now x.frame x.slot) (diffs_at before now cs) (has-at f s cs b d) ]
+        | inr b ↦ has-right f s (diff_at before now x.frame x.slot) (diffs_at before now cs) (has-at f s cs b d)
+      ]
 
   -- ---- what a carry gains
 
@@ -191,10 +197,10 @@ module _ (before now : List PlainFrame) where
       ((f s : ℕ) → differs before now f s ≡ true → has_place f s xs ≡ true) → ((f s : ℕ) → differs before now f s ≡ true → has_place f s ys ≡ true) → SameGain xs ys
   same-gain xs ys h k cx cy = λ cs r.
       same-carry (with_changes xs cs) (with_changes ys cs) (rising-all xs cs r) (rising-all ys cs r)
-        (λ f s. carried-changes f s xs cs h
-          ∙ (ap (λ b. if_true b (λ _. Some (cell_at now f s Unknown)) (λ _. carried_at f s cs))
-              (both-ways (has_place f s xs) (has_place f s ys) (λ e. cy f s (sound f s xs h e)) (λ e. cx f s (sound f s ys k e)))
-          ∙ sym (carried-changes f s ys cs k)))
+      (λ f s. carried-changes f s xs cs h
+      ∙ (ap (λ b. if_true b (λ _. Some (cell_at now f s Unknown)) (λ _. carried_at f s cs))
+      (both-ways (has_place f s xs) (has_place f s ys) (λ e. cy f s (sound f s xs h e)) (λ e. cx f s (sound f s ys k e)))
+      ∙ sym (carried-changes f s ys cs k)))
 
 -- ---- the places that are looked at
 
@@ -213,19 +219,19 @@ unchanged now f s h e = let same = h f s e in rw (e, same) refl
 pub or-above : (f n : ℕ) → (f < n) ⊎ (n ≤ f)
 or-above f n = choose (nat_lt f n) refl
   where
-  choose : (b : Bool) → nat_lt f n ≡ b → (f < n) ⊎ (n ≤ f)
-  choose true e = inl (ltb-true f n e)
-  choose false e = inr (grind (arith, nat_tests))
+    choose : (b : Bool) → nat_lt f n ≡ b → (f < n) ⊎ (n ≤ f)
+    choose true e = inl (ltb-true f n e)
+    choose false e = inr (grind (arith, nat_tests))
 
 -- a place of a shared frame differs only where a note names it
 shared-named : (n : ℕ) (now above : List PlainFrame) (cs : Carry Cell) (before : List PlainFrame) (f s : ℕ) → n ≤ length now → f < n →
     before ≡ take n (rewritten now cs) ++ above → AreWhole now → HoldNumbers now → differs before now f s ≡ true → has_place f s cs ≡ false → ⊥
 shared-named n now above cs before f s l lt p w h d e =
     let same : number_of before f s ≡ number_of now f s =
-        ap (λ gs. number_of gs f s) p ∙ (number-shared n now above cs f s l lt ∙ (number-rewritten now cs f s w
-        ∙ (ap (over (number_of now f s)) (none-carried f s cs e) ∙ over-none (number_of now f s)))) in
+    ap (λ gs. number_of gs f s) p ∙ (number-shared n now above cs f s l lt ∙ (number-rewritten now cs f s w
+    ∙ (ap (over (number_of now f s)) (none-carried f s cs e) ∙ over-none (number_of now f s)))) in
     let none : diff_at before now f s ≡ [] =
-        diff-changed before now f s ∙ ap (change_at f s) (ap (λ o. changed o (number_of now f s)) same ∙ unchanged now f s h (parts before now f s d).1) in
+    diff-changed before now f s ∙ ap (change_at f s) (ap (λ o. changed o (number_of now f s)) same ∙ unchanged now f s h (parts before now f s d).1) in
     let no : true ≡ false = sym (has-diff before now f s d) ∙ ap (has_place f s) none in
     absurd (cc)
 
@@ -235,22 +241,24 @@ covered : (n count : ℕ) (now above : List PlainFrame) (cs : Carry Cell) (befor
     has_place f s (diffs_at before now cs ++ diffs_between before now n count) ≡ true
 covered n count now above cs before f s l q p w h d =
     elim (or-above f n) [
-      inl lt ↦ has-left f s (diffs_at before now cs) (diffs_between before now n count)
-        (has-at before now f s cs (named (has_place f s cs) refl lt) d)
-    | inr le ↦ has-right f s (diffs_at before now cs) (diffs_between before now n count)
-        (has-between before now n count f s d le (below le) (number-cell now f s w (parts before now f s d).1)) ]
+      | inl lt ↦ has-left f s (diffs_at before now cs) (diffs_between before now n count)
+          (has-at before now f s cs (named (has_place f s cs) refl lt) d)
+      | inr le ↦ has-right f s (diffs_at before now cs) (diffs_between before now n count)
+          (has-between before now n count f s d le (below le) (number-cell now f s w (parts before now f s d).1))
+    ]
   where
-  named : (b : Bool) → has_place f s cs ≡ b → f < n → has_place f s cs ≡ true
-  named true e lt = e
-  named false e lt = absurd (shared-named n now above cs before f s l lt p w h d e)
-  below : n ≤ f → f < n + count
-  below le =
-      let len = shared-length n now cs l in
-      let sum = length-append (take n (rewritten now cs)) above in
-      let b : f < length before = number-frame before f s (parts before now f s d).0 in
-      let a : f < length now = number-frame now f s (parts before now f s d).1 in
-      let wide : length before ≡ length (take n (rewritten now cs) ++ above) = ap length p in
-      omega (arith, len, sum, b, a, wide, q)
+    named : (b : Bool) → has_place f s cs ≡ b → f < n → has_place f s cs ≡ true
+    named true e lt = e
+    named false e lt = absurd (shared-named n now above cs before f s l lt p w h d e)
+
+    below : n ≤ f → f < n + count
+    below le =
+        let len = shared-length n now cs l in
+        let sum = length-append (take n (rewritten now cs)) above in
+        let b : f < length before = number-frame before f s (parts before now f s d).0 in
+        let a : f < length now = number-frame now f s (parts before now f s d).1 in
+        let wide : length before ≡ length (take n (rewritten now cs) ++ above) = ap length p in
+        omega (arith, len, sum, b, a, wide, q)
 
 -- what is found there gives a carry all changes
 pub found-gain : (n count : ℕ) (now above : List PlainFrame) (cs : Carry Cell) (before : List PlainFrame) (found : List (Change Cell)) → n ≤ length now →
@@ -259,9 +267,9 @@ pub found-gain : (n count : ℕ) (now above : List PlainFrame) (cs : Carry Cell)
 found-gain n count now above cs before found l q p w h e =
     let looked : List (Change Cell) = diffs_at before now cs ++ diffs_between before now n count in
     let one : SameGain looked (diffs before now) =
-        same-gain before now looked (diffs before now)
-          (all-append before now (diffs_at before now cs) (diffs_between before now n count) (all-at before now cs) (all-between before now n count))
-          (all-frames before now (length now))
-          (λ f s d. covered n count now above cs before f s l q p w h d)
-          (λ f s d. has-frames before now f s (length now) d (number-frame now f s (parts before now f s d).1) (number-cell now f s w (parts before now f s d).1)) in
+    same-gain before now looked (diffs before now)
+    (all-append before now (diffs_at before now cs) (diffs_between before now n count) (all-at before now cs) (all-between before now n count))
+    (all-frames before now (length now))
+    (λ f s d. covered n count now above cs before f s l q p w h d)
+    (λ f s d. has-frames before now f s (length now) d (number-frame now f s (parts before now f s d).1) (number-cell now f s w (parts before now f s d).1)) in
     rw e one

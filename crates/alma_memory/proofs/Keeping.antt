@@ -34,14 +34,14 @@ kept-held h trail fs es es' found top p r g t a b =
     let j : length es - 1 < length es = omega arith in
     let old : entry_at held h ≡ entry_of trail fs base = get_or-map (entry_of trail fs) es (h - 1) no_saved no_entry i in
     let topmost : top_of held ≡ entry_of trail fs top =
-        ap (λ n. get_or held (n - 1) no_entry) wide ∙ (get_or-map (entry_of trail fs) es (length es - 1) top no_entry j ∙ ap (entry_of trail fs) (sym t)) in
+    ap (λ n. get_or held (n - 1) no_entry) wide ∙ (get_or-map (entry_of trail fs) es (length es - 1) top no_entry j ∙ ap (entry_of trail fs) (sym t)) in
     let gains : with_changes found base.carry ≡ with_changes (diffs (top_of held).frames fs) base.carry =
-        g base.carry r ∙ ap (λ (x : PlainEntry). with_changes (diffs x.frames fs) base.carry) (sym topmost) in
+    g base.carry r ∙ ap (λ (x : PlainEntry). with_changes (diffs x.frames fs) base.carry) (sym topmost) in
     let new : entry_of trail fs (saved_with base found) ≡ with_carry (entry_at held h) (with_changes (diffs (top_of held).frames fs) (entry_at held h).carry) =
-        ap (λ cs. with_carry (entry_of trail fs base) cs) gains
-        ∙ ap (λ (x : PlainEntry). with_carry x (with_changes (diffs (top_of held).frames fs) x.carry)) (sym old) in
+    ap (λ cs. with_carry (entry_of trail fs base) cs) gains
+    ∙ ap (λ (x : PlainEntry). with_carry x (with_changes (diffs (top_of held).frames fs) x.carry)) (sym old) in
     let put : held_of trail fs (set es (h - 1) (saved_with base found)) ≡ set held (h - 1) (entry_of trail fs (saved_with base found)) =
-        map-set (entry_of trail fs) es (h - 1) (saved_with base found) in
+    map-set (entry_of trail fs) es (h - 1) (saved_with base found) in
     ap (held_of trail fs) p ∙ (sym (take-map (entry_of trail fs) (length es - 1) (set es (h - 1) (saved_with base found)))
     ∙ (ap (take (length es - 1)) put ∙ (ap (λ x. take (length es - 1) (set held (h - 1) x)) new
     ∙ ap (λ n. take (n - 1) (set held (h - 1) (with_carry (entry_at held h) (with_changes (diffs (top_of held).frames fs) (entry_at held h).carry)))) (sym wide))))
@@ -58,6 +58,6 @@ kept-trailed h trail fs es es' found p a b t =
       fits = t.fits;
       live = t.live;
       rises = rw p (rises-take (length es - 1) 0 (length trail) gained
-        (rises-set 0 (length trail) es (h - 1) (saved_with (get_or es (h - 1) no_saved) found) no_saved refl t.rises));
+          (rises-set 0 (length trail) es (h - 1) (saved_with (get_or es (h - 1) no_saved) found) no_saved refl t.rises));
       idle = λ e. absurd (omega (arith, len, e));
     }

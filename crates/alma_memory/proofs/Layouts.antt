@@ -32,7 +32,7 @@ blank-more start cells kinds i d p l m =
     let up : length start ≤ length (take i (map blank_of kinds)) = rw (length-take-le i (map blank_of kinds) (omega arith)) l in
     let here : get_or (map blank_of kinds) i (blank_of d) ≡ blank_of (get_or kinds i d) = get_or-map blank_of kinds i d in
     let more : take (i + 1) (map blank_of kinds) ≡ take i (map blank_of kinds) ++ blank_of (get_or kinds i d) ∷ [] =
-        take_more (map blank_of kinds) i (blank_of d) lt ∙ ap (λ x. take i (map blank_of kinds) ++ x ∷ []) here in
+    take_more (map blank_of kinds) i (blank_of d) lt ∙ ap (λ x. take i (map blank_of kinds) ++ x ∷ []) here in
     rw (p, append_assoc) (ap (λ xs. start ++ xs) (sym (ap (drop (length start)) more ∙ drop-append-le (length start) (take i (map blank_of kinds)) (blank_of (get_or kinds i d) ∷ []) up)))
 
 pub kinds-length : (low top : ℕ) (rs : List Run) → RunsRise low rs top → length (kinds_of low rs) + low ≡ top
@@ -40,7 +40,7 @@ kinds-length low top [] h = rw h (omega arith)
 kinds-length low top (r ∷ rs) h =
     let rest : length (kinds_of r.end rs) + r.end ≡ top = kinds-length r.end top rs h.1 in
     let len : length (replicate (r.end - low) r.kind ++ kinds_of r.end rs) ≡ (r.end - low) + length (kinds_of r.end rs) =
-        length-append (replicate (r.end - low) r.kind) (kinds_of r.end rs) ∙ ap (λ n. n + length (kinds_of r.end rs)) (length-replicate (r.end - low) r.kind) in
+    length-append (replicate (r.end - low) r.kind) (kinds_of r.end rs) ∙ ap (λ n. n + length (kinds_of r.end rs)) (length-replicate (r.end - low) r.kind) in
     omega (arith, h.0)
 
 pub mix-length : (fs : List PlainFrame) (me at : ℕ) (c : Cell) → FitsMix (IsLive fs) c → length (mix_cells me at c) ≡ 2
@@ -64,7 +64,7 @@ taken-length fs (suc n) p w live e =
     let some : 1 ≤ p.len = omega (arith, e) in
     let end = place-end fs p w live some in
     let le : p.len ≤ length (drop p.slot (get_or fs p.frame no_frame).cells) =
-        rw (length-drop p.slot (get_or fs p.frame no_frame).cells) (omega (arith, end)) in
+    rw (length-drop p.slot (get_or fs p.frame no_frame).cells) (omega (arith, end)) in
     length-take-le p.len (drop p.slot (get_or fs p.frame no_frame).cells) le ∙ e
 
 pub copied-length : (fs : List PlainFrame) (n : ℕ) (c : Cell) → AreWhole fs → FitsPlace (IsLive fs) n c → length (copied_cells fs c) ≡ n
@@ -129,7 +129,7 @@ mix-room fs h args n i w f l m =
     let a = args-length fs h.params args n w f (omega arith) in
     let b = params-more n h.params l in
     let two : length (param_kinds (get_or h.params n no_param).kind (get_or h.params n no_param).cells) ≡ 2 =
-        ap (λ k. length (param_kinds k (get_or h.params n no_param).cells)) m in
+    ap (λ k. length (param_kinds k (get_or h.params n no_param).cells)) m in
     let c = params-take-le (n + 1) h.params in
     let d = head-room h i in
     omega (arith, a, b, two, c, d)
@@ -165,9 +165,11 @@ pub runs-step : (runs : List Run) (i low top : ℕ) (run : Run) (kinds kinds' al
 runs-step runs i low top run kinds kinds' all e p k r =
     let split : drop i runs ≡ run ∷ drop (i + 1) runs = read-drop run runs i e in
     let rise : RunsRise low (run ∷ drop (i + 1) runs) top = rw split at r in
-    let more : kinds ++ (replicate (run.end - low) run.kind ++ kinds_of run.end (drop (i + 1) runs)) ≡ all = rw split at k in
-    (ap (λ ks. ks ++ kinds_of run.end (drop (i + 1) runs)) p
-      ∙ (append_assoc kinds (replicate (run.end - low) run.kind) (kinds_of run.end (drop (i + 1) runs)) ∙ more), rise.1)
+    let more : kinds ++ (replicate (run.end - low) run.kind ++ kinds_of run.end (drop (i + 1) runs)) ≡ all = rw split at k in (
+      ap (λ ks. ks ++ kinds_of run.end (drop (i + 1) runs)) p
+          ∙ (append_assoc kinds (replicate (run.end - low) run.kind) (kinds_of run.end (drop (i + 1) runs)) ∙ more),
+      rise.1,
+    )
 
 -- the run that comes next ends above the slots so far
 pub run-rises : (runs : List Run) (i low top : ℕ) (run : Run) → slice_get runs i ≡ Some run → RunsRise low (drop i runs) top → low < run.end

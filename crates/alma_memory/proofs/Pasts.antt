@@ -53,15 +53,15 @@ rewritten-with fs x (y ∷ cs) =
     let P : Carry Cell → Type 0 = (λ zs. rewritten fs zs ≡ written (rewritten fs (y ∷ cs)) x.frame x.slot x.cell) in
     let q = is_same_place x.frame x.slot y.frame y.slot in
     if-keeps P (is_before x.frame x.slot y.frame y.slot) (λ _. x ∷ y ∷ cs) (λ _. if_true q (λ _. x ∷ cs) (λ _. y ∷ with_change x cs))
-      (λ _. refl)
-      (λ _. if-keeps P q (λ _. x ∷ cs) (λ _. y ∷ with_change x cs)
-        (λ s. let one = same-place-is x.frame x.slot y.frame y.slot s in
-          sym (ap (λ f. written (written (rewritten fs cs) f y.slot y.cell) x.frame x.slot x.cell) (sym one.0)
-          ∙ (ap (λ t. written (written (rewritten fs cs) x.frame t y.cell) x.frame x.slot x.cell) (sym one.1)
-          ∙ written-again (rewritten fs cs) x.frame x.slot y.cell x.cell)))
-        (λ ns. ap (λ gs. written gs y.frame y.slot y.cell) (rewritten-with fs x cs)
-          ∙ written-apart (rewritten fs cs) x.frame x.slot y.frame y.slot x.cell y.cell
-            (λ e d. let no : true ≡ false = sym (rw (← e, ← d) (same-itself x.frame x.slot)) ∙ ns in absurd (cc))))
+    (λ _. refl)
+    (λ _. if-keeps P q (λ _. x ∷ cs) (λ _. y ∷ with_change x cs)
+    (λ s. let one = same-place-is x.frame x.slot y.frame y.slot s in
+    sym (ap (λ f. written (written (rewritten fs cs) f y.slot y.cell) x.frame x.slot x.cell) (sym one.0)
+    ∙ (ap (λ t. written (written (rewritten fs cs) x.frame t y.cell) x.frame x.slot x.cell) (sym one.1)
+    ∙ written-again (rewritten fs cs) x.frame x.slot y.cell x.cell)))
+    (λ ns. ap (λ gs. written gs y.frame y.slot y.cell) (rewritten-with fs x cs)
+    ∙ written-apart (rewritten fs cs) x.frame x.slot y.frame y.slot x.cell y.cell
+    (λ e d. let no : true ≡ false = sym (rw (← e, ← d) (same-itself x.frame x.slot)) ∙ ns in absurd (cc))))
 
 -- a write to one of the first frames
 pub take-written : (n : ℕ) (fs : List PlainFrame) (f s : ℕ) (c : Cell) → take n (written fs f s c) ≡ written (take n fs) f s c

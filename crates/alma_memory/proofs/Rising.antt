@@ -50,7 +50,7 @@ same-itself a b = grind (arith, nat_tests)
 -- a carry has for the place of a change its cell, and for others what it had
 pick : {A : Type 0} (b q t u : Bool) (x y r : A) → (q ≡ true → u ≡ t) → (q ≡ false → t ≡ true → u ≡ false) →
     if_true b (λ _. if_true t (λ _. x) (λ _. if_true u (λ _. y) (λ _. r)))
-      (λ _. if_true q (λ _. if_true t (λ _. x) (λ _. r)) (λ _. if_true u (λ _. y) (λ _. if_true t (λ _. x) (λ _. r))))
+    (λ _. if_true q (λ _. if_true t (λ _. x) (λ _. r)) (λ _. if_true u (λ _. y) (λ _. if_true t (λ _. x) (λ _. r))))
     ≡ if_true t (λ _. x) (λ _. if_true u (λ _. y) (λ _. r))
 pick true q t u x y r h k = refl
 pick false true true u x y r h k = refl
@@ -77,9 +77,9 @@ carried-with f s x (y ∷ cs) =
     if-push (carried_at f s) b (λ _. x ∷ y ∷ cs) (λ _. if_true q (λ _. x ∷ cs) (λ _. y ∷ with_change x cs))
     ∙ (ap (λ z. if_true b (λ _. if_true t (λ _. Some x.cell) (λ _. if_true u (λ _. Some y.cell) (λ _. carried_at f s cs))) (λ _. z)) deep
     ∙ (ap (λ z. if_true b (λ _. if_true t (λ _. Some x.cell) (λ _. if_true u (λ _. Some y.cell) (λ _. carried_at f s cs)))
-        (λ _. if_true q (λ _. if_true t (λ _. Some x.cell) (λ _. carried_at f s cs)) (λ _. if_true u (λ _. Some y.cell) (λ _. z)))) ih
+    (λ _. if_true q (λ _. if_true t (λ _. Some x.cell) (λ _. carried_at f s cs)) (λ _. if_true u (λ _. Some y.cell) (λ _. z)))) ih
     ∙ pick b q t u (Some x.cell) (Some y.cell) (carried_at f s cs)
-      (same-trans x.frame x.slot y.frame y.slot f s) (apart-trans x.frame x.slot y.frame y.slot f s)))
+    (same-trans x.frame x.slot y.frame y.slot f s) (apart-trans x.frame x.slot y.frame y.slot f s)))
 
 -- what comes after a place comes after each place before it
 above-trans : (a b c d : ℕ) (cs : Carry Cell) → is_before a b c d ≡ true → IsAbove c d cs → IsAbove a b cs
@@ -90,21 +90,21 @@ above-with : (f s : ℕ) (x : Change Cell) (cs : Carry Cell) → IsAbove f s cs 
 above-with f s x [] h e = (e, tt)
 above-with f s x (y ∷ cs) h e =
     if-keeps (IsAbove f s) (is_before x.frame x.slot y.frame y.slot) (λ _. x ∷ y ∷ cs)
-      (λ _. if_true (is_same_place x.frame x.slot y.frame y.slot) (λ _. x ∷ cs) (λ _. y ∷ with_change x cs))
-      (λ _. (e, h))
-      (λ _. if-keeps (IsAbove f s) (is_same_place x.frame x.slot y.frame y.slot) (λ _. x ∷ cs) (λ _. y ∷ with_change x cs)
-        (λ _. (e, h.1)) (λ _. (h.0, above-with f s x cs h.1 e)))
+    (λ _. if_true (is_same_place x.frame x.slot y.frame y.slot) (λ _. x ∷ cs) (λ _. y ∷ with_change x cs))
+    (λ _. (e, h))
+    (λ _. if-keeps (IsAbove f s) (is_same_place x.frame x.slot y.frame y.slot) (λ _. x ∷ cs) (λ _. y ∷ with_change x cs)
+    (λ _. (e, h.1)) (λ _. (h.0, above-with f s x cs h.1 e)))
 
 -- places that rise do so after a change
 pub rising-with : (x : Change Cell) (cs : Carry Cell) → IsRising cs → IsRising (with_change x cs)
 rising-with x [] r = (tt, tt)
 rising-with x (y ∷ cs) r =
     if-keeps IsRising (is_before x.frame x.slot y.frame y.slot) (λ _. x ∷ y ∷ cs)
-      (λ _. if_true (is_same_place x.frame x.slot y.frame y.slot) (λ _. x ∷ cs) (λ _. y ∷ with_change x cs))
-      (λ b. ((b, above-trans x.frame x.slot y.frame y.slot cs b r.0), r))
-      (λ nb. if-keeps IsRising (is_same_place x.frame x.slot y.frame y.slot) (λ _. x ∷ cs) (λ _. y ∷ with_change x cs)
-        (λ s. let one = same-place-is x.frame x.slot y.frame y.slot s in (rw (one.0, one.1) r.0, r.1))
-        (λ ns. (above-with y.frame y.slot x cs r.0 (neither x.frame x.slot y.frame y.slot nb ns), rising-with x cs r.1)))
+    (λ _. if_true (is_same_place x.frame x.slot y.frame y.slot) (λ _. x ∷ cs) (λ _. y ∷ with_change x cs))
+    (λ b. ((b, above-trans x.frame x.slot y.frame y.slot cs b r.0), r))
+    (λ nb. if-keeps IsRising (is_same_place x.frame x.slot y.frame y.slot) (λ _. x ∷ cs) (λ _. y ∷ with_change x cs)
+    (λ s. let one = same-place-is x.frame x.slot y.frame y.slot s in (rw (one.0, one.1) r.0, r.1))
+    (λ ns. (above-with y.frame y.slot x cs r.0 (neither x.frame x.slot y.frame y.slot nb ns), rising-with x cs r.1)))
 
 pub rising-all : (xs : List (Change Cell)) (cs : Carry Cell) → IsRising cs → IsRising (with_changes xs cs)
 rising-all [] cs r = r
@@ -164,13 +164,13 @@ same-carry (x ∷ xs) (y ∷ ys) rx ry h =
     let na = truth (is_before y.frame y.slot x.frame x.slot) (no-lower y x ys xs rx (sym (h y.frame y.slot))) in
     let one = same-first x.frame x.slot y.frame y.slot nb na in
     let cell : Some x.cell ≡ Some y.cell = sym (first-carried x xs) ∙ (h x.frame x.slot
-        ∙ (ap (λ f. carried_at f x.slot (y ∷ ys)) one.0 ∙ (ap (λ s. carried_at y.frame s (y ∷ ys)) one.1 ∙ first-carried y ys))) in
+    ∙ (ap (λ f. carried_at f x.slot (y ∷ ys)) one.0 ∙ (ap (λ s. carried_at y.frame s (y ∷ ys)) one.1 ∙ first-carried y ys))) in
     let first : x ≡ y = change-same x y one.0 one.1 (cc) in
     let agree : (f s : ℕ) → carried_at f s xs ≡ carried_at f s ys = (λ f s.
-        rest-agrees (is_same_place y.frame y.slot f s) y.cell (carried_at f s xs) (carried_at f s ys)
-          (λ q. let at = same-place-is y.frame y.slot f s q in
-            (rw (← at.0, ← at.1, ← one.0, ← one.1) (absent-below x.frame x.slot xs rx.0), rw (← at.0, ← at.1) (absent-below y.frame y.slot ys ry.0)))
-          (rw first at (h f s))) in
+    rest-agrees (is_same_place y.frame y.slot f s) y.cell (carried_at f s xs) (carried_at f s ys)
+    (λ q. let at = same-place-is y.frame y.slot f s q in
+    (rw (← at.0, ← at.1, ← one.0, ← one.1) (absent-below x.frame x.slot xs rx.0), rw (← at.0, ← at.1) (absent-below y.frame y.slot ys ry.0)))
+    (rw first at (h f s))) in
     let rest : xs ≡ ys = same-carry xs ys rx.1 ry.1 agree in
     cc
 
@@ -189,11 +189,11 @@ back-none x (y ∷ cs) e =
     let none = not-found (is_same_place y.frame y.slot x.frame x.slot) y.cell (carried_at x.frame x.slot cs) e in
     let apart : q ≡ false = same-place-swap x.frame x.slot y.frame y.slot ∙ none.0 in
     if-keeps P (is_before x.frame x.slot y.frame y.slot) (λ _. x ∷ y ∷ cs) (λ _. if_true q (λ _. x ∷ cs) (λ _. y ∷ with_change x cs))
-      (λ _. if-true (is_same_place x.frame x.slot x.frame x.slot) (λ _. y ∷ cs) (λ _. x ∷ without_place x.frame x.slot (y ∷ cs)) (same-itself x.frame x.slot))
-      (λ _. if-keeps P q (λ _. x ∷ cs) (λ _. y ∷ with_change x cs)
-        (λ s. let no : true ≡ false = sym s ∙ apart in absurd (cc))
-        (λ _. if-false (is_same_place y.frame y.slot x.frame x.slot) (λ _. with_change x cs) (λ _. y ∷ without_place x.frame x.slot (with_change x cs)) none.0
-          ∙ ap (λ rest. y ∷ rest) (back-none x cs none.1)))
+    (λ _. if-true (is_same_place x.frame x.slot x.frame x.slot) (λ _. y ∷ cs) (λ _. x ∷ without_place x.frame x.slot (y ∷ cs)) (same-itself x.frame x.slot))
+    (λ _. if-keeps P q (λ _. x ∷ cs) (λ _. y ∷ with_change x cs)
+    (λ s. let no : true ≡ false = sym s ∙ apart in absurd (cc))
+    (λ _. if-false (is_same_place y.frame y.slot x.frame x.slot) (λ _. with_change x cs) (λ _. y ∷ without_place x.frame x.slot (with_change x cs)) none.0
+    ∙ ap (λ rest. y ∷ rest) (back-none x cs none.1)))
 
 -- a place that had a cell has it again
 back-some : (x : Change Cell) (v : Cell) (cs : Carry Cell) → IsRising cs → carried_at x.frame x.slot cs ≡ Some v → with_cell x.frame x.slot v (with_change x cs) ≡ cs
@@ -204,18 +204,18 @@ back-some x v (y ∷ cs) r e =
     let u = is_same_place y.frame y.slot x.frame x.slot in
     let swap : u ≡ q = same-place-swap y.frame y.slot x.frame x.slot in
     if-keeps P (is_before x.frame x.slot y.frame y.slot) (λ _. x ∷ y ∷ cs) (λ _. if_true q (λ _. x ∷ cs) (λ _. y ∷ with_change x cs))
-      (λ b. let none = absent-below x.frame x.slot (y ∷ cs) (b, above-trans x.frame x.slot y.frame y.slot cs b r.0) in
-        let no : None ≡ Some v = sym none ∙ e in absurd (cc))
-      (λ _. if-keeps P q (λ _. x ∷ cs) (λ _. y ∷ with_change x cs)
-        (λ s. let one = same-place-is x.frame x.slot y.frame y.slot s in
-          let there : Some y.cell ≡ Some v = sym (if-true u (λ _. Some y.cell) (λ _. carried_at x.frame x.slot cs) (swap ∙ s)) ∙ e in
-          let cell : v ≡ y.cell = cc in
-          let x' : Change Cell = record x { cell = v } in
-          if-true (is_same_place x.frame x.slot x.frame x.slot) (λ _. x' ∷ cs) (λ _. x ∷ with_cell x.frame x.slot v cs) (same-itself x.frame x.slot)
-          ∙ ap (λ z. z ∷ cs) (change-same x' y one.0 one.1 cell))
-        (λ ns. let apart : u ≡ false = swap ∙ ns in
-          if-false u (λ _. record y { cell = v } ∷ with_change x cs) (λ _. y ∷ with_cell x.frame x.slot v (with_change x cs)) apart
-          ∙ ap (λ rest. y ∷ rest) (back-some x v cs r.1 (sym (if-false u (λ _. Some y.cell) (λ _. carried_at x.frame x.slot cs) apart) ∙ e))))
+    (λ b. let none = absent-below x.frame x.slot (y ∷ cs) (b, above-trans x.frame x.slot y.frame y.slot cs b r.0) in
+    let no : None ≡ Some v = sym none ∙ e in absurd (cc))
+    (λ _. if-keeps P q (λ _. x ∷ cs) (λ _. y ∷ with_change x cs)
+    (λ s. let one = same-place-is x.frame x.slot y.frame y.slot s in
+    let there : Some y.cell ≡ Some v = sym (if-true u (λ _. Some y.cell) (λ _. carried_at x.frame x.slot cs) (swap ∙ s)) ∙ e in
+    let cell : v ≡ y.cell = cc in
+    let x' : Change Cell = record x { cell = v } in
+    if-true (is_same_place x.frame x.slot x.frame x.slot) (λ _. x' ∷ cs) (λ _. x ∷ with_cell x.frame x.slot v cs) (same-itself x.frame x.slot)
+    ∙ ap (λ z. z ∷ cs) (change-same x' y one.0 one.1 cell))
+    (λ ns. let apart : u ≡ false = swap ∙ ns in
+    if-false u (λ _. record y { cell = v } ∷ with_change x cs) (λ _. y ∷ with_cell x.frame x.slot v (with_change x cs)) apart
+    ∙ ap (λ rest. y ∷ rest) (back-some x v cs r.1 (sym (if-false u (λ _. Some y.cell) (λ _. carried_at x.frame x.slot cs) apart) ∙ e))))
 
 -- a place has again what it had before it was set
 pub back : (p : SlotPlace) (v : Cell) (cs : Carry Cell) (o : Option Cell) → IsRising cs → o ≡ carried_at p.frame p.slot cs →
@@ -270,11 +270,11 @@ set-more xs i before now now' had had' o s l p q r =
     let more : take (i + 1) xs ≡ take i xs ++ x ∷ [] = take_more xs i no_change l in
     record {
       carry = p ∙ (ap (with_change (change_of x.0 x.1)) s.carry
-        ∙ (sym (changes-push (listed (take i xs)) (change_of x.0 x.1) before)
-        ∙ ap (λ ys. with_changes ys before) (sym (map-append (λ (y : SlotPlace × Cell). change_of y.0 y.1) (take i xs) (x ∷ [])) ∙ ap listed (sym more))));
+          ∙ (sym (changes-push (listed (take i xs)) (change_of x.0 x.1) before)
+          ∙ ap (λ ys. with_changes ys before) (sym (map-append (λ (y : SlotPlace × Cell). change_of y.0 y.1) (take i xs) (x ∷ [])) ∙ ap listed (sym more))));
       noted = r ∙ (ap (λ os. os ++ o ∷ []) s.noted
-        ∙ (ap (λ y. hads (take i xs) before ++ y ∷ []) (q ∙ ap (carried_at x.0.frame x.0.slot) s.carry)
-        ∙ (sym (hads-push (take i xs) x before) ∙ ap (λ ys. hads ys before) (sym more))));
+          ∙ (ap (λ y. hads (take i xs) before ++ y ∷ []) (q ∙ ap (carried_at x.0.frame x.0.slot) s.carry)
+          ∙ (sym (hads-push (take i xs) x before) ∙ ap (λ ys. hads ys before) (sym more))));
     }
 
 -- where not all changes were made, those that were are taken back

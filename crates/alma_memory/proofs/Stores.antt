@@ -109,7 +109,7 @@ undo-written fs f s c old l e k =
     let g : PlainFrame = frame_with here s c in
     let same : get_or (set fs f g) f no_frame ≡ g = get_or-set_same fs f g no_frame l in
     let cells : set (set here.cells s c) s old ≡ here.cells =
-        set-set here.cells s c old ∙ (ap (set here.cells s) e ∙ set-get_or here.cells s Unknown) in
+    set-set here.cells s c old ∙ (ap (set here.cells s) e ∙ set-get_or here.cells s Unknown) in
     let back : frame_with g s old ≡ here = ap (λ cs. record here { cells = cs }) cells in
     set-set fs f g (frame_with (get_or (set fs f g) f no_frame) s old)
     ∙ (ap (λ h. set fs f (frame_with h s old)) same ∙ (ap (set fs f) back ∙ set-get_or fs f no_frame))

@@ -70,7 +70,7 @@ pub entry-unwound : (m : ℕ) (trail : List Note) (fs : List PlainFrame) (e : En
 entry-unwound m trail fs e l k =
     let le : e.mark ≤ length (take m trail) = rw (length-take-le m trail k) l in
     let split : drop e.mark (take m trail) ++ drop m trail ≡ drop e.mark trail =
-        sym (drop-append-le e.mark (take m trail) (drop m trail) le) ∙ ap (drop e.mark) (take-append-drop m trail) in
+    sym (drop-append-le e.mark (take m trail) (drop m trail) le) ∙ ap (drop e.mark) (take-append-drop m trail) in
     ap (λ gs. record { kind = e.kind; resume = e.resume; frames = gs; carry = e.carry })
     (sym (unwind-append (drop e.mark (take m trail)) (drop m trail) fs) ∙ ap (λ ns. unwind ns fs) split)
 
@@ -91,7 +91,7 @@ held-push low top trail n fs (e ∷ es) r k =
     let l : e.mark ≤ top = rises-le e.mark top es r.1 in
     let le : e.mark ≤ length trail = omega arith in
     let one : unwind (drop e.mark (trail ++ n ∷ [])) fs ≡ unwind (drop e.mark trail) (undo n fs) =
-        ap (λ ns. unwind ns fs) (drop-append-le e.mark trail (n ∷ []) le) ∙ unwind-push (drop e.mark trail) n fs in
+    ap (λ ns. unwind ns fs) (drop-append-le e.mark trail (n ∷ []) le) ∙ unwind-push (drop e.mark trail) n fs in
     let rest = held-push e.mark top trail n fs es r.1 k in
     cc
 
@@ -122,7 +122,7 @@ undoes-written fs p c old l k =
     let wide : length (written fs p.frame p.slot c) ≡ length fs = length-set fs p.frame g in
     let same : get_or (written fs p.frame p.slot c) p.frame no_frame ≡ g = get_or-set_same fs p.frame g no_frame l in
     let cells : length (get_or (written fs p.frame p.slot c) p.frame no_frame).cells ≡ length (get_or fs p.frame no_frame).cells =
-        ap (λ (h : PlainFrame). length h.cells) same ∙ length-set (get_or fs p.frame no_frame).cells p.slot c in
+    ap (λ (h : PlainFrame). length h.cells) same ∙ length-set (get_or fs p.frame no_frame).cells p.slot c in
     (omega (arith, wide, l), omega (arith, cells, k))
 
 pub write-keeps : (es : List Entry) (trail trail' : List Note) (fs fs' : List PlainFrame) (p : SlotPlace) (c old : Cell) →
@@ -130,8 +130,8 @@ pub write-keeps : (es : List Entry) (trail trail' : List Note) (fs fs' : List Pl
     p.frame < length fs → p.slot < length (get_or fs p.frame no_frame).cells → IsTrailed es trail fs → Keeps es trail trail' fs fs'
 write-keeps es trail trail' fs fs' p c old q t o l k trailed =
     let keeps : Keeps es trail (noted es trail (Wrote p old)) fs (written fs p.frame p.slot c) =
-        noted-keeps es trail (Wrote p old) fs (written fs p.frame p.slot c) trailed
-          (undo-written fs p.frame p.slot c old l o k) (undoes-written fs p c old l k) (live-after-write fs p.frame p.slot c trailed.live) in
+    noted-keeps es trail (Wrote p old) fs (written fs p.frame p.slot c) trailed
+    (undo-written fs p.frame p.slot c old l o k) (undoes-written fs p c old l k) (live-after-write fs p.frame p.slot c trailed.live) in
     rw (q, t) keeps
 
 pub enter-keeps : (es : List Entry) (trail trail' : List Note) (fs fs' : List PlainFrame) (g : PlainFrame) →
@@ -145,7 +145,7 @@ enter-keeps es trail trail' fs fs' g p t l m w trailed =
       whole = whole-push fs g w trailed.live.whole;
     } in
     let keeps : Keeps es trail (noted es trail Entered) fs (fs ++ g ∷ []) =
-        noted-keeps es trail Entered fs (fs ++ g ∷ []) trailed (without-push fs g) tt live in
+    noted-keeps es trail Entered fs (fs ++ g ∷ []) trailed (without-push fs g) tt live in
     rw (p, t) keeps
 
 pub leave-keeps : (es : List Entry) (trail trail' : List Note) (fs fs' : List PlainFrame) (g : PlainFrame) →
@@ -163,7 +163,7 @@ leave-keeps es trail trail' fs fs' g p o t l trailed =
       whole = whole-take (length fs - 1) fs now.whole;
     } in
     let keeps : Keeps es trail (noted es trail (Left g)) fs (without_last fs) =
-        noted-keeps es trail (Left g) fs (without_last fs) trailed whole tt live in
+    noted-keeps es trail (Left g) fs (without_last fs) trailed whole tt live in
     rw (p, t) keeps
 
 -- ---- entries that are dropped
@@ -248,9 +248,9 @@ pops es e trail fs r =
     record {
       now = sym (ap (λ (x : PlainEntry). x.frames) (top-held es e trail fs));
       held = map-append (entry_of (take e.mark trail) (unwind (drop e.mark trail) fs)) es (stays e)
-        ∙ (ap (λ xs. xs ++ held_of (take e.mark trail) (unwind (drop e.mark trail) fs) (stays e)) (held-unwound e.mark 0 trail fs es p.0 p.1)
-        ∙ (ap (λ xs. held_of trail fs es ++ xs) (stays-held e.kind e trail fs p.1)
-        ∙ sym (ap popped split ∙ popped-push (held_of trail fs es) (entry_of trail fs e))));
+          ∙ (ap (λ xs. xs ++ held_of (take e.mark trail) (unwind (drop e.mark trail) fs) (stays e)) (held-unwound e.mark 0 trail fs es p.0 p.1)
+          ∙ (ap (λ xs. held_of trail fs es ++ xs) (stays-held e.kind e trail fs p.1)
+          ∙ sym (ap popped split ∙ popped-push (held_of trail fs es) (entry_of trail fs e))));
       rises = stays-rises e.kind es e (length (take e.mark trail)) p.0 (sym (length-take-le e.mark trail p.1));
     }
 
@@ -298,7 +298,7 @@ unwinds-more mark trail fs rest gs ns n hs p q l u =
       fits = rw q fits.0;
       above = le;
       same = ap (unwind (drop mark ns)) q ∙ (sym (unwind-push (drop mark ns) n gs)
-        ∙ (ap (λ ms. unwind ms gs) (sym (ap (drop mark) p ∙ drop-append-le mark ns (n ∷ []) le)) ∙ u.same));
+          ∙ (ap (λ ms. unwind ms gs) (sym (ap (drop mark) p ∙ drop-append-le mark ns (n ∷ []) le)) ∙ u.same));
       below = sym (ap (take mark) p ∙ take-append-le mark ns (n ∷ []) le) ∙ u.below;
     }
 

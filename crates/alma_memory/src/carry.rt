@@ -94,7 +94,11 @@ impl Carry {
     }
 
     // Sets the cells one after another, as long as there is memory, and notes what the carry had for them.
-    fn set_each(&mut self, changes: &[(SlotPlace, Cell)], had: &mut Vec<Option<Cell>>) -> Result<(), NoMemory>
+    fn set_each(
+        &mut self,
+        changes: &[(SlotPlace, Cell)],
+        had: &mut Vec<Option<Cell>>,
+    ) -> Result<(), NoMemory>
         requires empty { had.old.items ≡ [] }
         requires room { length changes.now ≤ vec_capacity had.old }
         ensures carry { self.new ≡ with_changes (listed (take (vec_len had.new) changes.now)) self.old }

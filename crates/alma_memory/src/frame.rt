@@ -29,7 +29,13 @@ impl Model for Frame {
 }
 
 impl Frame {
-    pub fn new(routine: u32, back: u32, declared: u32, kinds: Vec<SlotKind>, cells: Vec<Cell>) -> Frame
+    pub fn new(
+        routine: u32,
+        back: u32,
+        declared: u32,
+        kinds: Vec<SlotKind>,
+        cells: Vec<Cell>,
+    ) -> Frame
         ensures { result ≡ record { routine = routine; back = back; declared = declared; kinds = kinds.items; cells = cells.items } }
     {
         Frame {
@@ -79,7 +85,11 @@ impl Frame {
         requires { IsWhole self.now }
         ensures { result ≡ number_in self.now slot }
     {
-        if self.is_number(slot) { Some(self.cell(slot)) } else { None }
+        if self.is_number(slot) {
+            Some(self.cell(slot))
+        } else {
+            None
+        }
     }
 
     pub fn slots(&self) -> u32

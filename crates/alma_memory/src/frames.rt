@@ -6,13 +6,12 @@ ghost use Rattle.alma_memory.specs.Frames.{AreWhole};
 ghost use Rattle.alma_memory.specs.Past.{number_of};
 ghost use Rattle.alma_code.specs.declared.cell.Cell.TheVariants as cell;
 
+use crate::carry::SlotPlace;
+use crate::frame::Frame;
 use alma_base::NoMemory;
 use alma_code::Cell;
 use std::alloc::Global;
 use std::marker::Model;
-
-use crate::carry::SlotPlace;
-use crate::frame::Frame;
 
 /// How many frames may be live together.
 pub const MAX_FRAMES: u32 = 10000;

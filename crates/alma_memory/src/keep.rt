@@ -7,17 +7,21 @@ ghost use Rattle.alma_memory.specs.Held.{Fits, IsTrailed};
 ghost use Rattle.alma_memory.specs.Past.{HoldNumbers, SameGain};
 ghost use Rattle.alma_memory.specs.Trail.{held_of, unwind};
 
-use alma_base::NoMemory;
-use alma_code::Cell;
-use std::alloc::Global;
-
 use crate::carry::SlotPlace;
 use crate::frames::Frames;
 use crate::past::past_of;
 use crate::trail::{Entry, Note};
+use alma_base::NoMemory;
+use alma_code::Cell;
+use std::alloc::Global;
 
 // What number slots changed since a mark, by the notes above it.
-fn changes_since(alloc: Global, frames: &Frames, trail: &[Note], mark: usize) -> Result<Vec<(SlotPlace, Cell)>, NoMemory>
+fn changes_since(
+    alloc: Global,
+    frames: &Frames,
+    trail: &[Note],
+    mark: usize,
+) -> Result<Vec<(SlotPlace, Cell)>, NoMemory>
     requires fits { Fits trail.now frames.now }
     requires mark { mark ≤ length trail.now }
     requires numbers { HoldNumbers frames.now }
@@ -28,7 +32,12 @@ fn changes_since(alloc: Global, frames: &Frames, trail: &[Note], mark: usize) ->
 }
 
 // Sets the cells in the carry of an entry, or none of them.
-fn gain(alloc: Global, entries: &mut Vec<Entry>, at: usize, changes: &[(SlotPlace, Cell)]) -> Result<(), NoMemory>
+fn gain(
+    alloc: Global,
+    entries: &mut Vec<Entry>,
+    at: usize,
+    changes: &[(SlotPlace, Cell)],
+) -> Result<(), NoMemory>
     requires { at < length entries.old.items }
     ensures items { entries.new.items ≡ (if is_ok result then set entries.old.items at (saved_with (slice_index_or entries.old.items at no_saved) (listed changes.now)) else entries.old.items) }
     ensures rising { OnOk result (IsRising (slice_index_or entries.old.items at no_saved).carry) }
@@ -40,7 +49,13 @@ fn gain(alloc: Global, entries: &mut Vec<Entry>, at: usize, changes: &[(SlotPlac
 }
 
 /// Drops the top entry; what differs from its copy enters the carry of the entry at the height.
-pub fn keep_top(alloc: Global, entries: &mut Vec<Entry>, frames: &Frames, trail: &[Note], height: usize) -> Result<(), NoMemory>
+pub fn keep_top(
+    alloc: Global,
+    entries: &mut Vec<Entry>,
+    frames: &Frames,
+    trail: &[Note],
+    height: usize,
+) -> Result<(), NoMemory>
     requires trailed { IsTrailed entries.old.items trail.now frames.now }
     requires numbers { HoldNumbers frames.now }
     requires low { 1 ≤ height }

@@ -5,14 +5,19 @@ ghost use Rattle.alma_memory.specs.Carries.{change_of};
 ghost use Rattle.alma_memory.specs.Held.{HasNoteRoom, IsTrailed, Keeps};
 ghost use Rattle.alma_memory.specs.Trail.{held_of};
 
-use alma_code::Cell;
-
 use crate::carry::{Carry, SlotPlace};
 use crate::frames::Frames;
 use crate::trail::{Entry, Note, settle, write_noted};
+use alma_code::Cell;
 
 // Lays one cell over the frames, where its place is a live number slot.
-fn lay_one(entries: &[Entry], frames: &mut Frames, trail: &mut Vec<Note>, place: SlotPlace, cell: Cell)
+fn lay_one(
+    entries: &[Entry],
+    frames: &mut Frames,
+    trail: &mut Vec<Note>,
+    place: SlotPlace,
+    cell: Cell,
+)
     requires trailed { IsTrailed entries.now trail.old.items frames.old }
     requires room { HasNoteRoom entries.now 1 (vec_len trail.old) (vec_capacity trail.old) }
     ensures frames { frames.new ≡ laid frames.old (change_of place cell) }

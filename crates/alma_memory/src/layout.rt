@@ -4,12 +4,11 @@ ghost use Rattle.alma_code.specs.Layout.{RunsRise, kinds_of, blank_of, arg_cells
 ghost use Rattle.alma_code.specs.Carries.{IsLive};
 ghost use Rattle.alma_memory.specs.Frames.{AreWhole, IsWhole};
 
+use crate::frame::Frame;
+use crate::frames::Frames;
 use alma_base::NoMemory;
 use alma_code::{Cell, CellPlace, CodeParam, Head, ParamKind, SlotKind};
 use std::alloc::Global;
-
-use crate::frame::Frame;
-use crate::frames::Frames;
 
 fn push_run(kinds: &mut Vec<SlotKind>, count: u32, kind: SlotKind) -> Result<(), NoMemory>
     ensures { IfOk result (λ _. kinds.new.items ≡ kinds.old.items ++ replicate count kind) }
@@ -58,7 +57,12 @@ fn push_blanks(cells: &mut Vec<Cell>, kinds: &[SlotKind]) -> Result<(), NoMemory
     Ok(())
 }
 
-fn push_arg(cells: &mut Vec<Cell>, frames: &Frames, param: CodeParam, arg: Cell) -> Result<(), NoMemory>
+fn push_arg(
+    cells: &mut Vec<Cell>,
+    frames: &Frames,
+    param: CodeParam,
+    arg: Cell,
+) -> Result<(), NoMemory>
     requires fits { FitsParam (IsLive frames.now) param.kind param.cells arg }
     requires whole { AreWhole frames.now }
     requires room { param.kind ≡ ParamKind.Mix → length cells.old.items + 1 < 2 ^ 32 }
@@ -86,7 +90,11 @@ fn push_mix(cells: &mut Vec<Cell>, me: u32, arg: Cell) -> Result<(), NoMemory>
         }
         Cell::Int(_) => {
             let slot = cells.len() as u32 + 1;
-            cells.push(Cell::Place(CellPlace { frame: me, slot, len: 1 }))?;
+            cells.push(Cell::Place(CellPlace {
+                frame: me,
+                slot,
+                len: 1,
+            }))?;
             cells.push(arg)?;
         }
         Cell::Unknown | Cell::Unset | Cell::Mark(_) => {}
@@ -94,7 +102,12 @@ fn push_mix(cells: &mut Vec<Cell>, me: u32, arg: Cell) -> Result<(), NoMemory>
     Ok(())
 }
 
-fn push_copies(cells: &mut Vec<Cell>, frames: &Frames, count: u32, arg: Cell) -> Result<(), NoMemory>
+fn push_copies(
+    cells: &mut Vec<Cell>,
+    frames: &Frames,
+    count: u32,
+    arg: Cell,
+) -> Result<(), NoMemory>
     requires fits { FitsPlace (IsLive frames.now) count arg }
     requires whole { AreWhole frames.now }
     ensures { IfOk result (λ _. cells.new.items ≡ cells.old.items ++ copied_cells frames.now arg) }
@@ -110,7 +123,13 @@ fn push_copies(cells: &mut Vec<Cell>, frames: &Frames, count: u32, arg: Cell) ->
     Ok(())
 }
 
-fn cells_from<H: Head>(alloc: Global, frames: &Frames, head: &H, kinds: &[SlotKind], args: &[Cell]) -> Result<Vec<Cell>, NoMemory>
+fn cells_from<H: Head>(
+    alloc: Global,
+    frames: &Frames,
+    head: &H,
+    kinds: &[SlotKind],
+    args: &[Cell],
+) -> Result<Vec<Cell>, NoMemory>
     requires head { IsHead (H.head head.now) }
     requires whole { AreWhole frames.now }
     requires kinds { kinds.now ≡ kinds_of 0 (H.head head.now).runs }
@@ -140,7 +159,14 @@ pub fn start_from<H: Head>(alloc: Global, head: &H) -> Result<Frame, NoMemory>
 }
 
 /// The frame that a call enters.
-pub fn frame_from<H: Head>(alloc: Global, frames: &Frames, head: &H, routine: u32, ret: u32, args: &[Cell]) -> Result<Frame, NoMemory>
+pub fn frame_from<H: Head>(
+    alloc: Global,
+    frames: &Frames,
+    head: &H,
+    routine: u32,
+    ret: u32,
+    args: &[Cell],
+) -> Result<Frame, NoMemory>
     requires head { IsHead (H.head head.now) }
     requires whole { AreWhole frames.now }
     requires args { FitsParams (IsLive frames.now) (H.head head.now).params args.now }

@@ -9,17 +9,18 @@ ghost use Rattle.alma_memory.specs.Calls.{Choose, Cut, Enter, Fail, Finish, Keep
 ghost use Rattle.alma_memory.specs.Picture.{KeepsRooms};
 ghost use Rattle.alma_memory.specs.Refusals.{HasFrameRoom, RefusesFor};
 
-use alma_base::NoMemory;
-use alma_code::{Cell, ChoiceKind, Head};
-use std::alloc::Global;
-use std::marker::Model;
-
 use crate::carry::{Carry, SlotPlace};
 use crate::frames::{Frames, MAX_CELLS, MAX_FRAMES};
 use crate::keep::keep_top;
 use crate::lay::{lay, lay_last};
 use crate::layout::{frame_from, start_from};
-use crate::trail::{Entry, Note, cut_to, enter_noted, fail_to, leave_noted, room_for_notes, write_noted};
+use crate::trail::{
+    Entry, Note, cut_to, enter_noted, fail_to, leave_noted, room_for_notes, write_noted,
+};
+use alma_base::NoMemory;
+use alma_code::{Cell, ChoiceKind, Head};
+use std::alloc::Global;
+use std::marker::Model;
 
 /// What a pop gives: the kind of the entry, as it was before, and where to go on.
 #[derive(Clone, Copy, Debug, PartialEq, Eq)]
@@ -58,8 +59,12 @@ impl Model for Memory {
     ghost use Rattle.alma_memory.specs.Trail.{held_of};
     ghost use Rattle.alma_memory.specs.Held.{IsTrailed};
 
-    ghost view = { λ m. record { now = m.frames; held = held_of m.trail.items m.frames m.entries.items;
-        choice_room = vec_capacity m.entries - vec_len m.entries; trail_room = vec_capacity m.trail - vec_len m.trail } };
+    ghost view = { λ m. record {
+      now = m.frames;
+      held = held_of m.trail.items m.frames m.entries.items;
+      choice_room = vec_capacity m.entries - vec_len m.entries;
+      trail_room = vec_capacity m.trail - vec_len m.trail;
+    } };
 
     ghost invariant = { λ m. IsTrailed m.entries.items m.trail.items m.frames };
 }
@@ -150,12 +155,24 @@ impl Memory {
         ensures call { Makes (if is_ok result then Write frame slot cell else Nothing) self.old self.new }
     {
         room_for_notes(self.entries.as_slice(), &mut self.trail, 1)?;
-        write_noted(self.entries.as_slice(), &mut self.frames, &mut self.trail, SlotPlace { frame, slot }, cell);
+        write_noted(
+            self.entries.as_slice(),
+            &mut self.frames,
+            &mut self.trail,
+            SlotPlace { frame, slot },
+            cell,
+        );
         Ok(())
     }
 
     /// Pushes a frame, laid out by its head and its arguments.
-    pub fn enter<H: Head>(&mut self, head: &H, routine: u32, ret: u32, args: &[Cell]) -> Result<(), EnterError>
+    pub fn enter<H: Head>(
+        &mut self,
+        head: &H,
+        routine: u32,
+        ret: u32,
+        args: &[Cell],
+    ) -> Result<(), EnterError>
         requires head { IsHead (H.head head.now) }
         requires args { FitsParams (IsLive self.old.now) (H.head head.now).params args.now }
         ensures now { self.new.now ≡ (if is_ok result then self.old.now ++ entered_frame self.old.now (H.head head.now) routine ret args.now ∷ [] else self.old.now) }
@@ -177,7 +194,12 @@ impl Memory {
         if room_for_notes(self.entries.as_slice(), &mut self.trail, 1).is_err() {
             return Err(EnterError::Memory);
         }
-        enter_noted(self.entries.as_slice(), &mut self.frames, &mut self.trail, frame);
+        enter_noted(
+            self.entries.as_slice(),
+            &mut self.frames,
+            &mut self.trail,
+            frame,
+        );
         Ok(())
     }
 
@@ -277,7 +299,12 @@ impl Memory {
     {
         let carry = &self.entries[height - 1].carry;
         room_for_notes(self.entries.as_slice(), &mut self.trail, carry.len())?;
-        lay(self.entries.as_slice(), &mut self.frames, &mut self.trail, carry);
+        lay(
+            self.entries.as_slice(),
+            &mut self.frames,
+            &mut self.trail,
+            carry,
+        );
         Ok(())
     }
 
@@ -293,7 +320,13 @@ impl Memory {
         ensures rooms { KeepsRooms self.old self.new }
         ensures call { Makes (if is_ok result then Keep height else Nothing) self.old self.new }
     {
-        keep_top(self.alloc, &mut self.entries, &self.frames, self.trail.as_slice(), height)
+        keep_top(
+            self.alloc,
+            &mut self.entries,
+            &self.frames,
+            self.trail.as_slice(),
+            height,
+        )
     }
 
     /// Drops the Done on top, and lays its carry over the frames.
@@ -310,7 +343,12 @@ impl Memory {
         let Some(entry) = self.entries.pop() else {
             unreachable!()
         };
-        lay_last(self.entries.as_slice(), &mut self.frames, &mut self.trail, entry);
+        lay_last(
+            self.entries.as_slice(),
+            &mut self.frames,
+            &mut self.trail,
+            entry,
+        );
         Ok(())
     }
 }

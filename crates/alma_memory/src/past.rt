@@ -8,15 +8,14 @@ ghost use Rattle.alma_memory.specs.Held.{Fits, Undoes};
 ghost use Rattle.alma_memory.specs.Past.{number_of, over, changed, diffs_at, diffs_between, HoldNumbers, SameGain};
 ghost use Rattle.alma_memory.specs.Trail.{undo, unwind};
 
-use alma_base::NoMemory;
-use alma_code::Cell;
-use std::alloc::Global;
-use std::marker::Model;
-
 use crate::carry::{Carry, SlotPlace};
 use crate::frame::Frame;
 use crate::frames::Frames;
 use crate::trail::Note;
+use alma_base::NoMemory;
+use alma_code::Cell;
+use std::alloc::Global;
+use std::marker::Model;
 
 /// The frames of now and those from before some notes: the first `shared` frames of now with the old `cells`,
 /// and the frames that stood above them.
@@ -125,7 +124,11 @@ impl<'a> Past<'a> {
     }
 
     // Adds the change at a place, where there is one.
-    fn push_change(&self, found: &mut Vec<(SlotPlace, Cell)>, place: SlotPlace) -> Result<(), NoMemory>
+    fn push_change(
+        &self,
+        found: &mut Vec<(SlotPlace, Cell)>,
+        place: SlotPlace,
+    ) -> Result<(), NoMemory>
         requires before { AreWhole self.now.before }
         requires now { AreWhole self.now.now }
         ensures { IfOk result (λ _. listed found.new.items ≡ listed found.old.items ++ diff_at self.now.before self.now.now place.frame place.slot) }
@@ -137,7 +140,12 @@ impl<'a> Past<'a> {
     }
 
     // Adds the changes in the first slots of a frame.
-    fn push_frame(&self, found: &mut Vec<(SlotPlace, Cell)>, frame: u32, slots: u32) -> Result<(), NoMemory>
+    fn push_frame(
+        &self,
+        found: &mut Vec<(SlotPlace, Cell)>,
+        frame: u32,
+        slots: u32,
+    ) -> Result<(), NoMemory>
         requires before { AreWhole self.now.before }
         requires now { AreWhole self.now.now }
         ensures { IfOk result (λ _. listed found.new.items ≡ listed found.old.items ++ slot_diffs self.now.before self.now.now frame slots) }
@@ -158,7 +166,12 @@ impl<'a> Past<'a> {
     }
 
     // Adds the changes in so many frames.
-    fn push_frames(&self, found: &mut Vec<(SlotPlace, Cell)>, low: u32, count: u32) -> Result<(), NoMemory>
+    fn push_frames(
+        &self,
+        found: &mut Vec<(SlotPlace, Cell)>,
+        low: u32,
+        count: u32,
+    ) -> Result<(), NoMemory>
         requires before { AreWhole self.now.before }
         requires now { AreWhole self.now.now }
         requires live { low + count ≤ length self.now.now }
@@ -173,7 +186,11 @@ impl<'a> Past<'a> {
     }
 
     // Adds the changes at the places of a carry.
-    fn push_places(&self, found: &mut Vec<(SlotPlace, Cell)>, places: &Carry) -> Result<(), NoMemory>
+    fn push_places(
+        &self,
+        found: &mut Vec<(SlotPlace, Cell)>,
+        places: &Carry,
+    ) -> Result<(), NoMemory>
         requires before { AreWhole self.now.before }
         requires now { AreWhole self.now.now }
         ensures { IfOk result (λ _. listed found.new.items ≡ listed found.old.items ++ diffs_at self.now.before self.now.now places.now) }
@@ -232,7 +249,12 @@ fn changed_to(before: Option<Cell>, now: Option<Cell>) -> Option<Cell>
 }
 
 /// The frames from before the notes above a mark.
-pub fn past_of<'a>(alloc: Global, frames: &'a Frames, trail: &[Note], mark: usize) -> Result<Past<'a>, NoMemory>
+pub fn past_of<'a>(
+    alloc: Global,
+    frames: &'a Frames,
+    trail: &[Note],
+    mark: usize,
+) -> Result<Past<'a>, NoMemory>
     requires fits { Fits trail.now frames.now }
     requires mark { mark ≤ length trail.now }
     ensures now { IfOk result (λ past. past.now ≡ frames.now) }

@@ -3,7 +3,9 @@ ghost use Rattle.std.specs.Prelude.{◌≤◌, ◌∷◌, [], false};
 ghost use Rattle.alma_code.specs.declared.cell.SlotKind.TheVariants as slot;
 ghost use Rattle.alma_code.specs.declared.head.ParamKind.TheVariants as param;
 
-use crate::{Cell, CellPlace, ChoiceKind, CodeParam, Head, Memory, ParamKind, Resumed, Run, SlotKind};
+use crate::{
+    Cell, CellPlace, ChoiceKind, CodeParam, Head, Memory, ParamKind, Resumed, Run, SlotKind,
+};
 use std::test::Fail;
 
 // A head of two number slots.
@@ -93,7 +95,13 @@ fn a_pop_leaves_unknown_what_was_unknown(rt: HostRuntime) -> Result<(), Fail> {
     memory.reserve(4, 4)?;
     memory.choose(ChoiceKind::Branch, 7)?;
     memory.write(0, 1, Cell::Int(5))?;
-    assert_eq!(rt; memory.fail(), Some(Resumed { kind: ChoiceKind::Branch, resume: 7 }));
+    assert_eq!(rt;
+        memory.fail(),
+        Some(Resumed {
+            kind: ChoiceKind::Branch,
+            resume: 7
+        })
+    );
     assert_eq!(rt; memory.read(0, 1), Cell::Unknown);
     assert_eq!(rt; memory.fail(), None);
     Ok(())
@@ -135,7 +143,13 @@ fn a_forall_carries_what_its_bodies_changed(rt: HostRuntime) -> Result<(), Fail>
     assert_eq!(rt; memory.read(0, 1), Cell::Unknown);
     memory.overlay(1)?;
     assert_eq!(rt; memory.read(0, 1), Cell::Int(9));
-    assert_eq!(rt; memory.fail(), Some(Resumed { kind: ChoiceKind::Forall, resume: 3 }));
+    assert_eq!(rt;
+        memory.fail(),
+        Some(Resumed {
+            kind: ChoiceKind::Forall,
+            resume: 3
+        })
+    );
     assert_eq!(rt; memory.kind_at(1), Some(ChoiceKind::Done));
     assert_eq!(rt; memory.read(0, 1), Cell::Unknown);
     memory.finish()?;

@@ -5,12 +5,11 @@ ghost use Rattle.alma_memory.specs.Frames.{AreLive, IsWhole};
 ghost use Rattle.alma_memory.specs.Held.{Fits, HasNoteRoom, IsTrailed, Keeps, Undoes, stays};
 ghost use Rattle.alma_memory.specs.Trail.{held_of, noted, settled, undo, unwind};
 
-use alma_base::NoMemory;
-use alma_code::{Cell, ChoiceKind};
-
 use crate::carry::{Carry, SlotPlace};
 use crate::frame::Frame;
 use crate::frames::Frames;
+use alma_base::NoMemory;
+use alma_code::{Cell, ChoiceKind};
 
 /// What changed: a cell, with its content from before, or the top frame.
 #[derive(Drop)]
@@ -31,7 +30,11 @@ pub struct Entry {
 }
 
 /// Room for so many more notes, where an entry needs them.
-pub fn room_for_notes(entries: &[Entry], trail: &mut Vec<Note>, notes: usize) -> Result<(), NoMemory>
+pub fn room_for_notes(
+    entries: &[Entry],
+    trail: &mut Vec<Note>,
+    notes: usize,
+) -> Result<(), NoMemory>
     ensures items { trail.new.items ≡ trail.old.items }
     ensures len { vec_len trail.new ≡ vec_len trail.old }
     ensures room { OnOk result (HasNoteRoom entries.now notes (vec_len trail.new) (vec_capacity trail.new)) }
@@ -71,7 +74,13 @@ pub fn settle(entries: &[Entry], trail: &mut Vec<Note>)
 }
 
 /// Writes a cell, and notes the old one.
-pub fn write_noted(entries: &[Entry], frames: &mut Frames, trail: &mut Vec<Note>, place: SlotPlace, cell: Cell)
+pub fn write_noted(
+    entries: &[Entry],
+    frames: &mut Frames,
+    trail: &mut Vec<Note>,
+    place: SlotPlace,
+    cell: Cell,
+)
     requires trailed { IsTrailed entries.now trail.old.items frames.old }
     requires room { HasNoteRoom entries.now 1 (vec_len trail.old) (vec_capacity trail.old) }
     requires live { place.frame < length frames.old }

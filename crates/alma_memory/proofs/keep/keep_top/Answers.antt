@@ -20,14 +20,14 @@ returns-clause-held c =
     let h = c.args.height in
     let found = listed c.as_slice.result.now in
     let rest : c.pop.new.self.items ≡ take (length es - 1) (set es (h - 1) (saved_with (get_or es (h - 1) no_saved) found)) =
-        c.pop.ensures.rest ∙ (ap (λ k. take (k - 1) c.gain.new.entries.items) (c.in_ok-gain.ensures.len ∙ c.args.entries.now.ok.0)
-        ∙ ap (take (length es - 1)) c.in_ok-gain.ensures.items) in
+    c.pop.ensures.rest ∙ (ap (λ k. take (k - 1) c.gain.new.entries.items) (c.in_ok-gain.ensures.len ∙ c.args.entries.now.ok.0)
+    ∙ ap (take (length es - 1)) c.in_ok-gain.ensures.items) in
     let top : c.index.result.now ≡ get_or es (length es - 1) c.index.result.now =
-        c.index.ensures ∙ ap (λ n. get_or es (n - 1) c.index.result.now) (c.len.ensures ∙ c.args.entries.now.ok.0) in
+    c.index.ensures ∙ ap (λ n. get_or es (n - 1) c.index.result.now) (c.len.ensures ∙ c.args.entries.now.ok.0) in
     let gains : SameGain found (diffs (unwind (drop c.index.result.now.mark c.args.trail.now) c.args.frames.now) c.args.frames.now) =
-        rw c.as_slice.ensures.value c.in_ok-found.ensures in
+    rw c.as_slice.ensures.value c.in_ok-found.ensures in
     kept-held h c.args.trail.now c.args.frames.now es c.pop.new.self.items found c.index.result.now
-      rest c.in_ok-gain.ensures.rising gains top c.requires.low c.requires.below
+    rest c.in_ok-gain.ensures.rising gains top c.requires.low c.requires.below
 
 pub returns-clause-trailed : goal.returns-clause-trailed
 returns-clause-trailed c =
@@ -35,6 +35,6 @@ returns-clause-trailed c =
     let h = c.args.height in
     let found = listed c.as_slice.result.now in
     let rest : c.pop.new.self.items ≡ take (length es - 1) (set es (h - 1) (saved_with (get_or es (h - 1) no_saved) found)) =
-        c.pop.ensures.rest ∙ (ap (λ k. take (k - 1) c.gain.new.entries.items) (c.in_ok-gain.ensures.len ∙ c.args.entries.now.ok.0)
-        ∙ ap (take (length es - 1)) c.in_ok-gain.ensures.items) in
+    c.pop.ensures.rest ∙ (ap (λ k. take (k - 1) c.gain.new.entries.items) (c.in_ok-gain.ensures.len ∙ c.args.entries.now.ok.0)
+    ∙ ap (take (length es - 1)) c.in_ok-gain.ensures.items) in
     kept-trailed h c.args.trail.now c.args.frames.now es c.pop.new.self.items found rest c.requires.low c.requires.below c.requires.trailed

@@ -10,7 +10,7 @@ lay-requires-clause-trailed c =
 pub lay-requires-clause-room : goal.lay-requires-clause-room
 lay-requires-clause-room c =
     rw c.settle.ensures.capacity (room-fewer c.args.entries.now (length c.args.entry.carry) (vec_len c.args.trail.now) (vec_len c.settle.new.trail) (vec_capacity c.args.trail.now)
-      c.requires.room c.settle.ensures.len)
+    c.requires.room c.settle.ensures.len)
 
 pub returns-clause-held : goal.returns-clause-held
 returns-clause-held c =

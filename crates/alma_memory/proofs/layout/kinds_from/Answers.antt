@@ -13,4 +13,4 @@ pub loop-i-preserved : goal.loop-i-preserved
 loop-i-preserved g c =
     let h = g.H.Head.head c.args.head.now in
     runs-step h.runs c.loop-i.i c.loop-i.low h.slots c.run-run.result c.loop-i.kinds.items c.push_run.new.kinds.items (kinds_of 0 h.runs)
-      c.run-run.ensures c.in_ok-push_run.ensures c.loop-i.invariant.0 c.loop-i.invariant.1
+    c.run-run.ensures c.in_ok-push_run.ensures c.loop-i.invariant.0 c.loop-i.invariant.1

@@ -8,4 +8,4 @@ pub loop-i-preserved : goal.loop-i-preserved
 loop-i-preserved c =
     let pushed : c.push.new.self.items ≡ c.loop-i.cells.items ++ c.blank.result ∷ [] = grind (arith, common_steps) in
     rw (pushed, c.blank.ensures) (blank-more c.args.cells.now.items c.loop-i.cells.items c.args.kinds.now c.loop-i.i Number
-      c.loop-i.invariant (omega arith) (omega arith))
+    c.loop-i.invariant (omega arith) (omega arith))

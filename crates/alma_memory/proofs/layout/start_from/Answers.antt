@@ -18,13 +18,13 @@ pub index_mut-requires : goal.index_mut-requires
 index_mut-requires g c =
     let kinds = head-kinds (g.H.Head.head c.args.head.now) c.in_ok-kinds.kinds.items c.requires.head c.in_ok-kinds.ensures.kinds in
     let cells = as-many c.in_ok-cells.cells.items c.push_blanks.new.cells.items c.in_ok-kinds.kinds.items c.as_slice.result.now
-        c.in_ok-cells.ensures.items c.as_slice.ensures.value c.in_ok-push_blanks.ensures in
+    c.in_ok-cells.ensures.items c.as_slice.ensures.value c.in_ok-push_blanks.ensures in
     omega (arith, kinds, cells, c.requires.some)
 
 pub returns-clause-whole : goal.returns-clause-whole
 returns-clause-whole g c =
     let kinds = head-kinds (g.H.Head.head c.args.head.now) c.in_ok-kinds.kinds.items c.requires.head c.in_ok-kinds.ensures.kinds in
     let cells = as-many c.in_ok-cells.cells.items c.push_blanks.new.cells.items c.in_ok-kinds.kinds.items c.as_slice.result.now
-        c.in_ok-cells.ensures.items c.as_slice.ensures.value c.in_ok-push_blanks.ensures in
+    c.in_ok-cells.ensures.items c.as_slice.ensures.value c.in_ok-push_blanks.ensures in
     let put = length-set c.push_blanks.new.cells.items 0 (Int (pos 0)) in
     rw c.new.ensures (record { kinds = sym cells ∙ sym put; few = omega (arith, kinds, cells, put, c.in_ok-kinds.ensures.few) })

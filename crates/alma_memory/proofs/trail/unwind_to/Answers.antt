@@ -8,7 +8,8 @@ undo_note-requires c =
     record { before = p.2; undoes = p.1; after = fits-now c.pop.new.self.items _ p.0 }
 
 pub loop-trail-preserved-in-Some : goal.loop-trail-preserved-in-Some
-loop-trail-preserved-in-Some c =
-    (unwinds-more c.args.mark c.args.trail.now.items c.args.frames.now c.loop-trail.trail.items c.loop-trail.frames
+loop-trail-preserved-in-Some c = (
+  unwinds-more c.args.mark c.args.trail.now.items c.args.frames.now c.loop-trail.trail.items c.loop-trail.frames
       c.pop.new.self.items c.in-Some.note c.undo_note.new.frames c.in-Some.ensures.items c.undo_note.ensures (omega arith) c.loop-trail.invariant.0,
-    c.in-Some.ensures.capacity ∙ c.loop-trail.invariant.1)
+  c.in-Some.ensures.capacity ∙ c.loop-trail.invariant.1,
+)

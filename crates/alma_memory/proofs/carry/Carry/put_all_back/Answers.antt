@@ -10,11 +10,12 @@ loop-cell-preserved c =
     let n : c.len.result ≡ length c.pop.new.self.items = c.len.ensures ∙ c.pop.new.self.ok.0 in
     let lt : length c.pop.new.self.items < length xs = omega (arith, n, c.in-Some.ensures.len, c.loop-cell.invariant.1, c.len.ensures) in
     let put : c.put_back.new.self ≡ put_back (get_or xs (length c.pop.new.self.items) no_change).0 c.in-Some.cell c.loop-cell.self =
-        c.put_back.ensures ∙ ap (λ k. put_back (get_or xs k no_change).0 c.in-Some.cell c.loop-cell.self) n in
-    (ap (all_put_back xs c.pop.new.self.items) put
-      ∙ (sym (put-last xs c.pop.new.self.items c.in-Some.cell c.loop-cell.self lt)
-      ∙ (ap (λ os. all_put_back xs os c.loop-cell.self) (sym c.in-Some.ensures.items) ∙ c.loop-cell.invariant.0)),
-    omega (arith, c.in-Some.ensures.len, c.loop-cell.invariant.1))
+    c.put_back.ensures ∙ ap (λ k. put_back (get_or xs k no_change).0 c.in-Some.cell c.loop-cell.self) n in (
+      ap (all_put_back xs c.pop.new.self.items) put
+          ∙ (sym (put-last xs c.pop.new.self.items c.in-Some.cell c.loop-cell.self lt)
+          ∙ (ap (λ os. all_put_back xs os c.loop-cell.self) (sym c.in-Some.ensures.items) ∙ c.loop-cell.invariant.0)),
+      omega (arith, c.in-Some.ensures.len, c.loop-cell.invariant.1),
+    )
 
 pub returns : goal.returns
 returns c =

@@ -15,9 +15,9 @@ returns-in-Some-get_mut c =
 pub returns-in_default : goal.returns-in_default
 returns-in_default c =
     let none : carried_at c.args.place.frame c.args.place.slot (listed c.self.inside.cells.entries) ≡ None =
-        sym (lookup-listed c.self.inside.cells.entries c.args.place) ∙ (sym c.get_mut.ensures.value ∙ ap (λ r. option_copied_mut r) c.in_default.is) in
+    sym (lookup-listed c.self.inside.cells.entries c.args.place) ∙ (sym c.get_mut.ensures.value ∙ ap (λ r. option_copied_mut r) c.in_default.is) in
     rw (c.in-Some.is, c.get_mut.follows.holds-at-none, ← c.self.view_is)
-      (sym (with-absent c.args.place.frame c.args.place.slot c.in-Some.old (listed c.self.inside.cells.entries) none))
+    (sym (with-absent c.args.place.frame c.args.place.slot c.in-Some.old (listed c.self.inside.cells.entries) none))
 
 pub returns-in-None : goal.returns-in-None
 returns-in-None c =

@@ -14,8 +14,8 @@ returns-in_ok-push c =
     let before = c.args.self.now.before in
     let now = c.args.self.now.now in
     let here : Some c.in-Some.cell ≡ changed (number_of before p.frame p.slot) (number_of now p.frame p.slot) =
-        c.in-Some.ensures ∙ (ap (λ o. changed o c.number-2.result) c.number.ensures
-        ∙ ap (changed (number_of before p.frame p.slot)) (c.number-2.ensures ∙ ap (λ (q : PlainPast). number_of q.now p.frame p.slot) c.self.view_is)) in
+    c.in-Some.ensures ∙ (ap (λ o. changed o c.number-2.result) c.number.ensures
+    ∙ ap (changed (number_of before p.frame p.slot)) (c.number-2.ensures ∙ ap (λ (q : PlainPast). number_of q.now p.frame p.slot) c.self.view_is)) in
     ap listed c.in_ok-push.ensures.items
     ∙ (map-append (λ (e : SlotPlace × Cell). change_of e.0 e.1) c.args.found.now.items ((p, c.in-Some.cell) ∷ [])
     ∙ ap (λ xs. listed c.args.found.now.items ++ xs) (ap (change_at p.frame p.slot) here ∙ sym (diff-changed before now p.frame p.slot)))

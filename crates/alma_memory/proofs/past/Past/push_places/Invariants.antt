@@ -8,4 +8,4 @@ invariant-loop-place l =
     (goal.iterator-loop-place).can_next l.place-iterator
     × (goal.iterator-loop-place).is_finite l.place-iterator
     × (listed l.found.items ++ diffs_at l.self.before l.self.now (listed l.place-iterator)
-      ≡ listed l.fn.found.items ++ diffs_at l.self.before l.self.now l.places)
+    ≡ listed l.fn.found.items ++ diffs_at l.self.before l.self.now l.places)
