@@ -17,9 +17,11 @@ use Rattle.alma_memory.specs.Calls.{Call, Nothing, Write, Enter, Leave, Choose, 
 abbrev copy_at : List PlainEntry → ℕ → List PlainFrame
 copy_at held i = (get_or held i no_entry).frames
 
+-- entries above leave a copy
 copy-append : (held more : List PlainEntry) (i : ℕ) → i < length held → copy_at (held ++ more) i ≡ copy_at held i
 copy-append held more i l = ap (λ (e : PlainEntry). e.frames) (get_or-append held more no_entry i l)
 
+-- a cut above leaves a copy
 copy-take : (n : ℕ) (held : List PlainEntry) (i : ℕ) → i < n → copy_at (take n held) i ≡ copy_at held i
 copy-take n held i l = ap (λ (e : PlainEntry). e.frames) (get_or-take n held i no_entry l)
 
@@ -37,12 +39,6 @@ copy-left Forall e l = refl
 copy-left Branch e l = absurd (omega arith)
 copy-left Body e l = absurd (omega arith)
 copy-left Done e l = absurd (omega arith)
-
-left-few : (kind : ChoiceKind) (e : PlainEntry) → length (left_as kind e) ≤ 1
-left-few Forall e = omega arith
-left-few Branch e = omega arith
-left-few Body e = omega arith
-left-few Done e = omega arith
 
 -- a pop leaves the copies below the top, and the copy of the top where it stays
 copy-popped : (held : List PlainEntry) (i : ℕ) → i < length (popped held) → i < length held → copy_at (popped held) i ≡ copy_at held i

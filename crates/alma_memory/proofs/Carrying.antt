@@ -23,6 +23,7 @@ slot_cmp x y = ordering_then (nat_cmp x.frame y.frame) (nat_cmp x.slot y.slot)
 
 -- ---- the order of slots, as the tests of a carry
 
+-- the order of slots, by the tests of a carry
 ordered-by : {A : Type 0} (below same below' same' : Bool) (a b c : A) →
     match_ordering (ordering_then (cond below Less (cond same Equal Greater)) (cond below' Less (cond same' Equal Greater))) a b c
     ≡ if_true (below || (same && below')) (λ _. a) (λ _. if_true (same && same') (λ _. b) (λ _. c))
@@ -32,6 +33,7 @@ ordered-by false true false true a b c = refl
 ordered-by false true false false a b c = refl
 ordered-by false false below' same' a b c = refl
 
+-- slots that tie are one place
 tied-by : (below same below' same' : Bool) → (below ≡ true → same ≡ false) → (below' ≡ true → same' ≡ false) →
     is_eq (ordering_then (cond below Less (cond same Equal Greater)) (cond below' Less (cond same' Equal Greater))) ≡ same && same'
 tied-by true same below' same' h k = rw (h refl) refl
@@ -40,6 +42,7 @@ tied-by false true false true h k = refl
 tied-by false true false false h k = refl
 tied-by false false below' same' h k = refl
 
+-- a slot that is less comes before
 less-by : (below same below' same' : Bool) →
     ordering_then (cond below Less (cond same Equal Greater)) (cond below' Less (cond same' Equal Greater)) ≡ Less → below || (same && below') ≡ true
 less-by true same below' same' e = refl
@@ -48,6 +51,7 @@ less-by false true false true e = absurd (cc)
 less-by false true false false e = absurd (cc)
 less-by false false below' same' e = absurd (cc)
 
+-- a smaller number is another
 not-same : (a b : ℕ) → nat_lt a b ≡ true → nat_eq a b ≡ false
 not-same a b h = grind (arith, nat_tests)
 
@@ -59,6 +63,7 @@ same-place-swap a b c d = let l = nat_eq_equiv.symm a c in let r = nat_eq_equiv.
 pub same-place-is : (a b c d : ℕ) → is_same_place a b c d ≡ true → (a ≡ c) × (b ≡ d)
 same-place-is a b c d e = let both = and_parts (nat_eq a c) (nat_eq b d) e in (eqb-true a c both.0, eqb-true b d both.1)
 
+-- a look-up meets the key of its own place
 at-same : (k e : SlotPlace) → is_at (slot_cmp k) e ≡ is_same_place e.frame e.slot k.frame k.slot
 at-same k e =
     tied-by (nat_lt k.frame e.frame) (nat_eq k.frame e.frame) (nat_lt k.slot e.slot) (nat_eq k.slot e.slot) (not-same k.frame e.frame) (not-same k.slot e.slot)
@@ -66,6 +71,7 @@ at-same k e =
 
 -- ---- the entries of a map
 
+-- a choice of entries, as a choice of carries
 chosen-listed : (b s : Bool) (x y z : List (SlotPlace × Cell)) (y' z' : Carry Cell) → (s ≡ true → listed y ≡ y') → listed z ≡ z' →
     listed (if_true b (λ _. x) (λ _. if_true s (λ _. y) (λ _. z))) ≡ if_true b (λ _. listed x) (λ _. if_true s (λ _. y') (λ _. z'))
 chosen-listed true s x y z y' z' h e = refl
@@ -90,6 +96,7 @@ by-test : {A : Type 0} (t b : Bool) (x y y' : A) → t ≡ b → y ≡ y' → co
 by-test t true x y y' h e = rw h refl
 by-test t false x y y' h e = rw h e
 
+-- the same choice in a carry
 by-test-listed : (t b : Bool) (x y : List (SlotPlace × Cell)) (y' : Carry Cell) → t ≡ b → listed y ≡ y' → listed (cond t x y) ≡ if_true b (λ _. listed x) (λ _. y')
 by-test-listed t true x y y' h e = rw h refl
 by-test-listed t false x y y' h e = rw h e
@@ -115,6 +122,7 @@ set-listed (e ∷ es) k v =
     by-test-listed (is_at (slot_cmp k) e.0) (is_same_place e.0.frame e.0.slot k.frame k.slot) ((e.0, v) ∷ es) (e ∷ set_value (is_at (slot_cmp k)) es v)
     (change_of e.0 e.1 ∷ with_cell k.frame k.slot v (listed es)) (at-same k e.0) (ap (λ rest. change_of e.0 e.1 ∷ rest) (set-listed es k v))
 
+-- the keys above a key come after its place
 above-listed : (k : SlotPlace) (es : List (SlotPlace × Cell)) → AllByRecursion (λ y. slot_cmp k y ≡ Less) (keys_of es) → IsAbove k.frame k.slot (listed es)
 above-listed k [] h = tt
 above-listed k (e ∷ es) h =

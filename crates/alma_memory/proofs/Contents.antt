@@ -19,10 +19,12 @@ use Rattle.alma_memory.proofs.Pasts.{shared-length, at-above}
 
 -- ---- what is laid over
 
+-- nothing is laid over
 pub over-none : (o : Option Cell) → over o None ≡ o
 over-none None = refl
 over-none (Some c) = refl
 
+-- what is laid over last counts
 over-over : (o w : Option Cell) (c : Cell) → over (over o w) (Some c) ≡ over o (Some c)
 over-over None w c = refl
 over-over (Some a) None c = refl
@@ -42,6 +44,7 @@ number-here g s c w = choose (is_number (slice_get g.kinds s)) refl
         ap Some (get_or-set_same g.cells s c Unknown lt)
     choose false e = refl
 
+-- a write to a place changes its number slot
 number-same : (fs : List PlainFrame) (f s : ℕ) (c : Cell) → AreWhole fs → number_of (written fs f s c) f s ≡ over (number_of fs f s) (Some c)
 number-same [] f s c w = refl
 number-same (x ∷ fs) zero s c w = number-here x s c w.0
@@ -56,6 +59,7 @@ number-other (x ∷ fs) zero s (suc g) t c h = refl
 number-other (x ∷ fs) (suc f) s zero t c h = refl
 number-other (x ∷ fs) (suc f) s (suc g) t c h = number-other fs f s g t c (λ e. h (ap suc e))
 
+-- whole frames stay whole
 whole-rewritten : (fs : List PlainFrame) (cs : Carry Cell) → AreWhole fs → AreWhole (rewritten fs cs)
 whole-rewritten fs [] w = w
 whole-rewritten fs (x ∷ cs) w =
@@ -101,6 +105,7 @@ abbrev pub change_at : (frame slot : ℕ) → Option Cell → List (Change Cell)
 change_at frame slot None = []
 change_at frame slot (Some c) = (record { frame = frame; slot = slot; cell = c }) ∷ []
 
+-- the change at a place, by its tests
 diff-by : (p q r : Bool) (f s : ℕ) (a b : Cell) → same_number a b ≡ r →
     (if p && (q && not r) then (record { frame = f; slot = s; cell = b }) ∷ [] else [])
     ≡ change_at f s (changed (if p then Some a else None) (if q then Some b else None))

@@ -21,23 +21,28 @@ use Rattle.alma_memory.proofs.Contents.{over-none, number-rewritten, number-shar
 
 -- ---- tests
 
+-- one of two tests holds
 or-cases : (a b : Bool) → a || b ≡ true → (a ≡ true) ⊎ (b ≡ true)
 or-cases true b e = inl refl
 or-cases false b e = inr e
 
+-- the first test holds
 or-first : (a b : Bool) → a ≡ true → a || b ≡ true
 or-first true b e = refl
 or-first false b e = absurd (cc)
 
+-- the second test holds
 or-second : (a b : Bool) → b ≡ true → a || b ≡ true
 or-second true b e = refl
 or-second false b e = e
 
+-- two tests that follow from one another are one
 both-ways : (a b : Bool) → (a ≡ true → b ≡ true) → (b ≡ true → a ≡ true) → a ≡ b
 both-ways true b h k = sym (h refl)
 both-ways false true h k = k refl
 both-ways false false h k = refl
 
+-- a number below the next of another
 below-suc : (s k : ℕ) → s < suc k → (s < k) ⊎ (s ≡ k)
 below-suc s k l = choose (nat_lt s k) refl
   where
@@ -52,6 +57,7 @@ abbrev pub has_place : (frame slot : ℕ) → List (Change Cell) → Bool
 has_place f s [] = false
 has_place f s (x ∷ xs) = is_same_place x.frame x.slot f s || has_place f s xs
 
+-- a change of the first list
 has-left : (f s : ℕ) (xs ys : List (Change Cell)) → has_place f s xs ≡ true → has_place f s (xs ++ ys) ≡ true
 has-left f s [] ys h = absurd (cc)
 has-left f s (x ∷ xs) ys h =
@@ -60,10 +66,12 @@ has-left f s (x ∷ xs) ys h =
       | inr b ↦ or-second (is_same_place x.frame x.slot f s) (has_place f s (xs ++ ys)) (has-left f s xs ys b)
     ]
 
+-- a change of the second list
 has-right : (f s : ℕ) (xs ys : List (Change Cell)) → has_place f s ys ≡ true → has_place f s (xs ++ ys) ≡ true
 has-right f s [] ys h = h
 has-right f s (x ∷ xs) ys h = or-second (is_same_place x.frame x.slot f s) (has_place f s (xs ++ ys)) (has-right f s xs ys h)
 
+-- a place without a change has no cell
 none-carried : (f s : ℕ) (cs : Carry Cell) → has_place f s cs ≡ false → carried_at f s cs ≡ None
 none-carried f s [] h = refl
 none-carried f s (x ∷ cs) h = choose (is_same_place x.frame x.slot f s) (none-carried f s cs) h
@@ -80,10 +88,12 @@ module _ (before now : List PlainFrame) where
   AllChanged [] = Unit {0}
   AllChanged (x ∷ xs) = ((differs before now x.frame x.slot ≡ true) × (x.cell ≡ cell_at now x.frame x.slot Unknown)) × AllChanged xs
 
+  -- two lists of changes
   all-append : (xs ys : List (Change Cell)) → AllChanged xs → AllChanged ys → AllChanged (xs ++ ys)
   all-append [] ys h k = k
   all-append (x ∷ xs) ys h k = (h.0, all-append xs ys h.1 k)
 
+  -- the change at a place
   all-diff : (f s : ℕ) → AllChanged (diff_at before now f s)
   all-diff f s = choose (differs before now f s) refl
     where
@@ -92,20 +102,24 @@ module _ (before now : List PlainFrame) where
       choose true e = ((e, refl), tt)
       choose false e = tt
 
+  -- the changes in some slots
   all-slots : (f n : ℕ) → AllChanged (slot_diffs before now f n)
   all-slots f zero = tt
   all-slots f (suc n) = all-append (slot_diffs before now f n) (diff_at before now f n) (all-slots f n) (all-diff f n)
 
+  -- the changes in some frames
   all-frames : (n : ℕ) → AllChanged (frame_diffs before now n)
   all-frames zero = tt
   all-frames (suc n) = all-append (frame_diffs before now n) (slot_diffs before now n (length (get_or now n no_frame).cells))
       (all-frames n) (all-slots n (length (get_or now n no_frame).cells))
 
+  -- the changes in some frames from a frame on
   all-between : (low n : ℕ) → AllChanged (diffs_between before now low n)
   all-between low zero = tt
   all-between low (suc n) = all-append (diffs_between before now low n) (slot_diffs before now (low + n) (length (get_or now (low + n) no_frame).cells))
       (all-between low n) (all-slots (low + n) (length (get_or now (low + n) no_frame).cells))
 
+  -- the changes at some places
   all-at : (cs : Carry Cell) → AllChanged (diffs_at before now cs)
   all-at [] = tt
   all-at (x ∷ cs) = all-append (diff_at before now x.frame x.slot) (diffs_at before now cs) (all-diff x.frame x.slot) (all-at cs)
@@ -122,11 +136,13 @@ module _ (before now : List PlainFrame) where
 
   -- ---- each place that differs is changed
 
+  -- a place that differs has a change
   has-diff : (f s : ℕ) → differs before now f s ≡ true → has_place f s (diff_at before now f s) ≡ true
   has-diff f s d =
       let one : diff_at before now f s ≡ (record { frame = f; slot = s; cell = cell_at now f s Unknown }) ∷ [] = rw d refl in
       ap (has_place f s) one ∙ or-first (is_same_place f s f s) false (same-itself f s)
 
+  -- a slot that differs is among the changes of its frame
   has-slots : (f s n : ℕ) → differs before now f s ≡ true → s < n → has_place f s (slot_diffs before now f n) ≡ true
   has-slots f s zero d l = absurd (omega arith)
   has-slots f s (suc n) d l =
@@ -136,6 +152,7 @@ module _ (before now : List PlainFrame) where
             (ap (λ t. has_place f s (diff_at before now f t)) (sym e) ∙ has-diff f s d)
       ]
 
+  -- a place that differs is among the changes of the frames
   has-frames : (f s n : ℕ) → differs before now f s ≡ true → f < n → s < length (get_or now f no_frame).cells → has_place f s (frame_diffs before now n) ≡ true
   has-frames f s zero d l w = absurd (omega arith)
   has-frames f s (suc n) d l w =
@@ -146,6 +163,7 @@ module _ (before now : List PlainFrame) where
             ∙ has-slots f s (length (get_or now f no_frame).cells) d w)
       ]
 
+  -- a place that differs is among the changes of some frames
   has-between : (low n f s : ℕ) → differs before now f s ≡ true → low ≤ f → f < low + n → s < length (get_or now f no_frame).cells →
       has_place f s (diffs_between before now low n) ≡ true
   has-between low zero f s d le l w = absurd (omega arith)
@@ -159,6 +177,7 @@ module _ (before now : List PlainFrame) where
             ∙ has-slots f s (length (get_or now f no_frame).cells) d w)
       ]
 
+  -- a place that differs and is named is among the changes at the places
   has-at : (f s : ℕ) (cs : Carry Cell) → has_place f s cs ≡ true → differs before now f s ≡ true → has_place f s (diffs_at before now cs) ≡ true
   has-at f s [] h d = absurd (cc)
   has-at f s (x ∷ cs) h d =
@@ -171,6 +190,7 @@ module _ (before now : List PlainFrame) where
 
   -- ---- what a carry gains
 
+  -- a place that is changed first or later
   pick : (q h : Bool) (v w r : Option Cell) → (q ≡ true → w ≡ v) →
       if_true h (λ _. v) (λ _. if_true q (λ _. w) (λ _. r)) ≡ if_true (q || h) (λ _. v) (λ _. r)
   pick true true v w r e = refl
@@ -178,6 +198,7 @@ module _ (before now : List PlainFrame) where
   pick false true v w r e = refl
   pick false false v w r e = refl
 
+  -- the cell of now at the place of a change
   cell-same : (f s : ℕ) (x : Change Cell) → x.cell ≡ cell_at now x.frame x.slot Unknown → is_same_place x.frame x.slot f s ≡ true → Some x.cell ≡ Some (cell_at now f s Unknown)
   cell-same f s x e q =
       let one = same-place-is x.frame x.slot f s q in

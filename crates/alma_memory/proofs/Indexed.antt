@@ -8,6 +8,7 @@ read-drop-suc x [] i e = absurd (cc)
 read-drop-suc x (y ∷ ys) zero e = let same : y ≡ x = cc in ap (λ z. z ∷ ys) same
 read-drop-suc x (y ∷ ys) (suc i) e = read-drop-suc x ys i e
 
+-- the same, with the index that loops use
 pub read-drop : {A : Type 0} (x : A) (xs : List A) (i : ℕ) → slice_get xs i ≡ Some x → drop i xs ≡ x ∷ drop (i + 1) xs
 read-drop x xs i e = let up : suc i ≡ i + 1 = omega arith in read-drop-suc x xs i e ∙ ap (λ k. x ∷ drop k xs) up
 

@@ -35,6 +35,7 @@ blank-more start cells kinds i d p l m =
     take_more (map blank_of kinds) i (blank_of d) lt ∙ ap (λ x. take i (map blank_of kinds) ++ x ∷ []) here in
     rw (p, append_assoc) (ap (λ xs. start ++ xs) (sym (ap (drop (length start)) more ∙ drop-append-le (length start) (take i (map blank_of kinds)) (blank_of (get_or kinds i d) ∷ []) up)))
 
+-- the runs fill the slots
 pub kinds-length : (low top : ℕ) (rs : List Run) → RunsRise low rs top → length (kinds_of low rs) + low ≡ top
 kinds-length low top [] h = rw h (omega arith)
 kinds-length low top (r ∷ rs) h =
@@ -43,6 +44,7 @@ kinds-length low top (r ∷ rs) h =
     length-append (replicate (r.end - low) r.kind) (kinds_of r.end rs) ∙ ap (λ n. n + length (kinds_of r.end rs)) (length-replicate (r.end - low) r.kind) in
     omega (arith, h.0)
 
+-- a Mix fills two slots
 pub mix-length : (fs : List PlainFrame) (me at : ℕ) (c : Cell) → FitsMix (IsLive fs) c → length (mix_cells me at c) ≡ 2
 mix-length fs me at (cell.Place p) h = refl
 mix-length fs me at (cell.Int i) h = refl
@@ -67,6 +69,7 @@ taken-length fs (suc n) p w live e =
     rw (length-drop p.slot (get_or fs p.frame no_frame).cells) (omega (arith, end)) in
     length-take-le p.len (drop p.slot (get_or fs p.frame no_frame).cells) le ∙ e
 
+-- copied cells fill their parameter
 pub copied-length : (fs : List PlainFrame) (n : ℕ) (c : Cell) → AreWhole fs → FitsPlace (IsLive fs) n c → length (copied_cells fs c) ≡ n
 copied-length fs n (cell.Place p) w h = taken-length fs n p w h.1 h.0
 copied-length fs n (cell.Int i) w h = absurd h
@@ -74,12 +77,14 @@ copied-length fs n cell.Unknown w h = absurd h
 copied-length fs n cell.Unset w h = absurd h
 copied-length fs n (cell.Mark m) w h = absurd h
 
+-- an argument fills the slots of its parameter
 pub arg-length : (fs : List PlainFrame) (me at n : ℕ) (k : ParamKind) (c : Cell) → AreWhole fs → FitsParam (IsLive fs) k n c → length (arg_cells fs me at k c) ≡ length (param_kinds k n)
 arg-length fs me at n param.Value c w h = refl
 arg-length fs me at n param.Place c w h = refl
 arg-length fs me at n param.Mix c w h = mix-length fs me at c h
 arg-length fs me at n param.Cells c w h = copied-length fs n c w h ∙ sym (length-replicate n slot.Number)
 
+-- the slots of one more parameter
 pub params-push : (ps : List CodeParam) (p : CodeParam) → length (params_kinds (ps ++ p ∷ [])) ≡ length (params_kinds ps) + length (param_kinds p.kind p.cells)
 params-push [] p = rw append-nil (omega arith)
 params-push (q ∷ ps) p =
@@ -88,6 +93,7 @@ params-push (q ∷ ps) p =
     let b = length-append (param_kinds q.kind q.cells) (params_kinds ps) in
     omega (arith, rest, a, b)
 
+-- some parameters have no more slots than all
 pub params-take-le : (n : ℕ) (ps : List CodeParam) → length (params_kinds (take n ps)) ≤ length (params_kinds ps)
 params-take-le zero ps = omega arith
 params-take-le (suc n) [] = omega arith
@@ -97,10 +103,12 @@ params-take-le (suc n) (q ∷ ps) =
     let b = length-append (param_kinds q.kind q.cells) (params_kinds ps) in
     omega (arith, rest, a, b)
 
+-- the slots of the next parameter
 pub params-more : (n : ℕ) (ps : List CodeParam) → n < length ps →
     length (params_kinds (take (n + 1) ps)) ≡ length (params_kinds (take n ps)) + length (param_kinds (get_or ps n no_param).kind (get_or ps n no_param).cells)
 params-more n ps l = ap (λ qs. length (params_kinds qs)) (take_more ps n no_param l) ∙ params-push (take n ps) (get_or ps n no_param)
 
+-- arguments fill the slots of their parameters
 pub args-length : (fs : List PlainFrame) (ps : List CodeParam) (args : List Cell) (n : ℕ) → AreWhole fs → FitsParams (IsLive fs) ps args → n ≤ length ps →
     length (args_cells fs ps args n) ≡ length (params_kinds (take n ps))
 args-length fs ps args zero w f l = refl
@@ -115,6 +123,7 @@ args-length fs ps args (suc n) w f l =
     let d : length (args_cells fs ps args (suc n)) ≡ length (params_kinds (take (n + 1) ps)) = omega (arith, a, rest, one, b) in
     d ∙ ap (λ qs. length (params_kinds qs)) c
 
+-- the parameters have room
 pub head-room : (h : PlainHead) → IsHead h → length (params_kinds h.params) ≤ h.slots
 head-room h i =
     let a : length (kinds_of 0 h.runs) + 0 ≡ h.slots = kinds-length 0 h.slots h.runs i.rise in
@@ -134,18 +143,21 @@ mix-room fs h args n i w f l m =
     let d = head-room h i in
     omega (arith, a, b, two, c, d)
 
+-- blanks fill all slots
 pub blanks-length : (start cells : List Cell) (kinds : List SlotKind) → start ≡ [] →
     cells ≡ start ++ drop (length start) (map blank_of kinds) → length cells ≡ length kinds
 blanks-length start cells kinds e p =
     let q : cells ≡ map blank_of kinds = rw e at p in
     ap length q ∙ length-map kinds blank_of
 
+-- the parameters stand within the kinds
 pub head-fits : (h : PlainHead) → IsHead h → length (params_kinds h.params) ≤ length (kinds_of 0 h.runs)
 head-fits h i =
     let b = ap length (first-kinds h i) in
     let c = length-take (length (params_kinds h.params)) (kinds_of 0 h.runs) in
     omega (arith, b, c)
 
+-- an entered frame has a cell for each kind
 pub entered-length : (fs : List PlainFrame) (h : PlainHead) (args : List Cell) → IsHead h → AreWhole fs → FitsParams (IsLive fs) h.params args →
     length (kinds_of 0 h.runs) ≡ length (entered_cells fs h args)
 entered-length fs h args i w f =

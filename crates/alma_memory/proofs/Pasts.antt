@@ -28,6 +28,7 @@ take-take-le (suc m) (suc n) (x ∷ xs) l = ap (λ ys. x ∷ ys) (take-take-le m
 
 -- ---- writes
 
+-- old cells leave as many frames
 pub length-rewritten : (fs : List PlainFrame) (cs : Carry Cell) → length (rewritten fs cs) ≡ length fs
 length-rewritten fs [] = refl
 length-rewritten fs (x ∷ cs) = length-set (rewritten fs cs) x.frame (frame_with (get_or (rewritten fs cs) x.frame no_frame) x.slot x.cell) ∙ length-rewritten fs cs
@@ -70,11 +71,13 @@ take-written (suc n) [] f s c = refl
 take-written (suc n) (x ∷ fs) zero s c = refl
 take-written (suc n) (x ∷ fs) (suc f) s c = ap (λ gs. x ∷ gs) (take-written n fs f s c)
 
+-- a write to a frame of the first list
 written-left : (xs ys : List PlainFrame) (f s : ℕ) (c : Cell) → f < length xs → written (xs ++ ys) f s c ≡ written xs f s c ++ ys
 written-left [] ys f s c l = absurd (omega arith)
 written-left (x ∷ xs) ys zero s c l = refl
 written-left (x ∷ xs) ys (suc f) s c l = ap (λ gs. x ∷ gs) (written-left xs ys f s c (omega arith))
 
+-- a write to a frame of the second list
 written-right : (xs ys : List PlainFrame) (f s i : ℕ) (c : Cell) → length xs + i ≡ f → written (xs ++ ys) f s c ≡ xs ++ written ys i s c
 written-right [] ys f s i c e = let z : f ≡ i = omega (arith, e) in ap (λ g. written ys g s c) z
 written-right (x ∷ xs) ys zero s i c e = absurd (omega arith)
@@ -110,6 +113,7 @@ at-above n now above cs f l le =
     let len = shared-length n now cs l in
     get_or-append_right (take n (rewritten now cs)) above n f no_frame len le
 
+-- no frames on top
 none : (fs : List PlainFrame) → fs ≡ fs ++ []
 none fs = rw append-nil refl
 

@@ -14,10 +14,12 @@ use Rattle.alma_memory.proofs.Carrying.{same-place-is, same-place-swap}
 
 -- ---- a choice
 
+-- the choice where the test holds
 pub if-true : {A : Type 0} (b : Bool) (f g : Unit {0} → A) → b ≡ true → if_true b f g ≡ f tt
 if-true true f g e = refl
 if-true false f g e = absurd (cc)
 
+-- the choice where it does not
 pub if-false : {A : Type 0} (b : Bool) (f g : Unit {0} → A) → b ≡ false → if_true b f g ≡ g tt
 if-false true f g e = absurd (cc)
 if-false false f g e = refl
@@ -27,21 +29,26 @@ pub if-keeps : {A : Type 0} (P : A → Type 0) (b : Bool) (f g : Unit {0} → A)
 if-keeps P true f g p q = p refl
 if-keeps P false f g p q = q refl
 
+-- a function of a choice
 if-push : {A B : Type 0} (h : A → B) (b : Bool) (f g : Unit {0} → A) → h (if_true b f g) ≡ if_true b (λ u. h (f u)) (λ u. h (g u))
 if-push h true f g = refl
 if-push h false f g = refl
 
 -- ---- the order of places
 
+-- a place is not before itself
 before-not-same : (a b c d : ℕ) → is_before a b c d ≡ true → is_same_place c d a b ≡ false
 before-not-same a b c d h = grind (arith, nat_tests)
 
+-- places before places
 before-trans : (a b c d e f : ℕ) → is_before a b c d ≡ true → is_before c d e f ≡ true → is_before a b e f ≡ true
 before-trans a b c d e f h k = grind (arith, nat_tests)
 
+-- of two places one is before the other
 neither : (a b c d : ℕ) → is_before a b c d ≡ false → is_same_place a b c d ≡ false → is_before c d a b ≡ true
 neither a b c d h k = grind (arith, nat_tests)
 
+-- a place is itself
 pub same-itself : (a b : ℕ) → is_same_place a b a b ≡ true
 same-itself a b = grind (arith, nat_tests)
 
@@ -58,12 +65,15 @@ pick false true false u x y r h k = rw (h refl) refl
 pick false false true u x y r h k = rw (k refl refl) refl
 pick false false false u x y r h k = refl
 
+-- one place, compared to a third
 same-trans : (a b c d e f : ℕ) → is_same_place a b c d ≡ true → is_same_place c d e f ≡ is_same_place a b e f
 same-trans a b c d e f h = let one = same-place-is a b c d h in rw (one.0, one.1) refl
 
+-- two places are not both a third
 apart-trans : (a b c d e f : ℕ) → is_same_place a b c d ≡ false → is_same_place a b e f ≡ true → is_same_place c d e f ≡ false
 apart-trans a b c d e f h k = let one = same-place-is a b e f k in rw (← one.0, ← one.1) (same-place-swap c d a b ∙ h)
 
+-- the cells of a carry after a change
 pub carried-with : (f s : ℕ) (x : Change Cell) (cs : Carry Cell) →
     carried_at f s (with_change x cs) ≡ if_true (is_same_place x.frame x.slot f s) (λ _. Some x.cell) (λ _. carried_at f s cs)
 carried-with f s x [] = refl
@@ -86,6 +96,7 @@ above-trans : (a b c d : ℕ) (cs : Carry Cell) → is_before a b c d ≡ true �
 above-trans a b c d [] e h = tt
 above-trans a b c d (x ∷ cs) e h = (before-trans a b c d x.frame x.slot e h.0, above-trans a b c d cs e h.1)
 
+-- a change above a place
 above-with : (f s : ℕ) (x : Change Cell) (cs : Carry Cell) → IsAbove f s cs → is_before f s x.frame x.slot ≡ true → IsAbove f s (with_change x cs)
 above-with f s x [] h e = (e, tt)
 above-with f s x (y ∷ cs) h e =
@@ -106,6 +117,7 @@ rising-with x (y ∷ cs) r =
     (λ s. let one = same-place-is x.frame x.slot y.frame y.slot s in (rw (one.0, one.1) r.0, r.1))
     (λ ns. (above-with y.frame y.slot x cs r.0 (neither x.frame x.slot y.frame y.slot nb ns), rising-with x cs r.1)))
 
+-- places that rise do so after all changes
 pub rising-all : (xs : List (Change Cell)) (cs : Carry Cell) → IsRising cs → IsRising (with_changes xs cs)
 rising-all [] cs r = r
 rising-all (x ∷ xs) cs r = rising-all xs (with_change x cs) (rising-with x cs r)
@@ -118,6 +130,7 @@ absent-below f s [] h = refl
 absent-below f s (x ∷ cs) h =
     if-false (is_same_place x.frame x.slot f s) (λ _. Some x.cell) (λ _. carried_at f s cs) (before-not-same f s x.frame x.slot h.0) ∙ absent-below f s cs h.1
 
+-- the first place has its cell
 first-carried : (x : Change Cell) (cs : Carry Cell) → carried_at x.frame x.slot (x ∷ cs) ≡ Some x.cell
 first-carried x cs = if-true (is_same_place x.frame x.slot x.frame x.slot) (λ _. Some x.cell) (λ _. carried_at x.frame x.slot cs) (same-itself x.frame x.slot)
 
@@ -130,10 +143,12 @@ no-lower x y xs ys r e b =
     let both : Some x.cell ≡ None = sym some ∙ (e ∙ none) in
     absurd (cc)
 
+-- a test that cannot hold
 truth : (b : Bool) → (b ≡ true → ⊥) → b ≡ false
 truth true h = absurd (h refl)
 truth false h = refl
 
+-- changes with the same parts are one
 change-same : (x y : Change Cell) → x.frame ≡ y.frame → x.slot ≡ y.slot → x.cell ≡ y.cell → x ≡ y
 change-same x y f s c =
     let made : ℕ → ℕ → Cell → Change Cell = (λ a b v. record { frame = a; slot = b; cell = v }) in
@@ -145,6 +160,7 @@ rest-agrees : (b : Bool) (x : Cell) (u v : Option Cell) → (b ≡ true → (u �
 rest-agrees true x u v h e = (h refl).0 ∙ sym (h refl).1
 rest-agrees false x u v h e = e
 
+-- a test that cannot fail
 falsity : (b : Bool) → (b ≡ false → ⊥) → b ≡ true
 falsity true h = refl
 falsity false h = absurd (h refl)
@@ -176,6 +192,7 @@ same-carry (x ∷ xs) (y ∷ ys) rx ry h =
 
 -- ---- changes that are taken back
 
+-- a place without a cell is not the first
 not-found : (b : Bool) (v : Cell) (r : Option Cell) → if_true b (λ _. Some v) (λ _. r) ≡ None → (b ≡ false) × (r ≡ None)
 not-found true v r e = absurd (cc)
 not-found false v r e = (refl, e)
@@ -251,6 +268,7 @@ pub changes-push : (xs : List (Change Cell)) (x : Change Cell) (cs : Carry Cell)
 changes-push [] x cs = refl
 changes-push (y ∷ xs) x cs = changes-push xs x (with_change y cs)
 
+-- what the place of one more change had
 pub hads-push : (xs : List (SlotPlace × Cell)) (x : SlotPlace × Cell) (cs : Carry Cell) →
     hads (xs ++ x ∷ []) cs ≡ hads xs cs ++ carried_at x.0.frame x.0.slot (with_changes (listed xs) cs) ∷ []
 hads-push [] x cs = refl

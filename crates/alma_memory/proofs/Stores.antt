@@ -49,10 +49,12 @@ whole-set [] f g w h = tt
 whole-set (x ∷ fs) zero g w h = (w, h.1)
 whole-set (x ∷ fs) (suc f) g w h = (h.0, whole-set fs f g w h.1)
 
+-- whole frames stay whole at a push
 pub whole-push : (fs : List PlainFrame) (g : PlainFrame) → IsWhole g → AreWhole fs → AreWhole (fs ++ g ∷ [])
 whole-push [] g w h = (w, tt)
 whole-push (x ∷ fs) g w h = (h.0, whole-push fs g w h.1)
 
+-- whole frames stay whole at a pop
 pub whole-take : (n : ℕ) (fs : List PlainFrame) → AreWhole fs → AreWhole (take n fs)
 whole-take zero fs h = tt
 whole-take (suc n) [] h = tt

@@ -18,22 +18,27 @@ use Rattle.alma_memory.proofs.Stores.{live-push, live-after-write, undo-written,
 
 -- ---- notes
 
+-- notes are undone from the last
 pub unwind-append : (ms ns : List Note) (fs : List PlainFrame) → unwind (ms ++ ns) fs ≡ unwind ms (unwind ns fs)
 unwind-append [] ns fs = refl
 unwind-append (m ∷ ms) ns fs = ap (undo m) (unwind-append ms ns fs)
 
+-- the last note is undone first
 pub unwind-push : (ns : List Note) (n : Note) (fs : List PlainFrame) → unwind (ns ++ n ∷ []) fs ≡ unwind ns (undo n fs)
 unwind-push ns n fs = unwind-append ns (n ∷ []) fs
 
+-- the frames of now may be live
 pub fits-now : (ns : List Note) (fs : List PlainFrame) → Fits ns fs → AreLive fs
 fits-now [] fs h = h
 fits-now (n ∷ ns) fs h = fits-now ns fs h.0
 
+-- one more note fits
 pub fits-push : (ns : List Note) (n : Note) (fs : List PlainFrame) → Fits ns (undo n fs) → Undoes n fs → AreLive fs → Fits (ns ++ n ∷ []) fs
 fits-push [] n fs h u s = (s, u, h)
 fits-push (m ∷ ns) n fs h u s =
     (fits-push ns n fs h.0 u s, rw (unwind-push ns n fs) h.1, rw (unwind-push ns n fs) h.2)
 
+-- a note that fits can be undone
 pub fits-pop : (ns : List Note) (n : Note) (fs : List PlainFrame) → Fits (ns ++ n ∷ []) fs → Fits ns (undo n fs) × Undoes n fs × AreLive fs
 fits-pop [] n fs h = (h.2, h.1, h.0)
 fits-pop (m ∷ ns) n fs h =
@@ -41,22 +46,27 @@ fits-pop (m ∷ ns) n fs h =
 
 -- ---- marks
 
+-- the marks lie between low and top
 pub rises-le : (low top : ℕ) (es : List Entry) → Rises low es top → low ≤ top
 rises-le low top [] h = h
 rises-le low top (e ∷ es) h = let r : e.mark ≤ top = rises-le e.mark top es h.1 in omega (arith, h.0)
 
+-- the notes may get more
 pub rises-more : (low top up : ℕ) (es : List Entry) → Rises low es top → top ≤ up → Rises low es up
 rises-more low top up [] h l = omega arith
 rises-more low top up (e ∷ es) h l = (h.0, rises-more e.mark top up es h.1 l)
 
+-- one more entry
 pub rises-push : (low top : ℕ) (es : List Entry) (e : Entry) → Rises low es e.mark → e.mark ≤ top → Rises low (es ++ e ∷ []) top
 rises-push low top [] e h l = (h, l)
 rises-push low top (d ∷ es) e h l = (h.0, rises-push d.mark top es e h.1 l)
 
+-- one entry less
 pub rises-pop : (low top : ℕ) (es : List Entry) (e : Entry) → Rises low (es ++ e ∷ []) top → Rises low es e.mark × (e.mark ≤ top)
 rises-pop low top [] e h = (h.0, h.1)
 rises-pop low top (d ∷ es) e h = let r = rises-pop d.mark top es e h.1 in ((h.0, r.0), r.1)
 
+-- some of the entries
 pub rises-take : (h low top : ℕ) (es : List Entry) → Rises low es top → Rises low (take h es) top
 rises-take zero low top es r = rises-le low top es r
 rises-take (suc h) low top [] r = r
@@ -74,6 +84,7 @@ entry-unwound m trail fs e l k =
     ap (λ gs. record { kind = e.kind; resume = e.resume; frames = gs; carry = e.carry })
     (sym (unwind-append (drop e.mark (take m trail)) (drop m trail) fs) ∙ ap (λ ns. unwind ns fs) split)
 
+-- entries below a mark see the same copies, whether the notes above the mark are still there or undone
 pub held-unwound : (m low : ℕ) (trail : List Note) (fs : List PlainFrame) (es : List Entry) → Rises low es m → m ≤ length trail →
     held_of (take m trail) (unwind (drop m trail) fs) es ≡ held_of trail fs es
 held-unwound m low trail fs [] r k = refl
@@ -125,6 +136,7 @@ undoes-written fs p c old l k =
     ap (λ (h : PlainFrame). length h.cells) same ∙ length-set (get_or fs p.frame no_frame).cells p.slot c in
     (omega (arith, wide, l), omega (arith, cells, k))
 
+-- a noted write keeps all copies
 pub write-keeps : (es : List Entry) (trail trail' : List Note) (fs fs' : List PlainFrame) (p : SlotPlace) (c old : Cell) →
     fs' ≡ written fs p.frame p.slot c → trail' ≡ noted es trail (Wrote p old) → old ≡ cell_at fs p.frame p.slot Unknown →
     p.frame < length fs → p.slot < length (get_or fs p.frame no_frame).cells → IsTrailed es trail fs → Keeps es trail trail' fs fs'
@@ -134,6 +146,7 @@ write-keeps es trail trail' fs fs' p c old q t o l k trailed =
     (undo-written fs p.frame p.slot c old l o k) (undoes-written fs p c old l k) (live-after-write fs p.frame p.slot c trailed.live) in
     rw (q, t) keeps
 
+-- a noted entry keeps all copies
 pub enter-keeps : (es : List Entry) (trail trail' : List Note) (fs fs' : List PlainFrame) (g : PlainFrame) →
     fs' ≡ fs ++ g ∷ [] → trail' ≡ noted es trail Entered → length fs < 10000 → live_cells fs + g.declared ≤ 1048576 → IsWhole g →
     IsTrailed es trail fs → Keeps es trail trail' fs fs'
@@ -148,6 +161,7 @@ enter-keeps es trail trail' fs fs' g p t l m w trailed =
     noted-keeps es trail Entered fs (fs ++ g ∷ []) trailed (without-push fs g) tt live in
     rw (p, t) keeps
 
+-- a noted leave keeps all copies
 pub leave-keeps : (es : List Entry) (trail trail' : List Note) (fs fs' : List PlainFrame) (g : PlainFrame) →
     fs' ≡ without_last fs → g ≡ last_frame fs → trail' ≡ noted es trail (Left g) → 2 ≤ length fs →
     IsTrailed es trail fs → Keeps es trail trail' fs fs'
@@ -168,6 +182,7 @@ leave-keeps es trail trail' fs fs' g p o t l trailed =
 
 -- ---- entries that are dropped
 
+-- a settled trail keeps all copies
 pub settled-keeps : (es : List Entry) (trail : List Note) (fs : List PlainFrame) →
     Fits trail fs → Rises 0 es (length trail) → Keeps es trail (settled es trail) fs fs
 settled-keeps [] trail fs f r = record {
@@ -189,6 +204,7 @@ pub record Cuts (h : ℕ) (es es' : List Entry) (trail after : List Note) (fs : 
   pub held : held_of after fs es' ≡ take h (held_of trail fs es)
   pub trailed : IsTrailed es' after fs
 
+-- a cut keeps the copies below it
 pub cut-keeps : (h : ℕ) (trail after : List Note) (fs : List PlainFrame) (es es' : List Entry) → es' ≡ take h es → after ≡ settled es' trail →
     IsTrailed es trail fs → Cuts h es es' trail after fs
 cut-keeps h trail after fs es es' p q t =
@@ -202,6 +218,7 @@ top-push es e =
     let n : length (es ++ e ∷ []) - 1 ≡ length es = rw (length_push es e) (omega arith) in
     ap (λ k. get_or (es ++ e ∷ []) k no_entry) n ∙ get_or_at es e [] no_entry (length es) refl
 
+-- a pop of a stack with a top entry
 pub popped-push : (es : List PlainEntry) (e : PlainEntry) → popped (es ++ e ∷ []) ≡ es ++ left_of e
 popped-push es e =
     let n : length (es ++ e ∷ []) - 1 ≡ length es = rw (length_push es e) (omega arith) in
@@ -219,6 +236,7 @@ entry-at-mark e trail fs l =
     let le : length (take e.mark trail) ≤ e.mark = rw (length-take-le e.mark trail l) (omega arith) in
     ap (λ ns. unwind ns fs) (drop_all e.mark (take e.mark trail) le)
 
+-- what stays of an entry has its copy
 pub stays-held : (k : ChoiceKind) (e : Entry) (trail : List Note) (fs : List PlainFrame) → e.mark ≤ length trail →
     held_of (take e.mark trail) (unwind (drop e.mark trail) fs) (stays_as k e) ≡ left_as k (entry_of trail fs e)
 stays-held Forall e trail fs l =
@@ -228,6 +246,7 @@ stays-held Branch e trail fs l = refl
 stays-held Body e trail fs l = refl
 stays-held Done e trail fs l = refl
 
+-- what stays of an entry has its mark
 pub stays-rises : (k : ChoiceKind) (es : List Entry) (e : Entry) (n : ℕ) → Rises 0 es e.mark → e.mark ≡ n → Rises 0 (es ++ stays_as k e) n
 stays-rises Forall es e n r q = rises-push 0 n es (record e { kind = Done }) r (omega (arith, q))
 stays-rises Branch es e n r q = rw append-nil (rw (← q) r)
@@ -240,6 +259,7 @@ pub record Pops (es : List Entry) (e : Entry) (trail after : List Note) (fs gs :
   pub held : held_of after gs (es ++ stays e) ≡ popped (held_of trail fs (es ++ e ∷ []))
   pub rises : Rises 0 (es ++ stays e) (length after)
 
+-- the notes above the mark of an entry, undone, give its copy
 pub pops : (es : List Entry) (e : Entry) (trail : List Note) (fs : List PlainFrame) → Rises 0 (es ++ e ∷ []) (length trail) →
     Pops es e trail (take e.mark trail) fs (unwind (drop e.mark trail) fs)
 pops es e trail fs r =
@@ -260,6 +280,7 @@ pub record Fails (es : List Entry) (e : Entry) (es' : List Entry) (trail after :
   pub held : held_of after gs es' ≡ popped (held_of trail fs (es ++ e ∷ []))
   pub trailed : IsTrailed es' after gs
 
+-- a whole pop keeps the copies below
 pub fail-keeps : (es es' : List Entry) (e : Entry) (trail trail1 after : List Note) (fs gs : List PlainFrame) →
     es' ≡ es ++ stays e → trail1 ≡ take e.mark trail → gs ≡ unwind (drop e.mark trail) fs → after ≡ settled es' trail1 →
     Fits trail1 gs → Rises 0 (es ++ e ∷ []) (length trail) → Fails es e es' trail after fs gs
@@ -287,6 +308,7 @@ pub record Unwinds (mark : ℕ) (trail : List Note) (fs : List PlainFrame) (rest
   pub same : unwind (drop mark rest) gs ≡ unwind (drop mark trail) fs
   pub below : take mark rest ≡ take mark trail
 
+-- one more note is undone
 pub unwinds-more : (mark : ℕ) (trail : List Note) (fs : List PlainFrame) (rest : List Note) (gs : List PlainFrame)
     (ns : List Note) (n : Note) (hs : List PlainFrame) → rest ≡ ns ++ n ∷ [] → hs ≡ undo n gs → mark < length rest →
     Unwinds mark trail fs rest gs → Unwinds mark trail fs ns hs
@@ -304,11 +326,13 @@ unwinds-more mark trail fs rest gs ns n hs p q l u =
 
 -- ---- the kind at a height
 
+-- past the top there is no kind
 kind-past : (trail : List Note) (fs : List PlainFrame) (es : List Entry) (b : ℕ) → length es ≤ b → slice_get (map (λ (x : PlainEntry). x.kind) (held_of trail fs es)) b ≡ None
 kind-past trail fs [] b l = refl
 kind-past trail fs (e ∷ es) zero l = absurd (omega arith)
 kind-past trail fs (e ∷ es) (suc b) l = kind-past trail fs es b (omega arith)
 
+-- the kind of an entry that is there
 kind-there : (trail : List Note) (fs : List PlainFrame) (es : List Entry) (b : ℕ) (e : Entry) → b < length es → e ≡ get_or es b e →
     slice_get (map (λ (x : PlainEntry). x.kind) (held_of trail fs es)) b ≡ Some e.kind
 kind-there trail fs [] b e l h = absurd (omega arith)
@@ -330,11 +354,13 @@ kind-some trail fs es (suc b) e l m p =
 
 -- ---- a note within the trail
 
+-- the notes above a mark fit
 pub fits-drop : (k : ℕ) (ns : List Note) (fs : List PlainFrame) → Fits ns fs → Fits (drop k ns) fs
 fits-drop zero ns fs h = h
 fits-drop (suc k) [] fs h = h
 fits-drop (suc k) (n ∷ ns) fs h = fits-drop k ns fs h.0
 
+-- the frames from before notes that fit may be live
 pub fits-unwound : (ns : List Note) (fs : List PlainFrame) → Fits ns fs → AreLive (unwind ns fs)
 fits-unwound [] fs h = h
 fits-unwound (n ∷ ns) fs h = h.2
@@ -347,6 +373,7 @@ fits-at k ns n fs h l e =
     let f : Fits (n ∷ drop (k + 1) ns) fs = rw split at (fits-drop k ns fs h) in
     (f.1, ap (λ ms. unwind ms fs) split)
 
+-- a mark is within the trail
 pub rises-at : (low top : ℕ) (es : List Entry) (i : ℕ) (d : Entry) → Rises low es top → i < length es → (get_or es i d).mark ≤ top
 rises-at low top [] i d r l = absurd (omega arith)
 rises-at low top (e ∷ es) zero d r l = rises-le e.mark top es r.1

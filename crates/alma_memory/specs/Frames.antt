@@ -7,6 +7,7 @@ pub record IsWhole (frame : PlainFrame) : Type 0 where
   pub kinds : length frame.kinds ≡ length frame.cells
   pub few : length frame.cells < 2 ^ 32
 
+-- each frame is whole
 abbrev pub AreWhole : List PlainFrame → Type 0
 AreWhole [] = Unit {0}
 AreWhole (frame ∷ frames) = IsWhole frame × AreWhole frames
