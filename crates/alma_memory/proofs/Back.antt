@@ -1,6 +1,5 @@
 -- The entry of a choice keeps its copy under all calls that leave it.
 use Rattle.std.proofs.Common.{◌≡◌, ℕ, ◌≤◌, ◌<◌, ◌+◌, ◌-◌, List, [], ◌∷◌, ◌++◌, length, take, get_or, set, suc, zero, refl, sym, ap, ◌∙◌, arith}
-use Rattle.std.specs.Prelude.{◌⊎◌}
 use Rattle.std.proofs.Common.{inl, inr}
 use Rattle.std.proofs.lemmas.List.{length_push, length-take, length-take-le, length-append, get_or_at, get_or-take, get_or-append_right}
 use Rattle.std.proofs.Math.ListN.{get_or-append}
@@ -11,7 +10,7 @@ use Rattle.alma_base.specs.Carry.{with_changes}
 use Rattle.alma_code.specs.Carries.{with_carry, diffs}
 use Rattle.alma_memory.proofs.Gains.{or-above}
 use Rattle.alma_memory.specs.Picture.{Picture}
-use Rattle.alma_memory.specs.Calls.{Call, Nothing, Write, Enter, Leave, Choose, Fail, Cut, Overlay, Keep, Finish, now_after, held_after, Makes, Leads, GivesBack}
+use Rattle.alma_memory.specs.Calls.{Call, Nothing, Write, Enter, Leave, Choose, Fail, Cut, Overlay, Keep, Finish, Makes, Leads, GivesBack}
 
 -- the copy of the entry at a place of the stack
 abbrev copy_at : List PlainEntry → ℕ → List PlainFrame

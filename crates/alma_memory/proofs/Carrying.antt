@@ -1,6 +1,6 @@
 -- The entries of an ordered map as a carry: what an insertion, a look-up, a removal and a write through the map do to it.
-use Rattle.std.proofs.Common.{◌≡◌, ℕ, Bool, true, false, ◌&&◌, cond, List, [], ◌∷◌, refl, sym, ap, ◌∙◌, arith, zero, suc}
-use Rattle.std.specs.Prelude.{◌||◌, nat_lt, nat_eq, Option, Some, None}
+use Rattle.std.proofs.Common.{◌≡◌, ℕ, Bool, true, false, ◌&&◌, cond, List, [], ◌∷◌, refl, ap, ◌∙◌, arith}
+use Rattle.std.specs.Prelude.{◌||◌, nat_lt, nat_eq, Some, None}
 use Rattle.std.specs.Ordering.{nat_cmp, ordering_then, match_ordering, is_eq}
 use Rattle.std.specs.declared.cmp.Ordering.{Ordering}
 use Rattle.std.specs.declared.cmp.Ordering.TheVariants.{Less, Equal, Greater}
@@ -11,7 +11,7 @@ use Rattle.std.specs.List.Sorted.{IsStrictlySortedBy}
 use Rattle.std.specs.List.{AllByRecursion}
 use Rattle.std.proofs.lemmas.Bool.{and_parts, eqb-true}
 use Rattle.std.proofs.lemmas.Bool.Decides.{nat_tests}
-use Rattle.alma_base.specs.Carry.{Change, Carry, is_before, is_same_place, with_change, carried_at}
+use Rattle.alma_base.specs.Carry.{Carry, is_before, is_same_place, with_change, carried_at}
 use Rattle.alma_base.specs.Choice.{if_true}
 use Rattle.alma_code.specs.declared.cell.Cell.{Cell}
 use Rattle.alma_memory.specs.declared.carry.SlotPlace.{SlotPlace}

@@ -4,12 +4,11 @@ use Rattle.std.specs.Prelude.{Option, Some, None, slice_get, if◌then◌else◌
 use Rattle.std.proofs.lemmas.List.{get_or-set_same, get_or-set_other, get_or-take}
 use Rattle.std.proofs.Math.ListN.{get_or-append}
 use Rattle.alma_base.specs.Carry.{Change, Carry, is_same_place, carried_at}
-use Rattle.alma_base.specs.Choice.{if_true}
 use Rattle.alma_code.specs.declared.cell.Cell.{Cell}
 use Rattle.alma_code.specs.declared.cell.Cell.TheVariants.{Unknown}
 use Rattle.alma_code.specs.Kinds.{is_number}
 use Rattle.alma_code.specs.Picture.{PlainFrame, no_frame, frame_with, written, cell_at}
-use Rattle.alma_code.specs.Carries.{number_at, same_number, differs, diff_at}
+use Rattle.alma_code.specs.Carries.{number_at, same_number, diff_at}
 use Rattle.alma_memory.specs.Frames.{IsWhole, AreWhole}
 use Rattle.alma_memory.specs.Past.{rewritten, number_in, number_of, over, changed}
 use Rattle.alma_memory.proofs.Stores.{whole-set, whole-with, whole-at, number-slot}

@@ -1,5 +1,5 @@
 -- Lemmas on lists of changes: two that name the same places give a carry the same.
-use Rattle.std.proofs.Common.{◌≡◌, ℕ, ◌≤◌, ◌<◌, ◌+◌, ◌-◌, Bool, true, false, ◌&&◌, List, [], ◌∷◌, ◌++◌, length, take, get_or, min, suc, zero, inl, inr, refl, sym, ap, ◌∙◌, arith}
+use Rattle.std.proofs.Common.{◌≡◌, ℕ, ◌≤◌, ◌<◌, ◌+◌, ◌-◌, Bool, true, false, List, [], ◌∷◌, ◌++◌, length, take, get_or, min, suc, zero, inl, inr, refl, sym, ap, ◌∙◌, arith}
 use Rattle.std.specs.Prelude.{◌⊎◌, ◌||◌, nat_lt, Option, Some, None, if◌then◌else◌}
 use Rattle.std.proofs.lemmas.Bool.{and_parts, ltb-true}
 use Rattle.std.proofs.lemmas.Bool.Decides.{nat_tests}
@@ -9,8 +9,7 @@ use Rattle.alma_base.specs.Choice.{if_true}
 use Rattle.alma_code.specs.declared.cell.Cell.{Cell}
 use Rattle.alma_code.specs.declared.cell.Cell.TheVariants.{Unknown}
 use Rattle.alma_code.specs.Picture.{PlainFrame, no_frame, cell_at}
-use Rattle.alma_code.specs.Carries.{number_at, same_number, differs, diff_at, slot_diffs, frame_diffs, diffs}
-use Rattle.alma_memory.specs.Carries.{IsRising}
+use Rattle.alma_code.specs.Carries.{number_at, differs, diff_at, slot_diffs, frame_diffs, diffs}
 use Rattle.alma_memory.specs.Frames.{AreWhole}
 use Rattle.alma_memory.specs.Past.{rewritten, number_of, over, changed, diffs_at, diffs_between, HoldNumbers, SameGain}
 use Rattle.alma_memory.proofs.Carrying.{same-place-is}

@@ -1,6 +1,6 @@
 -- Lemmas on a list of any elements that is read at an index.
-use Rattle.std.proofs.Common.{◌≡◌, ℕ, ◌+◌, ◌<◌, List, [], ◌∷◌, length, drop, get_or, suc, zero, refl, sym, ap, ◌∙◌, arith}
-use Rattle.std.specs.Prelude.{Option, Some, None, slice_get}
+use Rattle.std.proofs.Common.{◌≡◌, ℕ, ◌+◌, List, [], ◌∷◌, drop, get_or, suc, zero, ap, ◌∙◌, arith}
+use Rattle.std.specs.Prelude.{Some, slice_get}
 
 -- what is read at an index stands at the head of the list from there on
 read-drop-suc : {A : Type 0} (x : A) (xs : List A) (i : ℕ) → slice_get xs i ≡ Some x → drop i xs ≡ x ∷ drop (suc i) xs

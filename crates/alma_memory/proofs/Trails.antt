@@ -1,5 +1,5 @@
 -- Lemmas on the trail: notes that are added and undone leave each whole copy as it was.
-use Rattle.std.specs.Prelude.{Option, Some, None, slice_get, ◌⊎◌}
+use Rattle.std.specs.Prelude.{Some, None, slice_get, ◌⊎◌}
 use Rattle.std.proofs.Common.{◌≡◌, ℕ, ◌≤◌, ◌<◌, ◌+◌, ◌-◌, List, [], ◌∷◌, ◌++◌, length, take, drop, map, get_or, suc, zero, refl, sym, ap, ◌∙◌, arith}
 use Rattle.std.proofs.lemmas.List.{drop_more, map-append, get_or_at, take_at, drop_all, take-map, length-take-le, length_push, length-set, get_or-set_same, drop-append-le, take-append-drop, append-nil, take-append-le}
 use Rattle.alma_code.specs.declared.cell.Cell.{Cell}

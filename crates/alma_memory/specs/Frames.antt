@@ -1,5 +1,5 @@
 -- What is true of the frames of a memory at each moment.
-use Rattle.std.specs.Prelude.{◌≡◌, ℕ, ◌≤◌, ◌<◌, ◌^◌, List, [], ◌∷◌, length}
+use Rattle.std.specs.Prelude.{◌≡◌, ◌≤◌, ◌<◌, ◌^◌, List, [], ◌∷◌, length}
 use Rattle.alma_code.specs.Picture.{PlainFrame, live_cells}
 
 -- each slot has a kind and a cell, and there are fewer than 2^32 of them

@@ -1,6 +1,6 @@
 -- The trail: notes of what changed, from which each whole copy follows.
-use Rattle.std.specs.Prelude.{ℕ, ◌<◌, List, [], ◌∷◌, ◌++◌, map, drop, get_or}
-use Rattle.alma_code.specs.Picture.{PlainFrame, PlainEntry, no_frame, written, without_last}
+use Rattle.std.specs.Prelude.{List, [], ◌∷◌, ◌++◌, map, drop}
+use Rattle.alma_code.specs.Picture.{PlainFrame, PlainEntry, written, without_last}
 use Rattle.alma_memory.specs.declared.trail.Note.{Note}
 use Rattle.alma_memory.specs.declared.trail.Note.TheVariants.{Wrote, Entered, Left}
 use Rattle.alma_memory.specs.declared.trail.Entry.{Entry}

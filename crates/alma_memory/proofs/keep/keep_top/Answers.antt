@@ -1,6 +1,5 @@
-use Rattle.std.proofs.Common.{◌≡◌, ◌<◌, ◌-◌, List, length, take, drop, get_or, set, sym, ap, ◌∙◌, arith, vec_len}
+use Rattle.std.proofs.Common.{◌≡◌, ◌<◌, ◌-◌, length, take, drop, get_or, set, ap, ◌∙◌, arith}
 use Rattle.alma_code.specs.Carries.{diffs}
-use Rattle.alma_memory.specs.declared.trail.Entry.{Entry}
 use Rattle.alma_memory.specs.Carries.{listed}
 use Rattle.alma_memory.specs.Gain.{no_saved, saved_with}
 use Rattle.alma_memory.specs.Past.{SameGain}

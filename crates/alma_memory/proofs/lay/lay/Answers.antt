@@ -1,7 +1,6 @@
-use Rattle.std.proofs.Common.{◌≡◌, ◌+◌, ◌≤◌, [], ◌∷◌, length, ap, ◌∙◌, sym, arith, rules, vec_len, vec_capacity}
+use Rattle.std.proofs.Common.{◌≡◌, ◌+◌, length, ap, ◌∙◌, sym, arith, rules, vec_len, vec_capacity}
 use Rattle.std.proofs.lemmas.List.{length-map}
 use Rattle.alma_memory.specs.Carries.{listed, change_of}
-use Rattle.alma_memory.specs.Held.{HasNoteRoom}
 use Rattle.alma_memory.proofs.Lays.{lays-all, lays-more, lays-none, room-one, room-less}
 use Rattle.alma_memory.proofs.lay.lay.Goals as goal
 

@@ -1,5 +1,4 @@
-use Rattle.std.proofs.Common.{◌∙◌, length, vec_len, vec_capacity, arith}
-use Rattle.alma_memory.specs.Held.{Keeps, HasNoteRoom}
+use Rattle.std.proofs.Common.{◌∙◌, length, vec_len, vec_capacity}
 use Rattle.alma_memory.proofs.Lays.{last-settled, room-fewer}
 use Rattle.alma_memory.proofs.lay.lay_last.Goals as goal
 

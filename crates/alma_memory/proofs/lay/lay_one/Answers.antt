@@ -1,4 +1,4 @@
-use Rattle.std.proofs.Common.{◌≡◌, true, ◌∙◌, sym}
+use Rattle.std.proofs.Common.{◌≡◌, true, sym}
 use Rattle.alma_code.specs.Carries.{number_at}
 use Rattle.alma_memory.proofs.Stores.{number-cell, number-frame}
 use Rattle.alma_memory.proofs.lay.lay_one.Goals as goal

@@ -1,4 +1,4 @@
-use Rattle.std.proofs.Common.{◌≡◌, ◌<◌, ◌∙◌, sym, ap, arith, length}
+use Rattle.std.proofs.Common.{◌≡◌, ◌∙◌, sym, ap, arith, length}
 use Rattle.alma_memory.proofs.Layouts.{head-kinds, entered-length}
 use Rattle.alma_memory.proofs.layout.frame_from.Goals as goal
 

@@ -1,4 +1,4 @@
-use Rattle.std.proofs.Common.{◌≡◌, ◌++◌, map, take, drop, length}
+use Rattle.std.proofs.Common.{◌≡◌, ◌++◌, drop}
 use Rattle.alma_code.specs.Layout.{kinds_of, RunsRise}
 use Rattle.alma_memory.proofs.layout.kinds_from.Given as goal
 

@@ -1,4 +1,4 @@
-use Rattle.std.proofs.Common.{◌≤◌, ◌+◌, length, rules, arith}
+use Rattle.std.proofs.Common.{◌≤◌, ◌+◌, length, rules}
 use Rattle.alma_memory.proofs.Layouts.{place-end}
 use Rattle.alma_memory.proofs.layout.push_copies.Goals as goal
 

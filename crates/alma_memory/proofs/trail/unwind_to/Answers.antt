@@ -1,5 +1,5 @@
 use Rattle.std.proofs.Common.{◌∙◌, arith}
-use Rattle.alma_memory.proofs.Trails.{fits-pop, fits-now, Unwinds, unwinds-more}
+use Rattle.alma_memory.proofs.Trails.{fits-pop, fits-now, unwinds-more}
 use Rattle.alma_memory.proofs.trail.unwind_to.Goals as goal
 
 pub undo_note-requires : goal.undo_note-requires

@@ -1,9 +1,8 @@
 use Rattle.std.proofs.Common.{◌≡◌, ◌∙◌, ap, sym}
 use Rattle.std.specs.Option.{option_copied_mut}
-use Rattle.std.specs.Prelude.{Option, None}
-use Rattle.alma_code.specs.declared.cell.Cell.{Cell}
+use Rattle.std.specs.Prelude.{None}
 use Rattle.alma_base.specs.Carry.{carried_at}
-use Rattle.alma_memory.specs.Carries.{listed, put_back, with_cell}
+use Rattle.alma_memory.specs.Carries.{listed}
 use Rattle.alma_memory.proofs.Carrying.{remove-listed, set-listed, lookup-listed, with-absent, rising-listed}
 use Rattle.alma_memory.proofs.carry.Carry.put_back.Goals as goal
 

@@ -1,4 +1,4 @@
-use Rattle.std.proofs.Common.{◌≡◌, ◌∙◌, ap, sym}
+use Rattle.std.proofs.Common.{◌∙◌, ap}
 use Rattle.alma_base.specs.Carry.{carried_at, with_change}
 use Rattle.alma_memory.specs.Carries.{change_of, listed}
 use Rattle.alma_memory.proofs.Carrying.{insert-listed, lookup-listed, rising-listed}

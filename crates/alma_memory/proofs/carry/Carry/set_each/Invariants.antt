@@ -1,4 +1,4 @@
-use Rattle.std.proofs.Common.{◌≡◌, ◌≤◌, length, take, vec_len, vec_capacity}
+use Rattle.std.proofs.Common.{◌≡◌, ◌≤◌, length, vec_len, vec_capacity}
 use Rattle.alma_memory.proofs.Rising.{IsSet}
 use Rattle.alma_memory.proofs.carry.Carry.set_each.Given as goal
 

@@ -1,4 +1,3 @@
-use Rattle.std.proofs.Common.{sym}
 use Rattle.alma_memory.proofs.Stores.{whole-at}
 use Rattle.alma_memory.proofs.frames.Frames.number.Goals as goal
 

@@ -1,6 +1,5 @@
-use Rattle.std.proofs.Common.{◌≡◌, ◌∙◌, ap, sym, length}
+use Rattle.std.proofs.Common.{◌≡◌, ◌∙◌, ap, sym}
 use Rattle.alma_code.specs.Picture.{no_frame, frame_with, written}
-use Rattle.std.specs.Vec.{with_item}
 use Rattle.std.proofs.Common.{set, get_or}
 use Rattle.std.proofs.lemmas.List.{length-set, get_or_read}
 use Rattle.alma_memory.proofs.Stores.{live-written}

@@ -1,5 +1,4 @@
-use Rattle.std.proofs.Common.{◌≡◌, ◌≤◌, ◌-◌, ◌++◌, [], ◌∙◌, ap, sym, refl, arith, length, min, take}
-use Rattle.alma_code.specs.Picture.{PlainFrame}
+use Rattle.std.proofs.Common.{◌≡◌, ◌≤◌, ◌-◌, ◌++◌, ◌∙◌, ap, refl, length, min, take}
 use Rattle.alma_memory.specs.Past.{PlainPast, rewritten, diffs_at, diffs_between}
 use Rattle.alma_memory.specs.Carries.{listed}
 use Rattle.alma_memory.proofs.Gains.{found-gain}

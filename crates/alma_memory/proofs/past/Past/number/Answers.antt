@@ -1,6 +1,6 @@
 use Rattle.std.proofs.Common.{◌≡◌, ◌<◌, ◌-◌, ◌∙◌, ap, sym, arith, length, get_or}
 use Rattle.std.proofs.lemmas.List.{get_or_read}
-use Rattle.alma_code.specs.Picture.{PlainFrame, no_frame}
+use Rattle.alma_code.specs.Picture.{no_frame}
 use Rattle.alma_memory.specs.Past.{PlainPast, number_of, number_in, over}
 use Rattle.alma_memory.proofs.Stores.{whole-at}
 use Rattle.alma_memory.proofs.Pasts.{at-above}

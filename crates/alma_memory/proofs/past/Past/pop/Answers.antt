@@ -1,4 +1,4 @@
-use Rattle.std.proofs.Common.{◌≡◌, ◌∙◌, ap, sym, length, [], arith}
+use Rattle.std.proofs.Common.{◌≡◌, ◌∙◌, ap, length, [], arith}
 use Rattle.std.proofs.lemmas.Bool.Decides.{nat_tests}
 use Rattle.std.proofs.lemmas.List.{nil_from_length}
 use Rattle.alma_code.specs.Picture.{without_last}

@@ -1,4 +1,4 @@
-use Rattle.std.proofs.Common.{◌≡◌, ◌<◌, ◌-◌, ◌∙◌, ap, sym, length, set, get_or}
+use Rattle.std.proofs.Common.{◌≡◌, ◌-◌, ◌∙◌, ap, sym, set, get_or}
 use Rattle.alma_code.specs.Picture.{frame_with, written, no_frame}
 use Rattle.alma_memory.specs.Past.{PlainPast}
 use Rattle.alma_memory.specs.Carries.{change_of}
