@@ -175,12 +175,18 @@ impl Memory {
     ) -> Result<(), EnterError>
         requires head { IsHead (H.head head.now) }
         requires args { FitsParams (IsLive self.old.now) (H.head head.now).params args.now }
-        ensures now { self.new.now ≡ (if is_ok result then self.old.now ++ entered_frame self.old.now (H.head head.now) routine ret args.now ∷ [] else self.old.now) }
+        ensures now { self.new.now ≡ (if is_ok result
+            then self.old.now ++ entered_frame self.old.now (H.head head.now) routine ret args.now ∷ []
+            else self.old.now) }
         ensures held { self.new.held ≡ self.old.held }
-        ensures answer { MatchResult result (λ _. HasFrameRoom self.old.now (H.head head.now).declared) (λ e. RefusesFor e self.old.now (H.head head.now).declared) }
+        ensures answer { MatchResult result
+            (λ _. HasFrameRoom self.old.now (H.head head.now).declared)
+            (λ error. RefusesFor error self.old.now (H.head head.now).declared) }
         ensures choice_room { self.old.choice_room ≤ self.new.choice_room }
         ensures trail_room { self.old.trail_room ≤ self.new.trail_room + (if is_ok result then 1 else 0) }
-        ensures call { Makes (if is_ok result then Enter (entered_frame self.old.now (H.head head.now) routine ret args.now) else Nothing) self.old self.new }
+        ensures call { Makes
+            (if is_ok result then Enter (entered_frame self.old.now (H.head head.now) routine ret args.now) else Nothing)
+            self.old self.new }
     {
         if self.frames.len() >= MAX_FRAMES {
             return Err(EnterError::DepthFull);
@@ -291,10 +297,13 @@ impl Memory {
     /// Lays the carry of the Forall at a height over the frames: each place of it that is a live number slot gets its cell.
     pub fn overlay(&mut self, height: usize) -> Result<(), NoMemory>
         requires { IsForallAt self.old.held height }
-        ensures now { self.new.now ≡ (if is_ok result then overlaid self.old.now (entry_at self.old.held height).carry else self.old.now) }
+        ensures now { self.new.now ≡ (if is_ok result
+            then overlaid self.old.now (entry_at self.old.held height).carry
+            else self.old.now) }
         ensures held { self.new.held ≡ self.old.held }
         ensures choice_room { self.old.choice_room ≤ self.new.choice_room }
-        ensures trail_room { self.old.trail_room ≤ self.new.trail_room + (if is_ok result then length (entry_at self.old.held height).carry else 0) }
+        ensures trail_room { self.old.trail_room ≤ self.new.trail_room
+            + (if is_ok result then length (entry_at self.old.held height).carry else 0) }
         ensures call { Makes (if is_ok result then Overlay height else Nothing) self.old self.new }
     {
         let carry = &self.entries[height - 1].carry;
@@ -335,7 +344,8 @@ impl Memory {
         ensures now { self.new.now ≡ (if is_ok result then overlaid self.old.now (top_of self.old.held).carry else self.old.now) }
         ensures held { self.new.held ≡ (if is_ok result then take (length self.old.held - 1) self.old.held else self.old.held) }
         ensures choice_room { self.old.choice_room ≤ self.new.choice_room }
-        ensures trail_room { self.old.trail_room ≤ self.new.trail_room + (if is_ok result then length (top_of self.old.held).carry else 0) }
+        ensures trail_room { self.old.trail_room ≤ self.new.trail_room
+            + (if is_ok result then length (top_of self.old.held).carry else 0) }
         ensures call { Makes (if is_ok result then Finish else Nothing) self.old self.new }
     {
         let carry = &self.entries[self.entries.len() - 1].carry;
