@@ -1,1 +1,12 @@
+pub mod Acts
+pub mod Calls
+mod Computed
+pub mod Entering
 pub mod Heads
+pub mod Ranges
+pub mod Ready
+pub mod Runs
+pub mod Steps
+pub mod Tables
+pub mod Verdicts
+pub mod Writes

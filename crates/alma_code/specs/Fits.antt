@@ -1,9 +1,10 @@
 -- What is true of the machine at each moment of a run of a sound code.
+-- A frame is spoken of by its number and by the routines of all frames: so what is true of it stays where the cells of others change.
 use Rattle.std.specs.Prelude.{◌≡◌, ℕ, suc, ◌+◌, ◌-◌, ◌<◌, ◌≤◌, true, pos, negsuc, List, [], ◌∷◌, map, length, get_or, Some, slice_get}
+use Rattle.alma_base.specs.Carry.{Change, Carry}
 use Rattle.alma_code.specs.declared.cell.Cell.{Cell}
 use Rattle.alma_code.specs.declared.cell.Cell.TheVariants as cell
 use Rattle.alma_code.specs.declared.cell.CellPlace.{CellPlace}
-use Rattle.alma_base.specs.Carry.{Change, Carry}
 use Rattle.alma_code.specs.declared.cell.SlotKind.{SlotKind}
 use Rattle.alma_code.specs.declared.cell.SlotKind.TheVariants as slot
 use Rattle.alma_code.specs.declared.instr.Instr.TheVariants as I
@@ -14,9 +15,9 @@ use Rattle.alma_code.specs.Machine.{Mode, Going, Failing, Ended, Stuck, State}
 
 -- the routines of the frames
 abbrev pub routines_of : List PlainFrame → List ℕ
-routines_of fs = map (λ f. f.routine) fs
+routines_of frames = map (λ frame. frame.routine) frames
 
--- the content of a number slot
+-- what a number slot may hold
 abbrev pub IsContent : Cell → Type 0
 IsContent cell.Unknown = Unit {0}
 IsContent (cell.Int v) = Unit {0}
@@ -24,7 +25,7 @@ IsContent cell.Unset = ⊥
 IsContent (cell.Place p) = ⊥
 IsContent (cell.Mark h) = ⊥
 
--- the input position
+-- an input position: a number from 0 on
 abbrev pub IsPosition : Cell → Type 0
 IsPosition (cell.Int (pos n)) = Unit {0}
 IsPosition (cell.Int (negsuc n)) = ⊥
@@ -39,13 +40,13 @@ module _ (code : PlainCode) where
     pub number : slice_get (kinds_at code (get_or rs f 0)) i ≡ Some slot.Number
     pub free : 0 < f + i
 
-  -- a place that frame f may hold: of a frame not above it
+  -- a place that frame f may hold: of cells of a frame that is not above it
   pub record IsPlace (rs : List ℕ) (f : ℕ) (p : CellPlace) : Type 0 where
     pub frame : p.frame ≤ f
     pub cells : (k : ℕ) → k < p.len → IsCell rs p.frame (p.slot + k)
 
-  -- a cell fits its slot in frame f
-  abbrev pub FitsSlot : List ℕ → ℕ → SlotKind → Cell → Type 0
+  -- a cell fits a slot of its kind in frame f
+  abbrev pub FitsSlot : (rs : List ℕ) (f : ℕ) → SlotKind → Cell → Type 0
   FitsSlot rs f slot.Number c = IsContent c
   FitsSlot rs f (slot.Place n) (cell.Place p) = (p.len ≡ n) × IsPlace rs f p
   FitsSlot rs f (slot.Place n) cell.Unset = Unit {0}
@@ -58,7 +59,7 @@ module _ (code : PlainCode) where
   FitsSlot rs f slot.Mark (cell.Int v) = ⊥
   FitsSlot rs f slot.Mark (cell.Place p) = ⊥
 
-  -- an address just behind a Call of the callee, in the code of the caller
+  -- an address just behind a Call of the callee, in the code of the caller and not its last
   pub record IsReturn (caller back callee : ℕ) : Type 0 where
     pub first : ℕ
     pub to : ℕ
@@ -68,45 +69,53 @@ module _ (code : PlainCode) where
     pub low : start_at code caller ≤ at
     pub high : back < end_at code caller
 
-  -- frame f, where rs are the routines of the frames
-  pub record FitsFrame (rs : List ℕ) (f : ℕ) (fr : PlainFrame) : Type 0 where
-    pub routine : fr.routine < length code.routines
-    pub kinds : fr.kinds ≡ kinds_at code fr.routine
-    pub full : length fr.cells ≡ length fr.kinds
-    pub cells : (i : ℕ) → i < length fr.kinds → FitsSlot rs f (get_or fr.kinds i slot.Mark) (get_or fr.cells i cell.Unset)
-    pub main : f ≡ 0 → fr.routine ≡ 0
-    pub called : 1 ≤ f → (1 ≤ fr.routine) × IsReturn (get_or rs (f - 1) 0) fr.back fr.routine
+  -- frame f: of a routine of the code, with its slots and a cell that fits in each; the first is of routine 0, the others were called by the one below
+  pub record FitsFrame (rs : List ℕ) (f : ℕ) (frame : PlainFrame) : Type 0 where
+    pub routine : frame.routine < length code.routines
+    pub kinds : frame.kinds ≡ kinds_at code frame.routine
+    pub full : length frame.cells ≡ length frame.kinds
+    pub cells : (i : ℕ) → i < length frame.kinds → FitsSlot rs f (get_or frame.kinds i slot.Mark) (get_or frame.cells i cell.Unset)
+    pub main : f ≡ 0 → frame.routine ≡ 0
+    pub called : 1 ≤ f → (1 ≤ frame.routine) × IsReturn (get_or rs (f - 1) 0) frame.back frame.routine
 
-  pub record FitsFrames (fs : List PlainFrame) : Type 0 where
-    pub some : 1 ≤ length fs
-    pub each : (f : ℕ) → f < length fs → FitsFrame (routines_of fs) f (get_or fs f no_frame)
-    pub position : IsPosition (cell_at fs 0 0 cell.Unset)
+  -- there is a frame, each fits, and the first cell of the first is an input position
+  pub record FitsFrames (frames : List PlainFrame) : Type 0 where
+    pub some : 1 ≤ length frames
+    pub each : (f : ℕ) → f < length frames → FitsFrame (routines_of frames) f (get_or frames f no_frame)
+    pub position : IsPosition (cell_at frames 0 0 cell.Unset)
 
-  abbrev pub IsAt : List PlainFrame → ℕ → Type 0
-  IsAt fs at = is_address code (last_frame fs).routine at ≡ true
+  -- an address of the routine of the top frame
+  abbrev pub IsAt : List PlainFrame → (at : ℕ) → Type 0
+  IsAt frames at = is_address code (last_frame frames).routine at ≡ true
 
-  pub record FitsCarried (c : Change Cell) : Type 0 where
-    pub content : IsContent c.cell
-    pub position : c.frame + c.slot ≡ 0 → IsPosition c.cell
+  -- a change of a carry has what a number slot may hold, and at the input position what that may be
+  pub record FitsCarried (x : Change Cell) : Type 0 where
+    pub content : IsContent x.cell
+    pub position : x.frame + x.slot ≡ 0 → IsPosition x.cell
 
+  -- each change fits
   abbrev pub AllFit : Carry Cell → Type 0
   AllFit [] = Unit {0}
-  AllFit (c ∷ cs) = FitsCarried c × AllFit cs
+  AllFit (x ∷ rest) = FitsCarried x × AllFit rest
 
-  pub record FitsEntry (e : PlainEntry) : Type 0 where
-    pub frames : FitsFrames e.frames
-    pub resume : IsAt e.frames e.resume
-    pub carry : AllFit e.carry
+  -- an entry: its frames fit, it goes on in the routine of its top frame, and its carry fits
+  pub record FitsEntry (entry : PlainEntry) : Type 0 where
+    pub frames : FitsFrames entry.frames
+    pub resume : IsAt entry.frames entry.resume
+    pub carry : AllFit entry.carry
 
+  -- each entry fits
   abbrev pub FitsHeld : List PlainEntry → Type 0
   FitsHeld held = (h : ℕ) → h < length held → FitsEntry (get_or held h no_entry)
 
+  -- a machine that goes on has an address of the routine of its top frame, and it is not stuck
   abbrev pub FitsMode : Mode → State → Type 0
   FitsMode Going s = IsAt s.now s.at
   FitsMode Failing s = Unit {0}
   FitsMode (Ended e) s = Unit {0}
   FitsMode Stuck s = ⊥
 
+  -- the whole state
   pub record Fits (s : State) : Type 0 where
     pub frames : FitsFrames s.now
     pub held : FitsHeld s.held

@@ -10,3 +10,4 @@ pub mod Plain
 pub mod Records
 pub mod Rules
 pub mod Words
+pub mod Worked

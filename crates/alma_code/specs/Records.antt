@@ -1,24 +1,31 @@
--- What the format of objects asks of the tables of a code, beside their order.
-use Rattle.std.specs.Prelude.{ℕ, ◌+◌, ◌≤◌, map, sum, length}
-use Rattle.alma_code.specs.Plain.{PlainCode}
+-- What the format of objects asks of the tables of a code, beside their order: no count is too large, and each record is as it must be.
+use Rattle.std.specs.Prelude.{◌≡◌, ◌+◌, ◌≤◌, ℕ, Bool, true, false, not, ◌&&◌, ◌||◌, nat_eq, nat_le, int_le, List, [], ◌∷◌, sum_by, length}
+use Rattle.std.specs.List.{list_all}
+use Rattle.alma_base.specs.Reading.{is_digit}
+use Rattle.alma_code.specs.declared.cell.SlotKind.{SlotKind}
+use Rattle.alma_code.specs.declared.cell.SlotKind.TheVariants as slot
+use Rattle.alma_code.specs.declared.head.Run.{Run}
+use Rattle.alma_code.specs.declared.head.ParamKind.{ParamKind}
+use Rattle.alma_code.specs.declared.head.ParamKind.TheVariants as param
+use Rattle.alma_code.specs.Plain.{PlainCode, PlainRoutine}
 
 -- ---- counts
 
 -- how many parameters all routines have together
 abbrev pub param_count : PlainCode → ℕ
-param_count code = sum (map (λ r. length r.head.params) code.routines)
+param_count code = sum_by (λ r. length r.head.params) code.routines
 
 -- how many runs all routines have together
 abbrev pub run_count : PlainCode → ℕ
-run_count code = sum (map (λ r. length r.head.runs) code.routines)
+run_count code = sum_by (λ r. length r.head.runs) code.routines
 
 -- how many bytes the names of routines and globals have together
 abbrev pub name_count : PlainCode → ℕ
-name_count code = sum (map (λ r. length r.name) code.routines) + sum (map (λ g. length g.name) code.globals)
+name_count code = sum_by (λ r. length r.name) code.routines + sum_by (λ g. length g.name) code.globals
 
 -- how many bytes the texts have together
 abbrev pub text_count : PlainCode → ℕ
-text_count code = sum (map length code.texts)
+text_count code = sum_by length code.texts
 
 -- no count is past its greatest value
 pub record KeepsCounts (code : PlainCode) : Type 0 where
@@ -29,5 +36,46 @@ pub record KeepsCounts (code : PlainCode) : Type 0 where
   pub ranges : length code.ranges ≤ 1048576
   pub texts : length code.texts ≤ 1048576
   pub names : name_count code ≤ 16777216
-  pub text : text_count code ≤ 16777216
+  pub text_bytes : text_count code ≤ 16777216
   pub instrs : length code.instrs ≤ 4194304
+
+-- ---- records
+
+-- a letter or `_`
+abbrev pub is_name_start : ℕ → Bool
+is_name_start c = (nat_le 65 c && nat_le c 90) || ((nat_le 97 c && nat_le c 122) || nat_eq c 95)
+
+-- the spelling of a name or of a reserved word: a letter or `_`, then letters, digits and `_`
+abbrev pub is_name : List ℕ → Bool
+is_name [] = false
+is_name (c ∷ rest) = is_name_start c && list_all (λ d. is_name_start d || is_digit d) rest
+
+-- a Value and a Mix have one cell
+abbrev pub has_cells : ParamKind → ℕ → Bool
+has_cells param.Value n = nat_eq n 1
+has_cells param.Mix n = nat_eq n 1
+has_cells param.Place n = true
+has_cells param.Cells n = true
+
+-- the two kinds are one, length included
+abbrev pub same_kind : SlotKind → SlotKind → Bool
+same_kind slot.Number slot.Number = true
+same_kind (slot.Place m) (slot.Place n) = nat_eq m n
+same_kind slot.Mark slot.Mark = true
+same_kind _ _ = false
+
+-- two runs that follow each other differ in kind or length
+abbrev pub runs_differ : List Run → Bool
+runs_differ [] = true
+runs_differ (a ∷ []) = true
+runs_differ (a ∷ (b ∷ rest)) = not (same_kind a.kind b.kind) && runs_differ (b ∷ rest)
+
+-- the record of a routine
+abbrev pub is_routine_record : PlainRoutine → Bool
+is_routine_record r = is_name r.name && (list_all (λ p. has_cells p.kind p.cells) r.head.params && runs_differ r.head.runs)
+
+-- each record is as it must be; that a routine's ends rise is said of the tables
+pub record KeepsRecords (code : PlainCode) : Type 0 where
+  pub routines : list_all is_routine_record code.routines ≡ true
+  pub globals : list_all (λ g. is_name g.name) code.globals ≡ true
+  pub ranges : list_all (λ t. int_le t.low t.high) code.ranges ≡ true

@@ -5,7 +5,9 @@ mod cell;
 mod code;
 mod head;
 mod instr;
+pub mod laws;
 mod step;
+pub mod worked;
 
 pub use cell::{Cell, CellPlace, ChoiceKind, SlotKind};
 pub use code::{Code, CodeGlobal, RoutineHead};
