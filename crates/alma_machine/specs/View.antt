@@ -1,0 +1,34 @@
+-- What contracts see of a machine.
+use Rattle.std.specs.Prelude.{ℕ, Bool, true, false, List, Result, Ok, Err}
+use Rattle.alma_code.specs.declared.step.Step.{Step}
+use Rattle.alma_code.specs.declared.step.Step.TheVariants as answer
+use Rattle.alma_code.specs.Plain.{PlainCode}
+use Rattle.alma_code.specs.Machine.{State, Stepped}
+
+-- its code and input, the state of the copying code machine, whether it is running, and what the last step printed
+pub record MachineView : Type 0 where
+  pub code : PlainCode
+  pub input : List ℕ
+  pub state : State
+  pub running : Bool
+  pub printed : List ℕ
+
+-- an answer, what was printed, and the state after it
+abbrev pub stepped : Step → List ℕ → State → Stepped
+stepped answer bytes state = record { answer = answer; printed = bytes; state = state }
+
+-- the machine goes on after the step
+abbrev pub goes_on : Step → Bool
+goes_on (answer.Done end) = false
+goes_on answer.Went = true
+goes_on (answer.Chose height) = true
+goes_on (answer.Popped height) = true
+goes_on (answer.Cut height) = true
+goes_on (answer.Called routine frames) = true
+goes_on (answer.Returned frames) = true
+goes_on answer.Printed = true
+
+-- the machine goes on after the call: not after a step that ended the run, and not where memory was wanted
+abbrev pub runs_after : {E : Type 0} → Result Step E → Bool
+runs_after (Ok step) = goes_on step
+runs_after (Err fault) = false

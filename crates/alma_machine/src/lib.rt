@@ -1,0 +1,6 @@
+//! The machine that runs compiled code, step by step as the copying code machine does.
+#![tactic(auto)]
+
+mod frame;
+mod registers;
+mod values;
