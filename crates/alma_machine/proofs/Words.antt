@@ -1,6 +1,8 @@
 -- What the reading of slots gives.
-use Rattle.std.proofs.Common.{◌≡◌, ℕ, ◌+◌, ◌-◌, ◌<◌, List, [], ◌∷◌, length, get_or, refl, sym, ap, ◌∙◌, subst, arith, Some, None}
+use Rattle.std.proofs.Common.{inl, inr, ◌≡◌, ℕ, ◌+◌, ◌-◌, ◌<◌, List, [], ◌∷◌, length, get_or, refl, sym, ap, ◌∙◌, subst, arith, Some, None}
 use Rattle.std.specs.Prelude.{ℤ, pos, negsuc, zero, suc, slice_get, true, false, Bool, int_lt, int_le, ◌<ℤ◌, ◌≤ℤ◌}
+use Rattle.std.proofs.lemmas.Bool.{eq-eqb}
+use Rattle.std.proofs.lemmas.Bool.Decides.{nat_tests, eqb_tells}
 use Rattle.std.proofs.lemmas.Option.{slice_get-get_or, get_or_from_slice_get}
 use Rattle.alma_base.specs.declared.fault.RunFault.TheVariants as fault
 use Rattle.alma_base.specs.Numbers.{is_zero, int_eq, bit}
@@ -41,3 +43,58 @@ reads_unset f n s k is same = ap (λ fs. as_place (slice_get (last_frame fs).cel
 
 pub ruleset numbers = (content_read, reads_number, reads_unknown)
 pub ruleset places = (place_read, reads_place, reads_unset)
+
+-- ---- tests of numbers
+
+-- 0 is zero
+pub zero_is : (x : ℤ) → x ≡ pos 0 → is_zero x ≡ true
+zero_is x e = ap is_zero e
+
+-- any other number is not
+pub zero_is_not : (x : ℤ) → (x ≡ pos 0 → ⊥) → is_zero x ≡ false
+zero_is_not (pos zero) h = absurd (h refl)
+zero_is_not (pos (suc n)) h = refl
+zero_is_not (negsuc n) h = refl
+
+-- a number is itself
+equals_itself : (z : ℤ) → int_eq z z ≡ true
+equals_itself (pos n) = eq-eqb n n refl
+equals_itself (negsuc n) = eq-eqb n n refl
+
+-- equal numbers are one
+pub equal_is : (x y : ℤ) → x ≡ y → int_eq x y ≡ true
+equal_is x y e = subst (λ z. int_eq x z ≡ true) e (equals_itself x)
+
+-- and no other
+pub equal_is_not : (x y : ℤ) → (x ≡ y → ⊥) → int_eq x y ≡ false
+equal_is_not (pos a) (pos b) h = elim (eqb_tells a b) [ inl w ↦ absurd (h (ap pos w.1)) | inr w ↦ w.0 ]
+equal_is_not (negsuc a) (negsuc b) h = elim (eqb_tells a b) [ inl w ↦ absurd (h (ap negsuc w.1)) | inr w ↦ w.0 ]
+equal_is_not (pos a) (negsuc b) h = refl
+equal_is_not (negsuc a) (pos b) h = refl
+
+pub ruleset tests = (zero_is, zero_is_not, equal_is, equal_is_not)
+
+-- ---- the cell at a place
+
+-- the content of a number slot is read as the slot is
+as_known : (c : Cell) (s : State) (k : ℤ → Stepped) → IsContent c → as_content true c s (λ o. known s o k) ≡ as_number (Some c) s k
+as_known (cell.Int v) s k h = refl
+as_known cell.Unknown s k h = refl
+as_known cell.Unset s k h = absurd h
+as_known (cell.Place p) s k h = absurd h
+as_known (cell.Mark m) s k h = absurd h
+
+-- the cell at a place of the frame is read as its slot is
+known_is : (f : PlainFrame) (n : ℕ) (s : State) (k : ℤ → Stepped) → HasNumber f n → s.now ≡ f ∷ [] → content s 0 n (λ c. known s c k) ≡ number s n k
+known_is f n s k h same =
+    ap (λ fs. as_content (number_at fs 0 n) (cell_at fs 0 n cell.Unset) s (λ c. known s c k)) same
+    ∙ ap (λ o. as_content (is_number o) (get_or f.cells n cell.Unset) s (λ c. known s c k)) h.kind
+    ∙ as_known (get_or f.cells n cell.Unset) s k h.content
+    ∙ ap (λ o. as_number o s k) (sym (slice_get-get_or f.cells n cell.Unset h.below))
+    ∙ ap (λ fs. as_number (slice_get (last_frame fs).cells n) s k) (sym same)
+
+-- what a place of one cell leads to is read as its slot is
+pub at_place : (f : PlainFrame) (p : CellPlace) (s : State) (k : ℤ → Stepped) → IsOneCell f (cell.Place p) → s.now ≡ f ∷ [] → content s p.frame p.slot (λ c. known s c k) ≡ number s p.slot k
+at_place f p s k h same = ap (λ n. content s n p.slot (λ c. known s c k)) h.0 ∙ known_is f p.slot s k h.1 same
+
+pub ruleset at_places = (at_place)

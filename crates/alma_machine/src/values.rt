@@ -58,9 +58,114 @@ impl Frame {
     {
         let x = self.number(left)?;
         let y = self.number(right)?;
-        match x.checked_sub(y) {
-            Some(difference) => Ok(difference),
-            None => Err(RunFault::Overflow),
+        x.checked_sub(y).ok_or(RunFault::Overflow)
+    }
+
+    /// The product of two numbers.
+    #[tactic(auto, using(std::proofs::lemmas::Int::ints, std::proofs::lemmas::Grind::common_steps))]
+    pub(crate) fn product(&self, left: u32, right: u32) -> Result<i64, RunFault>
+        requires left { HasNumber self.now left }
+        requires right { HasNumber self.now right }
+        ensures { Gives self.now (λ s k. number s left (λ x. number s right (λ y. fitted s (x *ℤ y) k))) result }
+    {
+        let x = self.number(left)?;
+        let y = self.number(right)?;
+        x.checked_mul(y).ok_or(RunFault::Overflow)
+    }
+
+    /// The quotient of two numbers, rounded down.
+    #[tactic(auto, using(crate::proofs::Words::tests, std::proofs::lemmas::Int::ints, std::proofs::lemmas::Grind::common_steps))]
+    pub(crate) fn quotient(&self, left: u32, right: u32) -> Result<i64, RunFault>
+        requires left { HasNumber self.now left }
+        requires right { HasNumber self.now right }
+        ensures { Gives self.now (λ s k. number s left (λ x. number s right (λ y. if_true (is_zero y) (λ _. faulted fault.ZeroDivide s) (λ _. fitted s (div_down_of x y) k)))) result }
+    {
+        let x = self.number(left)?;
+        let y = self.number(right)?;
+        if y == 0 {
+            return Err(RunFault::ZeroDivide);
         }
+        div_down(x, y).ok_or(RunFault::Overflow)
+    }
+
+    /// What the quotient of two numbers, rounded down, leaves.
+    #[tactic(auto, using(crate::proofs::Words::tests, std::proofs::lemmas::Int::ints, std::proofs::lemmas::Grind::common_steps))]
+    pub(crate) fn rest(&self, left: u32, right: u32) -> Result<i64, RunFault>
+        requires left { HasNumber self.now left }
+        requires right { HasNumber self.now right }
+        ensures { Gives self.now (λ s k. number s left (λ x. number s right (λ y. if_true (is_zero y) (λ _. faulted fault.ZeroDivide s) (λ _. fitted s (mod_down_of x y) k)))) result }
+    {
+        let x = self.number(left)?;
+        let y = self.number(right)?;
+        if y == 0 {
+            return Err(RunFault::ZeroDivide);
+        }
+        Ok(mod_down(x, y))
+    }
+
+    /// The number with the other sign.
+    #[tactic(auto, using(std::proofs::lemmas::Int::ints, std::proofs::lemmas::Grind::common_steps))]
+    pub(crate) fn negated(&self, from: u32) -> Result<i64, RunFault>
+        requires { HasNumber self.now from }
+        ensures { Gives self.now (λ s k. number s from (λ x. fitted s (neg_ℤ x) k)) result }
+    {
+        let x = self.number(from)?;
+        x.checked_neg().ok_or(RunFault::Overflow)
+    }
+
+    /// 1 for 0, and else 0.
+    #[tactic(auto, using(crate::proofs::Words::tests, std::proofs::lemmas::Int::ints, std::proofs::lemmas::Grind::common_steps))]
+    pub(crate) fn flipped(&self, from: u32) -> Result<i64, RunFault>
+        requires { HasNumber self.now from }
+        ensures { Gives self.now (λ s k. number s from (λ x. k (bit (is_zero x)))) result }
+    {
+        let x = self.number(from)?;
+        Ok(if x == 0 { 1 } else { 0 })
+    }
+
+    /// 1 where two numbers are equal, and else 0.
+    #[tactic(auto, using(crate::proofs::Words::tests, std::proofs::lemmas::Int::ints, std::proofs::lemmas::Grind::common_steps))]
+    pub(crate) fn equal(&self, left: u32, right: u32) -> Result<i64, RunFault>
+        requires left { HasNumber self.now left }
+        requires right { HasNumber self.now right }
+        ensures { Gives self.now (λ s k. number s left (λ x. number s right (λ y. k (bit (int_eq x y))))) result }
+    {
+        let x = self.number(left)?;
+        let y = self.number(right)?;
+        Ok(if x == y { 1 } else { 0 })
+    }
+
+    /// 1 where the first number is below the second, and else 0.
+    #[tactic(auto, using(crate::proofs::Words::tests, std::proofs::lemmas::Int::ints, std::proofs::lemmas::Grind::common_steps))]
+    pub(crate) fn less(&self, left: u32, right: u32) -> Result<i64, RunFault>
+        requires left { HasNumber self.now left }
+        requires right { HasNumber self.now right }
+        ensures { Gives self.now (λ s k. number s left (λ x. number s right (λ y. k (bit (int_lt x y))))) result }
+    {
+        let x = self.number(left)?;
+        let y = self.number(right)?;
+        Ok(if x < y { 1 } else { 0 })
+    }
+
+    /// 1 where the first number is at most the second, and else 0.
+    #[tactic(auto, using(crate::proofs::Words::tests, std::proofs::lemmas::Int::ints, std::proofs::lemmas::Grind::common_steps))]
+    pub(crate) fn at_most(&self, left: u32, right: u32) -> Result<i64, RunFault>
+        requires left { HasNumber self.now left }
+        requires right { HasNumber self.now right }
+        ensures { Gives self.now (λ s k. number s left (λ x. number s right (λ y. k (bit (int_le x y))))) result }
+    {
+        let x = self.number(left)?;
+        let y = self.number(right)?;
+        Ok(if x <= y { 1 } else { 0 })
+    }
+
+    /// The number at the place in a slot.
+    #[tactic(auto, using(crate::proofs::Words::at_places))]
+    pub(crate) fn number_at(&self, from: u32) -> Result<i64, RunFault>
+        requires { HasOneCell self.now from }
+        ensures { Gives self.now (λ s k. place s from (λ p. content s p.frame p.slot (λ c. known s c k))) result }
+    {
+        let place = self.place(from)?;
+        self.number(place.slot)
     }
 }
