@@ -13,7 +13,8 @@ use Rattle.alma_code.specs.declared.cell.SlotKind.TheVariants as slot
 use Rattle.alma_code.specs.Carries.{number_at}
 use Rattle.alma_code.specs.Fits.{IsContent}
 use Rattle.alma_code.specs.Kinds.{is_number}
-use Rattle.alma_code.specs.Machine.{State, Stepped, number, place, content, known, as_number, as_place, as_content, faulted}
+use Rattle.alma_code.specs.Machine.{State, Stepped, number, place, content, known, as_number, as_place, as_content, faulted, put_number, put_place, to_number, to_place, store, went, stuck, with_slot, with_cell}
+use Rattle.alma_base.specs.Choice.{if_true}
 use Rattle.alma_code.specs.Picture.{PlainFrame, last_frame, cell_at}
 use Rattle.alma_machine.specs.Rows.{HasNumber, HasOneCell, IsOneCell}
 
@@ -98,3 +99,29 @@ pub at_place : (f : PlainFrame) (p : CellPlace) (s : State) (k : ℤ → Stepped
 at_place f p s k h same = ap (λ n. content s n p.slot (λ c. known s c k)) h.0 ∙ known_is f p.slot s k h.1 same
 
 pub ruleset at_places = (at_place)
+
+-- ---- writes
+
+-- a number goes into a number slot
+pub put_is : (s : State) (f : PlainFrame) (n : ℕ) (v : ℤ) → s.now ≡ f ∷ [] → HasNumber f n → put_number s n v ≡ went (with_slot s n (cell.Int v))
+put_is s f n v same h =
+    ap (λ fs. to_number (slice_get (last_frame fs).kinds n) s (λ _. went (with_slot s n (cell.Int v)))) same
+    ∙ ap (λ o. to_number o s (λ _. went (with_slot s n (cell.Int v)))) h.kind
+
+-- a place goes into a place slot of its length
+pub put_place_is : (s : State) (f : PlainFrame) (n frame first l : ℕ) → s.now ≡ f ∷ [] → slice_get f.kinds n ≡ Some (slot.Place l) → put_place s n frame (λ _. first) ≡ went (with_slot s n (cell.Place (record { frame = frame; slot = first; len = l })))
+put_place_is s f n frame first l same is =
+    ap (λ fs. to_place (slice_get (last_frame fs).kinds n) s (λ l. went (with_slot s n (cell.Place (record { frame = frame; slot = first; len = l }))))) same
+    ∙ ap (λ o. to_place o s (λ l. went (with_slot s n (cell.Place (record { frame = frame; slot = first; len = l }))))) is
+
+-- a number goes to a place of one cell as it goes into its slot
+pub store_is : (s : State) (f : PlainFrame) (p : CellPlace) (v : ℤ) → s.now ≡ f ∷ [] → IsOneCell f (cell.Place p) → store s p.frame p.slot v went ≡ put_number s p.slot v
+store_is s f p v same h =
+    ap (λ n. store s n p.slot v went) h.0
+    ∙ ap (λ fs. if_true (number_at fs 0 p.slot) (λ _. went (with_cell s 0 p.slot (cell.Int v))) (λ _. stuck s)) same
+    ∙ ap (λ o. if_true (is_number o) (λ _. went (with_cell s 0 p.slot (cell.Int v))) (λ _. stuck s)) h.1.kind
+    ∙ ap (λ n. went (with_cell s n p.slot (cell.Int v))) (sym (ap (λ fs. length fs - 1) same))
+    ∙ sym (put_is s f p.slot v same h.1)
+
+pub ruleset puts = (put_is, put_place_is)
+pub ruleset stores = (store_is)

@@ -61,22 +61,26 @@ pub record HasPlace (frame : PlainFrame) (n : ℕ) : Type 0 where
   pub below : n < length frame.cells
   pub kind : is_place (slice_get frame.kinds n) ≡ true
 
+-- the slots that an instruction of numbers reads and writes are of their kinds; other instructions are none
+unfoldable pub Computes : PlainFrame → Instr → Type 0
+Computes f (I.Const to value) = HasNumber f to
+Computes f (I.Move to from) = HasNumber f to × HasNumber f from
+Computes f (I.Add to left right) = HasNumber f to × HasNumber f left × HasNumber f right
+Computes f (I.Sub to left right) = HasNumber f to × HasNumber f left × HasNumber f right
+Computes f (I.Mul to left right) = HasNumber f to × HasNumber f left × HasNumber f right
+Computes f (I.Div to left right) = HasNumber f to × HasNumber f left × HasNumber f right
+Computes f (I.Mod to left right) = HasNumber f to × HasNumber f left × HasNumber f right
+Computes f (I.Neg to from) = HasNumber f to × HasNumber f from
+Computes f (I.Equal to left right) = HasNumber f to × HasNumber f left × HasNumber f right
+Computes f (I.Less to left right) = HasNumber f to × HasNumber f left × HasNumber f right
+Computes f (I.LessEq to left right) = HasNumber f to × HasNumber f left × HasNumber f right
+Computes f (I.Flip to from) = HasNumber f to × HasNumber f from
+Computes f (I.Load to from) = HasNumber f to × HasOneCell f from
+Computes f _ = ⊥
+
 -- the slots that an instruction reads and writes are of their kinds; what is not built needs what is never there
 unfoldable pub Needs : PlainFrame → Instr → Type 0
-Needs f (I.Const to value) = HasNumber f to
-Needs f (I.Move to from) = HasNumber f to × HasNumber f from
-Needs f (I.Add to left right) = HasNumber f to × HasNumber f left × HasNumber f right
-Needs f (I.Sub to left right) = HasNumber f to × HasNumber f left × HasNumber f right
-Needs f (I.Mul to left right) = HasNumber f to × HasNumber f left × HasNumber f right
-Needs f (I.Div to left right) = HasNumber f to × HasNumber f left × HasNumber f right
-Needs f (I.Mod to left right) = HasNumber f to × HasNumber f left × HasNumber f right
-Needs f (I.Neg to from) = HasNumber f to × HasNumber f from
-Needs f (I.Equal to left right) = HasNumber f to × HasNumber f left × HasNumber f right
-Needs f (I.Less to left right) = HasNumber f to × HasNumber f left × HasNumber f right
-Needs f (I.LessEq to left right) = HasNumber f to × HasNumber f left × HasNumber f right
-Needs f (I.Flip to from) = HasNumber f to × HasNumber f from
 Needs f (I.Local to first) = HasPlace f to
-Needs f (I.Load to from) = HasNumber f to × HasOneCell f from
 Needs f (I.Store to from) = HasOneCell f to × HasNumber f from
 Needs f (I.Jump to) = Unit {0}
 Needs f (I.JumpZero value to) = HasNumber f value
@@ -85,7 +89,7 @@ Needs f I.Fail = Unit {0}
 Needs f I.Return = Unit {0}
 Needs f (I.WriteInt value) = HasNumber f value
 Needs f (I.WriteBool value) = HasNumber f value
-Needs f _ = ⊥
+Needs f i = Computes f i
 
 -- ---- what a part of a step gives, whatever comes after it
 

@@ -1,14 +1,15 @@
 // What instructions compute from the slots of the frame.
-ghost use Rattle.std.specs.Prelude.{◌≡◌, ◌+ℤ◌, ◌-ℤ◌, ◌*ℤ◌, neg_ℤ, int_lt, int_le};
+ghost use Rattle.std.specs.Prelude.{◌≡◌, List, ℕ, [], ◌∷◌, ◌+ℤ◌, ◌-ℤ◌, ◌*ℤ◌, neg_ℤ, int_lt, int_le};
 ghost use Rattle.alma_base.specs.Choice.{if_true};
 ghost use Rattle.alma_base.specs.declared.fault.RunFault.TheVariants as fault;
 ghost use Rattle.alma_base.specs.Numbers.{is_zero, int_eq, bit, div_down_of, mod_down_of};
-ghost use Rattle.alma_code.specs.Machine.{number, place, content, known, fitted, faulted};
-ghost use Rattle.alma_machine.specs.Rows.{HasNumber, HasOneCell, Gives, GivesPlace};
+ghost use Rattle.alma_code.specs.Machine.{State, act, number, place, content, known, fitted, faulted};
+ghost use Rattle.alma_code.specs.Plain.{PlainCode};
+ghost use Rattle.alma_machine.specs.Rows.{HasNumber, HasOneCell, Gives, GivesPlace, Computes, put_or_fault};
 
 use crate::frame::Frame;
 use alma_base::{RunFault, div_down, mod_down};
-use alma_code::{Cell, CellPlace};
+use alma_code::{Cell, CellPlace, Instr};
 
 impl Frame {
     /// The number in a slot.
@@ -167,5 +168,31 @@ impl Frame {
     {
         let place = self.place(from)?;
         self.number(place.slot)
+    }
+
+    /// The slot that an instruction of numbers writes, and the number that goes there.
+    #[tactic(auto, unfolding(alma_code::specs::Machine::act, crate::specs::Rows::Computes))]
+    pub(crate) fn computed(&self, instr: &Instr) -> (u32, Result<i64, RunFault>)
+        requires { Computes self.now instr.now }
+        ensures slot { HasNumber self.now result.0 }
+        ensures number { (code : PlainCode) (input : List ℕ) (s : State) → s.now ≡ self.now ∷ []
+            → act code input instr.now s ≡ put_or_fault s result.0 result.1 }
+    {
+        match *instr {
+            Instr::Const { to, value } => (to, Ok(value)),
+            Instr::Move { to, from } => (to, self.number(from)),
+            Instr::Add { to, left, right } => (to, self.sum(left, right)),
+            Instr::Sub { to, left, right } => (to, self.difference(left, right)),
+            Instr::Mul { to, left, right } => (to, self.product(left, right)),
+            Instr::Div { to, left, right } => (to, self.quotient(left, right)),
+            Instr::Mod { to, left, right } => (to, self.rest(left, right)),
+            Instr::Neg { to, from } => (to, self.negated(from)),
+            Instr::Equal { to, left, right } => (to, self.equal(left, right)),
+            Instr::Less { to, left, right } => (to, self.less(left, right)),
+            Instr::LessEq { to, left, right } => (to, self.at_most(left, right)),
+            Instr::Flip { to, from } => (to, self.flipped(from)),
+            Instr::Load { to, from } => (to, self.number_at(from)),
+            _ => unreachable!(),
+        }
     }
 }
