@@ -1,9 +1,10 @@
 -- What the reading of slots gives.
 use Rattle.std.proofs.Common.{inl, inr, ◌≡◌, ℕ, ◌+◌, ◌-◌, ◌<◌, List, [], ◌∷◌, length, get_or, refl, sym, ap, ◌∙◌, subst, arith, Some, None}
-use Rattle.std.specs.Prelude.{ℤ, pos, negsuc, zero, suc, slice_get, true, false, Bool, int_lt, int_le, ◌<ℤ◌, ◌≤ℤ◌}
+use Rattle.std.specs.Prelude.{ℤ, pos, negsuc, zero, suc, slice_get, true, false, Bool, Result, Ok, Err, int_lt, int_le, ◌<ℤ◌, ◌≤ℤ◌}
 use Rattle.std.proofs.lemmas.Bool.{eq-eqb}
 use Rattle.std.proofs.lemmas.Bool.Decides.{nat_tests, eqb_tells}
 use Rattle.std.proofs.lemmas.Option.{slice_get-get_or, get_or_from_slice_get}
+use Rattle.alma_base.specs.declared.fault.RunFault.{RunFault}
 use Rattle.alma_base.specs.declared.fault.RunFault.TheVariants as fault
 use Rattle.alma_base.specs.Numbers.{is_zero, int_eq, bit}
 use Rattle.alma_code.specs.declared.cell.Cell.{Cell}
@@ -16,7 +17,7 @@ use Rattle.alma_code.specs.Kinds.{is_number}
 use Rattle.alma_code.specs.Machine.{State, Stepped, number, place, content, known, as_number, as_place, as_content, faulted, put_number, put_place, to_number, to_place, store, went, stuck, with_slot, with_cell}
 use Rattle.alma_base.specs.Choice.{if_true}
 use Rattle.alma_code.specs.Picture.{PlainFrame, last_frame, cell_at}
-use Rattle.alma_machine.specs.Rows.{HasNumber, HasOneCell, IsOneCell}
+use Rattle.alma_machine.specs.Rows.{HasNumber, HasOneCell, IsOneCell, Gives, put_or_fault}
 
 -- what a slot holds that has a content is a content
 pub content_read : (cs : List Cell) (n : ℕ) (c : Cell) → slice_get cs n ≡ Some c → IsContent (get_or cs n cell.Unset) → IsContent c
@@ -125,3 +126,8 @@ store_is s f p v same h =
 
 pub ruleset puts = (put_is, put_place_is)
 pub ruleset stores = (store_is)
+
+-- what a word gives goes into a slot, or ends the run
+pub gives_put : (f : PlainFrame) (word : State → (ℤ → Stepped) → Stepped) (s : State) (to : ℕ) (result : Result ℤ RunFault) → s.now ≡ f ∷ [] → Gives f word result → word s (λ v. put_number s to v) ≡ put_or_fault s to result
+gives_put f word s to (Ok v) same h = h s (λ v. put_number s to v) same
+gives_put f word s to (Err fault) same h = h s (λ v. put_number s to v) same
