@@ -1,6 +1,6 @@
 -- What a sound code gives to the instruction at the address.
 use Rattle.std.proofs.Common.{◌≡◌, ℕ, zero, suc, ◌+◌, ◌-◌, ◌<◌, ◌≤◌, List, [], ◌∷◌, length, get_or, refl, sym, ap, ◌∙◌, subst, arith, Some, Option}
-use Rattle.std.specs.Prelude.{slice_get, true, false, nat_le, nat_lt}
+use Rattle.std.specs.Prelude.{Result, Ok, Err, IfOk, slice_get, true, false, nat_le, nat_lt}
 use Rattle.std.proofs.lemmas.Bool.{false≢true, and_parts, eqb-true, leb-true, ltb-true}
 use Rattle.std.proofs.lemmas.Option.{slice_get-get_or, slice_get_within, get_or_from_slice_get}
 use Rattle.alma_code.specs.declared.cell.Cell.{Cell}
@@ -9,18 +9,23 @@ use Rattle.alma_code.specs.declared.cell.SlotKind.TheVariants as slot
 use Rattle.alma_code.specs.declared.instr.Instr.{Instr}
 use Rattle.alma_code.specs.declared.instr.Instr.TheVariants as I
 use Rattle.alma_code.specs.declared.instr.Word.TheVariants as W
+use Rattle.alma_code.specs.declared.step.Step.{Step}
 use Rattle.alma_code.specs.Fits.{routines_of, FitsSlot, FitsFrame, FitsMode, Fits}
 use Rattle.alma_code.specs.Kinds.{is_place}
-use Rattle.alma_code.specs.Machine.{State, Going, Stepped, step, step_in, act, fetched, ticked}
+use Rattle.alma_code.specs.declared.step.End.TheVariants as end
+use Rattle.alma_code.specs.Layout.{RunsRise}
+use Rattle.alma_code.specs.Machine.{State, Going, Failing, Stepped, step, step_in, act, fetched, ticked, popped_to, ended}
+use Rattle.alma_code.proofs.Runs.{first_number, start_fits, stays_fit}
 use Rattle.alma_code.specs.Picture.{PlainFrame}
-use Rattle.alma_code.specs.Plain.{PlainCode, kinds_at, start_at, end_at}
-use Rattle.alma_code.specs.Rules.{IsSound, kind_in, length_in, names_slot, rule_7}
+use Rattle.alma_code.specs.Plain.{PlainCode, head_at, kinds_at, start_at, end_at}
+use Rattle.alma_code.specs.Rules.{IsSound, last_end, kind_in, length_in, names_slot, rule_7}
 use Rattle.alma_code.specs.Words.{words}
 use Rattle.alma_code.proofs.Acts.{Obeys, obeys, slots, number_word, place_word, one_cell}
 use Rattle.alma_code.proofs.Heads.{number_is}
 use Rattle.alma_code.proofs.Tables.{end_inside}
 use Rattle.alma_machine.specs.Built.{is_built, HasOnlyBuilt}
 use Rattle.alma_machine.specs.declared.registers.Registers.{Registers}
+use Rattle.alma_machine.specs.View.{stepped}
 use Rattle.alma_machine.specs.Rows.{state_of, HasNumber, IsOneCell, HasOneCell, HasPlace, Computes, Needs}
 
 module _ (code : PlainCode) (f : PlainFrame) (fits : FitsFrame code (f.routine ∷ []) 0 f) where
@@ -143,3 +148,33 @@ needs_at code r i sound built fits going is =
 -- a step of a machine that goes on is what its instruction does
 pub step_fetched : (code : PlainCode) (input : List ℕ) (s : State) (i : Instr) → s.mode ≡ Going → slice_get code.instrs s.at ≡ Some i → step code input s ≡ act code input i (record (ticked code input s) { at = s.at + 1 })
 step_fetched code input s i going is = ap (λ m. step_in code input m s) going ∙ ap (λ o. fetched code input o s) is
+
+-- an element that is read where there is one
+pub read_is : (xs : List Instr) (n : ℕ) (i : Instr) → n < length xs → i ≡ get_or xs n i → slice_get xs n ≡ Some i
+read_is xs n i lt e = slice_get-get_or xs n i lt ∙ ap Some (sym e)
+
+-- a step whose instruction is done is that step of the copying code machine
+pub done_is : {E : Type 0} (result : Result Step E) (bytes : List ℕ) (new : State) (code : PlainCode) (s : State) (i : Instr) → s.mode ≡ Going → slice_get code.instrs s.at ≡ Some i
+    → IfOk result (λ answer. (code' : PlainCode) (input : List ℕ) → stepped answer bytes new ≡ act code' input i (record s { at = s.at + 1; steps = s.steps + 1 }))
+    → IfOk result (λ answer. (input : List ℕ) → stepped answer bytes new ≡ step code input s)
+done_is (Ok answer) bytes new code s i going is h = λ input. h code input ∙ sym (step_fetched code input s i going is)
+done_is (Err fault) bytes new code s i going is h = tt
+
+pub ruleset taken = (in_code)
+
+-- a step of a failing machine with no entries ends it
+pub step_failing : (code : PlainCode) (input : List ℕ) (s : State) → s.mode ≡ Failing → s.held ≡ [] → step code input s ≡ ended end.Failed (ticked code input s)
+step_failing code input s failing none = ap (λ m. step_in code input m s) failing ∙ ap (λ held. popped_to (ticked code input s) held) none
+
+pub ruleset steps = (step_failing)
+
+-- the module body has slots, in runs that rise
+pub main_runs : (code : PlainCode) → IsSound code → RunsRise 0 (head_at code 0).runs (last_end 0 (head_at code 0).runs)
+main_runs code sound = sound.table.runs 0 sound.table.some
+
+-- it has a slot for the input position
+pub main_some : (code : PlainCode) → IsSound code → 0 < length (kinds_at code 0)
+main_some code sound = slice_get_within (kinds_at code 0) 0 slot.Number (first_number code sound)
+
+pub ruleset starts = (main_runs, main_some, start_fits)
+pub ruleset keeping = (stays_fit)

@@ -7,6 +7,7 @@ use Rattle.alma_code.specs.declared.cell.CellPlace.{CellPlace}
 use Rattle.alma_code.specs.declared.cell.SlotKind.TheVariants as slot
 use Rattle.alma_code.specs.declared.instr.Instr.{Instr}
 use Rattle.alma_code.specs.declared.instr.Instr.TheVariants as I
+use Rattle.alma_code.specs.declared.step.Step.{Step}
 use Rattle.alma_code.specs.Fits.{IsContent}
 use Rattle.alma_code.specs.Kinds.{is_place}
 use Rattle.alma_code.specs.Machine.{Mode, Going, Failing, Ended, State, Stepped, place, put_number, faulted}
@@ -14,6 +15,7 @@ use Rattle.alma_code.specs.Picture.{PlainFrame}
 use Rattle.alma_machine.specs.declared.registers.Mode as rust
 use Rattle.alma_machine.specs.declared.registers.Mode.TheVariants as mode
 use Rattle.alma_machine.specs.declared.registers.Registers.{Registers}
+use Rattle.alma_machine.specs.View.{goes_on, IsLive}
 
 -- ---- the state
 
@@ -109,3 +111,7 @@ GivesPlace frame n result = MatchResult result
 abbrev pub put_or_fault : State → ℕ → Result ℤ RunFault → Stepped
 put_or_fault s n (Ok v) = put_number s n v
 put_or_fault s n (Err f) = faulted f s
+
+-- a part of a step counts no step, and leaves a machine that had not ended so where it goes on
+abbrev pub KeepsOn : Step → State → State → Type 0
+KeepsOn step old new = (new.steps ≡ old.steps) × (goes_on step ≡ true → IsLive old.mode → IsLive new.mode)

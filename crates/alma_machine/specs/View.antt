@@ -1,9 +1,12 @@
 -- What contracts see of a machine.
-use Rattle.std.specs.Prelude.{ℕ, Bool, true, false, List, Result, Ok, Err}
+use Rattle.std.specs.Prelude.{◌≡◌, ℕ, Bool, true, false, List, Result, Ok, Err}
 use Rattle.alma_code.specs.declared.step.Step.{Step}
 use Rattle.alma_code.specs.declared.step.Step.TheVariants as answer
 use Rattle.alma_code.specs.Plain.{PlainCode}
-use Rattle.alma_code.specs.Machine.{State, Stepped}
+use Rattle.alma_code.specs.Fits.{Fits}
+use Rattle.alma_code.specs.Machine.{Mode, Going, Failing, Ended, Stuck, State, Stepped}
+use Rattle.alma_code.specs.Rules.{IsSound}
+use Rattle.alma_machine.specs.Built.{HasOnlyBuilt}
 
 -- its code and input, the state of the copying code machine, whether it is running, and what the last step printed
 pub record MachineView : Type 0 where
@@ -32,3 +35,17 @@ goes_on answer.Printed = true
 abbrev pub runs_after : {E : Type 0} → Result Step E → Bool
 runs_after (Ok step) = goes_on step
 runs_after (Err fault) = false
+
+-- a machine in this mode has not ended, and is not stuck
+abbrev pub IsLive : Mode → Type 0
+IsLive Going = Unit {0}
+IsLive Failing = Unit {0}
+IsLive (Ended end) = ⊥
+IsLive Stuck = ⊥
+
+-- what a machine keeps: its code is sound and of built forms, its state fits, and while it is running it has not ended
+pub record Keeps (code : PlainCode) (state : State) (running : Bool) : Type 0 where
+  pub sound : IsSound code
+  pub built : HasOnlyBuilt code
+  pub fits : Fits code state
+  pub live : running ≡ true → IsLive state.mode

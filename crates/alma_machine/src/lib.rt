@@ -2,5 +2,6 @@
 #![tactic(auto)]
 
 mod frame;
+mod machine;
 mod registers;
 mod values;

@@ -6,7 +6,7 @@ ghost use Rattle.alma_base.specs.Numbers.{is_zero};
 ghost use Rattle.alma_base.specs.Value.{value_text};
 ghost use Rattle.alma_code.specs.Machine.{act, top, number, place, store, put_place, went, ended, goes_to, fails_now, printed};
 ghost use Rattle.alma_code.specs.Plain.{PlainCode};
-ghost use Rattle.alma_machine.specs.Rows.{state_of, HasNumber, HasOneCell, HasPlace, Needs, put_or_fault};
+ghost use Rattle.alma_machine.specs.Rows.{state_of, HasNumber, HasOneCell, HasPlace, KeepsOn, Needs, put_or_fault};
 ghost use Rattle.alma_machine.specs.View.{stepped};
 
 use crate::frame::Frame;
@@ -33,9 +33,10 @@ pub(crate) struct Registers {
 }
 
 impl Registers {
-    // Ends the run.
-    fn end(&mut self, end: End) -> Step
-        ensures { stepped result [] (state_of self.new) ≡ ended end (state_of self.old) }
+    /// Ends the run.
+    pub(crate) fn end(&mut self, end: End) -> Step
+        ensures step { stepped result [] (state_of self.new) ≡ ended end (state_of self.old) }
+        ensures kept { KeepsOn result (state_of self.old) (state_of self.new) }
     {
         self.mode = Mode::Ended(end);
         Step::Done(end)
@@ -45,7 +46,8 @@ impl Registers {
     #[tactic(auto, using(crate::proofs::Words::puts))]
     fn put(&mut self, to: u32, number: Result<i64, RunFault>) -> Step
         requires { HasNumber self.old.frame to }
-        ensures { stepped result [] (state_of self.new) ≡ put_or_fault (state_of self.old) to number }
+        ensures step { stepped result [] (state_of self.new) ≡ put_or_fault (state_of self.old) to number }
+        ensures kept { KeepsOn result (state_of self.old) (state_of self.new) }
     {
         match number {
             Ok(number) => {
@@ -60,7 +62,8 @@ impl Registers {
     #[tactic(auto, using(crate::proofs::Words::puts))]
     fn put_place(&mut self, to: u32, first: u32) -> Step
         requires { HasPlace self.old.frame to }
-        ensures { let s = state_of self.old in stepped result [] (state_of self.new) ≡ put_place s to (top s) (λ _. first) }
+        ensures step { let s = state_of self.old in stepped result [] (state_of self.new) ≡ put_place s to (top s) (λ _. first) }
+        ensures kept { KeepsOn result (state_of self.old) (state_of self.new) }
     {
         let len = self.frame.place_length(to);
         let place = CellPlace {
@@ -77,8 +80,9 @@ impl Registers {
     fn store(&mut self, to: u32, from: u32) -> Step
         requires to { HasOneCell self.old.frame to }
         requires from { HasNumber self.old.frame from }
-        ensures { let s = state_of self.old in
+        ensures step { let s = state_of self.old in
             stepped result [] (state_of self.new) ≡ place s to (λ p. number s from (λ v. store s p.frame p.slot v went)) }
+        ensures kept { KeepsOn result (state_of self.old) (state_of self.new) }
     {
         match self.frame.place(to) {
             Ok(place) => {
@@ -91,7 +95,8 @@ impl Registers {
 
     // Goes to an address.
     fn jump(&mut self, to: u32) -> Step
-        ensures { stepped result [] (state_of self.new) ≡ goes_to to (state_of self.old) }
+        ensures step { stepped result [] (state_of self.new) ≡ goes_to to (state_of self.old) }
+        ensures kept { KeepsOn result (state_of self.old) (state_of self.new) }
     {
         self.at = to as usize;
         Step::Went
@@ -99,7 +104,8 @@ impl Registers {
 
     // Fails.
     fn fail(&mut self) -> Step
-        ensures { stepped result [] (state_of self.new) ≡ fails_now (state_of self.old) }
+        ensures step { stepped result [] (state_of self.new) ≡ fails_now (state_of self.old) }
+        ensures kept { KeepsOn result (state_of self.old) (state_of self.new) }
     {
         self.mode = Mode::Failing;
         Step::Went
@@ -109,8 +115,9 @@ impl Registers {
     #[tactic(auto, using(crate::proofs::Words::tests, std::proofs::lemmas::Int::ints, std::proofs::lemmas::Grind::common_steps))]
     fn jump_zero(&mut self, value: u32, to: u32) -> Step
         requires { HasNumber self.old.frame value }
-        ensures { let s = state_of self.old in
+        ensures step { let s = state_of self.old in
             stepped result [] (state_of self.new) ≡ number s value (λ v. if_true (is_zero v) (λ _. goes_to to s) (λ _. went s)) }
+        ensures kept { KeepsOn result (state_of self.old) (state_of self.new) }
     {
         match self.frame.number(value) {
             Ok(number) => {
@@ -127,8 +134,9 @@ impl Registers {
     #[tactic(auto, using(crate::proofs::Words::tests, std::proofs::lemmas::Int::ints, std::proofs::lemmas::Grind::common_steps))]
     fn check(&mut self, value: u32) -> Step
         requires { HasNumber self.old.frame value }
-        ensures { let s = state_of self.old in
+        ensures step { let s = state_of self.old in
             stepped result [] (state_of self.new) ≡ number s value (λ v. if_true (is_zero v) (λ _. fails_now s) (λ _. went s)) }
+        ensures kept { KeepsOn result (state_of self.old) (state_of self.new) }
     {
         match self.frame.number(value) {
             Ok(number) => {
@@ -148,6 +156,7 @@ impl Registers {
         requires empty { bytes.old.items ≡ [] }
         ensures ok { let s = state_of self.old in
             IfOk result (λ answer. stepped answer bytes.new.items (state_of self.new) ≡ number s value (λ v. printed (value_text (kind.Int v)) s)) }
+        ensures kept { IfOk result (λ answer. KeepsOn answer (state_of self.old) (state_of self.new)) }
         ensures refused { OnErr result ((self.new ≡ self.old) × (bytes.new.items ≡ [])) }
     {
         match self.frame.number(value) {
@@ -166,6 +175,7 @@ impl Registers {
         requires empty { bytes.old.items ≡ [] }
         ensures ok { let s = state_of self.old in
             IfOk result (λ answer. stepped answer bytes.new.items (state_of self.new) ≡ number s value (λ v. printed (value_text (kind.Bool (not (is_zero v)))) s)) }
+        ensures kept { IfOk result (λ answer. KeepsOn answer (state_of self.old) (state_of self.new)) }
         ensures refused { OnErr result ((self.new ≡ self.old) × (bytes.new.items ≡ [])) }
     {
         match self.frame.number(value) {
@@ -185,6 +195,7 @@ impl Registers {
         requires empty { bytes.old.items ≡ [] }
         ensures ok { IfOk result (λ answer. (code : PlainCode) (input : List ℕ)
             → stepped answer bytes.new.items (state_of self.new) ≡ act code input instr.now (state_of self.old)) }
+        ensures kept { IfOk result (λ answer. KeepsOn answer (state_of self.old) (state_of self.new)) }
         ensures refused { OnErr result ((self.new ≡ self.old) × (bytes.new.items ≡ [])) }
     {
         match *instr {
