@@ -1,3 +1,4 @@
 pub mod Slots
 pub mod Words
 pub mod Sound
+pub mod Kept

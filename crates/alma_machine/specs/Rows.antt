@@ -15,7 +15,7 @@ use Rattle.alma_code.specs.Picture.{PlainFrame}
 use Rattle.alma_machine.specs.declared.registers.Mode as rust
 use Rattle.alma_machine.specs.declared.registers.Mode.TheVariants as mode
 use Rattle.alma_machine.specs.declared.registers.Registers.{Registers}
-use Rattle.alma_machine.specs.View.{goes_on, IsLive}
+use Rattle.alma_machine.specs.View.{IsLive, ModeAfter}
 
 -- ---- the state
 
@@ -112,6 +112,6 @@ abbrev pub put_or_fault : State → ℕ → Result ℤ RunFault → Stepped
 put_or_fault s n (Ok v) = put_number s n v
 put_or_fault s n (Err f) = faulted f s
 
--- a part of a step counts no step, and leaves a machine that had not ended so where it goes on
+-- a part of a step counts no step, and its answer tells the mode
 abbrev pub KeepsOn : Step → State → State → Type 0
-KeepsOn step old new = (new.steps ≡ old.steps) × (goes_on step ≡ true → IsLive old.mode → IsLive new.mode)
+KeepsOn step old new = (new.steps ≡ old.steps) × (IsLive old.mode → ModeAfter step new.mode)

@@ -43,6 +43,17 @@ IsLive Failing = Unit {0}
 IsLive (Ended end) = ⊥
 IsLive Stuck = ⊥
 
+-- the mode after a step: ended where the answer tells an end, and in that one, and else live
+abbrev pub ModeAfter : Step → Mode → Type 0
+ModeAfter (answer.Done end) mode = mode ≡ Ended end
+ModeAfter answer.Went mode = IsLive mode
+ModeAfter (answer.Chose height) mode = IsLive mode
+ModeAfter (answer.Popped height) mode = IsLive mode
+ModeAfter (answer.Cut height) mode = IsLive mode
+ModeAfter (answer.Called routine frames) mode = IsLive mode
+ModeAfter (answer.Returned frames) mode = IsLive mode
+ModeAfter answer.Printed mode = IsLive mode
+
 -- what a machine keeps: its code is sound and of built forms, its state fits, and while it is running it has not ended
 pub record Keeps (code : PlainCode) (state : State) (running : Bool) : Type 0 where
   pub sound : IsSound code

@@ -1,18 +1,47 @@
 // The machine.
 ghost use Rattle.std.specs.Prelude.{◌≡◌, ◌+◌, ◌^◌, ◌<◌, ◌≤◌, List, ℕ, [], true, length, IfOk, OnOk, OnErr, IsTrue};
-ghost use Rattle.alma_code.specs.Machine.{Going, step, start};
+ghost use Rattle.alma_code.specs.Machine.{Going, step, start, after, prints};
 ghost use Rattle.alma_code.specs.Plain.{code_of};
 ghost use Rattle.alma_code.specs.Rules.{IsSound};
 ghost use Rattle.alma_machine.specs.Built.{HasOnlyBuilt};
+ghost use Rattle.alma_io.specs.Causes.{HasCause};
+ghost use Rattle.alma_io.specs.Fronts.{AppendsFront};
 ghost use Rattle.alma_machine.specs.Rows.{state_of, KeepsOn};
-ghost use Rattle.alma_machine.specs.View.{stepped, runs_after, goes_on, IsLive, Keeps};
+ghost use Rattle.alma_machine.specs.Runs.{end_of, run_end_of, is_steps_out, all_written, made, OnWhole, OnStepsOut, OnWriteFault, OnMemory};
+ghost use Rattle.std.specs.Io.KnownBytes.{Appends};
+ghost use Rattle.alma_machine.specs.View.{MachineView, stepped, runs_after, ModeAfter, Keeps};
 
 use crate::frame::Frame;
 use crate::registers::{Mode, Registers};
-use alma_base::NoMemory;
+use alma_base::{NoMemory, RunFault};
 use alma_code::{Code, End, Step};
+use alma_io::{Sink, write_all};
 use std::alloc::Global;
 use std::marker::Model;
+
+/// How a run with a budget ends.
+#[derive(Clone, Copy, Debug, PartialEq, Eq)]
+pub enum RunEnd {
+    Succeeded,
+    Failed,
+    Fault(RunFault),
+    StepsOut,
+    WriteFault,
+    /// Memory ran out.
+    Memory,
+}
+
+impl From<End> for RunEnd {
+    ghost from_gives = { λ end result. result ≡ end_of end };
+
+    fn from(end: End) -> RunEnd {
+        match end {
+            End::Succeeded => RunEnd::Succeeded,
+            End::Failed => RunEnd::Failed,
+            End::Fault(fault) => RunEnd::Fault(fault),
+        }
+    }
+}
 
 /// A run of a code on an input.
 #[derive(Drop)]
@@ -48,7 +77,7 @@ fn take(code: &Code, registers: &mut Registers, printed: &mut Vec<u8>) -> Result
     ensures step { IfOk result (λ answer. (input : List ℕ)
         → stepped answer printed.new.items (state_of registers.new) ≡ step (code_of code.now) input (state_of registers.old)) }
     ensures counted { OnOk result (registers.new.steps ≡ registers.old.steps + 1) }
-    ensures live { IfOk result (λ answer. goes_on answer ≡ true → IsLive (state_of registers.new).mode) }
+    ensures mode { IfOk result (λ answer. ModeAfter answer (state_of registers.new).mode) }
     ensures refused { OnErr result ((state_of registers.new ≡ state_of registers.old) × (printed.new.items ≡ [])) }
 {
     let instr = &code.code[registers.at];
@@ -70,7 +99,7 @@ fn advance(code: &Code, registers: &mut Registers, printed: &mut Vec<u8>) -> Res
     ensures step { IfOk result (λ answer. (input : List ℕ)
         → stepped answer printed.new.items (state_of registers.new) ≡ step (code_of code.now) input (state_of registers.old)) }
     ensures counted { OnOk result (registers.new.steps ≡ registers.old.steps + 1) }
-    ensures live { IfOk result (λ answer. goes_on answer ≡ true → IsLive (state_of registers.new).mode) }
+    ensures mode { IfOk result (λ answer. ModeAfter answer (state_of registers.new).mode) }
     ensures refused { OnErr result ((state_of registers.new ≡ state_of registers.old) × (printed.new.items ≡ [])) }
 {
     printed.clear();
@@ -145,6 +174,7 @@ impl<'b, 'i> Machine<'b, 'i> {
         requires few { self.old.state.steps + 1 < 2 ^ 63 }
         ensures step { IfOk result (λ answer.
             stepped answer self.new.printed self.new.state ≡ step self.old.code self.old.input self.old.state) }
+        ensures mode { IfOk result (λ answer. ModeAfter answer self.new.state.mode) }
         ensures counted { OnOk result (self.new.state.steps ≡ self.old.state.steps + 1) }
         ensures refused { OnErr result ((self.new.state ≡ self.old.state) × (self.new.printed ≡ [])) }
         ensures running { self.new.running ≡ runs_after result }
@@ -181,5 +211,46 @@ impl<'b, 'i> Machine<'b, 'i> {
         ensures { result ≡ self.now.state.fails }
     {
         self.registers.fails
+    }
+
+    /// Steps until the run ends, and at most `budget` of them. Each print is written as it comes, in one call.
+    pub fn run<K: Sink>(&mut self, budget: u64, out: &mut K) -> RunEnd
+        requires running { IsTrue self.old.running }
+        requires few { self.old.state.steps + budget < 2 ^ 63 }
+
+        // Without a fault of the sink and a want of memory: what the copying code machine does in so many steps.
+        ensures answer { OnWhole result (result ≡ run_end_of (after self.old.code self.old.input budget self.old.state).mode) }
+        ensures state { OnWhole result (self.new.state ≡ after self.old.code self.old.input budget self.old.state) }
+        ensures out { OnWhole result
+            (Appends (K.written out.old) (K.written out.new) (prints self.old.code self.old.input budget self.old.state)) }
+
+        // In each case: what it does in the steps that were made.
+        ensures few { self.new.state.steps ≤ self.old.state.steps + budget }
+        ensures made { self.new.state ≡ after self.old.code self.old.input (made self.old self.new) self.old.state }
+        ensures steps_out { OnStepsOut result (made self.old self.new ≡ budget) }
+        ensures memory { OnMemory result
+            (Appends (K.written out.old) (K.written out.new) (prints self.old.code self.old.input (made self.old self.new) self.old.state)) }
+        ensures write_fault { OnWriteFault result
+            (AppendsFront (K.written out.old) (K.written out.new) (prints self.old.code self.old.input (made self.old self.new) self.old.state)) }
+        ensures cause { HasCause (K.faults out.old) (K.faults out.new) (all_written result) }
+        ensures running { self.new.running ≡ is_steps_out result }
+        ensures same { (self.new.code ≡ self.old.code) × (self.new.input ≡ self.old.input) }
+    {
+        let mut made = 0;
+        while made < budget {
+            match self.step() {
+                Err(NoMemory) => return RunEnd::Memory,
+                Ok(Step::Done(end)) => return RunEnd::from(end),
+                Ok(Step::Printed) => {
+                    if write_all(out, self.printed()).is_err() {
+                        self.running = false;
+                        return RunEnd::WriteFault;
+                    }
+                }
+                Ok(_) => {}
+            }
+            made += 1;
+        }
+        RunEnd::StepsOut
     }
 }
