@@ -2,3 +2,4 @@ pub mod Slots
 pub mod Words
 pub mod Sound
 pub mod Kept
+pub mod Budget

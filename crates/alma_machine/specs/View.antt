@@ -1,5 +1,5 @@
 -- What contracts see of a machine.
-use Rattle.std.specs.Prelude.{◌≡◌, ℕ, Bool, true, false, List, Result, Ok, Err}
+use Rattle.std.specs.Prelude.{◌≡◌, ℕ, Bool, true, false, List, [], Result, Ok, Err}
 use Rattle.alma_code.specs.declared.step.Step.{Step}
 use Rattle.alma_code.specs.declared.step.Step.TheVariants as answer
 use Rattle.alma_code.specs.Plain.{PlainCode}
@@ -42,6 +42,17 @@ IsLive Going = Unit {0}
 IsLive Failing = Unit {0}
 IsLive (Ended end) = ⊥
 IsLive Stuck = ⊥
+
+-- a step prints these bytes, and none where it does not answer that it printed
+abbrev pub PrintsOnly : Step → List ℕ → Type 0
+PrintsOnly answer.Printed bytes = Unit {0}
+PrintsOnly (answer.Done end) bytes = bytes ≡ []
+PrintsOnly answer.Went bytes = bytes ≡ []
+PrintsOnly (answer.Chose height) bytes = bytes ≡ []
+PrintsOnly (answer.Popped height) bytes = bytes ≡ []
+PrintsOnly (answer.Cut height) bytes = bytes ≡ []
+PrintsOnly (answer.Called routine frames) bytes = bytes ≡ []
+PrintsOnly (answer.Returned frames) bytes = bytes ≡ []
 
 -- the mode after a step: ended where the answer tells an end, and in that one, and else live
 abbrev pub ModeAfter : Step → Mode → Type 0

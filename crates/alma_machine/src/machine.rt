@@ -9,7 +9,7 @@ ghost use Rattle.alma_io.specs.Fronts.{AppendsFront};
 ghost use Rattle.alma_machine.specs.Rows.{state_of, KeepsOn};
 ghost use Rattle.alma_machine.specs.Runs.{end_of, run_end_of, is_steps_out, all_written, made, OnWhole, OnStepsOut, OnWriteFault, OnMemory};
 ghost use Rattle.std.specs.Io.KnownBytes.{Appends};
-ghost use Rattle.alma_machine.specs.View.{MachineView, stepped, runs_after, ModeAfter, Keeps};
+ghost use Rattle.alma_machine.specs.View.{MachineView, stepped, runs_after, ModeAfter, PrintsOnly, Keeps};
 
 use crate::frame::Frame;
 use crate::registers::{Mode, Registers};
@@ -76,6 +76,7 @@ fn take(code: &Code, registers: &mut Registers, printed: &mut Vec<u8>) -> Result
     requires empty { printed.old.items ≡ [] }
     ensures step { IfOk result (λ answer. (input : List ℕ)
         → stepped answer printed.new.items (state_of registers.new) ≡ step (code_of code.now) input (state_of registers.old)) }
+    ensures quiet { IfOk result (λ answer. PrintsOnly answer printed.new.items) }
     ensures counted { OnOk result (registers.new.steps ≡ registers.old.steps + 1) }
     ensures mode { IfOk result (λ answer. ModeAfter answer (state_of registers.new).mode) }
     ensures refused { OnErr result ((state_of registers.new ≡ state_of registers.old) × (printed.new.items ≡ [])) }
@@ -98,6 +99,7 @@ fn advance(code: &Code, registers: &mut Registers, printed: &mut Vec<u8>) -> Res
     requires few { registers.old.steps + 1 < 2 ^ 63 }
     ensures step { IfOk result (λ answer. (input : List ℕ)
         → stepped answer printed.new.items (state_of registers.new) ≡ step (code_of code.now) input (state_of registers.old)) }
+    ensures quiet { IfOk result (λ answer. PrintsOnly answer printed.new.items) }
     ensures counted { OnOk result (registers.new.steps ≡ registers.old.steps + 1) }
     ensures mode { IfOk result (λ answer. ModeAfter answer (state_of registers.new).mode) }
     ensures refused { OnErr result ((state_of registers.new ≡ state_of registers.old) × (printed.new.items ≡ [])) }
@@ -174,6 +176,7 @@ impl<'b, 'i> Machine<'b, 'i> {
         requires few { self.old.state.steps + 1 < 2 ^ 63 }
         ensures step { IfOk result (λ answer.
             stepped answer self.new.printed self.new.state ≡ step self.old.code self.old.input self.old.state) }
+        ensures quiet { IfOk result (λ answer. PrintsOnly answer self.new.printed) }
         ensures mode { IfOk result (λ answer. ModeAfter answer self.new.state.mode) }
         ensures counted { OnOk result (self.new.state.steps ≡ self.old.state.steps + 1) }
         ensures refused { OnErr result ((self.new.state ≡ self.old.state) × (self.new.printed ≡ [])) }
@@ -241,16 +244,16 @@ impl<'b, 'i> Machine<'b, 'i> {
             match self.step() {
                 Err(NoMemory) => return RunEnd::Memory,
                 Ok(Step::Done(end)) => return RunEnd::from(end),
-                Ok(Step::Printed) => {
+                Ok(_) => {
                     if write_all(out, self.printed()).is_err() {
                         self.running = false;
                         return RunEnd::WriteFault;
                     }
                 }
-                Ok(_) => {}
             }
             made += 1;
         }
+        let _ = &self.running;
         RunEnd::StepsOut
     }
 }

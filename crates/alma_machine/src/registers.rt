@@ -7,7 +7,7 @@ ghost use Rattle.alma_base.specs.Value.{value_text};
 ghost use Rattle.alma_code.specs.Machine.{act, top, number, place, store, put_place, went, ended, goes_to, fails_now, printed};
 ghost use Rattle.alma_code.specs.Plain.{PlainCode};
 ghost use Rattle.alma_machine.specs.Rows.{state_of, HasNumber, HasOneCell, HasPlace, KeepsOn, Needs, put_or_fault};
-ghost use Rattle.alma_machine.specs.View.{stepped};
+ghost use Rattle.alma_machine.specs.View.{stepped, PrintsOnly};
 
 use crate::frame::Frame;
 use alma_base::{NoMemory, RunFault, Value, write_value};
@@ -157,6 +157,7 @@ impl Registers {
         ensures ok { let s = state_of self.old in
             IfOk result (λ answer. stepped answer bytes.new.items (state_of self.new) ≡ number s value (λ v. printed (value_text (kind.Int v)) s)) }
         ensures kept { IfOk result (λ answer. KeepsOn answer (state_of self.old) (state_of self.new)) }
+        ensures quiet { IfOk result (λ answer. PrintsOnly answer bytes.new.items) }
         ensures refused { OnErr result ((self.new ≡ self.old) × (bytes.new.items ≡ [])) }
     {
         match self.frame.number(value) {
@@ -176,6 +177,7 @@ impl Registers {
         ensures ok { let s = state_of self.old in
             IfOk result (λ answer. stepped answer bytes.new.items (state_of self.new) ≡ number s value (λ v. printed (value_text (kind.Bool (not (is_zero v)))) s)) }
         ensures kept { IfOk result (λ answer. KeepsOn answer (state_of self.old) (state_of self.new)) }
+        ensures quiet { IfOk result (λ answer. PrintsOnly answer bytes.new.items) }
         ensures refused { OnErr result ((self.new ≡ self.old) × (bytes.new.items ≡ [])) }
     {
         match self.frame.number(value) {
@@ -196,6 +198,7 @@ impl Registers {
         ensures ok { IfOk result (λ answer. (code : PlainCode) (input : List ℕ)
             → stepped answer bytes.new.items (state_of self.new) ≡ act code input instr.now (state_of self.old)) }
         ensures kept { IfOk result (λ answer. KeepsOn answer (state_of self.old) (state_of self.new)) }
+        ensures quiet { IfOk result (λ answer. PrintsOnly answer bytes.new.items) }
         ensures refused { OnErr result ((self.new ≡ self.old) × (bytes.new.items ≡ [])) }
     {
         match *instr {

@@ -1,19 +1,17 @@
-use Rattle.std.proofs.Common.{◌≡◌, ◌≤◌, ◌+◌, ◌-◌, true}
+use Rattle.std.proofs.Common.{◌≡◌, ◌≤◌, ◌-◌, true}
 use Rattle.std.specs.Io.KnownBytes.{Appends}
-use Rattle.alma_code.specs.Machine.{after, prints}
+use Rattle.alma_code.specs.Machine.{prints}
+use Rattle.alma_machine.proofs.Budget.{Progress}
 use Rattle.alma_machine.proofs.machine.Machine.run.Given as goal
 
 -- so many steps were made, their prints are out, nothing has failed and the machine is running
 abbrev pub invariant-loop-made : goal.invariant-loop-made
 invariant-loop-made g l = record {
   within : l.made ≤ l.budget;
-  state : l.self.state ≡ after l.fn.self.code l.fn.self.input l.made l.fn.self.state;
-  steps : l.self.state.steps ≡ l.fn.self.state.steps + l.made;
+  progress : Progress l.fn.self l.self l.made;
   out : Appends (g.K.Sink.written l.fn.out) (g.K.Sink.written l.out) (prints l.fn.self.code l.fn.self.input l.made l.fn.self.state);
   quiet : g.K.Sink.faults l.out ≡ g.K.Sink.faults l.fn.out;
   running : l.self.running ≡ true;
-  code : l.self.code ≡ l.fn.self.code;
-  input : l.self.input ≡ l.fn.self.input;
 }
 
 abbrev pub decreases-loop-made : goal.decreases-loop-made
