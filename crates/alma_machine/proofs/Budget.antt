@@ -1,6 +1,6 @@
 -- Runs of the copying code machine, step after step.
 use Rattle.std.proofs.Common.{◌≡◌, ℕ, zero, suc, ◌+◌, ◌-◌, ◌<◌, ◌≤◌, List, [], ◌∷◌, ◌++◌, refl, sym, ap, ◌∙◌, subst, arith, append_assoc, zero-add}
-use Rattle.std.specs.Prelude.{Option}
+use Rattle.std.specs.Prelude.{Option, Result, Ok, Err, OnOk, OnErr, is_err, true, false}
 use Rattle.std.specs.Io.KnownBytes.{Appends}
 use Rattle.std.proofs.lemmas.List.{append-nil}
 use Rattle.alma_code.specs.declared.step.End.{End}
@@ -13,7 +13,7 @@ use Rattle.alma_io.proofs.Known.{appends_trans}
 use Rattle.alma_machine.specs.declared.machine.RunEnd.{RunEnd}
 use Rattle.alma_machine.specs.declared.machine.RunEnd.TheVariants as run
 use Rattle.alma_machine.specs.Runs.{OnWhole, run_end_of, end_of, made}
-use Rattle.alma_machine.specs.View.{MachineView, IsLive, stepped}
+use Rattle.alma_machine.specs.View.{MachineView, IsLive, ModeAfter, PrintsOnly, goes_on, stepped}
 
 module _ (code : PlainCode) (input : List ℕ) where
   -- one more step
@@ -134,3 +134,56 @@ out_more a b c xs ys zs h k e = subst (λ z. Appends a c z) (sym e) (appends_tra
 pub out_front : (a b c : Option (List ℕ)) (xs ys zs : List ℕ) → Appends a b xs → AppendsFront b c ys → zs ≡ xs ++ ys → AppendsFront a c zs
 out_front a b c xs ys zs h (front, rest, is, k) e =
     (xs ++ front, rest, e ∙ ap (λ z. xs ++ z) is ∙ sym (append_assoc xs front rest), appends_trans a b c xs front h k)
+
+-- what is true of an error is true where there is one
+pub on_err : {T E : Type 0} (result : Result T E) (P : Type 0) → is_err result ≡ true → OnErr result P → P
+on_err (Ok done) P e h = absurd (cc)
+on_err (Err fault) P e h = h
+
+-- what is true of a success is true where there is one
+pub on_ok : {T E : Type 0} (result : Result T E) (P : Type 0) → is_err result ≡ false → OnOk result P → P
+on_ok (Ok done) P e h = h
+on_ok (Err fault) P e h = absurd (cc)
+
+-- the steps of a machine that only stopped are those that were made
+pub progress_stopped : (old new stopped : MachineView) (m : ℕ) → stopped.state ≡ new.state → stopped.code ≡ new.code → stopped.input ≡ new.input → Progress old new m → Progress old stopped m
+progress_stopped old new stopped m state code input h = record {
+  state = state ∙ h.state;
+  steps = ap (λ s. s.steps) state ∙ h.steps;
+  code = code ∙ h.code;
+  input = input ∙ h.input;
+}
+
+-- a step that is not the last goes on
+pub goes_unless : (a : Step) → ((e : End) → a ≡ answer.Done e → ⊥) → goes_on a ≡ true
+goes_unless (answer.Done e) h = absurd (h e refl)
+goes_unless answer.Went h = refl
+goes_unless (answer.Chose height) h = refl
+goes_unless (answer.Popped height) h = refl
+goes_unless (answer.Cut height) h = refl
+goes_unless (answer.Called routine frames) h = refl
+goes_unless (answer.Returned frames) h = refl
+goes_unless answer.Printed h = refl
+
+-- the machine ended with one more step than m, within the budget
+pub record Finished (old new : MachineView) (m budget : ℕ) (e : End) : Type 0 where
+  pub state : new.state ≡ after old.code old.input budget old.state
+  pub mode : (after old.code old.input budget old.state).mode ≡ Ended e
+  pub printed : prints old.code old.input m old.state ≡ prints old.code old.input budget old.state
+
+-- so it has where its last step said so
+pub finished : (old now new : MachineView) (m budget : ℕ) (a : Step) (e : End) → Progress old now m → Progress old new (m + 1) → stepped a new.printed new.state ≡ step now.code now.input now.state
+    → a ≡ answer.Done e → ModeAfter a new.state.mode → PrintsOnly a new.printed → m < budget → Finished old new m budget e
+finished old now new m budget a e h p done is mode quiet lt =
+    let le : m + 1 ≤ budget = omega arith in
+    let end : new.state.mode ≡ Ended e = subst (λ b. ModeAfter b new.state.mode) is mode in
+    let ended : (after old.code old.input (m + 1) old.state).mode ≡ Ended e = ap (λ s. s.mode) (sym p.state) ∙ end in
+    let last = ended_after old.code old.input (m + 1) budget old.state e le ended in
+    let none : new.printed ≡ [] = subst (λ b. PrintsOnly b new.printed) is quiet in
+    record {
+      state = p.state ∙ sym last;
+      mode = ap (λ s. s.mode) last ∙ ended;
+      printed = sym
+          (ended_prints old.code old.input (m + 1) budget old.state e le ended ∙ prints_then old now new m a h done
+          ∙ ap (λ bytes. prints old.code old.input m old.state ++ bytes) none ∙ append-nil (prints old.code old.input m old.state));
+    }

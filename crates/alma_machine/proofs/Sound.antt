@@ -64,7 +64,7 @@ module _ (code : PlainCode) (f : PlainFrame) (fits : FitsFrame code (f.routine �
       let first : p.frame ≡ 0 = omega (arith, h.1.frame) in
       let there = one_cell code (f.routine ∷ []) 0 p (h.0 ∙ one) h.1 in
       let kind : slice_get f.kinds p.slot ≡ Some slot.Number =
-          ap (λ ks. slice_get ks p.slot) fits.kinds ∙ sym (ap (λ j. slice_get (kinds_at code (get_or (f.routine ∷ []) j 0)) p.slot) first) ∙ there.number in
+      ap (λ ks. slice_get ks p.slot) fits.kinds ∙ sym (ap (λ j. slice_get (kinds_at code (get_or (f.routine ∷ []) j 0)) p.slot) first) ∙ there.number in
       (first, number_slot p.slot kind)
   is_one_cell l cell.Unset one h = tt
   is_one_cell l cell.Unknown one h = absurd h
@@ -177,4 +177,5 @@ pub main_some : (code : PlainCode) → IsSound code → 0 < length (kinds_at cod
 main_some code sound = slice_get_within (kinds_at code 0) 0 slot.Number (first_number code sound)
 
 pub ruleset starts = (main_runs, main_some, start_fits)
+
 pub ruleset keeping = (stays_fit)

@@ -44,6 +44,7 @@ pub reads_unset : (f : PlainFrame) (n : ℕ) (s : State) (k : CellPlace → Step
 reads_unset f n s k is same = ap (λ fs. as_place (slice_get (last_frame fs).cells n) s k) same ∙ ap (λ o. as_place o s k) is
 
 pub ruleset numbers = (content_read, reads_number, reads_unknown)
+
 pub ruleset places = (place_read, reads_place, reads_unset)
 
 -- ---- tests of numbers
@@ -125,6 +126,7 @@ store_is s f p v same h =
     ∙ sym (put_is s f p.slot v same h.1)
 
 pub ruleset puts = (put_is, put_place_is)
+
 pub ruleset stores = (store_is)
 
 -- what a word gives goes into a slot, or ends the run

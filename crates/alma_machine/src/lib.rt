@@ -5,3 +5,6 @@ mod frame;
 mod machine;
 mod registers;
 mod values;
+
+pub use alma_code::{End, Step};
+pub use machine::{Machine, RunEnd};

@@ -128,11 +128,7 @@ fn goes_on(step: &Result<Step, NoMemory>) -> bool
 impl<'b, 'i> Machine<'b, 'i> {
     /// A machine at the start of the code. The input has at most 16,777,216 bytes.
     #[tactic(auto, using(crate::proofs::Sound::starts))]
-    pub fn new(
-        alloc: Global,
-        code: &'b Code,
-        input: &'i [u8],
-    ) -> Result<Machine<'b, 'i>, NoMemory>
+    pub fn new(alloc: Global, code: &'b Code, input: &'i [u8]) -> Result<Machine<'b, 'i>, NoMemory>
         requires sound { IsSound (code_of code.now) }
         requires built { HasOnlyBuilt (code_of code.now) }
         requires lawful { length input.now ≤ 16777216 }
@@ -241,15 +237,15 @@ impl<'b, 'i> Machine<'b, 'i> {
     {
         let mut made = 0;
         while made < budget {
-            match self.step() {
-                Err(NoMemory) => return RunEnd::Memory,
-                Ok(Step::Done(end)) => return RunEnd::from(end),
-                Ok(_) => {
-                    if write_all(out, self.printed()).is_err() {
-                        self.running = false;
-                        return RunEnd::WriteFault;
-                    }
-                }
+            let Ok(step) = self.step() else {
+                return RunEnd::Memory;
+            };
+            if let Step::Done(end) = step {
+                return RunEnd::from(end);
+            }
+            if write_all(out, self.printed()).is_err() {
+                self.running = false;
+                return RunEnd::WriteFault;
             }
             made += 1;
         }
