@@ -1,5 +1,6 @@
-pub mod Slots
-pub mod Words
-pub mod Sound
-pub mod Kept
 pub mod Budget
+pub mod Kept
+pub mod Slots
+pub mod Small
+pub mod Sound
+pub mod Words

@@ -4,6 +4,8 @@
 mod frame;
 mod machine;
 mod registers;
+#[cfg(test)]
+mod tests;
 mod values;
 
 pub use alma_code::{End, Step};
