@@ -117,5 +117,3 @@ fails_sound = small_sound (I.Fail ∷ []) fails_rules
 
 pub fails_built : HasOnlyBuilt (small_code (I.Fail ∷ []))
 fails_built = only_built (I.Fail ∷ []) fails_forms
-
-pub ruleset small = (count_sound, count_built, too_large_sound, too_large_built, by_zero_sound, by_zero_built, not_known_sound, not_known_built, check_fails_sound, check_fails_built, fails_sound, fails_built)

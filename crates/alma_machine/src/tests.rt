@@ -77,7 +77,7 @@ const CHECK_FAILS: [Instr; 3] = [
 const FAILS: [Instr; 1] = [Instr::Fail];
 
 // The code of a module body with five number slots and a place slot.
-fn body(alloc: Global, instrs: &[Instr]) -> Result<Code, NoMemory>
+fn small(alloc: Global, instrs: &[Instr]) -> Result<Code, NoMemory>
     requires { length instrs.now < 2 ^ 32 }
     ensures { IfOk result (λ code. code_of code ≡ small_code instrs.now) }
 {
@@ -109,8 +109,19 @@ fn body(alloc: Global, instrs: &[Instr]) -> Result<Code, NoMemory>
     })
 }
 
-// How a run of the code ends, in how many steps, and what it prints.
-fn outcome(alloc: Global, instrs: &[Instr]) -> Result<(RunEnd, u64, MemSink), NoMemory>
+// The same of a sound code.
+fn body(alloc: Global, instrs: &[Instr]) -> Result<Code, NoMemory>
+    requires short { length instrs.now < 2 ^ 32 }
+    requires sound { IsSound (small_code instrs.now) }
+    requires built { HasOnlyBuilt (small_code instrs.now) }
+    ensures sound { IfOk result (λ code. IsSound (code_of code)) }
+    ensures built { IfOk result (λ code. HasOnlyBuilt (code_of code)) }
+{
+    small(alloc, instrs)
+}
+
+// How a run of the code ends, and in how many steps.
+fn outcome(alloc: Global, instrs: &[Instr]) -> Result<(RunEnd, u64), NoMemory>
     requires short { length instrs.now < 2 ^ 32 }
     requires sound { IsSound (small_code instrs.now) }
     requires built { HasOnlyBuilt (small_code instrs.now) }
@@ -119,30 +130,23 @@ fn outcome(alloc: Global, instrs: &[Instr]) -> Result<(RunEnd, u64, MemSink), No
     let mut machine = Machine::new(alloc, &code, b"")?;
     let mut out = MemSink::new(alloc, 99, 99, &[])?;
     let end = machine.run(99, &mut out);
-    Ok((end, machine.steps(), out))
+    Ok((end, machine.steps()))
 }
 
 #[test]
-#[tactic(auto, using(crate::proofs::Small::small))]
 fn a_run_ends_as_its_code_says(rt: HostRuntime) -> Result<(), Fail> {
-    let (end, steps, out) = outcome(rt.alloc(), &COUNT)?;
-    assert_eq!(rt; (end, steps), (RunEnd::Succeeded, 31));
-    assert_eq!(rt; out.bytes(), b"123FALSE".as_slice());
-    let (end, steps, _) = outcome(rt.alloc(), &TOO_LARGE)?;
-    assert_eq!(rt; (end, steps), (RunEnd::Fault(RunFault::Overflow), 3));
-    let (end, steps, _) = outcome(rt.alloc(), &BY_ZERO)?;
-    assert_eq!(rt; (end, steps), (RunEnd::Fault(RunFault::ZeroDivide), 3));
-    let (end, steps, _) = outcome(rt.alloc(), &NOT_KNOWN)?;
-    assert_eq!(rt; (end, steps), (RunEnd::Fault(RunFault::Unknown), 2));
-    let (end, steps, _) = outcome(rt.alloc(), &CHECK_FAILS)?;
-    assert_eq!(rt; (end, steps), (RunEnd::Failed, 3));
-    let (end, steps, _) = outcome(rt.alloc(), &FAILS)?;
-    assert_eq!(rt; (end, steps), (RunEnd::Failed, 2));
+    let fault = outcome(rt.alloc(), &TOO_LARGE)?;
+    assert_eq!(rt; fault, (RunEnd::Fault(RunFault::Overflow), 3));
+    let fault = outcome(rt.alloc(), &BY_ZERO)?;
+    assert_eq!(rt; fault, (RunEnd::Fault(RunFault::ZeroDivide), 3));
+    let fault = outcome(rt.alloc(), &NOT_KNOWN)?;
+    assert_eq!(rt; fault, (RunEnd::Fault(RunFault::Unknown), 2));
+    assert_eq!(rt; outcome(rt.alloc(), &CHECK_FAILS)?, (RunEnd::Failed, 3));
+    assert_eq!(rt; outcome(rt.alloc(), &FAILS)?, (RunEnd::Failed, 2));
     Ok(())
 }
 
 #[test]
-#[tactic(auto, using(crate::proofs::Small::small))]
 fn steps_run_out_at_each_budget_below_the_whole(rt: HostRuntime) -> Result<(), Fail> {
     let code = body(rt.alloc(), &COUNT)?;
     for budget in 0..31 {
@@ -160,7 +164,6 @@ fn steps_run_out_at_each_budget_below_the_whole(rt: HostRuntime) -> Result<(), F
 }
 
 #[test]
-#[tactic(auto, using(crate::proofs::Small::small))]
 fn a_write_fault_stops_the_machine(rt: HostRuntime) -> Result<(), Fail> {
     let code = body(rt.alloc(), &COUNT)?;
     let written: [&[u8]; 4] = [b"", b"1", b"12", b"123"];
@@ -175,7 +178,6 @@ fn a_write_fault_stops_the_machine(rt: HostRuntime) -> Result<(), Fail> {
 }
 
 #[test]
-#[tactic(auto, using(crate::proofs::Small::small))]
 fn the_print_of_the_last_step_is_there(rt: HostRuntime) -> Result<(), Fail> {
     let code = body(rt.alloc(), &COUNT)?;
     let mut machine = Machine::new(rt.alloc(), &code, b"")?;
@@ -186,7 +188,10 @@ fn the_print_of_the_last_step_is_there(rt: HostRuntime) -> Result<(), Fail> {
         let answer = machine.step()?;
         let print = prints.iter().find(|print| print.0 == step);
         assert_eq!(rt; answer == Step::Printed, print.is_some());
-        assert_eq!(rt; machine.printed(), print.map_or(b"".as_slice(), |print| print.1));
+        assert_eq!(rt;
+            machine.printed(),
+            print.map_or(b"".as_slice(), |print| print.1)
+        );
     }
     assert!(rt; !machine.is_running());
     assert_eq!(rt; (machine.choices(), machine.fails()), (0, 0));
