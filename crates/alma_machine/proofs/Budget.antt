@@ -1,18 +1,18 @@
 -- Runs of the copying code machine, step after step.
-use Rattle.std.proofs.Common.{◌≡◌, ℕ, zero, suc, ◌+◌, ◌-◌, ◌<◌, ◌≤◌, List, [], ◌∷◌, ◌++◌, refl, sym, ap, ◌∙◌, subst, arith, append_assoc, zero-add}
+use Rattle.std.proofs.Common.{◌≡◌, ℕ, zero, suc, ◌+◌, ◌-◌, ◌<◌, ◌≤◌, List, [], ◌++◌, refl, sym, ap, ◌∙◌, subst, arith, append_assoc, zero-add}
 use Rattle.std.specs.Prelude.{Option, Result, Ok, Err, OnOk, OnErr, is_err, true, false}
 use Rattle.std.specs.Io.KnownBytes.{Appends}
 use Rattle.std.proofs.lemmas.List.{append-nil}
 use Rattle.alma_code.specs.declared.step.End.{End}
 use Rattle.alma_code.specs.declared.step.Step.{Step}
 use Rattle.alma_code.specs.declared.step.Step.TheVariants as answer
-use Rattle.alma_code.specs.Machine.{Mode, Going, Failing, Ended, Stuck, State, Stepped, answered, step, step_in, after, prints}
+use Rattle.alma_code.specs.Machine.{Mode, Going, Failing, Ended, Stuck, State, step, step_in, after, prints}
 use Rattle.alma_code.specs.Plain.{PlainCode}
 use Rattle.alma_io.specs.Fronts.{AppendsFront}
 use Rattle.alma_io.proofs.Known.{appends_trans}
 use Rattle.alma_machine.specs.declared.machine.RunEnd.{RunEnd}
 use Rattle.alma_machine.specs.declared.machine.RunEnd.TheVariants as run
-use Rattle.alma_machine.specs.Runs.{OnWhole, run_end_of, end_of, made}
+use Rattle.alma_machine.specs.Runs.{OnWhole, run_end_of, made}
 use Rattle.alma_machine.specs.View.{MachineView, IsLive, ModeAfter, PrintsOnly, goes_on, stepped}
 
 module _ (code : PlainCode) (input : List ℕ) where

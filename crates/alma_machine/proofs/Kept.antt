@@ -1,7 +1,6 @@
 -- What a machine keeps, at its start and at each step.
-use Rattle.std.proofs.Common.{◌≡◌, ℕ, ◌+◌, ◌<◌, ◌≤◌, List, [], ◌∷◌, length, get_or, map, refl, sym, ap, ◌∙◌, subst, arith, Some, Bool, true, false}
-use Rattle.std.specs.Prelude.{slice_get, Result, Ok, Err, IfOk, OnErr}
-use Rattle.std.proofs.lemmas.List.{length-map}
+use Rattle.std.proofs.Common.{◌≡◌, ℕ, ◌<◌, ◌≤◌, List, [], ◌∷◌, length, get_or, map, sym, ap, ◌∙◌, subst, Some, Bool, true}
+use Rattle.std.specs.Prelude.{Result, Ok, Err, IfOk, OnErr}
 use Rattle.std.proofs.lemmas.Option.{slice_get-get_or, get_or_from_slice_get}
 use Rattle.std.proofs.Math.ListN.{get_or-map}
 use Rattle.alma_code.specs.declared.code.Code.{Code}
@@ -10,7 +9,7 @@ use Rattle.alma_code.specs.declared.step.Step.{Step}
 use Rattle.alma_code.specs.declared.step.Step.TheVariants as answer
 use Rattle.alma_code.specs.Fits.{Fits}
 use Rattle.alma_code.specs.Layout.{kinds_of, start_frame}
-use Rattle.alma_code.specs.Machine.{Mode, Going, Failing, Ended, Stuck, State, step, start}
+use Rattle.alma_code.specs.Machine.{Mode, Going, State, step, start}
 use Rattle.alma_code.specs.Picture.{PlainFrame}
 use Rattle.alma_code.specs.Plain.{PlainCode, code_of, head_of, head_at, routine_of, no_routine}
 use Rattle.alma_code.specs.Rules.{IsSound}

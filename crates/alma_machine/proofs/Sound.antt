@@ -1,6 +1,6 @@
 -- What a sound code gives to the instruction at the address.
-use Rattle.std.proofs.Common.{◌≡◌, ℕ, zero, suc, ◌+◌, ◌-◌, ◌<◌, ◌≤◌, List, [], ◌∷◌, length, get_or, refl, sym, ap, ◌∙◌, subst, arith, Some, Option}
-use Rattle.std.specs.Prelude.{Result, Ok, Err, IfOk, slice_get, true, false, nat_le, nat_lt}
+use Rattle.std.proofs.Common.{◌≡◌, ℕ, ◌+◌, ◌<◌, ◌≤◌, List, [], ◌∷◌, length, get_or, refl, sym, ap, ◌∙◌, subst, arith, Some}
+use Rattle.std.specs.Prelude.{Result, Ok, Err, IfOk, slice_get, true, nat_le, nat_lt}
 use Rattle.std.proofs.lemmas.Bool.{false≢true, and_parts, eqb-true, leb-true, ltb-true}
 use Rattle.std.proofs.lemmas.Option.{slice_get-get_or, slice_get_within, get_or_from_slice_get}
 use Rattle.alma_code.specs.declared.cell.Cell.{Cell}
@@ -10,11 +10,11 @@ use Rattle.alma_code.specs.declared.instr.Instr.{Instr}
 use Rattle.alma_code.specs.declared.instr.Instr.TheVariants as I
 use Rattle.alma_code.specs.declared.instr.Word.TheVariants as W
 use Rattle.alma_code.specs.declared.step.Step.{Step}
-use Rattle.alma_code.specs.Fits.{routines_of, FitsSlot, FitsFrame, FitsMode, Fits}
+use Rattle.alma_code.specs.Fits.{FitsSlot, FitsFrame, FitsMode, Fits}
 use Rattle.alma_code.specs.Kinds.{is_place}
 use Rattle.alma_code.specs.declared.step.End.TheVariants as end
 use Rattle.alma_code.specs.Layout.{RunsRise}
-use Rattle.alma_code.specs.Machine.{State, Going, Failing, Stepped, step, step_in, act, fetched, ticked, popped_to, ended}
+use Rattle.alma_code.specs.Machine.{State, Going, Failing, step, step_in, act, fetched, ticked, popped_to, ended}
 use Rattle.alma_code.proofs.Runs.{first_number, start_fits, stays_fit}
 use Rattle.alma_code.specs.Picture.{PlainFrame}
 use Rattle.alma_code.specs.Plain.{PlainCode, head_at, kinds_at, start_at, end_at}

@@ -1,12 +1,12 @@
 -- What the reading of slots gives.
-use Rattle.std.proofs.Common.{inl, inr, ◌≡◌, ℕ, ◌+◌, ◌-◌, ◌<◌, List, [], ◌∷◌, length, get_or, refl, sym, ap, ◌∙◌, subst, arith, Some, None}
-use Rattle.std.specs.Prelude.{ℤ, pos, negsuc, zero, suc, slice_get, true, false, Bool, Result, Ok, Err, int_lt, int_le, ◌<ℤ◌, ◌≤ℤ◌}
+use Rattle.std.proofs.Common.{inl, inr, ◌≡◌, ℕ, ◌-◌, List, [], ◌∷◌, length, get_or, refl, sym, ap, ◌∙◌, subst, Some}
+use Rattle.std.specs.Prelude.{ℤ, pos, negsuc, zero, suc, slice_get, true, false, Result, Ok, Err}
 use Rattle.std.proofs.lemmas.Bool.{eq-eqb}
-use Rattle.std.proofs.lemmas.Bool.Decides.{nat_tests, eqb_tells}
+use Rattle.std.proofs.lemmas.Bool.Decides.{eqb_tells}
 use Rattle.std.proofs.lemmas.Option.{slice_get-get_or, get_or_from_slice_get}
 use Rattle.alma_base.specs.declared.fault.RunFault.{RunFault}
 use Rattle.alma_base.specs.declared.fault.RunFault.TheVariants as fault
-use Rattle.alma_base.specs.Numbers.{is_zero, int_eq, bit}
+use Rattle.alma_base.specs.Numbers.{is_zero, int_eq}
 use Rattle.alma_code.specs.declared.cell.Cell.{Cell}
 use Rattle.alma_code.specs.declared.cell.Cell.TheVariants as cell
 use Rattle.alma_code.specs.declared.cell.CellPlace.{CellPlace}
@@ -17,7 +17,7 @@ use Rattle.alma_code.specs.Kinds.{is_number}
 use Rattle.alma_code.specs.Machine.{State, Stepped, number, place, content, known, as_number, as_place, as_content, faulted, put_number, put_place, to_number, to_place, store, went, stuck, with_slot, with_cell}
 use Rattle.alma_base.specs.Choice.{if_true}
 use Rattle.alma_code.specs.Picture.{PlainFrame, last_frame, cell_at}
-use Rattle.alma_machine.specs.Rows.{HasNumber, HasOneCell, IsOneCell, Gives, put_or_fault}
+use Rattle.alma_machine.specs.Rows.{HasNumber, IsOneCell, Gives, put_or_fault}
 
 -- what a slot holds that has a content is a content
 pub content_read : (cs : List Cell) (n : ℕ) (c : Cell) → slice_get cs n ≡ Some c → IsContent (get_or cs n cell.Unset) → IsContent c

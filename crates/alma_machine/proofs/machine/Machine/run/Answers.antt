@@ -1,14 +1,13 @@
-use Rattle.std.proofs.Common.{rules, ◌≡◌, ◌+◌, ◌-◌, ◌≤◌, ◌<◌, ◌++◌, [], List, ℕ, ap, sym, ◌∙◌, subst, arith, true, false}
+use Rattle.std.proofs.Common.{rules, ◌≡◌, ◌+◌, ◌++◌, List, ℕ, ap, sym, ◌∙◌, subst, arith, true, false}
 use Rattle.std.specs.Prelude.{is_err}
 use Rattle.std.specs.Io.KnownBytes.{Appends}
-use Rattle.std.proofs.lemmas.List.{append-nil}
 use Rattle.alma_io.specs.Fronts.{AppendsFront}
-use Rattle.alma_code.specs.Machine.{Ended, after, prints}
+use Rattle.alma_code.specs.Machine.{after, prints}
 use Rattle.alma_code.specs.Plain.{code_of}
 use Rattle.alma_machine.specs.Rows.{state_of}
-use Rattle.alma_machine.specs.Runs.{run_end_of, end_of, OnWhole, made}
+use Rattle.alma_machine.specs.Runs.{run_end_of, made}
 use Rattle.alma_machine.specs.View.{MachineView}
-use Rattle.alma_machine.proofs.Budget.{Progress, progress_more, progress_stopped, prints_then, made_is, on_whole, finished, goes_unless, out_more, out_front, on_ok, on_err}
+use Rattle.alma_machine.proofs.Budget.{progress_more, progress_stopped, prints_then, made_is, on_whole, finished, goes_unless, out_more, out_front, on_ok, on_err}
 use Rattle.alma_machine.proofs.machine.Machine.run.Goals as goal
 
 pub returns-in-Done-clause-answer : goal.returns-in-Done-clause-answer

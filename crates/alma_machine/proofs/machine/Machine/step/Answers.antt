@@ -1,4 +1,4 @@
-use Rattle.std.proofs.Common.{rules, ◌≡◌, ◌∙◌, subst, ap, true, IfOk}
+use Rattle.std.proofs.Common.{rules, ◌≡◌, subst, true, IfOk}
 use Rattle.alma_code.specs.Plain.{code_of}
 use Rattle.alma_code.specs.Machine.{step}
 use Rattle.alma_machine.specs.Rows.{state_of}
