@@ -1,4 +1,3 @@
-<<<<<<< HEAD
 pub mod Acts
 pub mod Calls
 mod Computed
@@ -11,6 +10,3 @@ pub mod Steps
 pub mod Tables
 pub mod Verdicts
 pub mod Writes
-=======
-pub mod Heads
->>>>>>> 9a3961765e0ff7b85bc49241d3f28ed38d493637

@@ -21,12 +21,8 @@ pub record IsLive (frames : List PlainFrame) (place : CellPlace) : Type 0 where
 
 -- ---- over the frames
 
-<<<<<<< HEAD
 -- the frames after one change is laid over them, where its place is a live number slot of them, whatever routine the
 -- frame has
-=======
--- the frames after one change is laid over them, where its place is a live number slot of them
->>>>>>> 9a3961765e0ff7b85bc49241d3f28ed38d493637
 abbrev pub laid : List PlainFrame → Change Cell → List PlainFrame
 laid frames x = if number_at frames x.frame x.slot then written frames x.frame x.slot x.cell else frames
 

@@ -1,5 +1,4 @@
 pub mod Carries
-<<<<<<< HEAD
 pub mod Fits
 pub mod Head
 pub mod Kinds
@@ -12,9 +11,3 @@ pub mod Records
 pub mod Rules
 pub mod Words
 pub mod Worked
-=======
-pub mod Head
-pub mod Kinds
-pub mod Layout
-pub mod Picture
->>>>>>> 9a3961765e0ff7b85bc49241d3f28ed38d493637

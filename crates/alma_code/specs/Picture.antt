@@ -14,12 +14,8 @@ pub record PlainFrame : Type 0 where
   pub kinds : List SlotKind
   pub cells : List Cell
 
-<<<<<<< HEAD
 -- a choice entry: where a pop goes on, a whole copy of the frames, and for Forall and Done a carry, which Branch and Body
 -- have empty
-=======
--- a choice entry: where a pop goes on, a whole copy of the frames, and for Forall and Done a carry
->>>>>>> 9a3961765e0ff7b85bc49241d3f28ed38d493637
 pub record PlainEntry : Type 0 where
   pub kind : ChoiceKind
   pub resume : ℕ
@@ -62,11 +58,7 @@ no_entry = record { kind = Branch; resume = 0; frames = []; carry = [] }
 abbrev pub top_of : List PlainEntry → PlainEntry
 top_of held = get_or held (length held - 1) no_entry
 
-<<<<<<< HEAD
 -- the entry at a height, counted from 1 at the bottom; height 0 has none, and this is not asked there
-=======
--- the entry at a height, counted from 1 at the bottom
->>>>>>> 9a3961765e0ff7b85bc49241d3f28ed38d493637
 abbrev pub entry_at : List PlainEntry → (height : ℕ) → PlainEntry
 entry_at held height = get_or held (height - 1) no_entry
 

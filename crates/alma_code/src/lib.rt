@@ -2,7 +2,6 @@
 #![tactic(auto)]
 
 mod cell;
-<<<<<<< HEAD
 mod code;
 mod head;
 mod instr;
@@ -15,9 +14,3 @@ pub use code::{Code, CodeGlobal, RoutineHead};
 pub use head::{CodeParam, Head, ParamKind, Run};
 pub use instr::{Instr, Word};
 pub use step::{End, Step, VerifyFault};
-=======
-mod head;
-
-pub use cell::{Cell, CellPlace, ChoiceKind, SlotKind};
-pub use head::{CodeParam, Head, ParamKind, Run};
->>>>>>> 9a3961765e0ff7b85bc49241d3f28ed38d493637
