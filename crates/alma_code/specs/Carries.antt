@@ -21,7 +21,8 @@ pub record IsLive (frames : List PlainFrame) (place : CellPlace) : Type 0 where
 
 -- ---- over the frames
 
--- the frames after one change is laid over them, where its place is a live number slot of them
+-- the frames after one change is laid over them, where its place is a live number slot of them, whatever routine the
+-- frame has
 abbrev pub laid : List PlainFrame → Change Cell → List PlainFrame
 laid frames x = if number_at frames x.frame x.slot then written frames x.frame x.slot x.cell else frames
 

@@ -63,7 +63,8 @@ blank_of slot.Mark = cell.Unset
 abbrev pub blank_cells : PlainHead → List Cell
 blank_cells h = map blank_of (kinds_of 0 h.runs)
 
--- frame 0 of a start: of routine 0, with the input position 0 in slot 0
+-- frame 0 of a start: of routine 0, with the input position 0 in slot 0, whose kind is not looked at here: in a sound code
+-- it is a number slot
 abbrev pub start_frame : PlainHead → PlainFrame
 start_frame h = record { routine = 0; back = 0; declared = h.declared; kinds = kinds_of 0 h.runs; cells = set (blank_cells h) 0 (cell.Int (pos 0)) }
 

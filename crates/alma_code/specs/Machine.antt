@@ -259,7 +259,7 @@ abbrev pub equations : ℕ → State → (f i g j : ℕ) → Stepped
 equations zero s f i g j = went s
 equations (suc n) s f i g j = equation s f i None g j None (λ t. equations n t f (suc i) g (suc j))
 
--- n cells := cells of other frames, which are taken as they all were before
+-- n cells := cells of these frames, which are the frames as they were before
 abbrev pub copied : ℕ → (before : List PlainFrame) → State → (f i g j : ℕ) → Stepped
 copied zero before s f i g j = went s
 copied (suc n) before s f i g j =
@@ -462,6 +462,7 @@ module _ (code : PlainCode) (input : List ℕ) where
   act (I.InRange a r) s = number s a (λ v. range_at s r (λ t. ranged t fault.Range s v (λ _. went s)))
   act (I.Local a b) s = put_place s a (top s) (λ _. b)
   act (I.Global a b) s = put_place s a 0 (λ _. b)
+  -- the place has the length of the slot that it goes into: in a sound code that of the slot it comes from
   act (I.Same a b) s = place s b (λ p. put_place s a p.frame (λ _. p.slot))
   act (I.Field a b c) s = place s b (λ p. put_place s a p.frame (λ _. p.slot + c))
   act (I.Index a b c d) s =

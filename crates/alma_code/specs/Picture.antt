@@ -14,7 +14,8 @@ pub record PlainFrame : Type 0 where
   pub kinds : List SlotKind
   pub cells : List Cell
 
--- a choice entry: where a pop goes on, a whole copy of the frames, and for Forall and Done a carry
+-- a choice entry: where a pop goes on, a whole copy of the frames, and for Forall and Done a carry, which Branch and Body
+-- have empty
 pub record PlainEntry : Type 0 where
   pub kind : ChoiceKind
   pub resume : ℕ
@@ -57,7 +58,7 @@ no_entry = record { kind = Branch; resume = 0; frames = []; carry = [] }
 abbrev pub top_of : List PlainEntry → PlainEntry
 top_of held = get_or held (length held - 1) no_entry
 
--- the entry at a height, counted from 1 at the bottom
+-- the entry at a height, counted from 1 at the bottom; height 0 has none, and this is not asked there
 abbrev pub entry_at : List PlainEntry → (height : ℕ) → PlainEntry
 entry_at held height = get_or held (height - 1) no_entry
 

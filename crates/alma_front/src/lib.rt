@@ -1,8 +1,5 @@
-//! Sources of the small language as resolved programs: the module's variables, whole numbers, comparisons, IF, WHILE, REPEAT
-//! and WRITE. It serves until the crates of the whole language take its place.
+//! The small language, a part of the whole one: which sources are programs of it, and what programs they are. It has the
+//! module's variables, whole numbers, comparisons, IF, WHILE, REPEAT and WRITE. No code reads a source yet.
 #![tactic(auto)]
 
 pub mod laws;
-mod source;
-
-pub use source::{ReadError, read_source};

@@ -91,7 +91,8 @@ abbrev pub HoldPlace : List Param → (slot cells : ℕ) → Type 0
 HoldPlace [] slot cells = ⊥
 HoldPlace (q ∷ rest) slot cells = (HoldsPlace q.kind × (q.slot ≡ slot) × (q.cells ≡ cells)) ⊎ HoldPlace rest slot cells
 
--- the `count` slots from `from` on are slots of the routine, and all for numbers
+-- The `count` slots from `from` on are slots of the routine, and all for numbers. The second slot of a MIX parameter is
+-- one. No slots may begin anywhere up to the end of the slots.
 pub record AreNumbers (routine : Routine) (from count : ℕ) : Type 0 where
   pub exist : from + count ≤ routine.slots
   pub kinds : AllByRecursion (λ q. HoldsPlace q.kind → IsOutside from count q.slot) routine.params
@@ -102,13 +103,13 @@ LeavesPosition r slot = r ≡ 0 → 0 < slot
 
 -- ---- globals and roots
 
--- a variable of the module names number slots of routine 0, not the input position
+-- a variable of the module names number slots of routine 0, not the input position, where it begins even with no cells
 pub record IsGlobal (p : Program) (g : Global) : Type 0 where
   pub slots : AreNumbers (routine_at p 0) g.slot g.cells
   pub position : 0 < g.slot
 
--- a root names number slots of its routine or of routine 0, and no input position, or a parameter that holds a place
--- of as many cells
+-- a root names number slots of its routine or of routine 0, and no input position, where it begins even with no cells; or
+-- a parameter that holds a place of as many cells
 abbrev pub RootExists : Program → ℕ → Routine → Phrase → Type 0
 RootExists p r routine (DesigPhrase (a_desig (root.Local slot) cells sels)) = AreNumbers routine slot cells × LeavesPosition r slot
 RootExists p r routine (DesigPhrase (a_desig (root.Global slot) cells sels)) = AreNumbers (routine_at p 0) slot cells × (0 < slot)
@@ -169,7 +170,7 @@ abbrev pub labels_of : CaseArms → List Range
 labels_of no_cases = []
 labels_of (more_cases labels body rest) = labels ++ labels_of rest
 
--- the ranges that a phrase itself holds
+-- the ranges that a phrase itself holds: each exists where it is in order
 abbrev pub ranges_of : Phrase → List Range
 ranges_of (StmtPhrase (Assign d e range)) = range ∷ []
 ranges_of (StmtPhrase (ForTo (a_loop d range counter limit from to by body))) = range ∷ []
@@ -183,6 +184,7 @@ ranges_of (ArgPhrase (MixValue e range)) = range ∷ []
 ranges_of (SelPhrase (Index e range cells)) = range ∷ []
 ranges_of _ = []
 
+-- there is a number in the range
 abbrev pub IsOrdered : Range → Type 0
 IsOrdered range = range.low ≤ℤ range.high
 
@@ -227,6 +229,7 @@ pub record CountsApart (p : Program) (r counter limit : ℕ) (inside : List Phra
   pub two : counter ≡ limit → ⊥
   pub nested : AllByRecursion (λ x. AllByRecursion (LoopLeaves counter limit) (loops_of x)) inside
 
+-- counter and limit of a loop are apart; inside of it are its variable, its bounds and its body
 abbrev pub LoopIsApart : Program → ℕ → Loop → Type 0
 LoopIsApart p r (a_loop d range counter limit from to by body) =
     CountsApart p r counter limit (loop_phrases (a_loop d range counter limit from to by body))
@@ -333,6 +336,9 @@ pub record RoutineKeepsLimits (routine : Routine) : Type 0 where
 
 -- ---- all conditions
 
+-- a program that the checker may hand over, and that may be compiled. The numbers in it are bounded by the types of the
+-- program in memory and not here; an argument's range is not compared with the parameter's, and the program's own name is
+-- free
 pub record IsChecked (p : Program) : Type 0 where
   pub body : HasBody p
   pub body_takes_nothing : BodyTakesNothing p

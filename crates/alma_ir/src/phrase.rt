@@ -58,12 +58,12 @@ pub struct Loop {
     pub var: Desig,
     /// The range of the variable's type.
     pub range: Range,
-    /// The hidden slots of the count and of its last value.
+    /// The hidden slots of the count and of the value that it does not pass.
     pub counter: u32,
     pub limit: u32,
     pub from: Expr,
     pub to: Expr,
-    /// The step, which is not 0. It is 1 in SOME.
+    /// The step, which is not 0. SOME does not look at it: its step is 1.
     pub by: i64,
     pub body: Vec<Stmt>,
 }

@@ -1,3 +1,4 @@
 pub mod Built
+pub mod Emitted
 pub mod Implements
 pub mod Templates

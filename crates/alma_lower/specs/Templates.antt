@@ -246,10 +246,17 @@ program_code p runs = record {
   instrs = body_code (routine_at p 0);
 }
 
+-- two runs that follow each other are of different kinds
+abbrev pub RunsDiffer : List Run → Type 0
+RunsDiffer [] = Unit {0}
+RunsDiffer (a ∷ []) = Unit {0}
+RunsDiffer (a ∷ b ∷ rest) = (a.kind ≡ b.kind → ⊥) × RunsDiffer (b ∷ rest)
+
 -- the runs name these kinds, each run as long as it can be
 pub record NamesKinds (runs : List Run) (kinds : List SlotKind) : Type 0 where
   pub ends : RunsRise 0 runs (length kinds)
   pub names : kinds_of 0 runs ≡ kinds
+  pub longest : RunsDiffer runs
 
 -- the code is that of the program
 pub record IsCodeOf (p : Program) (code : PlainCode) : Type 0 where

@@ -1,7 +1,10 @@
 //! The laws of compiled code, each as the contract of a function that does nothing.
 ghost use Rattle.alma_ir.specs.Tree.{Program};
 ghost use Rattle.alma_ir.specs.Checked.{IsChecked};
+ghost use Rattle.std.specs.Prelude.{ℕ, ◌*◌, ◌≤◌};
 ghost use Rattle.alma_code.specs.Plain.{PlainCode};
+ghost use Rattle.alma_code.specs.Rules.{IsSound};
+ghost use Rattle.alma_ir.specs.Count.{nodes};
 ghost use Rattle.alma_lower.specs.Built.{IsBuilt};
 ghost use Rattle.alma_lower.specs.Implements.{Implements, IsEnough};
 ghost use Rattle.alma_lower.specs.Templates.{IsCodeOf};
@@ -17,4 +20,9 @@ pub fn steps_for_each_visit_are_enough()
 #[tactic(auto, using(crate::proofs::Correct::code_implements))]
 pub fn code_by_template_implements()
     ensures { (p : Program) (code : PlainCode) → IsChecked p → IsBuilt p → IsCodeOf p code → Implements code p }
+{}
+
+/// The code that the templates give is sound: a machine on it is never stuck.
+pub fn code_by_template_is_sound()
+    ensures { (p : Program) (code : PlainCode) → IsChecked p → IsBuilt p → IsCodeOf p code → 16 * nodes p ≤ 4194304 → IsSound code }
 {}

@@ -30,4 +30,6 @@ calls_run = record {
   depth_not_full = refl;
   call_at_1 = refl;
   call_at_2 = refl;
+  some_locates_anew = refl;
+  condition_has_none = refl;
 }

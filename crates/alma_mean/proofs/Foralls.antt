@@ -17,6 +17,7 @@ foralls_run = record {
   unknown_is_no_change = refl;
   change_is_from_the_carry = refl;
   position_is_carried = refl;
+  position_of_the_part_wins = refl;
   fault_ends_it = refl;
   it_has_one_alternative = refl;
   part_is_committed = refl;

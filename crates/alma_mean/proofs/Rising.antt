@@ -42,7 +42,7 @@ for_over d range counter limit by b a s =
 -- a turn of SOME
 some_over : {d d' : Store → Events Place} → Over d d' → (range : Range) (counter limit : ℕ) {b b' a a' : Store → Events NoYield} → Over b b' → Over a a' → Over (some_turn d range counter limit b a) (some_turn d' range counter limit b' a')
 some_over d range counter limit b a s =
-    on_visit (read (top_cell s counter) (λ v. with_var d range s v (λ t. joined (b t) (stepped counter limit (pos 1) a s Fail))))
+    on_visit (read (top_cell s counter) (λ v. joined (with_var d range s v b) (stepped counter limit (pos 1) a s Fail)))
 
 -- the begin of a loop
 begun : (counter limit : ℕ) (by v l : ℤ) (s : Store) {f f' : Store → Events NoYield} → Over f f' → (z : Store → Events NoYield) → Extends NoYield (begin_loop counter limit by v l s f z) (begin_loop counter limit by v l s f' z)

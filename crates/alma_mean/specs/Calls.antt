@@ -1,11 +1,11 @@
 -- Programs with procedures and functions, and what they give.
-use Rattle.std.specs.Prelude.{◌≡◌, ℕ, true, [], ◌∷◌, codes, List, None, replicate}
+use Rattle.std.specs.Prelude.{◌≡◌, ℕ, pos, true, [], ◌∷◌, codes, List, None, replicate}
 use Rattle.alma_base.specs.declared.fault.RunFault.TheVariants as fault
 use Rattle.alma_ir.specs.declared.program.ArgKind.TheVariants as kind
 use Rattle.alma_ir.specs.declared.program.Param.{Param}
 use Rattle.alma_ir.specs.declared.phrase.Op.TheVariants as op
 use Rattle.alma_ir.specs.declared.phrase.Cmp.TheVariants as cmp
-use Rattle.alma_ir.specs.Tree.{Stmt, Routine, Program, TestStmt, Assign, If, Return, no_result, some_result, Bind, Compare, CallTest, no_args, ByValue, ByCells, ByPlace, MixValue, MixPlace}
+use Rattle.alma_ir.specs.Tree.{Stmt, Routine, Program, TestStmt, Assign, If, SomeOf, Return, a_loop, no_result, some_result, Value, Bind, Compare, CallTest, no_args, ByValue, ByCells, ByPlace, MixValue, MixPlace}
 use Rattle.alma_mean.specs.Store.{no_frame}
 use Rattle.alma_mean.specs.Events.{Succeeded, Failed, Faulted, CutOff, Visit, Fault, Cut}
 use Rattle.alma_mean.specs.Meaning.{level_0, ev_test}
@@ -96,3 +96,13 @@ pub record CallsRun : Type 0 where
   -- a call of an empty procedure needs one level more
   pub call_at_1 : Gives 1 (with_empty_procedure (call 1 [] ∷ [])) [] [] CutOff
   pub call_at_2 : Gives 2 (with_empty_procedure (call 1 [] ∷ [])) [] [] Succeeded
+  -- PROCEDURE f(): INTEGER; BEGIN WRITE(7); FALSE END f;  SOME a[f()] := 1 TO 2 DO TRUE END: the variable is located anew
+  -- in each turn, also where it could not be located in the turn before
+  pub some_locates_anew :
+      Gives 4 (module_with 5 (SomeOf (a_loop (element 1 2 (value_of 1 [])) int 3 4 (number 1) (number 2) (pos 1) (stmts [])) ∷ [])
+      (function [] int 0 (write (number 7) ∷ fail ∷ []) ∷ [])) [] (digits_of (7 ∷ 7 ∷ [])) Failed
+  -- PROCEDURE f(): INTEGER; BEGIN FALSE END f;  IF f() = 1 THEN WRITE(1) ELSE WRITE(2) END: a function that fails in a
+  -- condition leaves it without an alternative
+  pub condition_has_none :
+      Gives 3 (module_with 1 (If (arms ((Value (Compare cmp.Equal (value_of 1 []) (number 1)), write (number 1) ∷ []) ∷ [])) (stmts (write (number 2) ∷ [])) ∷ [])
+      (function [] int 0 (fail ∷ []) ∷ [])) [] (digits_of (2 ∷ [])) Succeeded

@@ -58,7 +58,7 @@ visit_each Cut = Cut
 abbrev pub node : {A : Type 0} → Events A → Events A
 node e = Visit (visit_each e)
 
--- the events up to the first alternative, that one included
+-- the events up to the first alternative, that one included; behind it `Fail` stands for all that is dropped
 abbrev pub first : {A : Type 0} → Events A → Events A
 first (Visit e) = Visit (first e)
 first (Print b e) = Print b (first e)

@@ -36,6 +36,11 @@ pub record ForallsRun : Type 0 where
   -- FORALL SOME i := 1 TO 2 DO TRUE END DO READ(x); WRITE(x) END; READ(x); WRITE(x): the input position is carried
   pub position_is_carried :
       Gives 3 (module_of 5 (forall (choose_to 2 2 ∷ []) (Read (var 1) read_as.Int int ∷ write_var 1 ∷ []) ∷ Read (var 1) read_as.Int int ∷ write_var 1 ∷ [])) (codes "1 2 3") (digits_of (1 ∷ 2 ∷ 3 ∷ [])) Succeeded
+  -- FORALL EITHER READ(x) ORELSE READ(x); READ(x); READ(x) END DO READ(y); WRITE(y) END: the position that T left is laid
+  -- over the one to which S moved
+  pub position_of_the_part_wins :
+      Gives 3 (module_of 3 (forall (either ((Read (var 1) read_as.Int int ∷ []) ∷ (Read (var 1) read_as.Int int ∷ Read (var 1) read_as.Int int ∷ Read (var 1) read_as.Int int ∷ []) ∷ []) ∷ [])
+      (Read (var 2) read_as.Int int ∷ write_var 2 ∷ []) ∷ [])) (codes "1 2 3 4") (digits_of (2 ∷ 3 ∷ [])) Succeeded
   -- FORALL EITHER TRUE ORELSE x := 1 DIV 0 END DO WRITE(1) END
   pub fault_ends_it : Gives 1 (module_of 2 (forall (either ((succeed ∷ []) ∷ (let_be 1 (operate op.Div (number 1) (number 0)) ∷ []) ∷ []) ∷ []) (write (number 1) ∷ []) ∷ [])) [] (digits_of (1 ∷ [])) (Faulted fault.ZeroDivide)
   -- FORALL EITHER TRUE ORELSE TRUE END DO WRITE(1) END; FALSE

@@ -1,5 +1,6 @@
 -- The meaning of a resolved program: the events of each phrase, row by row.
--- Each node of the program is `node` of its row; a Call, a Link, the parts of a loop and the ELSE lists are no nodes.
+-- A node of the program is `node` of its row, but for an arm of IF and a label, whose visits stand in their rows; a Call,
+-- a Link, the parts of a loop and the ELSE lists are no nodes.
 use Rattle.std.specs.Prelude.{ℕ, zero, suc, true, false, ℤ, pos, List, [], ◌∷◌, None}
 use Rattle.alma_base.specs.Choice.{if_true}
 use Rattle.alma_base.specs.Numbers.{is_zero, bit}
@@ -107,7 +108,7 @@ module _ (p : Program) (input : List ℕ) (below : Level) where
         (for_turn (ev_desig d) range counter limit by (below.stmts body) (below.for (a_loop d range counter limit from to by body)))
         (λ w. one w tt)))
 
-    -- an empty SOME fails
+    -- an empty SOME fails; its step is 1, whatever the loop says
     pub ev_some : Loop → Store → Events NoYield
     ev_some (a_loop d range counter limit from to by body) s =
         bind (ev_expr from s) (λ t n. bind (ev_expr to t) (λ u l.

@@ -133,12 +133,12 @@ for_turn locate range counter limit by body again s =
     Visit (read_cell (top_cell s counter) (λ n. set_variable locate range s n (λ t.
     bind (body t) (λ u _. next_turn counter limit by again u (one u tt)))))
 
--- the body, and after its alternatives the next turn, from the store in which this turn began:
--- that store does not have the variable's new value
+-- the variable set and the body, and after their alternatives, or where there are none, the next turn, from the store in
+-- which this turn began: that store does not have the variable's new value
 abbrev pub some_turn : (locate : Store → Events Place) → Range → (counter limit : ℕ) (body again : Store → Events NoYield) → Store → Events NoYield
 some_turn locate range counter limit body again s =
-    Visit (read_cell (top_cell s counter) (λ n. set_variable locate range s n (λ t.
-    join (body t) (next_turn counter limit (pos 1) again s Fail))))
+    Visit (read_cell (top_cell s counter) (λ n.
+    join (set_variable locate range s n body) (next_turn counter limit (pos 1) again s Fail)))
 
 -- counter and limit stored, and then the first turn, or `empty` where there is none
 abbrev pub begin_loop : (counter limit : ℕ) (by from to : ℤ) → Store → (turn empty : Store → Events NoYield) → Events NoYield
@@ -150,7 +150,8 @@ begin_loop counter limit by from to s turn empty =
 
 -- goes through the alternatives of S with the carry so far. In the store of each, with the carry over it, stand the
 -- events of T up to its first alternative; what T left different joins the carry, which only gains. At the end of S
--- the store on entry goes on with the carry over it. An alternative by RETURN, which no source can give, counts too
+-- the store on entry goes on with the carry over it. An alternative by RETURN, which no source can give, counts too. The
+-- input position is a cell like others: what T read stays read, also over what S read before its next alternative
 abbrev pub forall_row : (then_do : Store → Events NoYield) → Store → Carry Cell → Events NoYield → Events NoYield
 forall_row then_do s carry (Visit e) = Visit (forall_row then_do s carry e)
 forall_row then_do s carry (Print b e) = Print b (forall_row then_do s carry e)
@@ -164,7 +165,7 @@ forall_row then_do s carry Cut = Cut
 
 -- ---- READ
 
--- a natural number in a cell, 0 where there is none
+-- the size of the number in a cell, 0 where there is none; a number that stands here is never below 0
 abbrev pub nat_in : Cell → ℕ
 nat_in (Number n) = nat_abs n
 nat_in Unknown = 0
@@ -255,7 +256,8 @@ function_value s (Return (Some n)) = one (without_top s) n
 function_value s (Return None) = Fault fault.NoReturn
 function_value s (Go y) = Fault fault.NoReturn
 
--- a call in an expression: the number of the first way in which the body ends
+-- A call in an expression: the number of the first way in which the body ends. A body that fails leaves the expression
+-- without an alternative, and so what holds it: an assignment fails, and a condition has no alternative, as if it failed
 abbrev pub as_value : Events NoYield → Events ℤ
 as_value e = on_first e function_value (λ _. Fail)
 

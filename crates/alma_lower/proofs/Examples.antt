@@ -1,0 +1,139 @@
+-- The programs of the tests are built and checked.
+use Rattle.std.proofs.Common.{rules, ◌≡◌, ℕ, zero, suc, [], ◌∷◌, refl, arith}
+use Rattle.std.specs.Prelude.{None, pos, sum_by}
+use Rattle.alma_ir.specs.declared.phrase.Cmp.TheVariants as cmp
+use Rattle.alma_ir.specs.declared.phrase.Root.TheVariants as root
+use Rattle.alma_ir.specs.declared.phrase.WriteAs.TheVariants as write_as
+use Rattle.alma_ir.specs.Tree.{Routine, Program, routine_at, Stmts, Desig, no_stmts, more_stmts, Assign, If, While, WriteExpr, no_arms, more_arms, Value, Const, Load, Compare, a_desig, no_sels}
+use Rattle.std.specs.List.{AllByRecursion}
+use Rattle.alma_ir.specs.Checked.{EachRoutine, EachPhrase, IsChecked, ParamsFirst, DeclaredFits, HeadRangesOrdered, RoutineKeepsLimits, AreNumbers, RootExists, PartsExist, CellsAgree, RangesOrdered, HasStep, LoopIsApart, loops_of, CalleeExists, ResultAgrees, CallFits, HasChoice, ReturnAgrees, ReturnsStay, text_bytes}
+use Rattle.alma_ir.specs.Phrases.{Phrase, stmts_phrases}
+use Rattle.alma_lower.specs.Built.{whole_range, IsBuilt}
+
+abbrev pub variable : Desig
+variable = a_desig (root.Local 1) 1 no_sels
+
+-- a module of one variable
+abbrev pub module_of : Stmts → Program
+module_of body = record {
+  name = [];
+  globals = [];
+  routines = record { name = 65 ∷ []; params = []; result = None; declared = 1; slots = 2; body = body } ∷ [];
+}
+
+-- x := 3; WHILE x > 0 DO WRITE(x) END
+abbrev pub loop_body : Stmts
+loop_body =
+    more_stmts (Assign variable (Const (pos 3)) whole_range)
+    (more_stmts (While (Value (Compare cmp.Greater (Load variable) (Const (pos 0)))) (more_stmts (WriteExpr (Load variable) write_as.Int) no_stmts))
+    no_stmts)
+
+-- IF x = 1 THEN WRITE(x) ELSIF x THEN WRITE(1 as a truth) END
+abbrev pub if_body : Stmts
+if_body =
+    more_stmts (If
+    (more_arms (Value (Compare cmp.Equal (Load variable) (Const (pos 1)))) (more_stmts (WriteExpr (Load variable) write_as.Int) no_stmts)
+    (more_arms (Value (Load variable)) (more_stmts (WriteExpr (Const (pos 1)) write_as.Bool) no_stmts) no_arms))
+    no_stmts)
+    no_stmts
+
+pub if_built : IsBuilt (module_of if_body)
+if_built = record { routine = record { name = 65 ∷ []; params = []; result = None; declared = 1; slots = 2; body = if_body }; alone = refl; body = search rules }
+
+pub loop_built : IsBuilt (module_of loop_body)
+loop_built = record { routine = record { name = 65 ∷ []; params = []; result = None; declared = 1; slots = 2; body = loop_body }; alone = refl; body = search rules }
+
+-- the facts of the only routine
+only : (body : Stmts) (Fact : ℕ → Routine → Type 0) → Fact 0 (record { name = 65 ∷ []; params = []; result = None; declared = 1; slots = 2; body = body }) → EachRoutine (module_of body) Fact
+only body Fact h zero lt = h
+only body Fact h (suc r) lt = absurd (omega (arith, lt))
+
+-- the facts of the phrases of the only routine
+each : (body : Stmts) (Fact : ℕ → Routine → Phrase → Type 0) → AllByRecursion (Fact 0 (routine_at (module_of body) 0)) (stmts_phrases body) → EachPhrase (module_of body) Fact
+each body Fact h = only body (λ r routine. AllByRecursion (Fact r routine) (stmts_phrases routine.body)) h
+
+-- what a body must keep
+pub record IsPlain (body : Stmts) : Type 0 where
+  pub roots : AllByRecursion (RootExists (module_of body) 0 (routine_at (module_of body) 0)) (stmts_phrases body)
+  pub parts : AllByRecursion PartsExist (stmts_phrases body)
+  pub cells : AllByRecursion CellsAgree (stmts_phrases body)
+  pub ranges : AllByRecursion RangesOrdered (stmts_phrases body)
+  pub steps : AllByRecursion (λ x. AllByRecursion HasStep (loops_of x)) (stmts_phrases body)
+  pub loops : AllByRecursion (λ x. AllByRecursion (LoopIsApart (module_of body) 0) (loops_of x)) (stmts_phrases body)
+  pub callees : AllByRecursion (CalleeExists (module_of body)) (stmts_phrases body)
+  pub results : AllByRecursion (ResultAgrees (module_of body)) (stmts_phrases body)
+  pub arguments : AllByRecursion (CallFits (module_of body)) (stmts_phrases body)
+  pub choices : AllByRecursion HasChoice (stmts_phrases body)
+  pub returns : AllByRecursion (ReturnAgrees (routine_at (module_of body) 0)) (stmts_phrases body)
+  pub returns_stay : AllByRecursion ReturnsStay (stmts_phrases body)
+  pub texts : sum_by text_bytes (stmts_phrases body) ≡ 0
+
+plain_checked : (body : Stmts) → IsPlain body → IsChecked (module_of body)
+plain_checked body h = record {
+  body = (omega arith, omega arith);
+  body_takes_nothing = (refl, search rules);
+  params = only body (λ r routine. ParamsFirst routine) (record { laid_out = tt; fit = omega arith; cells = tt });
+  declared = only body DeclaredFits (record { within = omega arith; body = λ e. omega arith });
+  globals = tt;
+  roots = each body (RootExists (module_of body)) h.roots;
+  parts = each body (λ r routine x. PartsExist x) h.parts;
+  cells = each body (λ r routine x. CellsAgree x) h.cells;
+  head_ranges = only body (λ r routine. HeadRangesOrdered routine) (record { params = tt; result = λ range e. absurd (cc) });
+  ranges = each body (λ r routine x. RangesOrdered x) h.ranges;
+  steps = each body (λ r routine x. AllByRecursion HasStep (loops_of x)) h.steps;
+  loops = each body (λ r routine x. AllByRecursion (LoopIsApart (module_of body) r) (loops_of x)) h.loops;
+  callees = each body (λ r routine x. CalleeExists (module_of body) x) h.callees;
+  results = each body (λ r routine x. ResultAgrees (module_of body) x) h.results;
+  arguments = each body (λ r routine x. CallFits (module_of body) x) h.arguments;
+  choices = each body (λ r routine x. HasChoice x) h.choices;
+  returns = each body (λ r routine x. ReturnAgrees routine x) h.returns;
+  returns_stay = each body (λ r routine x. ReturnsStay x) h.returns_stay;
+  names = record { globals = tt; routines = search rules };
+  limits = record { globals = omega arith; params = omega arith; names = omega arith; texts = omega (arith, h.texts) };
+  routine_limits = only body (λ r routine. RoutineKeepsLimits routine) (record { declared = omega arith; slots = omega arith });
+}
+
+numbers : (body : Stmts) → AreNumbers (routine_at (module_of body) 0) 1 1
+numbers body = record { exist = omega arith; kinds = tt }
+
+loop_plain : IsPlain loop_body
+unfolding stmts_phrases
+loop_plain = record {
+  roots = search (rules, numbers);
+  parts = search rules;
+  cells = search rules;
+  ranges = search rules;
+  steps = search rules;
+  loops = search rules;
+  callees = search rules;
+  results = search rules;
+  arguments = search rules;
+  choices = search rules;
+  returns = search rules;
+  returns_stay = search rules;
+  texts = refl;
+}
+
+pub loop_checked : IsChecked (module_of loop_body)
+loop_checked = plain_checked loop_body loop_plain
+
+if_plain : IsPlain if_body
+unfolding stmts_phrases
+if_plain = record {
+  roots = search (rules, numbers);
+  parts = search rules;
+  cells = search rules;
+  ranges = search rules;
+  steps = search rules;
+  loops = search rules;
+  callees = search rules;
+  results = search rules;
+  arguments = search rules;
+  choices = search rules;
+  returns = search rules;
+  returns_stay = search rules;
+  texts = refl;
+}
+
+pub if_checked : IsChecked (module_of if_body)
+if_checked = plain_checked if_body if_plain

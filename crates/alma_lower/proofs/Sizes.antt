@@ -1,0 +1,200 @@
+-- The code and the slots of a phrase are at most 16 for each of its nodes.
+use Rattle.std.proofs.Common.{◌≡◌, ℕ, ◌+◌, ◌*◌, ◌≤◌, List, [], ◌∷◌, ◌++◌, length, arith, length-append}
+use Rattle.std.specs.Prelude.{Bool, true, false}
+use Rattle.alma_code.specs.declared.instr.Instr.{Instr}
+use Rattle.alma_code.specs.declared.instr.Instr.TheVariants as I
+use Rattle.alma_ir.specs.declared.phrase.Cmp.{Cmp}
+use Rattle.alma_ir.specs.declared.phrase.Cmp.TheVariants as cmp
+use Rattle.alma_ir.specs.declared.phrase.Root.{Root}
+use Rattle.alma_ir.specs.declared.phrase.Root.TheVariants as root
+use Rattle.alma_ir.specs.declared.phrase.WriteAs.{WriteAs}
+use Rattle.alma_ir.specs.declared.phrase.WriteAs.TheVariants as write_as
+use Rattle.alma_ir.specs.Tree.{Stmts, Stmt, Arms, Test, Expr, Links, Desig, no_stmts, more_stmts, TestStmt, Assign, CopyCells, If, While, Repeat, ForTo, SomeOf, Case, Either, Forall, Commit, Return, Read, WriteExpr, WriteText, WriteLine, no_arms, more_arms, Value, Bind, Unify, SameCells, Seq, And, Or, Not, CallTest, Const, Load, Chain, Compare, Truth, Known, Chr, CallExpr, no_links, more_links, a_desig}
+use Rattle.alma_ir.specs.Count.{stmts_nodes, stmt_nodes, arms_nodes, test_nodes, expr_nodes, links_nodes, desig_nodes}
+use Rattle.alma_lower.specs.Templates.{root_code, desig_code, desig_slots, cmp_code, neg_code, expr_code, expr_slots, links_code, links_slots, op_code, test_code, test_slots, condition_code, write_code, guarded_code, stmts_code, stmts_slots, stmt_code, stmt_slots, arms_code, arms_slots}
+
+-- ---- code
+
+root_short : (to : ℕ) (r : Root) → length (root_code to r) ≤ 1
+root_short to (root.Local from) = omega arith
+root_short to (root.Global from) = omega arith
+root_short to (root.Param from) = omega arith
+
+pub desig_short : (to : ℕ) (d : Desig) → length (desig_code to d) ≤ 16 * desig_nodes d
+desig_short to (a_desig root cells sels) = omega (arith, root_short to root)
+
+cmp_short : (c : Cmp) (to other : ℕ) → length (cmp_code c to other) ≤ 2
+cmp_short cmp.Equal to other = omega arith
+cmp_short cmp.Unequal to other = omega arith
+cmp_short cmp.Less to other = omega arith
+cmp_short cmp.LessEq to other = omega arith
+cmp_short cmp.Greater to other = omega arith
+cmp_short cmp.GreaterEq to other = omega arith
+
+neg_short : (negated : Bool) (to : ℕ) → length (neg_code negated to) ≤ 1
+neg_short true to = omega arith
+neg_short false to = omega arith
+
+mutual
+  pub expr_short : (to : ℕ) (e : Expr) → length (expr_code to e) + 1 ≤ 16 * expr_nodes e
+  expr_short to (Const n) = omega arith
+  expr_short to (Load d) = omega (arith, length-append (desig_code (to + 1) d) (I.Load to (to + 1) ∷ []), desig_short (to + 1) d)
+  expr_short to (Chain negated e links) =
+      let next = to + length (expr_slots e) in
+      omega (arith, length-append (expr_code to e) (neg_code negated to ++ links_code to next links), length-append (neg_code negated to) (links_code to next links), expr_short to e, neg_short negated to, links_short to next links)
+  expr_short to (Compare c x y) =
+      let next = to + length (expr_slots x) in
+      omega (arith, length-append (expr_code to x) (expr_code next y ++ cmp_code c to next), length-append (expr_code next y) (cmp_code c to next), expr_short to x, expr_short next y, cmp_short c to next)
+  expr_short to (Truth t) = omega arith
+  expr_short to (Known d) = omega arith
+  expr_short to (Chr e) = omega arith
+  expr_short to (CallExpr r args) = omega arith
+
+  pub links_short : (to next : ℕ) (links : Links) → length (links_code to next links) ≤ 16 * links_nodes links
+  links_short to next no_links = omega arith
+  links_short to next (more_links op e rest) =
+      let after = next + length (expr_slots e) in
+      omega (arith, length-append (expr_code next e) (op_code op to next ∷ links_code to after rest), expr_short next e, links_short to after rest)
+
+pub condition_short : (lo : ℕ) (t : Test) → length (condition_code lo t) + 16 ≤ 16 * test_nodes t
+condition_short lo (Value e) = omega (arith, expr_short lo e)
+condition_short lo (Bind d e range left) = omega arith
+condition_short lo (Unify d range e range') = omega arith
+condition_short lo (SameCells d e) = omega arith
+condition_short lo (Seq x) = omega arith
+condition_short lo (And ts) = omega arith
+condition_short lo (Or ts) = omega arith
+condition_short lo (Not t) = omega arith
+condition_short lo (CallTest r args) = omega arith
+
+pub test_short : (lo : ℕ) (t : Test) → length (test_code lo t) ≤ 16 * test_nodes t
+test_short lo (Value e) = omega (arith, expr_short lo e, length-append (expr_code lo e) (I.Check lo ∷ []))
+test_short lo (Bind d e range left) = omega arith
+test_short lo (Unify d range e range') = omega arith
+test_short lo (SameCells d e) = omega arith
+test_short lo (Seq x) = omega arith
+test_short lo (And ts) = omega arith
+test_short lo (Or ts) = omega arith
+test_short lo (Not t) = omega arith
+test_short lo (CallTest r args) = omega arith
+
+write_short : (how : WriteAs) (from : ℕ) → length (write_code how from) ≤ 1
+write_short write_as.Int from = omega arith
+write_short write_as.Bool from = omega arith
+write_short write_as.Char from = omega arith
+
+guarded_length : (lo : ℕ) (condition body : List Instr) (at back : ℕ) → length (guarded_code lo condition body at back) ≡ length condition + (length body + 2)
+guarded_length lo condition body at back =
+    omega (arith, length-append condition (I.JumpZero lo (at + length condition + 1 + length body + 1) ∷ (body ++ I.Jump back ∷ [])), length-append body (I.Jump back ∷ []))
+
+mutual
+  pub stmts_short : (at lo : ℕ) (x : Stmts) → length (stmts_code at lo x) ≤ 16 * stmts_nodes x
+  stmts_short at lo no_stmts = omega arith
+  stmts_short at lo (more_stmts x rest) =
+      let next = at + length (stmt_code at lo x) in
+      let after = lo + length (stmt_slots x) in
+      omega (arith, length-append (stmt_code at lo x) (stmts_code next after rest), stmt_short at lo x, stmts_short next after rest)
+
+  pub stmt_short : (at lo : ℕ) (x : Stmt) → length (stmt_code at lo x) ≤ 16 * stmt_nodes x
+  stmt_short at lo (TestStmt t) = omega (arith, test_short lo t)
+  stmt_short at lo (Assign d e range) =
+      let from = lo + length (desig_slots d) in
+      omega (arith, length-append (desig_code lo d) (expr_code from e ++ I.Store lo from ∷ []), length-append (expr_code from e) (I.Store lo from ∷ []), desig_short lo d, expr_short from e)
+  stmt_short at lo (If arms rest) =
+      let first = arms_code (at + 2) lo (at + 1) arms in
+      let next = at + 2 + length first in
+      let after = lo + length (arms_slots arms) in
+      omega (arith, length-append first (stmts_code next after rest), arms_short (at + 2) lo (at + 1) arms, stmts_short next after rest)
+  stmt_short at lo (While t body) =
+      let condition = condition_code lo t in
+      let inner = stmts_code (at + 1 + length condition + 1) (lo + length (test_slots t)) body in
+      omega (arith, guarded_length lo condition inner (at + 1) at, condition_short lo t, stmts_short (at + 1 + length condition + 1) (lo + length (test_slots t)) body)
+  stmt_short at lo (Repeat body t) =
+      let first = stmts_code at lo body in
+      let value = lo + length (stmts_slots body) in
+      let condition = condition_code value t in
+      let jump = at + length first + length condition in
+      let tail = I.JumpZero value (jump + 2) ∷ I.Jump (jump + 3) ∷ I.Jump at ∷ [] in
+      omega (arith, length-append first (condition ++ tail), length-append condition tail, stmts_short at lo body, condition_short value t)
+  stmt_short at lo (WriteExpr e how) = omega (arith, length-append (expr_code lo e) (write_code how lo), expr_short lo e, write_short how lo)
+  stmt_short at lo (CopyCells d e) = omega arith
+  stmt_short at lo (ForTo l) = omega arith
+  stmt_short at lo (SomeOf l) = omega arith
+  stmt_short at lo (Case e arms rest) = omega arith
+  stmt_short at lo (Either x) = omega arith
+  stmt_short at lo (Forall x y) = omega arith
+  stmt_short at lo (Commit x) = omega arith
+  stmt_short at lo (Return e) = omega arith
+  stmt_short at lo (Read d how range) = omega arith
+  stmt_short at lo (WriteText text) = omega arith
+  stmt_short at lo WriteLine = omega arith
+
+  pub arms_short : (at lo exit : ℕ) (arms : Arms) → length (arms_code at lo exit arms) ≤ 16 * arms_nodes arms
+  arms_short at lo exit no_arms = omega arith
+  arms_short at lo exit (more_arms t body rest) =
+      let condition = condition_code lo t in
+      let inner = stmts_code (at + length condition + 1) (lo + length (test_slots t)) body in
+      let arm = guarded_code lo condition inner at exit in
+      let next = at + length arm in
+      let after = lo + length (test_slots t) + length (stmts_slots body) in
+      omega (arith, length-append arm (arms_code next after exit rest), guarded_length lo condition inner at exit, condition_short lo t, stmts_short (at + length condition + 1) (lo + length (test_slots t)) body, arms_short next after exit rest)
+
+-- ---- slots
+
+pub desig_few : (d : Desig) → length (desig_slots d) ≤ 16 * desig_nodes d
+desig_few (a_desig root cells sels) = omega arith
+
+mutual
+  pub expr_few : (e : Expr) → length (expr_slots e) ≤ 16 * expr_nodes e
+  expr_few (Const n) = omega arith
+  expr_few (Load d) = omega (arith, desig_few d)
+  expr_few (Chain negated e links) = omega (arith, length-append (expr_slots e) (links_slots links), expr_few e, links_few links)
+  expr_few (Compare c x y) = omega (arith, length-append (expr_slots x) (expr_slots y), expr_few x, expr_few y)
+  expr_few (Truth t) = omega arith
+  expr_few (Known d) = omega arith
+  expr_few (Chr e) = omega arith
+  expr_few (CallExpr r args) = omega arith
+
+  pub links_few : (links : Links) → length (links_slots links) ≤ 16 * links_nodes links
+  links_few no_links = omega arith
+  links_few (more_links op e rest) = omega (arith, length-append (expr_slots e) (links_slots rest), expr_few e, links_few rest)
+
+pub test_few : (t : Test) → length (test_slots t) ≤ 16 * test_nodes t
+test_few (Value e) = omega (arith, expr_few e)
+test_few (Bind d e range left) = omega arith
+test_few (Unify d range e range') = omega arith
+test_few (SameCells d e) = omega arith
+test_few (Seq x) = omega arith
+test_few (And ts) = omega arith
+test_few (Or ts) = omega arith
+test_few (Not t) = omega arith
+test_few (CallTest r args) = omega arith
+
+mutual
+  pub stmts_few : (x : Stmts) → length (stmts_slots x) ≤ 16 * stmts_nodes x
+  stmts_few no_stmts = omega arith
+  stmts_few (more_stmts x rest) = omega (arith, length-append (stmt_slots x) (stmts_slots rest), stmt_few x, stmts_few rest)
+
+  pub stmt_few : (x : Stmt) → length (stmt_slots x) ≤ 16 * stmt_nodes x
+  stmt_few (TestStmt t) = omega (arith, test_few t)
+  stmt_few (Assign d e range) = omega (arith, length-append (desig_slots d) (expr_slots e), desig_few d, expr_few e)
+  stmt_few (If arms rest) = omega (arith, length-append (arms_slots arms) (stmts_slots rest), arms_few arms, stmts_few rest)
+  stmt_few (While t body) = omega (arith, length-append (test_slots t) (stmts_slots body), test_few t, stmts_few body)
+  stmt_few (Repeat body t) = omega (arith, length-append (stmts_slots body) (test_slots t), test_few t, stmts_few body)
+  stmt_few (WriteExpr e how) = omega (arith, expr_few e)
+  stmt_few (CopyCells d e) = omega arith
+  stmt_few (ForTo l) = omega arith
+  stmt_few (SomeOf l) = omega arith
+  stmt_few (Case e arms rest) = omega arith
+  stmt_few (Either x) = omega arith
+  stmt_few (Forall x y) = omega arith
+  stmt_few (Commit x) = omega arith
+  stmt_few (Return e) = omega arith
+  stmt_few (Read d how range) = omega arith
+  stmt_few (WriteText text) = omega arith
+  stmt_few WriteLine = omega arith
+
+  pub arms_few : (arms : Arms) → length (arms_slots arms) ≤ 16 * arms_nodes arms
+  arms_few no_arms = omega arith
+  arms_few (more_arms t body rest) =
+      omega (arith, length-append (test_slots t) (stmts_slots body ++ arms_slots rest), length-append (stmts_slots body) (arms_slots rest), test_few t, stmts_few body, arms_few rest)

@@ -1,0 +1,229 @@
+use Rattle.std.proofs.Common.{rules, ◌≡◌, [], drop, sym, ap, ◌∙◌, subst, arith}
+use Rattle.std.proofs.Math.ListN.{drop_of_length-le}
+use Rattle.alma_ir.specs.declared.phrase.Arg.TheFolds.{the_lemmas}
+use Rattle.alma_ir.specs.Tree as tree
+use Rattle.alma_ir.specs.View.{desig_of, expr_of, test_of, stmt_of, stmts_list, arms_list}
+use Rattle.alma_ir.specs.Count.{stmt_nodes, stmts_nodes, arms_nodes}
+use Rattle.alma_ir.proofs.Views
+use Rattle.alma_lower.specs.Built.{BuiltStmts, BuiltStmt, BuiltArms}
+use Rattle.alma_lower.specs.Emitted.{PutsStmts, PutsStmt, PutsArms, PutsGuarded}
+use Rattle.alma_lower.proofs.Emits.{on_ok_map, drop_one}
+use Rattle.alma_lower.proofs.EmitsBody.{stmt_as, no_stmts_put, stmts_put, no_arms_put, arms_put, guarded_put, if_put}
+use Rattle.alma_lower.proofs.emit_body.+body.Goals as goal
+
+pub emit_arms-loop-arm-preserved : goal.emit_arms-loop-arm-preserved
+emit_arms-loop-arm-preserved t c =
+    let l = c.loop-arm in
+    let one = ap arms_list (drop_one c.args.arms.now l.arm-index c.arm-item.result c.loop-arm-test.true c.arm-item.is) in
+    let body : stmts_list c.deref.result.now ≡ stmts_list c.arm-item.result.body.items = ap stmts_list c.deref.ensures.value in
+    let built = subst BuiltArms one l.invariant.built in
+    record {
+      built = built.2;
+      few = omega (arith, l.invariant.few, ap arms_nodes one, ap stmts_nodes body, c.in_ok-emit_guarded.ensures.few);
+      completes = λ d h. l.invariant.completes d (subst (PutsArms l.emit d c.args.exit) (sym one) (arms_put _ _ _ _ _ _ _ (subst (λ b. PutsGuarded l.emit c.emit_guarded.new.emit (test_of c.arm-item.result.cond) b c.args.exit) body c.in_ok-emit_guarded.ensures.puts) h));
+    }
+
+pub emit_arms-returns-clause-puts : goal.emit_arms-returns-clause-puts
+emit_arms-returns-clause-puts t c =
+    let l = c.loop-arm in
+    let none : drop l.arm-index c.args.arms.now ≡ [] = drop_of_length-le c.args.arms.now (omega (arith, c.loop-arm-test.false)) in
+    l.invariant.completes _ (subst (PutsArms l.emit l.emit c.args.exit) (ap arms_list (sym none)) (no_arms_put l.emit c.args.exit))
+
+pub emit_guarded-returns-clause-puts : goal.emit_guarded-returns-clause-puts
+emit_guarded-returns-clause-puts t c =
+    guarded_put _ _ _ _ _ _ _ _ _ c.in_ok-jump.ensures.puts c.in_ok-jump.ensures.jump c.in_ok-emit_stmts.ensures.puts c.in_ok-put.ensures.puts c.aim.ensures.code c.aim.ensures.kinds c.aim.ensures.base
+
+pub emit_stmts-loop-stmt-preserved : goal.emit_stmts-loop-stmt-preserved
+emit_stmts-loop-stmt-preserved t c =
+    let l = c.loop-stmt in
+    let one = ap stmts_list (drop_one c.args.body.now l.stmt-index c.stmt-item.result c.loop-stmt-test.true c.stmt-item.is) in
+    let built = subst BuiltStmts one l.invariant.built in
+    record {
+      built = built.1;
+      few = omega (arith, l.invariant.few, ap stmts_nodes one, c.in_ok-emit_stmt.ensures.few);
+      completes = λ d h. l.invariant.completes d (subst (PutsStmts l.emit d) (sym one) (stmts_put _ _ _ _ _ c.in_ok-emit_stmt.ensures.puts h));
+    }
+
+pub emit_stmts-returns-clause-puts : goal.emit_stmts-returns-clause-puts
+emit_stmts-returns-clause-puts t c =
+    let l = c.loop-stmt in
+    let none : drop l.stmt-index c.args.body.now ≡ [] = drop_of_length-le c.args.body.now (omega (arith, c.loop-stmt-test.false)) in
+    l.invariant.completes _ (subst (PutsStmts l.emit l.emit) (ap stmts_list (sym none)) (no_stmts_put l.emit))
+
+pub emit_stmt-unreachable-requires : goal.emit_stmt-unreachable-requires
+emit_stmt-unreachable-requires t c = subst BuiltStmt (ap stmt_of c.in-CopyCells.is ∙ Views.copycells_view _ _) c.requires.built
+
+pub emit_stmt-unreachable-requires-in-ForTo : goal.emit_stmt-unreachable-requires-in-ForTo
+emit_stmt-unreachable-requires-in-ForTo t c = subst BuiltStmt (ap stmt_of c.in-ForTo.is ∙ Views.forto_view _) c.requires.built
+
+pub emit_stmt-unreachable-requires-in-SomeOf : goal.emit_stmt-unreachable-requires-in-SomeOf
+emit_stmt-unreachable-requires-in-SomeOf t c = subst BuiltStmt (ap stmt_of c.in-SomeOf.is ∙ Views.someof_view _) c.requires.built
+
+pub emit_stmt-unreachable-requires-in-Case : goal.emit_stmt-unreachable-requires-in-Case
+emit_stmt-unreachable-requires-in-Case t c = subst BuiltStmt (ap stmt_of c.in-Case.is ∙ Views.case_view _ _ _) c.requires.built
+
+pub emit_stmt-unreachable-requires-in-Either : goal.emit_stmt-unreachable-requires-in-Either
+emit_stmt-unreachable-requires-in-Either t c = subst BuiltStmt (ap stmt_of c.in-Either.is ∙ Views.either_view _) c.requires.built
+
+pub emit_stmt-unreachable-requires-in-Forall : goal.emit_stmt-unreachable-requires-in-Forall
+emit_stmt-unreachable-requires-in-Forall t c = subst BuiltStmt (ap stmt_of c.in-Forall.is ∙ Views.forall_view _ _) c.requires.built
+
+pub emit_stmt-unreachable-requires-in-Commit : goal.emit_stmt-unreachable-requires-in-Commit
+emit_stmt-unreachable-requires-in-Commit t c = subst BuiltStmt (ap stmt_of c.in-Commit.is ∙ Views.commit_view _) c.requires.built
+
+pub emit_stmt-unreachable-requires-in-Return : goal.emit_stmt-unreachable-requires-in-Return
+emit_stmt-unreachable-requires-in-Return t c = subst BuiltStmt (ap stmt_of c.in-Return.is ∙ Views.return_view _) c.requires.built
+
+pub emit_stmt-unreachable-requires-in-Read : goal.emit_stmt-unreachable-requires-in-Read
+emit_stmt-unreachable-requires-in-Read t c = subst BuiltStmt (ap stmt_of c.in-Read.is ∙ Views.read_view _ _ _) c.requires.built
+
+pub emit_stmt-unreachable-requires-in-WriteText : goal.emit_stmt-unreachable-requires-in-WriteText
+emit_stmt-unreachable-requires-in-WriteText t c = subst BuiltStmt (ap stmt_of c.in-WriteText.is ∙ Views.writetext_view _) c.requires.built
+
+pub emit_stmt-unreachable-requires-in-WriteLine : goal.emit_stmt-unreachable-requires-in-WriteLine
+emit_stmt-unreachable-requires-in-WriteLine t c = subst BuiltStmt (ap stmt_of c.in-WriteLine.is ∙ Views.writeline_view) c.requires.built
+
+pub emit_stmt-emit_test-requires-clause-built : goal.emit_stmt-emit_test-requires-clause-built
+emit_stmt-emit_test-requires-clause-built t c =
+    let view : stmt_of c.args.stmt.now ≡ tree.TestStmt (test_of c.in-Test.test) = ap stmt_of c.in-Test.is ∙ Views.teststmt_view _ in
+    subst BuiltStmt view c.requires.built
+
+pub emit_stmt-emit_test-requires-clause-room : goal.emit_stmt-emit_test-requires-clause-room
+emit_stmt-emit_test-requires-clause-room t c =
+    let view : stmt_of c.args.stmt.now ≡ tree.TestStmt (test_of c.in-Test.test) = ap stmt_of c.in-Test.is ∙ Views.teststmt_view _ in
+    omega (arith, c.requires.room, ap stmt_nodes view)
+
+pub emit_stmt-emit_assign-requires-clause-desig : goal.emit_stmt-emit_assign-requires-clause-desig
+emit_stmt-emit_assign-requires-clause-desig t c =
+    let view : stmt_of c.args.stmt.now ≡ tree.Assign (desig_of c.in-Assign.desig) (expr_of c.in-Assign.value) c.in-Assign.field-2 = ap stmt_of c.in-Assign.is ∙ Views.assign_view _ _ _ in
+    let built : BuiltStmt (tree.Assign (desig_of c.in-Assign.desig) (expr_of c.in-Assign.value) c.in-Assign.field-2) = subst BuiltStmt view c.requires.built in
+    built.0
+
+pub emit_stmt-emit_assign-requires-clause-value : goal.emit_stmt-emit_assign-requires-clause-value
+emit_stmt-emit_assign-requires-clause-value t c =
+    let view : stmt_of c.args.stmt.now ≡ tree.Assign (desig_of c.in-Assign.desig) (expr_of c.in-Assign.value) c.in-Assign.field-2 = ap stmt_of c.in-Assign.is ∙ Views.assign_view _ _ _ in
+    let built : BuiltStmt (tree.Assign (desig_of c.in-Assign.desig) (expr_of c.in-Assign.value) c.in-Assign.field-2) = subst BuiltStmt view c.requires.built in
+    built.1
+
+pub emit_stmt-emit_assign-requires-clause-room : goal.emit_stmt-emit_assign-requires-clause-room
+emit_stmt-emit_assign-requires-clause-room t c =
+    let view : stmt_of c.args.stmt.now ≡ tree.Assign (desig_of c.in-Assign.desig) (expr_of c.in-Assign.value) c.in-Assign.field-2 = ap stmt_of c.in-Assign.is ∙ Views.assign_view _ _ _ in
+    omega (arith, c.requires.room, ap stmt_nodes view)
+
+pub emit_stmt-here-exit-requires : goal.emit_stmt-here-exit-requires
+emit_stmt-here-exit-requires t c =
+    let view : stmt_of c.args.stmt.now ≡ tree.If (arms_list c.in-If.arms.items) (stmts_list c.in-If.rest.items) = ap stmt_of c.in-If.is ∙ Views.if_view _ _ in
+    record { room = omega (arith, c.requires.room, ap stmt_nodes view, c.in_ok-put-in-If.ensures.few) }
+
+pub emit_stmt-emit_arms-requires : goal.emit_stmt-emit_arms-requires
+emit_stmt-emit_arms-requires t c =
+    let view : stmt_of c.args.stmt.now ≡ tree.If (arms_list c.in-If.arms.items) (stmts_list c.in-If.rest.items) = ap stmt_of c.in-If.is ∙ Views.if_view _ _ in
+    let is : arms_list c.deref.result.now ≡ arms_list c.in-If.arms.items = ap arms_list c.deref.ensures.value in
+    let built : BuiltStmt (tree.If (arms_list c.in-If.arms.items) (stmts_list c.in-If.rest.items)) = subst BuiltStmt view c.requires.built in
+    (search (rules, the_lemmas), (subst BuiltArms (sym is) built.0, omega (arith, c.requires.room, ap stmt_nodes view, ap arms_nodes is, c.in_ok-put-in-If.ensures.few, c.in_ok-put-in-If-2.ensures.few)))
+
+pub emit_stmt-emit_stmts-requires : goal.emit_stmt-emit_stmts-requires
+emit_stmt-emit_stmts-requires t c =
+    let view : stmt_of c.args.stmt.now ≡ tree.If (arms_list c.in-If.arms.items) (stmts_list c.in-If.rest.items) = ap stmt_of c.in-If.is ∙ Views.if_view _ _ in
+    let is : arms_list c.deref.result.now ≡ arms_list c.in-If.arms.items = ap arms_list c.deref.ensures.value in
+    let is2 : stmts_list c.deref-in-If.result.now ≡ stmts_list c.in-If.rest.items = ap stmts_list c.deref-in-If.ensures.value in
+    let built : BuiltStmt (tree.If (arms_list c.in-If.arms.items) (stmts_list c.in-If.rest.items)) = subst BuiltStmt view c.requires.built in
+    (search (rules, the_lemmas), (subst BuiltStmts (sym is2) built.1, omega (arith, c.requires.room, ap stmt_nodes view, ap arms_nodes is, ap stmts_nodes is2, c.in_ok-put-in-If.ensures.few, c.in_ok-put-in-If-2.ensures.few, c.in_ok-emit_arms-in-If.ensures.few)))
+
+pub emit_stmt-aim-requires-clause-room : goal.emit_stmt-aim-requires-clause-room
+emit_stmt-aim-requires-clause-room t c =
+    let view : stmt_of c.args.stmt.now ≡ tree.If (arms_list c.in-If.arms.items) (stmts_list c.in-If.rest.items) = ap stmt_of c.in-If.is ∙ Views.if_view _ _ in
+    let is : arms_list c.deref.result.now ≡ arms_list c.in-If.arms.items = ap arms_list c.deref.ensures.value in
+    let is2 : stmts_list c.deref-in-If.result.now ≡ stmts_list c.in-If.rest.items = ap stmts_list c.deref-in-If.ensures.value in
+    omega (arith, c.requires.room, ap stmt_nodes view, ap arms_nodes is, ap stmts_nodes is2, c.in_ok-put-in-If.ensures.few, c.in_ok-put-in-If-2.ensures.few, c.in_ok-emit_arms-in-If.ensures.few, c.in_ok-emit_stmts-in-If.ensures.few)
+
+pub emit_stmt-emit_while-requires : goal.emit_stmt-emit_while-requires
+emit_stmt-emit_while-requires t c =
+    let view : stmt_of c.args.stmt.now ≡ tree.While (test_of c.in-While.test) (stmts_list c.deref-in-While.result.now) = ap stmt_of c.in-While.is ∙ Views.while_view _ _ ∙ ap (λ x. tree.While (test_of c.in-While.test) (stmts_list x)) (sym c.deref-in-While.ensures.value) in
+    let built : BuiltStmt (tree.While (test_of c.in-While.test) (stmts_list c.deref-in-While.result.now)) = subst BuiltStmt view c.requires.built in
+    (search (rules, the_lemmas), (built.1, (built.0, omega (arith, c.requires.room, ap stmt_nodes view))))
+
+pub emit_stmt-emit_repeat-requires : goal.emit_stmt-emit_repeat-requires
+emit_stmt-emit_repeat-requires t c =
+    let view : stmt_of c.args.stmt.now ≡ tree.Repeat (stmts_list c.deref-in-Repeat.result.now) (test_of c.in-Repeat.test) = ap stmt_of c.in-Repeat.is ∙ Views.repeat_view _ _ ∙ ap (λ x. tree.Repeat (stmts_list x) (test_of c.in-Repeat.test)) (sym c.deref-in-Repeat.ensures.value) in
+    let built : BuiltStmt (tree.Repeat (stmts_list c.deref-in-Repeat.result.now) (test_of c.in-Repeat.test)) = subst BuiltStmt view c.requires.built in
+    (search (rules, the_lemmas), (built.0, (built.1, omega (arith, c.requires.room, ap stmt_nodes view))))
+
+pub emit_stmt-emit_write-requires-clause-value : goal.emit_stmt-emit_write-requires-clause-value
+emit_stmt-emit_write-requires-clause-value t c =
+    let view : stmt_of c.args.stmt.now ≡ tree.WriteExpr (expr_of c.in-WriteExpr.value) c.in-WriteExpr.how = ap stmt_of c.in-WriteExpr.is ∙ Views.writeexpr_view _ _ in
+    let built : BuiltStmt (tree.WriteExpr (expr_of c.in-WriteExpr.value) c.in-WriteExpr.how) = subst BuiltStmt view c.requires.built in
+    built.0
+
+pub emit_stmt-emit_write-requires-clause-how : goal.emit_stmt-emit_write-requires-clause-how
+emit_stmt-emit_write-requires-clause-how t c =
+    let view : stmt_of c.args.stmt.now ≡ tree.WriteExpr (expr_of c.in-WriteExpr.value) c.in-WriteExpr.how = ap stmt_of c.in-WriteExpr.is ∙ Views.writeexpr_view _ _ in
+    let built : BuiltStmt (tree.WriteExpr (expr_of c.in-WriteExpr.value) c.in-WriteExpr.how) = subst BuiltStmt view c.requires.built in
+    built.1
+
+pub emit_stmt-emit_write-requires-clause-room : goal.emit_stmt-emit_write-requires-clause-room
+emit_stmt-emit_write-requires-clause-room t c =
+    let view : stmt_of c.args.stmt.now ≡ tree.WriteExpr (expr_of c.in-WriteExpr.value) c.in-WriteExpr.how = ap stmt_of c.in-WriteExpr.is ∙ Views.writeexpr_view _ _ in
+    omega (arith, c.requires.room, ap stmt_nodes view)
+
+pub emit_stmt-returns-in-Test-clause-puts : goal.emit_stmt-returns-in-Test-clause-puts
+emit_stmt-returns-in-Test-clause-puts t c =
+    let view : stmt_of c.args.stmt.now ≡ tree.TestStmt (test_of c.in-Test.test) = ap stmt_of c.in-Test.is ∙ Views.teststmt_view _ in
+    stmt_as c.emit_test.result _ _ _ _ view (on_ok_map c.emit_test.result (λ h. record { all = h.all }) c.emit_test.ensures.puts)
+
+pub emit_stmt-returns-in-Test-clause-few : goal.emit_stmt-returns-in-Test-clause-few
+emit_stmt-returns-in-Test-clause-few t c =
+    let view : stmt_of c.args.stmt.now ≡ tree.TestStmt (test_of c.in-Test.test) = ap stmt_of c.in-Test.is ∙ Views.teststmt_view _ in
+    on_ok_map c.emit_test.result (λ h. omega (arith, h, ap stmt_nodes view)) c.emit_test.ensures.few
+
+pub emit_stmt-returns-in-Assign-clause-puts : goal.emit_stmt-returns-in-Assign-clause-puts
+emit_stmt-returns-in-Assign-clause-puts t c =
+    let view : stmt_of c.args.stmt.now ≡ tree.Assign (desig_of c.in-Assign.desig) (expr_of c.in-Assign.value) c.in-Assign.field-2 = ap stmt_of c.in-Assign.is ∙ Views.assign_view _ _ _ in
+    stmt_as c.emit_assign.result _ _ _ _ view (on_ok_map c.emit_assign.result (λ h. record { all = h.all }) c.emit_assign.ensures.puts)
+
+pub emit_stmt-returns-in-Assign-clause-few : goal.emit_stmt-returns-in-Assign-clause-few
+emit_stmt-returns-in-Assign-clause-few t c =
+    let view : stmt_of c.args.stmt.now ≡ tree.Assign (desig_of c.in-Assign.desig) (expr_of c.in-Assign.value) c.in-Assign.field-2 = ap stmt_of c.in-Assign.is ∙ Views.assign_view _ _ _ in
+    on_ok_map c.emit_assign.result (λ h. omega (arith, h, ap stmt_nodes view)) c.emit_assign.ensures.few
+
+pub emit_stmt-returns-in_ok-emit_stmts-in-If-clause-puts : goal.emit_stmt-returns-in_ok-emit_stmts-in-If-clause-puts
+emit_stmt-returns-in_ok-emit_stmts-in-If-clause-puts t c =
+    let view : stmt_of c.args.stmt.now ≡ tree.If (arms_list c.deref.result.now) (stmts_list c.deref-in-If.result.now) = ap stmt_of c.in-If.is ∙ Views.if_view _ _ ∙ ap (λ x. tree.If (arms_list x) (stmts_list c.in-If.rest.items)) (sym c.deref.ensures.value) ∙ ap (λ x. tree.If (arms_list c.deref.result.now) (stmts_list x)) (sym c.deref-in-If.ensures.value) in
+    subst (PutsStmt c.args.emit.now c.aim.new.self) (sym view) (if_put _ _ _ _ _ _ _ _ _ _ c.here-start.ensures.address c.in_ok-put-in-If.ensures.puts c.here-exit.ensures.address c.in_ok-put-in-If-2.ensures.puts c.in_ok-emit_arms-in-If.ensures.puts c.in_ok-emit_stmts-in-If.ensures.puts c.aim.ensures.code c.aim.ensures.kinds c.aim.ensures.base)
+
+pub emit_stmt-returns-in_ok-emit_stmts-in-If-clause-few : goal.emit_stmt-returns-in_ok-emit_stmts-in-If-clause-few
+emit_stmt-returns-in_ok-emit_stmts-in-If-clause-few t c =
+    let view : stmt_of c.args.stmt.now ≡ tree.If (arms_list c.in-If.arms.items) (stmts_list c.in-If.rest.items) = ap stmt_of c.in-If.is ∙ Views.if_view _ _ in
+    let is : arms_list c.deref.result.now ≡ arms_list c.in-If.arms.items = ap arms_list c.deref.ensures.value in
+    let is2 : stmts_list c.deref-in-If.result.now ≡ stmts_list c.in-If.rest.items = ap stmts_list c.deref-in-If.ensures.value in
+    omega (arith, ap stmt_nodes view, ap arms_nodes is, ap stmts_nodes is2, c.in_ok-put-in-If.ensures.few, c.in_ok-put-in-If-2.ensures.few, c.in_ok-emit_arms-in-If.ensures.few, c.in_ok-emit_stmts-in-If.ensures.few, c.aim.ensures.few)
+
+pub emit_stmt-returns-in-While-clause-puts : goal.emit_stmt-returns-in-While-clause-puts
+emit_stmt-returns-in-While-clause-puts t c =
+    let view : stmt_of c.args.stmt.now ≡ tree.While (test_of c.in-While.test) (stmts_list c.deref-in-While.result.now) = ap stmt_of c.in-While.is ∙ Views.while_view _ _ ∙ ap (λ x. tree.While (test_of c.in-While.test) (stmts_list x)) (sym c.deref-in-While.ensures.value) in
+    stmt_as c.emit_while.result _ _ _ _ view c.emit_while.ensures.puts
+
+pub emit_stmt-returns-in-While-clause-few : goal.emit_stmt-returns-in-While-clause-few
+emit_stmt-returns-in-While-clause-few t c =
+    let view : stmt_of c.args.stmt.now ≡ tree.While (test_of c.in-While.test) (stmts_list c.deref-in-While.result.now) = ap stmt_of c.in-While.is ∙ Views.while_view _ _ ∙ ap (λ x. tree.While (test_of c.in-While.test) (stmts_list x)) (sym c.deref-in-While.ensures.value) in
+    on_ok_map c.emit_while.result (λ h. omega (arith, h, ap stmt_nodes view)) c.emit_while.ensures.few
+
+pub emit_stmt-returns-in-Repeat-clause-puts : goal.emit_stmt-returns-in-Repeat-clause-puts
+emit_stmt-returns-in-Repeat-clause-puts t c =
+    let view : stmt_of c.args.stmt.now ≡ tree.Repeat (stmts_list c.deref-in-Repeat.result.now) (test_of c.in-Repeat.test) = ap stmt_of c.in-Repeat.is ∙ Views.repeat_view _ _ ∙ ap (λ x. tree.Repeat (stmts_list x) (test_of c.in-Repeat.test)) (sym c.deref-in-Repeat.ensures.value) in
+    stmt_as c.emit_repeat.result _ _ _ _ view c.emit_repeat.ensures.puts
+
+pub emit_stmt-returns-in-Repeat-clause-few : goal.emit_stmt-returns-in-Repeat-clause-few
+emit_stmt-returns-in-Repeat-clause-few t c =
+    let view : stmt_of c.args.stmt.now ≡ tree.Repeat (stmts_list c.deref-in-Repeat.result.now) (test_of c.in-Repeat.test) = ap stmt_of c.in-Repeat.is ∙ Views.repeat_view _ _ ∙ ap (λ x. tree.Repeat (stmts_list x) (test_of c.in-Repeat.test)) (sym c.deref-in-Repeat.ensures.value) in
+    on_ok_map c.emit_repeat.result (λ h. omega (arith, h, ap stmt_nodes view)) c.emit_repeat.ensures.few
+
+pub emit_stmt-returns-in-WriteExpr-clause-puts : goal.emit_stmt-returns-in-WriteExpr-clause-puts
+emit_stmt-returns-in-WriteExpr-clause-puts t c =
+    let view : stmt_of c.args.stmt.now ≡ tree.WriteExpr (expr_of c.in-WriteExpr.value) c.in-WriteExpr.how = ap stmt_of c.in-WriteExpr.is ∙ Views.writeexpr_view _ _ in
+    stmt_as c.emit_write.result _ _ _ _ view c.emit_write.ensures.puts
+
+pub emit_stmt-returns-in-WriteExpr-clause-few : goal.emit_stmt-returns-in-WriteExpr-clause-few
+emit_stmt-returns-in-WriteExpr-clause-few t c =
+    let view : stmt_of c.args.stmt.now ≡ tree.WriteExpr (expr_of c.in-WriteExpr.value) c.in-WriteExpr.how = ap stmt_of c.in-WriteExpr.is ∙ Views.writeexpr_view _ _ in
+    on_ok_map c.emit_write.result (λ h. omega (arith, h, ap stmt_nodes view)) c.emit_write.ensures.few

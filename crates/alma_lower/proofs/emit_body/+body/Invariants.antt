@@ -1,0 +1,22 @@
+-- The loops over statements and arms: what is left is built, has room, and completes what was put.
+use Rattle.std.proofs.Common.{◌+◌, ◌*◌, ◌≤◌, drop}
+use Rattle.alma_ir.specs.View.{stmts_list, arms_list}
+use Rattle.alma_ir.specs.Count.{stmts_nodes, arms_nodes}
+use Rattle.alma_lower.specs.declared.emit.Emit.{Emit}
+use Rattle.alma_lower.specs.Built.{BuiltStmts, BuiltArms}
+use Rattle.alma_lower.specs.Emitted.{filled, PutsStmts, PutsArms}
+use Rattle.alma_lower.proofs.emit_body.+body.Given as goal
+
+abbrev pub invariant-emit_stmts-loop-stmt : goal.invariant-emit_stmts-loop-stmt
+invariant-emit_stmts-loop-stmt l = record {
+  built : BuiltStmts (stmts_list (drop l.stmt-index l.body));
+  few : filled l.emit + 16 * stmts_nodes (stmts_list (drop l.stmt-index l.body)) ≤ filled l.fn.emit + 16 * stmts_nodes (stmts_list l.body);
+  completes : (c : Emit) → PutsStmts l.emit c (stmts_list (drop l.stmt-index l.body)) → PutsStmts l.fn.emit c (stmts_list l.body);
+}
+
+abbrev pub invariant-emit_arms-loop-arm : goal.invariant-emit_arms-loop-arm
+invariant-emit_arms-loop-arm l = record {
+  built : BuiltArms (arms_list (drop l.arm-index l.arms));
+  few : filled l.emit + 16 * arms_nodes (arms_list (drop l.arm-index l.arms)) ≤ filled l.fn.emit + 16 * arms_nodes (arms_list l.arms);
+  completes : (c : Emit) → PutsArms l.emit c l.exit (arms_list (drop l.arm-index l.arms)) → PutsArms l.fn.emit c l.exit (arms_list l.arms);
+}

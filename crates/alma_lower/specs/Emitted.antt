@@ -1,0 +1,59 @@
+-- What a phrase appends to an emitter: code that depends on the address and on the first free slot, and kinds of slots.
+use Rattle.std.specs.Prelude.{◌≡◌, ℕ, ◌+◌, List, [], ◌∷◌, ◌++◌, length}
+use Rattle.alma_code.specs.declared.cell.SlotKind.{SlotKind}
+use Rattle.alma_code.specs.declared.instr.Instr.{Instr}
+use Rattle.alma_code.specs.declared.instr.Instr.TheVariants as I
+use Rattle.alma_ir.specs.Tree.{Stmts, Stmt, Arms, Test, Expr, Links, Desig}
+use Rattle.alma_lower.specs.declared.emit.Emit.{Emit}
+use Rattle.alma_lower.specs.Templates.{desig_code, desig_slots, expr_code, expr_slots, links_code, links_slots, test_code, test_slots, condition_code, guarded_code, stmts_code, stmts_slots, stmt_code, stmt_slots, arms_code, arms_slots}
+
+-- the first free slot
+abbrev pub next_slot : Emit → ℕ
+next_slot e = e.base + length e.kinds.items
+
+-- how many slots and instructions there are
+unfoldable pub filled : Emit → ℕ
+filled e = e.base + length e.kinds.items + length e.code.items
+
+-- the same jump to another address
+abbrev pub aimed : Instr → (to : ℕ) → Instr
+aimed (I.Jump _) to = I.Jump to
+aimed (I.JumpZero value _) to = I.JumpZero value to
+aimed i to = i
+
+pub record Appends (a b : Emit) (code : (at lo : ℕ) → List Instr) (slots : List SlotKind) : Type 0 where
+  pub instrs : b.code.items ≡ a.code.items ++ code (length a.code.items) (next_slot a)
+  pub kinds : b.kinds.items ≡ a.kinds.items ++ slots
+  pub base : b.base ≡ a.base
+
+-- one instruction
+pub record Puts (a b : Emit) (instr : Instr) : Type 0 where
+  pub all : Appends a b (λ at lo. instr ∷ []) []
+
+pub record PutsDesig (a b : Emit) (d : Desig) : Type 0 where
+  pub all : Appends a b (λ at lo. desig_code lo d) (desig_slots d)
+
+pub record PutsExpr (a b : Emit) (e : Expr) : Type 0 where
+  pub all : Appends a b (λ at lo. expr_code lo e) (expr_slots e)
+
+pub record PutsLinks (a b : Emit) (to : ℕ) (links : Links) : Type 0 where
+  pub all : Appends a b (λ at lo. links_code to lo links) (links_slots links)
+
+pub record PutsCondition (a b : Emit) (t : Test) : Type 0 where
+  pub all : Appends a b (λ at lo. condition_code lo t) (test_slots t)
+
+pub record PutsTest (a b : Emit) (t : Test) : Type 0 where
+  pub all : Appends a b (λ at lo. test_code lo t) (test_slots t)
+
+-- a condition and what is done where it has an alternative, which ends in a jump to `back`
+pub record PutsGuarded (a b : Emit) (t : Test) (body : Stmts) (back : ℕ) : Type 0 where
+  pub all : Appends a b (λ at lo. guarded_code lo (condition_code lo t) (stmts_code (at + length (condition_code lo t) + 1) (lo + length (test_slots t)) body) at back) (test_slots t ++ stmts_slots body)
+
+pub record PutsStmts (a b : Emit) (body : Stmts) : Type 0 where
+  pub all : Appends a b (λ at lo. stmts_code at lo body) (stmts_slots body)
+
+pub record PutsStmt (a b : Emit) (x : Stmt) : Type 0 where
+  pub all : Appends a b (λ at lo. stmt_code at lo x) (stmt_slots x)
+
+pub record PutsArms (a b : Emit) (exit : ℕ) (arms : Arms) : Type 0 where
+  pub all : Appends a b (λ at lo. arms_code at lo exit arms) (arms_slots arms)

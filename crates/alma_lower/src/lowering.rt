@@ -1,0 +1,100 @@
+// The code of a whole program.
+ghost use Rattle.std.specs.Prelude.{◌≡◌, ◌+◌, ◌*◌, ◌<◌, ◌≤◌, ◌++◌, ℕ, [], ◌∷◌, length, IfOk};
+ghost use Rattle.alma_code.specs.declared.instr.Instr.TheVariants as instr;
+ghost use Rattle.alma_code.specs.Plain.{code_of};
+ghost use Rattle.alma_ir.specs.View.{program_of, routine_of, stmts_list};
+ghost use Rattle.alma_ir.specs.Count.{capped, nodes, stmts_nodes};
+ghost use Rattle.alma_ir.specs.Checked.{IsChecked};
+ghost use Rattle.alma_lower.specs.Built.{IsBuilt, BuiltStmts};
+ghost use Rattle.alma_lower.specs.Emitted.{filled};
+ghost use Rattle.alma_lower.specs.Templates.{IsCodeOf, body_code, stmts_slots};
+
+use crate::emit::Emit;
+use crate::emit_body::emit_stmts;
+use crate::emit_tables::{globals_of, runs_of};
+use alma_base::NoMemory;
+use alma_code::{Code, Instr, RoutineHead};
+use alma_ir::{Program, Routine, size};
+use std::alloc::Global;
+use thiserror::Error;
+
+// The greatest size of a program that is compiled.
+const GREATEST_SIZE: u64 = 4_194_304;
+
+/// Why a program has no code.
+#[derive(Clone, Copy, Debug, PartialEq, Eq, Error)]
+pub enum LowerError {
+    /// The size of the program, which passes 4,194,304.
+    #[error("too much code: {0}")]
+    TooMuchCode(u64),
+    #[error("no memory")]
+    Memory,
+}
+
+/// The code of a program.
+pub fn lower(alloc: Global, program: &Program) -> Result<Code, LowerError>
+    requires built { IsBuilt (program_of program.now) }
+    requires checked { IsChecked (program_of program.now) }
+    ensures code { IfOk result (λ code. IsCodeOf (program_of program.now) (code_of code)) }
+    ensures few { IfOk result (λ code. length (code_of code).instrs ≤ 16 * nodes (program_of program.now)) }
+    ensures too_much { let size = capped (16 * nodes (program_of program.now)) in 4194304 < size → result ≡ Err (LowerError.TooMuchCode size) }
+    ensures within { let size = capped (16 * nodes (program_of program.now)) in size ≤ 4194304 → (n : ℕ) → result ≡ Err (LowerError.TooMuchCode n) → ⊥ }
+{
+    let size = size(program);
+    if size > GREATEST_SIZE {
+        return Err(LowerError::TooMuchCode(size));
+    }
+    match compiled(alloc, program) {
+        Ok(code) => Ok(code),
+        Err(NoMemory) => Err(LowerError::Memory),
+    }
+}
+
+// The code of a program whose size is within the limit.
+fn compiled(alloc: Global, program: &Program) -> Result<Code, NoMemory>
+    requires built { IsBuilt (program_of program.now) }
+    requires checked { IsChecked (program_of program.now) }
+    requires size { 16 * nodes (program_of program.now) ≤ 4194304 }
+    ensures code { IfOk result (λ code. IsCodeOf (program_of program.now) (code_of code)) }
+    ensures few { IfOk result (λ code. length (code_of code).instrs ≤ 16 * nodes (program_of program.now)) }
+{
+    let body = &program.routines[0];
+    let emit = emitted(alloc, body)?;
+    let kinds = runs_of(alloc, emit.base, &emit.kinds)?;
+    let mut routines = Vec::new(alloc);
+    routines.push(RoutineHead {
+        name: Vec::from_slice(alloc, &body.name)?,
+        slots: emit.base + emit.kinds.len() as u32,
+        declared: body.declared,
+        kinds,
+        params: Vec::new(alloc),
+        result: false,
+        code_end: emit.here(),
+    })?;
+    Ok(Code {
+        routines,
+        globals: globals_of(alloc, &program.globals)?,
+        ranges: Vec::new(alloc),
+        texts: Vec::new(alloc),
+        code: emit.code,
+    })
+}
+
+// The instructions and slots of the body of the module.
+#[tactic(auto, unfolding(crate::specs::Emitted::filled))]
+fn emitted(alloc: Global, body: &Routine) -> Result<Emit, NoMemory>
+    requires built { BuiltStmts (stmts_list body.now.body.items) }
+    requires slots { body.now.slots ≤ 4194304 }
+    requires size { 16 + 16 * stmts_nodes (stmts_list body.now.body.items) ≤ 4194304 }
+    ensures code { IfOk result (λ emit. emit.code.items ≡ body_code (routine_of body.now)) }
+    ensures kinds { IfOk result (λ emit. emit.kinds.items ≡ stmts_slots (stmts_list body.now.body.items)) }
+    ensures base { IfOk result (λ emit. emit.base ≡ body.now.slots) }
+    ensures few { IfOk result (λ emit. length emit.code.items ≤ 16 + 16 * stmts_nodes (stmts_list body.now.body.items)) }
+    ensures room { IfOk result (λ emit. emit.base + length emit.kinds.items ≤ 8388608) }
+    ensures full { IfOk result (λ emit. filled emit ≤ 8388608) }
+{
+    let mut emit = Emit::new(alloc, body.slots);
+    emit_stmts(&mut emit, &body.body)?;
+    emit.put(Instr::Return)?;
+    Ok(emit)
+}

@@ -1,0 +1,179 @@
+// Two programs built by hand, and their code.
+ghost use Rattle.std.specs.Prelude.{◌≡◌, [], ◌∷◌, None, IfOk};
+ghost use Rattle.alma_ir.specs.declared.phrase.Root.TheVariants as root;
+ghost use Rattle.alma_ir.specs.View.{program_of, desig_of, expr_of, test_of, stmts_list};
+ghost use Rattle.alma_ir.specs.Tree as tree;
+ghost use Rattle.alma_ir.specs.Checked.{IsChecked};
+ghost use Rattle.alma_lower.specs.Built.{IsBuilt};
+
+use crate::lower;
+use alma_base::{NoMemory, Range};
+use alma_code::Instr;
+use alma_ir::{Arm, Cmp, Desig, Expr, Program, Root, Routine, Stmt, Test, WriteAs};
+use std::alloc::Global;
+use std::test::Fail;
+
+fn variable(alloc: Global) -> Desig
+    ensures { desig_of result ≡ tree.a_desig (root.Local 1) 1 tree.no_sels }
+{
+    Desig {
+        root: Root::Local(1),
+        cells: 1,
+        sels: Vec::new(alloc),
+    }
+}
+
+#[tactic(auto, using(alma_ir::proofs::Views::load_view))]
+fn load(alloc: Global) -> Expr
+    ensures { expr_of result ≡ tree.Load (tree.a_desig (root.Local 1) 1 tree.no_sels) }
+{
+    Expr::Load(variable(alloc))
+}
+
+// A module of one variable.
+fn module_of(alloc: Global, body: Vec<Stmt>) -> Result<Program, NoMemory>
+    ensures { IfOk result (λ p. program_of p ≡ record { name = []; globals = []; routines = record { name = 65 ∷ []; params = []; result = None; declared = 1; slots = 2; body = stmts_list body.items } ∷ [] }) }
+{
+    let mut name = Vec::new(alloc);
+    name.push(65)?;
+    let mut routines = Vec::new(alloc);
+    routines.push(Routine {
+        name,
+        params: Vec::new(alloc),
+        result: None,
+        declared: 1,
+        slots: 2,
+        body,
+    })?;
+    Ok(Program {
+        name: Vec::new(alloc),
+        globals: Vec::new(alloc),
+        routines,
+    })
+}
+
+// A comparison as a condition.
+#[tactic(auto, using(alma_ir::proofs::Views::value_view, alma_ir::proofs::Views::compare_view))]
+fn compared(alloc: Global, cmp: Cmp, left: Expr, right: Expr) -> Result<Test, NoMemory>
+    ensures { IfOk result (λ test. test_of test ≡ tree.Value (tree.Compare cmp (expr_of left) (expr_of right))) }
+{
+    let left = Box::new(alloc, left)?;
+    let right = Box::new(alloc, right)?;
+    Ok(Test::Value(Expr::Compare(cmp, left, right)))
+}
+
+// WRITE of an expression, alone.
+#[tactic(auto, using(alma_ir::proofs::Views::writeexpr_view))]
+fn written(alloc: Global, value: Expr, how: WriteAs) -> Result<Vec<Stmt>, NoMemory>
+    ensures { IfOk result (λ body. stmts_list body.items ≡ tree.more_stmts (tree.WriteExpr (expr_of value) how) tree.no_stmts) }
+{
+    let mut body = Vec::new(alloc);
+    body.push(Stmt::WriteExpr(value, how))?;
+    Ok(body)
+}
+
+// A number.
+#[tactic(auto, using(alma_ir::proofs::Views::const_view))]
+fn number(value: i64) -> Expr
+    ensures { expr_of result ≡ tree.Const value }
+{
+    Expr::Const(value)
+}
+
+// x := 3; WHILE x > 0 DO WRITE(x) END
+fn loop_program(alloc: Global) -> Result<Program, NoMemory>
+    ensures built { IfOk result (λ p. IsBuilt (program_of p)) }
+    ensures checked { IfOk result (λ p. IsChecked (program_of p)) }
+{
+    let inside = written(alloc, load(alloc), WriteAs::Int)?;
+    let test = compared(alloc, Cmp::Greater, load(alloc), number(0))?;
+    let all = Range {
+        low: i64::MIN,
+        high: i64::MAX,
+    };
+    let mut body = Vec::new(alloc);
+    body.push(Stmt::Assign(variable(alloc), number(3), all))?;
+    body.push(Stmt::While(test, inside))?;
+    module_of(alloc, body)
+}
+
+// IF x = 1 THEN WRITE(x) ELSIF x THEN WRITE(1 as a truth) END
+fn if_program(alloc: Global) -> Result<Program, NoMemory>
+    ensures built { IfOk result (λ p. IsBuilt (program_of p)) }
+    ensures checked { IfOk result (λ p. IsChecked (program_of p)) }
+{
+    let mut arms = Vec::new(alloc);
+    arms.push(Arm {
+        cond: compared(alloc, Cmp::Equal, load(alloc), number(1))?,
+        body: written(alloc, load(alloc), WriteAs::Int)?,
+    })?;
+    arms.push(Arm {
+        cond: Test::Value(load(alloc)),
+        body: written(alloc, number(1), WriteAs::Bool)?,
+    })?;
+    let mut body = Vec::new(alloc);
+    body.push(Stmt::If(arms, Vec::new(alloc)))?;
+    module_of(alloc, body)
+}
+
+#[test]
+fn a_loop_jumps_back_to_its_condition(rt: HostRuntime) -> Result<(), Fail> {
+    let alloc = rt.alloc();
+    let code = lower(alloc, &loop_program(alloc)?)?;
+    let expected = [
+        Instr::Local { to: 2, first: 1 },
+        Instr::Const { to: 3, value: 3 },
+        Instr::Store { to: 2, from: 3 },
+        Instr::Jump { to: 4 },
+        Instr::Local { to: 5, first: 1 },
+        Instr::Load { to: 4, from: 5 },
+        Instr::Const { to: 6, value: 0 },
+        Instr::Less {
+            to: 4,
+            left: 6,
+            right: 4,
+        },
+        Instr::JumpZero { value: 4, to: 13 },
+        Instr::Local { to: 8, first: 1 },
+        Instr::Load { to: 7, from: 8 },
+        Instr::WriteInt { value: 7 },
+        Instr::Jump { to: 3 },
+        Instr::Return,
+    ];
+    assert_eq!(rt; code.code.as_slice(), expected.as_slice());
+    assert_eq!(rt; code.routines.len(), 1);
+    assert_eq!(rt; code.routines[0].slots, 9);
+    Ok(())
+}
+
+#[test]
+fn each_arm_leaves_behind_the_last(rt: HostRuntime) -> Result<(), Fail> {
+    let alloc = rt.alloc();
+    let code = lower(alloc, &if_program(alloc)?)?;
+    let expected = [
+        Instr::Jump { to: 2 },
+        Instr::Jump { to: 17 },
+        Instr::Local { to: 3, first: 1 },
+        Instr::Load { to: 2, from: 3 },
+        Instr::Const { to: 4, value: 1 },
+        Instr::Equal {
+            to: 2,
+            left: 2,
+            right: 4,
+        },
+        Instr::JumpZero { value: 2, to: 11 },
+        Instr::Local { to: 6, first: 1 },
+        Instr::Load { to: 5, from: 6 },
+        Instr::WriteInt { value: 5 },
+        Instr::Jump { to: 1 },
+        Instr::Local { to: 8, first: 1 },
+        Instr::Load { to: 7, from: 8 },
+        Instr::JumpZero { value: 7, to: 17 },
+        Instr::Const { to: 9, value: 1 },
+        Instr::WriteBool { value: 9 },
+        Instr::Jump { to: 1 },
+        Instr::Return,
+    ];
+    assert_eq!(rt; code.code.as_slice(), expected.as_slice());
+    Ok(())
+}

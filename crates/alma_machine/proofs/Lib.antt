@@ -1,0 +1,6 @@
+pub mod Budget
+pub mod Kept
+pub mod Slots
+pub mod Small
+pub mod Sound
+pub mod Words

@@ -1,0 +1,135 @@
+-- What the reading of slots gives.
+use Rattle.std.proofs.Common.{inl, inr, ◌≡◌, ℕ, ◌-◌, List, [], ◌∷◌, length, get_or, refl, sym, ap, ◌∙◌, subst, Some}
+use Rattle.std.specs.Prelude.{ℤ, pos, negsuc, zero, suc, slice_get, true, false, Result, Ok, Err}
+use Rattle.std.proofs.lemmas.Bool.{eq-eqb}
+use Rattle.std.proofs.lemmas.Bool.Decides.{eqb_tells}
+use Rattle.std.proofs.lemmas.Option.{slice_get-get_or, get_or_from_slice_get}
+use Rattle.alma_base.specs.declared.fault.RunFault.{RunFault}
+use Rattle.alma_base.specs.declared.fault.RunFault.TheVariants as fault
+use Rattle.alma_base.specs.Numbers.{is_zero, int_eq}
+use Rattle.alma_code.specs.declared.cell.Cell.{Cell}
+use Rattle.alma_code.specs.declared.cell.Cell.TheVariants as cell
+use Rattle.alma_code.specs.declared.cell.CellPlace.{CellPlace}
+use Rattle.alma_code.specs.declared.cell.SlotKind.TheVariants as slot
+use Rattle.alma_code.specs.Carries.{number_at}
+use Rattle.alma_code.specs.Fits.{IsContent}
+use Rattle.alma_code.specs.Kinds.{is_number}
+use Rattle.alma_code.specs.Machine.{State, Stepped, number, place, content, known, as_number, as_place, as_content, faulted, put_number, put_place, to_number, to_place, store, went, stuck, with_slot, with_cell}
+use Rattle.alma_base.specs.Choice.{if_true}
+use Rattle.alma_code.specs.Picture.{PlainFrame, last_frame, cell_at}
+use Rattle.alma_machine.specs.Rows.{HasNumber, IsOneCell, Gives, put_or_fault}
+
+-- what a slot holds that has a content is a content
+pub content_read : (cs : List Cell) (n : ℕ) (c : Cell) → slice_get cs n ≡ Some c → IsContent (get_or cs n cell.Unset) → IsContent c
+content_read cs n c is h = subst IsContent (get_or_from_slice_get cs n c cell.Unset is) h
+
+-- what a slot for places of one cell holds
+pub place_read : (f : PlainFrame) (n : ℕ) (c : Cell) → slice_get f.cells n ≡ Some c → IsOneCell f (get_or f.cells n cell.Unset) → IsOneCell f c
+place_read f n c is h = subst (IsOneCell f) (get_or_from_slice_get f.cells n c cell.Unset is) h
+
+-- a number is read
+pub reads_number : (f : PlainFrame) (n : ℕ) (v : ℤ) (s : State) (k : ℤ → Stepped) → slice_get f.cells n ≡ Some (cell.Int v) → s.now ≡ f ∷ [] → number s n k ≡ k v
+reads_number f n v s k is same = ap (λ fs. as_number (slice_get (last_frame fs).cells n) s k) same ∙ ap (λ o. as_number o s k) is
+
+-- an unknown number is read
+pub reads_unknown : (f : PlainFrame) (n : ℕ) (s : State) (k : ℤ → Stepped) → slice_get f.cells n ≡ Some cell.Unknown → s.now ≡ f ∷ [] → number s n k ≡ faulted fault.Unknown s
+reads_unknown f n s k is same = ap (λ fs. as_number (slice_get (last_frame fs).cells n) s k) same ∙ ap (λ o. as_number o s k) is
+
+-- a place is read
+pub reads_place : (f : PlainFrame) (n : ℕ) (p : CellPlace) (s : State) (k : CellPlace → Stepped) → slice_get f.cells n ≡ Some (cell.Place p) → s.now ≡ f ∷ [] → place s n k ≡ k p
+reads_place f n p s k is same = ap (λ fs. as_place (slice_get (last_frame fs).cells n) s k) same ∙ ap (λ o. as_place o s k) is
+
+-- a place that is not there is read
+pub reads_unset : (f : PlainFrame) (n : ℕ) (s : State) (k : CellPlace → Stepped) → slice_get f.cells n ≡ Some cell.Unset → s.now ≡ f ∷ [] → place s n k ≡ faulted fault.Unknown s
+reads_unset f n s k is same = ap (λ fs. as_place (slice_get (last_frame fs).cells n) s k) same ∙ ap (λ o. as_place o s k) is
+
+pub ruleset numbers = (content_read, reads_number, reads_unknown)
+
+pub ruleset places = (place_read, reads_place, reads_unset)
+
+-- ---- tests of numbers
+
+-- 0 is zero
+pub zero_is : (x : ℤ) → x ≡ pos 0 → is_zero x ≡ true
+zero_is x e = ap is_zero e
+
+-- any other number is not
+pub zero_is_not : (x : ℤ) → (x ≡ pos 0 → ⊥) → is_zero x ≡ false
+zero_is_not (pos zero) h = absurd (h refl)
+zero_is_not (pos (suc n)) h = refl
+zero_is_not (negsuc n) h = refl
+
+-- a number is itself
+equals_itself : (z : ℤ) → int_eq z z ≡ true
+equals_itself (pos n) = eq-eqb n n refl
+equals_itself (negsuc n) = eq-eqb n n refl
+
+-- equal numbers are one
+pub equal_is : (x y : ℤ) → x ≡ y → int_eq x y ≡ true
+equal_is x y e = subst (λ z. int_eq x z ≡ true) e (equals_itself x)
+
+-- and no other
+pub equal_is_not : (x y : ℤ) → (x ≡ y → ⊥) → int_eq x y ≡ false
+equal_is_not (pos a) (pos b) h = elim (eqb_tells a b) [ inl w ↦ absurd (h (ap pos w.1)) | inr w ↦ w.0 ]
+equal_is_not (negsuc a) (negsuc b) h = elim (eqb_tells a b) [ inl w ↦ absurd (h (ap negsuc w.1)) | inr w ↦ w.0 ]
+equal_is_not (pos a) (negsuc b) h = refl
+equal_is_not (negsuc a) (pos b) h = refl
+
+pub ruleset tests = (zero_is, zero_is_not, equal_is, equal_is_not)
+
+-- ---- the cell at a place
+
+-- the content of a number slot is read as the slot is
+as_known : (c : Cell) (s : State) (k : ℤ → Stepped) → IsContent c → as_content true c s (λ o. known s o k) ≡ as_number (Some c) s k
+as_known (cell.Int v) s k h = refl
+as_known cell.Unknown s k h = refl
+as_known cell.Unset s k h = absurd h
+as_known (cell.Place p) s k h = absurd h
+as_known (cell.Mark m) s k h = absurd h
+
+-- the cell at a place of the frame is read as its slot is
+known_is : (f : PlainFrame) (n : ℕ) (s : State) (k : ℤ → Stepped) → HasNumber f n → s.now ≡ f ∷ [] → content s 0 n (λ c. known s c k) ≡ number s n k
+known_is f n s k h same =
+    ap (λ fs. as_content (number_at fs 0 n) (cell_at fs 0 n cell.Unset) s (λ c. known s c k)) same
+    ∙ ap (λ o. as_content (is_number o) (get_or f.cells n cell.Unset) s (λ c. known s c k)) h.kind
+    ∙ as_known (get_or f.cells n cell.Unset) s k h.content
+    ∙ ap (λ o. as_number o s k) (sym (slice_get-get_or f.cells n cell.Unset h.below))
+    ∙ ap (λ fs. as_number (slice_get (last_frame fs).cells n) s k) (sym same)
+
+-- what a place of one cell leads to is read as its slot is
+pub at_place : (f : PlainFrame) (p : CellPlace) (s : State) (k : ℤ → Stepped) → IsOneCell f (cell.Place p) → s.now ≡ f ∷ [] → content s p.frame p.slot (λ c. known s c k) ≡ number s p.slot k
+at_place f p s k h same = ap (λ n. content s n p.slot (λ c. known s c k)) h.0 ∙ known_is f p.slot s k h.1 same
+
+pub ruleset at_places = (at_place)
+
+-- ---- writes
+
+-- a number goes into a number slot
+pub put_is : (s : State) (f : PlainFrame) (n : ℕ) (v : ℤ) → s.now ≡ f ∷ [] → HasNumber f n → put_number s n v ≡ went (with_slot s n (cell.Int v))
+put_is s f n v same h =
+    ap (λ fs. to_number (slice_get (last_frame fs).kinds n) s (λ _. went (with_slot s n (cell.Int v)))) same
+    ∙ ap (λ o. to_number o s (λ _. went (with_slot s n (cell.Int v)))) h.kind
+
+-- a place goes into a place slot of its length
+pub put_place_is : (s : State) (f : PlainFrame) (n frame first l : ℕ) → s.now ≡ f ∷ [] → slice_get f.kinds n ≡ Some (slot.Place l) → put_place s n frame (λ _. first) ≡ went (with_slot s n (cell.Place (record { frame = frame; slot = first; len = l })))
+put_place_is s f n frame first l same is =
+    ap (λ fs. to_place (slice_get (last_frame fs).kinds n) s (λ l. went (with_slot s n (cell.Place (record { frame = frame; slot = first; len = l }))))) same
+    ∙ ap (λ o. to_place o s (λ l. went (with_slot s n (cell.Place (record { frame = frame; slot = first; len = l }))))) is
+
+-- a number goes to a place of one cell as it goes into its slot
+pub store_is : (s : State) (f : PlainFrame) (p : CellPlace) (v : ℤ) → s.now ≡ f ∷ [] → IsOneCell f (cell.Place p) → store s p.frame p.slot v went ≡ put_number s p.slot v
+store_is s f p v same h =
+    ap (λ n. store s n p.slot v went) h.0
+    ∙ ap (λ fs. if_true (number_at fs 0 p.slot) (λ _. went (with_cell s 0 p.slot (cell.Int v))) (λ _. stuck s)) same
+    ∙ ap (λ o. if_true (is_number o) (λ _. went (with_cell s 0 p.slot (cell.Int v))) (λ _. stuck s)) h.1.kind
+    ∙ ap (λ n. went (with_cell s n p.slot (cell.Int v))) (sym (ap (λ fs. length fs - 1) same))
+    ∙ sym (put_is s f p.slot v same h.1)
+
+pub ruleset puts = (put_is, put_place_is)
+
+pub ruleset stores = (store_is)
+
+-- what a word gives goes into a slot, or ends the run
+pub gives_put : (f : PlainFrame) (word : State → (ℤ → Stepped) → Stepped) (s : State) (to : ℕ) (result : Result ℤ RunFault) → s.now ≡ f ∷ [] → Gives f word result → word s (λ v. put_number s to v) ≡ put_or_fault s to result
+gives_put f word s to (Ok v) same h = h s (λ v. put_number s to v) same
+gives_put f word s to (Err fault) same h = h s (λ v. put_number s to v) same

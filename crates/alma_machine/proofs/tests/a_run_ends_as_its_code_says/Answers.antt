@@ -1,0 +1,32 @@
+use Rattle.alma_machine.proofs.Small.{too_large_sound, too_large_built, by_zero_sound, by_zero_built, not_known_sound, not_known_built, check_fails_sound, check_fails_built, fails_sound, fails_built}
+use Rattle.alma_machine.proofs.tests.a_run_ends_as_its_code_says.Goals as goal
+
+pub outcome-requires-clause-sound : goal.outcome-requires-clause-sound
+outcome-requires-clause-sound g c = too_large_sound
+
+pub outcome-requires-clause-built : goal.outcome-requires-clause-built
+outcome-requires-clause-built g c = too_large_built
+
+pub outcome-requires-2-clause-sound : goal.outcome-requires-2-clause-sound
+outcome-requires-2-clause-sound g c = by_zero_sound
+
+pub outcome-requires-2-clause-built : goal.outcome-requires-2-clause-built
+outcome-requires-2-clause-built g c = by_zero_built
+
+pub outcome-requires-3-clause-sound : goal.outcome-requires-3-clause-sound
+outcome-requires-3-clause-sound g c = not_known_sound
+
+pub outcome-requires-3-clause-built : goal.outcome-requires-3-clause-built
+outcome-requires-3-clause-built g c = not_known_built
+
+pub outcome-requires-4-clause-sound : goal.outcome-requires-4-clause-sound
+outcome-requires-4-clause-sound g c = check_fails_sound
+
+pub outcome-requires-4-clause-built : goal.outcome-requires-4-clause-built
+outcome-requires-4-clause-built g c = check_fails_built
+
+pub outcome-requires-5-clause-sound : goal.outcome-requires-5-clause-sound
+outcome-requires-5-clause-sound g c = fails_sound
+
+pub outcome-requires-5-clause-built : goal.outcome-requires-5-clause-built
+outcome-requires-5-clause-built g c = fails_built

@@ -1,0 +1,5 @@
+pub mod Built
+pub mod Rows
+pub mod Runs
+pub mod Small
+pub mod View

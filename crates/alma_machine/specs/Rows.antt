@@ -1,0 +1,117 @@
+-- What the parts of a step need and give.
+use Rattle.std.specs.Prelude.{◌≡◌, ◌<◌, ℕ, ℤ, true, [], ◌∷◌, length, get_or, slice_get, Some, Result, Ok, Err, MatchResult}
+use Rattle.alma_base.specs.declared.fault.RunFault.{RunFault}
+use Rattle.alma_code.specs.declared.cell.Cell.{Cell}
+use Rattle.alma_code.specs.declared.cell.Cell.TheVariants as cell
+use Rattle.alma_code.specs.declared.cell.CellPlace.{CellPlace}
+use Rattle.alma_code.specs.declared.cell.SlotKind.TheVariants as slot
+use Rattle.alma_code.specs.declared.instr.Instr.{Instr}
+use Rattle.alma_code.specs.declared.instr.Instr.TheVariants as I
+use Rattle.alma_code.specs.declared.step.Step.{Step}
+use Rattle.alma_code.specs.Fits.{IsContent}
+use Rattle.alma_code.specs.Kinds.{is_place}
+use Rattle.alma_code.specs.Machine.{Mode, Going, Failing, Ended, State, Stepped, place, put_number, faulted}
+use Rattle.alma_code.specs.Picture.{PlainFrame}
+use Rattle.alma_machine.specs.declared.registers.Mode as rust
+use Rattle.alma_machine.specs.declared.registers.Mode.TheVariants as mode
+use Rattle.alma_machine.specs.declared.registers.Registers.{Registers}
+use Rattle.alma_machine.specs.View.{IsLive, ModeAfter}
+
+-- ---- the state
+
+-- the mode of the copying code machine
+abbrev pub mode_of : rust.Mode → Mode
+mode_of mode.Going = Going
+mode_of mode.Failing = Failing
+mode_of (mode.Ended end) = Ended end
+
+-- the state of the copying code machine, with one frame and no entries
+abbrev pub state_of : Registers → State
+state_of r = record {
+  at = r.at;
+  mode = mode_of r.mode;
+  now = r.frame ∷ [];
+  held = [];
+  steps = r.steps;
+  choices = r.choices;
+  fails = r.fails;
+}
+
+-- ---- what a slot must be
+
+-- a number slot, with a content
+pub record HasNumber (frame : PlainFrame) (n : ℕ) : Type 0 where
+  pub below : n < length frame.cells
+  pub kind : slice_get frame.kinds n ≡ Some slot.Number
+  pub content : IsContent (get_or frame.cells n cell.Unset)
+
+-- the place of one number slot of the frame, or no place yet
+abbrev pub IsOneCell : PlainFrame → Cell → Type 0
+IsOneCell frame (cell.Place p) = (p.frame ≡ 0) × HasNumber frame p.slot
+IsOneCell frame cell.Unset = Unit {0}
+IsOneCell frame cell.Unknown = ⊥
+IsOneCell frame (cell.Int v) = ⊥
+IsOneCell frame (cell.Mark h) = ⊥
+
+-- a slot for places of one cell
+pub record HasOneCell (frame : PlainFrame) (n : ℕ) : Type 0 where
+  pub below : n < length frame.cells
+  pub content : IsOneCell frame (get_or frame.cells n cell.Unset)
+
+-- a place slot
+pub record HasPlace (frame : PlainFrame) (n : ℕ) : Type 0 where
+  pub below : n < length frame.cells
+  pub kind : is_place (slice_get frame.kinds n) ≡ true
+
+-- the slots that an instruction of numbers reads and writes are of their kinds; other instructions are none
+unfoldable pub Computes : PlainFrame → Instr → Type 0
+Computes f (I.Const to value) = HasNumber f to
+Computes f (I.Move to from) = HasNumber f to × HasNumber f from
+Computes f (I.Add to left right) = HasNumber f to × HasNumber f left × HasNumber f right
+Computes f (I.Sub to left right) = HasNumber f to × HasNumber f left × HasNumber f right
+Computes f (I.Mul to left right) = HasNumber f to × HasNumber f left × HasNumber f right
+Computes f (I.Div to left right) = HasNumber f to × HasNumber f left × HasNumber f right
+Computes f (I.Mod to left right) = HasNumber f to × HasNumber f left × HasNumber f right
+Computes f (I.Neg to from) = HasNumber f to × HasNumber f from
+Computes f (I.Equal to left right) = HasNumber f to × HasNumber f left × HasNumber f right
+Computes f (I.Less to left right) = HasNumber f to × HasNumber f left × HasNumber f right
+Computes f (I.LessEq to left right) = HasNumber f to × HasNumber f left × HasNumber f right
+Computes f (I.Flip to from) = HasNumber f to × HasNumber f from
+Computes f (I.Load to from) = HasNumber f to × HasOneCell f from
+Computes f _ = ⊥
+
+-- the slots that an instruction reads and writes are of their kinds; what is not built needs what is never there
+unfoldable pub Needs : PlainFrame → Instr → Type 0
+Needs f (I.Local to first) = HasPlace f to
+Needs f (I.Store to from) = HasOneCell f to × HasNumber f from
+Needs f (I.Jump to) = Unit {0}
+Needs f (I.JumpZero value to) = HasNumber f value
+Needs f (I.Check value) = HasNumber f value
+Needs f I.Fail = Unit {0}
+Needs f I.Return = Unit {0}
+Needs f (I.WriteInt value) = HasNumber f value
+Needs f (I.WriteBool value) = HasNumber f value
+Needs f i = Computes f i
+
+-- ---- what a part of a step gives, whatever comes after it
+
+-- a word of the copying code machine goes on with the number, or ends in the fault, in each state with this one frame
+abbrev pub Gives : PlainFrame → (State → (ℤ → Stepped) → Stepped) → Result ℤ RunFault → Type 0
+Gives frame word result = MatchResult result
+    (λ v. (s : State) (k : ℤ → Stepped) → s.now ≡ frame ∷ [] → word s k ≡ k v)
+    (λ f. (s : State) (k : ℤ → Stepped) → s.now ≡ frame ∷ [] → word s k ≡ faulted f s)
+
+-- reading a place goes on with a place of one cell of the frame, or ends in the fault
+abbrev pub GivesPlace : PlainFrame → ℕ → Result CellPlace RunFault → Type 0
+GivesPlace frame n result = MatchResult result
+    (λ p. IsOneCell frame (cell.Place p) × ((s : State) (k : CellPlace → Stepped) → s.now ≡ frame ∷ [] → place s n k ≡ k p))
+    (λ f. (s : State) (k : CellPlace → Stepped) → s.now ≡ frame ∷ [] → place s n k ≡ faulted f s)
+
+-- the number goes into the slot, or the run ends in the fault
+abbrev pub put_or_fault : State → ℕ → Result ℤ RunFault → Stepped
+put_or_fault s n (Ok v) = put_number s n v
+put_or_fault s n (Err f) = faulted f s
+
+-- a part of a step counts no step, and its answer tells the mode
+abbrev pub KeepsOn : Step → State → State → Type 0
+KeepsOn step old new = (new.steps ≡ old.steps) × (IsLive old.mode → ModeAfter step new.mode)

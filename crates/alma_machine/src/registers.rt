@@ -1,0 +1,220 @@
+// The state of the machine, and what each instruction does to it.
+ghost use Rattle.std.specs.Prelude.{◌≡◌, List, ℕ, [], not, IfOk, OnErr};
+ghost use Rattle.alma_base.specs.Choice.{if_true};
+ghost use Rattle.alma_base.specs.declared.value.Value.TheVariants as kind;
+ghost use Rattle.alma_base.specs.Numbers.{is_zero};
+ghost use Rattle.alma_base.specs.Value.{value_text};
+ghost use Rattle.alma_code.specs.Machine.{act, top, number, place, store, put_place, went, ended, goes_to, fails_now, printed};
+ghost use Rattle.alma_code.specs.Plain.{PlainCode};
+ghost use Rattle.alma_machine.specs.Rows.{state_of, HasNumber, HasOneCell, HasPlace, KeepsOn, Needs, put_or_fault};
+ghost use Rattle.alma_machine.specs.View.{stepped, PrintsOnly};
+
+use crate::frame::Frame;
+use alma_base::{NoMemory, RunFault, Value, write_value};
+use alma_code::{Cell, CellPlace, End, Instr, Step};
+
+/// Whether the next step is an instruction or a pop, or the run has ended.
+#[derive(Clone, Copy)]
+pub(crate) enum Mode {
+    Going,
+    Failing,
+    Ended(End),
+}
+
+/// The state of a run: the next address, the mode, the frame and the counts.
+#[derive(Drop)]
+pub(crate) struct Registers {
+    pub(crate) at: usize,
+    pub(crate) mode: Mode,
+    pub(crate) frame: Frame,
+    pub(crate) steps: u64,
+    pub(crate) choices: u64,
+    pub(crate) fails: u64,
+}
+
+impl Registers {
+    /// Ends the run.
+    pub(crate) fn end(&mut self, end: End) -> Step
+        ensures step { stepped result [] (state_of self.new) ≡ ended end (state_of self.old) }
+        ensures kept { KeepsOn result (state_of self.old) (state_of self.new) }
+    {
+        self.mode = Mode::Ended(end);
+        Step::Done(end)
+    }
+
+    // Puts a number into a slot, or ends the run in its fault.
+    #[tactic(auto, using(crate::proofs::Words::puts))]
+    fn put(&mut self, to: u32, number: Result<i64, RunFault>) -> Step
+        requires { HasNumber self.old.frame to }
+        ensures step { stepped result [] (state_of self.new) ≡ put_or_fault (state_of self.old) to number }
+        ensures kept { KeepsOn result (state_of self.old) (state_of self.new) }
+    {
+        match number {
+            Ok(number) => {
+                self.frame.write(to, Cell::Int(number));
+                Step::Went
+            }
+            Err(fault) => self.end(End::Fault(fault)),
+        }
+    }
+
+    // Puts the place of the slots of the frame from the first on into a place slot.
+    #[tactic(auto, using(crate::proofs::Words::puts))]
+    fn put_place(&mut self, to: u32, first: u32) -> Step
+        requires { HasPlace self.old.frame to }
+        ensures step { let s = state_of self.old in stepped result [] (state_of self.new) ≡ put_place s to (top s) (λ _. first) }
+        ensures kept { KeepsOn result (state_of self.old) (state_of self.new) }
+    {
+        let len = self.frame.place_length(to);
+        let place = CellPlace {
+            frame: 0,
+            slot: first,
+            len,
+        };
+        self.frame.write(to, Cell::Place(place));
+        Step::Went
+    }
+
+    // Puts the number in a slot into the cell at a place.
+    #[tactic(auto, using(crate::proofs::Words::stores))]
+    fn store(&mut self, to: u32, from: u32) -> Step
+        requires to { HasOneCell self.old.frame to }
+        requires from { HasNumber self.old.frame from }
+        ensures step { let s = state_of self.old in
+            stepped result [] (state_of self.new) ≡ place s to (λ p. number s from (λ v. store s p.frame p.slot v went)) }
+        ensures kept { KeepsOn result (state_of self.old) (state_of self.new) }
+    {
+        match self.frame.place(to) {
+            Ok(place) => {
+                let number = self.frame.number(from);
+                self.put(place.slot, number)
+            }
+            Err(fault) => self.end(End::Fault(fault)),
+        }
+    }
+
+    // Goes to an address.
+    fn jump(&mut self, to: u32) -> Step
+        ensures step { stepped result [] (state_of self.new) ≡ goes_to to (state_of self.old) }
+        ensures kept { KeepsOn result (state_of self.old) (state_of self.new) }
+    {
+        self.at = to as usize;
+        Step::Went
+    }
+
+    // Fails.
+    fn fail(&mut self) -> Step
+        ensures step { stepped result [] (state_of self.new) ≡ fails_now (state_of self.old) }
+        ensures kept { KeepsOn result (state_of self.old) (state_of self.new) }
+    {
+        self.mode = Mode::Failing;
+        Step::Went
+    }
+
+    // Goes to an address where the number in a slot is 0.
+    #[tactic(auto, using(crate::proofs::Words::tests, std::proofs::lemmas::Int::ints, std::proofs::lemmas::Grind::common_steps))]
+    fn jump_zero(&mut self, value: u32, to: u32) -> Step
+        requires { HasNumber self.old.frame value }
+        ensures step { let s = state_of self.old in
+            stepped result [] (state_of self.new) ≡ number s value (λ v. if_true (is_zero v) (λ _. goes_to to s) (λ _. went s)) }
+        ensures kept { KeepsOn result (state_of self.old) (state_of self.new) }
+    {
+        match self.frame.number(value) {
+            Ok(number) => {
+                if number == 0 {
+                    self.at = to as usize;
+                }
+                Step::Went
+            }
+            Err(fault) => self.end(End::Fault(fault)),
+        }
+    }
+
+    // Fails where the number in a slot is 0.
+    #[tactic(auto, using(crate::proofs::Words::tests, std::proofs::lemmas::Int::ints, std::proofs::lemmas::Grind::common_steps))]
+    fn check(&mut self, value: u32) -> Step
+        requires { HasNumber self.old.frame value }
+        ensures step { let s = state_of self.old in
+            stepped result [] (state_of self.new) ≡ number s value (λ v. if_true (is_zero v) (λ _. fails_now s) (λ _. went s)) }
+        ensures kept { KeepsOn result (state_of self.old) (state_of self.new) }
+    {
+        match self.frame.number(value) {
+            Ok(number) => {
+                if number == 0 {
+                    self.mode = Mode::Failing;
+                }
+                Step::Went
+            }
+            Err(fault) => self.end(End::Fault(fault)),
+        }
+    }
+
+    // Prints the number in a slot.
+    #[tactic(auto, using(std::proofs::lemmas::Int::ints, std::proofs::lemmas::Grind::common_steps))]
+    fn print_number(&mut self, value: u32, bytes: &mut Vec<u8>) -> Result<Step, NoMemory>
+        requires slot { HasNumber self.old.frame value }
+        requires empty { bytes.old.items ≡ [] }
+        ensures ok { let s = state_of self.old in
+            IfOk result (λ answer. stepped answer bytes.new.items (state_of self.new) ≡ number s value (λ v. printed (value_text (kind.Int v)) s)) }
+        ensures kept { IfOk result (λ answer. KeepsOn answer (state_of self.old) (state_of self.new)) }
+        ensures quiet { IfOk result (λ answer. PrintsOnly answer bytes.new.items) }
+        ensures refused { OnErr result ((self.new ≡ self.old) × (bytes.new.items ≡ [])) }
+    {
+        match self.frame.number(value) {
+            Ok(number) => {
+                write_value(bytes, &Value::Int(number))?;
+                Ok(Step::Printed)
+            }
+            Err(fault) => Ok(self.end(End::Fault(fault))),
+        }
+    }
+
+    // Prints the truth in a slot.
+    #[tactic(auto, using(crate::proofs::Words::tests, std::proofs::lemmas::Int::ints, std::proofs::lemmas::Grind::common_steps))]
+    fn print_truth(&mut self, value: u32, bytes: &mut Vec<u8>) -> Result<Step, NoMemory>
+        requires slot { HasNumber self.old.frame value }
+        requires empty { bytes.old.items ≡ [] }
+        ensures ok { let s = state_of self.old in
+            IfOk result (λ answer. stepped answer bytes.new.items (state_of self.new) ≡ number s value (λ v. printed (value_text (kind.Bool (not (is_zero v)))) s)) }
+        ensures kept { IfOk result (λ answer. KeepsOn answer (state_of self.old) (state_of self.new)) }
+        ensures quiet { IfOk result (λ answer. PrintsOnly answer bytes.new.items) }
+        ensures refused { OnErr result ((self.new ≡ self.old) × (bytes.new.items ≡ [])) }
+    {
+        match self.frame.number(value) {
+            Ok(number) => {
+                write_value(bytes, &Value::Bool(number != 0))?;
+                Ok(Step::Printed)
+            }
+            Err(fault) => Ok(self.end(End::Fault(fault))),
+        }
+    }
+
+    /// What an instruction does, with the address already at the next one. Where memory is wanted for its print, nothing has
+    /// happened.
+    #[tactic(auto, unfolding(alma_code::specs::Machine::act, crate::specs::Rows::Needs))]
+    pub(crate) fn act(&mut self, instr: &Instr, bytes: &mut Vec<u8>) -> Result<Step, NoMemory>
+        requires needs { Needs self.old.frame instr.now }
+        requires empty { bytes.old.items ≡ [] }
+        ensures ok { IfOk result (λ answer. (code : PlainCode) (input : List ℕ)
+            → stepped answer bytes.new.items (state_of self.new) ≡ act code input instr.now (state_of self.old)) }
+        ensures kept { IfOk result (λ answer. KeepsOn answer (state_of self.old) (state_of self.new)) }
+        ensures quiet { IfOk result (λ answer. PrintsOnly answer bytes.new.items) }
+        ensures refused { OnErr result ((self.new ≡ self.old) × (bytes.new.items ≡ [])) }
+    {
+        match *instr {
+            Instr::Local { to, first } => Ok(self.put_place(to, first)),
+            Instr::Store { to, from } => Ok(self.store(to, from)),
+            Instr::Jump { to } => Ok(self.jump(to)),
+            Instr::JumpZero { value, to } => Ok(self.jump_zero(value, to)),
+            Instr::Check { value } => Ok(self.check(value)),
+            Instr::Fail => Ok(self.fail()),
+            Instr::Return => Ok(self.end(End::Succeeded)),
+            Instr::WriteInt { value } => self.print_number(value, bytes),
+            Instr::WriteBool { value } => self.print_truth(value, bytes),
+            _ => {
+                let (to, number) = self.frame.computed(instr);
+                Ok(self.put(to, number))
+            }
+        }
+    }
+}

@@ -1,0 +1,11 @@
+use Rattle.std.proofs.Common.{◌≡◌, ◌++◌}
+use Rattle.alma_memory.specs.Carries.{listed}
+use Rattle.alma_memory.specs.Past.{diffs_at}
+use Rattle.alma_memory.proofs.past.Past.push_places.Given as goal
+
+abbrev pub invariant-loop-place : goal.invariant-loop-place
+invariant-loop-place l =
+    (goal.iterator-loop-place).can_next l.place-iterator
+    × (goal.iterator-loop-place).is_finite l.place-iterator
+    × (listed l.found.items ++ diffs_at l.self.before l.self.now (listed l.place-iterator)
+    ≡ listed l.fn.found.items ++ diffs_at l.self.before l.self.now l.places)

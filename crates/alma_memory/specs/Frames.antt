@@ -1,0 +1,20 @@
+-- What is true of the frames of a memory at each moment.
+use Rattle.std.specs.Prelude.{◌≡◌, ◌≤◌, ◌<◌, ◌^◌, List, [], ◌∷◌, length}
+use Rattle.alma_code.specs.Picture.{PlainFrame, live_cells}
+
+-- each slot has a kind and a cell, and there are fewer than 2^32 of them
+pub record IsWhole (frame : PlainFrame) : Type 0 where
+  pub kinds : length frame.kinds ≡ length frame.cells
+  pub few : length frame.cells < 2 ^ 32
+
+-- each frame is whole
+abbrev pub AreWhole : List PlainFrame → Type 0
+AreWhole [] = Unit {0}
+AreWhole (frame ∷ frames) = IsWhole frame × AreWhole frames
+
+-- frames that may be live together
+pub record AreLive (frames : List PlainFrame) : Type 0 where
+  pub some : 1 ≤ length frames
+  pub few : length frames ≤ 10000
+  pub declared : live_cells frames ≤ 1048576
+  pub whole : AreWhole frames

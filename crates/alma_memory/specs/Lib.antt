@@ -1,0 +1,10 @@
+pub mod Calls
+pub mod Carries
+pub mod Counted
+pub mod Frames
+pub mod Gain
+pub mod Held
+pub mod Past
+pub mod Picture
+pub mod Refusals
+pub mod Trail

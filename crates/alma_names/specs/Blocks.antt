@@ -1,0 +1,57 @@
+-- A block as the list of its declarations, in their order and with different names, and what a look-up finds in it.
+use Rattle.std.specs.Global.{Global}
+use Rattle.std.specs.Prelude.{ℕ, pos, Bool, false, if◌then◌else◌, nat_le, List, [], ◌∷◌, map, slice_get, position, bytes_eq, codes, Option, None, Some, option_and_then, Vec}
+use Rattle.std.specs.HashMap.{HashMap}
+use Rattle.alma_names.specs.declared.block.Declaration.{Declaration}
+use Rattle.alma_names.specs.declared.block.Entry.{Entry}
+use Rattle.alma_names.specs.declared.block.Entry.TheVariants.{Constant, Named, Bad}
+use Rattle.alma_names.specs.declared.shapes.ShapeId.{ShapeId}
+
+-- a declared name: the token from which on it is visible, and what it stands for
+pub record Declared : Type 0 where
+  pub name : List ℕ
+  pub from : ℕ
+  pub entry : Entry
+
+-- the declarations of a map from names
+abbrev pub declared_of : Vec ℕ Global × Declaration → Declared
+declared_of e = record { name = e.0.items; from = e.1.from; entry = e.1.entry }
+
+abbrev pub block_of : {S : Type 0} → HashMap (Vec ℕ Global) Declaration S → List Declared
+block_of m = map declared_of m.entries
+
+-- the shape of a number
+abbrev pub shape_id : ℕ → ShapeId
+shape_id n = record { 0 = n }
+
+-- the names that are declared outside each module
+abbrev pub predeclared : List Declared
+predeclared =
+    record { name = codes "INTEGER"; from = 0; entry = Named (shape_id 0) }
+    ∷ record { name = codes "CHAR"; from = 0; entry = Named (shape_id 1) }
+    ∷ record { name = codes "BOOLEAN"; from = 0; entry = Named (shape_id 2) }
+    ∷ record { name = codes "TRUE"; from = 0; entry = Constant (shape_id 2) (pos 1) }
+    ∷ record { name = codes "FALSE"; from = 0; entry = Constant (shape_id 2) (pos 0) }
+    ∷ []
+
+-- the place of a name in a block
+abbrev pub place : List ℕ → List Declared → Option ℕ
+place name b = position (λ d. bytes_eq name d.name) b
+
+-- the declaration is visible at the token
+abbrev pub is_visible : ℕ → Option Declared → Bool
+is_visible at None = false
+is_visible at (Some d) = nat_le d.from at
+
+-- the place i, where the declaration there is visible at the token
+abbrev pub visible_place : ℕ → List Declared → ℕ → Option ℕ
+visible_place at b i = if is_visible at (slice_get b i) then Some i else None
+
+-- the place of a name in a block, where it is visible at the token
+abbrev pub seen : List ℕ → ℕ → List Declared → Option ℕ
+seen name at b = option_and_then (visible_place at b) (place name b)
+
+-- what a declaration stands for
+abbrev pub entry_in : Option Declared → Entry
+entry_in None = Bad
+entry_in (Some d) = d.entry

@@ -1,0 +1,4 @@
+pub mod Shapes
+pub mod Table
+pub mod Blocks
+pub mod Scopes

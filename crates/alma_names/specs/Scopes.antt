@@ -1,0 +1,66 @@
+-- Scopes as a stack of blocks, whose entries are numbered through from the lowest block up, and what a look-up finds in it.
+use Rattle.std.specs.Prelude.{◌≡◌, ℕ, ◌+◌, ◌-◌, List, [], ◌∷◌, ◌++◌, Option, None, Some, Result, Ok, Err, if◌then◌else◌, nat_lt, length, slice_get, take, get_or, option_map}
+use Rattle.alma_names.specs.declared.block.Entry.{Entry}
+use Rattle.alma_names.specs.declared.block.Entry.TheVariants.{Bad}
+use Rattle.alma_names.specs.declared.scopes.Id.{Id}
+use Rattle.alma_names.specs.declared.scopes.DeclareError.{DeclareError}
+use Rattle.alma_names.specs.declared.scopes.DeclareError.TheVariants.{Twice, Memory}
+use Rattle.alma_names.specs.Blocks.{Declared, predeclared, place, seen, entry_in}
+
+-- the top block, and the blocks below it, the lowest first
+pub record Blocks : Type 0 where
+  pub below : List (List Declared)
+  pub top : List Declared
+
+-- the lowest block alone
+abbrev pub first_blocks : Blocks
+first_blocks = record { below = []; top = predeclared }
+
+-- the number of entries of some blocks, and of all
+abbrev pub entries_of : List (List Declared) → ℕ
+entries_of [] = 0
+entries_of (b ∷ bs) = length b + entries_of bs
+
+abbrev pub entry_count : Blocks → ℕ
+entry_count s = entries_of s.below + length s.top
+
+-- the blocks with an empty one on top, without the top one, and with one more declaration in the top one
+abbrev pub opened : Blocks → Blocks
+opened s = record { below = s.below ++ s.top ∷ []; top = [] }
+
+abbrev pub closed : Blocks → Blocks
+closed s = record { below = take (length s.below - 1) s.below; top = get_or s.below (length s.below - 1) [] }
+
+abbrev pub with_declared : Blocks → Declared → Blocks
+with_declared s d = record { below = s.below; top = s.top ++ d ∷ [] }
+
+-- the first number where there is one, else the second
+abbrev pub or_else : Option ℕ → Option ℕ → Option ℕ
+or_else (Some x) other = Some x
+or_else None other = other
+
+-- the number of the entry of the highest block in which the name is visible at the token, where the blocks' entries are numbered from n on
+abbrev pub visible_from : List ℕ → ℕ → ℕ → List (List Declared) → Option ℕ
+visible_from name at n [] = None
+visible_from name at n (b ∷ bs) = or_else (visible_from name at (n + length b) bs) (option_map (λ i. n + i) (seen name at b))
+
+abbrev pub visible : List ℕ → ℕ → Blocks → Option ℕ
+visible name at s = or_else (option_map (λ i. entries_of s.below + i) (seen name at s.top)) (visible_from name at 0 s.below)
+
+-- what the entry of a number is
+abbrev pub entry_below : ℕ → List (List Declared) → Entry
+entry_below id [] = Bad
+entry_below id (b ∷ bs) = if nat_lt id (length b) then entry_in (slice_get b id) else entry_below (id - length b) bs
+
+abbrev pub entry_at : ℕ → Blocks → Entry
+entry_at id s = if nat_lt id (entries_of s.below) then entry_below id s.below else entry_in (slice_get s.top (id - entries_of s.below))
+
+-- the number of the entry that the top block has under a name
+abbrev pub taken : List ℕ → Blocks → Option ℕ
+taken name s = option_map (λ i. entries_of s.below + i) (place name s.top)
+
+-- a name that the top block has is refused, with its entry, and only such a one
+abbrev pub RefusesTwice : Option ℕ → Result Id DeclareError → Type 0
+RefusesTwice found (Ok id) = found ≡ None
+RefusesTwice found (Err (Twice id)) = found ≡ Some id.0
+RefusesTwice found (Err Memory) = found ≡ None

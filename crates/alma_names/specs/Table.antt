@@ -1,0 +1,17 @@
+-- What a table of shapes keeps beside its list, and how its code counts.
+use Rattle.std.specs.Prelude.{◌≡◌, ℕ, ◌≤◌, List, length, All, Some, ◌<◌, Option, MatchOption, slice_get}
+use Rattle.alma_names.specs.Shapes.{PlainShape, limit, cell_counts, IsShapeAt}
+
+abbrev pub IsSmall : ℕ → Type 0
+IsSmall n = n ≤ limit
+
+-- cs is the number of cells of each shape, none is too many, and the five conditions of `add` hold of each shape
+pub record IsTable (t : List PlainShape) (cs : List ℕ) : Type 0 where
+  pub counted : cs ≡ cell_counts t
+  pub long : length cs ≡ length t
+  pub small : All IsSmall cs
+  pub shapes : (n : ℕ) (s : PlainShape) → slice_get t n ≡ Some s → IsShapeAt t n s
+
+-- the number n, or nothing where it is past the limit
+abbrev pub CountsUpToLimit : Option ℕ → ℕ → Type 0
+CountsUpToLimit answer n = MatchOption answer (limit < n) (λ m. (m ≡ n) × (m ≤ limit))

@@ -1,0 +1,13 @@
+//! The tables of a checker: the shapes of types, and the scopes of names.
+#![tactic(auto)]
+
+mod block;
+mod scopes;
+mod shapes;
+
+pub use block::{Access, Entry};
+pub use scopes::{DeclareError, Id, Scopes};
+pub use shapes::{FieldOf, Shape, ShapeError, ShapeId, Shapes};
+
+#[cfg(test)]
+mod tests;
