@@ -1,6 +1,6 @@
 -- The grammar of the small language, from tokens to the resolved program. Each fact says that the words begin with a
 -- phrase of a kind, what this phrase stands for, and which words are behind it.
-use Rattle.std.specs.Prelude.{◌≡◌, ℕ, ◌+◌, ◌^◌, ℤ, Bool, true, false, pos, negsuc, List, [], ◌∷◌, length, Some, None, codes}
+use Rattle.std.specs.Prelude.{◌≡◌, ℕ, ◌+◌, ◌-◌, ◌^◌, ℤ, Bool, true, false, pos, negsuc, List, [], ◌∷◌, length, Some, None, codes}
 use Rattle.alma_base.specs.declared.number.Range.{Range}
 use Rattle.alma_tree.specs.declared.kind.Kind.{Kind}
 use Rattle.alma_tree.specs.declared.kind.Kind.TheVariants as kinds
