@@ -8,68 +8,39 @@ use crate::{
 };
 use std::test::Fail;
 
-// A head of two number slots.
+// A head of two number slots; or one of a parameter alone, the place of a number.
 #[derive(Drop)]
-struct TwoNumbers;
-
-impl Head for TwoNumbers {
-    ghost head = { λ _. record { slots = 2; declared = 2; params = []; runs = (record { kind = slot.Number; end = 2 }) ∷ []; has_result = false } };
-
-    fn slots(&self) -> u32 {
-        2
-    }
-
-    fn declared(&self) -> u32 {
-        2
-    }
-
-    fn param_count(&self) -> u32 {
-        0
-    }
-
-    fn param(&self, _i: u32) -> CodeParam {
-        unreachable!()
-    }
-
-    fn run_count(&self) -> u32 {
-        1
-    }
-
-    fn run(&self, _i: u32) -> Run {
-        Run {
-            kind: SlotKind::Number,
-            end: 2,
-        }
-    }
-
-    fn has_result(&self) -> bool {
-        false
-    }
+struct Sketch {
+    has_place: bool,
 }
 
-// A head of one parameter, the place of a number.
-#[derive(Drop)]
-struct OnePlace;
+impl Head for Sketch {
+    ghost use Rattle.std.specs.Prelude.{if◌then◌else◌};
 
-impl Head for OnePlace {
-    ghost head = { λ _. record { slots = 1; declared = 0; params = (record { kind = param.Place; cells = 1 }) ∷ []; runs = (record { kind = slot.Place 1; end = 1 }) ∷ []; has_result = false } };
+    ghost head = { λ h. if h.has_place
+        then record { slots = 1; declared = 0; params = (record { kind = param.Place; cells = 1 }) ∷ []; runs = (record { kind = slot.Place 1; end = 1 }) ∷ []; has_result = false }
+        else record { slots = 2; declared = 2; params = []; runs = (record { kind = slot.Number; end = 2 }) ∷ []; has_result = false } };
 
     fn slots(&self) -> u32 {
-        1
+        if self.has_place { 1 } else { 2 }
     }
 
     fn declared(&self) -> u32 {
-        0
+        if self.has_place { 0 } else { 2 }
     }
 
     fn param_count(&self) -> u32 {
-        1
+        if self.has_place { 1 } else { 0 }
     }
 
     fn param(&self, _i: u32) -> CodeParam {
-        CodeParam {
-            kind: ParamKind::Place,
-            cells: 1,
+        if self.has_place {
+            CodeParam {
+                kind: ParamKind::Place,
+                cells: 1,
+            }
+        } else {
+            unreachable!()
         }
     }
 
@@ -78,9 +49,16 @@ impl Head for OnePlace {
     }
 
     fn run(&self, _i: u32) -> Run {
-        Run {
-            kind: SlotKind::Place(1),
-            end: 1,
+        if self.has_place {
+            Run {
+                kind: SlotKind::Place(1),
+                end: 1,
+            }
+        } else {
+            Run {
+                kind: SlotKind::Number,
+                end: 2,
+            }
         }
     }
 
@@ -88,10 +66,14 @@ impl Head for OnePlace {
         false
     }
 }
+
+const TWO_NUMBERS: Sketch = Sketch { has_place: false };
+
+const ONE_PLACE: Sketch = Sketch { has_place: true };
 
 #[test]
 fn a_pop_leaves_unknown_what_was_unknown(rt: HostRuntime) -> Result<(), Fail> {
-    let mut memory = Memory::new(rt.alloc(), &TwoNumbers)?;
+    let mut memory = Memory::new(rt.alloc(), &TWO_NUMBERS)?;
     memory.reserve(4, 4)?;
     memory.choose(ChoiceKind::Branch, 7)?;
     memory.write(0, 1, Cell::Int(5))?;
@@ -109,14 +91,14 @@ fn a_pop_leaves_unknown_what_was_unknown(rt: HostRuntime) -> Result<(), Fail> {
 
 #[test]
 fn a_frame_that_was_left_lives_again(rt: HostRuntime) -> Result<(), Fail> {
-    let mut memory = Memory::new(rt.alloc(), &TwoNumbers)?;
+    let mut memory = Memory::new(rt.alloc(), &TWO_NUMBERS)?;
     memory.reserve(2, 4)?;
     let place = CellPlace {
         frame: 0,
         slot: 0,
         len: 1,
     };
-    memory.enter(&OnePlace, 1, 9, &[Cell::Place(place)])?;
+    memory.enter(&ONE_PLACE, 1, 9, &[Cell::Place(place)])?;
     memory.choose(ChoiceKind::Branch, 9)?;
     memory.write(0, 0, Cell::Int(4))?;
     assert_eq!(rt; memory.leave()?, 9);
@@ -132,7 +114,7 @@ fn a_frame_that_was_left_lives_again(rt: HostRuntime) -> Result<(), Fail> {
 
 #[test]
 fn a_forall_carries_what_its_bodies_changed(rt: HostRuntime) -> Result<(), Fail> {
-    let mut memory = Memory::new(rt.alloc(), &TwoNumbers)?;
+    let mut memory = Memory::new(rt.alloc(), &TWO_NUMBERS)?;
     memory.choose(ChoiceKind::Forall, 3)?;
     memory.choose(ChoiceKind::Branch, 5)?;
     memory.choose(ChoiceKind::Body, 4)?;
