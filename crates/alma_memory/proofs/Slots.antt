@@ -1,5 +1,5 @@
 -- A pop keeps how many slots the global frame has, now and in each copy.
-use Rattle.std.proofs.Common.{◌≡◌, ℕ, ◌<◌, ◌-◌, List, [], length, take, arith}
+use Rattle.std.proofs.Common.{◌≡◌, ℕ, ◌<◌, ◌-◌, [], length, take, arith}
 use Rattle.std.specs.Prelude.{Option, Some, None, IsNone, true, false, is_some, ◌↔◌, if◌then◌else◌}
 use Rattle.std.specs.List.{All}
 use Rattle.std.proofs.lemmas.List.{nil_from_length}
@@ -23,7 +23,7 @@ left-slots slots Body e h = All-nil (CopyHasSlots slots)
 left-slots slots Done e h = All-nil (CopyHasSlots slots)
 
 -- a pop of an entry keeps the slots
-pub fail-slots : (slots : ℕ) (p q : Picture) → Makes Fail p q → (p.held ≡ [] → ⊥) → KeepsSlots slots p → KeepsSlots slots q
+fail-slots : (slots : ℕ) (p q : Picture) → Makes Fail p q → (p.held ≡ [] → ⊥) → KeepsSlots slots p → KeepsSlots slots q
 fail-slots slots p q m some h =
     let there : (length p.held ≡ 0 → ⊥) = λ e. some (nil_from_length p.held e) in
     let lt : length p.held - 1 < length p.held = omega (arith, there) in
