@@ -92,6 +92,7 @@ impl Memory {
         ensures now { self.new.now ≡ self.old.now }
         ensures held { self.new.held ≡ self.old.held }
         ensures rooms { KeepsRooms self.old self.new }
+        ensures succeeds { choices ≤ self.old.choice_room → trail ≤ self.old.trail_room → IsOk result }
         ensures choice_room { OnOk result (choices ≤ self.new.choice_room) }
         ensures trail_room { OnOk result (trail ≤ self.new.trail_room) }
         ensures call { Makes Nothing self.old self.new }
@@ -301,6 +302,7 @@ impl Memory {
             then overlaid self.old.now (entry_at self.old.held height).carry
             else self.old.now) }
         ensures held { self.new.held ≡ self.old.held }
+        ensures succeeds { length (entry_at self.old.held height).carry ≤ self.old.trail_room → IsOk result }
         ensures choice_room { self.old.choice_room ≤ self.new.choice_room }
         ensures trail_room { self.old.trail_room ≤ self.new.trail_room
             + (if is_ok result then length (entry_at self.old.held height).carry else 0) }
@@ -343,6 +345,7 @@ impl Memory {
         requires { IsTop self.old.held ChoiceKind.Done }
         ensures now { self.new.now ≡ (if is_ok result then overlaid self.old.now (top_of self.old.held).carry else self.old.now) }
         ensures held { self.new.held ≡ (if is_ok result then take (length self.old.held - 1) self.old.held else self.old.held) }
+        ensures succeeds { length (top_of self.old.held).carry ≤ self.old.trail_room → IsOk result }
         ensures choice_room { self.old.choice_room ≤ self.new.choice_room }
         ensures trail_room { self.old.trail_room ≤ self.new.trail_room
             + (if is_ok result then length (top_of self.old.held).carry else 0) }
