@@ -3,3 +3,6 @@
 #![tactic(auto)]
 
 pub mod laws;
+mod source;
+
+pub use source::{ReadError, read_source};

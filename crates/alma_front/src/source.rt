@@ -1,0 +1,25 @@
+// A stand-in for the reader, in this clone alone.
+ghost use Rattle.std.specs.Prelude.{◌≤◌, length};
+ghost use Rattle.alma_front.specs.Source.{IsRead};
+
+use alma_ir::Program;
+use std::alloc::Global;
+
+/// Why a source was not read.
+#[derive(Clone, Copy, Debug, PartialEq, Eq)]
+pub enum ReadError {
+    /// The source is no program of the small language.
+    NotYet,
+    /// Memory ran out.
+    Memory,
+}
+
+/// The program of a source of at most 1,048,576 bytes.
+pub fn read_source(alloc: Global, source: &[u8]) -> Result<Program, ReadError>
+    requires { length source.now ≤ 1048576 }
+    ensures { IsRead source.now result }
+{
+    let _ = alloc;
+    let _ = source;
+    Err(ReadError::Memory)
+}
