@@ -70,7 +70,13 @@ fn run_source<O: Sink>(alloc: Global, source: &[u8], steps: u64, out: &mut O) ->
 }
 
 // Runs a file.
-fn run_file<F: Files, O: Sink>(alloc: Global, name: &str, steps: u64, files: &mut F, out: &mut O) -> End
+fn run_file<F: Files, O: Sink>(
+    alloc: Global,
+    name: &str,
+    steps: u64,
+    files: &mut F,
+    out: &mut O,
+) -> End
     requires { steps ≤ greatest_steps }
     ensures { Performs (RequestOutcome (F.told files.old) (Run name.now steps))
         (files_side (F.told files.old) (F.fetch_faults files.old) (F.store_faults files.old))
