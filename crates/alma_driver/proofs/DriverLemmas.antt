@@ -13,8 +13,8 @@ use Rattle.alma_code.specs.Plain.{PlainCode}
 use Rattle.alma_lower.specs.declared.lowering.LowerError.{LowerError}
 use Rattle.alma_lower.specs.declared.lowering.LowerError.TheVariants as lower
 use Rattle.alma_lower.specs.Implements.{Implements}
-use Rattle.alma_front.specs.declared.source.ReadError.{ReadError}
-use Rattle.alma_front.specs.declared.source.ReadError.TheVariants as read
+use Rattle.alma_front.specs.declared.error.ReadError.{ReadError}
+use Rattle.alma_front.specs.declared.error.ReadError.TheVariants as read
 use Rattle.alma_front.specs.Source.{IsSource, IsRead}
 use Rattle.alma_driver.specs.Words.{Request, Run, Asks, Reads}
 use Rattle.alma_driver.specs.Outside.{SinkSide, FilesSide, FilesStay}

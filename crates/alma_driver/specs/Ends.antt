@@ -3,8 +3,8 @@ use Rattle.std.specs.Prelude.{List, ℕ, [], ◌++◌, codes, decimal}
 use Rattle.alma_base.specs.Fault.{run_fault_text}
 use Rattle.alma_io.specs.declared.files.Fetch.{Fetch}
 use Rattle.alma_io.specs.declared.files.Fetch.TheVariants as fetch
-use Rattle.alma_front.specs.declared.source.ReadError.{ReadError}
-use Rattle.alma_front.specs.declared.source.ReadError.TheVariants as read
+use Rattle.alma_front.specs.declared.error.ReadError.{ReadError}
+use Rattle.alma_front.specs.declared.error.ReadError.TheVariants as read
 use Rattle.alma_lower.specs.declared.lowering.LowerError.{LowerError}
 use Rattle.alma_lower.specs.declared.lowering.LowerError.TheVariants as lower
 use Rattle.alma_code.specs.declared.step.End as code

@@ -6,8 +6,8 @@ use Rattle.alma_ir.specs.Tree.{Program}
 use Rattle.alma_ir.specs.View.{program_of}
 use Rattle.alma_front.specs.Words.{word, KeepsDepth}
 use Rattle.alma_front.specs.Grammar.{IsModule}
-use Rattle.alma_front.specs.declared.source.ReadError.{ReadError}
-use Rattle.alma_front.specs.declared.source.ReadError.TheVariants.{NotYet, Memory}
+use Rattle.alma_front.specs.declared.error.ReadError.{ReadError}
+use Rattle.alma_front.specs.declared.error.ReadError.TheVariants.{NotYet, Memory}
 
 -- the source is this program: its tokens are those of the module, and at most 100 brackets are open at once
 pub record IsSource (source : List ℕ) (p : Program) : Type 0 where

@@ -2,17 +2,9 @@
 ghost use Rattle.std.specs.Prelude.{◌≤◌, length};
 ghost use Rattle.alma_front.specs.Source.{IsRead};
 
+use crate::error::ReadError;
 use alma_ir::Program;
 use std::alloc::Global;
-
-/// Why a source was not read.
-#[derive(Clone, Copy, Debug, PartialEq, Eq)]
-pub enum ReadError {
-    /// The source is no program of the small language.
-    NotYet,
-    /// Memory ran out.
-    Memory,
-}
 
 /// The program of a source of at most 1,048,576 bytes.
 pub fn read_source(alloc: Global, source: &[u8]) -> Result<Program, ReadError>
