@@ -304,14 +304,15 @@ const COURSES: [Course; 4] = [
     },
 ];
 
+// How many of the steps are within the budget.
+fn count_up_to(steps: &[u64], budget: u64) -> usize {
+    steps.iter().filter(|step| **step <= budget).count()
+}
+
 // Runs the program with a budget of so many steps.
 fn check_budget(rt: &impl Abort, alloc: Global, course: &Course, budget: u64) -> Result<(), Fail> {
     let option = format!(in alloc; "--steps={budget}")?;
-    let printed = course
-        .prints_at
-        .iter()
-        .filter(|step| **step <= budget)
-        .count();
+    let printed = count_up_to(course.prints_at, budget);
     let whole = budget >= course.steps;
     let call = Call {
         words: &["run", "a.al", option.as_str()],
