@@ -92,22 +92,40 @@ struct Call<'s> {
 
 const RUN: [&str; 2] = ["run", "a.al"];
 
-// Makes the call. Out and err take at most seven bytes in one write.
-fn check(rt: &impl Abort, alloc: Global, call: &Call<'_>, answer: &Answer<'_>) -> Result<(), Fail> {
-    let mut words = Vec::new(alloc);
-    for word in call.words {
-        words.push(String::from_str(alloc, word)?)?;
+// The words as the program takes them.
+fn words_of(alloc: Global, words: &[&str]) -> Result<Vec<String>, Fail> {
+    let mut found = Vec::new(alloc);
+    for word in words {
+        found.push(String::from_str(alloc, word)?)?;
     }
-    let mut files = MemFiles::new(alloc, call.fails.fetch)?;
-    files.put(alloc, "a.al", call.source)?;
+    Ok(found)
+}
+
+// Runs the program on these words. Out and err take at most seven bytes in one write.
+fn check_words(
+    rt: &impl Abort,
+    alloc: Global,
+    words: &[String],
+    source: &[u8],
+    fails: &Fails,
+    answer: &Answer<'_>,
+) -> Result<(), Fail> {
+    let mut files = MemFiles::new(alloc, fails.fetch)?;
+    files.put(alloc, "a.al", source)?;
     let mut input = MemSource::new(alloc, b"", 1, &[])?;
-    let mut out = MemSink::new(alloc, 1000, 7, call.fails.out)?;
-    let mut err = MemSink::new(alloc, 1000, 7, call.fails.err)?;
-    let status = alma(alloc, &words, &mut files, &mut input, &mut out, &mut err);
+    let mut out = MemSink::new(alloc, 1000, 7, fails.out)?;
+    let mut err = MemSink::new(alloc, 1000, 7, fails.err)?;
+    let status = alma(alloc, words, &mut files, &mut input, &mut out, &mut err);
     assert_eq!(rt; status, Status(answer.status));
     assert_eq!(rt; out.bytes(), answer.out);
     assert_eq!(rt; err.bytes(), answer.err);
     Ok(())
+}
+
+// Makes the call.
+fn check(rt: &impl Abort, alloc: Global, call: &Call<'_>, answer: &Answer<'_>) -> Result<(), Fail> {
+    let words = words_of(alloc, call.words)?;
+    check_words(rt, alloc, &words, call.source, &call.fails, answer)
 }
 
 struct Run {
@@ -309,26 +327,31 @@ fn count_up_to(steps: &[u64], budget: u64) -> usize {
     steps.iter().filter(|step| **step <= budget).count()
 }
 
+// What the program comes to with a budget of so many steps.
+fn budget_answer(course: &Course, budget: u64) -> Answer<'_> {
+    let printed = count_up_to(course.prints_at, budget).min(course.out.len());
+    let out = &course.out[..printed];
+    if budget < course.steps {
+        Answer {
+            status: 5,
+            out,
+            err: b"alma: steps out\n",
+        }
+    } else {
+        Answer {
+            status: course.status,
+            out,
+            err: b"",
+        }
+    }
+}
+
 // Runs the program with a budget of so many steps.
 fn check_budget(rt: &impl Abort, alloc: Global, course: &Course, budget: u64) -> Result<(), Fail> {
-    let option = format!(in alloc; "--steps={budget}")?;
-    let printed = count_up_to(course.prints_at, budget);
-    let whole = budget >= course.steps;
-    let call = Call {
-        words: &["run", "a.al", option.as_str()],
-        source: course.source,
-        fails: NO_FAILS,
-    };
-    let answer = Answer {
-        status: if whole { course.status } else { 5 },
-        out: &course.out[..printed.min(course.out.len())],
-        err: if whole {
-            b"".as_slice()
-        } else {
-            b"alma: steps out\n".as_slice()
-        },
-    };
-    check(rt, alloc, &call, &answer)
+    let mut words = words_of(alloc, &RUN)?;
+    words.push(format!(in alloc; "--steps={budget}")?)?;
+    let answer = budget_answer(course, budget);
+    check_words(rt, alloc, &words, course.source, &NO_FAILS, &answer)
 }
 
 #[test]
