@@ -1,19 +1,22 @@
 -- Why a call answers a fault, and that none is hidden.
 use Rattle.std.proofs.Common.{◌≡◌, ◌<◌, ◌∙◌, ℕ, List, [], refl, sym, ap, subst, inl, inr, arith}
 use Rattle.std.proofs.lemmas.List.{append-nil}
-use Rattle.std.specs.Prelude.{Bool, true, false, ◌⊎◌, Option}
+use Rattle.std.specs.Prelude.{◌⊎◌, Option}
 use Rattle.std.specs.Io.KnownBytes.{Appends}
 use Rattle.alma_io.specs.Fronts.{AppendsFront}
 use Rattle.alma_io.specs.Causes.{Rose}
 use Rattle.alma_io.specs.Files.{Told, Missing, MayHave, MayPass}
+use Rattle.alma_ir.specs.Tree.{Program}
+use Rattle.alma_code.specs.declared.step.End as code
+use Rattle.alma_code.specs.declared.step.End.TheVariants as code_end
 use Rattle.alma_driver.specs.Words.{Request, Run, Asks}
 use Rattle.alma_driver.specs.Outside.{SinkSide, Outside}
-use Rattle.alma_driver.specs.Ends.{run_end, status_of, text_of}
-use Rattle.alma_driver.specs.Outcome.{Due, SourceOutcome, ran, not_yet, RequestOutcome, absent, too_long, fetched, Outcome, bad_word, asks, silent, Lacks, source_limit}
+use Rattle.alma_driver.specs.Ends.{ended_end, status_of, text_of}
+use Rattle.alma_driver.specs.Outcome.{Due, size_of, ProgramOutcome, ran, steps_out, too_much_code, SourceOutcome, compiled, not_yet, RequestOutcome, absent, too_long, fetched, Outcome, bad_word, asks, silent, Lacks, source_limit}
 use Rattle.alma_driver.specs.Course.{Gains, FailsWithin, GainsPrefix, Goes, Fetches, Reports, Answers}
 use Rattle.alma_driver.specs.Causes.{Causes, WriteFailed, WritesGrew}
 use Rattle.alma_driver.specs.declared.end.End.{End}
-use Rattle.alma_driver.specs.declared.end.End.TheVariants.{Succeeded, Failed, BadWord, ReadFault, WriteFault, Memory, TooLong, NotYet}
+use Rattle.alma_driver.specs.declared.end.End.TheVariants.{Succeeded, Failed, BadWord, Fault, StepsOut, ReadFault, WriteFault, Memory, TooLong, TooMuchCode, NotYet}
 
 -- the ways in which a call may go, by the end that it comes to
 data Way (P : Due → Type 0) (a b : SinkSide) (end : End) : Type 0 where
@@ -27,8 +30,11 @@ way_of P a b Memory g = starved refl g.0 g.1
 way_of P a b Succeeded g = ended (λ e. absurd (omega (arith, e))) g.0 g.1 g.2 g.3
 way_of P a b Failed g = ended (λ e. absurd (omega (arith, e))) g.0 g.1 g.2 g.3
 way_of P a b (BadWord k) g = ended (λ e. absurd (omega (arith, e))) g.0 g.1 g.2 g.3
+way_of P a b (Fault fault) g = ended (λ e. absurd (omega (arith, e))) g.0 g.1 g.2 g.3
+way_of P a b StepsOut g = ended (λ e. absurd (omega (arith, e))) g.0 g.1 g.2 g.3
 way_of P a b ReadFault g = ended (λ e. absurd (omega (arith, e))) g.0 g.1 g.2 g.3
 way_of P a b TooLong g = ended (λ e. absurd (omega (arith, e))) g.0 g.1 g.2 g.3
+way_of P a b (TooMuchCode size) g = ended (λ e. absurd (omega (arith, e))) g.0 g.1 g.2 g.3
 way_of P a b NotYet g = ended (λ e. absurd (omega (arith, e))) g.0 g.1 g.2 g.3
 
 -- only one end has the status of a read fault
@@ -36,10 +42,13 @@ read_status : (end : End) → status_of end ≡ 6 → end ≡ ReadFault
 read_status Succeeded e = absurd (omega (arith, e))
 read_status Failed e = absurd (omega (arith, e))
 read_status (BadWord k) e = absurd (omega (arith, e))
+read_status (Fault fault) e = absurd (omega (arith, e))
+read_status StepsOut e = absurd (omega (arith, e))
 read_status ReadFault e = refl
 read_status WriteFault e = absurd (omega (arith, e))
 read_status Memory e = absurd (omega (arith, e))
 read_status TooLong e = absurd (omega (arith, e))
+read_status (TooMuchCode size) e = absurd (omega (arith, e))
 read_status NotYet e = absurd (omega (arith, e))
 
 -- all bytes are a prefix
@@ -49,19 +58,26 @@ whole_front a b bytes h = (bytes, [], sym (append-nil bytes), h)
 end_is : (due : Due) (end end' : End) (out : List ℕ) → due ≡ record { end = end; out = out } → due.end ≡ end' → end ≡ end'
 end_is due end end' out e q = sym (ap (λ (d : Due). d.end) e) ∙ q
 
-run_reads : (success : Bool) → run_end success ≡ ReadFault → ⊥
-run_reads true e = cc e
-run_reads false e = cc e
+-- no run ends in a read fault
+run_reads : (end : code.End) → ended_end end ≡ ReadFault → ⊥
+run_reads code_end.Succeeded e = cc e
+run_reads code_end.Failed e = cc e
+run_reads (code_end.Fault fault) e = cc e
 
-source_reads : (source : List ℕ) (due : Due) → SourceOutcome source due → due.end ≡ ReadFault → ⊥
-source_reads source due (ran p s e) q = run_reads _ (end_is due _ ReadFault _ e q)
-source_reads source due (not_yet none e) q = cc (end_is due NotYet ReadFault [] e q)
+program_reads : (p : Program) (steps : ℕ) (due : Due) → ProgramOutcome p steps due → due.end ≡ ReadFault → ⊥
+program_reads p steps due (ran printed end size meaning e) q = run_reads end (end_is due (ended_end end) ReadFault printed e q)
+program_reads p steps due (steps_out printed size covers few e) q = cc (end_is due StepsOut ReadFault printed e q)
+program_reads p steps due (too_much_code size e) q = cc (end_is due (TooMuchCode (size_of p)) ReadFault [] e q)
+
+source_reads : (source : List ℕ) (steps : ℕ) (due : Due) → SourceOutcome source steps due → due.end ≡ ReadFault → ⊥
+source_reads source steps due (compiled p is o) q = program_reads p steps due o q
+source_reads source steps due (not_yet none e) q = cc (end_is due NotYet ReadFault [] e q)
 
 request_reads : (told : List ℕ → Told) (words : List (List ℕ)) (r : Request) (due : Due) → Asks words r → RequestOutcome told r due
     → due.end ≡ ReadFault → Lacks words told × (due ≡ silent ReadFault)
-request_reads told words r due h (absent name same none e) q = ((name, subst (Asks words) same h, none), e)
-request_reads told words r due h (too_long name same past e) q = cc (end_is due TooLong ReadFault [] e q)
-request_reads told words r due h (fetched name source same has short o) q = absurd (source_reads source due o q)
+request_reads told words r due h (absent name steps same none e) q = ((name, steps, subst (Asks words) same h, none), e)
+request_reads told words r due h (too_long name steps same past e) q = cc (end_is due TooLong ReadFault [] e q)
+request_reads told words r due h (fetched name steps source same has short o) q = absurd (source_reads source steps due o q)
 
 -- a read fault is due only where the file is missing, and without a print
 outcome_reads : (told : List ℕ → Told) (words : List (List ℕ)) (due : Due) → Outcome words told due → due.end ≡ ReadFault
@@ -70,23 +86,23 @@ outcome_reads told words due (bad_word k h e) q = cc (end_is due (BadWord k) Rea
 outcome_reads told words due (asks r h o) q = request_reads told words r due h o q
 
 -- words ask for one file
-same_file : (words : List (List ℕ)) (name other : List ℕ) → Asks words (Run name) → Asks words (Run other) → name ≡ other
-same_file words name other h k = cc (h.0, k.0)
+same_file : (words : List (List ℕ)) (name other : List ℕ) (steps others : ℕ) → Asks words (Run name steps) → Asks words (Run other others) → name ≡ other
+same_file words name other steps others h k = cc (h.1, k.1)
 
-run_absent : (told : List ℕ → Told) (words name : _) (r : Request) (due : Due) → Asks words (Run name) → told name ≡ Missing → Asks words r
-    → RequestOutcome told r due → due.end ≡ ReadFault
-run_absent told words name r due h none k (absent other same gone e) = ap (λ (d : Due). d.end) e
-run_absent told words name r due h none k (too_long other same past e) =
-    let one : name ≡ other = same_file words name other h (subst (Asks words) same k) in
+run_absent : (told : List ℕ → Told) (words : List (List ℕ)) (name : List ℕ) (steps : ℕ) (r : Request) (due : Due) → Asks words (Run name steps)
+    → told name ≡ Missing → Asks words r → RequestOutcome told r due → due.end ≡ ReadFault
+run_absent told words name steps r due h none k (absent other others same gone e) = ap (λ (d : Due). d.end) e
+run_absent told words name steps r due h none k (too_long other others same past e) =
+    let one : name ≡ other = same_file words name other steps others h (subst (Asks words) same k) in
     absurd (subst (λ (t : Told). MayPass t source_limit) (subst (λ (n : List ℕ). told n ≡ Missing) one none) past)
-run_absent told words name r due h none k (fetched other source same has short o) =
-    let one : name ≡ other = same_file words name other h (subst (Asks words) same k) in
+run_absent told words name steps r due h none k (fetched other others source same has short o) =
+    let one : name ≡ other = same_file words name other steps others h (subst (Asks words) same k) in
     absurd (subst (λ (t : Told). MayHave t source) (subst (λ (n : List ℕ). told n ≡ Missing) one none) has)
 
 -- where the file is missing a read fault is due
 outcome_absent : (told : List ℕ → Told) (words : List (List ℕ)) (due : Due) → Lacks words told → Outcome words told due → due.end ≡ ReadFault
-outcome_absent told words due l (bad_word k bad e) = absurd (bad.none (Run l.0) l.1)
-outcome_absent told words due l (asks r k o) = run_absent told words l.0 r due l.1 l.2 k o
+outcome_absent told words due l (bad_word k bad e) = absurd (bad.none (Run l.0 l.1) l.2)
+outcome_absent told words due l (asks r k o) = run_absent told words l.0 l.1 r due l.2 l.3 k o
 
 -- at a read fault the file is missing, or a fetch failed; nothing was written
 read_fault_of : (words : List (List ℕ)) (before after : Outside) (status : ℕ) → Answers words before after status → status ≡ 6

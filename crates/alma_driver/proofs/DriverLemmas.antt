@@ -1,44 +1,31 @@
 -- From what the parts of a call ensure to how the call may go.
-use Rattle.std.proofs.Common.{◌≡◌, ◌≤◌, ℕ, List, [], length, ap, refl, ◌∙◌, inl, inr}
-use Rattle.std.specs.Prelude.{Bool, true, false, Err}
+use Rattle.std.proofs.Common.{◌≡◌, ◌≤◌, ◌<◌, ◌*◌, ◌^◌, ◌-◌, ℕ, List, [], length, ap, sym, subst, refl, inl, inr, arith}
+use Rattle.std.specs.Prelude.{◌⊎◌, min, Result, Ok, Err}
+use Rattle.std.proofs.lemmas.Bool.{cases_lt}
 use Rattle.alma_io.specs.Files.{MayHave, IsFetched}
-use Rattle.alma_io.proofs.Known.{appends_none}
-use Rattle.alma_driver.specs.Words.{Request, Run, Asks, Reads}
-use Rattle.alma_driver.specs.Program.{statements, program}
-use Rattle.alma_driver.specs.Tokens.{IsSource}
-use Rattle.alma_driver.specs.Source.{IsRead}
-use Rattle.alma_driver.specs.Code.{body_code}
-use Rattle.alma_driver.specs.Outside.{SinkSide, FilesSide, FilesStay}
-use Rattle.alma_driver.specs.Machine.{printed, ends_well, start, Halts}
-use Rattle.alma_driver.specs.Ends.{run_end, halt_end, read_end, words_end, fetch_end}
-use Rattle.alma_driver.specs.Outcome.{Due, SourceOutcome, ran, not_yet, RequestOutcome, absent, too_long, fetched, Outcome, bad_word, asks, silent, source_limit}
-use Rattle.alma_driver.specs.Course.{Gains, GainsPrefix, Goes, Fetches, Performs}
-use Rattle.alma_driver.specs.declared.tree.Module.{Module}
-use Rattle.alma_driver.specs.declared.code.Instr.{Instr}
-use Rattle.alma_driver.specs.declared.machine.Halt.{Halt}
-use Rattle.alma_driver.specs.declared.machine.Halt.TheVariants as halt
-use Rattle.alma_driver.specs.declared.source.ReadError.{ReadError}
-use Rattle.alma_driver.specs.declared.source.ReadError.TheVariants as read
-use Rattle.alma_driver.specs.declared.words.WordsError.{WordsError}
-use Rattle.alma_driver.specs.declared.words.WordsError.TheVariants as words
 use Rattle.alma_io.specs.declared.files.Fetch.{Fetch}
 use Rattle.alma_io.specs.declared.files.Fetch.TheVariants as fetch
+use Rattle.alma_io.proofs.Known.{appends_none}
+use Rattle.alma_ir.specs.Tree.{Program}
+use Rattle.alma_ir.specs.Count.{nodes}
+use Rattle.alma_code.specs.declared.code.Code.{Code}
+use Rattle.alma_code.specs.Plain.{PlainCode}
+use Rattle.alma_lower.specs.declared.lowering.LowerError.{LowerError}
+use Rattle.alma_lower.specs.declared.lowering.LowerError.TheVariants as lower
+use Rattle.alma_lower.specs.Implements.{Implements}
+use Rattle.alma_front.specs.declared.error.ReadError.{ReadError}
+use Rattle.alma_front.specs.declared.error.ReadError.TheVariants as read
+use Rattle.alma_front.specs.Source.{IsSource, IsRead}
+use Rattle.alma_driver.specs.Words.{Request, Run, Asks, Reads}
+use Rattle.alma_driver.specs.Outside.{SinkSide, FilesSide, FilesStay}
+use Rattle.alma_driver.specs.Ends.{lower_end, read_end, words_end, fetch_end}
+use Rattle.alma_driver.specs.Outcome.{Due, size_of, size_limit, ProgramOutcome, too_much_code, SourceOutcome, compiled, not_yet, RequestOutcome, absent, too_long, fetched, Outcome, bad_word, asks, silent, source_limit}
+use Rattle.alma_driver.specs.Course.{Gains, GainsPrefix, Goes, Fetches, Performs}
+use Rattle.alma_driver.specs.declared.words.WordsError.{WordsError}
+use Rattle.alma_driver.specs.declared.words.WordsError.TheVariants as words
 use Rattle.alma_driver.specs.declared.end.End.{End}
-use Rattle.alma_driver.specs.declared.end.End.TheVariants.{Succeeded, Failed, BadWord, ReadFault, WriteFault, Memory, TooLong, NotYet}
-use Rattle.alma_driver.proofs.CodeLemmas.{body_does}
-
--- an end with its bytes
-abbrev pub due_of : End → List ℕ → Due
-due_of end out = record { end = end; out = out }
-
--- the code of a module that was read does what its source comes to
-pub ran_code : (source : List ℕ) (m : Module) (code : List Instr) (success : Bool) → IsSource source (program m) → code ≡ body_code (statements m.body.items)
-    → success ≡ ends_well start code → SourceOutcome source (due_of (run_end success) (printed start code))
-ran_code source m code success s e q =
-    let does = body_does (statements m.body.items) in
-    let out = ap (printed start) e ∙ does.printed start in
-    let end = ap run_end (q ∙ ap (ends_well start) e ∙ does.ended start) in
-    ran (program m) s (ap (λ (x : End). due_of x (printed start code)) end ∙ ap (due_of _) out)
+use Rattle.alma_driver.specs.declared.end.End.TheVariants.{Succeeded, Failed, BadWord, Fault, StepsOut, ReadFault, WriteFault, Memory, TooLong, TooMuchCode, NotYet}
+use Rattle.alma_driver.proofs.RunLemmas.{IsDue, program_due}
 
 -- an outcome inside another
 pub goes_map : (P Q : Due → Type 0) → ((due : Due) → P due → Q due) → (a b : SinkSide) (end : End) → Goes P a b end → Goes Q a b end
@@ -50,44 +37,90 @@ goes_map P Q f a b Memory g = (halted g.0, g.1) where
 goes_map P Q f a b Succeeded g = (g.0, g.1, f g.0 g.2, g.3)
 goes_map P Q f a b Failed g = (g.0, g.1, f g.0 g.2, g.3)
 goes_map P Q f a b (BadWord k) g = (g.0, g.1, f g.0 g.2, g.3)
+goes_map P Q f a b (Fault fault) g = (g.0, g.1, f g.0 g.2, g.3)
+goes_map P Q f a b StepsOut g = (g.0, g.1, f g.0 g.2, g.3)
 goes_map P Q f a b ReadFault g = (g.0, g.1, f g.0 g.2, g.3)
 goes_map P Q f a b TooLong g = (g.0, g.1, f g.0 g.2, g.3)
+goes_map P Q f a b (TooMuchCode size) g = (g.0, g.1, f g.0 g.2, g.3)
 goes_map P Q f a b NotYet g = (g.0, g.1, f g.0 g.2, g.3)
-
--- a run that went to its end
-pub goes_ended : (P : Due → Type 0) (success : Bool) (bytes : List ℕ) (a b : SinkSide)
-    → P (due_of (run_end success) bytes) → Gains a b bytes → Goes P a b (run_end success)
-goes_ended P true bytes a b p h = (due_of Succeeded bytes, refl, p, h)
-goes_ended P false bytes a b p h = (due_of Failed bytes, refl, p, h)
-
--- a run that was halted
-pub goes_halted : (P : Due → Type 0) (halt : Halt) (due : Due) (a b : SinkSide) → P due → Halts due.out a b halt → Goes P a b (halt_end halt)
-goes_halted P halt.WriteFault due a b p h = (due, p, (h.0, h.1))
-goes_halted P halt.Memory due a b p h = (inr (due, p, h.0), h.1)
 
 -- a sink that nothing was done to gained nothing
 pub gains_none : (a : SinkSide) → Gains a a []
 gains_none a = (appends_none a.written, refl)
 
+-- memory was wanted before the first print
+pub goes_starved : (P : Due → Type 0) (a : SinkSide) → Goes P a a Memory
+goes_starved P a = (inl (appends_none a.written), refl)
+
+-- what compiling answers where it gives no code, and where it gives one
+abbrev not_lowered : LowerError → Result Code LowerError
+not_lowered error = Err error
+
+abbrev lowered : Code → Result Code LowerError
+lowered code = Ok code
+
+-- a program that was not compiled
+pub goes_refused : (p : Program) (steps : ℕ) (error : LowerError) (a : SinkSide)
+    → (size_limit < size_of p → not_lowered error ≡ not_lowered (lower.TooMuchCode (size_of p)))
+    → (size_of p ≤ size_limit → (n : ℕ) → not_lowered error ≡ not_lowered (lower.TooMuchCode n) → ⊥)
+    → Goes (ProgramOutcome p steps) a a (lower_end error)
+goes_refused p steps (lower.TooMuchCode n) a too_much within = by (cases_lt size_limit (size_of p))
+  where
+    by : (size_limit < size_of p) ⊎ (size_of p ≤ size_limit) → Goes (ProgramOutcome p steps) a a (TooMuchCode n)
+    by (inl large) =
+        let same : n ≡ size_of p = cc (too_much large) in
+        (silent (TooMuchCode n), refl, too_much_code large (ap (λ k. silent (TooMuchCode k)) same), gains_none a)
+    by (inr small) = absurd (within small n refl)
+goes_refused p steps lower.Memory a too_much within = goes_starved (ProgramOutcome p steps) a
+
+-- a program that was compiled is within its greatest size
+pub compiled_within : (p : Program) (code : Code) → (size_limit < size_of p → lowered code ≡ not_lowered (lower.TooMuchCode (size_of p)))
+    → size_of p ≤ size_limit
+compiled_within p code too_much = by (cases_lt size_limit (size_of p))
+  where
+    by : (size_limit < size_of p) ⊎ (size_of p ≤ size_limit) → size_of p ≤ size_limit
+    by (inl large) = cc (too_much large)
+    by (inr small) = small
+
+-- what is within a limit below its cap is so without the cap
+uncapped : (n cap limit : ℕ) → limit < cap → min n cap ≤ limit → n ≤ limit
+uncapped n cap limit below within = omega arith
+
+-- its nodes are few enough for the limits of code
+pub few_nodes : (p : Program) → size_of p ≤ size_limit → 16 * nodes p ≤ 4194304
+few_nodes p within = uncapped (16 * nodes p) (2 ^ 64 - 1) 4194304 (omega arith) within
+
+-- a program that was compiled and run
+pub goes_compiled : (p : Program) (code : PlainCode) (steps : ℕ) (a b : SinkSide) (end : End) → Implements code p → size_of p ≤ size_limit
+    → Goes (IsDue code steps) a b end → Goes (ProgramOutcome p steps) a b end
+goes_compiled p code steps a b end implements within g =
+    goes_map (IsDue code steps) (ProgramOutcome p steps)
+    (λ due e. subst (λ (d : Due). ProgramOutcome p steps d) (sym e) (program_due p code steps implements within)) a b end g
+
+-- a source that was read, compiled and run
+pub goes_read : (source : List ℕ) (p : Program) (steps : ℕ) (a b : SinkSide) (end : End) → IsSource source p → Goes (ProgramOutcome p steps) a b end
+    → Goes (SourceOutcome source steps) a b end
+goes_read source p steps a b end is g = goes_map (ProgramOutcome p steps) (SourceOutcome source steps) (λ due o. compiled p is o) a b end g
+
 -- a source that was not read
-pub goes_unread : (source : List ℕ) (error : ReadError) (a : SinkSide) → IsRead source (Err error) → Goes (SourceOutcome source) a a (read_end error)
-goes_unread source read.NotYet a h = (silent NotYet, refl, not_yet h refl, gains_none a)
-goes_unread source read.Memory a h = (inl (appends_none a.written), refl)
+pub goes_unread : (source : List ℕ) (steps : ℕ) (error : ReadError) (a : SinkSide) → IsRead source (Err error) → Goes (SourceOutcome source steps) a a (read_end error)
+goes_unread source steps read.NotYet a h = (silent NotYet, refl, not_yet h refl, gains_none a)
+goes_unread source steps read.Memory a h = goes_starved (SourceOutcome source steps) a
 
 -- a file that was not fetched
-pub performs_unfetched : (f f' : FilesSide) (name : List ℕ) (fault : Fetch) (a : SinkSide) → FilesStay f f'
-    → IsFetched (f.told name) source_limit f.fetch_faults f'.fetch_faults (Err fault) → Performs (RequestOutcome f.told (Run name)) f f' a a (fetch_end fault)
-performs_unfetched f f' name fetch.Absent a s h = (s, inr (h.1, (silent ReadFault, refl, absent name refl h.0 refl, gains_none a)))
-performs_unfetched f f' name fetch.Failed a s h = (s, inl (refl, (h.0, h.1), gains_none a))
-performs_unfetched f f' name fetch.TooLong a s h = (s, inr (h.1, (silent TooLong, refl, too_long name refl h.0 refl, gains_none a)))
-performs_unfetched f f' name fetch.Memory a s h = (s, inr (h, (inl (appends_none a.written), refl)))
+pub performs_unfetched : (f f' : FilesSide) (name : List ℕ) (steps : ℕ) (fault : Fetch) (a : SinkSide) → FilesStay f f'
+    → IsFetched (f.told name) source_limit f.fetch_faults f'.fetch_faults (Err fault) → Performs (RequestOutcome f.told (Run name steps)) f f' a a (fetch_end fault)
+performs_unfetched f f' name steps fetch.Absent a s h = (s, inr (h.1, (silent ReadFault, refl, absent name steps refl h.0 refl, gains_none a)))
+performs_unfetched f f' name steps fetch.Failed a s h = (s, inl (refl, (h.0, h.1), gains_none a))
+performs_unfetched f f' name steps fetch.TooLong a s h = (s, inr (h.1, (silent TooLong, refl, too_long name steps refl h.0 refl, gains_none a)))
+performs_unfetched f f' name steps fetch.Memory a s h = (s, inr (h, (inl (appends_none a.written), refl)))
 
 -- a file that was fetched
-pub performs_fetched : (f f' : FilesSide) (name source : List ℕ) (a b : SinkSide) (end : End) → FilesStay f f'
-    → MayHave (f.told name) source → length source ≤ source_limit → f'.fetch_faults ≡ f.fetch_faults → Goes (SourceOutcome source) a b end
-    → Performs (RequestOutcome f.told (Run name)) f f' a b end
-performs_fetched f f' name source a b end s has short q g =
-    (s, inr (q, goes_map (SourceOutcome source) (RequestOutcome f.told (Run name)) (λ due o. fetched name source refl has short o) a b end g))
+pub performs_fetched : (f f' : FilesSide) (name : List ℕ) (steps : ℕ) (source : List ℕ) (a b : SinkSide) (end : End) → FilesStay f f'
+    → MayHave (f.told name) source → length source ≤ source_limit → f'.fetch_faults ≡ f.fetch_faults → Goes (SourceOutcome source steps) a b end
+    → Performs (RequestOutcome f.told (Run name steps)) f f' a b end
+performs_fetched f f' name steps source a b end s has short q g =
+    (s, inr (q, goes_map (SourceOutcome source steps) (RequestOutcome f.told (Run name steps)) (λ due o. fetched name steps source refl has short o) a b end g))
 
 -- files that nothing was done to
 pub files_same : (f : FilesSide) → FilesStay f f

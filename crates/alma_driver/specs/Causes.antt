@@ -25,7 +25,7 @@ pub record Causes (words : List (List ℕ)) (before after : Outside) (status : �
   pub write_fault : status ≡ 7 → WriteFailed before after
   -- whatever the status, out gained no more than what is due
   pub prefix : GainsPrefix (Outcome words before.files.told) before.out after.out
-  -- but for faults and want of memory, status, out and err are all that is due
+  -- but for read faults, write faults and want of memory, status, out and err are all that is due
   pub whole : (status ≡ 6 → ⊥) → (status ≡ 7 → ⊥) → (status ≡ 8 → ⊥)
       → (due : Due) × Outcome words before.files.told due × (status ≡ status_of due.end) × Gains before.out after.out due.out × Gains before.err after.err (text_of due.end)
   -- a failed write is not hidden: write fault, or want of memory

@@ -1,52 +1,83 @@
 -- The ends of a call: their statuses and their texts.
-use Rattle.std.specs.Prelude.{List, ℕ, Bool, true, false, [], ◌++◌, codes, decimal}
+use Rattle.std.specs.Prelude.{List, ℕ, [], ◌++◌, codes, decimal}
+use Rattle.alma_base.specs.Fault.{run_fault_text}
 use Rattle.alma_io.specs.declared.files.Fetch.{Fetch}
 use Rattle.alma_io.specs.declared.files.Fetch.TheVariants as fetch
+use Rattle.alma_front.specs.declared.error.ReadError.{ReadError}
+use Rattle.alma_front.specs.declared.error.ReadError.TheVariants as read
+use Rattle.alma_lower.specs.declared.lowering.LowerError.{LowerError}
+use Rattle.alma_lower.specs.declared.lowering.LowerError.TheVariants as lower
+use Rattle.alma_code.specs.declared.step.End as code
+use Rattle.alma_code.specs.declared.step.End.TheVariants as ended
+use Rattle.alma_code.specs.Machine.{Mode, Going, Failing, Ended, Stuck}
+use Rattle.alma_machine.specs.declared.machine.RunEnd.{RunEnd}
+use Rattle.alma_machine.specs.declared.machine.RunEnd.TheVariants as run
 use Rattle.alma_driver.specs.declared.words.WordsError.{WordsError}
 use Rattle.alma_driver.specs.declared.words.WordsError.TheVariants as words
-use Rattle.alma_driver.specs.declared.source.ReadError.{ReadError}
-use Rattle.alma_driver.specs.declared.source.ReadError.TheVariants as read
-use Rattle.alma_driver.specs.declared.machine.Halt.{Halt}
-use Rattle.alma_driver.specs.declared.machine.Halt.TheVariants as halt
 use Rattle.alma_driver.specs.declared.end.End.{End}
-use Rattle.alma_driver.specs.declared.end.End.TheVariants.{Succeeded, Failed, BadWord, ReadFault, WriteFault, Memory, TooLong, NotYet}
+use Rattle.alma_driver.specs.declared.end.End.TheVariants.{Succeeded, Failed, BadWord, Fault, StepsOut, ReadFault, WriteFault, Memory, TooLong, TooMuchCode, NotYet}
 
 -- the status of an end
 abbrev pub status_of : End → ℕ
 status_of Succeeded = 0
 status_of Failed = 1
 status_of (BadWord k) = 2
+status_of (Fault fault) = 4
+status_of StepsOut = 5
 status_of ReadFault = 6
 status_of WriteFault = 7
 status_of Memory = 8
 status_of TooLong = 10
+status_of (TooMuchCode size) = 11
 status_of NotYet = 12
 
--- the text of an end that has no number
+-- the text of an end, but for what names a word, a fault or a size
 abbrev pub fixed_text : End → List ℕ
 fixed_text Succeeded = []
 fixed_text Failed = []
 fixed_text (BadWord k) = []
+fixed_text (Fault fault) = []
+fixed_text StepsOut = codes "alma: steps out\n"
 fixed_text ReadFault = codes "alma: read fault\n"
 fixed_text WriteFault = codes "alma: write fault\n"
 fixed_text Memory = codes "alma: out of memory\n"
 fixed_text TooLong = codes "alma: too long\n"
+fixed_text (TooMuchCode size) = []
 fixed_text NotYet = codes "alma: not yet\n"
 
 -- the text of an end
 abbrev pub text_of : End → List ℕ
 text_of (BadWord k) = codes "alma: bad word " ++ (decimal k ++ codes "\n")
+text_of (Fault fault) = codes "alma: fault " ++ (run_fault_text fault ++ codes "\n")
+text_of (TooMuchCode size) = codes "alma: too much code " ++ (decimal size ++ codes "\n")
 text_of end = fixed_text end
 
--- the end of a run, in success or not
-abbrev pub run_end : Bool → End
-run_end true = Succeeded
-run_end false = Failed
+-- the end of a call whose run ended
+abbrev pub ended_end : code.End → End
+ended_end ended.Succeeded = Succeeded
+ended_end ended.Failed = Failed
+ended_end (ended.Fault fault) = Fault fault
 
--- the end of a run that was halted
-abbrev pub halt_end : Halt → End
-halt_end halt.WriteFault = WriteFault
-halt_end halt.Memory = Memory
+-- the end of a call whose run is left in this mode
+abbrev pub mode_end : Mode → End
+mode_end (Ended end) = ended_end end
+mode_end Going = StepsOut
+mode_end Failing = StepsOut
+mode_end Stuck = StepsOut
+
+-- the end of a call by the answer of its run
+abbrev pub run_end : RunEnd → End
+run_end run.Succeeded = Succeeded
+run_end run.Failed = Failed
+run_end (run.Fault fault) = Fault fault
+run_end run.StepsOut = StepsOut
+run_end run.WriteFault = WriteFault
+run_end run.Memory = Memory
+
+-- the end of a program that was not compiled
+abbrev pub lower_end : LowerError → End
+lower_end (lower.TooMuchCode size) = TooMuchCode size
+lower_end lower.Memory = Memory
 
 -- the end of a source that was not read
 abbrev pub read_end : ReadError → End

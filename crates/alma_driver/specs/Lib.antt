@@ -1,13 +1,5 @@
 pub mod Words
-pub mod Program
-pub mod Tokens
-pub mod Scan
-pub mod Parse
-pub mod Source
-pub mod Meaning
-pub mod Code
 pub mod Outside
-pub mod Machine
 pub mod Ends
 pub mod Outcome
 pub mod Course

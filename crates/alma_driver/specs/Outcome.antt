@@ -1,38 +1,75 @@
 -- What a call comes to where memory is found and nothing fails, layer by layer.
-use Rattle.std.specs.Prelude.{◌≡◌, ◌≤◌, List, ℕ, [], length}
+use Rattle.std.specs.Prelude.{◌≡◌, ◌<◌, ◌≤◌, ◌+◌, ◌*◌, ◌/◌, suc, List, ℕ, [], length}
 use Rattle.alma_io.specs.Files.{Told, Missing, MayHave, MayPass}
+use Rattle.alma_ir.specs.Tree.{Program}
+use Rattle.alma_ir.specs.Count.{capped, nodes}
+use Rattle.alma_mean.specs.Events.{first, end_of, visit_count, CutOff}
+use Rattle.alma_mean.specs.Meaning.{ev_program, result}
+use Rattle.alma_code.specs.declared.step.End as code
+use Rattle.alma_code.specs.Plain.{PlainCode}
+use Rattle.alma_lower.specs.Implements.{Covers, meant_end, state_after, printed_by}
+use Rattle.alma_front.specs.Source.{IsSource}
 use Rattle.alma_driver.specs.Words.{Request, Run, Asks, IsBadWord}
-use Rattle.alma_driver.specs.Program.{Program}
-use Rattle.alma_driver.specs.Meaning.{output, does_succeed}
-use Rattle.alma_driver.specs.Tokens.{IsSource}
-use Rattle.alma_driver.specs.Ends.{run_end}
+use Rattle.alma_driver.specs.Ends.{ended_end, mode_end}
 use Rattle.alma_driver.specs.declared.end.End.{End}
-use Rattle.alma_driver.specs.declared.end.End.TheVariants.{BadWord, ReadFault, TooLong, NotYet}
+use Rattle.alma_driver.specs.declared.end.End.TheVariants.{BadWord, StepsOut, ReadFault, TooLong, TooMuchCode, NotYet}
 
 -- the greatest length of a source
 abbrev pub source_limit : ℕ
 source_limit = 1048576
+
+-- the greatest size of a program
+abbrev pub size_limit : ℕ
+size_limit = 4194304
+
+-- the size of a program, by which its code is limited
+abbrev pub size_of : Program → ℕ
+size_of p = capped (16 * nodes p)
 
 -- what is due from a call: its end, and the bytes that it prints
 pub record Due : Type 0 where
   pub end : End
   pub out : List ℕ
 
+-- each of them by its parts
+abbrev pub due_of : End → List ℕ → Due
+due_of end out = record { end = end; out = out }
+
 -- an end without a print
 abbrev pub silent : End → Due
-silent end = record { end = end; out = [] }
+silent end = due_of end []
 
--- what a run of a source comes to: what the program means, or that it is none
-pub data SourceOutcome (source : List ℕ) (due : Due) : Type 0 where
-  ran : (p : Program) → IsSource source p → due ≡ record { end = run_end (does_succeed p); out = output p } → SourceOutcome source due
-  not_yet : ((p : Program) → IsSource source p → ⊥) → due ≡ silent NotYet → SourceOutcome source due
+-- what a run of code for so many steps, without input, comes to
+abbrev pub code_due : PlainCode → (steps : ℕ) → Due
+code_due code steps = due_of (mode_end (state_after code [] steps).mode) (printed_by code [] steps)
+
+-- So many steps may not be enough for the meaning of the program: at 32 steps for each visit, and 32 more, they would be.
+abbrev pub MayRunOut : Program → (steps : ℕ) → Type 0
+MayRunOut p steps =
+    (level : ℕ) → (end_of (first (ev_program level p [])) ≡ CutOff → ⊥) → steps < 32 * (visit_count (first (ev_program level p [])) + 1)
+
+-- What a run of a program for so many steps comes to, without input: its meaning, a front of the meaning's prints that
+-- covers one visit for each 32 steps, or the refusal of its size.
+pub data ProgramOutcome (p : Program) (steps : ℕ) (due : Due) : Type 0 where
+  ran : (printed : List ℕ) (end : code.End) → size_of p ≤ size_limit → result (suc steps) p [] ≡ (printed, meant_end end)
+      → due ≡ due_of (ended_end end) printed → ProgramOutcome p steps due
+  steps_out : (printed : List ℕ) → size_of p ≤ size_limit → Covers (first (ev_program (suc steps) p [])) printed (steps / 32)
+      → MayRunOut p steps → due ≡ due_of StepsOut printed → ProgramOutcome p steps due
+  too_much_code : size_limit < size_of p → due ≡ silent (TooMuchCode (size_of p)) → ProgramOutcome p steps due
+
+-- what a run of a source for so many steps comes to: what its program does, or that it is no program
+pub data SourceOutcome (source : List ℕ) (steps : ℕ) (due : Due) : Type 0 where
+  compiled : (p : Program) → IsSource source p → ProgramOutcome p steps due → SourceOutcome source steps due
+  not_yet : ((p : Program) → IsSource source p → ⊥) → due ≡ silent NotYet → SourceOutcome source steps due
 
 -- what a request comes to, by what the files tell
 pub data RequestOutcome (told : List ℕ → Told) (request : Request) (due : Due) : Type 0 where
-  absent : (name : List ℕ) → request ≡ Run name → told name ≡ Missing → due ≡ silent ReadFault → RequestOutcome told request due
-  too_long : (name : List ℕ) → request ≡ Run name → MayPass (told name) source_limit → due ≡ silent TooLong → RequestOutcome told request due
-  fetched : (name source : List ℕ) → request ≡ Run name → MayHave (told name) source → length source ≤ source_limit
-      → SourceOutcome source due → RequestOutcome told request due
+  absent : (name : List ℕ) (steps : ℕ) → request ≡ Run name steps → told name ≡ Missing → due ≡ silent ReadFault
+      → RequestOutcome told request due
+  too_long : (name : List ℕ) (steps : ℕ) → request ≡ Run name steps → MayPass (told name) source_limit → due ≡ silent TooLong
+      → RequestOutcome told request due
+  fetched : (name : List ℕ) (steps : ℕ) (source : List ℕ) → request ≡ Run name steps → MayHave (told name) source
+      → length source ≤ source_limit → SourceOutcome source steps due → RequestOutcome told request due
 
 -- what words come to, by what the files tell
 pub data Outcome (words : List (List ℕ)) (told : List ℕ → Told) (due : Due) : Type 0 where
@@ -41,4 +78,4 @@ pub data Outcome (words : List (List ℕ)) (told : List ℕ → Told) (due : Due
 
 -- the words ask for a file that is told to be missing
 abbrev pub Lacks : List (List ℕ) → (List ℕ → Told) → Type 0
-Lacks words told = (name : List ℕ) × Asks words (Run name) × (told name ≡ Missing)
+Lacks words told = (name : List ℕ) × (steps : ℕ) × Asks words (Run name steps) × (told name ≡ Missing)

@@ -1,7 +1,9 @@
 -- What the words of a call ask for.
-use Rattle.std.specs.Prelude.{◌≡◌, ◌≢◌, ◌<◌, ◌≤◌, ◌+◌, List, ℕ, [], ◌∷◌, ◌++◌, length, take, map, codes, String, Result, Ok, Err}
+use Rattle.std.specs.Prelude.{◌≡◌, ◌≢◌, ◌<◌, ◌≤◌, ◌+◌, ◌^◌, List, ℕ, [], ◌∷◌, ◌++◌, length, take, map, codes, String, Result, Ok, Err}
 use Rattle.std.specs.declared.alloc.Global.{Global}
 use Rattle.std.specs.String.{string_bytes}
+use Rattle.alma_base.specs.Reading.{is_digit}
+use Rattle.alma_scan.specs.Bytes.{AllIn, value_of}
 use Rattle.alma_driver.specs.declared.words.Request as read
 use Rattle.alma_driver.specs.declared.words.Request.TheVariants as read_request
 use Rattle.alma_driver.specs.declared.words.WordsError.{WordsError}
@@ -12,13 +14,41 @@ abbrev pub IsFileName : List ℕ → Type 0
 IsFileName [] = ⊥
 IsFileName (byte ∷ bytes) = byte ≢ 45
 
--- a request
+-- the greatest number of steps that words may name
+abbrev pub greatest_steps : ℕ
+greatest_steps = 2 ^ 62
+
+-- the number of steps where the words name none
+abbrev pub default_steps : ℕ
+default_steps = 1000000000
+
+-- one to nineteen digits name a number of steps from 1 on
+pub record NamesSteps (text : List ℕ) (steps : ℕ) : Type 0 where
+  pub digits : AllIn is_digit text
+  pub some : 1 ≤ length text
+  pub short : length text ≤ 19
+  pub value : value_of text ≡ steps
+  pub least : 1 ≤ steps
+  pub greatest : steps ≤ greatest_steps
+
+-- the word is --steps= and then digits that name this number of steps
+abbrev pub IsStepsOption : (word : List ℕ) → (steps : ℕ) → Type 0
+IsStepsOption word steps = (digits : List ℕ) × (word ≡ codes "--steps=" ++ digits) × NamesSteps digits steps
+
+-- the options name this number of steps: there is none, or one that names it
+abbrev pub GiveSteps : (options : List (List ℕ)) → (steps : ℕ) → Type 0
+GiveSteps [] steps = steps ≡ default_steps
+GiveSteps (option ∷ []) steps = IsStepsOption option steps
+GiveSteps (option ∷ other ∷ options) steps = ⊥
+
+-- a request: to run a file for so many steps
 pub data Request : Type 0 where
-  Run : (name : List ℕ) → Request
+  Run : (name : List ℕ) (steps : ℕ) → Request
 
 -- the words are this request
 abbrev pub Asks : List (List ℕ) → Request → Type 0
-Asks words (Run name) = (words ≡ codes "run" ∷ name ∷ []) × IsFileName name
+Asks words (Run name steps) =
+    (options : List (List ℕ)) × (words ≡ codes "run" ∷ name ∷ options) × IsFileName name × GiveSteps options steps
 
 -- a request begins with these words
 abbrev pub Begins : List (List ℕ) → Type 0
@@ -37,7 +67,11 @@ texts words = map (λ word. string_bytes word) words
 
 -- the request that a read one is
 abbrev pub asked : read.Request → Request
-asked (read_request.Run file) = Run file.now
+asked (read_request.Run file steps) = Run file.now steps
+
+-- the request is for no more steps than words may name
+abbrev pub IsWithinSteps : read.Request → Type 0
+IsWithinSteps (read_request.Run file steps) = steps ≤ greatest_steps
 
 -- What reading these words may answer: the request that they are, or the first word that cannot stand.
 abbrev pub Reads : List (List ℕ) → Result read.Request WordsError → Type 0

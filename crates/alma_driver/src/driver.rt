@@ -1,64 +1,104 @@
 // The top call: from the words to the status.
-ghost use Rattle.std.specs.Prelude.{◌≡◌};
-ghost use Rattle.alma_driver.specs.Words.{Run, texts, asked};
+ghost use Rattle.std.specs.Prelude.{◌≡◌, ◌≤◌, length};
+ghost use Rattle.alma_code.specs.Plain.{code_of};
+ghost use Rattle.alma_code.specs.Rules.{IsSound};
+ghost use Rattle.alma_front.specs.Source.{IsSource};
+ghost use Rattle.alma_ir.specs.View.{program_of};
+ghost use Rattle.alma_ir.specs.Checked.{IsChecked};
+ghost use Rattle.alma_lower.specs.Built.{IsBuilt};
+ghost use Rattle.alma_machine.specs.Built.{HasOnlyBuilt};
+ghost use Rattle.alma_driver.specs.Words.{Run, texts, asked, greatest_steps, IsWithinSteps};
 ghost use Rattle.alma_driver.specs.Outside.{sink_side, source_side, files_side, outside_of};
-ghost use Rattle.alma_driver.specs.Outcome.{SourceOutcome, RequestOutcome, Outcome};
+ghost use Rattle.alma_driver.specs.Outcome.{code_due, ProgramOutcome, SourceOutcome, RequestOutcome, Outcome, source_limit};
 ghost use Rattle.alma_driver.specs.Course.{Goes, Performs, Answers};
 ghost use Rattle.alma_driver.specs.Causes.{Causes};
 
-use crate::code::compile;
 use crate::end::End;
-use crate::machine::run;
 use crate::report::report;
-use crate::source::read_source;
 use crate::words::{Request, read_words};
-use alma_base::Status;
+use alma_base::{NoMemory, Status};
+use alma_code::Code;
+use alma_front::read_source;
 use alma_io::{Files, Sink, Source};
+use alma_ir::Program;
+use alma_lower::lower;
+use alma_machine::Machine;
 use std::alloc::Global;
 
 /// The greatest length of a source, in bytes.
 const SOURCE_LIMIT: usize = 1_048_576;
 
-// Compiles a source and runs it.
-fn run_source<O: Sink>(alloc: Global, source: &[u8], out: &mut O) -> End
-    ensures { Goes (SourceOutcome source.now) (sink_side (O.written out.old) (O.faults out.old))
+// Runs code for at most so many steps, without input.
+fn run_code<O: Sink>(alloc: Global, code: &Code, steps: u64, out: &mut O) -> End
+    requires sound { IsSound (code_of code.now) }
+    requires built { HasOnlyBuilt (code_of code.now) }
+    requires few { steps ≤ greatest_steps }
+    ensures { Goes (λ due. due ≡ code_due (code_of code.now) steps) (sink_side (O.written out.old) (O.faults out.old))
         (sink_side (O.written out.new) (O.faults out.new)) result }
 {
-    let module = match read_source(alloc, source) {
-        Ok(module) => module,
-        Err(error) => return End::from(error),
-    };
-    let Ok(code) = compile(alloc, &module.body) else {
-        return End::Memory;
-    };
-    match run(alloc, &code, out) {
-        Ok(success) => End::of_run(success),
-        Err(halt) => End::from(halt),
+    match Machine::new(alloc, code, b"") {
+        Ok(mut machine) => End::from(machine.run(steps, out)),
+        Err(NoMemory) => End::Memory,
+    }
+}
+
+// Compiles a program and runs it.
+fn run_program<O: Sink>(alloc: Global, program: &Program, steps: u64, out: &mut O) -> End
+    requires checked { IsChecked (program_of program.now) }
+    requires built { IsBuilt (program_of program.now) }
+    requires few { steps ≤ greatest_steps }
+    ensures { Goes (ProgramOutcome (program_of program.now) steps) (sink_side (O.written out.old) (O.faults out.old))
+        (sink_side (O.written out.new) (O.faults out.new)) result }
+{
+    match lower(alloc, program) {
+        Ok(code) => run_code(alloc, &code, steps, out),
+        Err(error) => End::from(error),
+    }
+}
+
+// Reads a source, compiles it and runs it.
+fn run_source<O: Sink>(alloc: Global, source: &[u8], steps: u64, out: &mut O) -> End
+    requires short { length source.now ≤ source_limit }
+    requires few { steps ≤ greatest_steps }
+    ensures { Goes (SourceOutcome source.now steps) (sink_side (O.written out.old) (O.faults out.old))
+        (sink_side (O.written out.new) (O.faults out.new)) result }
+{
+    match read_source(alloc, source) {
+        Ok(program) => run_program(alloc, &program, steps, out),
+        Err(error) => End::from(error),
     }
 }
 
 // Runs a file.
-fn run_file<F: Files, O: Sink>(alloc: Global, name: &str, files: &mut F, out: &mut O) -> End
-    ensures { Performs (RequestOutcome (F.told files.old) (Run name.now))
+fn run_file<F: Files, O: Sink>(
+    alloc: Global,
+    name: &str,
+    steps: u64,
+    files: &mut F,
+    out: &mut O,
+) -> End
+    requires { steps ≤ greatest_steps }
+    ensures { Performs (RequestOutcome (F.told files.old) (Run name.now steps))
         (files_side (F.told files.old) (F.fetch_faults files.old) (F.store_faults files.old))
         (files_side (F.told files.new) (F.fetch_faults files.new) (F.store_faults files.new))
         (sink_side (O.written out.old) (O.faults out.old)) (sink_side (O.written out.new) (O.faults out.new)) result }
 {
     match files.fetch(alloc, name, SOURCE_LIMIT) {
-        Ok(source) => run_source(alloc, &source, out),
+        Ok(source) => run_source(alloc, &source, steps, out),
         Err(fault) => End::from(fault),
     }
 }
 
 // Does what is asked.
 fn serve<F: Files, O: Sink>(alloc: Global, request: Request<'_>, files: &mut F, out: &mut O) -> End
+    requires { IsWithinSteps request }
     ensures { Performs (RequestOutcome (F.told files.old) (asked request.entry))
         (files_side (F.told files.old) (F.fetch_faults files.old) (F.store_faults files.old))
         (files_side (F.told files.new) (F.fetch_faults files.new) (F.store_faults files.new))
         (sink_side (O.written out.old) (O.faults out.old)) (sink_side (O.written out.new) (O.faults out.new)) result }
 {
     match request {
-        Request::Run(file) => run_file(alloc, file, files, out),
+        Request::Run(file, steps) => run_file(alloc, file, steps, files, out),
     }
 }
 
@@ -78,8 +118,9 @@ fn perform<F: Files, O: Sink>(alloc: Global, words: &[String], files: &mut F, ou
 /// All that the program does: what the words ask, over the files, the input and the two outputs. `words` are those behind
 /// the program's name. Programs print on `out`; what stands in the way is told on `err`.
 ///
-/// The status is 0 for success, 1 for a program that fails, 2 for a bad word, 6 for a read fault, 7 for a write fault,
-/// 8 for want of memory, 10 for a source of more than 1,048,576 bytes, and 12 for a source that is no program yet.
+/// The status is 0 for success, 1 for a program that fails, 2 for a bad word, 4 for a fault of the run, 5 for steps that
+/// ran out, 6 for a read fault, 7 for a write fault, 8 for want of memory, 10 for a source of more than 1,048,576 bytes,
+/// 11 for a program whose size passes 4,194,304, and 12 for a source that is no program yet.
 pub fn alma<F: Files, I: Source, O: Sink, E: Sink>(
     alloc: Global,
     words: &[String],

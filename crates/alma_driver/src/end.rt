@@ -1,11 +1,13 @@
 // The ends of a call: how they come from the answers of its parts, their statuses and their texts.
 ghost use Rattle.std.specs.Prelude.{◌≡◌};
-ghost use Rattle.alma_driver.specs.Ends.{status_of, fixed_text, run_end, halt_end, read_end, words_end, fetch_end};
+ghost use Rattle.alma_driver.specs.Ends.{status_of, fixed_text, run_end, lower_end, read_end, words_end, fetch_end};
 
-use crate::machine::Halt;
-use crate::source::ReadError;
 use crate::words::WordsError;
+use alma_base::RunFault;
+use alma_front::ReadError;
 use alma_io::Fetch;
+use alma_lower::LowerError;
+use alma_machine::RunEnd;
 
 /// How a call ends, but for what becomes of its text on err.
 #[derive(Clone, Copy, Debug, PartialEq, Eq)]
@@ -16,6 +18,10 @@ pub enum End {
     Failed,
     /// The first word, from 1, that cannot stand where it is, or one more than there are.
     BadWord(usize),
+    /// The run stopped in a fault.
+    Fault(RunFault),
+    /// All steps were made, and the run was not at its end.
+    StepsOut,
     /// The file is missing, or a fetch failed.
     ReadFault,
     /// A write failed.
@@ -24,18 +30,13 @@ pub enum End {
     Memory,
     /// The source is past its greatest length.
     TooLong,
-    /// The source is no program of the grammar so far.
+    /// The size of the program, which is past the greatest.
+    TooMuchCode(u64),
+    /// The source is no program of the language so far.
     NotYet,
 }
 
 impl End {
-    /// The end of a run that went to its end, in success or not.
-    pub fn of_run(success: bool) -> End
-        ensures { result ≡ run_end success }
-    {
-        if success { End::Succeeded } else { End::Failed }
-    }
-
     /// The exit status.
     pub fn status(self) -> u8
         ensures { result ≡ status_of self }
@@ -44,20 +45,25 @@ impl End {
             End::Succeeded => 0,
             End::Failed => 1,
             End::BadWord(_) => 2,
+            End::Fault(_) => 4,
+            End::StepsOut => 5,
             End::ReadFault => 6,
             End::WriteFault => 7,
             End::Memory => 8,
             End::TooLong => 10,
+            End::TooMuchCode(_) => 11,
             End::NotYet => 12,
         }
     }
 
-    /// The text on err, but for that of a bad word, which has a number.
+    /// The text on err, but for that of an end which names a word, a fault or a size.
     pub fn fixed_text(self) -> &'static [u8]
         ensures { result.now ≡ fixed_text self }
     {
         match self {
-            End::Succeeded | End::Failed | End::BadWord(_) => b"",
+            End::Succeeded | End::Failed => b"",
+            End::BadWord(_) | End::Fault(_) | End::TooMuchCode(_) => b"",
+            End::StepsOut => b"alma: steps out\n",
             End::ReadFault => b"alma: read fault\n",
             End::WriteFault => b"alma: write fault\n",
             End::Memory => b"alma: out of memory\n",
@@ -67,13 +73,28 @@ impl End {
     }
 }
 
-impl From<Halt> for End {
-    ghost from_gives = { λ halt end. end ≡ halt_end halt };
+impl From<RunEnd> for End {
+    ghost from_gives = { λ run end. end ≡ run_end run };
 
-    fn from(halt: Halt) -> Self {
-        match halt {
-            Halt::WriteFault => End::WriteFault,
-            Halt::Memory => End::Memory,
+    fn from(run: RunEnd) -> Self {
+        match run {
+            RunEnd::Succeeded => End::Succeeded,
+            RunEnd::Failed => End::Failed,
+            RunEnd::Fault(fault) => End::Fault(fault),
+            RunEnd::StepsOut => End::StepsOut,
+            RunEnd::WriteFault => End::WriteFault,
+            RunEnd::Memory => End::Memory,
+        }
+    }
+}
+
+impl From<LowerError> for End {
+    ghost from_gives = { λ error end. end ≡ lower_end error };
+
+    fn from(error: LowerError) -> Self {
+        match error {
+            LowerError::TooMuchCode(size) => End::TooMuchCode(size),
+            LowerError::Memory => End::Memory,
         }
     }
 }

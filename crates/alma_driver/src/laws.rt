@@ -1,17 +1,10 @@
 //! Laws of the definitions that the contracts cite: functions without work, whose contracts are the laws.
 ghost use Rattle.std.specs.Prelude.{◌≡◌, List, ℕ};
 ghost use Rattle.alma_driver.specs.Words.{Request, Asks, IsBadWord};
-ghost use Rattle.alma_driver.specs.Program.{Program};
-ghost use Rattle.alma_driver.specs.Tokens.{IsSource};
 
 /// Words are no two requests, no two words are the first bad one, and words with a bad one are no request.
 pub fn words_have_one_answer()
     ensures request { (words : List (List ℕ)) (first second : Request) → Asks words first → Asks words second → first ≡ second }
     ensures bad_word { (words : List (List ℕ)) (j k : ℕ) → IsBadWord words j → IsBadWord words k → j ≡ k }
     ensures apart { (words : List (List ℕ)) (request : Request) (k : ℕ) → Asks words request → IsBadWord words k → ⊥ }
-{}
-
-/// A source is no two programs, so that what a run prints and how it ends is determined.
-pub fn sources_are_one_program()
-    ensures { (source : List ℕ) (first second : Program) → IsSource source first → IsSource source second → first ≡ second }
 {}

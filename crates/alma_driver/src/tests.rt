@@ -22,11 +22,17 @@ const NO_FAILS: Fails = Fails {
 
 /// What a call comes to.
 #[derive(Clone, Copy)]
-struct Answer {
+struct Answer<'s> {
     status: u8,
-    out: &'static [u8],
-    err: &'static [u8],
+    out: &'s [u8],
+    err: &'s [u8],
 }
+
+const SUCCESS: Answer = Answer {
+    status: 0,
+    out: b"",
+    err: b"",
+};
 
 const BAD_WORD_1: Answer = Answer {
     status: 2,
@@ -46,6 +52,12 @@ const BAD_WORD_3: Answer = Answer {
     err: b"alma: bad word 3\n",
 };
 
+const BAD_WORD_4: Answer = Answer {
+    status: 2,
+    out: b"",
+    err: b"alma: bad word 4\n",
+};
+
 const READ_FAULT: Answer = Answer {
     status: 6,
     out: b"",
@@ -58,6 +70,12 @@ const TOO_LONG: Answer = Answer {
     err: b"alma: too long\n",
 };
 
+const TOO_MUCH_CODE: Answer = Answer {
+    status: 11,
+    out: b"",
+    err: b"alma: too much code 4194352\n",
+};
+
 const NOT_YET: Answer = Answer {
     status: 12,
     out: b"",
@@ -67,29 +85,47 @@ const NOT_YET: Answer = Answer {
 /// The file `a.al` is there, with this source.
 #[derive(Clone, Copy)]
 struct Call<'s> {
-    words: &'static [&'static str],
+    words: &'s [&'s str],
     source: &'s [u8],
     fails: Fails,
 }
 
 const RUN: [&str; 2] = ["run", "a.al"];
 
-// Makes the call. Out and err take at most seven bytes in one write.
-fn check(rt: &impl Abort, alloc: Global, call: &Call<'_>, answer: &Answer) -> Result<(), Fail> {
-    let mut words = Vec::new(alloc);
-    for word in call.words {
-        words.push(String::from_str(alloc, word)?)?;
+// The words as the program takes them.
+fn words_of(alloc: Global, words: &[&str]) -> Result<Vec<String>, Fail> {
+    let mut found = Vec::new(alloc);
+    for word in words {
+        found.push(String::from_str(alloc, word)?)?;
     }
-    let mut files = MemFiles::new(alloc, call.fails.fetch)?;
-    files.put(alloc, "a.al", call.source)?;
+    Ok(found)
+}
+
+// Runs the program on these words. Out and err take at most seven bytes in one write.
+fn check_words(
+    rt: &impl Abort,
+    alloc: Global,
+    words: &[String],
+    source: &[u8],
+    fails: &Fails,
+    answer: &Answer<'_>,
+) -> Result<(), Fail> {
+    let mut files = MemFiles::new(alloc, fails.fetch)?;
+    files.put(alloc, "a.al", source)?;
     let mut input = MemSource::new(alloc, b"", 1, &[])?;
-    let mut out = MemSink::new(alloc, 1000, 7, call.fails.out)?;
-    let mut err = MemSink::new(alloc, 1000, 7, call.fails.err)?;
-    let status = alma(alloc, &words, &mut files, &mut input, &mut out, &mut err);
+    let mut out = MemSink::new(alloc, 1000, 7, fails.out)?;
+    let mut err = MemSink::new(alloc, 1000, 7, fails.err)?;
+    let status = alma(alloc, words, &mut files, &mut input, &mut out, &mut err);
     assert_eq!(rt; status, Status(answer.status));
     assert_eq!(rt; out.bytes(), answer.out);
     assert_eq!(rt; err.bytes(), answer.err);
     Ok(())
+}
+
+// Makes the call.
+fn check(rt: &impl Abort, alloc: Global, call: &Call<'_>, answer: &Answer<'_>) -> Result<(), Fail> {
+    let words = words_of(alloc, call.words)?;
+    check_words(rt, alloc, &words, call.source, &call.fails, answer)
 }
 
 struct Run {
@@ -98,7 +134,7 @@ struct Run {
     out: &'static [u8],
 }
 
-const RUNS: [Run; 5] = [
+const RUNS: [Run; 11] = [
     Run {
         source: b"MODULE A; END A.",
         status: 0,
@@ -124,6 +160,36 @@ const RUNS: [Run; 5] = [
         status: 0,
         out: b"9223372036854775807FALSE",
     },
+    Run {
+        source: b"MODULE A; BEGIN WRITE((-7) DIV 2, (-7) MOD 2, 7 MOD (-2), -7 DIV 2) END A.",
+        status: 0,
+        out: b"-41-1-3",
+    },
+    Run {
+        source: b"MODULE A; BEGIN 1 < 2; 2 <= 2; 1 <> 2; 2 > 1; 2 >= 2; WRITE(1); 1 > 2 END A.",
+        status: 1,
+        out: b"1",
+    },
+    Run {
+        source: b"MODULE A; VAR x, y: INTEGER; BEGIN x := 2; y := x * x + 3; WRITE(y, -x) END A.",
+        status: 0,
+        out: b"7-2",
+    },
+    Run {
+        source: b"MODULE A; VAR x: INTEGER; BEGIN x := 2; IF x < 1 THEN WRITE(1) ELSIF x < 3 THEN WRITE(2) ELSE WRITE(3) END END A.",
+        status: 0,
+        out: b"2",
+    },
+    Run {
+        source: b"MODULE A; VAR x: INTEGER; BEGIN x := 0; WHILE x < 3 DO WRITE(x); x := x + 1 END END A.",
+        status: 0,
+        out: b"012",
+    },
+    Run {
+        source: b"MODULE A; VAR x: INTEGER; BEGIN x := 5; REPEAT WRITE(x); x := x - 1 UNTIL x < 4 END A.",
+        status: 0,
+        out: b"54",
+    },
 ];
 
 #[test]
@@ -144,13 +210,217 @@ fn programs_print_and_end(rt: HostRuntime) -> Result<(), Fail> {
     Ok(())
 }
 
-const OTHER_SOURCES: [&[u8]; 6] = [
+struct Stop {
+    source: &'static [u8],
+    out: &'static [u8],
+    err: &'static [u8],
+}
+
+const STOPS: [Stop; 9] = [
+    Stop {
+        source: b"MODULE A; VAR x: INTEGER; BEGIN x := 9223372036854775807; x := x + 1 END A.",
+        out: b"",
+        err: b"alma: fault Overflow\n",
+    },
+    Stop {
+        source: b"MODULE A; VAR x: INTEGER; BEGIN x := -9223372036854775807; x := x - 2 END A.",
+        out: b"",
+        err: b"alma: fault Overflow\n",
+    },
+    Stop {
+        source: b"MODULE A; VAR x: INTEGER; BEGIN x := 4611686018427387904; WRITE(x - 1); x := x * 2 END A.",
+        out: b"4611686018427387903",
+        err: b"alma: fault Overflow\n",
+    },
+    Stop {
+        source: b"MODULE A; VAR x: INTEGER; BEGIN x := -9223372036854775807 - 1; WRITE(x); x := -x END A.",
+        out: b"-9223372036854775808",
+        err: b"alma: fault Overflow\n",
+    },
+    Stop {
+        source: b"MODULE A; VAR x: INTEGER; BEGIN x := -9223372036854775807 - 1; x := x DIV (-1) END A.",
+        out: b"",
+        err: b"alma: fault Overflow\n",
+    },
+    Stop {
+        source: b"MODULE A; VAR x: INTEGER; BEGIN x := 0; WRITE(1, 1 DIV x) END A.",
+        out: b"1",
+        err: b"alma: fault ZeroDivide\n",
+    },
+    Stop {
+        source: b"MODULE A; VAR x: INTEGER; BEGIN x := 0; IF 1 MOD x < 1 THEN WRITE(1) END END A.",
+        out: b"",
+        err: b"alma: fault ZeroDivide\n",
+    },
+    Stop {
+        source: b"MODULE A; VAR x: INTEGER; BEGIN WRITE(x) END A.",
+        out: b"",
+        err: b"alma: fault Unknown\n",
+    },
+    Stop {
+        source: b"MODULE A; VAR x: INTEGER; BEGIN WRITE(2); x := x + 1 END A.",
+        out: b"2",
+        err: b"alma: fault Unknown\n",
+    },
+];
+
+#[test]
+fn faults_of_the_run_stop_it(rt: HostRuntime) -> Result<(), Fail> {
+    for stop in &STOPS {
+        let call = Call {
+            words: &RUN,
+            source: stop.source,
+            fails: NO_FAILS,
+        };
+        let answer = Answer {
+            status: 4,
+            out: stop.out,
+            err: stop.err,
+        };
+        check(&rt, rt.alloc(), &call, &answer)?;
+    }
+    Ok(())
+}
+
+/// A program that takes so many steps to its end, and at which of them it prints a byte.
+struct Course {
+    source: &'static [u8],
+    steps: u64,
+    status: u8,
+    out: &'static [u8],
+    prints_at: &'static [u64],
+}
+
+const COURSES: [Course; 4] = [
+    Course {
+        source: b"MODULE A; END A.",
+        steps: 1,
+        status: 0,
+        out: b"",
+        prints_at: &[],
+    },
+    Course {
+        source: b"MODULE A; VAR x: INTEGER; BEGIN x := 1; WRITE(x); x := x + 2; WRITE(x) END A.",
+        steps: 16,
+        status: 0,
+        out: b"13",
+        prints_at: &[6, 15],
+    },
+    Course {
+        source: b"MODULE A; VAR x: INTEGER; BEGIN x := 0; WHILE x < 2 DO WRITE(x); x := x + 1 END END A.",
+        steps: 42,
+        status: 0,
+        out: b"01",
+        prints_at: &[12, 28],
+    },
+    Course {
+        source: b"MODULE A; VAR x: INTEGER; BEGIN x := 0; IF x < 1 THEN WRITE(1) ELSE WRITE(2) END; FALSE END A.",
+        steps: 16,
+        status: 1,
+        out: b"1",
+        prints_at: &[11],
+    },
+];
+
+// How many of the steps are within the budget.
+fn count_up_to(steps: &[u64], budget: u64) -> usize {
+    steps.iter().filter(|step| **step <= budget).count()
+}
+
+// What the program comes to with a budget of so many steps.
+fn budget_answer(course: &Course, budget: u64) -> Answer<'_> {
+    let printed = count_up_to(course.prints_at, budget).min(course.out.len());
+    let out = &course.out[..printed];
+    if budget < course.steps {
+        Answer {
+            status: 5,
+            out,
+            err: b"alma: steps out\n",
+        }
+    } else {
+        Answer {
+            status: course.status,
+            out,
+            err: b"",
+        }
+    }
+}
+
+// Runs the program with a budget of so many steps.
+fn check_budget(rt: &impl Abort, alloc: Global, course: &Course, budget: u64) -> Result<(), Fail> {
+    let mut words = words_of(alloc, &RUN)?;
+    words.push(format!(in alloc; "--steps={budget}")?)?;
+    let answer = budget_answer(course, budget);
+    check_words(rt, alloc, &words, course.source, &NO_FAILS, &answer)
+}
+
+#[test]
+fn steps_run_out_between_any_two_instructions(rt: HostRuntime) -> Result<(), Fail> {
+    for course in &COURSES {
+        for budget in 1..=course.steps.min(100) {
+            check_budget(&rt, rt.alloc(), course, budget)?;
+        }
+    }
+    Ok(())
+}
+
+#[test]
+fn a_loop_without_end_runs_out_of_steps(rt: HostRuntime) -> Result<(), Fail> {
+    let alloc = rt.alloc();
+    let ones = vec![in alloc; b'1'; 166]?;
+    let call = Call {
+        words: &["run", "a.al", "--steps=1000"],
+        source: b"MODULE A; BEGIN WHILE TRUE DO WRITE(1) END END A.",
+        fails: NO_FAILS,
+    };
+    let answer = Answer {
+        status: 5,
+        out: &ones,
+        err: b"alma: steps out\n",
+    };
+    check(&rt, alloc, &call, &answer)
+}
+
+// A module of so many tests.
+fn tests_source(alloc: Global, count: usize) -> Result<Vec<u8>, Fail> {
+    let mut source = Vec::from_slice(alloc, b"MODULE A;BEGIN ")?;
+    for _ in 0..count {
+        source.extend_from_slice(b"TRUE;")?;
+    }
+    source.extend_from_slice(b"END A.")?;
+    Ok(source)
+}
+
+#[test]
+fn a_program_has_a_greatest_size(rt: HostRuntime) -> Result<(), Fail> {
+    let alloc = rt.alloc();
+    let largest = tests_source(alloc, 87_381)?;
+    let call = Call {
+        words: &RUN,
+        source: &largest,
+        fails: NO_FAILS,
+    };
+    check(&rt, alloc, &call, &SUCCESS)?;
+    let too_large = tests_source(alloc, 87_382)?;
+    let call = Call {
+        words: &RUN,
+        source: &too_large,
+        fails: NO_FAILS,
+    };
+    check(&rt, alloc, &call, &TOO_MUCH_CODE)
+}
+
+const OTHER_SOURCES: [&[u8]; 10] = [
     b"",
     b"MODULE A; BEGIN WRITE(1, TRUE) END B.",
     b"MODULE A; BEGIN WRITE() END A.",
     b"MODULE A; BEGIN WRITE(9223372036854775808) END A.",
     b"MODULE END; END END.",
     b"MODULE A; END A. A",
+    b"MODULE A; VAR x, x: INTEGER; END A.",
+    b"MODULE A; BEGIN x := 1 END A.",
+    b"MODULE A; VAR x: INTEGER; BEGIN x := TRUE END A.",
+    b"MODULE A; VAR x: INTEGER; BEGIN EITHER x = 1 ORELSE x = 2 END END A.",
 ];
 
 #[test]
@@ -166,55 +436,111 @@ fn other_sources_are_not_yet_run(rt: HostRuntime) -> Result<(), Fail> {
     Ok(())
 }
 
-struct Refusal {
+struct Words {
     words: &'static [&'static str],
-    answer: Answer,
+    answer: Answer<'static>,
 }
 
-const REFUSALS: [Refusal; 8] = [
-    Refusal {
+const WORDS: [Words; 22] = [
+    Words {
         words: &[],
         answer: BAD_WORD_1,
     },
-    Refusal {
+    Words {
         words: &["jump"],
         answer: BAD_WORD_1,
     },
-    Refusal {
+    Words {
+        words: &["check", "a.al"],
+        answer: BAD_WORD_1,
+    },
+    Words {
         words: &["run"],
         answer: BAD_WORD_2,
     },
-    Refusal {
+    Words {
         words: &["run", ""],
         answer: BAD_WORD_2,
     },
-    Refusal {
+    Words {
         words: &["run", "-x"],
         answer: BAD_WORD_2,
     },
-    Refusal {
+    Words {
+        words: &["run", "--steps=5", "a.al"],
+        answer: BAD_WORD_2,
+    },
+    Words {
         words: &["run", "a.al", "b"],
         answer: BAD_WORD_3,
     },
-    Refusal {
+    Words {
         words: &["run", "a.al", "--stats", "b"],
         answer: BAD_WORD_3,
     },
-    Refusal {
+    Words {
+        words: &["run", "a.al", "--steps=0"],
+        answer: BAD_WORD_3,
+    },
+    Words {
+        words: &["run", "a.al", "--steps="],
+        answer: BAD_WORD_3,
+    },
+    Words {
+        words: &["run", "a.al", "--steps=-1"],
+        answer: BAD_WORD_3,
+    },
+    Words {
+        words: &["run", "a.al", "--steps=5x"],
+        answer: BAD_WORD_3,
+    },
+    Words {
+        words: &["run", "a.al", "--step=5"],
+        answer: BAD_WORD_3,
+    },
+    Words {
+        words: &["run", "a.al", "--steps=00000000000000000001"],
+        answer: BAD_WORD_3,
+    },
+    Words {
+        words: &["run", "a.al", "--steps=99999999999999999999"],
+        answer: BAD_WORD_3,
+    },
+    Words {
+        words: &["run", "a.al", "--steps=4611686018427387905"],
+        answer: BAD_WORD_3,
+    },
+    Words {
+        words: &["run", "a.al", "--steps=5", "--steps=5"],
+        answer: BAD_WORD_4,
+    },
+    Words {
+        words: &["run", "a.al", "--steps=4611686018427387904"],
+        answer: SUCCESS,
+    },
+    Words {
+        words: &["run", "a.al", "--steps=0000000000000000001"],
+        answer: SUCCESS,
+    },
+    Words {
+        words: &["run", "b.al", "--steps=5"],
+        answer: READ_FAULT,
+    },
+    Words {
         words: &["run", "b.al"],
         answer: READ_FAULT,
     },
 ];
 
 #[test]
-fn bad_words_and_absent_files_are_told(rt: HostRuntime) -> Result<(), Fail> {
-    for refusal in &REFUSALS {
+fn words_are_read(rt: HostRuntime) -> Result<(), Fail> {
+    for row in &WORDS {
         let call = Call {
-            words: refusal.words,
+            words: row.words,
             source: b"MODULE A; END A.",
             fails: NO_FAILS,
         };
-        check(&rt, rt.alloc(), &call, &refusal.answer)?;
+        check(&rt, rt.alloc(), &call, &row.answer)?;
     }
     Ok(())
 }
@@ -241,10 +567,10 @@ fn a_source_has_a_greatest_length(rt: HostRuntime) -> Result<(), Fail> {
 struct Fault {
     words: &'static [&'static str],
     fails: Fails,
-    answer: Answer,
+    answer: Answer<'static>,
 }
 
-const FAULTS: [Fault; 8] = [
+const FAULTS: [Fault; 9] = [
     Fault {
         words: &RUN,
         fails: Fails {
@@ -343,6 +669,19 @@ const FAULTS: [Fault; 8] = [
             status: 7,
             out: b"",
             err: b"alma: bad word 2",
+        },
+    },
+    Fault {
+        words: &["run", "a.al", "--steps=1"],
+        fails: Fails {
+            fetch: &[],
+            out: &[],
+            err: &[2],
+        },
+        answer: Answer {
+            status: 7,
+            out: b"",
+            err: b"alma: s",
         },
     },
 ];

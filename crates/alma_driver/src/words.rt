@@ -1,12 +1,21 @@
 // The words of a call.
-ghost use Rattle.std.specs.Prelude.{◌≡◌, ◌∷◌, [], ◌↔◌, IsTrue, MatchOption};
-ghost use Rattle.alma_driver.specs.Words.{Reads, texts, IsFileName};
+ghost use Rattle.std.specs.Prelude.{◌≡◌, ◌∷◌, ℕ, [], ◌++◌, ◌↔◌, codes, IsTrue, MatchOption};
+ghost use Rattle.alma_driver.specs.Words.{Reads, texts, IsFileName, IsStepsOption, NamesSteps};
+
+/// The number of steps of a run where the words name none.
+const DEFAULT_STEPS: u64 = 1_000_000_000;
+
+/// The greatest number of steps that words may name.
+const GREATEST_STEPS: u64 = 1 << 62;
+
+/// The greatest number of digits by which words may name a number of steps.
+const MOST_DIGITS: usize = 19;
 
 /// What the words ask for.
 #[derive(Clone, Copy, Debug, PartialEq, Eq)]
 pub enum Request<'w> {
-    /// `run FILE`: compiles and runs the source of this name.
-    Run(&'w str),
+    /// `run FILE` or `run FILE --steps=N`: compiles the source of this name and runs it for at most so many steps.
+    Run(&'w str, u64),
 }
 
 /// Why words are no request.
@@ -38,6 +47,54 @@ fn split_word(words: &[String]) -> Option<(&str, &[String])>
     }
 }
 
+// The number of steps that digits name.
+fn named_steps(digits: &[u8]) -> Option<u64>
+    ensures { MatchOption result ((steps : ℕ) → NamesSteps digits.now steps → ⊥) (λ steps. NamesSteps digits.now steps) }
+{
+    if digits.is_empty() || digits.len() > MOST_DIGITS {
+        return None;
+    }
+    let mut steps = 0u64;
+    for digit in digits {
+        if !digit.is_ascii_digit() {
+            return None;
+        }
+        let more = u64::from(*digit - b'0');
+        if steps > (GREATEST_STEPS - more) / 10 {
+            return None;
+        }
+        steps = steps * 10 + more;
+    }
+    if steps == 0 { None } else { Some(steps) }
+}
+
+// The number of steps that an option names.
+fn steps_option(word: &str) -> Option<u64>
+    ensures { MatchOption result ((steps : ℕ) → IsStepsOption word.now steps → ⊥) (λ steps. IsStepsOption word.now steps) }
+{
+    match word.strip_prefix("--steps=") {
+        Some(digits) => named_steps(digits.as_bytes()),
+        None => None,
+    }
+}
+
+// The request to run a file, by the options behind its name.
+fn read_options<'w>(name: &'w str, options: &[String]) -> Result<Request<'w>, WordsError>
+    requires { IsFileName name.now }
+    ensures { Reads (codes "run" ∷ name.now ∷ texts options.now) result }
+{
+    let Some((option, more)) = split_word(options) else {
+        return Ok(Request::Run(name, DEFAULT_STEPS));
+    };
+    let Some(steps) = steps_option(option) else {
+        return Err(WordsError::Bad(3));
+    };
+    match split_word(more) {
+        None => Ok(Request::Run(name, steps)),
+        Some((_word, _rest)) => Err(WordsError::Bad(4)),
+    }
+}
+
 /// The request that the words are. They are those behind the program's name.
 pub fn read_words(words: &[String]) -> Result<Request<'_>, WordsError>
     ensures { Reads (texts words.now) result }
@@ -48,14 +105,11 @@ pub fn read_words(words: &[String]) -> Result<Request<'_>, WordsError>
     if command != "run" {
         return Err(WordsError::Bad(1));
     }
-    let Some((name, more)) = split_word(names) else {
+    let Some((name, options)) = split_word(names) else {
         return Err(WordsError::Bad(2));
     };
     if !is_file_name(name) {
         return Err(WordsError::Bad(2));
     }
-    match split_word(more) {
-        None => Ok(Request::Run(name)),
-        Some((_word, _rest)) => Err(WordsError::Bad(3)),
-    }
+    read_options(name, options)
 }

@@ -1,6 +1,5 @@
 use Rattle.std.proofs.lemmas.Result.{err_from_is_err_and}
-use Rattle.alma_driver.proofs.MachineLemmas.{front_after}
-use Rattle.alma_driver.proofs.ReportLemmas.{parts_at}
+use Rattle.alma_driver.proofs.ReportLemmas.{front_after, parts_at}
 use Rattle.alma_driver.proofs.report.write_parts.Goals as goal
 
 pub returns-in_err-write_all-clause-front : goal.returns-in_err-write_all-clause-front

@@ -1,0 +1,130 @@
+-- What a run of compiled code comes to, step by step and by the meaning.
+use Rattle.std.proofs.Common.{◌≡◌, ◌≤◌, ◌<◌, ◌+◌, ◌-◌, ◌*◌, ℕ, zero, suc, List, [], ◌++◌, inl, inr, ap, sym, subst, refl, ◌∙◌, arith, append_assoc}
+use Rattle.std.specs.Prelude.{◌⊎◌, Option, true}
+use Rattle.std.specs.Io.KnownBytes.{Appends}
+use Rattle.std.proofs.lemmas.Bool.{cases_lt}
+use Rattle.alma_io.specs.Causes.{HasCause}
+use Rattle.alma_io.specs.Fronts.{AppendsFront}
+use Rattle.alma_ir.specs.Tree.{Program}
+use Rattle.alma_mean.specs.Events.{first, end_of, visit_count, CutOff}
+use Rattle.alma_mean.specs.Meaning.{ev_program}
+use Rattle.alma_code.specs.declared.step.End as code
+use Rattle.alma_code.specs.declared.step.End.TheVariants as ended
+use Rattle.alma_code.specs.Machine.{Mode, Going, Failing, Ended, Stuck, State, start, step, after, prints}
+use Rattle.alma_code.specs.Plain.{PlainCode}
+use Rattle.alma_lower.specs.Implements.{Implements, ComesTo, HasEnded, IsEnough, state_after, printed_by}
+use Rattle.alma_lower.proofs.Enough.{is_enough}
+use Rattle.alma_machine.specs.declared.machine.RunEnd.{RunEnd}
+use Rattle.alma_machine.specs.declared.machine.RunEnd.TheVariants as run
+use Rattle.alma_machine.specs.Runs.{run_end_of, made, all_written, OnWhole, OnMemory, OnWriteFault}
+use Rattle.alma_machine.specs.View.{MachineView}
+use Rattle.alma_machine.proofs.Budget.{ended_after}
+use Rattle.alma_driver.specs.Outside.{SinkSide}
+use Rattle.alma_driver.specs.Ends.{mode_end, run_end}
+use Rattle.alma_driver.specs.Outcome.{Due, due_of, code_due, size_of, size_limit, MayRunOut, ProgramOutcome, ran, steps_out}
+use Rattle.alma_driver.specs.Course.{Goes}
+
+-- ---- a run of the machine
+
+-- what is printed in fewer steps is a front of what is printed in more
+prints_front : (code : PlainCode) (input : List ℕ) (m n : ℕ) (s : State) → m ≤ n → (rest : List ℕ) × (prints code input n s ≡ prints code input m s ++ rest)
+prints_front code input zero n s le = (prints code input n s, refl)
+prints_front code input (suc m) zero s le = absurd (omega (arith, le))
+prints_front code input (suc m) (suc n) s le =
+    let next = (step code input s).state in
+    let more = prints_front code input m n next (omega (arith, le)) in
+    (more.0, ap (λ z. (step code input s).printed ++ z) more.1 ∙ sym (append_assoc (step code input s).printed (prints code input m next) more.0))
+
+-- a front of what is printed in fewer steps is a front of what is printed in more
+front_of_more : (a b : Option (List ℕ)) (code : PlainCode) (input : List ℕ) (m n : ℕ) (s : State) → m ≤ n
+    → AppendsFront a b (prints code input m s) → AppendsFront a b (prints code input n s)
+front_of_more a b code input m n s le h =
+    let more = prints_front code input m n s le in
+    (h.0, h.1 ++ more.0, more.1 ∙ ap (λ z. z ++ more.0) h.2 ∙ append_assoc h.0 h.1 more.0, h.3)
+
+-- all that is printed in fewer steps is such a front
+whole_is_front : (a b : Option (List ℕ)) (code : PlainCode) (input : List ℕ) (m n : ℕ) (s : State) → m ≤ n
+    → Appends a b (prints code input m s) → AppendsFront a b (prints code input n s)
+whole_is_front a b code input m n s le h = let more = prints_front code input m n s le in (prints code input m s, more.0, more.1, h)
+
+-- the answer of a run that was not cut short is by the mode in which it is left
+mode_is : (m : Mode) → mode_end m ≡ run_end (run_end_of m)
+mode_is Going = refl
+mode_is Failing = refl
+mode_is Stuck = refl
+mode_is (Ended ended.Succeeded) = refl
+mode_is (Ended ended.Failed) = refl
+mode_is (Ended (ended.Fault fault)) = refl
+
+-- a machine at the start of the code, without input
+abbrev pub fresh : PlainCode → MachineView
+fresh code = record { code = code; input = []; state = start code; running = true; printed = [] }
+
+-- what a run ensures
+pub record HasRun (old new : MachineView) (steps : ℕ) (answer : RunEnd) (a b : SinkSide) : Type 0 where
+  pub answered : OnWhole answer (answer ≡ run_end_of (after old.code old.input steps old.state).mode)
+  pub out : OnWhole answer (Appends a.written b.written (prints old.code old.input steps old.state))
+  pub few : new.state.steps ≤ old.state.steps + steps
+  pub memory : OnMemory answer (Appends a.written b.written (prints old.code old.input (made old new) old.state))
+  pub write_fault : OnWriteFault answer (AppendsFront a.written b.written (prints old.code old.input (made old new) old.state))
+  pub cause : HasCause a.faults b.faults (all_written answer)
+
+-- what is due from the code
+abbrev pub IsDue : PlainCode → (steps : ℕ) → Due → Type 0
+IsDue code steps due = due ≡ code_due code steps
+
+-- a run from the start goes as its code is due
+goes_fresh : (code : PlainCode) (new : MachineView) (steps : ℕ) (answer : RunEnd) (a b : SinkSide) → HasRun (fresh code) new steps answer a b
+    → Goes (IsDue code steps) a b (run_end answer)
+goes_fresh code new steps run.Succeeded a b h =
+    (code_due code steps, mode_is (state_after code [] steps).mode ∙ ap run_end (sym h.answered), refl, (h.out, h.cause.ok))
+goes_fresh code new steps run.Failed a b h =
+    (code_due code steps, mode_is (state_after code [] steps).mode ∙ ap run_end (sym h.answered), refl, (h.out, h.cause.ok))
+goes_fresh code new steps (run.Fault fault) a b h =
+    (code_due code steps, mode_is (state_after code [] steps).mode ∙ ap run_end (sym h.answered), refl, (h.out, h.cause.ok))
+goes_fresh code new steps run.StepsOut a b h =
+    (code_due code steps, mode_is (state_after code [] steps).mode ∙ ap run_end (sym h.answered), refl, (h.out, h.cause.ok))
+goes_fresh code new steps run.WriteFault a b h =
+    (code_due code steps, refl, (front_of_more a.written b.written code [] (made (fresh code) new) steps (start code) (omega (arith, h.few)) h.write_fault, (h.cause.later, h.cause.err)))
+goes_fresh code new steps run.Memory a b h =
+    (inr (code_due code steps, refl, whole_is_front a.written b.written code [] (made (fresh code) new) steps (start code) (omega (arith, h.few)) h.memory), h.cause.ok)
+
+pub goes_run : (code : PlainCode) (old new : MachineView) (steps : ℕ) (answer : RunEnd) (a b : SinkSide) → old ≡ fresh code → HasRun old new steps answer a b
+    → Goes (IsDue code steps) a b (run_end answer)
+goes_run code old new steps answer a b e h = goes_fresh code new steps answer a b (subst (λ (o : MachineView). HasRun o new steps answer a b) e h)
+
+-- ---- a run of code that implements a program
+
+-- a machine that has ended is in an end
+in_end : (m : Mode) → HasEnded m → (e : code.End) × (m ≡ Ended e)
+in_end (Ended e) h = (e, refl)
+in_end Going h = absurd h
+in_end Failing h = absurd h
+in_end Stuck h = absurd h
+
+-- a machine that has not ended in so many steps was given too few for each visit of the meaning
+may_run_out : (code : PlainCode) (p : Program) (steps : ℕ) → IsEnough code p → (HasEnded (state_after code [] steps).mode → ⊥) → MayRunOut p steps
+may_run_out code p steps enough out level uncut = by (cases_lt steps (32 * (visit_count (first (ev_program level p [])) + 1)))
+  where
+    by : (steps < 32 * (visit_count (first (ev_program level p [])) + 1)) ⊎ (32 * (visit_count (first (ev_program level p [])) + 1) ≤ steps)
+        → steps < 32 * (visit_count (first (ev_program level p [])) + 1)
+    by (inl few) = few
+    by (inr many) =
+        let plenty = 32 * (visit_count (first (ev_program level p [])) + 1) in
+        let there = enough [] (omega arith) level uncut in
+        let e = in_end (state_after code [] plenty).mode there in
+        absurd (out (subst (λ (s : State). HasEnded s.mode) (sym (ended_after code [] plenty steps (start code) e.0 many e.1)) there))
+
+-- what is due from code that implements a program is due from the program
+pub program_due : (p : Program) (code : PlainCode) (steps : ℕ) → Implements code p → size_of p ≤ size_limit → ProgramOutcome p steps (code_due code steps)
+program_due p code steps implements size = by (state_after code [] steps).mode refl (implements [] (omega arith) steps)
+  where
+    cut : (m : Mode) → (state_after code [] steps).mode ≡ m → (HasEnded m → ⊥) → MayRunOut p steps
+    cut m same out = may_run_out code p steps (is_enough code p implements) (λ h. out (subst HasEnded same h))
+
+    by : (m : Mode) → (state_after code [] steps).mode ≡ m → ComesTo m (printed_by code [] steps) p [] steps
+        → ProgramOutcome p steps (due_of (mode_end m) (printed_by code [] steps))
+    by (Ended e) same h = ran (printed_by code [] steps) e size h refl
+    by Going same h = steps_out (printed_by code [] steps) size h (cut Going same (λ x. x)) refl
+    by Failing same h = steps_out (printed_by code [] steps) size h (cut Failing same (λ x. x)) refl
+    by Stuck same h = steps_out (printed_by code [] steps) size h (cut Stuck same (λ x. x)) refl
