@@ -1,5 +1,6 @@
-pub mod LawsWords
-pub mod LawsForms
 pub mod LawsChecked
-pub mod LawsSums
+pub mod LawsForms
 pub mod LawsOnce
+pub mod LawsSums
+pub mod LawsWords
+pub mod Tokens
