@@ -1,3 +1,4 @@
+pub mod DeclaredNames
 pub mod LawsChecked
 pub mod LawsForms
 pub mod LawsOnce
