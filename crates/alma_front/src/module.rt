@@ -1,7 +1,7 @@
 // Modules: the heading, the variables and the body.
 ghost use Rattle.std.specs.Prelude.{◌≡◌, ◌<◌, ◌≤◌, ◌+◌, ◌∷◌, ◌↔◌, [], ℕ, List, Err, codes, length, map, IsTrue, IfOk, IfErr, MatchResult};
 ghost use Rattle.alma_tree.specs.declared.kind.Kind.TheVariants as kinds;
-ghost use Rattle.alma_ir.specs.Tree.{Program};
+ghost use Rattle.alma_ir.specs.Tree as tree;
 ghost use Rattle.alma_ir.specs.View.{program_of, global_of, stmts_list};
 ghost use Rattle.alma_front.specs.Words.{Word, Named, Fixed};
 ghost use Rattle.alma_front.specs.Grammar.{IsNames, HasVariables, HasBody, IsModule, globals_from, program};
@@ -108,14 +108,15 @@ fn body<'t, 's>(
 fn is_ending(name: &[u8], tokens: &[Token<'_>]) -> bool
     ensures { IsTrue result ↔ (words tokens.now ≡ Fixed kinds.End ∷ Named name.now ∷ Fixed kinds.Dot ∷ []) }
 {
-    match tokens {
-        [end, last, dot] => {
-            matches!(
-                (end.kind, last.kind, dot.kind),
-                (Kind::End, Kind::Name, Kind::Dot)
-            ) && last.text == name
-        }
-        _ => false,
+    let Some(behind) = skip(tokens, Kind::End) else {
+        return false;
+    };
+    let Some((last, behind)) = split_name(behind) else {
+        return false;
+    };
+    match skip(behind, Kind::Dot) {
+        Some(rest) => last == name && rest.is_empty(),
+        None => false,
     }
 }
 
@@ -145,7 +146,7 @@ fn assemble(
     ensures { IfOk result (λ p. program_of p ≡ program name.now variables.now (stmts_list statements.items)) }
 {
     let globals = globals(alloc, variables)?;
-    let declared = globals.len() as u32;
+    let declared = variables.names().len() as u32;
     let mut routines = Vec::new(alloc);
     routines.push(Routine {
         name: name.to_vec(alloc)?,
@@ -166,7 +167,7 @@ fn assemble(
 pub fn module(alloc: Global, tokens: &[Token<'_>]) -> Result<Program, ReadError>
     requires { length tokens.now ≤ 1048576 }
     ensures found { IfOk result (λ p. IsModule (words tokens.now) (program_of p)) }
-    ensures refused { result ≡ Err NotYet → (p : Program) → IsModule (words tokens.now) p → ⊥ }
+    ensures refused { result ≡ Err NotYet → (p : tree.Program) → IsModule (words tokens.now) p → ⊥ }
 {
     let (name, behind) = heading(tokens)?;
     let (names, behind) = declarations(alloc, behind)?;
