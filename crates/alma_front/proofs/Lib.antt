@@ -5,4 +5,5 @@ pub mod LawsOnce
 pub mod LawsSums
 pub mod LawsWords
 pub mod Modules
+pub mod Sources
 pub mod Tokens
