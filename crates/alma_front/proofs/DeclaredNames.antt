@@ -1,5 +1,5 @@
 -- The variables of a module, and the keys of their set.
-use Rattle.std.proofs.Common.{◌≡◌, ℕ, suc, nat_lt, ◌+◌, ◌<◌, ◌≤◌, List, [], ◌∷◌, ◌++◌, Option, None, Some, Bool, true, false, ◌||◌, cond, if◌then◌else◌, not, Vec, Global, length, map, take, drop, get_or, position, bytes_eq, option_map, refl, ap, sym, subst, ◌∙◌, arith, true≢false, append_assoc, length-append}
+use Rattle.std.proofs.Common.{◌≡◌, ℕ, suc, nat_lt, ◌+◌, ◌<◌, List, [], ◌∷◌, ◌++◌, Option, None, Some, Bool, true, false, ◌||◌, cond, if◌then◌else◌, not, Vec, Global, length, map, take, drop, get_or, position, bytes_eq, option_map, refl, ap, sym, subst, ◌∙◌, arith, true≢false, length-append}
 use Rattle.std.specs.List.{list_any, position_or_len}
 use Rattle.std.proofs.lemmas.List.{map-append}
 use Rattle.std.proofs.lemmas.Slice.Eq.{bytes_eq-Decides}

@@ -1,4 +1,3 @@
-use Rattle.alma_front.specs.Parse.{words}
 use Rattle.alma_front.proofs.Modules.{ending_here}
 use Rattle.alma_front.proofs.module.is_ending.Goals as goal
 

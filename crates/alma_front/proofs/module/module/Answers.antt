@@ -1,4 +1,4 @@
-use Rattle.std.proofs.Common.{ℕ, List, Err, false, true, sym, ap, ◌∙◌, subst, refl, true≢false}
+use Rattle.std.proofs.Common.{Err, sym, ap, ◌∙◌, subst, refl, true≢false}
 use Rattle.alma_front.specs.Words.{AreNew}
 use Rattle.alma_front.specs.Parse.{texts}
 use Rattle.alma_front.proofs.DeclaredNames.{handed_on}

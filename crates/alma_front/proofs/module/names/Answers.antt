@@ -1,8 +1,8 @@
-use Rattle.std.proofs.Common.{[], ◌∷◌, ap, sym, ◌∙◌, subst, arith, ℕ, List}
+use Rattle.std.proofs.Common.{[], ◌∷◌, arith, ℕ, List}
 use Rattle.std.specs.Borrow.{Bor}
 use Rattle.std.proofs.lemmas.List.{map-append}
 use Rattle.alma_front.specs.Parse.{words, texts}
-use Rattle.alma_front.proofs.Modules.{Reads, reads_one, reads_more, reads_all}
+use Rattle.alma_front.proofs.Modules.{reads_one, reads_more, reads_all}
 use Rattle.alma_front.proofs.module.names.Goals as goal
 
 pub loop-inner-init : goal.loop-inner-init

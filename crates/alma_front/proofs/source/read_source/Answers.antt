@@ -1,4 +1,4 @@
-use Rattle.std.proofs.Common.{ap, sym, subst, refl, true≢false}
+use Rattle.std.proofs.Common.{sym, subst, refl, true≢false}
 use Rattle.alma_front.specs.Words.{KeepsDepth}
 use Rattle.alma_front.specs.Parse.{words}
 use Rattle.alma_front.proofs.Sources.{scan_refused, too_deep, is_read}
