@@ -88,9 +88,11 @@ last_is_new (other ∷ names) name h =
 -- and where it is none of these, the names with it are new
 pub new_with_last : (names : List (List ℕ)) (name : List ℕ) → AreNew names → is_one_of predeclared name ≡ false → IsAbsent name names → AreNew (names ++ name ∷ [])
 new_with_last [] name h fresh absent = (fresh, refl, tt)
-new_with_last (other ∷ names) name h fresh absent =
-    (h.0, any_append (λ n. bytes_eq other n) names name ∙ either_false _ _ h.1 (compared_back name other (or_left _ _ absent)),
-     new_with_last names name h.2 fresh (or_right _ _ absent))
+new_with_last (other ∷ names) name h fresh absent = (
+  h.0,
+  any_append (λ n. bytes_eq other n) names name ∙ either_false _ _ h.1 (compared_back name other (or_left _ _ absent)),
+  new_with_last names name h.2 fresh (or_right _ _ absent),
+)
 
 -- the first of new names are new
 pub first_are_new : (names others : List (List ℕ)) → AreNew (names ++ others) → AreNew names
@@ -136,9 +138,9 @@ pub next_is_new : (before : List (List ℕ)) (names : List (Bor (List ℕ))) (pl
     → AreNew (texts names) → AreNew (before ++ (get_or names place other).now ∷ [])
 next_is_new before names place other e within h =
     let parts : texts (take (place + 1) names) ++ texts (drop (place + 1) names) ≡ texts names
-        = sym (map-append (λ (name : Bor (List ℕ)). name.now) (take (place + 1) names) (drop (place + 1) names)) ∙ ap texts (take-append-drop (place + 1) names) in
+    = sym (map-append (λ (name : Bor (List ℕ)). name.now) (take (place + 1) names) (drop (place + 1) names)) ∙ ap texts (take-append-drop (place + 1) names) in
     let more : texts (take (place + 1) names) ≡ texts (take place names) ++ (get_or names place other).now ∷ []
-        = ap texts (take_more names place other within) ∙ map-append (λ (name : Bor (List ℕ)). name.now) (take place names) (get_or names place other ∷ []) in
+    = ap texts (take_more names place other within) ∙ map-append (λ (name : Bor (List ℕ)). name.now) (take place names) (get_or names place other ∷ []) in
     rw e (subst AreNew more (first_are_new _ (texts (drop (place + 1) names)) (subst AreNew (sym parts) h)))
 
 -- an error that is handed on

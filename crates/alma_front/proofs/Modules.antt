@@ -1,14 +1,13 @@
 -- Modules: names, variables and bodies are read in one way.
-use Rattle.std.proofs.Common.{◌≡◌, ℕ, List, [], ◌∷◌, ◌++◌, Bool, true, Result, IfErr, IsTrue, refl, sym, ap, subst, ◌∙◌, append_assoc, append-nil, codes, arith, ◌+◌, ◌<◌, ◌==◌, length, map, take, get_or, Vec, Global as TheGlobal, None, bytes_eq, add_comm}
-use Rattle.std.specs.Prelude.{IsErrAnd, ◌↔◌}
+use Rattle.std.proofs.Common.{◌≡◌, ℕ, List, [], ◌∷◌, ◌++◌, Bool, true, IsTrue, refl, sym, ap, subst, ◌∙◌, append_assoc, append-nil, codes, arith, ◌+◌, ◌<◌, ◌==◌, length, map, take, get_or, Vec, Global as TheGlobal, None, bytes_eq, add_comm}
+use Rattle.std.specs.Prelude.{◌↔◌}
 use Rattle.std.proofs.lemmas.List.{map-append, take_more, length-map, length-take-le}
 use Rattle.std.proofs.lemmas.Bool.Decides.{nat_tests}
 use Rattle.std.proofs.lemmas.Slice.Eq.{bytes_eq-Decides}
-use Rattle.std.proofs.lemmas.Result.{err_from_is_err_and}
 use Rattle.alma_scan.proofs.Basics.{true_false}
 use Rattle.alma_tree.specs.declared.kind.Kind.TheVariants as kinds
 use Rattle.alma_front.specs.declared.error.ReadError.{ReadError}
-use Rattle.alma_front.specs.declared.error.ReadError.TheVariants.{NotYet, Memory}
+use Rattle.alma_front.specs.declared.error.ReadError.TheVariants.{NotYet}
 use Rattle.alma_front.specs.Words.{Word, Named, Fixed, AreNew}
 use Rattle.alma_front.specs.Grammar.{IsNames, last_name, more_names, HasVariables, no_variables, variables, HasBody, no_body, body, IsStatements, IsModule, globals_from, program}
 use Rattle.alma_scan.specs.declared.scanner.Token.{Token}
@@ -22,25 +21,9 @@ use Rattle.alma_front.specs.Parse.{words, first_is, ends_list, BeginsNot, Anythi
 
 -- ---- errors
 
--- where no phrase stands, each error is right
-pub refused_never : {A : Type 0} (phrase : A → List Word → Type 0) (Ends : List Word → Type 0) (error : ReadError) → Never phrase Ends → Refused phrase Ends error
-refused_never phrase Ends NotYet h = h
-refused_never phrase Ends Memory h = tt
-
--- an error that is right of a part is right of the whole, where the whole has the part
-pub refused_part : {A B : Type 0} (part : A → List Word → Type 0) (Part : List Word → Type 0) (whole : B → List Word → Type 0) (Ends : List Word → Type 0)
-    → (Never part Part → Never whole Ends) → (error : ReadError) → Refused part Part error → Refused whole Ends error
-refused_part part Part whole Ends none NotYet h = none h
-refused_part part Part whole Ends none Memory h = tt
-
 -- not yet is right only where no phrase stands
 pub never_at : {A : Type 0} (phrase : A → List Word → Type 0) (Ends : List Word → Type 0) (error : ReadError) → error ≡ NotYet → Refused phrase Ends error → Never phrase Ends
 never_at phrase Ends error e h = subst (Refused phrase Ends) e h
-
--- an error that is handed on stays right
-pub refused_on : {X A : Type 0} (phrase : A → List Word → Type 0) (Ends : List Word → Type 0) (error : ReadError) (result : Result X ReadError)
-    → IsErrAnd result (λ e. e ≡ error) → Refused phrase Ends error → IfErr result (Refused phrase Ends)
-refused_on phrase Ends error result same h = let p = err_from_is_err_and result same in rw (p.1, p.2) h
 
 -- ---- names
 
@@ -70,11 +53,11 @@ pub reads_one : (words : List Word) (name : List ℕ) (left : List Word) → wor
 reads_one words name left w = record {
   built = λ more rest m. with_name name w m;
   same = λ all rest ends h.
-    let f = first_name h in
-    let here : Named f.0 ∷ f.2 ≡ Named name ∷ left = sym f.3 ∙ w in
-    let behind : f.2 ≡ left = cc here in
-    let called : f.0 ≡ name = cc here in
-    (f.1, subst (λ (z : List Word). More z f.1 rest) behind f.5, f.4 ∙ ap (λ (z : List ℕ). z ∷ f.1) called);
+      let f = first_name h in
+      let here : Named f.0 ∷ f.2 ≡ Named name ∷ left = sym f.3 ∙ w in
+      let behind : f.2 ≡ left = cc here in
+      let called : f.0 ≡ name = cc here in
+      (f.1, subst (λ (z : List Word). More z f.1 rest) behind f.5, f.4 ∙ ap (λ (z : List ℕ). z ∷ f.1) called);
 }
 
 -- what stands behind a name, where a comma does
@@ -93,9 +76,9 @@ pub reads_more : (words : List Word) (names : List (List ℕ)) (left inner : Lis
 reads_more words names left inner name behind h e w = record {
   built = λ more rest m. rw (append_assoc names (name ∷ []) more) (h.built (name ∷ more) rest (some inner e (with_name name w m)));
   same = λ all rest ends k.
-    let before = h.same all rest ends k in
-    let next = (reads_one inner name behind w).same before.0 rest ends (comma_more left inner before.0 rest e ends before.1) in
-    (next.0, next.1, before.2 ∙ ap (λ (z : List (List ℕ)). names ++ z) next.2 ∙ sym (append_assoc names (name ∷ []) next.0));
+      let before = h.same all rest ends k in
+      let next = (reads_one inner name behind w).same before.0 rest ends (comma_more left inner before.0 rest e ends before.1) in
+      (next.0, next.1, before.2 ∙ ap (λ (z : List (List ℕ)). names ++ z) next.2 ∙ sym (append_assoc names (name ∷ []) next.0));
 }
 
 -- all names are read where no comma stands behind them
@@ -103,21 +86,10 @@ pub reads_all : (words : List Word) (names : List (List ℕ)) (left : List Word)
 reads_all words names left h end = record {
   is_one = subst (λ (z : List (List ℕ)). IsNames words z left) (append-nil names) (h.built [] left (none refl refl));
   alone = λ all rest ends k.
-    let more = h.same all rest ends k in
-    let last = end_more left more.0 rest end more.1 in
-    (more.2 ∙ ap (λ (z : List (List ℕ)). names ++ z) last.0 ∙ append-nil names, last.1);
+      let more = h.same all rest ends k in
+      let last = end_more left more.0 rest end more.1 in
+      (more.2 ∙ ap (λ (z : List (List ℕ)). names ++ z) last.0 ∙ append-nil names, last.1);
 }
-
--- names begin with no other word
-pub no_names : (words : List Word) → ((text : List ℕ) → BeginsNot (Named text) words) → Never (IsNames words) EndsNames
-no_names words missing all rest ends h = let f = first_name h in missing f.0 f.2 f.3
-
--- no names are read where no name stands behind a comma
-pub reads_none : (words : List Word) (names : List (List ℕ)) (left inner : List Word) → Reads words names left → left ≡ Fixed kinds.Comma ∷ inner
-    → ((text : List ℕ) → BeginsNot (Named text) inner) → Never (IsNames words) EndsNames
-reads_none words names left inner h e missing all rest ends k =
-    let more = h.same all rest ends k in
-    no_names inner missing more.0 rest ends (comma_more left inner more.0 rest e ends more.1)
 
 -- ---- variables
 
@@ -141,21 +113,10 @@ pub variables_read : (words inner : List Word) (names : List (List ℕ)) (left r
 variables_read words inner names left rest e h w = record {
   is_one = variables inner e (subst (λ (z : List Word). IsNames inner names z) w h.is_one);
   alone = λ all later ends k.
-    let one = h.alone all (typed later) (typed_ends later) (behind_var inner e ends k) in
-    let same : typed later ≡ typed rest = one.1 ∙ w in
-    (one.0, cc same);
+      let one = h.alone all (typed later) (typed_ends later) (behind_var inner e ends k) in
+      let same : typed later ≡ typed rest = one.1 ∙ w in
+      (one.0, cc same);
 }
-
--- no variables stand where no names do
-pub variables_lack_names : (words inner : List Word) → words ≡ Fixed kinds.Var ∷ inner → Never (IsNames inner) EndsNames → Never (HasVariables words) EndsVariables
-variables_lack_names words inner e lacks all later ends k = lacks all (typed later) (typed_ends later) (behind_var inner e ends k)
-
--- nor where the type is missing
-pub variables_lack_type : (words inner : List Word) (names : List (List ℕ)) (left : List Word) → words ≡ Fixed kinds.Var ∷ inner → Only (IsNames inner) EndsNames names left
-    → ((rest : List Word) → left ≡ typed rest → ⊥) → Never (HasVariables words) EndsVariables
-variables_lack_type words inner names left e h lacks all later ends k =
-    let one = h.alone all (typed later) (typed_ends later) (behind_var inner e ends k) in
-    lacks later (sym one.1)
 
 -- the same variables, named otherwise
 pub renamed : {words : List Word} {names others : List (List ℕ)} {rest : List Word} → names ≡ others → Only (HasVariables words) EndsVariables names rest → Only (HasVariables words) EndsVariables others rest
@@ -178,10 +139,6 @@ body_read names words inner stmts rest e h = record {
   is_one = body inner e h.is_one;
   alone = λ all later ends k. h.alone all later ends (behind_begin inner e ends k);
 }
-
--- and there is no body where no statements stand behind BEGIN
-pub body_lacks : (names : List (List ℕ)) (words inner : List Word) → words ≡ Fixed kinds.Begin ∷ inner → Never (IsStatements names inner) EndsStatements → Never (HasBody names words) EndsStatements
-body_lacks names words inner e lacks all later ends k = lacks all later ends (behind_begin inner e ends k)
 
 -- a body, or END where there is none, is no VAR
 body_no_var : {names : List (List ℕ)} {words : List Word} {stmts : Stmts} {rest : List Word} → EndsVariables rest → HasBody names words stmts rest → EndsVariables words
@@ -253,7 +210,7 @@ pub one_more_global : (slot : ℕ) (names : List (List ℕ)) (name : List ℕ)
 one_more_global slot [] name = ap (λ n. record { name = name; slot = n; cells = 1 } ∷ []) (omega arith)
 one_more_global slot (first ∷ names) name =
     ap (λ z. record { name = first; slot = slot; cells = 1 } ∷ z)
-      (one_more_global (slot + 1) names name ∙ ap (λ n. globals_from (slot + 1) names ++ record { name = name; slot = n; cells = 1 } ∷ []) (omega arith))
+    (one_more_global (slot + 1) names name ∙ ap (λ n. globals_from (slot + 1) names ++ record { name = name; slot = n; cells = 1 } ∷ []) (omega arith))
 
 -- one more variable of the program
 pub next_global : (globals later : List RawGlobal) (names : List (Vec ℕ TheGlobal)) (place : ℕ) (other name text : Vec ℕ TheGlobal) (slot : ℕ) → length globals ≡ place → place < length names
@@ -261,11 +218,11 @@ pub next_global : (globals later : List RawGlobal) (names : List (Vec ℕ TheGlo
     → later ≡ globals ++ record { name = text; slot = slot; cells = 1 } ∷ [] → map global_of later ≡ globals_from 1 (map (λ n. n.items) (take (place + 1) names))
 next_global globals later names place other name text slot count within before is held e step =
     let left : map global_of later ≡ globals_from 1 (map (λ (n : Vec ℕ TheGlobal). n.items) (take place names)) ++ record { name = name.items; slot = 1 + place; cells = 1 } ∷ []
-        = rw (step, map-append global_of globals _, before, held, e, count, add_comm place 1) refl in
+    = rw (step, map-append global_of globals _, before, held, e, count, add_comm place 1) refl in
     let here : name.items ≡ (get_or names place other).items = ap (λ (n : Vec ℕ TheGlobal). n.items) is in
     let size : length (map (λ (n : Vec ℕ TheGlobal). n.items) (take place names)) ≡ place = length-map (take place names) (λ n. n.items) ∙ length-take-le place names (omega arith) in
     let right : map (λ (n : Vec ℕ TheGlobal). n.items) (take (place + 1) names) ≡ map (λ (n : Vec ℕ TheGlobal). n.items) (take place names) ++ (get_or names place other).items ∷ []
-        = ap (map (λ (n : Vec ℕ TheGlobal). n.items)) (take_more names place other within) ∙ map-append (λ (n : Vec ℕ TheGlobal). n.items) (take place names) (get_or names place other ∷ []) in
+    = ap (map (λ (n : Vec ℕ TheGlobal). n.items)) (take_more names place other within) ∙ map-append (λ (n : Vec ℕ TheGlobal). n.items) (take place names) (get_or names place other ∷ []) in
     left ∙ rw (right, one_more_global 1 (map (λ (n : Vec ℕ TheGlobal). n.items) (take place names)) (get_or names place other).items, size, here) refl
 
 -- ---- the end of a module
@@ -286,10 +243,11 @@ ending_here all first second rest name last e f g same empty is =
     let called : last ≡ name = (bytes_eq-Decides last name).0 (sym same) in
     let whole : all ≡ Fixed kinds.End ∷ Named name ∷ Fixed kinds.Dot ∷ words rest = rw (e, f, g, called) refl in
     (λ still. whole ∙ ap (λ (z : List Word). Fixed kinds.End ∷ Named name ∷ Fixed kinds.Dot ∷ z) (no_words rest (bare empty is still)), λ h. stays empty is (no_tokens rest (cc (whole, h)))) where
-  bare : (empty : Bool) → empty ≡ (length rest == 0) → IsTrue empty → length rest ≡ 0
-  bare empty is h = grind (arith, nat_tests)
-  stays : (empty : Bool) → empty ≡ (length rest == 0) → length rest ≡ 0 → IsTrue empty
-  stays empty is h = grind (arith, nat_tests)
+      bare : (empty : Bool) → empty ≡ (length rest == 0) → IsTrue empty → length rest ≡ 0
+      bare empty is h = grind (arith, nat_tests)
+
+      stays : (empty : Bool) → empty ≡ (length rest == 0) → length rest ≡ 0 → IsTrue empty
+      stays empty is h = grind (arith, nat_tests)
 
 -- ---- the whole program
 

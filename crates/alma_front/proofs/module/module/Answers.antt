@@ -12,12 +12,12 @@ returns-in_err-names-clause-refused c = λ e p m.
 pub returns-in_err-variables-clause-refused : goal.returns-in_err-variables-clause-refused
 returns-in_err-variables-clause-refused c = λ e p m.
     c.in_err-variables.ensures.refused (ap Err (handed_on _ _ c.from_residual-in_err-variables.ensures.1 e))
-      (subst (λ z. AreNew (texts z)) (sym c.deref.ensures.value) (module_has_new c.in_ok-name.ensures.found m c.in_ok-names.ensures.found))
+    (subst (λ z. AreNew (texts z)) (sym c.deref.ensures.value) (module_has_new c.in_ok-name.ensures.found m c.in_ok-names.ensures.found))
 
 pub returns-in_err-statements-clause-refused : goal.returns-in_err-statements-clause-refused
 returns-in_err-statements-clause-refused c = λ e p m.
     module_has_body c.in_ok-name.ensures.found m (renamed (ap texts (sym c.deref.ensures.value) ∙ sym c.in_ok-variables.ensures.names) c.in_ok-names.ensures.found)
-      (never_at _ _ _ (handed_on _ _ c.from_residual-in_err-statements.ensures.1 e) c.in_err-statements.ensures.refused)
+    (never_at _ _ _ (handed_on _ _ c.from_residual-in_err-statements.ensures.1 e) c.in_err-statements.ensures.refused)
 
 pub returns-then-not-is_ending-clause-refused : goal.returns-then-not-is_ending-clause-refused
 returns-then-not-is_ending-clause-refused c = λ e p m.

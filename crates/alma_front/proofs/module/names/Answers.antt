@@ -14,7 +14,7 @@ loop-inner-init c = record {
 pub loop-inner-preserved : goal.loop-inner-preserved
 loop-inner-preserved c =
     let read = reads_more (words c.args.tokens.now) (texts c.loop-inner.names.items) (words c.loop-inner.rest.now) (words c.in-Some.inner.now) c.in_ok-name.name.now (words c.in_ok-name.behind.now)
-        c.loop-inner.invariant.read c.in-Some.ensures.skipped c.in_ok-name.ensures.found in
+    c.loop-inner.invariant.read c.in-Some.ensures.skipped c.in_ok-name.ensures.found in
     record {
       count = omega (arith, c.in_ok-push-2.ensures.len, c.loop-inner.invariant.count, c.in-Some.ensures.shorter, c.in_ok-name.ensures.shorter);
       read = rw (c.in_ok-push-2.ensures.items, map-append (λ (name : Bor (List ℕ)). name.now) c.loop-inner.names.items (c.in_ok-name.name ∷ [])) read;
