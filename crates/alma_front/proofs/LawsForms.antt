@@ -114,7 +114,7 @@ sign_sound (minus_sign n e) s = (subst SoundWords e s).1
 mutual
   form_operand : {names : List (List ℕ)} {words : List Word} {e : Expr} {rest : List Word} → IsOperand names words e rest → SoundWords words
       → FormExpr (length names) e × SoundWords rest
-  form_operand {names = names} (number text e k) s =
+  form_operand {names = names} (number text e b k) s =
       let s' = subst SoundWords e s in
       (subst (FormExpr (length names)) (sym k) (small_integer _ s'.0), s'.1)
   form_operand {names = names} (variable_named name slot e found k) s =

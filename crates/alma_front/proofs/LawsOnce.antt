@@ -8,33 +8,11 @@ use Rattle.alma_front.specs.Words.{Word, Named, Digits, Fixed, word, slot_of}
 use Rattle.alma_front.specs.Grammar.{variable, whole_range, one, followed_by, IsSum, IsCondition, IsItems, IsStatement, nothing, test, assignment, write, if_else, while_loop, repeat_loop, IsArms, last_arm, elsif, IsElse, no_else, else_part, IsStatements, last_statement, more_statements, IsNames, last_name, more_names, HasVariables, no_variables, variables, HasBody, no_body, body, IsModule, program}
 use Rattle.alma_front.specs.Source.{IsSource}
 use Rattle.alma_scan.proofs.Basics.{true_false}
+use Rattle.alma_front.specs.Parse.{first_is, factor_word, term_word, start_word, ends_word, ends_list, ends_arms}
 use Rattle.alma_front.proofs.LawsWords.{some_same}
-use Rattle.alma_front.proofs.LawsSums.{first_is, first_apart, factor_word, term_word, start_word, NoTruth, no_truth, same_sum, same_condition, condition_starts, no_assigned, same_items}
+use Rattle.alma_front.proofs.LawsSums.{first_apart, NoTruth, no_truth, same_sum, same_condition, condition_starts, no_assigned, same_items}
 
 -- ---- the word behind
-
--- a word that may stand behind a statement
-abbrev ends_word : Word → Bool
-ends_word (Fixed kinds.Semicolon) = true
-ends_word (Fixed kinds.End) = true
-ends_word (Fixed kinds.Else) = true
-ends_word (Fixed kinds.Elsif) = true
-ends_word (Fixed kinds.Until) = true
-ends_word word = false
-
--- a word that may stand behind statements
-abbrev ends_list : Word → Bool
-ends_list (Fixed kinds.End) = true
-ends_list (Fixed kinds.Else) = true
-ends_list (Fixed kinds.Elsif) = true
-ends_list (Fixed kinds.Until) = true
-ends_list word = false
-
--- a word that may stand behind arms
-abbrev ends_arms : Word → Bool
-ends_arms (Fixed kinds.End) = true
-ends_arms (Fixed kinds.Else) = true
-ends_arms word = false
 
 -- it is no operator, and begins no sum
 ends_no_factor : (w : Word) → ends_word w ≡ true → factor_word w ≡ false

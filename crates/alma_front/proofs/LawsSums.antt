@@ -9,6 +9,7 @@ use Rattle.alma_ir.specs.declared.phrase.WriteAs.TheVariants as write_as
 use Rattle.alma_ir.specs.Tree.{Stmts, Stmt, Test, Expr, Links, WriteExpr, Value, Const, Load, no_links}
 use Rattle.alma_scan.proofs.Basics.{true_false}
 use Rattle.alma_front.specs.Words.{Word, Named, Digits, Fixed, factor_op, term_op, comparison, truth_word, predeclared, is_one_of, slot_from, slot_of, AreNew}
+use Rattle.alma_front.specs.Parse.{first_is, factor_word, term_word, close_word, sign_word, start_word}
 use Rattle.alma_front.proofs.LawsWords.{none_some, some_same}
 use Rattle.alma_front.specs.Grammar.{variable, truth_number, chained, one, HasSign, no_sign, plus_sign, minus_sign, IsOperand, number, variable_named, nested, IsFactors, no_factors, more_factors, IsProduct, product, IsTerms, no_terms, more_terms, IsSum, sum, IsCondition, truth, compared, IsItem, truth_item, sum_item, IsItems, last_item, more_items}
 
@@ -18,47 +19,10 @@ use Rattle.alma_front.specs.Grammar.{variable, truth_number, chained, one, HasSi
 fixed_same : {k j : Kind} {ws vs : List Word} → Fixed k ∷ ws ≡ Fixed j ∷ vs → k ≡ j
 fixed_same e = cc e
 
--- the first word is of the sort
-abbrev pub first_is : (Word → Bool) → List Word → Bool
-first_is sort [] = false
-first_is sort (w ∷ words) = sort w
-
 -- words whose first is of one sort have none of a sort apart from it
 pub first_apart : (sort other : Word → Bool) → ((w : Word) → sort w ≡ true → other w ≡ false) → (words : List Word) → first_is sort words ≡ true → first_is other words ≡ false
 first_apart sort other f [] h = refl
 first_apart sort other f (w ∷ words) h = f w h
-
--- an operator of a product
-abbrev pub factor_word : Word → Bool
-factor_word (Named text) = false
-factor_word (Digits text) = false
-factor_word (Fixed kind) = is_some (factor_op kind)
-
--- an operator of a sum
-abbrev pub term_word : Word → Bool
-term_word (Named text) = false
-term_word (Digits text) = false
-term_word (Fixed kind) = is_some (term_op kind)
-
--- )
-abbrev pub close_word : Word → Bool
-close_word (Fixed kinds.CloseParen) = true
-close_word word = false
-
--- + or -
-abbrev sign_word : Word → Bool
-sign_word (Fixed kinds.Plus) = true
-sign_word (Fixed kinds.Minus) = true
-sign_word word = false
-
--- a word that may begin a sum or a truth
-abbrev pub start_word : Word → Bool
-start_word (Named text) = true
-start_word (Digits text) = true
-start_word (Fixed kinds.OpenParen) = true
-start_word (Fixed kinds.Plus) = true
-start_word (Fixed kinds.Minus) = true
-start_word word = false
 
 -- operators of sums are none of products
 term_no_factor : (kind : Kind) (o : Op) → term_op kind ≡ Some o → is_some (factor_op kind) ≡ false
@@ -114,7 +78,7 @@ terms_end_factors (more_terms kind o inner behind operand others w op h more k) 
 product_no_sign : {names : List (List ℕ)} {words : List Word} {e : Expr} {rest : List Word} → IsProduct names words e rest → first_is sign_word words ≡ false
 product_no_sign (product first links behind h more k) = go h where
   go : {names : List (List ℕ)} {words : List Word} {e : Expr} {rest : List Word} → IsOperand names words e rest → first_is sign_word words ≡ false
-  go (number text w k) = ap (first_is sign_word) w
+  go (number text w b k) = ap (first_is sign_word) w
   go (variable_named name slot w found k) = ap (first_is sign_word) w
   go (nested inner w h) = ap (first_is sign_word) w
 
@@ -135,16 +99,16 @@ same_sign (minus_sign n w) (minus_sign m v) f g = (n ∙ sym m, cc (w, v))
 mutual
   same_operand : {names : List (List ℕ)} {words : List Word} {e d : Expr} {rest after : List Word} → IsOperand names words e rest → IsOperand names words d after
       → (e ≡ d) × (rest ≡ after)
-  same_operand (number text w k) (number other v l) = (cc (w, v, k, l), cc (w, v))
-  same_operand (number text w k) (variable_named name slot v found l) = absurd (cc (w, v))
-  same_operand (number text w k) (nested inner v h) = absurd (cc (w, v))
-  same_operand (variable_named name slot w found k) (number text v l) = absurd (cc (w, v))
+  same_operand (number text w b k) (number other v c l) = (cc (w, v, k, l), cc (w, v))
+  same_operand (number text w b k) (variable_named name slot v found l) = absurd (cc (w, v))
+  same_operand (number text w b k) (nested inner v h) = absurd (cc (w, v))
+  same_operand (variable_named name slot w found k) (number text v c l) = absurd (cc (w, v))
   same_operand {names = names} (variable_named name slot w found k) (variable_named other place v there l) =
       let n : name ≡ other = cc (w, v) in
       let s : slot ≡ place = some_same (sym found ∙ ap (slot_of names) n ∙ there) in
       (k ∙ ap (λ (z : ℕ). Load (variable z)) s ∙ sym l, cc (w, v))
   same_operand (variable_named name slot w found k) (nested inner v h) = absurd (cc (w, v))
-  same_operand (nested inner w h) (number text v l) = absurd (cc (w, v))
+  same_operand (nested inner w h) (number text v c l) = absurd (cc (w, v))
   same_operand (nested inner w h) (variable_named name slot v found l) = absurd (cc (w, v))
   same_operand {names = names} {d = d} {after = after} (nested inner w h) (nested other v j) =
       let n : other ≡ inner = cc (w, v) in
@@ -238,7 +202,7 @@ sum_named (sum negated first links signed behind (plus_sign n w) h more k) name 
 sum_named (sum negated first links signed behind (minus_sign n w) h more k) name inner v = absurd (cc (w, v))
 sum_named (sum negated first links signed behind (no_sign n w) (product first' links' behind' h more' k') more k) name inner v = go h (sym w ∙ v) where
   go : {names : List (List ℕ)} {words : List Word} {e : Expr} {rest : List Word} → IsOperand names words e rest → words ≡ Named name ∷ inner → (slot : ℕ) × (slot_of names name ≡ Some slot)
-  go (number text w k) v = absurd (cc (w, v))
+  go (number text w b k) v = absurd (cc (w, v))
   go {names = names} (variable_named other slot w found k) v =
       let n : name ≡ other = cc (w, v) in
       (slot, ap (slot_of names) n ∙ found)
@@ -269,7 +233,7 @@ sum_starts (sum negated first links signed behind (plus_sign n w) h more k) = ap
 sum_starts (sum negated first links signed behind (minus_sign n w) h more k) = ap (first_is start_word) w
 sum_starts (sum negated first links signed behind (no_sign n w) (product first' links' behind' h more' k') more k) = ap (first_is start_word) w ∙ go h where
   go : {names : List (List ℕ)} {words : List Word} {e : Expr} {rest : List Word} → IsOperand names words e rest → first_is start_word words ≡ true
-  go (number text w k) = ap (first_is start_word) w
+  go (number text w b k) = ap (first_is start_word) w
   go (variable_named name slot w found k) = ap (first_is start_word) w
   go (nested inner w h) = ap (first_is start_word) w
 

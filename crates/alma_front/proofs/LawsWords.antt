@@ -9,6 +9,7 @@ use Rattle.alma_scan.specs.Tokens.{Lexeme, HasTokens}
 use Rattle.alma_scan.proofs.Basics.{true_false}
 use Rattle.alma_scan.proofs.Gaps.{gap_shorter}
 use Rattle.alma_front.specs.Words.{Word, Named, Digits, Fixed, word_of, word}
+use Rattle.alma_front.specs.Parse.{is_fixed}
 
 -- no option is both there and not
 pub none_some : {X : Type 0} {x : X} → None ≡ Some x → ⊥
@@ -19,12 +20,6 @@ pub some_same : {X : Type 0} {x y : X} → Some x ≡ Some y → x ≡ y
 some_same e = cc e
 
 -- ---- what tables give
-
--- the kind is neither a name nor a number
-abbrev is_fixed : Kind → Bool
-is_fixed kinds.Name = false
-is_fixed kinds.Number = false
-is_fixed kind = true
 
 -- the kind is a name
 abbrev is_name : Kind → Bool

@@ -1,5 +1,9 @@
-pub mod LawsWords
-pub mod LawsForms
+pub mod DeclaredNames
 pub mod LawsChecked
-pub mod LawsSums
+pub mod LawsForms
 pub mod LawsOnce
+pub mod LawsSums
+pub mod LawsWords
+pub mod Modules
+pub mod Sources
+pub mod Tokens

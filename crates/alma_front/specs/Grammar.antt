@@ -1,10 +1,11 @@
 -- The grammar of the small language, from tokens to the resolved program. Each fact says that the words begin with a
 -- phrase of a kind, what this phrase stands for, and which words are behind it.
-use Rattle.std.specs.Prelude.{◌≡◌, ℕ, ◌+◌, ◌-◌, ◌^◌, ℤ, Bool, true, false, pos, negsuc, List, [], ◌∷◌, length, Some, None, codes}
+use Rattle.std.specs.Prelude.{◌≡◌, ◌≤◌, ℕ, ◌+◌, ◌-◌, ◌^◌, ℤ, Bool, true, false, pos, negsuc, List, [], ◌∷◌, length, Some, None, codes}
 use Rattle.alma_base.specs.declared.number.Range.{Range}
 use Rattle.alma_tree.specs.declared.kind.Kind.{Kind}
 use Rattle.alma_tree.specs.declared.kind.Kind.TheVariants as kinds
 use Rattle.alma_scan.specs.Bytes.{value_of}
+use Rattle.alma_scan.specs.Spellings.{greatest_number}
 use Rattle.alma_ir.specs.declared.phrase.Op.{Op}
 use Rattle.alma_ir.specs.declared.phrase.Cmp.{Cmp}
 use Rattle.alma_ir.specs.declared.phrase.Root.TheVariants as root
@@ -54,7 +55,7 @@ mutual
   -- Operand: a number, a variable, or a sum in parentheses.
   pub data IsOperand : (names : List (List ℕ)) → List Word → Expr → List Word → Type 0 where
     number : {names : List (List ℕ)} {words rest : List Word} {e : Expr} (text : List ℕ)
-        → words ≡ Digits text ∷ rest → e ≡ Const (pos (value_of text)) → IsOperand names words e rest
+        → words ≡ Digits text ∷ rest → value_of text ≤ greatest_number → e ≡ Const (pos (value_of text)) → IsOperand names words e rest
     variable_named : {names : List (List ℕ)} {words rest : List Word} {e : Expr} (name : List ℕ) (slot : ℕ)
         → words ≡ Named name ∷ rest → slot_of names name ≡ Some slot → e ≡ Load (variable slot) → IsOperand names words e rest
     nested : {names : List (List ℕ)} {words rest : List Word} {e : Expr} (inner : List Word)

@@ -1,3 +1,4 @@
 pub mod Grammar
+pub mod Parse
 pub mod Source
 pub mod Words

@@ -1,17 +1,65 @@
-// A stand-in for the reader, in this clone alone.
-ghost use Rattle.std.specs.Prelude.{◌≤◌, length};
+// Sources.
+ghost use Rattle.std.specs.Prelude.{◌≡◌, ◌≤◌, ◌↔◌, ℕ, List, length, IsTrue};
+ghost use Rattle.alma_front.specs.Words.{KeepsDepth, word_of, depth_behind};
+ghost use Rattle.alma_front.specs.Parse.{words, scan_end};
 ghost use Rattle.alma_front.specs.Source.{IsRead};
 
 use crate::error::ReadError;
+use crate::module::module;
 use alma_ir::Program;
+use alma_scan::{ScanError, Token, scan};
+use alma_tree::Kind;
 use std::alloc::Global;
 
-/// The program of a source of at most 1,048,576 bytes.
+/// The greatest number of brackets that are open at once.
+const GREATEST_DEPTH: usize = 100;
+
+// How many brackets are open behind a token, where so many are open before it.
+fn depth_behind(depth: usize, kind: Kind) -> usize
+    requires { depth ≤ 100 }
+    ensures { (text : List ℕ) → result ≡ depth_behind depth (word_of kind text) }
+{
+    match kind {
+        Kind::OpenParen | Kind::Module | Kind::If | Kind::While | Kind::Repeat => depth + 1,
+        Kind::CloseParen | Kind::End | Kind::Until => depth.saturating_sub(1),
+        _ => depth,
+    }
+}
+
+// Whether at most 100 brackets are open behind each token.
+fn keeps_depth(tokens: &[Token<'_>]) -> bool
+    ensures { IsTrue result ↔ KeepsDepth 0 (words tokens.now) }
+{
+    let mut depth = 0;
+    for token in tokens {
+        depth = depth_behind(depth, token.kind);
+        if depth > GREATEST_DEPTH {
+            return false;
+        }
+    }
+    true
+}
+
+impl From<ScanError> for ReadError {
+    ghost from_gives = { λ scan error. error ≡ scan_end scan };
+
+    fn from(error: ScanError) -> Self {
+        match error {
+            ScanError::Lex(_, _) => ReadError::NotYet,
+            ScanError::Memory => ReadError::Memory,
+        }
+    }
+}
+
+/// The resolved program that a source is. A lexical fault, a syntax fault and a broken rule are all `NotYet`, and so is
+/// each form of the language that the small one lacks.
 pub fn read_source(alloc: Global, source: &[u8]) -> Result<Program, ReadError>
     requires { length source.now ≤ 1048576 }
     ensures { IsRead source.now result }
 {
-    let _ = alloc;
-    let _ = source;
-    Err(ReadError::Memory)
+    let tokens = scan(alloc, source)?;
+    if !keeps_depth(&tokens) {
+        return Err(ReadError::NotYet);
+    }
+    module(alloc, &tokens)
 }
