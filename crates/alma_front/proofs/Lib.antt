@@ -4,4 +4,5 @@ pub mod LawsForms
 pub mod LawsOnce
 pub mod LawsSums
 pub mod LawsWords
+pub mod Statements
 pub mod Tokens
