@@ -20,7 +20,7 @@ use std::alloc::Global;
 
 /// All numbers of INTEGER.
 const WHOLE_RANGE: Range = Range {
-    low: -i64::MAX,
+    low: i64::MIN,
     high: i64::MAX,
 };
 
