@@ -76,7 +76,7 @@ end_arms words h = first_wider ends_arms ends_list arms_end words h
 -- ---- statements
 
 -- arms are ended by END or ELSE
-else_ends : {names : List (List ℕ)} {words : List Word} {other : Stmts} {rest : List Word} → IsElse names words other rest → first_is ends_arms words ≡ true
+pub else_ends : {names : List (List ℕ)} {words : List Word} {other : Stmts} {rest : List Word} → IsElse names words other rest → first_is ends_arms words ≡ true
 else_ends (no_else w k) = ap (first_is ends_arms) w
 else_ends (else_part inner w h) = ap (first_is ends_arms) w
 
