@@ -1,5 +1,5 @@
 -- Statements are read exactly: where their parts are, and where a part is missing.
-use Rattle.std.proofs.Common.{◌≡◌, ℕ, Bool, true, false, List, [], ◌∷◌, ◌++◌, Some, None, refl, sym, ap, ◌∙◌, subst}
+use Rattle.std.proofs.Common.{◌≡◌, ℕ, true, false, List, [], ◌∷◌, ◌++◌, Some, None, refl, sym, ap, ◌∙◌, subst}
 use Rattle.alma_tree.specs.declared.kind.Kind.{Kind}
 use Rattle.alma_tree.specs.declared.kind.Kind.TheVariants as kinds
 use Rattle.alma_scan.proofs.Basics.{true_false}
@@ -9,11 +9,11 @@ use Rattle.alma_ir.specs.declared.phrase.Arm as declared_arm
 use Rattle.alma_ir.specs.declared.phrase.Test as declared_test
 use Rattle.std.specs.Prelude.{Vec}
 use Rattle.std.specs.declared.alloc.Global.{Global}
-use Rattle.alma_ir.specs.Tree.{Stmts, Stmt, Arms, Test, Expr, Load, no_stmts, more_stmts, TestStmt, Assign, If, While, Repeat, no_arms, more_arms, no_links}
+use Rattle.alma_ir.specs.Tree.{Stmts, Arms, Test, Expr, Load, no_stmts, more_stmts, TestStmt, Assign, If, While, Repeat, no_arms, more_arms, no_links}
 use Rattle.alma_ir.specs.View.{stmt_of, test_of, stmts_list, arms_list}
-use Rattle.alma_front.specs.Words.{Word, Named, Digits, Fixed, comparison, slot_of}
-use Rattle.alma_front.specs.Grammar.{variable, whole_range, one, followed_by, no_sign, number, variable_named, no_factors, product, no_terms, IsSum, sum, IsCondition, truth, compared, IsItems, IsStatement, nothing, test, assignment, write, if_else, while_loop, repeat_loop, IsArms, last_arm, elsif, IsElse, no_else, else_part, IsStatements, last_statement, more_statements}
-use Rattle.alma_front.specs.Parse.{first_is, start_word, statement_word, ends_word, ends_list, ends_arms, Anything, EndsSum, EndsItems, EndsStatement, EndsStatements, EndsArms, BeginsNot, PlainArm, arm_of, IsArm, Only, Never, Refused}
+use Rattle.alma_front.specs.Words.{Word, Named, Fixed, comparison, slot_of}
+use Rattle.alma_front.specs.Grammar.{variable, whole_range, one, followed_by, no_sign, variable_named, no_factors, product, no_terms, IsSum, sum, IsCondition, truth, compared, IsItems, IsStatement, nothing, test, assignment, write, if_else, while_loop, repeat_loop, IsArms, last_arm, elsif, IsElse, no_else, else_part, IsStatements, last_statement, more_statements}
+use Rattle.alma_front.specs.Parse.{first_is, start_word, statement_word, ends_word, ends_list, ends_arms, Anything, EndsSum, EndsItems, EndsStatement, EndsStatements, EndsArms, BeginsNot, PlainArm, arm_of, IsArm, Only, Refused}
 use Rattle.alma_front.specs.declared.error.ReadError.{ReadError}
 use Rattle.alma_front.specs.declared.error.ReadError.TheVariants.{NotYet, Memory}
 use Rattle.alma_front.proofs.LawsWords.{none_some, some_same}
@@ -27,7 +27,8 @@ not_ended : {k : Kind} {ws w later : List Word} → ws ≡ later → ws ≡ Fixe
 not_ended v e k f = true_false (sym f ∙ sym (ap (first_is ends_word) v) ∙ ap (first_is ends_word) e ∙ k)
 
 -- a word that begins no condition stands in front
-no_test : {names : List (List ℕ)} {t : Test} {k : Kind} {ws w later : List Word} → IsCondition names ws t later → ws ≡ Fixed k ∷ w → start_word (Fixed k) ≡ false → ⊥
+no_test : {names : List (List ℕ)} {t : Test} {k : Kind} {ws w later : List Word} → IsCondition names ws t later → ws ≡ Fixed k ∷ w
+    → start_word (Fixed k) ≡ false → ⊥
 no_test h e k = true_false (sym (condition_starts h) ∙ ap (first_is start_word) e ∙ k)
 
 -- no condition begins as an assignment does, where a statement ends behind it
@@ -99,7 +100,9 @@ while_parts (write inner v h) e f = absurd (cc (v, e))
 while_parts (if_else arms other inner behind v h more k) e f = absurd (cc (v, e))
 while_parts {names = names} {w = w} (while_loop t body inner behind v h more k) e f =
     let n : inner ≡ w = cc (v, e) in
-    record { guard = t; block = body; behind = behind; first = subst (λ (z : List Word). IsCondition names z t (Fixed kinds.Do ∷ behind)) n h; last = more; stands_for = k }
+    let ends = Fixed kinds.Do ∷ behind in
+    let first : IsCondition names w t ends = subst (λ (z : List Word). IsCondition names z t ends) n h in
+    record { guard = t; block = body; behind = behind; first = first; last = more; stands_for = k }
 while_parts (repeat_loop t body inner behind v h more k) e f = absurd (cc (v, e))
 
 -- behind REPEAT
@@ -121,7 +124,9 @@ repeat_parts (if_else arms other inner behind v h more k) e f = absurd (cc (v, e
 repeat_parts (while_loop t body inner behind v h more k) e f = absurd (cc (v, e))
 repeat_parts {names = names} {w = w} (repeat_loop t body inner behind v h more k) e f =
     let n : inner ≡ w = cc (v, e) in
-    record { guard = t; block = body; behind = behind; first = subst (λ (z : List Word). IsStatements names z body (Fixed kinds.Until ∷ behind)) n h; last = more; stands_for = k }
+    let ends = Fixed kinds.Until ∷ behind in
+    let first : IsStatements names w body ends = subst (λ (z : List Word). IsStatements names z body ends) n h in
+    record { guard = t; block = body; behind = behind; first = first; last = more; stands_for = k }
 
 -- behind a name and the sign of assignment
 record AssignmentParts (names : List (List ℕ)) (text : List ℕ) (w : List Word) (stmts : Stmts) (later : List Word) : Type 0 where
@@ -325,7 +330,10 @@ pub while_found : (names : List (List ℕ)) (w behind inner after rest : List Wo
     → Only (IsCondition names w) EndsSum t behind → behind ≡ Fixed kinds.Do ∷ inner → Only (IsStatements names inner) EndsStatements body after
     → after ≡ Fixed kinds.End ∷ rest → Only (IsStatement names (Fixed kinds.While ∷ w)) EndsStatement (one (While t body)) rest
 while_found names w behind inner after rest t body o e p g = record {
-  is_one = while_loop t body w inner refl (subst (λ (z : List Word). IsCondition names w t z) e o.is_one) (subst (λ (z : List Word). IsStatements names inner body z) g p.is_one) refl;
+  is_one =
+      let first : IsCondition names w t (Fixed kinds.Do ∷ inner) = subst (λ (z : List Word). IsCondition names w t z) e o.is_one in
+      let last : IsStatements names inner body (Fixed kinds.End ∷ rest) = subst (λ (z : List Word). IsStatements names inner body z) g p.is_one in
+      while_loop t body w inner refl first last refl;
   alone = λ y later f d.
       let i = while_parts d refl f in
       let j = guarded o i in
@@ -350,7 +358,8 @@ repeat_no_until names w behind body NotYet o n = λ y later f d. let i = repeat_
 repeat_no_until names w behind body Memory o n = tt
 
 -- the condition of REPEAT begins here
-repeated_until : {names : List (List ℕ)} {w behind inner : List Word} {body y : Stmts} {later : List Word} → Only (IsStatements names w) EndsStatements body behind
+repeated_until : {names : List (List ℕ)} {w behind inner : List Word} {body y : Stmts} {later : List Word}
+    → Only (IsStatements names w) EndsStatements body behind
     → behind ≡ Fixed kinds.Until ∷ inner → (i : RepeatParts names w y later) → IsCondition names inner i.guard later
 repeated_until {names = names} {inner = inner} {later = later} o e i =
     let j = (repeated o i).1 in
@@ -383,7 +392,8 @@ abbrev plain_arm : Test → Stmts → PlainArm
 plain_arm t body = record { test = t; body = body }
 
 -- an arm that is put together
-pub arm_rolled : (cond : declared_test.Test) (body : Vec S.Stmt Global) → arm_of (declared_arm.roll-Arm record { cond = cond; body = body }) ≡ plain_arm (test_of cond) (stmts_list body.items)
+pub arm_rolled : (cond : declared_test.Test) (body : Vec S.Stmt Global)
+    → arm_of (declared_arm.roll-Arm record { cond = cond; body = body }) ≡ plain_arm (test_of cond) (stmts_list body.items)
 arm_rolled cond body = ap (λ (r : _). plain_arm (test_of r.cond) (stmts_list r.body.items)) (declared_arm.out-roll-Arm record { cond = cond; body = body })
 
 -- an arm: no condition, no THEN, no statements, all of it
@@ -480,7 +490,8 @@ arms_then_assoc no_arms y z = refl
 arms_then_assoc (more_arms t body rest) y z = ap (more_arms t body) (arms_then_assoc rest y z)
 
 -- one more arm in a list
-pub arms_pushed : (arms : List Arm) (arm : Arm) → arms_list (arms ++ (arm ∷ [])) ≡ arms_then (arms_list arms) (more_arms (test_of arm.cond) (stmts_list arm.body.items) no_arms)
+pub arms_pushed : (arms : List Arm) (arm : Arm)
+    → arms_list (arms ++ (arm ∷ [])) ≡ arms_then (arms_list arms) (more_arms (test_of arm.cond) (stmts_list arm.body.items) no_arms)
 arms_pushed [] arm = refl
 arms_pushed (x ∷ arms) arm = ap (more_arms (test_of x.cond) (stmts_list x.body.items)) (arms_pushed arms arm)
 
@@ -492,8 +503,9 @@ pub data IsMoreArms (names : List (List ℕ)) (now : List Word) (others : Arms) 
 -- an arm and what is behind it are arms
 arms_joined : {names : List (List ℕ)} {ws mid later : List Word} {arm : PlainArm} {others : Arms} → IsArm names ws arm mid → IsMoreArms names mid others later
     → IsArms names ws (more_arms arm.test arm.body others) later
-arms_joined {names = names} {arm = arm} h (no_more_arms v k) =
-    last_arm arm.test arm.body h.inner h.condition (subst (λ (z : List Word). IsStatements names h.inner arm.body z) v h.statements) (ap (more_arms arm.test arm.body) k)
+arms_joined {names = names} {later = later} {arm = arm} h (no_more_arms v k) =
+    let whole : IsStatements names h.inner arm.body later = subst (λ (z : List Word). IsStatements names h.inner arm.body z) v h.statements in
+    last_arm arm.test arm.body h.inner h.condition whole (ap (more_arms arm.test arm.body) k)
 arms_joined {names = names} {arm = arm} {others = others} h (more_elsif behind v more) =
     elsif arm.test arm.body others h.inner behind h.condition (subst (λ (z : List Word). IsStatements names h.inner arm.body z) v h.statements) more refl
 
@@ -508,12 +520,20 @@ record ArmsParts (names : List (List ℕ)) (ws : List Word) (all : Arms) (later 
 
 arms_split : {names : List (List ℕ)} {ws : List Word} {y : Arms} {later : List Word} → IsArms names ws y later → ArmsParts names ws y later
 arms_split {later = later} (last_arm t body inner h s k) = record {
-  first = plain_arm t body; mid = later; others = no_arms;
-  is_arm = record { inner = inner; condition = h; statements = s }; more = no_more_arms refl refl; stands_for = k;
+  first = plain_arm t body;
+  mid = later;
+  others = no_arms;
+  is_arm = record { inner = inner; condition = h; statements = s };
+  more = no_more_arms refl refl;
+  stands_for = k;
 }
 arms_split (elsif t body others inner behind h s more k) = record {
-  first = plain_arm t body; mid = Fixed kinds.Elsif ∷ behind; others = others;
-  is_arm = record { inner = inner; condition = h; statements = s }; more = more_elsif behind refl more; stands_for = k;
+  first = plain_arm t body;
+  mid = Fixed kinds.Elsif ∷ behind;
+  others = others;
+  is_arm = record { inner = inner; condition = h; statements = s };
+  more = more_elsif behind refl more;
+  stands_for = k;
 }
 
 -- what ends arms ends the statements of each
@@ -525,10 +545,12 @@ arm_ends f (more_elsif behind v more) = ap (first_is ends_list) v
 -- From the entry the words are these arms up to now, and then those that are behind.
 pub record ArmsSoFar (names : List (List ℕ)) (entry : List Word) (so_far : Arms) (now : List Word) : Type 0 where
   pub built : (others : Arms) (later : List Word) → IsMoreArms names now others later → IsArms names entry (arms_then so_far others) later
-  pub only : (y : Arms) (later : List Word) → EndsArms later → IsArms names entry y later → (others : Arms) × IsMoreArms names now others later × (y ≡ arms_then so_far others)
+  pub only : (y : Arms) (later : List Word) → EndsArms later → IsArms names entry y later
+      → (others : Arms) × IsMoreArms names now others later × (y ≡ arms_then so_far others)
 
 -- the first arm: it is missing, it is there
-pub arms_refused : (names : List (List ℕ)) (w : List Word) (error : ReadError) → Refused (IsArm names w) EndsStatements error → Refused (IsArms names w) EndsArms error
+pub arms_refused : (names : List (List ℕ)) (w : List Word) (error : ReadError) → Refused (IsArm names w) EndsStatements error
+    → Refused (IsArms names w) EndsArms error
 arms_refused names w NotYet n = λ y later f d. let i = arms_split d in n i.first i.mid (arm_ends f i.more) i.is_arm
 arms_refused names w Memory n = tt
 
@@ -539,11 +561,13 @@ arms_begun names w now arm o = record {
   only = λ y later f d.
       let i = arms_split d in
       let j = o.alone i.first i.mid (arm_ends f i.more) i.is_arm in
-      (i.others, subst (λ (z : List Word). IsMoreArms names z i.others later) j.1 i.more, i.stands_for ∙ ap (λ (z : PlainArm). more_arms z.test z.body i.others) j.0);
+      let e : y ≡ more_arms arm.test arm.body i.others = i.stands_for ∙ ap (λ (z : PlainArm). more_arms z.test z.body i.others) j.0 in
+      (i.others, subst (λ (z : List Word). IsMoreArms names z i.others later) j.1 i.more, e);
 }
 
 -- behind ELSIF arms go on
-arms_behind : {names : List (List ℕ)} {now inner : List Word} {others : Arms} {later : List Word} → now ≡ Fixed kinds.Elsif ∷ inner → first_is ends_arms later ≡ true
+arms_behind : {names : List (List ℕ)} {now inner : List Word} {others : Arms} {later : List Word} → now ≡ Fixed kinds.Elsif ∷ inner
+    → first_is ends_arms later ≡ true
     → IsMoreArms names now others later → ArmsParts names inner others later
 arms_behind e f (no_more_arms v k) = absurd (true_false (sym f ∙ sym (ap (first_is ends_arms) v) ∙ ap (first_is ends_arms) e))
 arms_behind {names = names} {inner = inner} {others = others} {later = later} e f (more_elsif behind v more) =
@@ -568,10 +592,12 @@ arms_grown names entry now inner behind so_far arm s e o = record {
   only = λ y later f d.
       let q = s.only y later f d in
       let i = arms_behind e f q.1 in
-      let j = o.alone i.first i.mid (arm_ends f i.more) i.is_arm in
-      (i.others, subst (λ (z : List Word). IsMoreArms names z i.others later) j.1 i.more,
-      q.2 ∙ ap (arms_then so_far) (i.stands_for ∙ ap (λ (z : PlainArm). more_arms z.test z.body i.others) j.0)
-      ∙ sym (arms_then_assoc so_far (more_arms arm.test arm.body no_arms) i.others));
+      let j = o.alone i.first i.mid (arm_ends f i.more) i.is_arm in (
+        i.others,
+        subst (λ (z : List Word). IsMoreArms names z i.others later) j.1 i.more,
+        q.2 ∙ ap (arms_then so_far) (i.stands_for ∙ ap (λ (z : PlainArm). more_arms z.test z.body i.others) j.0)
+            ∙ sym (arms_then_assoc so_far (more_arms arm.test arm.body no_arms) i.others),
+      );
 }
 
 -- where no ELSIF is behind, these are all
@@ -638,7 +664,8 @@ stmt_ends f (more_behind behind v more) = ap (first_is ends_word) v
 -- From the entry the words are these statements up to now, and then those that are behind.
 pub record StatementsSoFar (names : List (List ℕ)) (entry : List Word) (so_far : Stmts) (now : List Word) : Type 0 where
   pub built : (others : Stmts) (later : List Word) → IsMore names now others later → IsStatements names entry (followed_by so_far others) later
-  pub only : (y : Stmts) (later : List Word) → EndsStatements later → IsStatements names entry y later → (others : Stmts) × IsMore names now others later × (y ≡ followed_by so_far others)
+  pub only : (y : Stmts) (later : List Word) → EndsStatements later → IsStatements names entry y later
+      → (others : Stmts) × IsMore names now others later × (y ≡ followed_by so_far others)
 
 -- the first statement: it is missing, it is there
 pub stmts_refused : (names : List (List ℕ)) (w : List Word) (error : ReadError) → Refused (IsStatement names w) EndsStatement error
@@ -656,7 +683,8 @@ stmts_begun names w now x o = record {
 }
 
 -- behind a semicolon statements go on
-stmts_behind : {names : List (List ℕ)} {now inner : List Word} {others : Stmts} {later : List Word} → now ≡ Fixed kinds.Semicolon ∷ inner → first_is ends_list later ≡ true
+stmts_behind : {names : List (List ℕ)} {now inner : List Word} {others : Stmts} {later : List Word} → now ≡ Fixed kinds.Semicolon ∷ inner
+    → first_is ends_list later ≡ true
     → IsMore names now others later → StatementsParts names inner others later
 stmts_behind e f (no_more v k) = absurd (true_false (sym f ∙ sym (ap (first_is ends_list) v) ∙ ap (first_is ends_list) e))
 stmts_behind {names = names} {inner = inner} {others = others} {later = later} e f (more_behind behind v more) =
@@ -680,13 +708,16 @@ stmts_grown names entry now inner behind so_far x s e o = record {
   only = λ y later f d.
       let q = s.only y later f d in
       let i = stmts_behind e f q.1 in
-      let j = o.alone i.first i.mid (stmt_ends f i.more) i.is_statement in
-      (i.others, subst (λ (z : List Word). IsMore names z i.others later) j.1 i.more,
-      q.2 ∙ ap (followed_by so_far) (i.stands_for ∙ ap (λ (z : Stmts). followed_by z i.others) j.0) ∙ sym (followed_assoc so_far x i.others));
+      let j = o.alone i.first i.mid (stmt_ends f i.more) i.is_statement in (
+        i.others,
+        subst (λ (z : List Word). IsMore names z i.others later) j.1 i.more,
+        q.2 ∙ ap (followed_by so_far) (i.stands_for ∙ ap (λ (z : Stmts). followed_by z i.others) j.0) ∙ sym (followed_assoc so_far x i.others),
+      );
 }
 
 -- where no semicolon is behind, these are all
-pub stmts_ended : (names : List (List ℕ)) (entry now : List Word) (so_far : Stmts) → StatementsSoFar names entry so_far now → BeginsNot (Fixed kinds.Semicolon) now
+pub stmts_ended : (names : List (List ℕ)) (entry now : List Word) (so_far : Stmts) → StatementsSoFar names entry so_far now
+    → BeginsNot (Fixed kinds.Semicolon) now
     → Only (IsStatements names entry) EndsStatements so_far now
 stmts_ended names entry now so_far s n = record {
   is_one = subst (λ (z : Stmts). IsStatements names entry z now) (followed_none so_far) (s.built no_stmts now (no_more refl refl));

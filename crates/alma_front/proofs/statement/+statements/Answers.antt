@@ -1,11 +1,7 @@
-use Rattle.std.proofs.Common.{◌≤◌, length, arith}
+use Rattle.std.proofs.Common.{arith}
 use Rattle.std.proofs.lemmas.Result.{err_from_is_err_and}
-use Rattle.alma_ir.specs.declared.phrase.Arm as declared_arm
-use Rattle.alma_ir.specs.View.{stmts_list, arms_list}
 use Rattle.alma_ir.proofs.Views.{if_view, while_view, repeat_view}
-use Rattle.alma_front.specs.Parse.{words}
 use Rattle.alma_front.proofs.Statements as lemmas
-use Rattle.alma_front.proofs.Statements.{ArmsSoFar, StatementsSoFar}
 use Rattle.alma_front.proofs.statement.+statements.Goals as goal
 
 pub arm-returns-in_err-cond-clause-refused : goal.arm-returns-in_err-cond-clause-refused
@@ -24,7 +20,8 @@ arm-returns-in_err-body-clause-refused t c =
     rw (p.1, p.2) (lemmas.arm_no_statements _ _ _ _ _ _ c.in_ok-cond.ensures.found c.in_ok-inner.ensures.skipped c.in_err-body.ensures.refused)
 
 pub arm-returns-clause-found : goal.arm-returns-clause-found
-arm-returns-clause-found t c = rw (lemmas.arm_rolled _ _) (lemmas.arm_found _ _ _ _ _ _ _ c.in_ok-cond.ensures.found c.in_ok-inner.ensures.skipped c.in_ok-body.ensures.found)
+arm-returns-clause-found t c =
+    rw (lemmas.arm_rolled _ _) (lemmas.arm_found _ _ _ _ _ _ _ c.in_ok-cond.ensures.found c.in_ok-inner.ensures.skipped c.in_ok-body.ensures.found)
 
 pub arms-returns-in_err-first-clause-refused : goal.arms-returns-in_err-first-clause-refused
 arms-returns-in_err-first-clause-refused t c =
@@ -44,7 +41,8 @@ arms-returns-in_err-arm-clause-refused t c =
 
 pub arms-loop-inner-preserved : goal.arms-loop-inner-preserved
 arms-loop-inner-preserved t c = record {
-  read = rw (c.in_ok-push-2.ensures.items, lemmas.arms_pushed) (lemmas.arms_grown _ _ _ _ _ _ _ c.loop-inner.invariant.read c.in-Some.ensures.skipped c.in_ok-arm.ensures.found);
+  read = rw (c.in_ok-push-2.ensures.items, lemmas.arms_pushed)
+      (lemmas.arms_grown _ _ _ _ _ _ _ c.loop-inner.invariant.read c.in-Some.ensures.skipped c.in_ok-arm.ensures.found);
   no_longer = omega (arith, c.in-Some.ensures.shorter, c.in_ok-arm.ensures.no_longer);
 }
 
@@ -73,7 +71,8 @@ if_statement-returns-in_err-other-clause-refused t c =
     rw (p.1, p.2) (lemmas.if_no_end _ _ _ _ _ c.in_ok-arms.ensures.found c.in_err-other.ensures.refused)
 
 pub if_statement-returns-clause-found : goal.if_statement-returns-clause-found
-if_statement-returns-clause-found t c = rw (c.in_ok-list_of.ensures.found, if_view _ _) (lemmas.if_found _ _ _ _ _ _ c.in_ok-arms.ensures.found c.in_ok-other.ensures.found)
+if_statement-returns-clause-found t c =
+    rw (c.in_ok-list_of.ensures.found, if_view _ _) (lemmas.if_found _ _ _ _ _ _ c.in_ok-arms.ensures.found c.in_ok-other.ensures.found)
 
 pub repeat_loop-returns-in_err-body-clause-refused : goal.repeat_loop-returns-in_err-body-clause-refused
 repeat_loop-returns-in_err-body-clause-refused t c =
@@ -91,7 +90,9 @@ repeat_loop-returns-in_err-test-clause-refused t c =
     rw (p.1, p.2) (lemmas.repeat_no_condition _ _ _ _ _ _ c.in_ok-body.ensures.found c.in_ok-inner.ensures.skipped c.in_err-test.ensures.refused)
 
 pub repeat_loop-returns-clause-found : goal.repeat_loop-returns-clause-found
-repeat_loop-returns-clause-found t c = rw (c.in_ok-list_of.ensures.found, repeat_view _ _) (lemmas.repeat_found _ _ _ _ _ _ _ c.in_ok-body.ensures.found c.in_ok-inner.ensures.skipped c.in_ok-test.ensures.found)
+repeat_loop-returns-clause-found t c =
+    rw (c.in_ok-list_of.ensures.found, repeat_view _ _)
+    (lemmas.repeat_found _ _ _ _ _ _ _ c.in_ok-body.ensures.found c.in_ok-inner.ensures.skipped c.in_ok-test.ensures.found)
 
 pub statements-returns-in_err-all-clause-refused : goal.statements-returns-in_err-all-clause-refused
 statements-returns-in_err-all-clause-refused t c =
@@ -111,7 +112,8 @@ statements-returns-in_err-more-clause-refused t c =
 
 pub statements-loop-inner-preserved : goal.statements-loop-inner-preserved
 statements-loop-inner-preserved t c = record {
-  read = rw (c.in_ok-append.ensures.items, lemmas.stmts_appended) (lemmas.stmts_grown _ _ _ _ _ _ _ c.loop-inner.invariant.read c.in-Some.ensures.skipped c.in_ok-more.ensures.found);
+  read = rw (c.in_ok-append.ensures.items, lemmas.stmts_appended)
+      (lemmas.stmts_grown _ _ _ _ _ _ _ c.loop-inner.invariant.read c.in-Some.ensures.skipped c.in_ok-more.ensures.found);
   no_longer = omega (arith, c.in-Some.ensures.shorter, c.in_ok-more.ensures.no_longer);
 }
 
@@ -136,7 +138,10 @@ while_loop-returns-in_err-body-clause-refused t c =
 pub while_loop-returns-in_err-rest-clause-refused : goal.while_loop-returns-in_err-rest-clause-refused
 while_loop-returns-in_err-rest-clause-refused t c =
     let p = err_from_is_err_and c.from_residual-in_err-rest.result c.from_residual-in_err-rest.ensures.1 in
-    rw (p.1, p.2) (lemmas.while_no_end _ _ _ _ _ _ _ _ c.in_ok-test.ensures.found c.in_ok-inner.ensures.skipped c.in_ok-body.ensures.found c.in_err-rest.ensures.skipped.1)
+    rw (p.1, p.2)
+    (lemmas.while_no_end _ _ _ _ _ _ _ _ c.in_ok-test.ensures.found c.in_ok-inner.ensures.skipped c.in_ok-body.ensures.found c.in_err-rest.ensures.skipped.1)
 
 pub while_loop-returns-clause-found : goal.while_loop-returns-clause-found
-while_loop-returns-clause-found t c = rw (c.in_ok-list_of.ensures.found, while_view _ _) (lemmas.while_found _ _ _ _ _ _ _ _ c.in_ok-test.ensures.found c.in_ok-inner.ensures.skipped c.in_ok-body.ensures.found c.in_ok-rest.ensures.skipped)
+while_loop-returns-clause-found t c =
+    rw (c.in_ok-list_of.ensures.found, while_view _ _)
+    (lemmas.while_found _ _ _ _ _ _ _ _ c.in_ok-test.ensures.found c.in_ok-inner.ensures.skipped c.in_ok-body.ensures.found c.in_ok-rest.ensures.skipped)

@@ -15,4 +15,5 @@ returns-in_err-test-clause-refused c =
 
 pub returns-clause-found : goal.returns-clause-found
 returns-clause-found c =
-    rw (c.in_ok-list_of.ensures.found, teststmt_view _) (simple_found _ _ _ _ c.requires c.in_default.ensures.split (sym c.if-not-starts_condition.ensures) c.in_ok-test.ensures.found)
+    rw (c.in_ok-list_of.ensures.found, teststmt_view _)
+    (simple_found _ _ _ _ c.requires c.in_default.ensures.split (sym c.if-not-starts_condition.ensures) c.in_ok-test.ensures.found)
