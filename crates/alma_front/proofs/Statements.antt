@@ -434,15 +434,7 @@ arm_found names w behind inner rest t body o e p = record {
   same : (y : PlainArm) → y.test ≡ t → y.body ≡ body → y ≡ record { test = t; body = body }
   same y a b = ap (λ (z : Test). plain_arm z y.body) a ∙ ap (plain_arm t) b
 
--- the end of IF: neither ELSE nor END, END, no statements behind ELSE, no END behind them, all of it
-pub else_missing : (names : List (List ℕ)) (w : List Word) (error : ReadError) → BeginsNot (Fixed kinds.Else) w → BeginsNot (Fixed kinds.End) w
-    → Refused (IsElse names w) Anything error
-else_missing names w NotYet a b = λ y later f d. go d where
-  go : {y : Stmts} {later : List Word} → IsElse names w y later → ⊥
-  go {later = later} (no_else v k) = b later v
-  go (else_part inner v h) = a inner v
-else_missing names w Memory a b = tt
-
+-- the end of IF: END, no END behind the statements of ELSE, all of it
 pub else_empty : (names : List (List ℕ)) (w rest : List Word) → w ≡ Fixed kinds.End ∷ rest → Only (IsElse names w) Anything no_stmts rest
 else_empty names w rest e = record { is_one = no_else e refl; alone = λ y later f d. go d } where
   go : {y : Stmts} {later : List Word} → IsElse names w y later → (y ≡ no_stmts) × (later ≡ rest)
@@ -456,11 +448,6 @@ else_then e (no_else v k) = absurd (cc (v, e))
 else_then {names = names} {inner = inner} {y = y} {later = later} e (else_part inner' v h) =
     let m : inner' ≡ inner = cc (v, e) in
     subst (λ (z : List Word). IsStatements names z y (Fixed kinds.End ∷ later)) m h
-
-pub else_no_statements : (names : List (List ℕ)) (w inner : List Word) (error : ReadError) → w ≡ Fixed kinds.Else ∷ inner
-    → Refused (IsStatements names inner) EndsStatements error → Refused (IsElse names w) Anything error
-else_no_statements names w inner NotYet e n = λ y later f d. n y (Fixed kinds.End ∷ later) refl (else_then e d)
-else_no_statements names w inner Memory e n = tt
 
 pub else_no_end : (names : List (List ℕ)) (w inner behind : List Word) (other : Stmts) (error : ReadError) → w ≡ Fixed kinds.Else ∷ inner
     → Only (IsStatements names inner) EndsStatements other behind → BeginsNot (Fixed kinds.End) behind → Refused (IsElse names w) Anything error
