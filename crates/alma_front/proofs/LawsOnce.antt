@@ -58,25 +58,25 @@ first_wider sort other f [] h = h
 first_wider sort other f (w ∷ words) h = f w h
 
 -- the same of lists of words
-no_factor : (words : List Word) → first_is ends_word words ≡ true → first_is factor_word words ≡ false
+pub no_factor : (words : List Word) → first_is ends_word words ≡ true → first_is factor_word words ≡ false
 no_factor words h = first_apart ends_word factor_word ends_no_factor words h
 
-no_term : (words : List Word) → first_is ends_word words ≡ true → first_is term_word words ≡ false
+pub no_term : (words : List Word) → first_is ends_word words ≡ true → first_is term_word words ≡ false
 no_term words h = first_apart ends_word term_word ends_no_term words h
 
-no_start : (words : List Word) → first_is ends_word words ≡ true → first_is start_word words ≡ true → ⊥
+pub no_start : (words : List Word) → first_is ends_word words ≡ true → first_is start_word words ≡ true → ⊥
 no_start words h k = true_false (sym k ∙ first_apart ends_word start_word ends_no_start words h)
 
-end_list : (words : List Word) → first_is ends_list words ≡ true → first_is ends_word words ≡ true
+pub end_list : (words : List Word) → first_is ends_list words ≡ true → first_is ends_word words ≡ true
 end_list words h = first_wider ends_list ends_word list_ends words h
 
-end_arms : (words : List Word) → first_is ends_arms words ≡ true → first_is ends_list words ≡ true
+pub end_arms : (words : List Word) → first_is ends_arms words ≡ true → first_is ends_list words ≡ true
 end_arms words h = first_wider ends_arms ends_list arms_end words h
 
 -- ---- statements
 
 -- arms are ended by END or ELSE
-else_ends : {names : List (List ℕ)} {words : List Word} {other : Stmts} {rest : List Word} → IsElse names words other rest → first_is ends_arms words ≡ true
+pub else_ends : {names : List (List ℕ)} {words : List Word} {other : Stmts} {rest : List Word} → IsElse names words other rest → first_is ends_arms words ≡ true
 else_ends (no_else w k) = ap (first_is ends_arms) w
 else_ends (else_part inner w h) = ap (first_is ends_arms) w
 

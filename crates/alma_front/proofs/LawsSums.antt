@@ -16,7 +16,7 @@ use Rattle.alma_front.specs.Grammar.{variable, truth_number, chained, one, HasSi
 -- ---- the first word
 
 -- one kind
-fixed_same : {k j : Kind} {ws vs : List Word} → Fixed k ∷ ws ≡ Fixed j ∷ vs → k ≡ j
+pub fixed_same : {k j : Kind} {ws vs : List Word} → Fixed k ∷ ws ≡ Fixed j ∷ vs → k ≡ j
 fixed_same e = cc e
 
 -- words whose first is of one sort have none of a sort apart from it
@@ -32,13 +32,13 @@ term_no_factor kinds.Mod o h = absurd (none_some h)
 term_no_factor kind o h = refl
 
 -- comparisons are operators of neither
-comparison_no_factor : (kind : Kind) (c : Cmp) → comparison kind ≡ Some c → is_some (factor_op kind) ≡ false
+pub comparison_no_factor : (kind : Kind) (c : Cmp) → comparison kind ≡ Some c → is_some (factor_op kind) ≡ false
 comparison_no_factor kinds.Star c h = absurd (none_some h)
 comparison_no_factor kinds.Div c h = absurd (none_some h)
 comparison_no_factor kinds.Mod c h = absurd (none_some h)
 comparison_no_factor kind c h = refl
 
-comparison_no_term : (kind : Kind) (c : Cmp) → comparison kind ≡ Some c → is_some (term_op kind) ≡ false
+pub comparison_no_term : (kind : Kind) (c : Cmp) → comparison kind ≡ Some c → is_some (term_op kind) ≡ false
 comparison_no_term kinds.Plus c h = absurd (none_some h)
 comparison_no_term kinds.Minus c h = absurd (none_some h)
 comparison_no_term kind c h = refl
@@ -196,7 +196,7 @@ truth_same false true e = ap is_true_word e
 truth_same false false e = refl
 
 -- a sum that begins with a name begins with a variable
-sum_named : {names : List (List ℕ)} {words : List Word} {e : Expr} {rest : List Word} → IsSum names words e rest → (name : List ℕ) (inner : List Word) → words ≡ Named name ∷ inner
+pub sum_named : {names : List (List ℕ)} {words : List Word} {e : Expr} {rest : List Word} → IsSum names words e rest → (name : List ℕ) (inner : List Word) → words ≡ Named name ∷ inner
     → (slot : ℕ) × (slot_of names name ≡ Some slot)
 sum_named (sum negated first links signed behind (plus_sign n w) h more k) name inner v = absurd (cc (w, v))
 sum_named (sum negated first links signed behind (minus_sign n w) h more k) name inner v = absurd (cc (w, v))

@@ -6,4 +6,5 @@ pub mod LawsSums
 pub mod LawsWords
 pub mod Modules
 pub mod Sources
+pub mod Statements
 pub mod Tokens

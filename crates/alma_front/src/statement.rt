@@ -4,7 +4,8 @@ ghost use Rattle.alma_tree.specs.declared.kind.Kind.TheVariants as kinds;
 ghost use Rattle.alma_ir.specs.View.{stmt_of, stmts_list, arms_list};
 ghost use Rattle.alma_front.specs.Words.{Word, Named, Fixed};
 ghost use Rattle.alma_front.specs.Grammar.{one, IsStatement, IsStatements, IsArms, IsElse};
-ghost use Rattle.alma_front.specs.Parse.{words, first_is, start_word, statement_word, Anything, EndsStatement, EndsStatements, EndsArms, arm_of, IsArm, Only, Refused};
+ghost use Rattle.alma_front.specs.Parse.{words, first_is, start_word, statement_word, arm_of, IsArm};
+ghost use Rattle.alma_front.specs.Parse.{Anything, EndsStatement, EndsStatements, EndsArms, Only, Refused};
 ghost use Rattle.alma_front.specs.declared.error.ReadError.TheVariants.{Memory};
 
 use crate::condition::{condition, items};
@@ -20,7 +21,7 @@ use std::alloc::Global;
 
 /// All numbers of INTEGER.
 const WHOLE_RANGE: Range = Range {
-    low: -i64::MAX,
+    low: i64::MIN,
     high: i64::MAX,
 };
 
@@ -41,7 +42,9 @@ fn assignment<'t, 's>(
     name: &[u8],
     inner: &'t [Token<'s>],
 ) -> Result<(Vec<Stmt>, &'t [Token<'s>]), ReadError>
-    ensures found { IfOk result (λ found. Only (IsStatement variables.now (Named name.now ∷ Fixed kinds.Assign ∷ words inner.now)) EndsStatement (stmts_list found.0.items) (words found.1.now)) }
+    ensures found { IfOk result
+        (λ found. Only (IsStatement variables.now (Named name.now ∷ Fixed kinds.Assign ∷ words inner.now)) EndsStatement
+        (stmts_list found.0.items) (words found.1.now)) }
     ensures refused { IfErr result (Refused (IsStatement variables.now (Named name.now ∷ Fixed kinds.Assign ∷ words inner.now)) EndsStatement) }
     ensures no_longer { IfOk result (λ found. length found.1.now ≤ length inner.now) }
 {
@@ -101,7 +104,8 @@ fn write<'t, 's>(
     variables: &Variables,
     tokens: &'t [Token<'s>],
 ) -> Result<(Vec<Stmt>, &'t [Token<'s>]), ReadError>
-    ensures found { IfOk result (λ found. Only (IsStatement variables.now (Fixed kinds.Write ∷ words tokens.now)) EndsStatement (stmts_list found.0.items) (words found.1.now)) }
+    ensures found { IfOk result
+        (λ found. Only (IsStatement variables.now (Fixed kinds.Write ∷ words tokens.now)) EndsStatement (stmts_list found.0.items) (words found.1.now)) }
     ensures refused { IfErr result (Refused (IsStatement variables.now (Fixed kinds.Write ∷ words tokens.now)) EndsStatement) }
     ensures no_longer { IfOk result (λ found. length found.1.now ≤ length tokens.now) }
 {
@@ -142,7 +146,8 @@ fn if_statement<'t, 's>(
     variables: &Variables,
     tokens: &'t [Token<'s>],
 ) -> Result<(Vec<Stmt>, &'t [Token<'s>]), ReadError>
-    ensures found { IfOk result (λ found. Only (IsStatement variables.now (Fixed kinds.If ∷ words tokens.now)) EndsStatement (stmts_list found.0.items) (words found.1.now)) }
+    ensures found { IfOk result
+        (λ found. Only (IsStatement variables.now (Fixed kinds.If ∷ words tokens.now)) EndsStatement (stmts_list found.0.items) (words found.1.now)) }
     ensures refused { IfErr result (Refused (IsStatement variables.now (Fixed kinds.If ∷ words tokens.now)) EndsStatement) }
     ensures no_longer { IfOk result (λ found. length found.1.now ≤ length tokens.now) }
 {
@@ -158,7 +163,8 @@ fn while_loop<'t, 's>(
     variables: &Variables,
     tokens: &'t [Token<'s>],
 ) -> Result<(Vec<Stmt>, &'t [Token<'s>]), ReadError>
-    ensures found { IfOk result (λ found. Only (IsStatement variables.now (Fixed kinds.While ∷ words tokens.now)) EndsStatement (stmts_list found.0.items) (words found.1.now)) }
+    ensures found { IfOk result
+        (λ found. Only (IsStatement variables.now (Fixed kinds.While ∷ words tokens.now)) EndsStatement (stmts_list found.0.items) (words found.1.now)) }
     ensures refused { IfErr result (Refused (IsStatement variables.now (Fixed kinds.While ∷ words tokens.now)) EndsStatement) }
     ensures no_longer { IfOk result (λ found. length found.1.now ≤ length tokens.now) }
 {
@@ -176,7 +182,8 @@ fn repeat_loop<'t, 's>(
     variables: &Variables,
     tokens: &'t [Token<'s>],
 ) -> Result<(Vec<Stmt>, &'t [Token<'s>]), ReadError>
-    ensures found { IfOk result (λ found. Only (IsStatement variables.now (Fixed kinds.Repeat ∷ words tokens.now)) EndsStatement (stmts_list found.0.items) (words found.1.now)) }
+    ensures found { IfOk result
+        (λ found. Only (IsStatement variables.now (Fixed kinds.Repeat ∷ words tokens.now)) EndsStatement (stmts_list found.0.items) (words found.1.now)) }
     ensures refused { IfErr result (Refused (IsStatement variables.now (Fixed kinds.Repeat ∷ words tokens.now)) EndsStatement) }
     ensures no_longer { IfOk result (λ found. length found.1.now ≤ length tokens.now) }
 {
