@@ -4,5 +4,6 @@ pub mod LawsForms
 pub mod LawsOnce
 pub mod LawsSums
 pub mod LawsWords
+pub mod Numbers
 pub mod Sums
 pub mod Tokens
