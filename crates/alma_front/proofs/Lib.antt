@@ -1,4 +1,5 @@
 pub mod Conditions
+pub mod DeclaredNames
 pub mod LawsChecked
 pub mod LawsForms
 pub mod LawsOnce
