@@ -10,6 +10,12 @@ use crate::error::ReadError;
 use alma_scan::Token;
 use alma_tree::Kind;
 
+/// The tokens that a loop has not read yet.
+#[derive(Clone, Copy)]
+pub struct Rest<'t, 's> {
+    pub tokens: &'t [Token<'s>],
+}
+
 /// The tokens behind the first, where it is of this kind.
 pub fn skip<'t, 's>(tokens: &'t [Token<'s>], kind: Kind) -> Option<&'t [Token<'s>]>
     requires { is_fixed kind ≡ true }
