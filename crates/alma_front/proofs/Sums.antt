@@ -1,18 +1,20 @@
 -- What the functions of sums give.
-use Rattle.std.proofs.Common.{◌≡◌, ◌≤◌, ◌<◌, ◌+◌, ◌*◌, ◌==◌, ◌++◌, ℕ, ℤ, pos, Bool, true, false, List, [], ◌∷◌, Some, None, is_some, length, refl, sym, ap, ◌∙◌, subst, arith}
+use Rattle.std.proofs.Common.{◌≡◌, ◌≤◌, ◌<◌, ◌+◌, ◌*◌, ◌==◌, ◌++◌, ℕ, ℤ, pos, Bool, true, false, List, [], ◌∷◌, Option, Some, None, MatchOption, IfSome, is_some, length, to_z, of_z, w64, refl, sym, ap, ◌∙◌, subst, arith}
 use Rattle.std.specs.Prelude.{Vec, Box, vec_len}
 use Rattle.std.specs.declared.alloc.Global.{Global as Heap}
-use lib.Signed.{mag}
+use mir.Val.{SFits}
+use Rattle.std.proofs.lemmas.Int.{to_z-of_z}
 use Rattle.alma_tree.specs.declared.kind.Kind.TheVariants as kinds
 use Rattle.alma_scan.specs.Bytes.{value_of}
 use Rattle.alma_scan.specs.Spellings.{greatest_number}
 use Rattle.alma_scan.proofs.Basics.{true_false}
 use Rattle.alma_ir.specs.declared.phrase.Op.{Op}
 use Rattle.alma_ir.specs.declared.phrase.Link.{Link}
+use Rattle.alma_ir.specs.declared.phrase.Desig.{Desig}
 use Rattle.alma_ir.specs.declared.phrase.Expr as E
 use Rattle.alma_ir.specs.Tree.{Expr, Links, Const, Load, Chain, no_links, more_links}
-use Rattle.alma_ir.specs.View.{expr_of, links_list}
-use Rattle.alma_ir.proofs.Views.{chain_view}
+use Rattle.alma_ir.specs.View.{expr_of, desig_of, links_list}
+use Rattle.alma_ir.proofs.Views.{chain_view, const_view, load_view}
 use Rattle.alma_front.specs.declared.error.ReadError.{ReadError}
 use Rattle.alma_front.specs.declared.error.ReadError.TheVariants.{NotYet, Memory}
 use Rattle.alma_front.specs.Words.{Word, Named, Digits, Fixed, factor_op, term_op, slot_of}
@@ -42,28 +44,32 @@ some_links links b e f g = grind (arith, e, f, g, links.ok)
 -- ---- errors
 
 -- an error is passed on where the phrase that is missing is a part
-pub refused_from : {A B : Type 0} {part : A → List Word → Type 0} {phrase : B → List Word → Type 0} {Ends Ends' : List Word → Type 0} (error : ReadError)
+pub refused_from : {A B : Type 0} (part : A → List Word → Type 0) (Ends : List Word → Type 0) (phrase : B → List Word → Type 0) (Ends' : List Word → Type 0) (error : ReadError)
     → (Never part Ends → Never phrase Ends') → Refused part Ends error → Refused phrase Ends' error
-refused_from NotYet f h = f h
-refused_from Memory f h = tt
+refused_from part Ends phrase Ends' NotYet f h = f h
+refused_from part Ends phrase Ends' Memory f h = tt
 
--- want of memory is no claim
-pub refused_memory : {A : Type 0} {phrase : A → List Word → Type 0} {Ends : List Word → Type 0} (error : ReadError) → error ≡ Memory → Refused phrase Ends error
-refused_memory {phrase = phrase} {Ends = Ends} error e = subst (Refused phrase Ends) (sym e) tt
-
--- so is an error that stands where there is no such phrase
-pub refused_never : {A : Type 0} {phrase : A → List Word → Type 0} {Ends : List Word → Type 0} (error : ReadError) → Never phrase Ends → Refused phrase Ends error
-refused_never NotYet h = h
-refused_never Memory h = tt
+-- an error is exact where there is no such phrase
+pub refused_never : {A : Type 0} (phrase : A → List Word → Type 0) (Ends : List Word → Type 0) (error : ReadError) → Never phrase Ends → Refused phrase Ends error
+refused_never phrase Ends NotYet h = h
+refused_never phrase Ends Memory h = tt
 
 -- ---- operands
 
--- a number is an operand
-pub number_only : (names : List (List ℕ)) (words rest : List Word) (text : List ℕ) (value : ℤ) → words ≡ Digits text ∷ rest → value ≡ pos (value_of text) → mag value < 9223372036854775808
-    → Only (IsOperand names words) Anything (Const value) rest
-number_only names words rest text value w v m =
-    let small : value_of text ≤ greatest_number = omega (arith, subst (λ (z : ℤ). mag z < 9223372036854775808) v m) in
-    let h : IsOperand names words (Const value) rest = number text w small (ap Const v) in
+-- a number up to the greatest fits a cell
+small_fits : (n : ℕ) → n ≤ greatest_number → SFits w64 (pos n)
+small_fits n h = grind (arith, h)
+
+-- a number whose value was read is an operand
+pub number_only : (names : List (List ℕ)) (words rest : List Word) (text : List ℕ) (value : ℤ) (result : Option ℤ) → words ≡ Digits text ∷ rest
+    → MatchOption result (greatest_number < value_of text) (λ v. v ≡ pos (value_of text)) → IfSome result (λ _. value_of text ≤ greatest_number) → result ≡ Some value
+    → Only (IsOperand names words) Anything (expr_of (E.Const (to_z w64 (of_z w64 value)))) rest
+number_only names words rest text value result w m s r =
+    let v : value ≡ pos (value_of text) = subst (λ (z : Option ℤ). MatchOption z (greatest_number < value_of text) (λ u. u ≡ pos (value_of text))) r m in
+    let small : value_of text ≤ greatest_number = subst (λ (z : Option ℤ). IfSome z (λ _. value_of text ≤ greatest_number)) r s in
+    let kept : to_z w64 (of_z w64 value) ≡ pos (value_of text) =
+        ap (λ (z : ℤ). to_z w64 (of_z w64 z)) v ∙ to_z-of_z w64 (pos (value_of text)) (small_fits (value_of text) small) in
+    let h : IsOperand names words (expr_of (E.Const (to_z w64 (of_z w64 value)))) rest = number text w small (const_view _ ∙ ap Const kept) in
     record { is_one = h; alone = λ y later e i. same_operand i h }
 
 -- a number that is too great is none
@@ -74,12 +80,12 @@ number_never names words rest text w b y later e (number other v c k) =
 number_never names words rest text w b y later e (variable_named name slot v found k) = cc (w, v)
 number_never names words rest text w b y later e (nested inner v h) = cc (w, v)
 
--- a variable is an operand
-pub name_only : (names : List (List ℕ)) (words rest : List Word) (name : List ℕ) (slot : ℕ) → words ≡ Named name ∷ rest → slot_of names name ≡ Some slot
-    → Only (IsOperand names words) Anything (Load (variable slot)) rest
-name_only names words rest name slot w found =
-    let h : IsOperand names words (Load (variable slot)) rest = variable_named name slot w found refl in
-    record { is_one = h; alone = λ y later e i. same_operand i h }
+-- a variable whose slot was found is an operand
+pub name_only : (names : List (List ℕ)) (words rest : List Word) (name : List ℕ) (slot : ℕ) (result : Option ℕ) (d : Desig) → words ≡ Named name ∷ rest
+    → result ≡ slot_of names name → result ≡ Some slot → desig_of d ≡ variable slot → Only (IsOperand names words) Anything (expr_of (E.Load d)) rest
+name_only names words rest name slot result d w found r e =
+    let h : IsOperand names words (expr_of (E.Load d)) rest = variable_named name slot w (sym found ∙ r) (load_view d ∙ ap Load e) in
+    record { is_one = h; alone = λ y later u i. same_operand i h }
 
 -- another name is none
 pub name_never : (names : List (List ℕ)) (words rest : List Word) (name : List ℕ) → words ≡ Named name ∷ rest → slot_of names name ≡ None → Never (IsOperand names words) Anything

@@ -1,5 +1,5 @@
 // The first token of a list, as the grammar sees it.
-ghost use Rattle.std.specs.Prelude.{◌≡◌, ◌<◌, ◌∷◌, Bool, List, ℕ, pos, true, length, MatchOption, MatchResult, IfSome, IfOk};
+ghost use Rattle.std.specs.Prelude.{◌≡◌, ◌<◌, ◌≤◌, ◌∷◌, Bool, List, ℕ, pos, true, length, MatchOption, MatchResult, IfSome, IfOk};
 ghost use Rattle.alma_scan.specs.Bytes.{value_of};
 ghost use Rattle.alma_scan.specs.Spellings.{greatest_number};
 ghost use Rattle.alma_front.specs.Words.{Named, Digits, Fixed, truth_word};
@@ -75,7 +75,8 @@ pub fn split_number<'t, 's>(tokens: &'t [Token<'s>]) -> Option<(&'s [u8], &'t [T
 
 /// The value of decimal digits, where it is no greater than the greatest number.
 pub fn number_value(digits: &[u8]) -> Option<i64>
-    ensures { MatchOption result (greatest_number < value_of digits.now) (λ value. value ≡ pos (value_of digits.now)) }
+    ensures value { MatchOption result (greatest_number < value_of digits.now) (λ value. value ≡ pos (value_of digits.now)) }
+    ensures small { IfSome result (λ _. value_of digits.now ≤ greatest_number) }
 {
     let mut value: i64 = 0;
     for digit in digits {
