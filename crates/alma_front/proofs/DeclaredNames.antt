@@ -1,10 +1,17 @@
 -- The variables of a module, and the keys of their set.
-use Rattle.std.proofs.Common.{◌≡◌, ℕ, suc, nat_lt, ◌+◌, ◌<◌, ◌≤◌, List, [], ◌∷◌, ◌++◌, Option, None, Some, Bool, true, false, ◌||◌, cond, if◌then◌else◌, not, Vec, Global, length, map, take, position, bytes_eq, option_map, refl, ap, sym, subst, ◌∙◌, arith, true≢false, append_assoc, length-append}
+use Rattle.std.proofs.Common.{◌≡◌, ℕ, suc, nat_lt, ◌+◌, ◌<◌, ◌≤◌, List, [], ◌∷◌, ◌++◌, Option, None, Some, Bool, true, false, ◌||◌, cond, if◌then◌else◌, not, Vec, Global, length, map, take, drop, get_or, position, bytes_eq, option_map, refl, ap, sym, subst, ◌∙◌, arith, true≢false, append_assoc, length-append}
 use Rattle.std.specs.List.{list_any, position_or_len}
 use Rattle.std.proofs.lemmas.List.{map-append}
 use Rattle.std.proofs.lemmas.Slice.Eq.{bytes_eq-Decides}
 use Rattle.std.proofs.lemmas.Bool.Decides.{nat_tests}
+use Rattle.std.proofs.lemmas.List.{take_more, take-append-drop}
+use Rattle.std.proofs.lemmas.Result.{err_from_is_err_and}
+use Rattle.std.specs.Prelude.{Result, Err, IsErrAnd}
+use Rattle.std.specs.Borrow.{Bor}
 use Rattle.indexmap.specs.IndexSet.{insert_key}
+use Rattle.alma_front.specs.declared.error.ReadError.{ReadError}
+use Rattle.alma_front.specs.declared.error.ReadError.TheVariants.{NotYet}
+use Rattle.alma_front.specs.Parse.{texts}
 use Rattle.alma_front.specs.Words.{AreNew, is_one_of, predeclared, slot_of, slot_from}
 
 -- a key of the set is the name
@@ -121,3 +128,19 @@ module _ (name : List ℕ) (keys : List (Vec ℕ Global)) (names : List (List �
 
     pub one_longer : length later ≡ length keys + 1
     one_longer = rw one_more_key (omega (arith, length-append keys (key ∷ [])))
+
+-- ---- names that are declared one by one
+
+-- the first names and the one behind them are new where all are
+pub next_is_new : (before : List (List ℕ)) (names : List (Bor (List ℕ))) (place : ℕ) (other : Bor (List ℕ)) → before ≡ texts (take place names) → place < length names
+    → AreNew (texts names) → AreNew (before ++ (get_or names place other).now ∷ [])
+next_is_new before names place other e within h =
+    let parts : texts (take (place + 1) names) ++ texts (drop (place + 1) names) ≡ texts names
+        = sym (map-append (λ (name : Bor (List ℕ)). name.now) (take (place + 1) names) (drop (place + 1) names)) ∙ ap texts (take-append-drop (place + 1) names) in
+    let more : texts (take (place + 1) names) ≡ texts (take place names) ++ (get_or names place other).now ∷ []
+        = ap texts (take_more names place other within) ∙ map-append (λ (name : Bor (List ℕ)). name.now) (take place names) (get_or names place other ∷ []) in
+    rw e (subst AreNew more (first_are_new _ (texts (drop (place + 1) names)) (subst AreNew (sym parts) h)))
+
+-- an error that is handed on
+pub handed_on : {X : Type 0} (error : ReadError) (result : Result X ReadError) → IsErrAnd result (λ e. e ≡ error) → result ≡ Err NotYet → error ≡ NotYet
+handed_on error result same e = let p = err_from_is_err_and result same in cc (p.1, p.2, e)

@@ -29,7 +29,7 @@ impl Model for Variables {
 fn is_predeclared(name: &[u8]) -> bool
     ensures { result ≡ is_one_of predeclared name.now }
 {
-    matches!(name, b"INTEGER" | b"TRUE" | b"FALSE")
+    name == b"INTEGER".as_slice() || name == b"TRUE".as_slice() || name == b"FALSE".as_slice()
 }
 
 impl Variables {
@@ -53,6 +53,7 @@ impl Variables {
     fn declare(&mut self, alloc: Global, name: &[u8]) -> Result<(), ReadError>
         requires { length self.old < 1048576 }
         ensures ok { OnOk result (self.new ≡ self.old ++ name.now ∷ []) }
+        ensures new { OnOk result (AreNew self.new) }
         ensures refused { result ≡ Err NotYet → AreNew (self.old ++ name.now ∷ []) → ⊥ }
     {
         if is_predeclared(name) || self.names.contains(name) {
