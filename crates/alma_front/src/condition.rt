@@ -49,6 +49,8 @@ pub fn condition<'t, 's>(
     ensures shorter { IfOk result (λ found. length found.1.now < length tokens.now) }
 {
     if let Some((value, rest)) = split_truth(tokens) {
+        // By what `names` ensures, no variable is called as a truth.
+        let _names = variables.names();
         return Ok((Test::Value(truth(value)), rest));
     }
     let (left, behind) = sum(alloc, variables, tokens)?;
@@ -70,6 +72,8 @@ fn item<'t, 's>(
     ensures shorter { IfOk result (λ found. length found.1.now < length tokens.now) }
 {
     if let Some((value, rest)) = split_truth(tokens) {
+        // By what `names` ensures, no variable is called as a truth.
+        let _names = variables.names();
         return Ok((Stmt::WriteExpr(truth(value), WriteAs::Bool), rest));
     }
     let (value, rest) = sum(alloc, variables, tokens)?;
