@@ -44,38 +44,38 @@ comparison_no_term kinds.Minus c h = absurd (none_some h)
 comparison_no_term kind c h = refl
 
 -- ) is an operator of neither
-close_no_factor : (w : Word) → close_word w ≡ true → factor_word w ≡ false
+pub close_no_factor : (w : Word) → close_word w ≡ true → factor_word w ≡ false
 close_no_factor (Named text) h = refl
 close_no_factor (Digits text) h = refl
 close_no_factor (Fixed kinds.CloseParen) h = refl
 close_no_factor (Fixed kind) h = absurd (true_false (sym h))
 
-close_no_term : (w : Word) → close_word w ≡ true → term_word w ≡ false
+pub close_no_term : (w : Word) → close_word w ≡ true → term_word w ≡ false
 close_no_term (Named text) h = refl
 close_no_term (Digits text) h = refl
 close_no_term (Fixed kinds.CloseParen) h = refl
 close_no_term (Fixed kind) h = absurd (true_false (sym h))
 
 -- one operator
-op_same : (kind other : Kind) (o p : Op) → kind ≡ other → factor_op kind ≡ Some o → factor_op other ≡ Some p → o ≡ p
+pub op_same : (kind other : Kind) (o p : Op) → kind ≡ other → factor_op kind ≡ Some o → factor_op other ≡ Some p → o ≡ p
 op_same kind other o p e h i = some_same (sym h ∙ ap factor_op e ∙ i)
 
-term_op_same : (kind other : Kind) (o p : Op) → kind ≡ other → term_op kind ≡ Some o → term_op other ≡ Some p → o ≡ p
+pub term_op_same : (kind other : Kind) (o p : Op) → kind ≡ other → term_op kind ≡ Some o → term_op other ≡ Some p → o ≡ p
 term_op_same kind other o p e h i = some_same (sym h ∙ ap term_op e ∙ i)
 
-comparison_same : (kind other : Kind) (c d : Cmp) → kind ≡ other → comparison kind ≡ Some c → comparison other ≡ Some d → c ≡ d
+pub comparison_same : (kind other : Kind) (c d : Cmp) → kind ≡ other → comparison kind ≡ Some c → comparison other ≡ Some d → c ≡ d
 comparison_same kind other c d e h i = some_same (sym h ∙ ap comparison e ∙ i)
 
 -- ---- sums
 
 -- terms behind a product end its factors
-terms_end_factors : {names : List (List ℕ)} {words : List Word} {links : Links} {rest : List Word} → IsTerms names words links rest → first_is factor_word rest ≡ false
+pub terms_end_factors : {names : List (List ℕ)} {words : List Word} {links : Links} {rest : List Word} → IsTerms names words links rest → first_is factor_word rest ≡ false
     → first_is factor_word words ≡ false
 terms_end_factors (no_terms w k) f = ap (first_is factor_word) w ∙ f
 terms_end_factors (more_terms kind o inner behind operand others w op h more k) f = ap (first_is factor_word) w ∙ term_no_factor kind o op
 
 -- a product begins with no sign
-product_no_sign : {names : List (List ℕ)} {words : List Word} {e : Expr} {rest : List Word} → IsProduct names words e rest → first_is sign_word words ≡ false
+pub product_no_sign : {names : List (List ℕ)} {words : List Word} {e : Expr} {rest : List Word} → IsProduct names words e rest → first_is sign_word words ≡ false
 product_no_sign (product first links behind h more k) = go h where
   go : {names : List (List ℕ)} {words : List Word} {e : Expr} {rest : List Word} → IsOperand names words e rest → first_is sign_word words ≡ false
   go (number text w b k) = ap (first_is sign_word) w
@@ -97,7 +97,7 @@ same_sign (minus_sign n w) (minus_sign m v) f g = (n ∙ sym m, cc (w, v))
 
 -- one operand, and so on
 mutual
-  same_operand : {names : List (List ℕ)} {words : List Word} {e d : Expr} {rest after : List Word} → IsOperand names words e rest → IsOperand names words d after
+  pub same_operand : {names : List (List ℕ)} {words : List Word} {e d : Expr} {rest after : List Word} → IsOperand names words e rest → IsOperand names words d after
       → (e ≡ d) × (rest ≡ after)
   same_operand (number text w b k) (number other v c l) = (cc (w, v, k, l), cc (w, v))
   same_operand (number text w b k) (variable_named name slot v found l) = absurd (cc (w, v))
@@ -189,7 +189,7 @@ is_true_word [] = false
 is_true_word (b ∷ bytes) = nat_eq b 84
 
 -- one truth
-truth_same : (value other : Bool) → truth_word value ≡ truth_word other → value ≡ other
+pub truth_same : (value other : Bool) → truth_word value ≡ truth_word other → value ≡ other
 truth_same true true e = refl
 truth_same true false e = ap is_true_word e
 truth_same false true e = ap is_true_word e
@@ -209,7 +209,7 @@ sum_named (sum negated first links signed behind (no_sign n w) (product first' l
   go (nested inner w h) v = absurd (cc (w, v))
 
 -- no sum begins with a truth
-no_sum_truth : {names : List (List ℕ)} {words : List Word} {e : Expr} {rest inner : List Word} → NoTruth names → (value : Bool) → words ≡ Named (truth_word value) ∷ inner → IsSum names words e rest → ⊥
+pub no_sum_truth : {names : List (List ℕ)} {words : List Word} {e : Expr} {rest inner : List Word} → NoTruth names → (value : Bool) → words ≡ Named (truth_word value) ∷ inner → IsSum names words e rest → ⊥
 no_sum_truth {inner = inner} free value w h = let s = sum_named h (truth_word value) inner w in free value s.0 s.1
 
 -- one condition
@@ -258,7 +258,7 @@ no_assigned free (compared left right kind c inner' h cmp more k) name slot inne
 -- ---- items
 
 -- one item
-same_item : {names : List (List ℕ)} {words : List Word} {t d : Stmt} {rest after : List Word} → NoTruth names → IsItem names words t rest → IsItem names words d after
+pub same_item : {names : List (List ℕ)} {words : List Word} {t d : Stmt} {rest after : List Word} → NoTruth names → IsItem names words t rest → IsItem names words d after
     → first_is factor_word rest ≡ false → first_is factor_word after ≡ false → first_is term_word rest ≡ false → first_is term_word after ≡ false → (t ≡ d) × (rest ≡ after)
 same_item free (truth_item value w k) (truth_item other v l) f g t u =
     let same = truth_same value other (cc (w, v)) in

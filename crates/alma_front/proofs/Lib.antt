@@ -1,3 +1,4 @@
+pub mod Conditions
 pub mod DeclaredNames
 pub mod LawsChecked
 pub mod LawsForms
@@ -5,6 +6,8 @@ pub mod LawsOnce
 pub mod LawsSums
 pub mod LawsWords
 pub mod Modules
+pub mod Numbers
 pub mod Sources
 pub mod Statements
+pub mod Sums
 pub mod Tokens

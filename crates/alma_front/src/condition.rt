@@ -9,7 +9,7 @@ ghost use Rattle.alma_front.specs.Parse.{words, first_is, comparison_word, Begin
 use crate::error::ReadError;
 use crate::sum::sum;
 use crate::variables::Variables;
-use crate::word::{skip, split_truth};
+use crate::word::{Rest, skip, split_truth};
 use alma_ir::{Cmp, Expr, Stmt, Test, WriteAs};
 use alma_scan::Token;
 use alma_tree::Kind;
@@ -49,6 +49,8 @@ pub fn condition<'t, 's>(
     ensures shorter { IfOk result (λ found. length found.1.now < length tokens.now) }
 {
     if let Some((value, rest)) = split_truth(tokens) {
+        // By what `names` ensures, no variable is called as a truth.
+        let _names = variables.names();
         return Ok((Test::Value(truth(value)), rest));
     }
     let (left, behind) = sum(alloc, variables, tokens)?;
@@ -70,6 +72,8 @@ fn item<'t, 's>(
     ensures shorter { IfOk result (λ found. length found.1.now < length tokens.now) }
 {
     if let Some((value, rest)) = split_truth(tokens) {
+        // By what `names` ensures, no variable is called as a truth.
+        let _names = variables.names();
         return Ok((Stmt::WriteExpr(truth(value), WriteAs::Bool), rest));
     }
     let (value, rest) = sum(alloc, variables, tokens)?;
@@ -87,12 +91,13 @@ pub fn items<'t, 's>(
     ensures shorter { IfOk result (λ found. length found.1.now < length tokens.now) }
 {
     let mut items = Vec::new(alloc);
-    let (first, mut rest) = item(alloc, variables, tokens)?;
+    let (first, behind) = item(alloc, variables, tokens)?;
     items.push(first)?;
-    while let Some(inner) = skip(rest, Kind::Comma) {
+    let mut rest = Rest { tokens: behind };
+    while let Some(inner) = skip(rest.tokens, Kind::Comma) {
         let (item, behind) = item(alloc, variables, inner)?;
         items.push(item)?;
-        rest = behind;
+        rest = Rest { tokens: behind };
     }
-    Ok((items, rest))
+    Ok((items, rest.tokens))
 }

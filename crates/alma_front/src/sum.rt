@@ -8,7 +8,7 @@ ghost use Rattle.alma_front.specs.Parse.{words, first_is, sign_word, factor_word
 
 use crate::error::ReadError;
 use crate::variables::Variables;
-use crate::word::{expect, number_value, skip, split_name, split_number};
+use crate::word::{Rest, expect, number_value, skip, split_name, split_number};
 use alma_ir::{Desig, Expr, Link, Op, Root};
 use alma_scan::Token;
 use alma_tree::Kind;
@@ -116,13 +116,13 @@ fn factors<'t, 's>(
     ensures no_longer { IfOk result (λ found. length found.1.now ≤ length tokens.now) }
 {
     let mut links = Vec::new(alloc);
-    let mut rest = tokens;
-    while let Some((op, inner)) = split_factor_op(rest) {
+    let mut rest = Rest { tokens };
+    while let Some((op, inner)) = split_factor_op(rest.tokens) {
         let (operand, behind) = operand(alloc, variables, inner)?;
         links.push(Link { op, operand })?;
-        rest = behind;
+        rest = Rest { tokens: behind };
     }
-    Ok((links, rest))
+    Ok((links, rest.tokens))
 }
 
 // A product.
@@ -153,13 +153,13 @@ fn terms<'t, 's>(
     ensures no_longer { IfOk result (λ found. length found.1.now ≤ length tokens.now) }
 {
     let mut links = Vec::new(alloc);
-    let mut rest = tokens;
-    while let Some((op, inner)) = split_term_op(rest) {
+    let mut rest = Rest { tokens };
+    while let Some((op, inner)) = split_term_op(rest.tokens) {
         let (operand, behind) = product(alloc, variables, inner)?;
         links.push(Link { op, operand })?;
-        rest = behind;
+        rest = Rest { tokens: behind };
     }
-    Ok((links, rest))
+    Ok((links, rest.tokens))
 }
 
 /// A sum.

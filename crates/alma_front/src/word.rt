@@ -1,5 +1,5 @@
 // The first token of a list, as the grammar sees it.
-ghost use Rattle.std.specs.Prelude.{◌≡◌, ◌<◌, ◌∷◌, Bool, List, ℕ, pos, true, length, MatchOption, MatchResult, IfSome, IfOk};
+ghost use Rattle.std.specs.Prelude.{◌≡◌, ◌<◌, ◌≤◌, ◌∷◌, Bool, List, ℕ, pos, true, length, MatchOption, MatchResult, IfSome, IfOk};
 ghost use Rattle.alma_scan.specs.Bytes.{value_of};
 ghost use Rattle.alma_scan.specs.Spellings.{greatest_number};
 ghost use Rattle.alma_front.specs.Words.{Named, Digits, Fixed, truth_word};
@@ -9,6 +9,12 @@ ghost use Rattle.alma_front.specs.declared.error.ReadError.TheVariants.{NotYet};
 use crate::error::ReadError;
 use alma_scan::Token;
 use alma_tree::Kind;
+
+/// The tokens that a loop has not read yet.
+#[derive(Clone, Copy)]
+pub struct Rest<'t, 's> {
+    pub tokens: &'t [Token<'s>],
+}
 
 /// The tokens behind the first, where it is of this kind.
 pub fn skip<'t, 's>(tokens: &'t [Token<'s>], kind: Kind) -> Option<&'t [Token<'s>]>
@@ -69,7 +75,8 @@ pub fn split_number<'t, 's>(tokens: &'t [Token<'s>]) -> Option<(&'s [u8], &'t [T
 
 /// The value of decimal digits, where it is no greater than the greatest number.
 pub fn number_value(digits: &[u8]) -> Option<i64>
-    ensures { MatchOption result (greatest_number < value_of digits.now) (λ value. value ≡ pos (value_of digits.now)) }
+    ensures value { MatchOption result (greatest_number < value_of digits.now) (λ value. value ≡ pos (value_of digits.now)) }
+    ensures small { IfSome result (λ _. value_of digits.now ≤ greatest_number) }
 {
     let mut value: i64 = 0;
     for digit in digits {
