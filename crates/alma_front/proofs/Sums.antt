@@ -68,7 +68,7 @@ number_only names words rest text value result w m s r =
     let v : value ≡ pos (value_of text) = subst (λ (z : Option ℤ). MatchOption z (greatest_number < value_of text) (λ u. u ≡ pos (value_of text))) r m in
     let small : value_of text ≤ greatest_number = subst (λ (z : Option ℤ). IfSome z (λ _. value_of text ≤ greatest_number)) r s in
     let kept : to_z w64 (of_z w64 value) ≡ pos (value_of text) =
-        ap (λ (z : ℤ). to_z w64 (of_z w64 z)) v ∙ to_z-of_z w64 (pos (value_of text)) (small_fits (value_of text) small) in
+    ap (λ (z : ℤ). to_z w64 (of_z w64 z)) v ∙ to_z-of_z w64 (pos (value_of text)) (small_fits (value_of text) small) in
     let h : IsOperand names words (expr_of (E.Const (to_z w64 (of_z w64 value)))) rest = number text w small (const_view _ ∙ ap Const kept) in
     record { is_one = h; alone = λ y later e i. same_operand i h }
 

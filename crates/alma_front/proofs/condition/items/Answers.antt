@@ -24,7 +24,7 @@ pub returns-in_err-item-clause-refused : goal.returns-in_err-item-clause-refused
 returns-in_err-item-clause-refused c =
     let p = err_from_is_err_and c.from_residual-in_err-item.result c.from_residual-in_err-item.ensures.1 in
     rw (p.1, p.2) (refused_from (IsItem c.args.variables.now (words c.in-Some.inner.now)) EndsSum _ _ c.in_err-item.field-0.0
-      (items_turn_never _ _ _ _ _ c.loop-inner.invariant.read c.in-Some.ensures.skipped) c.in_err-item.ensures.refused)
+    (items_turn_never _ _ _ _ _ c.loop-inner.invariant.read c.in-Some.ensures.skipped) c.in_err-item.ensures.refused)
 
 -- src/condition.rt:97:5
 pub loop-inner-preserved : goal.loop-inner-preserved

@@ -47,14 +47,14 @@ pub sum-returns-in_err-first-clause-refused : goal.sum-returns-in_err-first-clau
 sum-returns-in_err-first-clause-refused t c =
     let p = err_from_is_err_and c.from_residual.result c.from_residual.ensures.1 in
     rw (p.1, p.2) (refused_from (IsProduct c.args.variables.now (words c.split_sign-negated.result.1.now)) EndsProduct _ _ c.in_err-first.field-0.0
-      (sum_no_product _ _ _ _ c.split_sign-negated.ensures.alone) c.in_err-first.ensures.refused)
+    (sum_no_product _ _ _ _ c.split_sign-negated.ensures.alone) c.in_err-first.ensures.refused)
 
 -- src/sum.rt:178:25
 pub sum-returns-in_err-links-clause-refused : goal.sum-returns-in_err-links-clause-refused
 sum-returns-in_err-links-clause-refused t c =
     let p = err_from_is_err_and c.from_residual-in_err-links.result c.from_residual-in_err-links.ensures.1 in
     rw (p.1, p.2) (refused_from (IsTerms c.args.variables.now (words c.in_ok-first.behind.now)) EndsSum _ _ c.in_err-links.field-0.0
-      (sum_no_terms _ _ _ _ _ _ c.split_sign-negated.ensures.alone c.in_ok-first.ensures.found) c.in_err-links.ensures.refused)
+    (sum_no_terms _ _ _ _ _ _ c.split_sign-negated.ensures.alone c.in_ok-first.ensures.found) c.in_err-links.ensures.refused)
 
 -- src/sum.rt:166:1
 pub sum-returns-clause-found : goal.sum-returns-clause-found
@@ -66,7 +66,7 @@ pub terms-returns-in_err-operand-clause-refused : goal.terms-returns-in_err-oper
 terms-returns-in_err-operand-clause-refused t c =
     let p = err_from_is_err_and c.from_residual.result c.from_residual.ensures.1 in
     rw (p.1, p.2) (refused_from (IsProduct c.args.variables.now (words c.in-Some.inner.now)) EndsProduct _ _ c.in_err-operand.field-0.0
-      (terms_never _ _ _ _ _ _ c.loop-op.invariant.read c.in-Some.ensures.split) c.in_err-operand.ensures.refused)
+    (terms_never _ _ _ _ _ _ c.loop-op.invariant.read c.in-Some.ensures.split) c.in_err-operand.ensures.refused)
 
 -- src/sum.rt:157:5
 pub terms-loop-op-preserved : goal.terms-loop-op-preserved
