@@ -1,12 +1,12 @@
 -- What a run of compiled code comes to, step by step and by the meaning.
-use Rattle.std.proofs.Common.{◌≡◌, ◌≤◌, ◌<◌, ◌+◌, ◌-◌, ◌*◌, ℕ, zero, suc, List, [], ◌++◌, inl, inr, ap, sym, subst, refl, ◌∙◌, arith, append_assoc}
+use Rattle.std.proofs.Common.{◌≡◌, ◌≤◌, ◌<◌, ◌+◌, ◌*◌, ℕ, zero, suc, List, [], ◌++◌, inl, inr, ap, sym, subst, refl, ◌∙◌, arith, append_assoc}
 use Rattle.std.specs.Prelude.{◌⊎◌, Option, true}
 use Rattle.std.specs.Io.KnownBytes.{Appends}
 use Rattle.std.proofs.lemmas.Bool.{cases_lt}
 use Rattle.alma_io.specs.Causes.{HasCause}
 use Rattle.alma_io.specs.Fronts.{AppendsFront}
 use Rattle.alma_ir.specs.Tree.{Program}
-use Rattle.alma_mean.specs.Events.{first, end_of, visit_count, CutOff}
+use Rattle.alma_mean.specs.Events.{first, visit_count}
 use Rattle.alma_mean.specs.Meaning.{ev_program}
 use Rattle.alma_code.specs.declared.step.End as code
 use Rattle.alma_code.specs.declared.step.End.TheVariants as ended

@@ -27,7 +27,8 @@ pub record Causes (words : List (List ℕ)) (before after : Outside) (status : �
   pub prefix : GainsPrefix (Outcome words before.files.told) before.out after.out
   -- but for read faults, write faults and want of memory, status, out and err are all that is due
   pub whole : (status ≡ 6 → ⊥) → (status ≡ 7 → ⊥) → (status ≡ 8 → ⊥)
-      → (due : Due) × Outcome words before.files.told due × (status ≡ status_of due.end) × Gains before.out after.out due.out × Gains before.err after.err (text_of due.end)
+      → (due : Due) × Outcome words before.files.told due × (status ≡ status_of due.end)
+      × Gains before.out after.out due.out × Gains before.err after.err (text_of due.end)
   -- a failed write is not hidden: write fault, or want of memory
   pub writes_shown : WritesGrew before after → (status ≡ 7) ⊎ (status ≡ 8)
   -- nor a failed fetch, where no write failed: read fault, or want of memory

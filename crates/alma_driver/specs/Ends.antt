@@ -15,7 +15,8 @@ use Rattle.alma_machine.specs.declared.machine.RunEnd.TheVariants as run
 use Rattle.alma_driver.specs.declared.words.WordsError.{WordsError}
 use Rattle.alma_driver.specs.declared.words.WordsError.TheVariants as words
 use Rattle.alma_driver.specs.declared.end.End.{End}
-use Rattle.alma_driver.specs.declared.end.End.TheVariants.{Succeeded, Failed, BadWord, Fault, StepsOut, ReadFault, WriteFault, Memory, TooLong, TooMuchCode, NotYet}
+use Rattle.alma_driver.specs.declared.end.End.TheVariants.{Succeeded, Failed, BadWord, Fault, StepsOut, ReadFault, WriteFault}
+use Rattle.alma_driver.specs.declared.end.End.TheVariants.{Memory, TooLong, TooMuchCode, NotYet}
 
 -- the status of an end
 abbrev pub status_of : End → ℕ

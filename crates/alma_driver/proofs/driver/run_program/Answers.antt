@@ -1,4 +1,3 @@
-use Rattle.std.proofs.Common.{◌≤◌}
 use Rattle.alma_code.specs.Plain.{code_of}
 use Rattle.alma_ir.specs.View.{program_of}
 use Rattle.alma_lower.proofs.Correct.{code_implements}

@@ -3,7 +3,7 @@ use Rattle.std.specs.Prelude.{true, false}
 use Rattle.alma_base.specs.Reading.{is_digit}
 use Rattle.alma_scan.specs.Bytes.{value_behind}
 use Rattle.alma_driver.specs.Words.{greatest_steps}
-use Rattle.alma_driver.proofs.WordLemmas.{digit_is, not_digits, not_small, value_more, digits_more}
+use Rattle.alma_driver.proofs.WordLemmas.{not_digits, not_small, value_more, digits_more}
 use Rattle.alma_driver.proofs.words.named_steps.Goals as goal
 
 pub returns-then-not-is_ascii_digit : goal.returns-then-not-is_ascii_digit
