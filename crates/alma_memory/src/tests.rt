@@ -11,70 +11,40 @@ use crate::{
 use std::alloc::Global;
 use std::test::Fail;
 
-// A head of number slots alone.
+// A head of so many number slots; or one of a parameter alone, the place of a number.
 #[derive(Drop)]
-struct Numbers {
-    slots: u32,
+struct Sketch {
+    has_place: bool,
+    numbers: u32,
 }
 
-impl Head for Numbers {
-    ghost head = { λ h. record { slots = h.slots; declared = h.slots; params = []; runs = (record { kind = slot.Number; end = h.slots }) ∷ []; has_result = false } };
+impl Head for Sketch {
+    ghost use Rattle.std.specs.Prelude.{if◌then◌else◌};
+
+    ghost head = { λ h. if h.has_place
+        then record { slots = 1; declared = 0; params = (record { kind = param.Place; cells = 1 }) ∷ []; runs = (record { kind = slot.Place 1; end = 1 }) ∷ []; has_result = false }
+        else record { slots = h.numbers; declared = h.numbers; params = []; runs = (record { kind = slot.Number; end = h.numbers }) ∷ []; has_result = false } };
 
     fn slots(&self) -> u32 {
-        self.slots
+        if self.has_place { 1 } else { self.numbers }
     }
 
     fn declared(&self) -> u32 {
-        self.slots
+        if self.has_place { 0 } else { self.numbers }
     }
 
     fn param_count(&self) -> u32 {
-        0
+        if self.has_place { 1 } else { 0 }
     }
 
     fn param(&self, _i: u32) -> CodeParam {
-        unreachable!()
-    }
-
-    fn run_count(&self) -> u32 {
-        1
-    }
-
-    fn run(&self, _i: u32) -> Run {
-        Run {
-            kind: SlotKind::Number,
-            end: self.slots,
-        }
-    }
-
-    fn has_result(&self) -> bool {
-        false
-    }
-}
-
-// A head of one parameter alone, the place of a number.
-#[derive(Drop)]
-struct OnePlace;
-
-impl Head for OnePlace {
-    ghost head = { λ h. record { slots = 1; declared = 0; params = (record { kind = param.Place; cells = 1 }) ∷ []; runs = (record { kind = slot.Place 1; end = 1 }) ∷ []; has_result = false } };
-
-    fn slots(&self) -> u32 {
-        1
-    }
-
-    fn declared(&self) -> u32 {
-        0
-    }
-
-    fn param_count(&self) -> u32 {
-        1
-    }
-
-    fn param(&self, _i: u32) -> CodeParam {
-        CodeParam {
-            kind: ParamKind::Place,
-            cells: 1,
+        if self.has_place {
+            CodeParam {
+                kind: ParamKind::Place,
+                cells: 1,
+            }
+        } else {
+            unreachable!()
         }
     }
 
@@ -83,9 +53,16 @@ impl Head for OnePlace {
     }
 
     fn run(&self, _i: u32) -> Run {
-        Run {
-            kind: SlotKind::Place(1),
-            end: 1,
+        if self.has_place {
+            Run {
+                kind: SlotKind::Place(1),
+                end: 1,
+            }
+        } else {
+            Run {
+                kind: SlotKind::Number,
+                end: self.numbers,
+            }
         }
     }
 
@@ -93,10 +70,25 @@ impl Head for OnePlace {
         false
     }
 }
+
+const ONE_NUMBER: Sketch = Sketch {
+    has_place: false,
+    numbers: 1,
+};
+
+const TWO_NUMBERS: Sketch = Sketch {
+    has_place: false,
+    numbers: 2,
+};
+
+const ONE_PLACE: Sketch = Sketch {
+    has_place: true,
+    numbers: 0,
+};
 
 #[test]
 fn a_pop_leaves_unknown_what_was_unknown(rt: HostRuntime) -> Result<(), Fail> {
-    let mut memory = Memory::new(rt.alloc(), &Numbers { slots: 2 })?;
+    let mut memory = Memory::new(rt.alloc(), &TWO_NUMBERS)?;
     memory.reserve(4, 4)?;
     memory.choose(ChoiceKind::Branch, 7)?;
     memory.write(0, 1, Cell::Int(5))?;
@@ -114,14 +106,14 @@ fn a_pop_leaves_unknown_what_was_unknown(rt: HostRuntime) -> Result<(), Fail> {
 
 #[test]
 fn a_frame_that_was_left_lives_again(rt: HostRuntime) -> Result<(), Fail> {
-    let mut memory = Memory::new(rt.alloc(), &Numbers { slots: 1 })?;
+    let mut memory = Memory::new(rt.alloc(), &ONE_NUMBER)?;
     memory.reserve(2, 4)?;
     let place = CellPlace {
         frame: 0,
         slot: 0,
         len: 1,
     };
-    memory.enter(&OnePlace, 1, 9, &[Cell::Place(place)])?;
+    memory.enter(&ONE_PLACE, 1, 9, &[Cell::Place(place)])?;
     memory.choose(ChoiceKind::Branch, 9)?;
     memory.write(0, 0, Cell::Int(4))?;
     assert_eq!(rt; memory.leave()?, 9);
@@ -137,7 +129,7 @@ fn a_frame_that_was_left_lives_again(rt: HostRuntime) -> Result<(), Fail> {
 
 #[test]
 fn a_forall_carries_what_its_bodies_changed(rt: HostRuntime) -> Result<(), Fail> {
-    let mut memory = Memory::new(rt.alloc(), &Numbers { slots: 2 })?;
+    let mut memory = Memory::new(rt.alloc(), &TWO_NUMBERS)?;
     memory.choose(ChoiceKind::Forall, 3)?;
     memory.choose(ChoiceKind::Branch, 5)?;
     memory.choose(ChoiceKind::Body, 4)?;
@@ -173,7 +165,11 @@ fn start(alloc: Global, slots: u32) -> Result<Memory, NoMemory>
     requires few { slots ≤ 1048576 }
     ensures { IfOk result (λ memory. KeepsSlots slots memory) }
 {
-    Memory::new(alloc, &Numbers { slots })
+    let head = Sketch {
+        has_place: false,
+        numbers: slots,
+    };
+    Memory::new(alloc, &head)
 }
 
 // Pushes so many entries, and after each writes one of the slots from 1 on, in turn.
