@@ -1,5 +1,5 @@
 -- Values of digits that are read from the left.
-use Rattle.std.proofs.Common.{◌≡◌, ◌≤◌, ◌<◌, ◌+◌, ◌-◌, ◌*◌, ℕ, ℤ, pos, ◌*ℤ◌, ◌+ℤ◌, w64, List, [], ◌∷◌, length, drop, get_or, refl, sym, ap, ◌∙◌, subst, arith, drop-cons, add-one, to_z, of_z, w8, Fits}
+use Rattle.std.proofs.Common.{◌≡◌, ◌≤◌, ◌<◌, ◌+◌, ◌-◌, ◌*◌, ℕ, ℤ, pos, ◌*ℤ◌, ◌+ℤ◌, w64, List, [], ◌∷◌, length, drop, get_or, ap, ◌∙◌, subst, arith, drop-cons, add-one, to_z, of_z, w8, Fits}
 use Rattle.std.proofs.lemmas.Int.{to_z-of_z}
 use mir.Val.{SFits}
 use Rattle.alma_scan.specs.Bytes.{value_of, value_behind}

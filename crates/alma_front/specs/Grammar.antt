@@ -9,7 +9,6 @@ use Rattle.alma_scan.specs.Spellings.{greatest_number}
 use Rattle.alma_ir.specs.declared.phrase.Op.{Op}
 use Rattle.alma_ir.specs.declared.phrase.Cmp.{Cmp}
 use Rattle.alma_ir.specs.declared.phrase.Root.TheVariants as root
-use Rattle.alma_ir.specs.declared.phrase.WriteAs.{WriteAs}
 use Rattle.alma_ir.specs.declared.phrase.WriteAs.TheVariants as write_as
 use Rattle.alma_ir.specs.Tree.{Stmts, Stmt, Arms, Test, Expr, Links, Desig, Routine, Global, Program, no_stmts, more_stmts, TestStmt, Assign, If, While, Repeat, WriteExpr, no_arms, more_arms, Value, Const, Load, Chain, Compare, no_links, more_links, a_desig, no_sels}
 use Rattle.alma_front.specs.Words.{Word, Named, Digits, Fixed, factor_op, term_op, comparison, truth_word, slot_of, AreNew}

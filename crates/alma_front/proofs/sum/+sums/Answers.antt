@@ -1,8 +1,7 @@
-use Rattle.std.proofs.Common.{sym, ap, ◌∙◌, arith, to_z, of_z, w64}
+use Rattle.std.proofs.Common.{arith}
 use Rattle.std.proofs.lemmas.Result.{err_from_is_err_and}
-use Rattle.alma_ir.proofs.Views.{const_view, load_view}
-use Rattle.alma_front.specs.Grammar.{IsOperand, IsFactors, IsProduct, IsTerms, IsSum}
-use Rattle.alma_front.specs.Parse.{words, Anything, EndsProduct, EndsSum}
+use Rattle.alma_front.specs.Grammar.{IsProduct, IsTerms}
+use Rattle.alma_front.specs.Parse.{words, EndsProduct, EndsSum}
 use Rattle.alma_front.proofs.Sums.{refused_from, refused_never, number_only, name_only, nested_only, open_never, links_added, factors_turn, factors_end, product_only, terms_turn, terms_never, terms_end, sum_only, sum_no_product, sum_no_terms}
 use Rattle.alma_front.proofs.sum.+sums.Goals as goal
 

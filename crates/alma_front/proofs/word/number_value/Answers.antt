@@ -1,4 +1,3 @@
-use Rattle.std.proofs.Common.{sym}
 use Rattle.alma_front.proofs.Numbers.{tenfold_too_great, digit_too_great}
 use Rattle.alma_front.proofs.word.number_value.Goals as goal
 
