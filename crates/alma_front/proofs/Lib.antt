@@ -5,6 +5,5 @@ pub mod LawsForms
 pub mod LawsOnce
 pub mod LawsSums
 pub mod LawsWords
-pub mod Numbers
 pub mod Sums
 pub mod Tokens

@@ -1,4 +1,4 @@
-use Rattle.std.proofs.Common.{rules, ◌≡◌, sym}
+use Rattle.std.proofs.Common.{rules, sym}
 use denote.Enum.Bare.{same_true}
 use Rattle.alma_tree.specs.contracts.kind.Kind.{the_type}
 use Rattle.alma_front.proofs.Tokens.{fixed_first}
