@@ -75,13 +75,7 @@ compared_only names words behind inner rest c left right held held' n h b i e e'
       let same : Value (Compare d left' right') ≡ Value (Compare c (expr_of left) (expr_of right)) = cc (q, j.0, l.0) in
       (k ∙ same ∙ sym made, l.1)
 
--- no condition without its first sum, its comparison and its second sum
-pub condition_no_sum : (names : List (List ℕ)) (words : List Word) → NoTruthFirst words → Never (IsSum names words) EndsSum
-    → Never (IsCondition names words) EndsSum
-condition_no_sum names words n never y later u (truth value v k) = n value later v
-condition_no_sum names words n never y later u (compared left right kind c inner h cmp more k) =
-    never left (Fixed kind ∷ inner) (comparison_no_factor kind c cmp, comparison_no_term kind c cmp) h
-
+-- no condition without a comparison behind its first sum, and none without its second
 pub condition_no_comparison : (names : List (List ℕ)) (words behind : List Word) (left : Expr) → NoTruthFirst words
     → Only (IsSum names words) EndsSum left behind
     → first_is comparison_word behind ≡ false → Never (IsCondition names words) EndsSum
@@ -123,11 +117,6 @@ sum_item_only names words rest e n h = record { is_one = sum_item (expr_of e) h.
   go y later u (sum_item d h' k) =
       let j = h.alone d later u h' in
       (k ∙ ap (λ (z : Expr). WriteExpr z write_as.Int) j.0 ∙ sym (writeexpr_view e write_as.Int), j.1)
-
--- no item without its sum
-pub item_never : (names : List (List ℕ)) (words : List Word) → NoTruthFirst words → Never (IsSum names words) EndsSum → Never (IsItem names words) EndsSum
-item_never names words n never y later u (truth_item value v k) = n value later v
-item_never names words n never y later u (sum_item e h k) = never e later u h
 
 -- ---- items in a row
 
@@ -197,14 +186,6 @@ pub items_turn : (names : List (List ℕ)) (words rest inner behind : List Word)
     → Only (IsItem names inner) EndsSum item behind → ItemsRead names words (followed_by so_far (one item)) behind
 items_turn names words rest inner behind so_far item h w i = items_then names words rest inner behind so_far (one item) h w
     (items_start names inner behind item i)
-
--- where no comma follows
-pub items_end : (names : List (List ℕ)) (words rest : List Word) (so_far : Stmts) → ItemsRead names words so_far rest → BeginsNot (Fixed kinds.Comma) rest
-    → Only (IsItems names words) EndsItems so_far rest
-items_end names words rest so_far h n = record { is_one = h.ended; alone = λ y later e i. go y later (h.only y later e i) } where
-  go : (y : Stmts) (later : List Word) → GoesOn names so_far rest y later → (y ≡ so_far) × (later ≡ rest)
-  go y later (no_more a b) = (a, b)
-  go y later (more inner others w i k) = absurd (n inner w)
 
 -- no items without a first, and none without one behind a comma
 pub items_never : (names : List (List ℕ)) (words : List Word) → Never (IsItem names words) EndsSum → Never (IsItems names words) EndsItems

@@ -1,5 +1,5 @@
 -- What the functions of sums give.
-use Rattle.std.proofs.Common.{◌≡◌, ◌≤◌, ◌<◌, ◌==◌, ◌++◌, ℕ, ℤ, pos, Bool, true, false, List, [], ◌∷◌, Option, Some, None, MatchOption, IfSome, is_some, to_z, of_z, w64, refl, sym, ap, ◌∙◌, subst, arith}
+use Rattle.std.proofs.Common.{◌≡◌, ◌≤◌, ◌<◌, ◌==◌, ◌++◌, ℕ, ℤ, pos, Bool, true, false, List, [], ◌∷◌, Option, Some, MatchOption, IfSome, is_some, to_z, of_z, w64, refl, sym, ap, ◌∙◌, subst, arith}
 use Rattle.std.specs.Prelude.{Vec, Box, vec_len}
 use Rattle.std.specs.declared.alloc.Global.{Global as Heap}
 use mir.Val.{SFits}
@@ -20,7 +20,6 @@ use Rattle.alma_front.specs.declared.error.ReadError.TheVariants.{NotYet, Memory
 use Rattle.alma_front.specs.Words.{Word, Named, Digits, Fixed, factor_op, term_op, slot_of}
 use Rattle.alma_front.specs.Grammar.{variable, chained, HasSign, IsOperand, number, variable_named, nested, IsFactors, no_factors, more_factors, IsProduct, product, IsTerms, no_terms, more_terms, IsSum, sum}
 use Rattle.alma_front.specs.Parse.{first_is, factor_word, term_word, sign_word, Anything, EndsProduct, EndsSum, BeginsNot, BeginsOperator, Only, Never, Refused}
-use Rattle.alma_front.proofs.LawsWords.{none_some}
 use Rattle.alma_front.proofs.LawsSums.{same_operand, op_same, term_op_same, terms_end_factors, product_no_sign}
 
 -- ---- chains
@@ -78,30 +77,12 @@ number_only names words rest text value result w m s r =
     let h : IsOperand names words (expr_of (E.Const (to_z w64 (of_z w64 value)))) rest = number text w small (const_view _ ∙ ap Const kept) in
     record { is_one = h; alone = λ y later e i. same_operand i h }
 
--- a number that is too great is none
-pub number_never : (names : List (List ℕ)) (words rest : List Word) (text : List ℕ) → words ≡ Digits text ∷ rest → greatest_number < value_of text
-    → Never (IsOperand names words) Anything
-number_never names words rest text w b y later e (number other v c k) =
-    let n : other ≡ text = cc (w, v) in
-    omega (arith, b, subst (λ (z : List ℕ). value_of z ≤ greatest_number) n c)
-number_never names words rest text w b y later e (variable_named name slot v found k) = cc (w, v)
-number_never names words rest text w b y later e (nested inner v h) = cc (w, v)
-
 -- a variable whose slot was found is an operand
 pub name_only : (names : List (List ℕ)) (words rest : List Word) (name : List ℕ) (slot : ℕ) (result : Option ℕ) (d : Desig) → words ≡ Named name ∷ rest
     → result ≡ slot_of names name → result ≡ Some slot → desig_of d ≡ variable slot → Only (IsOperand names words) Anything (expr_of (E.Load d)) rest
 name_only names words rest name slot result d w found r e =
     let h : IsOperand names words (expr_of (E.Load d)) rest = variable_named name slot w (sym found ∙ r) (load_view d ∙ ap Load e) in
     record { is_one = h; alone = λ y later u i. same_operand i h }
-
--- another name is none
-pub name_never : (names : List (List ℕ)) (words rest : List Word) (name : List ℕ) → words ≡ Named name ∷ rest → slot_of names name ≡ None
-    → Never (IsOperand names words) Anything
-name_never names words rest name w missing y later e (number text v c k) = cc (w, v)
-name_never names words rest name w missing y later e (variable_named other slot v found k) =
-    let n : other ≡ name = cc (w, v) in
-    none_some (sym missing ∙ ap (slot_of names) (sym n) ∙ found)
-name_never names words rest name w missing y later e (nested inner v h) = cc (w, v)
 
 -- a sum in parentheses is an operand
 pub nested_only : (names : List (List ℕ)) (words inner behind rest : List Word) (e : Expr) → words ≡ Fixed kinds.OpenParen ∷ inner
@@ -110,23 +91,6 @@ pub nested_only : (names : List (List ℕ)) (words inner behind rest : List Word
 nested_only names words inner behind rest e w h v =
     let i : IsOperand names words e rest = nested inner w (subst (IsSum names inner e) v h.is_one) in
     record { is_one = i; alone = λ y later u j. same_operand j i }
-
--- words that begin with no number, no name and no ( begin with no operand
-pub operand_never : (names : List (List ℕ)) (words : List Word) → ((text : List ℕ) → BeginsNot (Digits text) words)
-    → ((name : List ℕ) → BeginsNot (Named name) words)
-    → BeginsNot (Fixed kinds.OpenParen) words → Never (IsOperand names words) Anything
-operand_never names words d n p y later e (number text v c k) = d text later v
-operand_never names words d n p y later e (variable_named name slot v found k) = n name later v
-operand_never names words d n p y later e (nested inner v h) = p inner v
-
--- no operand without its sum
-pub nested_never : (names : List (List ℕ)) (words inner : List Word) → words ≡ Fixed kinds.OpenParen ∷ inner → Never (IsSum names inner) EndsSum
-    → Never (IsOperand names words) Anything
-nested_never names words inner w never y later e (number text v c k) = cc (w, v)
-nested_never names words inner w never y later e (variable_named name slot v found k) = cc (w, v)
-nested_never names words inner w never y later e (nested other v h) =
-    let n : other ≡ inner = cc (w, v) in
-    never y (Fixed kinds.CloseParen ∷ later) (refl, refl) (subst (λ (z : List Word). IsSum names z y (Fixed kinds.CloseParen ∷ later)) n h)
 
 -- no operand without its )
 pub open_never : (names : List (List ℕ)) (words inner behind : List Word) (e : Expr) → words ≡ Fixed kinds.OpenParen ∷ inner
@@ -165,10 +129,6 @@ pub record LinksRead (phrase : List Word → Links → List Word → Type 0) (En
     (rest : List Word) : Type 0 where
   pub built : (more : Links) (later : List Word) → phrase rest more later → phrase words (joined so_far more) later
   pub only : (y : Links) (later : List Word) → Ends later → phrase words y later → (more : Links) × phrase rest more later × (y ≡ joined so_far more)
-
--- before the first
-pub links_start : (phrase : List Word → Links → List Word → Type 0) (Ends : List Word → Type 0) (words : List Word) → LinksRead phrase Ends words no_links words
-links_start phrase Ends words = record { built = λ more later h. h; only = λ y later e h. (y, h, refl) }
 
 -- behind one more
 links_turn : (phrase : List Word → Links → List Word → Type 0) (Ends : List Word → Type 0) (words rest behind : List Word) (so_far : Links) (o : Op)
@@ -228,16 +188,6 @@ factors_turn names words rest inner behind so_far o operand h b i =
     links_turn (IsFactors names) EndsProduct words rest behind so_far o operand h
     (λ more later j. more_factors b.0 o inner behind operand more b.1 b.2 i.is_one j refl) (factors_back names rest inner behind o operand b i)
 
--- no factors without the operand of an operator
-pub factors_never : (names : List (List ℕ)) (words rest inner : List Word) (so_far : Links) (o : Op) → LinksRead (IsFactors names) EndsProduct words so_far rest
-    → BeginsOperator factor_op o rest inner → Never (IsOperand names inner) Anything → Never (IsFactors names words) EndsProduct
-factors_never names words rest inner so_far o h b never = links_never (IsFactors names) EndsProduct words rest so_far h go where
-  go : Never (IsFactors names rest) EndsProduct
-  go y later e (no_factors w k) = true_false (sym (ap is_some b.2) ∙ sym (ap (first_is factor_word) b.1) ∙ ap (first_is factor_word) w ∙ e)
-  go y later e (more_factors kind p inner' behind' operand' others w op i more k) =
-      let n : inner' ≡ inner = cc (b.1, w) in
-      never operand' behind' tt (subst (λ (z : List Word). IsOperand names z operand' behind') n i)
-
 -- no more factors without an operator
 factors_none : (names : List (List ℕ)) (rest : List Word) → first_is factor_word rest ≡ false → (y : Links) (later : List Word) → IsFactors names rest y later
     → (y ≡ no_links) × (later ≡ rest)
@@ -264,16 +214,6 @@ product_only names words behind rest first e links h i k = record {
       let j = h.alone first' behind' tt h' in
       let l = i.alone links' later u (subst (λ (z : List Word). IsFactors names z links' later) j.1 i') in
       (cc (k, k', j.0, l.0), l.1)
-
--- no product without its operand, and none without its factors
-pub product_no_operand : (names : List (List ℕ)) (words : List Word) → Never (IsOperand names words) Anything → Never (IsProduct names words) EndsProduct
-product_no_operand names words never y later u (product first links behind h i k) = never first behind tt h
-
-pub product_no_factors : (names : List (List ℕ)) (words behind : List Word) (first : Expr) → Only (IsOperand names words) Anything first behind
-    → Never (IsFactors names behind) EndsProduct → Never (IsProduct names words) EndsProduct
-product_no_factors names words behind first h never y later u (product first' links' behind' h' i' k') =
-    let j = h.alone first' behind' tt h' in
-    never links' later u (subst (λ (z : List Word). IsFactors names z links' later) j.1 i')
 
 -- ---- terms
 

@@ -1,7 +1,6 @@
-use Rattle.std.proofs.Common.{sym, ap, ◌∙◌}
 use Rattle.std.proofs.lemmas.Result.{err_from_is_err_and}
 use Rattle.alma_front.specs.Grammar.{IsSum, IsCondition}
-use Rattle.alma_front.specs.Parse.{words, EndsSum, Refused}
+use Rattle.alma_front.specs.Parse.{words, EndsSum}
 use Rattle.alma_front.proofs.Sums.{refused_from, refused_never}
 use Rattle.alma_front.proofs.Conditions.{truth_only, compared_only, condition_no_comparison, condition_no_right}
 use Rattle.alma_front.proofs.condition.condition.Goals as goal
