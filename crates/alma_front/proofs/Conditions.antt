@@ -49,7 +49,8 @@ abbrev pub NoTruthFirst : List Word → Type 0
 NoTruthFirst words = (value : Bool) → BeginsNot (Named (truth_word value)) words
 
 -- two sums with a comparison between them are a condition
-pub compared_only : (names : List (List ℕ)) (words behind inner rest : List Word) (c : Cmp) (left right : E.Expr) (held held' : Box E.Expr Heap) → NoTruthFirst words
+pub compared_only : (names : List (List ℕ)) (words behind inner rest : List Word) (c : Cmp) (left right : E.Expr) (held held' : Box E.Expr Heap)
+    → NoTruthFirst words
     → Only (IsSum names words) EndsSum (expr_of left) behind → BeginsOperator comparison c behind inner → Only (IsSum names inner) EndsSum (expr_of right) rest
     → held.value ≡ left → held'.value ≡ right → Only (IsCondition names words) EndsSum (test_of (T.Value (E.Compare c held held'))) rest
 compared_only names words behind inner rest c left right held held' n h b i e e' = record {
@@ -57,7 +58,11 @@ compared_only names words behind inner rest c left right held held' n h b i e e'
   alone = go;
 } where
   made : test_of (T.Value (E.Compare c held held')) ≡ Value (Compare c (expr_of left) (expr_of right))
-  made = value_view _ ∙ ap Value (compare_view c held held' ∙ ap (λ (z : E.Expr). Compare c (expr_of z) (expr_of held'.value)) e ∙ ap (λ (z : E.Expr). Compare c (expr_of left) (expr_of z)) e')
+  made =
+      let kept : expr_of (E.Compare c held held') ≡ Compare c (expr_of left) (expr_of right) =
+      compare_view c held held' ∙ ap (λ (z : E.Expr). Compare c (expr_of z) (expr_of held'.value)) e
+      ∙ ap (λ (z : E.Expr). Compare c (expr_of left) (expr_of z)) e' in
+      value_view _ ∙ ap Value kept
 
   go : (y : Test) (later : List Word) → EndsSum later → IsCondition names words y later → (y ≡ test_of (T.Value (E.Compare c held held'))) × (later ≡ rest)
   go y later u (truth value v k) = absurd (n value later v)
@@ -67,22 +72,20 @@ compared_only names words behind inner rest c left right held held' n h b i e e'
       let s : kind ≡ b.0 = fixed_same (j.1 ∙ b.1) in
       let q : d ≡ c = comparison_same kind b.0 d c s cmp b.2 in
       let l = i.alone right' later u (subst (λ (z : List Word). IsSum names z right' later) m more) in
-      (k ∙ ap (λ (z : Cmp). Value (Compare z left' right')) q ∙ ap (λ (z : Expr). Value (Compare c z right')) j.0 ∙ ap (λ (z : Expr). Value (Compare c (expr_of left) z)) l.0 ∙ sym made, l.1)
+      let same : Value (Compare d left' right') ≡ Value (Compare c (expr_of left) (expr_of right)) = cc (q, j.0, l.0) in
+      (k ∙ same ∙ sym made, l.1)
 
--- no condition without its first sum, its comparison and its second sum
-pub condition_no_sum : (names : List (List ℕ)) (words : List Word) → NoTruthFirst words → Never (IsSum names words) EndsSum → Never (IsCondition names words) EndsSum
-condition_no_sum names words n never y later u (truth value v k) = n value later v
-condition_no_sum names words n never y later u (compared left right kind c inner h cmp more k) =
-    never left (Fixed kind ∷ inner) (comparison_no_factor kind c cmp, comparison_no_term kind c cmp) h
-
-pub condition_no_comparison : (names : List (List ℕ)) (words behind : List Word) (left : Expr) → NoTruthFirst words → Only (IsSum names words) EndsSum left behind
+-- no condition without a comparison behind its first sum, and none without its second
+pub condition_no_comparison : (names : List (List ℕ)) (words behind : List Word) (left : Expr) → NoTruthFirst words
+    → Only (IsSum names words) EndsSum left behind
     → first_is comparison_word behind ≡ false → Never (IsCondition names words) EndsSum
 condition_no_comparison names words behind left n h f y later u (truth value v k) = n value later v
 condition_no_comparison names words behind left n h f y later u (compared left' right kind c inner h' cmp more k) =
     let j = h.alone left' (Fixed kind ∷ inner) (comparison_no_factor kind c cmp, comparison_no_term kind c cmp) h' in
     true_false (sym (ap is_some cmp) ∙ ap (first_is comparison_word) j.1 ∙ f)
 
-pub condition_no_right : (names : List (List ℕ)) (words behind inner : List Word) (c : Cmp) (left : Expr) → NoTruthFirst words → Only (IsSum names words) EndsSum left behind
+pub condition_no_right : (names : List (List ℕ)) (words behind inner : List Word) (c : Cmp) (left : Expr) → NoTruthFirst words
+    → Only (IsSum names words) EndsSum left behind
     → BeginsOperator comparison c behind inner → Never (IsSum names inner) EndsSum → Never (IsCondition names words) EndsSum
 condition_no_right names words behind inner c left n h b never y later u (truth value v k) = n value later v
 condition_no_right names words behind inner c left n h b never y later u (compared left' right kind d inner' h' cmp more k) =
@@ -115,11 +118,6 @@ sum_item_only names words rest e n h = record { is_one = sum_item (expr_of e) h.
       let j = h.alone d later u h' in
       (k ∙ ap (λ (z : Expr). WriteExpr z write_as.Int) j.0 ∙ sym (writeexpr_view e write_as.Int), j.1)
 
--- no item without its sum
-pub item_never : (names : List (List ℕ)) (words : List Word) → NoTruthFirst words → Never (IsSum names words) EndsSum → Never (IsItem names words) EndsSum
-item_never names words n never y later u (truth_item value v k) = n value later v
-item_never names words n never y later u (sum_item e h k) = never e later u h
-
 -- ---- items in a row
 
 followed_assoc : (a b c : Stmts) → followed_by (followed_by a b) c ≡ followed_by a (followed_by b c)
@@ -138,16 +136,19 @@ ends_sum rest e = (first_apart close_word factor_word close_no_factor rest e, fi
 -- the items are those that were read, or go on behind a comma
 pub data GoesOn (names : List (List ℕ)) (so_far : Stmts) (rest : List Word) (y : Stmts) (later : List Word) : Type 0 where
   no_more : y ≡ so_far → later ≡ rest → GoesOn names so_far rest y later
-  more : (inner : List Word) (others : Stmts) → rest ≡ Fixed kinds.Comma ∷ inner → IsItems names inner others later → y ≡ followed_by so_far others → GoesOn names so_far rest y later
+  more : (inner : List Word) (others : Stmts) → rest ≡ Fixed kinds.Comma ∷ inner → IsItems names inner others later → y ≡ followed_by so_far others
+      → GoesOn names so_far rest y later
 
 -- these items were read up to the rest
 pub record ItemsRead (names : List (List ℕ)) (words : List Word) (so_far : Stmts) (rest : List Word) : Type 0 where
   pub ended : IsItems names words so_far rest
-  pub built : (inner : List Word) (others : Stmts) (later : List Word) → rest ≡ Fixed kinds.Comma ∷ inner → IsItems names inner others later → IsItems names words (followed_by so_far others) later
+  pub built : (inner : List Word) (others : Stmts) (later : List Word) → rest ≡ Fixed kinds.Comma ∷ inner → IsItems names inner others later
+      → IsItems names words (followed_by so_far others) later
   pub only : (y : Stmts) (later : List Word) → EndsItems later → IsItems names words y later → GoesOn names so_far rest y later
 
 -- behind the first
-pub items_start : (names : List (List ℕ)) (words rest : List Word) (item : Stmt) → Only (IsItem names words) EndsSum item rest → ItemsRead names words (one item) rest
+pub items_start : (names : List (List ℕ)) (words rest : List Word) (item : Stmt) → Only (IsItem names words) EndsSum item rest
+    → ItemsRead names words (one item) rest
 items_start names words rest item h = record {
   ended = last_item item h.is_one refl;
   built = λ inner others later w i. more_items item others inner (subst (IsItem names words item) w h.is_one) i refl;
@@ -160,7 +161,8 @@ items_start names words rest item h = record {
       more inner others (sym j.1) i (k ∙ ap (λ (z : Stmt). more_stmts z others) j.0)
 
 -- behind a comma and more of them
-items_then : (names : List (List ℕ)) (words rest inner behind : List Word) (so_far next : Stmts) → ItemsRead names words so_far rest → rest ≡ Fixed kinds.Comma ∷ inner
+items_then : (names : List (List ℕ)) (words rest inner behind : List Word) (so_far next : Stmts) → ItemsRead names words so_far rest
+    → rest ≡ Fixed kinds.Comma ∷ inner
     → ItemsRead names inner next behind → ItemsRead names words (followed_by so_far next) behind
 items_then names words rest inner behind so_far next h w i = record {
   ended = h.built inner next behind w i.ended;
@@ -168,7 +170,8 @@ items_then names words rest inner behind so_far next h w i = record {
       (h.built inner (followed_by next others) later w (i.built inner' others later v j));
   only = λ y later e j. first y later e (h.only y later e j);
 } where
-  second : (y z : Stmts) (later : List Word) → y ≡ followed_by so_far z → GoesOn names next behind z later → GoesOn names (followed_by so_far next) behind y later
+  second : (y z : Stmts) (later : List Word) → y ≡ followed_by so_far z → GoesOn names next behind z later
+      → GoesOn names (followed_by so_far next) behind y later
   second y z later k (no_more a b) = no_more (k ∙ ap (followed_by so_far) a) b
   second y z later k (more inner' others v j l) = more inner' others v j (k ∙ ap (followed_by so_far) l ∙ sym (followed_assoc so_far next others))
 
@@ -178,23 +181,19 @@ items_then names words rest inner behind so_far next h w i = record {
       let n : inner' ≡ inner = cc (v, w) in
       second y others later k (i.only others later e (subst (λ (z : List Word). IsItems names z others later) n j))
 
-pub items_turn : (names : List (List ℕ)) (words rest inner behind : List Word) (so_far : Stmts) (item : Stmt) → ItemsRead names words so_far rest → rest ≡ Fixed kinds.Comma ∷ inner
+pub items_turn : (names : List (List ℕ)) (words rest inner behind : List Word) (so_far : Stmts) (item : Stmt) → ItemsRead names words so_far rest
+    → rest ≡ Fixed kinds.Comma ∷ inner
     → Only (IsItem names inner) EndsSum item behind → ItemsRead names words (followed_by so_far (one item)) behind
-items_turn names words rest inner behind so_far item h w i = items_then names words rest inner behind so_far (one item) h w (items_start names inner behind item i)
-
--- where no comma follows
-pub items_end : (names : List (List ℕ)) (words rest : List Word) (so_far : Stmts) → ItemsRead names words so_far rest → BeginsNot (Fixed kinds.Comma) rest → Only (IsItems names words) EndsItems so_far rest
-items_end names words rest so_far h n = record { is_one = h.ended; alone = λ y later e i. go y later (h.only y later e i) } where
-  go : (y : Stmts) (later : List Word) → GoesOn names so_far rest y later → (y ≡ so_far) × (later ≡ rest)
-  go y later (no_more a b) = (a, b)
-  go y later (more inner others w i k) = absurd (n inner w)
+items_turn names words rest inner behind so_far item h w i = items_then names words rest inner behind so_far (one item) h w
+    (items_start names inner behind item i)
 
 -- no items without a first, and none without one behind a comma
 pub items_never : (names : List (List ℕ)) (words : List Word) → Never (IsItem names words) EndsSum → Never (IsItems names words) EndsItems
 items_never names words never y later e (last_item item h k) = never item later (ends_sum later e) h
 items_never names words never y later e (more_items item others inner h i k) = never item (Fixed kinds.Comma ∷ inner) (refl, refl) h
 
-pub items_turn_never : (names : List (List ℕ)) (words rest inner : List Word) (so_far : Stmts) → ItemsRead names words so_far rest → rest ≡ Fixed kinds.Comma ∷ inner
+pub items_turn_never : (names : List (List ℕ)) (words rest inner : List Word) (so_far : Stmts) → ItemsRead names words so_far rest
+    → rest ≡ Fixed kinds.Comma ∷ inner
     → Never (IsItem names inner) EndsSum → Never (IsItems names words) EndsItems
 items_turn_never names words rest inner so_far h w never y later e i = go (h.only y later e i) where
   go : GoesOn names so_far rest y later → ⊥

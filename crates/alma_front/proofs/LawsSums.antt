@@ -258,7 +258,7 @@ no_assigned free (compared left right kind c inner' h cmp more k) name slot inne
 -- ---- items
 
 -- one item
-pub same_item : {names : List (List ℕ)} {words : List Word} {t d : Stmt} {rest after : List Word} → NoTruth names → IsItem names words t rest → IsItem names words d after
+same_item : {names : List (List ℕ)} {words : List Word} {t d : Stmt} {rest after : List Word} → NoTruth names → IsItem names words t rest → IsItem names words d after
     → first_is factor_word rest ≡ false → first_is factor_word after ≡ false → first_is term_word rest ≡ false → first_is term_word after ≡ false → (t ≡ d) × (rest ≡ after)
 same_item free (truth_item value w k) (truth_item other v l) f g t u =
     let same = truth_same value other (cc (w, v)) in

@@ -6,7 +6,6 @@ pub mod LawsOnce
 pub mod LawsSums
 pub mod LawsWords
 pub mod Modules
-pub mod Numbers
 pub mod Sources
 pub mod Statements
 pub mod Sums

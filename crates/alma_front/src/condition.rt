@@ -9,7 +9,7 @@ ghost use Rattle.alma_front.specs.Parse.{words, first_is, comparison_word, Begin
 use crate::error::ReadError;
 use crate::sum::sum;
 use crate::variables::Variables;
-use crate::word::{Rest, skip, split_truth};
+use crate::word::{skip, split_truth};
 use alma_ir::{Cmp, Expr, Stmt, Test, WriteAs};
 use alma_scan::Token;
 use alma_tree::Kind;
@@ -17,7 +17,8 @@ use std::alloc::Global;
 
 // The comparison in front, and the tokens behind it.
 fn split_comparison<'t, 's>(tokens: &'t [Token<'s>]) -> Option<(Cmp, &'t [Token<'s>])>
-    ensures split { MatchOption result (first_is comparison_word (words tokens.now) ≡ false) (λ found. BeginsOperator comparison found.0 (words tokens.now) (words found.1.now)) }
+    ensures split { MatchOption result (first_is comparison_word (words tokens.now) ≡ false)
+        (λ found. BeginsOperator comparison found.0 (words tokens.now) (words found.1.now)) }
     ensures shorter { IfSome result (λ found. length found.1.now < length tokens.now) }
 {
     let (first, rest) = tokens.split_first()?;
@@ -91,13 +92,12 @@ pub fn items<'t, 's>(
     ensures shorter { IfOk result (λ found. length found.1.now < length tokens.now) }
 {
     let mut items = Vec::new(alloc);
-    let (first, behind) = item(alloc, variables, tokens)?;
+    let (first, mut rest) = item(alloc, variables, tokens)?;
     items.push(first)?;
-    let mut rest = Rest { tokens: behind };
-    while let Some(inner) = skip(rest.tokens, Kind::Comma) {
+    while let Some(inner) = skip(rest, Kind::Comma) {
         let (item, behind) = item(alloc, variables, inner)?;
         items.push(item)?;
-        rest = Rest { tokens: behind };
+        rest = behind;
     }
-    Ok((items, rest.tokens))
+    Ok((items, rest))
 }

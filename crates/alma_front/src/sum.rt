@@ -27,7 +27,8 @@ pub fn desig_of_slot(alloc: Global, slot: u32) -> Desig
 
 // The operator of a product in front, and the tokens behind it.
 fn split_factor_op<'t, 's>(tokens: &'t [Token<'s>]) -> Option<(Op, &'t [Token<'s>])>
-    ensures split { MatchOption result (first_is factor_word (words tokens.now) ≡ false) (λ found. BeginsOperator factor_op found.0 (words tokens.now) (words found.1.now)) }
+    ensures split { MatchOption result (first_is factor_word (words tokens.now) ≡ false)
+        (λ found. BeginsOperator factor_op found.0 (words tokens.now) (words found.1.now)) }
     ensures shorter { IfSome result (λ found. length found.1.now < length tokens.now) }
 {
     let (first, rest) = tokens.split_first()?;
@@ -41,7 +42,8 @@ fn split_factor_op<'t, 's>(tokens: &'t [Token<'s>]) -> Option<(Op, &'t [Token<'s
 
 // The operator of a sum in front, and the tokens behind it.
 fn split_term_op<'t, 's>(tokens: &'t [Token<'s>]) -> Option<(Op, &'t [Token<'s>])>
-    ensures split { MatchOption result (first_is term_word (words tokens.now) ≡ false) (λ found. BeginsOperator term_op found.0 (words tokens.now) (words found.1.now)) }
+    ensures split { MatchOption result (first_is term_word (words tokens.now) ≡ false)
+        (λ found. BeginsOperator term_op found.0 (words tokens.now) (words found.1.now)) }
     ensures shorter { IfSome result (λ found. length found.1.now < length tokens.now) }
 {
     let (first, rest) = tokens.split_first()?;

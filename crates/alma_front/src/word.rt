@@ -29,7 +29,8 @@ pub fn skip<'t, 's>(tokens: &'t [Token<'s>], kind: Kind) -> Option<&'t [Token<'s
 /// The tokens behind a first one that has to be of this kind.
 pub fn expect<'t, 's>(tokens: &'t [Token<'s>], kind: Kind) -> Result<&'t [Token<'s>], ReadError>
     requires { is_fixed kind ≡ true }
-    ensures skipped { MatchResult result (λ rest. words tokens.now ≡ Fixed kind ∷ words rest.now) (λ error. (error ≡ NotYet) × BeginsNot (Fixed kind) (words tokens.now)) }
+    ensures skipped { MatchResult result (λ rest. words tokens.now ≡ Fixed kind ∷ words rest.now)
+        (λ error. (error ≡ NotYet) × BeginsNot (Fixed kind) (words tokens.now)) }
     ensures shorter { IfOk result (λ rest. length rest.now < length tokens.now) }
 {
     skip(tokens, kind).ok_or(ReadError::NotYet)

@@ -13,7 +13,8 @@ returns-in-Some-clause-found c = truth_only _ _ _ c.in-Some.value c.truth.result
 pub returns-in_err-comparison-clause-refused : goal.returns-in_err-comparison-clause-refused
 returns-in_err-comparison-clause-refused c =
     let p = err_from_is_err_and c.from_residual-in_err-comparison.result c.from_residual-in_err-comparison.ensures.1 in
-    rw p.1 (refused_never (IsCondition c.args.variables.now (words c.args.tokens.now)) EndsSum p.0 (condition_no_comparison _ _ (words c.in_ok-left.behind.now) _ c.in_default.ensures.split c.in_ok-left.ensures.found
+    rw p.1 (refused_never (IsCondition c.args.variables.now (words c.args.tokens.now)) EndsSum p.0
+    (condition_no_comparison _ _ (words c.in_ok-left.behind.now) _ c.in_default.ensures.split c.in_ok-left.ensures.found
     (rw c.in_err-comparison.ensures.ok_part at c.split_comparison.ensures.split)))
 
 -- src/condition.rt:56:25
@@ -27,5 +28,7 @@ returns-in_err-right-clause-refused c =
 -- src/condition.rt:42:1
 pub returns-clause-found : goal.returns-clause-found
 returns-clause-found c =
-    compared_only _ _ _ (words c.in_ok-comparison.inner.now) _ c.in_ok-comparison.comparison c.in_ok-left.left c.in_ok-right.right c.in_ok-left-2.left c.in_ok-right-2.right c.in_default.ensures.split c.in_ok-left.ensures.found
+    compared_only _ _ _
+    (words c.in_ok-comparison.inner.now) _ c.in_ok-comparison.comparison c.in_ok-left.left c.in_ok-right.right c.in_ok-left-2.left
+    c.in_ok-right-2.right c.in_default.ensures.split c.in_ok-left.ensures.found
     (rw c.in_ok-comparison.ensures.ok_part at c.split_comparison.ensures.split) c.in_ok-right.ensures.found c.in_ok-left-2.ensures.ok c.in_ok-right-2.ensures.ok

@@ -10,7 +10,9 @@ use Rattle.alma_front.proofs.condition.items.Goals as goal
 pub returns-in_err-first-clause-refused : goal.returns-in_err-first-clause-refused
 returns-in_err-first-clause-refused c =
     let p = err_from_is_err_and c.from_residual.result c.from_residual.ensures.1 in
-    rw (p.1, p.2) (refused_from (IsItem c.args.variables.now (words c.args.tokens.now)) EndsSum _ _ c.in_err-first.field-0.0 (items_never _ _) c.in_err-first.ensures.refused)
+    rw (p.1, p.2)
+    (refused_from (IsItem c.args.variables.now (words c.args.tokens.now)) EndsSum _ _ c.in_err-first.field-0.0
+    (items_never _ _) c.in_err-first.ensures.refused)
 
 -- src/condition.rt:97:5
 pub loop-inner-init : goal.loop-inner-init
@@ -29,6 +31,7 @@ returns-in_err-item-clause-refused c =
 -- src/condition.rt:97:5
 pub loop-inner-preserved : goal.loop-inner-preserved
 loop-inner-preserved c = record {
-  read = rw c.in_ok-push-2.ensures.items (rw items_added (items_turn _ _ _ _ _ _ _ c.loop-inner.invariant.read c.in-Some.ensures.skipped c.in_ok-item.ensures.found));
+  read = rw c.in_ok-push-2.ensures.items
+      (rw items_added (items_turn _ _ _ _ _ _ _ c.loop-inner.invariant.read c.in-Some.ensures.skipped c.in_ok-item.ensures.found));
   shorter = omega (arith, c.in-Some.ensures.shorter, c.in_ok-item.ensures.shorter, c.loop-inner.invariant.shorter);
 }

@@ -8,7 +8,8 @@ use Rattle.alma_front.proofs.sum.+sums.Goals as goal
 -- src/sum.rt:120:5
 pub factors-loop-op-preserved : goal.factors-loop-op-preserved
 factors-loop-op-preserved t c = record {
-  read = rw c.in_ok-push.ensures.items (rw links_added (factors_turn _ _ _ _ _ _ _ _ c.loop-op.invariant.read c.in-Some.ensures.split c.in_ok-operand.ensures.found));
+  read = rw c.in_ok-push.ensures.items
+      (rw links_added (factors_turn _ _ _ _ _ _ _ _ c.loop-op.invariant.read c.in-Some.ensures.split c.in_ok-operand.ensures.found));
   no_longer = omega (arith, c.in-Some.ensures.shorter, c.in_ok-operand.ensures.shorter, c.loop-op.invariant.no_longer);
 }
 
@@ -19,13 +20,15 @@ factors-returns-clause-found t c = factors_end _ _ _ _ c.loop-op.invariant.read 
 -- src/sum.rt:95:9
 pub operand-returns-in-Some-clause-found : goal.operand-returns-in-Some-clause-found
 operand-returns-in-Some-clause-found t c =
-    number_only _ _ _ c.in-Some.digits.now c.in_ok-value.value c.number_value.result c.in-Some.ensures.split c.number_value.ensures.value c.number_value.ensures.small c.in_ok-value.ensures.ok_part
+    number_only _ _ _ c.in-Some.digits.now c.in_ok-value.value c.number_value.result c.in-Some.ensures.split c.number_value.ensures.value
+    c.number_value.ensures.small c.in_ok-value.ensures.ok_part
 
 -- src/sum.rt:99:9
 pub operand-returns-in-Some-split_name-clause-found :
     goal.operand-returns-in-Some-split_name-clause-found
 operand-returns-in-Some-split_name-clause-found t c =
-    name_only _ _ _ c.in-Some-split_name.name.now c.in_ok-slot.slot c.slot.result c.desig_of_slot.result c.in-Some-split_name.ensures.split c.slot.ensures c.in_ok-slot.ensures.ok_part c.desig_of_slot.ensures
+    name_only _ _ _ c.in-Some-split_name.name.now c.in_ok-slot.slot c.slot.result c.desig_of_slot.result c.in-Some-split_name.ensures.split
+    c.slot.ensures c.in_ok-slot.ensures.ok_part c.desig_of_slot.ensures
 
 -- src/sum.rt:103:16
 pub operand-returns-in_err-rest-clause-refused : goal.operand-returns-in_err-rest-clause-refused
@@ -58,7 +61,8 @@ sum-returns-in_err-links-clause-refused t c =
 -- src/sum.rt:166:1
 pub sum-returns-clause-found : goal.sum-returns-clause-found
 sum-returns-clause-found t c =
-    sum_only _ _ _ _ _ _ _ _ _ c.split_sign-negated.ensures.sign c.split_sign-negated.ensures.alone c.in_ok-first.ensures.found c.in_ok-links.ensures.found c.in_ok-chain.ensures.found
+    sum_only _ _ _ _ _ _ _ _ _ c.split_sign-negated.ensures.sign c.split_sign-negated.ensures.alone c.in_ok-first.ensures.found
+    c.in_ok-links.ensures.found c.in_ok-chain.ensures.found
 
 -- src/sum.rt:158:33
 pub terms-returns-in_err-operand-clause-refused : goal.terms-returns-in_err-operand-clause-refused
@@ -70,7 +74,8 @@ terms-returns-in_err-operand-clause-refused t c =
 -- src/sum.rt:157:5
 pub terms-loop-op-preserved : goal.terms-loop-op-preserved
 terms-loop-op-preserved t c = record {
-  read = rw c.in_ok-push.ensures.items (rw links_added (terms_turn _ _ _ _ _ _ _ _ c.loop-op.invariant.read c.in-Some.ensures.split c.in_ok-operand.ensures.found));
+  read = rw c.in_ok-push.ensures.items
+      (rw links_added (terms_turn _ _ _ _ _ _ _ _ c.loop-op.invariant.read c.in-Some.ensures.split c.in_ok-operand.ensures.found));
   no_longer = omega (arith, c.in-Some.ensures.shorter, c.in_ok-operand.ensures.shorter, c.loop-op.invariant.no_longer);
 }
 
