@@ -11,4 +11,6 @@ pub use driver::alma;
 pub use words::{Request, WordsError, read_words};
 
 #[cfg(test)]
+mod examples;
+#[cfg(test)]
 mod tests;
