@@ -1,4 +1,6 @@
 // The kinds of tokens.
+ghost use Rattle.std.specs.Prelude.{◌≡◌, nat_eq};
+ghost use Rattle.alma_tree.specs.Kinds.{code};
 
 /// The kind of a token: a name, a number, a literal, a symbol or a reserved word.
 #[derive(Clone, Copy, Debug, PartialEq, Eq)]
@@ -89,4 +91,13 @@ pub enum Kind {
     While,
     Write,
     Writeln,
+}
+
+impl Kind {
+    /// Whether the two are one kind.
+    pub fn is(self, other: Kind) -> bool
+        ensures same_code { result ≡ nat_eq (code self) (code other) }
+    {
+        self as u8 == other as u8
+    }
 }

@@ -1,0 +1,5 @@
+pub mod Depth
+pub mod Kinds
+pub mod Spelling
+pub mod Tree
+pub mod View
