@@ -1,0 +1,49 @@
+-- What is proved of the grammar.
+use Rattle.std.specs.Prelude.{◌≡◌, ◌≤◌, ◌<◌, true, false, List, [], ◌∷◌, ◌++◌, take}
+use Rattle.alma_tree.specs.declared.kind.Kind.{Kind}
+use Rattle.alma_tree.specs.Tree.{Module}
+use Rattle.alma_tree.specs.Spelling.{spelling}
+use Rattle.alma_tree.specs.Depth.{depth}
+use Rattle.alma_grammar.specs.Parts.{whole}
+use Rattle.alma_grammar.specs.Reading.{reading, End, done, unexpected, too_deep}
+use Rattle.alma_grammar.specs.Filling.{WhereSome, open_after, finish}
+
+-- Each tree's spelling is read to its end.
+abbrev pub EachTreeIsRead : Type 0
+EachTreeIsRead = (t : Module) → reading false (spelling t) 0 whole ≡ done
+
+-- The tokens read so far, followed by the shortest rest of each part that is still open, are the spelling of a tree.
+abbrev pub EachFrontIsFinished : Type 0
+EachFrontIsFinished = (ks : List Kind) → WhereSome (open_after ks whole) (λ parts. (t : Module) × (spelling t ≡ ks ++ finish parts))
+
+-- no tree's spelling goes on with the next token, or ends where none is left
+abbrev pub Stops : (front rest : List Kind) → Type 0
+Stops front [] = (t : Module) → spelling t ≡ front → ⊥
+Stops front (k ∷ rest) = (t : Module) (more : List Kind) → spelling t ≡ front ++ (k ∷ more) → ⊥
+
+-- some tree's spelling begins with these tokens
+abbrev pub Begins : List Kind → Type 0
+Begins front = (t : Module) × (more : List Kind) × (spelling t ≡ front ++ more)
+
+-- Where reading ends at an unexpected token, some tree's spelling begins with the tokens before it, and none with them and it.
+abbrev pub ExactPlace : Type 0
+ExactPlace = (ks rest : List Kind) → reading true ks 0 whole ≡ unexpected rest
+  → (front : List Kind) × (ks ≡ front ++ rest) × Stops front rest × Begins front
+
+-- where reading ends so, how deep the tokens are that were read, and those with the next one
+abbrev pub HasDepth : List Kind → End → Type 0
+HasDepth ks done = depth ks ≤ 100
+HasDepth ks (unexpected rest) = (front : List Kind) × (ks ≡ front ++ rest) × (depth front ≤ 100)
+HasDepth ks (too_deep rest) = (front : List Kind) × (ks ≡ front ++ rest) × (depth front ≤ 100) × (100 < depth (front ++ take 1 rest))
+
+-- The depth passes 100 at no token before the one that is refused, and it passes 100 there where that is too deep.
+abbrev pub ExactDepth : Type 0
+ExactDepth = (ks : List Kind) → HasDepth ks (reading true ks 0 whole)
+
+-- Where all is read, the tokens are the spelling of a tree.
+abbrev pub EachProgramIsRead : Type 0
+EachProgramIsRead = (ks : List Kind) → reading true ks 0 whole ≡ done → (t : Module) × (spelling t ≡ ks)
+
+-- No two trees have one spelling.
+abbrev pub OneSpelling : Type 0
+OneSpelling = (t u : Module) → spelling t ≡ spelling u → t ≡ u

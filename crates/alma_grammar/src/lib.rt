@@ -1,0 +1,6 @@
+//! The grammar: which lists of kinds are programs, and the laws of that.
+#![tactic(auto)]
+
+mod laws;
+
+pub use laws::{each_front_is_finished, each_tree_is_read};
