@@ -1,0 +1,4 @@
+pub mod Ends
+pub mod ReadModule
+pub mod ReadPhrases
+pub mod ReadTypes

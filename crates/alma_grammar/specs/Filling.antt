@@ -1,5 +1,5 @@
 -- What may fill the parts that are open, and the shortest that does.
-use Rattle.std.specs.Prelude.{◌≡◌, List, [], ◌∷◌, ◌++◌, Option, None, Some}
+use Rattle.std.specs.Prelude.{List, [], ◌∷◌, Option, None, Some}
 use Rattle.alma_tree.specs.declared.kind.Kind.{Kind}
 use Rattle.alma_tree.specs.declared.kind.Kind.TheVariants as kinds
 use Rattle.alma_tree.specs.declared.leaf.Sign.{Sign}
@@ -10,7 +10,7 @@ use Rattle.alma_grammar.specs.Parts.{Part, one, sign_part, factor_part, primary_
 use Rattle.alma_grammar.specs.Parts.{expr_tail, selector_tail, stmt_part, after_desig, stmt_tail, elsif_tail, else_part, by_part, orelse_tail}
 use Rattle.alma_grammar.specs.Parts.{returned_part, desig_tail, arm_part, arm_tail, high_part, label_tail, name_tail, array_tail, plain_part, plain_tail}
 use Rattle.alma_grammar.specs.Parts.{field_list_part, field_list_tail, const_tail, type_tail, var_tail, mode_part, formal_tail, params_part, params_inside}
-use Rattle.alma_grammar.specs.Parts.{result_part, decl_tail, body_part, next, whole}
+use Rattle.alma_grammar.specs.Parts.{result_part, decl_tail, body_part, next}
 
 -- what stands behind a designator that begins a statement
 pub data Behind : Type 0 where

@@ -28,7 +28,7 @@ Begins front = (t : Module) × (more : List Kind) × (spelling t ≡ front ++ mo
 -- Where reading ends at an unexpected token, some tree's spelling begins with the tokens before it, and none with them and it.
 abbrev pub ExactPlace : Type 0
 ExactPlace = (ks rest : List Kind) → reading true ks 0 whole ≡ unexpected rest
-  → (front : List Kind) × (ks ≡ front ++ rest) × Stops front rest × Begins front
+    → (front : List Kind) × (ks ≡ front ++ rest) × Stops front rest × Begins front
 
 -- where reading ends so, how deep the tokens are that were read, and those with the next one
 abbrev pub HasDepth : List Kind → End → Type 0

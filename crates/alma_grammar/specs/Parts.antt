@@ -306,7 +306,7 @@ begin_decl_tail kinds.Type = Some (type_tail ∷ decl_tail ∷ [])
 begin_decl_tail kinds.Var = Some (var_tail ∷ decl_tail ∷ [])
 begin_decl_tail kinds.Procedure =
     Some (one kinds.Name ∷ params_part ∷ result_part ∷ one kinds.Semicolon
-      ∷ block_parts (one kinds.End ∷ one kinds.Name ∷ one kinds.Semicolon ∷ decl_tail ∷ []))
+    ∷ block_parts (one kinds.End ∷ one kinds.Name ∷ one kinds.Semicolon ∷ decl_tail ∷ []))
 begin_decl_tail _ = None
 
 abbrev pub begin_body : Kind → Option (List Part)

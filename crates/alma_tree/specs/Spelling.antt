@@ -281,7 +281,7 @@ abbrev mutual
   spell_decl (var_decl entries) rest = kinds.Var ∷ spell_var_tail entries rest
   spell_decl (procedure p r b) rest =
       kinds.Procedure ∷ kinds.Name ∷ spell_params p (spell_result_name r
-        (kinds.Semicolon ∷ spell_block b (kinds.End ∷ kinds.Name ∷ kinds.Semicolon ∷ rest)))
+      (kinds.Semicolon ∷ spell_block b (kinds.End ∷ kinds.Name ∷ kinds.Semicolon ∷ rest)))
 
 -- the spelling of a tree
 abbrev pub spelling : Module → List Kind

@@ -11,6 +11,7 @@ pub use kind::Kind;
 pub use leaf::{AddOperator, Leaf, Mode, MulOperator, Name, Names, Relation, Sign};
 pub use module::{Block, ConstEntry, Decl, Formal, Formals, Module, Params, TypeEntry, VarEntry};
 pub use phrase::{
-    AddLink, Args, Arm, Compared, Desig, Elsif, Expr, Exprs, Factor, Label, MulLink, Primary, Selector, Simple, Stmt, Stmts, Term,
+    AddLink, Args, Arm, Compared, Desig, Elsif, Expr, Exprs, Factor, Label, MulLink, Primary,
+    Selector, Simple, Stmt, Stmts, Term,
 };
 pub use type_node::{Arrays, Dimensions, FieldList, PlainType, TypeNode};

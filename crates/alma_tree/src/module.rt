@@ -26,13 +26,29 @@ pub struct Block {
 #[derive(Drop)]
 pub enum Decl {
     /// `CONST { Name "=" Expr ";" }`
-    Const { node: u32, entries: Vec<ConstEntry> },
+    Const {
+        node: u32,
+        entries: Vec<ConstEntry>,
+    },
     /// `TYPE { Name "=" TypeNode ";" }`
-    Type { node: u32, entries: Vec<TypeEntry> },
+    Type {
+        node: u32,
+        entries: Vec<TypeEntry>,
+    },
     /// `VAR { Names ":" TypeNode ";" }`
-    Var { node: u32, entries: Vec<VarEntry> },
+    Var {
+        node: u32,
+        entries: Vec<VarEntry>,
+    },
     /// `PROCEDURE Name [ Params ] [ ":" Name ] ";" Block END Name ";"`
-    Procedure { node: u32, name: Name, params: Option<Params>, result: Option<Name>, block: Block, end_name: Name },
+    Procedure {
+        node: u32,
+        name: Name,
+        params: Option<Params>,
+        result: Option<Name>,
+        block: Block,
+        end_name: Name,
+    },
 }
 
 /// `Name "=" Expr ";"`, no node of its own.

@@ -14,37 +14,103 @@ pub struct Stmts {
 #[cycle(phrase)]
 #[derive(Drop)]
 pub enum Stmt {
-    Nothing { node: u32 },
+    Nothing {
+        node: u32,
+    },
     /// `Desig ":=" Expr`
-    Assign { node: u32, target: Desig, value: Expr },
+    Assign {
+        node: u32,
+        target: Desig,
+        value: Expr,
+    },
     /// `Expr`
-    Value { node: u32, value: Expr },
+    Value {
+        node: u32,
+        value: Expr,
+    },
     /// `IF Expr THEN Stmts { ELSIF Expr THEN Stmts } [ ELSE Stmts ] END`
-    If { node: u32, test: Expr, then: Stmts, elsifs: Vec<Elsif>, otherwise: Option<Stmts> },
+    If {
+        node: u32,
+        test: Expr,
+        then: Stmts,
+        elsifs: Vec<Elsif>,
+        otherwise: Option<Stmts>,
+    },
     /// `WHILE Expr DO Stmts END`
-    While { node: u32, test: Expr, body: Stmts },
+    While {
+        node: u32,
+        test: Expr,
+        body: Stmts,
+    },
     /// `REPEAT Stmts UNTIL Expr`
-    Repeat { node: u32, body: Stmts, test: Expr },
+    Repeat {
+        node: u32,
+        body: Stmts,
+        test: Expr,
+    },
     /// `FOR Name ":=" Expr TO Expr [ BY Expr ] DO Stmts END`
-    For { node: u32, variable: Name, from: Expr, to: Expr, by: Option<Expr>, body: Stmts },
+    For {
+        node: u32,
+        variable: Name,
+        from: Expr,
+        to: Expr,
+        by: Option<Expr>,
+        body: Stmts,
+    },
     /// `SOME Name ":=" Expr TO Expr DO Stmts END`
-    Some { node: u32, variable: Name, from: Expr, to: Expr, body: Stmts },
+    Some {
+        node: u32,
+        variable: Name,
+        from: Expr,
+        to: Expr,
+        body: Stmts,
+    },
     /// `CASE Expr OF Arm { "|" Arm } [ ELSE Stmts ] END`
-    Case { node: u32, value: Expr, first: Box<Arm>, more: Vec<Arm>, otherwise: Option<Stmts> },
+    Case {
+        node: u32,
+        value: Expr,
+        first: Box<Arm>,
+        more: Vec<Arm>,
+        otherwise: Option<Stmts>,
+    },
     /// `EITHER Stmts { ORELSE Stmts } END`
-    Either { node: u32, first: Stmts, more: Vec<Stmts> },
+    Either {
+        node: u32,
+        first: Stmts,
+        more: Vec<Stmts>,
+    },
     /// `FORALL Stmts DO Stmts END`
-    Forall { node: u32, choice: Stmts, body: Stmts },
+    Forall {
+        node: u32,
+        choice: Stmts,
+        body: Stmts,
+    },
     /// `COMMIT Stmts END`
-    Commit { node: u32, body: Stmts },
+    Commit {
+        node: u32,
+        body: Stmts,
+    },
     /// `RETURN [ Expr ]`
-    Return { node: u32, value: Option<Expr> },
+    Return {
+        node: u32,
+        value: Option<Expr>,
+    },
     /// `READ "(" Desig { "," Desig } ")"`
-    Read { node: u32, first: Desig, more: Vec<Desig> },
+    Read {
+        node: u32,
+        first: Desig,
+        more: Vec<Desig>,
+    },
     /// `WRITE "(" Expr { "," Expr } ")"`
-    Write { node: u32, items: Exprs },
+    Write {
+        node: u32,
+        items: Exprs,
+    },
     /// `WRITELN [ "(" [ Expr { "," Expr } ] ")" ]`
-    Writeln { node: u32, items: Option<Args> },
+    Writeln {
+        node: u32,
+        items: Option<Args>,
+    },
 }
 
 /// `ELSIF Expr THEN Stmts`, no node of its own.
@@ -59,9 +125,16 @@ pub struct Elsif {
 #[cycle(phrase)]
 #[derive(Drop)]
 pub enum Arm {
-    Empty { node: u32 },
+    Empty {
+        node: u32,
+    },
     /// `Label { "," Label } ":" Stmts`
-    Labelled { node: u32, first: Label, more: Vec<Label>, body: Stmts },
+    Labelled {
+        node: u32,
+        first: Label,
+        more: Vec<Label>,
+        body: Stmts,
+    },
 }
 
 /// `Expr [ ".." Expr ]`
@@ -138,18 +211,40 @@ pub enum Factor {
 #[cycle(phrase)]
 #[derive(Drop)]
 pub enum Primary {
-    Number { node: u32, number: Leaf },
-    Literal { node: u32, literal: Leaf },
+    Number {
+        node: u32,
+        number: Leaf,
+    },
+    Literal {
+        node: u32,
+        literal: Leaf,
+    },
     /// `Desig [ "(" [ Expr { "," Expr } ] ")" ]`
-    Desig { node: u32, desig: Desig, args: Option<Args> },
+    Desig {
+        node: u32,
+        desig: Desig,
+        args: Option<Args>,
+    },
     /// `"(" Stmts ")"`
-    Paren { node: u32, body: Box<Stmts> },
+    Paren {
+        node: u32,
+        body: Box<Stmts>,
+    },
     /// `KNOWN "(" Desig ")"`
-    Known { node: u32, desig: Desig },
+    Known {
+        node: u32,
+        desig: Desig,
+    },
     /// `ORD "(" Expr ")"`
-    Ord { node: u32, value: Box<Expr> },
+    Ord {
+        node: u32,
+        value: Box<Expr>,
+    },
     /// `CHR "(" Expr ")"`
-    Chr { node: u32, value: Box<Expr> },
+    Chr {
+        node: u32,
+        value: Box<Expr>,
+    },
 }
 
 /// `"(" [ Expr { "," Expr } ] ")"`, no node of its own.

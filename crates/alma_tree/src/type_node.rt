@@ -32,20 +32,40 @@ pub struct Dimensions {
 #[cycle(types)]
 #[derive(Drop)]
 pub enum PlainType {
-    Named { node: u32, name: Name },
+    Named {
+        node: u32,
+        name: Name,
+    },
     /// `"(" Names ")"`
-    Listed { node: u32, names: Names },
+    Listed {
+        node: u32,
+        names: Names,
+    },
     /// `"[" Expr ".." Expr "]"`
-    Subrange { node: u32, low: Expr, high: Expr },
+    Subrange {
+        node: u32,
+        low: Expr,
+        high: Expr,
+    },
     /// `RECORD FieldList { ";" FieldList } END`
-    Record { node: u32, first: Box<FieldList>, more: Vec<FieldList> },
+    Record {
+        node: u32,
+        first: Box<FieldList>,
+        more: Vec<FieldList>,
+    },
 }
 
 /// Fields of one type, or nothing.
 #[cycle(types)]
 #[derive(Drop)]
 pub enum FieldList {
-    Empty { node: u32 },
+    Empty {
+        node: u32,
+    },
     /// `Names ":" TypeNode`
-    Fields { node: u32, names: Names, type_node: TypeNode },
+    Fields {
+        node: u32,
+        names: Names,
+        type_node: TypeNode,
+    },
 }

@@ -1,4 +1,4 @@
-use Rattle.std.proofs.Common.{◌≡◌, nat_eq, refl}
+use Rattle.std.proofs.Common.{refl}
 use Rattle.alma_tree.proofs.Codes.{tag_is_code}
 use Rattle.alma_tree.proofs.kind.Kind.is.Goals as goal
 
