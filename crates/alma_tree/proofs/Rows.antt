@@ -105,7 +105,7 @@ factors_kept v =
 
 orelses_row : (n : _) (row : dt.Row_of-Stmts n) → view.view_orelses row ≡ view.orelses_of (dt.items-the_row-Stmts n row)
 orelses_row n dt.end_of-Stmts = refl
-orelses_row n (dt.more_of-Stmts m b s shape row rest) = 
+orelses_row n (dt.more_of-Stmts m b s shape row rest) =
     ap (λ x. tree.more_orelse (tree.stmts (view.view_stmt s) x) (view.view_orelses rest)) (stmts_shown shape row)
     ∙ ap (tree.more_orelse (tree.stmts (view.view_stmt s) (view.stmts_of (da.TheBlock.shown-the_row-Stmt-1 shape row).items))) (orelses_row _ rest)
 
@@ -115,7 +115,7 @@ orelses_kept v =
 
 desigs_row : (n : _) (row : dt.Row_of-Desig n) → view.view_desigs row ≡ view.desigs_of (dt.items-the_row-Desig n row)
 desigs_row n dt.end_of-Desig = refl
-desigs_row n (dt.more_of-Desig m l shape row rest) = 
+desigs_row n (dt.more_of-Desig m l shape row rest) =
     ap (λ x. tree.more_desig (tree.desig x) (view.view_desigs rest)) (selectors_shown shape row)
     ∙ ap (tree.more_desig (tree.desig (view.selectors_of (da.TheBlock.shown-the_row-Selector-2 shape row).items))) (desigs_row _ rest)
 
@@ -125,11 +125,11 @@ desigs_kept v =
 
 elsifs_row : (n : _) (row : dt.Row_of-Elsif n) → view.view_elsifs row ≡ view.elsifs_of (dt.items-the_row-Elsif n row)
 elsifs_row n dt.end_of-Elsif = refl
-elsifs_row n (dt.more_of-Elsif (df.Elsif' e m b s shape row) rest) = 
+elsifs_row n (dt.more_of-Elsif (df.Elsif' e m b s shape row) rest) =
     rw (df.outs-Elsif' e m b s shape row) (
-      ap (λ x. tree.more_elsif (view.view_expr e) (tree.stmts (view.view_stmt s) x) (view.view_elsifs rest)) (stmts_shown shape row)
-      ∙ ap (tree.more_elsif (view.view_expr e) (tree.stmts (view.view_stmt s) (view.stmts_of (da.TheBlock.shown-the_row-Stmt-1 shape row).items)))
-        (elsifs_row _ rest))
+    ap (λ x. tree.more_elsif (view.view_expr e) (tree.stmts (view.view_stmt s) x) (view.view_elsifs rest)) (stmts_shown shape row)
+    ∙ ap (tree.more_elsif (view.view_expr e) (tree.stmts (view.view_stmt s) (view.stmts_of (da.TheBlock.shown-the_row-Stmt-1 shape row).items)))
+    (elsifs_row _ rest))
 
 pub elsifs_kept : (v : Vec df.Elsif Global) → view.view_elsifs (da.TheBlock.hidden-the_row-Elsif-3 v) ≡ view.elsifs_of v.items
 elsifs_kept v =
@@ -154,7 +154,7 @@ high_kept None = refl
 high_kept (Some e) = refl
 
 compared_held : (b : _) (c : dc.Compared)
-  → view.view_compared (de.Expr-right-Some' b c) ≡ tree.compared (dc.out-Compared c).relation (view.view_simple (dc.out-Compared c).right)
+    → view.view_compared (de.Expr-right-Some' b c) ≡ tree.compared (dc.out-Compared c).relation (view.view_simple (dc.out-Compared c).right)
 compared_held b (dc.Compared' r s) = rw (dc.outs-Compared' r s) refl
 
 pub compared_kept : (x : Option (Box dc.Compared Global)) → view.view_compared (de.back-Expr-right x) ≡ view.compared_of x
@@ -184,10 +184,10 @@ pub label_rolled : (r : _) → view.view_label (dl.roll-Label r) ≡ tree.label 
 label_rolled r = ap view.view_label (dl.rolls-Label' r) ∙ ap (tree.label (view.view_expr r.low)) (high_kept r.high)
 
 pub labelled_laid : (n : _) (l : dl.Label) (more : Vec dl.Label Global) (s : ds.Stmts)
-  → view.view_arm (da.Labelled n l more s) ≡ tree.arm (view.view_label l) (view.labels_of more.items) (view.view_stmts s)
+    → view.view_arm (da.Labelled n l more s) ≡ tree.arm (view.view_label l) (view.labels_of more.items) (view.view_stmts s)
 labelled_laid n l more s =
     ap (λ x. tree.arm (view.view_label l) x (tree.stmts (view.view_stmt s.first.value) (view.view_stmts_row (da.TheBlock.hidden-the_row-Stmt-1 s.more))))
-      (labels_kept more)
+    (labels_kept more)
     ∙ ap (tree.arm (view.view_label l) (view.labels_of more.items)) (stmts_laid s)
 
 pub named_laid : (n : _) (d : dd.Desig) (a : Option dg.Args) → view.view_primary (dp.Desig n d a) ≡ tree.named (view.view_desig d) (view.args_of a)
@@ -213,10 +213,10 @@ pub assign_laid : (n : _) (d : dd.Desig) (e : de.Expr) → view.view_stmt (dt.As
 assign_laid n d e = ap (λ r. tree.assign (tree.desig r) (view.view_expr e)) (selectors_kept d.more)
 
 pub if_laid : (n : _) (e : de.Expr) (s : ds.Stmts) (more : Vec df.Elsif Global) (other : Option ds.Stmts)
-  → view.view_stmt (dt.If n e s more other) ≡ tree.if_stmt (view.view_expr e) (view.view_stmts s) (view.elsifs_of more.items) (view.else_of other)
+    → view.view_stmt (dt.If n e s more other) ≡ tree.if_stmt (view.view_expr e) (view.view_stmts s) (view.elsifs_of more.items) (view.else_of other)
 if_laid n e s more other =
     ap (λ x. tree.if_stmt (view.view_expr e) x (view.view_elsifs (da.TheBlock.hidden-the_row-Elsif-3 more)) (view.view_else (dt.back-Stmt-If-4 other)))
-      (stmts_laid s)
+    (stmts_laid s)
     ∙ ap (λ x. tree.if_stmt (view.view_expr e) (view.view_stmts s) x (view.view_else (dt.back-Stmt-If-4 other))) (elsifs_kept more)
     ∙ ap (tree.if_stmt (view.view_expr e) (view.view_stmts s) (view.elsifs_of more.items)) (else_kept other)
 
@@ -227,25 +227,25 @@ pub repeat_laid : (n : _) (s : ds.Stmts) (e : de.Expr) → view.view_stmt (dt.Re
 repeat_laid n s e = ap (λ x. tree.repeat_stmt x (view.view_expr e)) (stmts_laid s)
 
 pub for_laid : (n : _) (l : Name) (low high : de.Expr) (by : Option de.Expr) (s : ds.Stmts)
-  → view.view_stmt (dt.For n l low high by s)
-  ≡ tree.for_stmt (view.view_expr low) (view.view_expr high) (view.by_of by) (view.view_stmts s)
+    → view.view_stmt (dt.For n l low high by s)
+    ≡ tree.for_stmt (view.view_expr low) (view.view_expr high) (view.by_of by) (view.view_stmts s)
 for_laid n l low high by s =
     ap (tree.for_stmt (view.view_expr low) (view.view_expr high) (view.view_by (dl.back-Stmt-For-4 by))) (stmts_laid s)
     ∙ ap (λ x. tree.for_stmt (view.view_expr low) (view.view_expr high) x (view.view_stmts s)) (by_kept by)
 
 pub some_laid : (n : _) (l : Name) (low high : de.Expr) (s : ds.Stmts)
-  → view.view_stmt (dt.Some n l low high s) ≡ tree.some_stmt (view.view_expr low) (view.view_expr high) (view.view_stmts s)
+    → view.view_stmt (dt.Some n l low high s) ≡ tree.some_stmt (view.view_expr low) (view.view_expr high) (view.view_stmts s)
 some_laid n l low high s = ap (tree.some_stmt (view.view_expr low) (view.view_expr high)) (stmts_laid s)
 
 pub case_laid : (n : _) (e : de.Expr) (a : Box da.Arm Global) (more : Vec da.Arm Global) (other : Option ds.Stmts)
-  → view.view_stmt (dt.Case n e a more other)
-  ≡ tree.case_stmt (view.view_expr e) (view.view_arm a.value) (view.arms_of more.items) (view.else_of other)
+    → view.view_stmt (dt.Case n e a more other)
+    ≡ tree.case_stmt (view.view_expr e) (view.view_arm a.value) (view.arms_of more.items) (view.else_of other)
 case_laid n e a more other =
     ap (λ x. tree.case_stmt (view.view_expr e) (view.view_arm a.value) x (view.view_else (dt.back-Stmt-If-4 other))) (arms_kept more)
     ∙ ap (tree.case_stmt (view.view_expr e) (view.view_arm a.value) (view.arms_of more.items)) (else_kept other)
 
 pub either_laid : (n : _) (s : ds.Stmts) (more : Vec ds.Stmts Global)
-  → view.view_stmt (dt.Either n s more) ≡ tree.either_stmt (view.view_stmts s) (view.orelses_of more.items)
+    → view.view_stmt (dt.Either n s more) ≡ tree.either_stmt (view.view_stmts s) (view.orelses_of more.items)
 either_laid n s more =
     ap (λ x. tree.either_stmt x (view.view_orelses (da.TheBlock.hidden-the_row-Stmts-5 more))) (stmts_laid s)
     ∙ ap (tree.either_stmt (view.view_stmts s)) (orelses_kept more)
@@ -253,7 +253,7 @@ either_laid n s more =
 pub forall_laid : (n : _) (s t : ds.Stmts) → view.view_stmt (dt.Forall n s t) ≡ tree.forall_stmt (view.view_stmts s) (view.view_stmts t)
 forall_laid n s t =
     ap (λ x. tree.forall_stmt x (tree.stmts (view.view_stmt t.first.value) (view.view_stmts_row (da.TheBlock.hidden-the_row-Stmt-1 t.more))))
-      (stmts_laid s)
+    (stmts_laid s)
     ∙ ap (tree.forall_stmt (view.view_stmts s)) (stmts_laid t)
 
 pub commit_laid : (n : _) (s : ds.Stmts) → view.view_stmt (dt.Commit n s) ≡ tree.commit_stmt (view.view_stmts s)
@@ -263,7 +263,7 @@ pub return_laid : (n : _) (e : Option de.Expr) → view.view_stmt (dt.Return n e
 return_laid n e = ap tree.return_stmt (returned_kept e)
 
 pub read_laid : (n : _) (d : dd.Desig) (more : Vec dd.Desig Global)
-  → view.view_stmt (dt.Read n d more) ≡ tree.read_stmt (view.view_desig d) (view.desigs_of more.items)
+    → view.view_stmt (dt.Read n d more) ≡ tree.read_stmt (view.view_desig d) (view.desigs_of more.items)
 read_laid n d more =
     ap (λ r. tree.read_stmt (tree.desig r) (view.view_desigs (da.TheBlock.hidden-the_row-Desig-6 more))) (selectors_kept d.more)
     ∙ ap (tree.read_stmt (view.view_desig d)) (desigs_kept more)
@@ -294,10 +294,10 @@ field_lists_kept v =
 
 dimensions_row : (n : _) (row : dz.Row_of-Dimensions n) → view.view_dimensions row ≡ view.dimensions_of (dz.items-the_row-Dimensions n row)
 dimensions_row n dz.end_of-Dimensions = refl
-dimensions_row n (dz.more_of-Dimensions p shape row rest) = 
+dimensions_row n (dz.more_of-Dimensions p shape row rest) =
     ap (λ x. tree.more_array (tree.dimensions (view.view_plain_type p) x) (view.view_dimensions rest)) (plains_shown shape row)
     ∙ ap (tree.more_array (tree.dimensions (view.view_plain_type p) (view.plains_of (dw.TheBlock.shown-the_row-PlainType-1 shape row).items)))
-      (dimensions_row _ rest)
+    (dimensions_row _ rest)
 
 pub dimensions_kept : (v : Vec dv.Dimensions Global) → view.view_dimensions (dw.TheBlock.hidden-the_row-Dimensions-2 v) ≡ view.dimensions_of v.items
 dimensions_kept v =
@@ -310,16 +310,16 @@ pub arrays_kept : (x : Option dz.Arrays) → view.view_arrays (dy.back-TypeNode-
 arrays_kept None = refl
 arrays_kept (Some (dz.Arrays' n p shape row shape' row')) =
     rw (dz.outs-Arrays' n p shape row shape' row') (
-      ap (λ x. tree.more_array (tree.dimensions (view.view_plain_type p) x) (view.view_dimensions row')) (plains_shown shape row)
-      ∙ ap (tree.more_array (tree.dimensions (view.view_plain_type p) (view.plains_of (dw.TheBlock.shown-the_row-PlainType-1 shape row).items)))
-        (dimensions_shown shape' row'))
+    ap (λ x. tree.more_array (tree.dimensions (view.view_plain_type p) x) (view.view_dimensions row')) (plains_shown shape row)
+    ∙ ap (tree.more_array (tree.dimensions (view.view_plain_type p) (view.plains_of (dw.TheBlock.shown-the_row-PlainType-1 shape row).items)))
+    (dimensions_shown shape' row'))
 
 pub type_rolled : (r : _) → view.view_type_node (dy.roll-TypeNode r) ≡ tree.type_node (view.arrays_of r.arrays) (view.view_plain_type r.element)
 type_rolled r =
     ap view.view_type_node (dy.rolls-TypeNode' r) ∙ ap (λ x. tree.type_node x (view.view_plain_type r.element)) (arrays_kept r.arrays)
 
 pub record_laid : (n : _) (f : Box dw.FieldList Global) (more : Vec dw.FieldList Global)
-  → view.view_plain_type (dq.Record n f more) ≡ tree.record_type (view.view_field_list f.value) (view.field_lists_of more.items)
+    → view.view_plain_type (dq.Record n f more) ≡ tree.record_type (view.view_field_list f.value) (view.field_lists_of more.items)
 record_laid n f more = ap (tree.record_type (view.view_field_list f.value)) (field_lists_kept more)
 
 -- ---- declarations
@@ -333,5 +333,5 @@ decls_kept v =
     decls_row _ (dh.TheBlock.hidden-the_row-Decl-0 v) ∙ ap view.decls_of (db.items_hidden-the_row-Decl-0 v)
 
 pub procedure_laid : (n : _) (l : Name) (p : Option Params) (r : Option Name) (b : db.Block) (e : Name)
-  → view.view_decl (dh.Procedure n l p r b e) ≡ tree.procedure (view.params_of p) (view.result_of r) (view.view_block b)
+    → view.view_decl (dh.Procedure n l p r b e) ≡ tree.procedure (view.params_of p) (view.result_of r) (view.view_block b)
 procedure_laid n l p r b e = ap (λ x. tree.procedure (view.params_of p) (view.result_of r) (tree.block x (view.body_of b.body))) (decls_kept b.decls)
