@@ -1,6 +1,7 @@
 //! The concrete tree of a source: what it is made of, and the kinds of the tokens that it stands for.
 #![tactic(auto)]
 
+mod bracket;
 mod kind;
 mod leaf;
 mod module;
@@ -11,6 +12,7 @@ mod spell_type;
 mod spell_word;
 mod type_node;
 
+pub use bracket::depth;
 pub use kind::Kind;
 pub use leaf::{AddOperator, Leaf, Mode, MulOperator, Name, Names, Relation, Sign};
 pub use module::{Block, ConstEntry, Decl, Formal, Formals, Module, Params, TypeEntry, VarEntry};
