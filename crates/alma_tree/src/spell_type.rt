@@ -12,7 +12,7 @@ use std::alloc::AllocError;
 fn push_name_tail(trees: &[Name], out: &mut Vec<Kind>) -> Result<(), AllocError>
     ensures pushed { OnOk result (Pushes out.old.items out.new.items (spell_name_tail (name_tail_of trees.now))) }
 {
-    for _ in trees {
+    for _name in trees {
         push(Kind::Comma, out)?;
         push(Kind::Name, out)?;
     }
