@@ -4,6 +4,10 @@ pub mod Ends
 pub mod Exact
 pub mod Finish
 pub mod Nesting
+pub mod Once
+pub mod OnceEnds
+pub mod OncePhrases
+pub mod OnceTypes
 pub mod Programs
 pub mod ReadModule
 pub mod ReadPhrases

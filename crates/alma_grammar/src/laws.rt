@@ -1,5 +1,5 @@
 // Laws of the grammar, as contracts of functions without work.
-ghost use Rattle.alma_grammar.specs.Laws.{EachFrontIsFinished, EachProgramIsRead, EachTreeIsRead, ExactDepth, ExactPlace};
+ghost use Rattle.alma_grammar.specs.Laws.{EachFrontIsFinished, EachProgramIsRead, EachTreeIsRead, ExactDepth, ExactPlace, OneSpelling};
 
 /// Each tree's spelling is read to its end, however deep.
 pub fn each_tree_is_read()
@@ -24,4 +24,9 @@ pub fn exact_place()
 /// The depth passes 100 at no token before the one that is refused, and it passes 100 there where that is too deep.
 pub fn exact_depth()
     ensures exact { ExactDepth }
+{}
+
+/// No two trees have one spelling, where the numbers of their nodes and leaves are left aside.
+pub fn one_spelling()
+    ensures once { OneSpelling }
 {}
