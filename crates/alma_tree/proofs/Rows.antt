@@ -1,7 +1,6 @@
 -- What a tree is, said of the vectors, options and boxes in it.
-use Rattle.std.proofs.Common.{◌≡◌, List, [], ◌∷◌, Option, None, Some, Box, Vec, Global, refl, ap, sym, ◌∙◌}
+use Rattle.std.proofs.Common.{◌≡◌, Option, None, Some, Box, Vec, Global, refl, ap, sym, ◌∙◌}
 use Rattle.alma_tree.specs.declared.leaf.Name.{Name}
-use Rattle.alma_tree.specs.declared.leaf.Names.{Names}
 use Rattle.alma_tree.specs.declared.phrase.Stmts as ds
 use Rattle.alma_tree.specs.declared.phrase.Stmt as dt
 use Rattle.alma_tree.specs.declared.phrase.Elsif as df
@@ -13,7 +12,6 @@ use Rattle.alma_tree.specs.declared.phrase.Simple as di
 use Rattle.alma_tree.specs.declared.phrase.AddLink as dk
 use Rattle.alma_tree.specs.declared.phrase.Term as dm
 use Rattle.alma_tree.specs.declared.phrase.MulLink as dn
-use Rattle.alma_tree.specs.declared.phrase.Factor as dr
 use Rattle.alma_tree.specs.declared.phrase.Primary as dp
 use Rattle.alma_tree.specs.declared.phrase.Args as dg
 use Rattle.alma_tree.specs.declared.phrase.Exprs as dx
@@ -26,13 +24,7 @@ use Rattle.alma_tree.specs.declared.type_node.PlainType as dq
 use Rattle.alma_tree.specs.declared.type_node.FieldList as dw
 use Rattle.alma_tree.specs.declared.module.Block as db
 use Rattle.alma_tree.specs.declared.module.Decl as dh
-use Rattle.alma_tree.specs.declared.module.ConstEntry.{ConstEntry}
-use Rattle.alma_tree.specs.declared.module.TypeEntry.{TypeEntry}
-use Rattle.alma_tree.specs.declared.module.VarEntry.{VarEntry}
 use Rattle.alma_tree.specs.declared.module.Params.{Params}
-use Rattle.alma_tree.specs.declared.module.Formals.{Formals}
-use Rattle.alma_tree.specs.declared.module.Formal.{Formal}
-use Rattle.alma_tree.specs.declared.module.Module.{Module}
 use Rattle.alma_tree.specs.Tree as tree
 use Rattle.alma_tree.specs.View as view
 

@@ -4,7 +4,6 @@ use Rattle.std.specs.declared.boxed.Box.{Box}
 use Rattle.std.specs.declared.alloc.Global.{Global}
 use Rattle.alma_tree.specs.declared.leaf.Sign.{Sign}
 use Rattle.alma_tree.specs.declared.leaf.Mode.{Mode}
-use Rattle.alma_tree.specs.declared.leaf.Leaf.{Leaf}
 use Rattle.alma_tree.specs.declared.leaf.Name.{Name}
 use Rattle.alma_tree.specs.declared.leaf.Names.{Names}
 use Rattle.alma_tree.specs.declared.phrase.Stmts as ds
