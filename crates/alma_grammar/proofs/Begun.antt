@@ -23,7 +23,7 @@ use Rattle.alma_grammar.proofs.SameKind.{same_kind}
 abbrev pub Built : Part → Kind → List Part → List Part → Type 0
 Built p k rest parts =
     (f : Fills (parts ++ rest)) → (whole_part : Fill p) × (others : Fills rest)
-      × (spell_fill p whole_part (spell_fills rest others) ≡ k ∷ spell_fills (parts ++ rest) f)
+    × (spell_fill p whole_part (spell_fills rest others) ≡ k ∷ spell_fills (parts ++ rest) f)
 
 abbrev args_of : InsideArgs → tree.Args
 args_of closed_args = tree.empty_args
@@ -39,17 +39,17 @@ name_stmt s (used a fs ts r) =
     tree.value (tree.expr (tree.simple None (tree.term (tree.factor (tree.named (tree.desig s) a)) fs) ts) r)
 
 name_spelled : (s : tree.SelectorTail) (b : Behind) (rest : List Kind)
-  → spell_fill stmt_part (name_stmt s b) rest ≡ kinds.Name ∷ spell_fill selector_tail s (spell_fill after_desig b rest)
+    → spell_fill stmt_part (name_stmt s b) rest ≡ kinds.Name ∷ spell_fill selector_tail s (spell_fill after_desig b rest)
 name_spelled s (assigned e) rest = refl
 name_spelled s (used a fs ts r) rest = refl
 
 args_spelled : (i : InsideArgs) (rest : List Kind)
-  → spell_fill args_part (args_of i) rest ≡ kinds.OpenParen ∷ spell_fill args_inside i rest
+    → spell_fill args_part (args_of i) rest ≡ kinds.OpenParen ∷ spell_fill args_inside i rest
 args_spelled closed_args rest = refl
 args_spelled (filled_args es) rest = refl
 
 params_spelled : (i : InsideParams) (rest : List Kind)
-  → spell_fill params_part (params_of i) rest ≡ kinds.OpenParen ∷ spell_fill params_inside i rest
+    → spell_fill params_part (params_of i) rest ≡ kinds.OpenParen ∷ spell_fill params_inside i rest
 params_spelled closed_params rest = refl
 params_spelled (filled_params f) rest = refl
 
@@ -120,27 +120,50 @@ begun_args_inside kinds.Plus rest =
 begun_args_inside kinds.Minus rest =
     λ f. ((filled_args (tree.exprs (tree.expr (tree.simple (Some signs.Minus) (tree.term f.0 f.1.0) f.1.1.0) f.1.1.1.0) f.1.1.1.1.0)), f.1.1.1.1.1.1, refl)
 begun_args_inside kinds.Not rest =
-    λ f. ((filled_args (tree.exprs (tree.expr (tree.simple None (tree.term (tree.not_factor f.0) f.1.0) f.1.1.0) f.1.1.1.0) f.1.1.1.1.0)),
-      f.1.1.1.1.1.1, refl)
+    λ f. (
+      (filled_args (tree.exprs (tree.expr (tree.simple None (tree.term (tree.not_factor f.0) f.1.0) f.1.1.0) f.1.1.1.0) f.1.1.1.1.0)),
+      f.1.1.1.1.1.1,
+      refl,
+    )
 begun_args_inside kinds.Number rest =
     λ f. ((filled_args (tree.exprs (tree.expr (tree.simple None (tree.term (tree.factor tree.number) f.0) f.1.0) f.1.1.0) f.1.1.1.0)), f.1.1.1.1.1, refl)
 begun_args_inside kinds.Literal rest =
     λ f. ((filled_args (tree.exprs (tree.expr (tree.simple None (tree.term (tree.factor tree.literal) f.0) f.1.0) f.1.1.0) f.1.1.1.0)), f.1.1.1.1.1, refl)
 begun_args_inside kinds.Name rest =
-    λ f. ((filled_args (tree.exprs (tree.expr (tree.simple None (tree.term (tree.factor (tree.named (tree.desig f.0) f.1.0)) f.1.1.0) f.1.1.1.0) f.1.1.1.1.0) f.1.1.1.1.1.0)),
-      f.1.1.1.1.1.1.1, refl)
+    λ f. (
+      (filled_args (tree.exprs (tree.expr (tree.simple None (tree.term (tree.factor (tree.named (tree.desig f.0) f.1.0)) f.1.1.0) f.1.1.1.0)
+          f.1.1.1.1.0) f.1.1.1.1.1.0)),
+      f.1.1.1.1.1.1.1,
+      refl,
+    )
 begun_args_inside kinds.OpenParen rest =
-    λ f. ((filled_args (tree.exprs (tree.expr (tree.simple None (tree.term (tree.factor (tree.paren (tree.stmts f.0 f.1.0))) f.1.1.1.0) f.1.1.1.1.0) f.1.1.1.1.1.0) f.1.1.1.1.1.1.0)),
-      f.1.1.1.1.1.1.1.1, refl)
+    λ f. (
+      (filled_args (tree.exprs (tree.expr (tree.simple None (tree.term (tree.factor (tree.paren (tree.stmts f.0 f.1.0))) f.1.1.1.0) f.1.1.1.1.0)
+          f.1.1.1.1.1.0) f.1.1.1.1.1.1.0)),
+      f.1.1.1.1.1.1.1.1,
+      refl,
+    )
 begun_args_inside kinds.Known rest =
-    λ f. ((filled_args (tree.exprs (tree.expr (tree.simple None (tree.term (tree.factor (tree.known (tree.desig f.1.1.0))) f.1.1.1.1.0) f.1.1.1.1.1.0) f.1.1.1.1.1.1.0) f.1.1.1.1.1.1.1.0)),
-      f.1.1.1.1.1.1.1.1.1, refl)
+    λ f. (
+      (filled_args (tree.exprs (tree.expr (tree.simple None (tree.term (tree.factor (tree.known (tree.desig f.1.1.0))) f.1.1.1.1.0) f.1.1.1.1.1.0)
+          f.1.1.1.1.1.1.0) f.1.1.1.1.1.1.1.0)),
+      f.1.1.1.1.1.1.1.1.1,
+      refl,
+    )
 begun_args_inside kinds.Ord rest =
-    λ f. ((filled_args (tree.exprs (tree.expr (tree.simple None (tree.term (tree.factor (tree.ord (tree.expr (tree.simple f.1.0 (tree.term f.1.1.0 f.1.1.1.0) f.1.1.1.1.0) f.1.1.1.1.1.0))) f.1.1.1.1.1.1.1.0) f.1.1.1.1.1.1.1.1.0) f.1.1.1.1.1.1.1.1.1.0) f.1.1.1.1.1.1.1.1.1.1.0)),
-      f.1.1.1.1.1.1.1.1.1.1.1.1, refl)
+    λ f. (
+      (filled_args (tree.exprs (tree.expr (tree.simple None (tree.term (tree.factor (tree.ord (tree.expr (tree.simple f.1.0 (tree.term f.1.1.0
+          f.1.1.1.0) f.1.1.1.1.0) f.1.1.1.1.1.0))) f.1.1.1.1.1.1.1.0) f.1.1.1.1.1.1.1.1.0) f.1.1.1.1.1.1.1.1.1.0) f.1.1.1.1.1.1.1.1.1.1.0)),
+      f.1.1.1.1.1.1.1.1.1.1.1.1,
+      refl,
+    )
 begun_args_inside kinds.Chr rest =
-    λ f. ((filled_args (tree.exprs (tree.expr (tree.simple None (tree.term (tree.factor (tree.chr (tree.expr (tree.simple f.1.0 (tree.term f.1.1.0 f.1.1.1.0) f.1.1.1.1.0) f.1.1.1.1.1.0))) f.1.1.1.1.1.1.1.0) f.1.1.1.1.1.1.1.1.0) f.1.1.1.1.1.1.1.1.1.0) f.1.1.1.1.1.1.1.1.1.1.0)),
-      f.1.1.1.1.1.1.1.1.1.1.1.1, refl)
+    λ f. (
+      (filled_args (tree.exprs (tree.expr (tree.simple None (tree.term (tree.factor (tree.chr (tree.expr (tree.simple f.1.0 (tree.term f.1.1.0
+          f.1.1.1.0) f.1.1.1.1.0) f.1.1.1.1.1.0))) f.1.1.1.1.1.1.1.0) f.1.1.1.1.1.1.1.1.0) f.1.1.1.1.1.1.1.1.1.0) f.1.1.1.1.1.1.1.1.1.1.0)),
+      f.1.1.1.1.1.1.1.1.1.1.1.1,
+      refl,
+    )
 begun_args_inside _ rest = tt
 
 begun_expr_tail : (k : Kind) (rest : List Part) → WhereSome (begins expr_tail k) (Built expr_tail k rest)
@@ -151,57 +174,109 @@ begun_expr_tail _ rest = tt
 begun_selector_tail : (k : Kind) (rest : List Part) → WhereSome (begins selector_tail k) (Built selector_tail k rest)
 begun_selector_tail kinds.Dot rest = λ f. ((tree.more_selector tree.field f.1.0), f.1.1, refl)
 begun_selector_tail kinds.OpenBracket rest =
-    λ f. ((tree.more_selector (tree.index (tree.exprs (tree.expr (tree.simple f.0 (tree.term f.1.0 f.1.1.0) f.1.1.1.0) f.1.1.1.1.0) f.1.1.1.1.1.0)) f.1.1.1.1.1.1.1.0),
-      f.1.1.1.1.1.1.1.1, refl)
+    λ f. (
+      (tree.more_selector (tree.index (tree.exprs (tree.expr (tree.simple f.0 (tree.term f.1.0 f.1.1.0) f.1.1.1.0) f.1.1.1.1.0) f.1.1.1.1.1.0))
+          f.1.1.1.1.1.1.1.0),
+      f.1.1.1.1.1.1.1.1,
+      refl,
+    )
 begun_selector_tail _ rest = tt
 
 begun_stmt_part : (k : Kind) (rest : List Part) → WhereSome (begins stmt_part k) (Built stmt_part k rest)
 begun_stmt_part kinds.Name rest = λ f. ((name_stmt f.0 f.1.0), f.1.1, name_spelled f.0 f.1.0 _)
 begun_stmt_part kinds.If rest =
-    λ f. ((tree.if_stmt (tree.expr (tree.simple f.0 (tree.term f.1.0 f.1.1.0) f.1.1.1.0) f.1.1.1.1.0) (tree.stmts f.1.1.1.1.1.1.0 f.1.1.1.1.1.1.1.0) f.1.1.1.1.1.1.1.1.0 f.1.1.1.1.1.1.1.1.1.0),
-      f.1.1.1.1.1.1.1.1.1.1.1, refl)
+    λ f. (
+      (tree.if_stmt (tree.expr (tree.simple f.0 (tree.term f.1.0 f.1.1.0) f.1.1.1.0) f.1.1.1.1.0) (tree.stmts f.1.1.1.1.1.1.0 f.1.1.1.1.1.1.1.0)
+          f.1.1.1.1.1.1.1.1.0 f.1.1.1.1.1.1.1.1.1.0),
+      f.1.1.1.1.1.1.1.1.1.1.1,
+      refl,
+    )
 begun_stmt_part kinds.While rest =
-    λ f. ((tree.while_stmt (tree.expr (tree.simple f.0 (tree.term f.1.0 f.1.1.0) f.1.1.1.0) f.1.1.1.1.0) (tree.stmts f.1.1.1.1.1.1.0 f.1.1.1.1.1.1.1.0)),
-      f.1.1.1.1.1.1.1.1.1, refl)
+    λ f. (
+      (tree.while_stmt (tree.expr (tree.simple f.0 (tree.term f.1.0 f.1.1.0) f.1.1.1.0) f.1.1.1.1.0) (tree.stmts f.1.1.1.1.1.1.0 f.1.1.1.1.1.1.1.0)),
+      f.1.1.1.1.1.1.1.1.1,
+      refl,
+    )
 begun_stmt_part kinds.Repeat rest =
-    λ f. ((tree.repeat_stmt (tree.stmts f.0 f.1.0) (tree.expr (tree.simple f.1.1.1.0 (tree.term f.1.1.1.1.0 f.1.1.1.1.1.0) f.1.1.1.1.1.1.0) f.1.1.1.1.1.1.1.0)),
-      f.1.1.1.1.1.1.1.1, refl)
+    λ f. (
+      (tree.repeat_stmt (tree.stmts f.0 f.1.0) (tree.expr (tree.simple f.1.1.1.0 (tree.term f.1.1.1.1.0 f.1.1.1.1.1.0) f.1.1.1.1.1.1.0) f.1.1.1.1.1.1.1.0)),
+      f.1.1.1.1.1.1.1.1,
+      refl,
+    )
 begun_stmt_part kinds.For rest =
-    λ f. ((tree.for_stmt (tree.expr (tree.simple f.1.1.0 (tree.term f.1.1.1.0 f.1.1.1.1.0) f.1.1.1.1.1.0) f.1.1.1.1.1.1.0) (tree.expr (tree.simple f.1.1.1.1.1.1.1.1.0 (tree.term f.1.1.1.1.1.1.1.1.1.0 f.1.1.1.1.1.1.1.1.1.1.0) f.1.1.1.1.1.1.1.1.1.1.1.0) f.1.1.1.1.1.1.1.1.1.1.1.1.0) f.1.1.1.1.1.1.1.1.1.1.1.1.1.0 (tree.stmts f.1.1.1.1.1.1.1.1.1.1.1.1.1.1.1.0 f.1.1.1.1.1.1.1.1.1.1.1.1.1.1.1.1.0)),
-      f.1.1.1.1.1.1.1.1.1.1.1.1.1.1.1.1.1.1, refl)
+    λ f. (
+      (tree.for_stmt (tree.expr (tree.simple f.1.1.0 (tree.term f.1.1.1.0 f.1.1.1.1.0) f.1.1.1.1.1.0) f.1.1.1.1.1.1.0) (tree.expr (tree.simple
+          f.1.1.1.1.1.1.1.1.0 (tree.term f.1.1.1.1.1.1.1.1.1.0 f.1.1.1.1.1.1.1.1.1.1.0) f.1.1.1.1.1.1.1.1.1.1.1.0) f.1.1.1.1.1.1.1.1.1.1.1.1.0)
+          f.1.1.1.1.1.1.1.1.1.1.1.1.1.0 (tree.stmts f.1.1.1.1.1.1.1.1.1.1.1.1.1.1.1.0 f.1.1.1.1.1.1.1.1.1.1.1.1.1.1.1.1.0)),
+      f.1.1.1.1.1.1.1.1.1.1.1.1.1.1.1.1.1.1,
+      refl,
+    )
 begun_stmt_part kinds.Some rest =
-    λ f. ((tree.some_stmt (tree.expr (tree.simple f.1.1.0 (tree.term f.1.1.1.0 f.1.1.1.1.0) f.1.1.1.1.1.0) f.1.1.1.1.1.1.0) (tree.expr (tree.simple f.1.1.1.1.1.1.1.1.0 (tree.term f.1.1.1.1.1.1.1.1.1.0 f.1.1.1.1.1.1.1.1.1.1.0) f.1.1.1.1.1.1.1.1.1.1.1.0) f.1.1.1.1.1.1.1.1.1.1.1.1.0) (tree.stmts f.1.1.1.1.1.1.1.1.1.1.1.1.1.1.0 f.1.1.1.1.1.1.1.1.1.1.1.1.1.1.1.0)),
-      f.1.1.1.1.1.1.1.1.1.1.1.1.1.1.1.1.1, refl)
+    λ f. (
+      (tree.some_stmt (tree.expr (tree.simple f.1.1.0 (tree.term f.1.1.1.0 f.1.1.1.1.0) f.1.1.1.1.1.0) f.1.1.1.1.1.1.0) (tree.expr (tree.simple
+          f.1.1.1.1.1.1.1.1.0 (tree.term f.1.1.1.1.1.1.1.1.1.0 f.1.1.1.1.1.1.1.1.1.1.0) f.1.1.1.1.1.1.1.1.1.1.1.0) f.1.1.1.1.1.1.1.1.1.1.1.1.0)
+          (tree.stmts f.1.1.1.1.1.1.1.1.1.1.1.1.1.1.0 f.1.1.1.1.1.1.1.1.1.1.1.1.1.1.1.0)),
+      f.1.1.1.1.1.1.1.1.1.1.1.1.1.1.1.1.1,
+      refl,
+    )
 begun_stmt_part kinds.Case rest =
-    λ f. ((tree.case_stmt (tree.expr (tree.simple f.0 (tree.term f.1.0 f.1.1.0) f.1.1.1.0) f.1.1.1.1.0) f.1.1.1.1.1.1.0 f.1.1.1.1.1.1.1.0 f.1.1.1.1.1.1.1.1.0),
-      f.1.1.1.1.1.1.1.1.1.1, refl)
+    λ f. (
+      (tree.case_stmt (tree.expr (tree.simple f.0 (tree.term f.1.0 f.1.1.0) f.1.1.1.0) f.1.1.1.1.0) f.1.1.1.1.1.1.0 f.1.1.1.1.1.1.1.0 f.1.1.1.1.1.1.1.1.0),
+      f.1.1.1.1.1.1.1.1.1.1,
+      refl,
+    )
 begun_stmt_part kinds.Either rest = λ f. ((tree.either_stmt (tree.stmts f.0 f.1.0) f.1.1.0), f.1.1.1.1, refl)
 begun_stmt_part kinds.Forall rest = λ f. ((tree.forall_stmt (tree.stmts f.0 f.1.0) (tree.stmts f.1.1.1.0 f.1.1.1.1.0)), f.1.1.1.1.1.1, refl)
 begun_stmt_part kinds.Commit rest = λ f. ((tree.commit_stmt (tree.stmts f.0 f.1.0)), f.1.1.1, refl)
 begun_stmt_part kinds.Return rest = λ f. ((tree.return_stmt f.0), f.1, refl)
 begun_stmt_part kinds.Read rest = λ f. ((tree.read_stmt (tree.desig f.1.1.0) f.1.1.1.0), f.1.1.1.1.1, refl)
 begun_stmt_part kinds.Write rest =
-    λ f. ((tree.write_stmt (tree.exprs (tree.expr (tree.simple f.1.0 (tree.term f.1.1.0 f.1.1.1.0) f.1.1.1.1.0) f.1.1.1.1.1.0) f.1.1.1.1.1.1.0)),
-      f.1.1.1.1.1.1.1.1, refl)
+    λ f. (
+      (tree.write_stmt (tree.exprs (tree.expr (tree.simple f.1.0 (tree.term f.1.1.0 f.1.1.1.0) f.1.1.1.1.0) f.1.1.1.1.1.0) f.1.1.1.1.1.1.0)),
+      f.1.1.1.1.1.1.1.1,
+      refl,
+    )
 begun_stmt_part kinds.Writeln rest = λ f. ((tree.writeln_stmt f.0), f.1, refl)
 begun_stmt_part kinds.Plus rest = λ f. ((tree.value (tree.expr (tree.simple (Some signs.Plus) (tree.term f.0 f.1.0) f.1.1.0) f.1.1.1.0)), f.1.1.1.1, refl)
 begun_stmt_part kinds.Minus rest = λ f. ((tree.value (tree.expr (tree.simple (Some signs.Minus) (tree.term f.0 f.1.0) f.1.1.0) f.1.1.1.0)), f.1.1.1.1, refl)
-begun_stmt_part kinds.Not rest = λ f. ((tree.value (tree.expr (tree.simple None (tree.term (tree.not_factor f.0) f.1.0) f.1.1.0) f.1.1.1.0)), f.1.1.1.1, refl)
-begun_stmt_part kinds.Number rest = λ f. ((tree.value (tree.expr (tree.simple None (tree.term (tree.factor tree.number) f.0) f.1.0) f.1.1.0)), f.1.1.1, refl)
+begun_stmt_part kinds.Not rest = λ f. (
+  (tree.value (tree.expr (tree.simple None (tree.term (tree.not_factor f.0) f.1.0) f.1.1.0) f.1.1.1.0)),
+  f.1.1.1.1,
+  refl,
+)
+begun_stmt_part kinds.Number rest = λ f. (
+  (tree.value (tree.expr (tree.simple None (tree.term (tree.factor tree.number) f.0) f.1.0) f.1.1.0)),
+  f.1.1.1,
+  refl,
+)
 begun_stmt_part kinds.Literal rest =
     λ f. ((tree.value (tree.expr (tree.simple None (tree.term (tree.factor tree.literal) f.0) f.1.0) f.1.1.0)), f.1.1.1, refl)
 begun_stmt_part kinds.OpenParen rest =
-    λ f. ((tree.value (tree.expr (tree.simple None (tree.term (tree.factor (tree.paren (tree.stmts f.0 f.1.0))) f.1.1.1.0) f.1.1.1.1.0) f.1.1.1.1.1.0)),
-      f.1.1.1.1.1.1, refl)
+    λ f. (
+      (tree.value (tree.expr (tree.simple None (tree.term (tree.factor (tree.paren (tree.stmts f.0 f.1.0))) f.1.1.1.0) f.1.1.1.1.0) f.1.1.1.1.1.0)),
+      f.1.1.1.1.1.1,
+      refl,
+    )
 begun_stmt_part kinds.Known rest =
-    λ f. ((tree.value (tree.expr (tree.simple None (tree.term (tree.factor (tree.known (tree.desig f.1.1.0))) f.1.1.1.1.0) f.1.1.1.1.1.0) f.1.1.1.1.1.1.0)),
-      f.1.1.1.1.1.1.1, refl)
+    λ f. (
+      (tree.value (tree.expr (tree.simple None (tree.term (tree.factor (tree.known (tree.desig f.1.1.0))) f.1.1.1.1.0) f.1.1.1.1.1.0) f.1.1.1.1.1.1.0)),
+      f.1.1.1.1.1.1.1,
+      refl,
+    )
 begun_stmt_part kinds.Ord rest =
-    λ f. ((tree.value (tree.expr (tree.simple None (tree.term (tree.factor (tree.ord (tree.expr (tree.simple f.1.0 (tree.term f.1.1.0 f.1.1.1.0) f.1.1.1.1.0) f.1.1.1.1.1.0))) f.1.1.1.1.1.1.1.0) f.1.1.1.1.1.1.1.1.0) f.1.1.1.1.1.1.1.1.1.0)),
-      f.1.1.1.1.1.1.1.1.1.1, refl)
+    λ f. (
+      (tree.value (tree.expr (tree.simple None (tree.term (tree.factor (tree.ord (tree.expr (tree.simple f.1.0 (tree.term f.1.1.0 f.1.1.1.0)
+          f.1.1.1.1.0) f.1.1.1.1.1.0))) f.1.1.1.1.1.1.1.0) f.1.1.1.1.1.1.1.1.0) f.1.1.1.1.1.1.1.1.1.0)),
+      f.1.1.1.1.1.1.1.1.1.1,
+      refl,
+    )
 begun_stmt_part kinds.Chr rest =
-    λ f. ((tree.value (tree.expr (tree.simple None (tree.term (tree.factor (tree.chr (tree.expr (tree.simple f.1.0 (tree.term f.1.1.0 f.1.1.1.0) f.1.1.1.1.0) f.1.1.1.1.1.0))) f.1.1.1.1.1.1.1.0) f.1.1.1.1.1.1.1.1.0) f.1.1.1.1.1.1.1.1.1.0)),
-      f.1.1.1.1.1.1.1.1.1.1, refl)
+    λ f. (
+      (tree.value (tree.expr (tree.simple None (tree.term (tree.factor (tree.chr (tree.expr (tree.simple f.1.0 (tree.term f.1.1.0 f.1.1.1.0)
+          f.1.1.1.1.0) f.1.1.1.1.1.0))) f.1.1.1.1.1.1.1.0) f.1.1.1.1.1.1.1.1.0) f.1.1.1.1.1.1.1.1.1.0)),
+      f.1.1.1.1.1.1.1.1.1.1,
+      refl,
+    )
 begun_stmt_part _ rest = tt
 
 begun_after_desig : (k : Kind) (rest : List Part) → WhereSome (begins after_desig k) (Built after_desig k rest)
@@ -215,25 +290,47 @@ begun_after_desig kinds.Plus rest =
     λ f. ((used tree.no_args tree.no_factor (tree.more_term adds.Plus (tree.term f.0 f.1.0) f.1.1.0) f.1.1.1.0), f.1.1.1.1, refl)
 begun_after_desig kinds.Minus rest =
     λ f. ((used tree.no_args tree.no_factor (tree.more_term adds.Minus (tree.term f.0 f.1.0) f.1.1.0) f.1.1.1.0), f.1.1.1.1, refl)
-begun_after_desig kinds.Or rest = λ f. ((used tree.no_args tree.no_factor (tree.more_term adds.Or (tree.term f.0 f.1.0) f.1.1.0) f.1.1.1.0), f.1.1.1.1, refl)
+begun_after_desig kinds.Or rest = λ f. (
+  (used tree.no_args tree.no_factor (tree.more_term adds.Or (tree.term f.0 f.1.0) f.1.1.0) f.1.1.1.0),
+  f.1.1.1.1,
+  refl,
+)
 begun_after_desig kinds.Equal rest =
-    λ f. ((used tree.no_args tree.no_factor tree.no_term (tree.compared relations.Equal (tree.simple f.0 (tree.term f.1.0 f.1.1.0) f.1.1.1.0))),
-      f.1.1.1.1, refl)
+    λ f. (
+      (used tree.no_args tree.no_factor tree.no_term (tree.compared relations.Equal (tree.simple f.0 (tree.term f.1.0 f.1.1.0) f.1.1.1.0))),
+      f.1.1.1.1,
+      refl,
+    )
 begun_after_desig kinds.Unequal rest =
-    λ f. ((used tree.no_args tree.no_factor tree.no_term (tree.compared relations.Unequal (tree.simple f.0 (tree.term f.1.0 f.1.1.0) f.1.1.1.0))),
-      f.1.1.1.1, refl)
+    λ f. (
+      (used tree.no_args tree.no_factor tree.no_term (tree.compared relations.Unequal (tree.simple f.0 (tree.term f.1.0 f.1.1.0) f.1.1.1.0))),
+      f.1.1.1.1,
+      refl,
+    )
 begun_after_desig kinds.Less rest =
-    λ f. ((used tree.no_args tree.no_factor tree.no_term (tree.compared relations.Less (tree.simple f.0 (tree.term f.1.0 f.1.1.0) f.1.1.1.0))),
-      f.1.1.1.1, refl)
+    λ f. (
+      (used tree.no_args tree.no_factor tree.no_term (tree.compared relations.Less (tree.simple f.0 (tree.term f.1.0 f.1.1.0) f.1.1.1.0))),
+      f.1.1.1.1,
+      refl,
+    )
 begun_after_desig kinds.LessEq rest =
-    λ f. ((used tree.no_args tree.no_factor tree.no_term (tree.compared relations.LessEq (tree.simple f.0 (tree.term f.1.0 f.1.1.0) f.1.1.1.0))),
-      f.1.1.1.1, refl)
+    λ f. (
+      (used tree.no_args tree.no_factor tree.no_term (tree.compared relations.LessEq (tree.simple f.0 (tree.term f.1.0 f.1.1.0) f.1.1.1.0))),
+      f.1.1.1.1,
+      refl,
+    )
 begun_after_desig kinds.Greater rest =
-    λ f. ((used tree.no_args tree.no_factor tree.no_term (tree.compared relations.Greater (tree.simple f.0 (tree.term f.1.0 f.1.1.0) f.1.1.1.0))),
-      f.1.1.1.1, refl)
+    λ f. (
+      (used tree.no_args tree.no_factor tree.no_term (tree.compared relations.Greater (tree.simple f.0 (tree.term f.1.0 f.1.1.0) f.1.1.1.0))),
+      f.1.1.1.1,
+      refl,
+    )
 begun_after_desig kinds.GreaterEq rest =
-    λ f. ((used tree.no_args tree.no_factor tree.no_term (tree.compared relations.GreaterEq (tree.simple f.0 (tree.term f.1.0 f.1.1.0) f.1.1.1.0))),
-      f.1.1.1.1, refl)
+    λ f. (
+      (used tree.no_args tree.no_factor tree.no_term (tree.compared relations.GreaterEq (tree.simple f.0 (tree.term f.1.0 f.1.1.0) f.1.1.1.0))),
+      f.1.1.1.1,
+      refl,
+    )
 begun_after_desig _ rest = tt
 
 begun_stmt_tail : (k : Kind) (rest : List Part) → WhereSome (begins stmt_tail k) (Built stmt_tail k rest)
@@ -242,8 +339,12 @@ begun_stmt_tail _ rest = tt
 
 begun_elsif_tail : (k : Kind) (rest : List Part) → WhereSome (begins elsif_tail k) (Built elsif_tail k rest)
 begun_elsif_tail kinds.Elsif rest =
-    λ f. ((tree.more_elsif (tree.expr (tree.simple f.0 (tree.term f.1.0 f.1.1.0) f.1.1.1.0) f.1.1.1.1.0) (tree.stmts f.1.1.1.1.1.1.0 f.1.1.1.1.1.1.1.0) f.1.1.1.1.1.1.1.1.0),
-      f.1.1.1.1.1.1.1.1.1, refl)
+    λ f. (
+      (tree.more_elsif (tree.expr (tree.simple f.0 (tree.term f.1.0 f.1.1.0) f.1.1.1.0) f.1.1.1.1.0) (tree.stmts f.1.1.1.1.1.1.0 f.1.1.1.1.1.1.1.0)
+          f.1.1.1.1.1.1.1.1.0),
+      f.1.1.1.1.1.1.1.1.1,
+      refl,
+    )
 begun_elsif_tail _ rest = tt
 
 begun_else_part : (k : Kind) (rest : List Part) → WhereSome (begins else_part k) (Built else_part k rest)
@@ -270,20 +371,37 @@ begun_returned_part kinds.Number rest =
 begun_returned_part kinds.Literal rest =
     λ f. ((tree.returned (tree.expr (tree.simple None (tree.term (tree.factor tree.literal) f.0) f.1.0) f.1.1.0)), f.1.1.1, refl)
 begun_returned_part kinds.Name rest =
-    λ f. ((tree.returned (tree.expr (tree.simple None (tree.term (tree.factor (tree.named (tree.desig f.0) f.1.0)) f.1.1.0) f.1.1.1.0) f.1.1.1.1.0)),
-      f.1.1.1.1.1, refl)
+    λ f. (
+      (tree.returned (tree.expr (tree.simple None (tree.term (tree.factor (tree.named (tree.desig f.0) f.1.0)) f.1.1.0) f.1.1.1.0) f.1.1.1.1.0)),
+      f.1.1.1.1.1,
+      refl,
+    )
 begun_returned_part kinds.OpenParen rest =
-    λ f. ((tree.returned (tree.expr (tree.simple None (tree.term (tree.factor (tree.paren (tree.stmts f.0 f.1.0))) f.1.1.1.0) f.1.1.1.1.0) f.1.1.1.1.1.0)),
-      f.1.1.1.1.1.1, refl)
+    λ f. (
+      (tree.returned (tree.expr (tree.simple None (tree.term (tree.factor (tree.paren (tree.stmts f.0 f.1.0))) f.1.1.1.0) f.1.1.1.1.0) f.1.1.1.1.1.0)),
+      f.1.1.1.1.1.1,
+      refl,
+    )
 begun_returned_part kinds.Known rest =
-    λ f. ((tree.returned (tree.expr (tree.simple None (tree.term (tree.factor (tree.known (tree.desig f.1.1.0))) f.1.1.1.1.0) f.1.1.1.1.1.0) f.1.1.1.1.1.1.0)),
-      f.1.1.1.1.1.1.1, refl)
+    λ f. (
+      (tree.returned (tree.expr (tree.simple None (tree.term (tree.factor (tree.known (tree.desig f.1.1.0))) f.1.1.1.1.0) f.1.1.1.1.1.0) f.1.1.1.1.1.1.0)),
+      f.1.1.1.1.1.1.1,
+      refl,
+    )
 begun_returned_part kinds.Ord rest =
-    λ f. ((tree.returned (tree.expr (tree.simple None (tree.term (tree.factor (tree.ord (tree.expr (tree.simple f.1.0 (tree.term f.1.1.0 f.1.1.1.0) f.1.1.1.1.0) f.1.1.1.1.1.0))) f.1.1.1.1.1.1.1.0) f.1.1.1.1.1.1.1.1.0) f.1.1.1.1.1.1.1.1.1.0)),
-      f.1.1.1.1.1.1.1.1.1.1, refl)
+    λ f. (
+      (tree.returned (tree.expr (tree.simple None (tree.term (tree.factor (tree.ord (tree.expr (tree.simple f.1.0 (tree.term f.1.1.0 f.1.1.1.0)
+          f.1.1.1.1.0) f.1.1.1.1.1.0))) f.1.1.1.1.1.1.1.0) f.1.1.1.1.1.1.1.1.0) f.1.1.1.1.1.1.1.1.1.0)),
+      f.1.1.1.1.1.1.1.1.1.1,
+      refl,
+    )
 begun_returned_part kinds.Chr rest =
-    λ f. ((tree.returned (tree.expr (tree.simple None (tree.term (tree.factor (tree.chr (tree.expr (tree.simple f.1.0 (tree.term f.1.1.0 f.1.1.1.0) f.1.1.1.1.0) f.1.1.1.1.1.0))) f.1.1.1.1.1.1.1.0) f.1.1.1.1.1.1.1.1.0) f.1.1.1.1.1.1.1.1.1.0)),
-      f.1.1.1.1.1.1.1.1.1.1, refl)
+    λ f. (
+      (tree.returned (tree.expr (tree.simple None (tree.term (tree.factor (tree.chr (tree.expr (tree.simple f.1.0 (tree.term f.1.1.0 f.1.1.1.0)
+          f.1.1.1.1.0) f.1.1.1.1.1.0))) f.1.1.1.1.1.1.1.0) f.1.1.1.1.1.1.1.1.0) f.1.1.1.1.1.1.1.1.1.0)),
+      f.1.1.1.1.1.1.1.1.1.1,
+      refl,
+    )
 begun_returned_part _ rest = tt
 
 begun_desig_tail : (k : Kind) (rest : List Part) → WhereSome (begins desig_tail k) (Built desig_tail k rest)
@@ -292,35 +410,77 @@ begun_desig_tail _ rest = tt
 
 begun_arm_part : (k : Kind) (rest : List Part) → WhereSome (begins arm_part k) (Built arm_part k rest)
 begun_arm_part kinds.Plus rest =
-    λ f. ((tree.arm (tree.label (tree.expr (tree.simple (Some signs.Plus) (tree.term f.0 f.1.0) f.1.1.0) f.1.1.1.0) f.1.1.1.1.0) f.1.1.1.1.1.0 (tree.stmts f.1.1.1.1.1.1.1.0 f.1.1.1.1.1.1.1.1.0)),
-      f.1.1.1.1.1.1.1.1.1, refl)
+    λ f. (
+      (tree.arm (tree.label (tree.expr (tree.simple (Some signs.Plus) (tree.term f.0 f.1.0) f.1.1.0) f.1.1.1.0) f.1.1.1.1.0) f.1.1.1.1.1.0
+          (tree.stmts f.1.1.1.1.1.1.1.0 f.1.1.1.1.1.1.1.1.0)),
+      f.1.1.1.1.1.1.1.1.1,
+      refl,
+    )
 begun_arm_part kinds.Minus rest =
-    λ f. ((tree.arm (tree.label (tree.expr (tree.simple (Some signs.Minus) (tree.term f.0 f.1.0) f.1.1.0) f.1.1.1.0) f.1.1.1.1.0) f.1.1.1.1.1.0 (tree.stmts f.1.1.1.1.1.1.1.0 f.1.1.1.1.1.1.1.1.0)),
-      f.1.1.1.1.1.1.1.1.1, refl)
+    λ f. (
+      (tree.arm (tree.label (tree.expr (tree.simple (Some signs.Minus) (tree.term f.0 f.1.0) f.1.1.0) f.1.1.1.0) f.1.1.1.1.0) f.1.1.1.1.1.0
+          (tree.stmts f.1.1.1.1.1.1.1.0 f.1.1.1.1.1.1.1.1.0)),
+      f.1.1.1.1.1.1.1.1.1,
+      refl,
+    )
 begun_arm_part kinds.Not rest =
-    λ f. ((tree.arm (tree.label (tree.expr (tree.simple None (tree.term (tree.not_factor f.0) f.1.0) f.1.1.0) f.1.1.1.0) f.1.1.1.1.0) f.1.1.1.1.1.0 (tree.stmts f.1.1.1.1.1.1.1.0 f.1.1.1.1.1.1.1.1.0)),
-      f.1.1.1.1.1.1.1.1.1, refl)
+    λ f. (
+      (tree.arm (tree.label (tree.expr (tree.simple None (tree.term (tree.not_factor f.0) f.1.0) f.1.1.0) f.1.1.1.0) f.1.1.1.1.0) f.1.1.1.1.1.0
+          (tree.stmts f.1.1.1.1.1.1.1.0 f.1.1.1.1.1.1.1.1.0)),
+      f.1.1.1.1.1.1.1.1.1,
+      refl,
+    )
 begun_arm_part kinds.Number rest =
-    λ f. ((tree.arm (tree.label (tree.expr (tree.simple None (tree.term (tree.factor tree.number) f.0) f.1.0) f.1.1.0) f.1.1.1.0) f.1.1.1.1.0 (tree.stmts f.1.1.1.1.1.1.0 f.1.1.1.1.1.1.1.0)),
-      f.1.1.1.1.1.1.1.1, refl)
+    λ f. (
+      (tree.arm (tree.label (tree.expr (tree.simple None (tree.term (tree.factor tree.number) f.0) f.1.0) f.1.1.0) f.1.1.1.0) f.1.1.1.1.0
+          (tree.stmts f.1.1.1.1.1.1.0 f.1.1.1.1.1.1.1.0)),
+      f.1.1.1.1.1.1.1.1,
+      refl,
+    )
 begun_arm_part kinds.Literal rest =
-    λ f. ((tree.arm (tree.label (tree.expr (tree.simple None (tree.term (tree.factor tree.literal) f.0) f.1.0) f.1.1.0) f.1.1.1.0) f.1.1.1.1.0 (tree.stmts f.1.1.1.1.1.1.0 f.1.1.1.1.1.1.1.0)),
-      f.1.1.1.1.1.1.1.1, refl)
+    λ f. (
+      (tree.arm (tree.label (tree.expr (tree.simple None (tree.term (tree.factor tree.literal) f.0) f.1.0) f.1.1.0) f.1.1.1.0) f.1.1.1.1.0
+          (tree.stmts f.1.1.1.1.1.1.0 f.1.1.1.1.1.1.1.0)),
+      f.1.1.1.1.1.1.1.1,
+      refl,
+    )
 begun_arm_part kinds.Name rest =
-    λ f. ((tree.arm (tree.label (tree.expr (tree.simple None (tree.term (tree.factor (tree.named (tree.desig f.0) f.1.0)) f.1.1.0) f.1.1.1.0) f.1.1.1.1.0) f.1.1.1.1.1.0) f.1.1.1.1.1.1.0 (tree.stmts f.1.1.1.1.1.1.1.1.0 f.1.1.1.1.1.1.1.1.1.0)),
-      f.1.1.1.1.1.1.1.1.1.1, refl)
+    λ f. (
+      (tree.arm (tree.label (tree.expr (tree.simple None (tree.term (tree.factor (tree.named (tree.desig f.0) f.1.0)) f.1.1.0) f.1.1.1.0)
+          f.1.1.1.1.0) f.1.1.1.1.1.0) f.1.1.1.1.1.1.0 (tree.stmts f.1.1.1.1.1.1.1.1.0 f.1.1.1.1.1.1.1.1.1.0)),
+      f.1.1.1.1.1.1.1.1.1.1,
+      refl,
+    )
 begun_arm_part kinds.OpenParen rest =
-    λ f. ((tree.arm (tree.label (tree.expr (tree.simple None (tree.term (tree.factor (tree.paren (tree.stmts f.0 f.1.0))) f.1.1.1.0) f.1.1.1.1.0) f.1.1.1.1.1.0) f.1.1.1.1.1.1.0) f.1.1.1.1.1.1.1.0 (tree.stmts f.1.1.1.1.1.1.1.1.1.0 f.1.1.1.1.1.1.1.1.1.1.0)),
-      f.1.1.1.1.1.1.1.1.1.1.1, refl)
+    λ f. (
+      (tree.arm (tree.label (tree.expr (tree.simple None (tree.term (tree.factor (tree.paren (tree.stmts f.0 f.1.0))) f.1.1.1.0) f.1.1.1.1.0)
+          f.1.1.1.1.1.0) f.1.1.1.1.1.1.0) f.1.1.1.1.1.1.1.0 (tree.stmts f.1.1.1.1.1.1.1.1.1.0 f.1.1.1.1.1.1.1.1.1.1.0)),
+      f.1.1.1.1.1.1.1.1.1.1.1,
+      refl,
+    )
 begun_arm_part kinds.Known rest =
-    λ f. ((tree.arm (tree.label (tree.expr (tree.simple None (tree.term (tree.factor (tree.known (tree.desig f.1.1.0))) f.1.1.1.1.0) f.1.1.1.1.1.0) f.1.1.1.1.1.1.0) f.1.1.1.1.1.1.1.0) f.1.1.1.1.1.1.1.1.0 (tree.stmts f.1.1.1.1.1.1.1.1.1.1.0 f.1.1.1.1.1.1.1.1.1.1.1.0)),
-      f.1.1.1.1.1.1.1.1.1.1.1.1, refl)
+    λ f. (
+      (tree.arm (tree.label (tree.expr (tree.simple None (tree.term (tree.factor (tree.known (tree.desig f.1.1.0))) f.1.1.1.1.0) f.1.1.1.1.1.0)
+          f.1.1.1.1.1.1.0) f.1.1.1.1.1.1.1.0) f.1.1.1.1.1.1.1.1.0 (tree.stmts f.1.1.1.1.1.1.1.1.1.1.0 f.1.1.1.1.1.1.1.1.1.1.1.0)),
+      f.1.1.1.1.1.1.1.1.1.1.1.1,
+      refl,
+    )
 begun_arm_part kinds.Ord rest =
-    λ f. ((tree.arm (tree.label (tree.expr (tree.simple None (tree.term (tree.factor (tree.ord (tree.expr (tree.simple f.1.0 (tree.term f.1.1.0 f.1.1.1.0) f.1.1.1.1.0) f.1.1.1.1.1.0))) f.1.1.1.1.1.1.1.0) f.1.1.1.1.1.1.1.1.0) f.1.1.1.1.1.1.1.1.1.0) f.1.1.1.1.1.1.1.1.1.1.0) f.1.1.1.1.1.1.1.1.1.1.1.0 (tree.stmts f.1.1.1.1.1.1.1.1.1.1.1.1.1.0 f.1.1.1.1.1.1.1.1.1.1.1.1.1.1.0)),
-      f.1.1.1.1.1.1.1.1.1.1.1.1.1.1.1, refl)
+    λ f. (
+      (tree.arm (tree.label (tree.expr (tree.simple None (tree.term (tree.factor (tree.ord (tree.expr (tree.simple f.1.0 (tree.term f.1.1.0
+          f.1.1.1.0) f.1.1.1.1.0) f.1.1.1.1.1.0))) f.1.1.1.1.1.1.1.0) f.1.1.1.1.1.1.1.1.0) f.1.1.1.1.1.1.1.1.1.0) f.1.1.1.1.1.1.1.1.1.1.0)
+          f.1.1.1.1.1.1.1.1.1.1.1.0 (tree.stmts f.1.1.1.1.1.1.1.1.1.1.1.1.1.0 f.1.1.1.1.1.1.1.1.1.1.1.1.1.1.0)),
+      f.1.1.1.1.1.1.1.1.1.1.1.1.1.1.1,
+      refl,
+    )
 begun_arm_part kinds.Chr rest =
-    λ f. ((tree.arm (tree.label (tree.expr (tree.simple None (tree.term (tree.factor (tree.chr (tree.expr (tree.simple f.1.0 (tree.term f.1.1.0 f.1.1.1.0) f.1.1.1.1.0) f.1.1.1.1.1.0))) f.1.1.1.1.1.1.1.0) f.1.1.1.1.1.1.1.1.0) f.1.1.1.1.1.1.1.1.1.0) f.1.1.1.1.1.1.1.1.1.1.0) f.1.1.1.1.1.1.1.1.1.1.1.0 (tree.stmts f.1.1.1.1.1.1.1.1.1.1.1.1.1.0 f.1.1.1.1.1.1.1.1.1.1.1.1.1.1.0)),
-      f.1.1.1.1.1.1.1.1.1.1.1.1.1.1.1, refl)
+    λ f. (
+      (tree.arm (tree.label (tree.expr (tree.simple None (tree.term (tree.factor (tree.chr (tree.expr (tree.simple f.1.0 (tree.term f.1.1.0
+          f.1.1.1.0) f.1.1.1.1.0) f.1.1.1.1.1.0))) f.1.1.1.1.1.1.1.0) f.1.1.1.1.1.1.1.1.0) f.1.1.1.1.1.1.1.1.1.0) f.1.1.1.1.1.1.1.1.1.1.0)
+          f.1.1.1.1.1.1.1.1.1.1.1.0 (tree.stmts f.1.1.1.1.1.1.1.1.1.1.1.1.1.0 f.1.1.1.1.1.1.1.1.1.1.1.1.1.1.0)),
+      f.1.1.1.1.1.1.1.1.1.1.1.1.1.1.1,
+      refl,
+    )
 begun_arm_part _ rest = tt
 
 begun_arm_tail : (k : Kind) (rest : List Part) → WhereSome (begins arm_tail k) (Built arm_tail k rest)
@@ -333,8 +493,11 @@ begun_high_part _ rest = tt
 
 begun_label_tail : (k : Kind) (rest : List Part) → WhereSome (begins label_tail k) (Built label_tail k rest)
 begun_label_tail kinds.Comma rest =
-    λ f. ((tree.more_label (tree.label (tree.expr (tree.simple f.0 (tree.term f.1.0 f.1.1.0) f.1.1.1.0) f.1.1.1.1.0) f.1.1.1.1.1.0) f.1.1.1.1.1.1.0),
-      f.1.1.1.1.1.1.1, refl)
+    λ f. (
+      (tree.more_label (tree.label (tree.expr (tree.simple f.0 (tree.term f.1.0 f.1.1.0) f.1.1.1.0) f.1.1.1.1.0) f.1.1.1.1.1.0) f.1.1.1.1.1.1.0),
+      f.1.1.1.1.1.1.1,
+      refl,
+    )
 begun_label_tail _ rest = tt
 
 begun_name_tail : (k : Kind) (rest : List Part) → WhereSome (begins name_tail k) (Built name_tail k rest)
@@ -349,8 +512,12 @@ begun_plain_part : (k : Kind) (rest : List Part) → WhereSome (begins plain_par
 begun_plain_part kinds.Name rest = λ f. (tree.type_name, f, refl)
 begun_plain_part kinds.OpenParen rest = λ f. ((tree.listed (tree.names f.1.0)), f.1.1.1, refl)
 begun_plain_part kinds.OpenBracket rest =
-    λ f. ((tree.subrange (tree.expr (tree.simple f.0 (tree.term f.1.0 f.1.1.0) f.1.1.1.0) f.1.1.1.1.0) (tree.expr (tree.simple f.1.1.1.1.1.1.0 (tree.term f.1.1.1.1.1.1.1.0 f.1.1.1.1.1.1.1.1.0) f.1.1.1.1.1.1.1.1.1.0) f.1.1.1.1.1.1.1.1.1.1.0)),
-      f.1.1.1.1.1.1.1.1.1.1.1.1, refl)
+    λ f. (
+      (tree.subrange (tree.expr (tree.simple f.0 (tree.term f.1.0 f.1.1.0) f.1.1.1.0) f.1.1.1.1.0) (tree.expr (tree.simple f.1.1.1.1.1.1.0
+          (tree.term f.1.1.1.1.1.1.1.0 f.1.1.1.1.1.1.1.1.0) f.1.1.1.1.1.1.1.1.1.0) f.1.1.1.1.1.1.1.1.1.1.0)),
+      f.1.1.1.1.1.1.1.1.1.1.1.1,
+      refl,
+    )
 begun_plain_part kinds.Record rest = λ f. ((tree.record_type f.0 f.1.0), f.1.1.1, refl)
 begun_plain_part _ rest = tt
 
@@ -368,8 +535,11 @@ begun_field_list_tail _ rest = tt
 
 begun_const_tail : (k : Kind) (rest : List Part) → WhereSome (begins const_tail k) (Built const_tail k rest)
 begun_const_tail kinds.Name rest =
-    λ f. ((tree.more_const (tree.expr (tree.simple f.1.0 (tree.term f.1.1.0 f.1.1.1.0) f.1.1.1.1.0) f.1.1.1.1.1.0) f.1.1.1.1.1.1.1.0),
-      f.1.1.1.1.1.1.1.1, refl)
+    λ f. (
+      (tree.more_const (tree.expr (tree.simple f.1.0 (tree.term f.1.1.0 f.1.1.1.0) f.1.1.1.1.0) f.1.1.1.1.1.0) f.1.1.1.1.1.1.1.0),
+      f.1.1.1.1.1.1.1.1,
+      refl,
+    )
 begun_const_tail _ rest = tt
 
 begun_type_tail : (k : Kind) (rest : List Part) → WhereSome (begins type_tail k) (Built type_tail k rest)
@@ -395,8 +565,16 @@ begun_params_part _ rest = tt
 
 begun_params_inside : (k : Kind) (rest : List Part) → WhereSome (begins params_inside k) (Built params_inside k rest)
 begun_params_inside kinds.CloseParen rest = λ f. (closed_params, f, refl)
-begun_params_inside kinds.Var rest = λ f. ((filled_params (tree.formals (tree.formal (Some modes.Var) (tree.names f.1.0)) f.1.1.1.1.0)), f.1.1.1.1.1.1, refl)
-begun_params_inside kinds.Mix rest = λ f. ((filled_params (tree.formals (tree.formal (Some modes.Mix) (tree.names f.1.0)) f.1.1.1.1.0)), f.1.1.1.1.1.1, refl)
+begun_params_inside kinds.Var rest = λ f. (
+  (filled_params (tree.formals (tree.formal (Some modes.Var) (tree.names f.1.0)) f.1.1.1.1.0)),
+  f.1.1.1.1.1.1,
+  refl,
+)
+begun_params_inside kinds.Mix rest = λ f. (
+  (filled_params (tree.formals (tree.formal (Some modes.Mix) (tree.names f.1.0)) f.1.1.1.1.0)),
+  f.1.1.1.1.1.1,
+  refl,
+)
 begun_params_inside kinds.Name rest = λ f. ((filled_params (tree.formals (tree.formal None (tree.names f.0)) f.1.1.1.0)), f.1.1.1.1.1, refl)
 begun_params_inside _ rest = tt
 

@@ -26,7 +26,7 @@ deeper o c d e h = let x : 99 < d = grind (arith, nat_tests) in omega arith
 
 -- where a token opens a bracket too deep
 too_deep_behind : (opening closing : Bool) (o c d : ℕ) → (opening && closing) ≡ false → c + d ≡ o → (opening && nat_lt 99 d) ≡ true
-  → 100 < o + one_where opening - (c + one_where closing)
+    → 100 < o + one_where opening - (c + one_where closing)
 too_deep_behind true false o c d w e h = deeper o c d e h
 too_deep_behind true true o c d w e h = absurd cc
 too_deep_behind false closing o c d w e h = absurd cc
@@ -38,7 +38,7 @@ record Moved (o c d : ℕ) (P : ℕ → Type 0) : Type 0 where
   nested : P d
 
 moves : (opening closing : Bool) (o c d : ℕ) (P : ℕ → Type 0) → (opening && closing) ≡ false → c + d ≡ o → d ≤ 100
-  → (opening && nat_lt 99 d) ≡ false → Behind opening closing d P → Moved (o + one_where opening) (c + one_where closing) (moved opening closing d) P
+    → (opening && nat_lt 99 d) ≡ false → Behind opening closing d P → Moved (o + one_where opening) (c + one_where closing) (moved opening closing d) P
 moves true false o c d P w e i h n =
     record { counted = omega arith; bounded = let x : d ≤ 99 = grind (arith, nat_tests) in omega arith; nested = n }
 moves true true o c d P w e i h n = absurd cc
@@ -48,7 +48,7 @@ moves false true o c (suc d) P w e i h n =
 moves false false o c d P w e i h n = record { counted = omega arith; bounded = i; nested = n }
 
 further : (k : Kind) (ks : List Kind) (o c : ℕ) (e : End) → o - c ≤ 100
-  → HasDepthFrom (o + one_where (opens k)) (c + one_where (closes k)) ks e → HasDepthFrom o c (k ∷ ks) e
+    → HasDepthFrom (o + one_where (opens k)) (c + one_where (closes k)) ks e → HasDepthFrom o c (k ∷ ks) e
 further k ks o c done i h = omega arith
 further k ks o c (unexpected rest) i h = let x = h.2 in (k ∷ h.0, ap (λ r. k ∷ r) h.1, omega arith)
 further k ks o c (too_deep rest) i h = let x = h.2 in let y = h.3 in (k ∷ h.0, ap (λ r. k ∷ r) h.1, omega arith, omega arith)
@@ -58,20 +58,20 @@ last o c d true e i = omega arith
 last o c d false e i = ([], refl, omega arith)
 
 on : (k : Kind) (ks : List Kind) (o c d : ℕ) (parts : List Part) (n : Option (List Part)) → WhereSome n (GoesOn parts k) → (deep : Bool)
-  → (opens k && nat_lt 99 d) ≡ deep → (go : List Part → End) → c + d ≡ o → d ≤ 100 → Nested d parts
-  → ((later : List Part) → Moved (o + one_where (opens k)) (c + one_where (closes k)) (level d k) (λ e. Nested e later)
+    → (opens k && nat_lt 99 d) ≡ deep → (go : List Part → End) → c + d ≡ o → d ≤ 100 → Nested d parts
+    → ((later : List Part) → Moved (o + one_where (opens k)) (c + one_where (closes k)) (level d k) (λ e. Nested e later)
     → HasDepthFrom (o + one_where (opens k)) (c + one_where (closes k)) ks (go later))
-  → HasDepthFrom o c (k ∷ ks) (goes_on n deep (k ∷ ks) go)
+    → HasDepthFrom o c (k ∷ ks) (goes_on n deep (k ∷ ks) go)
 on k ks o c d parts None g deep q go e i m ih = ([], refl, omega arith)
 on k ks o c d parts (Some later) g true q go e i m ih =
     let x = too_deep_behind (opens k) (closes k) o c d (one_way k) e q in ([], refl, omega arith, omega arith)
 on k ks o c d parts (Some later) g false q go e i m ih =
     further k ks o c (go later) (omega arith)
-      (ih later (moves (opens k) (closes k) o c d (λ x. Nested x later) (one_way k) e i q (g d m)))
+    (ih later (moves (opens k) (closes k) o c d (λ x. Nested x later) (one_way k) e i q (g d m)))
 
 pub has_depth : (ks : List Kind) (o c d : ℕ) (parts : List Part) → c + d ≡ o → d ≤ 100 → Nested d parts
-  → HasDepthFrom o c ks (reading true ks d parts)
+    → HasDepthFrom o c ks (reading true ks d parts)
 has_depth [] o c d parts e i m = last o c d (all_skip parts) e i
 has_depth (k ∷ ks) o c d parts e i m =
     on k ks o c d parts (next parts k) (goes_on_nested parts k) (opens k && nat_lt 99 d) refl (reading true ks (level d k)) e i m
-      (λ later x. has_depth ks _ _ (level d k) later x.counted x.bounded x.nested)
+    (λ later x. has_depth ks _ _ (level d k) later x.counted x.bounded x.nested)

@@ -386,8 +386,8 @@ abbrev pub GoesOn : List Part → Kind → List Part → Type 0
 GoesOn parts k later = (d : ℕ) → Nested d parts → Behind (opens k) (closes k) d (λ e. Nested e later)
 
 goes_from : (p : Part) (rest : List Part) (k : Kind) (b : Option (List Part)) → WhereSome b (Goes p k rest)
-  → (m : Bool) → (m ≡ true → (d : ℕ) → Nested d (p ∷ rest) → Nested d rest) → (later : Option (List Part)) → WhereSome later (GoesOn rest k)
-  → WhereSome (taken b m rest later) (GoesOn (p ∷ rest) k)
+    → (m : Bool) → (m ≡ true → (d : ℕ) → Nested d (p ∷ rest) → Nested d rest) → (later : Option (List Part)) → WhereSome later (GoesOn rest k)
+    → WhereSome (taken b m rest later) (GoesOn (p ∷ rest) k)
 goes_from p rest k (Some parts) h m s later ih = h
 goes_from p rest k None h true s None ih = tt
 goes_from p rest k None h true s (Some later) ih = λ d n. ih d (s refl d n)

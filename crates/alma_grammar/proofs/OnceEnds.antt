@@ -288,80 +288,265 @@ primary_before_and ks =
 
 pub exprs_before_close_paren : (ks : List Kind) → EndsExprs (kinds.CloseParen ∷ ks)
 exprs_before_close_paren ks =
-    record { expr = record { simple = record { term = record { primary = record { args = refl; selectors = refl }; factors = refl }; terms = refl };
-      compared = refl }; more = refl }
+    record {
+      expr = record {
+        simple = record { term = record { primary = record { args = refl; selectors = refl }; factors = refl }; terms = refl };
+        compared = refl;
+      };
+      more = refl;
+    }
 
 pub exprs_before_close_bracket : (ks : List Kind) → EndsExprs (kinds.CloseBracket ∷ ks)
 exprs_before_close_bracket ks =
-    record { expr = record { simple = record { term = record { primary = record { args = refl; selectors = refl }; factors = refl }; terms = refl };
-      compared = refl }; more = refl }
+    record {
+      expr = record {
+        simple = record { term = record { primary = record { args = refl; selectors = refl }; factors = refl }; terms = refl };
+        compared = refl;
+      };
+      more = refl;
+    }
 
 pub stmt_before_semicolon : (ks : List Kind) → EndsStmt (kinds.Semicolon ∷ ks)
 stmt_before_semicolon ks =
-    record { expr = record { simple = record { term = record { primary = record { args = refl; selectors = refl }; factors = refl }; terms = refl };
-      compared = refl }; assign = refl; stmt = refl; returned = refl }
+    record {
+      expr = record {
+        simple = record { term = record { primary = record { args = refl; selectors = refl }; factors = refl }; terms = refl };
+        compared = refl;
+      };
+      assign = refl;
+      stmt = refl;
+      returned = refl;
+    }
 
 pub stmts_before_end : (ks : List Kind) → EndsStmts (kinds.End ∷ ks)
 stmts_before_end ks =
-    record { stmt = record { expr = record { simple = record { term = record { primary = record { args = refl; selectors = refl }; factors = refl };
-      terms = refl }; compared = refl }; assign = refl; stmt = refl; returned = refl }; more = refl }
+    record {
+      stmt = record {
+        expr = record {
+          simple = record {
+            term = record { primary = record { args = refl; selectors = refl }; factors = refl };
+            terms = refl;
+          };
+          compared = refl;
+        };
+        assign = refl;
+        stmt = refl;
+        returned = refl;
+      };
+      more = refl;
+    }
 
 pub stmts_before_else : (ks : List Kind) → EndsStmts (kinds.Else ∷ ks)
 stmts_before_else ks =
-    record { stmt = record { expr = record { simple = record { term = record { primary = record { args = refl; selectors = refl }; factors = refl };
-      terms = refl }; compared = refl }; assign = refl; stmt = refl; returned = refl }; more = refl }
+    record {
+      stmt = record {
+        expr = record {
+          simple = record {
+            term = record { primary = record { args = refl; selectors = refl }; factors = refl };
+            terms = refl;
+          };
+          compared = refl;
+        };
+        assign = refl;
+        stmt = refl;
+        returned = refl;
+      };
+      more = refl;
+    }
 
 pub stmts_before_elsif : (ks : List Kind) → EndsStmts (kinds.Elsif ∷ ks)
 stmts_before_elsif ks =
-    record { stmt = record { expr = record { simple = record { term = record { primary = record { args = refl; selectors = refl }; factors = refl };
-      terms = refl }; compared = refl }; assign = refl; stmt = refl; returned = refl }; more = refl }
+    record {
+      stmt = record {
+        expr = record {
+          simple = record {
+            term = record { primary = record { args = refl; selectors = refl }; factors = refl };
+            terms = refl;
+          };
+          compared = refl;
+        };
+        assign = refl;
+        stmt = refl;
+        returned = refl;
+      };
+      more = refl;
+    }
 
 pub stmts_before_orelse : (ks : List Kind) → EndsStmts (kinds.Orelse ∷ ks)
 stmts_before_orelse ks =
-    record { stmt = record { expr = record { simple = record { term = record { primary = record { args = refl; selectors = refl }; factors = refl };
-      terms = refl }; compared = refl }; assign = refl; stmt = refl; returned = refl }; more = refl }
+    record {
+      stmt = record {
+        expr = record {
+          simple = record {
+            term = record { primary = record { args = refl; selectors = refl }; factors = refl };
+            terms = refl;
+          };
+          compared = refl;
+        };
+        assign = refl;
+        stmt = refl;
+        returned = refl;
+      };
+      more = refl;
+    }
 
 pub stmts_before_until : (ks : List Kind) → EndsStmts (kinds.Until ∷ ks)
 stmts_before_until ks =
-    record { stmt = record { expr = record { simple = record { term = record { primary = record { args = refl; selectors = refl }; factors = refl };
-      terms = refl }; compared = refl }; assign = refl; stmt = refl; returned = refl }; more = refl }
+    record {
+      stmt = record {
+        expr = record {
+          simple = record {
+            term = record { primary = record { args = refl; selectors = refl }; factors = refl };
+            terms = refl;
+          };
+          compared = refl;
+        };
+        assign = refl;
+        stmt = refl;
+        returned = refl;
+      };
+      more = refl;
+    }
 
 pub stmts_before_do : (ks : List Kind) → EndsStmts (kinds.Do ∷ ks)
 stmts_before_do ks =
-    record { stmt = record { expr = record { simple = record { term = record { primary = record { args = refl; selectors = refl }; factors = refl };
-      terms = refl }; compared = refl }; assign = refl; stmt = refl; returned = refl }; more = refl }
+    record {
+      stmt = record {
+        expr = record {
+          simple = record {
+            term = record { primary = record { args = refl; selectors = refl }; factors = refl };
+            terms = refl;
+          };
+          compared = refl;
+        };
+        assign = refl;
+        stmt = refl;
+        returned = refl;
+      };
+      more = refl;
+    }
 
 pub stmts_before_close_paren : (ks : List Kind) → EndsStmts (kinds.CloseParen ∷ ks)
 stmts_before_close_paren ks =
-    record { stmt = record { expr = record { simple = record { term = record { primary = record { args = refl; selectors = refl }; factors = refl };
-      terms = refl }; compared = refl }; assign = refl; stmt = refl; returned = refl }; more = refl }
+    record {
+      stmt = record {
+        expr = record {
+          simple = record {
+            term = record { primary = record { args = refl; selectors = refl }; factors = refl };
+            terms = refl;
+          };
+          compared = refl;
+        };
+        assign = refl;
+        stmt = refl;
+        returned = refl;
+      };
+      more = refl;
+    }
 
 pub label_before_colon : (ks : List Kind) → EndsLabel (kinds.Colon ∷ ks)
 label_before_colon ks =
-    record { expr = record { simple = record { term = record { primary = record { args = refl; selectors = refl }; factors = refl }; terms = refl };
-      compared = refl }; high = refl }
+    record {
+      expr = record {
+        simple = record { term = record { primary = record { args = refl; selectors = refl }; factors = refl }; terms = refl };
+        compared = refl;
+      };
+      high = refl;
+    }
 
 pub label_before_comma : (ks : List Kind) → EndsLabel (kinds.Comma ∷ ks)
 label_before_comma ks =
-    record { expr = record { simple = record { term = record { primary = record { args = refl; selectors = refl }; factors = refl }; terms = refl };
-      compared = refl }; high = refl }
+    record {
+      expr = record {
+        simple = record { term = record { primary = record { args = refl; selectors = refl }; factors = refl }; terms = refl };
+        compared = refl;
+      };
+      high = refl;
+    }
 
 pub arm_before_bar : (ks : List Kind) → EndsArm (kinds.Bar ∷ ks)
 arm_before_bar ks =
-    record { stmts = record { stmt = record { expr = record { simple = record { term = record { primary = record { args = refl; selectors = refl };
-      factors = refl }; terms = refl }; compared = refl }; assign = refl; stmt = refl; returned = refl }; more = refl }; arm = refl }
+    record {
+      stmts = record {
+        stmt = record {
+          expr = record {
+            simple = record {
+              term = record {
+                primary = record { args = refl; selectors = refl };
+                factors = refl;
+              };
+              terms = refl;
+            };
+            compared = refl;
+          };
+          assign = refl;
+          stmt = refl;
+          returned = refl;
+        };
+        more = refl;
+      };
+      arm = refl;
+    }
 
 pub arms_before_else : (ks : List Kind) → EndsArms (kinds.Else ∷ ks)
 arms_before_else ks =
-    record { arm = record { stmts = record { stmt = record { expr = record { simple = record { term = record { primary = record { args = refl;
-      selectors = refl }; factors = refl }; terms = refl }; compared = refl }; assign = refl; stmt = refl; returned = refl }; more = refl }; arm = refl
-      }; more = refl }
+    record {
+      arm = record {
+        stmts = record {
+          stmt = record {
+            expr = record {
+              simple = record {
+                term = record {
+                  primary = record {
+                    args = refl;
+                    selectors = refl;
+                  };
+                  factors = refl;
+                };
+                terms = refl;
+              };
+              compared = refl;
+            };
+            assign = refl;
+            stmt = refl;
+            returned = refl;
+          };
+          more = refl;
+        };
+        arm = refl;
+      };
+      more = refl;
+    }
 
 pub arms_before_end : (ks : List Kind) → EndsArms (kinds.End ∷ ks)
 arms_before_end ks =
-    record { arm = record { stmts = record { stmt = record { expr = record { simple = record { term = record { primary = record { args = refl;
-      selectors = refl }; factors = refl }; terms = refl }; compared = refl }; assign = refl; stmt = refl; returned = refl }; more = refl }; arm = refl
-      }; more = refl }
+    record {
+      arm = record {
+        stmts = record {
+          stmt = record {
+            expr = record {
+              simple = record {
+                term = record {
+                  primary = record {
+                    args = refl;
+                    selectors = refl;
+                  };
+                  factors = refl;
+                };
+                terms = refl;
+              };
+              compared = refl;
+            };
+            assign = refl;
+            stmt = refl;
+            returned = refl;
+          };
+          more = refl;
+        };
+        arm = refl;
+      };
+      more = refl;
+    }
 
 -- ---- behind what is left out
 

@@ -1,4 +1,5 @@
 // Laws of the grammar, as contracts of functions without work.
+ghost use Rattle.alma_grammar.specs.Examples.{ExamplesAreReadSo};
 ghost use Rattle.alma_grammar.specs.Laws.{EachFrontIsFinished, EachProgramIsRead, EachTreeIsRead, ExactDepth, ExactPlace, OneSpelling};
 
 /// Each tree's spelling is read to its end, however deep.
@@ -29,4 +30,9 @@ pub fn exact_depth()
 /// No two trees have one spelling, where the numbers of their nodes and leaves are left aside.
 pub fn one_spelling()
     ensures once { OneSpelling }
+{}
+
+/// How reading some short lists of kinds ends.
+pub fn examples_are_read_so()
+    ensures told { ExamplesAreReadSo }
 {}

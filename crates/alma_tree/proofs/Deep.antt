@@ -29,7 +29,8 @@ one_more g o c k rest h = let x = at_least (o + one_where (opens k)) (c + one_wh
 abbrev pub Kept : (greatest opened closed i : ℕ) → List Kind → Type 0
 Kept g o c i ks = (max g (depth_from o c (drop i ks)) ≡ depth ks) × (o - c ≤ g) × (o ≤ i) × (c ≤ i)
 
-pub kept : (g o c i : ℕ) (ks : List Kind) → i < length ks → Kept g o c i ks → (a b : Bool) → a ≡ opens (get_or ks i kinds.Name) → b ≡ closes (get_or ks i kinds.Name)
+pub kept : (g o c i : ℕ) (ks : List Kind) → i < length ks → Kept g o c i ks → (a b : Bool) → a ≡ opens (get_or ks i kinds.Name) → b ≡ closes (get_or
+    ks i kinds.Name)
     → (s m : ℕ) → s ≡ o + bool_byte a - (c + bool_byte b) → m ≡ max g s → Kept m (o + bool_byte a) (c + bool_byte b) (i + 1) ks
 kept g o c i ks l h a b e f s m p q =
     let k = get_or ks i kinds.Name in

@@ -113,7 +113,8 @@ orelses_row : (n : _) (row : dt.Row_of-Stmts n) → numbers.number_orelses row �
 orelses_row n dt.end_of-Stmts = refl
 orelses_row n (dt.more_of-Stmts m b s shape row rest) =
     ap (λ g. token >> (numbers.number_stmt s >> g >> node m) >> numbers.number_orelses rest) (stmts_shown shape row)
-    ∙ ap (λ g. token >> (numbers.number_stmt s >> numbers.numbers_of_stmts (da.TheBlock.shown-the_row-Stmt-1 shape row).items >> node m) >> g) (orelses_row _ rest)
+    ∙ ap (λ g. token >> (numbers.number_stmt s >> numbers.numbers_of_stmts (da.TheBlock.shown-the_row-Stmt-1 shape row).items >> node m) >> g)
+    (orelses_row _ rest)
 
 pub orelses_kept : (v : Vec ds.Stmts Global)
     → numbers.number_orelses (da.TheBlock.hidden-the_row-Stmts-5 v) ≡ numbers.numbers_of_orelses v.items
@@ -124,7 +125,8 @@ desigs_row : (n : _) (row : dt.Row_of-Desig n) → numbers.number_desigs row ≡
 desigs_row n dt.end_of-Desig = refl
 desigs_row n (dt.more_of-Desig m l shape row rest) =
     ap (λ g. token >> (numbers.number_name l >> g >> node m) >> numbers.number_desigs rest) (selectors_shown shape row)
-    ∙ ap (λ g. token >> (numbers.number_name l >> numbers.numbers_of_selectors (da.TheBlock.shown-the_row-Selector-2 shape row).items >> node m) >> g) (desigs_row _ rest)
+    ∙ ap (λ g. token >> (numbers.number_name l >> numbers.numbers_of_selectors (da.TheBlock.shown-the_row-Selector-2 shape row).items >> node m) >>
+    g) (desigs_row _ rest)
 
 pub desigs_kept : (v : Vec dd.Desig Global)
     → numbers.number_desigs (da.TheBlock.hidden-the_row-Desig-6 v) ≡ numbers.numbers_of_desigs v.items
@@ -136,7 +138,8 @@ elsifs_row n dt.end_of-Elsif = refl
 elsifs_row n (dt.more_of-Elsif (df.Elsif' e m b s shape row) rest) =
     rw (df.outs-Elsif' e m b s shape row) (
     ap (λ g. token >> numbers.number_expr e >> token >> (numbers.number_stmt s >> g >> node m) >> numbers.number_elsifs rest) (stmts_shown shape row)
-    ∙ ap (λ g. token >> numbers.number_expr e >> token >> (numbers.number_stmt s >> numbers.numbers_of_stmts (da.TheBlock.shown-the_row-Stmt-1 shape row).items >> node m) >> g)
+    ∙ ap (λ g. token >> numbers.number_expr e >> token >> (numbers.number_stmt s >> numbers.numbers_of_stmts (da.TheBlock.shown-the_row-Stmt-1 shape
+    row).items >> node m) >> g)
     (elsifs_row _ rest))
 
 pub elsifs_kept : (v : Vec df.Elsif Global)
@@ -282,7 +285,8 @@ either_laid n s more =
 pub forall_laid : (n : _) (s t : ds.Stmts)
     → numbers.number_stmt (dt.Forall n s t) ≡ (token >> numbers.number_stmts s >> token >> numbers.number_stmts t >> token >> node n)
 forall_laid n s t =
-    ap (λ g. token >> g >> token >> (numbers.number_stmt t.first.value >> numbers.number_stmts_row (da.TheBlock.hidden-the_row-Stmt-1 t.more) >> node t.node)
+    ap (λ g. token >> g >> token >> (numbers.number_stmt t.first.value >> numbers.number_stmts_row (da.TheBlock.hidden-the_row-Stmt-1 t.more) >>
+    node t.node)
     >> token >> node n) (stmts_laid s)
     ∙ ap (λ g. token >> numbers.number_stmts s >> token >> g >> token >> node n) (stmts_laid t)
 
@@ -330,7 +334,8 @@ dimensions_row : (n : _) (row : dz.Row_of-Dimensions n) → numbers.number_dimen
 dimensions_row n dz.end_of-Dimensions = refl
 dimensions_row n (dz.more_of-Dimensions p shape row rest) =
     ap (λ g. token >> numbers.number_plain p >> g >> token >> numbers.number_dimensions rest) (plains_shown shape row)
-    ∙ ap (λ g. token >> numbers.number_plain p >> numbers.numbers_of_plains (dw.TheBlock.shown-the_row-PlainType-1 shape row).items >> token >> g) (dimensions_row _ rest)
+    ∙ ap (λ g. token >> numbers.number_plain p >> numbers.numbers_of_plains (dw.TheBlock.shown-the_row-PlainType-1 shape row).items >> token >> g)
+    (dimensions_row _ rest)
 
 pub dimensions_kept : (v : Vec dv.Dimensions Global)
     → numbers.number_dimensions (dw.TheBlock.hidden-the_row-Dimensions-2 v) ≡ numbers.numbers_of_dimensions v.items

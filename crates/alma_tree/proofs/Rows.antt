@@ -38,7 +38,8 @@ pub stmts_kept : (v : Vec dt.Stmt Global) → view.view_stmts_row (da.TheBlock.h
 stmts_kept v =
     stmts_row _ (da.TheBlock.hidden-the_row-Stmt-1 v) ∙ ap view.stmts_of (da.items_hidden-the_row-Stmt-1 v)
 
-pub stmts_laid : (s : ds.Stmts) → tree.stmts (view.view_stmt s.first.value) (view.view_stmts_row (da.TheBlock.hidden-the_row-Stmt-1 s.more)) ≡ view.view_stmts s
+pub stmts_laid : (s : ds.Stmts) → tree.stmts (view.view_stmt s.first.value) (view.view_stmts_row (da.TheBlock.hidden-the_row-Stmt-1 s.more)) ≡
+    view.view_stmts s
 stmts_laid s = ap (tree.stmts (view.view_stmt s.first.value)) (stmts_kept s.more)
 
 stmts_shown : (shape : _) (row : _) → view.view_stmts_row row ≡ view.stmts_of (da.TheBlock.shown-the_row-Stmt-1 shape row).items

@@ -6,4 +6,5 @@ use Rattle.alma_tree.proofs.spell_module.+spell_blocks.Given as goal
 
 abbrev pub invariant-push_decl_tail-loop-tree : goal.invariant-push_decl_tail-loop-tree
 invariant-push_decl_tail-loop-tree l =
-    (rest : List Kind) → l.out.items ++ spells.spell_decl_tail (view.decls_of (drop l.tree-index l.trees)) rest ≡ l.fn.out.items ++ spells.spell_decl_tail (view.decls_of l.trees) rest
+    (rest : List Kind) → l.out.items ++ spells.spell_decl_tail (view.decls_of (drop l.tree-index l.trees)) rest ≡ l.fn.out.items ++
+    spells.spell_decl_tail (view.decls_of l.trees) rest

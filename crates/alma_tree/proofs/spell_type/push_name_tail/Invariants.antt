@@ -6,4 +6,5 @@ use Rattle.alma_tree.proofs.spell_type.push_name_tail.Given as goal
 
 abbrev pub invariant-loop-name : goal.invariant-loop-name
 invariant-loop-name l =
-    (rest : List Kind) → l.out.items ++ spells.spell_name_tail (view.name_tail_of (drop l._name-index l.trees)) rest ≡ l.fn.out.items ++ spells.spell_name_tail (view.name_tail_of l.trees) rest
+    (rest : List Kind) → l.out.items ++ spells.spell_name_tail (view.name_tail_of (drop l._name-index l.trees)) rest ≡ l.fn.out.items ++
+    spells.spell_name_tail (view.name_tail_of l.trees) rest
