@@ -1,5 +1,5 @@
 -- Each front of a program can be finished.
-use Rattle.std.proofs.Common.{◌≡◌, Bool, true, false, List, [], ◌∷◌, ◌++◌, Option, None, Some, nat_eq, refl, ap, ◌∙◌}
+use Rattle.std.proofs.Common.{◌≡◌, Bool, true, false, List, ◌∷◌, ◌++◌, None, Some, nat_eq, refl, ap}
 use Rattle.alma_tree.specs.declared.kind.Kind.{Kind}
 use Rattle.alma_tree.specs.declared.kind.Kind.TheVariants as kinds
 use Rattle.alma_tree.specs.declared.leaf.Relation.TheVariants as relations
@@ -13,7 +13,7 @@ use Rattle.alma_grammar.specs.Parts.{Part, one, sign_part, factor_part, primary_
 use Rattle.alma_grammar.specs.Parts.{expr_tail, selector_tail, stmt_part, after_desig, stmt_tail, elsif_tail, else_part, by_part, orelse_tail}
 use Rattle.alma_grammar.specs.Parts.{returned_part, desig_tail, arm_part, arm_tail, high_part, label_tail, name_tail, array_tail, plain_part, plain_tail}
 use Rattle.alma_grammar.specs.Parts.{field_list_part, field_list_tail, const_tail, type_tail, var_tail, mode_part, formal_tail, params_part, params_inside}
-use Rattle.alma_grammar.specs.Parts.{result_part, decl_tail, body_part, next}
+use Rattle.alma_grammar.specs.Parts.{result_part, decl_tail, body_part}
 use Rattle.alma_grammar.specs.Parts.{if_same, begins}
 use Rattle.alma_grammar.specs.Filling.{Behind, assigned, used, InsideArgs, closed_args, filled_args, InsideParams, closed_params, filled_params}
 use Rattle.alma_grammar.specs.Filling.{Fill, spell_fill, Fills, spell_fills, WhereSome}

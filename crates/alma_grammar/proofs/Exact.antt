@@ -4,7 +4,7 @@ use Rattle.alma_tree.specs.declared.kind.Kind.{Kind}
 use Rattle.alma_tree.specs.Tree.{Module}
 use Rattle.alma_tree.specs.Spelling.{spelling}
 use Rattle.alma_grammar.specs.Parts.{Part, whole, next, all_skip}
-use Rattle.alma_grammar.specs.Reading.{reading, End, done, unexpected, too_deep, at_end, goes_on, level}
+use Rattle.alma_grammar.specs.Reading.{reading, End, done, unexpected, at_end, goes_on, level}
 use Rattle.alma_grammar.specs.Filling.{open_after, and_then, WhereSome, finish}
 use Rattle.alma_grammar.specs.Laws.{Stops, Begins}
 use Rattle.alma_grammar.proofs.ReadModule.{whole_read}

@@ -1,5 +1,5 @@
 -- What may follow a phrase, by tests of the next kind.
-use Rattle.std.proofs.Common.{◌≡◌, ℕ, Bool, true, false, List, [], ◌∷◌, nat_eq, eq-eqb, refl}
+use Rattle.std.proofs.Common.{◌≡◌, ℕ, false, List, [], ◌∷◌, nat_eq, eq-eqb, refl}
 use Rattle.alma_tree.specs.declared.kind.Kind.{Kind}
 use Rattle.alma_tree.specs.declared.kind.Kind.TheVariants as kinds
 use Rattle.alma_tree.specs.declared.leaf.Relation.TheVariants as relations

@@ -1,12 +1,12 @@
 -- The programs are what is read to its end.
-use Rattle.std.proofs.Common.{◌≡◌, ◌≤◌, ◌<◌, ℕ, ◌+◌, ◌-◌, max, true, List, [], ◌∷◌, ◌++◌, take, refl, ap, sym, ◌∙◌, subst, append-nil, lit≤, arith}
+use Rattle.std.proofs.Common.{◌≡◌, ◌≤◌, ℕ, ◌+◌, ◌-◌, true, List, [], ◌∷◌, ◌++◌, take, refl, ap, ◌∙◌, subst, append-nil, lit≤, arith}
 use Rattle.alma_tree.specs.declared.kind.Kind.{Kind}
 use Rattle.alma_tree.specs.Tree.{Module}
 use Rattle.alma_tree.specs.Spelling.{spelling}
 use Rattle.alma_tree.specs.Depth.{opens, closes, one_where, depth_from, depth}
 use Rattle.alma_grammar.specs.Parts.{whole}
 use Rattle.alma_grammar.specs.Reading.{reading, End, done, unexpected, too_deep}
-use Rattle.alma_grammar.specs.Laws.{Stops, HasDepth, IsProgram, EachProgramIsRead}
+use Rattle.alma_grammar.specs.Laws.{Stops, HasDepth, EachProgramIsRead}
 use Rattle.alma_grammar.proofs.Exact as exact
 use Rattle.alma_grammar.proofs.Depth.{has_depth, HasDepthFrom}
 
