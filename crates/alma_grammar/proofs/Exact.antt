@@ -71,7 +71,7 @@ stops front (k ∷ rest) later e h = λ t more s.
     let b : done ≡ goes_on None false (k ∷ more) (reading false more (level r.0 k))
     = sym (whole_read t) ∙ a ∙ ap (λ n. goes_on n false (k ∷ more) (reading false more (level r.0 k))) h in absurd cc
 
-finished : (front : List Kind) (later : List Part) (n : Option (List Part)) → n ≡ Some later
+pub finished : (front : List Kind) (later : List Part) (n : Option (List Part)) → n ≡ Some later
     → WhereSome n (λ parts. (t : Module) × (spelling t ≡ front ++ finish parts)) → Begins front
 finished front later None e h = absurd cc
 finished front later (Some parts) e h = (h.0, finish parts, h.1)

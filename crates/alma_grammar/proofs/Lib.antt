@@ -8,6 +8,7 @@ pub mod Once
 pub mod OnceEnds
 pub mod OncePhrases
 pub mod OnceTypes
+pub mod Only
 pub mod Programs
 pub mod ReadModule
 pub mod ReadPhrases

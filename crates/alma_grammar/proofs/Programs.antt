@@ -24,7 +24,7 @@ at_least o c [] = omega arith
 at_least o c (k ∷ ks) = omega arith
 
 -- a longer list is at least as deep
-deeper_front : (o c : ℕ) (front rest : List Kind) → depth_from o c (front ++ take 1 rest) ≤ depth_from o c (front ++ rest)
+pub deeper_front : (o c : ℕ) (front rest : List Kind) → depth_from o c (front ++ take 1 rest) ≤ depth_from o c (front ++ rest)
 deeper_front o c [] [] = omega arith
 deeper_front o c [] (k ∷ rest) = let x = at_least (o + one_where (opens k)) (c + one_where (closes k)) rest in omega arith
 deeper_front o c (k ∷ front) rest =
@@ -32,7 +32,7 @@ deeper_front o c (k ∷ front) rest =
 
 -- ---- each program is read
 
-not_stopped : (t : Module) (front rest : List Kind) → spelling t ≡ front ++ rest → Stops front rest → ⊥
+pub not_stopped : (t : Module) (front rest : List Kind) → spelling t ≡ front ++ rest → Stops front rest → ⊥
 not_stopped t front [] s h = h t (s ∙ append-nil front)
 not_stopped t front (k ∷ rest) s h = h t rest s
 

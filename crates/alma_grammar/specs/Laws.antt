@@ -52,3 +52,26 @@ pub record EachProgramIsRead : Type 0 where
 -- No two trees have one spelling.
 abbrev pub OneSpelling : Type 0
 OneSpelling = (t u : Module) → spelling t ≡ spelling u → t ≡ u
+
+-- the token behind this front is unexpected, and no token before it is too deep
+pub record IsUnexpected (front rest : List Kind) : Type 0 where
+  pub begins : Begins front
+  pub stops : Stops front rest
+  pub bounded : depth front ≤ 100
+
+-- the token behind this front may stand there, and it is the first that is too deep
+pub record IsTooDeep (front rest : List Kind) : Type 0 where
+  pub begins : Begins (front ++ take 1 rest)
+  pub bounded : depth front ≤ 100
+  pub deep : 100 < depth (front ++ take 1 rest)
+
+-- what an end says of the list, in words of trees and depths alone
+abbrev pub IsExact : List Kind → End → Type 0
+IsExact ks done = IsProgram ks
+IsExact ks (unexpected rest) = (front : List Kind) × (ks ≡ front ++ rest) × IsUnexpected front rest
+IsExact ks (too_deep rest) = (front : List Kind) × (ks ≡ front ++ rest) × IsTooDeep front rest
+
+-- What is so of a list is how reading it ends, and of each list one of these facts holds and no other.
+pub record ExactEnds : Type 0 where
+  pub ends_so : (ks : List Kind) → IsExact ks (reading true ks 0 whole)
+  pub only_so : (ks : List Kind) (e : End) → IsExact ks e → reading true ks 0 whole ≡ e

@@ -1,6 +1,6 @@
 // Laws of the grammar, as contracts of functions without work.
 ghost use Rattle.alma_grammar.specs.Examples.{ExamplesAreReadSo};
-ghost use Rattle.alma_grammar.specs.Laws.{EachFrontIsFinished, EachProgramIsRead, EachTreeIsRead, ExactDepth, ExactPlace, OneSpelling};
+ghost use Rattle.alma_grammar.specs.Laws.{EachFrontIsFinished, EachProgramIsRead, EachTreeIsRead, ExactDepth, ExactEnds, ExactPlace, OneSpelling};
 
 /// Each tree's spelling is read to its end, however deep.
 pub fn each_tree_is_read()
@@ -35,4 +35,9 @@ pub fn one_spelling()
 /// How reading some short lists of kinds ends.
 pub fn examples_are_read_so()
     ensures told { ExamplesAreReadSo }
+{}
+
+/// Reading a list of kinds ends in what is so of it by trees and depths alone, and nothing else is so of it.
+pub fn exact_ends()
+    ensures exact { ExactEnds }
 {}
