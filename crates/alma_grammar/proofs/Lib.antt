@@ -1,0 +1,16 @@
+pub mod Begun
+pub mod Depth
+pub mod Ends
+pub mod Exact
+pub mod Finish
+pub mod Nesting
+pub mod Once
+pub mod OnceEnds
+pub mod OncePhrases
+pub mod OnceTypes
+pub mod Only
+pub mod Programs
+pub mod ReadModule
+pub mod ReadPhrases
+pub mod ReadTypes
+pub mod SameKind

@@ -1,0 +1,5 @@
+use Rattle.alma_grammar.proofs.ReadModule.{whole_read}
+use Rattle.alma_grammar.proofs.laws.each_tree_is_read.Goals as goal
+
+pub returns : goal.returns
+returns c = record { read = whole_read }
