@@ -1,4 +1,11 @@
+pub mod Begun
+pub mod Depth
 pub mod Ends
+pub mod Exact
+pub mod Finish
+pub mod Nesting
+pub mod Programs
 pub mod ReadModule
 pub mod ReadPhrases
 pub mod ReadTypes
+pub mod SameKind

@@ -40,9 +40,14 @@ HasDepth ks (too_deep rest) = (front : List Kind) × (ks ≡ front ++ rest) × (
 abbrev pub ExactDepth : Type 0
 ExactDepth = (ks : List Kind) → HasDepth ks (reading true ks 0 whole)
 
--- Where all is read, the tokens are the spelling of a tree.
-abbrev pub EachProgramIsRead : Type 0
-EachProgramIsRead = (ks : List Kind) → reading true ks 0 whole ≡ done → (t : Module) × (spelling t ≡ ks)
+-- A list of kinds is a program where some tree spells it and its depth is at most 100.
+abbrev pub IsProgram : List Kind → Type 0
+IsProgram ks = ((t : Module) × (spelling t ≡ ks)) × (depth ks ≤ 100)
+
+-- Each program is read to its end, and what is read to its end is a program.
+pub record EachProgramIsRead : Type 0 where
+  pub programs_are_read : (ks : List Kind) → IsProgram ks → reading true ks 0 whole ≡ done
+  pub what_is_read : (ks : List Kind) → reading true ks 0 whole ≡ done → IsProgram ks
 
 -- No two trees have one spelling.
 abbrev pub OneSpelling : Type 0

@@ -1,7 +1,27 @@
 // Laws of the grammar, as contracts of functions without work.
-ghost use Rattle.alma_grammar.specs.Laws.{EachTreeIsRead};
+ghost use Rattle.alma_grammar.specs.Laws.{EachFrontIsFinished, EachProgramIsRead, EachTreeIsRead, ExactDepth, ExactPlace};
 
-/// Each tree's spelling is read to its end.
+/// Each tree's spelling is read to its end, however deep.
 pub fn each_tree_is_read()
     ensures read { EachTreeIsRead }
+{}
+
+/// The tokens read so far, followed by the shortest rest of each part that is still open, are the spelling of a tree.
+pub fn each_front_is_finished()
+    ensures finished { EachFrontIsFinished }
+{}
+
+/// Reading comes to the end at the programs and at nothing else.
+pub fn each_program_is_read()
+    ensures read { EachProgramIsRead }
+{}
+
+/// Where reading ends at an unexpected token, some tree's spelling begins with the tokens before it, and none with them and it.
+pub fn exact_place()
+    ensures exact { ExactPlace }
+{}
+
+/// The depth passes 100 at no token before the one that is refused, and it passes 100 there where that is too deep.
+pub fn exact_depth()
+    ensures exact { ExactDepth }
 {}

@@ -3,4 +3,4 @@
 
 mod laws;
 
-pub use laws::each_tree_is_read;
+pub use laws::{each_front_is_finished, each_program_is_read, each_tree_is_read, exact_depth, exact_place};

@@ -2,10 +2,9 @@
 use Rattle.std.proofs.Common.{◌≡◌, ◌≤◌, ◌<◌, ◌+◌, ℕ, suc, pred, Bool, true, false, List, [], ◌∷◌, ◌++◌, Option, None, Some, length, nat_eq, nat_lt, eq-eqb}
 use Rattle.std.proofs.Common.{refl, ap, sym, ◌∙◌, subst, le_trans, le_refl, arith}
 use Rattle.alma_tree.specs.declared.kind.Kind.{Kind}
-use Rattle.alma_tree.specs.declared.leaf.Leaf.{Leaf}
 use Rattle.alma_tree.specs.Kinds.{code}
 use Rattle.alma_tree.specs.Depth.{opens, closes}
-use Rattle.alma_tree.specs.Numbers.{Place, past, node, leaf, ◌>>=◌}
+use Rattle.alma_tree.specs.Numbers.{Cursor, Step, token, node, ◌>>◌, and_then}
 use Rattle.alma_grammar.specs.Parts.{Part, one}
 use Rattle.alma_grammar.specs.Reading.{reading, End, unexpected, too_deep}
 use Rattle.alma_parse.specs.declared.fault.Fault.{Fault}
@@ -29,33 +28,30 @@ is_closed k ks d o h g = rw (eq-eqb (code k) (code k) refl, h, g) refl
 from : (a b : List Kind) (d : ℕ) (o : List Part) → a ≡ b → reading true a d o ≡ reading true b d o
 from a b d o e = ap (λ x. reading true x d o) e
 
-placed : (a b : At) → (b.place ≡ past a.place) × Few b → (Some (past a.place) ≡ Some b.place) × Few b
-placed a b x = (ap Some (sym x.0), x.1)
-
 pub passed : {k : Kind} {d : ℕ} {a b : At} → opens k ≡ false → closes k ≡ false → Passes k a b
-    → Reads (λ r. k ∷ r) (λ x. Some (past x)) (λ o. one k ∷ o) d d a b
+    → Reads (λ r. k ∷ r) token (λ o. one k ∷ o) d d a b
 passed {k = k} {d = d} {a = a} {b = b} h g x = record {
   spelled_so = x.kinds_so;
-  numbered_so = λ f. placed a b (x.place_so f);
+  numbered_so = x.place_so;
   reads = λ o. from a.kinds (k ∷ b.kinds) d (one k ∷ o) x.kinds_so ∙ is_taken k b.kinds d o h g;
   shorter = omega (arith, x.shorter);
 }
 
 pub opened : {k : Kind} {d e : ℕ} {a b : At} → opens k ≡ true → Opens k d e a b
-    → Reads (λ r. k ∷ r) (λ x. Some (past x)) (λ o. one k ∷ o) d e a b
+    → Reads (λ r. k ∷ r) token (λ o. one k ∷ o) d e a b
 opened {k = k} {d = d} {e = e} {a = a} {b = b} h x = record {
   spelled_so = x.passes.kinds_so;
-  numbered_so = λ f. placed a b (x.passes.place_so f);
+  numbered_so = x.passes.place_so;
   reads = λ o. from a.kinds (k ∷ b.kinds) d (one k ∷ o) x.passes.kinds_so ∙ is_opened k b.kinds d o h x.shallow
       ∙ ap (λ n. reading true b.kinds n o) (sym x.deeper);
   shorter = omega (arith, x.passes.shorter);
 }
 
 pub closed : {k l : Kind} {d e : ℕ} {a b f g : At} → opens k ≡ false → closes k ≡ true → Opens l d e f g → Passes k a b
-    → Reads (λ r. k ∷ r) (λ x. Some (past x)) (λ o. one k ∷ o) e d a b
+    → Reads (λ r. k ∷ r) token (λ o. one k ∷ o) e d a b
 closed {k = k} {l = l} {d = d} {e = e} {a = a} {b = b} h g y x = record {
   spelled_so = x.kinds_so;
-  numbered_so = λ f. placed a b (x.place_so f);
+  numbered_so = x.place_so;
   reads = λ o. from a.kinds (k ∷ b.kinds) e (one k ∷ o) x.kinds_so ∙ is_closed k b.kinds e o h g
       ∙ ap (λ n. reading true b.kinds (pred n) o) y.deeper;
   shorter = omega (arith, x.shorter);
@@ -63,7 +59,7 @@ closed {k = k} {l = l} {d = d} {e = e} {a = a} {b = b} h g y x = record {
 
 -- ---- numbers
 
-node_same : (at : Place) → node at.node at ≡ Some (record { token = at.token; node = suc at.node })
+node_same : (at : Cursor) → node at.node at ≡ Some (record { token = at.token; node = suc at.node })
 node_same at = rw (eq-eqb at.node at.node refl) refl
 
 pub counted : {n d : ℕ} {a b : At} → Counts n a b → Reads (λ r. r) (node n) (λ o. o) d d a b
@@ -79,11 +75,11 @@ counted {n = n} {d = d} {a = a} {b = b} x = record {
 
 -- ---- one behind the other
 
-bound : (o : Option Place) (p : Place) (f : Place → Option Place) → o ≡ Some p → (o >>= f) ≡ f p
-bound o p f e = ap (λ x. x >>= f) e
+bound : (o : Option Cursor) (p : Cursor) (f : Step) → o ≡ Some p → and_then o f ≡ f p
+bound o p f e = ap (λ x. and_then x f) e
 
-pub then : {s t : List Kind → List Kind} {n m : Place → Option Place} {p q : List Part → List Part} {d e f : ℕ} {a b c : At}
-    → Reads s n p d e a b → Reads t m q e f b c → Reads (λ r. s (t r)) (λ x. n x >>= m) (λ o. p (q o)) d f a c
+pub then : {s t : List Kind → List Kind} {n m : Step} {p q : List Part → List Part} {d e f : ℕ} {a b c : At}
+    → Reads s n p d e a b → Reads t m q e f b c → Reads (λ r. s (t r)) (n >> m) (λ o. p (q o)) d f a c
 then {s = s} {t = t} {n = n} {m = m} {p = p} {q = q} {d = d} {e = e} {f = f} {a = a} {b = b} {c = c} x y = record {
   spelled_so = x.spelled_so ∙ ap s y.spelled_so;
   numbered_so = λ h. let u = x.numbered_so h in let v = y.numbered_so u.1 in
@@ -93,11 +89,11 @@ then {s = s} {t = t} {n = n} {m = m} {p = p} {q = q} {d = d} {e = e} {f = f} {a 
 }
 
 -- the same in other words
-pub same : {s t : List Kind → List Kind} {n m : Place → Option Place} {p : List Part → List Part} {d e : ℕ} {a b : At}
+pub same : {s t : List Kind → List Kind} {n m : Step} {p : List Part → List Part} {d e : ℕ} {a b : At}
     → s ≡ t → n ≡ m → Reads s n p d e a b → Reads t m p d e a b
 same {s = s} {t = t} {n = n} {m = m} {p = p} {d = d} {e = e} {a = a} {b = b} u v x = record {
   spelled_so = x.spelled_so ∙ ap (λ f. f b.kinds) u;
-  numbered_so = λ h. (sym (ap (λ f. f a.place) v) ∙ (x.numbered_so h).0, (x.numbered_so h).1);
+  numbered_so = λ k h. (sym (ap (λ f. f a.place) v) ∙ (x.numbered_so k h).0, (x.numbered_so k h).1);
   reads = x.reads;
   shorter = x.shorter;
 }
@@ -108,7 +104,7 @@ pub moved : (e : Fault) (x y : End) → x ≡ y → EndsIn e y → EndsIn e x
 moved e x y q h = subst (EndsIn e) (sym q) h
 
 -- a fault behind what was read
-pub after : {s : List Kind → List Kind} {n : Place → Option Place} {p q : List Part → List Part} {d e : ℕ} {a b : At} {fault : Fault}
+pub after : {s : List Kind → List Kind} {n : Step} {p q : List Part → List Part} {d e : ℕ} {a b : At} {fault : Fault}
     → Reads s n p d e a b → Fails fault q e b → Fails fault (λ o. p (q o)) d a
 after {s = s} {n = n} {p = p} {q = q} {d = d} {e = e} {a = a} {b = b} {fault = fault} x y = record { ends = λ o. moved fault _ _ (x.reads (q o)) (y.ends o) }
 
@@ -123,8 +119,8 @@ no_memory = record { ends = λ o. tt }
 -- ---- loops
 
 -- From a to b the parser read some turns of a loop, which leave the part open.
-pub record Loops (spelled : List Kind → List Kind) (numbered : Place → Option Place) (p : Part) (d : ℕ) (a b : At) : Type 0 where
+pub record Loops (spelled : List Kind → List Kind) (numbered : Step) (p : Part) (d : ℕ) (a b : At) : Type 0 where
   pub spelled_so : a.kinds ≡ spelled b.kinds
-  pub numbered_so : Few a → (numbered a.place ≡ Some b.place) × Few b
+  pub numbered_so : (tokens : ℕ) → Few tokens a → (numbered a.place ≡ Some b.place) × Few tokens b
   pub reads : (open_parts : List Part) → reading true a.kinds d (p ∷ open_parts) ≡ reading true b.kinds d (p ∷ open_parts)
   pub shorter : length b.kinds ≤ length a.kinds

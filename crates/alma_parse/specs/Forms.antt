@@ -13,7 +13,9 @@ use Rattle.alma_tree.specs.declared.module.TypeEntry.{TypeEntry}
 use Rattle.alma_tree.specs.declared.module.VarEntry.{VarEntry}
 use Rattle.alma_tree.specs.Spelling.{spell_expr, spell_type_node, spell_names}
 use Rattle.alma_tree.specs.View.{view_expr, view_exprs, view_type_node, view_names, view_formals}
-use Rattle.alma_tree.specs.Numbers.{Place, past, name, ◌>>=◌, number_expr, number_type_node, number_names}
+use Rattle.alma_tree.specs.declared.type_node.Dimensions.{Dimensions}
+use Rattle.alma_tree.specs.Numbers.{Step, token, ◌>>◌, number_name, number_expr, number_exprs, number_type, number_names, number_formals}
+use Rattle.alma_tree.specs.Numbers.{number_plain, numbers_of_plains}
 use Rattle.alma_grammar.specs.Filling.{InsideArgs, closed_args, filled_args, InsideParams, closed_params, filled_params}
 use Rattle.alma_parse.specs.declared.form.StmtForm.{StmtForm}
 use Rattle.alma_parse.specs.declared.form.StmtForm.TheVariants as stmt_forms
@@ -205,20 +207,33 @@ formals_parts o = formal_parts (formal_tail ∷ o)
 
 -- one entry of CONST, of TYPE and of VAR
 
-abbrev pub spell_const : ConstEntry → List Kind → List Kind
-spell_const e rest = kinds.Name ∷ kinds.Equal ∷ spell_expr (view_expr e.value) (kinds.Semicolon ∷ rest)
+abbrev pub spell_const_entry : ConstEntry → List Kind → List Kind
+spell_const_entry e rest = kinds.Name ∷ kinds.Equal ∷ spell_expr (view_expr e.value) (kinds.Semicolon ∷ rest)
 
-abbrev pub spell_type : TypeEntry → List Kind → List Kind
-spell_type e rest = kinds.Name ∷ kinds.Equal ∷ spell_type_node (view_type_node e.type_node) (kinds.Semicolon ∷ rest)
+abbrev pub spell_type_entry : TypeEntry → List Kind → List Kind
+spell_type_entry e rest = kinds.Name ∷ kinds.Equal ∷ spell_type_node (view_type_node e.type_node) (kinds.Semicolon ∷ rest)
 
-abbrev pub spell_var : VarEntry → List Kind → List Kind
-spell_var e rest = spell_names (view_names e.names) (kinds.Colon ∷ spell_type_node (view_type_node e.type_node) (kinds.Semicolon ∷ rest))
+abbrev pub spell_var_entry : VarEntry → List Kind → List Kind
+spell_var_entry e rest = spell_names (view_names e.names) (kinds.Colon ∷ spell_type_node (view_type_node e.type_node) (kinds.Semicolon ∷ rest))
 
-abbrev pub number_const : ConstEntry → Place → Option Place
-number_const e at = name e.name at >>= λ x. number_expr e.value (past x) >>= λ x. Some (past x)
+abbrev pub number_const_entry : ConstEntry → Step
+number_const_entry e = number_name e.name >> token >> number_expr e.value >> token
 
-abbrev pub number_type : TypeEntry → Place → Option Place
-number_type e at = name e.name at >>= λ x. number_type_node e.type_node (past x) >>= λ x. Some (past x)
+abbrev pub number_type_entry : TypeEntry → Step
+number_type_entry e = number_name e.name >> token >> number_type e.type_node >> token
 
-abbrev pub number_var : VarEntry → Place → Option Place
-number_var e at = number_names e.names at >>= λ x. number_type_node e.type_node (past x) >>= λ x. Some (past x)
+abbrev pub number_var_entry : VarEntry → Step
+number_var_entry e = number_names e.names >> token >> number_type e.type_node >> token
+
+-- ---- numbers of what has no name in the tree: what stands behind an opening parenthesis, and the dimensions of one ARRAY
+
+abbrev pub number_inside_args : Option Exprs → Step
+number_inside_args None = token
+number_inside_args (Some es) = number_exprs es >> token
+
+abbrev pub number_inside_params : Option Formals → Step
+number_inside_params None = token
+number_inside_params (Some f) = number_formals f >> token
+
+abbrev pub number_dimension : Dimensions → Step
+number_dimension d = token >> number_plain d.first >> numbers_of_plains d.more.items >> token

@@ -17,14 +17,14 @@ impl<'t, 's> Cursor<'t, 's> {
     ghost use Rattle.std.specs.Prelude.{◌≡◌, ℕ, ◌∷◌, [], MatchOption, MatchResult, true, false, Some};
     ghost use Rattle.alma_tree.specs.declared.kind.Kind.TheVariants as kinds;
     ghost use Rattle.alma_tree.specs.Depth.{opens};
-    ghost use Rattle.alma_tree.specs.Numbers.{leaf, name, first_place};
+    ghost use Rattle.alma_tree.specs.Numbers.{number_name};
     ghost use Rattle.alma_grammar.specs.Parts.{one};
     ghost use Rattle.alma_parse.specs.declared.fault.Fault.TheVariants as faults;
     ghost use Rattle.alma_parse.specs.Parsing.{seen, kinds_of, starts_with, Passes, Opens, Counts, Reads, Fails};
 
     /// At the first of the tokens.
     pub fn start(tokens: &'t [Token<'s>]) -> Self
-        ensures start { seen result ≡ record { kinds = kinds_of tokens.now; place = first_place } }
+        ensures start { seen result ≡ record { kinds = kinds_of tokens.now; place = record { token = 0; node = 0 } } }
     {
         Cursor {
             rest: tokens,
@@ -109,7 +109,7 @@ impl<'t, 's> Cursor<'t, 's> {
     /// The name that has to stand here.
     pub fn name(self) -> Result<(Name, Self), Fault<'t, 's>>
         ensures read { MatchResult result
-            (λ t. (d : ℕ) → Reads (λ r. kinds.Name ∷ r) (name t.0) (λ o. one kinds.Name ∷ o) d d (seen self.entry) (seen t.1))
+            (λ t. (d : ℕ) → Reads (λ r. kinds.Name ∷ r) (number_name t.0) (λ o. one kinds.Name ∷ o) d d (seen self.entry) (seen t.1))
             (λ e. (d : ℕ) → Fails e (λ o. one kinds.Name ∷ o) d (seen self.entry)) }
     {
         let after = self.expect(Kind::Name)?;

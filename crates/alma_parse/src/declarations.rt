@@ -5,14 +5,14 @@ ghost use Rattle.alma_tree.specs.Spelling.{spell_const_tail, spell_type_tail, sp
 ghost use Rattle.alma_tree.specs.Spelling.{spell_result_name, spell_body, spell_block, spell_decl_tail, spell_decl};
 ghost use Rattle.alma_tree.specs.View.{consts_of, types_of, vars_of, view_formal, formal_tail_of, view_formals, params_of, result_of, body_of};
 ghost use Rattle.alma_tree.specs.View.{view_decl, decls_of, view_block};
-ghost use Rattle.alma_tree.specs.Numbers.{each_const, each_type, each_var, number_formal, each_formal, number_formals, inside_params, optional_params};
-ghost use Rattle.alma_tree.specs.Numbers.{optional_result, optional_body, number_decl, each_decl, number_block};
+ghost use Rattle.alma_tree.specs.Numbers.{numbers_of_consts, numbers_of_types, numbers_of_vars, number_formal, numbers_of_formals, number_formals, number_inside_params, numbers_of_params};
+ghost use Rattle.alma_tree.specs.Numbers.{numbers_of_result, numbers_of_body, number_decl, numbers_of_decls, number_block};
 ghost use Rattle.alma_grammar.specs.Parts.{const_tail, type_tail, var_tail, formal_tail, params_part, params_inside, result_part, decl_tail, body_part};
 ghost use Rattle.alma_grammar.specs.Parts.{formal_parts, block_parts};
 ghost use Rattle.alma_grammar.specs.Filling.{spell_inside_params};
 ghost use Rattle.alma_parse.specs.Forms.{const_entry_parts, type_entry_parts, var_entry_parts, const_decl_parts, type_decl_parts, var_decl_parts};
-ghost use Rattle.alma_parse.specs.Forms.{procedure_parts, decl_form_parts, formals_parts, inside_params_of, spell_const, spell_type, spell_var};
-ghost use Rattle.alma_parse.specs.Forms.{number_const, number_type, number_var};
+ghost use Rattle.alma_parse.specs.Forms.{procedure_parts, decl_form_parts, formals_parts, inside_params_of, spell_const_entry, spell_type_entry, spell_var_entry};
+ghost use Rattle.alma_parse.specs.Forms.{number_const_entry, number_type_entry, number_var_entry};
 ghost use Rattle.alma_parse.specs.Parsing.{seen, Reads, Fails};
 
 use crate::cursor::Cursor;
@@ -49,7 +49,7 @@ fn decl_list<'t, 's>(
     depth: u32,
 ) -> Result<(Vec<Decl>, Cursor<'t, 's>), Fault<'t, 's>>
     ensures read { MatchResult result
-        (λ t. Reads (spell_decl_tail (decls_of t.0.items)) (each_decl t.0.items) (λ o. decl_tail ∷ o) depth depth (seen at.entry) (seen t.1))
+        (λ t. Reads (spell_decl_tail (decls_of t.0.items)) (numbers_of_decls t.0.items) (λ o. decl_tail ∷ o) depth depth (seen at.entry) (seen t.1))
         (λ e. Fails e (λ o. decl_tail ∷ o) depth (seen at.entry)) }
 {
     let mut more = Vec::new(alloc);
@@ -134,7 +134,7 @@ fn const_entries<'t, 's>(
     depth: u32,
 ) -> Result<(Vec<ConstEntry>, Cursor<'t, 's>), Fault<'t, 's>>
     ensures read { MatchResult result
-        (λ t. Reads (spell_const_tail (consts_of t.0.items)) (each_const t.0.items) (λ o. const_tail ∷ o) depth depth (seen at.entry) (seen t.1))
+        (λ t. Reads (spell_const_tail (consts_of t.0.items)) (numbers_of_consts t.0.items) (λ o. const_tail ∷ o) depth depth (seen at.entry) (seen t.1))
         (λ e. Fails e (λ o. const_tail ∷ o) depth (seen at.entry)) }
 {
     let mut more = Vec::new(alloc);
@@ -151,7 +151,7 @@ fn const_entry<'t, 's>(
     at: Cursor<'t, 's>,
     depth: u32,
 ) -> Result<(ConstEntry, Cursor<'t, 's>), Fault<'t, 's>>
-    ensures read { MatchResult result (λ t. Reads (spell_const t.0) (number_const t.0) const_entry_parts depth depth (seen at.entry) (seen t.1))
+    ensures read { MatchResult result (λ t. Reads (spell_const_entry t.0) (number_const_entry t.0) const_entry_parts depth depth (seen at.entry) (seen t.1))
         (λ e. Fails e const_entry_parts depth (seen at.entry)) }
     ensures shorter { IfOk result (λ t. length (seen t.1).kinds < length (seen at.entry).kinds) }
 {
@@ -183,7 +183,7 @@ fn type_entries<'t, 's>(
     depth: u32,
 ) -> Result<(Vec<TypeEntry>, Cursor<'t, 's>), Fault<'t, 's>>
     ensures read { MatchResult result
-        (λ t. Reads (spell_type_tail (types_of t.0.items)) (each_type t.0.items) (λ o. type_tail ∷ o) depth depth (seen at.entry) (seen t.1))
+        (λ t. Reads (spell_type_tail (types_of t.0.items)) (numbers_of_types t.0.items) (λ o. type_tail ∷ o) depth depth (seen at.entry) (seen t.1))
         (λ e. Fails e (λ o. type_tail ∷ o) depth (seen at.entry)) }
 {
     let mut more = Vec::new(alloc);
@@ -200,7 +200,7 @@ fn type_entry<'t, 's>(
     at: Cursor<'t, 's>,
     depth: u32,
 ) -> Result<(TypeEntry, Cursor<'t, 's>), Fault<'t, 's>>
-    ensures read { MatchResult result (λ t. Reads (spell_type t.0) (number_type t.0) type_entry_parts depth depth (seen at.entry) (seen t.1))
+    ensures read { MatchResult result (λ t. Reads (spell_type_entry t.0) (number_type_entry t.0) type_entry_parts depth depth (seen at.entry) (seen t.1))
         (λ e. Fails e type_entry_parts depth (seen at.entry)) }
     ensures shorter { IfOk result (λ t. length (seen t.1).kinds < length (seen at.entry).kinds) }
 {
@@ -232,7 +232,7 @@ fn var_entries<'t, 's>(
     depth: u32,
 ) -> Result<(Vec<VarEntry>, Cursor<'t, 's>), Fault<'t, 's>>
     ensures read { MatchResult result
-        (λ t. Reads (spell_var_tail (vars_of t.0.items)) (each_var t.0.items) (λ o. var_tail ∷ o) depth depth (seen at.entry) (seen t.1))
+        (λ t. Reads (spell_var_tail (vars_of t.0.items)) (numbers_of_vars t.0.items) (λ o. var_tail ∷ o) depth depth (seen at.entry) (seen t.1))
         (λ e. Fails e (λ o. var_tail ∷ o) depth (seen at.entry)) }
 {
     let mut more = Vec::new(alloc);
@@ -249,7 +249,7 @@ fn var_entry<'t, 's>(
     at: Cursor<'t, 's>,
     depth: u32,
 ) -> Result<(VarEntry, Cursor<'t, 's>), Fault<'t, 's>>
-    ensures read { MatchResult result (λ t. Reads (spell_var t.0) (number_var t.0) var_entry_parts depth depth (seen at.entry) (seen t.1))
+    ensures read { MatchResult result (λ t. Reads (spell_var_entry t.0) (number_var_entry t.0) var_entry_parts depth depth (seen at.entry) (seen t.1))
         (λ e. Fails e var_entry_parts depth (seen at.entry)) }
     ensures shorter { IfOk result (λ t. length (seen t.1).kinds < length (seen at.entry).kinds) }
 {
@@ -266,7 +266,7 @@ fn params<'t, 's>(
     depth: u32,
 ) -> Result<(Option<Params>, Cursor<'t, 's>), Fault<'t, 's>>
     ensures read { MatchResult result
-        (λ t. Reads (spell_params (params_of t.0)) (optional_params t.0) (λ o. params_part ∷ o) depth depth (seen at.entry) (seen t.1))
+        (λ t. Reads (spell_params (params_of t.0)) (numbers_of_params t.0) (λ o. params_part ∷ o) depth depth (seen at.entry) (seen t.1))
         (λ e. Fails e (λ o. params_part ∷ o) depth (seen at.entry)) }
 {
     if !at.is_at(Kind::OpenParen) {
@@ -284,7 +284,7 @@ fn params_values<'t, 's>(
     depth: u32,
 ) -> Result<(Option<Formals>, Cursor<'t, 's>), Fault<'t, 's>>
     ensures read { MatchResult result
-        (λ t. Reads (spell_inside_params (inside_params_of t.0)) (inside_params t.0) (λ o. params_inside ∷ o) depth (pred depth) (seen at.entry) (seen t.1))
+        (λ t. Reads (spell_inside_params (inside_params_of t.0)) (number_inside_params t.0) (λ o. params_inside ∷ o) depth (pred depth) (seen at.entry) (seen t.1))
         (λ e. Fails e (λ o. params_inside ∷ o) depth (seen at.entry)) }
 {
     if let Some(after) = at.skip(Kind::CloseParen) {
@@ -315,7 +315,7 @@ fn formal_list<'t, 's>(
     depth: u32,
 ) -> Result<(Vec<Formal>, Cursor<'t, 's>), Fault<'t, 's>>
     ensures read { MatchResult result
-        (λ t. Reads (spell_formal_tail (formal_tail_of t.0.items)) (each_formal t.0.items) (λ o. formal_tail ∷ o) depth depth (seen at.entry) (seen t.1))
+        (λ t. Reads (spell_formal_tail (formal_tail_of t.0.items)) (numbers_of_formals t.0.items) (λ o. formal_tail ∷ o) depth depth (seen at.entry) (seen t.1))
         (λ e. Fails e (λ o. formal_tail ∷ o) depth (seen at.entry)) }
 {
     let mut more = Vec::new(alloc);
@@ -354,7 +354,7 @@ fn formal<'t, 's>(
 /// The name of a result's type, or none.
 fn result_name<'t, 's>(at: Cursor<'t, 's>) -> Result<(Option<Name>, Cursor<'t, 's>), Fault<'t, 's>>
     ensures read { MatchResult result
-        (λ t. (d : ℕ) → Reads (spell_result_name (result_of t.0)) (optional_result t.0) (λ o. result_part ∷ o) d d (seen at.entry) (seen t.1))
+        (λ t. (d : ℕ) → Reads (spell_result_name (result_of t.0)) (numbers_of_result t.0) (λ o. result_part ∷ o) d d (seen at.entry) (seen t.1))
         (λ e. (d : ℕ) → Fails e (λ o. result_part ∷ o) d (seen at.entry)) }
 {
     let Some(at) = at.skip(Kind::Colon) else {
@@ -369,7 +369,7 @@ fn body<'t, 's>(
     at: Cursor<'t, 's>,
     depth: u32,
 ) -> Result<(Option<Stmts>, Cursor<'t, 's>), Fault<'t, 's>>
-    ensures read { MatchResult result (λ t. Reads (spell_body (body_of t.0)) (optional_body t.0) (λ o. body_part ∷ o) depth depth (seen at.entry) (seen t.1))
+    ensures read { MatchResult result (λ t. Reads (spell_body (body_of t.0)) (numbers_of_body t.0) (λ o. body_part ∷ o) depth depth (seen at.entry) (seen t.1))
         (λ e. Fails e (λ o. body_part ∷ o) depth (seen at.entry)) }
 {
     let Some(at) = at.skip(Kind::Begin) else {

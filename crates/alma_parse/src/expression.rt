@@ -6,8 +6,8 @@ ghost use Rattle.alma_tree.specs.Spelling.{spell_factor, spell_primary, spell_ar
 ghost use Rattle.alma_tree.specs.Spelling.{spell_selector};
 ghost use Rattle.alma_tree.specs.View.{view_expr, compared_of, view_simple, terms_of, view_term, factors_of, view_factor, view_primary, args_of};
 ghost use Rattle.alma_tree.specs.View.{args_values, view_exprs, exprs_of, view_desig, selectors_of, view_selector};
-ghost use Rattle.alma_tree.specs.Numbers.{past, signed, number_expr, optional_compared, number_simple, each_term, number_term, each_factor};
-ghost use Rattle.alma_tree.specs.Numbers.{number_factor, number_primary, optional_args, inside_args, number_exprs, each_expr, number_desig, each_selector};
+ghost use Rattle.alma_tree.specs.Numbers.{◌>>◌, number_sign, number_expr, numbers_of_compared, number_simple, numbers_of_terms, number_term, numbers_of_factors};
+ghost use Rattle.alma_tree.specs.Numbers.{number_factor, number_primary, numbers_of_args, number_inside_args, number_exprs, numbers_of_exprs, number_desig, numbers_of_selectors};
 ghost use Rattle.alma_tree.specs.Numbers.{number_selector};
 ghost use Rattle.alma_grammar.specs.Filling.{spell_inside_args};
 ghost use Rattle.alma_grammar.specs.Parts.{Part, one, factor_part, primary_part, factor_tail, term_tail, compared_part, args_part, args_inside, expr_tail};
@@ -63,7 +63,7 @@ fn compared<'t, 's>(
     depth: u32,
 ) -> Result<(Option<Box<Compared>>, Cursor<'t, 's>), Fault<'t, 's>>
     ensures read { MatchResult result
-        (λ t. Reads (spell_compared (compared_of t.0)) (optional_compared t.0) (λ o. compared_part ∷ o) depth depth (seen at.entry) (seen t.1))
+        (λ t. Reads (spell_compared (compared_of t.0)) (numbers_of_compared t.0) (λ o. compared_part ∷ o) depth depth (seen at.entry) (seen t.1))
         (λ e. Fails e (λ o. compared_part ∷ o) depth (seen at.entry)) }
 {
     let Some((relation, at)) = at.relation() else {
@@ -98,7 +98,7 @@ fn simple_from<'t, 's>(
     depth: u32,
 ) -> Result<(Simple, Cursor<'t, 's>), Fault<'t, 's>>
     ensures read { MatchResult result
-        (λ t. Extends (λ r. spell_sign sign (spell_term (view_term first) r)) (λ x. number_term first (signed sign x)) (λ o. term_tail ∷ o)
+        (λ t. Extends (λ r. spell_sign sign (spell_term (view_term first) r)) (number_sign sign >> number_term first) (λ o. term_tail ∷ o)
         (spell_simple (view_simple t.0)) (number_simple t.0) depth (seen at.entry) (seen t.1))
         (λ e. Fails e (λ o. term_tail ∷ o) depth (seen at.entry)) }
 {
@@ -123,7 +123,7 @@ fn terms<'t, 's>(
     depth: u32,
 ) -> Result<(Vec<AddLink>, Cursor<'t, 's>), Fault<'t, 's>>
     ensures read { MatchResult result
-        (λ t. Reads (spell_term_tail (terms_of t.0.items)) (each_term t.0.items) (λ o. term_tail ∷ o) depth depth (seen at.entry) (seen t.1))
+        (λ t. Reads (spell_term_tail (terms_of t.0.items)) (numbers_of_terms t.0.items) (λ o. term_tail ∷ o) depth depth (seen at.entry) (seen t.1))
         (λ e. Fails e (λ o. term_tail ∷ o) depth (seen at.entry)) }
 {
     let mut more = Vec::new(alloc);
@@ -173,7 +173,7 @@ fn factors<'t, 's>(
     depth: u32,
 ) -> Result<(Vec<MulLink>, Cursor<'t, 's>), Fault<'t, 's>>
     ensures read { MatchResult result
-        (λ t. Reads (spell_factor_tail (factors_of t.0.items)) (each_factor t.0.items) (λ o. factor_tail ∷ o) depth depth (seen at.entry) (seen t.1))
+        (λ t. Reads (spell_factor_tail (factors_of t.0.items)) (numbers_of_factors t.0.items) (λ o. factor_tail ∷ o) depth depth (seen at.entry) (seen t.1))
         (λ e. Fails e (λ o. factor_tail ∷ o) depth (seen at.entry)) }
 {
     let mut more = Vec::new(alloc);
@@ -355,7 +355,7 @@ pub fn args<'t, 's>(
     at: Cursor<'t, 's>,
     depth: u32,
 ) -> Result<(Option<Args>, Cursor<'t, 's>), Fault<'t, 's>>
-    ensures read { MatchResult result (λ t. Reads (spell_args (args_of t.0)) (optional_args t.0) (λ o. args_part ∷ o) depth depth (seen at.entry) (seen t.1))
+    ensures read { MatchResult result (λ t. Reads (spell_args (args_of t.0)) (numbers_of_args t.0) (λ o. args_part ∷ o) depth depth (seen at.entry) (seen t.1))
         (λ e. Fails e (λ o. args_part ∷ o) depth (seen at.entry)) }
 {
     if !at.is_at(Kind::OpenParen) {
@@ -374,7 +374,7 @@ fn args_values<'t, 's>(
     depth: u32,
 ) -> Result<(Option<Exprs>, Cursor<'t, 's>), Fault<'t, 's>>
     ensures read { MatchResult result
-        (λ t. Reads (spell_inside_args (inside_of t.0)) (inside_args t.0) (λ o. args_inside ∷ o) depth (pred depth) (seen at.entry) (seen t.1))
+        (λ t. Reads (spell_inside_args (inside_of t.0)) (number_inside_args t.0) (λ o. args_inside ∷ o) depth (pred depth) (seen at.entry) (seen t.1))
         (λ e. Fails e (λ o. args_inside ∷ o) depth (seen at.entry)) }
 {
     if let Some(after) = at.skip(Kind::CloseParen) {
@@ -407,7 +407,7 @@ fn expr_list<'t, 's>(
     depth: u32,
 ) -> Result<(Vec<Expr>, Cursor<'t, 's>), Fault<'t, 's>>
     ensures read { MatchResult result
-        (λ t. Reads (spell_expr_tail (exprs_of t.0.items)) (each_expr t.0.items) (λ o. expr_tail ∷ o) depth depth (seen at.entry) (seen t.1))
+        (λ t. Reads (spell_expr_tail (exprs_of t.0.items)) (numbers_of_exprs t.0.items) (λ o. expr_tail ∷ o) depth depth (seen at.entry) (seen t.1))
         (λ e. Fails e (λ o. expr_tail ∷ o) depth (seen at.entry)) }
 {
     let mut more = Vec::new(alloc);
@@ -441,7 +441,7 @@ fn selectors<'t, 's>(
     depth: u32,
 ) -> Result<(Vec<Selector>, Cursor<'t, 's>), Fault<'t, 's>>
     ensures read { MatchResult result
-        (λ t. Reads (spell_selector_tail (selectors_of t.0.items)) (each_selector t.0.items) (λ o. selector_tail ∷ o) depth depth (seen at.entry) (seen t.1))
+        (λ t. Reads (spell_selector_tail (selectors_of t.0.items)) (numbers_of_selectors t.0.items) (λ o. selector_tail ∷ o) depth depth (seen at.entry) (seen t.1))
         (λ e. Fails e (λ o. selector_tail ∷ o) depth (seen at.entry)) }
 {
     let mut more = Vec::new(alloc);

@@ -1,7 +1,7 @@
 // Which form of a part the next token begins.
 ghost use Rattle.std.specs.Prelude.{◌≡◌, ◌∷◌, if◌then◌else◌, ℕ, true, false, MatchOption, MatchResult, IfSome, Some, None};
 ghost use Rattle.alma_tree.specs.Spelling.{add_kind, mul_kind, relation_kind, spell_sign, spell_mode};
-ghost use Rattle.alma_tree.specs.Numbers.{signed, moded};
+ghost use Rattle.alma_tree.specs.Numbers.{number_sign, number_mode};
 ghost use Rattle.alma_grammar.specs.Parts.{begins, sign_part, factor_tail, term_tail, compared_part, stmt_part, primary_part, selector_tail, arm_part, returned_part};
 ghost use Rattle.alma_grammar.specs.Parts.{mode_part, plain_part, decl_tail, expr_parts};
 ghost use Rattle.alma_parse.specs.declared.fault.Fault.TheVariants as faults;
@@ -347,7 +347,7 @@ impl<'t, 's> Cursor<'t, 's> {
 
     /// The sign that stands here, or none, and what stands behind it.
     pub fn sign(self) -> (Option<Sign>, Self)
-        ensures read { (d : ℕ) → Reads (spell_sign result.0) (λ x. Some (signed result.0 x)) (λ o. sign_part ∷ o) d d (seen self.entry) (seen result.1) }
+        ensures read { (d : ℕ) → Reads (spell_sign result.0) (number_sign result.0) (λ o. sign_part ∷ o) d d (seen self.entry) (seen result.1) }
     {
         if let Some((kind, after)) = self.next() {
             if let Some(sign) = sign(kind) {
@@ -359,7 +359,7 @@ impl<'t, 's> Cursor<'t, 's> {
 
     /// The mode that stands here, or none, and what stands behind it.
     pub fn mode(self) -> (Option<Mode>, Self)
-        ensures read { (d : ℕ) → Reads (spell_mode result.0) (λ x. Some (moded result.0 x)) (λ o. mode_part ∷ o) d d (seen self.entry) (seen result.1) }
+        ensures read { (d : ℕ) → Reads (spell_mode result.0) (number_mode result.0) (λ o. mode_part ∷ o) d d (seen self.entry) (seen result.1) }
     {
         if let Some((kind, after)) = self.next() {
             if let Some(mode) = mode(kind) {

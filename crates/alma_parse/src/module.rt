@@ -2,7 +2,7 @@
 ghost use Rattle.std.specs.Prelude.{◌≡◌, ◌≤◌, [], true, length, MatchResult};
 ghost use Rattle.alma_tree.specs.Spelling.{spelling};
 ghost use Rattle.alma_tree.specs.View.{view_module};
-ghost use Rattle.alma_tree.specs.Numbers.{Numbered};
+ghost use Rattle.alma_tree.specs.Numbers.{IsNumbered};
 ghost use Rattle.alma_grammar.specs.Parts.{whole};
 ghost use Rattle.alma_grammar.specs.Reading.{reading, done};
 ghost use Rattle.alma_parse.specs.Parsing.{seen, kinds_of, EndsIn};
@@ -18,7 +18,7 @@ use std::alloc::Global;
 pub fn module<'t, 's>(alloc: Global, tokens: &'t [Token<'s>]) -> Result<Module, Fault<'t, 's>>
     requires few { length tokens.now ≤ 1048576 }
     ensures read { MatchResult result
-        (λ m. (kinds_of tokens.now ≡ spelling (view_module m)) × Numbered m × (reading true (kinds_of tokens.now) 0 whole ≡ done))
+        (λ m. (kinds_of tokens.now ≡ spelling (view_module m)) × IsNumbered m (length tokens.now) × (reading true (kinds_of tokens.now) 0 whole ≡ done))
         (λ e. EndsIn e (reading true (kinds_of tokens.now) 0 whole)) }
 {
     let (at, inner) = Cursor::start(tokens).open(Kind::Module, 0)?;

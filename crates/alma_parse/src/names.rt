@@ -2,7 +2,7 @@
 ghost use Rattle.std.specs.Prelude.{◌∷◌, ℕ, MatchResult};
 ghost use Rattle.alma_tree.specs.Spelling.{spell_names, spell_name_tail};
 ghost use Rattle.alma_tree.specs.View.{view_names, name_tail_of};
-ghost use Rattle.alma_tree.specs.Numbers.{number_names, each_name};
+ghost use Rattle.alma_tree.specs.Numbers.{number_names, numbers_of_names};
 ghost use Rattle.alma_grammar.specs.Parts.{name_tail, names_parts};
 ghost use Rattle.alma_parse.specs.Parsing.{seen, Reads, Fails};
 
@@ -30,7 +30,7 @@ fn name_list<'t, 's>(
     mut at: Cursor<'t, 's>,
 ) -> Result<(Vec<Name>, Cursor<'t, 's>), Fault<'t, 's>>
     ensures read { MatchResult result
-        (λ t. (d : ℕ) → Reads (spell_name_tail (name_tail_of t.0.items)) (each_name t.0.items) (λ o. name_tail ∷ o) d d (seen at.entry) (seen t.1))
+        (λ t. (d : ℕ) → Reads (spell_name_tail (name_tail_of t.0.items)) (numbers_of_names t.0.items) (λ o. name_tail ∷ o) d d (seen at.entry) (seen t.1))
         (λ e. (d : ℕ) → Fails e (λ o. name_tail ∷ o) d (seen at.entry)) }
 {
     let mut more = Vec::new(alloc);

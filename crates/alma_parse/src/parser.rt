@@ -2,7 +2,7 @@
 ghost use Rattle.std.specs.Prelude.{◌≡◌, ◌≤◌, ◌-◌, length, IfOk, IfErr};
 ghost use Rattle.alma_tree.specs.Spelling.{spelling};
 ghost use Rattle.alma_tree.specs.View.{view_module};
-ghost use Rattle.alma_tree.specs.Numbers.{Numbered};
+ghost use Rattle.alma_tree.specs.Numbers.{IsNumbered};
 ghost use Rattle.alma_tree.specs.Depth.{depth};
 ghost use Rattle.alma_parse.specs.Parsing.{kinds_of};
 ghost use Rattle.alma_parse.specs.Refusals.{Refuses};
@@ -19,7 +19,7 @@ use std::alloc::Global;
 /// where they end too early.
 pub fn parse(alloc: Global, tokens: &[Token<'_>]) -> Result<Module, ParseError>
     requires few { length tokens.now ≤ 1048576 }
-    ensures found { IfOk result (λ m. (kinds_of tokens.now ≡ spelling (view_module m)) × Numbered m × (depth (kinds_of tokens.now) ≤ 100)) }
+    ensures found { IfOk result (λ m. (kinds_of tokens.now ≡ spelling (view_module m)) × IsNumbered m (length tokens.now) × (depth (kinds_of tokens.now) ≤ 100)) }
     ensures refused { IfErr result (λ e. Refuses e (kinds_of tokens.now)) }
 {
     match module(alloc, tokens) {

@@ -5,8 +5,8 @@ ghost use Rattle.alma_tree.specs.Spelling.{spell_desig, spell_stmts, spell_stmt_
 ghost use Rattle.alma_tree.specs.Spelling.{spell_returned, spell_desig_tail, spell_arm, spell_arm_tail, spell_label, spell_high, spell_label_tail};
 ghost use Rattle.alma_tree.specs.View.{view_stmts, stmts_of, view_stmt, elsifs_of, else_of, by_of, orelses_of, returned_of, desigs_of, view_arm, arms_of};
 ghost use Rattle.alma_tree.specs.View.{view_label, high_of, labels_of, view_desig};
-ghost use Rattle.alma_tree.specs.Numbers.{number_stmts, each_stmt, number_stmt, each_elsif, optional_else, optional_further, each_orelse};
-ghost use Rattle.alma_tree.specs.Numbers.{optional_value, each_desig, number_arm, each_arm, number_label, each_label, number_desig};
+ghost use Rattle.alma_tree.specs.Numbers.{number_stmts, numbers_of_stmts, number_stmt, numbers_of_elsifs, numbers_of_else, numbers_of_by, numbers_of_high, numbers_of_orelses};
+ghost use Rattle.alma_tree.specs.Numbers.{numbers_of_returned, numbers_of_desigs, number_arm, numbers_of_arms, number_label, numbers_of_labels, number_desig};
 ghost use Rattle.alma_grammar.specs.Parts.{one, stmt_part, stmt_tail, elsif_tail, else_part, by_part, orelse_tail, returned_part, desig_tail, arm_part};
 ghost use Rattle.alma_grammar.specs.Parts.{arm_tail, high_part, label_tail, expr_parts, stmts_parts, label_parts};
 ghost use Rattle.alma_parse.specs.Forms.{if_parts, while_parts, repeat_parts, for_parts, some_parts, case_parts, either_parts, forall_parts};
@@ -43,7 +43,7 @@ fn stmt_list<'t, 's>(
     depth: u32,
 ) -> Result<(Vec<Stmt>, Cursor<'t, 's>), Fault<'t, 's>>
     ensures read { MatchResult result
-        (λ t. Reads (spell_stmt_tail (stmts_of t.0.items)) (each_stmt t.0.items) (λ o. stmt_tail ∷ o) depth depth (seen at.entry) (seen t.1))
+        (λ t. Reads (spell_stmt_tail (stmts_of t.0.items)) (numbers_of_stmts t.0.items) (λ o. stmt_tail ∷ o) depth depth (seen at.entry) (seen t.1))
         (λ e. Fails e (λ o. stmt_tail ∷ o) depth (seen at.entry)) }
 {
     let mut more = Vec::new(alloc);
@@ -188,7 +188,7 @@ fn elsif_list<'t, 's>(
     depth: u32,
 ) -> Result<(Vec<Elsif>, Cursor<'t, 's>), Fault<'t, 's>>
     ensures read { MatchResult result
-        (λ t. Reads (spell_elsif_tail (elsifs_of t.0.items)) (each_elsif t.0.items) (λ o. elsif_tail ∷ o) depth depth (seen at.entry) (seen t.1))
+        (λ t. Reads (spell_elsif_tail (elsifs_of t.0.items)) (numbers_of_elsifs t.0.items) (λ o. elsif_tail ∷ o) depth depth (seen at.entry) (seen t.1))
         (λ e. Fails e (λ o. elsif_tail ∷ o) depth (seen at.entry)) }
 {
     let mut more = Vec::new(alloc);
@@ -208,7 +208,7 @@ fn otherwise<'t, 's>(
     at: Cursor<'t, 's>,
     depth: u32,
 ) -> Result<(Option<Stmts>, Cursor<'t, 's>), Fault<'t, 's>>
-    ensures read { MatchResult result (λ t. Reads (spell_else (else_of t.0)) (optional_else t.0) (λ o. else_part ∷ o) depth depth (seen at.entry) (seen t.1))
+    ensures read { MatchResult result (λ t. Reads (spell_else (else_of t.0)) (numbers_of_else t.0) (λ o. else_part ∷ o) depth depth (seen at.entry) (seen t.1))
         (λ e. Fails e (λ o. else_part ∷ o) depth (seen at.entry)) }
 {
     let Some(at) = at.skip(Kind::Else) else {
@@ -293,7 +293,7 @@ fn step<'t, 's>(
     at: Cursor<'t, 's>,
     depth: u32,
 ) -> Result<(Option<Expr>, Cursor<'t, 's>), Fault<'t, 's>>
-    ensures read { MatchResult result (λ t. Reads (spell_by (by_of t.0)) (optional_further t.0) (λ o. by_part ∷ o) depth depth (seen at.entry) (seen t.1))
+    ensures read { MatchResult result (λ t. Reads (spell_by (by_of t.0)) (numbers_of_by t.0) (λ o. by_part ∷ o) depth depth (seen at.entry) (seen t.1))
         (λ e. Fails e (λ o. by_part ∷ o) depth (seen at.entry)) }
 {
     let Some(at) = at.skip(Kind::By) else {
@@ -411,7 +411,7 @@ fn arm_list<'t, 's>(
     mut at: Cursor<'t, 's>,
     depth: u32,
 ) -> Result<(Vec<Arm>, Cursor<'t, 's>), Fault<'t, 's>>
-    ensures read { MatchResult result (λ t. Reads (spell_arm_tail (arms_of t.0.items)) (each_arm t.0.items) (λ o. arm_tail ∷ o) depth depth (seen at.entry) (seen t.1))
+    ensures read { MatchResult result (λ t. Reads (spell_arm_tail (arms_of t.0.items)) (numbers_of_arms t.0.items) (λ o. arm_tail ∷ o) depth depth (seen at.entry) (seen t.1))
         (λ e. Fails e (λ o. arm_tail ∷ o) depth (seen at.entry)) }
 {
     let mut more = Vec::new(alloc);
@@ -444,7 +444,7 @@ fn high<'t, 's>(
     at: Cursor<'t, 's>,
     depth: u32,
 ) -> Result<(Option<Expr>, Cursor<'t, 's>), Fault<'t, 's>>
-    ensures read { MatchResult result (λ t. Reads (spell_high (high_of t.0)) (optional_further t.0) (λ o. high_part ∷ o) depth depth (seen at.entry) (seen t.1))
+    ensures read { MatchResult result (λ t. Reads (spell_high (high_of t.0)) (numbers_of_high t.0) (λ o. high_part ∷ o) depth depth (seen at.entry) (seen t.1))
         (λ e. Fails e (λ o. high_part ∷ o) depth (seen at.entry)) }
 {
     let Some(at) = at.skip(Kind::DotDot) else {
@@ -461,7 +461,7 @@ fn label_list<'t, 's>(
     depth: u32,
 ) -> Result<(Vec<Label>, Cursor<'t, 's>), Fault<'t, 's>>
     ensures read { MatchResult result
-        (λ t. Reads (spell_label_tail (labels_of t.0.items)) (each_label t.0.items) (λ o. label_tail ∷ o) depth depth (seen at.entry) (seen t.1))
+        (λ t. Reads (spell_label_tail (labels_of t.0.items)) (numbers_of_labels t.0.items) (λ o. label_tail ∷ o) depth depth (seen at.entry) (seen t.1))
         (λ e. Fails e (λ o. label_tail ∷ o) depth (seen at.entry)) }
 {
     let mut more = Vec::new(alloc);
@@ -497,7 +497,7 @@ fn orelse_list<'t, 's>(
     depth: u32,
 ) -> Result<(Vec<Stmts>, Cursor<'t, 's>), Fault<'t, 's>>
     ensures read { MatchResult result
-        (λ t. Reads (spell_orelse_tail (orelses_of t.0.items)) (each_orelse t.0.items) (λ o. orelse_tail ∷ o) depth depth (seen at.entry) (seen t.1))
+        (λ t. Reads (spell_orelse_tail (orelses_of t.0.items)) (numbers_of_orelses t.0.items) (λ o. orelse_tail ∷ o) depth depth (seen at.entry) (seen t.1))
         (λ e. Fails e (λ o. orelse_tail ∷ o) depth (seen at.entry)) }
 {
     let mut more = Vec::new(alloc);
@@ -565,7 +565,7 @@ fn returned<'t, 's>(
     depth: u32,
 ) -> Result<(Option<Expr>, Cursor<'t, 's>), Fault<'t, 's>>
     ensures read { MatchResult result
-        (λ t. Reads (spell_returned (returned_of t.0)) (optional_value t.0) (λ o. returned_part ∷ o) depth depth (seen at.entry) (seen t.1))
+        (λ t. Reads (spell_returned (returned_of t.0)) (numbers_of_returned t.0) (λ o. returned_part ∷ o) depth depth (seen at.entry) (seen t.1))
         (λ e. Fails e (λ o. returned_part ∷ o) depth (seen at.entry)) }
 {
     if !at.begins_expr() {
@@ -600,7 +600,7 @@ fn desig_list<'t, 's>(
     depth: u32,
 ) -> Result<(Vec<Desig>, Cursor<'t, 's>), Fault<'t, 's>>
     ensures read { MatchResult result
-        (λ t. Reads (spell_desig_tail (desigs_of t.0.items)) (each_desig t.0.items) (λ o. desig_tail ∷ o) depth depth (seen at.entry) (seen t.1))
+        (λ t. Reads (spell_desig_tail (desigs_of t.0.items)) (numbers_of_desigs t.0.items) (λ o. desig_tail ∷ o) depth depth (seen at.entry) (seen t.1))
         (λ e. Fails e (λ o. desig_tail ∷ o) depth (seen at.entry)) }
 {
     let mut more = Vec::new(alloc);

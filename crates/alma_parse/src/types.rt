@@ -4,8 +4,8 @@ ghost use Rattle.alma_tree.specs.Spelling.{spell_type_node, spell_array_tail, sp
 ghost use Rattle.alma_tree.specs.Spelling.{spell_field_list_tail};
 ghost use Rattle.alma_tree.specs.View.{view_type_node, arrays_of, view_dimension, dimensions_of, view_plain_type, plains_of, view_field_list};
 ghost use Rattle.alma_tree.specs.View.{field_lists_of};
-ghost use Rattle.alma_tree.specs.Numbers.{number_type_node, optional_arrays, number_dimensions, each_dimensions, number_plain_type, each_plain};
-ghost use Rattle.alma_tree.specs.Numbers.{number_field_list, each_field_list};
+ghost use Rattle.alma_tree.specs.Numbers.{number_type, numbers_of_arrays, number_dimension, numbers_of_dimensions, number_plain, numbers_of_plains};
+ghost use Rattle.alma_tree.specs.Numbers.{number_field_list, numbers_of_field_lists};
 ghost use Rattle.alma_grammar.specs.Parts.{array_tail, plain_part, plain_tail, field_list_part, field_list_tail, type_parts};
 ghost use Rattle.alma_parse.specs.Forms.{dimensions_parts, named_type_parts, listed_parts, subrange_parts, record_parts, fields_parts};
 ghost use Rattle.alma_parse.specs.Parsing.{seen, Reads, Fails};
@@ -25,7 +25,7 @@ pub fn type_node<'t, 's>(
     depth: u32,
 ) -> Result<(TypeNode, Cursor<'t, 's>), Fault<'t, 's>>
     ensures read { MatchResult result
-        (λ t. Reads (spell_type_node (view_type_node t.0)) (number_type_node t.0) type_parts depth depth (seen at.entry) (seen t.1))
+        (λ t. Reads (spell_type_node (view_type_node t.0)) (number_type t.0) type_parts depth depth (seen at.entry) (seen t.1))
         (λ e. Fails e type_parts depth (seen at.entry)) }
 {
     let (arrays, at) = arrays(alloc, at, depth)?;
@@ -48,7 +48,7 @@ fn arrays<'t, 's>(
     depth: u32,
 ) -> Result<(Option<Arrays>, Cursor<'t, 's>), Fault<'t, 's>>
     ensures read { MatchResult result
-        (λ t. Reads (spell_array_tail (arrays_of t.0)) (optional_arrays t.0) (λ o. array_tail ∷ o) depth depth (seen at.entry) (seen t.1))
+        (λ t. Reads (spell_array_tail (arrays_of t.0)) (numbers_of_arrays t.0) (λ o. array_tail ∷ o) depth depth (seen at.entry) (seen t.1))
         (λ e. Fails e (λ o. array_tail ∷ o) depth (seen at.entry)) }
 {
     if !at.is_at(Kind::Array) {
@@ -67,7 +67,7 @@ fn dimensions<'t, 's>(
     depth: u32,
 ) -> Result<(Dimensions, Cursor<'t, 's>), Fault<'t, 's>>
     ensures read { MatchResult result
-        (λ t. Reads (spell_dimensions (view_dimension t.0)) (number_dimensions t.0) dimensions_parts depth depth (seen at.entry) (seen t.1))
+        (λ t. Reads (spell_dimensions (view_dimension t.0)) (number_dimension t.0) dimensions_parts depth depth (seen at.entry) (seen t.1))
         (λ e. Fails e dimensions_parts depth (seen at.entry)) }
     ensures shorter { IfOk result (λ t. length (seen t.1).kinds < length (seen at.entry).kinds) }
 {
@@ -85,7 +85,7 @@ fn dimensions_list<'t, 's>(
     depth: u32,
 ) -> Result<(Vec<Dimensions>, Cursor<'t, 's>), Fault<'t, 's>>
     ensures read { MatchResult result
-        (λ t. Reads (spell_array_tail (dimensions_of t.0.items)) (each_dimensions t.0.items) (λ o. array_tail ∷ o) depth depth (seen at.entry) (seen t.1))
+        (λ t. Reads (spell_array_tail (dimensions_of t.0.items)) (numbers_of_dimensions t.0.items) (λ o. array_tail ∷ o) depth depth (seen at.entry) (seen t.1))
         (λ e. Fails e (λ o. array_tail ∷ o) depth (seen at.entry)) }
 {
     let mut more = Vec::new(alloc);
@@ -104,7 +104,7 @@ fn plain_type<'t, 's>(
     depth: u32,
 ) -> Result<(PlainType, Cursor<'t, 's>), Fault<'t, 's>>
     ensures read { MatchResult result
-        (λ t. Reads (spell_plain_type (view_plain_type t.0)) (number_plain_type t.0) (λ o. plain_part ∷ o) depth depth (seen at.entry) (seen t.1))
+        (λ t. Reads (spell_plain_type (view_plain_type t.0)) (number_plain t.0) (λ o. plain_part ∷ o) depth depth (seen at.entry) (seen t.1))
         (λ e. Fails e (λ o. plain_part ∷ o) depth (seen at.entry)) }
 {
     match at.plain_form()? {
@@ -117,7 +117,7 @@ fn plain_type<'t, 's>(
 
 fn named_type<'t, 's>(at: Cursor<'t, 's>) -> Result<(PlainType, Cursor<'t, 's>), Fault<'t, 's>>
     ensures read { MatchResult result
-        (λ t. (d : ℕ) → Reads (spell_plain_type (view_plain_type t.0)) (number_plain_type t.0) named_type_parts d d (seen at.entry) (seen t.1))
+        (λ t. (d : ℕ) → Reads (spell_plain_type (view_plain_type t.0)) (number_plain t.0) named_type_parts d d (seen at.entry) (seen t.1))
         (λ e. (d : ℕ) → Fails e named_type_parts d (seen at.entry)) }
 {
     let (name, at) = at.name()?;
@@ -131,7 +131,7 @@ fn listed<'t, 's>(
     depth: u32,
 ) -> Result<(PlainType, Cursor<'t, 's>), Fault<'t, 's>>
     ensures read { MatchResult result
-        (λ t. Reads (spell_plain_type (view_plain_type t.0)) (number_plain_type t.0) listed_parts depth depth (seen at.entry) (seen t.1))
+        (λ t. Reads (spell_plain_type (view_plain_type t.0)) (number_plain t.0) listed_parts depth depth (seen at.entry) (seen t.1))
         (λ e. Fails e listed_parts depth (seen at.entry)) }
 {
     let (at, _) = at.open(Kind::OpenParen, depth)?;
@@ -147,7 +147,7 @@ fn subrange<'t, 's>(
     depth: u32,
 ) -> Result<(PlainType, Cursor<'t, 's>), Fault<'t, 's>>
     ensures read { MatchResult result
-        (λ t. Reads (spell_plain_type (view_plain_type t.0)) (number_plain_type t.0) subrange_parts depth depth (seen at.entry) (seen t.1))
+        (λ t. Reads (spell_plain_type (view_plain_type t.0)) (number_plain t.0) subrange_parts depth depth (seen at.entry) (seen t.1))
         (λ e. Fails e subrange_parts depth (seen at.entry)) }
 {
     let (at, inner) = at.open(Kind::OpenBracket, depth)?;
@@ -166,7 +166,7 @@ fn record_type<'t, 's>(
     depth: u32,
 ) -> Result<(PlainType, Cursor<'t, 's>), Fault<'t, 's>>
     ensures read { MatchResult result
-        (λ t. Reads (spell_plain_type (view_plain_type t.0)) (number_plain_type t.0) record_parts depth depth (seen at.entry) (seen t.1))
+        (λ t. Reads (spell_plain_type (view_plain_type t.0)) (number_plain t.0) record_parts depth depth (seen at.entry) (seen t.1))
         (λ e. Fails e record_parts depth (seen at.entry)) }
 {
     let (at, inner) = at.open(Kind::Record, depth)?;
@@ -185,7 +185,7 @@ fn plain_list<'t, 's>(
     depth: u32,
 ) -> Result<(Vec<PlainType>, Cursor<'t, 's>), Fault<'t, 's>>
     ensures read { MatchResult result
-        (λ t. Reads (spell_plain_tail (plains_of t.0.items)) (each_plain t.0.items) (λ o. plain_tail ∷ o) depth depth (seen at.entry) (seen t.1))
+        (λ t. Reads (spell_plain_tail (plains_of t.0.items)) (numbers_of_plains t.0.items) (λ o. plain_tail ∷ o) depth depth (seen at.entry) (seen t.1))
         (λ e. Fails e (λ o. plain_tail ∷ o) depth (seen at.entry)) }
 {
     let mut more = Vec::new(alloc);
@@ -245,7 +245,7 @@ fn field_list_list<'t, 's>(
     depth: u32,
 ) -> Result<(Vec<FieldList>, Cursor<'t, 's>), Fault<'t, 's>>
     ensures read { MatchResult result
-        (λ t. Reads (spell_field_list_tail (field_lists_of t.0.items)) (each_field_list t.0.items) (λ o. field_list_tail ∷ o) depth depth (seen at.entry) (seen t.1))
+        (λ t. Reads (spell_field_list_tail (field_lists_of t.0.items)) (numbers_of_field_lists t.0.items) (λ o. field_list_tail ∷ o) depth depth (seen at.entry) (seen t.1))
         (λ e. Fails e (λ o. field_list_tail ∷ o) depth (seen at.entry)) }
 {
     let mut more = Vec::new(alloc);

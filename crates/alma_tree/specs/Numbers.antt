@@ -2,11 +2,11 @@
 use Rattle.std.specs.Prelude.{◌≡◌, ℕ, suc, Bool, true, false, List, [], ◌∷◌, Option, None, Some, nat_eq}
 use Rattle.std.specs.declared.boxed.Box.{Box}
 use Rattle.std.specs.declared.alloc.Global.{Global}
+use Rattle.alma_tree.specs.declared.leaf.Sign.{Sign}
+use Rattle.alma_tree.specs.declared.leaf.Mode.{Mode}
 use Rattle.alma_tree.specs.declared.leaf.Leaf.{Leaf}
 use Rattle.alma_tree.specs.declared.leaf.Name.{Name}
 use Rattle.alma_tree.specs.declared.leaf.Names.{Names}
-use Rattle.alma_tree.specs.declared.leaf.Sign.{Sign}
-use Rattle.alma_tree.specs.declared.leaf.Mode.{Mode}
 use Rattle.alma_tree.specs.declared.phrase.Stmts as ds
 use Rattle.alma_tree.specs.declared.phrase.Stmt as dt
 use Rattle.alma_tree.specs.declared.phrase.Elsif as df
@@ -40,393 +40,392 @@ use Rattle.alma_tree.specs.declared.module.Formal.{Formal}
 use Rattle.alma_tree.specs.declared.module.Module.{Module}
 
 -- the next token, and the next node
-pub record Place : Type 0 where
+pub record Cursor : Type 0 where
   pub token : ℕ
   pub node : ℕ
 
-abbrev pub first_place : Place
-first_place = record { token = 0; node = 0 }
+-- from a cursor to the one behind a phrase, or to none where a number in the phrase is another
+abbrev pub Step : Type 0
+Step = Cursor → Option Cursor
 
--- behind one more token
-abbrev pub past : Place → Place
-past at = record { token = suc at.token; node = at.node }
+abbrev pub where_so : Bool → Cursor → Option Cursor
+where_so true at = Some at
+where_so false at = None
 
-abbrev pub when : Bool → Place → Option Place
-when true at = Some at
-when false at = None
+-- one token, whatever it is
+abbrev pub token : Step
+token at = Some (record { token = suc at.token; node = at.node })
 
-infixl 10 ◌>>=◌
-abbrev pub ◌>>=◌ : Option Place → (Place → Option Place) → Option Place
-None >>= f = None
-(Some x) >>= f = f x
+-- the end of a node with this number
+abbrev pub node : ℕ → Step
+node n at = where_so (nat_eq n at.node) (record { token = at.token; node = suc at.node })
 
--- a leaf names the next token
-abbrev pub leaf : Leaf → Place → Option Place
-leaf l at = when (nat_eq l.token at.token) (past at)
+-- a leaf of the token with this number
+abbrev pub leaf : ℕ → Step
+leaf n at = where_so (nat_eq n at.token) (record { token = suc at.token; node = at.node })
 
--- a node has the next number
-abbrev pub node : ℕ → Place → Option Place
-node n at = when (nat_eq n at.node) (record { token = at.token; node = suc at.node })
+abbrev pub stay : Step
+stay at = Some at
 
--- a name is both
-abbrev pub name : Name → Place → Option Place
-name n at = when (nat_eq n.token at.token) (past at) >>= λ x. node n.node x
+abbrev pub and_then : Option Cursor → Step → Option Cursor
+and_then None f = None
+and_then (Some at) f = f at
 
--- the one, then the other, then the node that holds both
-abbrev pub in_order : (first more : Place → Option Place) → ℕ → Place → Option Place
-in_order first more n at = first at >>= λ x. more x >>= λ x. node n x
+-- one step and then another
+infixr 10 ◌>>◌
+abbrev pub ◌>>◌ : Step → Step → Step
+(f >> g) at = and_then (f at) g
 
-abbrev pub signed : Option Sign → Place → Place
-signed None at = at
-signed (Some _) at = past at
+abbrev pub number_name : Name → Step
+number_name l = leaf l.token >> node l.node
 
-abbrev pub moded : Option Mode → Place → Place
-moded None at = at
-moded (Some _) at = past at
+abbrev pub number_sign : Option Sign → Step
+number_sign None = stay
+number_sign (Some s) = token
 
--- Each number below is behind the value, where its leaves name their tokens from the place on and its nodes have their
--- numbers; it is None where one differs.
+abbrev pub number_mode : Option Mode → Step
+number_mode None = stay
+number_mode (Some m) = token
 
 -- ---- statements and expressions
 
 abbrev mutual
-  pub number_stmt : dt.Stmt → Place → Option Place
-  number_stmt (dt.Nothing n) at = node n at
-  number_stmt (dt.Assign' n m l shape row e) at = in_order (name l) (number_selectors row) m at >>= λ x. number_expr e (past x) >>= λ x. node n x
-  number_stmt (dt.Value n e) at = number_expr e at >>= λ x. node n x
-  number_stmt (dt.If' n e m b s shape row shape' row' other) at =
-      number_expr e (past at) >>= λ x. in_order (number_stmt s) (number_stmts_row row) m (past x) >>= λ x. number_elsifs row' x
-      >>= λ x. number_else other x >>= λ x. node n (past x)
-  number_stmt (dt.While' n e m b s shape row) at =
-      number_expr e (past at) >>= λ x. in_order (number_stmt s) (number_stmts_row row) m (past x) >>= λ x. node n (past x)
-  number_stmt (dt.Repeat' n m b s shape row e) at =
-      in_order (number_stmt s) (number_stmts_row row) m (past at) >>= λ x. number_expr e (past x) >>= λ x. node n x
-  number_stmt (dt.For' n l low high by m b s shape row) at =
-      name l (past at) >>= λ x. number_expr low (past x) >>= λ x. number_expr high (past x) >>= λ x. number_by by x
-      >>= λ x. in_order (number_stmt s) (number_stmts_row row) m (past x) >>= λ x. node n (past x)
-  number_stmt (dt.Some' n l low high m b s shape row) at =
-      name l (past at) >>= λ x. number_expr low (past x) >>= λ x. number_expr high (past x)
-      >>= λ x. in_order (number_stmt s) (number_stmts_row row) m (past x) >>= λ x. node n (past x)
-  number_stmt (dt.Case' n e b a shape row other) at =
-      number_expr e (past at) >>= λ x. number_arm a (past x) >>= λ x. number_arms row x >>= λ x. number_else other x >>= λ x. node n (past x)
-  number_stmt (dt.Either' n m b s shape row shape' row') at =
-      in_order (number_stmt s) (number_stmts_row row) m (past at) >>= λ x. number_orelses row' x >>= λ x. node n (past x)
-  number_stmt (dt.Forall' n m b s shape row m' b' s' shape' row') at =
-      in_order (number_stmt s) (number_stmts_row row) m (past at) >>= λ x. in_order (number_stmt s') (number_stmts_row row') m' (past x)
-      >>= λ x. node n (past x)
-  number_stmt (dt.Commit' n m b s shape row) at = in_order (number_stmt s) (number_stmts_row row) m (past at) >>= λ x. node n (past x)
-  number_stmt (dt.Return' n e) at = number_returned e (past at) >>= λ x. node n x
-  number_stmt (dt.Read' n m l shape row shape' row') at =
-      in_order (name l) (number_selectors row) m (past (past at)) >>= λ x. number_desigs row' x >>= λ x. node n (past x)
-  number_stmt (dt.Write n es) at = number_exprs es (past (past at)) >>= λ x. node n (past x)
-  number_stmt (dt.Writeln' n a) at = number_args a (past at) >>= λ x. node n x
+  pub number_stmt : dt.Stmt → Step
+  number_stmt (dt.Nothing n) = node n
+  number_stmt (dt.Assign' n m l shape row e) = (number_name l >> number_selectors row >> node m) >> token >> number_expr e >> node n
+  number_stmt (dt.Value n e) = number_expr e >> node n
+  number_stmt (dt.If' n e m b s shape row shape' row' other) =
+      token >> number_expr e >> token >> (number_stmt s >> number_stmts_row row >> node m) >> number_elsifs row' >> number_else other >> token >> node n
+  number_stmt (dt.While' n e m b s shape row) =
+      token >> number_expr e >> token >> (number_stmt s >> number_stmts_row row >> node m) >> token >> node n
+  number_stmt (dt.Repeat' n m b s shape row e) =
+      token >> (number_stmt s >> number_stmts_row row >> node m) >> token >> number_expr e >> node n
+  number_stmt (dt.For' n l low high by m b s shape row) =
+      token >> number_name l >> token >> number_expr low >> token >> number_expr high >> number_by by
+      >> token >> (number_stmt s >> number_stmts_row row >> node m) >> token >> node n
+  number_stmt (dt.Some' n l low high m b s shape row) =
+      token >> number_name l >> token >> number_expr low >> token >> number_expr high
+      >> token >> (number_stmt s >> number_stmts_row row >> node m) >> token >> node n
+  number_stmt (dt.Case' n e b a shape row other) =
+      token >> number_expr e >> token >> number_arm a >> number_arms row >> number_else other >> token >> node n
+  number_stmt (dt.Either' n m b s shape row shape' row') =
+      token >> (number_stmt s >> number_stmts_row row >> node m) >> number_orelses row' >> token >> node n
+  number_stmt (dt.Forall' n m b s shape row m' b' s' shape' row') =
+      token >> (number_stmt s >> number_stmts_row row >> node m)
+      >> token >> (number_stmt s' >> number_stmts_row row' >> node m') >> token >> node n
+  number_stmt (dt.Commit' n m b s shape row) = token >> (number_stmt s >> number_stmts_row row >> node m) >> token >> node n
+  number_stmt (dt.Return' n e) = token >> number_returned e >> node n
+  number_stmt (dt.Read' n m l shape row shape' row') =
+      token >> token >> (number_name l >> number_selectors row >> node m) >> number_desigs row' >> token >> node n
+  number_stmt (dt.Write n es) = token >> token >> number_exprs es >> token >> node n
+  number_stmt (dt.Writeln' n a) = token >> number_args a >> node n
 
-  pub number_stmts_row : {n : _} → da.Row_of-Stmt n → Place → Option Place
-  number_stmts_row da.end_of-Stmt at = Some at
-  number_stmts_row (da.more_of-Stmt s rest) at = number_stmt s (past at) >>= λ x. number_stmts_row rest x
+  pub number_stmts_row : {n : _} → da.Row_of-Stmt n → Step
+  number_stmts_row da.end_of-Stmt = stay
+  number_stmts_row (da.more_of-Stmt s rest) = token >> number_stmt s >> number_stmts_row rest
 
-  pub number_elsifs : {n : _} → dt.Row_of-Elsif n → Place → Option Place
-  number_elsifs dt.end_of-Elsif at = Some at
-  number_elsifs (dt.more_of-Elsif (df.Elsif' e m b s shape row) rest) at =
-      number_expr e (past at) >>= λ x. in_order (number_stmt s) (number_stmts_row row) m (past x) >>= λ x. number_elsifs rest x
+  pub number_elsifs : {n : _} → dt.Row_of-Elsif n → Step
+  number_elsifs dt.end_of-Elsif = stay
+  number_elsifs (dt.more_of-Elsif (df.Elsif' e m b s shape row) rest) =
+      token >> number_expr e >> token >> (number_stmt s >> number_stmts_row row >> node m) >> number_elsifs rest
 
-  pub number_else : dt.Held-Stmt-If-4 → Place → Option Place
-  number_else dt.Stmt-If-4-None' at = Some at
-  number_else (dt.Stmt-If-4-Some' m b s shape row) at = in_order (number_stmt s) (number_stmts_row row) m (past at)
+  pub number_else : dt.Held-Stmt-If-4 → Step
+  number_else dt.Stmt-If-4-None' = stay
+  number_else (dt.Stmt-If-4-Some' m b s shape row) = token >> (number_stmt s >> number_stmts_row row >> node m)
 
-  pub number_by : dl.Held-Stmt-For-4 → Place → Option Place
-  number_by dl.Stmt-For-4-None' at = Some at
-  number_by (dl.Stmt-For-4-Some' e) at = number_expr e (past at)
+  pub number_by : dl.Held-Stmt-For-4 → Step
+  number_by dl.Stmt-For-4-None' = stay
+  number_by (dl.Stmt-For-4-Some' e) = token >> number_expr e
 
-  pub number_orelses : {n : _} → dt.Row_of-Stmts n → Place → Option Place
-  number_orelses dt.end_of-Stmts at = Some at
-  number_orelses (dt.more_of-Stmts m b s shape row rest) at = in_order (number_stmt s) (number_stmts_row row) m (past at) >>= λ x. number_orelses rest x
+  pub number_orelses : {n : _} → dt.Row_of-Stmts n → Step
+  number_orelses dt.end_of-Stmts = stay
+  number_orelses (dt.more_of-Stmts m b s shape row rest) =
+      token >> (number_stmt s >> number_stmts_row row >> node m) >> number_orelses rest
 
-  pub number_returned : dl.Held-Stmt-For-4 → Place → Option Place
-  number_returned dl.Stmt-For-4-None' at = Some at
-  number_returned (dl.Stmt-For-4-Some' e) at = number_expr e at
+  pub number_returned : dl.Held-Stmt-For-4 → Step
+  number_returned dl.Stmt-For-4-None' = stay
+  number_returned (dl.Stmt-For-4-Some' e) = number_expr e
 
-  pub number_desigs : {n : _} → dt.Row_of-Desig n → Place → Option Place
-  number_desigs dt.end_of-Desig at = Some at
-  number_desigs (dt.more_of-Desig m l shape row rest) at = in_order (name l) (number_selectors row) m (past at) >>= λ x. number_desigs rest x
+  pub number_desigs : {n : _} → dt.Row_of-Desig n → Step
+  number_desigs dt.end_of-Desig = stay
+  number_desigs (dt.more_of-Desig m l shape row rest) =
+      token >> (number_name l >> number_selectors row >> node m) >> number_desigs rest
 
-  pub number_arm : da.Arm → Place → Option Place
-  number_arm (da.Empty n) at = node n at
-  number_arm (da.Labelled' n l shape row m b s shape' row') at =
-      number_label l at >>= λ x. number_labels row x >>= λ x. in_order (number_stmt s) (number_stmts_row row') m (past x) >>= λ x. node n x
+  pub number_arm : da.Arm → Step
+  number_arm (da.Empty n) = node n
+  number_arm (da.Labelled' n l shape row m b s shape' row') =
+      number_label l >> number_labels row >> token >> (number_stmt s >> number_stmts_row row' >> node m) >> node n
 
-  pub number_arms : {n : _} → dt.Row_of-Arm n → Place → Option Place
-  number_arms dt.end_of-Arm at = Some at
-  number_arms (dt.more_of-Arm a rest) at = number_arm a (past at) >>= λ x. number_arms rest x
+  pub number_arms : {n : _} → dt.Row_of-Arm n → Step
+  number_arms dt.end_of-Arm = stay
+  number_arms (dt.more_of-Arm a rest) = token >> number_arm a >> number_arms rest
 
-  pub number_label : dl.Label → Place → Option Place
-  number_label (dl.Label' n e h) at = number_expr e at >>= λ x. number_high h x >>= λ x. node n x
+  pub number_label : dl.Label → Step
+  number_label (dl.Label' n e h) = number_expr e >> number_high h >> node n
 
-  pub number_high : dl.Held-Stmt-For-4 → Place → Option Place
-  number_high dl.Stmt-For-4-None' at = Some at
-  number_high (dl.Stmt-For-4-Some' e) at = number_expr e (past at)
+  pub number_high : dl.Held-Stmt-For-4 → Step
+  number_high dl.Stmt-For-4-None' = stay
+  number_high (dl.Stmt-For-4-Some' e) = token >> number_expr e
 
-  pub number_labels : {n : _} → da.Row_of-Label n → Place → Option Place
-  number_labels da.end_of-Label at = Some at
-  number_labels (da.more_of-Label l rest) at = number_label l (past at) >>= λ x. number_labels rest x
+  pub number_labels : {n : _} → da.Row_of-Label n → Step
+  number_labels da.end_of-Label = stay
+  number_labels (da.more_of-Label l rest) = token >> number_label l >> number_labels rest
 
-  pub number_expr : de.Expr → Place → Option Place
-  number_expr (de.Expr' n s right) at = number_simple s at >>= λ x. number_compared right x >>= λ x. node n x
+  pub number_expr : de.Expr → Step
+  number_expr (de.Expr' n s right) = number_simple s >> number_compared right >> node n
 
-  pub number_compared : de.Held-Expr-right → Place → Option Place
-  number_compared de.Expr-right-None' at = Some at
-  number_compared (de.Expr-right-Some' b (dc.Compared' r s)) at = number_simple s (past at)
+  pub number_compared : de.Held-Expr-right → Step
+  number_compared de.Expr-right-None' = stay
+  number_compared (de.Expr-right-Some' b (dc.Compared' r s)) = token >> number_simple s
 
-  pub number_simple : di.Simple → Place → Option Place
-  number_simple (di.Simple' n sign b t shape row) at = number_term t (signed sign at) >>= λ x. number_terms row x >>= λ x. node n x
+  pub number_simple : di.Simple → Step
+  number_simple (di.Simple' n sign b t shape row) = number_sign sign >> number_term t >> number_terms row >> node n
 
-  pub number_terms : {n : _} → di.Row_of-AddLink n → Place → Option Place
-  number_terms di.end_of-AddLink at = Some at
-  number_terms (di.more_of-AddLink (dk.AddLink' o t) rest) at = number_term t (past at) >>= λ x. number_terms rest x
+  pub number_terms : {n : _} → di.Row_of-AddLink n → Step
+  number_terms di.end_of-AddLink = stay
+  number_terms (di.more_of-AddLink (dk.AddLink' o t) rest) = token >> number_term t >> number_terms rest
 
-  pub number_term : dm.Term → Place → Option Place
-  number_term (dm.Term' n f shape row) at = number_factor f at >>= λ x. number_factors row x >>= λ x. node n x
+  pub number_term : dm.Term → Step
+  number_term (dm.Term' n f shape row) = number_factor f >> number_factors row >> node n
 
-  pub number_factors : {n : _} → dm.Row_of-MulLink n → Place → Option Place
-  number_factors dm.end_of-MulLink at = Some at
-  number_factors (dm.more_of-MulLink o f rest) at = number_factor f (past at) >>= λ x. number_factors rest x
+  pub number_factors : {n : _} → dm.Row_of-MulLink n → Step
+  number_factors dm.end_of-MulLink = stay
+  number_factors (dm.more_of-MulLink o f rest) = token >> number_factor f >> number_factors rest
 
-  pub number_factor : dr.Factor → Place → Option Place
-  number_factor (dr.Not n p) at = number_primary p (past at) >>= λ x. node n x
-  number_factor (dr.Plain n p) at = number_primary p at >>= λ x. node n x
+  pub number_factor : dr.Factor → Step
+  number_factor (dr.Not n p) = token >> number_primary p >> node n
+  number_factor (dr.Plain n p) = number_primary p >> node n
 
-  pub number_primary : dp.Primary → Place → Option Place
-  number_primary (dp.Number n l) at = leaf l at >>= λ x. node n x
-  number_primary (dp.Literal n l) at = leaf l at >>= λ x. node n x
-  number_primary (dp.Desig' n m l shape row a) at = in_order (name l) (number_selectors row) m at >>= λ x. number_args a x >>= λ x. node n x
-  number_primary (dp.Paren' n b m b' s shape row) at = in_order (number_stmt s) (number_stmts_row row) m (past at) >>= λ x. node n (past x)
-  number_primary (dp.Known' n m l shape row) at = in_order (name l) (number_selectors row) m (past (past at)) >>= λ x. node n (past x)
-  number_primary (dp.Ord' n b e) at = number_expr e (past (past at)) >>= λ x. node n (past x)
-  number_primary (dp.Chr' n b e) at = number_expr e (past (past at)) >>= λ x. node n (past x)
+  pub number_primary : dp.Primary → Step
+  number_primary (dp.Number n l) = leaf l.token >> node n
+  number_primary (dp.Literal n l) = leaf l.token >> node n
+  number_primary (dp.Desig' n m l shape row a) = (number_name l >> number_selectors row >> node m) >> number_args a >> node n
+  number_primary (dp.Paren' n b m b' s shape row) = token >> (number_stmt s >> number_stmts_row row >> node m) >> token >> node n
+  number_primary (dp.Known' n m l shape row) = token >> token >> (number_name l >> number_selectors row >> node m) >> token >> node n
+  number_primary (dp.Ord' n b e) = token >> token >> number_expr e >> token >> node n
+  number_primary (dp.Chr' n b e) = token >> token >> number_expr e >> token >> node n
 
-  pub number_args : dp.Held-Primary-Desig-2 → Place → Option Place
-  number_args dp.Primary-Desig-2-None' at = Some at
-  number_args (dp.Primary-Desig-2-Some' (dg.Args' dg.Args-values-None')) at = Some (past (past at))
-  number_args (dp.Primary-Desig-2-Some' (dg.Args' (dg.Args-values-Some' es))) at = number_exprs es (past at) >>= λ x. Some (past x)
+  pub number_args : dp.Held-Primary-Desig-2 → Step
+  number_args dp.Primary-Desig-2-None' = stay
+  number_args (dp.Primary-Desig-2-Some' (dg.Args' dg.Args-values-None')) = token >> token
+  number_args (dp.Primary-Desig-2-Some' (dg.Args' (dg.Args-values-Some' es))) = token >> number_exprs es >> token
 
-  pub number_exprs : dx.Exprs → Place → Option Place
-  number_exprs (dx.Exprs' b e shape row) at = number_expr e at >>= λ x. number_exprs_row row x
+  pub number_exprs : dx.Exprs → Step
+  number_exprs (dx.Exprs' b e shape row) = number_expr e >> number_exprs_row row
 
-  pub number_exprs_row : {n : _} → dx.Row_of-Expr n → Place → Option Place
-  number_exprs_row dx.end_of-Expr at = Some at
-  number_exprs_row (dx.more_of-Expr e rest) at = number_expr e (past at) >>= λ x. number_exprs_row rest x
+  pub number_exprs_row : {n : _} → dx.Row_of-Expr n → Step
+  number_exprs_row dx.end_of-Expr = stay
+  number_exprs_row (dx.more_of-Expr e rest) = token >> number_expr e >> number_exprs_row rest
 
-  pub number_selectors : {n : _} → dd.Row_of-Selector n → Place → Option Place
-  number_selectors dd.end_of-Selector at = Some at
-  number_selectors (dd.more_of-Selector s rest) at = number_selector s at >>= λ x. number_selectors rest x
+  pub number_selectors : {n : _} → dd.Row_of-Selector n → Step
+  number_selectors dd.end_of-Selector = stay
+  number_selectors (dd.more_of-Selector s rest) = number_selector s >> number_selectors rest
 
-  pub number_selector : dj.Selector → Place → Option Place
-  number_selector (dj.Field n l) at = name l (past at) >>= λ x. node n x
-  number_selector (dj.Index n es) at = number_exprs es (past at) >>= λ x. node n (past x)
+  pub number_selector : dj.Selector → Step
+  number_selector (dj.Field n l) = token >> number_name l >> node n
+  number_selector (dj.Index n es) = token >> number_exprs es >> token >> node n
 
 -- ---- the same of lists, options and structs that stand alone
 
-abbrev pub each_stmt : List dt.Stmt → Place → Option Place
-each_stmt [] at = Some at
-each_stmt (s ∷ rest) at = number_stmt s (past at) >>= λ x. each_stmt rest x
+abbrev pub numbers_of_stmts : List dt.Stmt → Step
+numbers_of_stmts [] = stay
+numbers_of_stmts (s ∷ rest) = token >> number_stmt s >> numbers_of_stmts rest
 
-abbrev pub number_stmts : ds.Stmts → Place → Option Place
-number_stmts s at = in_order (number_stmt s.first.value) (each_stmt s.more.items) s.node at
+abbrev pub number_stmts : ds.Stmts → Step
+number_stmts s = number_stmt s.first.value >> numbers_of_stmts s.more.items >> node s.node
 
-abbrev pub each_elsif : List df.Elsif → Place → Option Place
-each_elsif [] at = Some at
-each_elsif (e ∷ rest) at =
-    number_expr (df.out-Elsif e).test (past at) >>= λ x. number_stmts (df.out-Elsif e).then (past x) >>= λ x. each_elsif rest x
+abbrev pub numbers_of_elsifs : List df.Elsif → Step
+numbers_of_elsifs [] = stay
+numbers_of_elsifs (e ∷ rest) =
+    token >> number_expr (df.out-Elsif e).test >> token >> number_stmts (df.out-Elsif e).then >> numbers_of_elsifs rest
 
-abbrev pub optional_else : Option ds.Stmts → Place → Option Place
-optional_else None at = Some at
-optional_else (Some s) at = number_stmts s (past at)
+abbrev pub numbers_of_else : Option ds.Stmts → Step
+numbers_of_else None = stay
+numbers_of_else (Some s) = token >> number_stmts s
 
--- an expression behind BY or `..`
-abbrev pub optional_further : Option de.Expr → Place → Option Place
-optional_further None at = Some at
-optional_further (Some e) at = number_expr e (past at)
+abbrev pub numbers_of_by : Option de.Expr → Step
+numbers_of_by None = stay
+numbers_of_by (Some e) = token >> number_expr e
 
-abbrev pub each_orelse : List ds.Stmts → Place → Option Place
-each_orelse [] at = Some at
-each_orelse (s ∷ rest) at = number_stmts s (past at) >>= λ x. each_orelse rest x
+abbrev pub numbers_of_orelses : List ds.Stmts → Step
+numbers_of_orelses [] = stay
+numbers_of_orelses (s ∷ rest) = token >> number_stmts s >> numbers_of_orelses rest
 
-abbrev pub optional_value : Option de.Expr → Place → Option Place
-optional_value None at = Some at
-optional_value (Some e) at = number_expr e at
+abbrev pub numbers_of_returned : Option de.Expr → Step
+numbers_of_returned None = stay
+numbers_of_returned (Some e) = number_expr e
 
-abbrev pub each_arm : List da.Arm → Place → Option Place
-each_arm [] at = Some at
-each_arm (a ∷ rest) at = number_arm a (past at) >>= λ x. each_arm rest x
+abbrev pub numbers_of_arms : List da.Arm → Step
+numbers_of_arms [] = stay
+numbers_of_arms (a ∷ rest) = token >> number_arm a >> numbers_of_arms rest
 
-abbrev pub each_label : List dl.Label → Place → Option Place
-each_label [] at = Some at
-each_label (l ∷ rest) at = number_label l (past at) >>= λ x. each_label rest x
+abbrev pub numbers_of_high : Option de.Expr → Step
+numbers_of_high None = stay
+numbers_of_high (Some e) = token >> number_expr e
 
-abbrev pub optional_compared : Option (Box dc.Compared Global) → Place → Option Place
-optional_compared None at = Some at
-optional_compared (Some c) at = number_simple (dc.out-Compared c.value).right (past at)
+abbrev pub numbers_of_labels : List dl.Label → Step
+numbers_of_labels [] = stay
+numbers_of_labels (l ∷ rest) = token >> number_label l >> numbers_of_labels rest
 
-abbrev pub each_term : List dk.AddLink → Place → Option Place
-each_term [] at = Some at
-each_term (l ∷ rest) at = number_term (dk.out-AddLink l).operand (past at) >>= λ x. each_term rest x
+abbrev pub numbers_of_compared : Option (Box dc.Compared Global) → Step
+numbers_of_compared None = stay
+numbers_of_compared (Some c) = token >> number_simple (dc.out-Compared c.value).right
 
-abbrev pub each_factor : List dn.MulLink → Place → Option Place
-each_factor [] at = Some at
-each_factor (l ∷ rest) at = number_factor l.operand (past at) >>= λ x. each_factor rest x
+abbrev pub numbers_of_terms : List dk.AddLink → Step
+numbers_of_terms [] = stay
+numbers_of_terms (l ∷ rest) = token >> number_term (dk.out-AddLink l).operand >> numbers_of_terms rest
 
-abbrev pub inside_args : Option dx.Exprs → Place → Option Place
-inside_args None at = Some (past at)
-inside_args (Some es) at = number_exprs es at >>= λ x. Some (past x)
+abbrev pub numbers_of_factors : List dn.MulLink → Step
+numbers_of_factors [] = stay
+numbers_of_factors (l ∷ rest) = token >> number_factor l.operand >> numbers_of_factors rest
 
-abbrev pub optional_args : Option dg.Args → Place → Option Place
-optional_args None at = Some at
-optional_args (Some a) at = inside_args (dg.out-Args a).values (past at)
+abbrev pub numbers_of_values : Option dx.Exprs → Step
+numbers_of_values None = token >> token
+numbers_of_values (Some es) = token >> number_exprs es >> token
 
-abbrev pub each_expr : List de.Expr → Place → Option Place
-each_expr [] at = Some at
-each_expr (e ∷ rest) at = number_expr e (past at) >>= λ x. each_expr rest x
+abbrev pub numbers_of_args : Option dg.Args → Step
+numbers_of_args None = stay
+numbers_of_args (Some a) = numbers_of_values (dg.out-Args a).values
 
-abbrev pub each_selector : List dj.Selector → Place → Option Place
-each_selector [] at = Some at
-each_selector (s ∷ rest) at = number_selector s at >>= λ x. each_selector rest x
+abbrev pub numbers_of_exprs : List de.Expr → Step
+numbers_of_exprs [] = stay
+numbers_of_exprs (e ∷ rest) = token >> number_expr e >> numbers_of_exprs rest
 
-abbrev pub number_desig : dd.Desig → Place → Option Place
-number_desig d at = in_order (name d.name) (each_selector d.more.items) d.node at
+abbrev pub numbers_of_selectors : List dj.Selector → Step
+numbers_of_selectors [] = stay
+numbers_of_selectors (s ∷ rest) = number_selector s >> numbers_of_selectors rest
 
-abbrev pub each_desig : List dd.Desig → Place → Option Place
-each_desig [] at = Some at
-each_desig (d ∷ rest) at = number_desig d (past at) >>= λ x. each_desig rest x
+abbrev pub number_desig : dd.Desig → Step
+number_desig d = number_name d.name >> numbers_of_selectors d.more.items >> node d.node
+
+abbrev pub numbers_of_desigs : List dd.Desig → Step
+numbers_of_desigs [] = stay
+numbers_of_desigs (d ∷ rest) = token >> number_desig d >> numbers_of_desigs rest
 
 -- ---- names and types
 
--- ARRAY, the one, the other, OF
-abbrev pub in_dimensions : (first more : Place → Option Place) → Place → Option Place
-in_dimensions first more at = first (past at) >>= λ x. more x >>= λ x. Some (past x)
+abbrev pub numbers_of_names : List Name → Step
+numbers_of_names [] = stay
+numbers_of_names (n ∷ rest) = token >> number_name n >> numbers_of_names rest
 
-abbrev pub each_name : List Name → Place → Option Place
-each_name [] at = Some at
-each_name (n ∷ rest) at = name n (past at) >>= λ x. each_name rest x
-
-abbrev pub number_names : Names → Place → Option Place
-number_names n at = in_order (name n.first) (each_name n.more.items) n.node at
+abbrev pub number_names : Names → Step
+number_names n = number_name n.first >> numbers_of_names n.more.items >> node n.node
 
 abbrev mutual
-  pub number_type_node : dy.TypeNode → Place → Option Place
-  number_type_node (dy.TypeNode' n arrays p) at = number_arrays arrays at >>= λ x. number_plain_type p x >>= λ x. node n x
+  pub number_type : dy.TypeNode → Step
+  number_type (dy.TypeNode' n arrays p) = number_arrays arrays >> number_plain p >> node n
 
-  pub number_arrays : dy.Held-TypeNode-arrays → Place → Option Place
-  number_arrays dy.None' at = Some at
-  number_arrays (dy.Some' (dz.Arrays' n p shape row shape' row')) at =
-      in_dimensions (number_plain_type p) (number_plains row) at >>= λ x. number_dimensions_row row' x >>= λ x. node n x
+  pub number_arrays : dy.Held-TypeNode-arrays → Step
+  number_arrays dy.None' = stay
+  number_arrays (dy.Some' (dz.Arrays' n p shape row shape' row')) =
+      token >> number_plain p >> number_plains row >> token >> number_dimensions row' >> node n
 
-  pub number_dimensions_row : {n : _} → dz.Row_of-Dimensions n → Place → Option Place
-  number_dimensions_row dz.end_of-Dimensions at = Some at
-  number_dimensions_row (dz.more_of-Dimensions p shape row rest) at =
-      in_dimensions (number_plain_type p) (number_plains row) at >>= λ x. number_dimensions_row rest x
+  pub number_dimensions : {n : _} → dz.Row_of-Dimensions n → Step
+  number_dimensions dz.end_of-Dimensions = stay
+  number_dimensions (dz.more_of-Dimensions p shape row rest) =
+      token >> number_plain p >> number_plains row >> token >> number_dimensions rest
 
-  pub number_plains : {n : _} → dz.Row_of-PlainType n → Place → Option Place
-  number_plains dz.end_of-PlainType at = Some at
-  number_plains (dz.more_of-PlainType p rest) at = number_plain_type p (past at) >>= λ x. number_plains rest x
+  pub number_plains : {n : _} → dz.Row_of-PlainType n → Step
+  number_plains dz.end_of-PlainType = stay
+  number_plains (dz.more_of-PlainType p rest) = token >> number_plain p >> number_plains rest
 
-  pub number_plain_type : dq.PlainType → Place → Option Place
-  number_plain_type (dq.Named n l) at = name l at >>= λ x. node n x
-  number_plain_type (dq.Listed n l) at = number_names l (past at) >>= λ x. node n (past x)
-  number_plain_type (dq.Subrange n low high) at = number_expr low (past at) >>= λ x. number_expr high (past x) >>= λ x. node n (past x)
-  number_plain_type (dq.Record' n b f shape row) at =
-      number_field_list f (past at) >>= λ x. number_field_lists row x >>= λ x. node n (past x)
+  pub number_plain : dq.PlainType → Step
+  number_plain (dq.Named n l) = number_name l >> node n
+  number_plain (dq.Listed n l) = token >> number_names l >> token >> node n
+  number_plain (dq.Subrange n low high) = token >> number_expr low >> token >> number_expr high >> token >> node n
+  number_plain (dq.Record' n b f shape row) = token >> number_field_list f >> number_field_lists row >> token >> node n
 
-  pub number_field_list : dw.FieldList → Place → Option Place
-  number_field_list (dw.Empty n) at = node n at
-  number_field_list (dw.Fields n l t) at = number_names l at >>= λ x. number_type_node t (past x) >>= λ x. node n x
+  pub number_field_list : dw.FieldList → Step
+  number_field_list (dw.Empty n) = node n
+  number_field_list (dw.Fields n l t) = number_names l >> token >> number_type t >> node n
 
-  pub number_field_lists : {n : _} → dq.Row_of-FieldList n → Place → Option Place
-  number_field_lists dq.end_of-FieldList at = Some at
-  number_field_lists (dq.more_of-FieldList f rest) at = number_field_list f (past at) >>= λ x. number_field_lists rest x
+  pub number_field_lists : {n : _} → dq.Row_of-FieldList n → Step
+  number_field_lists dq.end_of-FieldList = stay
+  number_field_lists (dq.more_of-FieldList f rest) = token >> number_field_list f >> number_field_lists rest
 
-abbrev pub each_plain : List dq.PlainType → Place → Option Place
-each_plain [] at = Some at
-each_plain (p ∷ rest) at = number_plain_type p (past at) >>= λ x. each_plain rest x
+abbrev pub numbers_of_plains : List dq.PlainType → Step
+numbers_of_plains [] = stay
+numbers_of_plains (p ∷ rest) = token >> number_plain p >> numbers_of_plains rest
 
-abbrev pub each_field_list : List dw.FieldList → Place → Option Place
-each_field_list [] at = Some at
-each_field_list (f ∷ rest) at = number_field_list f (past at) >>= λ x. each_field_list rest x
+abbrev pub numbers_of_field_lists : List dw.FieldList → Step
+numbers_of_field_lists [] = stay
+numbers_of_field_lists (f ∷ rest) = token >> number_field_list f >> numbers_of_field_lists rest
 
-abbrev pub number_dimensions : dv.Dimensions → Place → Option Place
-number_dimensions d at = in_dimensions (number_plain_type d.first) (each_plain d.more.items) at
+abbrev pub numbers_of_dimensions : List dv.Dimensions → Step
+numbers_of_dimensions [] = stay
+numbers_of_dimensions (d ∷ rest) =
+    token >> number_plain d.first >> numbers_of_plains d.more.items >> token >> numbers_of_dimensions rest
 
-abbrev pub each_dimensions : List dv.Dimensions → Place → Option Place
-each_dimensions [] at = Some at
-each_dimensions (d ∷ rest) at = number_dimensions d at >>= λ x. each_dimensions rest x
-
-abbrev pub optional_arrays : Option dz.Arrays → Place → Option Place
-optional_arrays None at = Some at
-optional_arrays (Some a) at =
-    number_dimensions (dz.out-Arrays a).first at >>= λ x. each_dimensions (dz.out-Arrays a).more.items x >>= λ x. node (dz.out-Arrays a).node x
+abbrev pub numbers_of_arrays : Option dz.Arrays → Step
+numbers_of_arrays None = stay
+numbers_of_arrays (Some a) =
+    token >> number_plain (dz.out-Arrays a).first.first >> numbers_of_plains (dz.out-Arrays a).first.more.items >> token
+    >> numbers_of_dimensions (dz.out-Arrays a).more.items >> node (dz.out-Arrays a).node
 
 -- ---- declarations and the module
 
-abbrev pub each_const : List ConstEntry → Place → Option Place
-each_const [] at = Some at
-each_const (e ∷ rest) at = name e.name at >>= λ x. number_expr e.value (past x) >>= λ x. each_const rest (past x)
+abbrev pub numbers_of_consts : List ConstEntry → Step
+numbers_of_consts [] = stay
+numbers_of_consts (e ∷ rest) = number_name e.name >> token >> number_expr e.value >> token >> numbers_of_consts rest
 
-abbrev pub each_type : List TypeEntry → Place → Option Place
-each_type [] at = Some at
-each_type (e ∷ rest) at = name e.name at >>= λ x. number_type_node e.type_node (past x) >>= λ x. each_type rest (past x)
+abbrev pub numbers_of_types : List TypeEntry → Step
+numbers_of_types [] = stay
+numbers_of_types (e ∷ rest) = number_name e.name >> token >> number_type e.type_node >> token >> numbers_of_types rest
 
-abbrev pub each_var : List VarEntry → Place → Option Place
-each_var [] at = Some at
-each_var (e ∷ rest) at = number_names e.names at >>= λ x. number_type_node e.type_node (past x) >>= λ x. each_var rest (past x)
+abbrev pub numbers_of_vars : List VarEntry → Step
+numbers_of_vars [] = stay
+numbers_of_vars (e ∷ rest) = number_names e.names >> token >> number_type e.type_node >> token >> numbers_of_vars rest
 
-abbrev pub number_formal : Formal → Place → Option Place
-number_formal f at = number_names f.names (moded f.mode at) >>= λ x. name f.type_name (past x) >>= λ x. node f.node x
+abbrev pub number_formal : Formal → Step
+number_formal f = number_mode f.mode >> number_names f.names >> token >> number_name f.type_name >> node f.node
 
-abbrev pub each_formal : List Formal → Place → Option Place
-each_formal [] at = Some at
-each_formal (f ∷ rest) at = number_formal f (past at) >>= λ x. each_formal rest x
+abbrev pub numbers_of_formals : List Formal → Step
+numbers_of_formals [] = stay
+numbers_of_formals (f ∷ rest) = token >> number_formal f >> numbers_of_formals rest
 
-abbrev pub number_formals : Formals → Place → Option Place
-number_formals f at = in_order (number_formal f.first) (each_formal f.more.items) f.node at
+abbrev pub number_formals : Formals → Step
+number_formals f = number_formal f.first >> numbers_of_formals f.more.items >> node f.node
 
-abbrev pub inside_params : Option Formals → Place → Option Place
-inside_params None at = Some (past at)
-inside_params (Some f) at = number_formals f at >>= λ x. Some (past x)
+abbrev pub numbers_inside_params : Option Formals → Step
+numbers_inside_params None = token >> token
+numbers_inside_params (Some f) = token >> number_formals f >> token
 
-abbrev pub optional_params : Option Params → Place → Option Place
-optional_params None at = Some at
-optional_params (Some p) at = inside_params p.formals (past at)
+abbrev pub numbers_of_params : Option Params → Step
+numbers_of_params None = stay
+numbers_of_params (Some p) = numbers_inside_params p.formals
 
-abbrev pub optional_result : Option Name → Place → Option Place
-optional_result None at = Some at
-optional_result (Some n) at = name n (past at)
+abbrev pub numbers_of_result : Option Name → Step
+numbers_of_result None = stay
+numbers_of_result (Some n) = token >> number_name n
 
-abbrev pub optional_body : Option ds.Stmts → Place → Option Place
-optional_body None at = Some at
-optional_body (Some s) at = number_stmts s (past at)
+abbrev pub numbers_of_body : Option ds.Stmts → Step
+numbers_of_body None = stay
+numbers_of_body (Some s) = token >> number_stmts s
 
 abbrev mutual
-  pub number_decl : dh.Decl → Place → Option Place
-  number_decl (dh.Const n entries) at = each_const entries.items (past at) >>= λ x. node n x
-  number_decl (dh.Type n entries) at = each_type entries.items (past at) >>= λ x. node n x
-  number_decl (dh.Var n entries) at = each_var entries.items (past at) >>= λ x. node n x
-  number_decl (dh.Procedure' n l p r m shape row b e) at =
-      name l (past at) >>= λ x. optional_params p x >>= λ x. optional_result r x >>= λ x. in_order (number_decls row) (optional_body b) m (past x)
-      >>= λ x. name e (past x) >>= λ x. node n (past x)
+  pub number_decl : dh.Decl → Step
+  number_decl (dh.Const n entries) = token >> numbers_of_consts entries.items >> node n
+  number_decl (dh.Type n entries) = token >> numbers_of_types entries.items >> node n
+  number_decl (dh.Var n entries) = token >> numbers_of_vars entries.items >> node n
+  number_decl (dh.Procedure' n l p r m shape row b e) =
+      token >> number_name l >> numbers_of_params p >> numbers_of_result r >> token
+      >> (number_decls row >> numbers_of_body b >> node m) >> token >> number_name e >> token >> node n
 
-  pub number_decls : {n : _} → db.Row_of-Decl n → Place → Option Place
-  number_decls db.end_of-Decl at = Some at
-  number_decls (db.more_of-Decl d rest) at = number_decl d at >>= λ x. number_decls rest x
+  pub number_decls : {n : _} → db.Row_of-Decl n → Step
+  number_decls db.end_of-Decl = stay
+  number_decls (db.more_of-Decl d rest) = number_decl d >> number_decls rest
 
-abbrev pub each_decl : List dh.Decl → Place → Option Place
-each_decl [] at = Some at
-each_decl (d ∷ rest) at = number_decl d at >>= λ x. each_decl rest x
+abbrev pub numbers_of_decls : List dh.Decl → Step
+numbers_of_decls [] = stay
+numbers_of_decls (d ∷ rest) = number_decl d >> numbers_of_decls rest
 
-abbrev pub number_block : db.Block → Place → Option Place
-number_block b at = in_order (each_decl b.decls.items) (optional_body b.body) b.node at
+abbrev pub number_block : db.Block → Step
+number_block b = numbers_of_decls b.decls.items >> numbers_of_body b.body >> node b.node
 
-abbrev pub number_module : Module → Place → Option Place
-number_module m at = name m.name (past at) >>= λ x. number_block m.block (past x) >>= λ x. name m.end_name (past x) >>= λ x. node m.node (past x)
+abbrev pub number_module : Module → Step
+number_module m =
+    token >> number_name m.name >> token >> number_block m.block >> token >> number_name m.end_name >> token >> node m.node
 
--- each leaf names its token, and the nodes have their numbers in post-order from 0
-abbrev pub Numbered : Module → Type 0
-Numbered m = (last : Place) × (number_module m first_place ≡ Some last)
+-- The leaves of the tree are these tokens, as many as said, and its nodes are counted from 0.
+abbrev pub IsNumbered : Module → (tokens : ℕ) → Type 0
+IsNumbered m tokens = (nodes : ℕ) × (number_module m (record { token = 0; node = 0 }) ≡ Some (record { token = tokens; node = nodes }))

@@ -1,6 +1,7 @@
 // The kinds of tokens.
 ghost use Rattle.std.specs.Prelude.{◌≡◌, nat_eq};
 ghost use Rattle.alma_tree.specs.Kinds.{code};
+ghost use Rattle.alma_tree.specs.Depth as brackets;
 
 /// The kind of a token: a name, a number, a literal, a symbol or a reserved word.
 #[derive(Clone, Copy, Debug, PartialEq, Eq)]
@@ -99,5 +100,38 @@ impl Kind {
         ensures same_code { result ≡ nat_eq (code self) (code other) }
     {
         self as u8 == other as u8
+    }
+
+    /// Whether the token opens a bracket.
+    pub fn opens(self) -> bool
+        ensures same { result ≡ brackets.opens self }
+    {
+        matches!(
+            self,
+            Kind::OpenParen
+                | Kind::OpenBracket
+                | Kind::Module
+                | Kind::Procedure
+                | Kind::Record
+                | Kind::If
+                | Kind::While
+                | Kind::Repeat
+                | Kind::For
+                | Kind::Case
+                | Kind::Either
+                | Kind::Some
+                | Kind::Forall
+                | Kind::Commit
+        )
+    }
+
+    /// Whether the token closes one.
+    pub fn closes(self) -> bool
+        ensures same { result ≡ brackets.closes self }
+    {
+        matches!(
+            self,
+            Kind::CloseParen | Kind::CloseBracket | Kind::End | Kind::Until
+        )
     }
 }

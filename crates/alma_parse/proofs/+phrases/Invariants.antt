@@ -2,7 +2,7 @@ use Rattle.std.proofs.Common.{◌+◌, ◌*◌, length}
 use Rattle.alma_tree.specs.Spelling.{spell_term_tail, spell_factor_tail, spell_expr_tail, spell_selector_tail, spell_stmt_tail, spell_elsif_tail}
 use Rattle.alma_tree.specs.Spelling.{spell_arm_tail, spell_label_tail, spell_orelse_tail, spell_desig_tail}
 use Rattle.alma_tree.specs.View.{terms_of, factors_of, exprs_of, selectors_of, stmts_of, elsifs_of, arms_of, labels_of, orelses_of, desigs_of}
-use Rattle.alma_tree.specs.Numbers.{each_term, each_factor, each_expr, each_selector, each_stmt, each_elsif, each_arm, each_label, each_orelse, each_desig}
+use Rattle.alma_tree.specs.Numbers.{numbers_of_terms, numbers_of_factors, numbers_of_exprs, numbers_of_selectors, numbers_of_stmts, numbers_of_elsifs, numbers_of_arms, numbers_of_labels, numbers_of_orelses, numbers_of_desigs}
 use Rattle.alma_grammar.specs.Parts.{term_tail, factor_tail, expr_tail, selector_tail, stmt_tail, elsif_tail, arm_tail, label_tail, orelse_tail, desig_tail}
 use Rattle.alma_parse.specs.Parsing.{seen}
 use Rattle.alma_parse.proofs.Steps.{Loops}
@@ -179,61 +179,61 @@ abbrev pub decreases-stmts : goal.decreases-stmts
 decreases-stmts l = 16 * length (seen l.at).kinds + 9
 
 abbrev pub invariant-terms-loop-operator : goal.invariant-terms-loop-operator
-invariant-terms-loop-operator l = Loops (spell_term_tail (terms_of l.more.items)) (each_term l.more.items) term_tail l.depth (seen l.fn.at) (seen l.at)
+invariant-terms-loop-operator l = Loops (spell_term_tail (terms_of l.more.items)) (numbers_of_terms l.more.items) term_tail l.depth (seen l.fn.at) (seen l.at)
 
 abbrev pub decreases-terms-loop-operator : goal.decreases-terms-loop-operator
 decreases-terms-loop-operator l = length (seen l.at).kinds
 
 abbrev pub invariant-factors-loop-operator : goal.invariant-factors-loop-operator
-invariant-factors-loop-operator l = Loops (spell_factor_tail (factors_of l.more.items)) (each_factor l.more.items) factor_tail l.depth (seen l.fn.at) (seen l.at)
+invariant-factors-loop-operator l = Loops (spell_factor_tail (factors_of l.more.items)) (numbers_of_factors l.more.items) factor_tail l.depth (seen l.fn.at) (seen l.at)
 
 abbrev pub decreases-factors-loop-operator : goal.decreases-factors-loop-operator
 decreases-factors-loop-operator l = length (seen l.at).kinds
 
 abbrev pub invariant-expr_list-loop-after : goal.invariant-expr_list-loop-after
-invariant-expr_list-loop-after l = Loops (spell_expr_tail (exprs_of l.more.items)) (each_expr l.more.items) expr_tail l.depth (seen l.fn.at) (seen l.at)
+invariant-expr_list-loop-after l = Loops (spell_expr_tail (exprs_of l.more.items)) (numbers_of_exprs l.more.items) expr_tail l.depth (seen l.fn.at) (seen l.at)
 
 abbrev pub decreases-expr_list-loop-after : goal.decreases-expr_list-loop-after
 decreases-expr_list-loop-after l = length (seen l.at).kinds
 
 abbrev pub invariant-selectors-loop-form : goal.invariant-selectors-loop-form
-invariant-selectors-loop-form l = Loops (spell_selector_tail (selectors_of l.more.items)) (each_selector l.more.items) selector_tail l.depth (seen l.fn.at) (seen l.at)
+invariant-selectors-loop-form l = Loops (spell_selector_tail (selectors_of l.more.items)) (numbers_of_selectors l.more.items) selector_tail l.depth (seen l.fn.at) (seen l.at)
 
 abbrev pub decreases-selectors-loop-form : goal.decreases-selectors-loop-form
 decreases-selectors-loop-form l = length (seen l.at).kinds
 
 abbrev pub invariant-stmt_list-loop-after : goal.invariant-stmt_list-loop-after
-invariant-stmt_list-loop-after l = Loops (spell_stmt_tail (stmts_of l.more.items)) (each_stmt l.more.items) stmt_tail l.depth (seen l.fn.at) (seen l.at)
+invariant-stmt_list-loop-after l = Loops (spell_stmt_tail (stmts_of l.more.items)) (numbers_of_stmts l.more.items) stmt_tail l.depth (seen l.fn.at) (seen l.at)
 
 abbrev pub decreases-stmt_list-loop-after : goal.decreases-stmt_list-loop-after
 decreases-stmt_list-loop-after l = length (seen l.at).kinds
 
 abbrev pub invariant-elsif_list-loop-after : goal.invariant-elsif_list-loop-after
-invariant-elsif_list-loop-after l = Loops (spell_elsif_tail (elsifs_of l.more.items)) (each_elsif l.more.items) elsif_tail l.depth (seen l.fn.at) (seen l.at)
+invariant-elsif_list-loop-after l = Loops (spell_elsif_tail (elsifs_of l.more.items)) (numbers_of_elsifs l.more.items) elsif_tail l.depth (seen l.fn.at) (seen l.at)
 
 abbrev pub decreases-elsif_list-loop-after : goal.decreases-elsif_list-loop-after
 decreases-elsif_list-loop-after l = length (seen l.at).kinds
 
 abbrev pub invariant-arm_list-loop-after : goal.invariant-arm_list-loop-after
-invariant-arm_list-loop-after l = Loops (spell_arm_tail (arms_of l.more.items)) (each_arm l.more.items) arm_tail l.depth (seen l.fn.at) (seen l.at)
+invariant-arm_list-loop-after l = Loops (spell_arm_tail (arms_of l.more.items)) (numbers_of_arms l.more.items) arm_tail l.depth (seen l.fn.at) (seen l.at)
 
 abbrev pub decreases-arm_list-loop-after : goal.decreases-arm_list-loop-after
 decreases-arm_list-loop-after l = length (seen l.at).kinds
 
 abbrev pub invariant-label_list-loop-after : goal.invariant-label_list-loop-after
-invariant-label_list-loop-after l = Loops (spell_label_tail (labels_of l.more.items)) (each_label l.more.items) label_tail l.depth (seen l.fn.at) (seen l.at)
+invariant-label_list-loop-after l = Loops (spell_label_tail (labels_of l.more.items)) (numbers_of_labels l.more.items) label_tail l.depth (seen l.fn.at) (seen l.at)
 
 abbrev pub decreases-label_list-loop-after : goal.decreases-label_list-loop-after
 decreases-label_list-loop-after l = length (seen l.at).kinds
 
 abbrev pub invariant-orelse_list-loop-after : goal.invariant-orelse_list-loop-after
-invariant-orelse_list-loop-after l = Loops (spell_orelse_tail (orelses_of l.more.items)) (each_orelse l.more.items) orelse_tail l.depth (seen l.fn.at) (seen l.at)
+invariant-orelse_list-loop-after l = Loops (spell_orelse_tail (orelses_of l.more.items)) (numbers_of_orelses l.more.items) orelse_tail l.depth (seen l.fn.at) (seen l.at)
 
 abbrev pub decreases-orelse_list-loop-after : goal.decreases-orelse_list-loop-after
 decreases-orelse_list-loop-after l = length (seen l.at).kinds
 
 abbrev pub invariant-desig_list-loop-after : goal.invariant-desig_list-loop-after
-invariant-desig_list-loop-after l = Loops (spell_desig_tail (desigs_of l.more.items)) (each_desig l.more.items) desig_tail l.depth (seen l.fn.at) (seen l.at)
+invariant-desig_list-loop-after l = Loops (spell_desig_tail (desigs_of l.more.items)) (numbers_of_desigs l.more.items) desig_tail l.depth (seen l.fn.at) (seen l.at)
 
 abbrev pub decreases-desig_list-loop-after : goal.decreases-desig_list-loop-after
 decreases-desig_list-loop-after l = length (seen l.at).kinds
