@@ -65,9 +65,9 @@ node_same at = rw (eq-eqb at.node at.node refl) refl
 pub counted : {n d : ℕ} {a b : At} → Counts n a b → Reads (λ r. r) (node n) (λ o. o) d d a b
 counted {n = n} {d = d} {a = a} {b = b} x = record {
   spelled_so = sym x.kinds_so;
-  numbered_so = λ f. (
+  numbered_so = λ k f. (
     rw x.is_next (node_same a.place) ∙ ap Some (sym x.place_so),
-    rw (x.kinds_so, x.place_so) f,
+    record { counted = rw (x.kinds_so, x.place_so) f.counted; fits = f.fits },
   );
   reads = λ o. from a.kinds b.kinds d o (sym x.kinds_so);
   shorter = rw x.kinds_so (le_refl (length a.kinds));
@@ -82,7 +82,7 @@ pub then : {s t : List Kind → List Kind} {n m : Step} {p q : List Part → Lis
     → Reads s n p d e a b → Reads t m q e f b c → Reads (λ r. s (t r)) (n >> m) (λ o. p (q o)) d f a c
 then {s = s} {t = t} {n = n} {m = m} {p = p} {q = q} {d = d} {e = e} {f = f} {a = a} {b = b} {c = c} x y = record {
   spelled_so = x.spelled_so ∙ ap s y.spelled_so;
-  numbered_so = λ h. let u = x.numbered_so h in let v = y.numbered_so u.1 in
+  numbered_so = λ k h. let u = x.numbered_so k h in let v = y.numbered_so k u.1 in
       (bound (n a.place) b.place m u.0 ∙ v.0, v.1);
   reads = λ o. x.reads (q o) ∙ y.reads o;
   shorter = le_trans y.shorter x.shorter;

@@ -1,0 +1,169 @@
+use Rattle.std.proofs.Common.{refl, arith, sym, ap}
+use Rattle.std.proofs.lemmas.Result.{err_from_is_err_and}
+use Rattle.alma_tree.specs.declared.type_node.Arrays as dz
+use Rattle.alma_tree.proofs.Rows as rows
+use Rattle.alma_tree.proofs.NumberRows as numbered
+use Rattle.alma_parse.proofs.Steps.{after, first, passed, opened, closed, counted, then, same}
+use Rattle.alma_parse.proofs.Turns.{begun, grown, ended, broken, where_passed, where_started, instead, fails_instead, left_out, numbered_alike, match_instead, want, four_and}
+use Rattle.alma_parse.proofs.Items.{dimensions_listed, plains_listed, field_lists_listed}
+use Rattle.alma_parse.proofs.LeftOut.{no_array_tail, a_array_tail, no_plain_tail, a_plain_tail, no_field_list_part, a_field_list_part, no_field_list_tail, a_field_list_tail}
+use Rattle.alma_parse.proofs.types.+types.Goals as goal
+
+pub type_node-returns-in_err-arrays : goal.type_node-returns-in_err-arrays
+type_node-returns-in_err-arrays t c =
+    let p = err_from_is_err_and c.from_residual.result c.from_residual.ensures.1 in
+    record { read = rw (p.1, p.2) (first c.in_err-arrays.ensures.read) }
+
+pub type_node-returns-in_err-element : goal.type_node-returns-in_err-element
+type_node-returns-in_err-element t c =
+    let p = err_from_is_err_and c.from_residual-in_err-element.result c.from_residual-in_err-element.ensures.1 in
+    record { read = rw (p.1, p.2) (after (c.in_ok-arrays.ensures.read) (first c.in_err-element.ensures.read)) }
+
+pub type_node-returns-in_err-node : goal.type_node-returns-in_err-node
+type_node-returns-in_err-node t c =
+    let p = err_from_is_err_and c.from_residual-in_err-node.result c.from_residual-in_err-node.ensures.1 in
+    record { read = rw (p.1, p.2) (want c.in_err-node.ensures.counted) }
+
+pub type_node-returns : goal.type_node-returns
+type_node-returns t c = record { read = rw (rows.type_rolled _, numbered.type_rolled _) (then (c.in_ok-arrays.ensures.read) (then (c.in_ok-element.ensures.read) (counted c.in_ok-node.ensures.counted))) }
+
+pub dimensions-returns-in_err-at-clause-read : goal.dimensions-returns-in_err-at-clause-read
+dimensions-returns-in_err-at-clause-read t c =
+    let p = err_from_is_err_and c.from_residual.result c.from_residual.ensures.1 in
+    rw (p.1, p.2) (first (c.in_err-at.ensures.passes _))
+
+pub dimensions-returns-in_err-first-clause-read : goal.dimensions-returns-in_err-first-clause-read
+dimensions-returns-in_err-first-clause-read t c =
+    let p = err_from_is_err_and c.from_residual-in_err-first.result c.from_residual-in_err-first.ensures.1 in
+    rw (p.1, p.2) (after (passed refl refl c.in_ok-at.ensures.passes) (first c.in_err-first.ensures.read))
+
+pub dimensions-returns-in_err-more-clause-read : goal.dimensions-returns-in_err-more-clause-read
+dimensions-returns-in_err-more-clause-read t c =
+    let p = err_from_is_err_and c.from_residual-in_err-more.result c.from_residual-in_err-more.ensures.1 in
+    rw (p.1, p.2) (after (passed refl refl c.in_ok-at.ensures.passes) (after (c.in_ok-first.ensures.read) (first c.in_err-more.ensures.read)))
+
+pub dimensions-returns-in_err-at-2-clause-read : goal.dimensions-returns-in_err-at-2-clause-read
+dimensions-returns-in_err-at-2-clause-read t c =
+    let p = err_from_is_err_and c.from_residual-in_err-at-2.result c.from_residual-in_err-at-2.ensures.1 in
+    rw (p.1, p.2) (after (passed refl refl c.in_ok-at.ensures.passes) (after (c.in_ok-first.ensures.read) (after (c.in_ok-more.ensures.read) (first (c.in_err-at-2.ensures.passes _)))))
+
+pub dimensions-returns-clause-read : goal.dimensions-returns-clause-read
+dimensions-returns-clause-read t c = then (passed refl refl c.in_ok-at.ensures.passes) (then (c.in_ok-first.ensures.read) (then (c.in_ok-more.ensures.read) (passed refl refl c.in_ok-at-2.ensures.passes)))
+
+pub record_type-returns-in_err-at : goal.record_type-returns-in_err-at
+record_type-returns-in_err-at t c =
+    let p = err_from_is_err_and c.from_residual.result c.from_residual.ensures.1 in
+    record { read = rw (p.1, p.2) (first c.in_err-at.ensures.opened) }
+
+pub record_type-returns-in_err-first : goal.record_type-returns-in_err-first
+record_type-returns-in_err-first t c =
+    let p = err_from_is_err_and c.from_residual-in_err-first.result c.from_residual-in_err-first.ensures.1 in
+    record { read = rw (p.1, p.2) (after (opened refl c.in_ok-at.ensures.opened) (first c.in_err-first.ensures.read)) }
+
+pub record_type-returns-in_err-more : goal.record_type-returns-in_err-more
+record_type-returns-in_err-more t c =
+    let p = err_from_is_err_and c.from_residual-in_err-more.result c.from_residual-in_err-more.ensures.1 in
+    record { read = rw (p.1, p.2) (after (opened refl c.in_ok-at.ensures.opened) (after (c.in_ok-first.ensures.read) (first c.in_err-more.ensures.read))) }
+
+pub record_type-returns-in_err-at-2 : goal.record_type-returns-in_err-at-2
+record_type-returns-in_err-at-2 t c =
+    let p = err_from_is_err_and c.from_residual-in_err-at-2.result c.from_residual-in_err-at-2.ensures.1 in
+    record { read = rw (p.1, p.2) (after (opened refl c.in_ok-at.ensures.opened) (after (c.in_ok-first.ensures.read) (after (c.in_ok-more.ensures.read) (first (c.in_err-at-2.ensures.passes _))))) }
+
+pub record_type-returns-in_err-node : goal.record_type-returns-in_err-node
+record_type-returns-in_err-node t c =
+    let p = err_from_is_err_and c.from_residual-in_err-node.result c.from_residual-in_err-node.ensures.1 in
+    record { read = rw (p.1, p.2) (want c.in_err-node.ensures.counted) }
+
+pub record_type-returns : goal.record_type-returns
+record_type-returns t c = record { read = rw (rows.record_laid _ _ c.in_ok-more.more, numbered.record_laid _ _ c.in_ok-more.more, c.in_ok-first-2.ensures.ok) (then (opened refl c.in_ok-at.ensures.opened) (then (c.in_ok-first.ensures.read) (then (c.in_ok-more.ensures.read) (then (closed refl refl c.in_ok-at.ensures.opened c.in_ok-at-2.ensures.passes) (counted c.in_ok-node.ensures.counted))))) }
+
+pub fields-returns-in_err-names : goal.fields-returns-in_err-names
+fields-returns-in_err-names t c =
+    let p = err_from_is_err_and c.from_residual.result c.from_residual.ensures.1 in
+    record { read = rw (p.1, p.2) (first (c.in_err-names.ensures.read _)) }
+
+pub fields-returns-in_err-at : goal.fields-returns-in_err-at
+fields-returns-in_err-at t c =
+    let p = err_from_is_err_and c.from_residual-in_err-at.result c.from_residual-in_err-at.ensures.1 in
+    record { read = rw (p.1, p.2) (after (c.in_ok-names.ensures.read _) (first (c.in_err-at.ensures.passes _))) }
+
+pub fields-returns-in_err-type_node : goal.fields-returns-in_err-type_node
+fields-returns-in_err-type_node t c =
+    let p = err_from_is_err_and c.from_residual-in_err-type_node.result c.from_residual-in_err-type_node.ensures.1 in
+    record { read = rw (p.1, p.2) (after (c.in_ok-names.ensures.read _) (after (passed refl refl c.in_ok-at.ensures.passes) (first c.in_err-type_node.ensures.read))) }
+
+pub fields-returns-in_err-node : goal.fields-returns-in_err-node
+fields-returns-in_err-node t c =
+    let p = err_from_is_err_and c.from_residual-in_err-node.result c.from_residual-in_err-node.ensures.1 in
+    record { read = rw (p.1, p.2) (want c.in_err-node.ensures.counted) }
+
+pub fields-returns : goal.fields-returns
+fields-returns t c = record { read = then (c.in_ok-names.ensures.read _) (then (passed refl refl c.in_ok-at.ensures.passes) (then (c.in_ok-type_node.ensures.read) (counted c.in_ok-node.ensures.counted))) }
+
+pub arrays-returns-in_err-first : goal.arrays-returns-in_err-first
+arrays-returns-in_err-first t c =
+    let p = err_from_is_err_and c.from_residual.result c.from_residual.ensures.1 in
+    record { read = rw (p.1, p.2) (fails_instead (where_started c.if-is_at.ensures a_array_tail) (first c.in_err-first.ensures.read)) }
+
+pub arrays-returns-in_err-more : goal.arrays-returns-in_err-more
+arrays-returns-in_err-more t c =
+    let p = err_from_is_err_and c.from_residual-in_err-more.result c.from_residual-in_err-more.ensures.1 in
+    record { read = rw (p.1, p.2) (fails_instead (where_started c.if-is_at.ensures a_array_tail) (after c.in_ok-first.ensures.read c.in_err-more.ensures.read)) }
+
+pub arrays-returns-in_err-node : goal.arrays-returns-in_err-node
+arrays-returns-in_err-node t c =
+    let p = err_from_is_err_and c.from_residual-in_err-node.result c.from_residual-in_err-node.ensures.1 in
+    record { read = rw (p.1, p.2) (want c.in_err-node.ensures.counted) }
+
+pub arrays-returns : goal.arrays-returns
+arrays-returns t c = record { read = rw (dz.out-roll-Arrays _) (numbered_alike (four_and _ _ _ _ _)
+    (instead (where_started c.if-is_at.ensures a_array_tail) (then c.in_ok-first.ensures.read (then c.in_ok-more.ensures.read (counted c.in_ok-node.ensures.counted))))) }
+
+pub plain_list-loop-after-init : goal.plain_list-loop-after-init
+plain_list-loop-after-init t c = rw c.new-more.ensures.items (begun plains_listed)
+
+pub plain_list-loop-after-preserved : goal.plain_list-loop-after-preserved
+plain_list-loop-after-preserved t c = rw c.in_ok-push.ensures.items
+    (grown plains_listed c.loop-after.invariant (where_passed c.in-Some.ensures.passes a_plain_tail)
+    (then (passed refl refl c.in-Some.ensures.passes) c.in_ok-next.ensures.read))
+
+pub plain_list-returns-in_err-next : goal.plain_list-returns-in_err-next
+plain_list-returns-in_err-next t c =
+    let p = err_from_is_err_and c.from_residual.result c.from_residual.ensures.1 in
+    record { read = rw (p.1, p.2) (broken c.loop-after.invariant (where_passed c.in-Some.ensures.passes a_plain_tail) (after (passed refl refl c.in-Some.ensures.passes) c.in_err-next.ensures.read)) }
+
+pub plain_list-returns : goal.plain_list-returns
+plain_list-returns t c = record { read = ended c.loop-after.invariant (no_plain_tail _ c.in_default.ensures.passes) }
+
+pub field_list_list-loop-after-init : goal.field_list_list-loop-after-init
+field_list_list-loop-after-init t c = rw c.new-more.ensures.items (begun field_lists_listed)
+
+pub field_list_list-loop-after-preserved : goal.field_list_list-loop-after-preserved
+field_list_list-loop-after-preserved t c = rw c.in_ok-push.ensures.items
+    (grown field_lists_listed c.loop-after.invariant (where_passed c.in-Some.ensures.passes a_field_list_tail)
+    (then (passed refl refl c.in-Some.ensures.passes) c.in_ok-next.ensures.read))
+
+pub field_list_list-returns-in_err-next : goal.field_list_list-returns-in_err-next
+field_list_list-returns-in_err-next t c =
+    let p = err_from_is_err_and c.from_residual.result c.from_residual.ensures.1 in
+    record { read = rw (p.1, p.2) (broken c.loop-after.invariant (where_passed c.in-Some.ensures.passes a_field_list_tail) (after (passed refl refl c.in-Some.ensures.passes) c.in_err-next.ensures.read)) }
+
+pub field_list_list-returns : goal.field_list_list-returns
+field_list_list-returns t c = record { read = ended c.loop-after.invariant (no_field_list_tail _ c.in_default.ensures.passes) }
+
+pub dimensions_list-loop-is_at-init : goal.dimensions_list-loop-is_at-init
+dimensions_list-loop-is_at-init t c = rw c.new-more.ensures.items (begun dimensions_listed)
+
+pub dimensions_list-loop-is_at-preserved : goal.dimensions_list-loop-is_at-preserved
+dimensions_list-loop-is_at-preserved t c = rw c.in_ok-push.ensures.items
+    (grown dimensions_listed c.loop-is_at.invariant (where_started c.in-true.ensures a_array_tail)
+    (c.in_ok-next.ensures.read))
+
+pub dimensions_list-returns-in_err-next : goal.dimensions_list-returns-in_err-next
+dimensions_list-returns-in_err-next t c =
+    let p = err_from_is_err_and c.from_residual.result c.from_residual.ensures.1 in
+    record { read = rw (p.1, p.2) (broken c.loop-is_at.invariant (where_started c.in-true.ensures a_array_tail) (c.in_err-next.ensures.read)) }
+
+pub dimensions_list-returns : goal.dimensions_list-returns
+dimensions_list-returns t c = record { read = ended c.loop-is_at.invariant (no_array_tail _ c.in_default.ensures) }
