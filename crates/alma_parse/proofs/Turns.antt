@@ -127,11 +127,19 @@ pub fails_instead : {p q : List Part → List Part} {d : ℕ} {a : At} {fault : 
 fails_instead {d = d} {fault = fault} become f = record { ends = λ o. moved fault _ _ (become.becomes d o) (f.ends o) }
 
 -- what a call gave for the other parts is returned for these
-pub match_instead : {T : Type 0} {s : T → List Kind → List Kind} {n : T → Step} {p q : List Part → List Part} {d e : ℕ} {a : At} {b : T → At}
+pub match_instead : {T : Type 0} (s : T → List Kind → List Kind) (n : T → Step) (p q : List Part → List Part) (d e : ℕ) (a : At) (b : T → At)
     (r : Result T Fault) → Becomes p q a.kinds
     → MatchResult r (λ t. Reads (s t) (n t) q d e a (b t)) (λ f. Fails f q d a) → MatchResult r (λ t. Reads (s t) (n t) p d e a (b t)) (λ f. Fails f p d a)
-match_instead (Ok t) become h = instead become h
-match_instead (Err f) become h = fails_instead become h
+match_instead s n p q d e a b (Ok t) become h = instead become h
+match_instead s n p q d e a b (Err f) become h = fails_instead become h
+
+-- and where it was given at any depth
+pub match_instead_any : {T : Type 0} (s : T → List Kind → List Kind) (n : T → Step) (p q : List Part → List Part) (d : ℕ) (a : At) (b : T → At)
+    (r : Result T Fault) → Becomes p q a.kinds
+    → MatchResult r (λ t. (i : ℕ) → Reads (s t) (n t) q i i a (b t)) (λ f. (i : ℕ) → Fails f q i a)
+    → MatchResult r (λ t. Reads (s t) (n t) p d d a (b t)) (λ f. Fails f p d a)
+match_instead_any s n p q d a b (Ok t) become h = instead become (h d)
+match_instead_any s n p q d a b (Err f) become h = fails_instead become (h d)
 
 -- the same numbers, said at each place
 pub numbered_alike : {s : List Kind → List Kind} {n m : Step} {p : List Part → List Part} {d e : ℕ} {a b : At}

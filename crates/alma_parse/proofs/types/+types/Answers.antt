@@ -1,10 +1,11 @@
 use Rattle.std.proofs.Common.{refl, arith, sym, ap}
 use Rattle.std.proofs.lemmas.Result.{err_from_is_err_and}
 use Rattle.alma_tree.specs.declared.type_node.Arrays as dz
+use Rattle.alma_tree.specs.Numbers.{token, node, number_plain, numbers_of_plains, numbers_of_dimensions, ◌>>◌}
 use Rattle.alma_tree.proofs.Rows as rows
 use Rattle.alma_tree.proofs.NumberRows as numbered
 use Rattle.alma_parse.proofs.Steps.{after, first, passed, opened, closed, counted, then, same}
-use Rattle.alma_parse.proofs.Turns.{begun, grown, ended, broken, where_passed, where_started, instead, fails_instead, left_out, numbered_alike, match_instead, want, four_and}
+use Rattle.alma_parse.proofs.Turns.{begun, grown, ended, broken, where_passed, where_started, instead, fails_instead, left_out, numbered_alike, match_instead, match_instead_any, want, four_and}
 use Rattle.alma_parse.proofs.Items.{dimensions_listed, plains_listed, field_lists_listed}
 use Rattle.alma_parse.proofs.LeftOut.{no_array_tail, a_array_tail, no_plain_tail, a_plain_tail, no_field_list_part, a_field_list_part, no_field_list_tail, a_field_list_tail}
 use Rattle.alma_parse.proofs.types.+types.Goals as goal
@@ -76,7 +77,7 @@ record_type-returns-in_err-node t c =
     record { read = rw (p.1, p.2) (want c.in_err-node.ensures.counted) }
 
 pub record_type-returns : goal.record_type-returns
-record_type-returns t c = record { read = rw (rows.record_laid _ _ c.in_ok-more.more, numbered.record_laid _ _ c.in_ok-more.more, c.in_ok-first-2.ensures.ok) (then (opened refl c.in_ok-at.ensures.opened) (then (c.in_ok-first.ensures.read) (then (c.in_ok-more.ensures.read) (then (closed refl refl c.in_ok-at.ensures.opened c.in_ok-at-2.ensures.passes) (counted c.in_ok-node.ensures.counted))))) }
+record_type-returns t c = record { read = rw (rows.record_laid c.in_ok-node.node c.in_ok-first-2.first c.in_ok-more.more, numbered.record_laid c.in_ok-node.node c.in_ok-first-2.first c.in_ok-more.more, c.in_ok-first-2.ensures.ok) (then (opened refl c.in_ok-at.ensures.opened) (then (c.in_ok-first.ensures.read) (then (c.in_ok-more.ensures.read) (then (closed refl refl c.in_ok-at.ensures.opened c.in_ok-at-2.ensures.passes) (counted c.in_ok-node.ensures.counted))))) }
 
 pub fields-returns-in_err-names : goal.fields-returns-in_err-names
 fields-returns-in_err-names t c =
@@ -104,12 +105,12 @@ fields-returns t c = record { read = then (c.in_ok-names.ensures.read _) (then (
 pub arrays-returns-in_err-first : goal.arrays-returns-in_err-first
 arrays-returns-in_err-first t c =
     let p = err_from_is_err_and c.from_residual.result c.from_residual.ensures.1 in
-    record { read = rw (p.1, p.2) (fails_instead (where_started c.if-is_at.ensures a_array_tail) (first c.in_err-first.ensures.read)) }
+    record { read = rw (p.1, p.2) (fails_instead (where_started (sym c.if-not-is_at.ensures.starts) a_array_tail) (first c.in_err-first.ensures.read)) }
 
 pub arrays-returns-in_err-more : goal.arrays-returns-in_err-more
 arrays-returns-in_err-more t c =
     let p = err_from_is_err_and c.from_residual-in_err-more.result c.from_residual-in_err-more.ensures.1 in
-    record { read = rw (p.1, p.2) (fails_instead (where_started c.if-is_at.ensures a_array_tail) (after c.in_ok-first.ensures.read c.in_err-more.ensures.read)) }
+    record { read = rw (p.1, p.2) (fails_instead (where_started (sym c.if-not-is_at.ensures.starts) a_array_tail) (after c.in_ok-first.ensures.read c.in_err-more.ensures.read)) }
 
 pub arrays-returns-in_err-node : goal.arrays-returns-in_err-node
 arrays-returns-in_err-node t c =
@@ -117,8 +118,9 @@ arrays-returns-in_err-node t c =
     record { read = rw (p.1, p.2) (want c.in_err-node.ensures.counted) }
 
 pub arrays-returns : goal.arrays-returns
-arrays-returns t c = record { read = rw (dz.out-roll-Arrays _) (numbered_alike (four_and _ _ _ _ _)
-    (instead (where_started c.if-is_at.ensures a_array_tail) (then c.in_ok-first.ensures.read (then c.in_ok-more.ensures.read (counted c.in_ok-node.ensures.counted))))) }
+arrays-returns t c = record { read = rw (dz.out-roll-Arrays _) (numbered_alike (four_and token (number_plain c.in_ok-first.first.first) (numbers_of_plains c.in_ok-first.first.more.items) token
+    (numbers_of_dimensions c.in_ok-more.more.items >> node c.in_ok-node.node))
+    (instead (where_started (sym c.if-not-is_at.ensures.starts) a_array_tail) (then c.in_ok-first.ensures.read (then c.in_ok-more.ensures.read (counted c.in_ok-node.ensures.counted))))) }
 
 pub plain_list-loop-after-init : goal.plain_list-loop-after-init
 plain_list-loop-after-init t c = rw c.new-more.ensures.items (begun plains_listed)
@@ -152,18 +154,38 @@ field_list_list-returns-in_err-next t c =
 pub field_list_list-returns : goal.field_list_list-returns
 field_list_list-returns t c = record { read = ended c.loop-after.invariant (no_field_list_tail _ c.in_default.ensures.passes) }
 
-pub dimensions_list-loop-is_at-init : goal.dimensions_list-loop-is_at-init
-dimensions_list-loop-is_at-init t c = rw c.new-more.ensures.items (begun dimensions_listed)
+pub dimensions_list-loop-alloc-init : goal.dimensions_list-loop-alloc-init
+dimensions_list-loop-alloc-init t c = rw c.new-more.ensures.items (begun dimensions_listed)
 
-pub dimensions_list-loop-is_at-preserved : goal.dimensions_list-loop-is_at-preserved
-dimensions_list-loop-is_at-preserved t c = rw c.in_ok-push.ensures.items
-    (grown dimensions_listed c.loop-is_at.invariant (where_started c.in-true.ensures a_array_tail)
+pub dimensions_list-loop-alloc-preserved : goal.dimensions_list-loop-alloc-preserved
+dimensions_list-loop-alloc-preserved t c = rw c.in_ok-push.ensures.items
+    (grown dimensions_listed c.loop-alloc.invariant (where_started (sym c.loop-alloc-test.ensures.starts) a_array_tail)
     (c.in_ok-next.ensures.read))
 
 pub dimensions_list-returns-in_err-next : goal.dimensions_list-returns-in_err-next
 dimensions_list-returns-in_err-next t c =
     let p = err_from_is_err_and c.from_residual.result c.from_residual.ensures.1 in
-    record { read = rw (p.1, p.2) (broken c.loop-is_at.invariant (where_started c.in-true.ensures a_array_tail) (c.in_err-next.ensures.read)) }
+    record { read = rw (p.1, p.2) (broken c.loop-alloc.invariant (where_started (sym c.loop-alloc-test.ensures.starts) a_array_tail) (c.in_err-next.ensures.read)) }
 
 pub dimensions_list-returns : goal.dimensions_list-returns
-dimensions_list-returns t c = record { read = ended c.loop-is_at.invariant (no_array_tail _ c.in_default.ensures) }
+dimensions_list-returns t c = record { read = ended c.loop-alloc.invariant (no_array_tail _ (sym c.loop-alloc-test.ensures.starts)) }
+
+pub fields-type_node-requires : goal.fields-type_node-requires
+fields-type_node-requires t c =
+    let x = (c.in_ok-names.ensures.read 0).shorter in
+    let y = c.in_ok-at.ensures.passes.shorter in (omega arith, tt)
+
+pub field_list-returns-then-is_at : goal.field_list-returns-then-is_at
+field_list-returns-then-is_at t c = record {
+  read = match_instead _ _ _ _ _ _ _ _ _ (where_started (sym c.if-is_at.ensures.starts) a_field_list_part) c.fields.ensures.read;
+}
+
+pub plain_type-returns-in-Named : goal.plain_type-returns-in-Named
+plain_type-returns-in-Named t c = record {
+  read = match_instead_any _ _ _ _ _ _ _ _ (rw c.in-Named.is at c.in_ok-plain_form.ensures.becomes) c.named_type.ensures.read;
+}
+
+pub plain_type-returns-in-Subrange : goal.plain_type-returns-in-Subrange
+plain_type-returns-in-Subrange t c = record {
+  read = match_instead _ _ _ _ _ _ _ _ _ (rw c.in-Subrange.is at c.in_ok-plain_form.ensures.becomes) c.subrange.ensures.read;
+}

@@ -39,11 +39,11 @@ decreases-arrays l = 8 * length (seen l.at).kinds + 3
 abbrev pub decreases-type_node : goal.decreases-type_node
 decreases-type_node l = 8 * length (seen l.at).kinds + 4
 
-abbrev pub invariant-dimensions_list-loop-is_at : goal.invariant-dimensions_list-loop-is_at
-invariant-dimensions_list-loop-is_at l = Loops (spell_array_tail (dimensions_of l.more.items)) (numbers_of_dimensions l.more.items) array_tail l.depth (seen l.fn.at) (seen l.at)
+abbrev pub invariant-dimensions_list-loop-alloc : goal.invariant-dimensions_list-loop-alloc
+invariant-dimensions_list-loop-alloc l = Loops (spell_array_tail (dimensions_of l.more.items)) (numbers_of_dimensions l.more.items) array_tail l.depth (seen l.fn.at) (seen l.at)
 
-abbrev pub decreases-dimensions_list-loop-is_at : goal.decreases-dimensions_list-loop-is_at
-decreases-dimensions_list-loop-is_at l = length (seen l.at).kinds
+abbrev pub decreases-dimensions_list-loop-alloc : goal.decreases-dimensions_list-loop-alloc
+decreases-dimensions_list-loop-alloc l = length (seen l.at).kinds
 
 abbrev pub invariant-plain_list-loop-after : goal.invariant-plain_list-loop-after
 invariant-plain_list-loop-after l = Loops (spell_plain_tail (plains_of l.more.items)) (numbers_of_plains l.more.items) plain_tail l.depth (seen l.fn.at) (seen l.at)
