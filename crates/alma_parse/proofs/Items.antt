@@ -1,6 +1,8 @@
 -- The lists of names, types and declarations, by what one item spells and numbers.
-use Rattle.std.proofs.Common.{◌≡◌, List, [], ◌∷◌, refl}
+use Rattle.std.proofs.Common.{◌≡◌, List, [], ◌∷◌, Option, None, Some, refl}
+use Rattle.alma_tree.specs.declared.kind.Kind.{Kind}
 use Rattle.alma_tree.specs.declared.kind.Kind.TheVariants as kinds
+use Rattle.alma_tree.specs.declared.module.Formals.{Formals}
 use Rattle.alma_tree.specs.declared.leaf.Name.{Name}
 use Rattle.alma_tree.specs.declared.type_node.Dimensions.{Dimensions}
 use Rattle.alma_tree.specs.declared.type_node.PlainType.{PlainType}
@@ -15,6 +17,8 @@ use Rattle.alma_tree.specs.View as view
 use Rattle.alma_tree.specs.Numbers as numbers
 use Rattle.alma_tree.specs.Numbers.{token, ◌>>◌}
 use Rattle.alma_parse.specs.Forms.{spell_const_entry, spell_type_entry, spell_var_entry, number_const_entry, number_type_entry, number_var_entry, number_dimension}
+use Rattle.alma_parse.specs.Forms.{inside_params_of, number_inside_params}
+use Rattle.alma_grammar.specs.Filling.{spell_inside_params}
 use Rattle.alma_parse.proofs.Turns.{Lists, three_and, four_and, two_and}
 
 pub names_listed : Lists {A = Name} (λ n r. kinds.Comma ∷ kinds.Name ∷ r) (λ ns. spelling.spell_name_tail (view.name_tail_of ns))
@@ -94,3 +98,13 @@ decls_listed = record {
   numbered_none = λ at. refl;
   numbered_more = λ d ds at. refl;
 }
+
+-- ---- parameters behind their opening parenthesis
+
+pub params_spelled : (f : Option Formals) (r : List Kind) → kinds.OpenParen ∷ spell_inside_params (inside_params_of f) r ≡ spelling.spell_params (view.params_values f) r
+params_spelled None r = refl
+params_spelled (Some f) r = refl
+
+pub params_numbered : (f : Option Formals) (at : numbers.Cursor) → numbers.numbers_inside_params f at ≡ (token >> number_inside_params f) at
+params_numbered None at = refl
+params_numbered (Some f) at = refl
