@@ -4,10 +4,10 @@ ghost use Rattle.alma_tree.specs.Spelling.{spell_type_node, spell_array_tail, sp
 ghost use Rattle.alma_tree.specs.Spelling.{spell_field_list_tail};
 ghost use Rattle.alma_tree.specs.View.{view_type_node, arrays_of, view_dimension, dimensions_of, view_plain_type, plains_of, view_field_list};
 ghost use Rattle.alma_tree.specs.View.{field_lists_of};
-ghost use Rattle.alma_tree.specs.Numbers.{number_type, numbers_of_arrays, number_dimension, numbers_of_dimensions, number_plain, numbers_of_plains};
+ghost use Rattle.alma_tree.specs.Numbers.{number_type, numbers_of_arrays, numbers_of_dimensions, number_plain, numbers_of_plains};
 ghost use Rattle.alma_tree.specs.Numbers.{number_field_list, numbers_of_field_lists};
 ghost use Rattle.alma_grammar.specs.Parts.{array_tail, plain_part, plain_tail, field_list_part, field_list_tail, type_parts};
-ghost use Rattle.alma_parse.specs.Forms.{dimensions_parts, named_type_parts, listed_parts, subrange_parts, record_parts, fields_parts};
+ghost use Rattle.alma_parse.specs.Forms.{dimensions_parts, named_type_parts, listed_parts, subrange_parts, record_parts, fields_parts, number_dimension};
 ghost use Rattle.alma_parse.specs.Parsing.{seen, Reads, Fails};
 
 use crate::cursor::Cursor;
