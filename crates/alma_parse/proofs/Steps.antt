@@ -1,15 +1,16 @@
 -- How what the functions of the parser give fits together.
-use Rattle.std.proofs.Common.{◌≡◌, ◌≤◌, ◌<◌, ◌+◌, ℕ, suc, pred, Bool, true, false, List, [], ◌∷◌, ◌++◌, Option, None, Some, length, nat_eq, nat_lt, eq-eqb}
-use Rattle.std.proofs.Common.{refl, ap, sym, ◌∙◌, subst, le_trans, le_refl, arith}
+use Rattle.std.proofs.Common.{◌≡◌, ◌≤◌, ◌<◌, ◌+◌, ℕ, suc, pred, Bool, true, false, List, [], ◌∷◌, ◌++◌, Option, None, Some, Result, Ok, Err, MatchResult, length, nat_eq, nat_lt, eq-eqb}
+use Rattle.std.proofs.Common.{refl, ap, ap₂, sym, ◌∙◌, subst, le_trans, le_refl, arith}
 use Rattle.alma_tree.specs.declared.kind.Kind.{Kind}
 use Rattle.alma_tree.specs.Kinds.{code}
 use Rattle.alma_tree.specs.Depth.{opens, closes}
-use Rattle.alma_tree.specs.Numbers.{Cursor, Step, token, node, ◌>>◌, and_then}
+use Rattle.alma_tree.specs.Numbers.{Cursor, Step, stay, token, leaf, node, ◌>>◌, and_then}
 use Rattle.alma_grammar.specs.Parts.{Part, one}
 use Rattle.alma_grammar.specs.Reading.{reading, End, unexpected, too_deep}
+use Rattle.alma_parse.specs.declared.cursor.Cursor as cursors
 use Rattle.alma_parse.specs.declared.fault.Fault.{Fault}
 use Rattle.alma_parse.specs.declared.fault.Fault.TheVariants as faults
-use Rattle.alma_parse.specs.Parsing.{At, Few, Passes, Opens, Counts, Reads, EndsIn, Fails}
+use Rattle.alma_parse.specs.Parsing.{At, seen, Few, Passes, Opens, Counts, Reads, Becomes, Extends, EndsIn, Fails}
 
 -- ---- one token
 
@@ -62,40 +63,83 @@ closed {k = k} {l = l} {d = d} {e = e} {a = a} {b = b} h g y x = record {
 node_same : (at : Cursor) → node at.node at ≡ Some (record { token = at.token; node = suc at.node })
 node_same at = rw (eq-eqb at.node at.node refl) refl
 
+moved_few : {k : ℕ} {a b : At} → b.kinds ≡ a.kinds → b.place.token ≡ a.place.token → Few k a → Few k b
+moved_few e h f = record { counted = ap₂ (λ n ks. n + length ks) h e ∙ f.counted; fits = f.fits }
+
 pub counted : {n d : ℕ} {a b : At} → Counts n a b → Reads (λ r. r) (node n) (λ o. o) d d a b
 counted {n = n} {d = d} {a = a} {b = b} x = record {
   spelled_so = sym x.kinds_so;
-  numbered_so = λ k f. (
-    rw x.is_next (node_same a.place) ∙ ap Some (sym x.place_so),
-    record { counted = rw (x.kinds_so, x.place_so) f.counted; fits = f.fits },
-  );
+  numbered_so = λ k f. (rw x.is_next (node_same a.place) ∙ ap Some (sym x.place_so), moved_few x.kinds_so (ap (λ p. p.token) x.place_so) f);
   reads = λ o. from a.kinds b.kinds d o (sym x.kinds_so);
   shorter = rw x.kinds_so (le_refl (length a.kinds));
 }
 
 -- ---- one behind the other
 
-bound : (o : Option Cursor) (p : Cursor) (f : Step) → o ≡ Some p → and_then o f ≡ f p
+pub bound : (o : Option Cursor) (p : Cursor) (f : Step) → o ≡ Some p → and_then o f ≡ f p
 bound o p f e = ap (λ x. and_then x f) e
 
 pub then : {s t : List Kind → List Kind} {n m : Step} {p q : List Part → List Part} {d e f : ℕ} {a b c : At}
     → Reads s n p d e a b → Reads t m q e f b c → Reads (λ r. s (t r)) (n >> m) (λ o. p (q o)) d f a c
 then {s = s} {t = t} {n = n} {m = m} {p = p} {q = q} {d = d} {e = e} {f = f} {a = a} {b = b} {c = c} x y = record {
   spelled_so = x.spelled_so ∙ ap s y.spelled_so;
-  numbered_so = λ k h. let u = x.numbered_so k h in let v = y.numbered_so k u.1 in
-      (bound (n a.place) b.place m u.0 ∙ v.0, v.1);
+  numbered_so = λ k h. (
+    bound (n a.place) b.place m (x.numbered_so k h).0 ∙ (y.numbered_so k (x.numbered_so k h).1).0,
+    (y.numbered_so k (x.numbered_so k h).1).1,
+  );
   reads = λ o. x.reads (q o) ∙ y.reads o;
   shorter = le_trans y.shorter x.shorter;
 }
 
 -- the same in other words
 pub same : {s t : List Kind → List Kind} {n m : Step} {p : List Part → List Part} {d e : ℕ} {a b : At}
-    → s ≡ t → n ≡ m → Reads s n p d e a b → Reads t m p d e a b
+  → t ≡ s → m ≡ n → Reads s n p d e a b → Reads t m p d e a b
 same {s = s} {t = t} {n = n} {m = m} {p = p} {d = d} {e = e} {a = a} {b = b} u v x = record {
-  spelled_so = x.spelled_so ∙ ap (λ f. f b.kinds) u;
-  numbered_so = λ k h. (sym (ap (λ f. f a.place) v) ∙ (x.numbered_so k h).0, (x.numbered_so k h).1);
+  spelled_so = x.spelled_so ∙ ap (λ f. f b.kinds) (sym u);
+  numbered_so = λ k h. (ap (λ f. f a.place) v ∙ (x.numbered_so k h).0, (x.numbered_so k h).1);
   reads = x.reads;
   shorter = x.shorter;
+}
+
+-- the same of an equal value
+pub replaced : {A : Type 0} {v w : A} {p : List Part → List Part} {d e : ℕ} {a b : At} (s : A → List Kind → List Kind) (n : A → Step)
+  → w ≡ v → Reads (s v) (n v) p d e a b → Reads (s w) (n w) p d e a b
+replaced s n q x = same (ap s q) (ap n q) x
+
+-- nothing was read where the parts may be left out
+pub skipped : {p : List Part → List Part} {d : ℕ} {a : At} → Becomes p (λ o. o) a.kinds → Reads (λ r. r) stay p d d a a
+skipped {p = p} {d = d} {a = a} h = record {
+  spelled_so = refl;
+  numbered_so = λ k f. (refl, f);
+  reads = h.becomes d;
+  shorter = le_refl (length a.kinds);
+}
+
+pub becoming : {s : List Kind → List Kind} {n : Step} {p q : List Part → List Part} {d e : ℕ} {a b : At}
+  → Becomes p q a.kinds → Reads s n q d e a b → Reads s n p d e a b
+becoming {s = s} {n = n} {p = p} {q = q} {d = d} {e = e} {a = a} {b = b} h x = record {
+  spelled_so = x.spelled_so;
+  numbered_so = x.numbered_so;
+  reads = λ o. h.becomes d o ∙ x.reads o;
+  shorter = x.shorter;
+}
+
+-- what stands behind the first part, and makes a whole of both
+pub extending : {s r t : List Kind → List Kind} {n l m : Step} {p : List Part → List Part} {d : ℕ} {a b : At}
+  → t ≡ (λ ks. s (r ks)) → m ≡ (n >> l) → Reads r l p d d a b → Extends s n p t m d a b
+extending {s = s} {r = r} {t = t} {n = n} {l = l} {m = m} {p = p} {d = d} {a = a} {b = b} u v y = record {
+  extends = λ start before e x. same u v (then x y);
+  reads = y.reads;
+  shorter = y.shorter;
+}
+
+-- one extension and then another
+pub twice : {s t u : List Kind → List Kind} {n m l : Step} {p q : List Part → List Part} {d : ℕ} {a b c : At}
+  → Extends s n p t m d a b → Extends t m q u l d b c → Extends s n (λ o. p (q o)) u l d a c
+twice {s = s} {t = t} {u = u} {n = n} {m = m} {l = l} {p = p} {q = q} {d = d} {a = a} {b = b} {c = c} x y = record {
+  extends = λ start before e z. y.extends start (λ o. before (p o)) e (x.extends start before e z);
+  reads = λ o. x.reads (q o) ∙ y.reads o;
+  shorter = le_trans y.shorter x.shorter;
 }
 
 -- ---- faults
@@ -112,15 +156,49 @@ after {s = s} {n = n} {p = p} {q = q} {d = d} {e = e} {a = a} {b = b} {fault = f
 pub first : {p q : List Part → List Part} {d : ℕ} {a : At} {fault : Fault} → Fails fault p d a → Fails fault (λ o. p (q o)) d a
 first {p = p} {q = q} y = record { ends = λ o. y.ends (q o) }
 
+pub becoming_fails : {p q : List Part → List Part} {d : ℕ} {a : At} {fault : Fault} → Becomes p q a.kinds → Fails fault q d a → Fails fault p d a
+becoming_fails {p = p} {q = q} {d = d} {a = a} {fault = fault} h y = record { ends = λ o. moved fault _ _ (h.becomes d o) (y.ends o) }
+
+-- a fault behind what extends the first part
+pub beyond : {s t : List Kind → List Kind} {n m : Step} {p q : List Part → List Part} {d : ℕ} {a b : At} {fault : Fault}
+  → Extends s n p t m d a b → Fails fault q d b → Fails fault (λ o. p (q o)) d a
+beyond {s = s} {t = t} {n = n} {m = m} {p = p} {q = q} {d = d} {a = a} {b = b} {fault = fault} x y =
+    record { ends = λ o. moved fault _ _ (x.reads (q o)) (y.ends o) }
+
 -- want of memory is a fault anywhere
 pub no_memory : {p : List Part → List Part} {d : ℕ} {a : At} → Fails faults.Memory p d a
 no_memory = record { ends = λ o. tt }
 
--- ---- loops
+-- ---- leaves
 
--- From a to b the parser read some turns of a loop, which leave the part open.
-pub record Loops (spelled : List Kind → List Kind) (numbered : Step) (p : Part) (d : ℕ) (a b : At) : Type 0 where
-  pub spelled_so : a.kinds ≡ spelled b.kinds
-  pub numbered_so : (tokens : ℕ) → Few tokens a → (numbered a.place ≡ Some b.place) × Few tokens b
-  pub reads : (open_parts : List Part) → reading true a.kinds d (p ∷ open_parts) ≡ reading true b.kinds d (p ∷ open_parts)
-  pub shorter : length b.kinds ≤ length a.kinds
+pub leafed : {k : Kind} {d : ℕ} {a b : At} → opens k ≡ false → closes k ≡ false → Passes k a b
+  → Reads (λ r. k ∷ r) (leaf a.place.token) (λ o. one k ∷ o) d d a b
+leafed {k = k} {d = d} {a = a} {b = b} h g x = record {
+  spelled_so = x.kinds_so;
+  numbered_so = λ n f. (rw (eq-eqb a.place.token a.place.token refl) (x.place_so n f).0, (x.place_so n f).1);
+  reads = λ o. from a.kinds (k ∷ b.kinds) d (one k ∷ o) x.kinds_so ∙ is_taken k b.kinds d o h g;
+  shorter = omega (arith, x.shorter);
+}
+
+-- ---- one function's result as another's
+
+pub instead : {T : Type 0} (r : Result (T × cursors.Cursor) Fault) (s : T → List Kind → List Kind) (n : T → Step) (p q : List Part → List Part) (d : ℕ) (a : At)
+  → Becomes p q a.kinds → MatchResult r (λ t. Reads (s t.0) (n t.0) q d d a (seen t.1)) (λ e. Fails e q d a)
+  → MatchResult r (λ t. Reads (s t.0) (n t.0) p d d a (seen t.1)) (λ e. Fails e p d a)
+instead (Ok t) s n p q d a h x = becoming h x
+instead (Err e) s n p q d a h x = becoming_fails h x
+
+pub extended : {T : Type 0} (r : Result (T × cursors.Cursor) Fault) (s : T → List Kind → List Kind) (n : T → Step) {t : List Kind → List Kind} {m : Step}
+  {p : List Part → List Part} (q : List Part → List Part) {d : ℕ} {a b : At} → Reads t m p d d a b
+  → MatchResult r (λ x. Extends t m q (s x.0) (n x.0) d b (seen x.1)) (λ e. Fails e q d b)
+  → MatchResult r (λ x. Reads (s x.0) (n x.0) (λ o. p (q o)) d d a (seen x.1)) (λ e. Fails e (λ o. p (q o)) d a)
+extended (Ok x) s n q {d = d} {a = a} y z = z.extends a _ d y
+extended (Err e) s n q y z = after y z
+
+-- what extends what extends the first part
+pub extended_twice : {T : Type 0} (r : Result (T × cursors.Cursor) Fault) (s : T → List Kind → List Kind) (n : T → Step) {t u : List Kind → List Kind} {m l : Step}
+  {p : List Part → List Part} (q : List Part → List Part) {d : ℕ} {a b : At} → Extends u l p t m d a b
+  → MatchResult r (λ x. Extends t m q (s x.0) (n x.0) d b (seen x.1)) (λ e. Fails e q d b)
+  → MatchResult r (λ x. Extends u l (λ o. p (q o)) (s x.0) (n x.0) d a (seen x.1)) (λ e. Fails e (λ o. p (q o)) d a)
+extended_twice (Ok x) s n q y z = twice y z
+extended_twice (Err e) s n q y z = beyond y z

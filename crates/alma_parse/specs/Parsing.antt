@@ -77,4 +77,5 @@ pub record Extends (s : List Kind → List Kind) (n : Step) (parts : List Part �
     (t : List Kind → List Kind) (m : Step) (d : ℕ) (a b : At) : Type 0 where
   pub extends : (start : At) (before : List Part → List Part) (e : ℕ) → Reads s n before e d start a
       → Reads t m (λ o. before (parts o)) e d start b
+  pub reads : (open_parts : List Part) → reading true a.kinds d (parts open_parts) ≡ reading true b.kinds d open_parts
   pub shorter : length b.kinds ≤ length a.kinds

@@ -7,12 +7,12 @@ ghost use Rattle.alma_tree.specs.Spelling.{spell_selector};
 ghost use Rattle.alma_tree.specs.View.{view_expr, compared_of, view_simple, terms_of, view_term, factors_of, view_factor, view_primary, args_of};
 ghost use Rattle.alma_tree.specs.View.{args_values, view_exprs, exprs_of, view_desig, selectors_of, view_selector};
 ghost use Rattle.alma_tree.specs.Numbers.{◌>>◌, number_sign, number_expr, numbers_of_compared, number_simple, numbers_of_terms, number_term, numbers_of_factors};
-ghost use Rattle.alma_tree.specs.Numbers.{number_factor, number_primary, numbers_of_args, number_inside_args, number_exprs, numbers_of_exprs, number_desig, numbers_of_selectors};
+ghost use Rattle.alma_tree.specs.Numbers.{number_factor, number_primary, numbers_of_args, number_exprs, numbers_of_exprs, number_desig, numbers_of_selectors};
 ghost use Rattle.alma_tree.specs.Numbers.{number_selector};
 ghost use Rattle.alma_grammar.specs.Filling.{spell_inside_args};
 ghost use Rattle.alma_grammar.specs.Parts.{Part, one, factor_part, primary_part, factor_tail, term_tail, compared_part, args_part, args_inside, expr_tail};
 ghost use Rattle.alma_grammar.specs.Parts.{selector_tail, term_parts, simple_parts, expr_parts, exprs_parts, desig_parts};
-ghost use Rattle.alma_parse.specs.Forms.{paren_parts, known_parts, ord_parts, chr_parts, field_parts, index_parts, selector_form_parts, inside_of};
+ghost use Rattle.alma_parse.specs.Forms.{paren_parts, known_parts, ord_parts, chr_parts, field_parts, index_parts, selector_form_parts, inside_of, number_inside_args};
 ghost use Rattle.alma_parse.specs.Parsing.{seen, Reads, Extends, Fails};
 
 use crate::cursor::Cursor;
