@@ -12,7 +12,8 @@ use Rattle.alma_parse.specs.declared.fault.Fault.TheVariants as faults
 use Rattle.alma_tree.specs.Depth.{opens, closes}
 use Rattle.alma_parse.specs.Parsing.{At, Few, Passes, Opens, Reads, Fails, Becomes, starts_with, EndsIn, seen}
 use Rattle.alma_parse.proofs.OneKind.{one_kind}
-use Rattle.alma_parse.proofs.Steps.{Loops, moved, no_memory}
+use Rattle.alma_parse.proofs.Loops.{Loops}
+use Rattle.alma_parse.proofs.Steps.{moved, no_memory}
 
 -- ---- steps one behind the other
 

@@ -4,7 +4,7 @@ use Rattle.alma_tree.specs.View.{dimensions_of, plains_of, field_lists_of}
 use Rattle.alma_tree.specs.Numbers.{numbers_of_dimensions, numbers_of_plains, numbers_of_field_lists}
 use Rattle.alma_grammar.specs.Parts.{array_tail, plain_tail, field_list_tail}
 use Rattle.alma_parse.specs.Parsing.{seen}
-use Rattle.alma_parse.proofs.Steps.{Loops}
+use Rattle.alma_parse.proofs.Loops.{Loops}
 use Rattle.alma_parse.proofs.types.+types.Given as goal
 
 -- Each call reads fewer tokens, or as many and comes before in the order of the numbers here.
