@@ -49,9 +49,9 @@ module_found {s = s} {b = b} ks m tokens e x l h z =
 pub ends_at : {fault : Fault} {a : At} (ks : List Kind) → a ≡ beginning ks → Fails fault module_parts 0 a → EndsIn fault (reading true ks 0 whole)
 ends_at {fault = fault} ks e f = subst (λ x. EndsIn fault (reading true x.kinds 0 whole)) e (f.ends [])
 
-pub ends_behind : {fault : Fault} {s : List Kind → List Kind} {n : Step} {a b : At} (ks : List Kind) → a ≡ beginning ks
+pub ends_behind : (fault : Fault) {s : List Kind → List Kind} {n : Step} {a b : At} (ks : List Kind) → a ≡ beginning ks
     → Reads s n module_parts 0 0 a b → EndsIn fault (reading true b.kinds 0 []) → EndsIn fault (reading true ks 0 whole)
-ends_behind {fault = fault} ks e x h = subst (λ y. EndsIn fault (reading true y.kinds 0 whole)) e (moved fault _ _ (x.reads []) h)
+ends_behind fault ks e x h = subst (λ y. EndsIn fault (reading true y.kinds 0 whole)) e (moved fault _ _ (x.reads []) h)
 
 pub some_left : (ks : List Kind) (k : Kind) (rest : List Kind) → ks ≡ k ∷ rest → reading true ks 0 [] ≡ unexpected ks
 some_left [] k rest e = absurd cc

@@ -33,7 +33,9 @@ procedure-returns-in_err-at-clause-read t c =
     rw (p.1, p.2) (first c.in_err-at.ensures.opened)
 
 pub procedure-returns-in_err-at-clause-shorter : goal.procedure-returns-in_err-at-clause-shorter
-procedure-returns-in_err-at-clause-shorter t c = tt
+procedure-returns-in_err-at-clause-shorter t c =
+    let p = err_from_is_err_and c.from_residual.result c.from_residual.ensures.1 in
+    rw p.1 tt
 
 pub procedure-returns-in_err-name-clause-read : goal.procedure-returns-in_err-name-clause-read
 procedure-returns-in_err-name-clause-read t c =
@@ -41,7 +43,9 @@ procedure-returns-in_err-name-clause-read t c =
     rw (p.1, p.2) (after (opened refl c.in_ok-at.ensures.opened) (first (c.in_err-name.ensures.read _)))
 
 pub procedure-returns-in_err-name-clause-shorter : goal.procedure-returns-in_err-name-clause-shorter
-procedure-returns-in_err-name-clause-shorter t c = tt
+procedure-returns-in_err-name-clause-shorter t c =
+    let p = err_from_is_err_and c.from_residual-in_err-name.result c.from_residual-in_err-name.ensures.1 in
+    rw p.1 tt
 
 pub procedure-returns-in_err-params-clause-read : goal.procedure-returns-in_err-params-clause-read
 procedure-returns-in_err-params-clause-read t c =
@@ -49,7 +53,9 @@ procedure-returns-in_err-params-clause-read t c =
     rw (p.1, p.2) (after (opened refl c.in_ok-at.ensures.opened) (after (c.in_ok-name.ensures.read _) (first c.in_err-params.ensures.read)))
 
 pub procedure-returns-in_err-params-clause-shorter : goal.procedure-returns-in_err-params-clause-shorter
-procedure-returns-in_err-params-clause-shorter t c = tt
+procedure-returns-in_err-params-clause-shorter t c =
+    let p = err_from_is_err_and c.from_residual-in_err-params.result c.from_residual-in_err-params.ensures.1 in
+    rw p.1 tt
 
 pub procedure-returns-in_err-result-clause-read : goal.procedure-returns-in_err-result-clause-read
 procedure-returns-in_err-result-clause-read t c =
@@ -57,7 +63,9 @@ procedure-returns-in_err-result-clause-read t c =
     rw (p.1, p.2) (after (opened refl c.in_ok-at.ensures.opened) (after (c.in_ok-name.ensures.read _) (after (c.in_ok-params.ensures.read) (first (c.in_err-result.ensures.read _)))))
 
 pub procedure-returns-in_err-result-clause-shorter : goal.procedure-returns-in_err-result-clause-shorter
-procedure-returns-in_err-result-clause-shorter t c = tt
+procedure-returns-in_err-result-clause-shorter t c =
+    let p = err_from_is_err_and c.from_residual-in_err-result.result c.from_residual-in_err-result.ensures.1 in
+    rw p.1 tt
 
 pub procedure-returns-in_err-at-2-clause-read : goal.procedure-returns-in_err-at-2-clause-read
 procedure-returns-in_err-at-2-clause-read t c =
@@ -65,7 +73,9 @@ procedure-returns-in_err-at-2-clause-read t c =
     rw (p.1, p.2) (after (opened refl c.in_ok-at.ensures.opened) (after (c.in_ok-name.ensures.read _) (after (c.in_ok-params.ensures.read) (after (c.in_ok-result.ensures.read _) (first (c.in_err-at-2.ensures.passes _))))))
 
 pub procedure-returns-in_err-at-2-clause-shorter : goal.procedure-returns-in_err-at-2-clause-shorter
-procedure-returns-in_err-at-2-clause-shorter t c = tt
+procedure-returns-in_err-at-2-clause-shorter t c =
+    let p = err_from_is_err_and c.from_residual-in_err-at-2.result c.from_residual-in_err-at-2.ensures.1 in
+    rw p.1 tt
 
 pub procedure-returns-in_err-block-clause-read : goal.procedure-returns-in_err-block-clause-read
 procedure-returns-in_err-block-clause-read t c =
@@ -73,7 +83,9 @@ procedure-returns-in_err-block-clause-read t c =
     rw (p.1, p.2) (after (opened refl c.in_ok-at.ensures.opened) (after (c.in_ok-name.ensures.read _) (after (c.in_ok-params.ensures.read) (after (c.in_ok-result.ensures.read _) (after (passed refl refl c.in_ok-at-2.ensures.passes) (first c.in_err-block.ensures.read))))))
 
 pub procedure-returns-in_err-block-clause-shorter : goal.procedure-returns-in_err-block-clause-shorter
-procedure-returns-in_err-block-clause-shorter t c = tt
+procedure-returns-in_err-block-clause-shorter t c =
+    let p = err_from_is_err_and c.from_residual-in_err-block.result c.from_residual-in_err-block.ensures.1 in
+    rw p.1 tt
 
 pub procedure-returns-in_err-at-3-clause-read : goal.procedure-returns-in_err-at-3-clause-read
 procedure-returns-in_err-at-3-clause-read t c =
@@ -81,7 +93,9 @@ procedure-returns-in_err-at-3-clause-read t c =
     rw (p.1, p.2) (after (opened refl c.in_ok-at.ensures.opened) (after (c.in_ok-name.ensures.read _) (after (c.in_ok-params.ensures.read) (after (c.in_ok-result.ensures.read _) (after (passed refl refl c.in_ok-at-2.ensures.passes) (after (c.in_ok-block.ensures.read) (first (c.in_err-at-3.ensures.passes _))))))))
 
 pub procedure-returns-in_err-at-3-clause-shorter : goal.procedure-returns-in_err-at-3-clause-shorter
-procedure-returns-in_err-at-3-clause-shorter t c = tt
+procedure-returns-in_err-at-3-clause-shorter t c =
+    let p = err_from_is_err_and c.from_residual-in_err-at-3.result c.from_residual-in_err-at-3.ensures.1 in
+    rw p.1 tt
 
 pub procedure-returns-in_err-end_name-clause-read : goal.procedure-returns-in_err-end_name-clause-read
 procedure-returns-in_err-end_name-clause-read t c =
@@ -89,7 +103,9 @@ procedure-returns-in_err-end_name-clause-read t c =
     rw (p.1, p.2) (after (opened refl c.in_ok-at.ensures.opened) (after (c.in_ok-name.ensures.read _) (after (c.in_ok-params.ensures.read) (after (c.in_ok-result.ensures.read _) (after (passed refl refl c.in_ok-at-2.ensures.passes) (after (c.in_ok-block.ensures.read) (after (closed refl refl c.in_ok-at.ensures.opened c.in_ok-at-3.ensures.passes) (first (c.in_err-end_name.ensures.read _)))))))))
 
 pub procedure-returns-in_err-end_name-clause-shorter : goal.procedure-returns-in_err-end_name-clause-shorter
-procedure-returns-in_err-end_name-clause-shorter t c = tt
+procedure-returns-in_err-end_name-clause-shorter t c =
+    let p = err_from_is_err_and c.from_residual-in_err-end_name.result c.from_residual-in_err-end_name.ensures.1 in
+    rw p.1 tt
 
 pub procedure-returns-in_err-at-4-clause-read : goal.procedure-returns-in_err-at-4-clause-read
 procedure-returns-in_err-at-4-clause-read t c =
@@ -97,7 +113,9 @@ procedure-returns-in_err-at-4-clause-read t c =
     rw (p.1, p.2) (after (opened refl c.in_ok-at.ensures.opened) (after (c.in_ok-name.ensures.read _) (after (c.in_ok-params.ensures.read) (after (c.in_ok-result.ensures.read _) (after (passed refl refl c.in_ok-at-2.ensures.passes) (after (c.in_ok-block.ensures.read) (after (closed refl refl c.in_ok-at.ensures.opened c.in_ok-at-3.ensures.passes) (after (c.in_ok-end_name.ensures.read _) (first (c.in_err-at-4.ensures.passes _))))))))))
 
 pub procedure-returns-in_err-at-4-clause-shorter : goal.procedure-returns-in_err-at-4-clause-shorter
-procedure-returns-in_err-at-4-clause-shorter t c = tt
+procedure-returns-in_err-at-4-clause-shorter t c =
+    let p = err_from_is_err_and c.from_residual-in_err-at-4.result c.from_residual-in_err-at-4.ensures.1 in
+    rw p.1 tt
 
 pub procedure-returns-in_err-node-clause-read : goal.procedure-returns-in_err-node-clause-read
 procedure-returns-in_err-node-clause-read t c =
@@ -105,7 +123,9 @@ procedure-returns-in_err-node-clause-read t c =
     rw (p.1, p.2) (want c.in_err-node.ensures.counted)
 
 pub procedure-returns-in_err-node-clause-shorter : goal.procedure-returns-in_err-node-clause-shorter
-procedure-returns-in_err-node-clause-shorter t c = tt
+procedure-returns-in_err-node-clause-shorter t c =
+    let p = err_from_is_err_and c.from_residual-in_err-node.result c.from_residual-in_err-node.ensures.1 in
+    rw p.1 tt
 
 pub procedure-returns-clause-read : goal.procedure-returns-clause-read
 procedure-returns-clause-read t c = rw (rows.procedure_laid c.in_ok-node.node c.in_ok-name.name c.in_ok-params.params c.in_ok-result.result c.in_ok-block.block c.in_ok-end_name.end_name,

@@ -50,7 +50,7 @@ returns-in_err-node c =
 pub returns-in_err-nothing_left : goal.returns-in_err-nothing_left
 returns-in_err-nothing_left c =
     let p = err_from_is_err_and c.from_residual-in_err-nothing_left.result c.from_residual-in_err-nothing_left.ensures.1 in
-    record { read = rw (p.1, p.2) (ends_behind (kinds_of c.args.tokens.now) c.start.ensures.start (then (opened refl c.in_ok-at.ensures.opened) (then (c.in_ok-name.ensures.read _) (then (passed refl refl c.in_ok-at-2.ensures.passes) (then (c.in_ok-block.ensures.read) (then (closed refl refl c.in_ok-at.ensures.opened c.in_ok-at-3.ensures.passes) (then (c.in_ok-end_name.ensures.read _) (then (passed refl refl c.in_ok-at-4.ensures.passes) (counted c.in_ok-node.ensures.counted)))))))) c.in_err-nothing_left.ensures.left) }
+    record { read = rw (p.1, p.2) (ends_behind _ (kinds_of c.args.tokens.now) c.start.ensures.start (then (opened refl c.in_ok-at.ensures.opened) (then (c.in_ok-name.ensures.read _) (then (passed refl refl c.in_ok-at-2.ensures.passes) (then (c.in_ok-block.ensures.read) (then (closed refl refl c.in_ok-at.ensures.opened c.in_ok-at-3.ensures.passes) (then (c.in_ok-end_name.ensures.read _) (then (passed refl refl c.in_ok-at-4.ensures.passes) (counted c.in_ok-node.ensures.counted)))))))) c.in_err-nothing_left.ensures.left) }
 
 pub returns : goal.returns
 returns c = record { read = module_found (kinds_of c.args.tokens.now)

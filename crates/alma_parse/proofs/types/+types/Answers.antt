@@ -33,23 +33,46 @@ dimensions-returns-in_err-at-clause-read t c =
     let p = err_from_is_err_and c.from_residual.result c.from_residual.ensures.1 in
     rw (p.1, p.2) (first (c.in_err-at.ensures.passes _))
 
+pub dimensions-returns-in_err-at-clause-shorter : goal.dimensions-returns-in_err-at-clause-shorter
+dimensions-returns-in_err-at-clause-shorter t c =
+    let p = err_from_is_err_and c.from_residual.result c.from_residual.ensures.1 in
+    rw p.1 tt
+
 pub dimensions-returns-in_err-first-clause-read : goal.dimensions-returns-in_err-first-clause-read
 dimensions-returns-in_err-first-clause-read t c =
     let p = err_from_is_err_and c.from_residual-in_err-first.result c.from_residual-in_err-first.ensures.1 in
     rw (p.1, p.2) (after (passed refl refl c.in_ok-at.ensures.passes) (first c.in_err-first.ensures.read))
+
+pub dimensions-returns-in_err-first-clause-shorter : goal.dimensions-returns-in_err-first-clause-shorter
+dimensions-returns-in_err-first-clause-shorter t c =
+    let p = err_from_is_err_and c.from_residual-in_err-first.result c.from_residual-in_err-first.ensures.1 in
+    rw p.1 tt
 
 pub dimensions-returns-in_err-more-clause-read : goal.dimensions-returns-in_err-more-clause-read
 dimensions-returns-in_err-more-clause-read t c =
     let p = err_from_is_err_and c.from_residual-in_err-more.result c.from_residual-in_err-more.ensures.1 in
     rw (p.1, p.2) (after (passed refl refl c.in_ok-at.ensures.passes) (after (c.in_ok-first.ensures.read) (first c.in_err-more.ensures.read)))
 
+pub dimensions-returns-in_err-more-clause-shorter : goal.dimensions-returns-in_err-more-clause-shorter
+dimensions-returns-in_err-more-clause-shorter t c =
+    let p = err_from_is_err_and c.from_residual-in_err-more.result c.from_residual-in_err-more.ensures.1 in
+    rw p.1 tt
+
 pub dimensions-returns-in_err-at-2-clause-read : goal.dimensions-returns-in_err-at-2-clause-read
 dimensions-returns-in_err-at-2-clause-read t c =
     let p = err_from_is_err_and c.from_residual-in_err-at-2.result c.from_residual-in_err-at-2.ensures.1 in
     rw (p.1, p.2) (after (passed refl refl c.in_ok-at.ensures.passes) (after (c.in_ok-first.ensures.read) (after (c.in_ok-more.ensures.read) (first (c.in_err-at-2.ensures.passes _)))))
 
+pub dimensions-returns-in_err-at-2-clause-shorter : goal.dimensions-returns-in_err-at-2-clause-shorter
+dimensions-returns-in_err-at-2-clause-shorter t c =
+    let p = err_from_is_err_and c.from_residual-in_err-at-2.result c.from_residual-in_err-at-2.ensures.1 in
+    rw p.1 tt
+
 pub dimensions-returns-clause-read : goal.dimensions-returns-clause-read
 dimensions-returns-clause-read t c = then (passed refl refl c.in_ok-at.ensures.passes) (then (c.in_ok-first.ensures.read) (then (c.in_ok-more.ensures.read) (passed refl refl c.in_ok-at-2.ensures.passes)))
+
+pub dimensions-returns-clause-shorter : goal.dimensions-returns-clause-shorter
+dimensions-returns-clause-shorter t c = omega (arith, c.in_ok-at.ensures.passes.shorter, c.in_ok-first.ensures.read.shorter, c.in_ok-more.ensures.read.shorter, c.in_ok-at-2.ensures.passes.shorter)
 
 pub record_type-returns-in_err-at : goal.record_type-returns-in_err-at
 record_type-returns-in_err-at t c =
