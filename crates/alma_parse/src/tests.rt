@@ -35,14 +35,6 @@ struct Row {
     refusal: Option<(SyntaxFault, usize)>,
 }
 
-/// A source that is refused as unexpected at this token.
-const fn unexpected(source: &'static [u8], place: usize) -> Row {
-    Row {
-        source,
-        refusal: Some((SyntaxFault::Unexpected, place)),
-    }
-}
-
 const ROWS: [Row; 13] = [
     Row {
         source: EVERY,
@@ -52,17 +44,50 @@ const ROWS: [Row; 13] = [
         source: b"MODULE A; END A.",
         refusal: None,
     },
-    unexpected(b"", 0),
-    unexpected(b"MODULE A; BEGIN WRITE(", 6),
-    unexpected(b"MODULE A; BEGIN x := END A.", 6),
-    unexpected(b"MODULE A; BEGIN x = y = z END A.", 7),
-    unexpected(b"MODULE A; BEGIN NOT NOT TRUE END A.", 5),
-    unexpected(b"MODULE A; END A. B", 6),
-    unexpected(b"MODULE A; END .", 4),
-    unexpected(b"MODULE A; PROCEDURE P; END; END A.", 7),
-    unexpected(b"MODULE A; END A. .", 6),
-    unexpected(b"MODULE A; END A..", 5),
-    unexpected(b"MODULE A; END A", 5),
+    Row {
+        source: b"",
+        refusal: Some((SyntaxFault::Unexpected, 0)),
+    },
+    Row {
+        source: b"MODULE A; BEGIN WRITE(",
+        refusal: Some((SyntaxFault::Unexpected, 6)),
+    },
+    Row {
+        source: b"MODULE A; BEGIN x := END A.",
+        refusal: Some((SyntaxFault::Unexpected, 6)),
+    },
+    Row {
+        source: b"MODULE A; BEGIN x = y = z END A.",
+        refusal: Some((SyntaxFault::Unexpected, 7)),
+    },
+    Row {
+        source: b"MODULE A; BEGIN NOT NOT TRUE END A.",
+        refusal: Some((SyntaxFault::Unexpected, 5)),
+    },
+    Row {
+        source: b"MODULE A; END A. B",
+        refusal: Some((SyntaxFault::Unexpected, 6)),
+    },
+    Row {
+        source: b"MODULE A; END .",
+        refusal: Some((SyntaxFault::Unexpected, 4)),
+    },
+    Row {
+        source: b"MODULE A; PROCEDURE P; END; END A.",
+        refusal: Some((SyntaxFault::Unexpected, 7)),
+    },
+    Row {
+        source: b"MODULE A; END A. .",
+        refusal: Some((SyntaxFault::Unexpected, 6)),
+    },
+    Row {
+        source: b"MODULE A; END A..",
+        refusal: Some((SyntaxFault::Unexpected, 5)),
+    },
+    Row {
+        source: b"MODULE A; END A",
+        refusal: Some((SyntaxFault::Unexpected, 5)),
+    },
 ];
 
 /// Where the tokens are refused, or none where they are a program.
