@@ -1,5 +1,5 @@
 -- The lists of names, types and declarations, by what one item spells and numbers.
-use Rattle.std.proofs.Common.{◌≡◌, List, [], ◌∷◌, Option, None, Some, refl}
+use Rattle.std.proofs.Common.{◌≡◌, List, ◌∷◌, Option, None, Some, refl}
 use Rattle.alma_tree.specs.declared.kind.Kind.{Kind}
 use Rattle.alma_tree.specs.declared.kind.Kind.TheVariants as kinds
 use Rattle.alma_tree.specs.declared.module.Formals.{Formals}
@@ -19,7 +19,7 @@ use Rattle.alma_tree.specs.Numbers.{token, ◌>>◌}
 use Rattle.alma_parse.specs.Forms.{spell_const_entry, spell_type_entry, spell_var_entry, number_const_entry, number_type_entry, number_var_entry, number_dimension}
 use Rattle.alma_parse.specs.Forms.{inside_params_of, number_inside_params}
 use Rattle.alma_grammar.specs.Filling.{spell_inside_params}
-use Rattle.alma_parse.proofs.Turns.{Lists, three_and, four_and, two_and}
+use Rattle.alma_parse.proofs.Turns.{Lists, four_and, two_and}
 
 pub names_listed : Lists {A = Name} (λ n r. kinds.Comma ∷ kinds.Name ∷ r) (λ ns. spelling.spell_name_tail (view.name_tail_of ns))
     (λ n. token >> numbers.number_name n) numbers.numbers_of_names

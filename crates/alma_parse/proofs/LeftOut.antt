@@ -1,9 +1,9 @@
 -- Parts that are left out where the next token is not the one that begins them, and parts that begin with it.
-use Rattle.std.proofs.Common.{◌≡◌, ℕ, Bool, true, false, List, [], ◌∷◌, refl}
+use Rattle.std.proofs.Common.{◌≡◌, false, List, [], ◌∷◌, refl}
 use Rattle.alma_tree.specs.declared.kind.Kind.{Kind}
 use Rattle.alma_tree.specs.declared.kind.Kind.TheVariants as kinds
-use Rattle.alma_grammar.specs.Parts.{Part, one, name_tail, array_tail, plain_part, plain_tail, field_list_part, field_list_tail, const_tail, type_tail, var_tail}
-use Rattle.alma_grammar.specs.Parts.{formal_tail, params_part, params_inside, result_part, body_part, expr_parts, type_parts, names_parts, formal_parts, stmts_parts}
+use Rattle.alma_grammar.specs.Parts.{one, name_tail, array_tail, plain_part, plain_tail, field_list_part, field_list_tail, const_tail, type_tail, var_tail}
+use Rattle.alma_grammar.specs.Parts.{formal_tail, params_part, params_inside, result_part, body_part, formal_parts, stmts_parts}
 use Rattle.alma_parse.specs.Parsing.{starts_with, Becomes}
 use Rattle.alma_parse.specs.Forms.{dimensions_parts, fields_parts, const_entry_parts, type_entry_parts, var_entry_parts, formals_parts}
 

@@ -1,13 +1,13 @@
 -- The place of a refused token, and what is said of the tokens before it.
-use Rattle.std.proofs.Common.{◌≡◌, ◌≤◌, ◌<◌, ◌-◌, ◌+◌, ℕ, suc, Bool, true, false, List, [], ◌∷◌, ◌++◌, map, take, length, Option, None, Some}
+use Rattle.std.proofs.Common.{◌≡◌, ◌≤◌, ◌-◌, ◌+◌, ℕ, suc, Bool, true, false, List, [], ◌∷◌, ◌++◌, take, length, Option, None, Some}
 use Rattle.std.proofs.Common.{refl, ap, subst, sym, ◌∙◌, arith, length-append}
 use Rattle.alma_base.specs.declared.fault.SyntaxFault.TheVariants as syntax
 use Rattle.alma_tree.specs.declared.kind.Kind.{Kind}
 use Rattle.alma_tree.specs.Depth.{depth}
 use Rattle.alma_grammar.specs.Parts.{Part, whole, next, all_skip}
 use Rattle.alma_grammar.specs.Reading.{reading, End, done, unexpected, too_deep, at_end, goes_on, level}
-use Rattle.alma_grammar.specs.Filling.{open_after, and_then, WhereSome, finish}
-use Rattle.alma_grammar.specs.Laws.{Stops, Begins, HasDepth, IsProgram}
+use Rattle.alma_grammar.specs.Filling.{open_after, WhereSome, finish}
+use Rattle.alma_grammar.specs.Laws.{Begins, HasDepth}
 use Rattle.alma_grammar.proofs.Exact.{exact_place}
 use Rattle.alma_grammar.proofs.Finish.{each_front_is_finished}
 use Rattle.alma_grammar.proofs.Programs.{exact_depth, each_program_is_read}

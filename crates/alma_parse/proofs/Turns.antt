@@ -1,5 +1,5 @@
 -- How the turns of a loop add up to the list that it reads.
-use Rattle.std.proofs.Common.{◌≡◌, ◌≤◌, ◌<◌, ◌+◌, ℕ, suc, pred, Bool, true, false, List, [], ◌∷◌, ◌++◌, Option, None, Some, Result, Ok, Err, length, nat_eq, eq-eqb}
+use Rattle.std.proofs.Common.{◌≡◌, ℕ, pred, true, false, List, [], ◌∷◌, ◌++◌, Option, None, Some, Result, Ok, Err, length, eq-eqb}
 use Rattle.std.proofs.Common.{refl, ap, sym, ◌∙◌, subst, le_trans, le_refl, arith}
 use Rattle.std.specs.Prelude.{MatchResult}
 use Rattle.alma_tree.specs.declared.kind.Kind.{Kind}
@@ -10,7 +10,7 @@ use Rattle.alma_grammar.specs.Reading.{reading}
 use Rattle.alma_parse.specs.declared.fault.Fault.{Fault}
 use Rattle.alma_parse.specs.declared.fault.Fault.TheVariants as faults
 use Rattle.alma_tree.specs.Depth.{opens, closes}
-use Rattle.alma_parse.specs.Parsing.{At, Few, Passes, Opens, Reads, Fails, Becomes, starts_with, EndsIn, seen}
+use Rattle.alma_parse.specs.Parsing.{At, Passes, Opens, Reads, Fails, Becomes, starts_with}
 use Rattle.alma_parse.proofs.OneKind.{one_kind}
 use Rattle.alma_parse.proofs.Loops.{Loops}
 use Rattle.alma_parse.proofs.Steps.{moved, no_memory}

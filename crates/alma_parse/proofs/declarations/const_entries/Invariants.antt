@@ -1,4 +1,4 @@
-use Rattle.std.proofs.Common.{◌+◌, ◌*◌, length}
+use Rattle.std.proofs.Common.{length}
 use Rattle.alma_tree.specs.Spelling.{spell_const_tail}
 use Rattle.alma_tree.specs.View.{consts_of}
 use Rattle.alma_tree.specs.Numbers.{numbers_of_consts}

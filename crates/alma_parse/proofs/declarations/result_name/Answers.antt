@@ -1,12 +1,8 @@
-use Rattle.std.proofs.Common.{refl, arith, sym, ap}
+use Rattle.std.proofs.Common.{refl}
 use Rattle.std.proofs.lemmas.Result.{err_from_is_err_and}
-use Rattle.alma_tree.proofs.Rows as rows
-use Rattle.alma_tree.proofs.NumberRows as numbered
-use Rattle.alma_parse.proofs.Steps.{after, first, passed, opened, closed, counted, then, same, no_memory}
-use Rattle.alma_parse.proofs.Turns.{begun, grown, ended, broken, where_passed, where_started, instead, fails_instead, left_out, numbered_alike, spelled_alike, match_instead, match_instead_any, want, back_out, closed_here}
-use Rattle.alma_parse.proofs.Items.{consts_listed, types_listed, vars_listed, formals_listed, decls_listed, params_spelled, params_numbered}
-use Rattle.alma_parse.proofs.LeftOut.{no_const_tail, a_const_tail, no_type_tail, a_type_tail, no_var_tail, a_var_tail, no_formal_tail, a_formal_tail}
-use Rattle.alma_parse.proofs.LeftOut.{no_params_part, a_params_part, a_params_inside, some_params, no_result_part, a_result_part, no_body_part, a_body_part}
+use Rattle.alma_parse.proofs.Steps.{after, passed, then}
+use Rattle.alma_parse.proofs.Turns.{where_passed, instead, fails_instead, left_out}
+use Rattle.alma_parse.proofs.LeftOut.{no_result_part, a_result_part}
 use Rattle.alma_parse.proofs.declarations.result_name.Goals as goal
 
 pub returns-in_err-name : goal.returns-in_err-name

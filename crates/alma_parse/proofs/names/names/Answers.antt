@@ -1,6 +1,5 @@
-use Rattle.std.proofs.Common.{refl}
 use Rattle.std.proofs.lemmas.Result.{err_from_is_err_and}
-use Rattle.alma_parse.proofs.Steps.{after, first, passed, counted, then}
+use Rattle.alma_parse.proofs.Steps.{after, first, counted, then}
 use Rattle.alma_parse.proofs.Turns.{want}
 use Rattle.alma_parse.proofs.names.names.Goals as goal
 

@@ -1,13 +1,7 @@
-use Rattle.std.proofs.Common.{refl, arith, sym, ap}
+use Rattle.std.proofs.Common.{refl}
 use Rattle.std.proofs.lemmas.Result.{err_from_is_err_and}
-use Rattle.alma_tree.specs.declared.type_node.Arrays as dz
-use Rattle.alma_tree.specs.Numbers.{token, node, number_plain, numbers_of_plains, numbers_of_dimensions, ◌>>◌}
-use Rattle.alma_tree.proofs.Rows as rows
-use Rattle.alma_tree.proofs.NumberRows as numbered
-use Rattle.alma_parse.proofs.Steps.{after, first, passed, opened, closed, counted, then, same}
-use Rattle.alma_parse.proofs.Turns.{begun, grown, ended, broken, where_passed, where_started, instead, fails_instead, left_out, numbered_alike, match_instead, match_instead_any, want, four_and}
-use Rattle.alma_parse.proofs.Items.{dimensions_listed, plains_listed, field_lists_listed}
-use Rattle.alma_parse.proofs.LeftOut.{no_array_tail, a_array_tail, no_plain_tail, a_plain_tail, no_field_list_part, a_field_list_part, no_field_list_tail, a_field_list_tail}
+use Rattle.alma_parse.proofs.Steps.{after, first, opened, closed, counted, then}
+use Rattle.alma_parse.proofs.Turns.{want}
 use Rattle.alma_parse.proofs.types.listed.Goals as goal
 
 pub returns-in_err-at : goal.returns-in_err-at
