@@ -9,14 +9,15 @@ use Rattle.alma_io.specs.Files.{Told, Missing, MayHave, MayPass}
 use Rattle.alma_ir.specs.Tree.{Program}
 use Rattle.alma_code.specs.declared.step.End as code
 use Rattle.alma_code.specs.declared.step.End.TheVariants as code_end
-use Rattle.alma_driver.specs.Words.{Request, Run, Asks}
+use Rattle.alma_driver.specs.Words.{Request, Run, Asks, file_of}
+use Rattle.alma_driver.specs.Refusal.{place_of}
 use Rattle.alma_driver.specs.Outside.{SinkSide, Outside}
 use Rattle.alma_driver.specs.Ends.{ended_end, status_of, text_of}
-use Rattle.alma_driver.specs.Outcome.{Due, size_of, ProgramOutcome, ran, steps_out, too_much_code, SourceOutcome, compiled, not_yet, RequestOutcome, absent, too_long, fetched, Outcome, bad_word, asks, silent, Lacks, source_limit}
+use Rattle.alma_driver.specs.Outcome.{Due, size_of, ProgramOutcome, ran, steps_out, too_much_code, SourceOutcome, refused, compiled, not_yet, RequestOutcome, absent, too_long, fetched, Outcome, bad_word, asks, silent, Lacks, source_limit}
 use Rattle.alma_driver.specs.Course.{Gains, FailsWithin, GainsPrefix, Goes, Fetches, Reports, Answers}
 use Rattle.alma_driver.specs.Causes.{Causes, WriteFailed, WritesGrew}
 use Rattle.alma_driver.specs.declared.end.End.{End}
-use Rattle.alma_driver.specs.declared.end.End.TheVariants.{Succeeded, Failed, BadWord, Fault, StepsOut, ReadFault, WriteFault, Memory, TooLong, TooMuchCode, NotYet}
+use Rattle.alma_driver.specs.declared.end.End.TheVariants.{Succeeded, Failed, BadWord, Refused, Fault, StepsOut, ReadFault, WriteFault, Memory, TooLong, TooMuchCode, NotYet}
 
 -- the ways in which a call may go, by the end that it comes to
 data Way (P : Due → Type 0) (a b : SinkSide) (end : End) : Type 0 where
@@ -30,6 +31,7 @@ way_of P a b Memory g = starved refl g.0 g.1
 way_of P a b Succeeded g = ended (λ e. absurd (omega (arith, e))) g.0 g.1 g.2 g.3
 way_of P a b Failed g = ended (λ e. absurd (omega (arith, e))) g.0 g.1 g.2 g.3
 way_of P a b (BadWord k) g = ended (λ e. absurd (omega (arith, e))) g.0 g.1 g.2 g.3
+way_of P a b (Refused fault place) g = ended (λ e. absurd (omega (arith, e))) g.0 g.1 g.2 g.3
 way_of P a b (Fault fault) g = ended (λ e. absurd (omega (arith, e))) g.0 g.1 g.2 g.3
 way_of P a b StepsOut g = ended (λ e. absurd (omega (arith, e))) g.0 g.1 g.2 g.3
 way_of P a b ReadFault g = ended (λ e. absurd (omega (arith, e))) g.0 g.1 g.2 g.3
@@ -42,6 +44,7 @@ read_status : (end : End) → status_of end ≡ 6 → end ≡ ReadFault
 read_status Succeeded e = absurd (omega (arith, e))
 read_status Failed e = absurd (omega (arith, e))
 read_status (BadWord k) e = absurd (omega (arith, e))
+read_status (Refused fault place) e = absurd (omega (arith, e))
 read_status (Fault fault) e = absurd (omega (arith, e))
 read_status StepsOut e = absurd (omega (arith, e))
 read_status ReadFault e = refl
@@ -70,8 +73,9 @@ program_reads p steps due (steps_out printed size covers few e) q = cc (end_is d
 program_reads p steps due (too_much_code size e) q = cc (end_is due (TooMuchCode (size_of p)) ReadFault [] e q)
 
 source_reads : (source : List ℕ) (steps : ℕ) (due : Due) → SourceOutcome source steps due → due.end ≡ ReadFault → ⊥
-source_reads source steps due (compiled p is o) q = program_reads p steps due o q
-source_reads source steps due (not_yet none e) q = cc (end_is due NotYet ReadFault [] e q)
+source_reads source steps due (refused fault offset h e) q = cc (end_is due (Refused fault (place_of source offset)) ReadFault [] e q)
+source_reads source steps due (compiled p parsed is o) q = program_reads p steps due o q
+source_reads source steps due (not_yet parsed none e) q = cc (end_is due NotYet ReadFault [] e q)
 
 request_reads : (told : List ℕ → Told) (words : List (List ℕ)) (r : Request) (due : Due) → Asks words r → RequestOutcome told r due
     → due.end ≡ ReadFault → Lacks words told × (due ≡ silent ReadFault)
@@ -116,7 +120,7 @@ read_fault_of words before after status x e = by_parts x.performed.1 x.reported 
       let due_read = outcome_reads before.files.told words due o (q ∙ r) in
       (inr due_read.0, subst (λ (d : Due). Appends before.out.written after.out.written d.out) due_read.1 g.0)
 
-  by_parts : Fetches (Outcome words before.files.told) before.files after.files before.out after.out x.end → Reports x.end before.err after.err status
+  by_parts : Fetches (Outcome words before.files.told) before.files after.files before.out after.out x.end → Reports (file_of words) x.end before.err after.err status
       → (Rose before.files.fetch_faults after.files.fetch_faults ⊎ Lacks words before.files.told) × Appends before.out.written after.out.written []
   by_parts p (inr r) = absurd (omega (arith, e, r.0))
   by_parts (inl p) (inl r) = (inl p.1.1, p.2.0)
@@ -129,7 +133,7 @@ write_fault_of words before after status x e = by_parts x.performed.1 x.reported
   by_way (starved q g k) s = absurd (omega (arith, s, ap status_of q))
   by_way (ended n due q o g) s = absurd (n s)
 
-  by_parts : Fetches (Outcome words before.files.told) before.files after.files before.out after.out x.end → Reports x.end before.err after.err status → WriteFailed before after
+  by_parts : Fetches (Outcome words before.files.told) before.files after.files before.out after.out x.end → Reports (file_of words) x.end before.err after.err status → WriteFailed before after
   by_parts p (inr r) = inr r.1.1.1
   by_parts (inl p) (inl r) = absurd (omega (arith, e, r.0, ap status_of p.0))
   by_parts (inr p) (inl r) = by_way (way_of (Outcome words before.files.told) before.out after.out x.end p.1) (sym r.0 ∙ e)
@@ -148,17 +152,17 @@ prefix_of words before after status x = by_parts x.performed.1 where
 -- all that is due came
 abbrev pub IsWhole : List (List ℕ) → Outside → Outside → ℕ → Type 0
 IsWhole words before after status =
-    (due : Due) × Outcome words before.files.told due × (status ≡ status_of due.end) × Gains before.out after.out due.out × Gains before.err after.err (text_of due.end)
+    (due : Due) × Outcome words before.files.told due × (status ≡ status_of due.end) × Gains before.out after.out due.out × Gains before.err after.err (text_of (file_of words) due.end)
 
 whole_of : (words : List (List ℕ)) (before after : Outside) (status : ℕ) → Answers words before after status
     → (status ≡ 6 → ⊥) → (status ≡ 7 → ⊥) → (status ≡ 8 → ⊥) → IsWhole words before after status
 whole_of words before after status x no_read no_write no_want = by_parts x.performed.1 x.reported where
-  by_way : Way (Outcome words before.files.told) before.out after.out x.end → status ≡ status_of x.end → Gains before.err after.err (text_of x.end) → IsWhole words before after status
+  by_way : Way (Outcome words before.files.told) before.out after.out x.end → status ≡ status_of x.end → Gains before.err after.err (text_of (file_of words) x.end) → IsWhole words before after status
   by_way (broken q due o f) s t = absurd (no_write (s ∙ ap status_of q))
   by_way (starved q g k) s t = absurd (no_want (s ∙ ap status_of q))
-  by_way (ended n due q o g) s t = (due, o, s ∙ ap status_of (sym q), g, subst (λ (end : End). Gains before.err after.err (text_of end)) (sym q) t)
+  by_way (ended n due q o g) s t = (due, o, s ∙ ap status_of (sym q), g, subst (λ (end : End). Gains before.err after.err (text_of (file_of words) end)) (sym q) t)
 
-  by_parts : Fetches (Outcome words before.files.told) before.files after.files before.out after.out x.end → Reports x.end before.err after.err status → IsWhole words before after status
+  by_parts : Fetches (Outcome words before.files.told) before.files after.files before.out after.out x.end → Reports (file_of words) x.end before.err after.err status → IsWhole words before after status
   by_parts p (inr r) = absurd (no_write r.0)
   by_parts (inl p) (inl r) = absurd (no_read (r.0 ∙ ap status_of p.0))
   by_parts (inr p) (inl r) = by_way (way_of (Outcome words before.files.told) before.out after.out x.end p.1) r.0 r.1
@@ -170,7 +174,7 @@ writes_shown_of words before after status x w = by_parts w x.performed.1 x.repor
   by_way h (starved q g k) s = absurd (omega (arith, h, k))
   by_way h (ended n due q o g) s = absurd (omega (arith, h, g.1))
 
-  by_parts : WritesGrew before after → Fetches (Outcome words before.files.told) before.files after.files before.out after.out x.end → Reports x.end before.err after.err status
+  by_parts : WritesGrew before after → Fetches (Outcome words before.files.told) before.files after.files before.out after.out x.end → Reports (file_of words) x.end before.err after.err status
       → (status ≡ 7) ⊎ (status ≡ 8)
   by_parts w p (inr r) = inl r.0
   by_parts (inl h) (inl p) (inl r) = absurd (omega (arith, h, p.2.1))
@@ -181,7 +185,7 @@ writes_shown_of words before after status x w = by_parts w x.performed.1 x.repor
 fetches_shown_of : (words : List (List ℕ)) (before after : Outside) (status : ℕ) → Answers words before after status
     → before.files.fetch_faults < after.files.fetch_faults → WriteFailed before after ⊎ ((status ≡ 6) ⊎ (status ≡ 8))
 fetches_shown_of words before after status x h = by_parts x.performed.1 x.reported where
-  by_parts : Fetches (Outcome words before.files.told) before.files after.files before.out after.out x.end → Reports x.end before.err after.err status
+  by_parts : Fetches (Outcome words before.files.told) before.files after.files before.out after.out x.end → Reports (file_of words) x.end before.err after.err status
       → WriteFailed before after ⊎ ((status ≡ 6) ⊎ (status ≡ 8))
   by_parts p (inr r) = inl (inr r.1.1.1)
   by_parts (inl p) (inl r) = inr (inl (r.0 ∙ ap status_of p.0))
@@ -195,7 +199,7 @@ absence_shown_of words before after status x l = by_parts x.performed.1 x.report
   by_way (starved q g k) s = inr (inr (s ∙ ap status_of q))
   by_way (ended n due q o g) s = inl (s ∙ ap status_of (sym q ∙ outcome_absent before.files.told words due l o))
 
-  by_parts : Fetches (Outcome words before.files.told) before.files after.files before.out after.out x.end → Reports x.end before.err after.err status
+  by_parts : Fetches (Outcome words before.files.told) before.files after.files before.out after.out x.end → Reports (file_of words) x.end before.err after.err status
       → (status ≡ 6) ⊎ ((status ≡ 7) ⊎ (status ≡ 8))
   by_parts p (inr r) = inr (inl r.0)
   by_parts (inl p) (inl r) = inl (r.0 ∙ ap status_of p.0)

@@ -1,5 +1,5 @@
 -- From what the parts of a call ensure to how the call may go.
-use Rattle.std.proofs.Common.{◌≡◌, ◌≤◌, ◌<◌, ◌*◌, ◌^◌, ◌-◌, ℕ, List, [], length, ap, sym, subst, refl, inl, inr, arith}
+use Rattle.std.proofs.Common.{◌≡◌, ◌≤◌, ◌<◌, ◌*◌, ◌^◌, ◌-◌, ◌∙◌, ℕ, List, [], length, ap, sym, subst, refl, inl, inr, arith}
 use Rattle.std.specs.Prelude.{◌⊎◌, min, Result, Ok, Err}
 use Rattle.std.proofs.lemmas.Bool.{cases_lt}
 use Rattle.alma_io.specs.Files.{MayHave, IsFetched}
@@ -18,13 +18,17 @@ use Rattle.alma_front.specs.declared.error.ReadError.TheVariants as read
 use Rattle.alma_front.specs.Source.{IsSource, IsRead}
 use Rattle.alma_driver.specs.Words.{Request, Run, Asks, Reads}
 use Rattle.alma_driver.specs.Outside.{SinkSide, FilesSide, FilesStay}
+use Rattle.alma_base.specs.declared.place.Place.{Place}
+use Rattle.alma_scan.specs.Places.{line_at, column_at}
+use Rattle.alma_driver.specs.Refusal.{IsRefused, IsParsed}
+use Rattle.alma_driver.specs.declared.fault.SourceFault.{SourceFault}
 use Rattle.alma_driver.specs.Ends.{lower_end, read_end, words_end, fetch_end}
-use Rattle.alma_driver.specs.Outcome.{Due, size_of, size_limit, ProgramOutcome, too_much_code, SourceOutcome, compiled, not_yet, RequestOutcome, absent, too_long, fetched, Outcome, bad_word, asks, silent, source_limit}
+use Rattle.alma_driver.specs.Outcome.{Due, size_of, size_limit, ProgramOutcome, too_much_code, SourceOutcome, refused, compiled, not_yet, RequestOutcome, absent, too_long, fetched, Outcome, bad_word, asks, silent, source_limit}
 use Rattle.alma_driver.specs.Course.{Gains, GainsPrefix, Goes, Fetches, Performs}
 use Rattle.alma_driver.specs.declared.words.WordsError.{WordsError}
 use Rattle.alma_driver.specs.declared.words.WordsError.TheVariants as words
 use Rattle.alma_driver.specs.declared.end.End.{End}
-use Rattle.alma_driver.specs.declared.end.End.TheVariants.{Succeeded, Failed, BadWord, Fault, StepsOut, ReadFault, WriteFault, Memory, TooLong, TooMuchCode, NotYet}
+use Rattle.alma_driver.specs.declared.end.End.TheVariants.{Succeeded, Failed, BadWord, Refused, Fault, StepsOut, ReadFault, WriteFault, Memory, TooLong, TooMuchCode, NotYet}
 use Rattle.alma_driver.proofs.RunLemmas.{IsDue, program_due}
 
 -- an outcome inside another
@@ -37,6 +41,7 @@ goes_map P Q f a b Memory g = (halted g.0, g.1) where
 goes_map P Q f a b Succeeded g = (g.0, g.1, f g.0 g.2, g.3)
 goes_map P Q f a b Failed g = (g.0, g.1, f g.0 g.2, g.3)
 goes_map P Q f a b (BadWord k) g = (g.0, g.1, f g.0 g.2, g.3)
+goes_map P Q f a b (Refused fault place) g = (g.0, g.1, f g.0 g.2, g.3)
 goes_map P Q f a b (Fault fault) g = (g.0, g.1, f g.0 g.2, g.3)
 goes_map P Q f a b StepsOut g = (g.0, g.1, f g.0 g.2, g.3)
 goes_map P Q f a b ReadFault g = (g.0, g.1, f g.0 g.2, g.3)
@@ -98,14 +103,27 @@ goes_compiled p code steps a b end implements within g =
     (λ due e. subst (λ (d : Due). ProgramOutcome p steps d) (sym e) (program_due p code steps implements within)) a b end g
 
 -- a source that was read, compiled and run
-pub goes_read : (source : List ℕ) (p : Program) (steps : ℕ) (a b : SinkSide) (end : End) → IsSource source p → Goes (ProgramOutcome p steps) a b end
+pub goes_read : (source : List ℕ) (p : Program) (steps : ℕ) (a b : SinkSide) (end : End) → IsParsed source → IsSource source p → Goes (ProgramOutcome p steps) a b end
     → Goes (SourceOutcome source steps) a b end
-goes_read source p steps a b end is g = goes_map (ProgramOutcome p steps) (SourceOutcome source steps) (λ due o. compiled p is o) a b end g
+goes_read source p steps a b end parsed is g =
+    goes_map (ProgramOutcome p steps) (SourceOutcome source steps) (λ due o. compiled p parsed is o) a b end g
 
 -- a source that was not read
-pub goes_unread : (source : List ℕ) (steps : ℕ) (error : ReadError) (a : SinkSide) → IsRead source (Err error) → Goes (SourceOutcome source steps) a a (read_end error)
-goes_unread source steps read.NotYet a h = (silent NotYet, refl, not_yet h refl, gains_none a)
-goes_unread source steps read.Memory a h = goes_starved (SourceOutcome source steps) a
+pub goes_unread : (source : List ℕ) (steps : ℕ) (error : ReadError) (a : SinkSide) → IsParsed source → IsRead source (Err error)
+    → Goes (SourceOutcome source steps) a a (read_end error)
+goes_unread source steps read.NotYet a parsed h = (silent NotYet, refl, not_yet parsed h refl, gains_none a)
+goes_unread source steps read.Memory a parsed h = goes_starved (SourceOutcome source steps) a
+
+-- a place by its parts
+abbrev place_at : (line column : ℕ) → Place
+place_at line column = record { line = line; column = column }
+
+-- a source that is refused
+pub goes_stopped : (source : List ℕ) (steps : ℕ) (fault : SourceFault) (offset : ℕ) (place : Place) (a : SinkSide) → IsRefused source fault offset
+    → place.line ≡ line_at source offset → place.column ≡ column_at source offset → Goes (SourceOutcome source steps) a a (Refused fault place)
+goes_stopped source steps fault offset place a h line column =
+    let same = ap (λ n. place_at n place.column) line ∙ ap (place_at (line_at source offset)) column in
+    (silent (Refused fault place), refl, refused fault offset h (ap (λ p. silent (Refused fault p)) same), gains_none a)
 
 -- a file that was not fetched
 pub performs_unfetched : (f f' : FilesSide) (name : List ℕ) (steps : ℕ) (fault : Fetch) (a : SinkSide) → FilesStay f f'

@@ -1,6 +1,7 @@
 pub mod BuiltLemmas
 pub mod CauseLemmas
 pub mod DriverLemmas
+pub mod RefusalLemmas
 pub mod ReportLemmas
 pub mod RunLemmas
 pub mod WordLemmas

@@ -2,6 +2,7 @@
 use Rattle.std.specs.Prelude.{◌≡◌, ◌<◌, ◌⊎◌, List, ℕ, []}
 use Rattle.std.specs.Io.KnownBytes.{Appends}
 use Rattle.alma_io.specs.Causes.{Rose}
+use Rattle.alma_driver.specs.Words.{file_of}
 use Rattle.alma_driver.specs.Outside.{Outside}
 use Rattle.alma_driver.specs.Ends.{status_of, text_of}
 use Rattle.alma_driver.specs.Outcome.{Due, Outcome, Lacks}
@@ -28,7 +29,7 @@ pub record Causes (words : List (List ℕ)) (before after : Outside) (status : �
   -- but for read faults, write faults and want of memory, status, out and err are all that is due
   pub whole : (status ≡ 6 → ⊥) → (status ≡ 7 → ⊥) → (status ≡ 8 → ⊥)
       → (due : Due) × Outcome words before.files.told due × (status ≡ status_of due.end)
-      × Gains before.out after.out due.out × Gains before.err after.err (text_of due.end)
+      × Gains before.out after.out due.out × Gains before.err after.err (text_of (file_of words) due.end)
   -- a failed write is not hidden: write fault, or want of memory
   pub writes_shown : WritesGrew before after → (status ≡ 7) ⊎ (status ≡ 8)
   -- nor a failed fetch, where no write failed: read fault, or want of memory

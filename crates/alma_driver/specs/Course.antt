@@ -2,6 +2,7 @@
 use Rattle.std.specs.Prelude.{◌≡◌, ◌⊎◌, List, ℕ, []}
 use Rattle.std.specs.Io.KnownBytes.{Appends}
 use Rattle.alma_io.specs.Fronts.{AppendsFront}
+use Rattle.alma_driver.specs.Words.{file_of}
 use Rattle.alma_driver.specs.Outside.{SinkSide, FilesSide, Outside, HasRisen, FilesStay}
 use Rattle.alma_driver.specs.Ends.{status_of, text_of}
 use Rattle.alma_driver.specs.Outcome.{Due, Outcome}
@@ -37,15 +38,16 @@ Fetches outcome files files' out out' end =
 abbrev pub Performs : (Due → Type 0) → FilesSide → FilesSide → SinkSide → SinkSide → End → Type 0
 Performs outcome files files' out out' end = FilesStay files files' × Fetches outcome files files' out out' end
 
--- How an end is reported: err gained its text, and its status is answered; or err failed within the text.
-abbrev pub Reports : End → SinkSide → SinkSide → ℕ → Type 0
-Reports end old new status =
-    ((status ≡ status_of end) × Gains old new (text_of end))
-    ⊎ ((status ≡ 7) × FailsWithin old new (text_of end))
+-- How an end is reported, where the words name this file: err gained its text, and its status is answered; or err failed
+-- within the text.
+abbrev pub Reports : (file : List ℕ) → End → SinkSide → SinkSide → ℕ → Type 0
+Reports file end old new status =
+    ((status ≡ status_of end) × Gains old new (text_of file end))
+    ⊎ ((status ≡ 7) × FailsWithin old new (text_of file end))
 
 -- How a call with these words may change what is outside, and which status it may answer.
 pub record Answers (words : List (List ℕ)) (before after : Outside) (status : ℕ) : Type 0 where
   pub end : End
   pub performed : Performs (Outcome words before.files.told) before.files after.files before.out after.out end
-  pub reported : Reports end before.err after.err status
+  pub reported : Reports (file_of words) end before.err after.err status
   pub input : after.input ≡ before.input

@@ -1,6 +1,7 @@
 -- The ends of a call: their statuses and their texts.
 use Rattle.std.specs.Prelude.{List, ℕ, [], ◌++◌, codes, decimal}
-use Rattle.alma_base.specs.Fault.{run_fault_text}
+use Rattle.alma_base.specs.Fault.{lex_fault_text, syntax_fault_text, run_fault_text}
+use Rattle.alma_base.specs.declared.place.Place.{Place}
 use Rattle.alma_io.specs.declared.files.Fetch.{Fetch}
 use Rattle.alma_io.specs.declared.files.Fetch.TheVariants as fetch
 use Rattle.alma_front.specs.declared.error.ReadError.{ReadError}
@@ -14,8 +15,10 @@ use Rattle.alma_machine.specs.declared.machine.RunEnd.{RunEnd}
 use Rattle.alma_machine.specs.declared.machine.RunEnd.TheVariants as run
 use Rattle.alma_driver.specs.declared.words.WordsError.{WordsError}
 use Rattle.alma_driver.specs.declared.words.WordsError.TheVariants as words
+use Rattle.alma_driver.specs.declared.fault.SourceFault.{SourceFault}
+use Rattle.alma_driver.specs.declared.fault.SourceFault.TheVariants.{Lex, Syntax}
 use Rattle.alma_driver.specs.declared.end.End.{End}
-use Rattle.alma_driver.specs.declared.end.End.TheVariants.{Succeeded, Failed, BadWord, Fault, StepsOut, ReadFault, WriteFault}
+use Rattle.alma_driver.specs.declared.end.End.TheVariants.{Succeeded, Failed, BadWord, Refused, Fault, StepsOut, ReadFault, WriteFault}
 use Rattle.alma_driver.specs.declared.end.End.TheVariants.{Memory, TooLong, TooMuchCode, NotYet}
 
 -- the status of an end
@@ -23,6 +26,7 @@ abbrev pub status_of : End → ℕ
 status_of Succeeded = 0
 status_of Failed = 1
 status_of (BadWord k) = 2
+status_of (Refused fault place) = 3
 status_of (Fault fault) = 4
 status_of StepsOut = 5
 status_of ReadFault = 6
@@ -32,11 +36,12 @@ status_of TooLong = 10
 status_of (TooMuchCode size) = 11
 status_of NotYet = 12
 
--- the text of an end, but for what names a word, a fault or a size
+-- the text of an end, but for what names a word, a place, a fault or a size
 abbrev pub fixed_text : End → List ℕ
 fixed_text Succeeded = []
 fixed_text Failed = []
 fixed_text (BadWord k) = []
+fixed_text (Refused fault place) = []
 fixed_text (Fault fault) = []
 fixed_text StepsOut = codes "alma: steps out\n"
 fixed_text ReadFault = codes "alma: read fault\n"
@@ -46,12 +51,26 @@ fixed_text TooLong = codes "alma: too long\n"
 fixed_text (TooMuchCode size) = []
 fixed_text NotYet = codes "alma: not yet\n"
 
--- the text of an end
-abbrev pub text_of : End → List ℕ
-text_of (BadWord k) = codes "alma: bad word " ++ (decimal k ++ codes "\n")
-text_of (Fault fault) = codes "alma: fault " ++ (run_fault_text fault ++ codes "\n")
-text_of (TooMuchCode size) = codes "alma: too much code " ++ (decimal size ++ codes "\n")
-text_of end = fixed_text end
+-- the name of a fault for which a source is refused
+abbrev pub source_fault_text : SourceFault → List ℕ
+source_fault_text (Lex fault) = lex_fault_text fault
+source_fault_text (Syntax fault) = syntax_fault_text fault
+
+-- FILE:LINE:COLUMN: FAULT
+abbrev pub refusal_line : (file line column fault : List ℕ) → List ℕ
+refusal_line file line column fault = file ++ (codes ":" ++ (line ++ (codes ":" ++ (column ++ (codes ": " ++ (fault ++ codes "\n"))))))
+
+-- the line of a refusal
+abbrev pub refusal_text : (file : List ℕ) → SourceFault → Place → List ℕ
+refusal_text file fault place = refusal_line file (decimal place.line) (decimal place.column) (source_fault_text fault)
+
+-- the text of an end, where the words name this file
+abbrev pub text_of : (file : List ℕ) → End → List ℕ
+text_of file (BadWord k) = codes "alma: bad word " ++ (decimal k ++ codes "\n")
+text_of file (Refused fault place) = refusal_text file fault place
+text_of file (Fault fault) = codes "alma: fault " ++ (run_fault_text fault ++ codes "\n")
+text_of file (TooMuchCode size) = codes "alma: too much code " ++ (decimal size ++ codes "\n")
+text_of file end = fixed_text end
 
 -- the end of a call whose run ended
 abbrev pub ended_end : code.End → End

@@ -11,8 +11,10 @@ use Rattle.alma_lower.specs.Implements.{Covers, meant_end, state_after, printed_
 use Rattle.alma_front.specs.Source.{IsSource}
 use Rattle.alma_driver.specs.Words.{Request, Run, Asks, IsBadWord}
 use Rattle.alma_driver.specs.Ends.{ended_end, mode_end}
+use Rattle.alma_driver.specs.Refusal.{IsRefused, IsParsed, place_of}
+use Rattle.alma_driver.specs.declared.fault.SourceFault.{SourceFault}
 use Rattle.alma_driver.specs.declared.end.End.{End}
-use Rattle.alma_driver.specs.declared.end.End.TheVariants.{BadWord, StepsOut, ReadFault, TooLong, TooMuchCode, NotYet}
+use Rattle.alma_driver.specs.declared.end.End.TheVariants.{BadWord, Refused, StepsOut, ReadFault, TooLong, TooMuchCode, NotYet}
 
 -- the greatest length of a source
 abbrev pub source_limit : ℕ
@@ -57,10 +59,13 @@ pub data ProgramOutcome (p : Program) (steps : ℕ) (due : Due) : Type 0 where
       → MayRunOut p steps → due ≡ due_of StepsOut printed → ProgramOutcome p steps due
   too_much_code : size_limit < size_of p → due ≡ silent (TooMuchCode (size_of p)) → ProgramOutcome p steps due
 
--- what a run of a source for so many steps comes to: what its program does, or that it is no program
+-- What a run of a source for so many steps comes to: the refusal of what is no program of the grammar, what its program
+-- does, or that it is a program of the grammar alone.
 pub data SourceOutcome (source : List ℕ) (steps : ℕ) (due : Due) : Type 0 where
-  compiled : (p : Program) → IsSource source p → ProgramOutcome p steps due → SourceOutcome source steps due
-  not_yet : ((p : Program) → IsSource source p → ⊥) → due ≡ silent NotYet → SourceOutcome source steps due
+  refused : (fault : SourceFault) (offset : ℕ) → IsRefused source fault offset → due ≡ silent (Refused fault (place_of source offset))
+      → SourceOutcome source steps due
+  compiled : (p : Program) → IsParsed source → IsSource source p → ProgramOutcome p steps due → SourceOutcome source steps due
+  not_yet : IsParsed source → ((p : Program) → IsSource source p → ⊥) → due ≡ silent NotYet → SourceOutcome source steps due
 
 -- what a request comes to, by what the files tell
 pub data RequestOutcome (told : List ℕ → Told) (request : Request) (due : Due) : Type 0 where

@@ -61,6 +61,12 @@ pub record IsBadWord (words : List (List ℕ)) (k : ℕ) : Type 0 where
   pub end : k ≤ length words + 1
   pub none : (request : Request) → Asks words request → ⊥
 
+-- the file that the words name: the second word
+abbrev pub file_of : List (List ℕ) → List ℕ
+file_of [] = []
+file_of (command ∷ []) = []
+file_of (command ∷ file ∷ options) = file
+
 -- the bytes of each word
 abbrev pub texts : List (String Global) → List (List ℕ)
 texts words = map (λ word. string_bytes word) words

@@ -9,13 +9,15 @@ ghost use Rattle.alma_lower.specs.Built.{IsBuilt};
 ghost use Rattle.alma_machine.specs.Built.{HasOnlyBuilt};
 ghost use Rattle.alma_driver.specs.Words.{Run, texts, asked, greatest_steps, IsWithinSteps};
 ghost use Rattle.alma_driver.specs.Outside.{sink_side, source_side, files_side, outside_of};
+ghost use Rattle.alma_driver.specs.Refusal.{IsParsed};
 ghost use Rattle.alma_driver.specs.Outcome.{code_due, ProgramOutcome, SourceOutcome, RequestOutcome, Outcome, source_limit};
 ghost use Rattle.alma_driver.specs.Course.{Goes, Performs, Answers};
 ghost use Rattle.alma_driver.specs.Causes.{Causes};
 
+use crate::check::{SourceStop, check_source};
 use crate::end::End;
 use crate::report::report;
-use crate::words::{Request, read_words};
+use crate::words::{Request, file_word, read_words};
 use alma_base::{NoMemory, Status};
 use alma_code::Code;
 use alma_front::read_source;
@@ -23,6 +25,7 @@ use alma_io::{Files, Sink, Source};
 use alma_ir::Program;
 use alma_lower::lower;
 use alma_machine::Machine;
+use alma_scan::place;
 use std::alloc::Global;
 
 /// The greatest length of a source, in bytes.
@@ -56,8 +59,9 @@ fn run_program<O: Sink>(alloc: Global, program: &Program, steps: u64, out: &mut 
     }
 }
 
-// Reads a source, compiles it and runs it.
-fn run_source<O: Sink>(alloc: Global, source: &[u8], steps: u64, out: &mut O) -> End
+// Reads a source that is a program of the grammar, compiles it and runs it.
+fn run_parsed<O: Sink>(alloc: Global, source: &[u8], steps: u64, out: &mut O) -> End
+    requires parsed { IsParsed source.now }
     requires short { length source.now ≤ source_limit }
     requires few { steps ≤ greatest_steps }
     ensures { Goes (SourceOutcome source.now steps) (sink_side (O.written out.old) (O.faults out.old))
@@ -66,6 +70,20 @@ fn run_source<O: Sink>(alloc: Global, source: &[u8], steps: u64, out: &mut O) ->
     match read_source(alloc, source) {
         Ok(program) => run_program(alloc, &program, steps, out),
         Err(error) => End::from(error),
+    }
+}
+
+// Scans and parses a source, reads it, compiles it and runs it.
+fn run_source<O: Sink>(alloc: Global, source: &[u8], steps: u64, out: &mut O) -> End
+    requires short { length source.now ≤ source_limit }
+    requires few { steps ≤ greatest_steps }
+    ensures { Goes (SourceOutcome source.now steps) (sink_side (O.written out.old) (O.faults out.old))
+        (sink_side (O.written out.new) (O.faults out.new)) result }
+{
+    match check_source(alloc, source) {
+        Ok(()) => run_parsed(alloc, source, steps, out),
+        Err(SourceStop::Refused(fault, offset)) => End::Refused(fault, place(source, offset)),
+        Err(SourceStop::Memory) => End::Memory,
     }
 }
 
@@ -118,9 +136,10 @@ fn perform<F: Files, O: Sink>(alloc: Global, words: &[String], files: &mut F, ou
 /// All that the program does: what the words ask, over the files, the input and the two outputs. `words` are those behind
 /// the program's name. Programs print on `out`; what stands in the way is told on `err`.
 ///
-/// The status is 0 for success, 1 for a program that fails, 2 for a bad word, 4 for a fault of the run, 5 for steps that
-/// ran out, 6 for a read fault, 7 for a write fault, 8 for want of memory, 10 for a source of more than 1,048,576 bytes,
-/// 11 for a program whose size passes 4,194,304, and 12 for a source that is no program yet.
+/// The status is 0 for success, 1 for a program that fails, 2 for a bad word, 3 for a source that is no program of the
+/// grammar, which is told with the line and the column of its fault, 4 for a fault of the run, 5 for steps that ran out, 6
+/// for a read fault, 7 for a write fault, 8 for want of memory, 10 for a source of more than 1,048,576 bytes, 11 for a
+/// program whose size passes 4,194,304, and 12 for a program of the grammar that has a form which is not built yet.
 pub fn alma<F: Files, I: Source, O: Sink, E: Sink>(
     alloc: Global,
     words: &[String],
@@ -152,5 +171,5 @@ pub fn alma<F: Files, I: Source, O: Sink, E: Sink>(
 {
     let _ = input;
     let end = perform(alloc, words, files, out);
-    report(err, end)
+    report(err, file_word(words), end)
 }

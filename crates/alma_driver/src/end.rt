@@ -2,8 +2,9 @@
 ghost use Rattle.std.specs.Prelude.{◌≡◌};
 ghost use Rattle.alma_driver.specs.Ends.{status_of, fixed_text, run_end, lower_end, read_end, words_end, fetch_end};
 
+use crate::fault::SourceFault;
 use crate::words::WordsError;
-use alma_base::RunFault;
+use alma_base::{Place, RunFault};
 use alma_front::ReadError;
 use alma_io::Fetch;
 use alma_lower::LowerError;
@@ -18,6 +19,8 @@ pub enum End {
     Failed,
     /// The first word, from 1, that cannot stand where it is, or one more than there are.
     BadWord(usize),
+    /// The source is no program of the grammar: its fault, and the place of it.
+    Refused(SourceFault, Place),
     /// The run stopped in a fault.
     Fault(RunFault),
     /// All steps were made, and the run was not at its end.
@@ -32,7 +35,7 @@ pub enum End {
     TooLong,
     /// The size of the program, which is past the greatest.
     TooMuchCode(u64),
-    /// The source is no program of the language so far.
+    /// The source is a program of the grammar, and not of the language so far.
     NotYet,
 }
 
@@ -45,6 +48,7 @@ impl End {
             End::Succeeded => 0,
             End::Failed => 1,
             End::BadWord(_) => 2,
+            End::Refused(_, _) => 3,
             End::Fault(_) => 4,
             End::StepsOut => 5,
             End::ReadFault => 6,
@@ -56,13 +60,14 @@ impl End {
         }
     }
 
-    /// The text on err, but for that of an end which names a word, a fault or a size.
+    /// The text on err, but for that of an end which names a word, a place, a fault or a size.
     pub fn fixed_text(self) -> &'static [u8]
         ensures { result.now ≡ fixed_text self }
     {
         match self {
             End::Succeeded | End::Failed => b"",
-            End::BadWord(_) | End::Fault(_) | End::TooMuchCode(_) => b"",
+            End::BadWord(_) | End::Refused(_, _) => b"",
+            End::Fault(_) | End::TooMuchCode(_) => b"",
             End::StepsOut => b"alma: steps out\n",
             End::ReadFault => b"alma: read fault\n",
             End::WriteFault => b"alma: write fault\n",

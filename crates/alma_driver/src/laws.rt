@@ -1,10 +1,23 @@
 //! Laws of the definitions that the contracts cite: functions without work, whose contracts are the laws.
 ghost use Rattle.std.specs.Prelude.{◌≡◌, List, ℕ};
 ghost use Rattle.alma_driver.specs.Words.{Request, Asks, IsBadWord};
+ghost use Rattle.alma_driver.specs.declared.fault.SourceFault.{SourceFault};
+ghost use Rattle.alma_driver.specs.Refusal.{IsRefused, IsParsed};
 
 /// Words are no two requests, no two words are the first bad one, and words with a bad one are no request.
 pub fn words_have_one_answer()
     ensures request { (words : List (List ℕ)) (first second : Request) → Asks words first → Asks words second → first ≡ second }
     ensures bad_word { (words : List (List ℕ)) (j k : ℕ) → IsBadWord words j → IsBadWord words k → j ≡ k }
     ensures apart { (words : List (List ℕ)) (request : Request) (k : ℕ) → Asks words request → IsBadWord words k → ⊥ }
+{}
+
+/// What is refused is no program of the grammar.
+pub fn a_refused_source_is_no_program()
+    ensures apart { (source : List ℕ) (fault : SourceFault) (offset : ℕ) → IsRefused source fault offset → IsParsed source → ⊥ }
+{}
+
+/// A source is refused for one fault, and at one place.
+pub fn a_source_has_one_refusal()
+    ensures same { (source : List ℕ) (fault other : SourceFault) (offset place : ℕ) →
+        IsRefused source fault offset → IsRefused source other place → (fault ≡ other) × (offset ≡ place) }
 {}

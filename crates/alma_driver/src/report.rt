@@ -4,11 +4,12 @@ ghost use Rattle.std.specs.Io.KnownBytes.{Appends};
 ghost use Rattle.alma_io.specs.Causes.{HasCause};
 ghost use Rattle.alma_io.specs.Fronts.{AppendsFront};
 ghost use Rattle.alma_driver.specs.Outside.{sink_side};
-ghost use Rattle.alma_driver.specs.Ends.{text_of};
+ghost use Rattle.alma_driver.specs.Ends.{refusal_line, refusal_text, text_of};
 ghost use Rattle.alma_driver.specs.Course.{Reports};
 
 use crate::end::End;
-use alma_base::Status;
+use crate::fault::SourceFault;
+use alma_base::{Place, Status};
 use alma_io::{Sink, WriteFault, write_all};
 use itoa::Buffer;
 
@@ -33,10 +34,46 @@ fn write_line<E: Sink>(err: &mut E, front: &[u8], back: &[u8]) -> Result<(), Wri
     write_parts(err, &[front, back, b"\n".as_slice()])
 }
 
-// Writes the text of an end.
-fn write_end<E: Sink>(err: &mut E, end: End) -> Result<(), WriteFault>
-    ensures ok { OnOk result (Appends (E.written err.old) (E.written err.new) (text_of end)) }
-    ensures front { OnErr result (AppendsFront (E.written err.old) (E.written err.new) (text_of end)) }
+// Writes the line of a refusal, by the texts in it.
+fn write_refusal_line<E: Sink>(
+    err: &mut E,
+    file: &[u8],
+    line: &[u8],
+    column: &[u8],
+    fault: &[u8],
+) -> Result<(), WriteFault>
+    ensures ok { OnOk result (Appends (E.written err.old) (E.written err.new) (refusal_line file.now line.now column.now fault.now)) }
+    ensures front { OnErr result (AppendsFront (E.written err.old) (E.written err.new) (refusal_line file.now line.now column.now fault.now)) }
+    ensures cause { HasCause (E.faults err.old) (E.faults err.new) result }
+{
+    let colon = b":".as_slice();
+    let blank = b": ".as_slice();
+    let end = b"\n".as_slice();
+    write_parts(err, &[file, colon, line, colon, column, blank, fault, end])
+}
+
+// Writes the fault for which a file is refused, and its place.
+fn write_refusal<E: Sink>(
+    err: &mut E,
+    file: &str,
+    fault: SourceFault,
+    place: Place,
+) -> Result<(), WriteFault>
+    ensures ok { OnOk result (Appends (E.written err.old) (E.written err.new) (refusal_text file.now fault place)) }
+    ensures front { OnErr result (AppendsFront (E.written err.old) (E.written err.new) (refusal_text file.now fault place)) }
+    ensures cause { HasCause (E.faults err.old) (E.faults err.new) result }
+{
+    let mut line = Buffer::new();
+    let mut column = Buffer::new();
+    let line = line.format(place.line).as_bytes();
+    let column = column.format(place.column).as_bytes();
+    write_refusal_line(err, file.as_bytes(), line, column, fault.text().as_bytes())
+}
+
+// Writes the text of an end, where the words name this file.
+fn write_end<E: Sink>(err: &mut E, file: &str, end: End) -> Result<(), WriteFault>
+    ensures ok { OnOk result (Appends (E.written err.old) (E.written err.new) (text_of file.now end)) }
+    ensures front { OnErr result (AppendsFront (E.written err.old) (E.written err.new) (text_of file.now end)) }
     ensures cause { HasCause (E.faults err.old) (E.faults err.new) result }
 {
     let mut digits = Buffer::new();
@@ -44,6 +81,7 @@ fn write_end<E: Sink>(err: &mut E, end: End) -> Result<(), WriteFault>
         End::BadWord(word) => {
             write_line(err, b"alma: bad word ", digits.format(word).as_bytes())
         }
+        End::Refused(fault, place) => write_refusal(err, file, fault, place),
         End::Fault(fault) => write_line(err, b"alma: fault ", fault.text().as_bytes()),
         End::TooMuchCode(size) => {
             write_line(err, b"alma: too much code ", digits.format(size).as_bytes())
@@ -52,11 +90,12 @@ fn write_end<E: Sink>(err: &mut E, end: End) -> Result<(), WriteFault>
     }
 }
 
-/// Writes the text of an end to err, and gives the status: that of a write fault where err fails.
-pub fn report<E: Sink>(err: &mut E, end: End) -> Status
-    ensures { Reports end (sink_side (E.written err.old) (E.faults err.old)) (sink_side (E.written err.new) (E.faults err.new)) result.0 }
+/// Writes the text of an end to err, where the words name this file, and gives the status: that of a write fault where err
+/// fails.
+pub fn report<E: Sink>(err: &mut E, file: &str, end: End) -> Status
+    ensures { Reports file.now end (sink_side (E.written err.old) (E.faults err.old)) (sink_side (E.written err.new) (E.faults err.new)) result.0 }
 {
-    match write_end(err, end) {
+    match write_end(err, file, end) {
         Ok(()) => Status(end.status()),
         Err(_) => Status(End::WriteFault.status()),
     }

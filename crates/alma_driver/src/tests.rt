@@ -76,6 +76,18 @@ const TOO_MUCH_CODE: Answer = Answer {
     err: b"alma: too much code 4194352\n",
 };
 
+const TOO_DEEP: Answer = Answer {
+    status: 3,
+    out: b"",
+    err: b"a.al:1:116: TooDeep\n",
+};
+
+const BLANKS: Answer = Answer {
+    status: 3,
+    out: b"",
+    err: b"a.al:1:1048577: Unexpected\n",
+};
+
 const NOT_YET: Answer = Answer {
     status: 12,
     out: b"",
@@ -410,13 +422,160 @@ fn a_program_has_a_greatest_size(rt: HostRuntime) -> Result<(), Fail> {
     check(&rt, alloc, &call, &TOO_MUCH_CODE)
 }
 
-const OTHER_SOURCES: [&[u8]; 10] = [
-    b"",
+/// A source that is no program of the grammar, and the line on err.
+struct Refusal {
+    source: &'static [u8],
+    err: &'static [u8],
+}
+
+const REFUSALS: [Refusal; 18] = [
+    Refusal {
+        source: b"",
+        err: b"a.al:1:1: Unexpected\n",
+    },
+    Refusal {
+        source: b"MODULE A; BEGIN WRITE(",
+        err: b"a.al:1:23: Unexpected\n",
+    },
+    Refusal {
+        source: b"MODULE A; BEGIN WRITE() END A.",
+        err: b"a.al:1:23: Unexpected\n",
+    },
+    Refusal {
+        source: b"MODULE A; BEGIN x := END A.",
+        err: b"a.al:1:22: Unexpected\n",
+    },
+    Refusal {
+        source: b"MODULE A; BEGIN x = y = z END A.",
+        err: b"a.al:1:23: Unexpected\n",
+    },
+    Refusal {
+        source: b"MODULE A; BEGIN NOT NOT TRUE END A.",
+        err: b"a.al:1:21: Unexpected\n",
+    },
+    Refusal {
+        source: b"MODULE A; END A. END",
+        err: b"a.al:1:18: Unexpected\n",
+    },
+    Refusal {
+        source: b"MODULE A; END A. .",
+        err: b"a.al:1:18: Unexpected\n",
+    },
+    Refusal {
+        source: b"MODULE A; END A..",
+        err: b"a.al:1:16: Unexpected\n",
+    },
+    Refusal {
+        source: b"MODULE A; END .",
+        err: b"a.al:1:15: Unexpected\n",
+    },
+    Refusal {
+        source: b"MODULE END; END END.",
+        err: b"a.al:1:8: Unexpected\n",
+    },
+    Refusal {
+        source: b"MODULE A;\nBEGIN\r\n\tWRITE(1;\nEND A.",
+        err: b"a.al:3:9: Unexpected\n",
+    },
+    Refusal {
+        source: b"MODULE A; PROCEDURE p; END p BEGIN END A.",
+        err: b"a.al:1:30: Unexpected\n",
+    },
+    Refusal {
+        source: b"MODULE A; BEGIN ? END A.",
+        err: b"a.al:1:17: BadByte\n",
+    },
+    Refusal {
+        source: b"MODULE A; BEGIN ) END A. ?",
+        err: b"a.al:1:26: BadByte\n",
+    },
+    Refusal {
+        source: b"MODULE A; (* (* *) END A.",
+        err: b"a.al:1:11: OpenComment\n",
+    },
+    Refusal {
+        source: b"MODULE A; BEGIN WRITE('x) END A.",
+        err: b"a.al:1:23: OpenString\n",
+    },
+    Refusal {
+        source: b"MODULE A; BEGIN\n WRITE(9223372036854775808) END A.",
+        err: b"a.al:2:8: NumberTooLarge\n",
+    },
+];
+
+#[test]
+fn sources_are_refused_with_a_place(rt: HostRuntime) -> Result<(), Fail> {
+    for refusal in &REFUSALS {
+        let call = Call {
+            words: &RUN,
+            source: refusal.source,
+            fails: NO_FAILS,
+        };
+        let answer = Answer {
+            status: 3,
+            out: b"",
+            err: refusal.err,
+        };
+        check(&rt, rt.alloc(), &call, &answer)?;
+    }
+    Ok(())
+}
+
+#[test]
+fn a_refusal_that_cannot_be_told_is_a_write_fault(rt: HostRuntime) -> Result<(), Fail> {
+    let call = Call {
+        words: &RUN,
+        source: b"",
+        fails: Fails {
+            fetch: &[],
+            out: &[],
+            err: &[4],
+        },
+    };
+    let answer = Answer {
+        status: 7,
+        out: b"",
+        err: b"a.al:1",
+    };
+    check(&rt, rt.alloc(), &call, &answer)
+}
+
+// A test in so many parentheses.
+fn nested_source(alloc: Global, count: usize) -> Result<Vec<u8>, Fail> {
+    let mut source = Vec::from_slice(alloc, b"MODULE A; BEGIN ")?;
+    for _ in 0..count {
+        source.push(b'(')?;
+    }
+    source.extend_from_slice(b"TRUE")?;
+    for _ in 0..count {
+        source.push(b')')?;
+    }
+    source.extend_from_slice(b" END A.")?;
+    Ok(source)
+}
+
+#[test]
+fn brackets_have_a_greatest_depth(rt: HostRuntime) -> Result<(), Fail> {
+    let alloc = rt.alloc();
+    let deepest = nested_source(alloc, 99)?;
+    let call = Call {
+        words: &RUN,
+        source: &deepest,
+        fails: NO_FAILS,
+    };
+    check(&rt, alloc, &call, &NOT_YET)?;
+    let too_deep = nested_source(alloc, 100)?;
+    let call = Call {
+        words: &RUN,
+        source: &too_deep,
+        fails: NO_FAILS,
+    };
+    check(&rt, alloc, &call, &TOO_DEEP)
+}
+
+const OTHER_SOURCES: [&[u8]; 6] = [
     b"MODULE A; BEGIN WRITE(1, TRUE) END B.",
-    b"MODULE A; BEGIN WRITE() END A.",
-    b"MODULE A; BEGIN WRITE(9223372036854775808) END A.",
-    b"MODULE END; END END.",
-    b"MODULE A; END A. A",
+    b"MODULE A; PROCEDURE p; BEGIN WRITE(1) END p; BEGIN p END A.",
     b"MODULE A; VAR x, x: INTEGER; END A.",
     b"MODULE A; BEGIN x := 1 END A.",
     b"MODULE A; VAR x: INTEGER; BEGIN x := TRUE END A.",
@@ -554,7 +713,7 @@ fn a_source_has_a_greatest_length(rt: HostRuntime) -> Result<(), Fail> {
         source: &spaces[1..],
         fails: NO_FAILS,
     };
-    check(&rt, alloc, &longest, &NOT_YET)?;
+    check(&rt, alloc, &longest, &BLANKS)?;
     let too_long = Call {
         words: &RUN,
         source: &spaces,

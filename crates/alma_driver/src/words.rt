@@ -1,6 +1,6 @@
 // The words of a call.
 ghost use Rattle.std.specs.Prelude.{◌≡◌, ◌∷◌, ℕ, [], ◌++◌, ◌↔◌, codes, IsTrue, MatchOption};
-ghost use Rattle.alma_driver.specs.Words.{Reads, texts, IsFileName, IsStepsOption, NamesSteps};
+ghost use Rattle.alma_driver.specs.Words.{Reads, texts, file_of, IsFileName, IsStepsOption, NamesSteps};
 
 /// The number of steps of a run where the words name none.
 const DEFAULT_STEPS: u64 = 1_000_000_000;
@@ -92,6 +92,16 @@ fn read_options<'w>(name: &'w str, options: &[String]) -> Result<Request<'w>, Wo
     match split_word(more) {
         None => Ok(Request::Run(name, steps)),
         Some((_word, _rest)) => Err(WordsError::Bad(4)),
+    }
+}
+
+/// The word that names the file, empty where there is none.
+pub fn file_word(words: &[String]) -> &str
+    ensures { result.now ≡ file_of (texts words.now) }
+{
+    match words {
+        [_, file, ..] => file.as_str(),
+        _ => "",
     }
 }
 

@@ -6,6 +6,6 @@ pub returns-clause-causes : goal.returns-clause-causes
 returns-clause-causes g c = causes_of _ _ _ _ (record {
   end = c.perform-end.result;
   performed = c.perform-end.ensures;
-  reported = c.report.ensures;
+  reported = rw c.file_word.ensures at c.report.ensures;
   input = refl;
 })

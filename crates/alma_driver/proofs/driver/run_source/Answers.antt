@@ -1,20 +1,16 @@
-use Rattle.alma_ir.specs.View.{program_of}
-use Rattle.alma_front.proofs.LawsChecked.{source_checked}
-use Rattle.alma_front.proofs.LawsForms.{source_built}
 use Rattle.alma_driver.specs.Outside.{sink_side}
-use Rattle.alma_driver.proofs.DriverLemmas.{goes_read, goes_unread}
+use Rattle.alma_driver.proofs.DriverLemmas.{goes_stopped}
+use Rattle.alma_driver.proofs.RefusalLemmas.{refused_within}
 use Rattle.alma_driver.proofs.driver.run_source.Goals as goal
 
-pub returns-in-Err : goal.returns-in-Err
-returns-in-Err g c = rw c.from.ensures (goes_unread _ _ c.in-Err.error _ c.in-Err.ensures)
+pub place-requires-clause-inside : goal.place-requires-clause-inside
+place-requires-clause-inside g c =
+    let stop = c.in-Err-Refused in
+    rw stop.offset-is (refused_within c.args.source.now stop.fault stop.offset (rw stop.field-0-is at stop.ensures.refused))
 
-pub returns-in-Ok : goal.returns-in-Ok
-returns-in-Ok g c =
-    goes_read _ (program_of c.in-Ok.program) _ (sink_side (g.O.Sink.written c.args.out.now) (g.O.Sink.faults c.args.out.now))
-    (sink_side (g.O.Sink.written c.run_program.new.out) (g.O.Sink.faults c.run_program.new.out)) _ c.in-Ok.ensures c.run_program.ensures
-
-pub run_program-requires-clause-checked : goal.run_program-requires-clause-checked
-run_program-requires-clause-checked g c = source_checked c.args.source.now (program_of c.in-Ok.program) c.requires.short c.in-Ok.ensures
-
-pub run_program-requires-clause-built : goal.run_program-requires-clause-built
-run_program-requires-clause-built g c = source_built c.args.source.now (program_of c.in-Ok.program) c.in-Ok.ensures
+pub returns-in-Err-Refused : goal.returns-in-Err-Refused
+returns-in-Err-Refused g c =
+    let stop = c.in-Err-Refused in
+    rw stop.fault-is (goes_stopped c.args.source.now c.args.steps stop.fault stop.offset c.place.result
+    (sink_side (g.O.Sink.written c.args.out.now) (g.O.Sink.faults c.args.out.now)) (rw stop.field-0-is at stop.ensures.refused)
+    (rw stop.offset-is at c.place.ensures.line) (rw stop.offset-is at c.place.ensures.column))

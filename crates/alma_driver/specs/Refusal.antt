@@ -1,0 +1,53 @@
+-- Which sources are programs of the grammar, and which are refused, with which fault and where.
+use Rattle.std.specs.Prelude.{◌≡◌, ℕ, zero, suc, List, [], ◌∷◌, length, map}
+use Rattle.alma_base.specs.declared.fault.SyntaxFault.{SyntaxFault}
+use Rattle.alma_base.specs.declared.place.Place.{Place}
+use Rattle.alma_tree.specs.declared.kind.Kind.{Kind}
+use Rattle.alma_grammar.specs.Laws.{IsProgram}
+use Rattle.alma_scan.specs.Tokens.{Lexeme, Tokens}
+use Rattle.alma_scan.specs.Faults.{FaultAt}
+use Rattle.alma_scan.specs.Places.{line_at, column_at}
+use Rattle.alma_parse.specs.declared.error.ParseError.TheVariants as parse_error
+use Rattle.alma_parse.specs.Refusals.{Refuses}
+use Rattle.alma_driver.specs.declared.fault.SourceFault.{SourceFault}
+use Rattle.alma_driver.specs.declared.fault.SourceFault.TheVariants.{Lex, Syntax}
+use Rattle.alma_driver.specs.declared.check.SourceStop.{SourceStop}
+use Rattle.alma_driver.specs.declared.check.SourceStop.TheVariants as stops
+
+-- the kinds of tokens
+abbrev pub kinds : List Lexeme → List Kind
+kinds tokens = map (λ token. token.kind) tokens
+
+-- the offset of the token of this index; where there is none, that of the end of a source of this size
+abbrev pub offset_of : (size : ℕ) → List Lexeme → (index : ℕ) → ℕ
+offset_of size [] index = size
+offset_of size (token ∷ tokens) zero = token.start
+offset_of size (token ∷ tokens) (suc index) = offset_of size tokens index
+
+-- the kinds of the source's tokens are a program of the grammar
+pub record IsParsed (source : List ℕ) : Type 0 where
+  pub tokens : List Lexeme
+  pub scanned : Tokens source tokens
+  pub program : IsProgram (kinds tokens)
+
+-- the source has tokens, and the parser refuses the one at this offset, or their end
+pub record SyntaxFaultAt (source : List ℕ) (fault : SyntaxFault) (offset : ℕ) : Type 0 where
+  pub tokens : List Lexeme
+  pub index : ℕ
+  pub scanned : Tokens source tokens
+  pub refused : Refuses (parse_error.Syntax fault index) (kinds tokens)
+  pub place : offset ≡ offset_of (length source) tokens index
+
+-- the source is refused for the fault at this offset: the scanner's, or that of the parser behind it
+abbrev pub IsRefused : (source : List ℕ) → SourceFault → (offset : ℕ) → Type 0
+IsRefused source (Lex fault) offset = FaultAt source fault offset
+IsRefused source (Syntax fault) offset = SyntaxFaultAt source fault offset
+
+-- the line and the column of an offset
+abbrev pub place_of : (source : List ℕ) → (offset : ℕ) → Place
+place_of source offset = record { line = line_at source offset; column = column_at source offset }
+
+-- what stops a source at the scanner or the parser: its refusal; want of memory is free
+abbrev pub IsStopOf : (source : List ℕ) → SourceStop → Type 0
+IsStopOf source (stops.Refused fault offset) = IsRefused source fault offset
+IsStopOf source stops.Memory = Unit {0}
