@@ -1,5 +1,5 @@
 -- Lists of trees with one more at the end.
-use Rattle.std.proofs.Common.{◌≡◌, List, [], ◌∷◌, ◌++◌, refl, ap, sym, ◌∙◌}
+use Rattle.std.proofs.Common.{◌≡◌, ℕ, List, [], ◌∷◌, ◌++◌, Option, None, Some, refl, ap, sym, ◌∙◌}
 use Rattle.alma_tree.specs.declared.kind.Kind.{Kind}
 use Rattle.alma_tree.specs.declared.kind.Kind.TheVariants as kinds
 use Rattle.alma_tree.specs.declared.phrase.Stmts as ds
@@ -20,7 +20,17 @@ use Rattle.alma_tree.specs.View.{stmts_of, arms_of, labels_of, orelses_of, desig
 use Rattle.alma_tree.specs.Numbers.{Step, stay, token, ◌>>◌, number_expr, number_stmt, number_stmts, number_arm, number_label, number_desig}
 use Rattle.alma_tree.specs.Numbers.{number_selector, number_factor, number_term, numbers_of_exprs, numbers_of_stmts, numbers_of_arms, numbers_of_labels}
 use Rattle.alma_tree.specs.Numbers.{numbers_of_orelses, numbers_of_desigs, numbers_of_selectors, numbers_of_factors, numbers_of_terms, numbers_of_elsifs}
+use Rattle.alma_tree.specs.declared.phrase.Args as dg
+use Rattle.alma_tree.specs.declared.phrase.Exprs as dx
+use Rattle.alma_tree.specs.Spelling.{spell_args}
+use Rattle.alma_tree.specs.View.{args_of, args_values}
+use Rattle.alma_tree.specs.Numbers.{numbers_of_args, numbers_of_values}
+use Rattle.alma_grammar.specs.Parts.{Part}
+use Rattle.alma_grammar.specs.Filling.{spell_inside_args}
+use Rattle.alma_parse.specs.Forms.{inside_of, number_inside_args}
+use Rattle.alma_parse.specs.Parsing.{At, Reads}
 use Rattle.alma_parse.proofs.Loops.{grouped, then_stay}
+use Rattle.alma_parse.proofs.Steps.{same}
 
 pub exprs_spelled : (xs : List de.Expr) (x : de.Expr) → spell_expr_tail (exprs_of (xs ++ (x ∷ []))) ≡ (λ r. spell_expr_tail (exprs_of xs) (kinds.Comma ∷ spell_expr (view_expr x) r))
 exprs_spelled [] x = refl
@@ -113,3 +123,46 @@ elsifs_numbered (y ∷ ys) x =
     ap (λ f. token >> number_expr (df.out-Elsif y).test >> token >> number_stmts (df.out-Elsif y).then >> f) (elsifs_numbered ys x)
     ∙ ap (λ f. token >> number_expr (df.out-Elsif y).test >> token >> f) (sym (grouped (number_stmts (df.out-Elsif y).then) (numbers_of_elsifs ys) (token >> number_expr (df.out-Elsif x).test >> token >> number_stmts (df.out-Elsif x).then)))
     ∙ sym (grouped (token >> number_expr (df.out-Elsif y).test) (token >> number_stmts (df.out-Elsif y).then >> numbers_of_elsifs ys) (token >> number_expr (df.out-Elsif x).test >> token >> number_stmts (df.out-Elsif x).then))
+
+-- ---- the same of a value that the code makes
+
+pub terms_spelled_rolled : (xs : List dk.AddLink) (r : _)
+  → spell_term_tail (terms_of (xs ++ (dk.roll-AddLink r ∷ []))) ≡ (λ ks. spell_term_tail (terms_of xs) (add_kind r.operator ∷ spell_term (view_term r.operand) ks))
+terms_spelled_rolled xs r =
+    terms_spelled xs (dk.roll-AddLink r)
+    ∙ ap (λ o ks. spell_term_tail (terms_of xs) (add_kind o.operator ∷ spell_term (view_term o.operand) ks)) (dk.out-roll-AddLink r)
+
+pub terms_numbered_rolled : (xs : List dk.AddLink) (r : _)
+  → numbers_of_terms (xs ++ (dk.roll-AddLink r ∷ [])) ≡ (numbers_of_terms xs >> (token >> number_term r.operand))
+terms_numbered_rolled xs r =
+    terms_numbered xs (dk.roll-AddLink r) ∙ ap (λ o. numbers_of_terms xs >> (token >> number_term o.operand)) (dk.out-roll-AddLink r)
+
+pub elsifs_spelled_rolled : (xs : List df.Elsif) (r : _) → spell_elsif_tail (elsifs_of (xs ++ (df.roll-Elsif r ∷ [])))
+  ≡ (λ ks. spell_elsif_tail (elsifs_of xs) (kinds.Elsif ∷ spell_expr (view_expr r.test) (kinds.Then ∷ spell_stmts (view_stmts r.then) ks)))
+elsifs_spelled_rolled xs r =
+    elsifs_spelled xs (df.roll-Elsif r)
+    ∙ ap (λ o ks. spell_elsif_tail (elsifs_of xs) (kinds.Elsif ∷ spell_expr (view_expr o.test) (kinds.Then ∷ spell_stmts (view_stmts o.then) ks)))
+      (df.out-roll-Elsif r)
+
+pub elsifs_numbered_rolled : (xs : List df.Elsif) (r : _) → numbers_of_elsifs (xs ++ (df.roll-Elsif r ∷ []))
+  ≡ (numbers_of_elsifs xs >> (token >> number_expr r.test >> token >> number_stmts r.then))
+elsifs_numbered_rolled xs r =
+    elsifs_numbered xs (df.roll-Elsif r)
+    ∙ ap (λ o. numbers_of_elsifs xs >> (token >> number_expr o.test >> token >> number_stmts o.then)) (df.out-roll-Elsif r)
+
+-- ---- arguments
+
+inside_spelled : (x : Option dx.Exprs) → spell_args (args_values x) ≡ (λ r. kinds.OpenParen ∷ spell_inside_args (inside_of x) r)
+inside_spelled None = refl
+inside_spelled (Some es) = refl
+
+inside_numbered : (x : Option dx.Exprs) → numbers_of_values x ≡ (token >> number_inside_args x)
+inside_numbered None = refl
+inside_numbered (Some es) = refl
+
+pub args_made : {p : List Part → List Part} {d : ℕ} {a b : At} (x : Option dx.Exprs)
+  → Reads (λ r. kinds.OpenParen ∷ spell_inside_args (inside_of x) r) (token >> number_inside_args x) p d d a b
+  → Reads (spell_args (args_of (Some (dg.roll-Args (record { values = x }))))) (numbers_of_args (Some (dg.roll-Args (record { values = x })))) p d d a b
+args_made x y =
+    same (ap (λ o. spell_args (args_values o.values)) (dg.out-roll-Args (record { values = x })) ∙ inside_spelled x)
+      (ap (λ o. numbers_of_values o.values) (dg.out-roll-Args (record { values = x })) ∙ inside_numbered x) y

@@ -124,6 +124,10 @@ becoming {s = s} {n = n} {p = p} {q = q} {d = d} {e = e} {a = a} {b = b} h x = r
   shorter = x.shorter;
 }
 
+replaced_parts : {s : List Kind → List Kind} {n : Step} {p q : List Part → List Part} {d e : ℕ} {a b : At}
+  → ((o : List Part) → reading true a.kinds d (p o) ≡ reading true b.kinds e o) → Reads s n q d e a b → Reads s n p d e a b
+replaced_parts h x = record { spelled_so = x.spelled_so; numbered_so = x.numbered_so; reads = h; shorter = x.shorter }
+
 -- what stands behind the first part, and makes a whole of both
 pub extending : {s r t : List Kind → List Kind} {n l m : Step} {p : List Part → List Part} {d : ℕ} {a b : At}
   → t ≡ (λ ks. s (r ks)) → m ≡ (n >> l) → Reads r l p d d a b → Extends s n p t m d a b
@@ -202,3 +206,55 @@ pub extended_twice : {T : Type 0} (r : Result (T × cursors.Cursor) Fault) (s : 
   → MatchResult r (λ x. Extends u l (λ o. p (q o)) (s x.0) (n x.0) d a (seen x.1)) (λ e. Fails e (λ o. p (q o)) d a)
 extended_twice (Ok x) s n q y z = twice y z
 extended_twice (Err e) s n q y z = beyond y z
+
+pub instead_any : {T : Type 0} (r : Result (T × cursors.Cursor) Fault) (s : T → List Kind → List Kind) (n : T → Step) (p q : List Part → List Part) (d : ℕ) (a : At)
+  → Becomes p q a.kinds
+  → MatchResult r (λ t. (e : ℕ) → Reads (s t.0) (n t.0) q e e a (seen t.1)) (λ e. (f : ℕ) → Fails e q f a)
+  → MatchResult r (λ t. Reads (s t.0) (n t.0) p d d a (seen t.1)) (λ e. Fails e p d a)
+instead_any (Ok t) s n p q d a h x = becoming h (x d)
+instead_any (Err e) s n p q d a h x = becoming_fails h (x d)
+
+pub becoming_extends : {s t : List Kind → List Kind} {n m : Step} {p q : List Part → List Part} {d : ℕ} {a b : At}
+  → Becomes p q a.kinds → Extends s n q t m d a b → Extends s n p t m d a b
+becoming_extends {s = s} {t = t} {n = n} {m = m} {p = p} {q = q} {d = d} {a = a} {b = b} h x = record {
+  extends = λ start before e y. replaced_parts (λ o. y.reads (p o) ∙ h.becomes d o ∙ x.reads o) (x.extends start before e y);
+  reads = λ o. h.becomes d o ∙ x.reads o;
+  shorter = x.shorter;
+}
+
+pub instead_extending : {T : Type 0} (r : Result (T × cursors.Cursor) Fault) (s : T → List Kind → List Kind) (n : T → Step) (p q : List Part → List Part) (d : ℕ) (a : At)
+  (t : List Kind → List Kind) (m : Step) → Becomes p q a.kinds
+  → MatchResult r (λ x. Extends t m q (s x.0) (n x.0) d a (seen x.1)) (λ e. Fails e q d a)
+  → MatchResult r (λ x. Extends t m p (s x.0) (n x.0) d a (seen x.1)) (λ e. Fails e p d a)
+instead_extending (Ok x) s n p q d a t m h y = becoming_extends h y
+instead_extending (Err e) s n p q d a t m h y = becoming_fails h y
+
+-- what was read first, with what extends it behind
+pub extended_by : {s t : List Kind → List Kind} {n m : Step} {p q r : List Part → List Part} {d : ℕ} {start a b : At}
+  → Becomes q r a.kinds → Reads s n p d d start a → Extends s n r t m d a b → Reads t m (λ o. p (q o)) d d start b
+extended_by {d = d} {start = start} h x y = (becoming_extends h y).extends start _ d x
+
+-- a token that closes a bracket
+pub closed_any : {k : Kind} {d : ℕ} {a b : At} → opens k ≡ false → closes k ≡ true → Passes k a b
+  → Reads (λ r. k ∷ r) token (λ o. one k ∷ o) d (pred d) a b
+closed_any {k = k} {d = d} {a = a} {b = b} h g x = record {
+  spelled_so = x.kinds_so;
+  numbered_so = x.place_so;
+  reads = λ o. from a.kinds (k ∷ b.kinds) d (one k ∷ o) x.kinds_so ∙ is_closed k b.kinds d o h g;
+  shorter = omega (arith, x.shorter);
+}
+
+-- the depth behind a bracket is that before it
+pub shallower : {s : List Kind → List Kind} {n : Step} {p : List Part → List Part} {k : Kind} {d e : ℕ} {a b f g : At}
+  → Opens k d e f g → Reads s n p e (pred e) a b → Reads s n p e d a b
+shallower {s = s} {n = n} {p = p} {d = d} {e = e} {a = a} {b = b} y x = record {
+  spelled_so = x.spelled_so;
+  numbered_so = x.numbered_so;
+  reads = λ o. x.reads o ∙ ap (λ k. reading true b.kinds (pred k) o) y.deeper;
+  shorter = x.shorter;
+}
+
+-- fewer tokens are left behind one that was passed, whatever was read then
+pub strictly : {s : List Kind → List Kind} {n : Step} {p : List Part → List Part} {k : Kind} {d e : ℕ} {a b c : At}
+  → Passes k a b → Reads s n p d e b c → length c.kinds < length a.kinds
+strictly x y = omega (arith, x.shorter, y.shorter)

@@ -568,11 +568,11 @@ fn returned<'t, 's>(
         (λ t. Reads (spell_returned (returned_of t.0)) (numbers_of_returned t.0) (λ o. returned_part ∷ o) depth depth (seen at.entry) (seen t.1))
         (λ e. Fails e (λ o. returned_part ∷ o) depth (seen at.entry)) }
 {
-    if !at.begins_expr() {
-        return Ok((None, at));
+    if at.begins_expr() {
+        let (value, at) = expr(alloc, at, depth)?;
+        return Ok((Some(value), at));
     }
-    let (value, at) = expr(alloc, at, depth)?;
-    Ok((Some(value), at))
+    Ok((None, at))
 }
 
 #[cycle(phrases)]

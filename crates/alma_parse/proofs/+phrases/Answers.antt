@@ -1,0 +1,1379 @@
+use Rattle.std.proofs.Common.{◌≡◌, ◌≤◌, ℕ, suc, pred, Bool, true, false, List, [], ◌∷◌, ◌++◌, Some, None, refl, ap, sym, ◌∙◌}
+use Rattle.std.proofs.lemmas.Result.{err_from_is_err_and}
+use Rattle.alma_tree.specs.declared.kind.Kind.TheVariants as kinds
+use Rattle.alma_tree.specs.declared.phrase.Compared as dc
+use Rattle.alma_tree.specs.declared.phrase.AddLink as dk
+use Rattle.alma_tree.specs.declared.phrase.Elsif as df
+use Rattle.alma_tree.specs.declared.phrase.Args as dg
+use Rattle.alma_tree.specs.Tree as tree
+use Rattle.alma_tree.specs.Spelling.{add_kind, mul_kind, relation_kind, spell_expr, spell_compared, spell_sign, spell_simple, spell_term_tail, spell_term}
+use Rattle.alma_tree.specs.Spelling.{spell_factor_tail, spell_factor, spell_primary, spell_args, spell_exprs, spell_expr_tail, spell_desig, spell_selector_tail}
+use Rattle.alma_tree.specs.Spelling.{spell_selector, spell_stmts, spell_stmt_tail, spell_stmt, spell_elsif_tail, spell_else, spell_by, spell_orelse_tail}
+use Rattle.alma_tree.specs.Spelling.{spell_returned, spell_desig_tail, spell_arm, spell_arm_tail, spell_label, spell_high, spell_label_tail}
+use Rattle.alma_tree.specs.View.{view_expr, compared_of, view_simple, terms_of, view_term, factors_of, view_factor, view_primary, args_of, args_values}
+use Rattle.alma_tree.specs.View.{view_exprs, exprs_of, view_desig, selectors_of, view_selector, view_stmts, stmts_of, view_stmt, elsifs_of, else_of, by_of}
+use Rattle.alma_tree.specs.View.{orelses_of, returned_of, desigs_of, view_arm, arms_of, view_label, high_of, labels_of}
+use Rattle.alma_tree.specs.Numbers.{Step, stay, token, node, ◌>>◌, number_sign, number_stmts, number_stmt, number_arm, number_label, number_expr, number_simple}
+use Rattle.alma_tree.specs.Numbers.{number_term, number_factor, number_primary, number_exprs, number_desig, number_selector, numbers_of_terms}
+use Rattle.alma_tree.proofs.Rows as rows
+use Rattle.alma_tree.proofs.NumberRows as numbers
+use Rattle.alma_grammar.specs.Parts.{one, factor_part, primary_part, factor_tail, term_tail, compared_part, args_part, args_inside, expr_tail, selector_tail}
+use Rattle.alma_grammar.specs.Parts.{stmt_part, stmt_tail, elsif_tail, else_part, by_part, orelse_tail, returned_part, desig_tail, arm_part, arm_tail}
+use Rattle.alma_grammar.specs.Parts.{high_part, label_tail, term_parts, simple_parts, expr_parts, exprs_parts, desig_parts, stmts_parts, label_parts}
+use Rattle.alma_parse.specs.Forms as forms
+use Rattle.alma_parse.specs.Parsing.{seen, Becomes}
+use Rattle.alma_parse.proofs.Heads as heads
+use Rattle.alma_parse.proofs.Lists as lists
+use Rattle.alma_parse.proofs.Loops as loops
+use Rattle.alma_parse.proofs.Loops.{grouped}
+use Rattle.alma_parse.proofs.Steps as steps
+use Rattle.alma_parse.proofs.+phrases.Goals as goal
+
+pub statement::if_stmt-returns-in_err-at : goal.statement::if_stmt-returns-in_err-at
+statement::if_stmt-returns-in_err-at t c =
+    let p = err_from_is_err_and c.from_residual.result c.from_residual.ensures.1 in
+    record { read = rw (p.1, p.2) (steps.first c.in_err-at.ensures.opened) }
+
+pub statement::if_stmt-returns-in_err-test : goal.statement::if_stmt-returns-in_err-test
+statement::if_stmt-returns-in_err-test t c =
+    let p = err_from_is_err_and c.from_residual-in_err-test.result c.from_residual-in_err-test.ensures.1 in
+    record { read = rw (p.1, p.2) (steps.after (steps.opened refl c.in_ok-at.ensures.opened) (steps.first c.in_err-test.ensures.read)) }
+
+pub statement::if_stmt-returns-in_err-at-2 : goal.statement::if_stmt-returns-in_err-at-2
+statement::if_stmt-returns-in_err-at-2 t c =
+    let p = err_from_is_err_and c.from_residual-in_err-at-2.result c.from_residual-in_err-at-2.ensures.1 in
+    record { read = rw (p.1, p.2) (steps.after (steps.opened refl c.in_ok-at.ensures.opened) (steps.after c.in_ok-test.ensures.read (steps.first (c.in_err-at-2.ensures.passes _)))) }
+
+pub statement::if_stmt-returns-in_err-then : goal.statement::if_stmt-returns-in_err-then
+statement::if_stmt-returns-in_err-then t c =
+    let p = err_from_is_err_and c.from_residual-in_err-then.result c.from_residual-in_err-then.ensures.1 in
+    record { read = rw (p.1, p.2) (steps.after (steps.opened refl c.in_ok-at.ensures.opened) (steps.after c.in_ok-test.ensures.read (steps.after (steps.passed refl refl c.in_ok-at-2.ensures.passes) (steps.first c.in_err-then.ensures.read)))) }
+
+pub statement::if_stmt-returns-in_err-elsifs : goal.statement::if_stmt-returns-in_err-elsifs
+statement::if_stmt-returns-in_err-elsifs t c =
+    let p = err_from_is_err_and c.from_residual-in_err-elsifs.result c.from_residual-in_err-elsifs.ensures.1 in
+    record { read = rw (p.1, p.2) (steps.after (steps.opened refl c.in_ok-at.ensures.opened) (steps.after c.in_ok-test.ensures.read (steps.after (steps.passed refl refl c.in_ok-at-2.ensures.passes) (steps.after c.in_ok-then.ensures.read (steps.first c.in_err-elsifs.ensures.read))))) }
+
+pub statement::if_stmt-returns-in_err-otherwise : goal.statement::if_stmt-returns-in_err-otherwise
+statement::if_stmt-returns-in_err-otherwise t c =
+    let p = err_from_is_err_and c.from_residual-in_err-otherwise.result c.from_residual-in_err-otherwise.ensures.1 in
+    record { read = rw (p.1, p.2) (steps.after (steps.opened refl c.in_ok-at.ensures.opened) (steps.after c.in_ok-test.ensures.read (steps.after (steps.passed refl refl c.in_ok-at-2.ensures.passes) (steps.after c.in_ok-then.ensures.read (steps.after c.in_ok-elsifs.ensures.read (steps.first c.in_err-otherwise.ensures.read)))))) }
+
+pub statement::if_stmt-returns-in_err-at-3 : goal.statement::if_stmt-returns-in_err-at-3
+statement::if_stmt-returns-in_err-at-3 t c =
+    let p = err_from_is_err_and c.from_residual-in_err-at-3.result c.from_residual-in_err-at-3.ensures.1 in
+    record { read = rw (p.1, p.2) (steps.after (steps.opened refl c.in_ok-at.ensures.opened) (steps.after c.in_ok-test.ensures.read (steps.after (steps.passed refl refl c.in_ok-at-2.ensures.passes) (steps.after c.in_ok-then.ensures.read (steps.after c.in_ok-elsifs.ensures.read (steps.after c.in_ok-otherwise.ensures.read (steps.first (c.in_err-at-3.ensures.passes _)))))))) }
+
+pub statement::if_stmt-returns-in_err-node : goal.statement::if_stmt-returns-in_err-node
+statement::if_stmt-returns-in_err-node t c =
+    let p = err_from_is_err_and c.from_residual-in_err-node.result c.from_residual-in_err-node.ensures.1 in
+    record { read = rw (p.1, p.2, c.in_err-node.ensures.counted) steps.no_memory }
+
+pub statement::if_stmt-returns : goal.statement::if_stmt-returns
+statement::if_stmt-returns t c =
+    record { read = steps.same (ap spell_stmt (rows.if_laid c.in_ok-node.node c.in_ok-test.test c.in_ok-then.then c.in_ok-elsifs.elsifs c.in_ok-otherwise.otherwise))
+      (numbers.if_laid c.in_ok-node.node c.in_ok-test.test c.in_ok-then.then c.in_ok-elsifs.elsifs c.in_ok-otherwise.otherwise)
+      (steps.then (steps.opened refl c.in_ok-at.ensures.opened) (steps.then c.in_ok-test.ensures.read (steps.then (steps.passed refl refl c.in_ok-at-2.ensures.passes) (steps.then c.in_ok-then.ensures.read (steps.then c.in_ok-elsifs.ensures.read (steps.then c.in_ok-otherwise.ensures.read (steps.then (steps.closed refl refl c.in_ok-at.ensures.opened c.in_ok-at-3.ensures.passes) (steps.counted c.in_ok-node.ensures.counted)))))))) }
+
+pub statement::while_stmt-returns-in_err-at : goal.statement::while_stmt-returns-in_err-at
+statement::while_stmt-returns-in_err-at t c =
+    let p = err_from_is_err_and c.from_residual.result c.from_residual.ensures.1 in
+    record { read = rw (p.1, p.2) (steps.first c.in_err-at.ensures.opened) }
+
+pub statement::while_stmt-returns-in_err-test : goal.statement::while_stmt-returns-in_err-test
+statement::while_stmt-returns-in_err-test t c =
+    let p = err_from_is_err_and c.from_residual-in_err-test.result c.from_residual-in_err-test.ensures.1 in
+    record { read = rw (p.1, p.2) (steps.after (steps.opened refl c.in_ok-at.ensures.opened) (steps.first c.in_err-test.ensures.read)) }
+
+pub statement::while_stmt-returns-in_err-at-2 : goal.statement::while_stmt-returns-in_err-at-2
+statement::while_stmt-returns-in_err-at-2 t c =
+    let p = err_from_is_err_and c.from_residual-in_err-at-2.result c.from_residual-in_err-at-2.ensures.1 in
+    record { read = rw (p.1, p.2) (steps.after (steps.opened refl c.in_ok-at.ensures.opened) (steps.after c.in_ok-test.ensures.read (steps.first (c.in_err-at-2.ensures.passes _)))) }
+
+pub statement::while_stmt-returns-in_err-body : goal.statement::while_stmt-returns-in_err-body
+statement::while_stmt-returns-in_err-body t c =
+    let p = err_from_is_err_and c.from_residual-in_err-body.result c.from_residual-in_err-body.ensures.1 in
+    record { read = rw (p.1, p.2) (steps.after (steps.opened refl c.in_ok-at.ensures.opened) (steps.after c.in_ok-test.ensures.read (steps.after (steps.passed refl refl c.in_ok-at-2.ensures.passes) (steps.first c.in_err-body.ensures.read)))) }
+
+pub statement::while_stmt-returns-in_err-at-3 : goal.statement::while_stmt-returns-in_err-at-3
+statement::while_stmt-returns-in_err-at-3 t c =
+    let p = err_from_is_err_and c.from_residual-in_err-at-3.result c.from_residual-in_err-at-3.ensures.1 in
+    record { read = rw (p.1, p.2) (steps.after (steps.opened refl c.in_ok-at.ensures.opened) (steps.after c.in_ok-test.ensures.read (steps.after (steps.passed refl refl c.in_ok-at-2.ensures.passes) (steps.after c.in_ok-body.ensures.read (steps.first (c.in_err-at-3.ensures.passes _)))))) }
+
+pub statement::while_stmt-returns-in_err-node : goal.statement::while_stmt-returns-in_err-node
+statement::while_stmt-returns-in_err-node t c =
+    let p = err_from_is_err_and c.from_residual-in_err-node.result c.from_residual-in_err-node.ensures.1 in
+    record { read = rw (p.1, p.2, c.in_err-node.ensures.counted) steps.no_memory }
+
+pub statement::while_stmt-returns : goal.statement::while_stmt-returns
+statement::while_stmt-returns t c =
+    record { read = steps.same (ap spell_stmt (rows.while_laid c.in_ok-node.node c.in_ok-test.test c.in_ok-body.body))
+      (numbers.while_laid c.in_ok-node.node c.in_ok-test.test c.in_ok-body.body)
+      (steps.then (steps.opened refl c.in_ok-at.ensures.opened) (steps.then c.in_ok-test.ensures.read (steps.then (steps.passed refl refl c.in_ok-at-2.ensures.passes) (steps.then c.in_ok-body.ensures.read (steps.then (steps.closed refl refl c.in_ok-at.ensures.opened c.in_ok-at-3.ensures.passes) (steps.counted c.in_ok-node.ensures.counted)))))) }
+
+pub statement::repeat_stmt-returns-in_err-at : goal.statement::repeat_stmt-returns-in_err-at
+statement::repeat_stmt-returns-in_err-at t c =
+    let p = err_from_is_err_and c.from_residual.result c.from_residual.ensures.1 in
+    record { read = rw (p.1, p.2) (steps.first c.in_err-at.ensures.opened) }
+
+pub statement::repeat_stmt-returns-in_err-body : goal.statement::repeat_stmt-returns-in_err-body
+statement::repeat_stmt-returns-in_err-body t c =
+    let p = err_from_is_err_and c.from_residual-in_err-body.result c.from_residual-in_err-body.ensures.1 in
+    record { read = rw (p.1, p.2) (steps.after (steps.opened refl c.in_ok-at.ensures.opened) (steps.first c.in_err-body.ensures.read)) }
+
+pub statement::repeat_stmt-returns-in_err-at-2 : goal.statement::repeat_stmt-returns-in_err-at-2
+statement::repeat_stmt-returns-in_err-at-2 t c =
+    let p = err_from_is_err_and c.from_residual-in_err-at-2.result c.from_residual-in_err-at-2.ensures.1 in
+    record { read = rw (p.1, p.2) (steps.after (steps.opened refl c.in_ok-at.ensures.opened) (steps.after c.in_ok-body.ensures.read (steps.first (c.in_err-at-2.ensures.passes _)))) }
+
+pub statement::repeat_stmt-returns-in_err-test : goal.statement::repeat_stmt-returns-in_err-test
+statement::repeat_stmt-returns-in_err-test t c =
+    let p = err_from_is_err_and c.from_residual-in_err-test.result c.from_residual-in_err-test.ensures.1 in
+    record { read = rw (p.1, p.2) (steps.after (steps.opened refl c.in_ok-at.ensures.opened) (steps.after c.in_ok-body.ensures.read (steps.after (steps.closed refl refl c.in_ok-at.ensures.opened c.in_ok-at-2.ensures.passes) (steps.first c.in_err-test.ensures.read)))) }
+
+pub statement::repeat_stmt-returns-in_err-node : goal.statement::repeat_stmt-returns-in_err-node
+statement::repeat_stmt-returns-in_err-node t c =
+    let p = err_from_is_err_and c.from_residual-in_err-node.result c.from_residual-in_err-node.ensures.1 in
+    record { read = rw (p.1, p.2, c.in_err-node.ensures.counted) steps.no_memory }
+
+pub statement::repeat_stmt-returns : goal.statement::repeat_stmt-returns
+statement::repeat_stmt-returns t c =
+    record { read = steps.same (ap spell_stmt (rows.repeat_laid c.in_ok-node.node c.in_ok-body.body c.in_ok-test.test))
+      (numbers.repeat_laid c.in_ok-node.node c.in_ok-body.body c.in_ok-test.test)
+      (steps.then (steps.opened refl c.in_ok-at.ensures.opened) (steps.then c.in_ok-body.ensures.read (steps.then (steps.closed refl refl c.in_ok-at.ensures.opened c.in_ok-at-2.ensures.passes) (steps.then c.in_ok-test.ensures.read (steps.counted c.in_ok-node.ensures.counted))))) }
+
+pub statement::for_stmt-returns-in_err-at : goal.statement::for_stmt-returns-in_err-at
+statement::for_stmt-returns-in_err-at t c =
+    let p = err_from_is_err_and c.from_residual.result c.from_residual.ensures.1 in
+    record { read = rw (p.1, p.2) (steps.first c.in_err-at.ensures.opened) }
+
+pub statement::for_stmt-returns-in_err-variable : goal.statement::for_stmt-returns-in_err-variable
+statement::for_stmt-returns-in_err-variable t c =
+    let p = err_from_is_err_and c.from_residual-in_err-variable.result c.from_residual-in_err-variable.ensures.1 in
+    record { read = rw (p.1, p.2) (steps.after (steps.opened refl c.in_ok-at.ensures.opened) (steps.first (c.in_err-variable.ensures.read _))) }
+
+pub statement::for_stmt-returns-in_err-at-2 : goal.statement::for_stmt-returns-in_err-at-2
+statement::for_stmt-returns-in_err-at-2 t c =
+    let p = err_from_is_err_and c.from_residual-in_err-at-2.result c.from_residual-in_err-at-2.ensures.1 in
+    record { read = rw (p.1, p.2) (steps.after (steps.opened refl c.in_ok-at.ensures.opened) (steps.after (c.in_ok-variable.ensures.read _) (steps.first (c.in_err-at-2.ensures.passes _)))) }
+
+pub statement::for_stmt-returns-in_err-from : goal.statement::for_stmt-returns-in_err-from
+statement::for_stmt-returns-in_err-from t c =
+    let p = err_from_is_err_and c.from_residual-in_err-from.result c.from_residual-in_err-from.ensures.1 in
+    record { read = rw (p.1, p.2) (steps.after (steps.opened refl c.in_ok-at.ensures.opened) (steps.after (c.in_ok-variable.ensures.read _) (steps.after (steps.passed refl refl c.in_ok-at-2.ensures.passes) (steps.first c.in_err-from.ensures.read)))) }
+
+pub statement::for_stmt-returns-in_err-at-3 : goal.statement::for_stmt-returns-in_err-at-3
+statement::for_stmt-returns-in_err-at-3 t c =
+    let p = err_from_is_err_and c.from_residual-in_err-at-3.result c.from_residual-in_err-at-3.ensures.1 in
+    record { read = rw (p.1, p.2) (steps.after (steps.opened refl c.in_ok-at.ensures.opened) (steps.after (c.in_ok-variable.ensures.read _) (steps.after (steps.passed refl refl c.in_ok-at-2.ensures.passes) (steps.after c.in_ok-from.ensures.read (steps.first (c.in_err-at-3.ensures.passes _)))))) }
+
+pub statement::for_stmt-returns-in_err-to : goal.statement::for_stmt-returns-in_err-to
+statement::for_stmt-returns-in_err-to t c =
+    let p = err_from_is_err_and c.from_residual-in_err-to.result c.from_residual-in_err-to.ensures.1 in
+    record { read = rw (p.1, p.2) (steps.after (steps.opened refl c.in_ok-at.ensures.opened) (steps.after (c.in_ok-variable.ensures.read _) (steps.after (steps.passed refl refl c.in_ok-at-2.ensures.passes) (steps.after c.in_ok-from.ensures.read (steps.after (steps.passed refl refl c.in_ok-at-3.ensures.passes) (steps.first c.in_err-to.ensures.read)))))) }
+
+pub statement::for_stmt-returns-in_err-by : goal.statement::for_stmt-returns-in_err-by
+statement::for_stmt-returns-in_err-by t c =
+    let p = err_from_is_err_and c.from_residual-in_err-by.result c.from_residual-in_err-by.ensures.1 in
+    record { read = rw (p.1, p.2) (steps.after (steps.opened refl c.in_ok-at.ensures.opened) (steps.after (c.in_ok-variable.ensures.read _) (steps.after (steps.passed refl refl c.in_ok-at-2.ensures.passes) (steps.after c.in_ok-from.ensures.read (steps.after (steps.passed refl refl c.in_ok-at-3.ensures.passes) (steps.after c.in_ok-to.ensures.read (steps.first c.in_err-by.ensures.read))))))) }
+
+pub statement::for_stmt-returns-in_err-at-4 : goal.statement::for_stmt-returns-in_err-at-4
+statement::for_stmt-returns-in_err-at-4 t c =
+    let p = err_from_is_err_and c.from_residual-in_err-at-4.result c.from_residual-in_err-at-4.ensures.1 in
+    record { read = rw (p.1, p.2) (steps.after (steps.opened refl c.in_ok-at.ensures.opened) (steps.after (c.in_ok-variable.ensures.read _) (steps.after (steps.passed refl refl c.in_ok-at-2.ensures.passes) (steps.after c.in_ok-from.ensures.read (steps.after (steps.passed refl refl c.in_ok-at-3.ensures.passes) (steps.after c.in_ok-to.ensures.read (steps.after c.in_ok-by.ensures.read (steps.first (c.in_err-at-4.ensures.passes _))))))))) }
+
+pub statement::for_stmt-returns-in_err-body : goal.statement::for_stmt-returns-in_err-body
+statement::for_stmt-returns-in_err-body t c =
+    let p = err_from_is_err_and c.from_residual-in_err-body.result c.from_residual-in_err-body.ensures.1 in
+    record { read = rw (p.1, p.2) (steps.after (steps.opened refl c.in_ok-at.ensures.opened) (steps.after (c.in_ok-variable.ensures.read _) (steps.after (steps.passed refl refl c.in_ok-at-2.ensures.passes) (steps.after c.in_ok-from.ensures.read (steps.after (steps.passed refl refl c.in_ok-at-3.ensures.passes) (steps.after c.in_ok-to.ensures.read (steps.after c.in_ok-by.ensures.read (steps.after (steps.passed refl refl c.in_ok-at-4.ensures.passes) (steps.first c.in_err-body.ensures.read))))))))) }
+
+pub statement::for_stmt-returns-in_err-at-5 : goal.statement::for_stmt-returns-in_err-at-5
+statement::for_stmt-returns-in_err-at-5 t c =
+    let p = err_from_is_err_and c.from_residual-in_err-at-5.result c.from_residual-in_err-at-5.ensures.1 in
+    record { read = rw (p.1, p.2) (steps.after (steps.opened refl c.in_ok-at.ensures.opened) (steps.after (c.in_ok-variable.ensures.read _) (steps.after (steps.passed refl refl c.in_ok-at-2.ensures.passes) (steps.after c.in_ok-from.ensures.read (steps.after (steps.passed refl refl c.in_ok-at-3.ensures.passes) (steps.after c.in_ok-to.ensures.read (steps.after c.in_ok-by.ensures.read (steps.after (steps.passed refl refl c.in_ok-at-4.ensures.passes) (steps.after c.in_ok-body.ensures.read (steps.first (c.in_err-at-5.ensures.passes _))))))))))) }
+
+pub statement::for_stmt-returns-in_err-node : goal.statement::for_stmt-returns-in_err-node
+statement::for_stmt-returns-in_err-node t c =
+    let p = err_from_is_err_and c.from_residual-in_err-node.result c.from_residual-in_err-node.ensures.1 in
+    record { read = rw (p.1, p.2, c.in_err-node.ensures.counted) steps.no_memory }
+
+pub statement::for_stmt-returns : goal.statement::for_stmt-returns
+statement::for_stmt-returns t c =
+    record { read = steps.same (ap spell_stmt (rows.for_laid c.in_ok-node.node c.in_ok-variable.variable c.in_ok-from.from c.in_ok-to.to c.in_ok-by.by c.in_ok-body.body))
+      (numbers.for_laid c.in_ok-node.node c.in_ok-variable.variable c.in_ok-from.from c.in_ok-to.to c.in_ok-by.by c.in_ok-body.body)
+      (steps.then (steps.opened refl c.in_ok-at.ensures.opened) (steps.then (c.in_ok-variable.ensures.read _) (steps.then (steps.passed refl refl c.in_ok-at-2.ensures.passes) (steps.then c.in_ok-from.ensures.read (steps.then (steps.passed refl refl c.in_ok-at-3.ensures.passes) (steps.then c.in_ok-to.ensures.read (steps.then c.in_ok-by.ensures.read (steps.then (steps.passed refl refl c.in_ok-at-4.ensures.passes) (steps.then c.in_ok-body.ensures.read (steps.then (steps.closed refl refl c.in_ok-at.ensures.opened c.in_ok-at-5.ensures.passes) (steps.counted c.in_ok-node.ensures.counted))))))))))) }
+
+pub statement::some_stmt-returns-in_err-at : goal.statement::some_stmt-returns-in_err-at
+statement::some_stmt-returns-in_err-at t c =
+    let p = err_from_is_err_and c.from_residual.result c.from_residual.ensures.1 in
+    record { read = rw (p.1, p.2) (steps.first c.in_err-at.ensures.opened) }
+
+pub statement::some_stmt-returns-in_err-variable : goal.statement::some_stmt-returns-in_err-variable
+statement::some_stmt-returns-in_err-variable t c =
+    let p = err_from_is_err_and c.from_residual-in_err-variable.result c.from_residual-in_err-variable.ensures.1 in
+    record { read = rw (p.1, p.2) (steps.after (steps.opened refl c.in_ok-at.ensures.opened) (steps.first (c.in_err-variable.ensures.read _))) }
+
+pub statement::some_stmt-returns-in_err-at-2 : goal.statement::some_stmt-returns-in_err-at-2
+statement::some_stmt-returns-in_err-at-2 t c =
+    let p = err_from_is_err_and c.from_residual-in_err-at-2.result c.from_residual-in_err-at-2.ensures.1 in
+    record { read = rw (p.1, p.2) (steps.after (steps.opened refl c.in_ok-at.ensures.opened) (steps.after (c.in_ok-variable.ensures.read _) (steps.first (c.in_err-at-2.ensures.passes _)))) }
+
+pub statement::some_stmt-returns-in_err-from : goal.statement::some_stmt-returns-in_err-from
+statement::some_stmt-returns-in_err-from t c =
+    let p = err_from_is_err_and c.from_residual-in_err-from.result c.from_residual-in_err-from.ensures.1 in
+    record { read = rw (p.1, p.2) (steps.after (steps.opened refl c.in_ok-at.ensures.opened) (steps.after (c.in_ok-variable.ensures.read _) (steps.after (steps.passed refl refl c.in_ok-at-2.ensures.passes) (steps.first c.in_err-from.ensures.read)))) }
+
+pub statement::some_stmt-returns-in_err-at-3 : goal.statement::some_stmt-returns-in_err-at-3
+statement::some_stmt-returns-in_err-at-3 t c =
+    let p = err_from_is_err_and c.from_residual-in_err-at-3.result c.from_residual-in_err-at-3.ensures.1 in
+    record { read = rw (p.1, p.2) (steps.after (steps.opened refl c.in_ok-at.ensures.opened) (steps.after (c.in_ok-variable.ensures.read _) (steps.after (steps.passed refl refl c.in_ok-at-2.ensures.passes) (steps.after c.in_ok-from.ensures.read (steps.first (c.in_err-at-3.ensures.passes _)))))) }
+
+pub statement::some_stmt-returns-in_err-to : goal.statement::some_stmt-returns-in_err-to
+statement::some_stmt-returns-in_err-to t c =
+    let p = err_from_is_err_and c.from_residual-in_err-to.result c.from_residual-in_err-to.ensures.1 in
+    record { read = rw (p.1, p.2) (steps.after (steps.opened refl c.in_ok-at.ensures.opened) (steps.after (c.in_ok-variable.ensures.read _) (steps.after (steps.passed refl refl c.in_ok-at-2.ensures.passes) (steps.after c.in_ok-from.ensures.read (steps.after (steps.passed refl refl c.in_ok-at-3.ensures.passes) (steps.first c.in_err-to.ensures.read)))))) }
+
+pub statement::some_stmt-returns-in_err-at-4 : goal.statement::some_stmt-returns-in_err-at-4
+statement::some_stmt-returns-in_err-at-4 t c =
+    let p = err_from_is_err_and c.from_residual-in_err-at-4.result c.from_residual-in_err-at-4.ensures.1 in
+    record { read = rw (p.1, p.2) (steps.after (steps.opened refl c.in_ok-at.ensures.opened) (steps.after (c.in_ok-variable.ensures.read _) (steps.after (steps.passed refl refl c.in_ok-at-2.ensures.passes) (steps.after c.in_ok-from.ensures.read (steps.after (steps.passed refl refl c.in_ok-at-3.ensures.passes) (steps.after c.in_ok-to.ensures.read (steps.first (c.in_err-at-4.ensures.passes _)))))))) }
+
+pub statement::some_stmt-returns-in_err-body : goal.statement::some_stmt-returns-in_err-body
+statement::some_stmt-returns-in_err-body t c =
+    let p = err_from_is_err_and c.from_residual-in_err-body.result c.from_residual-in_err-body.ensures.1 in
+    record { read = rw (p.1, p.2) (steps.after (steps.opened refl c.in_ok-at.ensures.opened) (steps.after (c.in_ok-variable.ensures.read _) (steps.after (steps.passed refl refl c.in_ok-at-2.ensures.passes) (steps.after c.in_ok-from.ensures.read (steps.after (steps.passed refl refl c.in_ok-at-3.ensures.passes) (steps.after c.in_ok-to.ensures.read (steps.after (steps.passed refl refl c.in_ok-at-4.ensures.passes) (steps.first c.in_err-body.ensures.read)))))))) }
+
+pub statement::some_stmt-returns-in_err-at-5 : goal.statement::some_stmt-returns-in_err-at-5
+statement::some_stmt-returns-in_err-at-5 t c =
+    let p = err_from_is_err_and c.from_residual-in_err-at-5.result c.from_residual-in_err-at-5.ensures.1 in
+    record { read = rw (p.1, p.2) (steps.after (steps.opened refl c.in_ok-at.ensures.opened) (steps.after (c.in_ok-variable.ensures.read _) (steps.after (steps.passed refl refl c.in_ok-at-2.ensures.passes) (steps.after c.in_ok-from.ensures.read (steps.after (steps.passed refl refl c.in_ok-at-3.ensures.passes) (steps.after c.in_ok-to.ensures.read (steps.after (steps.passed refl refl c.in_ok-at-4.ensures.passes) (steps.after c.in_ok-body.ensures.read (steps.first (c.in_err-at-5.ensures.passes _)))))))))) }
+
+pub statement::some_stmt-returns-in_err-node : goal.statement::some_stmt-returns-in_err-node
+statement::some_stmt-returns-in_err-node t c =
+    let p = err_from_is_err_and c.from_residual-in_err-node.result c.from_residual-in_err-node.ensures.1 in
+    record { read = rw (p.1, p.2, c.in_err-node.ensures.counted) steps.no_memory }
+
+pub statement::some_stmt-returns : goal.statement::some_stmt-returns
+statement::some_stmt-returns t c =
+    record { read = steps.same (ap spell_stmt (rows.some_laid c.in_ok-node.node c.in_ok-variable.variable c.in_ok-from.from c.in_ok-to.to c.in_ok-body.body))
+      (numbers.some_laid c.in_ok-node.node c.in_ok-variable.variable c.in_ok-from.from c.in_ok-to.to c.in_ok-body.body)
+      (steps.then (steps.opened refl c.in_ok-at.ensures.opened) (steps.then (c.in_ok-variable.ensures.read _) (steps.then (steps.passed refl refl c.in_ok-at-2.ensures.passes) (steps.then c.in_ok-from.ensures.read (steps.then (steps.passed refl refl c.in_ok-at-3.ensures.passes) (steps.then c.in_ok-to.ensures.read (steps.then (steps.passed refl refl c.in_ok-at-4.ensures.passes) (steps.then c.in_ok-body.ensures.read (steps.then (steps.closed refl refl c.in_ok-at.ensures.opened c.in_ok-at-5.ensures.passes) (steps.counted c.in_ok-node.ensures.counted)))))))))) }
+
+pub statement::case_stmt-returns-in_err-at : goal.statement::case_stmt-returns-in_err-at
+statement::case_stmt-returns-in_err-at t c =
+    let p = err_from_is_err_and c.from_residual.result c.from_residual.ensures.1 in
+    record { read = rw (p.1, p.2) (steps.first c.in_err-at.ensures.opened) }
+
+pub statement::case_stmt-returns-in_err-value : goal.statement::case_stmt-returns-in_err-value
+statement::case_stmt-returns-in_err-value t c =
+    let p = err_from_is_err_and c.from_residual-in_err-value.result c.from_residual-in_err-value.ensures.1 in
+    record { read = rw (p.1, p.2) (steps.after (steps.opened refl c.in_ok-at.ensures.opened) (steps.first c.in_err-value.ensures.read)) }
+
+pub statement::case_stmt-returns-in_err-at-2 : goal.statement::case_stmt-returns-in_err-at-2
+statement::case_stmt-returns-in_err-at-2 t c =
+    let p = err_from_is_err_and c.from_residual-in_err-at-2.result c.from_residual-in_err-at-2.ensures.1 in
+    record { read = rw (p.1, p.2) (steps.after (steps.opened refl c.in_ok-at.ensures.opened) (steps.after c.in_ok-value.ensures.read (steps.first (c.in_err-at-2.ensures.passes _)))) }
+
+pub statement::case_stmt-returns-in_err-first : goal.statement::case_stmt-returns-in_err-first
+statement::case_stmt-returns-in_err-first t c =
+    let p = err_from_is_err_and c.from_residual-in_err-first.result c.from_residual-in_err-first.ensures.1 in
+    record { read = rw (p.1, p.2) (steps.after (steps.opened refl c.in_ok-at.ensures.opened) (steps.after c.in_ok-value.ensures.read (steps.after (steps.passed refl refl c.in_ok-at-2.ensures.passes) (steps.first c.in_err-first.ensures.read)))) }
+
+pub statement::case_stmt-returns-in_err-more : goal.statement::case_stmt-returns-in_err-more
+statement::case_stmt-returns-in_err-more t c =
+    let p = err_from_is_err_and c.from_residual-in_err-more.result c.from_residual-in_err-more.ensures.1 in
+    record { read = rw (p.1, p.2) (steps.after (steps.opened refl c.in_ok-at.ensures.opened) (steps.after c.in_ok-value.ensures.read (steps.after (steps.passed refl refl c.in_ok-at-2.ensures.passes) (steps.after c.in_ok-first.ensures.read (steps.first c.in_err-more.ensures.read))))) }
+
+pub statement::case_stmt-returns-in_err-otherwise : goal.statement::case_stmt-returns-in_err-otherwise
+statement::case_stmt-returns-in_err-otherwise t c =
+    let p = err_from_is_err_and c.from_residual-in_err-otherwise.result c.from_residual-in_err-otherwise.ensures.1 in
+    record { read = rw (p.1, p.2) (steps.after (steps.opened refl c.in_ok-at.ensures.opened) (steps.after c.in_ok-value.ensures.read (steps.after (steps.passed refl refl c.in_ok-at-2.ensures.passes) (steps.after c.in_ok-first.ensures.read (steps.after c.in_ok-more.ensures.read (steps.first c.in_err-otherwise.ensures.read)))))) }
+
+pub statement::case_stmt-returns-in_err-at-3 : goal.statement::case_stmt-returns-in_err-at-3
+statement::case_stmt-returns-in_err-at-3 t c =
+    let p = err_from_is_err_and c.from_residual-in_err-at-3.result c.from_residual-in_err-at-3.ensures.1 in
+    record { read = rw (p.1, p.2) (steps.after (steps.opened refl c.in_ok-at.ensures.opened) (steps.after c.in_ok-value.ensures.read (steps.after (steps.passed refl refl c.in_ok-at-2.ensures.passes) (steps.after c.in_ok-first.ensures.read (steps.after c.in_ok-more.ensures.read (steps.after c.in_ok-otherwise.ensures.read (steps.first (c.in_err-at-3.ensures.passes _)))))))) }
+
+pub statement::case_stmt-returns-in_err-node : goal.statement::case_stmt-returns-in_err-node
+statement::case_stmt-returns-in_err-node t c =
+    let p = err_from_is_err_and c.from_residual-in_err-node.result c.from_residual-in_err-node.ensures.1 in
+    record { read = rw (p.1, p.2, c.in_err-node.ensures.counted) steps.no_memory }
+
+pub statement::case_stmt-returns : goal.statement::case_stmt-returns
+statement::case_stmt-returns t c =
+    record { read = steps.same (ap spell_stmt (rows.case_laid c.in_ok-node.node c.in_ok-value.value c.in_ok-first-2.first c.in_ok-more.more c.in_ok-otherwise.otherwise))
+      (numbers.case_laid c.in_ok-node.node c.in_ok-value.value c.in_ok-first-2.first c.in_ok-more.more c.in_ok-otherwise.otherwise)
+      (steps.then (steps.opened refl c.in_ok-at.ensures.opened) (steps.then c.in_ok-value.ensures.read (steps.then (steps.passed refl refl c.in_ok-at-2.ensures.passes) (steps.then (steps.replaced (λ v. spell_arm (view_arm v)) number_arm c.in_ok-first-2.ensures.ok c.in_ok-first.ensures.read) (steps.then c.in_ok-more.ensures.read (steps.then c.in_ok-otherwise.ensures.read (steps.then (steps.closed refl refl c.in_ok-at.ensures.opened c.in_ok-at-3.ensures.passes) (steps.counted c.in_ok-node.ensures.counted)))))))) }
+
+pub statement::either_stmt-returns-in_err-at : goal.statement::either_stmt-returns-in_err-at
+statement::either_stmt-returns-in_err-at t c =
+    let p = err_from_is_err_and c.from_residual.result c.from_residual.ensures.1 in
+    record { read = rw (p.1, p.2) (steps.first c.in_err-at.ensures.opened) }
+
+pub statement::either_stmt-returns-in_err-first : goal.statement::either_stmt-returns-in_err-first
+statement::either_stmt-returns-in_err-first t c =
+    let p = err_from_is_err_and c.from_residual-in_err-first.result c.from_residual-in_err-first.ensures.1 in
+    record { read = rw (p.1, p.2) (steps.after (steps.opened refl c.in_ok-at.ensures.opened) (steps.first c.in_err-first.ensures.read)) }
+
+pub statement::either_stmt-returns-in_err-more : goal.statement::either_stmt-returns-in_err-more
+statement::either_stmt-returns-in_err-more t c =
+    let p = err_from_is_err_and c.from_residual-in_err-more.result c.from_residual-in_err-more.ensures.1 in
+    record { read = rw (p.1, p.2) (steps.after (steps.opened refl c.in_ok-at.ensures.opened) (steps.after c.in_ok-first.ensures.read (steps.first c.in_err-more.ensures.read))) }
+
+pub statement::either_stmt-returns-in_err-at-2 : goal.statement::either_stmt-returns-in_err-at-2
+statement::either_stmt-returns-in_err-at-2 t c =
+    let p = err_from_is_err_and c.from_residual-in_err-at-2.result c.from_residual-in_err-at-2.ensures.1 in
+    record { read = rw (p.1, p.2) (steps.after (steps.opened refl c.in_ok-at.ensures.opened) (steps.after c.in_ok-first.ensures.read (steps.after c.in_ok-more.ensures.read (steps.first (c.in_err-at-2.ensures.passes _))))) }
+
+pub statement::either_stmt-returns-in_err-node : goal.statement::either_stmt-returns-in_err-node
+statement::either_stmt-returns-in_err-node t c =
+    let p = err_from_is_err_and c.from_residual-in_err-node.result c.from_residual-in_err-node.ensures.1 in
+    record { read = rw (p.1, p.2, c.in_err-node.ensures.counted) steps.no_memory }
+
+pub statement::either_stmt-returns : goal.statement::either_stmt-returns
+statement::either_stmt-returns t c =
+    record { read = steps.same (ap spell_stmt (rows.either_laid c.in_ok-node.node c.in_ok-first.first c.in_ok-more.more))
+      (numbers.either_laid c.in_ok-node.node c.in_ok-first.first c.in_ok-more.more)
+      (steps.then (steps.opened refl c.in_ok-at.ensures.opened) (steps.then c.in_ok-first.ensures.read (steps.then c.in_ok-more.ensures.read (steps.then (steps.closed refl refl c.in_ok-at.ensures.opened c.in_ok-at-2.ensures.passes) (steps.counted c.in_ok-node.ensures.counted))))) }
+
+pub statement::forall_stmt-returns-in_err-at : goal.statement::forall_stmt-returns-in_err-at
+statement::forall_stmt-returns-in_err-at t c =
+    let p = err_from_is_err_and c.from_residual.result c.from_residual.ensures.1 in
+    record { read = rw (p.1, p.2) (steps.first c.in_err-at.ensures.opened) }
+
+pub statement::forall_stmt-returns-in_err-choice : goal.statement::forall_stmt-returns-in_err-choice
+statement::forall_stmt-returns-in_err-choice t c =
+    let p = err_from_is_err_and c.from_residual-in_err-choice.result c.from_residual-in_err-choice.ensures.1 in
+    record { read = rw (p.1, p.2) (steps.after (steps.opened refl c.in_ok-at.ensures.opened) (steps.first c.in_err-choice.ensures.read)) }
+
+pub statement::forall_stmt-returns-in_err-at-2 : goal.statement::forall_stmt-returns-in_err-at-2
+statement::forall_stmt-returns-in_err-at-2 t c =
+    let p = err_from_is_err_and c.from_residual-in_err-at-2.result c.from_residual-in_err-at-2.ensures.1 in
+    record { read = rw (p.1, p.2) (steps.after (steps.opened refl c.in_ok-at.ensures.opened) (steps.after c.in_ok-choice.ensures.read (steps.first (c.in_err-at-2.ensures.passes _)))) }
+
+pub statement::forall_stmt-returns-in_err-body : goal.statement::forall_stmt-returns-in_err-body
+statement::forall_stmt-returns-in_err-body t c =
+    let p = err_from_is_err_and c.from_residual-in_err-body.result c.from_residual-in_err-body.ensures.1 in
+    record { read = rw (p.1, p.2) (steps.after (steps.opened refl c.in_ok-at.ensures.opened) (steps.after c.in_ok-choice.ensures.read (steps.after (steps.passed refl refl c.in_ok-at-2.ensures.passes) (steps.first c.in_err-body.ensures.read)))) }
+
+pub statement::forall_stmt-returns-in_err-at-3 : goal.statement::forall_stmt-returns-in_err-at-3
+statement::forall_stmt-returns-in_err-at-3 t c =
+    let p = err_from_is_err_and c.from_residual-in_err-at-3.result c.from_residual-in_err-at-3.ensures.1 in
+    record { read = rw (p.1, p.2) (steps.after (steps.opened refl c.in_ok-at.ensures.opened) (steps.after c.in_ok-choice.ensures.read (steps.after (steps.passed refl refl c.in_ok-at-2.ensures.passes) (steps.after c.in_ok-body.ensures.read (steps.first (c.in_err-at-3.ensures.passes _)))))) }
+
+pub statement::forall_stmt-returns-in_err-node : goal.statement::forall_stmt-returns-in_err-node
+statement::forall_stmt-returns-in_err-node t c =
+    let p = err_from_is_err_and c.from_residual-in_err-node.result c.from_residual-in_err-node.ensures.1 in
+    record { read = rw (p.1, p.2, c.in_err-node.ensures.counted) steps.no_memory }
+
+pub statement::forall_stmt-returns : goal.statement::forall_stmt-returns
+statement::forall_stmt-returns t c =
+    record { read = steps.same (ap spell_stmt (rows.forall_laid c.in_ok-node.node c.in_ok-choice.choice c.in_ok-body.body))
+      (numbers.forall_laid c.in_ok-node.node c.in_ok-choice.choice c.in_ok-body.body)
+      (steps.then (steps.opened refl c.in_ok-at.ensures.opened) (steps.then c.in_ok-choice.ensures.read (steps.then (steps.passed refl refl c.in_ok-at-2.ensures.passes) (steps.then c.in_ok-body.ensures.read (steps.then (steps.closed refl refl c.in_ok-at.ensures.opened c.in_ok-at-3.ensures.passes) (steps.counted c.in_ok-node.ensures.counted)))))) }
+
+pub statement::commit_stmt-returns-in_err-at : goal.statement::commit_stmt-returns-in_err-at
+statement::commit_stmt-returns-in_err-at t c =
+    let p = err_from_is_err_and c.from_residual.result c.from_residual.ensures.1 in
+    record { read = rw (p.1, p.2) (steps.first c.in_err-at.ensures.opened) }
+
+pub statement::commit_stmt-returns-in_err-body : goal.statement::commit_stmt-returns-in_err-body
+statement::commit_stmt-returns-in_err-body t c =
+    let p = err_from_is_err_and c.from_residual-in_err-body.result c.from_residual-in_err-body.ensures.1 in
+    record { read = rw (p.1, p.2) (steps.after (steps.opened refl c.in_ok-at.ensures.opened) (steps.first c.in_err-body.ensures.read)) }
+
+pub statement::commit_stmt-returns-in_err-at-2 : goal.statement::commit_stmt-returns-in_err-at-2
+statement::commit_stmt-returns-in_err-at-2 t c =
+    let p = err_from_is_err_and c.from_residual-in_err-at-2.result c.from_residual-in_err-at-2.ensures.1 in
+    record { read = rw (p.1, p.2) (steps.after (steps.opened refl c.in_ok-at.ensures.opened) (steps.after c.in_ok-body.ensures.read (steps.first (c.in_err-at-2.ensures.passes _)))) }
+
+pub statement::commit_stmt-returns-in_err-node : goal.statement::commit_stmt-returns-in_err-node
+statement::commit_stmt-returns-in_err-node t c =
+    let p = err_from_is_err_and c.from_residual-in_err-node.result c.from_residual-in_err-node.ensures.1 in
+    record { read = rw (p.1, p.2, c.in_err-node.ensures.counted) steps.no_memory }
+
+pub statement::commit_stmt-returns : goal.statement::commit_stmt-returns
+statement::commit_stmt-returns t c =
+    record { read = steps.same (ap spell_stmt (rows.commit_laid c.in_ok-node.node c.in_ok-body.body))
+      (numbers.commit_laid c.in_ok-node.node c.in_ok-body.body)
+      (steps.then (steps.opened refl c.in_ok-at.ensures.opened) (steps.then c.in_ok-body.ensures.read (steps.then (steps.closed refl refl c.in_ok-at.ensures.opened c.in_ok-at-2.ensures.passes) (steps.counted c.in_ok-node.ensures.counted)))) }
+
+pub statement::return_stmt-returns-in_err-at : goal.statement::return_stmt-returns-in_err-at
+statement::return_stmt-returns-in_err-at t c =
+    let p = err_from_is_err_and c.from_residual.result c.from_residual.ensures.1 in
+    record { read = rw (p.1, p.2) (steps.first (c.in_err-at.ensures.passes _)) }
+
+pub statement::return_stmt-returns-in_err-value : goal.statement::return_stmt-returns-in_err-value
+statement::return_stmt-returns-in_err-value t c =
+    let p = err_from_is_err_and c.from_residual-in_err-value.result c.from_residual-in_err-value.ensures.1 in
+    record { read = rw (p.1, p.2) (steps.after (steps.passed refl refl c.in_ok-at.ensures.passes) (steps.first c.in_err-value.ensures.read)) }
+
+pub statement::return_stmt-returns-in_err-node : goal.statement::return_stmt-returns-in_err-node
+statement::return_stmt-returns-in_err-node t c =
+    let p = err_from_is_err_and c.from_residual-in_err-node.result c.from_residual-in_err-node.ensures.1 in
+    record { read = rw (p.1, p.2, c.in_err-node.ensures.counted) steps.no_memory }
+
+pub statement::return_stmt-returns : goal.statement::return_stmt-returns
+statement::return_stmt-returns t c =
+    record { read = steps.same (ap spell_stmt (rows.return_laid c.in_ok-node.node c.in_ok-value.value))
+      (numbers.return_laid c.in_ok-node.node c.in_ok-value.value)
+      (steps.then (steps.passed refl refl c.in_ok-at.ensures.passes) (steps.then c.in_ok-value.ensures.read (steps.counted c.in_ok-node.ensures.counted))) }
+
+pub statement::read_stmt-returns-in_err-at : goal.statement::read_stmt-returns-in_err-at
+statement::read_stmt-returns-in_err-at t c =
+    let p = err_from_is_err_and c.from_residual.result c.from_residual.ensures.1 in
+    record { read = rw (p.1, p.2) (steps.first (c.in_err-at.ensures.passes _)) }
+
+pub statement::read_stmt-returns-in_err-at-2 : goal.statement::read_stmt-returns-in_err-at-2
+statement::read_stmt-returns-in_err-at-2 t c =
+    let p = err_from_is_err_and c.from_residual-in_err-at-2.result c.from_residual-in_err-at-2.ensures.1 in
+    record { read = rw (p.1, p.2) (steps.after (steps.passed refl refl c.in_ok-at.ensures.passes) (steps.first c.in_err-at-2.ensures.opened)) }
+
+pub statement::read_stmt-returns-in_err-first : goal.statement::read_stmt-returns-in_err-first
+statement::read_stmt-returns-in_err-first t c =
+    let p = err_from_is_err_and c.from_residual-in_err-first.result c.from_residual-in_err-first.ensures.1 in
+    record { read = rw (p.1, p.2) (steps.after (steps.passed refl refl c.in_ok-at.ensures.passes) (steps.after (steps.opened refl c.in_ok-at-2.ensures.opened) (steps.first c.in_err-first.ensures.read))) }
+
+pub statement::read_stmt-returns-in_err-more : goal.statement::read_stmt-returns-in_err-more
+statement::read_stmt-returns-in_err-more t c =
+    let p = err_from_is_err_and c.from_residual-in_err-more.result c.from_residual-in_err-more.ensures.1 in
+    record { read = rw (p.1, p.2) (steps.after (steps.passed refl refl c.in_ok-at.ensures.passes) (steps.after (steps.opened refl c.in_ok-at-2.ensures.opened) (steps.after c.in_ok-first.ensures.read (steps.first c.in_err-more.ensures.read)))) }
+
+pub statement::read_stmt-returns-in_err-at-3 : goal.statement::read_stmt-returns-in_err-at-3
+statement::read_stmt-returns-in_err-at-3 t c =
+    let p = err_from_is_err_and c.from_residual-in_err-at-3.result c.from_residual-in_err-at-3.ensures.1 in
+    record { read = rw (p.1, p.2) (steps.after (steps.passed refl refl c.in_ok-at.ensures.passes) (steps.after (steps.opened refl c.in_ok-at-2.ensures.opened) (steps.after c.in_ok-first.ensures.read (steps.after c.in_ok-more.ensures.read (steps.first (c.in_err-at-3.ensures.passes _)))))) }
+
+pub statement::read_stmt-returns-in_err-node : goal.statement::read_stmt-returns-in_err-node
+statement::read_stmt-returns-in_err-node t c =
+    let p = err_from_is_err_and c.from_residual-in_err-node.result c.from_residual-in_err-node.ensures.1 in
+    record { read = rw (p.1, p.2, c.in_err-node.ensures.counted) steps.no_memory }
+
+pub statement::read_stmt-returns : goal.statement::read_stmt-returns
+statement::read_stmt-returns t c =
+    record { read = steps.same (ap spell_stmt (rows.read_laid c.in_ok-node.node c.in_ok-first.first c.in_ok-more.more))
+      (numbers.read_laid c.in_ok-node.node c.in_ok-first.first c.in_ok-more.more)
+      (steps.then (steps.passed refl refl c.in_ok-at.ensures.passes) (steps.then (steps.opened refl c.in_ok-at-2.ensures.opened) (steps.then c.in_ok-first.ensures.read (steps.then c.in_ok-more.ensures.read (steps.then (steps.closed refl refl c.in_ok-at-2.ensures.opened c.in_ok-at-3.ensures.passes) (steps.counted c.in_ok-node.ensures.counted)))))) }
+
+pub statement::write_stmt-returns-in_err-at : goal.statement::write_stmt-returns-in_err-at
+statement::write_stmt-returns-in_err-at t c =
+    let p = err_from_is_err_and c.from_residual.result c.from_residual.ensures.1 in
+    record { read = rw (p.1, p.2) (steps.first (c.in_err-at.ensures.passes _)) }
+
+pub statement::write_stmt-returns-in_err-at-2 : goal.statement::write_stmt-returns-in_err-at-2
+statement::write_stmt-returns-in_err-at-2 t c =
+    let p = err_from_is_err_and c.from_residual-in_err-at-2.result c.from_residual-in_err-at-2.ensures.1 in
+    record { read = rw (p.1, p.2) (steps.after (steps.passed refl refl c.in_ok-at.ensures.passes) (steps.first c.in_err-at-2.ensures.opened)) }
+
+pub statement::write_stmt-returns-in_err-items : goal.statement::write_stmt-returns-in_err-items
+statement::write_stmt-returns-in_err-items t c =
+    let p = err_from_is_err_and c.from_residual-in_err-items.result c.from_residual-in_err-items.ensures.1 in
+    record { read = rw (p.1, p.2) (steps.after (steps.passed refl refl c.in_ok-at.ensures.passes) (steps.after (steps.opened refl c.in_ok-at-2.ensures.opened) (steps.first c.in_err-items.ensures.read))) }
+
+pub statement::write_stmt-returns-in_err-at-3 : goal.statement::write_stmt-returns-in_err-at-3
+statement::write_stmt-returns-in_err-at-3 t c =
+    let p = err_from_is_err_and c.from_residual-in_err-at-3.result c.from_residual-in_err-at-3.ensures.1 in
+    record { read = rw (p.1, p.2) (steps.after (steps.passed refl refl c.in_ok-at.ensures.passes) (steps.after (steps.opened refl c.in_ok-at-2.ensures.opened) (steps.after c.in_ok-items.ensures.read (steps.first (c.in_err-at-3.ensures.passes _))))) }
+
+pub statement::write_stmt-returns-in_err-node : goal.statement::write_stmt-returns-in_err-node
+statement::write_stmt-returns-in_err-node t c =
+    let p = err_from_is_err_and c.from_residual-in_err-node.result c.from_residual-in_err-node.ensures.1 in
+    record { read = rw (p.1, p.2, c.in_err-node.ensures.counted) steps.no_memory }
+
+pub statement::write_stmt-returns : goal.statement::write_stmt-returns
+statement::write_stmt-returns t c =
+    record { read = steps.then (steps.passed refl refl c.in_ok-at.ensures.passes) (steps.then (steps.opened refl c.in_ok-at-2.ensures.opened) (steps.then c.in_ok-items.ensures.read (steps.then (steps.closed refl refl c.in_ok-at-2.ensures.opened c.in_ok-at-3.ensures.passes) (steps.counted c.in_ok-node.ensures.counted)))) }
+
+pub statement::writeln_stmt-returns-in_err-at : goal.statement::writeln_stmt-returns-in_err-at
+statement::writeln_stmt-returns-in_err-at t c =
+    let p = err_from_is_err_and c.from_residual.result c.from_residual.ensures.1 in
+    record { read = rw (p.1, p.2) (steps.first (c.in_err-at.ensures.passes _)) }
+
+pub statement::writeln_stmt-returns-in_err-items : goal.statement::writeln_stmt-returns-in_err-items
+statement::writeln_stmt-returns-in_err-items t c =
+    let p = err_from_is_err_and c.from_residual-in_err-items.result c.from_residual-in_err-items.ensures.1 in
+    record { read = rw (p.1, p.2) (steps.after (steps.passed refl refl c.in_ok-at.ensures.passes) (steps.first c.in_err-items.ensures.read)) }
+
+pub statement::writeln_stmt-returns-in_err-node : goal.statement::writeln_stmt-returns-in_err-node
+statement::writeln_stmt-returns-in_err-node t c =
+    let p = err_from_is_err_and c.from_residual-in_err-node.result c.from_residual-in_err-node.ensures.1 in
+    record { read = rw (p.1, p.2, c.in_err-node.ensures.counted) steps.no_memory }
+
+pub statement::writeln_stmt-returns : goal.statement::writeln_stmt-returns
+statement::writeln_stmt-returns t c =
+    record { read = steps.same (ap spell_stmt (rows.writeln_laid c.in_ok-node.node c.in_ok-items.items))
+      (numbers.writeln_laid c.in_ok-node.node c.in_ok-items.items)
+      (steps.then (steps.passed refl refl c.in_ok-at.ensures.passes) (steps.then c.in_ok-items.ensures.read (steps.counted c.in_ok-node.ensures.counted))) }
+
+pub statement::value_stmt-returns-in_err-value : goal.statement::value_stmt-returns-in_err-value
+statement::value_stmt-returns-in_err-value t c =
+    let p = err_from_is_err_and c.from_residual.result c.from_residual.ensures.1 in
+    record { read = rw (p.1, p.2) (steps.first c.in_err-value.ensures.read) }
+
+pub statement::value_stmt-returns-in_err-node : goal.statement::value_stmt-returns-in_err-node
+statement::value_stmt-returns-in_err-node t c =
+    let p = err_from_is_err_and c.from_residual-in_err-node.result c.from_residual-in_err-node.ensures.1 in
+    record { read = rw (p.1, p.2, c.in_err-node.ensures.counted) steps.no_memory }
+
+pub statement::value_stmt-returns : goal.statement::value_stmt-returns
+statement::value_stmt-returns t c =
+    record { read = steps.then c.in_ok-value.ensures.read (steps.counted c.in_ok-node.ensures.counted) }
+
+pub statement::stmts-returns-in_err-first : goal.statement::stmts-returns-in_err-first
+statement::stmts-returns-in_err-first t c =
+    let p = err_from_is_err_and c.from_residual.result c.from_residual.ensures.1 in
+    record { read = rw (p.1, p.2) (steps.first c.in_err-first.ensures.read) }
+
+pub statement::stmts-returns-in_err-more : goal.statement::stmts-returns-in_err-more
+statement::stmts-returns-in_err-more t c =
+    let p = err_from_is_err_and c.from_residual-in_err-more.result c.from_residual-in_err-more.ensures.1 in
+    record { read = rw (p.1, p.2) (steps.after c.in_ok-first.ensures.read (steps.first c.in_err-more.ensures.read)) }
+
+pub statement::stmts-returns-in_err-node : goal.statement::stmts-returns-in_err-node
+statement::stmts-returns-in_err-node t c =
+    let p = err_from_is_err_and c.from_residual-in_err-node.result c.from_residual-in_err-node.ensures.1 in
+    record { read = rw (p.1, p.2, c.in_err-node.ensures.counted) steps.no_memory }
+
+pub statement::stmts-returns : goal.statement::stmts-returns
+statement::stmts-returns t c =
+    record { read = steps.then (steps.replaced (λ v. spell_stmt (view_stmt v)) number_stmt c.in_ok-first-2.ensures.ok c.in_ok-first.ensures.read) (steps.then c.in_ok-more.ensures.read (steps.counted c.in_ok-node.ensures.counted)) }
+
+pub statement::labelled_arm-returns-in_err-first : goal.statement::labelled_arm-returns-in_err-first
+statement::labelled_arm-returns-in_err-first t c =
+    let p = err_from_is_err_and c.from_residual.result c.from_residual.ensures.1 in
+    record { read = rw (p.1, p.2) (steps.first c.in_err-first.ensures.read) }
+
+pub statement::labelled_arm-returns-in_err-more : goal.statement::labelled_arm-returns-in_err-more
+statement::labelled_arm-returns-in_err-more t c =
+    let p = err_from_is_err_and c.from_residual-in_err-more.result c.from_residual-in_err-more.ensures.1 in
+    record { read = rw (p.1, p.2) (steps.after c.in_ok-first.ensures.read (steps.first c.in_err-more.ensures.read)) }
+
+pub statement::labelled_arm-returns-in_err-at : goal.statement::labelled_arm-returns-in_err-at
+statement::labelled_arm-returns-in_err-at t c =
+    let p = err_from_is_err_and c.from_residual-in_err-at.result c.from_residual-in_err-at.ensures.1 in
+    record { read = rw (p.1, p.2) (steps.after c.in_ok-first.ensures.read (steps.after c.in_ok-more.ensures.read (steps.first (c.in_err-at.ensures.passes _)))) }
+
+pub statement::labelled_arm-returns-in_err-body : goal.statement::labelled_arm-returns-in_err-body
+statement::labelled_arm-returns-in_err-body t c =
+    let p = err_from_is_err_and c.from_residual-in_err-body.result c.from_residual-in_err-body.ensures.1 in
+    record { read = rw (p.1, p.2) (steps.after c.in_ok-first.ensures.read (steps.after c.in_ok-more.ensures.read (steps.after (steps.passed refl refl c.in_ok-at.ensures.passes) (steps.first c.in_err-body.ensures.read)))) }
+
+pub statement::labelled_arm-returns-in_err-node : goal.statement::labelled_arm-returns-in_err-node
+statement::labelled_arm-returns-in_err-node t c =
+    let p = err_from_is_err_and c.from_residual-in_err-node.result c.from_residual-in_err-node.ensures.1 in
+    record { read = rw (p.1, p.2, c.in_err-node.ensures.counted) steps.no_memory }
+
+pub statement::labelled_arm-returns : goal.statement::labelled_arm-returns
+statement::labelled_arm-returns t c =
+    record { read = steps.same (ap spell_arm (rows.labelled_laid c.in_ok-node.node c.in_ok-first.first c.in_ok-more.more c.in_ok-body.body))
+      (numbers.labelled_laid c.in_ok-node.node c.in_ok-first.first c.in_ok-more.more c.in_ok-body.body)
+      (steps.then c.in_ok-first.ensures.read (steps.then c.in_ok-more.ensures.read (steps.then (steps.passed refl refl c.in_ok-at.ensures.passes) (steps.then c.in_ok-body.ensures.read (steps.counted c.in_ok-node.ensures.counted))))) }
+
+pub statement::label-returns-in_err-low : goal.statement::label-returns-in_err-low
+statement::label-returns-in_err-low t c =
+    let p = err_from_is_err_and c.from_residual.result c.from_residual.ensures.1 in
+    record { read = rw (p.1, p.2) (steps.first c.in_err-low.ensures.read) }
+
+pub statement::label-returns-in_err-high : goal.statement::label-returns-in_err-high
+statement::label-returns-in_err-high t c =
+    let p = err_from_is_err_and c.from_residual-in_err-high.result c.from_residual-in_err-high.ensures.1 in
+    record { read = rw (p.1, p.2) (steps.after c.in_ok-low.ensures.read (steps.first c.in_err-high.ensures.read)) }
+
+pub statement::label-returns-in_err-node : goal.statement::label-returns-in_err-node
+statement::label-returns-in_err-node t c =
+    let p = err_from_is_err_and c.from_residual-in_err-node.result c.from_residual-in_err-node.ensures.1 in
+    record { read = rw (p.1, p.2, c.in_err-node.ensures.counted) steps.no_memory }
+
+pub statement::label-returns : goal.statement::label-returns
+statement::label-returns t c =
+    record { read = steps.same (ap spell_label (rows.label_rolled (record { node = c.in_ok-node.node; low = c.in_ok-low.low; high = c.in_ok-high.high })))
+      (numbers.label_rolled (record { node = c.in_ok-node.node; low = c.in_ok-low.low; high = c.in_ok-high.high }))
+      (steps.then c.in_ok-low.ensures.read (steps.then c.in_ok-high.ensures.read (steps.counted c.in_ok-node.ensures.counted))) }
+
+pub expression::paren-returns-in_err-at : goal.expression::paren-returns-in_err-at
+expression::paren-returns-in_err-at t c =
+    let p = err_from_is_err_and c.from_residual.result c.from_residual.ensures.1 in
+    record { read = rw (p.1, p.2) (steps.first c.in_err-at.ensures.opened) }
+
+pub expression::paren-returns-in_err-body : goal.expression::paren-returns-in_err-body
+expression::paren-returns-in_err-body t c =
+    let p = err_from_is_err_and c.from_residual-in_err-body.result c.from_residual-in_err-body.ensures.1 in
+    record { read = rw (p.1, p.2) (steps.after (steps.opened refl c.in_ok-at.ensures.opened) (steps.first c.in_err-body.ensures.read)) }
+
+pub expression::paren-returns-in_err-at-2 : goal.expression::paren-returns-in_err-at-2
+expression::paren-returns-in_err-at-2 t c =
+    let p = err_from_is_err_and c.from_residual-in_err-at-2.result c.from_residual-in_err-at-2.ensures.1 in
+    record { read = rw (p.1, p.2) (steps.after (steps.opened refl c.in_ok-at.ensures.opened) (steps.after c.in_ok-body.ensures.read (steps.first (c.in_err-at-2.ensures.passes _)))) }
+
+pub expression::paren-returns-in_err-node : goal.expression::paren-returns-in_err-node
+expression::paren-returns-in_err-node t c =
+    let p = err_from_is_err_and c.from_residual-in_err-node.result c.from_residual-in_err-node.ensures.1 in
+    record { read = rw (p.1, p.2, c.in_err-node.ensures.counted) steps.no_memory }
+
+pub expression::paren-returns : goal.expression::paren-returns
+expression::paren-returns t c =
+    record { read = steps.same (ap spell_primary (rows.paren_laid c.in_ok-node.node c.in_ok-body-2.body))
+      (numbers.paren_laid c.in_ok-node.node c.in_ok-body-2.body)
+      (steps.then (steps.opened refl c.in_ok-at.ensures.opened) (steps.then (steps.replaced (λ v. spell_stmts (view_stmts v)) number_stmts c.in_ok-body-2.ensures.ok c.in_ok-body.ensures.read) (steps.then (steps.closed refl refl c.in_ok-at.ensures.opened c.in_ok-at-2.ensures.passes) (steps.counted c.in_ok-node.ensures.counted)))) }
+
+pub expression::known-returns-in_err-at : goal.expression::known-returns-in_err-at
+expression::known-returns-in_err-at t c =
+    let p = err_from_is_err_and c.from_residual.result c.from_residual.ensures.1 in
+    record { read = rw (p.1, p.2) (steps.first (c.in_err-at.ensures.passes _)) }
+
+pub expression::known-returns-in_err-at-2 : goal.expression::known-returns-in_err-at-2
+expression::known-returns-in_err-at-2 t c =
+    let p = err_from_is_err_and c.from_residual-in_err-at-2.result c.from_residual-in_err-at-2.ensures.1 in
+    record { read = rw (p.1, p.2) (steps.after (steps.passed refl refl c.in_ok-at.ensures.passes) (steps.first c.in_err-at-2.ensures.opened)) }
+
+pub expression::known-returns-in_err-desig : goal.expression::known-returns-in_err-desig
+expression::known-returns-in_err-desig t c =
+    let p = err_from_is_err_and c.from_residual-in_err-desig.result c.from_residual-in_err-desig.ensures.1 in
+    record { read = rw (p.1, p.2) (steps.after (steps.passed refl refl c.in_ok-at.ensures.passes) (steps.after (steps.opened refl c.in_ok-at-2.ensures.opened) (steps.first c.in_err-desig.ensures.read))) }
+
+pub expression::known-returns-in_err-at-3 : goal.expression::known-returns-in_err-at-3
+expression::known-returns-in_err-at-3 t c =
+    let p = err_from_is_err_and c.from_residual-in_err-at-3.result c.from_residual-in_err-at-3.ensures.1 in
+    record { read = rw (p.1, p.2) (steps.after (steps.passed refl refl c.in_ok-at.ensures.passes) (steps.after (steps.opened refl c.in_ok-at-2.ensures.opened) (steps.after c.in_ok-desig.ensures.read (steps.first (c.in_err-at-3.ensures.passes _))))) }
+
+pub expression::known-returns-in_err-node : goal.expression::known-returns-in_err-node
+expression::known-returns-in_err-node t c =
+    let p = err_from_is_err_and c.from_residual-in_err-node.result c.from_residual-in_err-node.ensures.1 in
+    record { read = rw (p.1, p.2, c.in_err-node.ensures.counted) steps.no_memory }
+
+pub expression::known-returns : goal.expression::known-returns
+expression::known-returns t c =
+    record { read = steps.same (ap spell_primary (rows.known_laid c.in_ok-node.node c.in_ok-desig.desig))
+      (numbers.known_laid c.in_ok-node.node c.in_ok-desig.desig)
+      (steps.then (steps.passed refl refl c.in_ok-at.ensures.passes) (steps.then (steps.opened refl c.in_ok-at-2.ensures.opened) (steps.then c.in_ok-desig.ensures.read (steps.then (steps.closed refl refl c.in_ok-at-2.ensures.opened c.in_ok-at-3.ensures.passes) (steps.counted c.in_ok-node.ensures.counted))))) }
+
+pub expression::ord-returns-in_err-at : goal.expression::ord-returns-in_err-at
+expression::ord-returns-in_err-at t c =
+    let p = err_from_is_err_and c.from_residual.result c.from_residual.ensures.1 in
+    record { read = rw (p.1, p.2) (steps.first (c.in_err-at.ensures.passes _)) }
+
+pub expression::ord-returns-in_err-at-2 : goal.expression::ord-returns-in_err-at-2
+expression::ord-returns-in_err-at-2 t c =
+    let p = err_from_is_err_and c.from_residual-in_err-at-2.result c.from_residual-in_err-at-2.ensures.1 in
+    record { read = rw (p.1, p.2) (steps.after (steps.passed refl refl c.in_ok-at.ensures.passes) (steps.first c.in_err-at-2.ensures.opened)) }
+
+pub expression::ord-returns-in_err-value : goal.expression::ord-returns-in_err-value
+expression::ord-returns-in_err-value t c =
+    let p = err_from_is_err_and c.from_residual-in_err-value.result c.from_residual-in_err-value.ensures.1 in
+    record { read = rw (p.1, p.2) (steps.after (steps.passed refl refl c.in_ok-at.ensures.passes) (steps.after (steps.opened refl c.in_ok-at-2.ensures.opened) (steps.first c.in_err-value.ensures.read))) }
+
+pub expression::ord-returns-in_err-at-3 : goal.expression::ord-returns-in_err-at-3
+expression::ord-returns-in_err-at-3 t c =
+    let p = err_from_is_err_and c.from_residual-in_err-at-3.result c.from_residual-in_err-at-3.ensures.1 in
+    record { read = rw (p.1, p.2) (steps.after (steps.passed refl refl c.in_ok-at.ensures.passes) (steps.after (steps.opened refl c.in_ok-at-2.ensures.opened) (steps.after c.in_ok-value.ensures.read (steps.first (c.in_err-at-3.ensures.passes _))))) }
+
+pub expression::ord-returns-in_err-node : goal.expression::ord-returns-in_err-node
+expression::ord-returns-in_err-node t c =
+    let p = err_from_is_err_and c.from_residual-in_err-node.result c.from_residual-in_err-node.ensures.1 in
+    record { read = rw (p.1, p.2, c.in_err-node.ensures.counted) steps.no_memory }
+
+pub expression::ord-returns : goal.expression::ord-returns
+expression::ord-returns t c =
+    record { read = steps.same (ap spell_primary (rows.ord_laid c.in_ok-node.node c.in_ok-value-2.value))
+      refl
+      (steps.then (steps.passed refl refl c.in_ok-at.ensures.passes) (steps.then (steps.opened refl c.in_ok-at-2.ensures.opened) (steps.then (steps.replaced (λ v. spell_expr (view_expr v)) number_expr c.in_ok-value-2.ensures.ok c.in_ok-value.ensures.read) (steps.then (steps.closed refl refl c.in_ok-at-2.ensures.opened c.in_ok-at-3.ensures.passes) (steps.counted c.in_ok-node.ensures.counted))))) }
+
+pub expression::chr-returns-in_err-at : goal.expression::chr-returns-in_err-at
+expression::chr-returns-in_err-at t c =
+    let p = err_from_is_err_and c.from_residual.result c.from_residual.ensures.1 in
+    record { read = rw (p.1, p.2) (steps.first (c.in_err-at.ensures.passes _)) }
+
+pub expression::chr-returns-in_err-at-2 : goal.expression::chr-returns-in_err-at-2
+expression::chr-returns-in_err-at-2 t c =
+    let p = err_from_is_err_and c.from_residual-in_err-at-2.result c.from_residual-in_err-at-2.ensures.1 in
+    record { read = rw (p.1, p.2) (steps.after (steps.passed refl refl c.in_ok-at.ensures.passes) (steps.first c.in_err-at-2.ensures.opened)) }
+
+pub expression::chr-returns-in_err-value : goal.expression::chr-returns-in_err-value
+expression::chr-returns-in_err-value t c =
+    let p = err_from_is_err_and c.from_residual-in_err-value.result c.from_residual-in_err-value.ensures.1 in
+    record { read = rw (p.1, p.2) (steps.after (steps.passed refl refl c.in_ok-at.ensures.passes) (steps.after (steps.opened refl c.in_ok-at-2.ensures.opened) (steps.first c.in_err-value.ensures.read))) }
+
+pub expression::chr-returns-in_err-at-3 : goal.expression::chr-returns-in_err-at-3
+expression::chr-returns-in_err-at-3 t c =
+    let p = err_from_is_err_and c.from_residual-in_err-at-3.result c.from_residual-in_err-at-3.ensures.1 in
+    record { read = rw (p.1, p.2) (steps.after (steps.passed refl refl c.in_ok-at.ensures.passes) (steps.after (steps.opened refl c.in_ok-at-2.ensures.opened) (steps.after c.in_ok-value.ensures.read (steps.first (c.in_err-at-3.ensures.passes _))))) }
+
+pub expression::chr-returns-in_err-node : goal.expression::chr-returns-in_err-node
+expression::chr-returns-in_err-node t c =
+    let p = err_from_is_err_and c.from_residual-in_err-node.result c.from_residual-in_err-node.ensures.1 in
+    record { read = rw (p.1, p.2, c.in_err-node.ensures.counted) steps.no_memory }
+
+pub expression::chr-returns : goal.expression::chr-returns
+expression::chr-returns t c =
+    record { read = steps.same (ap spell_primary (rows.chr_laid c.in_ok-node.node c.in_ok-value-2.value))
+      refl
+      (steps.then (steps.passed refl refl c.in_ok-at.ensures.passes) (steps.then (steps.opened refl c.in_ok-at-2.ensures.opened) (steps.then (steps.replaced (λ v. spell_expr (view_expr v)) number_expr c.in_ok-value-2.ensures.ok c.in_ok-value.ensures.read) (steps.then (steps.closed refl refl c.in_ok-at-2.ensures.opened c.in_ok-at-3.ensures.passes) (steps.counted c.in_ok-node.ensures.counted))))) }
+
+pub expression::exprs-returns-in_err-first : goal.expression::exprs-returns-in_err-first
+expression::exprs-returns-in_err-first t c =
+    let p = err_from_is_err_and c.from_residual.result c.from_residual.ensures.1 in
+    record { read = rw (p.1, p.2) (steps.first c.in_err-first.ensures.read) }
+
+pub expression::exprs-returns-in_err-more : goal.expression::exprs-returns-in_err-more
+expression::exprs-returns-in_err-more t c =
+    let p = err_from_is_err_and c.from_residual-in_err-more.result c.from_residual-in_err-more.ensures.1 in
+    record { read = rw (p.1, p.2) (steps.after c.in_ok-first.ensures.read (steps.first c.in_err-more.ensures.read)) }
+
+pub expression::exprs-returns : goal.expression::exprs-returns
+expression::exprs-returns t c =
+    record { read = steps.same (ap spell_exprs (rows.exprs_rolled (record { first = c.in_ok-first-2.first; more = c.in_ok-more.more })))
+      (numbers.exprs_rolled (record { first = c.in_ok-first-2.first; more = c.in_ok-more.more }))
+      (steps.then (steps.replaced (λ v. spell_expr (view_expr v)) number_expr c.in_ok-first-2.ensures.ok c.in_ok-first.ensures.read) c.in_ok-more.ensures.read) }
+
+pub expression::desig-returns-in_err-name : goal.expression::desig-returns-in_err-name
+expression::desig-returns-in_err-name t c =
+    let p = err_from_is_err_and c.from_residual.result c.from_residual.ensures.1 in
+    record { read = rw (p.1, p.2) (steps.first (c.in_err-name.ensures.read _)) }
+
+pub expression::desig-returns-in_err-more : goal.expression::desig-returns-in_err-more
+expression::desig-returns-in_err-more t c =
+    let p = err_from_is_err_and c.from_residual-in_err-more.result c.from_residual-in_err-more.ensures.1 in
+    record { read = rw (p.1, p.2) (steps.after (c.in_ok-name.ensures.read _) (steps.first c.in_err-more.ensures.read)) }
+
+pub expression::desig-returns-in_err-node : goal.expression::desig-returns-in_err-node
+expression::desig-returns-in_err-node t c =
+    let p = err_from_is_err_and c.from_residual-in_err-node.result c.from_residual-in_err-node.ensures.1 in
+    record { read = rw (p.1, p.2, c.in_err-node.ensures.counted) steps.no_memory }
+
+pub expression::desig-returns : goal.expression::desig-returns
+expression::desig-returns t c =
+    record { read = steps.then (c.in_ok-name.ensures.read _) (steps.then c.in_ok-more.ensures.read (steps.counted c.in_ok-node.ensures.counted)) }
+
+pub expression::index-returns-in_err-at-clause-read : goal.expression::index-returns-in_err-at-clause-read
+expression::index-returns-in_err-at-clause-read t c =
+    let p = err_from_is_err_and c.from_residual.result c.from_residual.ensures.1 in
+    rw (p.1, p.2) (steps.first c.in_err-at.ensures.opened)
+
+pub expression::index-returns-in_err-indices-clause-read : goal.expression::index-returns-in_err-indices-clause-read
+expression::index-returns-in_err-indices-clause-read t c =
+    let p = err_from_is_err_and c.from_residual-in_err-indices.result c.from_residual-in_err-indices.ensures.1 in
+    rw (p.1, p.2) (steps.after (steps.opened refl c.in_ok-at.ensures.opened) (steps.first c.in_err-indices.ensures.read))
+
+pub expression::index-returns-in_err-at-2-clause-read : goal.expression::index-returns-in_err-at-2-clause-read
+expression::index-returns-in_err-at-2-clause-read t c =
+    let p = err_from_is_err_and c.from_residual-in_err-at-2.result c.from_residual-in_err-at-2.ensures.1 in
+    rw (p.1, p.2) (steps.after (steps.opened refl c.in_ok-at.ensures.opened) (steps.after c.in_ok-indices.ensures.read (steps.first (c.in_err-at-2.ensures.passes _))))
+
+pub expression::index-returns-in_err-node-clause-read : goal.expression::index-returns-in_err-node-clause-read
+expression::index-returns-in_err-node-clause-read t c =
+    let p = err_from_is_err_and c.from_residual-in_err-node.result c.from_residual-in_err-node.ensures.1 in
+    rw (p.1, p.2, c.in_err-node.ensures.counted) steps.no_memory
+
+pub expression::index-returns-clause-read : goal.expression::index-returns-clause-read
+expression::index-returns-clause-read t c =
+    steps.then (steps.opened refl c.in_ok-at.ensures.opened) (steps.then c.in_ok-indices.ensures.read (steps.then (steps.closed refl refl c.in_ok-at.ensures.opened c.in_ok-at-2.ensures.passes) (steps.counted c.in_ok-node.ensures.counted)))
+
+pub expression::expr_from-returns-in_err-right : goal.expression::expr_from-returns-in_err-right
+expression::expr_from-returns-in_err-right t c =
+    let p = err_from_is_err_and c.from_residual.result c.from_residual.ensures.1 in
+    record { read = rw (p.1, p.2) (steps.first c.in_err-right.ensures.read) }
+
+pub expression::expr_from-returns-in_err-node : goal.expression::expr_from-returns-in_err-node
+expression::expr_from-returns-in_err-node t c =
+    let p = err_from_is_err_and c.from_residual-in_err-node.result c.from_residual-in_err-node.ensures.1 in
+    record { read = rw (p.1, p.2, c.in_err-node.ensures.counted) steps.no_memory }
+
+pub expression::expr_from-returns : goal.expression::expr_from-returns
+expression::expr_from-returns t c =
+    record { read = steps.extending (ap spell_expr (rows.expr_rolled (record { node = c.in_ok-node.node; left = c.args.left; right = c.in_ok-right.right })))
+      (numbers.expr_rolled (record { node = c.in_ok-node.node; left = c.args.left; right = c.in_ok-right.right }))
+      (steps.then c.in_ok-right.ensures.read (steps.counted c.in_ok-node.ensures.counted)) }
+
+pub expression::term_from-returns-in_err-more : goal.expression::term_from-returns-in_err-more
+expression::term_from-returns-in_err-more t c =
+    let p = err_from_is_err_and c.from_residual.result c.from_residual.ensures.1 in
+    record { read = rw (p.1, p.2) (steps.first c.in_err-more.ensures.read) }
+
+pub expression::term_from-returns-in_err-node : goal.expression::term_from-returns-in_err-node
+expression::term_from-returns-in_err-node t c =
+    let p = err_from_is_err_and c.from_residual-in_err-node.result c.from_residual-in_err-node.ensures.1 in
+    record { read = rw (p.1, p.2, c.in_err-node.ensures.counted) steps.no_memory }
+
+pub expression::term_from-returns : goal.expression::term_from-returns
+expression::term_from-returns t c =
+    record { read = steps.extending (ap spell_term (rows.term_rolled (record { node = c.in_ok-node.node; first = c.args.first; more = c.in_ok-more.more })))
+      (numbers.term_rolled (record { node = c.in_ok-node.node; first = c.args.first; more = c.in_ok-more.more }))
+      (steps.then c.in_ok-more.ensures.read (steps.counted c.in_ok-node.ensures.counted)) }
+
+pub expression::named-returns-in_err-args : goal.expression::named-returns-in_err-args
+expression::named-returns-in_err-args t c =
+    let p = err_from_is_err_and c.from_residual.result c.from_residual.ensures.1 in
+    record { read = rw (p.1, p.2) (steps.first c.in_err-args.ensures.read) }
+
+pub expression::named-returns-in_err-node : goal.expression::named-returns-in_err-node
+expression::named-returns-in_err-node t c =
+    let p = err_from_is_err_and c.from_residual-in_err-node.result c.from_residual-in_err-node.ensures.1 in
+    record { read = rw (p.1, p.2, c.in_err-node.ensures.counted) steps.no_memory }
+
+pub expression::named-returns : goal.expression::named-returns
+expression::named-returns t c =
+    record { read = steps.extending (ap spell_primary (rows.named_laid c.in_ok-node.node c.args.desig c.in_ok-args.args))
+      (numbers.named_laid c.in_ok-node.node c.args.desig c.in_ok-args.args)
+      (steps.then c.in_ok-args.ensures.read (steps.counted c.in_ok-node.ensures.counted)) }
+
+pub statement::assign-returns-in_err-at : goal.statement::assign-returns-in_err-at
+statement::assign-returns-in_err-at t c =
+    let p = err_from_is_err_and c.from_residual.result c.from_residual.ensures.1 in
+    record { read = rw (p.1, p.2) (steps.first (c.in_err-at.ensures.passes _)) }
+
+pub statement::assign-returns-in_err-value : goal.statement::assign-returns-in_err-value
+statement::assign-returns-in_err-value t c =
+    let p = err_from_is_err_and c.from_residual-in_err-value.result c.from_residual-in_err-value.ensures.1 in
+    record { read = rw (p.1, p.2) (steps.after (steps.passed refl refl c.in_ok-at.ensures.passes) (steps.first c.in_err-value.ensures.read)) }
+
+pub statement::assign-returns-in_err-node : goal.statement::assign-returns-in_err-node
+statement::assign-returns-in_err-node t c =
+    let p = err_from_is_err_and c.from_residual-in_err-node.result c.from_residual-in_err-node.ensures.1 in
+    record { read = rw (p.1, p.2, c.in_err-node.ensures.counted) steps.no_memory }
+
+pub statement::assign-returns : goal.statement::assign-returns
+statement::assign-returns t c =
+    record { read = steps.extending (ap spell_stmt (rows.assign_laid c.in_ok-node.node c.args.target c.in_ok-value.value))
+      (numbers.assign_laid c.in_ok-node.node c.args.target c.in_ok-value.value)
+      (steps.then (steps.passed refl refl c.in_ok-at.ensures.passes) (steps.then c.in_ok-value.ensures.read (steps.counted c.in_ok-node.ensures.counted))) }
+
+pub expression::simple_from-returns-in_err-more : goal.expression::simple_from-returns-in_err-more
+expression::simple_from-returns-in_err-more t c =
+    let p = err_from_is_err_and c.from_residual.result c.from_residual.ensures.1 in
+    record { read = rw (p.1, p.2) (steps.first c.in_err-more.ensures.read) }
+
+pub expression::simple_from-returns-in_err-node : goal.expression::simple_from-returns-in_err-node
+expression::simple_from-returns-in_err-node t c =
+    let p = err_from_is_err_and c.from_residual-in_err-node.result c.from_residual-in_err-node.ensures.1 in
+    record { read = rw (p.1, p.2, c.in_err-node.ensures.counted) steps.no_memory }
+
+pub expression::simple_from-returns : goal.expression::simple_from-returns
+expression::simple_from-returns t c =
+    record { read = steps.extending (ap spell_simple (rows.simple_rolled (record { node = c.in_ok-node.node; sign = c.args.sign; first = c.in_ok-first.first; more = c.in_ok-more.more }))
+      ∙ ap (λ v r. spell_sign c.args.sign (spell_term (view_term v) (spell_term_tail (terms_of c.in_ok-more.more.items) r))) c.in_ok-first.ensures.ok)
+      (numbers.simple_rolled (record { node = c.in_ok-node.node; sign = c.args.sign; first = c.in_ok-first.first; more = c.in_ok-more.more })
+      ∙ ap (λ v. number_sign c.args.sign >> number_term v >> numbers_of_terms c.in_ok-more.more.items >> node c.in_ok-node.node) c.in_ok-first.ensures.ok
+      ∙ sym (grouped (number_sign c.args.sign) (number_term c.args.first) (numbers_of_terms c.in_ok-more.more.items >> node c.in_ok-node.node)))
+      (steps.then c.in_ok-more.ensures.read (steps.counted c.in_ok-node.ensures.counted)) }
+
+pub expression::expr-returns-in_err-left : goal.expression::expr-returns-in_err-left
+expression::expr-returns-in_err-left t c =
+    let p = err_from_is_err_and c.from_residual.result c.from_residual.ensures.1 in
+    record { read = rw (p.1, p.2) (steps.first c.in_err-left.ensures.read) }
+
+pub expression::expr-returns : goal.expression::expr-returns
+expression::expr-returns t c =
+    record { read = steps.extended c.expr_from.result (λ v. spell_expr (view_expr v)) number_expr (λ o. compared_part ∷ o) c.in_ok-left.ensures.read c.expr_from.ensures.read }
+
+pub expression::simple-returns-in_err-first : goal.expression::simple-returns-in_err-first
+expression::simple-returns-in_err-first t c =
+    let p = err_from_is_err_and c.from_residual.result c.from_residual.ensures.1 in
+    record { read = rw (p.1, p.2) (steps.after (c.sign.ensures.read _) (steps.first c.in_err-first.ensures.read)) }
+
+pub expression::simple-returns : goal.expression::simple-returns
+expression::simple-returns t c =
+    record { read = steps.extended c.simple_from.result (λ v. spell_simple (view_simple v)) number_simple (λ o. term_tail ∷ o)
+      (steps.then (c.sign.ensures.read _) c.in_ok-first.ensures.read) c.simple_from.ensures.read }
+
+pub expression::term-returns-in_err-first : goal.expression::term-returns-in_err-first
+expression::term-returns-in_err-first t c =
+    let p = err_from_is_err_and c.from_residual.result c.from_residual.ensures.1 in
+    record { read = rw (p.1, p.2) (steps.first c.in_err-first.ensures.read) }
+
+pub expression::term-returns : goal.expression::term-returns
+expression::term-returns t c =
+    record { read = steps.extended c.term_from.result (λ v. spell_term (view_term v)) number_term (λ o. factor_tail ∷ o) c.in_ok-first.ensures.read c.term_from.ensures.read }
+
+pub expression::desig_value-returns-in_err-primary : goal.expression::desig_value-returns-in_err-primary
+expression::desig_value-returns-in_err-primary t c =
+    let p = err_from_is_err_and c.from_residual.result c.from_residual.ensures.1 in
+    record { read = rw (p.1, p.2) (steps.first c.in_err-primary.ensures.read) }
+
+pub expression::desig_value-returns-in_err-node : goal.expression::desig_value-returns-in_err-node
+expression::desig_value-returns-in_err-node t c =
+    let p = err_from_is_err_and c.from_residual-in_err-node.result c.from_residual-in_err-node.ensures.1 in
+    record { read = rw (p.1, p.2, c.in_err-node.ensures.counted) steps.no_memory }
+
+pub expression::desig_value-returns-in_err-first : goal.expression::desig_value-returns-in_err-first
+expression::desig_value-returns-in_err-first t c =
+    let p = err_from_is_err_and c.from_residual-in_err-first.result c.from_residual-in_err-first.ensures.1 in
+    record { read = rw (p.1, p.2) (steps.beyond (steps.twice c.in_ok-primary.ensures.read (steps.extending refl refl (steps.counted c.in_ok-node.ensures.counted))) (steps.first c.in_err-first.ensures.read)) }
+
+pub expression::desig_value-returns-in_err-left : goal.expression::desig_value-returns-in_err-left
+expression::desig_value-returns-in_err-left t c =
+    let p = err_from_is_err_and c.from_residual-in_err-left.result c.from_residual-in_err-left.ensures.1 in
+    record { read = rw (p.1, p.2) (steps.beyond (steps.twice c.in_ok-primary.ensures.read (steps.twice (steps.extending refl refl (steps.counted c.in_ok-node.ensures.counted)) c.in_ok-first.ensures.read)) (steps.first c.in_err-left.ensures.read)) }
+
+pub expression::desig_value-returns : goal.expression::desig_value-returns
+expression::desig_value-returns t c =
+    record { read = steps.extended_twice c.expr_from.result (λ v. spell_expr (view_expr v)) number_expr (λ o. compared_part ∷ o)
+      (steps.twice c.in_ok-primary.ensures.read (steps.twice (steps.extending refl refl (steps.counted c.in_ok-node.ensures.counted)) (steps.twice c.in_ok-first.ensures.read c.in_ok-left.ensures.read))) c.expr_from.ensures.read }
+
+pub expression::compared-returns-in_default : goal.expression::compared-returns-in_default
+expression::compared-returns-in_default t c =
+    record { read = steps.skipped c.in_default.ensures.passes }
+
+pub expression::compared-returns-in_err-right : goal.expression::compared-returns-in_err-right
+expression::compared-returns-in_err-right t c =
+    let p = err_from_is_err_and c.from_residual.result c.from_residual.ensures.1 in
+    record { read = rw (p.1, p.2) (steps.becoming_fails (heads.begins_relation c.in-Some.relation c.in-Some.ensures.passes) (steps.after (steps.passed (heads.relation_opens c.in-Some.relation) (heads.relation_closes c.in-Some.relation) c.in-Some.ensures.passes) (steps.first c.in_err-right.ensures.read))) }
+
+pub expression::compared-returns : goal.expression::compared-returns
+expression::compared-returns t c =
+    record { read = steps.becoming (heads.begins_relation c.in-Some.relation c.in-Some.ensures.passes) (steps.same
+      (ap (λ v. spell_compared (tree.compared (dc.out-Compared v).relation (view_simple (dc.out-Compared v).right))) c.in_ok-compared.ensures.ok
+        ∙ ap (λ o. spell_compared (tree.compared o.relation (view_simple o.right))) (dc.out-roll-Compared (record { relation = c.in-Some.relation; right = c.in_ok-right.right })))
+      (ap (λ v. token >> number_simple (dc.out-Compared v).right) c.in_ok-compared.ensures.ok
+        ∙ ap (λ o. token >> number_simple o.right) (dc.out-roll-Compared (record { relation = c.in-Some.relation; right = c.in_ok-right.right })))
+      (steps.then (steps.passed (heads.relation_opens c.in-Some.relation) (heads.relation_closes c.in-Some.relation) c.in-Some.ensures.passes) c.in_ok-right.ensures.read)) }
+
+pub expression::expr_list-loop-after-init : goal.expression::expr_list-loop-after-init
+expression::expr_list-loop-after-init t c = rw c.new.ensures.items loops.loops_start
+
+pub expression::expr_list-loop-after-preserved : goal.expression::expr_list-loop-after-preserved
+expression::expr_list-loop-after-preserved t c =
+    rw c.in_ok-push.ensures.items (loops.turned (lists.exprs_spelled c.loop-after.more.items c.in_ok-next.next) (lists.exprs_numbered c.loop-after.more.items c.in_ok-next.next)
+      c.loop-after.invariant (heads.begins_exprs c.in-Some.ensures.passes) (steps.then (steps.passed refl refl c.in-Some.ensures.passes) c.in_ok-next.ensures.read))
+
+pub expression::expr_list-returns-in_err-next : goal.expression::expr_list-returns-in_err-next
+expression::expr_list-returns-in_err-next t c =
+    let p = err_from_is_err_and c.from_residual.result c.from_residual.ensures.1 in
+    record { read = rw (p.1, p.2) (loops.in_turn c.loop-after.invariant (heads.begins_exprs c.in-Some.ensures.passes) (steps.after (steps.passed refl refl c.in-Some.ensures.passes) c.in_err-next.ensures.read)) }
+
+pub expression::expr_list-returns : goal.expression::expr_list-returns
+expression::expr_list-returns t c =
+    record { read = loops.loops_end c.loop-after.invariant (heads.skips_exprs _ c.in_default.ensures.passes) }
+
+pub statement::stmt_list-loop-after-init : goal.statement::stmt_list-loop-after-init
+statement::stmt_list-loop-after-init t c = rw c.new.ensures.items loops.loops_start
+
+pub statement::stmt_list-loop-after-preserved : goal.statement::stmt_list-loop-after-preserved
+statement::stmt_list-loop-after-preserved t c =
+    rw c.in_ok-push.ensures.items (loops.turned (lists.stmts_spelled c.loop-after.more.items c.in_ok-next.next) (lists.stmts_numbered c.loop-after.more.items c.in_ok-next.next)
+      c.loop-after.invariant (heads.begins_stmts c.in-Some.ensures.passes) (steps.then (steps.passed refl refl c.in-Some.ensures.passes) c.in_ok-next.ensures.read))
+
+pub statement::stmt_list-returns-in_err-next : goal.statement::stmt_list-returns-in_err-next
+statement::stmt_list-returns-in_err-next t c =
+    let p = err_from_is_err_and c.from_residual.result c.from_residual.ensures.1 in
+    record { read = rw (p.1, p.2) (loops.in_turn c.loop-after.invariant (heads.begins_stmts c.in-Some.ensures.passes) (steps.after (steps.passed refl refl c.in-Some.ensures.passes) c.in_err-next.ensures.read)) }
+
+pub statement::stmt_list-returns : goal.statement::stmt_list-returns
+statement::stmt_list-returns t c =
+    record { read = loops.loops_end c.loop-after.invariant (heads.skips_stmts _ c.in_default.ensures.passes) }
+
+pub statement::arm_list-loop-after-init : goal.statement::arm_list-loop-after-init
+statement::arm_list-loop-after-init t c = rw c.new.ensures.items loops.loops_start
+
+pub statement::arm_list-loop-after-preserved : goal.statement::arm_list-loop-after-preserved
+statement::arm_list-loop-after-preserved t c =
+    rw c.in_ok-push.ensures.items (loops.turned (lists.arms_spelled c.loop-after.more.items c.in_ok-next.next) (lists.arms_numbered c.loop-after.more.items c.in_ok-next.next)
+      c.loop-after.invariant (heads.begins_arms c.in-Some.ensures.passes) (steps.then (steps.passed refl refl c.in-Some.ensures.passes) c.in_ok-next.ensures.read))
+
+pub statement::arm_list-returns-in_err-next : goal.statement::arm_list-returns-in_err-next
+statement::arm_list-returns-in_err-next t c =
+    let p = err_from_is_err_and c.from_residual.result c.from_residual.ensures.1 in
+    record { read = rw (p.1, p.2) (loops.in_turn c.loop-after.invariant (heads.begins_arms c.in-Some.ensures.passes) (steps.after (steps.passed refl refl c.in-Some.ensures.passes) c.in_err-next.ensures.read)) }
+
+pub statement::arm_list-returns : goal.statement::arm_list-returns
+statement::arm_list-returns t c =
+    record { read = loops.loops_end c.loop-after.invariant (heads.skips_arms _ c.in_default.ensures.passes) }
+
+pub statement::label_list-loop-after-init : goal.statement::label_list-loop-after-init
+statement::label_list-loop-after-init t c = rw c.new.ensures.items loops.loops_start
+
+pub statement::label_list-loop-after-preserved : goal.statement::label_list-loop-after-preserved
+statement::label_list-loop-after-preserved t c =
+    rw c.in_ok-push.ensures.items (loops.turned (lists.labels_spelled c.loop-after.more.items c.in_ok-next.next) (lists.labels_numbered c.loop-after.more.items c.in_ok-next.next)
+      c.loop-after.invariant (heads.begins_labels c.in-Some.ensures.passes) (steps.then (steps.passed refl refl c.in-Some.ensures.passes) c.in_ok-next.ensures.read))
+
+pub statement::label_list-returns-in_err-next : goal.statement::label_list-returns-in_err-next
+statement::label_list-returns-in_err-next t c =
+    let p = err_from_is_err_and c.from_residual.result c.from_residual.ensures.1 in
+    record { read = rw (p.1, p.2) (loops.in_turn c.loop-after.invariant (heads.begins_labels c.in-Some.ensures.passes) (steps.after (steps.passed refl refl c.in-Some.ensures.passes) c.in_err-next.ensures.read)) }
+
+pub statement::label_list-returns : goal.statement::label_list-returns
+statement::label_list-returns t c =
+    record { read = loops.loops_end c.loop-after.invariant (heads.skips_labels _ c.in_default.ensures.passes) }
+
+pub statement::orelse_list-loop-after-init : goal.statement::orelse_list-loop-after-init
+statement::orelse_list-loop-after-init t c = rw c.new.ensures.items loops.loops_start
+
+pub statement::orelse_list-loop-after-preserved : goal.statement::orelse_list-loop-after-preserved
+statement::orelse_list-loop-after-preserved t c =
+    rw c.in_ok-push.ensures.items (loops.turned (lists.orelses_spelled c.loop-after.more.items c.in_ok-next.next) (lists.orelses_numbered c.loop-after.more.items c.in_ok-next.next)
+      c.loop-after.invariant (heads.begins_orelses c.in-Some.ensures.passes) (steps.then (steps.passed refl refl c.in-Some.ensures.passes) c.in_ok-next.ensures.read))
+
+pub statement::orelse_list-returns-in_err-next : goal.statement::orelse_list-returns-in_err-next
+statement::orelse_list-returns-in_err-next t c =
+    let p = err_from_is_err_and c.from_residual.result c.from_residual.ensures.1 in
+    record { read = rw (p.1, p.2) (loops.in_turn c.loop-after.invariant (heads.begins_orelses c.in-Some.ensures.passes) (steps.after (steps.passed refl refl c.in-Some.ensures.passes) c.in_err-next.ensures.read)) }
+
+pub statement::orelse_list-returns : goal.statement::orelse_list-returns
+statement::orelse_list-returns t c =
+    record { read = loops.loops_end c.loop-after.invariant (heads.skips_orelses _ c.in_default.ensures.passes) }
+
+pub statement::desig_list-loop-after-init : goal.statement::desig_list-loop-after-init
+statement::desig_list-loop-after-init t c = rw c.new.ensures.items loops.loops_start
+
+pub statement::desig_list-loop-after-preserved : goal.statement::desig_list-loop-after-preserved
+statement::desig_list-loop-after-preserved t c =
+    rw c.in_ok-push.ensures.items (loops.turned (lists.desigs_spelled c.loop-after.more.items c.in_ok-next.next) (lists.desigs_numbered c.loop-after.more.items c.in_ok-next.next)
+      c.loop-after.invariant (heads.begins_desigs c.in-Some.ensures.passes) (steps.then (steps.passed refl refl c.in-Some.ensures.passes) c.in_ok-next.ensures.read))
+
+pub statement::desig_list-returns-in_err-next : goal.statement::desig_list-returns-in_err-next
+statement::desig_list-returns-in_err-next t c =
+    let p = err_from_is_err_and c.from_residual.result c.from_residual.ensures.1 in
+    record { read = rw (p.1, p.2) (loops.in_turn c.loop-after.invariant (heads.begins_desigs c.in-Some.ensures.passes) (steps.after (steps.passed refl refl c.in-Some.ensures.passes) c.in_err-next.ensures.read)) }
+
+pub statement::desig_list-returns : goal.statement::desig_list-returns
+statement::desig_list-returns t c =
+    record { read = loops.loops_end c.loop-after.invariant (heads.skips_desigs _ c.in_default.ensures.passes) }
+
+pub expression::terms-loop-operator-init : goal.expression::terms-loop-operator-init
+expression::terms-loop-operator-init t c = rw c.new.ensures.items loops.loops_start
+
+pub expression::terms-loop-operator-preserved : goal.expression::terms-loop-operator-preserved
+expression::terms-loop-operator-preserved t c =
+    rw c.in_ok-push.ensures.items (loops.turned (lists.terms_spelled_rolled c.loop-operator.more.items (record { operator = c.in-Some.operator; operand = c.in_ok-operand.operand })) (lists.terms_numbered_rolled c.loop-operator.more.items (record { operator = c.in-Some.operator; operand = c.in_ok-operand.operand }))
+      c.loop-operator.invariant (heads.begins_add c.in-Some.operator c.in-Some.ensures.passes) (steps.then (steps.passed (heads.add_opens c.in-Some.operator) (heads.add_closes c.in-Some.operator) c.in-Some.ensures.passes) c.in_ok-operand.ensures.read))
+
+pub expression::terms-returns-in_err-operand : goal.expression::terms-returns-in_err-operand
+expression::terms-returns-in_err-operand t c =
+    let p = err_from_is_err_and c.from_residual.result c.from_residual.ensures.1 in
+    record { read = rw (p.1, p.2) (loops.in_turn c.loop-operator.invariant (heads.begins_add c.in-Some.operator c.in-Some.ensures.passes) (steps.after (steps.passed (heads.add_opens c.in-Some.operator) (heads.add_closes c.in-Some.operator) c.in-Some.ensures.passes) c.in_err-operand.ensures.read)) }
+
+pub expression::terms-returns : goal.expression::terms-returns
+expression::terms-returns t c =
+    record { read = loops.loops_end c.loop-operator.invariant c.in_default.ensures.passes }
+
+pub expression::factors-loop-operator-init : goal.expression::factors-loop-operator-init
+expression::factors-loop-operator-init t c = rw c.new.ensures.items loops.loops_start
+
+pub expression::factors-loop-operator-preserved : goal.expression::factors-loop-operator-preserved
+expression::factors-loop-operator-preserved t c =
+    rw c.in_ok-push.ensures.items (loops.turned (lists.factors_spelled c.loop-operator.more.items (record { operator = c.in-Some.operator; operand = c.in_ok-operand.operand })) (lists.factors_numbered c.loop-operator.more.items (record { operator = c.in-Some.operator; operand = c.in_ok-operand.operand }))
+      c.loop-operator.invariant (heads.begins_mul c.in-Some.operator c.in-Some.ensures.passes) (steps.then (steps.passed (heads.mul_opens c.in-Some.operator) (heads.mul_closes c.in-Some.operator) c.in-Some.ensures.passes) c.in_ok-operand.ensures.read))
+
+pub expression::factors-returns-in_err-operand : goal.expression::factors-returns-in_err-operand
+expression::factors-returns-in_err-operand t c =
+    let p = err_from_is_err_and c.from_residual.result c.from_residual.ensures.1 in
+    record { read = rw (p.1, p.2) (loops.in_turn c.loop-operator.invariant (heads.begins_mul c.in-Some.operator c.in-Some.ensures.passes) (steps.after (steps.passed (heads.mul_opens c.in-Some.operator) (heads.mul_closes c.in-Some.operator) c.in-Some.ensures.passes) c.in_err-operand.ensures.read)) }
+
+pub expression::factors-returns : goal.expression::factors-returns
+expression::factors-returns t c =
+    record { read = loops.loops_end c.loop-operator.invariant c.in_default.ensures.passes }
+
+pub expression::selectors-loop-form-init : goal.expression::selectors-loop-form-init
+expression::selectors-loop-form-init t c = rw c.new.ensures.items loops.loops_start
+
+pub expression::selectors-loop-form-preserved : goal.expression::selectors-loop-form-preserved
+expression::selectors-loop-form-preserved t c =
+    rw c.in_ok-push.ensures.items (loops.turned (lists.selectors_spelled c.loop-form.more.items c.in_ok-next.next) (lists.selectors_numbered c.loop-form.more.items c.in_ok-next.next)
+      c.loop-form.invariant c.in-Some.ensures.becomes c.in_ok-next.ensures.read)
+
+pub expression::selectors-returns-in_err-next : goal.expression::selectors-returns-in_err-next
+expression::selectors-returns-in_err-next t c =
+    let p = err_from_is_err_and c.from_residual.result c.from_residual.ensures.1 in
+    record { read = rw (p.1, p.2) (loops.in_turn c.loop-form.invariant c.in-Some.ensures.becomes c.in_err-next.ensures.read) }
+
+pub expression::selectors-returns : goal.expression::selectors-returns
+expression::selectors-returns t c =
+    record { read = loops.loops_end c.loop-form.invariant c.in_default.ensures.becomes }
+
+pub statement::elsif_list-loop-after-init : goal.statement::elsif_list-loop-after-init
+statement::elsif_list-loop-after-init t c = rw c.new.ensures.items loops.loops_start
+
+pub statement::elsif_list-loop-after-preserved : goal.statement::elsif_list-loop-after-preserved
+statement::elsif_list-loop-after-preserved t c =
+    rw c.in_ok-push.ensures.items (loops.turned (lists.elsifs_spelled_rolled c.loop-after.more.items (record { test = c.in_ok-test.test; then = c.in_ok-then.then })) (lists.elsifs_numbered_rolled c.loop-after.more.items (record { test = c.in_ok-test.test; then = c.in_ok-then.then }))
+      c.loop-after.invariant (heads.begins_elsifs c.in-Some.ensures.passes) (steps.then (steps.passed refl refl c.in-Some.ensures.passes) (steps.then c.in_ok-test.ensures.read (steps.then (steps.passed refl refl c.in_ok-after.ensures.passes) c.in_ok-then.ensures.read))))
+
+pub statement::elsif_list-returns-in_err-test : goal.statement::elsif_list-returns-in_err-test
+statement::elsif_list-returns-in_err-test t c =
+    let p = err_from_is_err_and c.from_residual.result c.from_residual.ensures.1 in
+    record { read = rw (p.1, p.2) (loops.in_turn c.loop-after.invariant (heads.begins_elsifs c.in-Some.ensures.passes) (steps.after (steps.passed refl refl c.in-Some.ensures.passes) (steps.first {q = λ o. one kinds.Then ∷ stmts_parts o} c.in_err-test.ensures.read))) }
+
+pub statement::elsif_list-returns-in_err-after : goal.statement::elsif_list-returns-in_err-after
+statement::elsif_list-returns-in_err-after t c =
+    let p = err_from_is_err_and c.from_residual-in_err-after.result c.from_residual-in_err-after.ensures.1 in
+    record { read = rw (p.1, p.2) (loops.in_turn c.loop-after.invariant (heads.begins_elsifs c.in-Some.ensures.passes) (steps.after (steps.passed refl refl c.in-Some.ensures.passes) (steps.after c.in_ok-test.ensures.read (steps.first {q = stmts_parts} (c.in_err-after.ensures.passes _))))) }
+
+pub statement::elsif_list-returns-in_err-then : goal.statement::elsif_list-returns-in_err-then
+statement::elsif_list-returns-in_err-then t c =
+    let p = err_from_is_err_and c.from_residual-in_err-then.result c.from_residual-in_err-then.ensures.1 in
+    record { read = rw (p.1, p.2) (loops.in_turn c.loop-after.invariant (heads.begins_elsifs c.in-Some.ensures.passes) (steps.after (steps.passed refl refl c.in-Some.ensures.passes) (steps.after c.in_ok-test.ensures.read (steps.after (steps.passed refl refl c.in_ok-after.ensures.passes) c.in_err-then.ensures.read)))) }
+
+pub statement::elsif_list-returns : goal.statement::elsif_list-returns
+statement::elsif_list-returns t c =
+    record { read = loops.loops_end c.loop-after.invariant (heads.skips_elsifs _ c.in_default.ensures.passes) }
+
+pub statement::otherwise-returns-in_default : goal.statement::otherwise-returns-in_default
+statement::otherwise-returns-in_default t c =
+    record { read = steps.skipped (heads.skips_else _ c.in_default.ensures.passes) }
+
+pub statement::otherwise-returns-in_err-value : goal.statement::otherwise-returns-in_err-value
+statement::otherwise-returns-in_err-value t c =
+    let p = err_from_is_err_and c.from_residual.result c.from_residual.ensures.1 in
+    record { read = rw (p.1, p.2) (steps.becoming_fails (heads.begins_else c.in-Some.ensures.passes) (steps.after (steps.passed refl refl c.in-Some.ensures.passes) (steps.first c.in_err-value.ensures.read))) }
+
+pub statement::otherwise-returns : goal.statement::otherwise-returns
+statement::otherwise-returns t c =
+    record { read = steps.becoming (heads.begins_else c.in-Some.ensures.passes) (steps.then (steps.passed refl refl c.in-Some.ensures.passes) c.in_ok-value.ensures.read) }
+
+pub statement::step-returns-in_default : goal.statement::step-returns-in_default
+statement::step-returns-in_default t c =
+    record { read = steps.skipped (heads.skips_by _ c.in_default.ensures.passes) }
+
+pub statement::step-returns-in_err-value : goal.statement::step-returns-in_err-value
+statement::step-returns-in_err-value t c =
+    let p = err_from_is_err_and c.from_residual.result c.from_residual.ensures.1 in
+    record { read = rw (p.1, p.2) (steps.becoming_fails (heads.begins_by c.in-Some.ensures.passes) (steps.after (steps.passed refl refl c.in-Some.ensures.passes) (steps.first c.in_err-value.ensures.read))) }
+
+pub statement::step-returns : goal.statement::step-returns
+statement::step-returns t c =
+    record { read = steps.becoming (heads.begins_by c.in-Some.ensures.passes) (steps.then (steps.passed refl refl c.in-Some.ensures.passes) c.in_ok-value.ensures.read) }
+
+pub statement::high-returns-in_default : goal.statement::high-returns-in_default
+statement::high-returns-in_default t c =
+    record { read = steps.skipped (heads.skips_high _ c.in_default.ensures.passes) }
+
+pub statement::high-returns-in_err-value : goal.statement::high-returns-in_err-value
+statement::high-returns-in_err-value t c =
+    let p = err_from_is_err_and c.from_residual.result c.from_residual.ensures.1 in
+    record { read = rw (p.1, p.2) (steps.becoming_fails (heads.begins_high c.in-Some.ensures.passes) (steps.after (steps.passed refl refl c.in-Some.ensures.passes) (steps.first c.in_err-value.ensures.read))) }
+
+pub statement::high-returns : goal.statement::high-returns
+statement::high-returns t c =
+    record { read = steps.becoming (heads.begins_high c.in-Some.ensures.passes) (steps.then (steps.passed refl refl c.in-Some.ensures.passes) c.in_ok-value.ensures.read) }
+
+pub expression::factor-returns-in_err-primary : goal.expression::factor-returns-in_err-primary
+expression::factor-returns-in_err-primary t c =
+    let p = err_from_is_err_and c.from_residual.result c.from_residual.ensures.1 in
+    record { read = rw (p.1, p.2) (steps.becoming_fails (heads.begins_not c.in-Some.ensures.passes) (steps.after (steps.passed refl refl c.in-Some.ensures.passes) (steps.first c.in_err-primary.ensures.read))) }
+
+pub expression::factor-returns-in_err-node : goal.expression::factor-returns-in_err-node
+expression::factor-returns-in_err-node t c =
+    let p = err_from_is_err_and c.from_residual-in_err-node.result c.from_residual-in_err-node.ensures.1 in
+    record { read = rw (p.1, p.2, c.in_err-node.ensures.counted) steps.no_memory }
+
+pub expression::factor-returns-in-Some : goal.expression::factor-returns-in-Some
+expression::factor-returns-in-Some t c =
+    record { read = steps.becoming (heads.begins_not c.in-Some.ensures.passes) (steps.then (steps.passed refl refl c.in-Some.ensures.passes) (steps.then c.in_ok-primary.ensures.read (steps.counted c.in_ok-node.ensures.counted))) }
+
+pub expression::factor-returns-in_err-primary-2 : goal.expression::factor-returns-in_err-primary-2
+expression::factor-returns-in_err-primary-2 t c =
+    let p = err_from_is_err_and c.from_residual-in_err-primary-2.result c.from_residual-in_err-primary-2.ensures.1 in
+    record { read = rw (p.1, p.2) (steps.becoming_fails (heads.no_not _ c.in_default.ensures.passes) (steps.first c.in_err-primary-2.ensures.read)) }
+
+pub expression::factor-returns-in_err-node-2 : goal.expression::factor-returns-in_err-node-2
+expression::factor-returns-in_err-node-2 t c =
+    let p = err_from_is_err_and c.from_residual-in_err-node-2.result c.from_residual-in_err-node-2.ensures.1 in
+    record { read = rw (p.1, p.2, c.in_err-node-2.ensures.counted) steps.no_memory }
+
+pub expression::factor-returns : goal.expression::factor-returns
+expression::factor-returns t c =
+    record { read = steps.becoming (heads.no_not _ c.in_default.ensures.passes) (steps.then c.in_ok-primary-2.ensures.read (steps.counted c.in_ok-node-2.ensures.counted)) }
+
+pub expression::args-returns-in_err-at : goal.expression::args-returns-in_err-at
+expression::args-returns-in_err-at t c =
+    let p = err_from_is_err_and c.from_residual.result c.from_residual.ensures.1 in
+    record { read = rw (p.1, p.2) (steps.becoming_fails (heads.at_args _ (sym c.is_at.ensures.starts ∙ c.if-is_at.true)) (steps.first c.in_err-at.ensures.opened)) }
+
+pub expression::args-returns-in_err-values : goal.expression::args-returns-in_err-values
+expression::args-returns-in_err-values t c =
+    let p = err_from_is_err_and c.from_residual-in_err-values.result c.from_residual-in_err-values.ensures.1 in
+    record { read = rw (p.1, p.2) (steps.becoming_fails (heads.at_args _ (sym c.is_at.ensures.starts ∙ c.if-is_at.true)) (steps.after (steps.opened refl c.in_ok-at.ensures.opened) (steps.first c.in_err-values.ensures.read))) }
+
+pub expression::args-returns-then-is_at : goal.expression::args-returns-then-is_at
+expression::args-returns-then-is_at t c =
+    record { read = steps.becoming (heads.at_args _ (sym c.is_at.ensures.starts ∙ c.if-is_at.true)) (lists.args_made c.in_ok-values.values (steps.then (steps.opened refl c.in_ok-at.ensures.opened) (steps.shallower c.in_ok-at.ensures.opened c.in_ok-values.ensures.read))) }
+
+pub expression::args-returns : goal.expression::args-returns
+expression::args-returns t c =
+    record { read = steps.skipped (heads.skips_args _ (sym c.is_at.ensures.starts ∙ c.if-is_at.false)) }
+
+pub expression::args_values-returns-in-Some : goal.expression::args_values-returns-in-Some
+expression::args_values-returns-in-Some t c =
+    record { read = steps.becoming (heads.begins_args_end c.in-Some.ensures.passes) (steps.closed_any refl refl c.in-Some.ensures.passes) }
+
+pub expression::args_values-returns-in_err-values : goal.expression::args_values-returns-in_err-values
+expression::args_values-returns-in_err-values t c =
+    let p = err_from_is_err_and c.from_residual.result c.from_residual.ensures.1 in
+    record { read = rw (p.1, p.2) (steps.becoming_fails (heads.some_args _ c.in_default.ensures.passes) (steps.first c.in_err-values.ensures.read)) }
+
+pub expression::args_values-returns-in_err-at : goal.expression::args_values-returns-in_err-at
+expression::args_values-returns-in_err-at t c =
+    let p = err_from_is_err_and c.from_residual-in_err-at.result c.from_residual-in_err-at.ensures.1 in
+    record { read = rw (p.1, p.2) (steps.becoming_fails (heads.some_args _ c.in_default.ensures.passes) (steps.after c.in_ok-values.ensures.read (steps.first (c.in_err-at.ensures.passes _)))) }
+
+pub expression::args_values-returns : goal.expression::args_values-returns
+expression::args_values-returns t c =
+    record { read = steps.becoming (heads.some_args _ c.in_default.ensures.passes) (steps.then c.in_ok-values.ensures.read (steps.closed_any refl refl c.in_ok-at.ensures.passes)) }
+
+pub expression::primary-returns-in_err-primary_form : goal.expression::primary-returns-in_err-primary_form
+expression::primary-returns-in_err-primary_form t c =
+    let p = err_from_is_err_and c.from_residual.result c.from_residual.ensures.1 in
+    record { read = rw (p.1, p.2) (c.in_err-primary_form.ensures.becomes _) }
+
+pub expression::primary-returns-in-Number : goal.expression::primary-returns-in-Number
+expression::primary-returns-in-Number t c =
+    record { read = steps.instead_any c.number.result (λ v. spell_primary (view_primary v)) number_primary (λ o. primary_part ∷ o) (λ o. one kinds.Number ∷ o) c.args.depth _ (rw c.in-Number.is at c.in_ok-primary_form.ensures.becomes) c.number.ensures.read }
+
+pub expression::primary-returns-in-Literal : goal.expression::primary-returns-in-Literal
+expression::primary-returns-in-Literal t c =
+    record { read = steps.instead_any c.literal.result (λ v. spell_primary (view_primary v)) number_primary (λ o. primary_part ∷ o) (λ o. one kinds.Literal ∷ o) c.args.depth _ (rw c.in-Literal.is at c.in_ok-primary_form.ensures.becomes) c.literal.ensures.read }
+
+pub expression::primary-returns-in-Paren : goal.expression::primary-returns-in-Paren
+expression::primary-returns-in-Paren t c =
+    record { read = steps.instead c.paren.result (λ v. spell_primary (view_primary v)) number_primary (λ o. primary_part ∷ o) forms.paren_parts c.args.depth _ (rw c.in-Paren.is at c.in_ok-primary_form.ensures.becomes) c.paren.ensures.read }
+
+pub expression::primary-returns-in-Known : goal.expression::primary-returns-in-Known
+expression::primary-returns-in-Known t c =
+    record { read = steps.instead c.known.result (λ v. spell_primary (view_primary v)) number_primary (λ o. primary_part ∷ o) forms.known_parts c.args.depth _ (rw c.in-Known.is at c.in_ok-primary_form.ensures.becomes) c.known.ensures.read }
+
+pub expression::primary-returns-in-Ord : goal.expression::primary-returns-in-Ord
+expression::primary-returns-in-Ord t c =
+    record { read = steps.instead c.ord.result (λ v. spell_primary (view_primary v)) number_primary (λ o. primary_part ∷ o) forms.ord_parts c.args.depth _ (rw c.in-Ord.is at c.in_ok-primary_form.ensures.becomes) c.ord.ensures.read }
+
+pub expression::primary-returns-in-Chr : goal.expression::primary-returns-in-Chr
+expression::primary-returns-in-Chr t c =
+    record { read = steps.instead c.chr.result (λ v. spell_primary (view_primary v)) number_primary (λ o. primary_part ∷ o) forms.chr_parts c.args.depth _ (rw c.in-Chr.is at c.in_ok-primary_form.ensures.becomes) c.chr.ensures.read }
+
+pub expression::primary-returns-in_err-desig-in-Desig : goal.expression::primary-returns-in_err-desig-in-Desig
+expression::primary-returns-in_err-desig-in-Desig t c =
+    let p = err_from_is_err_and c.from_residual-in_err-desig.result c.from_residual-in_err-desig.ensures.1 in
+    record { read = rw (p.1, p.2) (steps.becoming_fails (rw c.in-Desig.is at c.in_ok-primary_form.ensures.becomes) (steps.first c.in_err-desig.ensures.read)) }
+
+pub expression::primary-returns-in_ok-desig-in-Desig : goal.expression::primary-returns-in_ok-desig-in-Desig
+expression::primary-returns-in_ok-desig-in-Desig t c =
+    record { read = steps.instead c.named.result (λ v. spell_primary (view_primary v)) number_primary (λ o. primary_part ∷ o) (λ o. desig_parts (args_part ∷ o)) c.args.depth _ (rw c.in-Desig.is at c.in_ok-primary_form.ensures.becomes)
+      (steps.extended c.named.result (λ v. spell_primary (view_primary v)) number_primary (λ o. args_part ∷ o) c.in_ok-desig.ensures.read c.named.ensures.read) }
+
+pub expression::selector-returns-in-Field-clause-read : goal.expression::selector-returns-in-Field-clause-read
+expression::selector-returns-in-Field-clause-read t c =
+    rw c.in-Field.is (steps.instead_any c.field.result (λ v. spell_selector (view_selector v)) number_selector forms.field_parts forms.field_parts c.args.depth _ (record { becomes = λ d o. refl }) c.field.ensures.read)
+
+pub expression::selector-returns-in-Index-clause-read : goal.expression::selector-returns-in-Index-clause-read
+expression::selector-returns-in-Index-clause-read t c =
+    rw c.in-Index.is c.index.ensures.read
+
+pub statement::stmt-returns-in-Nothing : goal.statement::stmt-returns-in-Nothing
+statement::stmt-returns-in-Nothing t c =
+    record { read = steps.instead_any c.nothing.result (λ v. spell_stmt (view_stmt v)) number_stmt (λ o. stmt_part ∷ o) (λ o. o) c.args.depth _ (rw c.in-Nothing.is at c.stmt_form.ensures.becomes) c.nothing.ensures.read }
+
+pub statement::stmt-returns-in-Desig : goal.statement::stmt-returns-in-Desig
+statement::stmt-returns-in-Desig t c =
+    record { read = steps.instead c.desig_stmt.result (λ v. spell_stmt (view_stmt v)) number_stmt (λ o. stmt_part ∷ o) forms.desig_stmt_parts c.args.depth _ (rw c.in-Desig.is at c.stmt_form.ensures.becomes) c.desig_stmt.ensures.read }
+
+pub statement::stmt-returns-in-Value : goal.statement::stmt-returns-in-Value
+statement::stmt-returns-in-Value t c =
+    record { read = steps.instead c.value_stmt.result (λ v. spell_stmt (view_stmt v)) number_stmt (λ o. stmt_part ∷ o) expr_parts c.args.depth _ (rw c.in-Value.is at c.stmt_form.ensures.becomes) c.value_stmt.ensures.read }
+
+pub statement::stmt-returns-in-If : goal.statement::stmt-returns-in-If
+statement::stmt-returns-in-If t c =
+    record { read = steps.instead c.if_stmt.result (λ v. spell_stmt (view_stmt v)) number_stmt (λ o. stmt_part ∷ o) forms.if_parts c.args.depth _ (rw c.in-If.is at c.stmt_form.ensures.becomes) c.if_stmt.ensures.read }
+
+pub statement::stmt-returns-in-While : goal.statement::stmt-returns-in-While
+statement::stmt-returns-in-While t c =
+    record { read = steps.instead c.while_stmt.result (λ v. spell_stmt (view_stmt v)) number_stmt (λ o. stmt_part ∷ o) forms.while_parts c.args.depth _ (rw c.in-While.is at c.stmt_form.ensures.becomes) c.while_stmt.ensures.read }
+
+pub statement::stmt-returns-in-Repeat : goal.statement::stmt-returns-in-Repeat
+statement::stmt-returns-in-Repeat t c =
+    record { read = steps.instead c.repeat_stmt.result (λ v. spell_stmt (view_stmt v)) number_stmt (λ o. stmt_part ∷ o) forms.repeat_parts c.args.depth _ (rw c.in-Repeat.is at c.stmt_form.ensures.becomes) c.repeat_stmt.ensures.read }
+
+pub statement::stmt-returns-in-For : goal.statement::stmt-returns-in-For
+statement::stmt-returns-in-For t c =
+    record { read = steps.instead c.for_stmt.result (λ v. spell_stmt (view_stmt v)) number_stmt (λ o. stmt_part ∷ o) forms.for_parts c.args.depth _ (rw c.in-For.is at c.stmt_form.ensures.becomes) c.for_stmt.ensures.read }
+
+pub statement::stmt-returns-in-Some : goal.statement::stmt-returns-in-Some
+statement::stmt-returns-in-Some t c =
+    record { read = steps.instead c.some_stmt.result (λ v. spell_stmt (view_stmt v)) number_stmt (λ o. stmt_part ∷ o) forms.some_parts c.args.depth _ (rw c.in-Some.is at c.stmt_form.ensures.becomes) c.some_stmt.ensures.read }
+
+pub statement::stmt-returns-in-Case : goal.statement::stmt-returns-in-Case
+statement::stmt-returns-in-Case t c =
+    record { read = steps.instead c.case_stmt.result (λ v. spell_stmt (view_stmt v)) number_stmt (λ o. stmt_part ∷ o) forms.case_parts c.args.depth _ (rw c.in-Case.is at c.stmt_form.ensures.becomes) c.case_stmt.ensures.read }
+
+pub statement::stmt-returns-in-Either : goal.statement::stmt-returns-in-Either
+statement::stmt-returns-in-Either t c =
+    record { read = steps.instead c.either_stmt.result (λ v. spell_stmt (view_stmt v)) number_stmt (λ o. stmt_part ∷ o) forms.either_parts c.args.depth _ (rw c.in-Either.is at c.stmt_form.ensures.becomes) c.either_stmt.ensures.read }
+
+pub statement::stmt-returns-in-Forall : goal.statement::stmt-returns-in-Forall
+statement::stmt-returns-in-Forall t c =
+    record { read = steps.instead c.forall_stmt.result (λ v. spell_stmt (view_stmt v)) number_stmt (λ o. stmt_part ∷ o) forms.forall_parts c.args.depth _ (rw c.in-Forall.is at c.stmt_form.ensures.becomes) c.forall_stmt.ensures.read }
+
+pub statement::stmt-returns-in-Commit : goal.statement::stmt-returns-in-Commit
+statement::stmt-returns-in-Commit t c =
+    record { read = steps.instead c.commit_stmt.result (λ v. spell_stmt (view_stmt v)) number_stmt (λ o. stmt_part ∷ o) forms.commit_parts c.args.depth _ (rw c.in-Commit.is at c.stmt_form.ensures.becomes) c.commit_stmt.ensures.read }
+
+pub statement::stmt-returns-in-Return : goal.statement::stmt-returns-in-Return
+statement::stmt-returns-in-Return t c =
+    record { read = steps.instead c.return_stmt.result (λ v. spell_stmt (view_stmt v)) number_stmt (λ o. stmt_part ∷ o) forms.return_parts c.args.depth _ (rw c.in-Return.is at c.stmt_form.ensures.becomes) c.return_stmt.ensures.read }
+
+pub statement::stmt-returns-in-Read : goal.statement::stmt-returns-in-Read
+statement::stmt-returns-in-Read t c =
+    record { read = steps.instead c.read_stmt.result (λ v. spell_stmt (view_stmt v)) number_stmt (λ o. stmt_part ∷ o) forms.read_parts c.args.depth _ (rw c.in-Read.is at c.stmt_form.ensures.becomes) c.read_stmt.ensures.read }
+
+pub statement::stmt-returns-in-Write : goal.statement::stmt-returns-in-Write
+statement::stmt-returns-in-Write t c =
+    record { read = steps.instead c.write_stmt.result (λ v. spell_stmt (view_stmt v)) number_stmt (λ o. stmt_part ∷ o) forms.write_parts c.args.depth _ (rw c.in-Write.is at c.stmt_form.ensures.becomes) c.write_stmt.ensures.read }
+
+pub statement::stmt-returns-in-Writeln : goal.statement::stmt-returns-in-Writeln
+statement::stmt-returns-in-Writeln t c =
+    record { read = steps.instead c.writeln_stmt.result (λ v. spell_stmt (view_stmt v)) number_stmt (λ o. stmt_part ∷ o) forms.writeln_parts c.args.depth _ (rw c.in-Writeln.is at c.stmt_form.ensures.becomes) c.writeln_stmt.ensures.read }
+
+pub statement::desig_stmt-returns-in_err-desig : goal.statement::desig_stmt-returns-in_err-desig
+statement::desig_stmt-returns-in_err-desig t c =
+    let p = err_from_is_err_and c.from_residual.result c.from_residual.ensures.1 in
+    record { read = rw (p.1, p.2) (steps.first c.in_err-desig.ensures.read) }
+
+pub statement::desig_stmt-returns-then-is_at : goal.statement::desig_stmt-returns-then-is_at
+statement::desig_stmt-returns-then-is_at t c =
+    record { read = steps.extended c.assign.result (λ v. spell_stmt (view_stmt v)) number_stmt (λ o. after_desig ∷ o) c.in_ok-desig.ensures.read
+      (steps.instead_extending c.assign.result (λ v. spell_stmt (view_stmt v)) number_stmt (λ o. after_desig ∷ o) (λ o. one kinds.Assign ∷ expr_parts o) c.args.depth _
+        (spell_desig (view_desig c.in_ok-desig.desig)) (number_desig c.in_ok-desig.desig) (heads.at_assign _ (sym c.is_at.ensures.starts ∙ c.if-is_at.true)) c.assign.ensures.read) }
+
+pub statement::desig_stmt-returns-in_err-value : goal.statement::desig_stmt-returns-in_err-value
+statement::desig_stmt-returns-in_err-value t c =
+    let p = err_from_is_err_and c.from_residual-in_err-value.result c.from_residual-in_err-value.ensures.1 in
+    record { read = rw (p.1, p.2) (steps.after c.in_ok-desig.ensures.read (steps.becoming_fails (heads.no_assign _ (sym c.is_at.ensures.starts ∙ c.if-is_at.false)) (steps.first c.in_err-value.ensures.read))) }
+
+pub statement::desig_stmt-returns-in_err-node : goal.statement::desig_stmt-returns-in_err-node
+statement::desig_stmt-returns-in_err-node t c =
+    let p = err_from_is_err_and c.from_residual-in_err-node.result c.from_residual-in_err-node.ensures.1 in
+    record { read = rw (p.1, p.2, c.in_err-node.ensures.counted) steps.no_memory }
+
+pub statement::desig_stmt-returns : goal.statement::desig_stmt-returns
+statement::desig_stmt-returns t c =
+    record { read = steps.then (steps.extended_by (heads.no_assign _ (sym c.is_at.ensures.starts ∙ c.if-is_at.false)) c.in_ok-desig.ensures.read c.in_ok-value.ensures.read) (steps.counted c.in_ok-node.ensures.counted) }
+
+pub statement::arm-returns-then-begins_expr : goal.statement::arm-returns-then-begins_expr
+statement::arm-returns-then-begins_expr t c =
+    record { read = steps.instead c.labelled_arm.result (λ v. spell_arm (view_arm v)) number_arm (λ o. arm_part ∷ o) forms.labelled_parts c.args.depth _
+      (rw c.if-begins_expr.true at c.begins_expr.ensures.arm) c.labelled_arm.ensures.read }
+
+pub statement::arm-returns-in_err-node : goal.statement::arm-returns-in_err-node
+statement::arm-returns-in_err-node t c =
+    let p = err_from_is_err_and c.from_residual.result c.from_residual.ensures.1 in
+    record { read = rw (p.1, p.2, c.in_err-node.ensures.counted) steps.no_memory }
+
+pub statement::arm-returns : goal.statement::arm-returns
+statement::arm-returns t c =
+    record { read = steps.becoming (rw c.if-begins_expr.false at c.begins_expr.ensures.arm) (steps.counted c.in_ok-node.ensures.counted) }
+
+pub statement::returned-returns-in_err-value : goal.statement::returned-returns-in_err-value
+statement::returned-returns-in_err-value t c =
+    let p = err_from_is_err_and c.from_residual.result c.from_residual.ensures.1 in
+    record { read = rw (p.1, p.2) (steps.becoming_fails (rw c.if-begins_expr.true at c.begins_expr.ensures.value) (steps.first c.in_err-value.ensures.read)) }
+
+pub statement::returned-returns-then-begins_expr : goal.statement::returned-returns-then-begins_expr
+statement::returned-returns-then-begins_expr t c =
+    record { read = steps.becoming (rw c.if-begins_expr.true at c.begins_expr.ensures.value) c.in_ok-value.ensures.read }
+
+pub statement::returned-returns : goal.statement::returned-returns
+statement::returned-returns t c =
+    record { read = steps.skipped (rw c.if-begins_expr.false at c.begins_expr.ensures.value) }
+
+pub expression::index-returns-clause-shorter : goal.expression::index-returns-clause-shorter
+expression::index-returns-clause-shorter t c =
+    steps.strictly c.in_ok-at.ensures.opened.passes
+      (steps.then c.in_ok-indices.ensures.read (steps.then (steps.closed refl refl c.in_ok-at.ensures.opened c.in_ok-at-2.ensures.passes) (steps.counted c.in_ok-node.ensures.counted)))
