@@ -5,7 +5,8 @@ use Rattle.alma_tree.specs.Numbers.{token, node, number_plain, numbers_of_plains
 use Rattle.alma_tree.proofs.Rows as rows
 use Rattle.alma_tree.proofs.NumberRows as numbered
 use Rattle.alma_parse.proofs.Steps.{after, first, passed, opened, closed, counted, then}
-use Rattle.alma_parse.proofs.Turns.{begun, grown, ended, broken, where_passed, where_started, instead, fails_instead, numbered_alike, match_instead, match_instead_any, want, four_and}
+use Rattle.alma_parse.proofs.Turns.{begun, grown, ended, broken, where_passed, where_started}
+use Rattle.alma_parse.proofs.Turns.{instead, fails_instead, numbered_alike, match_instead, match_instead_any, want, four_and}
 use Rattle.alma_parse.proofs.Items.{dimensions_listed, plains_listed, field_lists_listed}
 use Rattle.alma_parse.proofs.LeftOut.{no_array_tail, a_array_tail, no_plain_tail, a_plain_tail, a_field_list_part, no_field_list_tail, a_field_list_tail}
 use Rattle.alma_parse.proofs.types.+types.Goals as goal
@@ -110,8 +111,13 @@ record_type-returns-in_err-node t c =
 
 pub record_type-returns : goal.record_type-returns
 record_type-returns t c = record {
-  read = rw
-      (rows.record_laid c.in_ok-node.node c.in_ok-first-2.first c.in_ok-more.more, numbered.record_laid c.in_ok-node.node c.in_ok-first-2.first c.in_ok-more.more, c.in_ok-first-2.ensures.ok) (then (opened refl c.in_ok-at.ensures.opened) (then (c.in_ok-first.ensures.read) (then (c.in_ok-more.ensures.read) (then (closed refl refl c.in_ok-at.ensures.opened c.in_ok-at-2.ensures.passes) (counted c.in_ok-node.ensures.counted)))));
+  read = rw (
+    rows.record_laid c.in_ok-node.node c.in_ok-first-2.first c.in_ok-more.more,
+    numbered.record_laid c.in_ok-node.node c.in_ok-first-2.first c.in_ok-more.more,
+    c.in_ok-first-2.ensures.ok,
+  ) (then
+      (opened refl c.in_ok-at.ensures.opened) (then (c.in_ok-first.ensures.read) (then (c.in_ok-more.ensures.read) (then
+      (closed refl refl c.in_ok-at.ensures.opened c.in_ok-at-2.ensures.passes) (counted c.in_ok-node.ensures.counted)))));
 }
 
 pub fields-returns-in_err-names : goal.fields-returns-in_err-names
