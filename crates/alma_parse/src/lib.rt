@@ -15,3 +15,6 @@ mod types;
 
 pub use error::ParseError;
 pub use parser::parse;
+
+#[cfg(test)]
+mod tests;
