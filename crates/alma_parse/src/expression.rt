@@ -442,7 +442,8 @@ fn selectors<'t, 's>(
     depth: u32,
 ) -> Result<(Vec<Selector>, Cursor<'t, 's>), Fault<'t, 's>>
     ensures read { MatchResult result
-        (λ t. Reads (spell_selector_tail (selectors_of t.0.items)) (numbers_of_selectors t.0.items) (λ o. selector_tail ∷ o) depth depth (seen at.entry) (seen t.1))
+        (λ t. Reads (spell_selector_tail (selectors_of t.0.items)) (numbers_of_selectors t.0.items)
+        (λ o. selector_tail ∷ o) depth depth (seen at.entry) (seen t.1))
         (λ e. Fails e (λ o. selector_tail ∷ o) depth (seen at.entry)) }
 {
     let mut more = Vec::new(alloc);
