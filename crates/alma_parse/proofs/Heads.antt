@@ -10,9 +10,12 @@ use Rattle.alma_tree.specs.declared.leaf.Relation.{Relation}
 use Rattle.alma_tree.specs.declared.leaf.Relation.TheVariants as relations
 use Rattle.alma_tree.specs.Depth.{opens, closes}
 use Rattle.alma_tree.specs.Spelling.{add_kind, mul_kind, relation_kind}
-use Rattle.alma_grammar.specs.Parts.{Part, one, factor_part, primary_part, factor_tail, term_tail, compared_part, args_part, args_inside, expr_tail, after_desig}
-use Rattle.alma_grammar.specs.Parts.{stmt_part, arm_part, stmt_tail, elsif_tail, else_part, by_part, orelse_tail, desig_tail, arm_tail, high_part, label_tail, name_tail, array_tail}
-use Rattle.alma_grammar.specs.Parts.{plain_part, plain_tail, field_list_part, field_list_tail, const_tail, type_tail, var_tail, formal_tail, params_part, params_inside}
+use Rattle.alma_grammar.specs.Parts.{Part, one, factor_part, primary_part, factor_tail, term_tail, compared_part, args_part, args_inside, expr_tail}
+use Rattle.alma_grammar.specs.Parts.{after_desig}
+use Rattle.alma_grammar.specs.Parts.{stmt_part, arm_part, stmt_tail, elsif_tail, else_part, by_part, orelse_tail, desig_tail, arm_tail, high_part}
+use Rattle.alma_grammar.specs.Parts.{label_tail, name_tail, array_tail}
+use Rattle.alma_grammar.specs.Parts.{plain_part, plain_tail, field_list_part, field_list_tail, const_tail, type_tail, var_tail, formal_tail}
+use Rattle.alma_grammar.specs.Parts.{params_part, params_inside}
 use Rattle.alma_grammar.specs.Parts.{result_part, body_part, term_parts, simple_parts, expr_parts, exprs_parts, formal_parts, stmts_parts, label_parts}
 use Rattle.alma_grammar.specs.Parts.{desig_parts, type_parts, names_parts}
 use Rattle.alma_grammar.specs.Reading.{reading}
@@ -148,12 +151,14 @@ some_args [] h = record { becomes = λ d o. refl }
 some_args (kinds.CloseParen ∷ ks) h = absurd (no h)
 some_args (k ∷ ks) h = record { becomes = λ d o. refl }
 
-pub no_assign : (ks : List Kind) → starts_with kinds.Assign ks ≡ false → Becomes (λ o. after_desig ∷ o) (λ o. args_part ∷ factor_tail ∷ term_tail ∷ compared_part ∷ o) ks
+pub no_assign : (ks : List Kind) → starts_with kinds.Assign ks ≡ false
+    → Becomes (λ o. after_desig ∷ o) (λ o. args_part ∷ factor_tail ∷ term_tail ∷ compared_part ∷ o) ks
 no_assign [] h = record { becomes = λ d o. refl }
 no_assign (kinds.Assign ∷ ks) h = absurd (no h)
 no_assign (k ∷ ks) h = record { becomes = λ d o. refl }
 
-pub some_params : (ks : List Kind) → starts_with kinds.CloseParen ks ≡ false → Becomes (λ o. params_inside ∷ o) (λ o. formal_parts (formal_tail ∷ one kinds.CloseParen ∷ o)) ks
+pub some_params : (ks : List Kind) → starts_with kinds.CloseParen ks ≡ false
+    → Becomes (λ o. params_inside ∷ o) (λ o. formal_parts (formal_tail ∷ one kinds.CloseParen ∷ o)) ks
 some_params [] h = record { becomes = λ d o. refl }
 some_params (kinds.CloseParen ∷ ks) h = absurd (no h)
 some_params (k ∷ ks) h = record { becomes = λ d o. refl }
@@ -173,7 +178,8 @@ begins_exprs x = headed x (record { becomes = λ d o. refl })
 pub begins_stmts : {a b : At} → Passes kinds.Semicolon a b → Becomes (λ o. stmt_tail ∷ o) (λ o. one kinds.Semicolon ∷ stmt_part ∷ stmt_tail ∷ o) a.kinds
 begins_stmts x = headed x (record { becomes = λ d o. refl })
 
-pub begins_elsifs : {a b : At} → Passes kinds.Elsif a b → Becomes (λ o. elsif_tail ∷ o) (λ o. one kinds.Elsif ∷ expr_parts (one kinds.Then ∷ stmts_parts (elsif_tail ∷ o))) a.kinds
+pub begins_elsifs : {a b : At} → Passes kinds.Elsif a b → Becomes (λ o. elsif_tail ∷ o) (λ o. one kinds.Elsif ∷ expr_parts (one kinds.Then ∷ stmts_parts
+    (elsif_tail ∷ o))) a.kinds
 begins_elsifs x = headed x (record { becomes = λ d o. refl })
 
 pub begins_else : {a b : At} → Passes kinds.Else a b → Becomes (λ o. else_part ∷ o) (λ o. one kinds.Else ∷ stmts_parts o) a.kinds
@@ -206,10 +212,12 @@ begins_names x = headed x (record { becomes = λ d o. refl })
 pub begins_plains : {a b : At} → Passes kinds.Comma a b → Becomes (λ o. plain_tail ∷ o) (λ o. one kinds.Comma ∷ plain_part ∷ plain_tail ∷ o) a.kinds
 begins_plains x = headed x (record { becomes = λ d o. refl })
 
-pub begins_field_lists : {a b : At} → Passes kinds.Semicolon a b → Becomes (λ o. field_list_tail ∷ o) (λ o. one kinds.Semicolon ∷ field_list_part ∷ field_list_tail ∷ o) a.kinds
+pub begins_field_lists : {a b : At} → Passes kinds.Semicolon a b
+    → Becomes (λ o. field_list_tail ∷ o) (λ o. one kinds.Semicolon ∷ field_list_part ∷ field_list_tail ∷ o) a.kinds
 begins_field_lists x = headed x (record { becomes = λ d o. refl })
 
-pub begins_formals : {a b : At} → Passes kinds.Semicolon a b → Becomes (λ o. formal_tail ∷ o) (λ o. one kinds.Semicolon ∷ formal_parts (formal_tail ∷ o)) a.kinds
+pub begins_formals : {a b : At} → Passes kinds.Semicolon a b
+    → Becomes (λ o. formal_tail ∷ o) (λ o. one kinds.Semicolon ∷ formal_parts (formal_tail ∷ o)) a.kinds
 begins_formals x = headed x (record { becomes = λ d o. refl })
 
 pub begins_params_end : {a b : At} → Passes kinds.CloseParen a b → Becomes (λ o. params_inside ∷ o) (λ o. one kinds.CloseParen ∷ o) a.kinds
@@ -236,7 +244,8 @@ at_assign [] h = other h
 at_assign (kinds.Assign ∷ ks) h = record { becomes = λ d o. refl }
 at_assign (k ∷ ks) h = other h
 
-pub at_arrays : (ks : List Kind) → starts_with kinds.Array ks ≡ true → Becomes (λ o. array_tail ∷ o) (λ o. one kinds.Array ∷ plain_part ∷ plain_tail ∷ one kinds.Of ∷ array_tail ∷ o) ks
+pub at_arrays : (ks : List Kind) → starts_with kinds.Array ks ≡ true
+    → Becomes (λ o. array_tail ∷ o) (λ o. one kinds.Array ∷ plain_part ∷ plain_tail ∷ one kinds.Of ∷ array_tail ∷ o) ks
 at_arrays [] h = other h
 at_arrays (kinds.Array ∷ ks) h = record { becomes = λ d o. refl }
 at_arrays (k ∷ ks) h = other h
@@ -246,17 +255,20 @@ at_fields [] h = other h
 at_fields (kinds.Name ∷ ks) h = record { becomes = λ d o. refl }
 at_fields (k ∷ ks) h = other h
 
-pub at_consts : (ks : List Kind) → starts_with kinds.Name ks ≡ true → Becomes (λ o. const_tail ∷ o) (λ o. one kinds.Name ∷ one kinds.Equal ∷ expr_parts (one kinds.Semicolon ∷ const_tail ∷ o)) ks
+pub at_consts : (ks : List Kind) → starts_with kinds.Name ks ≡ true
+    → Becomes (λ o. const_tail ∷ o) (λ o. one kinds.Name ∷ one kinds.Equal ∷ expr_parts (one kinds.Semicolon ∷ const_tail ∷ o)) ks
 at_consts [] h = other h
 at_consts (kinds.Name ∷ ks) h = record { becomes = λ d o. refl }
 at_consts (k ∷ ks) h = other h
 
-pub at_types : (ks : List Kind) → starts_with kinds.Name ks ≡ true → Becomes (λ o. type_tail ∷ o) (λ o. one kinds.Name ∷ one kinds.Equal ∷ type_parts (one kinds.Semicolon ∷ type_tail ∷ o)) ks
+pub at_types : (ks : List Kind) → starts_with kinds.Name ks ≡ true
+    → Becomes (λ o. type_tail ∷ o) (λ o. one kinds.Name ∷ one kinds.Equal ∷ type_parts (one kinds.Semicolon ∷ type_tail ∷ o)) ks
 at_types [] h = other h
 at_types (kinds.Name ∷ ks) h = record { becomes = λ d o. refl }
 at_types (k ∷ ks) h = other h
 
-pub at_vars : (ks : List Kind) → starts_with kinds.Name ks ≡ true → Becomes (λ o. var_tail ∷ o) (λ o. names_parts (one kinds.Colon ∷ type_parts (one kinds.Semicolon ∷ var_tail ∷ o))) ks
+pub at_vars : (ks : List Kind) → starts_with kinds.Name ks ≡ true
+    → Becomes (λ o. var_tail ∷ o) (λ o. names_parts (one kinds.Colon ∷ type_parts (one kinds.Semicolon ∷ var_tail ∷ o))) ks
 at_vars [] h = other h
 at_vars (kinds.Name ∷ ks) h = record { becomes = λ d o. refl }
 at_vars (k ∷ ks) h = other h
@@ -266,7 +278,8 @@ at_params [] h = other h
 at_params (kinds.OpenParen ∷ ks) h = record { becomes = λ d o. refl }
 at_params (k ∷ ks) h = other h
 
-pub begins_add : (op : AddOperator) {a b : At} → Passes (add_kind op) a b → Becomes (λ o. term_tail ∷ o) (λ o. one (add_kind op) ∷ term_parts (term_tail ∷ o)) a.kinds
+pub begins_add : (op : AddOperator) {a b : At} → Passes (add_kind op) a b
+    → Becomes (λ o. term_tail ∷ o) (λ o. one (add_kind op) ∷ term_parts (term_tail ∷ o)) a.kinds
 begins_add adds.Plus x = headed x (record { becomes = λ d o. refl })
 begins_add adds.Minus x = headed x (record { becomes = λ d o. refl })
 begins_add adds.Or x = headed x (record { becomes = λ d o. refl })
@@ -281,7 +294,8 @@ add_closes adds.Plus = refl
 add_closes adds.Minus = refl
 add_closes adds.Or = refl
 
-pub begins_mul : (op : MulOperator) {a b : At} → Passes (mul_kind op) a b → Becomes (λ o. factor_tail ∷ o) (λ o. one (mul_kind op) ∷ factor_part ∷ factor_tail ∷ o) a.kinds
+pub begins_mul : (op : MulOperator) {a b : At} → Passes (mul_kind op) a b
+    → Becomes (λ o. factor_tail ∷ o) (λ o. one (mul_kind op) ∷ factor_part ∷ factor_tail ∷ o) a.kinds
 begins_mul muls.Star x = headed x (record { becomes = λ d o. refl })
 begins_mul muls.Div x = headed x (record { becomes = λ d o. refl })
 begins_mul muls.Mod x = headed x (record { becomes = λ d o. refl })
@@ -299,7 +313,8 @@ mul_closes muls.Div = refl
 mul_closes muls.Mod = refl
 mul_closes muls.And = refl
 
-pub begins_relation : (op : Relation) {a b : At} → Passes (relation_kind op) a b → Becomes (λ o. compared_part ∷ o) (λ o. one (relation_kind op) ∷ simple_parts o) a.kinds
+pub begins_relation : (op : Relation) {a b : At} → Passes (relation_kind op) a b
+    → Becomes (λ o. compared_part ∷ o) (λ o. one (relation_kind op) ∷ simple_parts o) a.kinds
 begins_relation relations.Equal x = headed x (record { becomes = λ d o. refl })
 begins_relation relations.Unequal x = headed x (record { becomes = λ d o. refl })
 begins_relation relations.Less x = headed x (record { becomes = λ d o. refl })

@@ -16,7 +16,8 @@ use Rattle.alma_tree.specs.Spelling as spelling
 use Rattle.alma_tree.specs.View as view
 use Rattle.alma_tree.specs.Numbers as numbers
 use Rattle.alma_tree.specs.Numbers.{token, ◌>>◌}
-use Rattle.alma_parse.specs.Forms.{spell_const_entry, spell_type_entry, spell_var_entry, number_const_entry, number_type_entry, number_var_entry, number_dimension}
+use Rattle.alma_parse.specs.Forms.{spell_const_entry, spell_type_entry, spell_var_entry}
+use Rattle.alma_parse.specs.Forms.{number_const_entry, number_type_entry, number_var_entry, number_dimension}
 use Rattle.alma_parse.specs.Forms.{inside_params_of, number_inside_params}
 use Rattle.alma_grammar.specs.Filling.{spell_inside_params}
 use Rattle.alma_parse.proofs.Turns.{Lists, four_and, two_and}
@@ -30,13 +31,15 @@ names_listed = record {
   numbered_more = λ n ns at. two_and token (numbers.number_name n) (numbers.numbers_of_names ns) at;
 }
 
-pub dimensions_listed : Lists {A = Dimensions} (λ d. spelling.spell_dimensions (view.view_dimension d)) (λ ds. spelling.spell_array_tail (view.dimensions_of ds))
+pub dimensions_listed : Lists {A = Dimensions} (λ d. spelling.spell_dimensions (view.view_dimension d)) (λ ds. spelling.spell_array_tail
+    (view.dimensions_of ds))
     number_dimension numbers.numbers_of_dimensions
 dimensions_listed = record {
   spelled_none = λ r. refl;
   spelled_more = λ d ds r. refl;
   numbered_none = λ at. refl;
-  numbered_more = λ d ds at. four_and token (numbers.number_plain d.first) (numbers.numbers_of_plains d.more.items) token (numbers.numbers_of_dimensions ds) at;
+  numbered_more = λ d ds at. four_and token (numbers.number_plain d.first) (numbers.numbers_of_plains d.more.items) token
+      (numbers.numbers_of_dimensions ds) at;
 }
 
 pub plains_listed : Lists {A = PlainType} (λ p r. kinds.Comma ∷ spelling.spell_plain_type (view.view_plain_type p) r)
@@ -57,7 +60,8 @@ field_lists_listed = record {
   numbered_more = λ f fs at. two_and token (numbers.number_field_list f) (numbers.numbers_of_field_lists fs) at;
 }
 
-pub consts_listed : Lists {A = ConstEntry} spell_const_entry (λ es. spelling.spell_const_tail (view.consts_of es)) number_const_entry numbers.numbers_of_consts
+pub consts_listed : Lists {A = ConstEntry} spell_const_entry (λ es. spelling.spell_const_tail
+    (view.consts_of es)) number_const_entry numbers.numbers_of_consts
 consts_listed = record {
   spelled_none = λ r. refl;
   spelled_more = λ e es r. refl;
@@ -101,7 +105,8 @@ decls_listed = record {
 
 -- ---- parameters behind their opening parenthesis
 
-pub params_spelled : (f : Option Formals) (r : List Kind) → kinds.OpenParen ∷ spell_inside_params (inside_params_of f) r ≡ spelling.spell_params (view.params_values f) r
+pub params_spelled : (f : Option Formals) (r : List Kind) → kinds.OpenParen ∷ spell_inside_params (inside_params_of f) r ≡ spelling.spell_params
+    (view.params_values f) r
 params_spelled None r = refl
 params_spelled (Some f) r = refl
 

@@ -21,18 +21,20 @@ loops_start {p = p} {d = d} {a = a} = record { spelled_so = refl; numbered_so = 
 
 -- one more turn
 pub turned : {s t u : List Kind → List Kind} {n m l : Step} {p : Part} {q : List Part → List Part} {d : ℕ} {a now later : At}
-  → u ≡ (λ r. s (t r)) → l ≡ (n >> m) → Loops s n p d a now → Becomes (λ o. p ∷ o) (λ o. q (p ∷ o)) now.kinds → Reads t m q d d now later
-  → Loops u l p d a later
+    → u ≡ (λ r. s (t r)) → l ≡ (n >> m) → Loops s n p d a now → Becomes (λ o. p ∷ o) (λ o. q (p ∷ o)) now.kinds → Reads t m q d d now later
+    → Loops u l p d a later
 turned {s = s} {t = t} {u = u} {n = n} {m = m} {l = l} {p = p} {q = q} {d = d} {a = a} {now = now} {later = later} v w x h y = record {
   spelled_so = x.spelled_so ∙ ap s y.spelled_so ∙ ap (λ f. f later.kinds) (sym v);
-  numbered_so = λ k f. (ap (λ g. g a.place) w ∙ bound (n a.place) now.place m (x.numbered_so k f).0 ∙ (y.numbered_so k (x.numbered_so k f).1).0,
-    (y.numbered_so k (x.numbered_so k f).1).1);
+  numbered_so = λ k f. (
+    ap (λ g. g a.place) w ∙ bound (n a.place) now.place m (x.numbered_so k f).0 ∙ (y.numbered_so k (x.numbered_so k f).1).0,
+    (y.numbered_so k (x.numbered_so k f).1).1,
+  );
   reads = λ o. x.reads o ∙ h.becomes d o ∙ y.reads (p ∷ o);
   shorter = le_trans y.shorter x.shorter;
 }
 
 pub loops_end : {s : List Kind → List Kind} {n : Step} {p : Part} {d : ℕ} {a b : At} → Loops s n p d a b → Becomes (λ o. p ∷ o) (λ o. o) b.kinds
-  → Reads s n (λ o. p ∷ o) d d a b
+    → Reads s n (λ o. p ∷ o) d d a b
 loops_end {s = s} {n = n} {p = p} {d = d} {a = a} {b = b} x h = record {
   spelled_so = x.spelled_so;
   numbered_so = x.numbered_so;
@@ -42,7 +44,7 @@ loops_end {s = s} {n = n} {p = p} {d = d} {a = a} {b = b} x h = record {
 
 -- a fault in a turn
 pub in_turn : {s : List Kind → List Kind} {n : Step} {p : Part} {q : List Part → List Part} {d : ℕ} {a now : At} {fault : Fault}
-  → Loops s n p d a now → Becomes (λ o. p ∷ o) (λ o. q (p ∷ o)) now.kinds → Fails fault q d now → Fails fault (λ o. p ∷ o) d a
+    → Loops s n p d a now → Becomes (λ o. p ∷ o) (λ o. q (p ∷ o)) now.kinds → Fails fault q d now → Fails fault (λ o. p ∷ o) d a
 in_turn {s = s} {n = n} {p = p} {q = q} {d = d} {a = a} {now = now} {fault = fault} x h y =
     record { ends = λ o. moved fault _ _ (x.reads o ∙ h.becomes d o) (y.ends (p ∷ o)) }
 

@@ -29,10 +29,11 @@ pub module_is_read : {s : List Kind → List Kind} {p : List Part → List Part}
     → (ks ≡ s []) × IsNumbered m tokens × (reading true ks 0 (p []) ≡ done)
 module_is_read {s = s} {p = p} {ks = ks} {b = b} m tokens x l h e =
     let n = x.numbered_so tokens (few ks tokens l h) in
-    let t : b.place.token ≡ tokens = all_counted b.place b.kinds tokens n.1.counted e in
-    (x.spelled_so ∙ ap s e,
-     (b.place.node, n.0 ∙ ap Some (at_end_of b.place tokens t)),
-     x.reads [] ∙ ap (λ r. reading true r 0 []) e)
+    let t : b.place.token ≡ tokens = all_counted b.place b.kinds tokens n.1.counted e in (
+      x.spelled_so ∙ ap s e,
+      (b.place.node, n.0 ∙ ap Some (at_end_of b.place tokens t)),
+      x.reads [] ∙ ap (λ r. reading true r 0 []) e,
+    )
 
 -- ---- from the beginning
 

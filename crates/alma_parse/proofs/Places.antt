@@ -48,8 +48,8 @@ deep_end parts rest true e = absurd cc
 deep_end parts rest false e = absurd cc
 
 deep_next : (k : Kind) (ks : List Kind) (parts : List Part) (rest : List Kind) (deep : Bool) (go : List Part → End)
-  → ((later : List Part) → go later ≡ too_deep rest → Deep ks later rest)
-  → (n : Option (List Part)) → next parts k ≡ n → goes_on n deep (k ∷ ks) go ≡ too_deep rest → Deep (k ∷ ks) parts rest
+    → ((later : List Part) → go later ≡ too_deep rest → Deep ks later rest)
+    → (n : Option (List Part)) → next parts k ≡ n → goes_on n deep (k ∷ ks) go ≡ too_deep rest → Deep (k ∷ ks) parts rest
 deep_next k ks parts rest deep go ih None h e = absurd cc
 deep_next k ks parts rest true go ih (Some later) h e =
     let x : k ∷ ks ≡ rest = cc in
@@ -59,27 +59,27 @@ deep_next k ks parts rest false go ih (Some later) h e =
     record { front = k ∷ f.front; later = f.later; whole_list = ap (λ r. k ∷ r) f.whole_list; opened = rw h f.opened }
 
 deep : (checked : Bool) (ks : List Kind) (d : ℕ) (parts : List Part) (rest : List Kind)
-  → reading checked ks d parts ≡ too_deep rest → Deep ks parts rest
+    → reading checked ks d parts ≡ too_deep rest → Deep ks parts rest
 deep checked [] d parts rest e = deep_end parts rest (all_skip parts) e
 deep checked (k ∷ ks) d parts rest e =
     deep_next k ks parts rest _ (reading checked ks (level d k)) (λ later. deep checked ks (level d k) later rest) (next parts k) refl e
 
 begun : (front : List Kind) (later : List Part) (n : Option (List Part)) → n ≡ Some later
-  → WhereSome n (λ parts. (t : Module) × (spelling t ≡ front ++ finish parts)) → Begins front
+    → WhereSome n (λ parts. (t : Module) × (spelling t ≡ front ++ finish parts)) → Begins front
 begun front later None e h = absurd cc
 begun front later (Some parts) e h = (h.0, finish parts, h.1)
 
 -- ---- what a refusal says
 
 of_unexpected : (ks rest : List Kind) (k : ℕ) → reading true ks 0 whole ≡ unexpected rest → HasDepth ks (unexpected rest)
-  → k ≡ length ks - length rest → Refuses (errors.Syntax syntax.Unexpected k) ks
+    → k ≡ length ks - length rest → Refuses (errors.Syntax syntax.Unexpected k) ks
 of_unexpected ks rest k e h l =
     let x = exact_place ks rest e in
     let same : h.0 ≡ x.0 = cancel h.0 x.0 rest (sym h.1 ∙ x.1) in
     (x.0, rest, x.1, front_length ks x.0 rest k x.1 l, x.2, x.3, subst (λ f. depth f ≤ 100) same h.2)
 
 of_deep : (ks rest : List Kind) (k : ℕ) → reading true ks 0 whole ≡ too_deep rest → HasDepth ks (too_deep rest)
-  → k ≡ length ks - length rest → Refuses (errors.Syntax syntax.TooDeep k) ks
+    → k ≡ length ks - length rest → Refuses (errors.Syntax syntax.TooDeep k) ks
 of_deep ks rest k e h l =
     let f = deep true ks 0 whole rest e in
     let same : f.front ≡ h.0 = cancel f.front h.0 rest (sym f.whole_list ∙ h.1) in
@@ -87,11 +87,11 @@ of_deep ks rest k e h l =
     (h.0, rest, h.1, front_length ks h.0 rest k h.1 l, h.2, h.3, subst (λ g. Begins (g ++ take 1 rest)) same b)
 
 pub refuses_unexpected : (ks rest : List Kind) (k : ℕ) → reading true ks 0 whole ≡ unexpected rest → k ≡ length ks - length rest
-  → Refuses (errors.Syntax syntax.Unexpected k) ks
+    → Refuses (errors.Syntax syntax.Unexpected k) ks
 refuses_unexpected ks rest k e l = of_unexpected ks rest k e (subst (HasDepth ks) e (exact_depth ks)) l
 
 pub refuses_deep : (ks rest : List Kind) (k : ℕ) → reading true ks 0 whole ≡ too_deep rest → k ≡ length ks - length rest
-  → Refuses (errors.Syntax syntax.TooDeep k) ks
+    → Refuses (errors.Syntax syntax.TooDeep k) ks
 refuses_deep ks rest k e l = of_deep ks rest k e (subst (HasDepth ks) e (exact_depth ks)) l
 
 pub found_depth : (ks : List Kind) → reading true ks 0 whole ≡ done → depth ks ≤ 100
@@ -107,11 +107,11 @@ in_kinds : (tokens rest : List Token) (k : ℕ) → k ≡ length tokens - length
 in_kinds tokens rest k e = rw (as_many tokens, as_many rest) e
 
 pub unexpected_at : (tokens rest : List Token) (k : ℕ) → reading true (kinds_of tokens) 0 whole ≡ unexpected (kinds_of rest)
-  → k ≡ length tokens - length rest → Refuses (errors.Syntax syntax.Unexpected k) (kinds_of tokens)
+    → k ≡ length tokens - length rest → Refuses (errors.Syntax syntax.Unexpected k) (kinds_of tokens)
 unexpected_at tokens rest k e l = refuses_unexpected (kinds_of tokens) (kinds_of rest) k e (in_kinds tokens rest k l)
 
 pub deep_at : (tokens rest : List Token) (k : ℕ) → reading true (kinds_of tokens) 0 whole ≡ too_deep (kinds_of rest)
-  → k ≡ length tokens - length rest → Refuses (errors.Syntax syntax.TooDeep k) (kinds_of tokens)
+    → k ≡ length tokens - length rest → Refuses (errors.Syntax syntax.TooDeep k) (kinds_of tokens)
 deep_at tokens rest k e l = refuses_deep (kinds_of tokens) (kinds_of rest) k e (in_kinds tokens rest k l)
 
 pub unexpected_within : (tokens rest : List Token) → reading true (kinds_of tokens) 0 whole ≡ unexpected (kinds_of rest) → length rest ≤ length tokens

@@ -12,7 +12,7 @@ use Rattle.alma_grammar.specs.Reading.{reading}
 use Rattle.alma_parse.specs.Parsing.{At, Passes, Reads}
 
 pub sign_read : (s : Sign) (k : Kind) (a b : At) (d : ℕ) → ((ks : List Kind) → spell_sign (Some s) ks ≡ k ∷ ks) → Passes k a b
-  → Reads (spell_sign (Some s)) (number_sign (Some s)) (λ o. sign_part ∷ o) d d a b
+    → Reads (spell_sign (Some s)) (number_sign (Some s)) (λ o. sign_part ∷ o) d d a b
 sign_read signs.Plus k a b d h x = record {
   spelled_so = x.kinds_so ∙ sym (h b.kinds);
   numbered_so = x.place_so;
@@ -27,7 +27,7 @@ sign_read signs.Minus k a b d h x = record {
 }
 
 pub mode_read : (s : Mode) (k : Kind) (a b : At) (d : ℕ) → ((ks : List Kind) → spell_mode (Some s) ks ≡ k ∷ ks) → Passes k a b
-  → Reads (spell_mode (Some s)) (number_mode (Some s)) (λ o. mode_part ∷ o) d d a b
+    → Reads (spell_mode (Some s)) (number_mode (Some s)) (λ o. mode_part ∷ o) d d a b
 mode_read modes.Var k a b d h x = record {
   spelled_so = x.kinds_so ∙ sym (h b.kinds);
   numbered_so = x.place_so;

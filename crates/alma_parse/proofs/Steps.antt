@@ -1,5 +1,6 @@
 -- How what the functions of the parser give fits together.
-use Rattle.std.proofs.Common.{◌≡◌, ◌≤◌, ◌<◌, ◌+◌, ℕ, suc, pred, Bool, true, false, List, [], ◌∷◌, ◌++◌, Option, None, Some, Result, Ok, Err, MatchResult, length, nat_eq, nat_lt, eq-eqb}
+use Rattle.std.proofs.Common.{◌≡◌, ◌≤◌, ◌<◌, ◌+◌, ℕ, suc, pred, Bool, true, false, List, [], ◌∷◌, ◌++◌, Option, None, Some, Result, Ok, Err}
+use Rattle.std.proofs.Common.{MatchResult, length, nat_eq, nat_lt, eq-eqb}
 use Rattle.std.proofs.Common.{refl, ap, ap₂, sym, ◌∙◌, subst, le_trans, le_refl, arith}
 use Rattle.alma_tree.specs.declared.kind.Kind.{Kind}
 use Rattle.alma_tree.specs.Kinds.{code}
@@ -93,7 +94,7 @@ then {s = s} {t = t} {n = n} {m = m} {p = p} {q = q} {d = d} {e = e} {f = f} {a 
 
 -- the same in other words
 pub same : {s t : List Kind → List Kind} {n m : Step} {p : List Part → List Part} {d e : ℕ} {a b : At}
-  → t ≡ s → m ≡ n → Reads s n p d e a b → Reads t m p d e a b
+    → t ≡ s → m ≡ n → Reads s n p d e a b → Reads t m p d e a b
 same {s = s} {t = t} {n = n} {m = m} {p = p} {d = d} {e = e} {a = a} {b = b} u v x = record {
   spelled_so = x.spelled_so ∙ ap (λ f. f b.kinds) (sym u);
   numbered_so = λ k h. (ap (λ f. f a.place) v ∙ (x.numbered_so k h).0, (x.numbered_so k h).1);
@@ -103,7 +104,7 @@ same {s = s} {t = t} {n = n} {m = m} {p = p} {d = d} {e = e} {a = a} {b = b} u v
 
 -- the same of an equal value
 pub replaced : {A : Type 0} {v w : A} {p : List Part → List Part} {d e : ℕ} {a b : At} (s : A → List Kind → List Kind) (n : A → Step)
-  → w ≡ v → Reads (s v) (n v) p d e a b → Reads (s w) (n w) p d e a b
+    → w ≡ v → Reads (s v) (n v) p d e a b → Reads (s w) (n w) p d e a b
 replaced s n q x = same (ap s q) (ap n q) x
 
 -- nothing was read where the parts may be left out
@@ -116,7 +117,7 @@ skipped {p = p} {d = d} {a = a} h = record {
 }
 
 pub becoming : {s : List Kind → List Kind} {n : Step} {p q : List Part → List Part} {d e : ℕ} {a b : At}
-  → Becomes p q a.kinds → Reads s n q d e a b → Reads s n p d e a b
+    → Becomes p q a.kinds → Reads s n q d e a b → Reads s n p d e a b
 becoming {s = s} {n = n} {p = p} {q = q} {d = d} {e = e} {a = a} {b = b} h x = record {
   spelled_so = x.spelled_so;
   numbered_so = x.numbered_so;
@@ -124,9 +125,13 @@ becoming {s = s} {n = n} {p = p} {q = q} {d = d} {e = e} {a = a} {b = b} h x = r
   shorter = x.shorter;
 }
 
+replaced_parts : {s : List Kind → List Kind} {n : Step} {p q : List Part → List Part} {d e : ℕ} {a b : At}
+    → ((o : List Part) → reading true a.kinds d (p o) ≡ reading true b.kinds e o) → Reads s n q d e a b → Reads s n p d e a b
+replaced_parts h x = record { spelled_so = x.spelled_so; numbered_so = x.numbered_so; reads = h; shorter = x.shorter }
+
 -- what stands behind the first part, and makes a whole of both
 pub extending : {s r t : List Kind → List Kind} {n l m : Step} {p : List Part → List Part} {d : ℕ} {a b : At}
-  → t ≡ (λ ks. s (r ks)) → m ≡ (n >> l) → Reads r l p d d a b → Extends s n p t m d a b
+    → t ≡ (λ ks. s (r ks)) → m ≡ (n >> l) → Reads r l p d d a b → Extends s n p t m d a b
 extending {s = s} {r = r} {t = t} {n = n} {l = l} {m = m} {p = p} {d = d} {a = a} {b = b} u v y = record {
   extends = λ start before e x. same u v (then x y);
   reads = y.reads;
@@ -135,7 +140,7 @@ extending {s = s} {r = r} {t = t} {n = n} {l = l} {m = m} {p = p} {d = d} {a = a
 
 -- one extension and then another
 pub twice : {s t u : List Kind → List Kind} {n m l : Step} {p q : List Part → List Part} {d : ℕ} {a b c : At}
-  → Extends s n p t m d a b → Extends t m q u l d b c → Extends s n (λ o. p (q o)) u l d a c
+    → Extends s n p t m d a b → Extends t m q u l d b c → Extends s n (λ o. p (q o)) u l d a c
 twice {s = s} {t = t} {u = u} {n = n} {m = m} {l = l} {p = p} {q = q} {d = d} {a = a} {b = b} {c = c} x y = record {
   extends = λ start before e z. y.extends start (λ o. before (p o)) e (x.extends start before e z);
   reads = λ o. x.reads (q o) ∙ y.reads o;
@@ -161,7 +166,7 @@ becoming_fails {p = p} {q = q} {d = d} {a = a} {fault = fault} h y = record { en
 
 -- a fault behind what extends the first part
 pub beyond : {s t : List Kind → List Kind} {n m : Step} {p q : List Part → List Part} {d : ℕ} {a b : At} {fault : Fault}
-  → Extends s n p t m d a b → Fails fault q d b → Fails fault (λ o. p (q o)) d a
+    → Extends s n p t m d a b → Fails fault q d b → Fails fault (λ o. p (q o)) d a
 beyond {s = s} {t = t} {n = n} {m = m} {p = p} {q = q} {d = d} {a = a} {b = b} {fault = fault} x y =
     record { ends = λ o. moved fault _ _ (x.reads (q o)) (y.ends o) }
 
@@ -172,7 +177,7 @@ no_memory = record { ends = λ o. tt }
 -- ---- leaves
 
 pub leafed : {k : Kind} {d : ℕ} {a b : At} → opens k ≡ false → closes k ≡ false → Passes k a b
-  → Reads (λ r. k ∷ r) (leaf a.place.token) (λ o. one k ∷ o) d d a b
+    → Reads (λ r. k ∷ r) (leaf a.place.token) (λ o. one k ∷ o) d d a b
 leafed {k = k} {d = d} {a = a} {b = b} h g x = record {
   spelled_so = x.kinds_so;
   numbered_so = λ n f. (rw (eq-eqb a.place.token a.place.token refl) (x.place_so n f).0, (x.place_so n f).1);
@@ -183,22 +188,77 @@ leafed {k = k} {d = d} {a = a} {b = b} h g x = record {
 -- ---- one function's result as another's
 
 pub instead : {T : Type 0} (r : Result (T × cursors.Cursor) Fault) (s : T → List Kind → List Kind) (n : T → Step) (p q : List Part → List Part) (d : ℕ) (a : At)
-  → Becomes p q a.kinds → MatchResult r (λ t. Reads (s t.0) (n t.0) q d d a (seen t.1)) (λ e. Fails e q d a)
-  → MatchResult r (λ t. Reads (s t.0) (n t.0) p d d a (seen t.1)) (λ e. Fails e p d a)
+    → Becomes p q a.kinds → MatchResult r (λ t. Reads (s t.0) (n t.0) q d d a (seen t.1)) (λ e. Fails e q d a)
+    → MatchResult r (λ t. Reads (s t.0) (n t.0) p d d a (seen t.1)) (λ e. Fails e p d a)
 instead (Ok t) s n p q d a h x = becoming h x
 instead (Err e) s n p q d a h x = becoming_fails h x
 
 pub extended : {T : Type 0} (r : Result (T × cursors.Cursor) Fault) (s : T → List Kind → List Kind) (n : T → Step) {t : List Kind → List Kind} {m : Step}
-  {p : List Part → List Part} (q : List Part → List Part) {d : ℕ} {a b : At} → Reads t m p d d a b
-  → MatchResult r (λ x. Extends t m q (s x.0) (n x.0) d b (seen x.1)) (λ e. Fails e q d b)
-  → MatchResult r (λ x. Reads (s x.0) (n x.0) (λ o. p (q o)) d d a (seen x.1)) (λ e. Fails e (λ o. p (q o)) d a)
+    {p : List Part → List Part} (q : List Part → List Part) {d : ℕ} {a b : At} → Reads t m p d d a b
+    → MatchResult r (λ x. Extends t m q (s x.0) (n x.0) d b (seen x.1)) (λ e. Fails e q d b)
+    → MatchResult r (λ x. Reads (s x.0) (n x.0) (λ o. p (q o)) d d a (seen x.1)) (λ e. Fails e (λ o. p (q o)) d a)
 extended (Ok x) s n q {d = d} {a = a} y z = z.extends a _ d y
 extended (Err e) s n q y z = after y z
 
 -- what extends what extends the first part
-pub extended_twice : {T : Type 0} (r : Result (T × cursors.Cursor) Fault) (s : T → List Kind → List Kind) (n : T → Step) {t u : List Kind → List Kind} {m l : Step}
-  {p : List Part → List Part} (q : List Part → List Part) {d : ℕ} {a b : At} → Extends u l p t m d a b
-  → MatchResult r (λ x. Extends t m q (s x.0) (n x.0) d b (seen x.1)) (λ e. Fails e q d b)
-  → MatchResult r (λ x. Extends u l (λ o. p (q o)) (s x.0) (n x.0) d a (seen x.1)) (λ e. Fails e (λ o. p (q o)) d a)
+pub extended_twice : {T : Type 0} (r : Result (T × cursors.Cursor) Fault) (s : T → List Kind → List Kind) (n : T → Step) {t u : List Kind
+    → List Kind} {m l : Step}
+    {p : List Part → List Part} (q : List Part → List Part) {d : ℕ} {a b : At} → Extends u l p t m d a b
+    → MatchResult r (λ x. Extends t m q (s x.0) (n x.0) d b (seen x.1)) (λ e. Fails e q d b)
+    → MatchResult r (λ x. Extends u l (λ o. p (q o)) (s x.0) (n x.0) d a (seen x.1)) (λ e. Fails e (λ o. p (q o)) d a)
 extended_twice (Ok x) s n q y z = twice y z
 extended_twice (Err e) s n q y z = beyond y z
+
+pub instead_any : {T : Type 0} (r : Result (T × cursors.Cursor) Fault) (s : T → List Kind → List Kind) (n : T → Step) (p q : List Part
+    → List Part) (d : ℕ) (a : At)
+    → Becomes p q a.kinds
+    → MatchResult r (λ t. (e : ℕ) → Reads (s t.0) (n t.0) q e e a (seen t.1)) (λ e. (f : ℕ) → Fails e q f a)
+    → MatchResult r (λ t. Reads (s t.0) (n t.0) p d d a (seen t.1)) (λ e. Fails e p d a)
+instead_any (Ok t) s n p q d a h x = becoming h (x d)
+instead_any (Err e) s n p q d a h x = becoming_fails h (x d)
+
+pub becoming_extends : {s t : List Kind → List Kind} {n m : Step} {p q : List Part → List Part} {d : ℕ} {a b : At}
+    → Becomes p q a.kinds → Extends s n q t m d a b → Extends s n p t m d a b
+becoming_extends {s = s} {t = t} {n = n} {m = m} {p = p} {q = q} {d = d} {a = a} {b = b} h x = record {
+  extends = λ start before e y. replaced_parts (λ o. y.reads (p o) ∙ h.becomes d o ∙ x.reads o) (x.extends start before e y);
+  reads = λ o. h.becomes d o ∙ x.reads o;
+  shorter = x.shorter;
+}
+
+pub instead_extending : {T : Type 0} (r : Result (T × cursors.Cursor) Fault) (s : T → List Kind → List Kind) (n : T → Step) (p q : List Part
+    → List Part) (d : ℕ) (a : At)
+    (t : List Kind → List Kind) (m : Step) → Becomes p q a.kinds
+    → MatchResult r (λ x. Extends t m q (s x.0) (n x.0) d a (seen x.1)) (λ e. Fails e q d a)
+    → MatchResult r (λ x. Extends t m p (s x.0) (n x.0) d a (seen x.1)) (λ e. Fails e p d a)
+instead_extending (Ok x) s n p q d a t m h y = becoming_extends h y
+instead_extending (Err e) s n p q d a t m h y = becoming_fails h y
+
+-- what was read first, with what extends it behind
+pub extended_by : {s t : List Kind → List Kind} {n m : Step} {p q r : List Part → List Part} {d : ℕ} {start a b : At}
+    → Becomes q r a.kinds → Reads s n p d d start a → Extends s n r t m d a b → Reads t m (λ o. p (q o)) d d start b
+extended_by {d = d} {start = start} h x y = (becoming_extends h y).extends start _ d x
+
+-- a token that closes a bracket
+pub closed_any : {k : Kind} {d : ℕ} {a b : At} → opens k ≡ false → closes k ≡ true → Passes k a b
+    → Reads (λ r. k ∷ r) token (λ o. one k ∷ o) d (pred d) a b
+closed_any {k = k} {d = d} {a = a} {b = b} h g x = record {
+  spelled_so = x.kinds_so;
+  numbered_so = x.place_so;
+  reads = λ o. from a.kinds (k ∷ b.kinds) d (one k ∷ o) x.kinds_so ∙ is_closed k b.kinds d o h g;
+  shorter = omega (arith, x.shorter);
+}
+
+-- the depth behind a bracket is that before it
+pub shallower : {s : List Kind → List Kind} {n : Step} {p : List Part → List Part} {k : Kind} {d e : ℕ} {a b f g : At}
+    → Opens k d e f g → Reads s n p e (pred e) a b → Reads s n p e d a b
+shallower {s = s} {n = n} {p = p} {d = d} {e = e} {a = a} {b = b} y x = record {
+  spelled_so = x.spelled_so;
+  numbered_so = x.numbered_so;
+  reads = λ o. x.reads o ∙ ap (λ k. reading true b.kinds (pred k) o) y.deeper;
+  shorter = x.shorter;
+}
+
+-- fewer tokens are left behind one that was passed, whatever was read then
+pub strictly : {s : List Kind → List Kind} {n : Step} {p : List Part → List Part} {k : Kind} {d e : ℕ} {a b c : At}
+    → Passes k a b → Reads s n p d e b c → length c.kinds < length a.kinds
+strictly x y = omega (arith, x.shorter, y.shorter)

@@ -6,16 +6,18 @@ use Rattle.alma_grammar.specs.Parts.{Part, one, args_part, elsif_tail, else_part
 use Rattle.alma_grammar.specs.Parts.{high_part, label_tail, after_desig, expr_parts, exprs_parts, desig_parts, stmts_parts, label_parts}
 use Rattle.alma_grammar.specs.Parts.{plain_part, plain_tail, field_list_part, field_list_tail, names_parts, type_parts, const_tail, type_tail, var_tail}
 use Rattle.alma_grammar.specs.Parts.{params_part, result_part, block_parts, formal_parts, formal_tail}
+use Rattle.alma_tree.specs.declared.leaf.Sign.{Sign}
 use Rattle.alma_tree.specs.declared.phrase.Exprs.{Exprs}
+use Rattle.alma_tree.specs.declared.phrase.Term.{Term}
 use Rattle.alma_tree.specs.declared.module.Formals.{Formals}
 use Rattle.alma_tree.specs.declared.module.ConstEntry.{ConstEntry}
 use Rattle.alma_tree.specs.declared.module.TypeEntry.{TypeEntry}
 use Rattle.alma_tree.specs.declared.module.VarEntry.{VarEntry}
-use Rattle.alma_tree.specs.Spelling.{spell_expr, spell_type_node, spell_names}
-use Rattle.alma_tree.specs.View.{view_expr, view_exprs, view_type_node, view_names, view_formals}
+use Rattle.alma_tree.specs.Spelling.{spell_expr, spell_sign, spell_term, spell_type_node, spell_names}
+use Rattle.alma_tree.specs.View.{view_expr, view_term, view_exprs, view_type_node, view_names, view_formals}
 use Rattle.alma_tree.specs.declared.type_node.Dimensions.{Dimensions}
 use Rattle.alma_tree.specs.Numbers.{Step, token, ◌>>◌, number_name, number_expr, number_exprs, number_type, number_names, number_formals}
-use Rattle.alma_tree.specs.Numbers.{number_plain, numbers_of_plains}
+use Rattle.alma_tree.specs.Numbers.{number_plain, numbers_of_plains, number_sign, number_term}
 use Rattle.alma_grammar.specs.Filling.{InsideArgs, closed_args, filled_args, InsideParams, closed_params, filled_params}
 use Rattle.alma_parse.specs.declared.form.StmtForm.{StmtForm}
 use Rattle.alma_parse.specs.declared.form.StmtForm.TheVariants as stmt_forms
@@ -237,3 +239,11 @@ number_inside_params (Some f) = number_formals f >> token
 
 abbrev pub number_dimension : Dimensions → Step
 number_dimension d = token >> number_plain d.first >> numbers_of_plains d.more.items >> token
+
+-- ---- a sign and the term behind it
+
+abbrev pub spell_signed : Option Sign → Term → List Kind → List Kind
+spell_signed sign t rest = spell_sign sign (spell_term (view_term t) rest)
+
+abbrev pub number_signed : Option Sign → Term → Step
+number_signed sign t = number_sign sign >> number_term t

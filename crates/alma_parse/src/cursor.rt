@@ -68,7 +68,8 @@ impl<'t, 's> Cursor<'t, 's> {
 
     /// Behind the next token, which has to be of this kind.
     pub fn expect(self, kind: Kind) -> Result<Self, Fault<'t, 's>>
-        ensures passes { MatchResult result (λ after. Passes kind (seen self.entry) (seen after)) (λ e. (d : ℕ) → Fails e (λ o. one kind ∷ o) d (seen self.entry)) }
+        ensures passes { MatchResult result (λ after. Passes kind (seen self.entry) (seen after)) (λ e. (d : ℕ) → Fails e
+            (λ o. one kind ∷ o) d (seen self.entry)) }
     {
         match self.skip(kind) {
             Some(after) => Ok(after),
@@ -79,7 +80,8 @@ impl<'t, 's> Cursor<'t, 's> {
     /// Behind the next token, which has to be this opening one, and the depth there.
     pub fn open(self, kind: Kind, depth: u32) -> Result<(Self, u32), Fault<'t, 's>>
         requires opening { opens kind ≡ true }
-        ensures opened { MatchResult result (λ t. Opens kind depth t.1 (seen self.entry) (seen t.0)) (λ e. Fails e (λ o. one kind ∷ o) depth (seen self.entry)) }
+        ensures opened { MatchResult result (λ t. Opens kind depth t.1 (seen self.entry) (seen t.0)) (λ e. Fails e
+            (λ o. one kind ∷ o) depth (seen self.entry)) }
     {
         let after = self.expect(kind)?;
         if depth < 100 {

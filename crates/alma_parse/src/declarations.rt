@@ -5,14 +5,14 @@ ghost use Rattle.alma_tree.specs.Spelling.{spell_const_tail, spell_type_tail, sp
 ghost use Rattle.alma_tree.specs.Spelling.{spell_result_name, spell_body, spell_block, spell_decl_tail, spell_decl};
 ghost use Rattle.alma_tree.specs.View.{consts_of, types_of, vars_of, view_formal, formal_tail_of, view_formals, params_of, result_of, body_of};
 ghost use Rattle.alma_tree.specs.View.{view_decl, decls_of, view_block};
-ghost use Rattle.alma_tree.specs.Numbers.{numbers_of_consts, numbers_of_types, numbers_of_vars, number_formal, numbers_of_formals, number_formals, numbers_of_params};
-ghost use Rattle.alma_tree.specs.Numbers.{numbers_of_result, numbers_of_body, number_decl, numbers_of_decls, number_block};
+ghost use Rattle.alma_tree.specs.Numbers.{numbers_of_consts, numbers_of_types, numbers_of_vars, number_formal, numbers_of_formals, number_formals};
+ghost use Rattle.alma_tree.specs.Numbers.{numbers_of_params, numbers_of_result, numbers_of_body, number_decl, numbers_of_decls, number_block};
 ghost use Rattle.alma_grammar.specs.Parts.{const_tail, type_tail, var_tail, formal_tail, params_part, params_inside, result_part, decl_tail, body_part};
 ghost use Rattle.alma_grammar.specs.Parts.{formal_parts, block_parts};
 ghost use Rattle.alma_grammar.specs.Filling.{spell_inside_params};
 ghost use Rattle.alma_parse.specs.Forms.{const_entry_parts, type_entry_parts, var_entry_parts, const_decl_parts, type_decl_parts, var_decl_parts};
-ghost use Rattle.alma_parse.specs.Forms.{procedure_parts, decl_form_parts, formals_parts, inside_params_of, spell_const_entry, spell_type_entry, spell_var_entry};
-ghost use Rattle.alma_parse.specs.Forms.{number_const_entry, number_type_entry, number_var_entry, number_inside_params};
+ghost use Rattle.alma_parse.specs.Forms.{procedure_parts, decl_form_parts, formals_parts, inside_params_of, spell_const_entry, spell_type_entry};
+ghost use Rattle.alma_parse.specs.Forms.{spell_var_entry, number_const_entry, number_type_entry, number_var_entry, number_inside_params};
 ghost use Rattle.alma_parse.specs.Parsing.{seen, Reads, Fails};
 
 use crate::cursor::Cursor;
@@ -284,7 +284,8 @@ fn params_values<'t, 's>(
     depth: u32,
 ) -> Result<(Option<Formals>, Cursor<'t, 's>), Fault<'t, 's>>
     ensures read { MatchResult result
-        (λ t. Reads (spell_inside_params (inside_params_of t.0)) (number_inside_params t.0) (λ o. params_inside ∷ o) depth (pred depth) (seen at.entry) (seen t.1))
+        (λ t. Reads (spell_inside_params (inside_params_of t.0)) (number_inside_params t.0) (λ o. params_inside ∷ o)
+        depth (pred depth) (seen at.entry) (seen t.1))
         (λ e. Fails e (λ o. params_inside ∷ o) depth (seen at.entry)) }
 {
     if let Some(after) = at.skip(Kind::CloseParen) {

@@ -1,18 +1,19 @@
 // Expressions and designators.
 ghost use Rattle.std.specs.Prelude.{◌≡◌, ◌∷◌, ◌<◌, ℕ, pred, length, List, MatchResult, IfOk, Some, None};
 ghost use Rattle.alma_tree.specs.declared.kind.Kind.TheVariants as kinds;
-ghost use Rattle.alma_tree.specs.Spelling.{spell_expr, spell_compared, spell_sign, spell_simple, spell_term_tail, spell_term, spell_factor_tail};
+ghost use Rattle.alma_tree.specs.Spelling.{spell_expr, spell_compared, spell_simple, spell_term_tail, spell_term, spell_factor_tail};
 ghost use Rattle.alma_tree.specs.Spelling.{spell_factor, spell_primary, spell_args, spell_exprs, spell_expr_tail, spell_desig, spell_selector_tail};
 ghost use Rattle.alma_tree.specs.Spelling.{spell_selector};
 ghost use Rattle.alma_tree.specs.View.{view_expr, compared_of, view_simple, terms_of, view_term, factors_of, view_factor, view_primary, args_of};
 ghost use Rattle.alma_tree.specs.View.{args_values, view_exprs, exprs_of, view_desig, selectors_of, view_selector};
-ghost use Rattle.alma_tree.specs.Numbers.{◌>>◌, number_sign, number_expr, numbers_of_compared, number_simple, numbers_of_terms, number_term, numbers_of_factors};
+ghost use Rattle.alma_tree.specs.Numbers.{number_expr, numbers_of_compared, number_simple, numbers_of_terms, number_term, numbers_of_factors};
 ghost use Rattle.alma_tree.specs.Numbers.{number_factor, number_primary, numbers_of_args, number_exprs, numbers_of_exprs, number_desig, numbers_of_selectors};
 ghost use Rattle.alma_tree.specs.Numbers.{number_selector};
 ghost use Rattle.alma_grammar.specs.Filling.{spell_inside_args};
 ghost use Rattle.alma_grammar.specs.Parts.{Part, one, factor_part, primary_part, factor_tail, term_tail, compared_part, args_part, args_inside, expr_tail};
 ghost use Rattle.alma_grammar.specs.Parts.{selector_tail, term_parts, simple_parts, expr_parts, exprs_parts, desig_parts};
-ghost use Rattle.alma_parse.specs.Forms.{paren_parts, known_parts, ord_parts, chr_parts, field_parts, index_parts, selector_form_parts, inside_of, number_inside_args};
+ghost use Rattle.alma_parse.specs.Forms.{paren_parts, known_parts, ord_parts, chr_parts, field_parts, index_parts, selector_form_parts, inside_of};
+ghost use Rattle.alma_parse.specs.Forms.{number_inside_args, spell_signed, number_signed};
 ghost use Rattle.alma_parse.specs.Parsing.{seen, Reads, Extends, Fails};
 
 use crate::cursor::Cursor;
@@ -98,7 +99,7 @@ fn simple_from<'t, 's>(
     depth: u32,
 ) -> Result<(Simple, Cursor<'t, 's>), Fault<'t, 's>>
     ensures read { MatchResult result
-        (λ t. Extends (λ r. spell_sign sign (spell_term (view_term first) r)) (number_sign sign >> number_term first) (λ o. term_tail ∷ o)
+        (λ t. Extends (spell_signed sign first) (number_signed sign first) (λ o. term_tail ∷ o)
         (spell_simple (view_simple t.0)) (number_simple t.0) depth (seen at.entry) (seen t.1))
         (λ e. Fails e (λ o. term_tail ∷ o) depth (seen at.entry)) }
 {
@@ -358,12 +359,12 @@ pub fn args<'t, 's>(
     ensures read { MatchResult result (λ t. Reads (spell_args (args_of t.0)) (numbers_of_args t.0) (λ o. args_part ∷ o) depth depth (seen at.entry) (seen t.1))
         (λ e. Fails e (λ o. args_part ∷ o) depth (seen at.entry)) }
 {
-    if !at.is_at(Kind::OpenParen) {
-        return Ok((None, at));
+    if at.is_at(Kind::OpenParen) {
+        let (at, inner) = at.open(Kind::OpenParen, depth)?;
+        let (values, at) = args_values(alloc, at, inner)?;
+        return Ok((Some(Args { values }), at));
     }
-    let (at, inner) = at.open(Kind::OpenParen, depth)?;
-    let (values, at) = args_values(alloc, at, inner)?;
-    Ok((Some(Args { values }), at))
+    Ok((None, at))
 }
 
 /// What stands behind the opening parenthesis of arguments, up to the closing one. The depth is that inside.
@@ -441,7 +442,8 @@ fn selectors<'t, 's>(
     depth: u32,
 ) -> Result<(Vec<Selector>, Cursor<'t, 's>), Fault<'t, 's>>
     ensures read { MatchResult result
-        (λ t. Reads (spell_selector_tail (selectors_of t.0.items)) (numbers_of_selectors t.0.items) (λ o. selector_tail ∷ o) depth depth (seen at.entry) (seen t.1))
+        (λ t. Reads (spell_selector_tail (selectors_of t.0.items)) (numbers_of_selectors t.0.items)
+        (λ o. selector_tail ∷ o) depth depth (seen at.entry) (seen t.1))
         (λ e. Fails e (λ o. selector_tail ∷ o) depth (seen at.entry)) }
 {
     let mut more = Vec::new(alloc);

@@ -2,7 +2,8 @@
 ghost use Rattle.std.specs.Prelude.{◌≡◌, ◌∷◌, if◌then◌else◌, ℕ, true, false, MatchOption, MatchResult, IfSome, Some, None};
 ghost use Rattle.alma_tree.specs.Spelling.{add_kind, mul_kind, relation_kind, spell_sign, spell_mode};
 ghost use Rattle.alma_tree.specs.Numbers.{number_sign, number_mode};
-ghost use Rattle.alma_grammar.specs.Parts.{begins, sign_part, factor_tail, term_tail, compared_part, stmt_part, primary_part, selector_tail, arm_part, returned_part};
+ghost use Rattle.alma_grammar.specs.Parts.{begins, sign_part, factor_tail, term_tail, compared_part, stmt_part, primary_part, selector_tail};
+ghost use Rattle.alma_grammar.specs.Parts.{arm_part, returned_part};
 ghost use Rattle.alma_grammar.specs.Parts.{mode_part, plain_part, decl_tail, expr_parts};
 ghost use Rattle.alma_parse.specs.declared.fault.Fault.TheVariants as faults;
 ghost use Rattle.alma_parse.specs.Forms.{stmt_form_parts, primary_form_parts, selector_form_parts, labelled_parts};
@@ -167,7 +168,8 @@ pub fn stmt_form(kind: Kind) -> StmtForm
 
 /// The form of a primary that begins with this kind.
 pub fn primary_form(kind: Kind) -> Option<PrimaryForm>
-    ensures begins { MatchOption result (begins primary_part kind ≡ None) (λ form. (ks : _) → Becomes (λ o. primary_part ∷ o) (primary_form_parts form) (kind ∷ ks)) }
+    ensures begins { MatchOption result (begins primary_part kind ≡ None) (λ form. (ks : _) → Becomes
+        (λ o. primary_part ∷ o) (primary_form_parts form) (kind ∷ ks)) }
 {
     match kind {
         Kind::Number => Some(PrimaryForm::Number),

@@ -5,7 +5,8 @@ ghost use Rattle.alma_tree.specs.Spelling.{spell_desig, spell_stmts, spell_stmt_
 ghost use Rattle.alma_tree.specs.Spelling.{spell_returned, spell_desig_tail, spell_arm, spell_arm_tail, spell_label, spell_high, spell_label_tail};
 ghost use Rattle.alma_tree.specs.View.{view_stmts, stmts_of, view_stmt, elsifs_of, else_of, by_of, orelses_of, returned_of, desigs_of, view_arm, arms_of};
 ghost use Rattle.alma_tree.specs.View.{view_label, high_of, labels_of, view_desig};
-ghost use Rattle.alma_tree.specs.Numbers.{number_stmts, numbers_of_stmts, number_stmt, numbers_of_elsifs, numbers_of_else, numbers_of_by, numbers_of_high, numbers_of_orelses};
+ghost use Rattle.alma_tree.specs.Numbers.{number_stmts, numbers_of_stmts, number_stmt, numbers_of_elsifs, numbers_of_else, numbers_of_by};
+ghost use Rattle.alma_tree.specs.Numbers.{numbers_of_high, numbers_of_orelses};
 ghost use Rattle.alma_tree.specs.Numbers.{numbers_of_returned, numbers_of_desigs, number_arm, numbers_of_arms, number_label, numbers_of_labels, number_desig};
 ghost use Rattle.alma_grammar.specs.Parts.{one, stmt_part, stmt_tail, elsif_tail, else_part, by_part, orelse_tail, returned_part, desig_tail, arm_part};
 ghost use Rattle.alma_grammar.specs.Parts.{arm_tail, high_part, label_tail, expr_parts, stmts_parts, label_parts};
@@ -411,7 +412,8 @@ fn arm_list<'t, 's>(
     mut at: Cursor<'t, 's>,
     depth: u32,
 ) -> Result<(Vec<Arm>, Cursor<'t, 's>), Fault<'t, 's>>
-    ensures read { MatchResult result (λ t. Reads (spell_arm_tail (arms_of t.0.items)) (numbers_of_arms t.0.items) (λ o. arm_tail ∷ o) depth depth (seen at.entry) (seen t.1))
+    ensures read { MatchResult result (λ t. Reads (spell_arm_tail (arms_of t.0.items)) (numbers_of_arms t.0.items)
+        (λ o. arm_tail ∷ o) depth depth (seen at.entry) (seen t.1))
         (λ e. Fails e (λ o. arm_tail ∷ o) depth (seen at.entry)) }
 {
     let mut more = Vec::new(alloc);
@@ -568,11 +570,11 @@ fn returned<'t, 's>(
         (λ t. Reads (spell_returned (returned_of t.0)) (numbers_of_returned t.0) (λ o. returned_part ∷ o) depth depth (seen at.entry) (seen t.1))
         (λ e. Fails e (λ o. returned_part ∷ o) depth (seen at.entry)) }
 {
-    if !at.begins_expr() {
-        return Ok((None, at));
+    if at.begins_expr() {
+        let (value, at) = expr(alloc, at, depth)?;
+        return Ok((Some(value), at));
     }
-    let (value, at) = expr(alloc, at, depth)?;
-    Ok((Some(value), at))
+    Ok((None, at))
 }
 
 #[cycle(phrases)]

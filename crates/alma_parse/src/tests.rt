@@ -166,9 +166,15 @@ fn changed_tokens(rt: HostRuntime) -> Result<(), Fail> {
     let tokens = scan(rt.alloc(), EVERY)?;
     for place in 0..tokens.len() {
         let missing = changed(rt.alloc(), &tokens, place, 0)?;
-        assert!(rt; is_refused_behind(rt.alloc(), &missing, place)?, "without {place}");
+        assert!(rt;
+            is_refused_behind(rt.alloc(), &missing, place)?,
+            "without {place}"
+        );
         let doubled = changed(rt.alloc(), &tokens, place, 2)?;
-        assert!(rt; is_refused_behind(rt.alloc(), &doubled, place)?, "doubled {place}");
+        assert!(rt;
+            is_refused_behind(rt.alloc(), &doubled, place)?,
+            "doubled {place}"
+        );
     }
     Ok(())
 }

@@ -245,7 +245,8 @@ fn field_list_list<'t, 's>(
     depth: u32,
 ) -> Result<(Vec<FieldList>, Cursor<'t, 's>), Fault<'t, 's>>
     ensures read { MatchResult result
-        (λ t. Reads (spell_field_list_tail (field_lists_of t.0.items)) (numbers_of_field_lists t.0.items) (λ o. field_list_tail ∷ o) depth depth (seen at.entry) (seen t.1))
+        (λ t. Reads (spell_field_list_tail (field_lists_of t.0.items)) (numbers_of_field_lists t.0.items) (λ o. field_list_tail ∷ o)
+        depth depth (seen at.entry) (seen t.1))
         (λ e. Fails e (λ o. field_list_tail ∷ o) depth (seen at.entry)) }
 {
     let mut more = Vec::new(alloc);

@@ -2,7 +2,8 @@ use Rattle.std.proofs.Common.{◌+◌, ◌*◌, length}
 use Rattle.alma_tree.specs.Spelling.{spell_term_tail, spell_factor_tail, spell_expr_tail, spell_selector_tail, spell_stmt_tail, spell_elsif_tail}
 use Rattle.alma_tree.specs.Spelling.{spell_arm_tail, spell_label_tail, spell_orelse_tail, spell_desig_tail}
 use Rattle.alma_tree.specs.View.{terms_of, factors_of, exprs_of, selectors_of, stmts_of, elsifs_of, arms_of, labels_of, orelses_of, desigs_of}
-use Rattle.alma_tree.specs.Numbers.{numbers_of_terms, numbers_of_factors, numbers_of_exprs, numbers_of_selectors, numbers_of_stmts, numbers_of_elsifs, numbers_of_arms, numbers_of_labels, numbers_of_orelses, numbers_of_desigs}
+use Rattle.alma_tree.specs.Numbers.{numbers_of_terms, numbers_of_factors, numbers_of_exprs, numbers_of_selectors, numbers_of_stmts, numbers_of_elsifs}
+use Rattle.alma_tree.specs.Numbers.{numbers_of_arms, numbers_of_labels, numbers_of_orelses, numbers_of_desigs}
 use Rattle.alma_grammar.specs.Parts.{term_tail, factor_tail, expr_tail, selector_tail, stmt_tail, elsif_tail, arm_tail, label_tail, orelse_tail, desig_tail}
 use Rattle.alma_parse.specs.Parsing.{seen}
 use Rattle.alma_parse.proofs.Loops.{Loops}
@@ -179,61 +180,71 @@ abbrev pub decreases-statement::stmts : goal.decreases-statement::stmts
 decreases-statement::stmts l = 16 * length (seen l.at).kinds + 9
 
 abbrev pub invariant-expression::terms-loop-operator : goal.invariant-expression::terms-loop-operator
-invariant-expression::terms-loop-operator l = Loops (spell_term_tail (terms_of l.more.items)) (numbers_of_terms l.more.items) term_tail l.depth (seen l.fn.at) (seen l.at)
+invariant-expression::terms-loop-operator l = Loops (spell_term_tail (terms_of l.more.items)) (numbers_of_terms l.more.items) term_tail l.depth
+    (seen l.fn.at) (seen l.at)
 
 abbrev pub decreases-expression::terms-loop-operator : goal.decreases-expression::terms-loop-operator
 decreases-expression::terms-loop-operator l = length (seen l.at).kinds
 
 abbrev pub invariant-expression::factors-loop-operator : goal.invariant-expression::factors-loop-operator
-invariant-expression::factors-loop-operator l = Loops (spell_factor_tail (factors_of l.more.items)) (numbers_of_factors l.more.items) factor_tail l.depth (seen l.fn.at) (seen l.at)
+invariant-expression::factors-loop-operator l = Loops (spell_factor_tail (factors_of l.more.items)) (numbers_of_factors l.more.items) factor_tail l.depth
+    (seen l.fn.at) (seen l.at)
 
 abbrev pub decreases-expression::factors-loop-operator : goal.decreases-expression::factors-loop-operator
 decreases-expression::factors-loop-operator l = length (seen l.at).kinds
 
 abbrev pub invariant-expression::expr_list-loop-after : goal.invariant-expression::expr_list-loop-after
-invariant-expression::expr_list-loop-after l = Loops (spell_expr_tail (exprs_of l.more.items)) (numbers_of_exprs l.more.items) expr_tail l.depth (seen l.fn.at) (seen l.at)
+invariant-expression::expr_list-loop-after l = Loops (spell_expr_tail (exprs_of l.more.items)) (numbers_of_exprs l.more.items) expr_tail l.depth
+    (seen l.fn.at) (seen l.at)
 
 abbrev pub decreases-expression::expr_list-loop-after : goal.decreases-expression::expr_list-loop-after
 decreases-expression::expr_list-loop-after l = length (seen l.at).kinds
 
 abbrev pub invariant-expression::selectors-loop-form : goal.invariant-expression::selectors-loop-form
-invariant-expression::selectors-loop-form l = Loops (spell_selector_tail (selectors_of l.more.items)) (numbers_of_selectors l.more.items) selector_tail l.depth (seen l.fn.at) (seen l.at)
+invariant-expression::selectors-loop-form l = Loops (spell_selector_tail (selectors_of l.more.items))
+    (numbers_of_selectors l.more.items) selector_tail l.depth (seen l.fn.at) (seen l.at)
 
 abbrev pub decreases-expression::selectors-loop-form : goal.decreases-expression::selectors-loop-form
 decreases-expression::selectors-loop-form l = length (seen l.at).kinds
 
 abbrev pub invariant-statement::stmt_list-loop-after : goal.invariant-statement::stmt_list-loop-after
-invariant-statement::stmt_list-loop-after l = Loops (spell_stmt_tail (stmts_of l.more.items)) (numbers_of_stmts l.more.items) stmt_tail l.depth (seen l.fn.at) (seen l.at)
+invariant-statement::stmt_list-loop-after l = Loops (spell_stmt_tail (stmts_of l.more.items)) (numbers_of_stmts l.more.items) stmt_tail l.depth
+    (seen l.fn.at) (seen l.at)
 
 abbrev pub decreases-statement::stmt_list-loop-after : goal.decreases-statement::stmt_list-loop-after
 decreases-statement::stmt_list-loop-after l = length (seen l.at).kinds
 
 abbrev pub invariant-statement::elsif_list-loop-after : goal.invariant-statement::elsif_list-loop-after
-invariant-statement::elsif_list-loop-after l = Loops (spell_elsif_tail (elsifs_of l.more.items)) (numbers_of_elsifs l.more.items) elsif_tail l.depth (seen l.fn.at) (seen l.at)
+invariant-statement::elsif_list-loop-after l = Loops (spell_elsif_tail (elsifs_of l.more.items)) (numbers_of_elsifs l.more.items) elsif_tail l.depth
+    (seen l.fn.at) (seen l.at)
 
 abbrev pub decreases-statement::elsif_list-loop-after : goal.decreases-statement::elsif_list-loop-after
 decreases-statement::elsif_list-loop-after l = length (seen l.at).kinds
 
 abbrev pub invariant-statement::arm_list-loop-after : goal.invariant-statement::arm_list-loop-after
-invariant-statement::arm_list-loop-after l = Loops (spell_arm_tail (arms_of l.more.items)) (numbers_of_arms l.more.items) arm_tail l.depth (seen l.fn.at) (seen l.at)
+invariant-statement::arm_list-loop-after l = Loops (spell_arm_tail (arms_of l.more.items)) (numbers_of_arms l.more.items) arm_tail l.depth (seen l.fn.at)
+    (seen l.at)
 
 abbrev pub decreases-statement::arm_list-loop-after : goal.decreases-statement::arm_list-loop-after
 decreases-statement::arm_list-loop-after l = length (seen l.at).kinds
 
 abbrev pub invariant-statement::label_list-loop-after : goal.invariant-statement::label_list-loop-after
-invariant-statement::label_list-loop-after l = Loops (spell_label_tail (labels_of l.more.items)) (numbers_of_labels l.more.items) label_tail l.depth (seen l.fn.at) (seen l.at)
+invariant-statement::label_list-loop-after l = Loops (spell_label_tail (labels_of l.more.items)) (numbers_of_labels l.more.items) label_tail l.depth
+    (seen l.fn.at) (seen l.at)
 
 abbrev pub decreases-statement::label_list-loop-after : goal.decreases-statement::label_list-loop-after
 decreases-statement::label_list-loop-after l = length (seen l.at).kinds
 
 abbrev pub invariant-statement::orelse_list-loop-after : goal.invariant-statement::orelse_list-loop-after
-invariant-statement::orelse_list-loop-after l = Loops (spell_orelse_tail (orelses_of l.more.items)) (numbers_of_orelses l.more.items) orelse_tail l.depth (seen l.fn.at) (seen l.at)
+invariant-statement::orelse_list-loop-after l = Loops (spell_orelse_tail (orelses_of l.more.items)) (numbers_of_orelses l.more.items) orelse_tail l.depth
+    (seen l.fn.at) (seen l.at)
 
 abbrev pub decreases-statement::orelse_list-loop-after : goal.decreases-statement::orelse_list-loop-after
 decreases-statement::orelse_list-loop-after l = length (seen l.at).kinds
 
 abbrev pub invariant-statement::desig_list-loop-after : goal.invariant-statement::desig_list-loop-after
-invariant-statement::desig_list-loop-after l = Loops (spell_desig_tail (desigs_of l.more.items)) (numbers_of_desigs l.more.items) desig_tail l.depth (seen l.fn.at) (seen l.at)
+invariant-statement::desig_list-loop-after l = Loops (spell_desig_tail (desigs_of l.more.items)) (numbers_of_desigs l.more.items) desig_tail l.depth
+    (seen l.fn.at) (seen l.at)
 
 abbrev pub decreases-statement::desig_list-loop-after : goal.decreases-statement::desig_list-loop-after
 decreases-statement::desig_list-loop-after l = length (seen l.at).kinds

@@ -8,10 +8,16 @@ use Rattle.alma_parse.proofs.declarations.body.Goals as goal
 pub returns-in_err-value : goal.returns-in_err-value
 returns-in_err-value c =
     let p = err_from_is_err_and c.from_residual.result c.from_residual.ensures.1 in
-    record { read = rw (p.1, p.2) (fails_instead (where_passed c.in-Some.ensures.passes a_body_part) (after (passed refl refl c.in-Some.ensures.passes) c.in_err-value.ensures.read)) }
+    record {
+      read = rw (p.1, p.2) (fails_instead (where_passed c.in-Some.ensures.passes a_body_part) (after
+          (passed refl refl c.in-Some.ensures.passes) c.in_err-value.ensures.read));
+    }
 
 pub returns-in_default : goal.returns-in_default
 returns-in_default c = record { read = left_out (no_body_part _ c.in_default.ensures.passes) }
 
 pub returns : goal.returns
-returns c = record { read = instead (where_passed c.in-Some.ensures.passes a_body_part) (then (passed refl refl c.in-Some.ensures.passes) c.in_ok-value.ensures.read) }
+returns c = record {
+  read = instead (where_passed c.in-Some.ensures.passes a_body_part) (then
+      (passed refl refl c.in-Some.ensures.passes) c.in_ok-value.ensures.read);
+}

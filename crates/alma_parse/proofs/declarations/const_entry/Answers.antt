@@ -36,7 +36,8 @@ returns-in_err-value-clause-shorter c =
 pub returns-in_err-at-2-clause-read : goal.returns-in_err-at-2-clause-read
 returns-in_err-at-2-clause-read c =
     let p = err_from_is_err_and c.from_residual-in_err-at-2.result c.from_residual-in_err-at-2.ensures.1 in
-    rw (p.1, p.2) (after (c.in_ok-name.ensures.read _) (after (passed refl refl c.in_ok-at.ensures.passes) (after (c.in_ok-value.ensures.read) (first (c.in_err-at-2.ensures.passes _)))))
+    rw (p.1, p.2) (after (c.in_ok-name.ensures.read _) (after (passed refl refl c.in_ok-at.ensures.passes) (after (c.in_ok-value.ensures.read) (first
+    (c.in_err-at-2.ensures.passes _)))))
 
 pub returns-in_err-at-2-clause-shorter : goal.returns-in_err-at-2-clause-shorter
 returns-in_err-at-2-clause-shorter c =
@@ -44,7 +45,14 @@ returns-in_err-at-2-clause-shorter c =
     rw p.1 tt
 
 pub returns-clause-read : goal.returns-clause-read
-returns-clause-read c = then (c.in_ok-name.ensures.read _) (then (passed refl refl c.in_ok-at.ensures.passes) (then (c.in_ok-value.ensures.read) (passed refl refl c.in_ok-at-2.ensures.passes)))
+returns-clause-read c = then (c.in_ok-name.ensures.read _) (then (passed refl refl c.in_ok-at.ensures.passes) (then (c.in_ok-value.ensures.read)
+    (passed refl refl c.in_ok-at-2.ensures.passes)))
 
 pub returns-clause-shorter : goal.returns-clause-shorter
-returns-clause-shorter c = omega (arith, (c.in_ok-name.ensures.read 0).shorter, c.in_ok-at.ensures.passes.shorter, c.in_ok-value.ensures.read.shorter, c.in_ok-at-2.ensures.passes.shorter)
+returns-clause-shorter c = omega (
+  arith,
+  (c.in_ok-name.ensures.read 0).shorter,
+  c.in_ok-at.ensures.passes.shorter,
+  c.in_ok-value.ensures.read.shorter,
+  c.in_ok-at-2.ensures.passes.shorter,
+)

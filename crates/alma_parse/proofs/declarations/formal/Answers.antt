@@ -17,7 +17,10 @@ returns-in_err-at c =
 pub returns-in_err-type_name : goal.returns-in_err-type_name
 returns-in_err-type_name c =
     let p = err_from_is_err_and c.from_residual-in_err-type_name.result c.from_residual-in_err-type_name.ensures.1 in
-    record { read = rw (p.1, p.2) (after (c.mode-mode.ensures.read _) (after (c.in_ok-names.ensures.read _) (after (passed refl refl c.in_ok-at.ensures.passes) (first (c.in_err-type_name.ensures.read _))))) }
+    record {
+      read = rw (p.1, p.2) (after (c.mode-mode.ensures.read _) (after (c.in_ok-names.ensures.read _) (after
+          (passed refl refl c.in_ok-at.ensures.passes) (first (c.in_err-type_name.ensures.read _)))));
+    }
 
 pub returns-in_err-node : goal.returns-in_err-node
 returns-in_err-node c =
@@ -25,5 +28,7 @@ returns-in_err-node c =
     record { read = rw (p.1, p.2) (want c.in_err-node.ensures.counted) }
 
 pub returns : goal.returns
-returns c = record { read = then (c.mode-mode.ensures.read _) (then (c.in_ok-names.ensures.read _) (then (passed refl refl c.in_ok-at.ensures.passes)
-    (then (c.in_ok-type_name.ensures.read _) (counted c.in_ok-node.ensures.counted)))) }
+returns c = record {
+  read = then (c.mode-mode.ensures.read _) (then (c.in_ok-names.ensures.read _) (then (passed refl refl c.in_ok-at.ensures.passes)
+      (then (c.in_ok-type_name.ensures.read _) (counted c.in_ok-node.ensures.counted))));
+}

@@ -8,7 +8,8 @@ use Rattle.alma_parse.proofs.Loops.{Loops}
 use Rattle.alma_parse.proofs.declarations.formal_list.Given as goal
 
 abbrev pub invariant-loop-after : goal.invariant-loop-after
-invariant-loop-after l = Loops (spell_formal_tail (formal_tail_of l.more.items)) (numbers_of_formals l.more.items) formal_tail l.depth (seen l.fn.at) (seen l.at)
+invariant-loop-after l = Loops (spell_formal_tail (formal_tail_of l.more.items)) (numbers_of_formals l.more.items) formal_tail l.depth (seen l.fn.at)
+    (seen l.at)
 
 abbrev pub decreases-loop-after : goal.decreases-loop-after
 decreases-loop-after l = length (seen l.at).kinds

@@ -14,8 +14,14 @@ returns-in_err-at c =
 pub returns-in_err-formals : goal.returns-in_err-formals
 returns-in_err-formals c =
     let p = err_from_is_err_and c.from_residual-in_err-formals.result c.from_residual-in_err-formals.ensures.1 in
-    record { read = rw (p.1, p.2) (fails_instead (where_started (sym c.if-not-is_at.ensures.starts) a_params_part) (after (opened refl c.in_ok-at.ensures.opened) c.in_err-formals.ensures.read)) }
+    record {
+      read = rw (p.1, p.2) (fails_instead (where_started (sym c.if-not-is_at.ensures.starts) a_params_part) (after
+          (opened refl c.in_ok-at.ensures.opened) c.in_err-formals.ensures.read));
+    }
 
 pub returns : goal.returns
-returns c = record { read = spelled_alike (params_spelled c.in_ok-formals.formals) (numbered_alike (params_numbered c.in_ok-formals.formals)
-    (instead (where_started (sym c.if-not-is_at.ensures.starts) a_params_part) (back_out c.in_ok-at.ensures.opened (then (opened refl c.in_ok-at.ensures.opened) c.in_ok-formals.ensures.read)))) }
+returns c = record {
+  read = spelled_alike (params_spelled c.in_ok-formals.formals) (numbered_alike (params_numbered c.in_ok-formals.formals)
+      (instead (where_started (sym c.if-not-is_at.ensures.starts) a_params_part) (back_out c.in_ok-at.ensures.opened (then
+      (opened refl c.in_ok-at.ensures.opened) c.in_ok-formals.ensures.read))));
+}

@@ -16,7 +16,13 @@ returns-in_err-formals c =
 pub returns-in_err-at : goal.returns-in_err-at
 returns-in_err-at c =
     let p = err_from_is_err_and c.from_residual-in_err-at.result c.from_residual-in_err-at.ensures.1 in
-    record { read = rw (p.1, p.2) (fails_instead (some_params _ c.in_default.ensures.passes) (after c.in_ok-formals.ensures.read (c.in_err-at.ensures.passes _))) }
+    record {
+      read = rw (p.1, p.2) (fails_instead (some_params _ c.in_default.ensures.passes) (after c.in_ok-formals.ensures.read
+          (c.in_err-at.ensures.passes _)));
+    }
 
 pub returns : goal.returns
-returns c = record { read = instead (some_params _ c.in_default.ensures.passes) (then c.in_ok-formals.ensures.read (closed_here refl refl c.in_ok-at.ensures.passes)) }
+returns c = record {
+  read = instead (some_params _ c.in_default.ensures.passes) (then c.in_ok-formals.ensures.read
+      (closed_here refl refl c.in_ok-at.ensures.passes));
+}

@@ -8,10 +8,16 @@ use Rattle.alma_parse.proofs.declarations.result_name.Goals as goal
 pub returns-in_err-name : goal.returns-in_err-name
 returns-in_err-name c =
     let p = err_from_is_err_and c.from_residual.result c.from_residual.ensures.1 in
-    record { read = rw (p.1, p.2) (λ d. fails_instead (where_passed c.in-Some.ensures.passes a_result_part) (after (passed refl refl c.in-Some.ensures.passes) (c.in_err-name.ensures.read d))) }
+    record {
+      read = rw (p.1, p.2) (λ d. fails_instead (where_passed c.in-Some.ensures.passes a_result_part) (after
+          (passed refl refl c.in-Some.ensures.passes) (c.in_err-name.ensures.read d)));
+    }
 
 pub returns-in_default : goal.returns-in_default
 returns-in_default c = record { read = λ d. left_out (no_result_part _ c.in_default.ensures.passes) }
 
 pub returns : goal.returns
-returns c = record { read = λ d. instead (where_passed c.in-Some.ensures.passes a_result_part) (then (passed refl refl c.in-Some.ensures.passes) (c.in_ok-name.ensures.read d)) }
+returns c = record {
+  read = λ d. instead (where_passed c.in-Some.ensures.passes a_result_part) (then (passed refl refl c.in-Some.ensures.passes)
+      (c.in_ok-name.ensures.read d));
+}

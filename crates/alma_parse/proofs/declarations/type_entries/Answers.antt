@@ -17,7 +17,10 @@ loop-alloc-preserved c = rw c.in_ok-push.ensures.items
 pub returns-in_err-next : goal.returns-in_err-next
 returns-in_err-next c =
     let p = err_from_is_err_and c.from_residual.result c.from_residual.ensures.1 in
-    record { read = rw (p.1, p.2) (broken c.loop-alloc.invariant (where_started (sym c.loop-alloc-test.ensures.starts) a_type_tail) (c.in_err-next.ensures.read)) }
+    record {
+      read = rw (p.1, p.2) (broken c.loop-alloc.invariant (where_started (sym c.loop-alloc-test.ensures.starts) a_type_tail)
+          (c.in_err-next.ensures.read));
+    }
 
 pub returns-in_err-push : goal.returns-in_err-push
 returns-in_err-push c =

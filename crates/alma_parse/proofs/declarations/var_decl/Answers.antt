@@ -38,4 +38,9 @@ pub returns-clause-read : goal.returns-clause-read
 returns-clause-read c = then (passed refl refl c.in_ok-at.ensures.passes) (then (c.in_ok-entries.ensures.read) (counted c.in_ok-node.ensures.counted))
 
 pub returns-clause-shorter : goal.returns-clause-shorter
-returns-clause-shorter c = omega (arith, c.in_ok-at.ensures.passes.shorter, c.in_ok-entries.ensures.read.shorter, (counted {d = 0} c.in_ok-node.ensures.counted).shorter)
+returns-clause-shorter c = omega (
+  arith,
+  c.in_ok-at.ensures.passes.shorter,
+  c.in_ok-entries.ensures.read.shorter,
+  (counted {d = 0} c.in_ok-node.ensures.counted).shorter,
+)

@@ -21,3 +21,7 @@ returns-in_err-node-clause-read c =
 pub returns-clause-read : goal.returns-clause-read
 returns-clause-read c = λ d.
     steps.then (steps.passed refl refl c.in_ok-at.ensures.passes) (steps.then (c.in_ok-name.ensures.read d) (steps.counted c.in_ok-node.ensures.counted))
+
+pub returns-clause-shorter : goal.returns-clause-shorter
+returns-clause-shorter c =
+    steps.strictly c.in_ok-at.ensures.passes (steps.then (c.in_ok-name.ensures.read 0) (steps.counted c.in_ok-node.ensures.counted))

@@ -15,32 +15,54 @@ returns-in_err-at c =
 pub returns-in_err-name : goal.returns-in_err-name
 returns-in_err-name c =
     let p = err_from_is_err_and c.from_residual-in_err-name.result c.from_residual-in_err-name.ensures.1 in
-    record { read = rw (p.1, p.2) (ends_at (kinds_of c.args.tokens.now) c.start.ensures.start (after (opened refl c.in_ok-at.ensures.opened) (first (c.in_err-name.ensures.read _)))) }
+    record {
+      read = rw (p.1, p.2) (ends_at (kinds_of c.args.tokens.now) c.start.ensures.start (after (opened refl c.in_ok-at.ensures.opened) (first
+          (c.in_err-name.ensures.read _))));
+    }
 
 pub returns-in_err-at-2 : goal.returns-in_err-at-2
 returns-in_err-at-2 c =
     let p = err_from_is_err_and c.from_residual-in_err-at-2.result c.from_residual-in_err-at-2.ensures.1 in
-    record { read = rw (p.1, p.2) (ends_at (kinds_of c.args.tokens.now) c.start.ensures.start (after (opened refl c.in_ok-at.ensures.opened) (after (c.in_ok-name.ensures.read _) (first (c.in_err-at-2.ensures.passes _))))) }
+    record {
+      read = rw (p.1, p.2) (ends_at (kinds_of c.args.tokens.now) c.start.ensures.start (after (opened refl c.in_ok-at.ensures.opened) (after
+          (c.in_ok-name.ensures.read _) (first (c.in_err-at-2.ensures.passes _)))));
+    }
 
 pub returns-in_err-block : goal.returns-in_err-block
 returns-in_err-block c =
     let p = err_from_is_err_and c.from_residual-in_err-block.result c.from_residual-in_err-block.ensures.1 in
-    record { read = rw (p.1, p.2) (ends_at (kinds_of c.args.tokens.now) c.start.ensures.start (after (opened refl c.in_ok-at.ensures.opened) (after (c.in_ok-name.ensures.read _) (after (passed refl refl c.in_ok-at-2.ensures.passes) (first c.in_err-block.ensures.read))))) }
+    record {
+      read = rw (p.1, p.2) (ends_at (kinds_of c.args.tokens.now) c.start.ensures.start (after (opened refl c.in_ok-at.ensures.opened) (after
+          (c.in_ok-name.ensures.read _) (after (passed refl refl c.in_ok-at-2.ensures.passes) (first c.in_err-block.ensures.read)))));
+    }
 
 pub returns-in_err-at-3 : goal.returns-in_err-at-3
 returns-in_err-at-3 c =
     let p = err_from_is_err_and c.from_residual-in_err-at-3.result c.from_residual-in_err-at-3.ensures.1 in
-    record { read = rw (p.1, p.2) (ends_at (kinds_of c.args.tokens.now) c.start.ensures.start (after (opened refl c.in_ok-at.ensures.opened) (after (c.in_ok-name.ensures.read _) (after (passed refl refl c.in_ok-at-2.ensures.passes) (after (c.in_ok-block.ensures.read) (first (c.in_err-at-3.ensures.passes _))))))) }
+    record {
+      read = rw (p.1, p.2) (ends_at (kinds_of c.args.tokens.now) c.start.ensures.start (after (opened refl c.in_ok-at.ensures.opened) (after
+          (c.in_ok-name.ensures.read _) (after (passed refl refl c.in_ok-at-2.ensures.passes) (after (c.in_ok-block.ensures.read) (first
+          (c.in_err-at-3.ensures.passes _)))))));
+    }
 
 pub returns-in_err-end_name : goal.returns-in_err-end_name
 returns-in_err-end_name c =
     let p = err_from_is_err_and c.from_residual-in_err-end_name.result c.from_residual-in_err-end_name.ensures.1 in
-    record { read = rw (p.1, p.2) (ends_at (kinds_of c.args.tokens.now) c.start.ensures.start (after (opened refl c.in_ok-at.ensures.opened) (after (c.in_ok-name.ensures.read _) (after (passed refl refl c.in_ok-at-2.ensures.passes) (after (c.in_ok-block.ensures.read) (after (closed refl refl c.in_ok-at.ensures.opened c.in_ok-at-3.ensures.passes) (first (c.in_err-end_name.ensures.read _)))))))) }
+    record {
+      read = rw (p.1, p.2) (ends_at (kinds_of c.args.tokens.now) c.start.ensures.start (after (opened refl c.in_ok-at.ensures.opened) (after
+          (c.in_ok-name.ensures.read _) (after (passed refl refl c.in_ok-at-2.ensures.passes) (after (c.in_ok-block.ensures.read) (after
+          (closed refl refl c.in_ok-at.ensures.opened c.in_ok-at-3.ensures.passes) (first (c.in_err-end_name.ensures.read _))))))));
+    }
 
 pub returns-in_err-at-4 : goal.returns-in_err-at-4
 returns-in_err-at-4 c =
     let p = err_from_is_err_and c.from_residual-in_err-at-4.result c.from_residual-in_err-at-4.ensures.1 in
-    record { read = rw (p.1, p.2) (ends_at (kinds_of c.args.tokens.now) c.start.ensures.start (after (opened refl c.in_ok-at.ensures.opened) (after (c.in_ok-name.ensures.read _) (after (passed refl refl c.in_ok-at-2.ensures.passes) (after (c.in_ok-block.ensures.read) (after (closed refl refl c.in_ok-at.ensures.opened c.in_ok-at-3.ensures.passes) (after (c.in_ok-end_name.ensures.read _) (first (c.in_err-at-4.ensures.passes _))))))))) }
+    record {
+      read = rw (p.1, p.2) (ends_at (kinds_of c.args.tokens.now) c.start.ensures.start (after (opened refl c.in_ok-at.ensures.opened) (after
+          (c.in_ok-name.ensures.read _) (after (passed refl refl c.in_ok-at-2.ensures.passes) (after (c.in_ok-block.ensures.read) (after
+          (closed refl refl c.in_ok-at.ensures.opened c.in_ok-at-3.ensures.passes) (after (c.in_ok-end_name.ensures.read _) (first
+          (c.in_err-at-4.ensures.passes _)))))))));
+    }
 
 pub returns-in_err-node : goal.returns-in_err-node
 returns-in_err-node c =
@@ -50,10 +72,20 @@ returns-in_err-node c =
 pub returns-in_err-nothing_left : goal.returns-in_err-nothing_left
 returns-in_err-nothing_left c =
     let p = err_from_is_err_and c.from_residual-in_err-nothing_left.result c.from_residual-in_err-nothing_left.ensures.1 in
-    record { read = rw (p.1, p.2) (ends_behind _ (kinds_of c.args.tokens.now) c.start.ensures.start (then (opened refl c.in_ok-at.ensures.opened) (then (c.in_ok-name.ensures.read _) (then (passed refl refl c.in_ok-at-2.ensures.passes) (then (c.in_ok-block.ensures.read) (then (closed refl refl c.in_ok-at.ensures.opened c.in_ok-at-3.ensures.passes) (then (c.in_ok-end_name.ensures.read _) (then (passed refl refl c.in_ok-at-4.ensures.passes) (counted c.in_ok-node.ensures.counted)))))))) c.in_err-nothing_left.ensures.left) }
+    record {
+      read = rw (p.1, p.2) (ends_behind _ (kinds_of c.args.tokens.now) c.start.ensures.start (then (opened refl c.in_ok-at.ensures.opened)
+          (then (c.in_ok-name.ensures.read _) (then (passed refl refl c.in_ok-at-2.ensures.passes) (then (c.in_ok-block.ensures.read) (then
+          (closed refl refl c.in_ok-at.ensures.opened c.in_ok-at-3.ensures.passes) (then (c.in_ok-end_name.ensures.read _) (then
+          (passed refl refl c.in_ok-at-4.ensures.passes) (counted c.in_ok-node.ensures.counted)))))))) c.in_err-nothing_left.ensures.left);
+    }
 
 pub returns : goal.returns
-returns c = record { read = module_found (kinds_of c.args.tokens.now)
-    (record { node = c.in_ok-node.node; name = c.in_ok-name.name; block = c.in_ok-block.block; end_name = c.in_ok-end_name.end_name })
-    (length c.args.tokens.now) c.start.ensures.start (then (opened refl c.in_ok-at.ensures.opened) (then (c.in_ok-name.ensures.read _) (then (passed refl refl c.in_ok-at-2.ensures.passes) (then (c.in_ok-block.ensures.read) (then (closed refl refl c.in_ok-at.ensures.opened c.in_ok-at-3.ensures.passes) (then (c.in_ok-end_name.ensures.read _) (then (passed refl refl c.in_ok-at-4.ensures.passes) (counted c.in_ok-node.ensures.counted))))))))
-    (as_many c.args.tokens.now) c.requires.few c.in_ok-nothing_left.ensures.left }
+returns c = record {
+  read = module_found (kinds_of c.args.tokens.now)
+      (record { node = c.in_ok-node.node; name = c.in_ok-name.name; block = c.in_ok-block.block; end_name = c.in_ok-end_name.end_name })
+      (length c.args.tokens.now) c.start.ensures.start (then (opened refl c.in_ok-at.ensures.opened) (then (c.in_ok-name.ensures.read _) (then
+      (passed refl refl c.in_ok-at-2.ensures.passes) (then (c.in_ok-block.ensures.read) (then
+      (closed refl refl c.in_ok-at.ensures.opened c.in_ok-at-3.ensures.passes) (then (c.in_ok-end_name.ensures.read _) (then
+      (passed refl refl c.in_ok-at-4.ensures.passes) (counted c.in_ok-node.ensures.counted))))))))
+      (as_many c.args.tokens.now) c.requires.few c.in_ok-nothing_left.ensures.left;
+}

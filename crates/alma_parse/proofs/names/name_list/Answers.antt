@@ -17,8 +17,10 @@ loop-after-preserved c = λ d. rw c.in_ok-push.ensures.items
 pub returns-in_err-next : goal.returns-in_err-next
 returns-in_err-next c =
     let p = err_from_is_err_and c.from_residual.result c.from_residual.ensures.1 in
-    record { read = rw (p.1, p.2) (λ d. broken (c.loop-after.invariant d) (where_passed c.in-Some.ensures.passes a_name_tail)
-    (after (passed refl refl c.in-Some.ensures.passes) (c.in_err-next.ensures.read d))) }
+    record {
+      read = rw (p.1, p.2) (λ d. broken (c.loop-after.invariant d) (where_passed c.in-Some.ensures.passes a_name_tail)
+          (after (passed refl refl c.in-Some.ensures.passes) (c.in_err-next.ensures.read d)));
+    }
 
 pub returns : goal.returns
 returns c = record { read = λ d. ended (c.loop-after.invariant d) (no_name_tail _ c.in_default.ensures.passes) }

@@ -5,7 +5,8 @@ use Rattle.alma_tree.specs.Numbers.{token, node, number_plain, numbers_of_plains
 use Rattle.alma_tree.proofs.Rows as rows
 use Rattle.alma_tree.proofs.NumberRows as numbered
 use Rattle.alma_parse.proofs.Steps.{after, first, passed, opened, closed, counted, then}
-use Rattle.alma_parse.proofs.Turns.{begun, grown, ended, broken, where_passed, where_started, instead, fails_instead, numbered_alike, match_instead, match_instead_any, want, four_and}
+use Rattle.alma_parse.proofs.Turns.{begun, grown, ended, broken, where_passed, where_started}
+use Rattle.alma_parse.proofs.Turns.{instead, fails_instead, numbered_alike, match_instead, match_instead_any, want, four_and}
 use Rattle.alma_parse.proofs.Items.{dimensions_listed, plains_listed, field_lists_listed}
 use Rattle.alma_parse.proofs.LeftOut.{no_array_tail, a_array_tail, no_plain_tail, a_plain_tail, a_field_list_part, no_field_list_tail, a_field_list_tail}
 use Rattle.alma_parse.proofs.types.+types.Goals as goal
@@ -26,7 +27,10 @@ type_node-returns-in_err-node t c =
     record { read = rw (p.1, p.2) (want c.in_err-node.ensures.counted) }
 
 pub type_node-returns : goal.type_node-returns
-type_node-returns t c = record { read = rw (rows.type_rolled _, numbered.type_rolled _) (then (c.in_ok-arrays.ensures.read) (then (c.in_ok-element.ensures.read) (counted c.in_ok-node.ensures.counted))) }
+type_node-returns t c = record {
+  read = rw (rows.type_rolled _, numbered.type_rolled _) (then (c.in_ok-arrays.ensures.read) (then
+      (c.in_ok-element.ensures.read) (counted c.in_ok-node.ensures.counted)));
+}
 
 pub dimensions-returns-in_err-at-clause-read : goal.dimensions-returns-in_err-at-clause-read
 dimensions-returns-in_err-at-clause-read t c =
@@ -61,7 +65,8 @@ dimensions-returns-in_err-more-clause-shorter t c =
 pub dimensions-returns-in_err-at-2-clause-read : goal.dimensions-returns-in_err-at-2-clause-read
 dimensions-returns-in_err-at-2-clause-read t c =
     let p = err_from_is_err_and c.from_residual-in_err-at-2.result c.from_residual-in_err-at-2.ensures.1 in
-    rw (p.1, p.2) (after (passed refl refl c.in_ok-at.ensures.passes) (after (c.in_ok-first.ensures.read) (after (c.in_ok-more.ensures.read) (first (c.in_err-at-2.ensures.passes _)))))
+    rw (p.1, p.2) (after (passed refl refl c.in_ok-at.ensures.passes) (after (c.in_ok-first.ensures.read) (after (c.in_ok-more.ensures.read) (first
+    (c.in_err-at-2.ensures.passes _)))))
 
 pub dimensions-returns-in_err-at-2-clause-shorter : goal.dimensions-returns-in_err-at-2-clause-shorter
 dimensions-returns-in_err-at-2-clause-shorter t c =
@@ -69,10 +74,12 @@ dimensions-returns-in_err-at-2-clause-shorter t c =
     rw p.1 tt
 
 pub dimensions-returns-clause-read : goal.dimensions-returns-clause-read
-dimensions-returns-clause-read t c = then (passed refl refl c.in_ok-at.ensures.passes) (then (c.in_ok-first.ensures.read) (then (c.in_ok-more.ensures.read) (passed refl refl c.in_ok-at-2.ensures.passes)))
+dimensions-returns-clause-read t c = then (passed refl refl c.in_ok-at.ensures.passes) (then (c.in_ok-first.ensures.read) (then
+    (c.in_ok-more.ensures.read) (passed refl refl c.in_ok-at-2.ensures.passes)))
 
 pub dimensions-returns-clause-shorter : goal.dimensions-returns-clause-shorter
-dimensions-returns-clause-shorter t c = omega (arith, c.in_ok-at.ensures.passes.shorter, c.in_ok-first.ensures.read.shorter, c.in_ok-more.ensures.read.shorter, c.in_ok-at-2.ensures.passes.shorter)
+dimensions-returns-clause-shorter t c = omega
+    (arith, c.in_ok-at.ensures.passes.shorter, c.in_ok-first.ensures.read.shorter, c.in_ok-more.ensures.read.shorter, c.in_ok-at-2.ensures.passes.shorter)
 
 pub record_type-returns-in_err-at : goal.record_type-returns-in_err-at
 record_type-returns-in_err-at t c =
@@ -92,7 +99,10 @@ record_type-returns-in_err-more t c =
 pub record_type-returns-in_err-at-2 : goal.record_type-returns-in_err-at-2
 record_type-returns-in_err-at-2 t c =
     let p = err_from_is_err_and c.from_residual-in_err-at-2.result c.from_residual-in_err-at-2.ensures.1 in
-    record { read = rw (p.1, p.2) (after (opened refl c.in_ok-at.ensures.opened) (after (c.in_ok-first.ensures.read) (after (c.in_ok-more.ensures.read) (first (c.in_err-at-2.ensures.passes _))))) }
+    record {
+      read = rw (p.1, p.2) (after (opened refl c.in_ok-at.ensures.opened) (after (c.in_ok-first.ensures.read) (after
+          (c.in_ok-more.ensures.read) (first (c.in_err-at-2.ensures.passes _)))));
+    }
 
 pub record_type-returns-in_err-node : goal.record_type-returns-in_err-node
 record_type-returns-in_err-node t c =
@@ -100,7 +110,15 @@ record_type-returns-in_err-node t c =
     record { read = rw (p.1, p.2) (want c.in_err-node.ensures.counted) }
 
 pub record_type-returns : goal.record_type-returns
-record_type-returns t c = record { read = rw (rows.record_laid c.in_ok-node.node c.in_ok-first-2.first c.in_ok-more.more, numbered.record_laid c.in_ok-node.node c.in_ok-first-2.first c.in_ok-more.more, c.in_ok-first-2.ensures.ok) (then (opened refl c.in_ok-at.ensures.opened) (then (c.in_ok-first.ensures.read) (then (c.in_ok-more.ensures.read) (then (closed refl refl c.in_ok-at.ensures.opened c.in_ok-at-2.ensures.passes) (counted c.in_ok-node.ensures.counted))))) }
+record_type-returns t c = record {
+  read = rw (
+    rows.record_laid c.in_ok-node.node c.in_ok-first-2.first c.in_ok-more.more,
+    numbered.record_laid c.in_ok-node.node c.in_ok-first-2.first c.in_ok-more.more,
+    c.in_ok-first-2.ensures.ok,
+  ) (then
+      (opened refl c.in_ok-at.ensures.opened) (then (c.in_ok-first.ensures.read) (then (c.in_ok-more.ensures.read) (then
+      (closed refl refl c.in_ok-at.ensures.opened c.in_ok-at-2.ensures.passes) (counted c.in_ok-node.ensures.counted)))));
+}
 
 pub fields-returns-in_err-names : goal.fields-returns-in_err-names
 fields-returns-in_err-names t c =
@@ -115,7 +133,10 @@ fields-returns-in_err-at t c =
 pub fields-returns-in_err-type_node : goal.fields-returns-in_err-type_node
 fields-returns-in_err-type_node t c =
     let p = err_from_is_err_and c.from_residual-in_err-type_node.result c.from_residual-in_err-type_node.ensures.1 in
-    record { read = rw (p.1, p.2) (after (c.in_ok-names.ensures.read _) (after (passed refl refl c.in_ok-at.ensures.passes) (first c.in_err-type_node.ensures.read))) }
+    record {
+      read = rw (p.1, p.2) (after (c.in_ok-names.ensures.read _) (after (passed refl refl c.in_ok-at.ensures.passes)
+          (first c.in_err-type_node.ensures.read)));
+    }
 
 pub fields-returns-in_err-node : goal.fields-returns-in_err-node
 fields-returns-in_err-node t c =
@@ -123,7 +144,10 @@ fields-returns-in_err-node t c =
     record { read = rw (p.1, p.2) (want c.in_err-node.ensures.counted) }
 
 pub fields-returns : goal.fields-returns
-fields-returns t c = record { read = then (c.in_ok-names.ensures.read _) (then (passed refl refl c.in_ok-at.ensures.passes) (then (c.in_ok-type_node.ensures.read) (counted c.in_ok-node.ensures.counted))) }
+fields-returns t c = record {
+  read = then (c.in_ok-names.ensures.read _) (then (passed refl refl c.in_ok-at.ensures.passes) (then
+      (c.in_ok-type_node.ensures.read) (counted c.in_ok-node.ensures.counted)));
+}
 
 pub arrays-returns-in_err-first : goal.arrays-returns-in_err-first
 arrays-returns-in_err-first t c =
@@ -133,7 +157,10 @@ arrays-returns-in_err-first t c =
 pub arrays-returns-in_err-more : goal.arrays-returns-in_err-more
 arrays-returns-in_err-more t c =
     let p = err_from_is_err_and c.from_residual-in_err-more.result c.from_residual-in_err-more.ensures.1 in
-    record { read = rw (p.1, p.2) (fails_instead (where_started (sym c.if-not-is_at.ensures.starts) a_array_tail) (after c.in_ok-first.ensures.read c.in_err-more.ensures.read)) }
+    record {
+      read = rw (p.1, p.2) (fails_instead (where_started (sym c.if-not-is_at.ensures.starts) a_array_tail)
+          (after c.in_ok-first.ensures.read c.in_err-more.ensures.read));
+    }
 
 pub arrays-returns-in_err-node : goal.arrays-returns-in_err-node
 arrays-returns-in_err-node t c =
@@ -141,9 +168,13 @@ arrays-returns-in_err-node t c =
     record { read = rw (p.1, p.2) (want c.in_err-node.ensures.counted) }
 
 pub arrays-returns : goal.arrays-returns
-arrays-returns t c = record { read = rw (dz.out-roll-Arrays _) (numbered_alike (four_and token (number_plain c.in_ok-first.first.first) (numbers_of_plains c.in_ok-first.first.more.items) token
-    (numbers_of_dimensions c.in_ok-more.more.items >> node c.in_ok-node.node))
-    (instead (where_started (sym c.if-not-is_at.ensures.starts) a_array_tail) (then c.in_ok-first.ensures.read (then c.in_ok-more.ensures.read (counted c.in_ok-node.ensures.counted))))) }
+arrays-returns t c = record {
+  read = rw (dz.out-roll-Arrays _) (numbered_alike (four_and token (number_plain c.in_ok-first.first.first)
+      (numbers_of_plains c.in_ok-first.first.more.items) token
+      (numbers_of_dimensions c.in_ok-more.more.items >> node c.in_ok-node.node))
+      (instead (where_started (sym c.if-not-is_at.ensures.starts) a_array_tail) (then c.in_ok-first.ensures.read (then c.in_ok-more.ensures.read
+      (counted c.in_ok-node.ensures.counted)))));
+}
 
 pub plain_list-loop-after-init : goal.plain_list-loop-after-init
 plain_list-loop-after-init t c = rw c.new-more.ensures.items (begun plains_listed)
@@ -156,7 +187,10 @@ plain_list-loop-after-preserved t c = rw c.in_ok-push.ensures.items
 pub plain_list-returns-in_err-next : goal.plain_list-returns-in_err-next
 plain_list-returns-in_err-next t c =
     let p = err_from_is_err_and c.from_residual.result c.from_residual.ensures.1 in
-    record { read = rw (p.1, p.2) (broken c.loop-after.invariant (where_passed c.in-Some.ensures.passes a_plain_tail) (after (passed refl refl c.in-Some.ensures.passes) c.in_err-next.ensures.read)) }
+    record {
+      read = rw (p.1, p.2) (broken c.loop-after.invariant (where_passed c.in-Some.ensures.passes a_plain_tail) (after
+          (passed refl refl c.in-Some.ensures.passes) c.in_err-next.ensures.read));
+    }
 
 pub plain_list-returns : goal.plain_list-returns
 plain_list-returns t c = record { read = ended c.loop-after.invariant (no_plain_tail _ c.in_default.ensures.passes) }
@@ -172,7 +206,10 @@ field_list_list-loop-after-preserved t c = rw c.in_ok-push.ensures.items
 pub field_list_list-returns-in_err-next : goal.field_list_list-returns-in_err-next
 field_list_list-returns-in_err-next t c =
     let p = err_from_is_err_and c.from_residual.result c.from_residual.ensures.1 in
-    record { read = rw (p.1, p.2) (broken c.loop-after.invariant (where_passed c.in-Some.ensures.passes a_field_list_tail) (after (passed refl refl c.in-Some.ensures.passes) c.in_err-next.ensures.read)) }
+    record {
+      read = rw (p.1, p.2) (broken c.loop-after.invariant (where_passed c.in-Some.ensures.passes a_field_list_tail) (after
+          (passed refl refl c.in-Some.ensures.passes) c.in_err-next.ensures.read));
+    }
 
 pub field_list_list-returns : goal.field_list_list-returns
 field_list_list-returns t c = record { read = ended c.loop-after.invariant (no_field_list_tail _ c.in_default.ensures.passes) }
@@ -188,7 +225,10 @@ dimensions_list-loop-alloc-preserved t c = rw c.in_ok-push.ensures.items
 pub dimensions_list-returns-in_err-next : goal.dimensions_list-returns-in_err-next
 dimensions_list-returns-in_err-next t c =
     let p = err_from_is_err_and c.from_residual.result c.from_residual.ensures.1 in
-    record { read = rw (p.1, p.2) (broken c.loop-alloc.invariant (where_started (sym c.loop-alloc-test.ensures.starts) a_array_tail) (c.in_err-next.ensures.read)) }
+    record {
+      read = rw (p.1, p.2) (broken c.loop-alloc.invariant (where_started (sym c.loop-alloc-test.ensures.starts) a_array_tail)
+          (c.in_err-next.ensures.read));
+    }
 
 pub dimensions_list-returns : goal.dimensions_list-returns
 dimensions_list-returns t c = record { read = ended c.loop-alloc.invariant (no_array_tail _ (sym c.loop-alloc-test.ensures.starts)) }

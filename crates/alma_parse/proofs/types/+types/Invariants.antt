@@ -40,19 +40,22 @@ abbrev pub decreases-type_node : goal.decreases-type_node
 decreases-type_node l = 8 * length (seen l.at).kinds + 4
 
 abbrev pub invariant-dimensions_list-loop-alloc : goal.invariant-dimensions_list-loop-alloc
-invariant-dimensions_list-loop-alloc l = Loops (spell_array_tail (dimensions_of l.more.items)) (numbers_of_dimensions l.more.items) array_tail l.depth (seen l.fn.at) (seen l.at)
+invariant-dimensions_list-loop-alloc l = Loops (spell_array_tail (dimensions_of l.more.items)) (numbers_of_dimensions l.more.items) array_tail l.depth
+    (seen l.fn.at) (seen l.at)
 
 abbrev pub decreases-dimensions_list-loop-alloc : goal.decreases-dimensions_list-loop-alloc
 decreases-dimensions_list-loop-alloc l = length (seen l.at).kinds
 
 abbrev pub invariant-plain_list-loop-after : goal.invariant-plain_list-loop-after
-invariant-plain_list-loop-after l = Loops (spell_plain_tail (plains_of l.more.items)) (numbers_of_plains l.more.items) plain_tail l.depth (seen l.fn.at) (seen l.at)
+invariant-plain_list-loop-after l = Loops (spell_plain_tail (plains_of l.more.items)) (numbers_of_plains l.more.items) plain_tail l.depth
+    (seen l.fn.at) (seen l.at)
 
 abbrev pub decreases-plain_list-loop-after : goal.decreases-plain_list-loop-after
 decreases-plain_list-loop-after l = length (seen l.at).kinds
 
 abbrev pub invariant-field_list_list-loop-after : goal.invariant-field_list_list-loop-after
-invariant-field_list_list-loop-after l = Loops (spell_field_list_tail (field_lists_of l.more.items)) (numbers_of_field_lists l.more.items) field_list_tail l.depth (seen l.fn.at) (seen l.at)
+invariant-field_list_list-loop-after l = Loops (spell_field_list_tail (field_lists_of l.more.items))
+    (numbers_of_field_lists l.more.items) field_list_tail l.depth (seen l.fn.at) (seen l.at)
 
 abbrev pub decreases-field_list_list-loop-after : goal.decreases-field_list_list-loop-after
 decreases-field_list_list-loop-after l = length (seen l.at).kinds

@@ -17,7 +17,10 @@ returns-in_err-names c =
 pub returns-in_err-at-2 : goal.returns-in_err-at-2
 returns-in_err-at-2 c =
     let p = err_from_is_err_and c.from_residual-in_err-at-2.result c.from_residual-in_err-at-2.ensures.1 in
-    record { read = rw (p.1, p.2) (after (opened refl c.in_ok-at.ensures.opened) (after (c.in_ok-names.ensures.read _) (first (c.in_err-at-2.ensures.passes _)))) }
+    record {
+      read = rw (p.1, p.2) (after (opened refl c.in_ok-at.ensures.opened) (after (c.in_ok-names.ensures.read _) (first
+          (c.in_err-at-2.ensures.passes _))));
+    }
 
 pub returns-in_err-node : goal.returns-in_err-node
 returns-in_err-node c =
@@ -25,4 +28,7 @@ returns-in_err-node c =
     record { read = rw (p.1, p.2) (want c.in_err-node.ensures.counted) }
 
 pub returns : goal.returns
-returns c = record { read = then (opened refl c.in_ok-at.ensures.opened) (then (c.in_ok-names.ensures.read _) (then (closed refl refl c.in_ok-at.ensures.opened c.in_ok-at-2.ensures.passes) (counted c.in_ok-node.ensures.counted))) }
+returns c = record {
+  read = then (opened refl c.in_ok-at.ensures.opened) (then (c.in_ok-names.ensures.read _) (then
+      (closed refl refl c.in_ok-at.ensures.opened c.in_ok-at-2.ensures.passes) (counted c.in_ok-node.ensures.counted)));
+}

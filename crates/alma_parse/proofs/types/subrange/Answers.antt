@@ -17,17 +17,26 @@ returns-in_err-low c =
 pub returns-in_err-at-2 : goal.returns-in_err-at-2
 returns-in_err-at-2 c =
     let p = err_from_is_err_and c.from_residual-in_err-at-2.result c.from_residual-in_err-at-2.ensures.1 in
-    record { read = rw (p.1, p.2) (after (opened refl c.in_ok-at.ensures.opened) (after (c.in_ok-low.ensures.read) (first (c.in_err-at-2.ensures.passes _)))) }
+    record {
+      read = rw (p.1, p.2) (after (opened refl c.in_ok-at.ensures.opened) (after (c.in_ok-low.ensures.read) (first
+          (c.in_err-at-2.ensures.passes _))));
+    }
 
 pub returns-in_err-high : goal.returns-in_err-high
 returns-in_err-high c =
     let p = err_from_is_err_and c.from_residual-in_err-high.result c.from_residual-in_err-high.ensures.1 in
-    record { read = rw (p.1, p.2) (after (opened refl c.in_ok-at.ensures.opened) (after (c.in_ok-low.ensures.read) (after (passed refl refl c.in_ok-at-2.ensures.passes) (first c.in_err-high.ensures.read)))) }
+    record {
+      read = rw (p.1, p.2) (after (opened refl c.in_ok-at.ensures.opened) (after (c.in_ok-low.ensures.read) (after
+          (passed refl refl c.in_ok-at-2.ensures.passes) (first c.in_err-high.ensures.read))));
+    }
 
 pub returns-in_err-at-3 : goal.returns-in_err-at-3
 returns-in_err-at-3 c =
     let p = err_from_is_err_and c.from_residual-in_err-at-3.result c.from_residual-in_err-at-3.ensures.1 in
-    record { read = rw (p.1, p.2) (after (opened refl c.in_ok-at.ensures.opened) (after (c.in_ok-low.ensures.read) (after (passed refl refl c.in_ok-at-2.ensures.passes) (after (c.in_ok-high.ensures.read) (first (c.in_err-at-3.ensures.passes _)))))) }
+    record {
+      read = rw (p.1, p.2) (after (opened refl c.in_ok-at.ensures.opened) (after (c.in_ok-low.ensures.read) (after
+          (passed refl refl c.in_ok-at-2.ensures.passes) (after (c.in_ok-high.ensures.read) (first (c.in_err-at-3.ensures.passes _))))));
+    }
 
 pub returns-in_err-node : goal.returns-in_err-node
 returns-in_err-node c =
@@ -35,4 +44,8 @@ returns-in_err-node c =
     record { read = rw (p.1, p.2) (want c.in_err-node.ensures.counted) }
 
 pub returns : goal.returns
-returns c = record { read = then (opened refl c.in_ok-at.ensures.opened) (then (c.in_ok-low.ensures.read) (then (passed refl refl c.in_ok-at-2.ensures.passes) (then (c.in_ok-high.ensures.read) (then (closed refl refl c.in_ok-at.ensures.opened c.in_ok-at-3.ensures.passes) (counted c.in_ok-node.ensures.counted))))) }
+returns c = record {
+  read = then (opened refl c.in_ok-at.ensures.opened) (then (c.in_ok-low.ensures.read) (then
+      (passed refl refl c.in_ok-at-2.ensures.passes) (then (c.in_ok-high.ensures.read) (then
+      (closed refl refl c.in_ok-at.ensures.opened c.in_ok-at-3.ensures.passes) (counted c.in_ok-node.ensures.counted)))));
+}
