@@ -849,6 +849,36 @@ statement::returned-returns = designators.statement::returned-returns
 pub expression::index-returns-clause-shorter : goal.expression::index-returns-clause-shorter
 expression::index-returns-clause-shorter = designators.expression::index-returns-clause-shorter
 
+pub expression::desig-selectors-requires : goal.expression::desig-selectors-requires
+expression::desig-selectors-requires = designators.expression::desig-selectors-requires
+
+pub expression::simple-term-requires : goal.expression::simple-term-requires
+expression::simple-term-requires = sums.expression::simple-term-requires
+
+pub expression::simple-simple_from-requires : goal.expression::simple-simple_from-requires
+expression::simple-simple_from-requires = sums.expression::simple-simple_from-requires
+
+pub statement::for_stmt-expr-requires : goal.statement::for_stmt-expr-requires
+statement::for_stmt-expr-requires = turns.statement::for_stmt-expr-requires
+
+pub statement::for_stmt-expr-requires-2 : goal.statement::for_stmt-expr-requires-2
+statement::for_stmt-expr-requires-2 = turns.statement::for_stmt-expr-requires-2
+
+pub statement::for_stmt-step-requires : goal.statement::for_stmt-step-requires
+statement::for_stmt-step-requires = turns.statement::for_stmt-step-requires
+
+pub statement::for_stmt-stmts-requires : goal.statement::for_stmt-stmts-requires
+statement::for_stmt-stmts-requires = turns.statement::for_stmt-stmts-requires
+
+pub statement::some_stmt-expr-requires : goal.statement::some_stmt-expr-requires
+statement::some_stmt-expr-requires = turns.statement::some_stmt-expr-requires
+
+pub statement::some_stmt-expr-requires-2 : goal.statement::some_stmt-expr-requires-2
+statement::some_stmt-expr-requires-2 = turns.statement::some_stmt-expr-requires-2
+
+pub statement::some_stmt-stmts-requires : goal.statement::some_stmt-stmts-requires
+statement::some_stmt-stmts-requires = turns.statement::some_stmt-stmts-requires
+
 pub expression::paren-open-requires : goal.expression::paren-open-requires
 expression::paren-open-requires = primaries.expression::paren-open-requires
 

@@ -2,8 +2,8 @@ use Rattle.std.proofs.Common.{◌+◌, ◌*◌, length}
 use Rattle.alma_tree.specs.Spelling.{spell_term_tail, spell_factor_tail, spell_expr_tail, spell_selector_tail, spell_stmt_tail, spell_elsif_tail}
 use Rattle.alma_tree.specs.Spelling.{spell_arm_tail, spell_label_tail, spell_orelse_tail, spell_desig_tail}
 use Rattle.alma_tree.specs.View.{terms_of, factors_of, exprs_of, selectors_of, stmts_of, elsifs_of, arms_of, labels_of, orelses_of, desigs_of}
-use Rattle.alma_tree.specs.Numbers.{numbers_of_terms, numbers_of_factors, numbers_of_exprs, numbers_of_selectors, numbers_of_stmts, numbers_of_elsifs}
-use Rattle.alma_tree.specs.Numbers.{numbers_of_arms, numbers_of_labels, numbers_of_orelses, numbers_of_desigs}
+use Rattle.alma_tree.specs.Numbers.{numbers_of_terms, numbers_of_factors, numbers_of_exprs, numbers_of_selectors, numbers_of_stmts}
+use Rattle.alma_tree.specs.Numbers.{numbers_of_elsifs, numbers_of_arms, numbers_of_labels, numbers_of_orelses, numbers_of_desigs}
 use Rattle.alma_grammar.specs.Parts.{term_tail, factor_tail, expr_tail, selector_tail, stmt_tail, elsif_tail, arm_tail, label_tail, orelse_tail, desig_tail}
 use Rattle.alma_parse.specs.Parsing.{seen}
 use Rattle.alma_parse.proofs.Loops.{Loops}
@@ -12,7 +12,7 @@ use Rattle.alma_parse.proofs.+phrases.Given as goal
 -- Each call reads fewer tokens, or as many and comes before in the order of the numbers here.
 
 abbrev pub decreases-expression::args : goal.decreases-expression::args
-decreases-expression::args l = 16 * length (seen l.at).kinds + 1
+decreases-expression::args l = 16 * length (seen l.at).kinds + 0
 
 abbrev pub decreases-statement::arm_list : goal.decreases-statement::arm_list
 decreases-statement::arm_list l = 16 * length (seen l.at).kinds + 1
@@ -71,6 +71,9 @@ decreases-expression::known l = 16 * length (seen l.at).kinds + 1
 abbrev pub decreases-statement::label_list : goal.decreases-statement::label_list
 decreases-statement::label_list l = 16 * length (seen l.at).kinds + 1
 
+abbrev pub decreases-expression::named : goal.decreases-expression::named
+decreases-expression::named l = 16 * length (seen l.at).kinds + 1
+
 abbrev pub decreases-expression::ord : goal.decreases-expression::ord
 decreases-expression::ord l = 16 * length (seen l.at).kinds + 1
 
@@ -91,9 +94,6 @@ decreases-statement::repeat_stmt l = 16 * length (seen l.at).kinds + 1
 
 abbrev pub decreases-statement::return_stmt : goal.decreases-statement::return_stmt
 decreases-statement::return_stmt l = 16 * length (seen l.at).kinds + 1
-
-abbrev pub decreases-expression::selectors : goal.decreases-expression::selectors
-decreases-expression::selectors l = 16 * length (seen l.at).kinds + 1
 
 abbrev pub decreases-statement::some_stmt : goal.decreases-statement::some_stmt
 decreases-statement::some_stmt l = 16 * length (seen l.at).kinds + 1
@@ -119,9 +119,6 @@ decreases-statement::writeln_stmt l = 16 * length (seen l.at).kinds + 1
 abbrev pub decreases-expression::expr_from : goal.decreases-expression::expr_from
 decreases-expression::expr_from l = 16 * length (seen l.at).kinds + 2
 
-abbrev pub decreases-expression::named : goal.decreases-expression::named
-decreases-expression::named l = 16 * length (seen l.at).kinds + 2
-
 abbrev pub decreases-expression::primary : goal.decreases-expression::primary
 decreases-expression::primary l = 16 * length (seen l.at).kinds + 2
 
@@ -136,6 +133,9 @@ decreases-expression::term_from l = 16 * length (seen l.at).kinds + 2
 
 abbrev pub decreases-expression::factor : goal.decreases-expression::factor
 decreases-expression::factor l = 16 * length (seen l.at).kinds + 3
+
+abbrev pub decreases-expression::selectors : goal.decreases-expression::selectors
+decreases-expression::selectors l = 16 * length (seen l.at).kinds + 3
 
 abbrev pub decreases-expression::term : goal.decreases-expression::term
 decreases-expression::term l = 16 * length (seen l.at).kinds + 4

@@ -1,5 +1,5 @@
 -- Answers of the cycle of expressions and statements: Designators, and the statements on lists.
-use Rattle.std.proofs.Common.{◌≡◌, ◌≤◌, ℕ, suc, pred, Bool, true, false, List, [], ◌∷◌, ◌++◌, Some, None, refl, ap, sym, ◌∙◌}
+use Rattle.std.proofs.Common.{◌≡◌, ◌≤◌, ℕ, suc, pred, Bool, true, false, List, [], ◌∷◌, ◌++◌, Some, None, length, refl, ap, sym, ◌∙◌, arith}
 use Rattle.std.proofs.lemmas.Result.{err_from_is_err_and}
 use Rattle.alma_tree.specs.declared.kind.Kind.TheVariants as kinds
 use Rattle.alma_tree.specs.declared.phrase.Compared as dc
@@ -311,6 +311,9 @@ expression::index-returns-clause-shorter t c =
     steps.strictly c.in_ok-at.ensures.opened.passes
     (steps.then c.in_ok-indices.ensures.read (steps.then (steps.closed refl refl c.in_ok-at.ensures.opened c.in_ok-at-2.ensures.passes)
     (steps.counted c.in_ok-node.ensures.counted)))
+
+pub expression::desig-selectors-requires : goal.expression::desig-selectors-requires
+expression::desig-selectors-requires t c = (omega (arith, ap length (c.in_ok-name.ensures.read 0).spelled_so), tt)
 
 pub expression::index-open-requires : goal.expression::index-open-requires
 expression::index-open-requires t c = record { opening = refl }

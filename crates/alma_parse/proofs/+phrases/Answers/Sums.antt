@@ -1,5 +1,5 @@
 -- Answers of the cycle of expressions and statements: Expressions, sums, products and factors.
-use Rattle.std.proofs.Common.{◌≡◌, ◌≤◌, ℕ, suc, pred, Bool, true, false, List, [], ◌∷◌, ◌++◌, Some, None, refl, ap, sym, ◌∙◌}
+use Rattle.std.proofs.Common.{◌≡◌, ◌≤◌, ℕ, suc, pred, Bool, true, false, List, [], ◌∷◌, ◌++◌, Some, None, length, refl, ap, sym, ◌∙◌, arith}
 use Rattle.std.proofs.lemmas.Result.{err_from_is_err_and}
 use Rattle.alma_tree.specs.declared.kind.Kind.TheVariants as kinds
 use Rattle.alma_tree.specs.declared.phrase.Compared as dc
@@ -300,3 +300,9 @@ expression::factor-returns t c =
       read = steps.becoming (heads.no_not _ c.in_default.ensures.passes) (steps.then c.in_ok-primary-2.ensures.read
           (steps.counted c.in_ok-node-2.ensures.counted));
     }
+
+pub expression::simple-term-requires : goal.expression::simple-term-requires
+expression::simple-term-requires t c = (omega (arith, (c.sign-sign.ensures.read 0).shorter), tt)
+
+pub expression::simple-simple_from-requires : goal.expression::simple-simple_from-requires
+expression::simple-simple_from-requires t c = (omega (arith, (c.sign-sign.ensures.read 0).shorter, c.in_ok-first.ensures.read.shorter), tt)

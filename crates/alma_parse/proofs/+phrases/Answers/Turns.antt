@@ -1,5 +1,5 @@
 -- Answers of the cycle of expressions and statements: Loops and alternatives.
-use Rattle.std.proofs.Common.{◌≡◌, ◌≤◌, ℕ, suc, pred, Bool, true, false, List, [], ◌∷◌, ◌++◌, Some, None, refl, ap, sym, ◌∙◌}
+use Rattle.std.proofs.Common.{◌≡◌, ◌≤◌, ℕ, suc, pred, Bool, true, false, List, [], ◌∷◌, ◌++◌, Some, None, length, refl, ap, sym, ◌∙◌, arith}
 use Rattle.std.proofs.lemmas.Result.{err_from_is_err_and}
 use Rattle.alma_tree.specs.declared.kind.Kind.TheVariants as kinds
 use Rattle.alma_tree.specs.declared.phrase.Compared as dc
@@ -504,6 +504,106 @@ statement::step-returns t c =
       read = steps.becoming (heads.begins_by c.in-Some.ensures.passes) (steps.then
           (steps.passed refl refl c.in-Some.ensures.passes) c.in_ok-value.ensures.read);
     }
+
+pub statement::for_stmt-expr-requires : goal.statement::for_stmt-expr-requires
+statement::for_stmt-expr-requires t c = (
+  omega (
+    arith,
+    c.in_ok-at.ensures.opened.passes.shorter,
+    ap length
+        (c.in_ok-variable.ensures.read 0).spelled_so,
+    c.in_ok-at-2.ensures.passes.shorter,
+  ),
+  tt,
+)
+
+pub statement::for_stmt-expr-requires-2 : goal.statement::for_stmt-expr-requires-2
+statement::for_stmt-expr-requires-2 t c = (
+  omega (
+    arith,
+    c.in_ok-at.ensures.opened.passes.shorter,
+    ap length
+        (c.in_ok-variable.ensures.read 0).spelled_so,
+    c.in_ok-at-2.ensures.passes.shorter,
+    c.in_ok-from.ensures.read.shorter,
+    c.in_ok-at-3.ensures.passes.shorter,
+  ),
+  tt,
+)
+
+pub statement::for_stmt-step-requires : goal.statement::for_stmt-step-requires
+statement::for_stmt-step-requires t c = (
+  omega (
+    arith,
+    c.in_ok-at.ensures.opened.passes.shorter,
+    ap length
+        (c.in_ok-variable.ensures.read 0).spelled_so,
+    c.in_ok-at-2.ensures.passes.shorter,
+    c.in_ok-from.ensures.read.shorter,
+    c.in_ok-at-3.ensures.passes.shorter,
+    c.in_ok-to.ensures.read.shorter,
+  ),
+  tt,
+)
+
+pub statement::for_stmt-stmts-requires : goal.statement::for_stmt-stmts-requires
+statement::for_stmt-stmts-requires t c = (
+  omega (
+    arith,
+    c.in_ok-at.ensures.opened.passes.shorter,
+    ap length
+        (c.in_ok-variable.ensures.read 0).spelled_so,
+    c.in_ok-at-2.ensures.passes.shorter,
+    c.in_ok-from.ensures.read.shorter,
+    c.in_ok-at-3.ensures.passes.shorter,
+    c.in_ok-to.ensures.read.shorter,
+    c.in_ok-by.ensures.read.shorter,
+    c.in_ok-at-4.ensures.passes.shorter,
+  ),
+  tt,
+)
+
+pub statement::some_stmt-expr-requires : goal.statement::some_stmt-expr-requires
+statement::some_stmt-expr-requires t c = (
+  omega (
+    arith,
+    c.in_ok-at.ensures.opened.passes.shorter,
+    ap length
+        (c.in_ok-variable.ensures.read 0).spelled_so,
+    c.in_ok-at-2.ensures.passes.shorter,
+  ),
+  tt,
+)
+
+pub statement::some_stmt-expr-requires-2 : goal.statement::some_stmt-expr-requires-2
+statement::some_stmt-expr-requires-2 t c = (
+  omega (
+    arith,
+    c.in_ok-at.ensures.opened.passes.shorter,
+    ap length
+        (c.in_ok-variable.ensures.read 0).spelled_so,
+    c.in_ok-at-2.ensures.passes.shorter,
+    c.in_ok-from.ensures.read.shorter,
+    c.in_ok-at-3.ensures.passes.shorter,
+  ),
+  tt,
+)
+
+pub statement::some_stmt-stmts-requires : goal.statement::some_stmt-stmts-requires
+statement::some_stmt-stmts-requires t c = (
+  omega (
+    arith,
+    c.in_ok-at.ensures.opened.passes.shorter,
+    ap length
+        (c.in_ok-variable.ensures.read 0).spelled_so,
+    c.in_ok-at-2.ensures.passes.shorter,
+    c.in_ok-from.ensures.read.shorter,
+    c.in_ok-at-3.ensures.passes.shorter,
+    c.in_ok-to.ensures.read.shorter,
+    c.in_ok-at-4.ensures.passes.shorter,
+  ),
+  tt,
+)
 
 pub statement::while_stmt-open-requires : goal.statement::while_stmt-open-requires
 statement::while_stmt-open-requires t c = record { opening = refl }
