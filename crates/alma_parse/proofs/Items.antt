@@ -16,11 +16,10 @@ use Rattle.alma_tree.specs.Spelling as spelling
 use Rattle.alma_tree.specs.View as view
 use Rattle.alma_tree.specs.Numbers as numbers
 use Rattle.alma_tree.specs.Numbers.{token, ◌>>◌}
-use Rattle.alma_parse.specs.Forms.{spell_const_entry, spell_type_entry, spell_var_entry}
-use Rattle.alma_parse.specs.Forms.{number_const_entry, number_type_entry, number_var_entry, number_dimension}
-use Rattle.alma_parse.specs.Forms.{inside_params_of, number_inside_params}
+use Rattle.alma_parse.specs.Entries.{spell_const_entry, spell_type_entry, spell_var_entry, number_const_entry, number_type_entry, number_var_entry}
+use Rattle.alma_parse.specs.Entries.{number_dimension, inside_params_of, number_inside_params}
 use Rattle.alma_grammar.specs.Filling.{spell_inside_params}
-use Rattle.alma_parse.proofs.Turns.{Lists, four_and, two_and}
+use Rattle.alma_cursor.proofs.Turns.{Lists, four_and, two_and}
 
 pub names_listed : Lists {A = Name} (λ n r. kinds.Comma ∷ kinds.Name ∷ r) (λ ns. spelling.spell_name_tail (view.name_tail_of ns))
     (λ n. token >> numbers.number_name n) numbers.numbers_of_names

@@ -4,8 +4,8 @@ use Rattle.alma_tree.specs.declared.kind.Kind.{Kind}
 use Rattle.alma_tree.specs.declared.kind.Kind.TheVariants as kinds
 use Rattle.alma_grammar.specs.Parts.{one, name_tail, array_tail, plain_part, plain_tail, field_list_part, field_list_tail, const_tail, type_tail, var_tail}
 use Rattle.alma_grammar.specs.Parts.{formal_tail, params_part, params_inside, result_part, body_part, formal_parts, stmts_parts}
-use Rattle.alma_parse.specs.Parsing.{starts_with, Becomes}
-use Rattle.alma_parse.specs.Forms.{dimensions_parts, fields_parts, const_entry_parts, type_entry_parts, var_entry_parts, formals_parts}
+use Rattle.alma_cursor.specs.Parsing.{starts_with, Becomes}
+use Rattle.alma_cursor.specs.Forms.{dimensions_parts, fields_parts, const_entry_parts, type_entry_parts, var_entry_parts, formals_parts}
 
 -- ---- left out
 

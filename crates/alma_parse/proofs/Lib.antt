@@ -1,11 +1,4 @@
-pub mod Heads
 pub mod Items
 pub mod LeftOut
-pub mod Lists
-pub mod Loops
 pub mod Modules
-pub mod OneKind
 pub mod Places
-pub mod Signs
-pub mod Steps
-pub mod Turns

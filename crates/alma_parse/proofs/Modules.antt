@@ -6,9 +6,9 @@ use Rattle.alma_tree.specs.Numbers.{Cursor, Step, IsNumbered, number_module}
 use Rattle.alma_tree.specs.declared.kind.Kind.TheVariants as kinds
 use Rattle.alma_grammar.specs.Parts.{Part, one, block_parts, whole}
 use Rattle.alma_grammar.specs.Reading.{reading, done, unexpected}
-use Rattle.alma_parse.specs.declared.fault.Fault.{Fault}
-use Rattle.alma_parse.specs.Parsing.{At, Few, Reads, Fails, EndsIn}
-use Rattle.alma_parse.proofs.Steps.{moved}
+use Rattle.alma_cursor.specs.declared.fault.Fault.{Fault}
+use Rattle.alma_cursor.specs.Parsing.{At, Few, Reads, Fails, EndsIn}
+use Rattle.alma_cursor.proofs.Steps.{moved}
 
 -- at the first of these tokens
 abbrev pub beginning : List Kind → At

@@ -1,3 +1,2 @@
-pub mod Forms
-pub mod Parsing
+pub mod Entries
 pub mod Refusals

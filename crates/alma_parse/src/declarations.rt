@@ -10,18 +10,16 @@ ghost use Rattle.alma_tree.specs.Numbers.{numbers_of_params, numbers_of_result, 
 ghost use Rattle.alma_grammar.specs.Parts.{const_tail, type_tail, var_tail, formal_tail, params_part, params_inside, result_part, decl_tail, body_part};
 ghost use Rattle.alma_grammar.specs.Parts.{formal_parts, block_parts};
 ghost use Rattle.alma_grammar.specs.Filling.{spell_inside_params};
-ghost use Rattle.alma_parse.specs.Forms.{const_entry_parts, type_entry_parts, var_entry_parts, const_decl_parts, type_decl_parts, var_decl_parts};
-ghost use Rattle.alma_parse.specs.Forms.{procedure_parts, decl_form_parts, formals_parts, inside_params_of, spell_const_entry, spell_type_entry};
-ghost use Rattle.alma_parse.specs.Forms.{spell_var_entry, number_const_entry, number_type_entry, number_var_entry, number_inside_params};
-ghost use Rattle.alma_parse.specs.Parsing.{seen, Reads, Fails};
+ghost use Rattle.alma_cursor.specs.Forms.{const_entry_parts, type_entry_parts, var_entry_parts, const_decl_parts, type_decl_parts, var_decl_parts};
+ghost use Rattle.alma_cursor.specs.Forms.{procedure_parts, decl_form_parts, formals_parts};
+ghost use Rattle.alma_parse.specs.Entries.{inside_params_of, spell_const_entry, spell_type_entry, spell_var_entry, number_const_entry, number_type_entry};
+ghost use Rattle.alma_parse.specs.Entries.{number_var_entry, number_inside_params};
+ghost use Rattle.alma_cursor.specs.Parsing.{seen, Reads, Fails};
 
-use crate::cursor::Cursor;
-use crate::expression::expr;
-use crate::fault::Fault;
-use crate::form::DeclForm;
 use crate::names::names;
-use crate::statement::stmts;
 use crate::types::type_node;
+use alma_cursor::{Cursor, DeclForm, Fault};
+use alma_phrase::{expr, stmts};
 use alma_tree::{
     Block, ConstEntry, Decl, Formal, Formals, Kind, Name, Params, Stmts, TypeEntry, VarEntry,
 };

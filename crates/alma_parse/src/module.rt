@@ -5,11 +5,10 @@ ghost use Rattle.alma_tree.specs.View.{view_module};
 ghost use Rattle.alma_tree.specs.Numbers.{IsNumbered};
 ghost use Rattle.alma_grammar.specs.Parts.{whole};
 ghost use Rattle.alma_grammar.specs.Reading.{reading, done};
-ghost use Rattle.alma_parse.specs.Parsing.{seen, kinds_of, EndsIn};
+ghost use Rattle.alma_cursor.specs.Parsing.{seen, kinds_of, EndsIn};
 
-use crate::cursor::Cursor;
 use crate::declarations::block;
-use crate::fault::Fault;
+use alma_cursor::{Cursor, Fault};
 use alma_scan::Token;
 use alma_tree::{Kind, Module};
 use std::alloc::Global;

@@ -4,10 +4,9 @@ ghost use Rattle.alma_tree.specs.Spelling.{spell_names, spell_name_tail};
 ghost use Rattle.alma_tree.specs.View.{view_names, name_tail_of};
 ghost use Rattle.alma_tree.specs.Numbers.{number_names, numbers_of_names};
 ghost use Rattle.alma_grammar.specs.Parts.{name_tail, names_parts};
-ghost use Rattle.alma_parse.specs.Parsing.{seen, Reads, Fails};
+ghost use Rattle.alma_cursor.specs.Parsing.{seen, Reads, Fails};
 
-use crate::cursor::Cursor;
-use crate::fault::Fault;
+use alma_cursor::{Cursor, Fault};
 use alma_tree::{Kind, Name, Names};
 use std::alloc::Global;
 

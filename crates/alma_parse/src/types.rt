@@ -7,14 +7,13 @@ ghost use Rattle.alma_tree.specs.View.{field_lists_of};
 ghost use Rattle.alma_tree.specs.Numbers.{number_type, numbers_of_arrays, numbers_of_dimensions, number_plain, numbers_of_plains};
 ghost use Rattle.alma_tree.specs.Numbers.{number_field_list, numbers_of_field_lists};
 ghost use Rattle.alma_grammar.specs.Parts.{array_tail, plain_part, plain_tail, field_list_part, field_list_tail, type_parts};
-ghost use Rattle.alma_parse.specs.Forms.{dimensions_parts, named_type_parts, listed_parts, subrange_parts, record_parts, fields_parts, number_dimension};
-ghost use Rattle.alma_parse.specs.Parsing.{seen, Reads, Fails};
+ghost use Rattle.alma_cursor.specs.Forms.{dimensions_parts, named_type_parts, listed_parts, subrange_parts, record_parts, fields_parts};
+ghost use Rattle.alma_parse.specs.Entries.{number_dimension};
+ghost use Rattle.alma_cursor.specs.Parsing.{seen, Reads, Fails};
 
-use crate::cursor::Cursor;
-use crate::expression::expr;
-use crate::fault::Fault;
-use crate::form::PlainForm;
 use crate::names::names;
+use alma_cursor::{Cursor, Fault, PlainForm};
+use alma_phrase::expr;
 use alma_tree::{Arrays, Dimensions, FieldList, Kind, PlainType, TypeNode};
 use std::alloc::Global;
 

@@ -2,8 +2,9 @@ use Rattle.std.proofs.Common.{refl, arith}
 use Rattle.std.proofs.lemmas.Result.{err_from_is_err_and}
 use Rattle.alma_tree.proofs.Rows as rows
 use Rattle.alma_tree.proofs.NumberRows as numbered
-use Rattle.alma_parse.proofs.Steps.{after, first, passed, opened, closed, counted, then, no_memory}
-use Rattle.alma_parse.proofs.Turns.{begun, grown, ended, broken, want}
+use Rattle.alma_cursor.proofs.Loops.{ended, broken}
+use Rattle.alma_cursor.proofs.Steps.{after, first, passed, opened, closed, counted, then, no_memory}
+use Rattle.alma_cursor.proofs.Turns.{begun, grown, want}
 use Rattle.alma_parse.proofs.Items.{decls_listed}
 use Rattle.alma_parse.proofs.declarations.+declarations.Goals as goal
 

@@ -3,8 +3,8 @@ use Rattle.alma_tree.specs.Spelling.{spell_decl_tail}
 use Rattle.alma_tree.specs.View.{decls_of}
 use Rattle.alma_tree.specs.Numbers.{numbers_of_decls}
 use Rattle.alma_grammar.specs.Parts.{decl_tail}
-use Rattle.alma_parse.specs.Parsing.{seen}
-use Rattle.alma_parse.proofs.Loops.{Loops}
+use Rattle.alma_cursor.specs.Parsing.{seen}
+use Rattle.alma_cursor.proofs.Loops.{Loops}
 use Rattle.alma_parse.proofs.declarations.+declarations.Given as goal
 
 -- Each call reads fewer tokens, or as many and comes before in the order of the numbers here.

@@ -3,8 +3,8 @@ use Rattle.alma_tree.specs.Spelling.{spell_const_tail}
 use Rattle.alma_tree.specs.View.{consts_of}
 use Rattle.alma_tree.specs.Numbers.{numbers_of_consts}
 use Rattle.alma_grammar.specs.Parts.{const_tail}
-use Rattle.alma_parse.specs.Parsing.{seen}
-use Rattle.alma_parse.proofs.Loops.{Loops}
+use Rattle.alma_cursor.specs.Parsing.{seen}
+use Rattle.alma_cursor.proofs.Loops.{Loops}
 use Rattle.alma_parse.proofs.declarations.const_entries.Given as goal
 
 abbrev pub invariant-loop-alloc : goal.invariant-loop-alloc

@@ -1,7 +1,8 @@
 use Rattle.std.proofs.Common.{refl, arith}
 use Rattle.std.proofs.lemmas.Result.{err_from_is_err_and}
-use Rattle.alma_parse.proofs.Steps.{after, passed, then, no_memory}
-use Rattle.alma_parse.proofs.Turns.{begun, grown, ended, broken, where_passed}
+use Rattle.alma_cursor.proofs.Loops.{ended, broken}
+use Rattle.alma_cursor.proofs.Steps.{after, passed, then, no_memory}
+use Rattle.alma_cursor.proofs.Turns.{begun, grown, where_passed}
 use Rattle.alma_parse.proofs.Items.{formals_listed}
 use Rattle.alma_parse.proofs.LeftOut.{no_formal_tail, a_formal_tail}
 use Rattle.alma_parse.proofs.declarations.formal_list.Goals as goal

@@ -3,8 +3,8 @@ use Rattle.alma_tree.specs.Spelling.{spell_formal_tail}
 use Rattle.alma_tree.specs.View.{formal_tail_of}
 use Rattle.alma_tree.specs.Numbers.{numbers_of_formals}
 use Rattle.alma_grammar.specs.Parts.{formal_tail}
-use Rattle.alma_parse.specs.Parsing.{seen}
-use Rattle.alma_parse.proofs.Loops.{Loops}
+use Rattle.alma_cursor.specs.Parsing.{seen}
+use Rattle.alma_cursor.proofs.Loops.{Loops}
 use Rattle.alma_parse.proofs.declarations.formal_list.Given as goal
 
 abbrev pub invariant-loop-after : goal.invariant-loop-after

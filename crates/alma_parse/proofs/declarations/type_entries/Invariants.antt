@@ -3,8 +3,8 @@ use Rattle.alma_tree.specs.Spelling.{spell_type_tail}
 use Rattle.alma_tree.specs.View.{types_of}
 use Rattle.alma_tree.specs.Numbers.{numbers_of_types}
 use Rattle.alma_grammar.specs.Parts.{type_tail}
-use Rattle.alma_parse.specs.Parsing.{seen}
-use Rattle.alma_parse.proofs.Loops.{Loops}
+use Rattle.alma_cursor.specs.Parsing.{seen}
+use Rattle.alma_cursor.proofs.Loops.{Loops}
 use Rattle.alma_parse.proofs.declarations.type_entries.Given as goal
 
 abbrev pub invariant-loop-alloc : goal.invariant-loop-alloc

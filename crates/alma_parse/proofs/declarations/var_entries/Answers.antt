@@ -1,7 +1,8 @@
 use Rattle.std.proofs.Common.{arith, sym}
 use Rattle.std.proofs.lemmas.Result.{err_from_is_err_and}
-use Rattle.alma_parse.proofs.Steps.{no_memory}
-use Rattle.alma_parse.proofs.Turns.{begun, grown, ended, broken, where_started}
+use Rattle.alma_cursor.proofs.Loops.{ended, broken}
+use Rattle.alma_cursor.proofs.Steps.{no_memory}
+use Rattle.alma_cursor.proofs.Turns.{begun, grown, where_started}
 use Rattle.alma_parse.proofs.Items.{vars_listed}
 use Rattle.alma_parse.proofs.LeftOut.{no_var_tail, a_var_tail}
 use Rattle.alma_parse.proofs.declarations.var_entries.Goals as goal

@@ -1,6 +1,6 @@
 use Rattle.std.proofs.Common.{refl, arith}
 use Rattle.std.proofs.lemmas.Result.{err_from_is_err_and}
-use Rattle.alma_parse.proofs.Steps.{after, first, passed, then}
+use Rattle.alma_cursor.proofs.Steps.{after, first, passed, then}
 use Rattle.alma_parse.proofs.declarations.var_entry.Goals as goal
 
 pub returns-in_err-names-clause-read : goal.returns-in_err-names-clause-read

@@ -1,8 +1,8 @@
 use Rattle.std.proofs.Common.{refl, length}
 use Rattle.std.proofs.lemmas.Result.{err_from_is_err_and}
-use Rattle.alma_parse.specs.Parsing.{kinds_of}
-use Rattle.alma_parse.proofs.Steps.{after, first, passed, opened, closed, counted, then}
-use Rattle.alma_parse.proofs.Turns.{want}
+use Rattle.alma_cursor.specs.Parsing.{kinds_of}
+use Rattle.alma_cursor.proofs.Steps.{after, first, passed, opened, closed, counted, then}
+use Rattle.alma_cursor.proofs.Turns.{want}
 use Rattle.alma_parse.proofs.Places.{as_many}
 use Rattle.alma_parse.proofs.Modules.{module_found, ends_at, ends_behind}
 use Rattle.alma_parse.proofs.module.module.Goals as goal

@@ -1,7 +1,8 @@
 use Rattle.std.proofs.Common.{refl, arith}
 use Rattle.std.proofs.lemmas.Result.{err_from_is_err_and}
-use Rattle.alma_parse.proofs.Steps.{after, passed, then}
-use Rattle.alma_parse.proofs.Turns.{begun, grown, ended, broken, where_passed}
+use Rattle.alma_cursor.proofs.Loops.{ended, broken}
+use Rattle.alma_cursor.proofs.Steps.{after, passed, then}
+use Rattle.alma_cursor.proofs.Turns.{begun, grown, where_passed}
 use Rattle.alma_parse.proofs.Items.{names_listed}
 use Rattle.alma_parse.proofs.LeftOut.{no_name_tail, a_name_tail}
 use Rattle.alma_parse.proofs.names.name_list.Goals as goal

@@ -3,8 +3,8 @@ use Rattle.alma_tree.specs.Spelling.{spell_name_tail}
 use Rattle.alma_tree.specs.View.{name_tail_of}
 use Rattle.alma_tree.specs.Numbers.{numbers_of_names}
 use Rattle.alma_grammar.specs.Parts.{name_tail}
-use Rattle.alma_parse.specs.Parsing.{seen}
-use Rattle.alma_parse.proofs.Loops.{Loops}
+use Rattle.alma_cursor.specs.Parsing.{seen}
+use Rattle.alma_cursor.proofs.Loops.{Loops}
 use Rattle.alma_parse.proofs.names.name_list.Given as goal
 
 abbrev pub invariant-loop-after : goal.invariant-loop-after

@@ -1,6 +1,6 @@
 use Rattle.std.proofs.lemmas.Result.{err_from_is_err_and}
-use Rattle.alma_parse.proofs.Steps.{after, first, counted, then}
-use Rattle.alma_parse.proofs.Turns.{want}
+use Rattle.alma_cursor.proofs.Steps.{after, first, counted, then}
+use Rattle.alma_cursor.proofs.Turns.{want}
 use Rattle.alma_parse.proofs.names.names.Goals as goal
 
 pub returns-in_err-first : goal.returns-in_err-first

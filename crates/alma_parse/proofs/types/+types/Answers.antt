@@ -4,9 +4,9 @@ use Rattle.alma_tree.specs.declared.type_node.Arrays as dz
 use Rattle.alma_tree.specs.Numbers.{token, node, number_plain, numbers_of_plains, numbers_of_dimensions, ◌>>◌}
 use Rattle.alma_tree.proofs.Rows as rows
 use Rattle.alma_tree.proofs.NumberRows as numbered
-use Rattle.alma_parse.proofs.Steps.{after, first, passed, opened, closed, counted, then}
-use Rattle.alma_parse.proofs.Turns.{begun, grown, ended, broken, where_passed, where_started}
-use Rattle.alma_parse.proofs.Turns.{instead, fails_instead, numbered_alike, match_instead, match_instead_any, want, four_and}
+use Rattle.alma_cursor.proofs.Loops.{ended, broken}
+use Rattle.alma_cursor.proofs.Steps.{after, first, passed, opened, closed, counted, then, becoming, becoming_fails}
+use Rattle.alma_cursor.proofs.Turns.{begun, grown, where_passed, where_started, numbered_alike, match_instead, match_instead_any, want, four_and}
 use Rattle.alma_parse.proofs.Items.{dimensions_listed, plains_listed, field_lists_listed}
 use Rattle.alma_parse.proofs.LeftOut.{no_array_tail, a_array_tail, no_plain_tail, a_plain_tail, a_field_list_part, no_field_list_tail, a_field_list_tail}
 use Rattle.alma_parse.proofs.types.+types.Goals as goal
@@ -152,13 +152,13 @@ fields-returns t c = record {
 pub arrays-returns-in_err-first : goal.arrays-returns-in_err-first
 arrays-returns-in_err-first t c =
     let p = err_from_is_err_and c.from_residual.result c.from_residual.ensures.1 in
-    record { read = rw (p.1, p.2) (fails_instead (where_started (sym c.if-not-is_at.ensures.starts) a_array_tail) (first c.in_err-first.ensures.read)) }
+    record { read = rw (p.1, p.2) (becoming_fails (where_started (sym c.if-not-is_at.ensures.starts) a_array_tail) (first c.in_err-first.ensures.read)) }
 
 pub arrays-returns-in_err-more : goal.arrays-returns-in_err-more
 arrays-returns-in_err-more t c =
     let p = err_from_is_err_and c.from_residual-in_err-more.result c.from_residual-in_err-more.ensures.1 in
     record {
-      read = rw (p.1, p.2) (fails_instead (where_started (sym c.if-not-is_at.ensures.starts) a_array_tail)
+      read = rw (p.1, p.2) (becoming_fails (where_started (sym c.if-not-is_at.ensures.starts) a_array_tail)
           (after c.in_ok-first.ensures.read c.in_err-more.ensures.read));
     }
 
@@ -172,7 +172,7 @@ arrays-returns t c = record {
   read = rw (dz.out-roll-Arrays _) (numbered_alike (four_and token (number_plain c.in_ok-first.first.first)
       (numbers_of_plains c.in_ok-first.first.more.items) token
       (numbers_of_dimensions c.in_ok-more.more.items >> node c.in_ok-node.node))
-      (instead (where_started (sym c.if-not-is_at.ensures.starts) a_array_tail) (then c.in_ok-first.ensures.read (then c.in_ok-more.ensures.read
+      (becoming (where_started (sym c.if-not-is_at.ensures.starts) a_array_tail) (then c.in_ok-first.ensures.read (then c.in_ok-more.ensures.read
       (counted c.in_ok-node.ensures.counted)))));
 }
 

@@ -3,8 +3,8 @@ use Rattle.alma_tree.specs.Spelling.{spell_array_tail, spell_plain_tail, spell_f
 use Rattle.alma_tree.specs.View.{dimensions_of, plains_of, field_lists_of}
 use Rattle.alma_tree.specs.Numbers.{numbers_of_dimensions, numbers_of_plains, numbers_of_field_lists}
 use Rattle.alma_grammar.specs.Parts.{array_tail, plain_tail, field_list_tail}
-use Rattle.alma_parse.specs.Parsing.{seen}
-use Rattle.alma_parse.proofs.Loops.{Loops}
+use Rattle.alma_cursor.specs.Parsing.{seen}
+use Rattle.alma_cursor.proofs.Loops.{Loops}
 use Rattle.alma_parse.proofs.types.+types.Given as goal
 
 -- Each call reads fewer tokens, or as many and comes before in the order of the numbers here.

@@ -1,6 +1,6 @@
 use Rattle.std.proofs.lemmas.Result.{err_from_is_err_and}
-use Rattle.alma_parse.proofs.Steps.{first, counted, then}
-use Rattle.alma_parse.proofs.Turns.{want}
+use Rattle.alma_cursor.proofs.Steps.{first, counted, then}
+use Rattle.alma_cursor.proofs.Turns.{want}
 use Rattle.alma_parse.proofs.types.named_type.Goals as goal
 
 pub returns-in_err-name : goal.returns-in_err-name

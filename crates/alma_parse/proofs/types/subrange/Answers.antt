@@ -1,7 +1,7 @@
 use Rattle.std.proofs.Common.{refl}
 use Rattle.std.proofs.lemmas.Result.{err_from_is_err_and}
-use Rattle.alma_parse.proofs.Steps.{after, first, passed, opened, closed, counted, then}
-use Rattle.alma_parse.proofs.Turns.{want}
+use Rattle.alma_cursor.proofs.Steps.{after, first, passed, opened, closed, counted, then}
+use Rattle.alma_cursor.proofs.Turns.{want}
 use Rattle.alma_parse.proofs.types.subrange.Goals as goal
 
 pub returns-in_err-at : goal.returns-in_err-at

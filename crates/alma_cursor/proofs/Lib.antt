@@ -1,0 +1,5 @@
+pub mod Loops
+pub mod OneKind
+pub mod Signs
+pub mod Steps
+pub mod Turns

@@ -1,0 +1,645 @@
+// Statements.
+ghost use Rattle.std.specs.Prelude.{◌≡◌, ◌∷◌, ℕ, List, MatchResult, Some, None};
+ghost use Rattle.alma_tree.specs.declared.kind.Kind.TheVariants as kinds;
+ghost use Rattle.alma_tree.specs.Spelling.{spell_desig, spell_stmts, spell_stmt_tail, spell_stmt, spell_elsif_tail, spell_else, spell_by, spell_orelse_tail};
+ghost use Rattle.alma_tree.specs.Spelling.{spell_returned, spell_desig_tail, spell_arm, spell_arm_tail, spell_label, spell_high, spell_label_tail};
+ghost use Rattle.alma_tree.specs.View.{view_stmts, stmts_of, view_stmt, elsifs_of, else_of, by_of, orelses_of, returned_of, desigs_of, view_arm, arms_of};
+ghost use Rattle.alma_tree.specs.View.{view_label, high_of, labels_of, view_desig};
+ghost use Rattle.alma_tree.specs.Numbers.{number_stmts, numbers_of_stmts, number_stmt, numbers_of_elsifs, numbers_of_else, numbers_of_by};
+ghost use Rattle.alma_tree.specs.Numbers.{numbers_of_high, numbers_of_orelses};
+ghost use Rattle.alma_tree.specs.Numbers.{numbers_of_returned, numbers_of_desigs, number_arm, numbers_of_arms, number_label, numbers_of_labels, number_desig};
+ghost use Rattle.alma_grammar.specs.Parts.{one, stmt_part, stmt_tail, elsif_tail, else_part, by_part, orelse_tail, returned_part, desig_tail, arm_part};
+ghost use Rattle.alma_grammar.specs.Parts.{arm_tail, high_part, label_tail, expr_parts, stmts_parts, label_parts};
+ghost use Rattle.alma_cursor.specs.Forms.{if_parts, while_parts, repeat_parts, for_parts, some_parts, case_parts, either_parts, forall_parts};
+ghost use Rattle.alma_cursor.specs.Forms.{commit_parts, return_parts, read_parts, write_parts, writeln_parts, desig_stmt_parts, labelled_parts};
+ghost use Rattle.alma_cursor.specs.Parsing.{seen, Reads, Extends, Fails};
+
+use crate::expression::{args, desig, desig_value, expr, exprs};
+use alma_cursor::{Cursor, Fault, StmtForm};
+use alma_tree::{Arm, Desig, Elsif, Expr, Kind, Label, Stmt, Stmts};
+use std::alloc::Global;
+
+#[cycle(phrases)]
+pub fn stmts<'t, 's>(
+    alloc: Global,
+    at: Cursor<'t, 's>,
+    depth: u32,
+) -> Result<(Stmts, Cursor<'t, 's>), Fault<'t, 's>>
+    ensures read { MatchResult result (λ t. Reads (spell_stmts (view_stmts t.0)) (number_stmts t.0) stmts_parts depth depth (seen at.entry) (seen t.1))
+        (λ e. Fails e stmts_parts depth (seen at.entry)) }
+{
+    let (first, at) = stmt(alloc, at, depth)?;
+    let (more, at) = stmt_list(alloc, at, depth)?;
+    let first = Box::new(alloc, first)?;
+    let (node, at) = at.count()?;
+    Ok((Stmts { node, first, more }, at))
+}
+
+#[cycle(phrases)]
+fn stmt_list<'t, 's>(
+    alloc: Global,
+    mut at: Cursor<'t, 's>,
+    depth: u32,
+) -> Result<(Vec<Stmt>, Cursor<'t, 's>), Fault<'t, 's>>
+    ensures read { MatchResult result
+        (λ t. Reads (spell_stmt_tail (stmts_of t.0.items)) (numbers_of_stmts t.0.items) (λ o. stmt_tail ∷ o) depth depth (seen at.entry) (seen t.1))
+        (λ e. Fails e (λ o. stmt_tail ∷ o) depth (seen at.entry)) }
+{
+    let mut more = Vec::new(alloc);
+    while let Some(after) = at.skip(Kind::Semicolon) {
+        let (next, after) = stmt(alloc, after, depth)?;
+        more.push(next)?;
+        at = after;
+    }
+    Ok((more, at))
+}
+
+#[cycle(phrases)]
+fn stmt<'t, 's>(
+    alloc: Global,
+    at: Cursor<'t, 's>,
+    depth: u32,
+) -> Result<(Stmt, Cursor<'t, 's>), Fault<'t, 's>>
+    ensures read { MatchResult result (λ t. Reads (spell_stmt (view_stmt t.0)) (number_stmt t.0) (λ o. stmt_part ∷ o) depth depth (seen at.entry) (seen t.1))
+        (λ e. Fails e (λ o. stmt_part ∷ o) depth (seen at.entry)) }
+{
+    match at.stmt_form() {
+        StmtForm::Nothing => nothing(at),
+        StmtForm::Desig => desig_stmt(alloc, at, depth),
+        StmtForm::Value => value_stmt(alloc, at, depth),
+        StmtForm::If => if_stmt(alloc, at, depth),
+        StmtForm::While => while_stmt(alloc, at, depth),
+        StmtForm::Repeat => repeat_stmt(alloc, at, depth),
+        StmtForm::For => for_stmt(alloc, at, depth),
+        StmtForm::Some => some_stmt(alloc, at, depth),
+        StmtForm::Case => case_stmt(alloc, at, depth),
+        StmtForm::Either => either_stmt(alloc, at, depth),
+        StmtForm::Forall => forall_stmt(alloc, at, depth),
+        StmtForm::Commit => commit_stmt(alloc, at, depth),
+        StmtForm::Return => return_stmt(alloc, at, depth),
+        StmtForm::Read => read_stmt(alloc, at, depth),
+        StmtForm::Write => write_stmt(alloc, at, depth),
+        StmtForm::Writeln => writeln_stmt(alloc, at, depth),
+    }
+}
+
+fn nothing<'t, 's>(at: Cursor<'t, 's>) -> Result<(Stmt, Cursor<'t, 's>), Fault<'t, 's>>
+    ensures read { MatchResult result
+        (λ t. (d : ℕ) → Reads (spell_stmt (view_stmt t.0)) (number_stmt t.0) (λ o. o) d d (seen at.entry) (seen t.1))
+        (λ e. (d : ℕ) → Fails e (λ o. o) d (seen at.entry)) }
+{
+    let (node, at) = at.count()?;
+    Ok((Stmt::Nothing { node }, at))
+}
+
+/// An assignment, or an expression that begins with a designator.
+#[cycle(phrases)]
+fn desig_stmt<'t, 's>(
+    alloc: Global,
+    at: Cursor<'t, 's>,
+    depth: u32,
+) -> Result<(Stmt, Cursor<'t, 's>), Fault<'t, 's>>
+    ensures read { MatchResult result (λ t. Reads (spell_stmt (view_stmt t.0)) (number_stmt t.0) desig_stmt_parts depth depth (seen at.entry) (seen t.1))
+        (λ e. Fails e desig_stmt_parts depth (seen at.entry)) }
+{
+    let (desig, at) = desig(alloc, at, depth)?;
+    if at.is_at(Kind::Assign) {
+        return assign(alloc, desig, at, depth);
+    }
+    let (value, at) = desig_value(alloc, desig, at, depth)?;
+    let (node, at) = at.count()?;
+    Ok((Stmt::Value { node, value }, at))
+}
+
+/// The assignment whose target has been read.
+#[cycle(phrases)]
+fn assign<'t, 's>(
+    alloc: Global,
+    target: Desig,
+    at: Cursor<'t, 's>,
+    depth: u32,
+) -> Result<(Stmt, Cursor<'t, 's>), Fault<'t, 's>>
+    ensures read { MatchResult result
+        (λ t. Extends (spell_desig (view_desig target)) (number_desig target) (λ o. one kinds.Assign ∷ expr_parts o)
+        (spell_stmt (view_stmt t.0)) (number_stmt t.0) depth (seen at.entry) (seen t.1))
+        (λ e. Fails e (λ o. one kinds.Assign ∷ expr_parts o) depth (seen at.entry)) }
+{
+    let at = at.expect(Kind::Assign)?;
+    let (value, at) = expr(alloc, at, depth)?;
+    let (node, at) = at.count()?;
+    Ok((
+        Stmt::Assign {
+            node,
+            target,
+            value,
+        },
+        at,
+    ))
+}
+
+#[cycle(phrases)]
+fn value_stmt<'t, 's>(
+    alloc: Global,
+    at: Cursor<'t, 's>,
+    depth: u32,
+) -> Result<(Stmt, Cursor<'t, 's>), Fault<'t, 's>>
+    ensures read { MatchResult result (λ t. Reads (spell_stmt (view_stmt t.0)) (number_stmt t.0) expr_parts depth depth (seen at.entry) (seen t.1))
+        (λ e. Fails e expr_parts depth (seen at.entry)) }
+{
+    let (value, at) = expr(alloc, at, depth)?;
+    let (node, at) = at.count()?;
+    Ok((Stmt::Value { node, value }, at))
+}
+
+#[cycle(phrases)]
+fn if_stmt<'t, 's>(
+    alloc: Global,
+    at: Cursor<'t, 's>,
+    depth: u32,
+) -> Result<(Stmt, Cursor<'t, 's>), Fault<'t, 's>>
+    ensures read { MatchResult result (λ t. Reads (spell_stmt (view_stmt t.0)) (number_stmt t.0) if_parts depth depth (seen at.entry) (seen t.1))
+        (λ e. Fails e if_parts depth (seen at.entry)) }
+{
+    let (at, inner) = at.open(Kind::If, depth)?;
+    let (test, at) = expr(alloc, at, inner)?;
+    let at = at.expect(Kind::Then)?;
+    let (then, at) = stmts(alloc, at, inner)?;
+    let (elsifs, at) = elsif_list(alloc, at, inner)?;
+    let (otherwise, at) = otherwise(alloc, at, inner)?;
+    let at = at.expect(Kind::End)?;
+    let (node, at) = at.count()?;
+    Ok((
+        Stmt::If {
+            node,
+            test,
+            then,
+            elsifs,
+            otherwise,
+        },
+        at,
+    ))
+}
+
+#[cycle(phrases)]
+fn elsif_list<'t, 's>(
+    alloc: Global,
+    mut at: Cursor<'t, 's>,
+    depth: u32,
+) -> Result<(Vec<Elsif>, Cursor<'t, 's>), Fault<'t, 's>>
+    ensures read { MatchResult result
+        (λ t. Reads (spell_elsif_tail (elsifs_of t.0.items)) (numbers_of_elsifs t.0.items) (λ o. elsif_tail ∷ o) depth depth (seen at.entry) (seen t.1))
+        (λ e. Fails e (λ o. elsif_tail ∷ o) depth (seen at.entry)) }
+{
+    let mut more = Vec::new(alloc);
+    while let Some(after) = at.skip(Kind::Elsif) {
+        let (test, after) = expr(alloc, after, depth)?;
+        let after = after.expect(Kind::Then)?;
+        let (then, after) = stmts(alloc, after, depth)?;
+        more.push(Elsif { test, then })?;
+        at = after;
+    }
+    Ok((more, at))
+}
+
+#[cycle(phrases)]
+fn otherwise<'t, 's>(
+    alloc: Global,
+    at: Cursor<'t, 's>,
+    depth: u32,
+) -> Result<(Option<Stmts>, Cursor<'t, 's>), Fault<'t, 's>>
+    ensures read { MatchResult result (λ t. Reads (spell_else (else_of t.0)) (numbers_of_else t.0) (λ o. else_part ∷ o) depth depth (seen at.entry) (seen t.1))
+        (λ e. Fails e (λ o. else_part ∷ o) depth (seen at.entry)) }
+{
+    let Some(at) = at.skip(Kind::Else) else {
+        return Ok((None, at));
+    };
+    let (value, at) = stmts(alloc, at, depth)?;
+    Ok((Some(value), at))
+}
+
+#[cycle(phrases)]
+fn while_stmt<'t, 's>(
+    alloc: Global,
+    at: Cursor<'t, 's>,
+    depth: u32,
+) -> Result<(Stmt, Cursor<'t, 's>), Fault<'t, 's>>
+    ensures read { MatchResult result (λ t. Reads (spell_stmt (view_stmt t.0)) (number_stmt t.0) while_parts depth depth (seen at.entry) (seen t.1))
+        (λ e. Fails e while_parts depth (seen at.entry)) }
+{
+    let (at, inner) = at.open(Kind::While, depth)?;
+    let (test, at) = expr(alloc, at, inner)?;
+    let at = at.expect(Kind::Do)?;
+    let (body, at) = stmts(alloc, at, inner)?;
+    let at = at.expect(Kind::End)?;
+    let (node, at) = at.count()?;
+    Ok((Stmt::While { node, test, body }, at))
+}
+
+#[cycle(phrases)]
+fn repeat_stmt<'t, 's>(
+    alloc: Global,
+    at: Cursor<'t, 's>,
+    depth: u32,
+) -> Result<(Stmt, Cursor<'t, 's>), Fault<'t, 's>>
+    ensures read { MatchResult result (λ t. Reads (spell_stmt (view_stmt t.0)) (number_stmt t.0) repeat_parts depth depth (seen at.entry) (seen t.1))
+        (λ e. Fails e repeat_parts depth (seen at.entry)) }
+{
+    let (at, inner) = at.open(Kind::Repeat, depth)?;
+    let (body, at) = stmts(alloc, at, inner)?;
+    let at = at.expect(Kind::Until)?;
+    let (test, at) = expr(alloc, at, depth)?;
+    let (node, at) = at.count()?;
+    Ok((Stmt::Repeat { node, body, test }, at))
+}
+
+#[cycle(phrases)]
+fn for_stmt<'t, 's>(
+    alloc: Global,
+    at: Cursor<'t, 's>,
+    depth: u32,
+) -> Result<(Stmt, Cursor<'t, 's>), Fault<'t, 's>>
+    ensures read { MatchResult result (λ t. Reads (spell_stmt (view_stmt t.0)) (number_stmt t.0) for_parts depth depth (seen at.entry) (seen t.1))
+        (λ e. Fails e for_parts depth (seen at.entry)) }
+{
+    let (at, inner) = at.open(Kind::For, depth)?;
+    let (variable, at) = at.name()?;
+    let at = at.expect(Kind::Assign)?;
+    let (from, at) = expr(alloc, at, inner)?;
+    let at = at.expect(Kind::To)?;
+    let (to, at) = expr(alloc, at, inner)?;
+    let (by, at) = step(alloc, at, inner)?;
+    let at = at.expect(Kind::Do)?;
+    let (body, at) = stmts(alloc, at, inner)?;
+    let at = at.expect(Kind::End)?;
+    let (node, at) = at.count()?;
+    Ok((
+        Stmt::For {
+            node,
+            variable,
+            from,
+            to,
+            by,
+            body,
+        },
+        at,
+    ))
+}
+
+/// The step of a FOR loop.
+#[cycle(phrases)]
+fn step<'t, 's>(
+    alloc: Global,
+    at: Cursor<'t, 's>,
+    depth: u32,
+) -> Result<(Option<Expr>, Cursor<'t, 's>), Fault<'t, 's>>
+    ensures read { MatchResult result (λ t. Reads (spell_by (by_of t.0)) (numbers_of_by t.0) (λ o. by_part ∷ o) depth depth (seen at.entry) (seen t.1))
+        (λ e. Fails e (λ o. by_part ∷ o) depth (seen at.entry)) }
+{
+    let Some(at) = at.skip(Kind::By) else {
+        return Ok((None, at));
+    };
+    let (value, at) = expr(alloc, at, depth)?;
+    Ok((Some(value), at))
+}
+
+#[cycle(phrases)]
+fn some_stmt<'t, 's>(
+    alloc: Global,
+    at: Cursor<'t, 's>,
+    depth: u32,
+) -> Result<(Stmt, Cursor<'t, 's>), Fault<'t, 's>>
+    ensures read { MatchResult result (λ t. Reads (spell_stmt (view_stmt t.0)) (number_stmt t.0) some_parts depth depth (seen at.entry) (seen t.1))
+        (λ e. Fails e some_parts depth (seen at.entry)) }
+{
+    let (at, inner) = at.open(Kind::Some, depth)?;
+    let (variable, at) = at.name()?;
+    let at = at.expect(Kind::Assign)?;
+    let (from, at) = expr(alloc, at, inner)?;
+    let at = at.expect(Kind::To)?;
+    let (to, at) = expr(alloc, at, inner)?;
+    let at = at.expect(Kind::Do)?;
+    let (body, at) = stmts(alloc, at, inner)?;
+    let at = at.expect(Kind::End)?;
+    let (node, at) = at.count()?;
+    Ok((
+        Stmt::Some {
+            node,
+            variable,
+            from,
+            to,
+            body,
+        },
+        at,
+    ))
+}
+
+#[cycle(phrases)]
+fn case_stmt<'t, 's>(
+    alloc: Global,
+    at: Cursor<'t, 's>,
+    depth: u32,
+) -> Result<(Stmt, Cursor<'t, 's>), Fault<'t, 's>>
+    ensures read { MatchResult result (λ t. Reads (spell_stmt (view_stmt t.0)) (number_stmt t.0) case_parts depth depth (seen at.entry) (seen t.1))
+        (λ e. Fails e case_parts depth (seen at.entry)) }
+{
+    let (at, inner) = at.open(Kind::Case, depth)?;
+    let (value, at) = expr(alloc, at, inner)?;
+    let at = at.expect(Kind::Of)?;
+    let (first, at) = arm(alloc, at, inner)?;
+    let (more, at) = arm_list(alloc, at, inner)?;
+    let (otherwise, at) = otherwise(alloc, at, inner)?;
+    let at = at.expect(Kind::End)?;
+    let first = Box::new(alloc, first)?;
+    let (node, at) = at.count()?;
+    Ok((
+        Stmt::Case {
+            node,
+            value,
+            first,
+            more,
+            otherwise,
+        },
+        at,
+    ))
+}
+
+#[cycle(phrases)]
+fn arm<'t, 's>(
+    alloc: Global,
+    at: Cursor<'t, 's>,
+    depth: u32,
+) -> Result<(Arm, Cursor<'t, 's>), Fault<'t, 's>>
+    ensures read { MatchResult result (λ t. Reads (spell_arm (view_arm t.0)) (number_arm t.0) (λ o. arm_part ∷ o) depth depth (seen at.entry) (seen t.1))
+        (λ e. Fails e (λ o. arm_part ∷ o) depth (seen at.entry)) }
+{
+    if at.begins_expr() {
+        return labelled_arm(alloc, at, depth);
+    }
+    let (node, at) = at.count()?;
+    Ok((Arm::Empty { node }, at))
+}
+
+#[cycle(phrases)]
+fn labelled_arm<'t, 's>(
+    alloc: Global,
+    at: Cursor<'t, 's>,
+    depth: u32,
+) -> Result<(Arm, Cursor<'t, 's>), Fault<'t, 's>>
+    ensures read { MatchResult result (λ t. Reads (spell_arm (view_arm t.0)) (number_arm t.0) labelled_parts depth depth (seen at.entry) (seen t.1))
+        (λ e. Fails e labelled_parts depth (seen at.entry)) }
+{
+    let (first, at) = label(alloc, at, depth)?;
+    let (more, at) = label_list(alloc, at, depth)?;
+    let at = at.expect(Kind::Colon)?;
+    let (body, at) = stmts(alloc, at, depth)?;
+    let (node, at) = at.count()?;
+    Ok((
+        Arm::Labelled {
+            node,
+            first,
+            more,
+            body,
+        },
+        at,
+    ))
+}
+
+#[cycle(phrases)]
+fn arm_list<'t, 's>(
+    alloc: Global,
+    mut at: Cursor<'t, 's>,
+    depth: u32,
+) -> Result<(Vec<Arm>, Cursor<'t, 's>), Fault<'t, 's>>
+    ensures read { MatchResult result (λ t. Reads (spell_arm_tail (arms_of t.0.items)) (numbers_of_arms t.0.items)
+        (λ o. arm_tail ∷ o) depth depth (seen at.entry) (seen t.1))
+        (λ e. Fails e (λ o. arm_tail ∷ o) depth (seen at.entry)) }
+{
+    let mut more = Vec::new(alloc);
+    while let Some(after) = at.skip(Kind::Bar) {
+        let (next, after) = arm(alloc, after, depth)?;
+        more.push(next)?;
+        at = after;
+    }
+    Ok((more, at))
+}
+
+#[cycle(phrases)]
+fn label<'t, 's>(
+    alloc: Global,
+    at: Cursor<'t, 's>,
+    depth: u32,
+) -> Result<(Label, Cursor<'t, 's>), Fault<'t, 's>>
+    ensures read { MatchResult result (λ t. Reads (spell_label (view_label t.0)) (number_label t.0) label_parts depth depth (seen at.entry) (seen t.1))
+        (λ e. Fails e label_parts depth (seen at.entry)) }
+{
+    let (low, at) = expr(alloc, at, depth)?;
+    let (high, at) = high(alloc, at, depth)?;
+    let (node, at) = at.count()?;
+    Ok((Label { node, low, high }, at))
+}
+
+#[cycle(phrases)]
+fn high<'t, 's>(
+    alloc: Global,
+    at: Cursor<'t, 's>,
+    depth: u32,
+) -> Result<(Option<Expr>, Cursor<'t, 's>), Fault<'t, 's>>
+    ensures read { MatchResult result (λ t. Reads (spell_high (high_of t.0)) (numbers_of_high t.0) (λ o. high_part ∷ o) depth depth (seen at.entry) (seen t.1))
+        (λ e. Fails e (λ o. high_part ∷ o) depth (seen at.entry)) }
+{
+    let Some(at) = at.skip(Kind::DotDot) else {
+        return Ok((None, at));
+    };
+    let (value, at) = expr(alloc, at, depth)?;
+    Ok((Some(value), at))
+}
+
+#[cycle(phrases)]
+fn label_list<'t, 's>(
+    alloc: Global,
+    mut at: Cursor<'t, 's>,
+    depth: u32,
+) -> Result<(Vec<Label>, Cursor<'t, 's>), Fault<'t, 's>>
+    ensures read { MatchResult result
+        (λ t. Reads (spell_label_tail (labels_of t.0.items)) (numbers_of_labels t.0.items) (λ o. label_tail ∷ o) depth depth (seen at.entry) (seen t.1))
+        (λ e. Fails e (λ o. label_tail ∷ o) depth (seen at.entry)) }
+{
+    let mut more = Vec::new(alloc);
+    while let Some(after) = at.skip(Kind::Comma) {
+        let (next, after) = label(alloc, after, depth)?;
+        more.push(next)?;
+        at = after;
+    }
+    Ok((more, at))
+}
+
+#[cycle(phrases)]
+fn either_stmt<'t, 's>(
+    alloc: Global,
+    at: Cursor<'t, 's>,
+    depth: u32,
+) -> Result<(Stmt, Cursor<'t, 's>), Fault<'t, 's>>
+    ensures read { MatchResult result (λ t. Reads (spell_stmt (view_stmt t.0)) (number_stmt t.0) either_parts depth depth (seen at.entry) (seen t.1))
+        (λ e. Fails e either_parts depth (seen at.entry)) }
+{
+    let (at, inner) = at.open(Kind::Either, depth)?;
+    let (first, at) = stmts(alloc, at, inner)?;
+    let (more, at) = orelse_list(alloc, at, inner)?;
+    let at = at.expect(Kind::End)?;
+    let (node, at) = at.count()?;
+    Ok((Stmt::Either { node, first, more }, at))
+}
+
+#[cycle(phrases)]
+fn orelse_list<'t, 's>(
+    alloc: Global,
+    mut at: Cursor<'t, 's>,
+    depth: u32,
+) -> Result<(Vec<Stmts>, Cursor<'t, 's>), Fault<'t, 's>>
+    ensures read { MatchResult result
+        (λ t. Reads (spell_orelse_tail (orelses_of t.0.items)) (numbers_of_orelses t.0.items) (λ o. orelse_tail ∷ o) depth depth (seen at.entry) (seen t.1))
+        (λ e. Fails e (λ o. orelse_tail ∷ o) depth (seen at.entry)) }
+{
+    let mut more = Vec::new(alloc);
+    while let Some(after) = at.skip(Kind::Orelse) {
+        let (next, after) = stmts(alloc, after, depth)?;
+        more.push(next)?;
+        at = after;
+    }
+    Ok((more, at))
+}
+
+#[cycle(phrases)]
+fn forall_stmt<'t, 's>(
+    alloc: Global,
+    at: Cursor<'t, 's>,
+    depth: u32,
+) -> Result<(Stmt, Cursor<'t, 's>), Fault<'t, 's>>
+    ensures read { MatchResult result (λ t. Reads (spell_stmt (view_stmt t.0)) (number_stmt t.0) forall_parts depth depth (seen at.entry) (seen t.1))
+        (λ e. Fails e forall_parts depth (seen at.entry)) }
+{
+    let (at, inner) = at.open(Kind::Forall, depth)?;
+    let (choice, at) = stmts(alloc, at, inner)?;
+    let at = at.expect(Kind::Do)?;
+    let (body, at) = stmts(alloc, at, inner)?;
+    let at = at.expect(Kind::End)?;
+    let (node, at) = at.count()?;
+    Ok((Stmt::Forall { node, choice, body }, at))
+}
+
+#[cycle(phrases)]
+fn commit_stmt<'t, 's>(
+    alloc: Global,
+    at: Cursor<'t, 's>,
+    depth: u32,
+) -> Result<(Stmt, Cursor<'t, 's>), Fault<'t, 's>>
+    ensures read { MatchResult result (λ t. Reads (spell_stmt (view_stmt t.0)) (number_stmt t.0) commit_parts depth depth (seen at.entry) (seen t.1))
+        (λ e. Fails e commit_parts depth (seen at.entry)) }
+{
+    let (at, inner) = at.open(Kind::Commit, depth)?;
+    let (body, at) = stmts(alloc, at, inner)?;
+    let at = at.expect(Kind::End)?;
+    let (node, at) = at.count()?;
+    Ok((Stmt::Commit { node, body }, at))
+}
+
+#[cycle(phrases)]
+fn return_stmt<'t, 's>(
+    alloc: Global,
+    at: Cursor<'t, 's>,
+    depth: u32,
+) -> Result<(Stmt, Cursor<'t, 's>), Fault<'t, 's>>
+    ensures read { MatchResult result (λ t. Reads (spell_stmt (view_stmt t.0)) (number_stmt t.0) return_parts depth depth (seen at.entry) (seen t.1))
+        (λ e. Fails e return_parts depth (seen at.entry)) }
+{
+    let at = at.expect(Kind::Return)?;
+    let (value, at) = returned(alloc, at, depth)?;
+    let (node, at) = at.count()?;
+    Ok((Stmt::Return { node, value }, at))
+}
+
+#[cycle(phrases)]
+fn returned<'t, 's>(
+    alloc: Global,
+    at: Cursor<'t, 's>,
+    depth: u32,
+) -> Result<(Option<Expr>, Cursor<'t, 's>), Fault<'t, 's>>
+    ensures read { MatchResult result
+        (λ t. Reads (spell_returned (returned_of t.0)) (numbers_of_returned t.0) (λ o. returned_part ∷ o) depth depth (seen at.entry) (seen t.1))
+        (λ e. Fails e (λ o. returned_part ∷ o) depth (seen at.entry)) }
+{
+    if at.begins_expr() {
+        let (value, at) = expr(alloc, at, depth)?;
+        return Ok((Some(value), at));
+    }
+    Ok((None, at))
+}
+
+#[cycle(phrases)]
+fn read_stmt<'t, 's>(
+    alloc: Global,
+    at: Cursor<'t, 's>,
+    depth: u32,
+) -> Result<(Stmt, Cursor<'t, 's>), Fault<'t, 's>>
+    ensures read { MatchResult result (λ t. Reads (spell_stmt (view_stmt t.0)) (number_stmt t.0) read_parts depth depth (seen at.entry) (seen t.1))
+        (λ e. Fails e read_parts depth (seen at.entry)) }
+{
+    let at = at.expect(Kind::Read)?;
+    let (at, inner) = at.open(Kind::OpenParen, depth)?;
+    let (first, at) = desig(alloc, at, inner)?;
+    let (more, at) = desig_list(alloc, at, inner)?;
+    let at = at.expect(Kind::CloseParen)?;
+    let (node, at) = at.count()?;
+    Ok((Stmt::Read { node, first, more }, at))
+}
+
+#[cycle(phrases)]
+fn desig_list<'t, 's>(
+    alloc: Global,
+    mut at: Cursor<'t, 's>,
+    depth: u32,
+) -> Result<(Vec<Desig>, Cursor<'t, 's>), Fault<'t, 's>>
+    ensures read { MatchResult result
+        (λ t. Reads (spell_desig_tail (desigs_of t.0.items)) (numbers_of_desigs t.0.items) (λ o. desig_tail ∷ o) depth depth (seen at.entry) (seen t.1))
+        (λ e. Fails e (λ o. desig_tail ∷ o) depth (seen at.entry)) }
+{
+    let mut more = Vec::new(alloc);
+    while let Some(after) = at.skip(Kind::Comma) {
+        let (next, after) = desig(alloc, after, depth)?;
+        more.push(next)?;
+        at = after;
+    }
+    Ok((more, at))
+}
+
+#[cycle(phrases)]
+fn write_stmt<'t, 's>(
+    alloc: Global,
+    at: Cursor<'t, 's>,
+    depth: u32,
+) -> Result<(Stmt, Cursor<'t, 's>), Fault<'t, 's>>
+    ensures read { MatchResult result (λ t. Reads (spell_stmt (view_stmt t.0)) (number_stmt t.0) write_parts depth depth (seen at.entry) (seen t.1))
+        (λ e. Fails e write_parts depth (seen at.entry)) }
+{
+    let at = at.expect(Kind::Write)?;
+    let (at, inner) = at.open(Kind::OpenParen, depth)?;
+    let (items, at) = exprs(alloc, at, inner)?;
+    let at = at.expect(Kind::CloseParen)?;
+    let (node, at) = at.count()?;
+    Ok((Stmt::Write { node, items }, at))
+}
+
+#[cycle(phrases)]
+fn writeln_stmt<'t, 's>(
+    alloc: Global,
+    at: Cursor<'t, 's>,
+    depth: u32,
+) -> Result<(Stmt, Cursor<'t, 's>), Fault<'t, 's>>
+    ensures read { MatchResult result (λ t. Reads (spell_stmt (view_stmt t.0)) (number_stmt t.0) writeln_parts depth depth (seen at.entry) (seen t.1))
+        (λ e. Fails e writeln_parts depth (seen at.entry)) }
+{
+    let at = at.expect(Kind::Writeln)?;
+    let (items, at) = args(alloc, at, depth)?;
+    let (node, at) = at.count()?;
+    Ok((Stmt::Writeln { node, items }, at))
+}
