@@ -1,3 +1,4 @@
+pub mod Bytes
 pub mod Carry
 pub mod Choice
 pub mod Fault

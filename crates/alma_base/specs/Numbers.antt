@@ -1,10 +1,18 @@
 -- The numbers of the language: INTEGER, ranges of it, and division that rounds down.
-use Rattle.std.specs.Prelude.{◌≢◌, zero, suc, ◌+◌, ◌-◌, ◌/◌, ◌^◌, Bool, true, false, ◌&&◌, nat_eq, ℤ, pos, negsuc, ◌-ℤ◌, ◌*ℤ◌, neg_ℤ, ◌≤ℤ◌, ◌<ℤ◌, int_le}
+use Rattle.std.specs.Prelude.{◌≢◌, ℕ, zero, suc, ◌+◌, ◌-◌, ◌/◌, ◌^◌, Bool, true, false, ◌&&◌, nat_eq, ℤ, pos, negsuc, ◌-ℤ◌, ◌*ℤ◌, neg_ℤ, ◌≤ℤ◌, ◌<ℤ◌, int_le, int_lt, nat_abs}
 use Rattle.alma_base.specs.declared.number.Range.{Range}
 
 -- the number is in the range
 abbrev pub within : Range → ℤ → Bool
 within range n = int_le range.low n && int_le n range.high
+
+-- how many numbers a range has whose low end is not above its high end
+abbrev pub range_size : Range → ℕ
+range_size range = nat_abs (range.high -ℤ range.low) + 1
+
+-- all numbers of INTEGER
+abbrev pub whole_range : Range
+whole_range = record { low = negsuc (2 ^ 63 - 1); high = pos (2 ^ 63 - 1) }
 
 -- the number is one of INTEGER, of 64 bits with a sign
 abbrev pub is_integer : ℤ → Bool
@@ -16,6 +24,11 @@ int_eq (pos a) (pos b) = nat_eq a b
 int_eq (negsuc a) (negsuc b) = nat_eq a b
 int_eq (pos a) (negsuc b) = false
 int_eq (negsuc a) (pos b) = false
+
+-- a count is beyond the limit of a loop: above it where the step is at least 0, and else below it
+abbrev pub is_beyond : (count limit by : ℤ) → Bool
+is_beyond count limit (pos step) = int_lt limit count
+is_beyond count limit (negsuc step) = int_lt count limit
 
 -- the number is 0
 abbrev pub is_zero : ℤ → Bool

@@ -1,12 +1,24 @@
 // The numbers of the language: ranges of them, division, and what READ finds.
 ghost use Rattle.std.specs.Prelude.{◌≡◌, ◌≢◌, ◌<ℤ◌, pos, false, MatchOption};
-ghost use Rattle.alma_base.specs.Numbers.{is_integer, div_down_of, mod_down_of};
+ghost use Rattle.alma_base.specs.Numbers.{whole_range, is_integer, div_down_of, mod_down_of};
 
 /// The numbers from `low` to `high`. Whoever makes one keeps `low` at most `high`.
 #[derive(Clone, Copy, Debug, PartialEq, Eq)]
 pub struct Range {
     pub low: i64,
     pub high: i64,
+}
+
+impl Range {
+    /// All numbers of INTEGER.
+    pub fn integer() -> Range
+        ensures { result ≡ whole_range }
+    {
+        Range {
+            low: i64::MIN,
+            high: i64::MAX,
+        }
+    }
 }
 
 /// What READ finds at a place of the input, on an INTEGER type.

@@ -14,10 +14,10 @@ use Rattle.alma_code.specs.declared.instr.Word.TheVariants as W
 use Rattle.alma_base.specs.declared.fault.RunFault.TheVariants as fault
 use Rattle.alma_code.specs.declared.step.End.TheVariants as end
 use Rattle.alma_code.specs.Plain.{PlainCode}
-use Rattle.alma_base.specs.Numbers.{is_zero, div_down_of, mod_down_of}
+use Rattle.alma_base.specs.Numbers.{is_zero, div_down_of, mod_down_of, range_size, is_beyond}
 use Rattle.alma_code.specs.Words.{words}
-use Rattle.alma_code.specs.Rules.{kind_in, length_in, is_address, rule_5, rule_6, rule_7, rule_11, rule_12, range_size, has_room, IsSound}
-use Rattle.alma_code.specs.Machine.{State, went, top, act, is_beyond, put_number, with_cell, with_slot, to_mark, chose, pushed, as_text, as_fault, run_faults, left, found, char_found, overlay}
+use Rattle.alma_code.specs.Rules.{kind_in, length_in, is_address, rule_5, rule_6, rule_7, rule_11, rule_12, has_room, IsSound}
+use Rattle.alma_code.specs.Machine.{State, went, top, act, put_number, with_cell, with_slot, to_mark, chose, pushed, as_text, as_fault, run_faults, left, found, char_found, overlay}
 use Rattle.alma_code.specs.Fits.{routines_of, IsCell}
 use Rattle.alma_code.proofs.Ready.{Good, mark_is, if_true_keeps, went_good, ended_good, fails_good, fault_good, number_good, place_good, mark_good, put_mark_good, fitted_good, content_good, store_good, known_good, ranged_good, as_range_good, equation_good, slot_ready, has_slot}
 use Rattle.alma_code.proofs.Acts.{Here, Obeys, addresses, bound_good, cells_of, char_good, copied_good, cut_good, entries, equations_good, finish_good, first_is, found_good, frame_live, goes_good, keep_good, left_ready, mark_word, next, number_word, one_good, overlay_ready, place_word, position_good, pushed_ready, put_good, put_place_at, result_good, slots, top_is, top_main, two_good}

@@ -1,6 +1,6 @@
 -- The copying code machine: what each instruction does, where each choice entry holds a whole copy of the live frames.
 -- A read looks at what the slot holds, a write at the kind of the slot, and a place is looked at when one of its cells is used.
-use Rattle.std.specs.Prelude.{ℕ, zero, suc, ◌+◌, ◌-◌, ◌*◌, Bool, true, false, not, ◌&&◌, nat_eq, nat_lt, nat_le, ℤ, pos, negsuc, ◌+ℤ◌, ◌-ℤ◌, ◌*ℤ◌, neg_ℤ, int_lt, int_le, nat_abs, List, [], ◌∷◌, ◌++◌, length, get_or, take, Option, Some, None, slice_get}
+use Rattle.std.specs.Prelude.{ℕ, zero, suc, ◌+◌, ◌-◌, ◌*◌, Bool, true, false, not, ◌&&◌, nat_eq, nat_lt, nat_le, ℤ, pos, ◌+ℤ◌, ◌-ℤ◌, ◌*ℤ◌, neg_ℤ, int_lt, int_le, nat_abs, List, [], ◌∷◌, ◌++◌, length, get_or, take, Option, Some, None, slice_get}
 use Rattle.std.specs.Int.{int_rem_euclid}
 use Rattle.alma_base.specs.declared.fault.RunFault.{RunFault}
 use Rattle.alma_base.specs.declared.fault.RunFault.TheVariants as fault
@@ -9,7 +9,7 @@ use Rattle.alma_base.specs.declared.number.ReadInt.{ReadInt}
 use Rattle.alma_base.specs.declared.number.ReadInt.TheVariants.{Number, NoNumber, TooLarge}
 use Rattle.alma_base.specs.declared.value.Value.TheVariants as value
 use Rattle.alma_base.specs.Choice.{if_true}
-use Rattle.alma_base.specs.Numbers.{within, is_integer, int_eq, is_zero, bit, div_down_of, mod_down_of}
+use Rattle.alma_base.specs.Numbers.{within, is_integer, int_eq, is_beyond, is_zero, bit, div_down_of, mod_down_of}
 use Rattle.alma_base.specs.Reading.{number_from}
 use Rattle.alma_base.specs.Value.{value_text}
 use Rattle.alma_code.specs.declared.cell.Cell.{Cell}
@@ -430,11 +430,6 @@ run_faults =
 abbrev pub as_fault : Option RunFault → State → Stepped
 as_fault (Some f) s = faulted f s
 as_fault None s = stuck s
-
--- a counter beyond the limit of a loop: above it where the step is at least 0, and else below it
-abbrev pub is_beyond : (next limit by : ℤ) → Bool
-is_beyond next limit (pos n) = int_lt limit next
-is_beyond next limit (negsuc n) = int_lt next limit
 
 -- ---- the instructions, in the order of their opcodes
 

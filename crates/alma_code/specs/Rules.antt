@@ -1,7 +1,8 @@
 -- The twelve rules of a sound code, each a test of one head or of one instruction, and the first that is broken.
 -- Rules 1 to 3 are of a head, rules 4 to 12 of an instruction; "the routine" is the routine r in whose code it stands.
-use Rattle.std.specs.Prelude.{◌≡◌, ℕ, zero, suc, ◌+◌, ◌-◌, ◌*◌, ◌<◌, ◌≤◌, Bool, true, false, not, ◌&&◌, ◌||◌, nat_eq, nat_lt, nat_le, ◌-ℤ◌, nat_abs, List, [], ◌∷◌, length, get_or, Option, Some, None, slice_get}
+use Rattle.std.specs.Prelude.{◌≡◌, ℕ, zero, suc, ◌+◌, ◌-◌, ◌*◌, ◌<◌, ◌≤◌, Bool, true, false, not, ◌&&◌, ◌||◌, nat_eq, nat_lt, nat_le, List, [], ◌∷◌, length, get_or, Option, Some, None, slice_get}
 use Rattle.std.specs.List.{list_all}
+use Rattle.alma_base.specs.Numbers.{range_size}
 use Rattle.alma_base.specs.declared.number.Range.{Range}
 use Rattle.alma_code.specs.declared.cell.SlotKind.{SlotKind}
 use Rattle.alma_code.specs.declared.cell.SlotKind.TheVariants as slot
@@ -42,10 +43,6 @@ place_length (Some (slot.Place l)) = l
 place_length (Some slot.Number) = 0
 place_length (Some slot.Mark) = 0
 place_length None = 0
-
--- how many numbers a range has
-abbrev pub range_size : Range → ℕ
-range_size range = nat_abs (range.high -ℤ range.low) + 1
 
 -- as many parts as a range has numbers fit into all; a range that is not there breaks rule 8 and not this
 abbrev pub has_room : Option Range → (part all : ℕ) → Bool

@@ -1,7 +1,8 @@
 -- Small codes whose runs and whose first broken rules are computed.
-use Rattle.std.specs.Prelude.{◌≡◌, ℕ, Bool, true, false, ℤ, pos, negsuc, ◌-◌, ◌^◌, List, [], ◌∷◌, ◌++◌, length, codes, Some}
+use Rattle.std.specs.Prelude.{◌≡◌, ℕ, Bool, true, false, ℤ, pos, negsuc, List, [], ◌∷◌, ◌++◌, length, codes, Some}
 use Rattle.alma_code.specs.declared.cell.SlotKind.TheVariants as slot
 use Rattle.alma_base.specs.Carry.{Change}
+use Rattle.alma_base.specs.Numbers.{whole_range}
 use Rattle.alma_code.specs.declared.cell.Cell.{Cell}
 use Rattle.alma_code.specs.declared.cell.Cell.TheVariants as cell
 use Rattle.alma_code.specs.declared.head.ParamKind.{ParamKind}
@@ -70,7 +71,7 @@ abbrev pub code_with : List PlainRoutine → List Instr → PlainCode
 code_with routines instrs = record {
   routines = routines;
   globals = [];
-  ranges = record { low = negsuc (2 ^ 63 - 1); high = pos (2 ^ 63 - 1) } ∷ record { low = pos 1; high = pos 2 } ∷ [];
+  ranges = whole_range ∷ record { low = pos 1; high = pos 2 } ∷ [];
   texts = codes "Hi" ∷ [];
   instrs = instrs;
 }

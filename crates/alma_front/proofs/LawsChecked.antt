@@ -2,8 +2,10 @@
 use Rattle.std.proofs.Common.{◌≡◌, ◌≤◌, ◌+◌, ℕ, zero, suc, List, [], ◌∷◌, ◌++◌, length, sum_by, refl, sym, ap, subst, arith, IsTrue}
 use Rattle.std.specs.List.{AllByRecursion}
 use Rattle.std.proofs.lemmas.List.Sums.{sum_by-cons}
+use Rattle.alma_base.specs.Bytes.{is_word_byte}
+use Rattle.alma_base.specs.Numbers.{whole_range}
 use Rattle.alma_base.specs.declared.number.Range.{Range}
-use Rattle.alma_scan.specs.Bytes.{AllIn, is_word_byte}
+use Rattle.alma_scan.specs.Bytes.{AllIn}
 use Rattle.alma_scan.specs.Spellings.{IsWord}
 use Rattle.alma_ir.specs.declared.phrase.Root.TheVariants as root
 use Rattle.alma_ir.specs.Tree.{Program, Routine, Global, Stmts, Stmt, Arms, Test, Expr, Links, Desig, no_stmts, more_stmts, TestStmt, Assign, CopyCells, If, While, Repeat, ForTo, SomeOf, Case, Either, Forall, Commit, Return, Read, WriteExpr, WriteText, WriteLine, no_arms, more_arms, Value, Bind, Unify, SameCells, Seq, And, Or, Not, CallTest, Const, Load, Chain, Compare, Truth, Known, Chr, CallExpr, no_links, more_links, a_desig, no_sels, more_sels}
@@ -11,7 +13,6 @@ use Rattle.alma_ir.specs.Phrases.{Phrase, stmts_phrases, stmt_phrases, arms_phra
 use Rattle.alma_ir.specs.Checked.{EachRoutine, EachPhrase, loops_of, RootExists, PartsExist, CellsAgree, desig_cells, IsOrdered, RangesOrdered, HasStep, LoopIsApart, CalleeExists, ResultAgrees, CallFits, HasChoice, ReturnAgrees, ReturnsStay, text_bytes, AreNumbers, IsGlobal, IsName, IsChecked}
 use Rattle.alma_ir.specs.Checked as checked
 use Rattle.alma_ir.proofs.Each.{each_of_append, each_follows}
-use Rattle.alma_lower.specs.Built as built
 use Rattle.alma_front.specs.Words.{Word}
 use Rattle.alma_front.specs.Grammar.{IsNames, last_name, more_names, HasVariables, no_variables, variables, globals_from, body_routine, program}
 use Rattle.alma_front.specs.Source.{IsSource}
@@ -55,7 +56,7 @@ module _ (name : List ℕ) (names : List (List ℕ)) (stmts : Stmts) where
   one_cell (a_desig (root.Param slot) cells sels) f = absurd f
 
   -- the range of all numbers is in order
-  ordered : (range : Range) → range ≡ built.whole_range → IsOrdered range
+  ordered : (range : Range) → range ≡ whole_range → IsOrdered range
   ordered range e = subst IsOrdered (sym e) (omega arith)
 
   -- the phrases of each part
@@ -213,7 +214,7 @@ module _ (name : List ℕ) (names : List (List ℕ)) (stmts : Stmts) where
 -- ---- names of a source
 
 -- bytes of words are bytes of names
-word_bytes_named : (bytes : List ℕ) → AllIn is_word_byte bytes → AllByRecursion (λ b. IsTrue (checked.is_word_byte b)) bytes
+word_bytes_named : (bytes : List ℕ) → AllIn is_word_byte bytes → AllByRecursion (λ b. IsTrue (is_word_byte b)) bytes
 word_bytes_named [] h = tt
 word_bytes_named (b ∷ bytes) h = (h.0, word_bytes_named bytes h.1)
 

@@ -1,10 +1,9 @@
 -- What the grammar gives is of the forms that are compiled, with variables among those that are declared.
 use Rattle.std.proofs.Common.{◌≡◌, ◌≤◌, ◌<◌, ◌+◌, ℕ, Bool, true, false, List, [], ◌∷◌, length, Some, refl, sym, subst, arith, if◌then◌else◌, bytes_eq}
-use Rattle.alma_base.specs.Numbers.{is_integer}
+use Rattle.alma_base.specs.Numbers.{whole_range, is_integer}
 use Rattle.alma_ir.specs.declared.phrase.Root.TheVariants as root
 use Rattle.alma_ir.specs.Tree.{Program, Stmts, Stmt, Arms, Test, Expr, Links, Desig, no_stmts, more_stmts, TestStmt, Assign, CopyCells, If, While, Repeat, ForTo, SomeOf, Case, Either, Forall, Commit, Return, Read, WriteExpr, WriteText, WriteLine, no_arms, more_arms, Value, Bind, Unify, SameCells, Seq, And, Or, Not, CallTest, Const, Load, Chain, Compare, Truth, Known, Chr, CallExpr, no_links, more_links, a_desig, no_sels, more_sels}
 use Rattle.alma_lower.specs.Built.{BuiltDesig, BuiltExpr, BuiltLinks, BuiltTest, BuiltWrite, BuiltStmts, BuiltStmt, BuiltArms, IsBuilt}
-use Rattle.alma_lower.specs.Built as built
 use Rattle.alma_front.specs.Words.{Word, slot_from}
 use Rattle.alma_front.specs.Grammar.{truth_number, chained, followed_by, HasSign, no_sign, plus_sign, minus_sign, IsOperand, number, variable_named, nested, IsFactors, no_factors, more_factors, IsProduct, product, IsTerms, no_terms, more_terms, IsSum, sum, IsCondition, truth, compared, IsItem, truth_item, sum_item, IsItems, last_item, more_items, IsStatement, nothing, test, assignment, write, if_else, while_loop, repeat_loop, IsArms, last_arm, elsif, IsElse, no_else, else_part, IsStatements, last_statement, more_statements, IsNames, last_name, more_names, HasVariables, no_variables, variables, HasBody, no_body, body, IsModule, body_routine}
 use Rattle.alma_front.specs.Source.{IsSource}
@@ -55,7 +54,7 @@ abbrev mutual
 
   pub FormStmt : (count : ℕ) → Stmt → Type 0
   FormStmt count (TestStmt t) = FormTest count t
-  FormStmt count (Assign d e range) = FormDesig count d × FormExpr count e × (range ≡ built.whole_range)
+  FormStmt count (Assign d e range) = FormDesig count d × FormExpr count e × (range ≡ whole_range)
   FormStmt count (If arms rest) = FormArms count arms × FormStmts count rest
   FormStmt count (While t block) = FormTest count t × FormStmts count block
   FormStmt count (Repeat block t) = FormStmts count block × FormTest count t

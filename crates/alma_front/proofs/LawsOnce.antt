@@ -1,11 +1,12 @@
 -- Words begin with one statement, where the word behind tells that it ends; words are one module, and a source is one program.
 use Rattle.std.proofs.Common.{◌≡◌, ℕ, Bool, true, false, List, [], ◌∷◌, length, map, refl, sym, ap, ◌∙◌, subst, codes}
+use Rattle.alma_base.specs.Numbers.{whole_range}
 use Rattle.alma_tree.specs.declared.kind.Kind.TheVariants as kinds
 use Rattle.alma_scan.specs.Tokens.{Lexeme}
 use Rattle.alma_scan.proofs.Once.{tokens_once}
 use Rattle.alma_ir.specs.Tree.{Program, Stmts, Arms, Expr, Assign}
 use Rattle.alma_front.specs.Words.{Word, Named, Digits, Fixed, word, slot_of}
-use Rattle.alma_front.specs.Grammar.{variable, whole_range, one, followed_by, IsSum, IsCondition, IsItems, IsStatement, nothing, test, assignment, write, if_else, while_loop, repeat_loop, IsArms, last_arm, elsif, IsElse, no_else, else_part, IsStatements, last_statement, more_statements, IsNames, last_name, more_names, HasVariables, no_variables, variables, HasBody, no_body, body, IsModule, program}
+use Rattle.alma_front.specs.Grammar.{variable, one, followed_by, IsSum, IsCondition, IsItems, IsStatement, nothing, test, assignment, write, if_else, while_loop, repeat_loop, IsArms, last_arm, elsif, IsElse, no_else, else_part, IsStatements, last_statement, more_statements, IsNames, last_name, more_names, HasVariables, no_variables, variables, HasBody, no_body, body, IsModule, program}
 use Rattle.alma_front.specs.Source.{IsSource}
 use Rattle.alma_scan.proofs.Basics.{true_false}
 use Rattle.alma_front.specs.Parse.{first_is, factor_word, term_word, start_word, ends_word, ends_list, ends_arms}

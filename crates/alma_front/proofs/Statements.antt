@@ -1,5 +1,6 @@
 -- Statements are read exactly: where their parts are, and where a part is missing.
 use Rattle.std.proofs.Common.{◌≡◌, ℕ, true, false, List, [], ◌∷◌, ◌++◌, Some, None, refl, sym, ap, ◌∙◌, subst}
+use Rattle.alma_base.specs.Numbers.{whole_range}
 use Rattle.alma_tree.specs.declared.kind.Kind.{Kind}
 use Rattle.alma_tree.specs.declared.kind.Kind.TheVariants as kinds
 use Rattle.alma_scan.proofs.Basics.{true_false}
@@ -12,7 +13,7 @@ use Rattle.std.specs.declared.alloc.Global.{Global}
 use Rattle.alma_ir.specs.Tree.{Stmts, Arms, Test, Expr, Load, no_stmts, more_stmts, TestStmt, Assign, If, While, Repeat, no_arms, more_arms, no_links}
 use Rattle.alma_ir.specs.View.{stmt_of, test_of, stmts_list, arms_list}
 use Rattle.alma_front.specs.Words.{Word, Named, Fixed, comparison, slot_of}
-use Rattle.alma_front.specs.Grammar.{variable, whole_range, one, followed_by, no_sign, variable_named, no_factors, product, no_terms, IsSum, sum, IsCondition, truth, compared, IsItems, IsStatement, nothing, test, assignment, write, if_else, while_loop, repeat_loop, IsArms, last_arm, elsif, IsElse, no_else, else_part, IsStatements, last_statement, more_statements}
+use Rattle.alma_front.specs.Grammar.{variable, one, followed_by, no_sign, variable_named, no_factors, product, no_terms, IsSum, sum, IsCondition, truth, compared, IsItems, IsStatement, nothing, test, assignment, write, if_else, while_loop, repeat_loop, IsArms, last_arm, elsif, IsElse, no_else, else_part, IsStatements, last_statement, more_statements}
 use Rattle.alma_front.specs.Parse.{first_is, start_word, statement_word, ends_word, ends_list, ends_arms, Anything, EndsSum, EndsItems, EndsStatement, EndsStatements, EndsArms, BeginsNot, PlainArm, arm_of, IsArm, Only, Refused}
 use Rattle.alma_front.specs.declared.error.ReadError.{ReadError}
 use Rattle.alma_front.specs.declared.error.ReadError.TheVariants.{NotYet, Memory}

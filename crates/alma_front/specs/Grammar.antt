@@ -1,7 +1,7 @@
 -- The grammar of the small language, from tokens to the resolved program. Each fact says that the words begin with a
 -- phrase of a kind, what this phrase stands for, and which words are behind it.
-use Rattle.std.specs.Prelude.{◌≡◌, ◌≤◌, ℕ, ◌+◌, ◌-◌, ◌^◌, ℤ, Bool, true, false, pos, negsuc, List, [], ◌∷◌, length, Some, None, codes}
-use Rattle.alma_base.specs.declared.number.Range.{Range}
+use Rattle.std.specs.Prelude.{◌≡◌, ◌≤◌, ℕ, ◌+◌, ℤ, Bool, true, false, pos, List, [], ◌∷◌, length, Some, None, codes}
+use Rattle.alma_base.specs.Numbers.{whole_range}
 use Rattle.alma_tree.specs.declared.kind.Kind.{Kind}
 use Rattle.alma_tree.specs.declared.kind.Kind.TheVariants as kinds
 use Rattle.alma_scan.specs.Bytes.{value_of}
@@ -23,10 +23,6 @@ variable slot = a_desig (root.Local slot) 1 no_sels
 abbrev pub truth_number : Bool → ℤ
 truth_number true = pos 1
 truth_number false = pos 0
-
--- all numbers of INTEGER
-abbrev pub whole_range : Range
-whole_range = record { low = negsuc (2 ^ 63 - 1); high = pos (2 ^ 63 - 1) }
 
 -- operands and the operators between them; one operand without a minus sign stands for itself
 abbrev pub chained : (negated : Bool) (first : Expr) → Links → Expr

@@ -19,12 +19,6 @@ use alma_scan::Token;
 use alma_tree::Kind;
 use std::alloc::Global;
 
-/// All numbers of INTEGER.
-const WHOLE_RANGE: Range = Range {
-    low: i64::MIN,
-    high: i64::MAX,
-};
-
 // A list of one statement.
 fn list_of(alloc: Global, statement: Stmt) -> Result<Vec<Stmt>, ReadError>
     ensures found { IfOk result (λ list. stmts_list list.items ≡ one (stmt_of statement)) }
@@ -50,7 +44,7 @@ fn assignment<'t, 's>(
 {
     let slot = variables.slot(name).ok_or(ReadError::NotYet)?;
     let (value, rest) = sum(alloc, variables, inner)?;
-    let statement = Stmt::Assign(desig_of_slot(alloc, slot), value, WHOLE_RANGE);
+    let statement = Stmt::Assign(desig_of_slot(alloc, slot), value, Range::integer());
     Ok((list_of(alloc, statement)?, rest))
 }
 

@@ -1,6 +1,8 @@
 -- What the checker's programs keep, and what a program must keep to be compiled: each condition by itself, and all.
-use Rattle.std.specs.Prelude.{◌≡◌, ◌⊎◌, ℕ, ◌+◌, ◌*◌, ◌<◌, ◌≤◌, Bool, ◌&&◌, ◌||◌, nat_eq, nat_le, IsTrue, pos, ◌-ℤ◌, ◌≤ℤ◌, nat_abs, List, [], ◌∷◌, ◌++◌, length, sum_by, Some, IsSome, IsNone}
+use Rattle.std.specs.Prelude.{◌≡◌, ◌⊎◌, ℕ, ◌+◌, ◌*◌, ◌<◌, ◌≤◌, IsTrue, pos, ◌≤ℤ◌, List, [], ◌∷◌, ◌++◌, length, sum_by, Some, IsSome, IsNone}
 use Rattle.std.specs.List.{AllByRecursion}
+use Rattle.alma_base.specs.Bytes.{is_letter, is_word_byte}
+use Rattle.alma_base.specs.Numbers.{range_size}
 use Rattle.alma_base.specs.declared.number.Range.{Range}
 use Rattle.alma_ir.specs.declared.program.ArgKind.{ArgKind}
 use Rattle.alma_ir.specs.declared.program.ArgKind.TheVariants as kind
@@ -28,10 +30,6 @@ loops_of _ = []
 -- the slot is none of the `count` slots from `from` on
 abbrev pub IsOutside : (from count slot : ℕ) → Type 0
 IsOutside from count slot = (slot < from) ⊎ (from + count ≤ slot)
-
--- how many numbers a range has, where it is in order
-abbrev pub range_size : Range → ℕ
-range_size range = nat_abs (range.high -ℤ range.low) + 1
 
 -- ---- the body of the module
 
@@ -298,14 +296,6 @@ ReturnsStay (TestPhrase (Seq x)) = HaveNoReturn x
 ReturnsStay _ = Unit {0}
 
 -- ---- names and limits
-
--- a letter or `_`
-abbrev pub is_letter : ℕ → Bool
-is_letter c = (nat_le 65 c && nat_le c 90) || (nat_le 97 c && nat_le c 122) || nat_eq c 95
-
--- a letter, `_` or a digit
-abbrev pub is_word_byte : ℕ → Bool
-is_word_byte c = is_letter c || (nat_le 48 c && nat_le c 57)
 
 -- a letter or `_`, and then letters, digits and `_`
 abbrev pub IsName : List ℕ → Type 0

@@ -2,6 +2,7 @@
 use Rattle.std.proofs.Common.{◌≡◌, List, [], ◌∷◌, ◌++◌, ap, ◌∙◌}
 use Rattle.std.specs.Prelude.{pos, Vec, Result, Ok, Err, IfOk}
 use Rattle.std.specs.declared.alloc.Global.{Global}
+use Rattle.alma_base.specs.Numbers.{whole_range}
 use Rattle.alma_ir.specs.declared.phrase.Stmt as S
 use Rattle.alma_ir.specs.declared.phrase.Test as T
 use Rattle.alma_ir.specs.declared.phrase.Expr as E
@@ -12,7 +13,6 @@ use Rattle.alma_ir.specs.declared.phrase.WriteAs.TheVariants as write_as
 use Rattle.alma_ir.specs.Tree.{no_stmts, more_stmts, Assign, If, While, WriteExpr, no_arms, more_arms, Value, Const, Load, Compare}
 use Rattle.alma_ir.specs.View.{desig_of, expr_of, test_of, stmt_of, stmts_list, arms_list}
 use Rattle.alma_ir.proofs.Views
-use Rattle.alma_lower.specs.Built.{whole_range}
 use Rattle.alma_lower.proofs.Examples.{variable, loop_body, if_body}
 
 -- a clause on a value that follows from another

@@ -1,6 +1,7 @@
 -- The programs of the tests are built and checked.
 use Rattle.std.proofs.Common.{rules, ◌≡◌, ℕ, zero, suc, [], ◌∷◌, refl, arith}
 use Rattle.std.specs.Prelude.{None, pos, sum_by}
+use Rattle.alma_base.specs.Numbers.{whole_range}
 use Rattle.alma_ir.specs.declared.phrase.Cmp.TheVariants as cmp
 use Rattle.alma_ir.specs.declared.phrase.Root.TheVariants as root
 use Rattle.alma_ir.specs.declared.phrase.WriteAs.TheVariants as write_as
@@ -8,7 +9,7 @@ use Rattle.alma_ir.specs.Tree.{Routine, Program, routine_at, Stmts, Desig, no_st
 use Rattle.std.specs.List.{AllByRecursion}
 use Rattle.alma_ir.specs.Checked.{EachRoutine, EachPhrase, IsChecked, ParamsFirst, DeclaredFits, HeadRangesOrdered, RoutineKeepsLimits, AreNumbers, RootExists, PartsExist, CellsAgree, RangesOrdered, HasStep, LoopIsApart, loops_of, CalleeExists, ResultAgrees, CallFits, HasChoice, ReturnAgrees, ReturnsStay, text_bytes}
 use Rattle.alma_ir.specs.Phrases.{Phrase, stmts_phrases}
-use Rattle.alma_lower.specs.Built.{whole_range, IsBuilt}
+use Rattle.alma_lower.specs.Built.{IsBuilt}
 
 abbrev pub variable : Desig
 variable = a_desig (root.Local 1) 1 no_sels

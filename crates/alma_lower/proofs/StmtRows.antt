@@ -4,7 +4,7 @@ use Rattle.std.proofs.lemmas.Bool.{cases_eq}
 use Rattle.std.proofs.lemmas.List.{get_or-set_same, get_or-set_other, length-set}
 use Rattle.alma_base.specs.declared.fault.RunFault.TheVariants as fault
 use Rattle.alma_base.specs.Choice.{if_true}
-use Rattle.alma_base.specs.Numbers.{is_integer, is_zero}
+use Rattle.alma_base.specs.Numbers.{is_integer, is_zero, whole_range}
 use Rattle.alma_code.specs.declared.cell.Cell.TheVariants as cell
 use Rattle.alma_code.specs.declared.cell.CellPlace.{CellPlace}
 use Rattle.alma_code.specs.declared.instr.Instr.TheVariants as I
@@ -20,7 +20,6 @@ use Rattle.alma_mean.specs.Store.{Store, Place, Number, put_at, top_frame}
 use Rattle.alma_mean.specs.Store as store
 use Rattle.alma_mean.specs.Events.{Events, NoYield, Flow, Go, Return, Visit, Print, Fail, Fault, Cut, one, join, bind, visit_each, node, on_first}
 use Rattle.alma_mean.specs.Arithmetic.{check_range, fault_unless, written_text}
-use Rattle.alma_lower.specs.Built.{whole_range}
 use Rattle.alma_lower.specs.Templates.{write_code}
 use Rattle.alma_lower.proofs.Goes.{Silently, IsGoing, IsOn, and_then, Goes, before, weaker, bind_goes, node_goes, one_goes, no_step, then_goes, credited}
 use Rattle.alma_lower.proofs.Frames.{StandFor, Fits, AreNumbers, SamePlace, IsAt}

@@ -1,5 +1,6 @@
 -- The code of each statement does what its events say at each level: the induction over statements and levels.
 use Rattle.std.proofs.Common.{◌≡◌, ℕ, zero, suc, ◌+◌, ◌<◌, ◌≤◌, List, [], ◌∷◌, ◌++◌, length, refl, sym, subst, arith, length-append}
+use Rattle.alma_base.specs.Numbers.{whole_range}
 use Rattle.alma_code.specs.declared.instr.Instr.{Instr}
 use Rattle.alma_code.specs.declared.instr.Instr.TheVariants as I
 use Rattle.alma_code.specs.Plain.{PlainCode}
@@ -10,7 +11,7 @@ use Rattle.alma_ir.specs.Tree.{Program, Stmts, Stmt, Arms, Test, Expr, Links, De
 use Rattle.alma_mean.specs.Store.{Store}
 use Rattle.alma_mean.specs.Events.{Events, NoYield, one}
 use Rattle.alma_mean.specs.Meaning.{Level, level, ev_stmts, ev_stmt, ev_test, ev_expr, ev_desig, ev_arms}
-use Rattle.alma_lower.specs.Built.{whole_range, BuiltDesig, BuiltExpr, BuiltLinks, BuiltWrite}
+use Rattle.alma_lower.specs.Built.{BuiltDesig, BuiltExpr, BuiltLinks, BuiltWrite}
 use Rattle.alma_lower.specs.Templates.{desig_code, desig_slots, expr_slots, expr_code, test_slots, test_code, condition_code, write_code, stmts_slots, stmt_slots, arms_slots, stmts_code, stmt_code, arms_code}
 use Rattle.alma_lower.proofs.Goes.{no_step, IsOn}
 use Rattle.alma_lower.proofs.Frames.{HasSlots}

@@ -1,16 +1,11 @@
 -- The forms of the resolved program that are compiled so far: a body of the module alone, with variables of one cell,
 -- numbers of the whole of INTEGER, arithmetic, comparisons, IF, WHILE, REPEAT and WRITE.
-use Rattle.std.specs.Prelude.{◌≡◌, ◌^◌, ◌-◌, true, pos, negsuc, [], ◌∷◌}
-use Rattle.alma_base.specs.Numbers.{is_integer}
-use Rattle.alma_base.specs.declared.number.Range.{Range}
+use Rattle.std.specs.Prelude.{◌≡◌, true, [], ◌∷◌}
+use Rattle.alma_base.specs.Numbers.{whole_range, is_integer}
 use Rattle.alma_ir.specs.declared.phrase.Root.TheVariants as root
 use Rattle.alma_ir.specs.declared.phrase.WriteAs.{WriteAs}
 use Rattle.alma_ir.specs.declared.phrase.WriteAs.TheVariants as write_as
 use Rattle.alma_ir.specs.Tree.{Stmts, Stmt, Arms, Test, Expr, Links, Desig, Routine, Program, no_stmts, more_stmts, TestStmt, Assign, CopyCells, If, While, Repeat, ForTo, SomeOf, Case, Either, Forall, Commit, Return, Read, WriteExpr, WriteText, WriteLine, no_arms, more_arms, Value, Bind, Unify, SameCells, Seq, And, Or, Not, CallTest, Const, Load, Chain, Compare, Truth, Known, Chr, CallExpr, no_links, more_links, a_desig, no_sels, more_sels}
-
--- all numbers of INTEGER
-abbrev pub whole_range : Range
-whole_range = record { low = negsuc (2 ^ 63 - 1); high = pos (2 ^ 63 - 1) }
 
 -- a variable of the module, of one cell
 abbrev pub BuiltDesig : Desig → Type 0

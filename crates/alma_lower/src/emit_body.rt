@@ -1,10 +1,11 @@
 // The code of tests and statements.
 ghost use Rattle.std.specs.Prelude.{◌≡◌, ℕ, ◌+◌, ◌*◌, ◌<◌, ◌≤◌, List, [], ◌∷◌, ◌++◌, length, IfOk, OnOk};
+ghost use Rattle.alma_base.specs.Numbers.{whole_range};
 ghost use Rattle.alma_code.specs.declared.instr.Instr.TheVariants as instr;
 ghost use Rattle.alma_ir.specs.View.{desig_of, expr_of, test_of, stmt_of, stmts_list, arms_list};
 ghost use Rattle.alma_ir.specs.Count.{desig_nodes, expr_nodes, test_nodes, stmt_nodes, stmts_nodes, arms_nodes};
 ghost use Rattle.alma_ir.specs.Tree as tree;
-ghost use Rattle.alma_lower.specs.Built.{whole_range, BuiltDesig, BuiltExpr, BuiltTest, BuiltWrite, BuiltStmts, BuiltStmt, BuiltArms};
+ghost use Rattle.alma_lower.specs.Built.{BuiltDesig, BuiltExpr, BuiltTest, BuiltWrite, BuiltStmts, BuiltStmt, BuiltArms};
 ghost use Rattle.alma_lower.specs.Templates.{condition_code, test_slots};
 ghost use Rattle.alma_lower.specs.Emitted.{next_slot, filled, Appends, PutsCondition, PutsTest, PutsGuarded, PutsStmts, PutsStmt, PutsArms};
 

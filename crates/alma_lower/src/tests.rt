@@ -87,12 +87,8 @@ fn loop_program(alloc: Global) -> Result<Program, NoMemory>
 {
     let inside = written(alloc, load(alloc), WriteAs::Int)?;
     let test = compared(alloc, Cmp::Greater, load(alloc), number(0))?;
-    let all = Range {
-        low: i64::MIN,
-        high: i64::MAX,
-    };
     let mut body = Vec::new(alloc);
-    body.push(Stmt::Assign(variable(alloc), number(3), all))?;
+    body.push(Stmt::Assign(variable(alloc), number(3), Range::integer()))?;
     body.push(Stmt::While(test, inside))?;
     module_of(alloc, body)
 }

@@ -1,12 +1,13 @@
 -- Each level of the meaning extends the one below.
 use Rattle.std.proofs.Common.{ℕ, zero, suc, List, [], ◌∷◌, ◌++◌}
 use Rattle.std.specs.Prelude.{true, false, ℤ, pos, nat_lt, nat_le, length, ◌+◌}
+use Rattle.alma_base.specs.Numbers.{is_beyond}
 use Rattle.alma_base.specs.declared.number.Range.{Range}
 use Rattle.alma_base.specs.declared.fault.RunFault.TheVariants as fault
 use Rattle.alma_ir.specs.Tree.{Stmts, Stmt, Arms, CaseArms, Else, Branches, Loop, ReturnExpr, Test, Tests, Expr, Links, Args, Arg, Desig, Sels, Sel, Program, routine_at, no_stmts, more_stmts, TestStmt, Assign, CopyCells, If, While, Repeat, ForTo, SomeOf, Case, Either, Forall, Commit, Return, Read, WriteExpr, WriteText, WriteLine, no_arms, more_arms, no_cases, more_cases, no_else, else_part, no_branches, more_branches, a_loop, no_result, some_result, Value, Bind, Unify, SameCells, Seq, And, Or, Not, CallTest, no_tests, more_tests, Const, Load, Chain, Compare, Truth, Known, Chr, CallExpr, no_links, more_links, no_args, more_args, ByValue, ByCells, ByPlace, MixValue, MixPlace, a_desig, no_sels, more_sels, Field, Index}
 use Rattle.alma_mean.specs.Store.{Store, Place, top_cell}
 use Rattle.alma_mean.specs.Events.{Events, NoYield, Fail, one}
-use Rattle.alma_mean.specs.Rows.{ArgValue, next_turn, set_variable, for_turn, some_turn, while_turn, repeat_turn, begin_loop, beyond, enter, declared_cells, frame_of}
+use Rattle.alma_mean.specs.Rows.{ArgValue, next_turn, set_variable, for_turn, some_turn, while_turn, repeat_turn, begin_loop, enter, declared_cells, frame_of}
 use Rattle.alma_mean.specs.Meaning.{Level, level, level_above, ev_stmts, ev_stmt, ev_arms, ev_cases, ev_else, ev_branches, ev_for, ev_some, ev_return, ev_test, ev_and, ev_or, ev_expr, ev_links, ev_args, ev_arg, ev_desig, ev_sels, ev_sel, turn_for, turn_some, ev_program, start}
 use Rattle.alma_mean.specs.Laws.{Extends, on_visit, at_fail, at_fault, at_cut, IsBelow, LevelsRise}
 use Rattle.alma_mean.proofs.Extending.{same, joined, bound, visited, noded, first_taken, checked, chosen, read, labelled, gone_through, left, answered}
@@ -46,7 +47,7 @@ some_over d range counter limit b a s =
 
 -- the begin of a loop
 begun : (counter limit : ℕ) (by v l : ℤ) (s : Store) {f f' : Store → Events NoYield} → Over f f' → (z : Store → Events NoYield) → Extends NoYield (begin_loop counter limit by v l s f z) (begin_loop counter limit by v l s f' z)
-begun counter limit by v l s f z = chosen (beyond by l v) (λ _. same _) (λ _. f _)
+begun counter limit by v l s f z = chosen (is_beyond v l by) (λ _. same _) (λ _. f _)
 
 -- ---- the rows
 

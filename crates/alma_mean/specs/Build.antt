@@ -1,6 +1,7 @@
 -- Words for small programs and for what they print. Variables are named by their slots.
-use Rattle.std.specs.Prelude.{◌≡◌, ℕ, suc, ◌-◌, ◌^◌, true, false, pos, negsuc, List, [], ◌∷◌, ◌++◌, None, Some, codes}
+use Rattle.std.specs.Prelude.{◌≡◌, ℕ, suc, ◌-◌, ◌^◌, true, false, pos, List, [], ◌∷◌, ◌++◌, None, Some, codes}
 use Rattle.std.specs.Fmt.{decimal}
+use Rattle.alma_base.specs.Numbers.{whole_range}
 use Rattle.alma_base.specs.declared.number.Range.{Range}
 use Rattle.alma_ir.specs.declared.program.ArgKind.{ArgKind}
 use Rattle.alma_ir.specs.declared.program.Param.{Param}
@@ -50,7 +51,7 @@ sels (x ∷ rest) = more_sels x (sels rest)
 
 -- the range of INTEGER
 abbrev pub int : Range
-int = record { low = negsuc (2 ^ 63 - 1); high = pos (2 ^ 63 - 1) }
+int = whole_range
 
 abbrev pub range : ℕ → ℕ → Range
 range low high = record { low = pos low; high = pos high }

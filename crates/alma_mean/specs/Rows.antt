@@ -1,7 +1,7 @@
 -- The rows of the meaning, each given the events of its parts. `Meaning` says what these parts are.
-use Rattle.std.specs.Prelude.{ℕ, zero, suc, ◌+◌, ◌*◌, Bool, true, false, nat_lt, nat_le, ℤ, pos, negsuc, ◌+ℤ◌, ◌-ℤ◌, int_lt, nat_abs, List, [], ◌∷◌, ◌++◌, length, replicate, drop, set, Option, Some, None, sum_by}
+use Rattle.std.specs.Prelude.{ℕ, zero, suc, ◌+◌, ◌*◌, Bool, true, false, nat_lt, nat_le, ℤ, pos, ◌+ℤ◌, ◌-ℤ◌, nat_abs, List, [], ◌∷◌, ◌++◌, length, replicate, drop, set, Option, Some, None, sum_by}
 use Rattle.alma_base.specs.Choice.{if_true}
-use Rattle.alma_base.specs.Numbers.{within, int_eq}
+use Rattle.alma_base.specs.Numbers.{within, int_eq, is_beyond}
 use Rattle.alma_base.specs.Carry.{Carry, with_changes}
 use Rattle.alma_base.specs.Reading.{number_from}
 use Rattle.alma_base.specs.declared.number.Range.{Range}
@@ -110,11 +110,6 @@ while_turn cond body again s = Visit (on_first (cond s) (λ t _. bind (body t) (
 abbrev pub repeat_turn : (body cond again : Store → Events NoYield) → Store → Events NoYield
 repeat_turn body cond again s = Visit (bind (body s) (λ t _. on_first (cond t) (λ u _. one u tt) (λ _. again t)))
 
--- a count is beyond the limit, for a step of this sign
-abbrev pub beyond : (by limit n : ℤ) → Bool
-beyond (pos step) limit n = int_lt limit n
-beyond (negsuc step) limit n = int_lt n limit
-
 -- the range is checked, and then the variable is located and set, anew in each turn
 abbrev pub set_variable : (locate : Store → Events Place) → Range → Store → ℤ → (Store → Events NoYield) → Events NoYield
 set_variable locate range s n k =
@@ -125,7 +120,7 @@ set_variable locate range s n k =
 abbrev pub next_turn : (counter limit : ℕ) (by : ℤ) (again : Store → Events NoYield) → Store → Events NoYield → Events NoYield
 next_turn counter limit by again s last =
     read_cell (top_cell s counter) (λ n. read_cell (top_cell s limit) (λ l.
-    if_true (beyond by l (n +ℤ by)) (λ _. last) (λ _. again (put_top s counter (Number (n +ℤ by))))))
+    if_true (is_beyond (n +ℤ by) l by) (λ _. last) (λ _. again (put_top s counter (Number (n +ℤ by))))))
 
 -- the body, and behind each of its alternatives the end of the loop or the next turn
 abbrev pub for_turn : (locate : Store → Events Place) → Range → (counter limit : ℕ) (by : ℤ) (body again : Store → Events NoYield) → Store → Events NoYield
@@ -144,7 +139,7 @@ some_turn locate range counter limit body again s =
 abbrev pub begin_loop : (counter limit : ℕ) (by from to : ℤ) → Store → (turn empty : Store → Events NoYield) → Events NoYield
 begin_loop counter limit by from to s turn empty =
     let t : Store = put_top (put_top s counter (Number from)) limit (Number to) in
-    if_true (beyond by to from) (λ _. empty t) (λ _. turn t)
+    if_true (is_beyond from to by) (λ _. empty t) (λ _. turn t)
 
 -- ---- FORALL
 

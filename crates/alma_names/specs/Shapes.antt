@@ -1,5 +1,6 @@
 -- A table of shapes as a list of plain shapes, in which a shape's number is its place, and what each shape holds.
-use Rattle.std.specs.Prelude.{◌≢◌, ℕ, ◌+◌, ◌-◌, ◌*◌, ◌^◌, ◌<◌, ◌≤◌, pos, negsuc, ◌-ℤ◌, ◌≤ℤ◌, nat_abs, nat_lt, Bool, true, false, ◌||◌, IsTrue, IsFalse, List, [], ◌∷◌, ◌++◌, map, get_or, slice_get, AllPairs, bytes_eq, Option, None, Some, IsSomeAnd, option_map, option_and_then, unwrap_or, Result, Ok, Err, if◌then◌else◌}
+use Rattle.std.specs.Prelude.{◌≢◌, ℕ, ◌+◌, ◌-◌, ◌*◌, ◌<◌, ◌≤◌, pos, ◌-ℤ◌, ◌≤ℤ◌, nat_lt, Bool, true, false, ◌||◌, IsTrue, IsFalse, List, [], ◌∷◌, ◌++◌, map, get_or, slice_get, AllPairs, bytes_eq, Option, None, Some, IsSomeAnd, option_map, option_and_then, unwrap_or, Result, Ok, Err, if◌then◌else◌}
+use Rattle.alma_base.specs.Numbers.{range_size, whole_range}
 use Rattle.alma_base.specs.declared.number.Range.{Range}
 use Rattle.alma_names.specs.declared.shapes.FieldOf.{FieldOf}
 use Rattle.alma_names.specs.declared.shapes.Shape.{Shape}
@@ -55,7 +56,7 @@ limit = 1048576
 
 -- the numbers of the values of a simple shape; rows and records have none
 abbrev pub range_of : PlainShape → Option Range
-range_of integer = Some (record { low = negsuc (2 ^ 63 - 1); high = pos (2 ^ 63 - 1) })
+range_of integer = Some whole_range
 range_of char = Some (record { low = pos 0; high = pos 255 })
 range_of boolean = Some (record { low = pos 0; high = pos 1 })
 range_of (listed n) = Some (record { low = pos 0; high = pos n -ℤ pos 1 })
@@ -73,10 +74,7 @@ base_of id s = id
 abbrev pub base_at : List PlainShape → ℕ → ℕ
 base_at t id = unwrap_or (option_map (base_of id) (slice_get t id)) id
 
--- the number of values of a range whose low end is not above its high end, and of the shape of a number
-abbrev pub range_size : Range → ℕ
-range_size r = nat_abs (r.high -ℤ r.low) + 1
-
+-- the number of values of the shape of a number
 abbrev pub size_of : Option Range → ℕ
 size_of None = 0
 size_of (Some r) = range_size r

@@ -2,7 +2,8 @@
 #![tactic(auto, using(crate::proofs::Tables::tables, crate::proofs::Placing::placing, std::proofs::lemmas::Grind::common_steps))]
 
 ghost use Rattle.std.specs.Prelude.{◌≡◌, ◌+◌, ◌*◌, ◌^◌, ◌<◌, ◌≤◌, ◌⊎◌, ◌≤ℤ◌, List, [], ◌∷◌, ◌++◌, Option, None, Some, IsTrue, IsFalse, length, slice_get, option_map, MatchOption, IfSome, IfOk, OnOk, OnErr};
-ghost use Rattle.alma_names.specs.Shapes.{PlainShape, plain_of, fields_of, table_of, first_shapes, limit, range_size, range_at, base_at, IsBaseFor, values_at, cells_in, cell_counts, cells_at, is_too_large, sum_of_cells, NamesOnlyBelow, HasIndex, HasCount, HasBase, HasDistinctNames, AllBelow, IsShapeAt, placed, placed_shape, field_at, field_named, Refuses};
+ghost use Rattle.alma_base.specs.Numbers.{range_size};
+ghost use Rattle.alma_names.specs.Shapes.{PlainShape, plain_of, fields_of, table_of, first_shapes, limit, range_at, base_at, IsBaseFor, values_at, cells_in, cell_counts, cells_at, is_too_large, sum_of_cells, NamesOnlyBelow, HasIndex, HasCount, HasBase, HasDistinctNames, AllBelow, IsShapeAt, placed, placed_shape, field_at, field_named, Refuses};
 ghost use Rattle.alma_names.specs.Table.{IsTable, CountsUpToLimit};
 
 use alma_base::{NoMemory, Range};
@@ -152,10 +153,7 @@ impl Shapes {
         ensures ordered { IfSome result (λ range. range.low ≤ℤ range.high) }
     {
         match self.get(id) {
-            Shape::Integer => Some(Range {
-                low: i64::MIN,
-                high: i64::MAX,
-            }),
+            Shape::Integer => Some(Range::integer()),
             Shape::Char => Some(Range { low: 0, high: 255 }),
             Shape::Boolean => Some(Range { low: 0, high: 1 }),
             Shape::Listed { count } => Some(Range {

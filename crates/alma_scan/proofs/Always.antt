@@ -3,12 +3,13 @@ use Rattle.std.proofs.Common.{◌≡◌, ◌≤◌, ◌<◌, ℕ, zero, suc, ◌
 use Rattle.std.specs.Prelude.{◌⊎◌, nat_eq, nat_le, unwrap_or}
 use Rattle.std.proofs.lemmas.List.{take-append-drop, length-take-le}
 use Rattle.std.proofs.lemmas.Bool.Decides.{nat_tests}
+use Rattle.alma_base.specs.Bytes.{is_letter, is_word_byte}
 use Rattle.alma_base.specs.Reading.{is_blank, is_digit}
 use Rattle.alma_base.specs.declared.fault.LexFault.{LexFault}
 use Rattle.alma_base.specs.declared.fault.LexFault.TheVariants.{BadByte, OpenComment, OpenString, NumberTooLarge}
 use Rattle.alma_tree.specs.declared.kind.Kind.{Kind}
 use Rattle.alma_tree.specs.declared.kind.Kind.TheVariants as kinds
-use Rattle.alma_scan.specs.Bytes.{is_letter, is_word_byte, is_quote, may_stand_in, AllIn, Begins, Stops, value_of}
+use Rattle.alma_scan.specs.Bytes.{is_quote, may_stand_in, AllIn, Begins, Stops, value_of}
 use Rattle.alma_scan.specs.Comments.{Closes, here, Gap, none, blank, comment, opens, closes}
 use Rattle.alma_scan.specs.Spellings.{look_up, symbols, reserved_words, greatest_number}
 use Rattle.alma_scan.specs.Tokens.{Lexeme, IsToken, HasToken, HasTokens}

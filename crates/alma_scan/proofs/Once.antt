@@ -1,11 +1,12 @@
 -- A source is read in at most one way.
 use Rattle.std.proofs.Common.{◌≡◌, ℕ, Bool, true, false, List, [], ◌∷◌, ◌++◌, Some, length, refl, ap, sym, ◌∙◌, subst, arith}
 use Rattle.std.proofs.lemmas.Bool.Decides.{nat_tests}
+use Rattle.alma_base.specs.Bytes.{is_letter}
 use Rattle.alma_base.specs.Reading.{is_blank, is_digit}
 use Rattle.alma_base.specs.declared.fault.LexFault.{LexFault}
 use Rattle.alma_base.specs.declared.fault.LexFault.TheVariants.{BadByte, OpenComment, OpenString, NumberTooLarge}
 use Rattle.alma_tree.specs.declared.kind.Kind.{Kind}
-use Rattle.alma_scan.specs.Bytes.{is_letter, is_quote, is_line_end, may_stand_in, AllIn, Stops, value_of}
+use Rattle.alma_scan.specs.Bytes.{is_quote, is_line_end, may_stand_in, AllIn, Stops, value_of}
 use Rattle.alma_scan.specs.Comments.{Closes, Gap, opens}
 use Rattle.alma_scan.specs.Fronts.{IsGapEnd}
 use Rattle.alma_scan.specs.Spellings.{Spells, IsDigits}

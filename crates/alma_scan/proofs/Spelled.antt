@@ -3,10 +3,11 @@ use Rattle.std.proofs.Common.{◌≡◌, ◌≤◌, ℕ, Bool, true, false, ◌&
 use Rattle.std.specs.Prelude.{not, nat_eq, nat_le, bytes_eq, unwrap_or, if◌then◌else◌}
 use Rattle.std.proofs.lemmas.Bool.Decides.{nat_tests}
 use Rattle.std.proofs.lemmas.Slice.Eq.{bytes_eq-Decides}
+use Rattle.alma_base.specs.Bytes.{is_letter, is_word_byte}
 use Rattle.alma_base.specs.Reading.{is_blank, is_digit}
 use Rattle.alma_tree.specs.declared.kind.Kind.{Kind}
 use Rattle.alma_tree.specs.declared.kind.Kind.TheVariants as kinds
-use Rattle.alma_scan.specs.Bytes.{is_letter, is_word_byte, is_quote, AllIn, value_of}
+use Rattle.alma_scan.specs.Bytes.{is_quote, AllIn, value_of}
 use Rattle.alma_scan.specs.Spellings.{Spelling, symbols, reserved_words, look_up, IsDigits, IsLiteral, greatest_number, Spells, name, number, literal, symbol, reserved}
 use Rattle.alma_scan.specs.Fronts.{IsOtherFirst}
 use Rattle.alma_scan.proofs.Basics.{true_false, both, heads}

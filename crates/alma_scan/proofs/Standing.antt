@@ -3,10 +3,11 @@ use Rattle.std.proofs.Common.{◌≡◌, ◌≤◌, ℕ, ◌+◌, Bool, true, fa
 use Rattle.std.proofs.Math.Seq.{take-append_seam}
 use Rattle.std.proofs.lemmas.Bool.Decides.{nat_tests}
 use Rattle.std.specs.Prelude.{nat_eq, unwrap_or, ok_or}
+use Rattle.alma_base.specs.Bytes.{is_letter, is_word_byte}
 use Rattle.alma_base.specs.Reading.{is_blank, is_digit}
 use Rattle.alma_tree.specs.declared.kind.Kind.{Kind}
 use Rattle.alma_tree.specs.declared.kind.Kind.TheVariants as kinds
-use Rattle.alma_scan.specs.Bytes.{is_letter, is_word_byte, is_quote, is_line_end, may_stand_in, AllIn, Begins, Stops, value_of}
+use Rattle.alma_scan.specs.Bytes.{is_quote, is_line_end, may_stand_in, AllIn, Begins, Stops, value_of}
 use Rattle.alma_scan.specs.Comments.{opens}
 use Rattle.alma_scan.specs.Spellings.{symbols, reserved_words, look_up, IsWord, IsDigits, greatest_number, Spells, name, number, literal, symbol, reserved}
 use Rattle.alma_scan.specs.Tokens.{IsToken}

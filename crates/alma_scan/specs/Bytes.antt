@@ -1,14 +1,5 @@
 -- Classes of bytes, and runs of one class.
-use Rattle.std.specs.Prelude.{◌≡◌, ℕ, ◌+◌, ◌-◌, ◌*◌, Bool, true, false, ◌&&◌, ◌||◌, not, nat_le, nat_eq, List, [], ◌∷◌}
-use Rattle.alma_base.specs.Reading.{is_digit}
-
--- one of A to Z and a to z, or _
-abbrev pub is_letter : ℕ → Bool
-is_letter b = (nat_le 65 b && nat_le b 90) || (nat_le 97 b && nat_le b 122) || nat_eq b 95
-
--- a byte of a word behind its first
-abbrev pub is_word_byte : ℕ → Bool
-is_word_byte b = is_letter b || is_digit b
+use Rattle.std.specs.Prelude.{◌≡◌, ℕ, ◌+◌, ◌-◌, ◌*◌, Bool, true, false, ◌||◌, not, nat_eq, List, [], ◌∷◌}
 
 -- " or '
 abbrev pub is_quote : ℕ → Bool

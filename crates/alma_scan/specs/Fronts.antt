@@ -1,9 +1,10 @@
 -- What stands at the front of bytes.
 use Rattle.std.specs.Prelude.{◌≡◌, ℕ, false, List, [], ◌∷◌, ◌++◌, length, Option, None, Some, Result, Ok, Err}
+use Rattle.alma_base.specs.Bytes.{is_letter}
 use Rattle.alma_base.specs.Reading.{is_blank, is_digit}
 use Rattle.alma_base.specs.declared.fault.LexFault.{LexFault}
 use Rattle.alma_scan.specs.declared.front.Front.{Front}
-use Rattle.alma_scan.specs.Bytes.{is_letter, is_quote, Stops}
+use Rattle.alma_scan.specs.Bytes.{is_quote, Stops}
 use Rattle.alma_scan.specs.Comments.{Closes}
 use Rattle.alma_scan.specs.Spellings.{look_up, symbols}
 use Rattle.alma_scan.specs.Tokens.{IsToken}

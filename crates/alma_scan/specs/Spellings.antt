@@ -1,9 +1,10 @@
 -- How each kind of token is spelled.
 use Rattle.std.specs.Prelude.{◌≡◌, ◌≤◌, ℕ, true, List, [], ◌∷◌, ◌++◌, Option, None, Some, codes, bytes_eq, if◌then◌else◌}
+use Rattle.alma_base.specs.Bytes.{is_letter, is_word_byte}
 use Rattle.alma_base.specs.Reading.{is_digit}
 use Rattle.alma_tree.specs.declared.kind.Kind.{Kind}
 use Rattle.alma_tree.specs.declared.kind.Kind.TheVariants as kinds
-use Rattle.alma_scan.specs.Bytes.{is_letter, is_word_byte, is_quote, may_stand_in, AllIn, value_of}
+use Rattle.alma_scan.specs.Bytes.{is_quote, may_stand_in, AllIn, value_of}
 
 -- a text that is spelled in one way
 pub record Spelling : Type 0 where

@@ -1,7 +1,8 @@
 // Classes of bytes, and the longest front of one class.
 ghost use Rattle.std.specs.Prelude.{◌≡◌, ◌++◌};
+ghost use Rattle.alma_base.specs.Bytes.{is_letter};
 ghost use Rattle.alma_base.specs.Reading.{is_blank, is_digit};
-ghost use Rattle.alma_scan.specs.Bytes.{is_letter, is_quote, AllIn, Stops};
+ghost use Rattle.alma_scan.specs.Bytes.{is_quote, AllIn, Stops};
 ghost use Rattle.alma_scan.specs.Classes.{in_class};
 
 /// A class of bytes.

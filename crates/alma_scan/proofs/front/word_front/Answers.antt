@@ -1,8 +1,9 @@
 use Rattle.std.proofs.Common.{◌++◌, subst, sym, ap, ◌∙◌}
 use Rattle.std.specs.Prelude.{Option, unwrap_or}
+use Rattle.alma_base.specs.Bytes.{is_letter}
 use Rattle.alma_tree.specs.declared.kind.Kind.{Kind}
 use Rattle.alma_tree.specs.declared.kind.Kind.TheVariants as kinds
-use Rattle.alma_scan.specs.Bytes.{Begins, is_letter}
+use Rattle.alma_scan.specs.Bytes.{Begins}
 use Rattle.alma_scan.specs.Tokens.{IsToken}
 use Rattle.alma_scan.proofs.Standing.{word_token}
 use Rattle.alma_scan.proofs.front.word_front.Goals as goal
