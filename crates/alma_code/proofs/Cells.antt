@@ -1,5 +1,5 @@
 -- The test of two cells holds exactly where they are equal.
-use Rattle.std.proofs.Common.{◌≡◌, refl, sym, ap, ◌∙◌}
+use Rattle.std.proofs.Common.{◌≡◌, refl, ap, ◌∙◌}
 use Rattle.std.specs.Prelude.{ℕ, ℤ, pos, negsuc, true, ◌&&◌, nat_eq}
 use Rattle.std.proofs.lemmas.Bool.{and_parts, and_from, eq-eqb, eqb-true}
 use Rattle.alma_base.specs.Numbers.{int_eq}
