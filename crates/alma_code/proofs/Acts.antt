@@ -18,7 +18,7 @@ use Rattle.alma_base.specs.Carry.{Change, Carry, is_before, is_same_place, with_
 use Rattle.alma_base.specs.declared.number.ReadInt.{ReadInt}
 use Rattle.alma_base.specs.declared.number.ReadInt.TheVariants.{Number, NoNumber, TooLarge}
 use Rattle.alma_code.specs.Picture.{entry_at}
-use Rattle.alma_code.specs.Carries.{number_at, laid, overlaid, same_number, differs, diff_at, slot_diffs, frame_diffs, diffs, with_carry, kept}
+use Rattle.alma_code.specs.Carries.{number_at, laid, overlaid, same_cell, differs, diff_at, slot_diffs, frame_diffs, diffs, with_carry, kept}
 use Rattle.std.proofs.lemmas.List.{take-map, get_or_past, length-map, length-take-le, get_or-take, length-append}
 use Rattle.std.proofs.Math.Seq.{get_or-append_seam}
 use Rattle.std.proofs.Math.ListN.{get_or-append}
@@ -506,8 +506,8 @@ module _ (code : PlainCode) where
       let goal : (b : Bool) → differs before s.now f i ≡ b → AllFit code (if b then c ∷ [] else []) =
       λ b. elim b as (λ b. differs before s.now f i ≡ b → AllFit code (if b then c ∷ [] else [])) [
         | true ↦ λ e.
-            let x = and_parts (number_at before f i) (number_at s.now f i && not (same_number (cell_at before f i cell.Unknown) (cell_at s.now f i cell.Unknown))) e in
-            let y = (and_parts (number_at s.now f i) (not (same_number (cell_at before f i cell.Unknown) (cell_at s.now f i cell.Unknown))) x.1).0 in
+            let x = and_parts (number_at before f i) (number_at s.now f i && not (same_cell (cell_at before f i cell.Unknown) (cell_at s.now f i cell.Unknown))) e in
+            let y = (and_parts (number_at s.now f i) (not (same_cell (cell_at before f i cell.Unknown) (cell_at s.now f i cell.Unknown))) x.1).0 in
             let live = live_content r s f i cell.Unknown h y in (
               record {
                 content = live.0;

@@ -1,5 +1,6 @@
 pub mod Acts
 pub mod Calls
+pub mod Cells
 mod Computed
 pub mod Entering
 pub mod Heads

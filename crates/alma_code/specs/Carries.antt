@@ -1,5 +1,5 @@
 -- How the carry of a FORALL is laid over the frames, and what it gains from a body.
-use Rattle.std.specs.Prelude.{◌≡◌, ℕ, zero, suc, ◌+◌, ◌-◌, ◌≤◌, ◌<◌, Bool, true, false, not, ◌&&◌, if◌then◌else◌, List, [], ◌∷◌, ◌++◌, take, get_or, set, length, slice_get}
+use Rattle.std.specs.Prelude.{◌≡◌, ℕ, zero, suc, ◌+◌, ◌-◌, ◌≤◌, ◌<◌, Bool, true, false, not, ◌&&◌, nat_eq, if◌then◌else◌, List, [], ◌∷◌, ◌++◌, take, get_or, set, length, slice_get}
 use Rattle.alma_base.specs.Carry.{Change, Carry, with_changes}
 use Rattle.alma_base.specs.Numbers.{int_eq}
 use Rattle.alma_code.specs.declared.cell.Cell.{Cell}
@@ -33,17 +33,20 @@ overlaid frames (x ∷ rest) = overlaid (laid frames x) rest
 
 -- ---- what a body changed
 
--- the two contents of number slots are one
-abbrev pub same_number : Cell → Cell → Bool
-same_number cell.Unknown cell.Unknown = true
-same_number (cell.Int a) (cell.Int b) = int_eq a b
-same_number _ _ = false
+-- the two cells are equal: both unknown, both unset, one number, one place or one height
+abbrev pub same_cell : Cell → Cell → Bool
+same_cell cell.Unknown cell.Unknown = true
+same_cell (cell.Int a) (cell.Int b) = int_eq a b
+same_cell cell.Unset cell.Unset = true
+same_cell (cell.Place p) (cell.Place q) = nat_eq p.frame q.frame && (nat_eq p.slot q.slot && nat_eq p.len q.len)
+same_cell (cell.Mark a) (cell.Mark b) = nat_eq a b
+same_cell _ _ = false
 
 -- a number slot that is live before and now, and differs
 abbrev pub differs : (before now : List PlainFrame) → (frame slot : ℕ) → Bool
 differs before now frame slot =
     number_at before frame slot
-    && (number_at now frame slot && not (same_number (cell_at before frame slot cell.Unknown) (cell_at now frame slot cell.Unknown)))
+    && (number_at now frame slot && not (same_cell (cell_at before frame slot cell.Unknown) (cell_at now frame slot cell.Unknown)))
 
 -- the change at one place, where there is one
 abbrev pub diff_at : (before now : List PlainFrame) → (frame slot : ℕ) → List (Change Cell)

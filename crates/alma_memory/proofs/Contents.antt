@@ -8,7 +8,7 @@ use Rattle.alma_code.specs.declared.cell.Cell.{Cell}
 use Rattle.alma_code.specs.declared.cell.Cell.TheVariants.{Unknown}
 use Rattle.alma_code.specs.Kinds.{is_number}
 use Rattle.alma_code.specs.Picture.{PlainFrame, no_frame, frame_with, written, cell_at}
-use Rattle.alma_code.specs.Carries.{number_at, same_number, diff_at}
+use Rattle.alma_code.specs.Carries.{number_at, same_cell, diff_at}
 use Rattle.alma_memory.specs.Frames.{IsWhole, AreWhole}
 use Rattle.alma_memory.specs.Past.{rewritten, number_in, number_of, over, changed}
 use Rattle.alma_memory.proofs.Stores.{whole-set, whole-with, whole-at, number-slot}
@@ -105,7 +105,7 @@ change_at frame slot None = []
 change_at frame slot (Some c) = (record { frame = frame; slot = slot; cell = c }) ∷ []
 
 -- the change at a place, by its tests
-diff-by : (p q r : Bool) (f s : ℕ) (a b : Cell) → same_number a b ≡ r →
+diff-by : (p q r : Bool) (f s : ℕ) (a b : Cell) → same_cell a b ≡ r →
     (if p && (q && not r) then (record { frame = f; slot = s; cell = b }) ∷ [] else [])
     ≡ change_at f s (changed (if p then Some a else None) (if q then Some b else None))
 diff-by false q r f s a b e = refl
@@ -116,5 +116,5 @@ diff-by true true false f s a b e = rw e refl
 -- the change at a place is what its number slot changed to
 pub diff-changed : (before now : List PlainFrame) (f s : ℕ) → diff_at before now f s ≡ change_at f s (changed (number_of before f s) (number_of now f s))
 diff-changed before now f s =
-    diff-by (number_at before f s) (number_at now f s) (same_number (cell_at before f s Unknown) (cell_at now f s Unknown)) f s
+    diff-by (number_at before f s) (number_at now f s) (same_cell (cell_at before f s Unknown) (cell_at now f s Unknown)) f s
     (cell_at before f s Unknown) (cell_at now f s Unknown) refl

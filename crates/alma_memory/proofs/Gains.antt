@@ -10,8 +10,9 @@ use Rattle.alma_code.specs.declared.cell.Cell.{Cell}
 use Rattle.alma_code.specs.declared.cell.Cell.TheVariants.{Unknown}
 use Rattle.alma_code.specs.Picture.{PlainFrame, no_frame, cell_at}
 use Rattle.alma_code.specs.Carries.{number_at, differs, diff_at, slot_diffs, frame_diffs, diffs}
+use Rattle.alma_code.proofs.Cells.{same_itself}
 use Rattle.alma_memory.specs.Frames.{AreWhole}
-use Rattle.alma_memory.specs.Past.{rewritten, number_of, over, changed, diffs_at, diffs_between, HoldNumbers, SameGain}
+use Rattle.alma_memory.specs.Past.{rewritten, number_of, over, changed, diffs_at, diffs_between, SameGain}
 use Rattle.alma_memory.proofs.Carrying.{same-place-is}
 use Rattle.alma_memory.proofs.Rising.{same-itself, carried-with, rising-all, same-carry}
 use Rattle.alma_memory.proofs.Stores.{number-cell, number-frame}
@@ -232,8 +233,8 @@ parts before now f s d =
     (one.0, two.0)
 
 -- a number slot that is as before did not change
-unchanged : (now : List PlainFrame) (f s : ℕ) → HoldNumbers now → number_at now f s ≡ true → changed (number_of now f s) (number_of now f s) ≡ None
-unchanged now f s h e = let same = h f s e in rw (e, same) refl
+unchanged : (now : List PlainFrame) (f s : ℕ) → number_at now f s ≡ true → changed (number_of now f s) (number_of now f s) ≡ None
+unchanged now f s e = rw (e, same_itself (cell_at now f s Unknown)) refl
 
 -- a number is below another or not
 pub or-above : (f n : ℕ) → (f < n) ⊎ (n ≤ f)
@@ -245,21 +246,21 @@ or-above f n = choose (nat_lt f n) refl
 
 -- a place of a shared frame differs only where a note names it
 shared-named : (n : ℕ) (now above : List PlainFrame) (cs : Carry Cell) (before : List PlainFrame) (f s : ℕ) → n ≤ length now → f < n →
-    before ≡ take n (rewritten now cs) ++ above → AreWhole now → HoldNumbers now → differs before now f s ≡ true → has_place f s cs ≡ false → ⊥
-shared-named n now above cs before f s l lt p w h d e =
+    before ≡ take n (rewritten now cs) ++ above → AreWhole now → differs before now f s ≡ true → has_place f s cs ≡ false → ⊥
+shared-named n now above cs before f s l lt p w d e =
     let same : number_of before f s ≡ number_of now f s =
     ap (λ gs. number_of gs f s) p ∙ (number-shared n now above cs f s l lt ∙ (number-rewritten now cs f s w
     ∙ (ap (over (number_of now f s)) (none-carried f s cs e) ∙ over-none (number_of now f s)))) in
     let none : diff_at before now f s ≡ [] =
-    diff-changed before now f s ∙ ap (change_at f s) (ap (λ o. changed o (number_of now f s)) same ∙ unchanged now f s h (parts before now f s d).1) in
+    diff-changed before now f s ∙ ap (change_at f s) (ap (λ o. changed o (number_of now f s)) same ∙ unchanged now f s (parts before now f s d).1) in
     let no : true ≡ false = sym (has-diff before now f s d) ∙ ap (has_place f s) none in
     absurd (cc)
 
 -- each place that differs is looked at
 covered : (n count : ℕ) (now above : List PlainFrame) (cs : Carry Cell) (before : List PlainFrame) (f s : ℕ) → n ≤ length now → count ≡ min (length above) (length now - n) →
-    before ≡ take n (rewritten now cs) ++ above → AreWhole now → HoldNumbers now → differs before now f s ≡ true →
+    before ≡ take n (rewritten now cs) ++ above → AreWhole now → differs before now f s ≡ true →
     has_place f s (diffs_at before now cs ++ diffs_between before now n count) ≡ true
-covered n count now above cs before f s l q p w h d =
+covered n count now above cs before f s l q p w d =
     elim (or-above f n) [
       | inl lt ↦ has-left f s (diffs_at before now cs) (diffs_between before now n count)
           (has-at before now f s cs (named (has_place f s cs) refl lt) d)
@@ -269,7 +270,7 @@ covered n count now above cs before f s l q p w h d =
   where
     named : (b : Bool) → has_place f s cs ≡ b → f < n → has_place f s cs ≡ true
     named true e lt = e
-    named false e lt = absurd (shared-named n now above cs before f s l lt p w h d e)
+    named false e lt = absurd (shared-named n now above cs before f s l lt p w d e)
 
     below : n ≤ f → f < n + count
     below le =
@@ -282,14 +283,14 @@ covered n count now above cs before f s l q p w h d =
 
 -- what is found there gives a carry all changes
 pub found-gain : (n count : ℕ) (now above : List PlainFrame) (cs : Carry Cell) (before : List PlainFrame) (found : List (Change Cell)) → n ≤ length now →
-    count ≡ min (length above) (length now - n) → before ≡ take n (rewritten now cs) ++ above → AreWhole now → HoldNumbers now →
+    count ≡ min (length above) (length now - n) → before ≡ take n (rewritten now cs) ++ above → AreWhole now →
     found ≡ diffs_at before now cs ++ diffs_between before now n count → SameGain found (diffs before now)
-found-gain n count now above cs before found l q p w h e =
+found-gain n count now above cs before found l q p w e =
     let looked : List (Change Cell) = diffs_at before now cs ++ diffs_between before now n count in
     let one : SameGain looked (diffs before now) =
     same-gain before now looked (diffs before now)
     (all-append before now (diffs_at before now cs) (diffs_between before now n count) (all-at before now cs) (all-between before now n count))
     (all-frames before now (length now))
-    (λ f s d. covered n count now above cs before f s l q p w h d)
+    (λ f s d. covered n count now above cs before f s l q p w d)
     (λ f s d. has-frames before now f s (length now) d (number-frame now f s (parts before now f s d).1) (number-cell now f s w (parts before now f s d).1)) in
     rw e one

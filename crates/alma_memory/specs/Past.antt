@@ -3,8 +3,8 @@ use Rattle.std.specs.Prelude.{◌≡◌, ◌+◌, ℕ, zero, suc, true, List, []
 use Rattle.alma_base.specs.Carry.{Change, Carry, with_changes}
 use Rattle.alma_code.specs.declared.cell.Cell.{Cell}
 use Rattle.alma_code.specs.declared.cell.Cell.TheVariants.{Unknown}
-use Rattle.alma_code.specs.Picture.{PlainFrame, no_frame, written, cell_at}
-use Rattle.alma_code.specs.Carries.{number_at, same_number, diff_at, slot_diffs}
+use Rattle.alma_code.specs.Picture.{PlainFrame, no_frame, written}
+use Rattle.alma_code.specs.Carries.{same_cell, diff_at, slot_diffs}
 use Rattle.alma_code.specs.Kinds.{is_number}
 use Rattle.alma_memory.specs.declared.past.Past.TheInside.{Inside}
 use Rattle.alma_memory.specs.Carries.{IsRising}
@@ -41,7 +41,7 @@ over (Some cell) (Some other) = Some other
 abbrev pub changed : Option Cell → Option Cell → Option Cell
 changed None after = None
 changed (Some cell) None = None
-changed (Some cell) (Some after) = if same_number cell after then None else Some after
+changed (Some cell) (Some after) = if same_cell cell after then None else Some after
 
 -- the changes at the places of a carry
 abbrev pub diffs_at : (before now : List PlainFrame) → Carry Cell → List (Change Cell)
@@ -57,7 +57,3 @@ diffs_between before now low (suc n) =
 -- each carry gains the same from both lists of changes
 abbrev pub SameGain : Carry Cell → Carry Cell → Type 0
 SameGain xs ys = (carry : Carry Cell) → IsRising carry → with_changes xs carry ≡ with_changes ys carry
-
--- each live number slot holds a number, or nothing known yet
-abbrev pub HoldNumbers : List PlainFrame → Type 0
-HoldNumbers frames = (frame slot : ℕ) → number_at frames frame slot ≡ true → same_number (cell_at frames frame slot Unknown) (cell_at frames frame slot Unknown) ≡ true

@@ -4,7 +4,7 @@ ghost use Rattle.alma_code.specs.Carries.{diffs, kept};
 ghost use Rattle.alma_memory.specs.Carries.{IsRising, listed};
 ghost use Rattle.alma_memory.specs.Gain.{no_saved, saved_with};
 ghost use Rattle.alma_memory.specs.Held.{Fits, IsTrailed};
-ghost use Rattle.alma_memory.specs.Past.{HoldNumbers, SameGain};
+ghost use Rattle.alma_memory.specs.Past.{SameGain};
 ghost use Rattle.alma_memory.specs.Trail.{held_of, unwind};
 
 use crate::carry::SlotPlace;
@@ -24,7 +24,6 @@ fn changes_since(
 ) -> Result<Vec<(SlotPlace, Cell)>, NoMemory>
     requires fits { Fits trail.now frames.now }
     requires mark { mark ≤ length trail.now }
-    requires numbers { HoldNumbers frames.now }
     ensures { IfOk result (λ found. SameGain (listed found.items) (diffs (unwind (drop mark trail.now) frames.now) frames.now)) }
 {
     let past = past_of(alloc, frames, trail, mark)?;
@@ -57,7 +56,6 @@ pub fn keep_top(
     height: usize,
 ) -> Result<(), NoMemory>
     requires trailed { IsTrailed entries.old.items trail.now frames.now }
-    requires numbers { HoldNumbers frames.now }
     requires low { 1 ≤ height }
     requires below { height < length entries.old.items }
     ensures held { held_of trail.now frames.now entries.new.items

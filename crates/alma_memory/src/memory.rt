@@ -2,7 +2,6 @@
 ghost use Rattle.std.specs.Prelude.{◌≡◌, ◌≢◌, ◌+◌, ◌-◌, ◌<◌, ◌≤◌, [], ◌∷◌, ◌++◌, length, take, is_ok, is_some, slice_index_or, IfOk, OnOk, OnErr, IsOk, IsSome, IsNone, IfSome, IfNone, MatchResult, if◌then◌else◌, ◌↔◌};
 ghost use Rattle.alma_code.specs.Picture.{no_frame, written, cell_at, kind_at, last_frame, without_last, live_cells, popped, top_of, entry_at};
 ghost use Rattle.alma_code.specs.Carries.{IsLive, IsForallAt, IsTop, kept, overlaid};
-ghost use Rattle.alma_memory.specs.Past.{HoldNumbers};
 ghost use Rattle.alma_code.specs.Layout.{IsHead, FitsParams, start_frame, entered_frame};
 ghost use Rattle.alma_code.specs.declared.cell.Cell.TheVariants as cell;
 ghost use Rattle.alma_memory.specs.Calls.{Choose, Cut, Enter, Fail, Finish, Keep, Leave, Makes, Nothing, Overlay, Write};
@@ -325,7 +324,6 @@ impl Memory {
         requires body { IsTop self.old.held ChoiceKind.Body }
         requires forall { IsForallAt self.old.held height }
         requires below { height < length self.old.held }
-        requires numbers { HoldNumbers self.old.now }
         ensures now { self.new.now ≡ self.old.now }
         ensures held { self.new.held ≡ (if is_ok result then kept self.old.held height self.old.now else self.old.held) }
         ensures rooms { KeepsRooms self.old self.new }

@@ -1,11 +1,11 @@
 // The frames from before some notes, known by what of the frames of now was other then.
 ghost use Rattle.std.specs.Prelude.{◌≡◌, ◌+◌, ◌<◌, ◌≤◌, ◌∷◌, [], ◌++◌, length, drop, true, IfOk, slice_index_or};
 ghost use Rattle.alma_code.specs.Picture.{no_frame, written, without_last};
-ghost use Rattle.alma_code.specs.Carries.{diffs, diff_at, slot_diffs, same_number};
+ghost use Rattle.alma_code.specs.Carries.{diffs, diff_at, slot_diffs, same_cell};
 ghost use Rattle.alma_memory.specs.Carries.{listed};
 ghost use Rattle.alma_memory.specs.Frames.{AreLive, AreWhole};
 ghost use Rattle.alma_memory.specs.Held.{Fits, Undoes};
-ghost use Rattle.alma_memory.specs.Past.{number_of, over, changed, diffs_at, diffs_between, HoldNumbers, SameGain};
+ghost use Rattle.alma_memory.specs.Past.{number_of, over, changed, diffs_at, diffs_between, SameGain};
 ghost use Rattle.alma_memory.specs.Trail.{undo, unwind};
 
 use crate::carry::{Carry, SlotPlace};
@@ -206,7 +206,6 @@ impl<'a> Past<'a> {
     pub fn changes(&self, alloc: Global) -> Result<Vec<(SlotPlace, Cell)>, NoMemory>
         requires before { AreLive self.now.before }
         requires now { AreLive self.now.now }
-        requires numbers { HoldNumbers self.now.now }
         ensures { IfOk result (λ found. SameGain (listed found.items) (diffs self.now.before self.now.now)) }
     {
         let mut found = Vec::new(alloc);
@@ -227,15 +226,11 @@ fn laid_over(number: Option<Cell>, cell: Option<Cell>) -> Option<Cell>
     }
 }
 
-// Whether the contents of two number slots are one.
-fn is_same_number(a: Cell, b: Cell) -> bool
-    ensures { result ≡ same_number a b }
+// Whether two cells are equal.
+fn is_same_cell(a: Cell, b: Cell) -> bool
+    ensures { result ≡ same_cell a b }
 {
-    match (a, b) {
-        (Cell::Unknown, Cell::Unknown) => true,
-        (Cell::Int(x), Cell::Int(y)) => x == y,
-        _ => false,
-    }
+    a == b
 }
 
 // What a number slot changed to.
@@ -243,7 +238,7 @@ fn changed_to(before: Option<Cell>, now: Option<Cell>) -> Option<Cell>
     ensures { result ≡ changed before now }
 {
     match (before, now) {
-        (Some(old), Some(new)) if !is_same_number(old, new) => Some(new),
+        (Some(old), Some(new)) if !is_same_cell(old, new) => Some(new),
         _ => None,
     }
 }

@@ -19,4 +19,4 @@ returns c =
     let found : listed c.push_frames.new.found.items ≡ diffs_at before now cells ++ diffs_between before now shared c.min-count.result =
     c.in_ok-push_frames.ensures ∙ ap (λ xs. xs ++ diffs_between before now shared c.min-count.result)
     (c.in_ok-push_places.ensures ∙ ap (λ xs. listed xs ++ diffs_at before now cells) c.new-found.ensures.items) in
-    found-gain shared c.min-count.result now above cells before (listed c.push_frames.new.found.items) le few is c.requires.now.whole c.requires.numbers found
+    found-gain shared c.min-count.result now above cells before (listed c.push_frames.new.found.items) le few is c.requires.now.whole found
