@@ -1,2 +1,3 @@
 mod Division
+pub mod Numerals
 pub mod Rests
