@@ -1,5 +1,5 @@
 -- What READ finds, byte by byte.
-use Rattle.std.proofs.Common.{◌≡◌, ◌≤◌, ◌<◌, ◌+◌, ◌-◌, ◌*◌, ◌^◌, ℕ, suc, Bool, true, false, nat_lt, List, ◌∷◌, length, drop, get_or, min, ap, sym, ◌∙◌, arith, add-one, drop-cons}
+use Rattle.std.proofs.Common.{◌≡◌, ◌≤◌, ◌<◌, ◌+◌, ◌-◌, ◌*◌, ℕ, suc, Bool, true, false, nat_lt, List, ◌∷◌, length, drop, get_or, min, ap, ◌∙◌, arith, add-one, drop-cons}
 use Rattle.std.proofs.lemmas.Bool.Decides.{nat_tests}
 use Rattle.alma_base.specs.Choice.{if_true}
 use Rattle.alma_base.specs.Reading.{is_blank, is_digit, ended, digits_on, sign_on, number_on}
