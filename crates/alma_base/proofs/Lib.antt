@@ -1,2 +1,4 @@
 mod Division
+pub mod Finds
+pub mod Numerals
 pub mod Rests

@@ -5,9 +5,11 @@ mod fault;
 pub mod laws;
 mod number;
 mod place;
+mod reading;
 mod value;
 
 pub use fault::{CheckFault, LexFault, NoMemory, RunFault, SyntaxFault};
 pub use number::{Range, ReadInt, div_down, mod_down};
 pub use place::{Place, Status};
+pub use reading::read_int;
 pub use value::{Value, write_value};

@@ -1,0 +1,130 @@
+// What READ finds in the input.
+ghost use Rattle.std.specs.Prelude.{◌≡◌, ◌≤◌, ◌-◌, ◌^◌, ℕ, Bool, false, nat_lt, length, drop, min, MatchOption};
+ghost use Rattle.alma_base.specs.Numbers.{is_integer};
+ghost use Rattle.alma_base.specs.Reading.{is_blank, is_digit, signed_value, ended, digits_on, sign_on, number_from};
+
+use crate::ReadInt;
+
+/// Space, TAB, CR or LF.
+fn is_blank_byte(byte: u8) -> bool
+    ensures { result ≡ is_blank byte }
+{
+    matches!(byte, b' ' | b'\t' | b'\r' | b'\n')
+}
+
+/// One of 0 to 9.
+fn is_digit_byte(byte: u8) -> bool
+    ensures { result ≡ is_digit byte }
+{
+    matches!(byte, b'0'..=b'9')
+}
+
+/// The place behind the blanks that stand from a place on.
+fn skip_blanks(input: &[u8], from: usize) -> usize
+    requires { from ≤ length input.now }
+    ensures within { result ≤ length input.now }
+    ensures blanks { number_from input.now from ≡ sign_on result (drop result input.now) }
+{
+    let mut place = from;
+    while place < input.len() && is_blank_byte(input[place]) {
+        place += 1;
+    }
+    place
+}
+
+// What digits write, or the greatest number of 64 bits where that is greater, and the place behind them.
+#[derive(Clone, Copy)]
+struct Digits {
+    magnitude: u64,
+    end: usize,
+}
+
+/// All digits that stand from a place on.
+fn read_digits(input: &[u8], start: usize) -> Digits
+    requires { start ≤ length input.now }
+    ensures within { (start ≤ result.end) × (result.end ≤ length input.now) }
+    ensures digits { (value : ℕ) × (result.magnitude ≡ min value (2 ^ 64 - 1)) × ((negative : Bool) →
+        digits_on false negative 0 start (drop start input.now) ≡ ended (nat_lt start result.end) negative value result.end) }
+{
+    let mut magnitude: u64 = 0;
+    let mut end = start;
+    while end < input.len() && is_digit_byte(input[end]) {
+        magnitude = magnitude
+            .saturating_mul(10)
+            .saturating_add(u64::from(input[end] - b'0'));
+        end += 1;
+    }
+    Digits { magnitude, end }
+}
+
+/// The number of this sign, where it is one of INTEGER.
+fn with_sign(is_negative: bool, magnitude: u64) -> Option<i64>
+    ensures { MatchOption result (is_integer (signed_value is_negative magnitude) ≡ false)
+        (λ number. number ≡ signed_value is_negative magnitude) }
+{
+    let number = i128::from(magnitude);
+    let signed = if is_negative { -number } else { number };
+    i64::try_from(signed).ok()
+}
+
+/// The number that begins with its digits at a place, behind a sign that was read.
+fn read_unsigned(input: &[u8], start: usize, is_negative: bool) -> ReadInt
+    requires { start ≤ length input.now }
+    ensures { result ≡ digits_on false is_negative 0 start (drop start input.now) }
+{
+    let digits = read_digits(input, start);
+    if digits.end == start {
+        return ReadInt::NoNumber;
+    }
+    match with_sign(is_negative, digits.magnitude) {
+        Some(number) => ReadInt::Number(number, digits.end),
+        None => ReadInt::TooLarge,
+    }
+}
+
+/// What READ finds from a place of the input on, on an INTEGER type: behind any blanks an optional sign, and all
+/// digits that follow.
+pub fn read_int(input: &[u8], from: usize) -> ReadInt
+    requires from { from ≤ length input.now }
+    ensures { result ≡ number_from input.now from }
+{
+    let start = skip_blanks(input, from);
+    match input.get(start) {
+        Some(b'-') => read_unsigned(input, start + 1, true),
+        Some(b'+') => read_unsigned(input, start + 1, false),
+        _ => read_unsigned(input, start, false),
+    }
+}
+
+#[cfg(test)]
+mod tests {
+    use super::*;
+
+    const ROWS: [(&[u8], usize, ReadInt); 17] = [
+        (b"7", 0, ReadInt::Number(7, 1)),
+        (b" \t\r\n42x", 0, ReadInt::Number(42, 6)),
+        (b"12 34", 2, ReadInt::Number(34, 5)),
+        (b"12 34", 1, ReadInt::Number(2, 2)),
+        (b"+5-6", 0, ReadInt::Number(5, 2)),
+        (b"+5-6", 2, ReadInt::Number(-6, 4)),
+        (b"-0", 0, ReadInt::Number(0, 2)),
+        (b"007", 0, ReadInt::Number(7, 3)),
+        (b"", 0, ReadInt::NoNumber),
+        (b"1 ", 1, ReadInt::NoNumber),
+        (b"- 1", 0, ReadInt::NoNumber),
+        (b"--1", 0, ReadInt::NoNumber),
+        (b"x1", 0, ReadInt::NoNumber),
+        (b"9223372036854775807", 0, ReadInt::Number(i64::MAX, 19)),
+        (b"9223372036854775808", 0, ReadInt::TooLarge),
+        (b"-9223372036854775808", 0, ReadInt::Number(i64::MIN, 20)),
+        (b"-99999999999999999999999", 0, ReadInt::TooLarge),
+    ];
+
+    #[test]
+    fn a_number_is_read_behind_blanks_and_a_sign(rt: HostRuntime) {
+        for (input, from, want) in ROWS {
+            assert!(rt; from <= input.len());
+            assert_eq!(rt; read_int(input, from), want);
+        }
+    }
+}
