@@ -1,7 +1,7 @@
 -- What the adapters are seen as, and what reading a whole file may answer.
-use Rattle.std.specs.Prelude.{◌≤◌, List, ℕ, length, Option, None, Some, Result, Ok, Err}
+use Rattle.std.specs.Prelude.{◌≤◌, List, ℕ, length, Option, Result, Ok, Err}
 use Rattle.std.specs.Global.{Vec}
-use Rattle.alma_io.specs.Files.{Told, Untold, Has, MayHave, MayPass}
+use Rattle.alma_io.specs.Files.{Told, MayHave, MayPass}
 use Rattle.alma_io.specs.declared.files.Fetch.{Fetch}
 use Rattle.alma_io.specs.declared.files.Fetch.TheVariants.{Absent, Failed, TooLong, Memory}
 
@@ -14,11 +14,6 @@ pub record StreamState : Type 0 where
 pub record SystemState : Type 0 where
   pub fetch_faults : ℕ
   pub store_faults : ℕ
-
--- what an open file tells
-abbrev pub told_left : Option (List ℕ) → Told
-told_left None = Untold
-told_left (Some bytes) = Has bytes
 
 -- what reading an open file to its end may answer
 abbrev pub IsReadWhole : Told → ℕ → Result (Vec ℕ) Fetch → Type 0
