@@ -1,5 +1,5 @@
 -- The frames from before some notes, as what of the frames of now is other in them.
-use Rattle.std.specs.Prelude.{◌≡◌, ◌+◌, ℕ, zero, suc, true, List, [], ◌∷◌, ◌++◌, take, length, get_or, slice_get, Option, Some, None, if◌then◌else◌}
+use Rattle.std.specs.Prelude.{◌≡◌, ◌+◌, ℕ, zero, suc, List, [], ◌∷◌, ◌++◌, take, length, get_or, slice_get, Option, Some, None, if◌then◌else◌}
 use Rattle.alma_base.specs.Carry.{Change, Carry, with_changes}
 use Rattle.alma_code.specs.declared.cell.Cell.{Cell}
 use Rattle.alma_code.specs.declared.cell.Cell.TheVariants.{Unknown}
