@@ -54,7 +54,9 @@ module _ (code : PlainCode) where
     jump_zero : {a b : ℕ} → IsNumberSlot a → b < top → Keeps top (I.JumpZero a b)
     check : {a : ℕ} → IsNumberSlot a → Keeps top (I.Check a)
     write_int : {a : ℕ} → IsNumberSlot a → Keeps top (I.WriteInt a)
+    write_char : {a : ℕ} → IsNumberSlot a → Keeps top (I.WriteChar a)
     write_bool : {a : ℕ} → IsNumberSlot a → Keeps top (I.WriteBool a)
+    write_line : Keeps top I.WriteLine
     return : Keeps top I.Return
 
   module _ (full : length (kinds_at code 0) ≡ (head_at code 0).slots) (top : ℕ) (ends : end_at code 0 ≡ top) (plain : (head_at code 0).has_result ≡ false) where
@@ -122,5 +124,7 @@ module _ (code : PlainCode) where
         clean at _ (four_true (number_word ha) refl refl refl) refl refl refl refl (four_true refl (address_word hb) refl refl) refl last refl
     no_fault at (check ha) last = clean at _ (four_true (number_word ha) refl refl refl) refl refl refl refl refl refl last refl
     no_fault at (write_int ha) last = clean at _ (four_true (number_word ha) refl refl refl) refl refl refl refl refl refl last refl
+    no_fault at (write_char ha) last = clean at _ (four_true (number_word ha) refl refl refl) refl refl refl refl refl refl last refl
     no_fault at (write_bool ha) last = clean at _ (four_true (number_word ha) refl refl refl) refl refl refl refl refl refl last refl
+    no_fault at write_line last = clean at _ refl refl refl refl refl refl refl last refl
     no_fault at return last = clean at _ refl refl refl refl refl refl refl last (ap not plain)

@@ -30,7 +30,7 @@ use Rattle.alma_lower.specs.Templates.{desig_code, desig_slots, op_code, cmp_cod
 use Rattle.alma_lower.proofs.Frames.{HasSlots}
 use Rattle.alma_lower.proofs.ExprRows.{first_kind, slots_first, slots_behind}
 use Rattle.alma_lower.proofs.Sizes.{stmts_few}
-use Rattle.alma_lower.proofs.Forms.{two_true, IsNumberSlot, IsPlaceSlot, Keeps, const, add, sub, mul, div, modulo, equal, less, less_eq, neg, flip, local, load, store, jump, jump_zero, check, write_int, write_bool, return, no_fault}
+use Rattle.alma_lower.proofs.Forms.{two_true, IsNumberSlot, IsPlaceSlot, Keeps, const, add, sub, mul, div, modulo, equal, less, less_eq, neg, flip, local, load, store, jump, jump_zero, check, write_int, write_char, write_bool, write_line, return, no_fault}
 
 module _ (p : Program) (code : PlainCode) (top : ℕ) where
   abbrev own : Routine
@@ -193,7 +193,7 @@ module _ (p : Program) (code : PlainCode) (top : ℕ) where
     keep_write : (how : WriteAs) (lo : ℕ) → BuiltWrite how → IsNumberSlot code lo → AllKeep (write_code how lo)
     keep_write write_as.Int lo built a = (write_int a, tt)
     keep_write write_as.Bool lo built a = (write_bool a, tt)
-    keep_write write_as.Char lo built a = absurd built
+    keep_write write_as.Char lo built a = (write_char a, tt)
 
     long_guard : (lo : ℕ) (condition body : List Instr) (at back : ℕ) → length (guarded_code lo condition body at back) ≡ length condition + 1 + length body + 1
     long_guard lo condition body at back =
@@ -276,7 +276,7 @@ module _ (p : Program) (code : PlainCode) (top : ℕ) where
       keep_stmt at lo (Return e) built roots h lt = absurd built
       keep_stmt at lo (Read d how range) built roots h lt = absurd built
       keep_stmt at lo (WriteText text) built roots h lt = absurd built
-      keep_stmt at lo WriteLine built roots h lt = absurd built
+      keep_stmt at lo WriteLine built roots h lt = (write_line, tt)
 
       keep_arms : (at lo exit : ℕ) (arms : Arms) → BuiltArms arms → Roots (arms_phrases arms) → Slots lo (arms_slots arms) → at + length (arms_code at lo exit arms) < top → exit < top → AllKeep (arms_code at lo exit arms)
       keep_arms at lo exit no_arms built roots h lt out = tt

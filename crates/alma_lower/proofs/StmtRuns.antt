@@ -18,7 +18,7 @@ use Rattle.alma_lower.proofs.Simple.{expr_one}
 use Rattle.alma_lower.proofs.Steps.{InstrAt}
 use Rattle.alma_lower.proofs.ExprRows.{slots_first, slots_behind}
 use Rattle.alma_lower.proofs.ExprRuns.{HasAt, at_front, at_back, FineDesig, FineExpr, FineLinks, desig_runs, expr_runs}
-use Rattle.alma_lower.proofs.StmtRows.{RunsStmt, RunsStmts, no_stmts_row, more_stmts_row, value_row, write_row, assign_row}
+use Rattle.alma_lower.proofs.StmtRows.{RunsStmt, RunsStmts, no_stmts_row, more_stmts_row, value_row, write_row, line_row, assign_row}
 use Rattle.alma_lower.proofs.LoopRows.{RunsPart, list_as_part, IsCondition, while_row, while_cut_row, repeat_row, arm_row, if_row, part_as_stmt}
 
 -- the steps that must still be made before a cut, of what is taken at a level
@@ -66,7 +66,7 @@ module _ (p : Program) (code : PlainCode) (input : List ℕ) where
     FineStmt r (Return e) = ⊥
     FineStmt r (Read d how range) = ⊥
     FineStmt r (WriteText text) = ⊥
-    FineStmt r WriteLine = ⊥
+    FineStmt r WriteLine = Unit {0}
 
     pub FineArms : ℕ → Arms → Type 0
     FineArms r no_arms = Unit {0}
@@ -96,7 +96,7 @@ module _ (p : Program) (code : PlainCode) (input : List ℕ) where
   some_write : (how : WriteAs) (lo : ℕ) → BuiltWrite how → 0 < length (write_code how lo)
   some_write write_as.Int lo built = omega arith
   some_write write_as.Bool lo built = omega arith
-  some_write write_as.Char lo built = absurd built
+  some_write write_as.Char lo built = omega arith
 
   -- ---- places in words of others
 
@@ -291,7 +291,7 @@ module _ (p : Program) (code : PlainCode) (input : List ℕ) where
       stmt_run (Return e) at lo r fine i slots = absurd fine
       stmt_run (Read d how range) at lo r fine i slots = absurd fine
       stmt_run (WriteText text) at lo r fine i slots = absurd fine
-      stmt_run WriteLine at lo r fine i slots = absurd fine
+      stmt_run WriteLine at lo r fine i slots = line_row p code input at lo r n i.0
 
       arms_run : (arms : Arms) (rest : Stmts) (at out exit lo r : ℕ) → FineArms r arms → InstrAt code input out (I.Jump exit) → HasAt code input at (arms_code at lo out arms) → HasSlots p code r lo (arms_slots arms)
           → RunsPart p code input (at + length (arms_code at lo out arms)) exit (lo + length (arms_slots arms)) r (λ v. ev_stmts p input (level p input n) rest v) n

@@ -1,5 +1,5 @@
 -- The forms of the resolved program that are compiled so far: a body of the module alone, with variables of one cell,
--- numbers of the whole of INTEGER, arithmetic, comparisons, IF, WHILE, REPEAT and WRITE.
+-- numbers of the whole of INTEGER, arithmetic, comparisons, IF, WHILE, REPEAT, WRITE and WRITELN.
 use Rattle.std.specs.Prelude.{◌≡◌, ◌^◌, ◌-◌, true, pos, negsuc, [], ◌∷◌}
 use Rattle.alma_base.specs.Numbers.{is_integer}
 use Rattle.alma_base.specs.declared.number.Range.{Range}
@@ -46,11 +46,11 @@ BuiltTest (Or ts) = ⊥
 BuiltTest (Not t) = ⊥
 BuiltTest (CallTest r args) = ⊥
 
--- a number or a truth is written
+-- a number, a character or a truth is written
 abbrev pub BuiltWrite : WriteAs → Type 0
 BuiltWrite write_as.Int = Unit {0}
 BuiltWrite write_as.Bool = Unit {0}
-BuiltWrite write_as.Char = ⊥
+BuiltWrite write_as.Char = Unit {0}
 
 abbrev mutual
   pub BuiltStmts : Stmts → Type 0
@@ -74,7 +74,7 @@ abbrev mutual
   BuiltStmt (Return e) = ⊥
   BuiltStmt (Read d how range) = ⊥
   BuiltStmt (WriteText text) = ⊥
-  BuiltStmt WriteLine = ⊥
+  BuiltStmt WriteLine = Unit {0}
 
   pub BuiltArms : Arms → Type 0
   BuiltArms no_arms = Unit {0}

@@ -129,7 +129,7 @@ condition_code lo (CallTest r args) = []
 abbrev pub write_code : WriteAs → (from : ℕ) → List Instr
 write_code write_as.Int from = I.WriteInt from ∷ []
 write_code write_as.Bool from = I.WriteBool from ∷ []
-write_code write_as.Char from = []
+write_code write_as.Char from = I.WriteChar from ∷ []
 
 abbrev mutual
   pub stmts_slots : Stmts → List SlotKind
@@ -203,7 +203,7 @@ abbrev mutual
   stmt_code at lo (Return e) = []
   stmt_code at lo (Read d how range) = []
   stmt_code at lo (WriteText text) = []
-  stmt_code at lo WriteLine = []
+  stmt_code at lo WriteLine = I.WriteLine ∷ []
 
   -- each arm leaves by a jump to `exit`
   pub arms_code : (at lo exit : ℕ) → Arms → List Instr

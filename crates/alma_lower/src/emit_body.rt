@@ -86,7 +86,7 @@ fn emit_write(emit: &mut Emit, value: &Expr, how: WriteAs) -> Result<(), NoMemor
     match how {
         WriteAs::Int => emit.put(Instr::WriteInt { value }),
         WriteAs::Bool => emit.put(Instr::WriteBool { value }),
-        WriteAs::Char => unreachable!(),
+        WriteAs::Char => emit.put(Instr::WriteChar { value }),
     }
 }
 
@@ -203,6 +203,6 @@ fn emit_stmt(emit: &mut Emit, stmt: &Stmt) -> Result<(), NoMemory>
         Stmt::Return(_) => unreachable!(),
         Stmt::Read(_, _, _) => unreachable!(),
         Stmt::WriteText(_) => unreachable!(),
-        Stmt::WriteLine => unreachable!(),
+        Stmt::WriteLine => emit.put(Instr::WriteLine),
     }
 }

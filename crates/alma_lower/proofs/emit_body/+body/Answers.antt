@@ -80,9 +80,6 @@ emit_stmt-unreachable-requires-in-Read t c = subst BuiltStmt (ap stmt_of c.in-Re
 pub emit_stmt-unreachable-requires-in-WriteText : goal.emit_stmt-unreachable-requires-in-WriteText
 emit_stmt-unreachable-requires-in-WriteText t c = subst BuiltStmt (ap stmt_of c.in-WriteText.is ∙ Views.writetext_view _) c.requires.built
 
-pub emit_stmt-unreachable-requires-in-WriteLine : goal.emit_stmt-unreachable-requires-in-WriteLine
-emit_stmt-unreachable-requires-in-WriteLine t c = subst BuiltStmt (ap stmt_of c.in-WriteLine.is ∙ Views.writeline_view) c.requires.built
-
 pub emit_stmt-emit_test-requires-clause-built : goal.emit_stmt-emit_test-requires-clause-built
 emit_stmt-emit_test-requires-clause-built t c =
     let view : stmt_of c.args.stmt.now ≡ tree.TestStmt (test_of c.in-Test.test) = ap stmt_of c.in-Test.is ∙ Views.teststmt_view _ in
@@ -227,3 +224,12 @@ pub emit_stmt-returns-in-WriteExpr-clause-few : goal.emit_stmt-returns-in-WriteE
 emit_stmt-returns-in-WriteExpr-clause-few t c =
     let view : stmt_of c.args.stmt.now ≡ tree.WriteExpr (expr_of c.in-WriteExpr.value) c.in-WriteExpr.how = ap stmt_of c.in-WriteExpr.is ∙ Views.writeexpr_view _ _ in
     on_ok_map c.emit_write.result (λ h. omega (arith, h, ap stmt_nodes view)) c.emit_write.ensures.few
+
+pub emit_stmt-returns-in-WriteLine-clause-puts : goal.emit_stmt-returns-in-WriteLine-clause-puts
+emit_stmt-returns-in-WriteLine-clause-puts t c =
+    stmt_as c.put-in-WriteLine.result _ _ _ _ (ap stmt_of c.in-WriteLine.is ∙ Views.writeline_view) (on_ok_map c.put-in-WriteLine.result (λ h. record { all = h.all }) c.put-in-WriteLine.ensures.puts)
+
+pub emit_stmt-returns-in-WriteLine-clause-few : goal.emit_stmt-returns-in-WriteLine-clause-few
+emit_stmt-returns-in-WriteLine-clause-few t c =
+    let view : stmt_of c.args.stmt.now ≡ tree.WriteLine = ap stmt_of c.in-WriteLine.is ∙ Views.writeline_view in
+    on_ok_map c.put-in-WriteLine.result (λ h. omega (arith, h, ap stmt_nodes view)) c.put-in-WriteLine.ensures.few
