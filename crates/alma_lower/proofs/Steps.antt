@@ -227,7 +227,7 @@ module _ (code : PlainCode) (input : List ℕ) where
       pub silently : Silently code input 1 s to
       pub is : IsAt to_at now held to
 
-    moved_to : (to_at : ℕ) → step code input s ≡ went (record (passed s) { at = to_at }) → Moves to_at
+    pub moved_to : (to_at : ℕ) → step code input s ≡ went (record (passed s) { at = to_at }) → Moves to_at
     moved_to to_at e = record {
       to = record (passed s) { at = to_at };
       silently = went_on s (record (passed s) { at = to_at }) e;

@@ -31,7 +31,7 @@ use Rattle.alma_lower.proofs.ExprRows.{Left, LeavesValue, LeavesPlace, Begun, be
 use Rattle.alma_lower.proofs.ExprRuns.{HasAt}
 
 -- a write changes the routine of no frame
-put_routine : (x : Store) (f n : ℕ) (new : store.Cell) → f < length x → (top_frame (store.put x f n new)).routine ≡ (top_frame x).routine
+pub put_routine : (x : Store) (f n : ℕ) (new : store.Cell) → f < length x → (top_frame (store.put x f n new)).routine ≡ (top_frame x).routine
 put_routine x f n new lt =
     let y = set x f (store.with_cell (get_or x f store.no_frame) n new) in
     let is : store.put x f n new ≡ y = put_is x f n new lt in
