@@ -9,6 +9,7 @@ pub mod ExprRows
 pub mod ExprRuns
 pub mod Follows
 pub mod Forms
+pub mod ForExample
 pub mod ForRows
 pub mod ForSteps
 pub mod FrameLemmas

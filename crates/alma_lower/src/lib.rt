@@ -8,6 +8,8 @@ mod emit_tables;
 pub mod laws;
 mod lowering;
 #[cfg(test)]
+mod for_tests;
+#[cfg(test)]
 mod tests;
 
 pub use lowering::{LowerError, lower};
