@@ -18,27 +18,27 @@ use Rattle.alma_code.specs.Picture as picture
 use Rattle.alma_code.specs.Plain.{PlainCode, head_at, kinds_at}
 use Rattle.alma_code.specs.Machine.{Mode, Going, Failing, Ended, Stuck, start}
 use Rattle.alma_ir.specs.declared.phrase.Root.TheVariants as root
-use Rattle.alma_ir.specs.Tree.{Program, Routine, routine_at, no_routine, Stmts, Stmt, Arms, Test, Expr, Links, Desig, no_stmts, more_stmts, TestStmt, Assign, CopyCells, If, While, Repeat, ForTo, SomeOf, Case, Either, Forall, Commit, Return, Read, WriteExpr, WriteText, WriteLine, no_arms, more_arms, Value, Bind, Unify, SameCells, Seq, And, Or, Not, CallTest, Const, Load, Chain, Compare, Truth, Known, Chr, CallExpr, no_links, more_links, a_desig, no_sels, more_sels}
-use Rattle.alma_ir.specs.Phrases.{Phrase, stmts_phrases, stmt_phrases, arms_phrases, test_phrases, expr_phrases, links_phrases, desig_phrases}
-use Rattle.alma_ir.specs.Checked.{IsChecked, RootExists}
-use Rattle.alma_ir.proofs.Each.{each_of_front, each_of_back}
+use Rattle.alma_ir.specs.Tree.{Program, Routine, routine_at, no_routine, Stmts, Stmt, Arms, Loop, Test, Expr, Links, Desig, no_stmts, more_stmts, TestStmt, Assign, CopyCells, If, While, Repeat, ForTo, SomeOf, Case, Either, Forall, Commit, Return, Read, WriteExpr, WriteText, WriteLine, no_arms, more_arms, a_loop, Value, Bind, Unify, SameCells, Seq, And, Or, Not, CallTest, Const, Load, Chain, Compare, Truth, Known, Chr, CallExpr, no_links, more_links, a_desig, no_sels, more_sels}
+use Rattle.alma_ir.specs.Phrases.{Phrase, stmts_phrases, stmt_phrases, arms_phrases, loop_phrases, test_phrases, expr_phrases, links_phrases, desig_phrases}
+use Rattle.alma_ir.specs.Checked.{IsChecked, RootExists, LoopIsApart, loops_of}
+use Rattle.alma_ir.proofs.Each.{each_of_front, each_of_back, each_of_both}
 use Rattle.alma_mean.specs.Store.{Store, Unknown, Number, top_frame, start_cells}
 use Rattle.alma_mean.specs.Store as store
 use Rattle.alma_mean.specs.Events.{Events, NoYield, Flow, Go, first, node, prints, end_of}
 use Rattle.alma_mean.specs.Events as events
 use Rattle.alma_mean.specs.Meaning.{level, ev_program, result}
 use Rattle.alma_mean.specs.Meaning as meaning
-use Rattle.alma_lower.specs.Built.{IsBuilt, BuiltDesig, BuiltExpr, BuiltLinks, BuiltTest, BuiltStmts, BuiltStmt, BuiltArms}
+use Rattle.alma_lower.specs.Built.{IsBuilt, BuiltDesig, BuiltExpr, BuiltLinks, BuiltTest, BuiltStmts, BuiltStmt, BuiltArms, BuiltLoop}
 use Rattle.alma_lower.specs.Implements.{ComesTo, Implements, state_after, printed_by}
 use Rattle.alma_lower.specs.Templates.{stmts_slots, stmts_code, body_kinds, body_code, IsCodeOf}
 use Rattle.alma_lower.proofs.Goes.{weaker, node_goes}
 use Rattle.alma_lower.proofs.Follows.{AgreesFrom, EndsWell, follows}
 use Rattle.alma_lower.proofs.Frames.{SameContent, SameFrame, StandFor, HasSlots}
 use Rattle.alma_lower.proofs.Steps.{InstrAt, return_ends}
-use Rattle.alma_lower.proofs.ExprRows.{begun}
+use Rattle.alma_lower.proofs.ExprRows.{AreVariables, begun}
 use Rattle.alma_lower.proofs.ExprRuns.{HasAt, at_front, at_back, FineDesig, FineExpr, FineLinks}
 use Rattle.alma_lower.proofs.StmtRows.{LeavesStmt}
-use Rattle.alma_lower.proofs.StmtRuns.{FineTest, FineStmts, FineStmt, FineArms, runs_at}
+use Rattle.alma_lower.proofs.StmtRuns.{FineTest, FineStmts, FineStmt, FineArms, FineLoop, runs_at}
 
 module _ (p : Program) (code : PlainCode) (input : List ℕ) where
   abbrev own : Routine
@@ -46,14 +46,18 @@ module _ (p : Program) (code : PlainCode) (input : List ℕ) where
 
   -- ---- a checked program of built forms keeps what its code needs
 
+  -- the root of a phrase exists, and counter and limit of its loop are apart
+  abbrev IsApart : Phrase → Type 0
+  IsApart x = RootExists p 0 own x × AllByRecursion (LoopIsApart p 0) (loops_of x)
+
   abbrev Roots : List Phrase → Type 0
-  Roots xs = AllByRecursion (RootExists p 0 own) xs
+  Roots xs = AllByRecursion IsApart xs
 
   module _ (numbers : (n : ℕ) → n < own.slots → slice_get (kinds_at code 0) n ≡ Some slot.Number) where
     fine_desig : (d : Desig) → BuiltDesig d → Roots (desig_phrases d) → FineDesig p code input 0 d
     unfolding stmts_phrases
     fine_desig (a_desig (root.Local from) cells no_sels) built roots =
-        (built, record { exist = roots.0.0.exist; numbers = λ k lt. numbers (from + k) (omega (arith, lt, roots.0.0.exist)) })
+        (built, record { exist = roots.0.0.0.exist; numbers = λ k lt. numbers (from + k) (omega (arith, lt, roots.0.0.0.exist)) })
     fine_desig (a_desig (root.Local from) cells (more_sels x rest)) built roots = built
     fine_desig (a_desig (root.Global from) cells sels) built roots = built
     fine_desig (a_desig (root.Param from) cells sels) built roots = built
@@ -90,6 +94,10 @@ module _ (p : Program) (code : PlainCode) (input : List ℕ) where
     fine_test (Not t) built roots = built
     fine_test (CallTest r args) built roots = built
 
+    -- a slot of the routine
+    fine_slot : (n : ℕ) → n < own.slots → AreVariables p code input 0 n 1
+    fine_slot n lt = record { exist = omega (arith, lt); numbers = λ k small. numbers (n + k) (omega (arith, lt, small)) }
+
     mutual
       unfolding stmts_phrases
 
@@ -110,7 +118,7 @@ module _ (p : Program) (code : PlainCode) (input : List ℕ) where
           (fine_stmts body built.0 (each_of_front _ (stmts_phrases body) (test_phrases t) roots.1), fine_test t built.1 (each_of_back _ (stmts_phrases body) (test_phrases t) roots.1))
       fine_stmt (WriteExpr e how) built roots = (fine_expr e built.0 roots.1, built.1)
       fine_stmt (CopyCells d e) built roots = built
-      fine_stmt (ForTo l) built roots = built
+      fine_stmt (ForTo l) built roots = fine_loop l built roots.0.1.0 roots.1
       fine_stmt (SomeOf l) built roots = built
       fine_stmt (Case e arms rest) built roots = built
       fine_stmt (Either _) built roots = built
@@ -127,6 +135,22 @@ module _ (p : Program) (code : PlainCode) (input : List ℕ) where
           let parts = test_phrases t ++ stmts_phrases body in
           let two = each_of_front _ parts (arms_phrases rest) roots in
           (fine_test t built.0 (each_of_front _ (test_phrases t) (stmts_phrases body) two), fine_stmts body built.1 (each_of_back _ (test_phrases t) (stmts_phrases body) two), fine_arms rest built.2 (each_of_back _ parts (arms_phrases rest) roots))
+
+      fine_loop : (l : Loop) → BuiltLoop l → LoopIsApart p 0 l → Roots (loop_phrases l) → FineLoop p code input 0 l
+      fine_loop (a_loop d range counter limit from to by body) built apart roots =
+          let bounds = (desig_phrases d ++ expr_phrases from) ++ expr_phrases to in
+          let before = each_of_front IsApart bounds (stmts_phrases body) roots in
+          let first = each_of_front IsApart (desig_phrases d ++ expr_phrases from) (expr_phrases to) before in (
+            fine_desig d built.0 (each_of_front IsApart (desig_phrases d) (expr_phrases from) first),
+            fine_expr from built.1 (each_of_back IsApart (desig_phrases d) (expr_phrases from) first),
+            fine_expr to built.2 (each_of_back IsApart (desig_phrases d ++ expr_phrases from) (expr_phrases to) before),
+            fine_stmts body built.3 (each_of_back IsApart bounds (stmts_phrases body) roots),
+            built.4,
+            built.5,
+            fine_slot counter apart.of_counter.exists,
+            fine_slot limit apart.of_limit.exists,
+            apart.two,
+          )
 
   -- ---- the slots and the instructions of the code
 
@@ -256,7 +280,7 @@ module _ (p : Program) (code : PlainCode) (input : List ℕ) where
     all_steps checked built n =
         let frames = start_frame (head_at code 0) ∷ [] in
         let b = begun p code input (meaning.start p) frames [] in
-        let roots = checked.roots 0 (omega (arith, checked.body.0)) in
+        let roots = each_of_both (RootExists p 0 own) (λ x. AllByRecursion (LoopIsApart p 0) (loops_of x)) (stmts_phrases own.body) (checked.roots 0 (omega (arith, checked.body.0))) (checked.loops 0 (omega (arith, checked.body.0))) in
         let own_built : BuiltStmts own.body = subst (λ rs. BuiltStmts (get_or rs 0 no_routine).body) (sym built.alone) built.body in
         let fine = fine_stmts own_numbers own.body own_built roots in
         let runs = (runs_at p code input (suc n)).stmts own.body 0 own.slots 0 fine (at_front code input 0 (stmts_code 0 own.slots own.body) (I.Return ∷ []) all_instrs) phrase_slots in

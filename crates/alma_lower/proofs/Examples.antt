@@ -1,5 +1,5 @@
 -- The programs of the tests are built and checked.
-use Rattle.std.proofs.Common.{rules, ◌≡◌, ℕ, zero, suc, [], ◌∷◌, refl, arith}
+use Rattle.std.proofs.Common.{rules, ◌≡◌, ℕ, zero, suc, ◌<◌, ◌≤◌, [], ◌∷◌, refl, arith}
 use Rattle.std.specs.Prelude.{None, pos, sum_by}
 use Rattle.alma_base.specs.Numbers.{whole_range}
 use Rattle.alma_ir.specs.declared.phrase.Cmp.TheVariants as cmp
@@ -14,13 +14,17 @@ use Rattle.alma_lower.specs.Built.{IsBuilt}
 abbrev pub variable : Desig
 variable = a_desig (root.Local 1) 1 no_sels
 
--- a module of one variable
-abbrev pub module_of : Stmts → Program
-module_of body = record {
+-- a module of one variable, with so many slots
+abbrev pub module_with : (slots : ℕ) → Stmts → Program
+module_with slots body = record {
   name = [];
   globals = [];
-  routines = record { name = 65 ∷ []; params = []; result = None; declared = 1; slots = 2; body = body } ∷ [];
+  routines = record { name = 65 ∷ []; params = []; result = None; declared = 1; slots = slots; body = body } ∷ [];
 }
+
+-- with no hidden slots
+abbrev pub module_of : Stmts → Program
+module_of body = module_with 2 body
 
 -- x := 3; WHILE x > 0 DO WRITE(x) END
 abbrev pub loop_body : Stmts
@@ -45,54 +49,60 @@ pub loop_built : IsBuilt (module_of loop_body)
 loop_built = record { routine = record { name = 65 ∷ []; params = []; result = None; declared = 1; slots = 2; body = loop_body }; alone = refl; body = search rules }
 
 -- the facts of the only routine
-only : (body : Stmts) (Fact : ℕ → Routine → Type 0) → Fact 0 (record { name = 65 ∷ []; params = []; result = None; declared = 1; slots = 2; body = body }) → EachRoutine (module_of body) Fact
-only body Fact h zero lt = h
-only body Fact h (suc r) lt = absurd (omega (arith, lt))
+only : (slots : ℕ) (body : Stmts) (Fact : ℕ → Routine → Type 0) → Fact 0 (record { name = 65 ∷ []; params = []; result = None; declared = 1; slots = slots; body = body }) → EachRoutine (module_with slots body) Fact
+only slots body Fact h zero lt = h
+only slots body Fact h (suc r) lt = absurd (omega (arith, lt))
 
 -- the facts of the phrases of the only routine
-each : (body : Stmts) (Fact : ℕ → Routine → Phrase → Type 0) → AllByRecursion (Fact 0 (routine_at (module_of body) 0)) (stmts_phrases body) → EachPhrase (module_of body) Fact
-each body Fact h = only body (λ r routine. AllByRecursion (Fact r routine) (stmts_phrases routine.body)) h
+pub each : (slots : ℕ) (body : Stmts) (Fact : ℕ → Routine → Phrase → Type 0) → AllByRecursion (Fact 0 (routine_at (module_with slots body) 0)) (stmts_phrases body) → EachPhrase (module_with slots body) Fact
+each slots body Fact h = only slots body (λ r routine. AllByRecursion (Fact r routine) (stmts_phrases routine.body)) h
 
 -- what a body must keep
-pub record IsPlain (body : Stmts) : Type 0 where
-  pub roots : AllByRecursion (RootExists (module_of body) 0 (routine_at (module_of body) 0)) (stmts_phrases body)
+pub record IsPlainWith (slots : ℕ) (body : Stmts) : Type 0 where
+  pub roots : AllByRecursion (RootExists (module_with slots body) 0 (routine_at (module_with slots body) 0)) (stmts_phrases body)
   pub parts : AllByRecursion PartsExist (stmts_phrases body)
   pub cells : AllByRecursion CellsAgree (stmts_phrases body)
   pub ranges : AllByRecursion RangesOrdered (stmts_phrases body)
   pub steps : AllByRecursion (λ x. AllByRecursion HasStep (loops_of x)) (stmts_phrases body)
-  pub loops : AllByRecursion (λ x. AllByRecursion (LoopIsApart (module_of body) 0) (loops_of x)) (stmts_phrases body)
-  pub callees : AllByRecursion (CalleeExists (module_of body)) (stmts_phrases body)
-  pub results : AllByRecursion (ResultAgrees (module_of body)) (stmts_phrases body)
-  pub arguments : AllByRecursion (CallFits (module_of body)) (stmts_phrases body)
+  pub loops : AllByRecursion (λ x. AllByRecursion (LoopIsApart (module_with slots body) 0) (loops_of x)) (stmts_phrases body)
+  pub callees : AllByRecursion (CalleeExists (module_with slots body)) (stmts_phrases body)
+  pub results : AllByRecursion (ResultAgrees (module_with slots body)) (stmts_phrases body)
+  pub arguments : AllByRecursion (CallFits (module_with slots body)) (stmts_phrases body)
   pub choices : AllByRecursion HasChoice (stmts_phrases body)
-  pub returns : AllByRecursion (ReturnAgrees (routine_at (module_of body) 0)) (stmts_phrases body)
+  pub returns : AllByRecursion (ReturnAgrees (routine_at (module_with slots body) 0)) (stmts_phrases body)
   pub returns_stay : AllByRecursion ReturnsStay (stmts_phrases body)
   pub texts : sum_by text_bytes (stmts_phrases body) ≡ 0
 
-plain_checked : (body : Stmts) → IsPlain body → IsChecked (module_of body)
-plain_checked body h = record {
-  body = (omega arith, omega arith);
+abbrev pub IsPlain : Stmts → Type 0
+IsPlain body = IsPlainWith 2 body
+
+pub plain_checked_with : (slots : ℕ) (body : Stmts) → 1 < slots → slots ≤ 4194304 → IsPlainWith slots body → IsChecked (module_with slots body)
+plain_checked_with slots body some few h = record {
+  body = (omega arith, omega (arith, some));
   body_takes_nothing = (refl, search rules);
-  params = only body (λ r routine. ParamsFirst routine) (record { laid_out = tt; fit = omega arith; cells = tt });
-  declared = only body DeclaredFits (record { within = omega arith; body = λ e. omega arith });
+  params = only slots body (λ r routine. ParamsFirst routine) (record { laid_out = tt; fit = omega arith; cells = tt });
+  declared = only slots body DeclaredFits (record { within = omega (arith, some); body = λ e. omega (arith, some) });
   globals = tt;
-  roots = each body (RootExists (module_of body)) h.roots;
-  parts = each body (λ r routine x. PartsExist x) h.parts;
-  cells = each body (λ r routine x. CellsAgree x) h.cells;
-  head_ranges = only body (λ r routine. HeadRangesOrdered routine) (record { params = tt; result = λ range e. absurd (cc) });
-  ranges = each body (λ r routine x. RangesOrdered x) h.ranges;
-  steps = each body (λ r routine x. AllByRecursion HasStep (loops_of x)) h.steps;
-  loops = each body (λ r routine x. AllByRecursion (LoopIsApart (module_of body) r) (loops_of x)) h.loops;
-  callees = each body (λ r routine x. CalleeExists (module_of body) x) h.callees;
-  results = each body (λ r routine x. ResultAgrees (module_of body) x) h.results;
-  arguments = each body (λ r routine x. CallFits (module_of body) x) h.arguments;
-  choices = each body (λ r routine x. HasChoice x) h.choices;
-  returns = each body (λ r routine x. ReturnAgrees routine x) h.returns;
-  returns_stay = each body (λ r routine x. ReturnsStay x) h.returns_stay;
+  roots = each slots body (RootExists (module_with slots body)) h.roots;
+  parts = each slots body (λ r routine x. PartsExist x) h.parts;
+  cells = each slots body (λ r routine x. CellsAgree x) h.cells;
+  head_ranges = only slots body (λ r routine. HeadRangesOrdered routine) (record { params = tt; result = λ range e. absurd (cc) });
+  ranges = each slots body (λ r routine x. RangesOrdered x) h.ranges;
+  steps = each slots body (λ r routine x. AllByRecursion HasStep (loops_of x)) h.steps;
+  loops = each slots body (λ r routine x. AllByRecursion (LoopIsApart (module_with slots body) r) (loops_of x)) h.loops;
+  callees = each slots body (λ r routine x. CalleeExists (module_with slots body) x) h.callees;
+  results = each slots body (λ r routine x. ResultAgrees (module_with slots body) x) h.results;
+  arguments = each slots body (λ r routine x. CallFits (module_with slots body) x) h.arguments;
+  choices = each slots body (λ r routine x. HasChoice x) h.choices;
+  returns = each slots body (λ r routine x. ReturnAgrees routine x) h.returns;
+  returns_stay = each slots body (λ r routine x. ReturnsStay x) h.returns_stay;
   names = record { globals = tt; routines = search rules };
   limits = record { globals = omega arith; params = omega arith; names = omega arith; texts = omega (arith, h.texts) };
-  routine_limits = only body (λ r routine. RoutineKeepsLimits routine) (record { declared = omega arith; slots = omega arith });
+  routine_limits = only slots body (λ r routine. RoutineKeepsLimits routine) (record { declared = omega arith; slots = few });
 }
+
+plain_checked : (body : Stmts) → IsPlain body → IsChecked (module_of body)
+plain_checked body h = plain_checked_with 2 body (omega arith) (omega arith) h
 
 numbers : (body : Stmts) → AreNumbers (routine_at (module_of body) 0) 1 1
 numbers body = record { exist = omega arith; kinds = tt }

@@ -37,6 +37,7 @@ module _ (code : PlainCode) where
   -- the forms of compiled code, each with slots of its kinds, and with addresses below the top
   pub data Keeps (top : ℕ) : Instr → Type 0 where
     const : {a : ℕ} {v : ℤ} → IsNumberSlot a → Keeps top (I.Const a v)
+    move : {a b : ℕ} → IsNumberSlot a → IsNumberSlot b → Keeps top (I.Move a b)
     add : {a b c : ℕ} → IsNumberSlot a → IsNumberSlot b → IsNumberSlot c → Keeps top (I.Add a b c)
     sub : {a b c : ℕ} → IsNumberSlot a → IsNumberSlot b → IsNumberSlot c → Keeps top (I.Sub a b c)
     mul : {a b c : ℕ} → IsNumberSlot a → IsNumberSlot b → IsNumberSlot c → Keeps top (I.Mul a b c)
@@ -54,7 +55,10 @@ module _ (code : PlainCode) where
     jump_zero : {a b : ℕ} → IsNumberSlot a → b < top → Keeps top (I.JumpZero a b)
     check : {a : ℕ} → IsNumberSlot a → Keeps top (I.Check a)
     write_int : {a : ℕ} → IsNumberSlot a → Keeps top (I.WriteInt a)
+    write_char : {a : ℕ} → IsNumberSlot a → Keeps top (I.WriteChar a)
     write_bool : {a : ℕ} → IsNumberSlot a → Keeps top (I.WriteBool a)
+    write_line : Keeps top I.WriteLine
+    step : {a b c d : ℕ} → IsNumberSlot a → IsNumberSlot b → IsNumberSlot c → d < top → Keeps top (I.Step a b c d)
     return : Keeps top I.Return
 
   module _ (full : length (kinds_at code 0) ≡ (head_at code 0).slots) (top : ℕ) (ends : end_at code 0 ≡ top) (plain : (head_at code 0).has_result ≡ false) where
@@ -99,6 +103,7 @@ module _ (code : PlainCode) where
     pub no_fault : {i : Instr} (at : ℕ) → Keeps top i → rule_11 code 0 at i ≡ true → instr_fault code 0 at i ≡ None
     unfolding words rule_5 rule_6 rule_7 rule_10 rule_12
     no_fault at (const ha) last = clean at _ (four_true (number_word ha) refl refl refl) refl refl refl refl refl refl last refl
+    no_fault at (move ha hb) last = clean at _ (four_true (number_word ha) (number_word hb) refl refl) refl refl refl refl refl refl last refl
     no_fault at (add ha hb hc) last = clean at _ (three_numbers ha hb hc) refl refl refl refl refl refl last refl
     no_fault at (sub ha hb hc) last = clean at _ (three_numbers ha hb hc) refl refl refl refl refl refl last refl
     no_fault at (mul ha hb hc) last = clean at _ (three_numbers ha hb hc) refl refl refl refl refl refl last refl
@@ -122,5 +127,9 @@ module _ (code : PlainCode) where
         clean at _ (four_true (number_word ha) refl refl refl) refl refl refl refl (four_true refl (address_word hb) refl refl) refl last refl
     no_fault at (check ha) last = clean at _ (four_true (number_word ha) refl refl refl) refl refl refl refl refl refl last refl
     no_fault at (write_int ha) last = clean at _ (four_true (number_word ha) refl refl refl) refl refl refl refl refl refl last refl
+    no_fault at (write_char ha) last = clean at _ (four_true (number_word ha) refl refl refl) refl refl refl refl refl refl last refl
     no_fault at (write_bool ha) last = clean at _ (four_true (number_word ha) refl refl refl) refl refl refl refl refl refl last refl
+    no_fault at write_line last = clean at _ refl refl refl refl refl refl refl last refl
+    no_fault at (step ha hb hc hd) last =
+        clean at _ (four_true (number_word ha) (number_word hb) (number_word hc) refl) refl refl refl refl (four_true refl refl refl (address_word hd)) refl last refl
     no_fault at return last = clean at _ refl refl refl refl refl refl refl last (ap not plain)

@@ -1,6 +1,7 @@
 pub mod Correct
 pub mod Emits
 pub mod EmitsBody
+pub mod EmitsFor
 pub mod Enough
 pub mod ExampleViews
 pub mod Examples
@@ -8,6 +9,9 @@ pub mod ExprRows
 pub mod ExprRuns
 pub mod Follows
 pub mod Forms
+pub mod ForExample
+pub mod ForRows
+pub mod ForSteps
 pub mod FrameLemmas
 pub mod Frames
 pub mod Goes

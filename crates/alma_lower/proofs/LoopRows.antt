@@ -39,10 +39,10 @@ module _ (p : Program) (code : PlainCode) (input : List ℕ) where
     pub gives : (v : Store) → GivesOne ℤ v (value v)
 
   -- a jump, as a state that goes on
-  jumped_left : (at to_at lo r : ℕ) (b : List PlainFrame) (v : Store) (t : State) (held : List PlainEntry) → Left p code input at lo r b v t → (is : IsAt at t.now held t) → (w : Moves code input at t.now held t is to_at) → Left p code input to_at lo r b v w.to
+  pub jumped_left : (at to_at lo r : ℕ) (b : List PlainFrame) (v : Store) (t : State) (held : List PlainEntry) → Left p code input at lo r b v t → (is : IsAt at t.now held t) → (w : Moves code input at t.now held t is to_at) → Left p code input to_at lo r b v w.to
   jumped_left at to_at lo r b v t held left is w = record { here = w.is.here; fits = subst (Fits p code lo b v) (sym w.is.frames) left.fits; routine = left.routine }
 
-  moved_going : (at to_at : ℕ) (now : List PlainFrame) (held : List PlainEntry) (t : State) → (is : IsAt at now held t) → (w : Moves code input at now held t is to_at) → IsGoing held w.to
+  pub moved_going : (at to_at : ℕ) (now : List PlainFrame) (held : List PlainEntry) (t : State) → (is : IsAt at now held t) → (w : Moves code input at now held t is to_at) → IsGoing held w.to
   moved_going at to_at now held t is w = record { mode = w.is.mode; entries = w.is.entries }
 
   -- ---- WHILE

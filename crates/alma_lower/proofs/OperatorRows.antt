@@ -32,11 +32,11 @@ use Rattle.alma_lower.proofs.ExprRows.{Left, LeavesValue, Begun, begun, Stays, R
 -- ---- numbers
 
 -- a truth is a number of INTEGER, and is 0 where it is false
-bit_integer : (t : Bool) → is_integer (bit t) ≡ true
+pub bit_integer : (t : Bool) → is_integer (bit t) ≡ true
 bit_integer true = refl
 bit_integer false = refl
 
-zero_bit : (t : Bool) → is_zero (bit t) ≡ not t
+pub zero_bit : (t : Bool) → is_zero (bit t) ≡ not t
 zero_bit true = refl
 zero_bit false = refl
 

@@ -9,9 +9,9 @@ use Rattle.alma_ir.specs.declared.phrase.Root.{Root}
 use Rattle.alma_ir.specs.declared.phrase.Root.TheVariants as root
 use Rattle.alma_ir.specs.declared.phrase.WriteAs.{WriteAs}
 use Rattle.alma_ir.specs.declared.phrase.WriteAs.TheVariants as write_as
-use Rattle.alma_ir.specs.Tree.{Stmts, Stmt, Arms, Test, Expr, Links, Desig, no_stmts, more_stmts, TestStmt, Assign, CopyCells, If, While, Repeat, ForTo, SomeOf, Case, Either, Forall, Commit, Return, Read, WriteExpr, WriteText, WriteLine, no_arms, more_arms, Value, Bind, Unify, SameCells, Seq, And, Or, Not, CallTest, Const, Load, Chain, Compare, Truth, Known, Chr, CallExpr, no_links, more_links, a_desig}
-use Rattle.alma_ir.specs.Count.{stmts_nodes, stmt_nodes, arms_nodes, test_nodes, expr_nodes, links_nodes, desig_nodes}
-use Rattle.alma_lower.specs.Templates.{root_code, desig_code, desig_slots, cmp_code, neg_code, expr_code, expr_slots, links_code, links_slots, op_code, test_code, test_slots, condition_code, write_code, guarded_code, stmts_code, stmts_slots, stmt_code, stmt_slots, arms_code, arms_slots}
+use Rattle.alma_ir.specs.Tree.{Stmts, Stmt, Arms, Loop, Test, Expr, Links, Desig, no_stmts, more_stmts, TestStmt, Assign, CopyCells, If, While, Repeat, ForTo, SomeOf, Case, Either, Forall, Commit, Return, Read, WriteExpr, WriteText, WriteLine, no_arms, more_arms, a_loop, Value, Bind, Unify, SameCells, Seq, And, Or, Not, CallTest, Const, Load, Chain, Compare, Truth, Known, Chr, CallExpr, no_links, more_links, a_desig}
+use Rattle.alma_ir.specs.Count.{stmts_nodes, stmt_nodes, arms_nodes, loop_nodes, test_nodes, expr_nodes, links_nodes, desig_nodes}
+use Rattle.alma_lower.specs.Templates.{root_code, desig_code, desig_slots, cmp_code, neg_code, expr_code, expr_slots, links_code, links_slots, op_code, test_code, test_slots, condition_code, write_code, guarded_code, entry_code, begin_code, turns_code, stmts_code, stmts_slots, stmt_code, stmt_slots, arms_code, arms_slots, for_code, for_slots}
 
 -- ---- code
 
@@ -118,7 +118,7 @@ mutual
       omega (arith, length-append first (condition ++ tail), length-append condition tail, stmts_short at lo body, condition_short value t)
   stmt_short at lo (WriteExpr e how) = omega (arith, length-append (expr_code lo e) (write_code how lo), expr_short lo e, write_short how lo)
   stmt_short at lo (CopyCells d e) = omega arith
-  stmt_short at lo (ForTo l) = omega arith
+  stmt_short at lo (ForTo l) = omega (arith, for_short at lo l)
   stmt_short at lo (SomeOf l) = omega arith
   stmt_short at lo (Case e arms rest) = omega arith
   stmt_short at lo (Either x) = omega arith
@@ -138,6 +138,22 @@ mutual
       let next = at + length arm in
       let after = lo + length (test_slots t) + length (stmts_slots body) in
       omega (arith, length-append arm (arms_code next after exit rest), guarded_length lo condition inner at exit, condition_short lo t, stmts_short (at + length condition + 1) (lo + length (test_slots t)) body, arms_short next after exit rest)
+
+  pub for_short : (at lo : ℕ) (l : Loop) → length (for_code at lo l) ≤ 16 + 16 * loop_nodes l
+  for_short at lo (a_loop d range counter limit from to by body) =
+      let last = lo + 1 + length (expr_slots from) in
+      let place = last + length (expr_slots to) in
+      let x = expr_code (lo + 1) from in
+      let y = expr_code last to in
+      let three = I.Move counter (lo + 1) ∷ I.Move limit last ∷ entry_code by (lo + 1) last ∷ [] in
+      let begin = begin_code by counter limit lo last x y in
+      let turn = at + length begin + 1 in
+      let locate = desig_code place d in
+      let inner = place + length (desig_slots d) in
+      let b = stmts_code (turn + length locate + 1) inner body in
+      let exit = turn + length locate + 1 + length b + 2 in
+      let tail = I.Step counter limit lo exit ∷ I.Jump turn ∷ [] in
+      omega (arith, length-append begin (I.JumpZero (lo + 1) exit ∷ turns_code counter limit lo place locate b turn), length-append x (y ++ three), length-append y three, length-append locate (I.Store place counter ∷ (b ++ tail)), length-append b tail, expr_short (lo + 1) from, expr_short last to, desig_short place d, stmts_short (turn + length locate + 1) inner body)
 
 -- ---- slots
 
@@ -183,7 +199,7 @@ mutual
   stmt_few (Repeat body t) = omega (arith, length-append (stmts_slots body) (test_slots t), test_few t, stmts_few body)
   stmt_few (WriteExpr e how) = omega (arith, expr_few e)
   stmt_few (CopyCells d e) = omega arith
-  stmt_few (ForTo l) = omega arith
+  stmt_few (ForTo l) = omega (arith, for_few l)
   stmt_few (SomeOf l) = omega arith
   stmt_few (Case e arms rest) = omega arith
   stmt_few (Either x) = omega arith
@@ -198,3 +214,7 @@ mutual
   arms_few no_arms = omega arith
   arms_few (more_arms t body rest) =
       omega (arith, length-append (test_slots t) (stmts_slots body ++ arms_slots rest), length-append (stmts_slots body) (arms_slots rest), test_few t, stmts_few body, arms_few rest)
+
+  pub for_few : (l : Loop) → length (for_slots l) ≤ 16 + 16 * loop_nodes l
+  for_few (a_loop d range counter limit from to by body) =
+      omega (arith, length-append (expr_slots from) (expr_slots to ++ (desig_slots d ++ stmts_slots body)), length-append (expr_slots to) (desig_slots d ++ stmts_slots body), length-append (desig_slots d) (stmts_slots body), expr_few from, expr_few to, desig_few d, stmts_few body)

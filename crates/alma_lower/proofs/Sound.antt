@@ -1,5 +1,5 @@
 -- Code by template is sound: each instruction keeps its form, by induction over the phrases.
-use Rattle.std.proofs.Common.{◌≡◌, ℕ, zero, suc, ◌+◌, ◌*◌, ◌≤◌, ◌<◌, ◌⊎◌, inl, inr, List, [], ◌∷◌, ◌++◌, length, get_or, replicate, refl, sym, ap, ◌∙◌, subst, arith, length-append, Some, None}
+use Rattle.std.proofs.Common.{◌≡◌, ℕ, zero, suc, ◌+◌, ◌*◌, ◌≤◌, ◌<◌, ◌⊎◌, inl, inr, List, [], ◌∷◌, ◌++◌, length, get_or, replicate, refl, sym, ap, ◌∙◌, subst, arith, length-append, Some, None, ℤ, pos, negsuc}
 use Rattle.std.specs.Prelude.{Bool, true, false, not, map, ◌||◌, nat_lt, nat_eq}
 use Rattle.std.specs.List.{AllByRecursion, slice_get, list_all}
 use Rattle.std.proofs.lemmas.Bool.{lt-ltb, le-leb, eq-eqb, cases_lt}
@@ -20,24 +20,28 @@ use Rattle.alma_ir.specs.declared.phrase.Cmp.TheVariants as cmp
 use Rattle.alma_ir.specs.declared.phrase.Root.TheVariants as root
 use Rattle.alma_ir.specs.declared.phrase.WriteAs.{WriteAs}
 use Rattle.alma_ir.specs.declared.phrase.WriteAs.TheVariants as write_as
-use Rattle.alma_ir.specs.Tree.{Stmts, Stmt, Arms, Test, Expr, Links, Desig, Routine, Global, Program, routine_at, no_routine, no_stmts, more_stmts, TestStmt, Assign, CopyCells, If, While, Repeat, ForTo, SomeOf, Case, Either, Forall, Commit, Return, Read, WriteExpr, WriteText, WriteLine, no_arms, more_arms, Value, Bind, Unify, SameCells, Seq, And, Or, Not, CallTest, Const, Load, Chain, Compare, Truth, Known, Chr, CallExpr, no_links, more_links, a_desig, no_sels, more_sels}
-use Rattle.alma_ir.specs.Phrases.{Phrase, stmts_phrases, stmt_phrases, arms_phrases, test_phrases, expr_phrases, links_phrases, desig_phrases}
-use Rattle.alma_ir.specs.Checked.{IsChecked, IsGlobal, RootExists}
+use Rattle.alma_ir.specs.Tree.{Stmts, Stmt, Arms, Loop, Test, Expr, Links, Desig, Routine, Global, Program, routine_at, no_routine, no_stmts, more_stmts, TestStmt, Assign, CopyCells, If, While, Repeat, ForTo, SomeOf, Case, Either, Forall, Commit, Return, Read, WriteExpr, WriteText, WriteLine, no_arms, more_arms, a_loop, Value, Bind, Unify, SameCells, Seq, And, Or, Not, CallTest, Const, Load, Chain, Compare, Truth, Known, Chr, CallExpr, no_links, more_links, a_desig, no_sels, more_sels}
+use Rattle.alma_ir.specs.Phrases.{Phrase, stmts_phrases, stmt_phrases, arms_phrases, loop_phrases, test_phrases, expr_phrases, links_phrases, desig_phrases}
+use Rattle.alma_ir.specs.Checked.{IsChecked, IsGlobal, RootExists, IsHiddenSlot, LoopIsApart, loops_of}
 use Rattle.alma_ir.specs.Count.{nodes, routines_nodes, stmts_nodes}
-use Rattle.alma_ir.proofs.Each.{each_of_front, each_of_back, each_of_append}
-use Rattle.alma_lower.specs.Built.{IsBuilt, BuiltDesig, BuiltExpr, BuiltLinks, BuiltTest, BuiltWrite, BuiltStmts, BuiltStmt, BuiltArms}
-use Rattle.alma_lower.specs.Templates.{desig_code, desig_slots, op_code, cmp_code, neg_code, expr_slots, links_slots, expr_code, links_code, test_slots, test_code, condition_code, write_code, stmts_slots, stmt_slots, arms_slots, guarded_code, stmts_code, stmt_code, arms_code, body_kinds, body_code, global_named, IsCodeOf}
+use Rattle.alma_ir.proofs.Each.{each_of_front, each_of_back, each_of_append, each_of_both}
+use Rattle.alma_lower.specs.Built.{IsBuilt, BuiltDesig, BuiltExpr, BuiltLinks, BuiltTest, BuiltWrite, BuiltStmts, BuiltStmt, BuiltArms, BuiltLoop}
+use Rattle.alma_lower.specs.Templates.{desig_code, desig_slots, op_code, cmp_code, neg_code, expr_slots, links_slots, expr_code, links_code, test_slots, test_code, condition_code, write_code, stmts_slots, stmt_slots, arms_slots, for_slots, guarded_code, entry_code, begin_code, turns_code, stmts_code, stmt_code, arms_code, for_code, body_kinds, body_code, global_named, IsCodeOf}
 use Rattle.alma_lower.proofs.Frames.{HasSlots}
 use Rattle.alma_lower.proofs.ExprRows.{first_kind, slots_first, slots_behind}
 use Rattle.alma_lower.proofs.Sizes.{stmts_few}
-use Rattle.alma_lower.proofs.Forms.{two_true, IsNumberSlot, IsPlaceSlot, Keeps, const, add, sub, mul, div, modulo, equal, less, less_eq, neg, flip, local, load, store, jump, jump_zero, check, write_int, write_bool, return, no_fault}
+use Rattle.alma_lower.proofs.Forms.{two_true, IsNumberSlot, IsPlaceSlot, Keeps, const, move, add, sub, mul, div, modulo, equal, less, less_eq, neg, flip, local, load, store, jump, jump_zero, check, write_int, write_char, write_bool, write_line, step, return, no_fault}
 
 module _ (p : Program) (code : PlainCode) (top : ℕ) where
   abbrev own : Routine
   own = routine_at p 0
 
+  -- the root of a phrase exists, and counter and limit of its loop are apart
+  abbrev IsApart : Phrase → Type 0
+  IsApart x = RootExists p 0 own x × AllByRecursion (LoopIsApart p 0) (loops_of x)
+
   abbrev Roots : List Phrase → Type 0
-  Roots xs = AllByRecursion (RootExists p 0 own) xs
+  Roots xs = AllByRecursion IsApart xs
 
   -- each instruction keeps its form
   abbrev pub AllKeep : List Instr → Type 0
@@ -73,7 +77,7 @@ module _ (p : Program) (code : PlainCode) (top : ℕ) where
     unfolding stmts_phrases
     keep_desig to (a_desig (root.Local from) cells no_sels) built roots h = (
       local (place_slot to (a_desig (root.Local from) cells no_sels) built h)
-          (record { kind = numbers from (omega (arith, built, roots.0.0.exist)); free = roots.0.1 refl }),
+          (record { kind = numbers from (omega (arith, built, roots.0.0.0.exist)); free = roots.0.0.1 refl }),
       tt,
     )
     keep_desig to (a_desig (root.Local from) cells (more_sels x rest)) built roots h = absurd built
@@ -193,7 +197,7 @@ module _ (p : Program) (code : PlainCode) (top : ℕ) where
     keep_write : (how : WriteAs) (lo : ℕ) → BuiltWrite how → IsNumberSlot code lo → AllKeep (write_code how lo)
     keep_write write_as.Int lo built a = (write_int a, tt)
     keep_write write_as.Bool lo built a = (write_bool a, tt)
-    keep_write write_as.Char lo built a = absurd built
+    keep_write write_as.Char lo built a = (write_char a, tt)
 
     long_guard : (lo : ℕ) (condition body : List Instr) (at back : ℕ) → length (guarded_code lo condition body at back) ≡ length condition + 1 + length body + 1
     long_guard lo condition body at back =
@@ -204,6 +208,14 @@ module _ (p : Program) (code : PlainCode) (top : ℕ) where
     keep_guard lo condition body at back first value inner to_end to_back =
         both condition (I.JumpZero lo (at + length condition + 1 + length body + 1) ∷ (body ++ I.Jump back ∷ [])) first
         (jump_zero value to_end, both body (I.Jump back ∷ []) inner (jump to_back, tt))
+
+    -- a hidden slot of the routine is one behind the input position
+    hidden_slot : (n : ℕ) → IsHiddenSlot p 0 n → IsNumberSlot code n
+    hidden_slot n hidden = record { kind = numbers n hidden.exists; free = hidden.position refl }
+
+    keep_entry : (by : ℤ) (from to : ℕ) → IsNumberSlot code from → IsNumberSlot code to → Keeps code top (entry_code by from to)
+    keep_entry (pos up) from to a b = less_eq a a b
+    keep_entry (negsuc down) from to a b = less_eq a b a
 
     mutual
       unfolding stmts_phrases
@@ -267,7 +279,7 @@ module _ (p : Program) (code : PlainCode) (top : ℕ) where
       keep_stmt at lo (WriteExpr e how) built roots h lt =
           both (expr_code lo e) (write_code how lo) (keep_expr lo e built.0 roots.1 h) (keep_write how lo built.1 (value_slot lo e built.0 h))
       keep_stmt at lo (CopyCells d e) built roots h lt = absurd built
-      keep_stmt at lo (ForTo l) built roots h lt = absurd built
+      keep_stmt at lo (ForTo l) built roots h lt = keep_loop at lo l built roots.0.1.0 roots.1 h lt
       keep_stmt at lo (SomeOf l) built roots h lt = absurd built
       keep_stmt at lo (Case e arms rest) built roots h lt = absurd built
       keep_stmt at lo (Either _) built roots h lt = absurd built
@@ -276,7 +288,7 @@ module _ (p : Program) (code : PlainCode) (top : ℕ) where
       keep_stmt at lo (Return e) built roots h lt = absurd built
       keep_stmt at lo (Read d how range) built roots h lt = absurd built
       keep_stmt at lo (WriteText text) built roots h lt = absurd built
-      keep_stmt at lo WriteLine built roots h lt = absurd built
+      keep_stmt at lo WriteLine built roots h lt = (write_line, tt)
 
       keep_arms : (at lo exit : ℕ) (arms : Arms) → BuiltArms arms → Roots (arms_phrases arms) → Slots lo (arms_slots arms) → at + length (arms_code at lo exit arms) < top → exit < top → AllKeep (arms_code at lo exit arms)
       keep_arms at lo exit no_arms built roots h lt out = tt
@@ -298,6 +310,52 @@ module _ (p : Program) (code : PlainCode) (top : ℕ) where
           (omega (arith, lt, long, guard)) out)
           (keep_arms (at + length arm) (lo + length (test_slots t) + length (stmts_slots body)) exit rest built.2 (each_of_back _ parts (arms_phrases rest) roots)
           (behind (lo + length (test_slots t)) (stmts_slots body) (arms_slots rest) later) (omega (arith, lt, long, guard)) out)
+
+      keep_loop : (at lo : ℕ) (l : Loop) → BuiltLoop l → LoopIsApart p 0 l → Roots (loop_phrases l) → Slots lo (for_slots l) → at + length (for_code at lo l) < top → AllKeep (for_code at lo l)
+      keep_loop at lo (a_loop d range counter limit from to by body) built apart roots h lt =
+          let last = lo + 1 + length (expr_slots from) in
+          let place = last + length (expr_slots to) in
+          let x = expr_code (lo + 1) from in
+          let y = expr_code last to in
+          let three = I.Move counter (lo + 1) ∷ I.Move limit last ∷ entry_code by (lo + 1) last ∷ [] in
+          let begin = begin_code by counter limit lo last x y in
+          let turn = at + length begin + 1 in
+          let locate = desig_code place d in
+          let b = stmts_code (turn + length locate + 1) (place + length (desig_slots d)) body in
+          let exit = turn + length locate + 1 + length b + 2 in
+          let tail = I.Step counter limit lo exit ∷ I.Jump turn ∷ [] in
+          let turns = turns_code counter limit lo place locate b turn in
+          let long = length-append begin (I.JumpZero (lo + 1) exit ∷ turns) in
+          let long_turns = length-append locate (I.Store place counter ∷ (b ++ tail)) in
+          let long_body = length-append b tail in
+          let rest = behind lo (slot.Number ∷ []) (expr_slots from ++ (expr_slots to ++ (desig_slots d ++ stmts_slots body))) h in
+          let rest2 = behind (lo + 1) (expr_slots from) (expr_slots to ++ (desig_slots d ++ stmts_slots body)) rest in
+          let rest3 = behind last (expr_slots to) (desig_slots d ++ stmts_slots body) rest2 in
+          let from_slots = front (lo + 1) (expr_slots from) (expr_slots to ++ (desig_slots d ++ stmts_slots body)) rest in
+          let to_slots = front last (expr_slots to) (desig_slots d ++ stmts_slots body) rest2 in
+          let own_place = front place (desig_slots d) (stmts_slots body) rest3 in
+          let bounds = (desig_phrases d ++ expr_phrases from) ++ expr_phrases to in
+          let before = each_of_front IsApart bounds (stmts_phrases body) roots in
+          let before_limit = each_of_front IsApart (desig_phrases d ++ expr_phrases from) (expr_phrases to) before in
+          let step_slot = number_first lo (expr_slots from ++ (expr_slots to ++ (desig_slots d ++ stmts_slots body))) h in
+          let first = value_slot (lo + 1) from built.1 from_slots in
+          let second = value_slot last to built.2 to_slots in
+          let count = hidden_slot counter apart.of_counter in
+          let bound = hidden_slot limit apart.of_limit in
+          both begin (I.JumpZero (lo + 1) exit ∷ turns) (
+            const step_slot,
+            both x (y ++ three) (keep_expr (lo + 1) from built.1 (each_of_back IsApart (desig_phrases d) (expr_phrases from) before_limit) from_slots)
+                (both y three (keep_expr last to built.2 (each_of_back IsApart (desig_phrases d ++ expr_phrases from) (expr_phrases to) before) to_slots)
+                (move count first, (move bound second, (keep_entry by (lo + 1) last first second, tt)))),
+          ) (
+            jump_zero first (omega (arith, lt, long, long_turns, long_body)),
+            both locate (I.Store place counter ∷ (b ++ tail)) (keep_desig place d built.0 (each_of_front IsApart (desig_phrases d) (expr_phrases from) before_limit) own_place) (
+              store (place_slot place d built.0 own_place) count,
+              both b tail
+                  (keep_stmts (turn + length locate + 1) (place + length (desig_slots d)) body built.3 (each_of_back IsApart bounds (stmts_phrases body) roots) (behind place (desig_slots d) (stmts_slots body) rest3) (omega (arith, lt, long, long_turns, long_body)))
+                  (step count bound step_slot (omega (arith, lt, long, long_turns, long_body)), (jump (omega (arith, lt, long, long_turns, long_body)), tt)),
+            ),
+          )
 
 -- ---- the whole code
 
@@ -369,7 +427,7 @@ module _ (p : Program) (code : PlainCode) (checked : IsChecked p) (built : IsBui
   pub all_keep : AllKeep p code length_of_code (body_code body)
   all_keep =
       both p code length_of_code inner (I.Return ∷ [])
-      (keep_stmts p code length_of_code some_slots own_numbers 0 body.slots body.body own_built (checked.roots 0 checked.body.0) phrase_slots (omega (arith, code_long)))
+      (keep_stmts p code length_of_code some_slots own_numbers 0 body.slots body.body own_built (each_of_both (RootExists p 0 body) (λ x. AllByRecursion (LoopIsApart p 0) (loops_of x)) (stmts_phrases body.body) (checked.roots 0 checked.body.0) (checked.loops 0 checked.body.0)) phrase_slots (omega (arith, code_long)))
       (return, tt)
 
   full : length (kinds_at code 0) ≡ (head_at code 0).slots

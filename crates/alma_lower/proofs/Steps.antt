@@ -1,6 +1,7 @@
 -- One step of the machine: what an instruction at the address does to the state.
-use Rattle.std.proofs.Common.{◌≡◌, ℕ, ◌+◌, ◌-◌, true, false, not, List, [], length, Option, Some, refl, sym, ap, ◌∙◌, subst, append-nil, ℤ, ◌+ℤ◌, ◌-ℤ◌, ◌*ℤ◌, neg_ℤ}
-use Rattle.std.specs.Prelude.{slice_get, int_lt, int_le, nat_eq}
+use Rattle.std.proofs.Common.{◌≡◌, ℕ, ◌+◌, ◌-◌, true, false, not, List, [], ◌∷◌, length, Option, Some, refl, sym, ap, ◌∙◌, subst, append-nil, ℤ, pos, ◌+ℤ◌, ◌-ℤ◌, ◌*ℤ◌, neg_ℤ}
+use Rattle.std.specs.Prelude.{slice_get, int_lt, int_le, nat_eq, nat_abs}
+use Rattle.std.specs.Int.{int_rem_euclid}
 use Rattle.alma_base.specs.declared.fault.RunFault.{RunFault}
 use Rattle.alma_base.specs.declared.fault.RunFault.TheVariants as fault
 use Rattle.alma_base.specs.Choice.{if_true}
@@ -226,7 +227,7 @@ module _ (code : PlainCode) (input : List ℕ) where
       pub silently : Silently code input 1 s to
       pub is : IsAt to_at now held to
 
-    moved_to : (to_at : ℕ) → step code input s ≡ went (record (passed s) { at = to_at }) → Moves to_at
+    pub moved_to : (to_at : ℕ) → step code input s ≡ went (record (passed s) { at = to_at }) → Moves to_at
     moved_to to_at e = record {
       to = record (passed s) { at = to_at };
       silently = went_on s (record (passed s) { at = to_at }) e;
@@ -323,3 +324,13 @@ module _ (code : PlainCode) (input : List ℕ) where
     write_bool_step a x i ha =
         prints_from (value_text (value.Bool (not (is_zero x))))
         (does at now held s (I.WriteBool a) h i ∙ number_is now (passed s) a x (λ v. printed (value_text (value.Bool (not (is_zero v)))) (passed s)) h.frames ha)
+
+    pub write_char_step : (a : ℕ) (x : ℤ) → InstrAt at (I.WriteChar a) → Holds now a (cell.Int x) → PrintsNow (value_text (value.Char (nat_abs (int_rem_euclid x (pos 256)))))
+    unfolding act
+    write_char_step a x i ha =
+        prints_from (value_text (value.Char (nat_abs (int_rem_euclid x (pos 256)))))
+        (does at now held s (I.WriteChar a) h i ∙ number_is now (passed s) a x (λ v. printed (value_text (value.Char (nat_abs (int_rem_euclid v (pos 256))))) (passed s)) h.frames ha)
+
+    pub write_line_step : InstrAt at I.WriteLine → PrintsNow (10 ∷ [])
+    unfolding act
+    write_line_step i = prints_from (10 ∷ []) (does at now held s I.WriteLine h i)

@@ -1,5 +1,5 @@
 -- The rows of statements: each is what its code does, given what its parts do.
-use Rattle.std.proofs.Common.{◌≡◌, ◌⊎◌, inl, inr, ℕ, ◌+◌, ◌-◌, ◌<◌, ◌≤◌, Bool, true, false, List, length, get_or, set, refl, sym, ap, ◌∙◌, subst, arith, ℤ}
+use Rattle.std.proofs.Common.{◌≡◌, ◌⊎◌, inl, inr, ℕ, ◌+◌, ◌-◌, ◌<◌, ◌≤◌, Bool, true, false, List, [], ◌∷◌, length, get_or, set, refl, sym, ap, ◌∙◌, subst, arith, ℤ}
 use Rattle.std.proofs.lemmas.Bool.{cases_eq}
 use Rattle.std.proofs.lemmas.List.{get_or-set_same, get_or-set_other, length-set}
 use Rattle.alma_base.specs.declared.fault.RunFault.TheVariants as fault
@@ -25,12 +25,12 @@ use Rattle.alma_lower.proofs.Goes.{Silently, IsGoing, IsOn, and_then, Goes, befo
 use Rattle.alma_lower.proofs.Frames.{StandFor, Fits, AreNumbers, SamePlace, IsAt}
 use Rattle.alma_lower.proofs.FrameLemmas.{fits_self, fits_on, fits_put, put_is, numbers_kept, content_there}
 use Rattle.alma_lower.proofs.Simple.{GivesOne, on_visit, on_one, at_fault, at_cut}
-use Rattle.alma_lower.proofs.Steps.{Holds, InstrAt, check_fails, check_passes, zero_jumps, other_goes_on, store_step, write_int_step, write_bool_step}
+use Rattle.alma_lower.proofs.Steps.{Holds, InstrAt, check_fails, check_passes, zero_jumps, other_goes_on, store_step, write_int_step, write_bool_step, write_char_step, write_line_step}
 use Rattle.alma_lower.proofs.ExprRows.{Left, LeavesValue, LeavesPlace, Begun, begun, RunsFrom, RunsExpr, RunsPlace, as_node, one_more, left_is_at, left_on, kept_slot}
 use Rattle.alma_lower.proofs.ExprRuns.{HasAt}
 
 -- a write changes the routine of no frame
-put_routine : (x : Store) (f n : ℕ) (new : store.Cell) → f < length x → (top_frame (store.put x f n new)).routine ≡ (top_frame x).routine
+pub put_routine : (x : Store) (f n : ℕ) (new : store.Cell) → f < length x → (top_frame (store.put x f n new)).routine ≡ (top_frame x).routine
 put_routine x f n new lt =
     let y = set x f (store.with_cell (get_or x f store.no_frame) n new) in
     let is : store.put x f n new ≡ y = put_is x f n new lt in
@@ -187,7 +187,18 @@ module _ (p : Program) (code : PlainCode) (input : List ℕ) where
         one_goes code input 0 24 (LeavesStmt (m + 1) lo r b0) held v tt w.to 7 (q - 1) (omega arith) (record { mode = w.is.mode; entries = w.is.entries })
             (record { here = w.is.here; fits = subst (Fits p code lo b0.frames v) (sym w.is.frames) left.0.fits; routine = left.0.routine }),
       )
-  write_goes m lo r write_as.Char b0 held v n t q i some going left = absurd (omega (arith, some))
+  write_goes m lo r write_as.Char b0 held v n t q i some going left =
+      let w = write_char_step code input m t.now held t (left_is_at p code input m lo r b0.frames v t held going left.0) lo n i.0 left.1 in (
+        0,
+        t,
+        omega arith,
+        no_step code input t,
+        w.to,
+        w.prints,
+        subst IsOn (sym w.is.mode) tt,
+        one_goes code input 0 24 (LeavesStmt (m + 1) lo r b0) held v tt w.to 7 (q - 1) (omega arith) (record { mode = w.is.mode; entries = w.is.entries })
+            (record { here = w.is.here; fits = subst (Fits p code lo b0.frames v) (sym w.is.frames) left.0.fits; routine = left.0.routine }),
+      )
 
   pub write_row : (at m lo r : ℕ) (how : WriteAs) (x : Store → Events ℤ) (q : ℕ) → RunsExpr p code input at m lo r x q → HasAt code input m (write_code how lo) → 0 < length (write_code how lo)
       → RunsStmt at (m + length (write_code how lo)) lo r (λ v. node (bind (x v) (λ t n. Print (written_text how n) (one t tt)))) q
@@ -200,31 +211,62 @@ module _ (p : Program) (code : PlainCode) (input : List ℕ) where
       (λ v1 n t1 held1 going1 left1. write_goes m lo r how b0 held1 v1 n t1 q i some going1 left1)
       (λ v1 n t1 no. no))
 
+  -- an end of line
+  pub line_row : (at lo r q : ℕ) → InstrAt code input at I.WriteLine → RunsStmt at (at + 1) lo r (λ v. node (Print (10 ∷ []) (one v tt))) q
+  line_row at lo r q i =
+      as_node p code input at r (LeavesStmt (at + 1) lo r) (λ v. Print (10 ∷ []) (one v tt)) q
+      (λ v now held s is stand routine.
+      let b0 = begun p code input v now held in
+      let w = write_line_step code input at now held s is i in (
+        0,
+        s,
+        omega arith,
+        no_step code input s,
+        w.to,
+        w.prints,
+        subst IsOn (sym w.is.mode) tt,
+        one_goes code input 0 24 (LeavesStmt (at + 1) lo r b0) held v tt w.to 31 (q - 1) (omega arith) (record { mode = w.is.mode; entries = w.is.entries })
+            (record { here = w.is.here; fits = subst (Fits p code lo now v) (sym w.is.frames) (fits_self p code lo v now stand); routine = routine }),
+      ))
+
   -- ---- assignment
 
+  -- one step leads to an address where the frames stand for this store
+  pub record Reaches (exit lo r : ℕ) (before : List PlainFrame) (held : List PlainEntry) (v : Store) (t : State) : Type 0 where
+    pub to : State
+    pub silently : Silently code input 1 t to
+    pub going : IsGoing held to
+    pub left : Left p code input exit lo r before v to
+
   -- the number is stored at the place
-  assign_goes : (m2 lo lo2 r : ℕ) (b0 : Begun p code input) (held : List PlainEntry) (v : Store) (c : Place) (mc : CellPlace) (n : ℤ) (t : State) (q : ℕ) → InstrAt code input m2 (I.Store lo lo2) → IsGoing held t → Left p code input m2 lo r b0.frames v t
-      → AreNumbers p code v t.now c → 0 < c.size → SamePlace c mc → Holds t.now lo (cell.Place mc) → Holds t.now lo2 (cell.Int n) → is_integer n ≡ true
-      → Goes code input 0 24 (LeavesStmt (m2 + 1) lo r b0) held (check_range whole_range n (λ _. one (put_at v c (Number n)) tt)) t 8 q
-  assign_goes m2 lo lo2 r b0 held v c mc n t q i going left numbers some same has_place has_value integer =
+  pub stored : (m2 lo r a from : ℕ) (before : List PlainFrame) (held : List PlainEntry) (v : Store) (c : Place) (mc : CellPlace) (n : ℤ) (t : State) → InstrAt code input m2 (I.Store a from) → IsGoing held t → Left p code input m2 lo r before v t
+      → AreNumbers p code v t.now c → 0 < c.size → SamePlace c mc → Holds t.now a (cell.Place mc) → Holds t.now from (cell.Int n) → is_integer n ≡ true
+      → Reaches (m2 + 1) lo r before held (put_at v c (Number n)) t
+  stored m2 lo r a from before held v c mc n t i going left numbers some same has_place has_value integer =
       let live = content_there p code v t.now c mc left.fits.stand numbers some same in
-      let w = store_step code input m2 t.now held t (left_is_at p code input m2 lo r b0.frames v t held going left) lo lo2 mc n i has_place has_value live.0 in
+      let w = store_step code input m2 t.now held t (left_is_at p code input m2 lo r before v t held going left) a from mc n i has_place has_value live.0 in
       let at : c.slot + 0 ≡ c.slot = omega arith in
       let there : c.slot < length (get_or v c.frame store.no_frame).cells = omega (arith, numbers.cells 0 some) in
       let kind : get_or (get_or t.now c.frame picture.no_frame).kinds c.slot slot.Mark ≡ slot.Number = ap (λ x. get_or (get_or t.now c.frame picture.no_frame).kinds x slot.Mark) (sym at) ∙ numbers.kinds 0 some in
       let fit : Fits p code lo t.now (put_at v c (Number n)) (written t.now c.frame c.slot (cell.Int n)) = fits_put p code lo v t.now c.frame c.slot n numbers.frame there kind integer left.fits.stand in
       let here : written t.now mc.frame mc.slot (cell.Int n) ≡ written t.now c.frame c.slot (cell.Int n) = ap (λ f. written t.now f mc.slot (cell.Int n)) (sym same.frame) ∙ ap (λ x. written t.now c.frame x (cell.Int n)) (sym same.slot) in
-      let whole : Fits p code lo b0.frames (put_at v c (Number n)) w.to.now =
-      subst (Fits p code lo b0.frames (put_at v c (Number n))) (sym (w.is.frames ∙ here)) (fits_on p code lo lo v (put_at v c (Number n)) b0.frames t.now (written t.now c.frame c.slot (cell.Int n)) (omega arith) left.fits fit) in
-      let routine : (top_frame (put_at v c (Number n))).routine ≡ r = top_routine v c (Number n) numbers.frame ∙ left.routine in
+      let whole : Fits p code lo before (put_at v c (Number n)) w.to.now =
+      subst (Fits p code lo before (put_at v c (Number n))) (sym (w.is.frames ∙ here)) (fits_on p code lo lo v (put_at v c (Number n)) before t.now (written t.now c.frame c.slot (cell.Int n)) (omega arith) left.fits fit) in
+      record {
+        to = w.to;
+        silently = w.silently;
+        going = record { mode = w.is.mode; entries = w.is.entries };
+        left = record { here = w.is.here; fits = whole; routine = put_routine v c.frame c.slot (Number n) numbers.frame ∙ left.routine };
+      }
+
+  assign_goes : (m2 lo lo2 r : ℕ) (b0 : Begun p code input) (held : List PlainEntry) (v : Store) (c : Place) (mc : CellPlace) (n : ℤ) (t : State) (q : ℕ) → InstrAt code input m2 (I.Store lo lo2) → IsGoing held t → Left p code input m2 lo r b0.frames v t
+      → AreNumbers p code v t.now c → 0 < c.size → SamePlace c mc → Holds t.now lo (cell.Place mc) → Holds t.now lo2 (cell.Int n) → is_integer n ≡ true
+      → Goes code input 0 24 (LeavesStmt (m2 + 1) lo r b0) held (check_range whole_range n (λ _. one (put_at v c (Number n)) tt)) t 8 q
+  assign_goes m2 lo lo2 r b0 held v c mc n t q i going left numbers some same has_place has_value integer =
+      let w = stored m2 lo r lo lo2 b0.frames held v c mc n t i going left numbers some same has_place has_value integer in
       subst (λ e. Goes code input 0 24 (LeavesStmt (m2 + 1) lo r b0) held e t 8 q) (sym (ap (λ b. fault_unless fault.Range b (λ _. one (put_at v c (Number n)) tt)) integer))
       (one_more p code input 0 24 (LeavesStmt (m2 + 1) lo r b0) held (one (put_at v c (Number n)) tt) t w.to 7 q w.silently
-      (one_goes code input 0 24 (LeavesStmt (m2 + 1) lo r b0) held (put_at v c (Number n)) tt w.to 7 q (omega arith) (record { mode = w.is.mode; entries = w.is.entries })
-      (record { here = w.is.here; fits = whole; routine = routine })))
-    where
-      -- a write changes the routine of no frame
-      top_routine : (x : Store) (place : Place) (new : store.Cell) → place.frame < length x → (top_frame (put_at x place new)).routine ≡ (top_frame x).routine
-      top_routine x place new lt = put_routine x place.frame place.slot new lt
+      (one_goes code input 0 24 (LeavesStmt (m2 + 1) lo r b0) held (put_at v c (Number n)) tt w.to 7 q (omega arith) w.going w.left))
 
   pub assign_row : (at m1 m2 lo lo2 r : ℕ) (d : Store → Events Place) (x : Store → Events ℤ) (q : ℕ) → lo < lo2 → (routine_at p r).slots ≤ lo → RunsPlace p code input at m1 lo r d q → RunsExpr p code input m1 m2 lo2 r x q → InstrAt code input m2 (I.Store lo lo2)
       → RunsStmt at (m2 + 1) lo r (λ v. node (bind (d v) (λ t c. bind (x t) (λ u n. check_range whole_range n (λ _. one (put_at u c (Number n)) tt))))) q

@@ -1,26 +1,28 @@
 -- The code of each statement does what its events say at each level: the induction over statements and levels.
-use Rattle.std.proofs.Common.{◌≡◌, ℕ, zero, suc, ◌+◌, ◌<◌, ◌≤◌, List, [], ◌∷◌, ◌++◌, length, refl, sym, subst, arith, length-append}
-use Rattle.alma_base.specs.Numbers.{whole_range}
+use Rattle.std.proofs.Common.{◌≡◌, ℕ, zero, suc, ◌+◌, ◌<◌, ◌≤◌, List, [], ◌∷◌, ◌++◌, length, refl, sym, subst, arith, length-append, true}
+use Rattle.alma_base.specs.Numbers.{whole_range, is_integer}
+use Rattle.alma_code.specs.declared.cell.SlotKind.TheVariants as slot
 use Rattle.alma_code.specs.declared.instr.Instr.{Instr}
 use Rattle.alma_code.specs.declared.instr.Instr.TheVariants as I
 use Rattle.alma_code.specs.Plain.{PlainCode}
 use Rattle.alma_ir.specs.declared.phrase.Root.TheVariants as root
 use Rattle.alma_ir.specs.declared.phrase.WriteAs.{WriteAs}
 use Rattle.alma_ir.specs.declared.phrase.WriteAs.TheVariants as write_as
-use Rattle.alma_ir.specs.Tree.{Program, Stmts, Stmt, Arms, Test, Expr, Links, Desig, no_stmts, more_stmts, TestStmt, Assign, CopyCells, If, While, Repeat, ForTo, SomeOf, Case, Either, Forall, Commit, Return, Read, WriteExpr, WriteText, WriteLine, no_arms, more_arms, Value, Bind, Unify, SameCells, Seq, And, Or, Not, CallTest, Const, Load, Chain, Compare, Truth, Known, Chr, CallExpr, no_links, more_links, a_desig, no_sels, more_sels}
+use Rattle.alma_ir.specs.Tree.{Program, routine_at, Stmts, Stmt, Arms, Loop, Test, Expr, Links, Desig, no_stmts, more_stmts, TestStmt, Assign, CopyCells, If, While, Repeat, ForTo, SomeOf, Case, Either, Forall, Commit, Return, Read, WriteExpr, WriteText, WriteLine, no_arms, more_arms, a_loop, Value, Bind, Unify, SameCells, Seq, And, Or, Not, CallTest, Const, Load, Chain, Compare, Truth, Known, Chr, CallExpr, no_links, more_links, a_desig, no_sels, more_sels}
 use Rattle.alma_mean.specs.Store.{Store}
-use Rattle.alma_mean.specs.Events.{Events, NoYield, one}
-use Rattle.alma_mean.specs.Meaning.{Level, level, ev_stmts, ev_stmt, ev_test, ev_expr, ev_desig, ev_arms}
+use Rattle.alma_mean.specs.Events.{Events, NoYield, one, Cut}
+use Rattle.alma_mean.specs.Meaning.{Level, level, ev_stmts, ev_stmt, ev_test, ev_expr, ev_desig, ev_arms, turn_for}
 use Rattle.alma_lower.specs.Built.{BuiltDesig, BuiltExpr, BuiltLinks, BuiltWrite}
-use Rattle.alma_lower.specs.Templates.{desig_code, desig_slots, expr_slots, expr_code, test_slots, test_code, condition_code, write_code, stmts_slots, stmt_slots, arms_slots, stmts_code, stmt_code, arms_code}
+use Rattle.alma_lower.specs.Templates.{desig_code, desig_slots, expr_slots, expr_code, test_slots, test_code, condition_code, write_code, stmts_slots, stmt_slots, arms_slots, stmts_code, stmt_code, arms_code, for_slots, entry_code, begin_code, turns_code, for_code}
 use Rattle.alma_lower.proofs.Goes.{no_step, IsOn}
 use Rattle.alma_lower.proofs.Frames.{HasSlots}
 use Rattle.alma_lower.proofs.Simple.{expr_one}
 use Rattle.alma_lower.proofs.Steps.{InstrAt}
-use Rattle.alma_lower.proofs.ExprRows.{slots_first, slots_behind}
-use Rattle.alma_lower.proofs.ExprRuns.{HasAt, at_front, at_back, FineDesig, FineExpr, FineLinks, desig_runs, expr_runs}
-use Rattle.alma_lower.proofs.StmtRows.{RunsStmt, RunsStmts, no_stmts_row, more_stmts_row, value_row, write_row, assign_row}
+use Rattle.alma_lower.proofs.ExprRows.{AreVariables, first_kind, slots_first, slots_behind}
+use Rattle.alma_lower.proofs.ExprRuns.{HasAt, at_front, at_back, FineDesig, FineExpr, FineLinks, first_slot, some_slots, desig_runs, expr_runs}
+use Rattle.alma_lower.proofs.StmtRows.{RunsStmt, RunsStmts, no_stmts_row, more_stmts_row, value_row, write_row, line_row, assign_row}
 use Rattle.alma_lower.proofs.LoopRows.{RunsPart, list_as_part, IsCondition, while_row, while_cut_row, repeat_row, arm_row, if_row, part_as_stmt}
+use Rattle.alma_lower.proofs.ForRows.{IsLoop, RunsTurn, turn_row, for_row}
 
 -- the steps that must still be made before a cut, of what is taken at a level
 abbrev pub owed : ℕ → ℕ
@@ -58,7 +60,7 @@ module _ (p : Program) (code : PlainCode) (input : List ℕ) where
     FineStmt r (Repeat body t) = FineStmts r body × FineTest r t
     FineStmt r (WriteExpr e how) = FineExpr p code input r e × BuiltWrite how
     FineStmt r (CopyCells d e) = ⊥
-    FineStmt r (ForTo l) = ⊥
+    FineStmt r (ForTo l) = FineLoop r l
     FineStmt r (SomeOf l) = ⊥
     FineStmt r (Case e arms rest) = ⊥
     FineStmt r (Either _) = ⊥
@@ -67,11 +69,17 @@ module _ (p : Program) (code : PlainCode) (input : List ℕ) where
     FineStmt r (Return e) = ⊥
     FineStmt r (Read d how range) = ⊥
     FineStmt r (WriteText text) = ⊥
-    FineStmt r WriteLine = ⊥
+    FineStmt r WriteLine = Unit {0}
 
     pub FineArms : ℕ → Arms → Type 0
     FineArms r no_arms = Unit {0}
     FineArms r (more_arms t body rest) = FineTest r t × FineStmts r body × FineArms r rest
+
+    -- counter and limit are two slots of the routine
+    pub FineLoop : ℕ → Loop → Type 0
+    FineLoop r (a_loop d range counter limit from to by body) =
+        FineDesig p code input r d × FineExpr p code input r from × FineExpr p code input r to × FineStmts r body × (range ≡ whole_range) × (is_integer by ≡ true)
+        × AreVariables p code input r counter 1 × AreVariables p code input r limit 1 × (counter ≡ limit → ⊥)
 
   built_desig : (r : ℕ) (d : Desig) → FineDesig p code input r d → BuiltDesig d
   built_desig r (a_desig (root.Local from) cells no_sels) fine = fine.0
@@ -97,7 +105,7 @@ module _ (p : Program) (code : PlainCode) (input : List ℕ) where
   some_write : (how : WriteAs) (lo : ℕ) → BuiltWrite how → 0 < length (write_code how lo)
   some_write write_as.Int lo built = omega arith
   some_write write_as.Bool lo built = omega arith
-  some_write write_as.Char lo built = absurd built
+  some_write write_as.Char lo built = omega arith
 
   -- ---- places in words of others
 
@@ -113,6 +121,15 @@ module _ (p : Program) (code : PlainCode) (input : List ℕ) where
   instr_there : (at at2 : ℕ) (i : Instr) → at ≡ at2 → InstrAt code input at i → InstrAt code input at2 i
   instr_there at at2 i e h = subst (λ n. InstrAt code input n i) e h
 
+  -- the turns of a loop, where it stands at this address and has its slots from `lo` on
+  abbrev pub RunsTurns : (at lo r : ℕ) → Loop → (Store → Events NoYield) → (q : ℕ) → Type 0
+  RunsTurns at lo r (a_loop d range counter limit from to by body) f q =
+      let last : ℕ = lo + 1 + length (expr_slots from) in
+      let place : ℕ = last + length (expr_slots to) in
+      let turn : ℕ = at + length (begin_code by counter limit lo last (expr_code (lo + 1) from) (expr_code last to)) + 1 in
+      let inner : ℕ = turn + length (desig_code place d) + 1 in
+      RunsTurn p code input turn (inner + length (stmts_code inner (place + length (desig_slots d)) body) + 2) lo place r counter by f q
+
   -- ---- what is known at a level
 
   pub record RunsAt (n : ℕ) : Type 0 where
@@ -122,6 +139,11 @@ module _ (p : Program) (code : PlainCode) (input : List ℕ) where
         → RunsPart p code input top (top + length (stmt_code top lo (While t body))) lo r (λ v. (level p input n).while t body v) (owed n)
     pub repeat : (body : Stmts) (t : Test) (top lo r : ℕ) → FineStmts r body → FineTest r t → HasAt code input top (stmt_code top lo (Repeat body t)) → HasSlots p code r lo (stmts_slots body ++ test_slots t)
         → RunsPart p code input top (top + length (stmt_code top lo (Repeat body t))) lo r (λ v. (level p input n).repeat body t v) (owed n)
+    pub for : (l : Loop) (at lo r : ℕ) → FineLoop r l → HasAt code input at (for_code at lo l) → HasSlots p code r lo (for_slots l)
+        → RunsTurns at lo r l (λ v. (level p input n).for l v) (owed n)
+
+  turns_cut : (l : Loop) (at lo r : ℕ) → RunsTurns at lo r l (λ v. Cut) 0
+  turns_cut (a_loop d range counter limit from to by body) at lo r = λ v now held s x is stand routine has_step counted. (0, s, omega arith, no_step code input s, omega arith, subst IsOn (sym is.mode) tt)
 
   -- at level 0 all is cut off
   runs_at_0 : RunsAt 0
@@ -129,6 +151,7 @@ module _ (p : Program) (code : PlainCode) (input : List ℕ) where
     stmts = λ x at lo r fine i slots c le v now held s is stand routine. (0, s, omega arith, no_step code input s, omega arith, subst IsOn (sym is.mode) tt);
     while = λ t body top lo r fine fine2 i slots v now held s is stand routine. (0, s, omega arith, no_step code input s, omega arith, subst IsOn (sym is.mode) tt);
     repeat = λ body t top lo r fine fine2 i slots v now held s is stand routine. (0, s, omega arith, no_step code input s, omega arith, subst IsOn (sym is.mode) tt);
+    for = λ l at lo r fine i slots. turns_cut l at lo r;
   }
 
   -- the condition of a form that is built
@@ -194,6 +217,80 @@ module _ (p : Program) (code : PlainCode) (input : List ℕ) where
         (condition_is (level p input n) n (top + length b) lo2 r t fine2 (at_front code input (top + length b) c tail behind) (slots_behind p code input r lo (stmts_slots body) (test_slots t) slots))
         jumps.0 jumps.1.0 (instr_there (m + 1 + 1) (m + 2) (I.Jump top) third jumps.1.1.0)
         (part_ends_at top (top + length (stmt_code top lo (Repeat body t))) (m + 3) lo r (λ v. (level p input n).repeat body t v) (owed n) (sym exit) (ih.repeat body t top lo r fine fine2 i slots)))
+
+    -- counter, limit and the slots of a loop
+    loop_is : (r lo counter limit : ℕ) (from to : Expr) → (routine_at p r).slots ≤ lo → AreVariables p code input r counter 1 → AreVariables p code input r limit 1 → (counter ≡ limit → ⊥)
+        → IsLoop p code input r counter limit lo (lo + 1 + length (expr_slots from) + length (expr_slots to))
+    loop_is r lo counter limit from to behind of_counter of_limit two = record { behind = behind; above = omega arith; of_counter = of_counter; of_limit = of_limit; two = two }
+
+    -- a turn of FOR
+    turns_run : (l : Loop) (at lo r : ℕ) → FineLoop r l → HasAt code input at (for_code at lo l) → HasSlots p code r lo (for_slots l) → RunsTurns at lo r l (λ v. (level p input (suc n)).for l v) n
+    turns_run (a_loop d range counter limit from to by body) at lo r fine i slots =
+        let last = lo + 1 + length (expr_slots from) in
+        let place = last + length (expr_slots to) in
+        let begin = begin_code by counter limit lo last (expr_code (lo + 1) from) (expr_code last to) in
+        let turn = at + length begin + 1 in
+        let locate = desig_code place d in
+        let m = turn + length locate in
+        let inner = place + length (desig_slots d) in
+        let b = stmts_code (m + 1) inner body in
+        let end_at = m + 1 + length b in
+        let tail = I.Step counter limit lo (end_at + 2) ∷ I.Jump turn ∷ [] in
+        let turns = (at_back code input at begin (I.JumpZero (lo + 1) (end_at + 2) ∷ turns_code counter limit lo place locate b turn) i).1 in
+        let behind = at_back code input turn locate (I.Store place counter ∷ (b ++ tail)) turns in
+        let ends = at_back code input (m + 1) b tail behind.1 in
+        let rest = slots_behind p code input r lo (slot.Number ∷ []) (expr_slots from ++ (expr_slots to ++ (desig_slots d ++ stmts_slots body))) slots in
+        let rest2 = slots_behind p code input r (lo + 1) (expr_slots from) (expr_slots to ++ (desig_slots d ++ stmts_slots body)) rest in
+        let rest3 = slots_behind p code input r last (expr_slots to) (desig_slots d ++ stmts_slots body) rest2 in
+        turn_row p code input turn m end_at (end_at + 2) lo place inner r counter limit by range (λ v. ev_desig p input (level p input n) d v) (λ v. (level p input n).stmts body v) (λ v. (level p input n).for (a_loop d range counter limit from to by body) v) n (owed n) (owed_before n) fine.4
+        (loop_is r lo counter limit from to slots.behind fine.6 fine.7 fine.8) (omega arith)
+        (desig_runs p code input (level p input n) n turn place r d fine.0 (at_front code input turn locate (I.Store place counter ∷ (b ++ tail)) turns) (slots_first p code input r place (desig_slots d) (stmts_slots body) rest3))
+        behind.0
+        (ih.stmts body (m + 1) inner r fine.3 (at_front code input (m + 1) b tail behind.1) (slots_behind p code input r place (desig_slots d) (stmts_slots body) rest3))
+        ends.0 ends.1.0
+        (ih.for (a_loop d range counter limit from to by body) at lo r fine i slots)
+
+    -- FOR
+    for_run : (l : Loop) (at lo r : ℕ) → FineLoop r l → HasAt code input at (for_code at lo l) → HasSlots p code r lo (for_slots l)
+        → RunsStmt p code input at (at + length (for_code at lo l)) lo r (λ v. ev_stmt p input (level p input n) (ForTo l) v) n
+    unfolding ev_stmt
+    for_run (a_loop d range counter limit from to by body) at lo r fine i slots =
+        let l = a_loop d range counter limit from to by body in
+        let last = lo + 1 + length (expr_slots from) in
+        let place = last + length (expr_slots to) in
+        let x = expr_code (lo + 1) from in
+        let y = expr_code last to in
+        let three = I.Move counter (lo + 1) ∷ I.Move limit last ∷ entry_code by (lo + 1) last ∷ [] in
+        let begin = begin_code by counter limit lo last x y in
+        let turn = at + length begin + 1 in
+        let locate = desig_code place d in
+        let b = stmts_code (turn + length locate + 1) (place + length (desig_slots d)) body in
+        let exit = turn + length locate + 1 + length b + 2 in
+        let tail = I.Step counter limit lo exit ∷ I.Jump turn ∷ [] in
+        let over = I.JumpZero (lo + 1) exit ∷ turns_code counter limit lo place locate b turn in
+        let front = at_front code input at begin over i in
+        let jump = (at_back code input at begin over i).0 in
+        let m1 = at + 1 + length x in
+        let m2 = m1 + length y in
+        let behind = at_back code input (at + 1) x (y ++ three) front.1 in
+        let moves = at_back code input m1 y three behind in
+        let rest = slots_behind p code input r lo (slot.Number ∷ []) (expr_slots from ++ (expr_slots to ++ (desig_slots d ++ stmts_slots body))) slots in
+        let rest2 = slots_behind p code input r (lo + 1) (expr_slots from) (expr_slots to ++ (desig_slots d ++ stmts_slots body)) rest in
+        let first_slots = slots_first p code input r (lo + 1) (expr_slots from) (expr_slots to ++ (desig_slots d ++ stmts_slots body)) rest in
+        let long = length-append x (y ++ three) in
+        let long2 = length-append y three in
+        let there : at + length begin ≡ m2 + 1 + 1 + 1 = omega (arith, long, long2) in
+        let there2 : turn ≡ m2 + 1 + 1 + 1 + 1 = omega (arith, long, long2) in
+        let e : exit ≡ at + length (begin ++ over) = omega (arith, length-append begin over, length-append locate (I.Store place counter ∷ (b ++ tail)), length-append b tail) in
+        stmt_ends_at at exit (at + length (begin ++ over)) lo r (λ v. ev_stmt p input (level p input n) (ForTo l) v) n e
+        (for_row p code input at m1 m2 exit lo last place r counter limit by (λ v. ev_expr p input (level p input n) from v) (λ v. ev_expr p input (level p input n) to v) (turn_for p input (level p input n) l) n
+        (loop_is r lo counter limit from to slots.behind fine.6 fine.7 fine.8) (omega (arith, some_slots p code input r from fine.1)) (omega (arith, some_slots p code input r to fine.2))
+        (first_kind p code input r lo slot.Number (expr_slots from ++ (expr_slots to ++ (desig_slots d ++ stmts_slots body))) slots) (first_slot p code input r (lo + 1) from fine.1 first_slots)
+        front.0
+        (expr_runs p code input (level p input n) n (at + 1) (lo + 1) r from fine.1 (at_front code input (at + 1) x (y ++ three) front.1) first_slots)
+        (expr_runs p code input (level p input n) n m1 last r to fine.2 (at_front code input m1 y three behind) (slots_first p code input r last (expr_slots to) (desig_slots d ++ stmts_slots body) rest2))
+        moves.0 moves.1.0 moves.1.1.0 (instr_there (at + length begin) (m2 + 1 + 1 + 1) (I.JumpZero (lo + 1) exit) there jump)
+        (subst (λ k. RunsTurn p code input k exit lo place r counter by (turn_for p input (level p input n) l) n) there2 (turns_run l at lo r fine i slots)))
 
     test_run : (t : Test) (at lo r : ℕ) → FineTest r t → HasAt code input at (test_code lo t) → HasSlots p code r lo (test_slots t)
         → RunsStmt p code input at (at + length (test_code lo t)) lo r (λ v. ev_stmt p input (level p input n) (TestStmt t) v) n
@@ -283,7 +380,7 @@ module _ (p : Program) (code : PlainCode) (input : List ℕ) where
           (write_row p code input at (at + length c) lo r how (λ v. ev_expr p input (level p input n) e v) n
           (expr_runs p code input (level p input n) n at lo r e fine.0 (at_front code input at c (write_code how lo) i) slots) (at_back code input at c (write_code how lo) i) (some_write how lo fine.1))
       stmt_run (CopyCells d e) at lo r fine i slots = absurd fine
-      stmt_run (ForTo l) at lo r fine i slots = absurd fine
+      stmt_run (ForTo l) at lo r fine i slots = for_run l at lo r fine i slots
       stmt_run (SomeOf l) at lo r fine i slots = absurd fine
       stmt_run (Case e arms rest) at lo r fine i slots = absurd fine
       stmt_run (Either _) at lo r fine i slots = absurd fine
@@ -292,7 +389,7 @@ module _ (p : Program) (code : PlainCode) (input : List ℕ) where
       stmt_run (Return e) at lo r fine i slots = absurd fine
       stmt_run (Read d how range) at lo r fine i slots = absurd fine
       stmt_run (WriteText text) at lo r fine i slots = absurd fine
-      stmt_run WriteLine at lo r fine i slots = absurd fine
+      stmt_run WriteLine at lo r fine i slots = line_row p code input at lo r n i.0
 
       arms_run : (arms : Arms) (rest : Stmts) (at out exit lo r : ℕ) → FineArms r arms → InstrAt code input out (I.Jump exit) → HasAt code input at (arms_code at lo out arms) → HasSlots p code r lo (arms_slots arms)
           → RunsPart p code input (at + length (arms_code at lo out arms)) exit (lo + length (arms_slots arms)) r (λ v. ev_stmts p input (level p input n) rest v) n
@@ -337,6 +434,7 @@ module _ (p : Program) (code : PlainCode) (input : List ℕ) where
       repeat = λ body t top lo r fine fine2 i slots.
           repeat_run body t top lo r fine fine2 i slots
           (stmts_run body top lo r fine (at_front code input top (stmts_code top lo body) _ i) (slots_first p code input r lo (stmts_slots body) (test_slots t) slots));
+      for = turns_run;
     }
 
   -- at each level

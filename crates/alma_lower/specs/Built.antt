@@ -1,11 +1,11 @@
 -- The forms of the resolved program that are compiled so far: a body of the module alone, with variables of one cell,
--- numbers of the whole of INTEGER, arithmetic, comparisons, IF, WHILE, REPEAT and WRITE.
+-- numbers of the whole of INTEGER, arithmetic, comparisons, IF, WHILE, REPEAT, FOR, WRITE and WRITELN.
 use Rattle.std.specs.Prelude.{◌≡◌, true, [], ◌∷◌}
 use Rattle.alma_base.specs.Numbers.{whole_range, is_integer}
 use Rattle.alma_ir.specs.declared.phrase.Root.TheVariants as root
 use Rattle.alma_ir.specs.declared.phrase.WriteAs.{WriteAs}
 use Rattle.alma_ir.specs.declared.phrase.WriteAs.TheVariants as write_as
-use Rattle.alma_ir.specs.Tree.{Stmts, Stmt, Arms, Test, Expr, Links, Desig, Routine, Program, no_stmts, more_stmts, TestStmt, Assign, CopyCells, If, While, Repeat, ForTo, SomeOf, Case, Either, Forall, Commit, Return, Read, WriteExpr, WriteText, WriteLine, no_arms, more_arms, Value, Bind, Unify, SameCells, Seq, And, Or, Not, CallTest, Const, Load, Chain, Compare, Truth, Known, Chr, CallExpr, no_links, more_links, a_desig, no_sels, more_sels}
+use Rattle.alma_ir.specs.Tree.{Stmts, Stmt, Arms, Loop, Test, Expr, Links, Desig, Routine, Program, no_stmts, more_stmts, TestStmt, Assign, CopyCells, If, While, Repeat, ForTo, SomeOf, Case, Either, Forall, Commit, Return, Read, WriteExpr, WriteText, WriteLine, no_arms, more_arms, a_loop, Value, Bind, Unify, SameCells, Seq, And, Or, Not, CallTest, Const, Load, Chain, Compare, Truth, Known, Chr, CallExpr, no_links, more_links, a_desig, no_sels, more_sels}
 
 -- a variable of the module, of one cell
 abbrev pub BuiltDesig : Desig → Type 0
@@ -41,11 +41,11 @@ BuiltTest (Or ts) = ⊥
 BuiltTest (Not t) = ⊥
 BuiltTest (CallTest r args) = ⊥
 
--- a number or a truth is written
+-- a number, a character or a truth is written
 abbrev pub BuiltWrite : WriteAs → Type 0
 BuiltWrite write_as.Int = Unit {0}
 BuiltWrite write_as.Bool = Unit {0}
-BuiltWrite write_as.Char = ⊥
+BuiltWrite write_as.Char = Unit {0}
 
 abbrev mutual
   pub BuiltStmts : Stmts → Type 0
@@ -60,7 +60,7 @@ abbrev mutual
   BuiltStmt (Repeat body t) = BuiltStmts body × BuiltTest t
   BuiltStmt (WriteExpr e how) = BuiltExpr e × BuiltWrite how
   BuiltStmt (CopyCells d e) = ⊥
-  BuiltStmt (ForTo l) = ⊥
+  BuiltStmt (ForTo l) = BuiltLoop l
   BuiltStmt (SomeOf l) = ⊥
   BuiltStmt (Case e arms rest) = ⊥
   BuiltStmt (Either _) = ⊥
@@ -69,11 +69,16 @@ abbrev mutual
   BuiltStmt (Return e) = ⊥
   BuiltStmt (Read d how range) = ⊥
   BuiltStmt (WriteText text) = ⊥
-  BuiltStmt WriteLine = ⊥
+  BuiltStmt WriteLine = Unit {0}
 
   pub BuiltArms : Arms → Type 0
   BuiltArms no_arms = Unit {0}
   BuiltArms (more_arms t body rest) = BuiltTest t × BuiltStmts body × BuiltArms rest
+
+  -- over a variable that takes all numbers
+  pub BuiltLoop : Loop → Type 0
+  BuiltLoop (a_loop d range counter limit from to by body) =
+      BuiltDesig d × BuiltExpr from × BuiltExpr to × BuiltStmts body × (range ≡ whole_range) × (is_integer by ≡ true)
 
 -- the program is the body of the module alone, of forms that are built
 pub record IsBuilt (p : Program) : Type 0 where

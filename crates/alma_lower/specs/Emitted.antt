@@ -1,11 +1,11 @@
 -- What a phrase appends to an emitter: code that depends on the address and on the first free slot, and kinds of slots.
-use Rattle.std.specs.Prelude.{◌≡◌, ℕ, ◌+◌, List, [], ◌∷◌, ◌++◌, length}
+use Rattle.std.specs.Prelude.{◌≡◌, ℕ, ◌+◌, ℤ, List, [], ◌∷◌, ◌++◌, length}
 use Rattle.alma_code.specs.declared.cell.SlotKind.{SlotKind}
 use Rattle.alma_code.specs.declared.instr.Instr.{Instr}
 use Rattle.alma_code.specs.declared.instr.Instr.TheVariants as I
 use Rattle.alma_ir.specs.Tree.{Stmts, Stmt, Arms, Test, Expr, Links, Desig}
 use Rattle.alma_lower.specs.declared.emit.Emit.{Emit}
-use Rattle.alma_lower.specs.Templates.{desig_code, desig_slots, expr_code, expr_slots, links_code, links_slots, test_code, test_slots, condition_code, guarded_code, stmts_code, stmts_slots, stmt_code, stmt_slots, arms_code, arms_slots}
+use Rattle.alma_lower.specs.Templates.{desig_code, desig_slots, expr_code, expr_slots, links_code, links_slots, test_code, test_slots, condition_code, guarded_code, bounds_code, turns_code, stmts_code, stmts_slots, stmt_code, stmt_slots, arms_code, arms_slots}
 
 -- the first free slot
 abbrev pub next_slot : Emit → ℕ
@@ -57,3 +57,11 @@ pub record PutsStmt (a b : Emit) (x : Stmt) : Type 0 where
 
 pub record PutsArms (a b : Emit) (exit : ℕ) (arms : Arms) : Type 0 where
   pub all : Appends a b (λ at lo. arms_code at lo exit arms) (arms_slots arms)
+
+-- the bounds of a FOR, and the jump over its turns, which is still to be aimed
+pub record PutsBounds (a b : Emit) (by : ℤ) (counter limit : ℕ) (from to : Expr) : Type 0 where
+  pub all : Appends a b (λ at lo. bounds_code by counter limit lo (lo + length (expr_slots from)) (expr_code lo from) (expr_code (lo + length (expr_slots from)) to) ++ I.JumpZero lo 0 ∷ []) (expr_slots from ++ expr_slots to)
+
+-- the turns of a FOR, whose step stands in a slot
+pub record PutsTurns (a b : Emit) (counter limit step : ℕ) (var : Desig) (body : Stmts) : Type 0 where
+  pub all : Appends a b (λ at lo. turns_code counter limit step lo (desig_code lo var) (stmts_code (at + length (desig_code lo var) + 1) (lo + length (desig_slots var)) body) at) (desig_slots var ++ stmts_slots body)

@@ -1,7 +1,7 @@
 -- The code that is made of each phrase. A phrase stands at an address and takes fresh slots of its own from a slot on:
 -- `expr_slots` and the like are their kinds. The value of an expression stands in its first slot, the place of a
 -- designator too. What is not built yet makes no code.
-use Rattle.std.specs.Prelude.{◌≡◌, ℕ, ◌+◌, Bool, true, false, List, [], ◌∷◌, ◌++◌, length, replicate, map}
+use Rattle.std.specs.Prelude.{◌≡◌, ℕ, ◌+◌, Bool, true, false, ℤ, pos, negsuc, List, [], ◌∷◌, ◌++◌, length, replicate, map}
 use Rattle.alma_code.specs.declared.cell.SlotKind.{SlotKind}
 use Rattle.alma_code.specs.declared.cell.SlotKind.TheVariants as slot
 use Rattle.alma_code.specs.declared.head.Run.{Run}
@@ -17,7 +17,7 @@ use Rattle.alma_ir.specs.declared.phrase.Root.{Root}
 use Rattle.alma_ir.specs.declared.phrase.Root.TheVariants as root
 use Rattle.alma_ir.specs.declared.phrase.WriteAs.{WriteAs}
 use Rattle.alma_ir.specs.declared.phrase.WriteAs.TheVariants as write_as
-use Rattle.alma_ir.specs.Tree.{Stmts, Stmt, Arms, Test, Expr, Links, Desig, Routine, Global, Program, routine_at, no_stmts, more_stmts, TestStmt, Assign, CopyCells, If, While, Repeat, ForTo, SomeOf, Case, Either, Forall, Commit, Return, Read, WriteExpr, WriteText, WriteLine, no_arms, more_arms, Value, Bind, Unify, SameCells, Seq, And, Or, Not, CallTest, Const, Load, Chain, Compare, Truth, Known, Chr, CallExpr, no_links, more_links, a_desig}
+use Rattle.alma_ir.specs.Tree.{Stmts, Stmt, Arms, Loop, Test, Expr, Links, Desig, Routine, Global, Program, routine_at, no_stmts, more_stmts, TestStmt, Assign, CopyCells, If, While, Repeat, ForTo, SomeOf, Case, Either, Forall, Commit, Return, Read, WriteExpr, WriteText, WriteLine, no_arms, more_arms, a_loop, Value, Bind, Unify, SameCells, Seq, And, Or, Not, CallTest, Const, Load, Chain, Compare, Truth, Known, Chr, CallExpr, no_links, more_links, a_desig}
 
 -- ---- designators: the place goes into the slot `to`
 
@@ -129,7 +129,7 @@ condition_code lo (CallTest r args) = []
 abbrev pub write_code : WriteAs → (from : ℕ) → List Instr
 write_code write_as.Int from = I.WriteInt from ∷ []
 write_code write_as.Bool from = I.WriteBool from ∷ []
-write_code write_as.Char from = []
+write_code write_as.Char from = I.WriteChar from ∷ []
 
 abbrev mutual
   pub stmts_slots : Stmts → List SlotKind
@@ -144,7 +144,7 @@ abbrev mutual
   stmt_slots (Repeat body t) = stmts_slots body ++ test_slots t
   stmt_slots (WriteExpr e how) = expr_slots e
   stmt_slots (CopyCells d e) = []
-  stmt_slots (ForTo l) = []
+  stmt_slots (ForTo l) = for_slots l
   stmt_slots (SomeOf l) = []
   stmt_slots (Case e arms rest) = []
   stmt_slots (Either _) = []
@@ -159,6 +159,11 @@ abbrev mutual
   arms_slots no_arms = []
   arms_slots (more_arms t body rest) = test_slots t ++ (stmts_slots body ++ arms_slots rest)
 
+  -- the step, the first count, the limit, the place of the variable, and the slots of the body
+  pub for_slots : Loop → List SlotKind
+  for_slots (a_loop d range counter limit from to by body) =
+      slot.Number ∷ (expr_slots from ++ (expr_slots to ++ (desig_slots d ++ stmts_slots body)))
+
 -- one after another: each part is given the address at which it stands
 abbrev pub in_row : List Instr → (at : ℕ) → ((at : ℕ) → List Instr) → List Instr
 in_row code at rest = code ++ rest (at + length code)
@@ -168,6 +173,26 @@ in_row code at rest = code ++ rest (at + length code)
 abbrev pub guarded_code : (lo : ℕ) → (condition : List Instr) → (body : List Instr) → (at back : ℕ) → List Instr
 guarded_code lo condition body at back =
     condition ++ I.JumpZero lo (at + length condition + 1 + length body + 1) ∷ (body ++ I.Jump back ∷ [])
+
+-- whether a loop has a turn: the slot `from` holds the first count, the slot `to` the limit; `from` becomes 0 where the
+-- first is beyond it
+abbrev pub entry_code : (by : ℤ) → (from to : ℕ) → Instr
+entry_code (pos step) from to = I.LessEq from from to
+entry_code (negsuc step) from to = I.LessEq from to from
+
+-- the first count into the slot `first`, the limit into `last`; both are stored
+abbrev pub bounds_code : (by : ℤ) → (counter limit first last : ℕ) → (from to : List Instr) → List Instr
+bounds_code by counter limit first last from to =
+    from ++ (to ++ I.Move counter first ∷ I.Move limit last ∷ entry_code by first last ∷ [])
+
+-- what goes before the turns of a loop: the step into the slot `lo`, and the bounds
+abbrev pub begin_code : (by : ℤ) → (counter limit lo last : ℕ) → (from to : List Instr) → List Instr
+begin_code by counter limit lo last from to = I.Const lo by ∷ bounds_code by counter limit (lo + 1) last from to
+
+-- the turns of a loop: the variable is located and set, and behind the body comes the next turn or the end
+abbrev pub turns_code : (counter limit lo place : ℕ) → (locate body : List Instr) → (at : ℕ) → List Instr
+turns_code counter limit lo place locate body at =
+    locate ++ I.Store place counter ∷ (body ++ I.Step counter limit lo (at + length locate + 1 + length body + 2) ∷ I.Jump at ∷ [])
 
 abbrev mutual
   pub stmts_code : (at lo : ℕ) → Stmts → List Instr
@@ -194,7 +219,7 @@ abbrev mutual
       first ++ (condition ++ I.JumpZero (lo + length (stmts_slots body)) (jump + 2) ∷ I.Jump (jump + 3) ∷ I.Jump at ∷ [])
   stmt_code at lo (WriteExpr e how) = expr_code lo e ++ write_code how lo
   stmt_code at lo (CopyCells d e) = []
-  stmt_code at lo (ForTo l) = []
+  stmt_code at lo (ForTo l) = for_code at lo l
   stmt_code at lo (SomeOf l) = []
   stmt_code at lo (Case e arms rest) = []
   stmt_code at lo (Either _) = []
@@ -203,7 +228,7 @@ abbrev mutual
   stmt_code at lo (Return e) = []
   stmt_code at lo (Read d how range) = []
   stmt_code at lo (WriteText text) = []
-  stmt_code at lo WriteLine = []
+  stmt_code at lo WriteLine = I.WriteLine ∷ []
 
   -- each arm leaves by a jump to `exit`
   pub arms_code : (at lo exit : ℕ) → Arms → List Instr
@@ -212,6 +237,17 @@ abbrev mutual
       let condition : List Instr = condition_code lo t in
       let arm : List Instr = guarded_code lo condition (stmts_code (at + length condition + 1) (lo + length (test_slots t)) body) at exit in
       in_row arm at (λ next. arms_code next (lo + length (test_slots t) + length (stmts_slots body)) exit rest)
+
+  -- the turns begin behind the jump over them
+  pub for_code : (at lo : ℕ) → Loop → List Instr
+  for_code at lo (a_loop d range counter limit from to by body) =
+      let last : ℕ = lo + 1 + length (expr_slots from) in
+      let place : ℕ = last + length (expr_slots to) in
+      let begin : List Instr = begin_code by counter limit lo last (expr_code (lo + 1) from) (expr_code last to) in
+      let turn : ℕ = at + length begin + 1 in
+      let locate : List Instr = desig_code place d in
+      let code : List Instr = stmts_code (turn + length locate + 1) (place + length (desig_slots d)) body in
+      begin ++ I.JumpZero (lo + 1) (turn + length locate + 1 + length code + 2) ∷ turns_code counter limit lo place locate code turn
 
 -- ---- the whole program
 

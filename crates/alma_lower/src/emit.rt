@@ -116,7 +116,7 @@ pub(crate) fn emit_desig(emit: &mut Emit, desig: &Desig) -> Result<u32, NoMemory
 }
 
 // A number.
-fn emit_const(emit: &mut Emit, value: i64) -> Result<u32, NoMemory>
+pub(crate) fn emit_const(emit: &mut Emit, value: i64) -> Result<u32, NoMemory>
     requires room { filled emit.old < 8388608 }
     ensures slot { IfOk result (λ slot. slot ≡ next_slot emit.old) }
     ensures puts { OnOk result (PutsExpr emit.old emit.new (tree.Const value)) }

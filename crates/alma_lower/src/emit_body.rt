@@ -2,17 +2,18 @@
 ghost use Rattle.std.specs.Prelude.{◌≡◌, ℕ, ◌+◌, ◌*◌, ◌<◌, ◌≤◌, List, [], ◌∷◌, ◌++◌, length, IfOk, OnOk};
 ghost use Rattle.alma_base.specs.Numbers.{whole_range};
 ghost use Rattle.alma_code.specs.declared.instr.Instr.TheVariants as instr;
-ghost use Rattle.alma_ir.specs.View.{desig_of, expr_of, test_of, stmt_of, stmts_list, arms_list};
-ghost use Rattle.alma_ir.specs.Count.{desig_nodes, expr_nodes, test_nodes, stmt_nodes, stmts_nodes, arms_nodes};
+ghost use Rattle.alma_ir.specs.View.{desig_of, expr_of, test_of, stmt_of, loop_of, stmts_list, arms_list};
+ghost use Rattle.alma_ir.specs.Count.{desig_nodes, expr_nodes, test_nodes, stmt_nodes, stmts_nodes, arms_nodes, loop_nodes};
 ghost use Rattle.alma_ir.specs.Tree as tree;
-ghost use Rattle.alma_lower.specs.Built.{BuiltDesig, BuiltExpr, BuiltTest, BuiltWrite, BuiltStmts, BuiltStmt, BuiltArms};
+ghost use Rattle.alma_lower.specs.Built.{BuiltDesig, BuiltExpr, BuiltTest, BuiltWrite, BuiltStmts, BuiltStmt, BuiltArms, BuiltLoop};
 ghost use Rattle.alma_lower.specs.Templates.{condition_code, test_slots};
-ghost use Rattle.alma_lower.specs.Emitted.{next_slot, filled, Appends, PutsCondition, PutsTest, PutsGuarded, PutsStmts, PutsStmt, PutsArms};
+ghost use Rattle.alma_lower.specs.Emitted.{next_slot, filled, Appends, PutsCondition, PutsTest, PutsGuarded, PutsStmts, PutsStmt, PutsArms, PutsTurns};
 
-use crate::emit::{Emit, emit_desig, emit_expr};
+use crate::emit::{Emit, emit_const, emit_desig, emit_expr};
+use crate::emit_loop::emit_bounds;
 use alma_base::NoMemory;
 use alma_code::Instr;
-use alma_ir::{Arm, Desig, Expr, Stmt, Test, WriteAs};
+use alma_ir::{Arm, Desig, Expr, Loop, Stmt, Test, WriteAs};
 
 // A condition, and the slot that is 0 where it has no alternative.
 fn emit_condition(emit: &mut Emit, test: &Test) -> Result<u32, NoMemory>
@@ -87,7 +88,7 @@ fn emit_write(emit: &mut Emit, value: &Expr, how: WriteAs) -> Result<(), NoMemor
     match how {
         WriteAs::Int => emit.put(Instr::WriteInt { value }),
         WriteAs::Bool => emit.put(Instr::WriteBool { value }),
-        WriteAs::Char => unreachable!(),
+        WriteAs::Char => emit.put(Instr::WriteChar { value }),
     }
 }
 
@@ -157,6 +158,48 @@ fn emit_repeat(emit: &mut Emit, body: &[Stmt], test: &Test) -> Result<(), NoMemo
     Ok(())
 }
 
+// The turns of FOR, whose step stands in a slot.
+#[cycle(body)]
+fn emit_turns(emit: &mut Emit, each: &Loop, step: u32) -> Result<(), NoMemory>
+    requires var { BuiltDesig (desig_of each.now.var) }
+    requires body { BuiltStmts (stmts_list each.now.body.items) }
+    requires room { filled emit.old + 8 + 16 * desig_nodes (desig_of each.now.var) + 16 * stmts_nodes (stmts_list each.now.body.items) ≤ 8388608 }
+    ensures puts { OnOk result (PutsTurns emit.old emit.new each.now.counter each.now.limit step (desig_of each.now.var) (stmts_list each.now.body.items)) }
+    ensures few { OnOk result (filled emit.new ≤ filled emit.old + 3 + 16 * desig_nodes (desig_of each.now.var) + 16 * stmts_nodes (stmts_list each.now.body.items)) }
+{
+    let turn = emit.here();
+    let place = emit_desig(emit, &each.var)?;
+    emit.put(Instr::Store {
+        to: place,
+        from: each.counter,
+    })?;
+    emit_stmts(emit, &each.body)?;
+    let last = emit.here();
+    emit.put(Instr::Step {
+        counter: each.counter,
+        limit: each.limit,
+        by: step,
+        out: last + 2,
+    })?;
+    emit.put(Instr::Jump { to: turn })?;
+    Ok(())
+}
+
+// FOR.
+#[cycle(body)]
+fn emit_for(emit: &mut Emit, each: &Loop) -> Result<(), NoMemory>
+    requires built { BuiltLoop (loop_of each.now) }
+    requires room { filled emit.old + 16 + 16 * loop_nodes (loop_of each.now) ≤ 8388608 }
+    ensures puts { OnOk result (PutsStmt emit.old emit.new (tree.ForTo (loop_of each.now))) }
+    ensures few { OnOk result (filled emit.new ≤ filled emit.old + 16 + 16 * loop_nodes (loop_of each.now)) }
+{
+    let step = emit_const(emit, each.by)?;
+    let jump = emit_bounds(emit, each)?;
+    emit_turns(emit, each, step)?;
+    emit.aim(jump);
+    Ok(())
+}
+
 // Statements in order.
 #[cycle(body)]
 pub(crate) fn emit_stmts(emit: &mut Emit, body: &[Stmt]) -> Result<(), NoMemory>
@@ -195,7 +238,7 @@ fn emit_stmt(emit: &mut Emit, stmt: &Stmt) -> Result<(), NoMemory>
         Stmt::Repeat(body, test) => emit_repeat(emit, body, test),
         Stmt::WriteExpr(value, how) => emit_write(emit, value, *how),
         Stmt::CopyCells(_, _) => unreachable!(),
-        Stmt::ForTo(_) => unreachable!(),
+        Stmt::ForTo(each) => emit_for(emit, each),
         Stmt::SomeOf(_) => unreachable!(),
         Stmt::Case(_, _, _) => unreachable!(),
         Stmt::Either(_) => unreachable!(),
@@ -204,6 +247,6 @@ fn emit_stmt(emit: &mut Emit, stmt: &Stmt) -> Result<(), NoMemory>
         Stmt::Return(_) => unreachable!(),
         Stmt::Read(_, _, _) => unreachable!(),
         Stmt::WriteText(_) => unreachable!(),
-        Stmt::WriteLine => unreachable!(),
+        Stmt::WriteLine => emit.put(Instr::WriteLine),
     }
 }

@@ -3,9 +3,12 @@
 
 mod emit;
 mod emit_body;
+mod emit_loop;
 mod emit_tables;
 pub mod laws;
 mod lowering;
+#[cfg(test)]
+mod for_tests;
 #[cfg(test)]
 mod tests;
 

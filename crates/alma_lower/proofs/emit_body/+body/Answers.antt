@@ -1,14 +1,17 @@
-use Rattle.std.proofs.Common.{rules, ◌≡◌, [], drop, sym, ap, ◌∙◌, subst, arith}
+use Rattle.std.proofs.Common.{rules, ◌≡◌, [], drop, sym, ap, ◌∙◌, subst, arith, to_z, of_z, w64}
+use Rattle.std.proofs.lemmas.Int.{to_z-of_z}
+use mir.Val.{SFits}
 use Rattle.std.proofs.Math.ListN.{drop_of_length-le}
 use Rattle.alma_ir.specs.declared.phrase.Arg.TheFolds.{the_lemmas}
 use Rattle.alma_ir.specs.Tree as tree
-use Rattle.alma_ir.specs.View.{desig_of, expr_of, test_of, stmt_of, stmts_list, arms_list}
+use Rattle.alma_ir.specs.View.{desig_of, expr_of, test_of, stmt_of, loop_of, stmts_list, arms_list}
 use Rattle.alma_ir.specs.Count.{stmt_nodes, stmts_nodes, arms_nodes}
 use Rattle.alma_ir.proofs.Views
 use Rattle.alma_lower.specs.Built.{BuiltStmts, BuiltStmt, BuiltArms}
-use Rattle.alma_lower.specs.Emitted.{PutsStmts, PutsStmt, PutsArms, PutsGuarded}
+use Rattle.alma_lower.specs.Emitted.{PutsStmts, PutsStmt, PutsArms, PutsGuarded, PutsTurns, PutsExpr}
 use Rattle.alma_lower.proofs.Emits.{on_ok_map, drop_one}
 use Rattle.alma_lower.proofs.EmitsBody.{stmt_as, no_stmts_put, stmts_put, no_arms_put, arms_put, guarded_put, if_put}
+use Rattle.alma_lower.proofs.EmitsFor.{turns_put, for_put}
 use Rattle.alma_lower.proofs.emit_body.+body.Goals as goal
 
 pub emit_arms-loop-arm-preserved : goal.emit_arms-loop-arm-preserved
@@ -53,9 +56,6 @@ emit_stmts-returns-clause-puts t c =
 pub emit_stmt-unreachable-requires : goal.emit_stmt-unreachable-requires
 emit_stmt-unreachable-requires t c = subst BuiltStmt (ap stmt_of c.in-CopyCells.is ∙ Views.copycells_view _ _) c.requires.built
 
-pub emit_stmt-unreachable-requires-in-ForTo : goal.emit_stmt-unreachable-requires-in-ForTo
-emit_stmt-unreachable-requires-in-ForTo t c = subst BuiltStmt (ap stmt_of c.in-ForTo.is ∙ Views.forto_view _) c.requires.built
-
 pub emit_stmt-unreachable-requires-in-SomeOf : goal.emit_stmt-unreachable-requires-in-SomeOf
 emit_stmt-unreachable-requires-in-SomeOf t c = subst BuiltStmt (ap stmt_of c.in-SomeOf.is ∙ Views.someof_view _) c.requires.built
 
@@ -79,9 +79,6 @@ emit_stmt-unreachable-requires-in-Read t c = subst BuiltStmt (ap stmt_of c.in-Re
 
 pub emit_stmt-unreachable-requires-in-WriteText : goal.emit_stmt-unreachable-requires-in-WriteText
 emit_stmt-unreachable-requires-in-WriteText t c = subst BuiltStmt (ap stmt_of c.in-WriteText.is ∙ Views.writetext_view _) c.requires.built
-
-pub emit_stmt-unreachable-requires-in-WriteLine : goal.emit_stmt-unreachable-requires-in-WriteLine
-emit_stmt-unreachable-requires-in-WriteLine t c = subst BuiltStmt (ap stmt_of c.in-WriteLine.is ∙ Views.writeline_view) c.requires.built
 
 pub emit_stmt-emit_test-requires-clause-built : goal.emit_stmt-emit_test-requires-clause-built
 emit_stmt-emit_test-requires-clause-built t c =
@@ -227,3 +224,44 @@ pub emit_stmt-returns-in-WriteExpr-clause-few : goal.emit_stmt-returns-in-WriteE
 emit_stmt-returns-in-WriteExpr-clause-few t c =
     let view : stmt_of c.args.stmt.now ≡ tree.WriteExpr (expr_of c.in-WriteExpr.value) c.in-WriteExpr.how = ap stmt_of c.in-WriteExpr.is ∙ Views.writeexpr_view _ _ in
     on_ok_map c.emit_write.result (λ h. omega (arith, h, ap stmt_nodes view)) c.emit_write.ensures.few
+
+pub emit_stmt-returns-in-WriteLine-clause-puts : goal.emit_stmt-returns-in-WriteLine-clause-puts
+emit_stmt-returns-in-WriteLine-clause-puts t c =
+    stmt_as c.put-in-WriteLine.result _ _ _ _ (ap stmt_of c.in-WriteLine.is ∙ Views.writeline_view) (on_ok_map c.put-in-WriteLine.result (λ h. record { all = h.all }) c.put-in-WriteLine.ensures.puts)
+
+pub emit_stmt-returns-in-WriteLine-clause-few : goal.emit_stmt-returns-in-WriteLine-clause-few
+emit_stmt-returns-in-WriteLine-clause-few t c =
+    let view : stmt_of c.args.stmt.now ≡ tree.WriteLine = ap stmt_of c.in-WriteLine.is ∙ Views.writeline_view in
+    on_ok_map c.put-in-WriteLine.result (λ h. omega (arith, h, ap stmt_nodes view)) c.put-in-WriteLine.ensures.few
+
+pub emit_turns-returns-clause-puts : goal.emit_turns-returns-clause-puts
+emit_turns-returns-clause-puts t c =
+    let body : stmts_list c.deref.result.now ≡ stmts_list c.args.each.now.body.items = ap stmts_list c.deref.ensures.value in
+    subst (PutsTurns c.args.emit.now c.put-3.new.self c.args.each.now.counter c.args.each.now.limit c.args.step (desig_of c.args.each.now.var)) body
+    (turns_put _ _ _ _ _ _ _ _ _ _ _ _ _ _ c.here-turn.ensures.address c.in_ok-place.ensures.slot c.in_ok-place.ensures.puts c.in_ok-put.ensures.puts c.in_ok-emit_stmts.ensures.puts c.here-last.ensures.address c.in_ok-put-2.ensures.puts c.in_ok-put-3.ensures.puts)
+
+pub emit_for-emit_turns-requires : goal.emit_for-emit_turns-requires
+emit_for-emit_turns-requires t c =
+    (search (rules, the_lemmas), (c.requires.built.0, (c.requires.built.3, omega (arith, c.requires.room, c.in_ok-step.ensures.few, c.in_ok-jump.ensures.few))))
+
+pub emit_for-returns-clause-puts : goal.emit_for-returns-clause-puts
+emit_for-returns-clause-puts t c =
+    let fits : SFits w64 c.args.each.now.by = search rules in
+    let same : to_z w64 (of_z w64 c.args.each.now.by) ≡ c.args.each.now.by = to_z-of_z w64 c.args.each.now.by fits in
+    let step : PutsExpr c.args.emit.now c.emit_const.new.emit (tree.Const c.args.each.now.by) =
+    subst (λ by. PutsExpr c.args.emit.now c.emit_const.new.emit (tree.Const by)) same c.in_ok-step.ensures.puts in
+    for_put _ _ _ _ _ _ _ _ _ _ _ _ _ _ _ c.in_ok-step.ensures.slot step c.in_ok-jump.ensures.puts c.in_ok-jump.ensures.jump c.in_ok-emit_turns.ensures.puts c.aim.ensures.code c.aim.ensures.kinds c.aim.ensures.base
+
+pub emit_stmt-emit_for-requires : goal.emit_stmt-emit_for-requires
+emit_stmt-emit_for-requires t c =
+    let view : stmt_of c.args.stmt.now ≡ tree.ForTo (loop_of c.in-ForTo.each) = ap stmt_of c.in-ForTo.is ∙ Views.forto_view _ in
+    (search (rules, the_lemmas), (subst BuiltStmt view c.requires.built, omega (arith, c.requires.room, ap stmt_nodes view)))
+
+pub emit_stmt-returns-in-ForTo-clause-puts : goal.emit_stmt-returns-in-ForTo-clause-puts
+emit_stmt-returns-in-ForTo-clause-puts t c =
+    stmt_as c.emit_for.result _ _ _ _ (ap stmt_of c.in-ForTo.is ∙ Views.forto_view _) c.emit_for.ensures.puts
+
+pub emit_stmt-returns-in-ForTo-clause-few : goal.emit_stmt-returns-in-ForTo-clause-few
+emit_stmt-returns-in-ForTo-clause-few t c =
+    let view : stmt_of c.args.stmt.now ≡ tree.ForTo (loop_of c.in-ForTo.each) = ap stmt_of c.in-ForTo.is ∙ Views.forto_view _ in
+    on_ok_map c.emit_for.result (λ h. omega (arith, h, ap stmt_nodes view)) c.emit_for.ensures.few
