@@ -18,9 +18,9 @@ use Rattle.alma_code.specs.Machine.{State, Going, Failing, step, step_in, act, f
 use Rattle.alma_code.proofs.Runs.{first_number, start_fits, stays_fit}
 use Rattle.alma_code.specs.Picture.{PlainFrame}
 use Rattle.alma_code.specs.Plain.{PlainCode, head_at, kinds_at, start_at, end_at}
-use Rattle.alma_code.specs.Rules.{IsSound, last_end, kind_in, length_in, names_slot, rule_7}
+use Rattle.alma_code.specs.Rules.{IsSound, last_end, kind_in, length_in, names_slot, rule_7, rule_12}
 use Rattle.alma_code.specs.Words.{words}
-use Rattle.alma_code.proofs.Acts.{Obeys, obeys, slots, number_word, place_word, one_cell}
+use Rattle.alma_code.proofs.Acts.{Obeys, obeys, slots, entries, number_word, place_word, one_cell}
 use Rattle.alma_code.proofs.Heads.{number_is}
 use Rattle.alma_code.proofs.Tables.{end_inside}
 use Rattle.alma_machine.specs.Built.{is_built, HasOnlyBuilt}
@@ -83,8 +83,8 @@ module _ (code : PlainCode) (f : PlainFrame) (fits : FitsFrame code (f.routine �
       }
 
   -- an instruction that keeps its rules finds its slots
-  needed : (i : Instr) (at : ℕ) → Obeys code 0 at i → is_built i ≡ true → Needs f i
-  unfolding Needs Computes is_built words rule_7
+  needed : (i : Instr) (at : ℕ) → Obeys code 0 at i → is_built i ≡ true → Needs code f i
+  unfolding Needs Computes is_built words rule_7 rule_12
   needed (I.Const a v) at o b = has_number a (slots code 0 at (I.Const a v) (W.Number a) W.Free W.Free W.Free refl o).0
   needed (I.Move a b) at o h = let w = slots code 0 at (I.Move a b) (W.Number a) (W.Number b) W.Free W.Free refl o in (has_number a w.0, has_number b w.1)
   needed (I.Add a b c) at o h = let w = slots code 0 at (I.Add a b c) (W.Number a) (W.Number b) (W.Number c) W.Free refl o in (has_number a w.0, has_number b w.1, has_number c w.2)
@@ -97,6 +97,10 @@ module _ (code : PlainCode) (f : PlainFrame) (fits : FitsFrame code (f.routine �
   needed (I.LessEq a b c) at o h = let w = slots code 0 at (I.LessEq a b c) (W.Number a) (W.Number b) (W.Number c) W.Free refl o in (has_number a w.0, has_number b w.1, has_number c w.2)
   needed (I.Neg a b) at o h = let w = slots code 0 at (I.Neg a b) (W.Number a) (W.Number b) W.Free W.Free refl o in (has_number a w.0, has_number b w.1)
   needed (I.Flip a b) at o h = let w = slots code 0 at (I.Flip a b) (W.Number a) (W.Number b) W.Free W.Free refl o in (has_number a w.0, has_number b w.1)
+  needed (I.InRange a r) at o h =
+      let w = slots code 0 at (I.InRange a r) (W.Number a) (W.Range r) W.Free W.Free refl o in
+      let e = entries code 0 at (I.InRange a r) (W.Number a) (W.Range r) W.Free W.Free refl o in
+      (has_number a w.0, ltb-true r (length code.ranges) e.1)
   needed (I.Local a b) at o h = has_place a (slots code 0 at (I.Local a b) (W.Place a) (W.Slot b) W.Free W.Free refl o).0
   needed (I.Load a b) at o h =
       let w = slots code 0 at (I.Load a b) (W.Number a) (W.Place b) W.Free W.Free refl o in
@@ -110,6 +114,11 @@ module _ (code : PlainCode) (f : PlainFrame) (fits : FitsFrame code (f.routine �
   needed I.Fail at o h = tt
   needed I.Return at o h = tt
   needed (I.WriteInt a) at o h = has_number a (slots code 0 at (I.WriteInt a) (W.Number a) W.Free W.Free W.Free refl o).0
+  needed (I.WriteChar a) at o h = has_number a (slots code 0 at (I.WriteChar a) (W.Number a) W.Free W.Free W.Free refl o).0
+  needed (I.WriteText t) at o h = ltb-true t (length code.texts) (entries code 0 at (I.WriteText t) (W.Text t) W.Free W.Free W.Free refl o).0
+  needed I.WriteLine at o h = tt
+  needed (I.Fault n) at o h = o.r12
+  needed (I.Step a b c d) at o h = let w = slots code 0 at (I.Step a b c d) (W.Number a) (W.Number b) (W.Number c) (W.Address d) refl o in (has_number a w.0, has_number b w.1, has_number c w.2)
   needed (I.WriteBool a) at o h = has_number a (slots code 0 at (I.WriteBool a) (W.Number a) W.Free W.Free W.Free refl o).0
   needed i at o h = absurd (false≢true h)
 
@@ -130,7 +139,7 @@ module _ (code : PlainCode) (sound : IsSound code) (r : Registers) (fits : Fits 
       (omega arith, subst (λ q. start_at code q ≤ r.at) main low, high)
 
   -- the instruction at the address finds its slots
-  needs : HasOnlyBuilt code → (state_of r).mode ≡ Going → Needs r.frame (get_or code.instrs r.at I.Fail)
+  needs : HasOnlyBuilt code → (state_of r).mode ≡ Going → Needs code r.frame (get_or code.instrs r.at I.Fail)
   needs built going =
       let here = address going in
       needed code r.frame frame_fits (get_or code.instrs r.at I.Fail) r.at
@@ -141,9 +150,9 @@ pub in_code : (code : PlainCode) (r : Registers) → IsSound code → Fits code 
 in_code code r sound fits going = (address code sound r fits going).0
 
 -- the instruction that is taken finds its slots
-pub needs_at : (code : PlainCode) (r : Registers) (i : Instr) → IsSound code → HasOnlyBuilt code → Fits code (state_of r) → (state_of r).mode ≡ Going → slice_get code.instrs r.at ≡ Some i → Needs r.frame i
+pub needs_at : (code : PlainCode) (r : Registers) (i : Instr) → IsSound code → HasOnlyBuilt code → Fits code (state_of r) → (state_of r).mode ≡ Going → slice_get code.instrs r.at ≡ Some i → Needs code r.frame i
 needs_at code r i sound built fits going is =
-    subst (λ j. Needs r.frame j) (get_or_from_slice_get code.instrs r.at i I.Fail is) (needs code sound r fits built going)
+    subst (λ j. Needs code r.frame j) (get_or_from_slice_get code.instrs r.at i I.Fail is) (needs code sound r fits built going)
 
 -- a step of a machine that goes on is what its instruction does
 pub step_fetched : (code : PlainCode) (input : List ℕ) (s : State) (i : Instr) → s.mode ≡ Going → slice_get code.instrs s.at ≡ Some i → step code input s ≡ act code input i (record (ticked code input s) { at = s.at + 1 })
@@ -155,9 +164,9 @@ read_is xs n i lt e = slice_get-get_or xs n i lt ∙ ap Some (sym e)
 
 -- a step whose instruction is done is that step of the copying code machine
 pub done_is : {E : Type 0} (result : Result Step E) (bytes : List ℕ) (new : State) (code : PlainCode) (s : State) (i : Instr) → s.mode ≡ Going → slice_get code.instrs s.at ≡ Some i
-    → IfOk result (λ answer. (code' : PlainCode) (input : List ℕ) → stepped answer bytes new ≡ act code' input i (record s { at = s.at + 1; steps = s.steps + 1 }))
+    → IfOk result (λ answer. (input : List ℕ) → stepped answer bytes new ≡ act code input i (record s { at = s.at + 1; steps = s.steps + 1 }))
     → IfOk result (λ answer. (input : List ℕ) → stepped answer bytes new ≡ step code input s)
-done_is (Ok answer) bytes new code s i going is h = λ input. h code input ∙ sym (step_fetched code input s i going is)
+done_is (Ok answer) bytes new code s i going is h = λ input. h input ∙ sym (step_fetched code input s i going is)
 done_is (Err fault) bytes new code s i going is h = tt
 
 pub ruleset taken = (in_code)

@@ -1,12 +1,14 @@
 -- What the reading of slots gives.
-use Rattle.std.proofs.Common.{inl, inr, ◌≡◌, ℕ, ◌-◌, List, [], ◌∷◌, length, get_or, refl, sym, ap, ◌∙◌, subst, Some}
-use Rattle.std.specs.Prelude.{ℤ, pos, negsuc, zero, suc, slice_get, true, false, Result, Ok, Err}
-use Rattle.std.proofs.lemmas.Bool.{eq-eqb}
+use Rattle.std.proofs.Common.{inl, inr, ◌≡◌, ℕ, ◌-◌, List, [], ◌∷◌, length, get_or, refl, sym, ap, ◌∙◌, subst, arith, Some}
+use Rattle.std.specs.Prelude.{ℤ, pos, negsuc, zero, suc, slice_get, Bool, true, false, ◌&&◌, ◌≤ℤ◌, ◌<ℤ◌, int_le, int_lt, Result, Ok, Err}
+use Rattle.std.proofs.lemmas.Bool.{eq-eqb, and_from}
+use Rattle.std.proofs.lemmas.Int.{ints}
+use Rattle.alma_base.specs.declared.number.Range.{Range}
 use Rattle.std.proofs.lemmas.Bool.Decides.{eqb_tells}
 use Rattle.std.proofs.lemmas.Option.{slice_get-get_or, get_or_from_slice_get}
 use Rattle.alma_base.specs.declared.fault.RunFault.{RunFault}
 use Rattle.alma_base.specs.declared.fault.RunFault.TheVariants as fault
-use Rattle.alma_base.specs.Numbers.{is_zero, int_eq}
+use Rattle.alma_base.specs.Numbers.{within, is_zero, int_eq}
 use Rattle.alma_code.specs.declared.cell.Cell.{Cell}
 use Rattle.alma_code.specs.declared.cell.Cell.TheVariants as cell
 use Rattle.alma_code.specs.declared.cell.CellPlace.{CellPlace}
@@ -14,7 +16,7 @@ use Rattle.alma_code.specs.declared.cell.SlotKind.TheVariants as slot
 use Rattle.alma_code.specs.Carries.{number_at}
 use Rattle.alma_code.specs.Fits.{IsContent}
 use Rattle.alma_code.specs.Kinds.{is_number}
-use Rattle.alma_code.specs.Machine.{State, Stepped, number, place, content, known, as_number, as_place, as_content, faulted, put_number, put_place, to_number, to_place, store, went, stuck, with_slot, with_cell}
+use Rattle.alma_code.specs.Machine.{State, Stepped, number, place, content, known, as_number, as_place, as_content, faulted, put_number, put_place, to_number, to_place, store, went, stuck, with_slot, with_cell, is_beyond}
 use Rattle.alma_base.specs.Choice.{if_true}
 use Rattle.alma_code.specs.Picture.{PlainFrame, last_frame, cell_at}
 use Rattle.alma_machine.specs.Rows.{HasNumber, IsOneCell, Gives, put_or_fault}
@@ -76,6 +78,54 @@ equal_is_not (pos a) (negsuc b) h = refl
 equal_is_not (negsuc a) (pos b) h = refl
 
 pub ruleset tests = (zero_is, zero_is_not, equal_is, equal_is_not)
+
+-- a number between the ends of a range is in it
+pub within_is : (r : Range) (v : ℤ) → r.low ≤ℤ v → v ≤ℤ r.high → within r v ≡ true
+within_is r v a b =
+    let low : int_le r.low v ≡ true = grind (arith, ints) in
+    let high : int_le v r.high ≡ true = grind (arith, ints) in
+    and_from (int_le r.low v) (int_le v r.high) low high
+
+-- one below its low end is not
+pub below_range : (r : Range) (v : ℤ) → v <ℤ r.low → within r v ≡ false
+below_range r v a =
+    let low : int_le r.low v ≡ false = grind (arith, ints) in
+    ap (λ b. b && int_le v r.high) low
+
+-- nothing and false is true
+and_false : (b : Bool) → (b && false) ≡ false
+and_false true = refl
+and_false false = refl
+
+-- one above its high end is not
+pub above_range : (r : Range) (v : ℤ) → r.high <ℤ v → within r v ≡ false
+above_range r v a =
+    let high : int_le v r.high ≡ false = grind (arith, ints) in
+    ap (λ b. int_le r.low v && b) high ∙ and_false (int_le r.low v)
+
+pub ruleset ranges = (within_is, below_range, above_range)
+
+-- a counter that goes up is beyond a limit below it
+pub beyond_up : (next limit by : ℤ) → pos 0 ≤ℤ by → limit <ℤ next → is_beyond next limit by ≡ true
+beyond_up next limit (pos n) up lt = grind (arith, ints)
+beyond_up next limit (negsuc n) up lt = absurd (omega (arith, ints))
+
+-- and not beyond another
+pub within_up : (next limit by : ℤ) → pos 0 ≤ℤ by → next ≤ℤ limit → is_beyond next limit by ≡ false
+within_up next limit (pos n) up le = grind (arith, ints)
+within_up next limit (negsuc n) up le = absurd (omega (arith, ints))
+
+-- a counter that goes down is beyond a limit above it
+pub beyond_down : (next limit by : ℤ) → by <ℤ pos 0 → next <ℤ limit → is_beyond next limit by ≡ true
+beyond_down next limit (negsuc n) down lt = grind (arith, ints)
+beyond_down next limit (pos n) down lt = absurd (omega (arith, ints))
+
+-- and not beyond another
+pub within_down : (next limit by : ℤ) → by <ℤ pos 0 → limit ≤ℤ next → is_beyond next limit by ≡ false
+within_down next limit (negsuc n) down le = grind (arith, ints)
+within_down next limit (pos n) down le = absurd (omega (arith, ints))
+
+pub ruleset limits = (beyond_up, within_up, beyond_down, within_down)
 
 -- ---- the cell at a place
 

@@ -1,5 +1,6 @@
 -- What the parts of a step need and give.
-use Rattle.std.specs.Prelude.{◌≡◌, ◌<◌, ℕ, ℤ, true, [], ◌∷◌, length, get_or, slice_get, Some, Result, Ok, Err, MatchResult}
+use Rattle.std.specs.Prelude.{◌≡◌, ◌<◌, ◌||◌, ◌+ℤ◌, nat_eq, ℕ, ℤ, true, [], ◌∷◌, length, get_or, slice_get, Option, Some, None, Result, Ok, Err, MatchResult}
+use Rattle.alma_base.specs.Choice.{if_true}
 use Rattle.alma_base.specs.declared.fault.RunFault.{RunFault}
 use Rattle.alma_code.specs.declared.cell.Cell.{Cell}
 use Rattle.alma_code.specs.declared.cell.Cell.TheVariants as cell
@@ -10,8 +11,9 @@ use Rattle.alma_code.specs.declared.instr.Instr.TheVariants as I
 use Rattle.alma_code.specs.declared.step.Step.{Step}
 use Rattle.alma_code.specs.Fits.{IsContent}
 use Rattle.alma_code.specs.Kinds.{is_place}
-use Rattle.alma_code.specs.Machine.{Mode, Going, Failing, Ended, State, Stepped, place, put_number, faulted}
+use Rattle.alma_code.specs.Machine.{Mode, Going, Failing, Ended, State, Stepped, number, place, put_number, faulted, is_beyond}
 use Rattle.alma_code.specs.Picture.{PlainFrame}
+use Rattle.alma_code.specs.Plain.{PlainCode}
 use Rattle.alma_machine.specs.declared.registers.Mode as rust
 use Rattle.alma_machine.specs.declared.registers.Mode.TheVariants as mode
 use Rattle.alma_machine.specs.declared.registers.Registers.{Registers}
@@ -63,6 +65,10 @@ pub record HasPlace (frame : PlainFrame) (n : ℕ) : Type 0 where
   pub below : n < length frame.cells
   pub kind : is_place (slice_get frame.kinds n) ≡ true
 
+-- the number of the fault NoCase or of the fault NoReturn
+abbrev pub IsNumbered : ℕ → Type 0
+IsNumbered number = (nat_eq number 5 || nat_eq number 6) ≡ true
+
 -- the slots that an instruction of numbers reads and writes are of their kinds; other instructions are none
 unfoldable pub Computes : PlainFrame → Instr → Type 0
 Computes f (I.Const to value) = HasNumber f to
@@ -80,18 +86,25 @@ Computes f (I.Flip to from) = HasNumber f to × HasNumber f from
 Computes f (I.Load to from) = HasNumber f to × HasOneCell f from
 Computes f _ = ⊥
 
--- the slots that an instruction reads and writes are of their kinds; what is not built needs what is never there
-unfoldable pub Needs : PlainFrame → Instr → Type 0
-Needs f (I.Local to first) = HasPlace f to
-Needs f (I.Store to from) = HasOneCell f to × HasNumber f from
-Needs f (I.Jump to) = Unit {0}
-Needs f (I.JumpZero value to) = HasNumber f value
-Needs f (I.Check value) = HasNumber f value
-Needs f I.Fail = Unit {0}
-Needs f I.Return = Unit {0}
-Needs f (I.WriteInt value) = HasNumber f value
-Needs f (I.WriteBool value) = HasNumber f value
-Needs f i = Computes f i
+-- the slots that an instruction reads and writes are of their kinds, and what it names in the tables of the code is there;
+-- what is not built needs what is never there
+unfoldable pub Needs : PlainCode → PlainFrame → Instr → Type 0
+Needs code f (I.InRange value range) = HasNumber f value × (range < length code.ranges)
+Needs code f (I.Local to first) = HasPlace f to
+Needs code f (I.Store to from) = HasOneCell f to × HasNumber f from
+Needs code f (I.Jump to) = Unit {0}
+Needs code f (I.JumpZero value to) = HasNumber f value
+Needs code f (I.Check value) = HasNumber f value
+Needs code f I.Fail = Unit {0}
+Needs code f I.Return = Unit {0}
+Needs code f (I.WriteInt value) = HasNumber f value
+Needs code f (I.WriteChar value) = HasNumber f value
+Needs code f (I.WriteBool value) = HasNumber f value
+Needs code f (I.WriteText text) = text < length code.texts
+Needs code f I.WriteLine = Unit {0}
+Needs code f (I.Fault number) = IsNumbered number
+Needs code f (I.Step counter limit by out) = HasNumber f counter × HasNumber f limit × HasNumber f by
+Needs code f i = Computes f i
 
 -- ---- what a part of a step gives, whatever comes after it
 
@@ -106,6 +119,22 @@ abbrev pub GivesPlace : PlainFrame → ℕ → Result CellPlace RunFault → Typ
 GivesPlace frame n result = MatchResult result
     (λ p. IsOneCell frame (cell.Place p) × ((s : State) (k : CellPlace → Stepped) → s.now ≡ frame ∷ [] → place s n k ≡ k p))
     (λ f. (s : State) (k : CellPlace → Stepped) → s.now ≡ frame ∷ [] → place s n k ≡ faulted f s)
+
+-- a counter is counted on: the run goes out where the next number is beyond the limit
+abbrev pub counted : State → (counter limit by : ℕ) → (out : Stepped) → (ℤ → Stepped) → Stepped
+counted s counter limit by out k =
+    number s counter (λ x. number s limit (λ y. number s by (λ z. if_true (is_beyond (x +ℤ z) y z) (λ _. out) (λ _. k (x +ℤ z)))))
+
+-- the run goes on with the number where there is one, and else elsewhere
+abbrev pub next_or : Stepped → (ℤ → Stepped) → Option ℤ → Stepped
+next_or out k (Some next) = k next
+next_or out k None = out
+
+-- counting on goes on with the next number of the counter, goes out where that is beyond the limit, or ends in the fault
+abbrev pub GivesNext : PlainFrame → (counter limit by : ℕ) → Result (Option ℤ) RunFault → Type 0
+GivesNext frame counter limit by result = MatchResult result
+    (λ next. (s : State) (out : Stepped) (k : ℤ → Stepped) → s.now ≡ frame ∷ [] → counted s counter limit by out k ≡ next_or out k next)
+    (λ f. (s : State) (out : Stepped) (k : ℤ → Stepped) → s.now ≡ frame ∷ [] → counted s counter limit by out k ≡ faulted f s)
 
 -- the number goes into the slot, or the run ends in the fault
 abbrev pub put_or_fault : State → ℕ → Result ℤ RunFault → Stepped

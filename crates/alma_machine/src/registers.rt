@@ -1,17 +1,19 @@
 // The state of the machine, and what each instruction does to it.
-ghost use Rattle.std.specs.Prelude.{◌≡◌, List, ℕ, [], not, IfOk, OnErr};
+ghost use Rattle.std.specs.Prelude.{◌≡◌, List, ℕ, [], not, pos, nat_abs, slice_get, Some, IfOk, OnErr};
+ghost use Rattle.std.specs.Int.{int_rem_euclid};
 ghost use Rattle.alma_base.specs.Choice.{if_true};
+ghost use Rattle.alma_base.specs.declared.fault.RunFault.TheVariants as fault;
 ghost use Rattle.alma_base.specs.declared.value.Value.TheVariants as kind;
 ghost use Rattle.alma_base.specs.Numbers.{is_zero};
 ghost use Rattle.alma_base.specs.Value.{value_text};
-ghost use Rattle.alma_code.specs.Machine.{act, top, number, place, store, put_place, went, ended, goes_to, fails_now, printed};
-ghost use Rattle.alma_code.specs.Plain.{PlainCode};
-ghost use Rattle.alma_machine.specs.Rows.{state_of, HasNumber, HasOneCell, HasPlace, KeepsOn, Needs, put_or_fault};
+ghost use Rattle.alma_code.specs.Machine.{act, top, number, place, store, put_number, put_place, ranged, run_faults, went, ended, goes_to, fails_now, printed};
+ghost use Rattle.alma_code.specs.Plain.{code_of};
+ghost use Rattle.alma_machine.specs.Rows.{state_of, HasNumber, HasOneCell, HasPlace, IsNumbered, KeepsOn, Needs, counted, put_or_fault};
 ghost use Rattle.alma_machine.specs.View.{stepped, PrintsOnly};
 
 use crate::frame::Frame;
-use alma_base::{NoMemory, RunFault, Value, write_value};
-use alma_code::{Cell, CellPlace, End, Instr, Step};
+use alma_base::{NoMemory, Range, RunFault, Value, write_value};
+use alma_code::{Cell, CellPlace, Code, End, Instr, Step};
 
 /// Whether the next step is an instruction or a pop, or the run has ended.
 #[derive(Clone, Copy)]
@@ -30,6 +32,28 @@ pub(crate) struct Registers {
     pub(crate) steps: u64,
     pub(crate) choices: u64,
     pub(crate) fails: u64,
+}
+
+// The fault of a number.
+fn numbered(number: u32) -> RunFault
+    requires { IsNumbered number }
+    ensures { slice_get run_faults number ≡ Some result }
+{
+    match number {
+        5 => RunFault::NoCase,
+        6 => RunFault::NoReturn,
+        _ => unreachable!(),
+    }
+}
+
+// Prints a text.
+fn print_text(text: &[u8], bytes: &mut Vec<u8>) -> Result<Step, NoMemory>
+    requires { bytes.old.items ≡ [] }
+    ensures ok { IfOk result (λ answer. (answer ≡ Step.Printed) × (bytes.new.items ≡ text.now)) }
+    ensures refused { OnErr result (bytes.new.items ≡ []) }
+{
+    bytes.extend_from_slice(text)?;
+    Ok(Step::Printed)
 }
 
 impl Registers {
@@ -149,6 +173,37 @@ impl Registers {
         }
     }
 
+    // Ends the run where the number in a slot is not in a range.
+    #[tactic(auto, using(std::proofs::lemmas::Int::ints, std::proofs::lemmas::Grind::common_steps))]
+    fn in_range(&mut self, value: u32, range: &Range) -> Step
+        requires { HasNumber self.old.frame value }
+        ensures step { let s = state_of self.old in
+            stepped result [] (state_of self.new) ≡ number s value (λ v. ranged range.now fault.Range s v (λ _. went s)) }
+        ensures kept { KeepsOn result (state_of self.old) (state_of self.new) }
+    {
+        match self.frame.number_within(value, range, RunFault::Range) {
+            Ok(_) => Step::Went,
+            Err(fault) => self.end(End::Fault(fault)),
+        }
+    }
+
+    // Counts a counter on, or goes to an address where the next number is beyond the limit.
+    #[tactic(auto, using(std::proofs::lemmas::Int::ints, std::proofs::lemmas::Grind::common_steps))]
+    fn count(&mut self, counter: u32, limit: u32, by: u32, out: u32) -> Step
+        requires counter { HasNumber self.old.frame counter }
+        requires limit { HasNumber self.old.frame limit }
+        requires by { HasNumber self.old.frame by }
+        ensures step { let s = state_of self.old in
+            stepped result [] (state_of self.new) ≡ counted s counter limit by (goes_to out s) (put_number s counter) }
+        ensures kept { KeepsOn result (state_of self.old) (state_of self.new) }
+    {
+        match self.frame.next(counter, limit, by) {
+            Ok(Some(next)) => self.put(counter, Ok(next)),
+            Ok(None) => self.jump(out),
+            Err(fault) => self.end(End::Fault(fault)),
+        }
+    }
+
     // Prints the number in a slot.
     #[tactic(auto, using(std::proofs::lemmas::Int::ints, std::proofs::lemmas::Grind::common_steps))]
     fn print_number(&mut self, value: u32, bytes: &mut Vec<u8>) -> Result<Step, NoMemory>
@@ -189,19 +244,43 @@ impl Registers {
         }
     }
 
+    // Prints the character whose number is the number in a slot modulo 256.
+    #[tactic(auto, using(std::proofs::lemmas::Int::ints, std::proofs::lemmas::Grind::common_steps))]
+    fn print_character(&mut self, value: u32, bytes: &mut Vec<u8>) -> Result<Step, NoMemory>
+        requires slot { HasNumber self.old.frame value }
+        requires empty { bytes.old.items ≡ [] }
+        ensures ok { let s = state_of self.old in
+            IfOk result (λ answer. stepped answer bytes.new.items (state_of self.new)
+            ≡ number s value (λ v. printed (value_text (kind.Char (nat_abs (int_rem_euclid v (pos 256))))) s)) }
+        ensures kept { IfOk result (λ answer. KeepsOn answer (state_of self.old) (state_of self.new)) }
+        ensures quiet { IfOk result (λ answer. PrintsOnly answer bytes.new.items) }
+        ensures refused { OnErr result ((self.new ≡ self.old) × (bytes.new.items ≡ [])) }
+    {
+        match self.frame.number(value) {
+            Ok(number) => {
+                write_value(bytes, &Value::Char(number.rem_euclid(256) as u8))?;
+                Ok(Step::Printed)
+            }
+            Err(fault) => Ok(self.end(End::Fault(fault))),
+        }
+    }
+
     /// What an instruction does, with the address already at the next one. Where memory is wanted for its print, nothing has
     /// happened.
     #[tactic(auto, unfolding(alma_code::specs::Machine::act, crate::specs::Rows::Needs))]
-    pub(crate) fn act(&mut self, instr: &Instr, bytes: &mut Vec<u8>) -> Result<Step, NoMemory>
-        requires needs { Needs self.old.frame instr.now }
+    pub(crate) fn act(&mut self, code: &Code, instr: &Instr, bytes: &mut Vec<u8>) -> Result<Step, NoMemory>
+        requires needs { Needs (code_of code.now) self.old.frame instr.now }
         requires empty { bytes.old.items ≡ [] }
-        ensures ok { IfOk result (λ answer. (code : PlainCode) (input : List ℕ)
-            → stepped answer bytes.new.items (state_of self.new) ≡ act code input instr.now (state_of self.old)) }
+        ensures ok { IfOk result (λ answer. (input : List ℕ)
+            → stepped answer bytes.new.items (state_of self.new) ≡ act (code_of code.now) input instr.now (state_of self.old)) }
         ensures kept { IfOk result (λ answer. KeepsOn answer (state_of self.old) (state_of self.new)) }
         ensures quiet { IfOk result (λ answer. PrintsOnly answer bytes.new.items) }
         ensures refused { OnErr result ((self.new ≡ self.old) × (bytes.new.items ≡ [])) }
     {
         match *instr {
+            Instr::InRange { value, range } => {
+                Ok(self.in_range(value, &code.ranges[range as usize]))
+            }
             Instr::Local { to, first } => Ok(self.put_place(to, first)),
             Instr::Store { to, from } => Ok(self.store(to, from)),
             Instr::Jump { to } => Ok(self.jump(to)),
@@ -210,7 +289,17 @@ impl Registers {
             Instr::Fail => Ok(self.fail()),
             Instr::Return => Ok(self.end(End::Succeeded)),
             Instr::WriteInt { value } => self.print_number(value, bytes),
+            Instr::WriteChar { value } => self.print_character(value, bytes),
             Instr::WriteBool { value } => self.print_truth(value, bytes),
+            Instr::WriteText { text } => print_text(&code.texts[text as usize], bytes),
+            Instr::WriteLine => print_text(b"\n", bytes),
+            Instr::Fault { number } => Ok(self.end(End::Fault(numbered(number)))),
+            Instr::Step {
+                counter,
+                limit,
+                by,
+                out,
+            } => Ok(self.count(counter, limit, by, out)),
             _ => {
                 let (to, number) = self.frame.computed(instr);
                 Ok(self.put(to, number))
