@@ -1,5 +1,5 @@
 // The state of the machine, and what each instruction does to it.
-ghost use Rattle.std.specs.Prelude.{◌≡◌, List, ℕ, [], not, pos, nat_abs, slice_get, Some, IfOk, OnErr};
+ghost use Rattle.std.specs.Prelude.{◌≡◌, ◌+◌, ◌*◌, ◌≤◌, ◌-ℤ◌, List, ℕ, [], not, pos, nat_abs, slice_get, Some, IfOk, OnErr};
 ghost use Rattle.std.specs.Int.{int_rem_euclid};
 ghost use Rattle.alma_base.specs.Choice.{if_true};
 ghost use Rattle.alma_base.specs.declared.fault.RunFault.TheVariants as fault;
@@ -8,7 +8,8 @@ ghost use Rattle.alma_base.specs.Numbers.{is_zero};
 ghost use Rattle.alma_base.specs.Value.{value_text};
 ghost use Rattle.alma_code.specs.Machine.{act, top, number, place, store, put_number, put_place, ranged, run_faults, went, ended, goes_to, fails_now, printed};
 ghost use Rattle.alma_code.specs.Plain.{code_of};
-ghost use Rattle.alma_machine.specs.Rows.{state_of, HasNumber, HasOneCell, HasPlace, IsNumbered, KeepsOn, Needs, counted, put_or_fault};
+ghost use Rattle.alma_code.specs.Rules.{range_size};
+ghost use Rattle.alma_machine.specs.Rows.{state_of, HasNumber, HasCells, HasOneCell, HasPlace, IsNumbered, KeepsOn, Needs, copying, counted, point_or_fault, put_or_fault, width};
 ghost use Rattle.alma_machine.specs.View.{stepped, PrintsOnly};
 
 use crate::frame::Frame;
@@ -97,6 +98,60 @@ impl Registers {
         };
         self.frame.write(to, Cell::Place(place));
         Step::Went
+    }
+
+    // Puts the place of the slots of the frame from the first on into a place slot, or ends the run in its fault.
+    fn point(&mut self, to: u32, first: Result<u32, RunFault>) -> Step
+        requires { HasPlace self.old.frame to }
+        ensures step { stepped result [] (state_of self.new) ≡ point_or_fault (state_of self.old) to first }
+        ensures kept { KeepsOn result (state_of self.old) (state_of self.new) }
+    {
+        match first {
+            Ok(first) => self.put_place(to, first),
+            Err(fault) => self.end(End::Fault(fault)),
+        }
+    }
+
+    // Puts the part of a place from one of its cells on into a place slot.
+    fn field(&mut self, to: u32, from: u32, offset: u32) -> Step
+        requires to { HasPlace self.old.frame to }
+        requires from { HasCells self.old.frame from }
+        requires inside { offset ≤ width self.old.frame from }
+        ensures step { let s = state_of self.old in
+            stepped result [] (state_of self.new) ≡ place s from (λ p. put_place s to p.frame (λ _. p.slot + offset)) }
+        ensures kept { KeepsOn result (state_of self.old) (state_of self.new) }
+    {
+        let first = self.frame.field(from, offset);
+        self.point(to, first)
+    }
+
+    // Puts the part of a place that the number in a slot names into a place slot.
+    fn index(&mut self, to: u32, from: u32, index: u32, range: &Range) -> Step
+        requires to { HasPlace self.old.frame to }
+        requires from { HasCells self.old.frame from }
+        requires index { HasNumber self.old.frame index }
+        requires room { range_size range.now * width self.old.frame to ≤ width self.old.frame from }
+        ensures step { let s = state_of self.old in stepped result [] (state_of self.new) ≡
+            place s from (λ p. number s index (λ v. ranged range.now fault.Index s v (λ _.
+            put_place s to p.frame (λ l. p.slot + nat_abs (v -ℤ range.now.low) * l)))) }
+        ensures kept { KeepsOn result (state_of self.old) (state_of self.new) }
+    {
+        let first = self.frame.part(to, from, index, range);
+        self.point(to, first)
+    }
+
+    // Copies the cells at a place to another.
+    fn copy_cells(&mut self, to: u32, from: u32) -> Step
+        requires to { HasCells self.old.frame to }
+        requires from { HasCells self.old.frame from }
+        requires alike { width self.old.frame to ≡ width self.old.frame from }
+        ensures step { stepped result [] (state_of self.new) ≡ copying (state_of self.old) to from }
+        ensures kept { KeepsOn result (state_of self.old) (state_of self.new) }
+    {
+        match self.frame.copy_cells(to, from) {
+            Ok(()) => Step::Went,
+            Err(fault) => self.end(End::Fault(fault)),
+        }
     }
 
     // Puts the number in a slot into the cell at a place.
@@ -282,6 +337,14 @@ impl Registers {
                 Ok(self.in_range(value, &code.ranges[range as usize]))
             }
             Instr::Local { to, first } => Ok(self.put_place(to, first)),
+            Instr::Field { to, from, offset } => Ok(self.field(to, from, offset)),
+            Instr::Index {
+                to,
+                from,
+                index,
+                range,
+            } => Ok(self.index(to, from, index, &code.ranges[range as usize])),
+            Instr::CopyCells { to, from } => Ok(self.copy_cells(to, from)),
             Instr::Store { to, from } => Ok(self.store(to, from)),
             Instr::Jump { to } => Ok(self.jump(to)),
             Instr::JumpZero { value, to } => Ok(self.jump_zero(value, to)),

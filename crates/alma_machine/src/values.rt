@@ -5,7 +5,7 @@ ghost use Rattle.alma_base.specs.declared.fault.RunFault.TheVariants as fault;
 ghost use Rattle.alma_base.specs.Numbers.{within, is_zero, int_eq, bit, div_down_of, mod_down_of};
 ghost use Rattle.alma_code.specs.Machine.{State, act, number, place, content, known, fitted, ranged, faulted, is_beyond};
 ghost use Rattle.alma_code.specs.Plain.{PlainCode};
-ghost use Rattle.alma_machine.specs.Rows.{HasNumber, HasOneCell, Gives, GivesPlace, GivesNext, Computes, put_or_fault};
+ghost use Rattle.alma_machine.specs.Rows.{HasNumber, HasCells, HasOneCell, Gives, GivesPlace, GivesNext, Computes, put_or_fault};
 
 use crate::frame::Frame;
 use alma_base::{Range, RunFault, div_down, mod_down};
@@ -38,7 +38,7 @@ impl Frame {
     /// The place in a slot.
     #[tactic(auto, using(crate::proofs::Words::places))]
     pub(crate) fn place(&self, slot: u32) -> Result<CellPlace, RunFault>
-        requires { HasOneCell self.now slot }
+        requires { HasCells self.now slot }
         ensures { GivesPlace self.now slot result }
     {
         match self.read(slot) {
