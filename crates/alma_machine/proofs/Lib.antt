@@ -1,4 +1,5 @@
 pub mod Budget
+pub mod Cells
 pub mod Kept
 pub mod Slots
 pub mod Small

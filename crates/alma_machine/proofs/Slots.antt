@@ -32,6 +32,15 @@ filled_more runs i kinds run lt is h =
     } in
     subst (λ ks. Filled runs (i + 1) (ks ++ more)) (sym kept) (subst (λ j. Filled runs j (kinds ++ more)) (sym next) done)
 
+-- the runs fill the slots
+pub length_kinds : (low top : ℕ) (runs : List Run) → RunsRise low runs top → length (kinds_of low runs) + low ≡ top
+length_kinds low top [] h = rw h (omega arith)
+length_kinds low top (run ∷ runs) h =
+    let rest : length (kinds_of run.end runs) + run.end ≡ top = length_kinds run.end top runs h.1 in
+    let all : length (replicate (run.end - low) run.kind ++ kinds_of run.end runs) ≡ (run.end - low) + length (kinds_of run.end runs) =
+    length-append (replicate (run.end - low) run.kind) (kinds_of run.end runs) ∙ ap (λ n. n + length (kinds_of run.end runs)) (length-replicate (run.end - low) run.kind) in
+    omega (arith, h.0)
+
 -- the cell of one more slot
 pub blanks_more : (kinds : List SlotKind) (i : ℕ) (kind : SlotKind) → i < length kinds → get_or kinds i kind ≡ kind → map blank_of (take i kinds) ++ blank_of kind ∷ [] ≡ map blank_of (take (i + 1) kinds)
 blanks_more kinds i kind lt is =

@@ -1,10 +1,11 @@
 // The frame of the module body.
-ghost use Rattle.std.specs.Prelude.{◌≡◌, ◌<◌, ◌≤◌, length, map, slice_get, Some, IfOk, IsTrue};
+ghost use Rattle.std.specs.Prelude.{◌≡◌, ◌+◌, ◌<◌, ◌≤◌, length, map, slice_get, Some, IfOk, IsTrue};
 ghost use Rattle.alma_code.specs.Kinds.{is_place};
 ghost use Rattle.alma_code.specs.Layout.{RunsRise, kinds_of, blank_of, start_frame};
 ghost use Rattle.alma_code.specs.Picture.{frame_with};
 ghost use Rattle.alma_code.specs.Plain.{head_of};
 ghost use Rattle.alma_code.specs.Rules.{last_end};
+ghost use Rattle.alma_machine.specs.Rows.{with_copied};
 
 use alma_base::NoMemory;
 use alma_code::{Cell, RoutineHead, Run, SlotKind};
@@ -98,6 +99,19 @@ impl Frame {
         match self.kinds[slot as usize] {
             SlotKind::Place(length) => length,
             SlotKind::Number | SlotKind::Mark => unreachable!(),
+        }
+    }
+
+    /// Puts what so many slots hold into as many others, all as they were before.
+    #[tactic(auto, using(crate::proofs::Cells::copied_none))]
+    pub(crate) fn copy(&mut self, to: u32, from: u32, count: u32)
+        requires to { 0 < count → to + count ≤ length self.old.cells }
+        requires from { 0 < count → from + count ≤ length self.old.cells }
+        ensures { self.new ≡ with_copied self.old to from count }
+    {
+        if count > 0 {
+            let from = from as usize;
+            self.cells.copy_within(from..from + count as usize, to as usize);
         }
     }
 

@@ -3,6 +3,7 @@
 
 mod frame;
 mod machine;
+mod places;
 mod registers;
 #[cfg(test)]
 mod tests;

@@ -84,7 +84,7 @@ fn take(code: &Code, registers: &mut Registers, printed: &mut Vec<u8>) -> Result
     let instr = &code.code[registers.at];
     registers.at += 1;
     registers.steps += 1;
-    let step = registers.act(instr, printed);
+    let step = registers.act(code, instr, printed);
     if step.is_err() {
         registers.at -= 1;
         registers.steps -= 1;

@@ -1,15 +1,25 @@
 // What instructions compute from the slots of the frame.
-ghost use Rattle.std.specs.Prelude.{◌≡◌, List, ℕ, [], ◌∷◌, ◌+ℤ◌, ◌-ℤ◌, ◌*ℤ◌, neg_ℤ, int_lt, int_le};
+ghost use Rattle.std.specs.Prelude.{◌≡◌, List, ℕ, [], ◌∷◌, true, false, ◌+ℤ◌, ◌-ℤ◌, ◌*ℤ◌, neg_ℤ, int_lt, int_le, IfOk, MatchOption};
 ghost use Rattle.alma_base.specs.Choice.{if_true};
 ghost use Rattle.alma_base.specs.declared.fault.RunFault.TheVariants as fault;
-ghost use Rattle.alma_base.specs.Numbers.{is_zero, int_eq, bit, div_down_of, mod_down_of};
-ghost use Rattle.alma_code.specs.Machine.{State, act, number, place, content, known, fitted, faulted};
+ghost use Rattle.alma_base.specs.Numbers.{within, is_zero, int_eq, bit, div_down_of, mod_down_of};
+ghost use Rattle.alma_code.specs.Machine.{State, act, number, place, content, known, fitted, ranged, faulted, is_beyond};
 ghost use Rattle.alma_code.specs.Plain.{PlainCode};
-ghost use Rattle.alma_machine.specs.Rows.{HasNumber, HasOneCell, Gives, GivesPlace, Computes, put_or_fault};
+ghost use Rattle.alma_machine.specs.Rows.{HasNumber, HasCells, HasOneCell, Gives, GivesPlace, GivesNext, Computes, put_or_fault};
 
 use crate::frame::Frame;
-use alma_base::{RunFault, div_down, mod_down};
+use alma_base::{Range, RunFault, div_down, mod_down};
 use alma_code::{Cell, CellPlace, Instr};
+
+// The sum of a counter and its step, or none where that is beyond the limit.
+#[tactic(auto, using(crate::proofs::Words::limits, std::proofs::lemmas::Int::ints, std::proofs::lemmas::Grind::common_steps))]
+fn next_within(counter: i64, limit: i64, by: i64) -> Option<i64>
+    ensures { MatchOption result (is_beyond (counter +ℤ by) limit by ≡ true) (λ next. (next ≡ counter +ℤ by) × (is_beyond (counter +ℤ by) limit by ≡ false)) }
+{
+    let next = counter.checked_add(by)?;
+    let is_beyond = if by < 0 { next < limit } else { limit < next };
+    if is_beyond { None } else { Some(next) }
+}
 
 impl Frame {
     /// The number in a slot.
@@ -28,7 +38,7 @@ impl Frame {
     /// The place in a slot.
     #[tactic(auto, using(crate::proofs::Words::places))]
     pub(crate) fn place(&self, slot: u32) -> Result<CellPlace, RunFault>
-        requires { HasOneCell self.now slot }
+        requires { HasCells self.now slot }
         ensures { GivesPlace self.now slot result }
     {
         match self.read(slot) {
@@ -168,6 +178,34 @@ impl Frame {
     {
         let place = self.place(from)?;
         self.number(place.slot)
+    }
+
+    /// The number in a slot, which must be in a range.
+    #[tactic(auto, using(crate::proofs::Words::ranges, std::proofs::lemmas::Int::ints, std::proofs::lemmas::Grind::common_steps))]
+    pub(crate) fn number_within(&self, slot: u32, range: &Range, fault: RunFault) -> Result<i64, RunFault>
+        requires { HasNumber self.now slot }
+        ensures number { Gives self.now (λ s k. number s slot (λ v. ranged range.now fault s v (λ _. k v))) result }
+        ensures within { IfOk result (λ v. within range.now v ≡ true) }
+    {
+        let number = self.number(slot)?;
+        if number < range.low || range.high < number {
+            return Err(fault);
+        }
+        Ok(number)
+    }
+
+    /// The next number of a counter, or none where that is beyond the limit.
+    #[tactic(auto, using(std::proofs::lemmas::Int::ints, std::proofs::lemmas::Grind::common_steps))]
+    pub(crate) fn next(&self, counter: u32, limit: u32, by: u32) -> Result<Option<i64>, RunFault>
+        requires counter { HasNumber self.now counter }
+        requires limit { HasNumber self.now limit }
+        requires by { HasNumber self.now by }
+        ensures { GivesNext self.now counter limit by result }
+    {
+        let counter = self.number(counter)?;
+        let limit = self.number(limit)?;
+        let by = self.number(by)?;
+        Ok(next_within(counter, limit, by))
     }
 
     /// The slot that an instruction of numbers writes, and the number that goes there.
