@@ -2,6 +2,7 @@
 ghost use Rattle.std.specs.Prelude.{OnOk};
 ghost use Rattle.alma_tree.specs.Pushed.{Pushes};
 ghost use Rattle.alma_tree.specs.Spelling.{spell_args, spell_arm, spell_arm_tail, spell_by, spell_compared, spell_desig, spell_desig_tail, spell_else, spell_elsif_tail, spell_expr, spell_expr_tail, spell_exprs, spell_factor, spell_factor_tail, spell_high, spell_label, spell_label_tail, spell_orelse_tail, spell_primary, spell_returned, spell_selector, spell_selector_tail, spell_simple, spell_stmt, spell_stmt_tail, spell_stmts, spell_term, spell_term_tail};
+ghost use Rattle.alma_tree.specs.Tree.{assign, case_stmt, commit_stmt, either_stmt, for_stmt, forall_stmt, if_stmt, read_stmt, repeat_stmt, return_stmt, some_stmt, while_stmt, write_stmt, writeln_stmt};
 ghost use Rattle.alma_tree.specs.View.{args_of, arms_of, by_of, compared_of, desigs_of, else_of, elsifs_of, exprs_of, factors_of, high_of, labels_of, orelses_of, returned_of, selectors_of, stmts_of, terms_of, view_arm, view_desig, view_expr, view_exprs, view_factor, view_label, view_primary, view_selector, view_simple, view_stmt, view_stmts, view_term};
 
 use crate::spell_word::{add_kind, mul_kind, push, push_sign, relation_kind};
@@ -36,11 +37,7 @@ fn push_stmt(tree: &Stmt, out: &mut Vec<Kind>) -> Result<(), AllocError>
 {
     match tree {
         Stmt::Nothing { .. } => Ok(()),
-        Stmt::Assign { target, value, .. } => {
-            push_desig(target, out)?;
-            push(Kind::Assign, out)?;
-            push_expr(value, out)
-        }
+        Stmt::Assign { target, value, .. } => push_assign(target, value, out),
         Stmt::Value { value, .. } => push_expr(value, out),
         Stmt::If {
             test,
@@ -48,112 +45,204 @@ fn push_stmt(tree: &Stmt, out: &mut Vec<Kind>) -> Result<(), AllocError>
             elsifs,
             otherwise,
             ..
-        } => {
-            push(Kind::If, out)?;
-            push_expr(test, out)?;
-            push(Kind::Then, out)?;
-            push_stmts(then, out)?;
-            push_elsif_tail(elsifs, out)?;
-            push_else(otherwise, out)?;
-            push(Kind::End, out)
-        }
-        Stmt::While { test, body, .. } => {
-            push(Kind::While, out)?;
-            push_expr(test, out)?;
-            push(Kind::Do, out)?;
-            push_stmts(body, out)?;
-            push(Kind::End, out)
-        }
-        Stmt::Repeat { body, test, .. } => {
-            push(Kind::Repeat, out)?;
-            push_stmts(body, out)?;
-            push(Kind::Until, out)?;
-            push_expr(test, out)
-        }
+        } => push_if(test, then, elsifs, otherwise, out),
+        Stmt::While { test, body, .. } => push_while(test, body, out),
+        Stmt::Repeat { body, test, .. } => push_repeat(body, test, out),
         Stmt::For {
             from,
             to,
             by,
             body,
             ..
-        } => {
-            push(Kind::For, out)?;
-            push(Kind::Name, out)?;
-            push(Kind::Assign, out)?;
-            push_expr(from, out)?;
-            push(Kind::To, out)?;
-            push_expr(to, out)?;
-            push_by(by, out)?;
-            push(Kind::Do, out)?;
-            push_stmts(body, out)?;
-            push(Kind::End, out)
-        }
-        Stmt::Some { from, to, body, .. } => {
-            push(Kind::Some, out)?;
-            push(Kind::Name, out)?;
-            push(Kind::Assign, out)?;
-            push_expr(from, out)?;
-            push(Kind::To, out)?;
-            push_expr(to, out)?;
-            push(Kind::Do, out)?;
-            push_stmts(body, out)?;
-            push(Kind::End, out)
-        }
+        } => push_for(from, to, by, body, out),
+        Stmt::Some { from, to, body, .. } => push_some(from, to, body, out),
         Stmt::Case {
             value,
             first,
             more,
             otherwise,
             ..
-        } => {
-            push(Kind::Case, out)?;
-            push_expr(value, out)?;
-            push(Kind::Of, out)?;
-            push_arm(first, out)?;
-            push_arm_tail(more, out)?;
-            push_else(otherwise, out)?;
-            push(Kind::End, out)
-        }
-        Stmt::Either { first, more, .. } => {
-            push(Kind::Either, out)?;
-            push_stmts(first, out)?;
-            push_orelse_tail(more, out)?;
-            push(Kind::End, out)
-        }
-        Stmt::Forall { choice, body, .. } => {
-            push(Kind::Forall, out)?;
-            push_stmts(choice, out)?;
-            push(Kind::Do, out)?;
-            push_stmts(body, out)?;
-            push(Kind::End, out)
-        }
-        Stmt::Commit { body, .. } => {
-            push(Kind::Commit, out)?;
-            push_stmts(body, out)?;
-            push(Kind::End, out)
-        }
-        Stmt::Return { value, .. } => {
-            push(Kind::Return, out)?;
-            push_returned(value, out)
-        }
-        Stmt::Read { first, more, .. } => {
-            push(Kind::Read, out)?;
-            push(Kind::OpenParen, out)?;
-            push_desig(first, out)?;
-            push_desig_tail(more, out)?;
-            push(Kind::CloseParen, out)
-        }
-        Stmt::Write { items, .. } => {
-            push(Kind::Write, out)?;
-            push(Kind::OpenParen, out)?;
-            push_exprs(items, out)?;
-            push(Kind::CloseParen, out)
-        }
-        Stmt::Writeln { items, .. } => {
-            push(Kind::Writeln, out)?;
-            push_args(items, out)
-        }
+        } => push_case(value, first, more, otherwise, out),
+        Stmt::Either { first, more, .. } => push_either(first, more, out),
+        Stmt::Forall { choice, body, .. } => push_forall(choice, body, out),
+        Stmt::Commit { body, .. } => push_commit(body, out),
+        Stmt::Return { value, .. } => push_return(value, out),
+        Stmt::Read { first, more, .. } => push_read(first, more, out),
+        Stmt::Write { items, .. } => push_write(items, out),
+        Stmt::Writeln { items, .. } => push_writeln(items, out),
     }
+}
+
+#[cycle(spell)]
+fn push_assign(target: &Desig, value: &Expr, out: &mut Vec<Kind>) -> Result<(), AllocError>
+    ensures pushed { OnOk result (Pushes out.old.items out.new.items (spell_stmt (assign (view_desig target.now) (view_expr value.now)))) }
+{
+    push_desig(target, out)?;
+    push(Kind::Assign, out)?;
+    push_expr(value, out)
+}
+
+#[cycle(spell)]
+fn push_if(
+    test: &Expr,
+    then: &Stmts,
+    elsifs: &[Elsif],
+    otherwise: &Option<Stmts>,
+    out: &mut Vec<Kind>,
+) -> Result<(), AllocError>
+    ensures pushed { OnOk result (Pushes out.old.items out.new.items (spell_stmt (if_stmt (view_expr test.now) (view_stmts then.now) (elsifs_of elsifs.now) (else_of otherwise.now)))) }
+{
+    push(Kind::If, out)?;
+    push_expr(test, out)?;
+    push(Kind::Then, out)?;
+    push_stmts(then, out)?;
+    push_elsif_tail(elsifs, out)?;
+    push_else(otherwise, out)?;
+    push(Kind::End, out)
+}
+
+#[cycle(spell)]
+fn push_while(test: &Expr, body: &Stmts, out: &mut Vec<Kind>) -> Result<(), AllocError>
+    ensures pushed { OnOk result (Pushes out.old.items out.new.items (spell_stmt (while_stmt (view_expr test.now) (view_stmts body.now)))) }
+{
+    push(Kind::While, out)?;
+    push_expr(test, out)?;
+    push(Kind::Do, out)?;
+    push_stmts(body, out)?;
+    push(Kind::End, out)
+}
+
+#[cycle(spell)]
+fn push_repeat(body: &Stmts, test: &Expr, out: &mut Vec<Kind>) -> Result<(), AllocError>
+    ensures pushed { OnOk result (Pushes out.old.items out.new.items (spell_stmt (repeat_stmt (view_stmts body.now) (view_expr test.now)))) }
+{
+    push(Kind::Repeat, out)?;
+    push_stmts(body, out)?;
+    push(Kind::Until, out)?;
+    push_expr(test, out)
+}
+
+#[cycle(spell)]
+fn push_for(
+    from: &Expr,
+    to: &Expr,
+    by: &Option<Expr>,
+    body: &Stmts,
+    out: &mut Vec<Kind>,
+) -> Result<(), AllocError>
+    ensures pushed { OnOk result (Pushes out.old.items out.new.items (spell_stmt (for_stmt (view_expr from.now) (view_expr to.now) (by_of by.now) (view_stmts body.now)))) }
+{
+    push(Kind::For, out)?;
+    push(Kind::Name, out)?;
+    push(Kind::Assign, out)?;
+    push_expr(from, out)?;
+    push(Kind::To, out)?;
+    push_expr(to, out)?;
+    push_by(by, out)?;
+    push(Kind::Do, out)?;
+    push_stmts(body, out)?;
+    push(Kind::End, out)
+}
+
+#[cycle(spell)]
+fn push_some(from: &Expr, to: &Expr, body: &Stmts, out: &mut Vec<Kind>) -> Result<(), AllocError>
+    ensures pushed { OnOk result (Pushes out.old.items out.new.items (spell_stmt (some_stmt (view_expr from.now) (view_expr to.now) (view_stmts body.now)))) }
+{
+    push(Kind::Some, out)?;
+    push(Kind::Name, out)?;
+    push(Kind::Assign, out)?;
+    push_expr(from, out)?;
+    push(Kind::To, out)?;
+    push_expr(to, out)?;
+    push(Kind::Do, out)?;
+    push_stmts(body, out)?;
+    push(Kind::End, out)
+}
+
+#[cycle(spell)]
+fn push_case(
+    value: &Expr,
+    first: &Arm,
+    more: &[Arm],
+    otherwise: &Option<Stmts>,
+    out: &mut Vec<Kind>,
+) -> Result<(), AllocError>
+    ensures pushed { OnOk result (Pushes out.old.items out.new.items (spell_stmt (case_stmt (view_expr value.now) (view_arm first.now) (arms_of more.now) (else_of otherwise.now)))) }
+{
+    push(Kind::Case, out)?;
+    push_expr(value, out)?;
+    push(Kind::Of, out)?;
+    push_arm(first, out)?;
+    push_arm_tail(more, out)?;
+    push_else(otherwise, out)?;
+    push(Kind::End, out)
+}
+
+#[cycle(spell)]
+fn push_either(first: &Stmts, more: &[Stmts], out: &mut Vec<Kind>) -> Result<(), AllocError>
+    ensures pushed { OnOk result (Pushes out.old.items out.new.items (spell_stmt (either_stmt (view_stmts first.now) (orelses_of more.now)))) }
+{
+    push(Kind::Either, out)?;
+    push_stmts(first, out)?;
+    push_orelse_tail(more, out)?;
+    push(Kind::End, out)
+}
+
+#[cycle(spell)]
+fn push_forall(choice: &Stmts, body: &Stmts, out: &mut Vec<Kind>) -> Result<(), AllocError>
+    ensures pushed { OnOk result (Pushes out.old.items out.new.items (spell_stmt (forall_stmt (view_stmts choice.now) (view_stmts body.now)))) }
+{
+    push(Kind::Forall, out)?;
+    push_stmts(choice, out)?;
+    push(Kind::Do, out)?;
+    push_stmts(body, out)?;
+    push(Kind::End, out)
+}
+
+#[cycle(spell)]
+fn push_commit(body: &Stmts, out: &mut Vec<Kind>) -> Result<(), AllocError>
+    ensures pushed { OnOk result (Pushes out.old.items out.new.items (spell_stmt (commit_stmt (view_stmts body.now)))) }
+{
+    push(Kind::Commit, out)?;
+    push_stmts(body, out)?;
+    push(Kind::End, out)
+}
+
+#[cycle(spell)]
+fn push_return(value: &Option<Expr>, out: &mut Vec<Kind>) -> Result<(), AllocError>
+    ensures pushed { OnOk result (Pushes out.old.items out.new.items (spell_stmt (return_stmt (returned_of value.now)))) }
+{
+    push(Kind::Return, out)?;
+    push_returned(value, out)
+}
+
+#[cycle(spell)]
+fn push_read(first: &Desig, more: &[Desig], out: &mut Vec<Kind>) -> Result<(), AllocError>
+    ensures pushed { OnOk result (Pushes out.old.items out.new.items (spell_stmt (read_stmt (view_desig first.now) (desigs_of more.now)))) }
+{
+    push(Kind::Read, out)?;
+    push(Kind::OpenParen, out)?;
+    push_desig(first, out)?;
+    push_desig_tail(more, out)?;
+    push(Kind::CloseParen, out)
+}
+
+#[cycle(spell)]
+fn push_write(items: &Exprs, out: &mut Vec<Kind>) -> Result<(), AllocError>
+    ensures pushed { OnOk result (Pushes out.old.items out.new.items (spell_stmt (write_stmt (view_exprs items.now)))) }
+{
+    push(Kind::Write, out)?;
+    push(Kind::OpenParen, out)?;
+    push_exprs(items, out)?;
+    push(Kind::CloseParen, out)
+}
+
+#[cycle(spell)]
+fn push_writeln(items: &Option<Args>, out: &mut Vec<Kind>) -> Result<(), AllocError>
+    ensures pushed { OnOk result (Pushes out.old.items out.new.items (spell_stmt (writeln_stmt (args_of items.now)))) }
+{
+    push(Kind::Writeln, out)?;
+    push_args(items, out)
 }
 
 #[cycle(spell)]

@@ -9,227 +9,268 @@ use Rattle.alma_tree.proofs.Rows as rows
 use Rattle.alma_tree.proofs.Ends as ends
 use Rattle.alma_tree.proofs.spell_phrase.+spell.Goals as goal
 
-pub push_stmt-returns-in_ok-push-in-Assign : goal.push_stmt-returns-in_ok-push-in-Assign
-push_stmt-returns-in_ok-push-in-Assign t c =
+pub push_stmt-returns-in-Assign : goal.push_stmt-returns-in-Assign
+push_stmt-returns-in-Assign t c =
     let x0 = ap view.view_stmt c.in-Assign.is in
     let x1 = rows.assign_laid c.in-Assign.node c.in-Assign.target c.in-Assign.value in
     let l : view.view_stmt c.args.tree.now ≡ tree.assign (view.view_desig c.in-Assign.target) (view.view_expr c.in-Assign.value) = cc in
     record {
-      pushed = ends.pushed_last c.push_expr.result c.push_expr.new.out.items c.push.new.out.items c.args.out.now.items (spells.spell_expr
-          (view.view_expr c.in-Assign.value)) (spells.spell_stmt (view.view_stmt c.args.tree.now))
-          c.push_expr.ensures.pushed (λ rest.
-          c.in_ok-push-in-Assign.ensures.pushed (spells.spell_expr (view.view_expr c.in-Assign.value) rest)
-          ∙ c.in_ok-push_desig-in-Assign.ensures.pushed (kinds.Assign ∷ (spells.spell_expr (view.view_expr c.in-Assign.value) rest))
-          ∙ ap (λ v. c.args.out.now.items ++ spells.spell_stmt v rest) (sym l));
+      pushed = ends.pushed_same c.push_assign.result c.args.out.now.items c.push_assign.new.out.items (view.view_stmt c.args.tree.now) (tree.assign (view.view_desig c.in-Assign.target) (view.view_expr c.in-Assign.value)) l
+          c.push_assign.ensures.pushed;
     }
 
-pub push_stmt-returns-in_ok-push_else-in-If : goal.push_stmt-returns-in_ok-push_else-in-If
-push_stmt-returns-in_ok-push_else-in-If t c =
+pub push_stmt-returns-in-If : goal.push_stmt-returns-in-If
+push_stmt-returns-in-If t c =
     let x0 = ap view.view_stmt c.in-If.is in
     let x1 = rows.if_laid c.in-If.node c.in-If.test c.in-If.then c.in-If.elsifs c.in-If.otherwise in
     let x2 = ap view.elsifs_of c.deref.ensures.value in
-    let l : view.view_stmt c.args.tree.now ≡ tree.if_stmt (view.view_expr c.in-If.test) (view.view_stmts c.in-If.then) (view.elsifs_of
-    c.deref.result.now) (view.else_of c.in-If.otherwise) = cc in
+    let l : view.view_stmt c.args.tree.now ≡ tree.if_stmt (view.view_expr c.in-If.test) (view.view_stmts c.in-If.then) (view.elsifs_of c.deref.result.now) (view.else_of c.in-If.otherwise) = cc in
     record {
-      pushed = ends.pushed_last c.push-in-If-3.result c.push-in-If-3.new.out.items c.push_else.new.out.items c.args.out.now.items (λ r. kinds.End ∷
-          r) (spells.spell_stmt (view.view_stmt c.args.tree.now))
-          c.push-in-If-3.ensures.pushed (λ rest.
-          c.in_ok-push_else-in-If.ensures.pushed (kinds.End ∷ rest)
-          ∙ c.in_ok-push_elsif_tail-in-If.ensures.pushed (spells.spell_else (view.else_of c.in-If.otherwise) (kinds.End ∷ rest))
-          ∙ c.in_ok-push_stmts-in-If.ensures.pushed (spells.spell_elsif_tail (view.elsifs_of c.deref.result.now) (spells.spell_else (view.else_of
-          c.in-If.otherwise) (kinds.End ∷ rest)))
-          ∙ c.in_ok-push-in-If-2.ensures.pushed (spells.spell_stmts (view.view_stmts c.in-If.then) (spells.spell_elsif_tail (view.elsifs_of
-          c.deref.result.now) (spells.spell_else (view.else_of c.in-If.otherwise) (kinds.End ∷ rest))))
-          ∙ c.in_ok-push_expr-in-If.ensures.pushed (kinds.Then ∷ (spells.spell_stmts (view.view_stmts c.in-If.then) (spells.spell_elsif_tail
-          (view.elsifs_of c.deref.result.now) (spells.spell_else (view.else_of c.in-If.otherwise) (kinds.End ∷ rest)))))
-          ∙ c.in_ok-push-in-If.ensures.pushed (spells.spell_expr (view.view_expr c.in-If.test) (kinds.Then ∷ (spells.spell_stmts (view.view_stmts
-          c.in-If.then) (spells.spell_elsif_tail (view.elsifs_of c.deref.result.now) (spells.spell_else (view.else_of c.in-If.otherwise) (kinds.End
-          ∷ rest))))))
-          ∙ ap (λ v. c.args.out.now.items ++ spells.spell_stmt v rest) (sym l));
+      pushed = ends.pushed_same c.push_if.result c.args.out.now.items c.push_if.new.out.items (view.view_stmt c.args.tree.now) (tree.if_stmt (view.view_expr c.in-If.test) (view.view_stmts c.in-If.then) (view.elsifs_of c.deref.result.now) (view.else_of c.in-If.otherwise)) l
+          c.push_if.ensures.pushed;
     }
 
-pub push_stmt-returns-in_ok-push_stmts-in-While : goal.push_stmt-returns-in_ok-push_stmts-in-While
-push_stmt-returns-in_ok-push_stmts-in-While t c =
+pub push_stmt-returns-in-While : goal.push_stmt-returns-in-While
+push_stmt-returns-in-While t c =
     let x0 = ap view.view_stmt c.in-While.is in
     let x1 = rows.while_laid c.in-While.node c.in-While.test c.in-While.body in
     let l : view.view_stmt c.args.tree.now ≡ tree.while_stmt (view.view_expr c.in-While.test) (view.view_stmts c.in-While.body) = cc in
     record {
-      pushed = ends.pushed_last c.push-in-While-3.result c.push-in-While-3.new.out.items c.push_stmts-in-While.new.out.items c.args.out.now.items (λ
-          r. kinds.End ∷ r) (spells.spell_stmt (view.view_stmt c.args.tree.now))
-          c.push-in-While-3.ensures.pushed (λ rest.
-          c.in_ok-push_stmts-in-While.ensures.pushed (kinds.End ∷ rest)
-          ∙ c.in_ok-push-in-While-2.ensures.pushed (spells.spell_stmts (view.view_stmts c.in-While.body) (kinds.End ∷ rest))
-          ∙ c.in_ok-push_expr-in-While.ensures.pushed (kinds.Do ∷ (spells.spell_stmts (view.view_stmts c.in-While.body) (kinds.End ∷ rest)))
-          ∙ c.in_ok-push-in-While.ensures.pushed (spells.spell_expr (view.view_expr c.in-While.test) (kinds.Do ∷ (spells.spell_stmts
-          (view.view_stmts c.in-While.body) (kinds.End ∷ rest))))
-          ∙ ap (λ v. c.args.out.now.items ++ spells.spell_stmt v rest) (sym l));
+      pushed = ends.pushed_same c.push_while.result c.args.out.now.items c.push_while.new.out.items (view.view_stmt c.args.tree.now) (tree.while_stmt (view.view_expr c.in-While.test) (view.view_stmts c.in-While.body)) l
+          c.push_while.ensures.pushed;
     }
 
-pub push_stmt-returns-in_ok-push-in-Repeat-2 : goal.push_stmt-returns-in_ok-push-in-Repeat-2
-push_stmt-returns-in_ok-push-in-Repeat-2 t c =
+pub push_stmt-returns-in-Repeat : goal.push_stmt-returns-in-Repeat
+push_stmt-returns-in-Repeat t c =
     let x0 = ap view.view_stmt c.in-Repeat.is in
     let x1 = rows.repeat_laid c.in-Repeat.node c.in-Repeat.body c.in-Repeat.test in
     let l : view.view_stmt c.args.tree.now ≡ tree.repeat_stmt (view.view_stmts c.in-Repeat.body) (view.view_expr c.in-Repeat.test) = cc in
     record {
-      pushed = ends.pushed_last c.push_expr-in-Repeat.result c.push_expr-in-Repeat.new.out.items c.push-in-Repeat-2.new.out.items
-          c.args.out.now.items (spells.spell_expr (view.view_expr c.in-Repeat.test)) (spells.spell_stmt (view.view_stmt c.args.tree.now))
-          c.push_expr-in-Repeat.ensures.pushed (λ rest.
-          c.in_ok-push-in-Repeat-2.ensures.pushed (spells.spell_expr (view.view_expr c.in-Repeat.test) rest)
-          ∙ c.in_ok-push_stmts-in-Repeat.ensures.pushed (kinds.Until ∷ (spells.spell_expr (view.view_expr c.in-Repeat.test) rest))
-          ∙ c.in_ok-push-in-Repeat.ensures.pushed (spells.spell_stmts (view.view_stmts c.in-Repeat.body) (kinds.Until ∷ (spells.spell_expr
-          (view.view_expr c.in-Repeat.test) rest)))
-          ∙ ap (λ v. c.args.out.now.items ++ spells.spell_stmt v rest) (sym l));
+      pushed = ends.pushed_same c.push_repeat.result c.args.out.now.items c.push_repeat.new.out.items (view.view_stmt c.args.tree.now) (tree.repeat_stmt (view.view_stmts c.in-Repeat.body) (view.view_expr c.in-Repeat.test)) l
+          c.push_repeat.ensures.pushed;
     }
 
-pub push_stmt-returns-in_ok-push_stmts-in-For : goal.push_stmt-returns-in_ok-push_stmts-in-For
-push_stmt-returns-in_ok-push_stmts-in-For t c =
+pub push_stmt-returns-in-For : goal.push_stmt-returns-in-For
+push_stmt-returns-in-For t c =
     let x0 = ap view.view_stmt c.in-For.is in
     let x1 = rows.for_laid c.in-For.node c.in-For.variable c.in-For.from c.in-For.to c.in-For.by c.in-For.body in
-    let l : view.view_stmt c.args.tree.now ≡ tree.for_stmt (view.view_expr c.in-For.from) (view.view_expr c.in-For.to) (view.by_of c.in-For.by)
-    (view.view_stmts c.in-For.body) = cc in
+    let l : view.view_stmt c.args.tree.now ≡ tree.for_stmt (view.view_expr c.in-For.from) (view.view_expr c.in-For.to) (view.by_of c.in-For.by) (view.view_stmts c.in-For.body) = cc in
     record {
-      pushed = ends.pushed_last c.push-in-For-6.result c.push-in-For-6.new.out.items c.push_stmts-in-For.new.out.items c.args.out.now.items (λ r.
-          kinds.End ∷ r) (spells.spell_stmt (view.view_stmt c.args.tree.now))
-          c.push-in-For-6.ensures.pushed (λ rest.
-          c.in_ok-push_stmts-in-For.ensures.pushed (kinds.End ∷ rest)
-          ∙ c.in_ok-push-in-For-5.ensures.pushed (spells.spell_stmts (view.view_stmts c.in-For.body) (kinds.End ∷ rest))
-          ∙ c.in_ok-push_by-in-For.ensures.pushed (kinds.Do ∷ (spells.spell_stmts (view.view_stmts c.in-For.body) (kinds.End ∷ rest)))
-          ∙ c.in_ok-push_expr-in-For-2.ensures.pushed (spells.spell_by (view.by_of c.in-For.by) (kinds.Do ∷ (spells.spell_stmts (view.view_stmts
-          c.in-For.body) (kinds.End ∷ rest))))
-          ∙ c.in_ok-push-in-For-4.ensures.pushed (spells.spell_expr (view.view_expr c.in-For.to) (spells.spell_by (view.by_of c.in-For.by) (kinds.Do
-          ∷ (spells.spell_stmts (view.view_stmts c.in-For.body) (kinds.End ∷ rest)))))
-          ∙ c.in_ok-push_expr-in-For.ensures.pushed (kinds.To ∷ (spells.spell_expr (view.view_expr c.in-For.to) (spells.spell_by (view.by_of
-          c.in-For.by) (kinds.Do ∷ (spells.spell_stmts (view.view_stmts c.in-For.body) (kinds.End ∷ rest))))))
-          ∙ c.in_ok-push-in-For-3.ensures.pushed (spells.spell_expr (view.view_expr c.in-For.from) (kinds.To ∷ (spells.spell_expr (view.view_expr
-          c.in-For.to) (spells.spell_by (view.by_of c.in-For.by) (kinds.Do ∷ (spells.spell_stmts (view.view_stmts c.in-For.body) (kinds.End ∷
-          rest)))))))
-          ∙ c.in_ok-push-in-For-2.ensures.pushed (kinds.Assign ∷ (spells.spell_expr (view.view_expr c.in-For.from) (kinds.To ∷ (spells.spell_expr
-          (view.view_expr c.in-For.to) (spells.spell_by (view.by_of c.in-For.by) (kinds.Do ∷ (spells.spell_stmts (view.view_stmts c.in-For.body)
-          (kinds.End ∷ rest))))))))
-          ∙ c.in_ok-push-in-For.ensures.pushed (kinds.Name ∷ (kinds.Assign ∷ (spells.spell_expr (view.view_expr c.in-For.from) (kinds.To ∷
-          (spells.spell_expr (view.view_expr c.in-For.to) (spells.spell_by (view.by_of c.in-For.by) (kinds.Do ∷ (spells.spell_stmts (view.view_stmts
-          c.in-For.body) (kinds.End ∷ rest)))))))))
-          ∙ ap (λ v. c.args.out.now.items ++ spells.spell_stmt v rest) (sym l));
+      pushed = ends.pushed_same c.push_for.result c.args.out.now.items c.push_for.new.out.items (view.view_stmt c.args.tree.now) (tree.for_stmt (view.view_expr c.in-For.from) (view.view_expr c.in-For.to) (view.by_of c.in-For.by) (view.view_stmts c.in-For.body)) l
+          c.push_for.ensures.pushed;
     }
 
-pub push_stmt-returns-in_ok-push_stmts-in-Some : goal.push_stmt-returns-in_ok-push_stmts-in-Some
-push_stmt-returns-in_ok-push_stmts-in-Some t c =
+pub push_stmt-returns-in-Some : goal.push_stmt-returns-in-Some
+push_stmt-returns-in-Some t c =
     let x0 = ap view.view_stmt c.in-Some.is in
     let x1 = rows.some_laid c.in-Some.node c.in-Some.variable c.in-Some.from c.in-Some.to c.in-Some.body in
-    let l : view.view_stmt c.args.tree.now ≡ tree.some_stmt (view.view_expr c.in-Some.from) (view.view_expr c.in-Some.to) (view.view_stmts
-    c.in-Some.body) = cc in
+    let l : view.view_stmt c.args.tree.now ≡ tree.some_stmt (view.view_expr c.in-Some.from) (view.view_expr c.in-Some.to) (view.view_stmts c.in-Some.body) = cc in
     record {
-      pushed = ends.pushed_last c.push-in-Some-6.result c.push-in-Some-6.new.out.items c.push_stmts-in-Some.new.out.items c.args.out.now.items (λ r.
-          kinds.End ∷ r) (spells.spell_stmt (view.view_stmt c.args.tree.now))
-          c.push-in-Some-6.ensures.pushed (λ rest.
-          c.in_ok-push_stmts-in-Some.ensures.pushed (kinds.End ∷ rest)
-          ∙ c.in_ok-push-in-Some-5.ensures.pushed (spells.spell_stmts (view.view_stmts c.in-Some.body) (kinds.End ∷ rest))
-          ∙ c.in_ok-push_expr-in-Some-2.ensures.pushed (kinds.Do ∷ (spells.spell_stmts (view.view_stmts c.in-Some.body) (kinds.End ∷ rest)))
-          ∙ c.in_ok-push-in-Some-4.ensures.pushed (spells.spell_expr (view.view_expr c.in-Some.to) (kinds.Do ∷ (spells.spell_stmts (view.view_stmts
-          c.in-Some.body) (kinds.End ∷ rest))))
-          ∙ c.in_ok-push_expr-in-Some.ensures.pushed (kinds.To ∷ (spells.spell_expr (view.view_expr c.in-Some.to) (kinds.Do ∷ (spells.spell_stmts
-          (view.view_stmts c.in-Some.body) (kinds.End ∷ rest)))))
-          ∙ c.in_ok-push-in-Some-3.ensures.pushed (spells.spell_expr (view.view_expr c.in-Some.from) (kinds.To ∷ (spells.spell_expr (view.view_expr
-          c.in-Some.to) (kinds.Do ∷ (spells.spell_stmts (view.view_stmts c.in-Some.body) (kinds.End ∷ rest))))))
-          ∙ c.in_ok-push-in-Some-2.ensures.pushed (kinds.Assign ∷ (spells.spell_expr (view.view_expr c.in-Some.from) (kinds.To ∷ (spells.spell_expr
-          (view.view_expr c.in-Some.to) (kinds.Do ∷ (spells.spell_stmts (view.view_stmts c.in-Some.body) (kinds.End ∷ rest)))))))
-          ∙ c.in_ok-push-in-Some.ensures.pushed (kinds.Name ∷ (kinds.Assign ∷ (spells.spell_expr (view.view_expr c.in-Some.from) (kinds.To ∷
-          (spells.spell_expr (view.view_expr c.in-Some.to) (kinds.Do ∷ (spells.spell_stmts (view.view_stmts c.in-Some.body) (kinds.End ∷
-          rest))))))))
-          ∙ ap (λ v. c.args.out.now.items ++ spells.spell_stmt v rest) (sym l));
+      pushed = ends.pushed_same c.push_some.result c.args.out.now.items c.push_some.new.out.items (view.view_stmt c.args.tree.now) (tree.some_stmt (view.view_expr c.in-Some.from) (view.view_expr c.in-Some.to) (view.view_stmts c.in-Some.body)) l
+          c.push_some.ensures.pushed;
     }
 
-pub push_stmt-returns-in_ok-push_else-in-Case : goal.push_stmt-returns-in_ok-push_else-in-Case
-push_stmt-returns-in_ok-push_else-in-Case t c =
+pub push_stmt-returns-in-Case : goal.push_stmt-returns-in-Case
+push_stmt-returns-in-Case t c =
     let x0 = ap view.view_stmt c.in-Case.is in
     let x1 = rows.case_laid c.in-Case.node c.in-Case.value c.in-Case.first c.in-Case.more c.in-Case.otherwise in
     let x2 = ap view.view_arm c.deref-in-Case.ensures in
     let x3 = ap view.arms_of c.deref-in-Case-2.ensures.value in
-    let l : view.view_stmt c.args.tree.now ≡ tree.case_stmt (view.view_expr c.in-Case.value) (view.view_arm c.deref-in-Case.result.now)
-    (view.arms_of c.deref-in-Case-2.result.now) (view.else_of c.in-Case.otherwise) = cc in
+    let l : view.view_stmt c.args.tree.now ≡ tree.case_stmt (view.view_expr c.in-Case.value) (view.view_arm c.deref-in-Case.result.now) (view.arms_of c.deref-in-Case-2.result.now) (view.else_of c.in-Case.otherwise) = cc in
     record {
-      pushed = ends.pushed_last c.push-in-Case-3.result c.push-in-Case-3.new.out.items c.push_else-in-Case.new.out.items c.args.out.now.items (λ r.
-          kinds.End ∷ r) (spells.spell_stmt (view.view_stmt c.args.tree.now))
-          c.push-in-Case-3.ensures.pushed (λ rest.
-          c.in_ok-push_else-in-Case.ensures.pushed (kinds.End ∷ rest)
-          ∙ c.in_ok-push_arm_tail-in-Case.ensures.pushed (spells.spell_else (view.else_of c.in-Case.otherwise) (kinds.End ∷ rest))
-          ∙ c.in_ok-push_arm-in-Case.ensures.pushed (spells.spell_arm_tail (view.arms_of c.deref-in-Case-2.result.now) (spells.spell_else
-          (view.else_of c.in-Case.otherwise) (kinds.End ∷ rest)))
-          ∙ c.in_ok-push-in-Case-2.ensures.pushed (spells.spell_arm (view.view_arm c.deref-in-Case.result.now) (spells.spell_arm_tail (view.arms_of
-          c.deref-in-Case-2.result.now) (spells.spell_else (view.else_of c.in-Case.otherwise) (kinds.End ∷ rest))))
-          ∙ c.in_ok-push_expr-in-Case.ensures.pushed (kinds.Of ∷ (spells.spell_arm (view.view_arm c.deref-in-Case.result.now) (spells.spell_arm_tail
-          (view.arms_of c.deref-in-Case-2.result.now) (spells.spell_else (view.else_of c.in-Case.otherwise) (kinds.End ∷ rest)))))
-          ∙ c.in_ok-push-in-Case.ensures.pushed (spells.spell_expr (view.view_expr c.in-Case.value) (kinds.Of ∷ (spells.spell_arm (view.view_arm
-          c.deref-in-Case.result.now) (spells.spell_arm_tail (view.arms_of c.deref-in-Case-2.result.now) (spells.spell_else (view.else_of
-          c.in-Case.otherwise) (kinds.End ∷ rest))))))
-          ∙ ap (λ v. c.args.out.now.items ++ spells.spell_stmt v rest) (sym l));
+      pushed = ends.pushed_same c.push_case.result c.args.out.now.items c.push_case.new.out.items (view.view_stmt c.args.tree.now) (tree.case_stmt (view.view_expr c.in-Case.value) (view.view_arm c.deref-in-Case.result.now) (view.arms_of c.deref-in-Case-2.result.now) (view.else_of c.in-Case.otherwise)) l
+          c.push_case.ensures.pushed;
     }
 
-pub push_stmt-returns-in_ok-push_orelse_tail-in-Either : goal.push_stmt-returns-in_ok-push_orelse_tail-in-Either
-push_stmt-returns-in_ok-push_orelse_tail-in-Either t c =
+pub push_stmt-returns-in-Either : goal.push_stmt-returns-in-Either
+push_stmt-returns-in-Either t c =
     let x0 = ap view.view_stmt c.in-Either.is in
     let x1 = rows.either_laid c.in-Either.node c.in-Either.first c.in-Either.more in
     let x2 = ap view.orelses_of c.deref-in-Either.ensures.value in
     let l : view.view_stmt c.args.tree.now ≡ tree.either_stmt (view.view_stmts c.in-Either.first) (view.orelses_of c.deref-in-Either.result.now) = cc in
     record {
-      pushed = ends.pushed_last c.push-in-Either-2.result c.push-in-Either-2.new.out.items c.push_orelse_tail.new.out.items c.args.out.now.items (λ
-          r. kinds.End ∷ r) (spells.spell_stmt (view.view_stmt c.args.tree.now))
-          c.push-in-Either-2.ensures.pushed (λ rest.
-          c.in_ok-push_orelse_tail-in-Either.ensures.pushed (kinds.End ∷ rest)
-          ∙ c.in_ok-push_stmts-in-Either.ensures.pushed (spells.spell_orelse_tail (view.orelses_of c.deref-in-Either.result.now) (kinds.End ∷ rest))
-          ∙ c.in_ok-push-in-Either.ensures.pushed (spells.spell_stmts (view.view_stmts c.in-Either.first) (spells.spell_orelse_tail (view.orelses_of
-          c.deref-in-Either.result.now) (kinds.End ∷ rest)))
-          ∙ ap (λ v. c.args.out.now.items ++ spells.spell_stmt v rest) (sym l));
+      pushed = ends.pushed_same c.push_either.result c.args.out.now.items c.push_either.new.out.items (view.view_stmt c.args.tree.now) (tree.either_stmt (view.view_stmts c.in-Either.first) (view.orelses_of c.deref-in-Either.result.now)) l
+          c.push_either.ensures.pushed;
     }
 
-pub push_stmt-returns-in_ok-push_stmts-in-Forall-2 : goal.push_stmt-returns-in_ok-push_stmts-in-Forall-2
-push_stmt-returns-in_ok-push_stmts-in-Forall-2 t c =
+pub push_stmt-returns-in-Forall : goal.push_stmt-returns-in-Forall
+push_stmt-returns-in-Forall t c =
     let x0 = ap view.view_stmt c.in-Forall.is in
     let x1 = rows.forall_laid c.in-Forall.node c.in-Forall.choice c.in-Forall.body in
     let l : view.view_stmt c.args.tree.now ≡ tree.forall_stmt (view.view_stmts c.in-Forall.choice) (view.view_stmts c.in-Forall.body) = cc in
     record {
-      pushed = ends.pushed_last c.push-in-Forall-3.result c.push-in-Forall-3.new.out.items c.push_stmts-in-Forall-2.new.out.items
-          c.args.out.now.items (λ r. kinds.End ∷ r) (spells.spell_stmt (view.view_stmt c.args.tree.now))
-          c.push-in-Forall-3.ensures.pushed (λ rest.
-          c.in_ok-push_stmts-in-Forall-2.ensures.pushed (kinds.End ∷ rest)
-          ∙ c.in_ok-push-in-Forall-2.ensures.pushed (spells.spell_stmts (view.view_stmts c.in-Forall.body) (kinds.End ∷ rest))
-          ∙ c.in_ok-push_stmts-in-Forall.ensures.pushed (kinds.Do ∷ (spells.spell_stmts (view.view_stmts c.in-Forall.body) (kinds.End ∷ rest)))
-          ∙ c.in_ok-push-in-Forall.ensures.pushed (spells.spell_stmts (view.view_stmts c.in-Forall.choice) (kinds.Do ∷ (spells.spell_stmts
-          (view.view_stmts c.in-Forall.body) (kinds.End ∷ rest))))
-          ∙ ap (λ v. c.args.out.now.items ++ spells.spell_stmt v rest) (sym l));
+      pushed = ends.pushed_same c.push_forall.result c.args.out.now.items c.push_forall.new.out.items (view.view_stmt c.args.tree.now) (tree.forall_stmt (view.view_stmts c.in-Forall.choice) (view.view_stmts c.in-Forall.body)) l
+          c.push_forall.ensures.pushed;
     }
 
-pub push_stmt-returns-in_ok-push_stmts-in-Commit : goal.push_stmt-returns-in_ok-push_stmts-in-Commit
-push_stmt-returns-in_ok-push_stmts-in-Commit t c =
+pub push_stmt-returns-in-Commit : goal.push_stmt-returns-in-Commit
+push_stmt-returns-in-Commit t c =
     let x0 = ap view.view_stmt c.in-Commit.is in
     let x1 = rows.commit_laid c.in-Commit.node c.in-Commit.body in
     let l : view.view_stmt c.args.tree.now ≡ tree.commit_stmt (view.view_stmts c.in-Commit.body) = cc in
     record {
-      pushed = ends.pushed_last c.push-in-Commit-2.result c.push-in-Commit-2.new.out.items c.push_stmts-in-Commit.new.out.items c.args.out.now.items
-          (λ r. kinds.End ∷ r) (spells.spell_stmt (view.view_stmt c.args.tree.now))
-          c.push-in-Commit-2.ensures.pushed (λ rest.
-          c.in_ok-push_stmts-in-Commit.ensures.pushed (kinds.End ∷ rest)
-          ∙ c.in_ok-push-in-Commit.ensures.pushed (spells.spell_stmts (view.view_stmts c.in-Commit.body) (kinds.End ∷ rest))
-          ∙ ap (λ v. c.args.out.now.items ++ spells.spell_stmt v rest) (sym l));
+      pushed = ends.pushed_same c.push_commit.result c.args.out.now.items c.push_commit.new.out.items (view.view_stmt c.args.tree.now) (tree.commit_stmt (view.view_stmts c.in-Commit.body)) l
+          c.push_commit.ensures.pushed;
     }
 
-pub push_stmt-returns-in_ok-push_desig_tail-in-Read : goal.push_stmt-returns-in_ok-push_desig_tail-in-Read
-push_stmt-returns-in_ok-push_desig_tail-in-Read t c =
+pub push_stmt-returns-in-Return : goal.push_stmt-returns-in-Return
+push_stmt-returns-in-Return t c =
+    let x0 = ap view.view_stmt c.in-Return.is in
+    let x1 = rows.return_laid c.in-Return.node c.in-Return.value in
+    let l : view.view_stmt c.args.tree.now ≡ tree.return_stmt (view.returned_of c.in-Return.value) = cc in
+    record {
+      pushed = ends.pushed_same c.push_return.result c.args.out.now.items c.push_return.new.out.items (view.view_stmt c.args.tree.now) (tree.return_stmt (view.returned_of c.in-Return.value)) l
+          c.push_return.ensures.pushed;
+    }
+
+pub push_stmt-returns-in-Read : goal.push_stmt-returns-in-Read
+push_stmt-returns-in-Read t c =
     let x0 = ap view.view_stmt c.in-Read.is in
     let x1 = rows.read_laid c.in-Read.node c.in-Read.first c.in-Read.more in
     let x2 = ap view.desigs_of c.deref-in-Read.ensures.value in
     let l : view.view_stmt c.args.tree.now ≡ tree.read_stmt (view.view_desig c.in-Read.first) (view.desigs_of c.deref-in-Read.result.now) = cc in
     record {
-      pushed = ends.pushed_last c.push-in-Read-3.result c.push-in-Read-3.new.out.items c.push_desig_tail.new.out.items c.args.out.now.items (λ r.
-          kinds.CloseParen ∷ r) (spells.spell_stmt (view.view_stmt c.args.tree.now))
-          c.push-in-Read-3.ensures.pushed (λ rest.
-          c.in_ok-push_desig_tail-in-Read.ensures.pushed (kinds.CloseParen ∷ rest)
-          ∙ c.in_ok-push_desig-in-Read.ensures.pushed (spells.spell_desig_tail (view.desigs_of c.deref-in-Read.result.now) (kinds.CloseParen ∷ rest))
-          ∙ c.in_ok-push-in-Read-2.ensures.pushed (spells.spell_desig (view.view_desig c.in-Read.first) (spells.spell_desig_tail (view.desigs_of
-          c.deref-in-Read.result.now) (kinds.CloseParen ∷ rest)))
-          ∙ c.in_ok-push-in-Read.ensures.pushed (kinds.OpenParen ∷ (spells.spell_desig (view.view_desig c.in-Read.first) (spells.spell_desig_tail
-          (view.desigs_of c.deref-in-Read.result.now) (kinds.CloseParen ∷ rest))))
-          ∙ ap (λ v. c.args.out.now.items ++ spells.spell_stmt v rest) (sym l));
+      pushed = ends.pushed_same c.push_read.result c.args.out.now.items c.push_read.new.out.items (view.view_stmt c.args.tree.now) (tree.read_stmt (view.view_desig c.in-Read.first) (view.desigs_of c.deref-in-Read.result.now)) l
+          c.push_read.ensures.pushed;
+    }
+
+pub push_stmt-returns-in-Writeln : goal.push_stmt-returns-in-Writeln
+push_stmt-returns-in-Writeln t c =
+    let x0 = ap view.view_stmt c.in-Writeln.is in
+    let x1 = rows.writeln_laid c.in-Writeln.node c.in-Writeln.items in
+    let l : view.view_stmt c.args.tree.now ≡ tree.writeln_stmt (view.args_of c.in-Writeln.items) = cc in
+    record {
+      pushed = ends.pushed_same c.push_writeln.result c.args.out.now.items c.push_writeln.new.out.items (view.view_stmt c.args.tree.now) (tree.writeln_stmt (view.args_of c.in-Writeln.items)) l
+          c.push_writeln.ensures.pushed;
+    }
+
+pub push_assign-returns : goal.push_assign-returns
+push_assign-returns t c =
+    record {
+      pushed = ends.pushed_last c.push_expr.result c.push_expr.new.out.items c.push.new.out.items c.args.out.now.items (spells.spell_expr (view.view_expr c.args.value.now))
+          (spells.spell_stmt (tree.assign (view.view_desig c.args.target.now) (view.view_expr c.args.value.now)))
+          c.push_expr.ensures.pushed (λ rest.
+          c.in_ok-push.ensures.pushed (spells.spell_expr (view.view_expr c.args.value.now) rest)
+          ∙ c.in_ok-push_desig.ensures.pushed (kinds.Assign ∷ (spells.spell_expr (view.view_expr c.args.value.now) rest)));
+    }
+
+pub push_if-returns : goal.push_if-returns
+push_if-returns t c =
+    record {
+      pushed = ends.pushed_last c.push-3.result c.push-3.new.out.items c.push_else.new.out.items c.args.out.now.items (λ r. kinds.End ∷ r)
+          (spells.spell_stmt (tree.if_stmt (view.view_expr c.args.test.now) (view.view_stmts c.args.then.now) (view.elsifs_of c.args.elsifs.now) (view.else_of c.args.otherwise.now)))
+          c.push-3.ensures.pushed (λ rest.
+          c.in_ok-push_else.ensures.pushed (kinds.End ∷ rest)
+          ∙ c.in_ok-push_elsif_tail.ensures.pushed (spells.spell_else (view.else_of c.args.otherwise.now) (kinds.End ∷ rest))
+          ∙ c.in_ok-push_stmts.ensures.pushed (spells.spell_elsif_tail (view.elsifs_of c.args.elsifs.now) (spells.spell_else (view.else_of c.args.otherwise.now) (kinds.End ∷ rest)))
+          ∙ c.in_ok-push-2.ensures.pushed (spells.spell_stmts (view.view_stmts c.args.then.now) (spells.spell_elsif_tail (view.elsifs_of c.args.elsifs.now) (spells.spell_else (view.else_of c.args.otherwise.now) (kinds.End ∷ rest))))
+          ∙ c.in_ok-push_expr.ensures.pushed (kinds.Then ∷ (spells.spell_stmts (view.view_stmts c.args.then.now) (spells.spell_elsif_tail (view.elsifs_of c.args.elsifs.now) (spells.spell_else (view.else_of c.args.otherwise.now) (kinds.End ∷ rest)))))
+          ∙ c.in_ok-push.ensures.pushed (spells.spell_expr (view.view_expr c.args.test.now) (kinds.Then ∷ (spells.spell_stmts (view.view_stmts c.args.then.now) (spells.spell_elsif_tail (view.elsifs_of c.args.elsifs.now) (spells.spell_else (view.else_of c.args.otherwise.now) (kinds.End ∷ rest)))))));
+    }
+
+pub push_while-returns : goal.push_while-returns
+push_while-returns t c =
+    record {
+      pushed = ends.pushed_last c.push-3.result c.push-3.new.out.items c.push_stmts.new.out.items c.args.out.now.items (λ r. kinds.End ∷ r)
+          (spells.spell_stmt (tree.while_stmt (view.view_expr c.args.test.now) (view.view_stmts c.args.body.now)))
+          c.push-3.ensures.pushed (λ rest.
+          c.in_ok-push_stmts.ensures.pushed (kinds.End ∷ rest)
+          ∙ c.in_ok-push-2.ensures.pushed (spells.spell_stmts (view.view_stmts c.args.body.now) (kinds.End ∷ rest))
+          ∙ c.in_ok-push_expr.ensures.pushed (kinds.Do ∷ (spells.spell_stmts (view.view_stmts c.args.body.now) (kinds.End ∷ rest)))
+          ∙ c.in_ok-push.ensures.pushed (spells.spell_expr (view.view_expr c.args.test.now) (kinds.Do ∷ (spells.spell_stmts (view.view_stmts c.args.body.now) (kinds.End ∷ rest)))));
+    }
+
+pub push_repeat-returns : goal.push_repeat-returns
+push_repeat-returns t c =
+    record {
+      pushed = ends.pushed_last c.push_expr.result c.push_expr.new.out.items c.push-2.new.out.items c.args.out.now.items (spells.spell_expr (view.view_expr c.args.test.now))
+          (spells.spell_stmt (tree.repeat_stmt (view.view_stmts c.args.body.now) (view.view_expr c.args.test.now)))
+          c.push_expr.ensures.pushed (λ rest.
+          c.in_ok-push-2.ensures.pushed (spells.spell_expr (view.view_expr c.args.test.now) rest)
+          ∙ c.in_ok-push_stmts.ensures.pushed (kinds.Until ∷ (spells.spell_expr (view.view_expr c.args.test.now) rest))
+          ∙ c.in_ok-push.ensures.pushed (spells.spell_stmts (view.view_stmts c.args.body.now) (kinds.Until ∷ (spells.spell_expr (view.view_expr c.args.test.now) rest))));
+    }
+
+pub push_for-returns : goal.push_for-returns
+push_for-returns t c =
+    record {
+      pushed = ends.pushed_last c.push-6.result c.push-6.new.out.items c.push_stmts.new.out.items c.args.out.now.items (λ r. kinds.End ∷ r)
+          (spells.spell_stmt (tree.for_stmt (view.view_expr c.args.from.now) (view.view_expr c.args.to.now) (view.by_of c.args.by.now) (view.view_stmts c.args.body.now)))
+          c.push-6.ensures.pushed (λ rest.
+          c.in_ok-push_stmts.ensures.pushed (kinds.End ∷ rest)
+          ∙ c.in_ok-push-5.ensures.pushed (spells.spell_stmts (view.view_stmts c.args.body.now) (kinds.End ∷ rest))
+          ∙ c.in_ok-push_by.ensures.pushed (kinds.Do ∷ (spells.spell_stmts (view.view_stmts c.args.body.now) (kinds.End ∷ rest)))
+          ∙ c.in_ok-push_expr-2.ensures.pushed (spells.spell_by (view.by_of c.args.by.now) (kinds.Do ∷ (spells.spell_stmts (view.view_stmts c.args.body.now) (kinds.End ∷ rest))))
+          ∙ c.in_ok-push-4.ensures.pushed (spells.spell_expr (view.view_expr c.args.to.now) (spells.spell_by (view.by_of c.args.by.now) (kinds.Do ∷ (spells.spell_stmts (view.view_stmts c.args.body.now) (kinds.End ∷ rest)))))
+          ∙ c.in_ok-push_expr.ensures.pushed (kinds.To ∷ (spells.spell_expr (view.view_expr c.args.to.now) (spells.spell_by (view.by_of c.args.by.now) (kinds.Do ∷ (spells.spell_stmts (view.view_stmts c.args.body.now) (kinds.End ∷ rest))))))
+          ∙ c.in_ok-push-3.ensures.pushed (spells.spell_expr (view.view_expr c.args.from.now) (kinds.To ∷ (spells.spell_expr (view.view_expr c.args.to.now) (spells.spell_by (view.by_of c.args.by.now) (kinds.Do ∷ (spells.spell_stmts (view.view_stmts c.args.body.now) (kinds.End ∷ rest)))))))
+          ∙ c.in_ok-push-2.ensures.pushed (kinds.Assign ∷ (spells.spell_expr (view.view_expr c.args.from.now) (kinds.To ∷ (spells.spell_expr (view.view_expr c.args.to.now) (spells.spell_by (view.by_of c.args.by.now) (kinds.Do ∷ (spells.spell_stmts (view.view_stmts c.args.body.now) (kinds.End ∷ rest))))))))
+          ∙ c.in_ok-push.ensures.pushed (kinds.Name ∷ (kinds.Assign ∷ (spells.spell_expr (view.view_expr c.args.from.now) (kinds.To ∷ (spells.spell_expr (view.view_expr c.args.to.now) (spells.spell_by (view.by_of c.args.by.now) (kinds.Do ∷ (spells.spell_stmts (view.view_stmts c.args.body.now) (kinds.End ∷ rest))))))))));
+    }
+
+pub push_some-returns : goal.push_some-returns
+push_some-returns t c =
+    record {
+      pushed = ends.pushed_last c.push-6.result c.push-6.new.out.items c.push_stmts.new.out.items c.args.out.now.items (λ r. kinds.End ∷ r)
+          (spells.spell_stmt (tree.some_stmt (view.view_expr c.args.from.now) (view.view_expr c.args.to.now) (view.view_stmts c.args.body.now)))
+          c.push-6.ensures.pushed (λ rest.
+          c.in_ok-push_stmts.ensures.pushed (kinds.End ∷ rest)
+          ∙ c.in_ok-push-5.ensures.pushed (spells.spell_stmts (view.view_stmts c.args.body.now) (kinds.End ∷ rest))
+          ∙ c.in_ok-push_expr-2.ensures.pushed (kinds.Do ∷ (spells.spell_stmts (view.view_stmts c.args.body.now) (kinds.End ∷ rest)))
+          ∙ c.in_ok-push-4.ensures.pushed (spells.spell_expr (view.view_expr c.args.to.now) (kinds.Do ∷ (spells.spell_stmts (view.view_stmts c.args.body.now) (kinds.End ∷ rest))))
+          ∙ c.in_ok-push_expr.ensures.pushed (kinds.To ∷ (spells.spell_expr (view.view_expr c.args.to.now) (kinds.Do ∷ (spells.spell_stmts (view.view_stmts c.args.body.now) (kinds.End ∷ rest)))))
+          ∙ c.in_ok-push-3.ensures.pushed (spells.spell_expr (view.view_expr c.args.from.now) (kinds.To ∷ (spells.spell_expr (view.view_expr c.args.to.now) (kinds.Do ∷ (spells.spell_stmts (view.view_stmts c.args.body.now) (kinds.End ∷ rest))))))
+          ∙ c.in_ok-push-2.ensures.pushed (kinds.Assign ∷ (spells.spell_expr (view.view_expr c.args.from.now) (kinds.To ∷ (spells.spell_expr (view.view_expr c.args.to.now) (kinds.Do ∷ (spells.spell_stmts (view.view_stmts c.args.body.now) (kinds.End ∷ rest)))))))
+          ∙ c.in_ok-push.ensures.pushed (kinds.Name ∷ (kinds.Assign ∷ (spells.spell_expr (view.view_expr c.args.from.now) (kinds.To ∷ (spells.spell_expr (view.view_expr c.args.to.now) (kinds.Do ∷ (spells.spell_stmts (view.view_stmts c.args.body.now) (kinds.End ∷ rest)))))))));
+    }
+
+pub push_case-returns : goal.push_case-returns
+push_case-returns t c =
+    record {
+      pushed = ends.pushed_last c.push-3.result c.push-3.new.out.items c.push_else.new.out.items c.args.out.now.items (λ r. kinds.End ∷ r)
+          (spells.spell_stmt (tree.case_stmt (view.view_expr c.args.value.now) (view.view_arm c.args.first.now) (view.arms_of c.args.more.now) (view.else_of c.args.otherwise.now)))
+          c.push-3.ensures.pushed (λ rest.
+          c.in_ok-push_else.ensures.pushed (kinds.End ∷ rest)
+          ∙ c.in_ok-push_arm_tail.ensures.pushed (spells.spell_else (view.else_of c.args.otherwise.now) (kinds.End ∷ rest))
+          ∙ c.in_ok-push_arm.ensures.pushed (spells.spell_arm_tail (view.arms_of c.args.more.now) (spells.spell_else (view.else_of c.args.otherwise.now) (kinds.End ∷ rest)))
+          ∙ c.in_ok-push-2.ensures.pushed (spells.spell_arm (view.view_arm c.args.first.now) (spells.spell_arm_tail (view.arms_of c.args.more.now) (spells.spell_else (view.else_of c.args.otherwise.now) (kinds.End ∷ rest))))
+          ∙ c.in_ok-push_expr.ensures.pushed (kinds.Of ∷ (spells.spell_arm (view.view_arm c.args.first.now) (spells.spell_arm_tail (view.arms_of c.args.more.now) (spells.spell_else (view.else_of c.args.otherwise.now) (kinds.End ∷ rest)))))
+          ∙ c.in_ok-push.ensures.pushed (spells.spell_expr (view.view_expr c.args.value.now) (kinds.Of ∷ (spells.spell_arm (view.view_arm c.args.first.now) (spells.spell_arm_tail (view.arms_of c.args.more.now) (spells.spell_else (view.else_of c.args.otherwise.now) (kinds.End ∷ rest)))))));
+    }
+
+pub push_either-returns : goal.push_either-returns
+push_either-returns t c =
+    record {
+      pushed = ends.pushed_last c.push-2.result c.push-2.new.out.items c.push_orelse_tail.new.out.items c.args.out.now.items (λ r. kinds.End ∷ r)
+          (spells.spell_stmt (tree.either_stmt (view.view_stmts c.args.first.now) (view.orelses_of c.args.more.now)))
+          c.push-2.ensures.pushed (λ rest.
+          c.in_ok-push_orelse_tail.ensures.pushed (kinds.End ∷ rest)
+          ∙ c.in_ok-push_stmts.ensures.pushed (spells.spell_orelse_tail (view.orelses_of c.args.more.now) (kinds.End ∷ rest))
+          ∙ c.in_ok-push.ensures.pushed (spells.spell_stmts (view.view_stmts c.args.first.now) (spells.spell_orelse_tail (view.orelses_of c.args.more.now) (kinds.End ∷ rest))));
+    }
+
+pub push_forall-returns : goal.push_forall-returns
+push_forall-returns t c =
+    record {
+      pushed = ends.pushed_last c.push-3.result c.push-3.new.out.items c.push_stmts-2.new.out.items c.args.out.now.items (λ r. kinds.End ∷ r)
+          (spells.spell_stmt (tree.forall_stmt (view.view_stmts c.args.choice.now) (view.view_stmts c.args.body.now)))
+          c.push-3.ensures.pushed (λ rest.
+          c.in_ok-push_stmts-2.ensures.pushed (kinds.End ∷ rest)
+          ∙ c.in_ok-push-2.ensures.pushed (spells.spell_stmts (view.view_stmts c.args.body.now) (kinds.End ∷ rest))
+          ∙ c.in_ok-push_stmts.ensures.pushed (kinds.Do ∷ (spells.spell_stmts (view.view_stmts c.args.body.now) (kinds.End ∷ rest)))
+          ∙ c.in_ok-push.ensures.pushed (spells.spell_stmts (view.view_stmts c.args.choice.now) (kinds.Do ∷ (spells.spell_stmts (view.view_stmts c.args.body.now) (kinds.End ∷ rest)))));
+    }
+
+pub push_read-returns : goal.push_read-returns
+push_read-returns t c =
+    record {
+      pushed = ends.pushed_last c.push-3.result c.push-3.new.out.items c.push_desig_tail.new.out.items c.args.out.now.items (λ r. kinds.CloseParen ∷ r)
+          (spells.spell_stmt (tree.read_stmt (view.view_desig c.args.first.now) (view.desigs_of c.args.more.now)))
+          c.push-3.ensures.pushed (λ rest.
+          c.in_ok-push_desig_tail.ensures.pushed (kinds.CloseParen ∷ rest)
+          ∙ c.in_ok-push_desig.ensures.pushed (spells.spell_desig_tail (view.desigs_of c.args.more.now) (kinds.CloseParen ∷ rest))
+          ∙ c.in_ok-push-2.ensures.pushed (spells.spell_desig (view.view_desig c.args.first.now) (spells.spell_desig_tail (view.desigs_of c.args.more.now) (kinds.CloseParen ∷ rest)))
+          ∙ c.in_ok-push.ensures.pushed (kinds.OpenParen ∷ (spells.spell_desig (view.view_desig c.args.first.now) (spells.spell_desig_tail (view.desigs_of c.args.more.now) (kinds.CloseParen ∷ rest)))));
     }
 
 pub push_arm-returns-in_ok-push-in-Labelled : goal.push_arm-returns-in_ok-push-in-Labelled
