@@ -63,7 +63,7 @@ module _ (p : Program) (code : PlainCode) (input : List ℕ) where
     FineLinks r (more_links how e rest) = FineExpr r e × FineLinks r rest
 
   -- the first slot of an expression is for its value
-  first_slot : (r lo : ℕ) (e : Expr) → FineExpr r e → HasSlots p code r lo (expr_slots e) → slice_get (kinds_at code r) lo ≡ Some slot.Number
+  pub first_slot : (r lo : ℕ) (e : Expr) → FineExpr r e → HasSlots p code r lo (expr_slots e) → slice_get (kinds_at code r) lo ≡ Some slot.Number
   first_slot r lo (Const n) fine h = first_kind p code input r lo slot.Number [] h
   first_slot r lo (Load d) fine h = first_kind p code input r lo slot.Number (desig_slots d) h
   first_slot r lo (Chain negated e links) fine h = first_slot r lo e fine.0 (slots_first p code input r lo (expr_slots e) (links_slots links) h)
@@ -74,7 +74,7 @@ module _ (p : Program) (code : PlainCode) (input : List ℕ) where
   first_slot r lo (CallExpr s args) fine h = absurd fine
 
   -- and it has one
-  some_slots : (r : ℕ) (e : Expr) → FineExpr r e → 0 < length (expr_slots e)
+  pub some_slots : (r : ℕ) (e : Expr) → FineExpr r e → 0 < length (expr_slots e)
   some_slots r (Const n) fine = omega arith
   some_slots r (Load d) fine = omega arith
   some_slots r (Chain negated e links) fine = omega (arith, some_slots r e fine.0, length-append (expr_slots e) (links_slots links))

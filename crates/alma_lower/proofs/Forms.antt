@@ -56,6 +56,7 @@ module _ (code : PlainCode) where
     write_int : {a : ℕ} → IsNumberSlot a → Keeps top (I.WriteInt a)
     write_bool : {a : ℕ} → IsNumberSlot a → Keeps top (I.WriteBool a)
     return : Keeps top I.Return
+    no_case : Keeps top (I.Fault 5)
 
   module _ (full : length (kinds_at code 0) ≡ (head_at code 0).slots) (top : ℕ) (ends : end_at code 0 ≡ top) (plain : (head_at code 0).has_result ≡ false) where
     -- ---- one word
@@ -124,3 +125,4 @@ module _ (code : PlainCode) where
     no_fault at (write_int ha) last = clean at _ (four_true (number_word ha) refl refl refl) refl refl refl refl refl refl last refl
     no_fault at (write_bool ha) last = clean at _ (four_true (number_word ha) refl refl refl) refl refl refl refl refl refl last refl
     no_fault at return last = clean at _ refl refl refl refl refl refl refl last (ap not plain)
+    no_fault at no_case last = clean at _ refl refl refl refl refl refl refl last refl

@@ -1,6 +1,8 @@
+pub mod CaseRows
 pub mod Correct
 pub mod Emits
 pub mod EmitsBody
+pub mod EmitsCase
 pub mod Enough
 pub mod ExampleViews
 pub mod Examples

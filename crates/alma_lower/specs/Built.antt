@@ -1,12 +1,12 @@
 -- The forms of the resolved program that are compiled so far: a body of the module alone, with variables of one cell,
--- numbers of the whole of INTEGER, arithmetic, comparisons, IF, WHILE, REPEAT and WRITE.
-use Rattle.std.specs.Prelude.{◌≡◌, ◌^◌, ◌-◌, true, pos, negsuc, [], ◌∷◌}
+-- numbers of the whole of INTEGER, arithmetic, comparisons, IF, WHILE, REPEAT, CASE and WRITE.
+use Rattle.std.specs.Prelude.{◌≡◌, ◌^◌, ◌-◌, true, pos, negsuc, List, [], ◌∷◌}
 use Rattle.alma_base.specs.Numbers.{is_integer}
 use Rattle.alma_base.specs.declared.number.Range.{Range}
 use Rattle.alma_ir.specs.declared.phrase.Root.TheVariants as root
 use Rattle.alma_ir.specs.declared.phrase.WriteAs.{WriteAs}
 use Rattle.alma_ir.specs.declared.phrase.WriteAs.TheVariants as write_as
-use Rattle.alma_ir.specs.Tree.{Stmts, Stmt, Arms, Test, Expr, Links, Desig, Routine, Program, no_stmts, more_stmts, TestStmt, Assign, CopyCells, If, While, Repeat, ForTo, SomeOf, Case, Either, Forall, Commit, Return, Read, WriteExpr, WriteText, WriteLine, no_arms, more_arms, Value, Bind, Unify, SameCells, Seq, And, Or, Not, CallTest, Const, Load, Chain, Compare, Truth, Known, Chr, CallExpr, no_links, more_links, a_desig, no_sels, more_sels}
+use Rattle.alma_ir.specs.Tree.{Stmts, Stmt, Arms, CaseArms, Else, Test, Expr, Links, Desig, Routine, Program, no_stmts, more_stmts, TestStmt, Assign, CopyCells, If, While, Repeat, ForTo, SomeOf, Case, Either, Forall, Commit, Return, Read, WriteExpr, WriteText, WriteLine, no_arms, more_arms, no_cases, more_cases, no_else, else_part, Value, Bind, Unify, SameCells, Seq, And, Or, Not, CallTest, Const, Load, Chain, Compare, Truth, Known, Chr, CallExpr, no_links, more_links, a_desig, no_sels, more_sels}
 
 -- all numbers of INTEGER
 abbrev pub whole_range : Range
@@ -52,6 +52,11 @@ BuiltWrite write_as.Int = Unit {0}
 BuiltWrite write_as.Bool = Unit {0}
 BuiltWrite write_as.Char = ⊥
 
+-- both ends of a label are numbers of INTEGER
+abbrev pub BuiltLabels : List Range → Type 0
+BuiltLabels [] = Unit {0}
+BuiltLabels (label ∷ rest) = (is_integer label.low ≡ true) × (is_integer label.high ≡ true) × BuiltLabels rest
+
 abbrev mutual
   pub BuiltStmts : Stmts → Type 0
   BuiltStmts no_stmts = Unit {0}
@@ -63,11 +68,11 @@ abbrev mutual
   BuiltStmt (If arms rest) = BuiltArms arms × BuiltStmts rest
   BuiltStmt (While t body) = BuiltTest t × BuiltStmts body
   BuiltStmt (Repeat body t) = BuiltStmts body × BuiltTest t
+  BuiltStmt (Case e arms rest) = BuiltExpr e × BuiltCases arms × BuiltElse rest
   BuiltStmt (WriteExpr e how) = BuiltExpr e × BuiltWrite how
   BuiltStmt (CopyCells d e) = ⊥
   BuiltStmt (ForTo l) = ⊥
   BuiltStmt (SomeOf l) = ⊥
-  BuiltStmt (Case e arms rest) = ⊥
   BuiltStmt (Either _) = ⊥
   BuiltStmt (Forall x y) = ⊥
   BuiltStmt (Commit x) = ⊥
@@ -79,6 +84,14 @@ abbrev mutual
   pub BuiltArms : Arms → Type 0
   BuiltArms no_arms = Unit {0}
   BuiltArms (more_arms t body rest) = BuiltTest t × BuiltStmts body × BuiltArms rest
+
+  pub BuiltCases : CaseArms → Type 0
+  BuiltCases no_cases = Unit {0}
+  BuiltCases (more_cases labels body rest) = BuiltLabels labels × BuiltStmts body × BuiltCases rest
+
+  pub BuiltElse : Else → Type 0
+  BuiltElse no_else = Unit {0}
+  BuiltElse (else_part body) = BuiltStmts body
 
 -- the program is the body of the module alone, of forms that are built
 pub record IsBuilt (p : Program) : Type 0 where

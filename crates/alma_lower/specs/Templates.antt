@@ -1,7 +1,8 @@
 -- The code that is made of each phrase. A phrase stands at an address and takes fresh slots of its own from a slot on:
 -- `expr_slots` and the like are their kinds. The value of an expression stands in its first slot, the place of a
 -- designator too. What is not built yet makes no code.
-use Rattle.std.specs.Prelude.{◌≡◌, ℕ, ◌+◌, Bool, true, false, List, [], ◌∷◌, ◌++◌, length, replicate, map}
+use Rattle.std.specs.Prelude.{◌≡◌, ℕ, ◌+◌, ◌*◌, Bool, true, false, List, [], ◌∷◌, ◌++◌, length, replicate, map}
+use Rattle.alma_base.specs.declared.number.Range.{Range}
 use Rattle.alma_code.specs.declared.cell.SlotKind.{SlotKind}
 use Rattle.alma_code.specs.declared.cell.SlotKind.TheVariants as slot
 use Rattle.alma_code.specs.declared.head.Run.{Run}
@@ -17,7 +18,7 @@ use Rattle.alma_ir.specs.declared.phrase.Root.{Root}
 use Rattle.alma_ir.specs.declared.phrase.Root.TheVariants as root
 use Rattle.alma_ir.specs.declared.phrase.WriteAs.{WriteAs}
 use Rattle.alma_ir.specs.declared.phrase.WriteAs.TheVariants as write_as
-use Rattle.alma_ir.specs.Tree.{Stmts, Stmt, Arms, Test, Expr, Links, Desig, Routine, Global, Program, routine_at, no_stmts, more_stmts, TestStmt, Assign, CopyCells, If, While, Repeat, ForTo, SomeOf, Case, Either, Forall, Commit, Return, Read, WriteExpr, WriteText, WriteLine, no_arms, more_arms, Value, Bind, Unify, SameCells, Seq, And, Or, Not, CallTest, Const, Load, Chain, Compare, Truth, Known, Chr, CallExpr, no_links, more_links, a_desig}
+use Rattle.alma_ir.specs.Tree.{Stmts, Stmt, Arms, CaseArms, Else, Test, Expr, Links, Desig, Routine, Global, Program, routine_at, no_stmts, more_stmts, TestStmt, Assign, CopyCells, If, While, Repeat, ForTo, SomeOf, Case, Either, Forall, Commit, Return, Read, WriteExpr, WriteText, WriteLine, no_arms, more_arms, no_cases, more_cases, no_else, else_part, Value, Bind, Unify, SameCells, Seq, And, Or, Not, CallTest, Const, Load, Chain, Compare, Truth, Known, Chr, CallExpr, no_links, more_links, a_desig}
 
 -- ---- designators: the place goes into the slot `to`
 
@@ -146,7 +147,7 @@ abbrev mutual
   stmt_slots (CopyCells d e) = []
   stmt_slots (ForTo l) = []
   stmt_slots (SomeOf l) = []
-  stmt_slots (Case e arms rest) = []
+  stmt_slots (Case e arms rest) = expr_slots e ++ (slot.Number ∷ slot.Number ∷ (cases_slots arms ++ else_slots rest))
   stmt_slots (Either _) = []
   stmt_slots (Forall x y) = []
   stmt_slots (Commit x) = []
@@ -159,6 +160,16 @@ abbrev mutual
   arms_slots no_arms = []
   arms_slots (more_arms t body rest) = test_slots t ++ (stmts_slots body ++ arms_slots rest)
 
+  -- an arm without labels is never tried: it has no code
+  pub cases_slots : CaseArms → List SlotKind
+  cases_slots no_cases = []
+  cases_slots (more_cases [] body rest) = cases_slots rest
+  cases_slots (more_cases (label ∷ labels) body rest) = stmts_slots body ++ cases_slots rest
+
+  pub else_slots : Else → List SlotKind
+  else_slots no_else = []
+  else_slots (else_part body) = stmts_slots body
+
 -- one after another: each part is given the address at which it stands
 abbrev pub in_row : List Instr → (at : ℕ) → ((at : ℕ) → List Instr) → List Instr
 in_row code at rest = code ++ rest (at + length code)
@@ -168,6 +179,16 @@ in_row code at rest = code ++ rest (at + length code)
 abbrev pub guarded_code : (lo : ℕ) → (condition : List Instr) → (body : List Instr) → (at back : ℕ) → List Instr
 guarded_code lo condition body at back =
     condition ++ I.JumpZero lo (at + length condition + 1 + length body + 1) ∷ (body ++ I.Jump back ∷ [])
+
+-- one label of CASE: goes to `hit` where the number in the slot `value` lies in it, else on behind
+abbrev pub label_code : (value bound at hit : ℕ) → Range → List Instr
+label_code value bound at hit label =
+    I.Const bound label.low ∷ I.LessEq (bound + 1) bound value ∷ I.JumpZero (bound + 1) (at + 7)
+    ∷ I.Const bound label.high ∷ I.LessEq (bound + 1) value bound ∷ I.JumpZero (bound + 1) (at + 7) ∷ I.Jump hit ∷ []
+
+abbrev pub labels_code : (value bound at hit : ℕ) → List Range → List Instr
+labels_code value bound at hit [] = []
+labels_code value bound at hit (label ∷ rest) = label_code value bound at hit label ++ labels_code value bound (at + 7) hit rest
 
 abbrev mutual
   pub stmts_code : (at lo : ℕ) → Stmts → List Instr
@@ -196,7 +217,13 @@ abbrev mutual
   stmt_code at lo (CopyCells d e) = []
   stmt_code at lo (ForTo l) = []
   stmt_code at lo (SomeOf l) = []
-  stmt_code at lo (Case e arms rest) = []
+  -- the value, two slots for the labels, and then as IF: the two jumps lead over the second of them, by which each arm leaves
+  stmt_code at lo (Case e arms rest) =
+      let value : List Instr = expr_code lo e in
+      let bound : ℕ = lo + length (expr_slots e) in
+      let head : ℕ = at + length value in
+      let parts : List Instr = in_row (cases_code lo bound (head + 2) (bound + 2) (head + 1) arms) (head + 2) (λ next. else_code next (bound + 2 + length (cases_slots arms)) rest) in
+      value ++ I.Jump (head + 2) ∷ I.Jump (head + 2 + length parts) ∷ parts
   stmt_code at lo (Either _) = []
   stmt_code at lo (Forall x y) = []
   stmt_code at lo (Commit x) = []
@@ -212,6 +239,21 @@ abbrev mutual
       let condition : List Instr = condition_code lo t in
       let arm : List Instr = guarded_code lo condition (stmts_code (at + length condition + 1) (lo + length (test_slots t)) body) at exit in
       in_row arm at (λ next. arms_code next (lo + length (test_slots t) + length (stmts_slots body)) exit rest)
+
+  -- each arm: its labels, a jump over its body, the body, a jump to `exit`
+  pub cases_code : (value bound at lo exit : ℕ) → CaseArms → List Instr
+  cases_code value bound at lo exit no_cases = []
+  cases_code value bound at lo exit (more_cases [] body rest) = cases_code value bound at lo exit rest
+  cases_code value bound at lo exit (more_cases (label ∷ labels) body rest) =
+      let hit : ℕ = at + 7 * length (label ∷ labels) + 1 in
+      let inner : List Instr = stmts_code hit lo body in
+      let arm : List Instr = labels_code value bound at hit (label ∷ labels) ++ I.Jump (hit + length inner + 1) ∷ (inner ++ I.Jump exit ∷ []) in
+      in_row arm at (λ next. cases_code value bound next (lo + length (stmts_slots body)) exit rest)
+
+  -- 5 is the number of NoCase
+  pub else_code : (at lo : ℕ) → Else → List Instr
+  else_code at lo no_else = I.Fault 5 ∷ []
+  else_code at lo (else_part body) = stmts_code at lo body
 
 -- ---- the whole program
 
