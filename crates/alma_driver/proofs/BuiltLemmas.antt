@@ -9,7 +9,7 @@ use Rattle.alma_ir.specs.Checked.{IsChecked}
 use Rattle.alma_ir.specs.Count.{nodes}
 use Rattle.alma_lower.specs.Built.{IsBuilt}
 use Rattle.alma_lower.specs.Templates.{IsCodeOf, body_code}
-use Rattle.alma_lower.proofs.Forms.{Keeps, const, move, add, sub, mul, div, modulo, equal, less, less_eq, neg, flip, local, load, store, jump, jump_zero, check, write_int, write_char, write_bool, write_line, step, return}
+use Rattle.alma_lower.proofs.Forms.{Keeps, const, move, add, sub, mul, div, modulo, equal, less, less_eq, neg, flip, local, load, store, jump, jump_zero, check, write_int, write_char, write_bool, write_line, no_case, step, return}
 use Rattle.alma_lower.proofs.Sound.{all_keep, each_at}
 use Rattle.alma_machine.specs.Built.{is_built, HasOnlyBuilt}
 
@@ -39,6 +39,7 @@ form_is_built code top i (move a b) = refl
 form_is_built code top i (write_char a) = refl
 form_is_built code top i write_line = refl
 form_is_built code top i (step a b c d) = refl
+form_is_built code top i no_case = refl
 form_is_built code top i return = refl
 
 -- code by template has no other form

@@ -18,8 +18,8 @@ use Rattle.alma_code.specs.Picture as picture
 use Rattle.alma_code.specs.Plain.{PlainCode, head_at, kinds_at}
 use Rattle.alma_code.specs.Machine.{Mode, Going, Failing, Ended, Stuck, start}
 use Rattle.alma_ir.specs.declared.phrase.Root.TheVariants as root
-use Rattle.alma_ir.specs.Tree.{Program, Routine, routine_at, no_routine, Stmts, Stmt, Arms, Loop, Test, Expr, Links, Desig, no_stmts, more_stmts, TestStmt, Assign, CopyCells, If, While, Repeat, ForTo, SomeOf, Case, Either, Forall, Commit, Return, Read, WriteExpr, WriteText, WriteLine, no_arms, more_arms, a_loop, Value, Bind, Unify, SameCells, Seq, And, Or, Not, CallTest, Const, Load, Chain, Compare, Truth, Known, Chr, CallExpr, no_links, more_links, a_desig, no_sels, more_sels}
-use Rattle.alma_ir.specs.Phrases.{Phrase, stmts_phrases, stmt_phrases, arms_phrases, loop_phrases, test_phrases, expr_phrases, links_phrases, desig_phrases}
+use Rattle.alma_ir.specs.Tree.{Program, Routine, routine_at, no_routine, Stmts, Stmt, Arms, Loop, Test, Expr, Links, Desig, no_stmts, more_stmts, TestStmt, Assign, CopyCells, If, While, Repeat, ForTo, SomeOf, Case, Either, Forall, Commit, Return, Read, WriteExpr, WriteText, WriteLine, no_arms, more_arms, a_loop, Value, Bind, Unify, SameCells, Seq, And, Or, Not, CallTest, Const, Load, Chain, Compare, Truth, Known, Chr, CallExpr, no_links, more_links, a_desig, no_sels, more_sels, CaseArms, Else, no_cases, more_cases, no_else, else_part}
+use Rattle.alma_ir.specs.Phrases.{Phrase, stmts_phrases, stmt_phrases, arms_phrases, loop_phrases, test_phrases, expr_phrases, links_phrases, desig_phrases, cases_phrases, else_phrases}
 use Rattle.alma_ir.specs.Checked.{IsChecked, RootExists, LoopIsApart, loops_of}
 use Rattle.alma_ir.proofs.Each.{each_of_front, each_of_back, each_of_both}
 use Rattle.alma_mean.specs.Store.{Store, Unknown, Number, top_frame, start_cells}
@@ -28,7 +28,7 @@ use Rattle.alma_mean.specs.Events.{Events, NoYield, Flow, Go, first, node, print
 use Rattle.alma_mean.specs.Events as events
 use Rattle.alma_mean.specs.Meaning.{level, ev_program, result}
 use Rattle.alma_mean.specs.Meaning as meaning
-use Rattle.alma_lower.specs.Built.{IsBuilt, BuiltDesig, BuiltExpr, BuiltLinks, BuiltTest, BuiltStmts, BuiltStmt, BuiltArms, BuiltLoop}
+use Rattle.alma_lower.specs.Built.{IsBuilt, BuiltDesig, BuiltExpr, BuiltLinks, BuiltTest, BuiltStmts, BuiltStmt, BuiltArms, BuiltLoop, BuiltCases, BuiltElse}
 use Rattle.alma_lower.specs.Implements.{ComesTo, Implements, state_after, printed_by}
 use Rattle.alma_lower.specs.Templates.{stmts_slots, stmts_code, body_kinds, body_code, IsCodeOf}
 use Rattle.alma_lower.proofs.Goes.{weaker, node_goes}
@@ -38,7 +38,7 @@ use Rattle.alma_lower.proofs.Steps.{InstrAt, return_ends}
 use Rattle.alma_lower.proofs.ExprRows.{AreVariables, begun}
 use Rattle.alma_lower.proofs.ExprRuns.{HasAt, at_front, at_back, FineDesig, FineExpr, FineLinks}
 use Rattle.alma_lower.proofs.StmtRows.{LeavesStmt}
-use Rattle.alma_lower.proofs.StmtRuns.{FineTest, FineStmts, FineStmt, FineArms, FineLoop, runs_at}
+use Rattle.alma_lower.proofs.StmtRuns.{FineTest, FineStmts, FineStmt, FineArms, FineLoop, runs_at, FineCases, FineElse}
 
 module _ (p : Program) (code : PlainCode) (input : List ℕ) where
   abbrev own : Routine
@@ -116,11 +116,14 @@ module _ (p : Program) (code : PlainCode) (input : List ℕ) where
           (fine_test t built.0 (each_of_front _ (test_phrases t) (stmts_phrases body) roots.1), fine_stmts body built.1 (each_of_back _ (test_phrases t) (stmts_phrases body) roots.1))
       fine_stmt (Repeat body t) built roots =
           (fine_stmts body built.0 (each_of_front _ (stmts_phrases body) (test_phrases t) roots.1), fine_test t built.1 (each_of_back _ (stmts_phrases body) (test_phrases t) roots.1))
+      fine_stmt (Case e arms rest) built roots =
+          let parts = expr_phrases e ++ cases_phrases arms in
+          let two = each_of_front _ parts (else_phrases rest) roots.1 in
+          (fine_expr e built.0 (each_of_front _ (expr_phrases e) (cases_phrases arms) two), fine_cases arms built.1 (each_of_back _ (expr_phrases e) (cases_phrases arms) two), fine_else rest built.2 (each_of_back _ parts (else_phrases rest) roots.1))
       fine_stmt (WriteExpr e how) built roots = (fine_expr e built.0 roots.1, built.1)
       fine_stmt (CopyCells d e) built roots = built
       fine_stmt (ForTo l) built roots = fine_loop l built roots.0.1.0 roots.1
       fine_stmt (SomeOf l) built roots = built
-      fine_stmt (Case e arms rest) built roots = built
       fine_stmt (Either _) built roots = built
       fine_stmt (Forall x y) built roots = built
       fine_stmt (Commit x) built roots = built
@@ -151,6 +154,15 @@ module _ (p : Program) (code : PlainCode) (input : List ℕ) where
             fine_slot limit apart.of_limit.exists,
             apart.two,
           )
+
+      fine_cases : (arms : CaseArms) → BuiltCases arms → Roots (cases_phrases arms) → FineCases p code input 0 arms
+      fine_cases no_cases built roots = tt
+      fine_cases (more_cases labels body rest) built roots =
+          (fine_stmts body built.1 (each_of_front _ (stmts_phrases body) (cases_phrases rest) roots), fine_cases rest built.2 (each_of_back _ (stmts_phrases body) (cases_phrases rest) roots))
+
+      fine_else : (rest : Else) → BuiltElse rest → Roots (else_phrases rest) → FineElse p code input 0 rest
+      fine_else no_else built roots = tt
+      fine_else (else_part body) built roots = fine_stmts body built roots
 
   -- ---- the slots and the instructions of the code
 

@@ -60,6 +60,7 @@ module _ (code : PlainCode) where
     write_line : Keeps top I.WriteLine
     step : {a b c d : ℕ} → IsNumberSlot a → IsNumberSlot b → IsNumberSlot c → d < top → Keeps top (I.Step a b c d)
     return : Keeps top I.Return
+    no_case : Keeps top (I.Fault 5)
 
   module _ (full : length (kinds_at code 0) ≡ (head_at code 0).slots) (top : ℕ) (ends : end_at code 0 ≡ top) (plain : (head_at code 0).has_result ≡ false) where
     -- ---- one word
@@ -133,3 +134,4 @@ module _ (code : PlainCode) where
     no_fault at (step ha hb hc hd) last =
         clean at _ (four_true (number_word ha) (number_word hb) (number_word hc) refl) refl refl refl refl (four_true refl refl refl (address_word hd)) refl last refl
     no_fault at return last = clean at _ refl refl refl refl refl refl refl last (ap not plain)
+    no_fault at no_case last = clean at _ refl refl refl refl refl refl refl last refl

@@ -1,7 +1,9 @@
+pub mod CaseRows
 pub mod Correct
 pub mod Emits
 pub mod EmitsBody
 pub mod EmitsFor
+pub mod EmitsCase
 pub mod Enough
 pub mod ExampleViews
 pub mod Examples

@@ -118,6 +118,18 @@ module _ (p : Program) (code : PlainCode) (input : List ℕ) where
 
   -- ---- IF
 
+  -- the two jumps out of an arm
+  pub leaves_by_two : (first end_at out exit lo lo2 r : ℕ) (b0 : Begun p code input) (v : Store) (t : State) (held : List PlainEntry) → lo ≤ lo2 → InstrAt code input end_at (I.Jump out) → InstrAt code input out (I.Jump exit) → Left p code input first lo r b0.frames v t
+      → (x : Store) (w : Flow NoYield) (u : State) (base : List PlainEntry) → IsGoing base u → LeavesStmt p code input end_at lo2 r (begun p code input v t.now held) x w u
+      → (z : State) × Silently code input 2 u z × IsGoing base z × LeavesStmt p code input exit lo r b0 x w z
+  leaves_by_two first end_at out exit lo lo2 r b0 v t held le leave jump left x (Go y) u base going left1 =
+      let both = left_on p code input first end_at lo lo2 r b0.frames v x t u le left left1 in
+      let a = jump_step code input end_at u.now base u (left_is_at p code input end_at lo2 r t.now x u base going left1) out leave in
+      let at_out = jumped_left end_at out lo r b0.frames x u base both _ a in
+      let b = jump_step code input out a.to.now base a.to (left_is_at p code input out lo r b0.frames x a.to base (moved_going end_at out u.now base u _ a) at_out) exit jump in
+      (b.to, and_then code input a.silently b.silently, moved_going out exit a.to.now base a.to _ b, jumped_left out exit lo r b0.frames x a.to base at_out _ b)
+  leaves_by_two first end_at out exit lo lo2 r b0 v t held le leave jump left x (Return n) u base going never = absurd never
+
   -- an arm, which leaves by the jump at `out`, and the arms behind it
   pub arm_row : (at m end_at out exit lo lo2 lo3 r : ℕ) (cond body rest : Store → Events NoYield) (q : ℕ) → lo ≤ lo2 → lo ≤ lo3 → IsCondition at m lo r q cond → InstrAt code input m (I.JumpZero lo (end_at + 1)) → RunsStmts p code input (m + 1) end_at lo2 r body q → InstrAt code input end_at (I.Jump out) → InstrAt code input out (I.Jump exit)
       → RunsPart (end_at + 1) exit lo3 r rest q → RunsPart at exit lo r (λ v. Visit (on_first (cond v) (λ u _. visit_each (body u)) (λ _. rest v))) q
@@ -134,23 +146,12 @@ module _ (p : Program) (code : PlainCode) (input : List ℕ) where
           (whole_leaves p code input (end_at + 1) exit lo lo3 r 0 24 b0 v t held (rest v) t 0 q le3 left
           (runs_rest v t.now held t (left_is_at p code input (end_at + 1) lo r now v t held going left) left.fits.stand left.routine))
 
-      -- the two jumps out of an arm
-      leaves : (t : State) → Left p code input (m + 1) lo r now v t → (x : Store) (w : Flow NoYield) (u : State) (base : List PlainEntry) → IsGoing base u → LeavesStmt p code input end_at lo2 r (begun p code input v t.now held) x w u
-          → (z : State) × Silently code input 2 u z × IsGoing base z × LeavesStmt p code input exit lo r b0 x w z
-      leaves t left x (Go y) u base going left1 =
-          let both = left_on p code input (m + 1) end_at lo lo2 r now v x t u le2 left left1 in
-          let a = jump_step code input end_at u.now base u (left_is_at p code input end_at lo2 r t.now x u base going left1) out leave in
-          let at_out = jumped_left end_at out lo r now x u base both _ a in
-          let b = jump_step code input out a.to.now base a.to (left_is_at p code input out lo r now x a.to base (moved_going end_at out u.now base u _ a) at_out) exit jump in
-          (b.to, and_then code input a.silently b.silently, moved_going out exit a.to.now base a.to _ b, jumped_left out exit lo r now x a.to base at_out _ b)
-      leaves t left x (Return n) u base going never = absurd never
-
       on_found : (t : State) → IsGoing held t → Left p code input (m + 1) lo r now v t → Goes code input 0 24 (LeavesStmt p code input exit lo r b0) held (visit_each (body v)) t 39 q
       on_found t going left =
           let b1 = begun p code input v t.now held in
           credited code input 0 0 0 24 (LeavesStmt p code input exit lo r b0) held (visit_each (body v)) t 39 q (omega arith)
           (visited_goes code input 6 0 0 (LeavesStmt p code input exit lo r b0) held (body v) t 39 q (omega arith)
-          (then_goes code input 8 6 0 2 (LeavesStmt p code input end_at lo2 r b1) (LeavesStmt p code input exit lo r b0) held (body v) t 39 q (omega arith) (leaves t left)
+          (then_goes code input 8 6 0 2 (LeavesStmt p code input end_at lo2 r b1) (LeavesStmt p code input exit lo r b0) held (body v) t 39 q (omega arith) (leaves_by_two (m + 1) end_at out exit lo lo2 r b0 v t held le2 leave jump left)
           (weaker code input 8 0 (LeavesStmt p code input end_at lo2 r b1) held (body v) t 39 8 q q (omega arith) (omega arith) (runs_body 8 (omega arith) v t.now held t (left_is_at p code input (m + 1) lo r now v t held going left) left.fits.stand left.routine))))
 
   -- the whole: a jump over the jump by which the arms leave

@@ -1,6 +1,8 @@
 -- The code and the slots of a phrase are at most 16 for each of its nodes.
 use Rattle.std.proofs.Common.{◌≡◌, ℕ, ◌+◌, ◌*◌, ◌≤◌, List, [], ◌∷◌, ◌++◌, length, arith, length-append}
 use Rattle.std.specs.Prelude.{Bool, true, false}
+use Rattle.alma_base.specs.declared.number.Range.{Range}
+use Rattle.alma_code.specs.declared.cell.SlotKind.TheVariants as slot
 use Rattle.alma_code.specs.declared.instr.Instr.{Instr}
 use Rattle.alma_code.specs.declared.instr.Instr.TheVariants as I
 use Rattle.alma_ir.specs.declared.phrase.Cmp.{Cmp}
@@ -9,9 +11,9 @@ use Rattle.alma_ir.specs.declared.phrase.Root.{Root}
 use Rattle.alma_ir.specs.declared.phrase.Root.TheVariants as root
 use Rattle.alma_ir.specs.declared.phrase.WriteAs.{WriteAs}
 use Rattle.alma_ir.specs.declared.phrase.WriteAs.TheVariants as write_as
-use Rattle.alma_ir.specs.Tree.{Stmts, Stmt, Arms, Loop, Test, Expr, Links, Desig, no_stmts, more_stmts, TestStmt, Assign, CopyCells, If, While, Repeat, ForTo, SomeOf, Case, Either, Forall, Commit, Return, Read, WriteExpr, WriteText, WriteLine, no_arms, more_arms, a_loop, Value, Bind, Unify, SameCells, Seq, And, Or, Not, CallTest, Const, Load, Chain, Compare, Truth, Known, Chr, CallExpr, no_links, more_links, a_desig}
-use Rattle.alma_ir.specs.Count.{stmts_nodes, stmt_nodes, arms_nodes, loop_nodes, test_nodes, expr_nodes, links_nodes, desig_nodes}
-use Rattle.alma_lower.specs.Templates.{root_code, desig_code, desig_slots, cmp_code, neg_code, expr_code, expr_slots, links_code, links_slots, op_code, test_code, test_slots, condition_code, write_code, guarded_code, entry_code, begin_code, turns_code, stmts_code, stmts_slots, stmt_code, stmt_slots, arms_code, arms_slots, for_code, for_slots}
+use Rattle.alma_ir.specs.Tree.{Stmts, Stmt, Arms, Loop, Test, Expr, Links, Desig, no_stmts, more_stmts, TestStmt, Assign, CopyCells, If, While, Repeat, ForTo, SomeOf, Case, Either, Forall, Commit, Return, Read, WriteExpr, WriteText, WriteLine, no_arms, more_arms, a_loop, Value, Bind, Unify, SameCells, Seq, And, Or, Not, CallTest, Const, Load, Chain, Compare, Truth, Known, Chr, CallExpr, no_links, more_links, a_desig, CaseArms, Else, no_cases, more_cases, no_else, else_part}
+use Rattle.alma_ir.specs.Count.{stmts_nodes, stmt_nodes, arms_nodes, loop_nodes, test_nodes, expr_nodes, links_nodes, desig_nodes, cases_nodes, else_nodes}
+use Rattle.alma_lower.specs.Templates.{root_code, desig_code, desig_slots, cmp_code, neg_code, expr_code, expr_slots, links_code, links_slots, op_code, test_code, test_slots, condition_code, write_code, guarded_code, entry_code, begin_code, turns_code, stmts_code, stmts_slots, stmt_code, stmt_slots, arms_code, arms_slots, for_code, for_slots, label_code, labels_code, cases_code, cases_slots, else_code, else_slots}
 
 -- ---- code
 
@@ -87,6 +89,12 @@ guarded_length : (lo : ℕ) (condition body : List Instr) (at back : ℕ) → le
 guarded_length lo condition body at back =
     omega (arith, length-append condition (I.JumpZero lo (at + length condition + 1 + length body + 1) ∷ (body ++ I.Jump back ∷ [])), length-append body (I.Jump back ∷ []))
 
+-- each label is 7 instructions
+pub labels_long : (value bound at hit : ℕ) (labels : List Range) → length (labels_code value bound at hit labels) ≡ 7 * length labels
+labels_long value bound at hit [] = omega arith
+labels_long value bound at hit (label ∷ rest) =
+    omega (arith, length-append (label_code value bound at hit label) (labels_code value bound (at + 7) hit rest), labels_long value bound (at + 7) hit rest)
+
 mutual
   pub stmts_short : (at lo : ℕ) (x : Stmts) → length (stmts_code at lo x) ≤ 16 * stmts_nodes x
   stmts_short at lo no_stmts = omega arith
@@ -120,7 +128,16 @@ mutual
   stmt_short at lo (CopyCells d e) = omega arith
   stmt_short at lo (ForTo l) = omega (arith, for_short at lo l)
   stmt_short at lo (SomeOf l) = omega arith
-  stmt_short at lo (Case e arms rest) = omega arith
+  stmt_short at lo (Case e arms rest) =
+      let value = expr_code lo e in
+      let bound = lo + length (expr_slots e) in
+      let head = at + length value in
+      let first = cases_code lo bound (head + 2) (bound + 2) (head + 1) arms in
+      let next = head + 2 + length first in
+      let after = bound + 2 + length (cases_slots arms) in
+      let others = else_code next after rest in
+      let jumps = I.Jump (head + 2) ∷ I.Jump (head + 2 + length (first ++ others)) ∷ (first ++ others) in
+      omega (arith, length-append value jumps, length-append first others, expr_short lo e, cases_short lo bound (head + 2) (bound + 2) (head + 1) arms, else_short next after rest)
   stmt_short at lo (Either x) = omega arith
   stmt_short at lo (Forall x y) = omega arith
   stmt_short at lo (Commit x) = omega arith
@@ -154,6 +171,22 @@ mutual
       let exit = turn + length locate + 1 + length b + 2 in
       let tail = I.Step counter limit lo exit ∷ I.Jump turn ∷ [] in
       omega (arith, length-append begin (I.JumpZero (lo + 1) exit ∷ turns_code counter limit lo place locate b turn), length-append x (y ++ three), length-append y three, length-append locate (I.Store place counter ∷ (b ++ tail)), length-append b tail, expr_short (lo + 1) from, expr_short last to, desig_short place d, stmts_short (turn + length locate + 1) inner body)
+
+  pub cases_short : (value bound at lo exit : ℕ) (arms : CaseArms) → length (cases_code value bound at lo exit arms) ≤ 16 * cases_nodes arms
+  cases_short value bound at lo exit no_cases = omega arith
+  cases_short value bound at lo exit (more_cases [] body rest) = omega (arith, cases_short value bound at lo exit rest)
+  cases_short value bound at lo exit (more_cases (label ∷ labels) body rest) =
+      let hit = at + 7 * length (label ∷ labels) + 1 in
+      let inner = stmts_code hit lo body in
+      let leave = I.Jump (hit + length inner + 1) ∷ (inner ++ I.Jump exit ∷ []) in
+      let tests = labels_code value bound at hit (label ∷ labels) in
+      let next = at + length (tests ++ leave) in
+      let after = lo + length (stmts_slots body) in
+      omega (arith, length-append (tests ++ leave) (cases_code value bound next after exit rest), length-append tests leave, length-append inner (I.Jump exit ∷ []), labels_long value bound at hit (label ∷ labels), stmts_short hit lo body, cases_short value bound next after exit rest)
+
+  pub else_short : (at lo : ℕ) (rest : Else) → length (else_code at lo rest) ≤ 1 + 16 * else_nodes rest
+  else_short at lo no_else = omega arith
+  else_short at lo (else_part body) = omega (arith, stmts_short at lo body)
 
 -- ---- slots
 
@@ -201,7 +234,9 @@ mutual
   stmt_few (CopyCells d e) = omega arith
   stmt_few (ForTo l) = omega (arith, for_few l)
   stmt_few (SomeOf l) = omega arith
-  stmt_few (Case e arms rest) = omega arith
+  stmt_few (Case e arms rest) =
+      let bodies = cases_slots arms ++ else_slots rest in
+      omega (arith, length-append (expr_slots e) (slot.Number ∷ slot.Number ∷ bodies), length-append (cases_slots arms) (else_slots rest), expr_few e, cases_few arms, else_few rest)
   stmt_few (Either x) = omega arith
   stmt_few (Forall x y) = omega arith
   stmt_few (Commit x) = omega arith
@@ -218,3 +253,12 @@ mutual
   pub for_few : (l : Loop) → length (for_slots l) ≤ 16 + 16 * loop_nodes l
   for_few (a_loop d range counter limit from to by body) =
       omega (arith, length-append (expr_slots from) (expr_slots to ++ (desig_slots d ++ stmts_slots body)), length-append (expr_slots to) (desig_slots d ++ stmts_slots body), length-append (desig_slots d) (stmts_slots body), expr_few from, expr_few to, desig_few d, stmts_few body)
+
+  pub cases_few : (arms : CaseArms) → length (cases_slots arms) ≤ 16 * cases_nodes arms
+  cases_few no_cases = omega arith
+  cases_few (more_cases [] body rest) = omega (arith, cases_few rest)
+  cases_few (more_cases (label ∷ labels) body rest) = omega (arith, length-append (stmts_slots body) (cases_slots rest), stmts_few body, cases_few rest)
+
+  pub else_few : (rest : Else) → length (else_slots rest) ≤ 16 * else_nodes rest
+  else_few no_else = omega arith
+  else_few (else_part body) = omega (arith, stmts_few body)

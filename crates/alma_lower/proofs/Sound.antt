@@ -4,6 +4,7 @@ use Rattle.std.specs.Prelude.{Bool, true, false, not, map, ◌||◌, nat_lt, nat
 use Rattle.std.specs.List.{AllByRecursion, slice_get, list_all}
 use Rattle.std.proofs.lemmas.Bool.{lt-ltb, le-leb, eq-eqb, cases_lt}
 use Rattle.std.proofs.lemmas.List.{length-replicate}
+use Rattle.alma_base.specs.declared.number.Range.{Range}
 use Rattle.alma_code.specs.declared.cell.SlotKind.{SlotKind}
 use Rattle.alma_code.specs.declared.cell.SlotKind.TheVariants as slot
 use Rattle.alma_code.specs.declared.head.Run.{Run}
@@ -20,17 +21,17 @@ use Rattle.alma_ir.specs.declared.phrase.Cmp.TheVariants as cmp
 use Rattle.alma_ir.specs.declared.phrase.Root.TheVariants as root
 use Rattle.alma_ir.specs.declared.phrase.WriteAs.{WriteAs}
 use Rattle.alma_ir.specs.declared.phrase.WriteAs.TheVariants as write_as
-use Rattle.alma_ir.specs.Tree.{Stmts, Stmt, Arms, Loop, Test, Expr, Links, Desig, Routine, Global, Program, routine_at, no_routine, no_stmts, more_stmts, TestStmt, Assign, CopyCells, If, While, Repeat, ForTo, SomeOf, Case, Either, Forall, Commit, Return, Read, WriteExpr, WriteText, WriteLine, no_arms, more_arms, a_loop, Value, Bind, Unify, SameCells, Seq, And, Or, Not, CallTest, Const, Load, Chain, Compare, Truth, Known, Chr, CallExpr, no_links, more_links, a_desig, no_sels, more_sels}
-use Rattle.alma_ir.specs.Phrases.{Phrase, stmts_phrases, stmt_phrases, arms_phrases, loop_phrases, test_phrases, expr_phrases, links_phrases, desig_phrases}
+use Rattle.alma_ir.specs.Tree.{Stmts, Stmt, Arms, Loop, Test, Expr, Links, Desig, Routine, Global, Program, routine_at, no_routine, no_stmts, more_stmts, TestStmt, Assign, CopyCells, If, While, Repeat, ForTo, SomeOf, Case, Either, Forall, Commit, Return, Read, WriteExpr, WriteText, WriteLine, no_arms, more_arms, a_loop, Value, Bind, Unify, SameCells, Seq, And, Or, Not, CallTest, Const, Load, Chain, Compare, Truth, Known, Chr, CallExpr, no_links, more_links, a_desig, no_sels, more_sels, CaseArms, Else, no_cases, more_cases, no_else, else_part}
+use Rattle.alma_ir.specs.Phrases.{Phrase, stmts_phrases, stmt_phrases, arms_phrases, loop_phrases, test_phrases, expr_phrases, links_phrases, desig_phrases, cases_phrases, else_phrases}
 use Rattle.alma_ir.specs.Checked.{IsChecked, IsGlobal, RootExists, IsHiddenSlot, LoopIsApart, loops_of}
 use Rattle.alma_ir.specs.Count.{nodes, routines_nodes, stmts_nodes}
 use Rattle.alma_ir.proofs.Each.{each_of_front, each_of_back, each_of_append, each_of_both}
-use Rattle.alma_lower.specs.Built.{IsBuilt, BuiltDesig, BuiltExpr, BuiltLinks, BuiltTest, BuiltWrite, BuiltStmts, BuiltStmt, BuiltArms, BuiltLoop}
-use Rattle.alma_lower.specs.Templates.{desig_code, desig_slots, op_code, cmp_code, neg_code, expr_slots, links_slots, expr_code, links_code, test_slots, test_code, condition_code, write_code, stmts_slots, stmt_slots, arms_slots, for_slots, guarded_code, entry_code, begin_code, turns_code, stmts_code, stmt_code, arms_code, for_code, body_kinds, body_code, global_named, IsCodeOf}
+use Rattle.alma_lower.specs.Built.{IsBuilt, BuiltDesig, BuiltExpr, BuiltLinks, BuiltTest, BuiltWrite, BuiltStmts, BuiltStmt, BuiltArms, BuiltLoop, BuiltCases, BuiltElse}
+use Rattle.alma_lower.specs.Templates.{desig_code, desig_slots, op_code, cmp_code, neg_code, expr_slots, links_slots, expr_code, links_code, test_slots, test_code, condition_code, write_code, stmts_slots, stmt_slots, arms_slots, for_slots, guarded_code, entry_code, begin_code, turns_code, stmts_code, stmt_code, arms_code, for_code, body_kinds, body_code, global_named, IsCodeOf, cases_slots, else_slots, label_code, labels_code, cases_code, else_code}
 use Rattle.alma_lower.proofs.Frames.{HasSlots}
 use Rattle.alma_lower.proofs.ExprRows.{first_kind, slots_first, slots_behind}
-use Rattle.alma_lower.proofs.Sizes.{stmts_few}
-use Rattle.alma_lower.proofs.Forms.{two_true, IsNumberSlot, IsPlaceSlot, Keeps, const, move, add, sub, mul, div, modulo, equal, less, less_eq, neg, flip, local, load, store, jump, jump_zero, check, write_int, write_char, write_bool, write_line, step, return, no_fault}
+use Rattle.alma_lower.proofs.Sizes.{stmts_few, labels_long}
+use Rattle.alma_lower.proofs.Forms.{two_true, IsNumberSlot, IsPlaceSlot, Keeps, const, move, add, sub, mul, div, modulo, equal, less, less_eq, neg, flip, local, load, store, jump, jump_zero, check, write_int, write_char, write_bool, write_line, step, return, no_fault, no_case}
 
 module _ (p : Program) (code : PlainCode) (top : ℕ) where
   abbrev own : Routine
@@ -217,6 +218,16 @@ module _ (p : Program) (code : PlainCode) (top : ℕ) where
     keep_entry (pos up) from to a b = less_eq a a b
     keep_entry (negsuc down) from to a b = less_eq a b a
 
+    -- the labels of an arm: each jumps on to the next, to the body of the arm, or behind the labels
+    keep_labels : (value bound at hit : ℕ) (labels : List Range) → IsNumberSlot code value → IsNumberSlot code bound → IsNumberSlot code (bound + 1)
+        → hit < top → at + 7 * length labels < top → AllKeep (labels_code value bound at hit labels)
+    keep_labels value bound at hit [] has bounds result lt end = tt
+    keep_labels value bound at hit (label ∷ rest) has bounds result lt end =
+        let miss : at + 7 < top = omega (arith, end) in
+        both (label_code value bound at hit label) (labels_code value bound (at + 7) hit rest)
+        (const bounds, (less_eq result bounds has, (jump_zero result miss, (const bounds, (less_eq result has bounds, (jump_zero result miss, (jump lt, tt)))))))
+        (keep_labels value bound (at + 7) hit rest has bounds result lt (omega (arith, end)))
+
     mutual
       unfolding stmts_phrases
 
@@ -276,12 +287,39 @@ module _ (p : Program) (code : PlainCode) (top : ℕ) where
           (keep_stmts at lo body built.0 (each_of_front _ (stmts_phrases body) (test_phrases t) roots.1) (front lo (stmts_slots body) (test_slots t) h) (omega (arith, lt, long, longer)))
           (both condition jumps (keep_condition slot_of_test t built.1 (each_of_back _ (stmts_phrases body) (test_phrases t) roots.1) second)
           (jump_zero (test_value slot_of_test t built.1 second) (omega (arith, lt, long, longer)), (jump (omega (arith, lt, long, longer)), (jump (omega (arith, lt, long, longer)), tt))))
+      keep_stmt at lo (Case e arms rest) built roots h lt =
+          let value = expr_code lo e in
+          let bound = lo + length (expr_slots e) in
+          let head = at + length value in
+          let first = cases_code lo bound (head + 2) (bound + 2) (head + 1) arms in
+          let next = head + 2 + length first in
+          let after = bound + 2 + length (cases_slots arms) in
+          let others = else_code next after rest in
+          let jumps = I.Jump (head + 2) ∷ I.Jump (head + 2 + length (first ++ others)) ∷ (first ++ others) in
+          let bodies = cases_slots arms ++ else_slots rest in
+          let own = behind lo (expr_slots e) (slot.Number ∷ slot.Number ∷ bodies) h in
+          let own2 = behind bound (slot.Number ∷ []) (slot.Number ∷ bodies) own in
+          let own3 = behind bound (slot.Number ∷ slot.Number ∷ []) bodies own in
+          let mine = front lo (expr_slots e) (slot.Number ∷ slot.Number ∷ bodies) h in
+          let parts = expr_phrases e ++ cases_phrases arms in
+          let two = each_of_front _ parts (else_phrases rest) roots.1 in
+          let long = length-append value jumps in
+          let longer = length-append first others in
+          both value jumps (keep_expr lo e built.0 (each_of_front _ (expr_phrases e) (cases_phrases arms) two) mine) (
+            jump (omega (arith, lt, long, longer)),
+            (
+              jump (omega (arith, lt, long, longer)),
+              both first others
+                  (keep_cases lo bound (head + 2) (bound + 2) (head + 1) arms (value_slot lo e built.0 mine) (number_first bound (slot.Number ∷ bodies) own) (number_first (bound + 1) bodies own2)
+                  built.1 (each_of_back _ (expr_phrases e) (cases_phrases arms) two) (front (bound + 2) (cases_slots arms) (else_slots rest) own3) (omega (arith, lt, long, longer)) (omega (arith, lt, long, longer)))
+                  (keep_else next after rest built.2 (each_of_back _ parts (else_phrases rest) roots.1) (behind (bound + 2) (cases_slots arms) (else_slots rest) own3) (omega (arith, lt, long, longer))),
+            ),
+          )
       keep_stmt at lo (WriteExpr e how) built roots h lt =
           both (expr_code lo e) (write_code how lo) (keep_expr lo e built.0 roots.1 h) (keep_write how lo built.1 (value_slot lo e built.0 h))
       keep_stmt at lo (CopyCells d e) built roots h lt = absurd built
       keep_stmt at lo (ForTo l) built roots h lt = keep_loop at lo l built roots.0.1.0 roots.1 h lt
       keep_stmt at lo (SomeOf l) built roots h lt = absurd built
-      keep_stmt at lo (Case e arms rest) built roots h lt = absurd built
       keep_stmt at lo (Either _) built roots h lt = absurd built
       keep_stmt at lo (Forall x y) built roots h lt = absurd built
       keep_stmt at lo (Commit x) built roots h lt = absurd built
@@ -356,6 +394,34 @@ module _ (p : Program) (code : PlainCode) (top : ℕ) where
                   (step count bound step_slot (omega (arith, lt, long, long_turns, long_body)), (jump (omega (arith, lt, long, long_turns, long_body)), tt)),
             ),
           )
+
+      keep_cases : (value bound at lo exit : ℕ) (arms : CaseArms) → IsNumberSlot code value → IsNumberSlot code bound → IsNumberSlot code (bound + 1)
+          → BuiltCases arms → Roots (cases_phrases arms) → Slots lo (cases_slots arms) → at + length (cases_code value bound at lo exit arms) < top → exit < top → AllKeep (cases_code value bound at lo exit arms)
+      keep_cases value bound at lo exit no_cases has bounds result built roots h lt out = tt
+      keep_cases value bound at lo exit (more_cases [] body rest) has bounds result built roots h lt out =
+          keep_cases value bound at lo exit rest has bounds result built.2 (each_of_back _ (stmts_phrases body) (cases_phrases rest) roots) h lt out
+      keep_cases value bound at lo exit (more_cases (label ∷ labels) body rest) has bounds result built roots h lt out =
+          let hit = at + 7 * length (label ∷ labels) + 1 in
+          let inner = stmts_code hit lo body in
+          let leave = I.Jump (hit + length inner + 1) ∷ (inner ++ I.Jump exit ∷ []) in
+          let tests = labels_code value bound at hit (label ∷ labels) in
+          let arm = tests ++ leave in
+          let others = cases_code value bound (at + length arm) (lo + length (stmts_slots body)) exit rest in
+          let long = length-append arm others in
+          let longer = length-append tests leave in
+          let longest = length-append inner (I.Jump exit ∷ []) in
+          let seven = labels_long value bound at hit (label ∷ labels) in
+          both arm others
+          (both tests leave (keep_labels value bound at hit (label ∷ labels) has bounds result (omega (arith, lt, long, longer, longest, seven)) (omega (arith, lt, long, longer, longest, seven))) (
+            jump (omega (arith, lt, long, longer, longest, seven)),
+            both inner (I.Jump exit ∷ []) (keep_stmts hit lo body built.1 (each_of_front _ (stmts_phrases body) (cases_phrases rest) roots) (front lo (stmts_slots body) (cases_slots rest) h) (omega (arith, lt, long, longer, longest, seven))) (jump out, tt),
+          ))
+          (keep_cases value bound (at + length arm) (lo + length (stmts_slots body)) exit rest has bounds result built.2 (each_of_back _ (stmts_phrases body) (cases_phrases rest) roots)
+          (behind lo (stmts_slots body) (cases_slots rest) h) (omega (arith, lt, long)) out)
+
+      keep_else : (at lo : ℕ) (rest : Else) → BuiltElse rest → Roots (else_phrases rest) → Slots lo (else_slots rest) → at + length (else_code at lo rest) < top → AllKeep (else_code at lo rest)
+      keep_else at lo no_else built roots h lt = (no_case, tt)
+      keep_else at lo (else_part body) built roots h lt = keep_stmts at lo body built roots h lt
 
 -- ---- the whole code
 

@@ -19,7 +19,7 @@ use Rattle.alma_base.specs.Value.{value_text}
 use Rattle.alma_code.specs.Picture.{PlainFrame, PlainEntry, last_frame, written, cell_at}
 use Rattle.alma_code.specs.Carries.{number_at}
 use Rattle.alma_code.specs.Plain.{PlainCode}
-use Rattle.alma_code.specs.Machine.{Failing, Ended, State, Stepped, act, step, step_in, fetched, ticked, went, faulted, fails_now, goes_to, printed, as_number, number, put_number, to_number, to_place, fitted, with_slot, with_cell, place, as_place, content, as_content, known, store, stuck, ended, returned, left}
+use Rattle.alma_code.specs.Machine.{Failing, Ended, State, Stepped, act, step, step_in, fetched, ticked, went, faulted, fails_now, goes_to, printed, run_faults, as_fault, as_number, number, put_number, to_number, to_place, fitted, with_slot, with_cell, place, as_place, content, as_content, known, store, stuck, ended, returned, left}
 use Rattle.alma_lower.proofs.Goes.{Silently, Prints, IsOn, IsFailing}
 use Rattle.alma_lower.proofs.Frames.{IsAt}
 
@@ -288,6 +288,10 @@ module _ (code : PlainCode) (input : List ℕ) where
     pub fail_step : InstrAt at I.Fail → FailsNow
     unfolding act
     fail_step i = fails_from (does at now held s I.Fail h i)
+
+    pub fault_step : (n : ℕ) (f : RunFault) → InstrAt at (I.Fault n) → slice_get run_faults n ≡ Some f → Faults s f
+    unfolding act
+    fault_step n f i e = faults_now s (passed s) f (does at now held s (I.Fault n) h i ∙ ap (λ o. as_fault o (passed s)) e)
 
     -- with one frame a return ends the run in success
     pub return_ends : InstrAt at I.Return → length now ≡ 1 → ((step code input s).state.mode ≡ Ended end.Succeeded) × ((step code input s).printed ≡ [])

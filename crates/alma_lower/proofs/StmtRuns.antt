@@ -1,21 +1,23 @@
 -- The code of each statement does what its events say at each level: the induction over statements and levels.
-use Rattle.std.proofs.Common.{◌≡◌, ℕ, zero, suc, ◌+◌, ◌<◌, ◌≤◌, List, [], ◌∷◌, ◌++◌, length, refl, sym, subst, arith, length-append, true}
+use Rattle.std.proofs.Common.{◌≡◌, ℕ, zero, suc, ◌+◌, ◌<◌, ◌≤◌, List, [], ◌∷◌, ◌++◌, length, refl, sym, subst, arith, length-append, true, ◌*◌, Some, ℤ}
 use Rattle.alma_base.specs.Numbers.{whole_range, is_integer}
+use Rattle.std.specs.Prelude.{slice_get}
 use Rattle.alma_code.specs.declared.cell.SlotKind.TheVariants as slot
 use Rattle.alma_code.specs.declared.instr.Instr.{Instr}
 use Rattle.alma_code.specs.declared.instr.Instr.TheVariants as I
-use Rattle.alma_code.specs.Plain.{PlainCode}
+use Rattle.alma_code.specs.Plain.{PlainCode, kinds_at}
 use Rattle.alma_ir.specs.declared.phrase.Root.TheVariants as root
 use Rattle.alma_ir.specs.declared.phrase.WriteAs.{WriteAs}
 use Rattle.alma_ir.specs.declared.phrase.WriteAs.TheVariants as write_as
-use Rattle.alma_ir.specs.Tree.{Program, routine_at, Stmts, Stmt, Arms, Loop, Test, Expr, Links, Desig, no_stmts, more_stmts, TestStmt, Assign, CopyCells, If, While, Repeat, ForTo, SomeOf, Case, Either, Forall, Commit, Return, Read, WriteExpr, WriteText, WriteLine, no_arms, more_arms, a_loop, Value, Bind, Unify, SameCells, Seq, And, Or, Not, CallTest, Const, Load, Chain, Compare, Truth, Known, Chr, CallExpr, no_links, more_links, a_desig, no_sels, more_sels}
+use Rattle.alma_ir.specs.Tree.{Program, routine_at, Stmts, Stmt, Arms, Loop, Test, Expr, Links, Desig, no_stmts, more_stmts, TestStmt, Assign, CopyCells, If, While, Repeat, ForTo, SomeOf, Case, Either, Forall, Commit, Return, Read, WriteExpr, WriteText, WriteLine, no_arms, more_arms, a_loop, Value, Bind, Unify, SameCells, Seq, And, Or, Not, CallTest, Const, Load, Chain, Compare, Truth, Known, Chr, CallExpr, no_links, more_links, a_desig, no_sels, more_sels, CaseArms, Else, no_cases, more_cases, no_else, else_part}
 use Rattle.alma_mean.specs.Store.{Store}
 use Rattle.alma_mean.specs.Events.{Events, NoYield, one, Cut}
-use Rattle.alma_mean.specs.Meaning.{Level, level, ev_stmts, ev_stmt, ev_test, ev_expr, ev_desig, ev_arms, turn_for}
+use Rattle.alma_mean.specs.Meaning.{Level, level, ev_stmts, ev_stmt, ev_test, ev_expr, ev_desig, ev_arms, turn_for, ev_cases, ev_else}
 use Rattle.alma_lower.specs.Built.{BuiltDesig, BuiltExpr, BuiltLinks, BuiltWrite}
-use Rattle.alma_lower.specs.Templates.{desig_code, desig_slots, expr_slots, expr_code, test_slots, test_code, condition_code, write_code, stmts_slots, stmt_slots, arms_slots, stmts_code, stmt_code, arms_code, for_slots, entry_code, begin_code, turns_code, for_code}
+use Rattle.alma_lower.specs.Templates.{desig_code, desig_slots, expr_slots, expr_code, test_slots, test_code, condition_code, write_code, stmts_slots, stmt_slots, arms_slots, stmts_code, stmt_code, arms_code, for_slots, entry_code, begin_code, turns_code, for_code, cases_slots, else_slots, labels_code, cases_code, else_code}
 use Rattle.alma_lower.proofs.Goes.{no_step, IsOn}
 use Rattle.alma_lower.proofs.Frames.{HasSlots}
+use Rattle.alma_lower.proofs.Sizes.{labels_long}
 use Rattle.alma_lower.proofs.Simple.{expr_one}
 use Rattle.alma_lower.proofs.Steps.{InstrAt}
 use Rattle.alma_lower.proofs.ExprRows.{AreVariables, first_kind, slots_first, slots_behind}
@@ -23,6 +25,7 @@ use Rattle.alma_lower.proofs.ExprRuns.{HasAt, at_front, at_back, FineDesig, Fine
 use Rattle.alma_lower.proofs.StmtRows.{RunsStmt, RunsStmts, no_stmts_row, more_stmts_row, value_row, write_row, line_row, assign_row}
 use Rattle.alma_lower.proofs.LoopRows.{RunsPart, list_as_part, IsCondition, while_row, while_cut_row, repeat_row, arm_row, if_row, part_as_stmt}
 use Rattle.alma_lower.proofs.ForRows.{IsLoop, RunsTurn, turn_row, for_row}
+use Rattle.alma_lower.proofs.CaseRows.{RunsCases, case_arm_row, no_else_row, else_row, case_row}
 
 -- the steps that must still be made before a cut, of what is taken at a level
 abbrev pub owed : ℕ → ℕ
@@ -58,11 +61,11 @@ module _ (p : Program) (code : PlainCode) (input : List ℕ) where
     FineStmt r (If arms rest) = FineArms r arms × FineStmts r rest
     FineStmt r (While t body) = FineTest r t × FineStmts r body
     FineStmt r (Repeat body t) = FineStmts r body × FineTest r t
+    FineStmt r (Case e arms rest) = FineExpr p code input r e × FineCases r arms × FineElse r rest
     FineStmt r (WriteExpr e how) = FineExpr p code input r e × BuiltWrite how
     FineStmt r (CopyCells d e) = ⊥
     FineStmt r (ForTo l) = FineLoop r l
     FineStmt r (SomeOf l) = ⊥
-    FineStmt r (Case e arms rest) = ⊥
     FineStmt r (Either _) = ⊥
     FineStmt r (Forall x y) = ⊥
     FineStmt r (Commit x) = ⊥
@@ -80,6 +83,14 @@ module _ (p : Program) (code : PlainCode) (input : List ℕ) where
     FineLoop r (a_loop d range counter limit from to by body) =
         FineDesig p code input r d × FineExpr p code input r from × FineExpr p code input r to × FineStmts r body × (range ≡ whole_range) × (is_integer by ≡ true)
         × AreVariables p code input r counter 1 × AreVariables p code input r limit 1 × (counter ≡ limit → ⊥)
+
+    pub FineCases : ℕ → CaseArms → Type 0
+    FineCases r no_cases = Unit {0}
+    FineCases r (more_cases labels body rest) = FineStmts r body × FineCases r rest
+
+    pub FineElse : ℕ → Else → Type 0
+    FineElse r no_else = Unit {0}
+    FineElse r (else_part body) = FineStmts r body
 
   built_desig : (r : ℕ) (d : Desig) → FineDesig p code input r d → BuiltDesig d
   built_desig r (a_desig (root.Local from) cells no_sels) fine = fine.0
@@ -117,6 +128,12 @@ module _ (p : Program) (code : PlainCode) (input : List ℕ) where
 
   part_begins_at : (at at2 exit lo lo2 r : ℕ) (f : Store → Events NoYield) (q : ℕ) → at ≡ at2 → lo ≡ lo2 → RunsPart p code input at exit lo r f q → RunsPart p code input at2 exit lo2 r f q
   part_begins_at at at2 exit lo lo2 r f q e e2 h = subst (λ n. RunsPart p code input n exit lo2 r f q) e (subst (λ n. RunsPart p code input at exit n r f q) e2 h)
+
+  cases_end_at : (at exit exit2 lo r : ℕ) (f : ℤ → Store → Events NoYield) (q : ℕ) → exit ≡ exit2 → RunsCases p code input at exit lo r f q → RunsCases p code input at exit2 lo r f q
+  cases_end_at at exit exit2 lo r f q e h = subst (λ n. RunsCases p code input at n lo r f q) e h
+
+  cases_begin_at : (at at2 exit lo r : ℕ) (f : ℤ → Store → Events NoYield) (q : ℕ) → at ≡ at2 → RunsCases p code input at exit lo r f q → RunsCases p code input at2 exit lo r f q
+  cases_begin_at at at2 exit lo r f q e h = subst (λ n. RunsCases p code input n exit lo r f q) e h
 
   instr_there : (at at2 : ℕ) (i : Instr) → at ≡ at2 → InstrAt code input at i → InstrAt code input at2 i
   instr_there at at2 i e h = subst (λ n. InstrAt code input n i) e h
@@ -373,6 +390,35 @@ module _ (p : Program) (code : PlainCode) (input : List ℕ) where
           part_as_stmt p code input at (at + length (stmt_code at lo (Repeat body t))) lo r (λ v. (level p input (suc n)).repeat body t v) n
           (repeat_run body t at lo r fine.0 fine.1 i slots
           (stmts_run body at lo r fine.0 (at_front code input at (stmts_code at lo body) _ i) (slots_first p code input r lo (stmts_slots body) (test_slots t) slots)))
+      stmt_run (Case e arms rest) at lo r fine i slots =
+          let value = expr_code lo e in
+          let bound = lo + length (expr_slots e) in
+          let head = at + length value in
+          let c = cases_code lo bound (head + 2) (bound + 2) (head + 1) arms in
+          let m = head + 2 + length c in
+          let lo3 = bound + 2 + length (cases_slots arms) in
+          let d = else_code m lo3 rest in
+          let parts = c ++ d in
+          let exit = head + 2 + length parts in
+          let jumps = I.Jump (head + 2) ∷ I.Jump exit ∷ parts in
+          let e1 : exit ≡ at + length (value ++ jumps) = omega (arith, length-append value jumps) in
+          let e2 : m + length d ≡ exit = omega (arith, length-append c d) in
+          let second : head + 1 + 1 ≡ head + 2 = omega arith in
+          let behind = at_back code input at value jumps i in
+          let inside = subst (λ k. HasAt code input k parts) second behind.1.1 in
+          let bodies = cases_slots arms ++ else_slots rest in
+          let own = slots_behind p code input r lo (expr_slots e) (slot.Number ∷ slot.Number ∷ bodies) slots in
+          let own2 = slots_behind p code input r bound (slot.Number ∷ []) (slot.Number ∷ bodies) own in
+          let own3 = slots_behind p code input r bound (slot.Number ∷ slot.Number ∷ []) bodies own in
+          stmt_ends_at at exit (at + length (value ++ jumps)) lo r (λ v. ev_stmt p input (level p input n) (Case e arms rest) v) n e1
+          (case_row p code input at head exit lo r (λ v. ev_expr p input (level p input n) e v) (λ a v. ev_cases p input (level p input n) arms a v (ev_else p input (level p input n) rest)) n
+          (expr_runs p code input (level p input n) n at lo r e fine.0 (at_front code input at value jumps i) (slots_first p code input r lo (expr_slots e) (slot.Number ∷ slot.Number ∷ bodies) slots))
+          behind.0
+          (cases_run arms rest (head + 2) (head + 1) exit lo bound (bound + 2) r (omega (arith, some_slots p code input r e fine.0)) (omega arith) slots.behind
+          (first_kind p code input r bound slot.Number (slot.Number ∷ bodies) own) (first_kind p code input r (bound + 1) slot.Number bodies own2)
+          fine.1 behind.1.0 (at_front code input (head + 2) c d inside) (slots_first p code input r (bound + 2) (cases_slots arms) (else_slots rest) own3)
+          (cases_end_at m (m + length d) exit lo r (λ a v. ev_else p input (level p input n) rest v) n e2
+          (else_run rest m lo lo3 r fine.2 (omega arith) (at_back code input (head + 2) c d inside) (slots_behind p code input r (bound + 2) (cases_slots arms) (else_slots rest) own3)))))
       stmt_run (WriteExpr e how) at lo r fine i slots =
           let c = expr_code lo e in
           let exit : at + length c + length (write_code how lo) ≡ at + length (c ++ write_code how lo) = omega (arith, length-append c (write_code how lo)) in
@@ -382,7 +428,6 @@ module _ (p : Program) (code : PlainCode) (input : List ℕ) where
       stmt_run (CopyCells d e) at lo r fine i slots = absurd fine
       stmt_run (ForTo l) at lo r fine i slots = for_run l at lo r fine i slots
       stmt_run (SomeOf l) at lo r fine i slots = absurd fine
-      stmt_run (Case e arms rest) at lo r fine i slots = absurd fine
       stmt_run (Either _) at lo r fine i slots = absurd fine
       stmt_run (Forall x y) at lo r fine i slots = absurd fine
       stmt_run (Commit x) at lo r fine i slots = absurd fine
@@ -425,6 +470,49 @@ module _ (p : Program) (code : PlainCode) (input : List ℕ) where
           (part_begins_at next (end_at + 1) exit lo3 lo3 r (λ v. ev_arms p input (level p input n) more v (ev_stmts p input (level p input n) rest)) n e refl
           (arms_run more rest next out exit lo3 r fine.2 jump (at_back code input at arm d i) (slots_behind p code input r lo2 (stmts_slots body) (arms_slots more) later)
           (part_begins_at (at + length (arm ++ d)) (next + length d) exit (lo + length (test_slots t ++ (stmts_slots body ++ arms_slots more))) (lo3 + length (arms_slots more)) r (λ v. ev_stmts p input (level p input n) rest v) n e2 e3 runs_rest)))
+
+      cases_run : (arms : CaseArms) (rest : Else) (at out exit lo bound lo2 r : ℕ) → lo < bound → lo ≤ lo2 → (routine_at p r).slots ≤ lo
+          → slice_get (kinds_at code r) bound ≡ Some slot.Number → slice_get (kinds_at code r) (bound + 1) ≡ Some slot.Number
+          → FineCases r arms → InstrAt code input out (I.Jump exit) → HasAt code input at (cases_code lo bound at lo2 out arms) → HasSlots p code r lo2 (cases_slots arms)
+          → RunsCases p code input (at + length (cases_code lo bound at lo2 out arms)) exit lo r (λ a v. ev_else p input (level p input n) rest v) n
+          → RunsCases p code input at exit lo r (λ a v. ev_cases p input (level p input n) arms a v (ev_else p input (level p input n) rest)) n
+      cases_run no_cases rest at out exit lo bound lo2 r apart le behind kind kind2 fine jump i slots runs_rest =
+          let e : at + 0 ≡ at = omega arith in
+          cases_begin_at (at + 0) at exit lo r (λ a v. ev_else p input (level p input n) rest v) n e runs_rest
+      cases_run (more_cases [] body more) rest at out exit lo bound lo2 r apart le behind kind kind2 fine jump i slots runs_rest =
+          cases_run more rest at out exit lo bound lo2 r apart le behind kind kind2 fine.1 jump i slots runs_rest
+      cases_run (more_cases (label ∷ labels) body more) rest at out exit lo bound lo2 r apart le behind kind kind2 fine jump i slots runs_rest =
+          let m = at + 7 * length (label ∷ labels) in
+          let tests = labels_code lo bound at (m + 1) (label ∷ labels) in
+          let b = stmts_code (m + 1) lo2 body in
+          let end_at = m + 1 + length b in
+          let leave = I.Jump (end_at + 1) ∷ (b ++ I.Jump out ∷ []) in
+          let arm = tests ++ leave in
+          let next = at + length arm in
+          let lo3 = lo2 + length (stmts_slots body) in
+          let d = cases_code lo bound next lo3 out more in
+          let first = at_front code input at arm d i in
+          let long : at + length tests ≡ m = omega (arith, labels_long lo bound at (m + 1) (label ∷ labels)) in
+          let over = subst (λ k. HasAt code input k leave) long (at_back code input at tests leave first) in
+          let e : next ≡ end_at + 1 = omega (arith, length-append tests leave, length-append b (I.Jump out ∷ []), long) in
+          let e2 : at + length (arm ++ d) ≡ next + length d = omega (arith, length-append arm d) in
+          case_arm_row p code input at m end_at out exit lo bound lo2 r label labels (λ v. ev_stmts p input (level p input n) body v) (λ a v. ev_cases p input (level p input n) more a v (ev_else p input (level p input n) rest)) n
+          apart le behind kind kind2 refl (at_front code input at tests leave first) over.0
+          (stmts_run body (m + 1) lo2 r fine.0 (at_front code input (m + 1) b (I.Jump out ∷ []) over.1) (slots_first p code input r lo2 (stmts_slots body) (cases_slots more) slots))
+          (at_back code input (m + 1) b (I.Jump out ∷ []) over.1).0
+          jump
+          (cases_begin_at next (end_at + 1) exit lo r (λ a v. ev_cases p input (level p input n) more a v (ev_else p input (level p input n) rest)) n e
+          (cases_run more rest next out exit lo bound lo3 r apart (omega (arith, le)) behind kind kind2 fine.1 jump (at_back code input at arm d i) (slots_behind p code input r lo2 (stmts_slots body) (cases_slots more) slots)
+          (cases_begin_at (at + length (arm ++ d)) (next + length d) exit lo r (λ a v. ev_else p input (level p input n) rest v) n e2 runs_rest)))
+
+      else_run : (rest : Else) (at lo lo2 r : ℕ) → FineElse r rest → lo ≤ lo2 → HasAt code input at (else_code at lo2 rest) → HasSlots p code r lo2 (else_slots rest)
+          → RunsCases p code input at (at + length (else_code at lo2 rest)) lo r (λ a v. ev_else p input (level p input n) rest v) n
+      else_run no_else at lo lo2 r fine le i slots = no_else_row p code input at (at + 1) lo r n i.0
+      else_run (else_part body) at lo lo2 r fine le i slots =
+          let exit = at + length (stmts_code at lo2 body) in
+          else_row p code input at exit lo lo2 r (λ v. ev_stmts p input (level p input n) body v) n le
+          (list_as_part p code input at exit lo2 r (λ v. ev_stmts p input (level p input n) body v) n
+          (stmts_run body at lo2 r fine i slots))
 
     -- what is known at a level is known at the next
     runs_above : RunsAt (suc n)

@@ -1,11 +1,12 @@
 -- The forms of the resolved program that are compiled so far: a body of the module alone, with variables of one cell,
--- numbers of the whole of INTEGER, arithmetic, comparisons, IF, WHILE, REPEAT, FOR, WRITE and WRITELN.
-use Rattle.std.specs.Prelude.{◌≡◌, true, [], ◌∷◌}
+-- numbers of the whole of INTEGER, arithmetic, comparisons, IF, WHILE, REPEAT, FOR, CASE, WRITE and WRITELN.
+use Rattle.std.specs.Prelude.{◌≡◌, true, List, [], ◌∷◌}
 use Rattle.alma_base.specs.Numbers.{whole_range, is_integer}
 use Rattle.alma_ir.specs.declared.phrase.Root.TheVariants as root
 use Rattle.alma_ir.specs.declared.phrase.WriteAs.{WriteAs}
 use Rattle.alma_ir.specs.declared.phrase.WriteAs.TheVariants as write_as
-use Rattle.alma_ir.specs.Tree.{Stmts, Stmt, Arms, Loop, Test, Expr, Links, Desig, Routine, Program, no_stmts, more_stmts, TestStmt, Assign, CopyCells, If, While, Repeat, ForTo, SomeOf, Case, Either, Forall, Commit, Return, Read, WriteExpr, WriteText, WriteLine, no_arms, more_arms, a_loop, Value, Bind, Unify, SameCells, Seq, And, Or, Not, CallTest, Const, Load, Chain, Compare, Truth, Known, Chr, CallExpr, no_links, more_links, a_desig, no_sels, more_sels}
+use Rattle.alma_ir.specs.Tree.{Stmts, Stmt, Arms, Loop, Test, Expr, Links, Desig, Routine, Program, no_stmts, more_stmts, TestStmt, Assign, CopyCells, If, While, Repeat, ForTo, SomeOf, Case, Either, Forall, Commit, Return, Read, WriteExpr, WriteText, WriteLine, no_arms, more_arms, a_loop, Value, Bind, Unify, SameCells, Seq, And, Or, Not, CallTest, Const, Load, Chain, Compare, Truth, Known, Chr, CallExpr, no_links, more_links, a_desig, no_sels, more_sels, CaseArms, Else, no_cases, more_cases, no_else, else_part}
+use Rattle.alma_base.specs.declared.number.Range.{Range}
 
 -- a variable of the module, of one cell
 abbrev pub BuiltDesig : Desig → Type 0
@@ -47,6 +48,11 @@ BuiltWrite write_as.Int = Unit {0}
 BuiltWrite write_as.Bool = Unit {0}
 BuiltWrite write_as.Char = Unit {0}
 
+-- both ends of a label are numbers of INTEGER
+abbrev pub BuiltLabels : List Range → Type 0
+BuiltLabels [] = Unit {0}
+BuiltLabels (label ∷ rest) = (is_integer label.low ≡ true) × (is_integer label.high ≡ true) × BuiltLabels rest
+
 abbrev mutual
   pub BuiltStmts : Stmts → Type 0
   BuiltStmts no_stmts = Unit {0}
@@ -58,11 +64,11 @@ abbrev mutual
   BuiltStmt (If arms rest) = BuiltArms arms × BuiltStmts rest
   BuiltStmt (While t body) = BuiltTest t × BuiltStmts body
   BuiltStmt (Repeat body t) = BuiltStmts body × BuiltTest t
+  BuiltStmt (Case e arms rest) = BuiltExpr e × BuiltCases arms × BuiltElse rest
   BuiltStmt (WriteExpr e how) = BuiltExpr e × BuiltWrite how
   BuiltStmt (CopyCells d e) = ⊥
   BuiltStmt (ForTo l) = BuiltLoop l
   BuiltStmt (SomeOf l) = ⊥
-  BuiltStmt (Case e arms rest) = ⊥
   BuiltStmt (Either _) = ⊥
   BuiltStmt (Forall x y) = ⊥
   BuiltStmt (Commit x) = ⊥
@@ -79,6 +85,14 @@ abbrev mutual
   pub BuiltLoop : Loop → Type 0
   BuiltLoop (a_loop d range counter limit from to by body) =
       BuiltDesig d × BuiltExpr from × BuiltExpr to × BuiltStmts body × (range ≡ whole_range) × (is_integer by ≡ true)
+
+  pub BuiltCases : CaseArms → Type 0
+  BuiltCases no_cases = Unit {0}
+  BuiltCases (more_cases labels body rest) = BuiltLabels labels × BuiltStmts body × BuiltCases rest
+
+  pub BuiltElse : Else → Type 0
+  BuiltElse no_else = Unit {0}
+  BuiltElse (else_part body) = BuiltStmts body
 
 -- the program is the body of the module alone, of forms that are built
 pub record IsBuilt (p : Program) : Type 0 where

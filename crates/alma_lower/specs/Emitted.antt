@@ -1,11 +1,13 @@
 -- What a phrase appends to an emitter: code that depends on the address and on the first free slot, and kinds of slots.
-use Rattle.std.specs.Prelude.{◌≡◌, ℕ, ◌+◌, ℤ, List, [], ◌∷◌, ◌++◌, length}
+use Rattle.std.specs.Prelude.{◌≡◌, ℕ, ◌+◌, ℤ, List, [], ◌∷◌, ◌++◌, length, ◌*◌}
+use Rattle.alma_base.specs.declared.number.Range.{Range}
 use Rattle.alma_code.specs.declared.cell.SlotKind.{SlotKind}
+use Rattle.alma_code.specs.declared.cell.SlotKind.TheVariants as slot
 use Rattle.alma_code.specs.declared.instr.Instr.{Instr}
 use Rattle.alma_code.specs.declared.instr.Instr.TheVariants as I
-use Rattle.alma_ir.specs.Tree.{Stmts, Stmt, Arms, Test, Expr, Links, Desig}
+use Rattle.alma_ir.specs.Tree.{Stmts, Stmt, Arms, CaseArms, Else, Test, Expr, Links, Desig}
 use Rattle.alma_lower.specs.declared.emit.Emit.{Emit}
-use Rattle.alma_lower.specs.Templates.{desig_code, desig_slots, expr_code, expr_slots, links_code, links_slots, test_code, test_slots, condition_code, guarded_code, bounds_code, turns_code, stmts_code, stmts_slots, stmt_code, stmt_slots, arms_code, arms_slots}
+use Rattle.alma_lower.specs.Templates.{desig_code, desig_slots, expr_code, expr_slots, links_code, links_slots, test_code, test_slots, condition_code, guarded_code, bounds_code, turns_code, stmts_code, stmts_slots, stmt_code, stmt_slots, arms_code, arms_slots, labels_code, cases_code, cases_slots, else_code, else_slots}
 
 -- the first free slot
 abbrev pub next_slot : Emit → ℕ
@@ -65,3 +67,28 @@ pub record PutsBounds (a b : Emit) (by : ℤ) (counter limit : ℕ) (from to : E
 -- the turns of a FOR, whose step stands in a slot
 pub record PutsTurns (a b : Emit) (counter limit step : ℕ) (var : Desig) (body : Stmts) : Type 0 where
   pub all : Appends a b (λ at lo. turns_code counter limit step lo (desig_code lo var) (stmts_code (at + length (desig_code lo var) + 1) (lo + length (desig_slots var)) body) at) (desig_slots var ++ stmts_slots body)
+
+-- ---- CASE
+
+-- the value, the two slots for the labels, and the two jumps before the arms, of which the second is still to be aimed
+pub record PutsCaseHead (a b : Emit) (e : Expr) : Type 0 where
+  pub all : Appends a b (λ at lo. expr_code lo e ++ I.Jump (at + length (expr_code lo e) + 2) ∷ I.Jump 0 ∷ []) (expr_slots e ++ slot.Number ∷ slot.Number ∷ [])
+
+pub record PutsLabels (a b : Emit) (value bound hit : ℕ) (labels : List Range) : Type 0 where
+  pub all : Appends a b (λ at lo. labels_code value bound at hit labels) []
+
+-- the labels of an arm, a jump over its body, the body, and the jump to `exit`
+abbrev pub case_arm_code : (value bound exit : ℕ) → List Range → Stmts → (at lo : ℕ) → List Instr
+case_arm_code value bound exit labels body at lo =
+    let hit : ℕ = at + 7 * length labels + 1 in
+    let inner : List Instr = stmts_code hit lo body in
+    labels_code value bound at hit labels ++ I.Jump (hit + length inner + 1) ∷ (inner ++ I.Jump exit ∷ [])
+
+pub record PutsCaseArm (a b : Emit) (value bound exit : ℕ) (labels : List Range) (body : Stmts) : Type 0 where
+  pub all : Appends a b (case_arm_code value bound exit labels body) (stmts_slots body)
+
+pub record PutsCases (a b : Emit) (value bound exit : ℕ) (arms : CaseArms) : Type 0 where
+  pub all : Appends a b (λ at lo. cases_code value bound at lo exit arms) (cases_slots arms)
+
+pub record PutsElse (a b : Emit) (rest : Else) : Type 0 where
+  pub all : Appends a b (λ at lo. else_code at lo rest) (else_slots rest)

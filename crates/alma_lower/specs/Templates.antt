@@ -1,7 +1,8 @@
 -- The code that is made of each phrase. A phrase stands at an address and takes fresh slots of its own from a slot on:
 -- `expr_slots` and the like are their kinds. The value of an expression stands in its first slot, the place of a
 -- designator too. What is not built yet makes no code.
-use Rattle.std.specs.Prelude.{◌≡◌, ℕ, ◌+◌, Bool, true, false, ℤ, pos, negsuc, List, [], ◌∷◌, ◌++◌, length, replicate, map}
+use Rattle.std.specs.Prelude.{◌≡◌, ℕ, ◌+◌, Bool, true, false, ℤ, pos, negsuc, List, [], ◌∷◌, ◌++◌, length, replicate, map, ◌*◌}
+use Rattle.alma_base.specs.declared.number.Range.{Range}
 use Rattle.alma_code.specs.declared.cell.SlotKind.{SlotKind}
 use Rattle.alma_code.specs.declared.cell.SlotKind.TheVariants as slot
 use Rattle.alma_code.specs.declared.head.Run.{Run}
@@ -17,7 +18,7 @@ use Rattle.alma_ir.specs.declared.phrase.Root.{Root}
 use Rattle.alma_ir.specs.declared.phrase.Root.TheVariants as root
 use Rattle.alma_ir.specs.declared.phrase.WriteAs.{WriteAs}
 use Rattle.alma_ir.specs.declared.phrase.WriteAs.TheVariants as write_as
-use Rattle.alma_ir.specs.Tree.{Stmts, Stmt, Arms, Loop, Test, Expr, Links, Desig, Routine, Global, Program, routine_at, no_stmts, more_stmts, TestStmt, Assign, CopyCells, If, While, Repeat, ForTo, SomeOf, Case, Either, Forall, Commit, Return, Read, WriteExpr, WriteText, WriteLine, no_arms, more_arms, a_loop, Value, Bind, Unify, SameCells, Seq, And, Or, Not, CallTest, Const, Load, Chain, Compare, Truth, Known, Chr, CallExpr, no_links, more_links, a_desig}
+use Rattle.alma_ir.specs.Tree.{Stmts, Stmt, Arms, Loop, Test, Expr, Links, Desig, Routine, Global, Program, routine_at, no_stmts, more_stmts, TestStmt, Assign, CopyCells, If, While, Repeat, ForTo, SomeOf, Case, Either, Forall, Commit, Return, Read, WriteExpr, WriteText, WriteLine, no_arms, more_arms, a_loop, Value, Bind, Unify, SameCells, Seq, And, Or, Not, CallTest, Const, Load, Chain, Compare, Truth, Known, Chr, CallExpr, no_links, more_links, a_desig, CaseArms, Else, no_cases, more_cases, no_else, else_part}
 
 -- ---- designators: the place goes into the slot `to`
 
@@ -146,7 +147,7 @@ abbrev mutual
   stmt_slots (CopyCells d e) = []
   stmt_slots (ForTo l) = for_slots l
   stmt_slots (SomeOf l) = []
-  stmt_slots (Case e arms rest) = []
+  stmt_slots (Case e arms rest) = expr_slots e ++ (slot.Number ∷ slot.Number ∷ (cases_slots arms ++ else_slots rest))
   stmt_slots (Either _) = []
   stmt_slots (Forall x y) = []
   stmt_slots (Commit x) = []
@@ -163,6 +164,16 @@ abbrev mutual
   pub for_slots : Loop → List SlotKind
   for_slots (a_loop d range counter limit from to by body) =
       slot.Number ∷ (expr_slots from ++ (expr_slots to ++ (desig_slots d ++ stmts_slots body)))
+
+  -- an arm without labels is never tried: it has no code
+  pub cases_slots : CaseArms → List SlotKind
+  cases_slots no_cases = []
+  cases_slots (more_cases [] body rest) = cases_slots rest
+  cases_slots (more_cases (label ∷ labels) body rest) = stmts_slots body ++ cases_slots rest
+
+  pub else_slots : Else → List SlotKind
+  else_slots no_else = []
+  else_slots (else_part body) = stmts_slots body
 
 -- one after another: each part is given the address at which it stands
 abbrev pub in_row : List Instr → (at : ℕ) → ((at : ℕ) → List Instr) → List Instr
@@ -194,6 +205,16 @@ abbrev pub turns_code : (counter limit lo place : ℕ) → (locate body : List I
 turns_code counter limit lo place locate body at =
     locate ++ I.Store place counter ∷ (body ++ I.Step counter limit lo (at + length locate + 1 + length body + 2) ∷ I.Jump at ∷ [])
 
+-- one label of CASE: goes to `hit` where the number in the slot `value` lies in it, else on behind
+abbrev pub label_code : (value bound at hit : ℕ) → Range → List Instr
+label_code value bound at hit label =
+    I.Const bound label.low ∷ I.LessEq (bound + 1) bound value ∷ I.JumpZero (bound + 1) (at + 7)
+    ∷ I.Const bound label.high ∷ I.LessEq (bound + 1) value bound ∷ I.JumpZero (bound + 1) (at + 7) ∷ I.Jump hit ∷ []
+
+abbrev pub labels_code : (value bound at hit : ℕ) → List Range → List Instr
+labels_code value bound at hit [] = []
+labels_code value bound at hit (label ∷ rest) = label_code value bound at hit label ++ labels_code value bound (at + 7) hit rest
+
 abbrev mutual
   pub stmts_code : (at lo : ℕ) → Stmts → List Instr
   stmts_code at lo no_stmts = []
@@ -221,7 +242,13 @@ abbrev mutual
   stmt_code at lo (CopyCells d e) = []
   stmt_code at lo (ForTo l) = for_code at lo l
   stmt_code at lo (SomeOf l) = []
-  stmt_code at lo (Case e arms rest) = []
+  -- the value, two slots for the labels, and then as IF: the two jumps lead over the second of them, by which each arm leaves
+  stmt_code at lo (Case e arms rest) =
+      let value : List Instr = expr_code lo e in
+      let bound : ℕ = lo + length (expr_slots e) in
+      let head : ℕ = at + length value in
+      let parts : List Instr = in_row (cases_code lo bound (head + 2) (bound + 2) (head + 1) arms) (head + 2) (λ next. else_code next (bound + 2 + length (cases_slots arms)) rest) in
+      value ++ I.Jump (head + 2) ∷ I.Jump (head + 2 + length parts) ∷ parts
   stmt_code at lo (Either _) = []
   stmt_code at lo (Forall x y) = []
   stmt_code at lo (Commit x) = []
@@ -248,6 +275,21 @@ abbrev mutual
       let locate : List Instr = desig_code place d in
       let code : List Instr = stmts_code (turn + length locate + 1) (place + length (desig_slots d)) body in
       begin ++ I.JumpZero (lo + 1) (turn + length locate + 1 + length code + 2) ∷ turns_code counter limit lo place locate code turn
+
+  -- each arm: its labels, a jump over its body, the body, a jump to `exit`
+  pub cases_code : (value bound at lo exit : ℕ) → CaseArms → List Instr
+  cases_code value bound at lo exit no_cases = []
+  cases_code value bound at lo exit (more_cases [] body rest) = cases_code value bound at lo exit rest
+  cases_code value bound at lo exit (more_cases (label ∷ labels) body rest) =
+      let hit : ℕ = at + 7 * length (label ∷ labels) + 1 in
+      let inner : List Instr = stmts_code hit lo body in
+      let arm : List Instr = labels_code value bound at hit (label ∷ labels) ++ I.Jump (hit + length inner + 1) ∷ (inner ++ I.Jump exit ∷ []) in
+      in_row arm at (λ next. cases_code value bound next (lo + length (stmts_slots body)) exit rest)
+
+  -- 5 is the number of NoCase
+  pub else_code : (at lo : ℕ) → Else → List Instr
+  else_code at lo no_else = I.Fault 5 ∷ []
+  else_code at lo (else_part body) = stmts_code at lo body
 
 -- ---- the whole program
 

@@ -2,18 +2,22 @@
 ghost use Rattle.std.specs.Prelude.{◌≡◌, ℕ, ◌+◌, ◌*◌, ◌<◌, ◌≤◌, List, [], ◌∷◌, ◌++◌, length, IfOk, OnOk};
 ghost use Rattle.alma_base.specs.Numbers.{whole_range};
 ghost use Rattle.alma_code.specs.declared.instr.Instr.TheVariants as instr;
-ghost use Rattle.alma_ir.specs.View.{desig_of, expr_of, test_of, stmt_of, loop_of, stmts_list, arms_list};
-ghost use Rattle.alma_ir.specs.Count.{desig_nodes, expr_nodes, test_nodes, stmt_nodes, stmts_nodes, arms_nodes, loop_nodes};
+ghost use Rattle.alma_ir.specs.View.{desig_of, expr_of, test_of, stmt_of, loop_of, stmts_list, arms_list, cases_list};
+ghost use Rattle.alma_ir.specs.Count.{desig_nodes, expr_nodes, test_nodes, stmt_nodes, stmts_nodes, arms_nodes, loop_nodes, cases_nodes};
 ghost use Rattle.alma_ir.specs.Tree as tree;
-ghost use Rattle.alma_lower.specs.Built.{BuiltDesig, BuiltExpr, BuiltTest, BuiltWrite, BuiltStmts, BuiltStmt, BuiltArms, BuiltLoop};
+ghost use Rattle.alma_lower.specs.Built.{BuiltDesig, BuiltExpr, BuiltTest, BuiltWrite, BuiltStmts, BuiltStmt, BuiltArms, BuiltLoop, BuiltCases};
 ghost use Rattle.alma_lower.specs.Templates.{condition_code, test_slots};
-ghost use Rattle.alma_lower.specs.Emitted.{next_slot, filled, Appends, PutsCondition, PutsTest, PutsGuarded, PutsStmts, PutsStmt, PutsArms, PutsTurns};
+ghost use Rattle.alma_lower.specs.Emitted.{next_slot, filled, Appends, PutsCondition, PutsTest, PutsGuarded, PutsStmts, PutsStmt, PutsArms, PutsTurns, PutsCaseArm, PutsCases};
 
 use crate::emit::{Emit, emit_const, emit_desig, emit_expr};
+use crate::emit_case::{CaseHead, emit_case_head, emit_labels};
 use crate::emit_loop::emit_bounds;
-use alma_base::NoMemory;
+use alma_base::{NoMemory, Range};
 use alma_code::Instr;
-use alma_ir::{Arm, Desig, Expr, Loop, Stmt, Test, WriteAs};
+use alma_ir::{Arm, CaseArm, Desig, Expr, Loop, Stmt, Test, WriteAs};
+
+// The number of the fault NoCase.
+const NO_CASE: u32 = 5;
 
 // A condition, and the slot that is 0 where it has no alternative.
 fn emit_condition(emit: &mut Emit, test: &Test) -> Result<u32, NoMemory>
@@ -200,6 +204,47 @@ fn emit_for(emit: &mut Emit, each: &Loop) -> Result<(), NoMemory>
     Ok(())
 }
 
+// An arm of CASE: its labels, a jump over its body, the body, and the jump out.
+#[cycle(body)]
+fn emit_case_arm(
+    emit: &mut Emit,
+    body: &[Stmt],
+    labels: &[Range],
+    head: CaseHead,
+) -> Result<(), NoMemory>
+    requires body { BuiltStmts (stmts_list body.now) }
+    requires bound { head.bound < 8388608 }
+    requires room { filled emit.old + 16 + 16 * length labels.now + 16 * stmts_nodes (stmts_list body.now) ≤ 8388608 }
+    ensures puts { OnOk result (PutsCaseArm emit.old emit.new head.value head.bound head.exit labels.now (stmts_list body.now)) }
+    ensures few { OnOk result (filled emit.new ≤ filled emit.old + 16 + 16 * length labels.now + 16 * stmts_nodes (stmts_list body.now)) }
+{
+    let hit = emit.here() + 7 * labels.len() as u32 + 1;
+    emit_labels(emit, head, hit, labels)?;
+    let over = emit.here();
+    emit.put(Instr::Jump { to: 0 })?;
+    emit_stmts(emit, body)?;
+    emit.put(Instr::Jump { to: head.exit })?;
+    emit.aim(over);
+    Ok(())
+}
+
+// The arms of CASE. An arm without labels is never tried: it has no code.
+#[cycle(body)]
+fn emit_cases(emit: &mut Emit, arms: &[CaseArm], head: CaseHead) -> Result<(), NoMemory>
+    requires built { BuiltCases (cases_list arms.now) }
+    requires bound { head.bound < 8388608 }
+    requires room { filled emit.old + 16 * cases_nodes (cases_list arms.now) ≤ 8388608 }
+    ensures puts { OnOk result (PutsCases emit.old emit.new head.value head.bound head.exit (cases_list arms.now)) }
+    ensures few { OnOk result (filled emit.new ≤ filled emit.old + 16 * cases_nodes (cases_list arms.now)) }
+{
+    for arm in arms {
+        if !arm.labels.is_empty() {
+            emit_case_arm(emit, &arm.body, &arm.labels, head)?;
+        }
+    }
+    Ok(())
+}
+
 // Statements in order.
 #[cycle(body)]
 pub(crate) fn emit_stmts(emit: &mut Emit, body: &[Stmt]) -> Result<(), NoMemory>
@@ -236,11 +281,20 @@ fn emit_stmt(emit: &mut Emit, stmt: &Stmt) -> Result<(), NoMemory>
         }
         Stmt::While(test, body) => emit_while(emit, body, test),
         Stmt::Repeat(body, test) => emit_repeat(emit, body, test),
+        Stmt::Case(value, arms, rest) => {
+            let head = emit_case_head(emit, value)?;
+            emit_cases(emit, arms, head)?;
+            match rest {
+                Some(body) => emit_stmts(emit, body)?,
+                None => emit.put(Instr::Fault { number: NO_CASE })?,
+            }
+            emit.aim(head.exit);
+            Ok(())
+        }
         Stmt::WriteExpr(value, how) => emit_write(emit, value, *how),
         Stmt::CopyCells(_, _) => unreachable!(),
         Stmt::ForTo(each) => emit_for(emit, each),
         Stmt::SomeOf(_) => unreachable!(),
-        Stmt::Case(_, _, _) => unreachable!(),
         Stmt::Either(_) => unreachable!(),
         Stmt::Forall(_, _) => unreachable!(),
         Stmt::Commit(_) => unreachable!(),

@@ -3,6 +3,7 @@
 
 mod emit;
 mod emit_body;
+mod emit_case;
 mod emit_loop;
 mod emit_tables;
 #[cfg(test)]

@@ -1,10 +1,10 @@
 -- The loops over statements and arms: what is left is built, has room, and completes what was put.
 use Rattle.std.proofs.Common.{◌+◌, ◌*◌, ◌≤◌, drop}
-use Rattle.alma_ir.specs.View.{stmts_list, arms_list}
-use Rattle.alma_ir.specs.Count.{stmts_nodes, arms_nodes}
+use Rattle.alma_ir.specs.View.{stmts_list, arms_list, cases_list}
+use Rattle.alma_ir.specs.Count.{stmts_nodes, arms_nodes, cases_nodes}
 use Rattle.alma_lower.specs.declared.emit.Emit.{Emit}
-use Rattle.alma_lower.specs.Built.{BuiltStmts, BuiltArms}
-use Rattle.alma_lower.specs.Emitted.{filled, PutsStmts, PutsArms}
+use Rattle.alma_lower.specs.Built.{BuiltStmts, BuiltArms, BuiltCases}
+use Rattle.alma_lower.specs.Emitted.{filled, PutsStmts, PutsArms, PutsCases}
 use Rattle.alma_lower.proofs.emit_body.+body.Given as goal
 
 abbrev pub invariant-emit_stmts-loop-stmt : goal.invariant-emit_stmts-loop-stmt
@@ -19,4 +19,11 @@ invariant-emit_arms-loop-arm l = record {
   built : BuiltArms (arms_list (drop l.arm-index l.arms));
   few : filled l.emit + 16 * arms_nodes (arms_list (drop l.arm-index l.arms)) ≤ filled l.fn.emit + 16 * arms_nodes (arms_list l.arms);
   completes : (c : Emit) → PutsArms l.emit c l.exit (arms_list (drop l.arm-index l.arms)) → PutsArms l.fn.emit c l.exit (arms_list l.arms);
+}
+
+abbrev pub invariant-emit_cases-loop-arm : goal.invariant-emit_cases-loop-arm
+invariant-emit_cases-loop-arm l = record {
+  built : BuiltCases (cases_list (drop l.arm-index l.arms));
+  few : filled l.emit + 16 * cases_nodes (cases_list (drop l.arm-index l.arms)) ≤ filled l.fn.emit + 16 * cases_nodes (cases_list l.arms);
+  completes : (c : Emit) → PutsCases l.emit c l.head.value l.head.bound l.head.exit (cases_list (drop l.arm-index l.arms)) → PutsCases l.fn.emit c l.head.value l.head.bound l.head.exit (cases_list l.arms);
 }
