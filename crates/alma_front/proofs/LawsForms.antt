@@ -290,7 +290,7 @@ mutual
   built_stmt count (Repeat block t) f = (built_stmts count block f.0, built_test count t f.1)
   built_stmt count (WriteExpr e how) f = (built_expr count e f.0, f.1)
   built_stmt count (CopyCells d e) f = f
-  built_stmt count (ForTo l) f = f
+  built_stmt count (ForTo l) f = absurd f
   built_stmt count (SomeOf l) f = f
   built_stmt count (Case e arms rest) f = f
   built_stmt count (Either _) f = f
@@ -299,7 +299,7 @@ mutual
   built_stmt count (Return e) f = f
   built_stmt count (Read d how range) f = f
   built_stmt count (WriteText text) f = f
-  built_stmt count WriteLine f = f
+  built_stmt count WriteLine f = absurd f
 
   built_arms : (count : ℕ) (arms : Arms) → FormArms count arms → BuiltArms arms
   built_arms count no_arms f = tt

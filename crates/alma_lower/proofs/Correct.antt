@@ -149,7 +149,6 @@ module _ (p : Program) (code : PlainCode) (input : List ℕ) where
             fine_expr to built.2 (each_of_back IsApart (desig_phrases d ++ expr_phrases from) (expr_phrases to) before),
             fine_stmts body built.3 (each_of_back IsApart bounds (stmts_phrases body) roots),
             built.4,
-            built.5,
             fine_slot counter apart.of_counter.exists,
             fine_slot limit apart.of_limit.exists,
             apart.two,

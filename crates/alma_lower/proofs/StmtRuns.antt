@@ -81,7 +81,7 @@ module _ (p : Program) (code : PlainCode) (input : List ℕ) where
     -- counter and limit are two slots of the routine
     pub FineLoop : ℕ → Loop → Type 0
     FineLoop r (a_loop d range counter limit from to by body) =
-        FineDesig p code input r d × FineExpr p code input r from × FineExpr p code input r to × FineStmts r body × (range ≡ whole_range) × (is_integer by ≡ true)
+        FineDesig p code input r d × FineExpr p code input r from × FineExpr p code input r to × FineStmts r body × (range ≡ whole_range)
         × AreVariables p code input r counter 1 × AreVariables p code input r limit 1 × (counter ≡ limit → ⊥)
 
     pub FineCases : ℕ → CaseArms → Type 0
@@ -260,7 +260,7 @@ module _ (p : Program) (code : PlainCode) (input : List ℕ) where
         let rest2 = slots_behind p code input r (lo + 1) (expr_slots from) (expr_slots to ++ (desig_slots d ++ stmts_slots body)) rest in
         let rest3 = slots_behind p code input r last (expr_slots to) (desig_slots d ++ stmts_slots body) rest2 in
         turn_row p code input turn m end_at (end_at + 2) lo place inner r counter limit by range (λ v. ev_desig p input (level p input n) d v) (λ v. (level p input n).stmts body v) (λ v. (level p input n).for (a_loop d range counter limit from to by body) v) n (owed n) (owed_before n) fine.4
-        (loop_is r lo counter limit from to slots.behind fine.6 fine.7 fine.8) (omega arith)
+        (loop_is r lo counter limit from to slots.behind fine.5 fine.6 fine.7) (omega arith)
         (desig_runs p code input (level p input n) n turn place r d fine.0 (at_front code input turn locate (I.Store place counter ∷ (b ++ tail)) turns) (slots_first p code input r place (desig_slots d) (stmts_slots body) rest3))
         behind.0
         (ih.stmts body (m + 1) inner r fine.3 (at_front code input (m + 1) b tail behind.1) (slots_behind p code input r place (desig_slots d) (stmts_slots body) rest3))
@@ -301,7 +301,7 @@ module _ (p : Program) (code : PlainCode) (input : List ℕ) where
         let e : exit ≡ at + length (begin ++ over) = omega (arith, length-append begin over, length-append locate (I.Store place counter ∷ (b ++ tail)), length-append b tail) in
         stmt_ends_at at exit (at + length (begin ++ over)) lo r (λ v. ev_stmt p input (level p input n) (ForTo l) v) n e
         (for_row p code input at m1 m2 exit lo last place r counter limit by (λ v. ev_expr p input (level p input n) from v) (λ v. ev_expr p input (level p input n) to v) (turn_for p input (level p input n) l) n
-        (loop_is r lo counter limit from to slots.behind fine.6 fine.7 fine.8) (omega (arith, some_slots p code input r from fine.1)) (omega (arith, some_slots p code input r to fine.2))
+        (loop_is r lo counter limit from to slots.behind fine.5 fine.6 fine.7) (omega (arith, some_slots p code input r from fine.1)) (omega (arith, some_slots p code input r to fine.2))
         (first_kind p code input r lo slot.Number (expr_slots from ++ (expr_slots to ++ (desig_slots d ++ stmts_slots body))) slots) (first_slot p code input r (lo + 1) from fine.1 first_slots)
         front.0
         (expr_runs p code input (level p input n) n (at + 1) (lo + 1) r from fine.1 (at_front code input (at + 1) x (y ++ three) front.1) first_slots)
