@@ -1,6 +1,6 @@
 -- The code of each statement does what its events say at each level: the induction over statements and levels.
 use Rattle.std.proofs.Common.{◌≡◌, ℕ, zero, suc, ◌+◌, ◌<◌, ◌≤◌, List, [], ◌∷◌, ◌++◌, length, refl, sym, subst, arith, length-append, true, ◌*◌, Some, ℤ}
-use Rattle.alma_base.specs.Numbers.{whole_range, is_integer}
+use Rattle.alma_base.specs.Numbers.{whole_range}
 use Rattle.std.specs.Prelude.{slice_get}
 use Rattle.alma_code.specs.declared.cell.SlotKind.TheVariants as slot
 use Rattle.alma_code.specs.declared.instr.Instr.{Instr}
