@@ -27,11 +27,7 @@ pub(crate) fn make_buffer(alloc: Global, len: usize) -> Result<Vec<u8>, NoMemory
 
 /// Reads all bytes that are left, if they are at most `limit`. It stops at the first fault. What was read before
 /// an error is lost.
-pub fn read_all<S: Source>(
-    alloc: Global,
-    source: &mut S,
-    limit: usize,
-) -> Result<Vec<u8>, ReadAll>
+pub fn read_all<S: Source>(alloc: Global, source: &mut S, limit: usize) -> Result<Vec<u8>, ReadAll>
     requires limit { limit < 2 ^ 62 }
     ensures all { IfOk result (λ bytes. Consumes (S.left source.old) (S.left source.new) bytes.items × IsAtEnd (S.left source.new)) }
     ensures within { IfOk result (λ bytes. length bytes.items ≤ limit) }
