@@ -111,7 +111,8 @@ impl Frame {
     {
         if count > 0 {
             let from = from as usize;
-            self.cells.copy_within(from..from + count as usize, to as usize);
+            self.cells
+                .copy_within(from..from + count as usize, to as usize);
         }
     }
 

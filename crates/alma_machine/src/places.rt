@@ -35,7 +35,13 @@ impl Frame {
 
     /// The first slot of the part of a place that the number in a slot names, where the parts are those of a range.
     #[tactic(auto, using(crate::proofs::Cells::fits_word, crate::proofs::Cells::width_is))]
-    pub(crate) fn part(&self, to: u32, from: u32, index: u32, range: &Range) -> Result<u32, RunFault>
+    pub(crate) fn part(
+        &self,
+        to: u32,
+        from: u32,
+        index: u32,
+        range: &Range,
+    ) -> Result<u32, RunFault>
         requires to { HasPlace self.now to }
         requires from { HasCells self.now from }
         requires index { HasNumber self.now index }

@@ -323,7 +323,12 @@ impl Registers {
     /// What an instruction does, with the address already at the next one. Where memory is wanted for its print, nothing has
     /// happened.
     #[tactic(auto, unfolding(alma_code::specs::Machine::act, crate::specs::Rows::Needs))]
-    pub(crate) fn act(&mut self, code: &Code, instr: &Instr, bytes: &mut Vec<u8>) -> Result<Step, NoMemory>
+    pub(crate) fn act(
+        &mut self,
+        code: &Code,
+        instr: &Instr,
+        bytes: &mut Vec<u8>,
+    ) -> Result<Step, NoMemory>
         requires needs { Needs (code_of code.now) self.old.frame instr.now }
         requires empty { bytes.old.items ≡ [] }
         ensures ok { IfOk result (λ answer. (input : List ℕ)

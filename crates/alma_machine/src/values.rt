@@ -182,7 +182,12 @@ impl Frame {
 
     /// The number in a slot, which must be in a range.
     #[tactic(auto, using(crate::proofs::Words::ranges, std::proofs::lemmas::Int::ints, std::proofs::lemmas::Grind::common_steps))]
-    pub(crate) fn number_within(&self, slot: u32, range: &Range, fault: RunFault) -> Result<i64, RunFault>
+    pub(crate) fn number_within(
+        &self,
+        slot: u32,
+        range: &Range,
+        fault: RunFault,
+    ) -> Result<i64, RunFault>
         requires { HasNumber self.now slot }
         ensures number { Gives self.now (λ s k. number s slot (λ v. ranged range.now fault s v (λ _. k v))) result }
         ensures within { IfOk result (λ v. within range.now v ≡ true) }
