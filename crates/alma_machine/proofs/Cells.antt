@@ -1,6 +1,6 @@
 -- What places name, and what copying their cells gives.
-use Rattle.std.proofs.Common.{◌≡◌, ℕ, zero, suc, ◌+◌, ◌-◌, ◌*◌, ◌^◌, ◌<◌, ◌≤◌, List, [], ◌∷◌, length, get_or, set, drop, refl, sym, ap, ◌∙◌, arith, Some, length-drop}
-use Rattle.std.specs.Prelude.{ℤ, slice_get, Bool, true, ◌&&◌, ◌-ℤ◌, ◌≤ℤ◌, int_le, nat_abs}
+use Rattle.std.proofs.Common.{◌≡◌, ℕ, zero, suc, ◌+◌, ◌-◌, ◌*◌, ◌^◌, ◌<◌, ◌≤◌, List, [], ◌∷◌, length, get_or, set, drop, sym, ap, ◌∙◌, arith, Some, length-drop}
+use Rattle.std.specs.Prelude.{ℤ, slice_get, true, ◌&&◌, ◌-ℤ◌, ◌≤ℤ◌, int_le, nat_abs}
 use Rattle.std.specs.Int.Signed.{le_z_yes}
 use Rattle.std.proofs.lemmas.Bool.{and_parts, leb-true}
 use Rattle.std.proofs.lemmas.Float.{T_from_true}
@@ -15,11 +15,10 @@ use Rattle.alma_base.specs.Numbers.{within}
 use Rattle.alma_code.specs.declared.cell.Cell.{Cell}
 use Rattle.alma_code.specs.declared.cell.Cell.TheVariants as cell
 use Rattle.alma_code.specs.declared.cell.CellPlace.{CellPlace}
-use Rattle.alma_code.specs.declared.cell.SlotKind.{SlotKind}
 use Rattle.alma_code.specs.declared.cell.SlotKind.TheVariants as slot
 use Rattle.alma_code.specs.Carries.{number_at}
 use Rattle.alma_code.specs.Kinds.{is_number}
-use Rattle.alma_code.specs.Machine.{State, Stepped, copied, with_cell, to_place, put_place, stuck, went}
+use Rattle.alma_code.specs.Machine.{State, copied, with_cell, to_place, put_place, stuck, went}
 use Rattle.alma_code.specs.Picture.{PlainFrame, last_frame, frame_with, written}
 use Rattle.alma_code.specs.Rules.{place_length, range_size, has_room}
 use Rattle.alma_code.proofs.Ranges.{offset_le}

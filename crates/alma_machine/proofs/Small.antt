@@ -1,6 +1,6 @@
 -- Small codes for tests are sound, and of built forms.
 use Rattle.std.proofs.Common.{◌≡◌, ℕ, zero, suc, ◌-◌, ◌<◌, ◌≤◌, ◌^◌, List, [], ◌∷◌, length, get_or, refl, arith, lit<, lit≤, true}
-use Rattle.std.specs.Prelude.{pos, None}
+use Rattle.std.specs.Prelude.{pos, negsuc, None}
 use Rattle.std.specs.List.{list_all}
 use Rattle.std.proofs.lemmas.Bool.{and_parts}
 use Rattle.alma_code.specs.declared.instr.Instr.{Instr}
@@ -21,7 +21,7 @@ small_table instrs =
       some = lit≤ tt;
       rise = λ r. elim r as (λ r. r < 1 → start_at code r ≤ end_at code r) [ zero ↦ λ _. omega arith | suc k ↦ λ lt. absurd (omega arith) ];
       last = refl;
-      runs = λ r. elim r as (λ r. r < 1 → RunsRise 0 (head_at code r).runs (last_end 0 (head_at code r).runs)) [ zero ↦ λ _. (lit< tt, (lit< tt, refl)) | suc k ↦ λ lt. absurd (omega arith) ];
+      runs = λ r. elim r as (λ r. r < 1 → RunsRise 0 (head_at code r).runs (last_end 0 (head_at code r).runs)) [ zero ↦ λ _. (lit< tt, (lit< tt, (lit< tt, (lit< tt, (lit< tt, refl))))) | suc k ↦ λ lt. absurd (omega arith) ];
     }
 
 -- a small code without a broken rule is sound
@@ -117,3 +117,81 @@ fails_sound = small_sound (I.Fail ∷ []) fails_rules
 
 pub fails_built : HasOnlyBuilt (small_code (I.Fail ∷ []))
 fails_built = only_built (I.Fail ∷ []) fails_forms
+
+-- the code of parts, copies, prints and a loop that counts
+abbrev parts : List Instr
+parts =
+    I.Local 10 6 ∷ I.Const 1 (pos 2) ∷ I.Index 11 10 1 0 ∷ I.Local 12 7 ∷ I.Const 7 (pos 321) ∷ I.Const 8 (pos 66) ∷ I.CopyCells 11 12 ∷ I.Field 5 11 1
+    ∷ I.Load 2 5 ∷ I.WriteChar 2 ∷ I.WriteChar 8 ∷ I.WriteText 0 ∷ I.WriteLine ∷ I.Const 1 (pos 1) ∷ I.Const 3 (pos 1) ∷ I.Const 4 (pos 2) ∷ I.InRange 1 0
+    ∷ I.WriteInt 1 ∷ I.Step 1 4 3 20 ∷ I.Jump 16 ∷ I.Fault 5 ∷ []
+
+parts_rules : code_fault (small_code parts) ≡ None
+unfolding words instr_fault instrs_fault routine_fault routines_fault rule_5 rule_6 rule_7 rule_10 rule_11 rule_12
+parts_rules = refl
+
+parts_forms : list_all is_built parts ≡ true
+unfolding is_built
+parts_forms = refl
+
+pub parts_sound : IsSound (small_code parts)
+parts_sound = small_sound parts parts_rules
+
+pub parts_built : HasOnlyBuilt (small_code parts)
+parts_built = only_built parts parts_forms
+
+-- a number that is not in a range
+abbrev not_in_range : List Instr
+not_in_range =
+    I.Const 1 (pos 3) ∷ I.InRange 1 0 ∷ I.Return ∷ []
+
+not_in_range_rules : code_fault (small_code not_in_range) ≡ None
+unfolding words instr_fault instrs_fault routine_fault routines_fault rule_5 rule_6 rule_7 rule_10 rule_11 rule_12
+not_in_range_rules = refl
+
+not_in_range_forms : list_all is_built not_in_range ≡ true
+unfolding is_built
+not_in_range_forms = refl
+
+pub not_in_range_sound : IsSound (small_code not_in_range)
+not_in_range_sound = small_sound not_in_range not_in_range_rules
+
+pub not_in_range_built : HasOnlyBuilt (small_code not_in_range)
+not_in_range_built = only_built not_in_range not_in_range_forms
+
+-- an index without a part
+abbrev no_part : List Instr
+no_part =
+    I.Local 10 6 ∷ I.Const 1 (pos 0) ∷ I.Index 11 10 1 0 ∷ I.Return ∷ []
+
+no_part_rules : code_fault (small_code no_part) ≡ None
+unfolding words instr_fault instrs_fault routine_fault routines_fault rule_5 rule_6 rule_7 rule_10 rule_11 rule_12
+no_part_rules = refl
+
+no_part_forms : list_all is_built no_part ≡ true
+unfolding is_built
+no_part_forms = refl
+
+pub no_part_sound : IsSound (small_code no_part)
+no_part_sound = small_sound no_part no_part_rules
+
+pub no_part_built : HasOnlyBuilt (small_code no_part)
+no_part_built = only_built no_part no_part_forms
+
+-- a counter that goes down beyond the least number
+abbrev counts_down : List Instr
+counts_down =
+    I.Const 1 (negsuc (2 ^ 63 - 1)) ∷ I.Const 2 (negsuc (2 ^ 63 - 1)) ∷ I.Const 3 (negsuc 0) ∷ I.Step 1 2 3 5 ∷ I.Fail ∷ I.Return ∷ []
+
+counts_down_rules : code_fault (small_code counts_down) ≡ None
+unfolding words instr_fault instrs_fault routine_fault routines_fault rule_5 rule_6 rule_7 rule_10 rule_11 rule_12
+counts_down_rules = refl
+
+counts_down_forms : list_all is_built counts_down ≡ true
+unfolding is_built
+counts_down_forms = refl
+
+pub counts_down_sound : IsSound (small_code counts_down)
+counts_down_sound = small_sound counts_down counts_down_rules
+
+pub counts_down_built : HasOnlyBuilt (small_code counts_down)
+counts_down_built = only_built counts_down counts_down_forms

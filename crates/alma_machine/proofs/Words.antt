@@ -1,6 +1,6 @@
 -- What the reading of slots gives.
 use Rattle.std.proofs.Common.{inl, inr, ◌≡◌, ℕ, ◌+◌, ◌-◌, ◌*◌, ◌<◌, List, [], ◌∷◌, length, get_or, refl, sym, ap, ◌∙◌, subst, arith, Some}
-use Rattle.std.specs.Prelude.{ℤ, pos, negsuc, zero, suc, slice_get, Bool, true, false, ◌&&◌, ◌-ℤ◌, ◌≤ℤ◌, ◌<ℤ◌, int_le, int_lt, nat_abs, Result, Ok, Err}
+use Rattle.std.specs.Prelude.{ℤ, pos, negsuc, zero, suc, slice_get, Bool, true, false, ◌&&◌, ◌-ℤ◌, ◌≤ℤ◌, ◌<ℤ◌, int_le, nat_abs, Result, Ok, Err}
 use Rattle.std.proofs.lemmas.Bool.{eq-eqb, and_from}
 use Rattle.std.proofs.lemmas.Int.{ints}
 use Rattle.alma_base.specs.declared.number.Range.{Range}

@@ -6,7 +6,7 @@ ghost use Rattle.alma_machine.specs.Built.{HasOnlyBuilt};
 ghost use Rattle.alma_machine.specs.Small.{small_code};
 
 use crate::{Machine, RunEnd, Step};
-use alma_base::{NoMemory, RunFault};
+use alma_base::{NoMemory, Range, RunFault};
 use alma_code::{Code, Instr, RoutineHead, Run, SlotKind};
 use alma_io::MemSink;
 use std::alloc::Global;
@@ -76,7 +76,84 @@ const CHECK_FAILS: [Instr; 3] = [
 
 const FAILS: [Instr; 1] = [Instr::Fail];
 
-// The code of a module body with five number slots and a place slot.
+// Copies a pair onto one that overlaps it, prints two characters, a text and a line, and then counts to 2, in 24 steps.
+const PARTS: [Instr; 21] = [
+    Instr::Local { to: 10, first: 6 },
+    Instr::Const { to: 1, value: 2 },
+    Instr::Index {
+        to: 11,
+        from: 10,
+        index: 1,
+        range: 0,
+    },
+    Instr::Local { to: 12, first: 7 },
+    Instr::Const { to: 7, value: 321 },
+    Instr::Const { to: 8, value: 66 },
+    Instr::CopyCells { to: 11, from: 12 },
+    Instr::Field {
+        to: 5,
+        from: 11,
+        offset: 1,
+    },
+    Instr::Load { to: 2, from: 5 },
+    Instr::WriteChar { value: 2 },
+    Instr::WriteChar { value: 8 },
+    Instr::WriteText { text: 0 },
+    Instr::WriteLine,
+    Instr::Const { to: 1, value: 1 },
+    Instr::Const { to: 3, value: 1 },
+    Instr::Const { to: 4, value: 2 },
+    Instr::InRange { value: 1, range: 0 },
+    Instr::WriteInt { value: 1 },
+    Instr::Step {
+        counter: 1,
+        limit: 4,
+        by: 3,
+        out: 20,
+    },
+    Instr::Jump { to: 16 },
+    Instr::Fault { number: 5 },
+];
+
+const NOT_IN_RANGE: [Instr; 3] = [
+    Instr::Const { to: 1, value: 3 },
+    Instr::InRange { value: 1, range: 0 },
+    Instr::Return,
+];
+
+const NO_PART: [Instr; 4] = [
+    Instr::Local { to: 10, first: 6 },
+    Instr::Const { to: 1, value: 0 },
+    Instr::Index {
+        to: 11,
+        from: 10,
+        index: 1,
+        range: 0,
+    },
+    Instr::Return,
+];
+
+const COUNTS_DOWN: [Instr; 6] = [
+    Instr::Const {
+        to: 1,
+        value: i64::MIN,
+    },
+    Instr::Const {
+        to: 2,
+        value: i64::MIN,
+    },
+    Instr::Const { to: 3, value: -1 },
+    Instr::Step {
+        counter: 1,
+        limit: 2,
+        by: 3,
+        out: 5,
+    },
+    Instr::Fail,
+    Instr::Return,
+];
+
+// The code of a module body with nine number slots, place slots for one, four and two cells, a range and a text.
 fn small(alloc: Global, instrs: &[Instr]) -> Result<Code, NoMemory>
     requires { length instrs.now < 2 ^ 32 }
     ensures { IfOk result (λ code. code_of code ≡ small_code instrs.now) }
@@ -90,21 +167,35 @@ fn small(alloc: Global, instrs: &[Instr]) -> Result<Code, NoMemory>
         kind: SlotKind::Place(1),
         end: 6,
     })?;
+    kinds.push(Run {
+        kind: SlotKind::Number,
+        end: 10,
+    })?;
+    kinds.push(Run {
+        kind: SlotKind::Place(4),
+        end: 11,
+    })?;
+    kinds.push(Run {
+        kind: SlotKind::Place(2),
+        end: 13,
+    })?;
     let mut routines = Vec::new(alloc);
     routines.push(RoutineHead {
         name: Vec::new(alloc),
-        slots: 6,
+        slots: 13,
         declared: 2,
         kinds,
         params: Vec::new(alloc),
         result: false,
         code_end: instrs.len() as u32,
     })?;
+    let mut texts = Vec::new(alloc);
+    texts.push(Vec::from_slice(alloc, b"ok")?)?;
     Ok(Code {
         routines,
         globals: Vec::new(alloc),
-        ranges: Vec::new(alloc),
-        texts: Vec::new(alloc),
+        ranges: Vec::from_slice(alloc, &[Range { low: 1, high: 2 }])?,
+        texts,
         code: Vec::from_slice(alloc, instrs)?,
     })
 }
@@ -143,6 +234,24 @@ fn a_run_ends_as_its_code_says(rt: HostRuntime) -> Result<(), Fail> {
     assert_eq!(rt; fault, (RunEnd::Fault(RunFault::Unknown), 2));
     assert_eq!(rt; outcome(rt.alloc(), &CHECK_FAILS)?, (RunEnd::Failed, 3));
     assert_eq!(rt; outcome(rt.alloc(), &FAILS)?, (RunEnd::Failed, 2));
+    let fault = outcome(rt.alloc(), &NOT_IN_RANGE)?;
+    assert_eq!(rt; fault, (RunEnd::Fault(RunFault::Range), 2));
+    let fault = outcome(rt.alloc(), &NO_PART)?;
+    assert_eq!(rt; fault, (RunEnd::Fault(RunFault::Index), 3));
+    let counted = outcome(rt.alloc(), &COUNTS_DOWN)?;
+    assert_eq!(rt; counted, (RunEnd::Succeeded, 5));
+    Ok(())
+}
+
+#[test]
+fn parts_are_copied_and_a_loop_counts(rt: HostRuntime) -> Result<(), Fail> {
+    let code = body(rt.alloc(), &PARTS)?;
+    let mut machine = Machine::new(rt.alloc(), &code, b"")?;
+    let mut out = MemSink::new(rt.alloc(), 99, 99, &[])?;
+    let end = machine.run(99, &mut out);
+    assert_eq!(rt; end, RunEnd::Fault(RunFault::NoCase));
+    assert_eq!(rt; machine.steps(), 24);
+    assert_eq!(rt; out.bytes(), b"BAok\n12".as_slice());
     Ok(())
 }
 

@@ -1,4 +1,4 @@
-use Rattle.alma_machine.proofs.Small.{too_large_sound, too_large_built, by_zero_sound, by_zero_built, not_known_sound, not_known_built, check_fails_sound, check_fails_built, fails_sound, fails_built}
+use Rattle.alma_machine.proofs.Small.{too_large_sound, too_large_built, by_zero_sound, by_zero_built, not_known_sound, not_known_built, check_fails_sound, check_fails_built, fails_sound, fails_built, not_in_range_sound, not_in_range_built, no_part_sound, no_part_built, counts_down_sound, counts_down_built}
 use Rattle.alma_machine.proofs.tests.a_run_ends_as_its_code_says.Goals as goal
 
 pub outcome-requires-clause-sound : goal.outcome-requires-clause-sound
@@ -30,3 +30,21 @@ outcome-requires-5-clause-sound g c = fails_sound
 
 pub outcome-requires-5-clause-built : goal.outcome-requires-5-clause-built
 outcome-requires-5-clause-built g c = fails_built
+
+pub outcome-requires-6-clause-sound : goal.outcome-requires-6-clause-sound
+outcome-requires-6-clause-sound g c = not_in_range_sound
+
+pub outcome-requires-6-clause-built : goal.outcome-requires-6-clause-built
+outcome-requires-6-clause-built g c = not_in_range_built
+
+pub outcome-requires-7-clause-sound : goal.outcome-requires-7-clause-sound
+outcome-requires-7-clause-sound g c = no_part_sound
+
+pub outcome-requires-7-clause-built : goal.outcome-requires-7-clause-built
+outcome-requires-7-clause-built g c = no_part_built
+
+pub outcome-requires-8-clause-sound : goal.outcome-requires-8-clause-sound
+outcome-requires-8-clause-sound g c = counts_down_sound
+
+pub outcome-requires-8-clause-built : goal.outcome-requires-8-clause-built
+outcome-requires-8-clause-built g c = counts_down_built
