@@ -94,7 +94,7 @@ below_range r v a =
     let low : int_le r.low v ≡ false = grind (arith, ints) in
     ap (λ b. b && int_le v r.high) low
 
--- nothing and false is true
+-- a test and false is false
 and_false : (b : Bool) → (b && false) ≡ false
 and_false true = refl
 and_false false = refl
