@@ -5,10 +5,10 @@ mod emit;
 mod emit_body;
 mod emit_loop;
 mod emit_tables;
-pub mod laws;
-mod lowering;
 #[cfg(test)]
 mod for_tests;
+pub mod laws;
+mod lowering;
 #[cfg(test)]
 mod tests;
 
