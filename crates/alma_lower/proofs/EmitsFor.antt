@@ -8,7 +8,7 @@ use Rattle.alma_code.specs.declared.instr.Instr.TheVariants as I
 use Rattle.alma_ir.specs.Tree.{Stmts, Expr, Desig, Const, ForTo, a_loop}
 use Rattle.alma_lower.specs.declared.emit.Emit.{Emit}
 use Rattle.alma_lower.specs.Templates.{desig_code, desig_slots, expr_code, expr_slots, stmts_code, stmts_slots, entry_code, bounds_code, begin_code, turns_code}
-use Rattle.alma_lower.specs.Emitted.{next_slot, aimed, Appends, Puts, PutsDesig, PutsExpr, PutsStmts, PutsStmt, PutsBounds, PutsTurns}
+use Rattle.alma_lower.specs.Emitted.{next_slot, aimed, Puts, PutsDesig, PutsExpr, PutsStmts, PutsStmt, PutsBounds, PutsTurns}
 use Rattle.alma_lower.proofs.Emits.{append_then, append_as, slot_after, address_after}
 
 -- the two bounds, counter and limit, whether there is a turn, and the jump over the turns

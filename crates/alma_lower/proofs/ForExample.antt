@@ -1,14 +1,13 @@
 -- The program of the test of FOR is built and checked.
 use Rattle.std.proofs.Common.{rules, ◌≡◌, ℕ, ◌<◌, List, [], ◌∷◌, ◌++◌, refl, ap, ◌∙◌, arith, inr, pos, negsuc, ℤ}
-use Rattle.std.specs.Prelude.{None, Vec}
-use Rattle.std.specs.declared.alloc.Global.{Global}
+use Rattle.std.specs.Prelude.{None}
 use Rattle.std.specs.List.{AllByRecursion}
 use Rattle.alma_ir.specs.declared.phrase.Stmt as S
 use Rattle.alma_ir.specs.declared.phrase.Expr as E
 use Rattle.alma_ir.specs.declared.phrase.Loop as L
 use Rattle.alma_ir.specs.declared.phrase.WriteAs.TheVariants as write_as
 use Rattle.alma_ir.specs.Tree.{routine_at, Stmts, Loop, no_stmts, more_stmts, ForTo, WriteExpr, WriteLine, a_loop, Const, Load}
-use Rattle.alma_ir.specs.Checked.{IsChecked, RootExists, RootLeaves, PartsExist, CellsAgree, RangesOrdered, HasStep, LoopIsApart, CountsApart, IsHiddenSlot, IsOutside, LoopLeaves, AreNumbers, loops_of, CalleeExists, ResultAgrees, CallFits, HasChoice, ReturnAgrees, ReturnsStay}
+use Rattle.alma_ir.specs.Checked.{IsChecked, RootLeaves, LoopIsApart, IsHiddenSlot, IsOutside, LoopLeaves, AreNumbers, loops_of}
 use Rattle.alma_ir.specs.Phrases.{stmts_phrases, loop_phrases}
 use Rattle.alma_ir.specs.View.{expr_of, loop_of, stmt_of, stmts_list}
 use Rattle.alma_ir.proofs.Views

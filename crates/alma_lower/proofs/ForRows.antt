@@ -1,6 +1,6 @@
 -- The rows of FOR: its turns, and what goes before them.
-use Rattle.std.proofs.Common.{◌≡◌, ℕ, suc, ◌+◌, ◌<◌, ◌≤◌, Bool, true, false, List, Some, refl, sym, ap, ◌∙◌, subst, arith, ℤ, pos, negsuc, ◌+ℤ◌}
-use Rattle.std.specs.Prelude.{slice_get, int_le}
+use Rattle.std.proofs.Common.{◌≡◌, ℕ, suc, ◌+◌, ◌<◌, ◌≤◌, Bool, true, false, List, Some, refl, sym, ap, ◌∙◌, subst, arith, ℤ, ◌+ℤ◌}
+use Rattle.std.specs.Prelude.{slice_get}
 use Rattle.alma_base.specs.declared.fault.RunFault.TheVariants as fault
 use Rattle.alma_base.specs.Choice.{if_true}
 use Rattle.alma_base.specs.Numbers.{is_integer, within, whole_range, is_beyond}
@@ -14,16 +14,15 @@ use Rattle.alma_code.specs.Plain.{PlainCode, kinds_at}
 use Rattle.alma_code.specs.Machine.{State}
 use Rattle.alma_ir.specs.Tree.{Program, routine_at}
 use Rattle.alma_mean.specs.Store.{Store, Place, Number, put_at, put_top, top_frame, top_cell}
-use Rattle.alma_mean.specs.Store as store
-use Rattle.alma_mean.specs.Events.{Events, NoYield, Flow, Go, Return, Visit, one, bind, node}
+use Rattle.alma_mean.specs.Events.{Events, NoYield, Go, one, bind, node}
 use Rattle.alma_mean.specs.Arithmetic.{fault_unless}
 use Rattle.alma_mean.specs.Rows.{read_cell, set_variable, next_turn, for_turn, begin_loop}
 use Rattle.alma_lower.specs.Templates.{entry_code}
 use Rattle.alma_lower.proofs.Goes.{Silently, IsGoing, and_then, Goes, before, weaker, bind_goes, one_goes}
 use Rattle.alma_lower.proofs.Frames.{StandFor, Fits, IsAt}
 use Rattle.alma_lower.proofs.FrameLemmas.{fits_self, fits_less, fits_temp, holds_written}
-use Rattle.alma_lower.proofs.Steps.{top_written, Holds, InstrAt, const_step, jump_step, zero_jumps, other_goes_on, Moves}
-use Rattle.alma_lower.proofs.ExprRows.{Left, LeavesValue, LeavesPlace, Begun, begun, Stays, RunsExpr, RunsPlace, AreVariables, as_node, one_more, kind_there, within_frame, slots_behind_routine, some_frames, left_is_at, left_on, kept_slot}
+use Rattle.alma_lower.proofs.Steps.{top_written, Holds, InstrAt, const_step, jump_step, zero_jumps, other_goes_on}
+use Rattle.alma_lower.proofs.ExprRows.{Left, LeavesValue, LeavesPlace, Begun, begun, RunsExpr, RunsPlace, AreVariables, as_node, one_more, kind_there, within_frame, slots_behind_routine, some_frames, left_is_at, left_on, kept_slot}
 use Rattle.alma_lower.proofs.OperatorRows.{value_left}
 use Rattle.alma_lower.proofs.StmtRows.{LeavesStmt, RunsStmt, RunsStmts, whole_leaves, Reaches, stored}
 use Rattle.alma_lower.proofs.LoopRows.{jumped_left, moved_going}

@@ -19,12 +19,12 @@ use Rattle.alma_code.specs.Machine.{State, Stepped, step, act, number, as_number
 use Rattle.alma_ir.specs.Tree.{Program, routine_at}
 use Rattle.alma_mean.specs.Store.{Store, Unknown, Number, At, with_cell, put, put_top, top, top_frame, top_cell}
 use Rattle.alma_mean.specs.Store as store
-use Rattle.alma_lower.proofs.Goes.{Silently, IsGoing}
+use Rattle.alma_lower.proofs.Goes.{IsGoing}
 use Rattle.alma_lower.proofs.Frames.{SameContent, StandFor, Fits, IsAt}
 use Rattle.alma_lower.proofs.FrameLemmas.{top_same, fits_on, fits_put, put_is}
 use Rattle.alma_lower.proofs.Steps.{top_written, Holds, HasKind, InstrAt, passed, does, number_is, puts, Writes, Moves, moved_to, Faults, faults_now, less_eq_step}
 use Rattle.alma_lower.proofs.OperatorRows.{zero_bit, bit_integer}
-use Rattle.alma_lower.proofs.ExprRows.{Left, AreVariables, kinds_are, kind_there, left_is_at}
+use Rattle.alma_lower.proofs.ExprRows.{Left, AreVariables, kind_there}
 use Rattle.alma_lower.proofs.StmtRows.{Reaches, put_routine}
 use Rattle.alma_lower.specs.Templates.{entry_code}
 
