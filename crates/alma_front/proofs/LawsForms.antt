@@ -292,7 +292,7 @@ mutual
   built_stmt count (CopyCells d e) f = f
   built_stmt count (ForTo l) f = absurd f
   built_stmt count (SomeOf l) f = f
-  built_stmt count (Case e arms rest) f = f
+  built_stmt count (Case e arms rest) f = absurd f
   built_stmt count (Either _) f = f
   built_stmt count (Forall x y) f = f
   built_stmt count (Commit x) f = f

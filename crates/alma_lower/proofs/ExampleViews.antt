@@ -1,6 +1,7 @@
 -- The programs that the tests build stand for the examples.
-use Rattle.std.proofs.Common.{◌≡◌, List, [], ◌∷◌, ◌++◌, ap, ◌∙◌}
-use Rattle.std.specs.Prelude.{pos, Vec, Result, Ok, Err, IfOk}
+use Rattle.std.proofs.Common.{◌≡◌, List, [], ◌∷◌, ◌++◌, refl, ap, ◌∙◌}
+use Rattle.std.specs.Prelude.{pos, Vec, Option, Result, Ok, Err, IfOk, Some, None}
+use Rattle.alma_base.specs.declared.number.Range.{Range}
 use Rattle.std.specs.declared.alloc.Global.{Global}
 use Rattle.alma_base.specs.Numbers.{whole_range}
 use Rattle.alma_ir.specs.declared.phrase.Stmt as S
@@ -8,12 +9,14 @@ use Rattle.alma_ir.specs.declared.phrase.Test as T
 use Rattle.alma_ir.specs.declared.phrase.Expr as E
 use Rattle.alma_ir.specs.declared.phrase.Desig as D
 use Rattle.alma_ir.specs.declared.phrase.Arm.{Arm}
+use Rattle.alma_ir.specs.declared.phrase.CaseArm.{CaseArm}
 use Rattle.alma_ir.specs.declared.phrase.Cmp.TheVariants as cmp
+use Rattle.alma_ir.specs.declared.phrase.WriteAs.{WriteAs}
 use Rattle.alma_ir.specs.declared.phrase.WriteAs.TheVariants as write_as
-use Rattle.alma_ir.specs.Tree.{no_stmts, more_stmts, Assign, If, While, WriteExpr, no_arms, more_arms, Value, Const, Load, Compare}
-use Rattle.alma_ir.specs.View.{desig_of, expr_of, test_of, stmt_of, stmts_list, arms_list}
+use Rattle.alma_ir.specs.Tree.{Expr, CaseArms, Else, no_stmts, more_stmts, Assign, If, While, Case, WriteExpr, no_arms, more_arms, no_cases, more_cases, no_else, else_part, Value, Const, Load, Compare}
+use Rattle.alma_ir.specs.View.{desig_of, expr_of, test_of, stmt_of, stmts_list, arms_list, cases_list, else_option}
 use Rattle.alma_ir.proofs.Views
-use Rattle.alma_lower.proofs.Examples.{variable, loop_body, if_body}
+use Rattle.alma_lower.proofs.Examples.{variable, label, write_variable, write_true, loop_body, if_body, case_body}
 
 -- a clause on a value that follows from another
 pub if_ok_map : {A E : Type 0} {P Q : A → Type 0} (r : Result A E) → ((x : A) → P x → Q x) → IfOk r P → IfOk r Q
@@ -64,3 +67,43 @@ if_made a0 a1 arms b0 b1 x one y z two t first second rest e0 e1 e2 er f0 f1 ht 
     ap stmts_list (f1 ∙ ap (λ l. l ++ S.If arms rest ∷ []) f0)
     ∙ ap (λ s. more_stmts s no_stmts) (Views.if_view arms rest ∙ ap (λ a. If a (stmts_list rest.items)) all
     ∙ ap (λ l. If (more_arms (Value (Compare cmp.Equal (Load variable) (Const (pos 1)))) (more_stmts (WriteExpr (Load variable) write_as.Int) no_stmts) (more_arms (Value (Load variable)) (more_stmts (WriteExpr (Const (pos 1)) write_as.Bool) no_stmts) no_arms)) (stmts_list l)) er)
+
+-- one element, and two, pushed onto an empty list
+pub one_pushed : {A : Type 0} (a b : List A) (x : A) → a ≡ [] → b ≡ a ++ x ∷ [] → b ≡ x ∷ []
+one_pushed a b x e e1 = e1 ∙ ap (λ l. l ++ x ∷ []) e
+
+pub two_pushed : {A : Type 0} (a b c : List A) (x y : A) → a ≡ [] → b ≡ a ++ x ∷ [] → c ≡ b ++ y ∷ [] → c ≡ x ∷ y ∷ []
+two_pushed a b c x y e e1 e2 = e2 ∙ ap (λ l. l ++ y ∷ []) (one_pushed a b x e e1)
+
+-- WRITE of an expression that is known
+pub wrote : (body : List S.Stmt) (x : E.Expr) (how : WriteAs) (e : Expr) → stmts_list body ≡ more_stmts (WriteExpr (expr_of x) how) no_stmts → expr_of x ≡ e → stmts_list body ≡ more_stmts (WriteExpr e how) no_stmts
+wrote body x how e h is = h ∙ ap (λ z. more_stmts (WriteExpr z how) no_stmts) is
+
+-- a statement CASE from its parts
+pub case_is : (x : E.Expr) (arms : Vec CaseArm Global) (rest : Option (Vec S.Stmt Global)) (e : Expr) (cases : CaseArms) (others : Else) → expr_of x ≡ e → cases_list arms.items ≡ cases → else_option rest ≡ others → stmt_of (S.Case x arms rest) ≡ Case e cases others
+case_is x arms rest e cases others h1 h2 h3 =
+    Views.case_view x arms rest ∙ ap (λ a. Case a (cases_list arms.items) (else_option rest)) h1 ∙ ap (λ a. Case e a (else_option rest)) h2 ∙ ap (Case e cases) h3
+
+pub case_made : (arms others : Vec CaseArm Global) (none labels sevens : Vec Range Global) (first second third last : Vec S.Stmt Global) (x y : E.Expr) (body : List S.Stmt)
+    → arms.items ≡ record { labels = none; body = first } ∷ record { labels = labels; body = second } ∷ []
+    → none.items ≡ [] → stmts_list first.items ≡ write_variable
+    → labels.items ≡ label 1 1 ∷ label 3 4 ∷ [] → stmts_list second.items ≡ write_variable
+    → others.items ≡ record { labels = sevens; body = third } ∷ []
+    → sevens.items ≡ label 7 7 ∷ [] → third.items ≡ []
+    → stmts_list last.items ≡ write_true
+    → expr_of x ≡ Load variable → expr_of y ≡ Load variable
+    → body ≡ S.Case x arms None ∷ S.Case y others (Some last) ∷ []
+    → stmts_list body ≡ case_body
+case_made arms others none labels sevens first second third last x y body ha hn hf hl hs ho h7 ht hw hx hy hb =
+    let cases : cases_list arms.items ≡ more_cases [] write_variable (more_cases (label 1 1 ∷ label 3 4 ∷ []) write_variable no_cases) =
+    ap cases_list ha
+    ∙ ap (λ l. more_cases l (stmts_list first.items) (more_cases labels.items (stmts_list second.items) no_cases)) hn
+    ∙ ap (λ b. more_cases [] b (more_cases labels.items (stmts_list second.items) no_cases)) hf
+    ∙ ap (λ l. more_cases [] write_variable (more_cases l (stmts_list second.items) no_cases)) hl
+    ∙ ap (λ b. more_cases [] write_variable (more_cases (label 1 1 ∷ label 3 4 ∷ []) b no_cases)) hs in
+    let cases2 : cases_list others.items ≡ more_cases (label 7 7 ∷ []) no_stmts no_cases =
+    ap cases_list ho ∙ ap (λ l. more_cases l (stmts_list third.items) no_cases) h7 ∙ ap (λ b. more_cases (label 7 7 ∷ []) (stmts_list b) no_cases) ht in
+    let one = case_is x arms None _ _ no_else hx cases refl in
+    let two = case_is y others (Some last) _ _ (else_part write_true) hy cases2 (ap else_part hw) in
+    ap stmts_list hb ∙ ap (λ s. more_stmts s (more_stmts (stmt_of (S.Case y others (Some last))) no_stmts)) one
+    ∙ ap (λ s. more_stmts (Case (Load variable) (more_cases [] write_variable (more_cases (label 1 1 ∷ label 3 4 ∷ []) write_variable no_cases)) no_else) (more_stmts s no_stmts)) two

@@ -2,10 +2,11 @@
 use Rattle.std.proofs.Common.{rules, ◌≡◌, ℕ, zero, suc, ◌<◌, ◌≤◌, [], ◌∷◌, refl, arith}
 use Rattle.std.specs.Prelude.{None, pos, sum_by}
 use Rattle.alma_base.specs.Numbers.{whole_range}
+use Rattle.alma_base.specs.declared.number.Range.{Range}
 use Rattle.alma_ir.specs.declared.phrase.Cmp.TheVariants as cmp
 use Rattle.alma_ir.specs.declared.phrase.Root.TheVariants as root
 use Rattle.alma_ir.specs.declared.phrase.WriteAs.TheVariants as write_as
-use Rattle.alma_ir.specs.Tree.{Routine, Program, routine_at, Stmts, Desig, no_stmts, more_stmts, Assign, If, While, WriteExpr, no_arms, more_arms, Value, Const, Load, Compare, a_desig, no_sels}
+use Rattle.alma_ir.specs.Tree.{Routine, Program, routine_at, Stmts, Desig, no_stmts, more_stmts, Assign, If, While, Case, WriteExpr, no_arms, more_arms, no_cases, more_cases, no_else, else_part, Value, Const, Load, Compare, a_desig, no_sels}
 use Rattle.std.specs.List.{AllByRecursion}
 use Rattle.alma_ir.specs.Checked.{EachRoutine, EachPhrase, IsChecked, ParamsFirst, DeclaredFits, HeadRangesOrdered, RoutineKeepsLimits, AreNumbers, RootExists, PartsExist, CellsAgree, RangesOrdered, HasStep, LoopIsApart, loops_of, CalleeExists, ResultAgrees, CallFits, HasChoice, ReturnAgrees, ReturnsStay, text_bytes}
 use Rattle.alma_ir.specs.Phrases.{Phrase, stmts_phrases}
@@ -42,11 +43,30 @@ if_body =
     no_stmts)
     no_stmts
 
+abbrev pub write_variable : Stmts
+write_variable = more_stmts (WriteExpr (Load variable) write_as.Int) no_stmts
+
+abbrev pub write_true : Stmts
+write_true = more_stmts (WriteExpr (Const (pos 1)) write_as.Bool) no_stmts
+
+abbrev pub label : (low high : ℕ) → Range
+label low high = record { low = pos low; high = pos high }
+
+-- CASE x OF 1, 3..4: WRITE(x) END, with an arm without labels before; CASE x OF 7: ELSE WRITE(1 as a truth) END
+abbrev pub case_body : Stmts
+case_body =
+    more_stmts (Case (Load variable) (more_cases [] write_variable (more_cases (label 1 1 ∷ label 3 4 ∷ []) write_variable no_cases)) no_else)
+    (more_stmts (Case (Load variable) (more_cases (label 7 7 ∷ []) no_stmts no_cases) (else_part write_true))
+    no_stmts)
+
 pub if_built : IsBuilt (module_of if_body)
 if_built = record { routine = record { name = 65 ∷ []; params = []; result = None; declared = 1; slots = 2; body = if_body }; alone = refl; body = search rules }
 
 pub loop_built : IsBuilt (module_of loop_body)
 loop_built = record { routine = record { name = 65 ∷ []; params = []; result = None; declared = 1; slots = 2; body = loop_body }; alone = refl; body = search rules }
+
+pub case_built : IsBuilt (module_of case_body)
+case_built = record { routine = record { name = 65 ∷ []; params = []; result = None; declared = 1; slots = 2; body = case_body }; alone = refl; body = search rules }
 
 -- the facts of the only routine
 only : (slots : ℕ) (body : Stmts) (Fact : ℕ → Routine → Type 0) → Fact 0 (record { name = 65 ∷ []; params = []; result = None; declared = 1; slots = slots; body = body }) → EachRoutine (module_with slots body) Fact
@@ -148,3 +168,24 @@ if_plain = record {
 
 pub if_checked : IsChecked (module_of if_body)
 if_checked = plain_checked if_body if_plain
+
+case_plain : IsPlain case_body
+unfolding stmts_phrases
+case_plain = record {
+  roots = search (rules, numbers);
+  parts = search rules;
+  cells = search rules;
+  ranges = search rules;
+  steps = search rules;
+  loops = search rules;
+  callees = search rules;
+  results = search rules;
+  arguments = search rules;
+  choices = search rules;
+  returns = search rules;
+  returns_stay = search rules;
+  texts = refl;
+}
+
+pub case_checked : IsChecked (module_of case_body)
+case_checked = plain_checked case_body case_plain

@@ -1,4 +1,4 @@
-// Two programs built by hand, and their code.
+// Three programs built by hand, and their code.
 ghost use Rattle.std.specs.Prelude.{◌≡◌, [], ◌∷◌, None, IfOk};
 ghost use Rattle.alma_ir.specs.declared.phrase.Root.TheVariants as root;
 ghost use Rattle.alma_ir.specs.View.{program_of, desig_of, expr_of, test_of, stmts_list};
@@ -9,7 +9,7 @@ ghost use Rattle.alma_lower.specs.Built.{IsBuilt};
 use crate::lower;
 use alma_base::{NoMemory, Range};
 use alma_code::Instr;
-use alma_ir::{Arm, Cmp, Desig, Expr, Program, Root, Routine, Stmt, Test, WriteAs};
+use alma_ir::{Arm, CaseArm, Cmp, Desig, Expr, Program, Root, Routine, Stmt, Test, WriteAs};
 use std::alloc::Global;
 use std::test::Fail;
 
@@ -112,6 +112,37 @@ fn if_program(alloc: Global) -> Result<Program, NoMemory>
     module_of(alloc, body)
 }
 
+// CASE x OF 1, 3..4: WRITE(x) END, with an arm without labels before; CASE x OF 7: ELSE WRITE(1 as a truth) END
+fn case_program(alloc: Global) -> Result<Program, NoMemory>
+    ensures built { IfOk result (λ p. IsBuilt (program_of p)) }
+    ensures checked { IfOk result (λ p. IsChecked (program_of p)) }
+{
+    let mut labels = Vec::new(alloc);
+    labels.push(Range { low: 1, high: 1 })?;
+    labels.push(Range { low: 3, high: 4 })?;
+    let mut arms = Vec::new(alloc);
+    arms.push(CaseArm {
+        labels: Vec::new(alloc),
+        body: written(alloc, load(alloc), WriteAs::Int)?,
+    })?;
+    arms.push(CaseArm {
+        labels,
+        body: written(alloc, load(alloc), WriteAs::Int)?,
+    })?;
+    let mut sevens = Vec::new(alloc);
+    sevens.push(Range { low: 7, high: 7 })?;
+    let mut others = Vec::new(alloc);
+    others.push(CaseArm {
+        labels: sevens,
+        body: Vec::new(alloc),
+    })?;
+    let last = written(alloc, number(1), WriteAs::Bool)?;
+    let mut body = Vec::new(alloc);
+    body.push(Stmt::Case(load(alloc), arms, None))?;
+    body.push(Stmt::Case(load(alloc), others, Some(last)))?;
+    module_of(alloc, body)
+}
+
 #[test]
 fn a_loop_jumps_back_to_its_condition(rt: HostRuntime) -> Result<(), Fail> {
     let alloc = rt.alloc();
@@ -171,5 +202,80 @@ fn each_arm_leaves_behind_the_last(rt: HostRuntime) -> Result<(), Fail> {
         Instr::Return,
     ];
     assert_eq!(rt; code.code.as_slice(), expected.as_slice());
+    Ok(())
+}
+
+#[test]
+fn each_label_leads_to_its_arm_or_behind_it(rt: HostRuntime) -> Result<(), Fail> {
+    let alloc = rt.alloc();
+    let code = lower(alloc, &case_program(alloc)?)?;
+    let expected = [
+        Instr::Local { to: 3, first: 1 },
+        Instr::Load { to: 2, from: 3 },
+        Instr::Jump { to: 4 },
+        Instr::Jump { to: 24 },
+        Instr::Const { to: 4, value: 1 },
+        Instr::LessEq {
+            to: 5,
+            left: 4,
+            right: 2,
+        },
+        Instr::JumpZero { value: 5, to: 11 },
+        Instr::Const { to: 4, value: 1 },
+        Instr::LessEq {
+            to: 5,
+            left: 2,
+            right: 4,
+        },
+        Instr::JumpZero { value: 5, to: 11 },
+        Instr::Jump { to: 19 },
+        Instr::Const { to: 4, value: 3 },
+        Instr::LessEq {
+            to: 5,
+            left: 4,
+            right: 2,
+        },
+        Instr::JumpZero { value: 5, to: 18 },
+        Instr::Const { to: 4, value: 4 },
+        Instr::LessEq {
+            to: 5,
+            left: 2,
+            right: 4,
+        },
+        Instr::JumpZero { value: 5, to: 18 },
+        Instr::Jump { to: 19 },
+        Instr::Jump { to: 23 },
+        Instr::Local { to: 7, first: 1 },
+        Instr::Load { to: 6, from: 7 },
+        Instr::WriteInt { value: 6 },
+        Instr::Jump { to: 3 },
+        Instr::Fault { number: 5 },
+        Instr::Local { to: 9, first: 1 },
+        Instr::Load { to: 8, from: 9 },
+        Instr::Jump { to: 28 },
+        Instr::Jump { to: 39 },
+        Instr::Const { to: 10, value: 7 },
+        Instr::LessEq {
+            to: 11,
+            left: 10,
+            right: 8,
+        },
+        Instr::JumpZero { value: 11, to: 35 },
+        Instr::Const { to: 10, value: 7 },
+        Instr::LessEq {
+            to: 11,
+            left: 8,
+            right: 10,
+        },
+        Instr::JumpZero { value: 11, to: 35 },
+        Instr::Jump { to: 36 },
+        Instr::Jump { to: 37 },
+        Instr::Jump { to: 27 },
+        Instr::Const { to: 12, value: 1 },
+        Instr::WriteBool { value: 12 },
+        Instr::Return,
+    ];
+    assert_eq!(rt; code.code.as_slice(), expected.as_slice());
+    assert_eq!(rt; code.routines[0].slots, 13);
     Ok(())
 }
