@@ -1,5 +1,5 @@
 -- What the functions of conditions give.
-use Rattle.std.proofs.Common.{◌≡◌, ℕ, ℤ, pos, Bool, true, false, List, [], ◌∷◌, ◌++◌, None, is_some, to_z, of_z, w64, refl, sym, ap, ◌∙◌, subst}
+use Rattle.std.proofs.Common.{◌≡◌, ℕ, ℤ, pos, Bool, true, false, List, [], ◌∷◌, ◌++◌, is_some, to_z, of_z, w64, refl, sym, ap, ◌∙◌, subst}
 use Rattle.std.specs.Prelude.{Box}
 use Rattle.std.specs.declared.alloc.Global.{Global as Heap}
 use mir.Val.{bool_byte}
@@ -13,11 +13,10 @@ use Rattle.alma_ir.specs.declared.phrase.Stmt as S
 use Rattle.alma_ir.specs.Tree.{Expr, Test, Stmt, Stmts, Const, Compare, Value, WriteExpr, no_stmts, more_stmts}
 use Rattle.alma_ir.specs.View.{expr_of, test_of, stmt_of, stmts_list}
 use Rattle.alma_ir.proofs.Views.{const_view, compare_view, value_view, writeexpr_view}
-use Rattle.alma_front.specs.Words.{Word, Named, Fixed, comparison, truth_word, slot_of}
+use Rattle.alma_front.specs.Words.{Word, Named, Fixed, comparison, truth_word, AreNew}
 use Rattle.alma_front.specs.Grammar.{truth_number, one, followed_by, IsSum, IsCondition, truth, compared, IsItem, truth_item, sum_item, IsItems, last_item, more_items}
 use Rattle.alma_front.specs.Parse.{first_is, factor_word, term_word, close_word, comparison_word, EndsSum, EndsItems, BeginsNot, BeginsOperator, Only, Never}
-use Rattle.alma_front.proofs.LawsWords.{none_some}
-use Rattle.alma_front.proofs.LawsSums.{first_apart, close_no_factor, close_no_term, comparison_no_factor, comparison_no_term, comparison_same, truth_same, sum_named, fixed_same}
+use Rattle.alma_front.proofs.LawsSums.{first_apart, close_no_factor, close_no_term, comparison_no_factor, comparison_no_term, comparison_same, truth_same, no_truth, no_sum_truth, fixed_same}
 
 -- ---- truths
 
@@ -32,15 +31,10 @@ truth_given value n e = const_view _ ∙ ap Const (ap (λ (z : ℤ). to_z w64 (o
 
 -- ---- conditions
 
--- no sum begins with a truth whose name no variable has
-free_no_sum : {names : List (List ℕ)} {words : List Word} {e : Expr} {rest inner : List Word} (value : Bool) → slot_of names (truth_word value) ≡ None
-    → words ≡ Named (truth_word value) ∷ inner → IsSum names words e rest → ⊥
-free_no_sum {inner = inner} value free w h = let s = sum_named h (truth_word value) inner w in none_some (sym free ∙ s.1)
-
 -- a truth in front is a condition
-pub truth_only : (names : List (List ℕ)) (words rest : List Word) (value : Bool) (e : E.Expr) → slot_of names (truth_word value) ≡ None → words ≡ Named (truth_word value) ∷ rest
+pub truth_only : (names : List (List ℕ)) (words rest : List Word) (value : Bool) (e : E.Expr) → AreNew names → words ≡ Named (truth_word value) ∷ rest
     → expr_of e ≡ Const (truth_number value) → Only (IsCondition names words) EndsSum (test_of (T.Value e)) rest
-truth_only names words rest value e free w v = record { is_one = truth value w made; alone = go } where
+truth_only names words rest value e new w v = record { is_one = truth value w made; alone = go } where
   made : test_of (T.Value e) ≡ Value (Const (truth_number value))
   made = value_view e ∙ ap Value v
 
@@ -48,7 +42,7 @@ truth_only names words rest value e free w v = record { is_one = truth value w m
   go y later u (truth other v k) =
       let same : other ≡ value = truth_same other value (cc (w, v)) in
       (k ∙ ap (λ (z : Bool). Value (Const (truth_number z))) same ∙ sym made, cc (w, v))
-  go y later u (compared left right kind c inner h cmp more k) = absurd (free_no_sum value free w h)
+  go y later u (compared left right kind c inner h cmp more k) = absurd (no_sum_truth (no_truth names new) value w h)
 
 -- no truth in front
 abbrev pub NoTruthFirst : List Word → Type 0
@@ -102,9 +96,9 @@ condition_no_right names words behind inner c left n h b never y later u (compar
 -- ---- items
 
 -- a truth in front is an item
-pub truth_item_only : (names : List (List ℕ)) (words rest : List Word) (value : Bool) (e : E.Expr) → slot_of names (truth_word value) ≡ None → words ≡ Named (truth_word value) ∷ rest
+pub truth_item_only : (names : List (List ℕ)) (words rest : List Word) (value : Bool) (e : E.Expr) → AreNew names → words ≡ Named (truth_word value) ∷ rest
     → expr_of e ≡ Const (truth_number value) → Only (IsItem names words) EndsSum (stmt_of (S.WriteExpr e write_as.Bool)) rest
-truth_item_only names words rest value e free w v = record { is_one = truth_item value w made; alone = go } where
+truth_item_only names words rest value e new w v = record { is_one = truth_item value w made; alone = go } where
   made : stmt_of (S.WriteExpr e write_as.Bool) ≡ WriteExpr (Const (truth_number value)) write_as.Bool
   made = writeexpr_view e write_as.Bool ∙ ap (λ (z : Expr). WriteExpr z write_as.Bool) v
 
@@ -112,7 +106,7 @@ truth_item_only names words rest value e free w v = record { is_one = truth_item
   go y later u (truth_item other v k) =
       let same : other ≡ value = truth_same other value (cc (w, v)) in
       (k ∙ ap (λ (z : Bool). WriteExpr (Const (truth_number z)) write_as.Bool) same ∙ sym made, cc (w, v))
-  go y later u (sum_item d h k) = absurd (free_no_sum value free w h)
+  go y later u (sum_item d h k) = absurd (no_sum_truth (no_truth names new) value w h)
 
 -- a sum is an item
 pub sum_item_only : (names : List (List ℕ)) (words rest : List Word) (e : E.Expr) → NoTruthFirst words → Only (IsSum names words) EndsSum (expr_of e) rest

@@ -1,10 +1,7 @@
 -- A source has one list of tokens, and no other words.
-use Rattle.std.proofs.Common.{◌≡◌, ℕ, ◌+◌, ◌-◌, if◌then◌else◌, List, Result, Ok, Err, IfOk, length, map, refl, ap, subst}
+use Rattle.std.proofs.Common.{◌≡◌, ℕ, List, Result, Ok, Err, IfOk, length, map, refl, ap, subst}
 use Rattle.std.specs.Prelude.{IsErrAnd}
 use Rattle.std.proofs.lemmas.Result.{err_from_is_err_and}
-use Rattle.alma_tree.specs.declared.kind.Kind.{Kind}
-use Rattle.alma_tree.specs.declared.kind.Kind.TheVariants as kinds
-use Rattle.alma_tree.specs.Depth.{opens, closes}
 use Rattle.alma_scan.proofs.Once.{tokens_once, never_both}
 use Rattle.alma_scan.specs.Tokens.{Tokens}
 use Rattle.alma_scan.specs.Scanned.{lexemes, IsStopOf}
@@ -16,17 +13,10 @@ use Rattle.alma_ir.specs.Tree.{Program}
 use Rattle.alma_ir.specs.View.{program_of}
 use Rattle.alma_front.specs.declared.error.ReadError.{ReadError}
 use Rattle.alma_front.specs.declared.error.ReadError.TheVariants.{NotYet, Memory}
-use Rattle.alma_front.specs.Words.{Word, word, word_of, depth_behind, KeepsDepth}
+use Rattle.alma_front.specs.Words.{Word, word, KeepsDepth}
 use Rattle.alma_front.specs.Grammar.{IsModule}
 use Rattle.alma_front.specs.Parse.{words, scan_end}
 use Rattle.alma_front.specs.Source.{IsSource, IsRead}
-
--- how many brackets are open behind a token of a kind, whatever its text
-pub behind_kind : (depth : ℕ) (kind : Kind) (text : List ℕ)
-    → depth_behind depth (word_of kind text) ≡ (if opens kind then depth + 1 else (if closes kind then depth - 1 else depth))
-behind_kind depth kinds.Name text = refl
-behind_kind depth kinds.Number text = refl
-behind_kind depth kind text = refl
 
 -- a source without tokens is no program
 unread : (source : List ℕ) (error : ScanError) → IsStopOf source error → IsRead source (Err (scan_end error))

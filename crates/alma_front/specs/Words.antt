@@ -4,7 +4,6 @@ use Rattle.std.specs.Str.{bytes_eq}
 use Rattle.std.specs.List.{list_any}
 use Rattle.alma_tree.specs.declared.kind.Kind.{Kind}
 use Rattle.alma_tree.specs.declared.kind.Kind.TheVariants as kinds
-use Rattle.alma_tree.specs.Depth.{opens, closes}
 use Rattle.alma_scan.specs.Tokens.{Lexeme}
 use Rattle.alma_ir.specs.declared.phrase.Op.{Op}
 use Rattle.alma_ir.specs.declared.phrase.Op.TheVariants as op
@@ -74,11 +73,25 @@ slot_from slot (other ∷ names) name = if bytes_eq name other then Some slot el
 abbrev pub slot_of : List (List ℕ) → (name : List ℕ) → Option ℕ
 slot_of names name = slot_from 1 names name
 
+-- the token opens a bracket
+abbrev pub is_opener : Word → Bool
+is_opener (Fixed kinds.OpenParen) = true
+is_opener (Fixed kinds.Module) = true
+is_opener (Fixed kinds.If) = true
+is_opener (Fixed kinds.While) = true
+is_opener (Fixed kinds.Repeat) = true
+is_opener word = false
+
+-- the token closes a bracket
+abbrev pub is_closer : Word → Bool
+is_closer (Fixed kinds.CloseParen) = true
+is_closer (Fixed kinds.End) = true
+is_closer (Fixed kinds.Until) = true
+is_closer word = false
+
 -- how many brackets are open behind a token, where so many are open before it
 abbrev pub depth_behind : (depth : ℕ) → Word → ℕ
-depth_behind depth (Named text) = depth
-depth_behind depth (Digits text) = depth
-depth_behind depth (Fixed kind) = if opens kind then depth + 1 else (if closes kind then depth - 1 else depth)
+depth_behind depth word = if is_opener word then depth + 1 else (if is_closer word then depth - 1 else depth)
 
 -- at most 100 brackets are open behind each token
 abbrev pub KeepsDepth : (depth : ℕ) → List Word → Type 0

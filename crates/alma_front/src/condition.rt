@@ -49,7 +49,9 @@ pub fn condition<'t, 's>(
     ensures refused { IfErr result (Refused (IsCondition variables.now (words tokens.now)) EndsSum) }
     ensures shorter { IfOk result (λ found. length found.1.now < length tokens.now) }
 {
-    if let Some((value, rest)) = split_truth(variables, tokens) {
+    if let Some((value, rest)) = split_truth(tokens) {
+        // By what `names` ensures, no variable is called as a truth.
+        let _names = variables.names();
         return Ok((Test::Value(truth(value)), rest));
     }
     let (left, behind) = sum(alloc, variables, tokens)?;
@@ -70,7 +72,9 @@ fn item<'t, 's>(
     ensures refused { IfErr result (Refused (IsItem variables.now (words tokens.now)) EndsSum) }
     ensures shorter { IfOk result (λ found. length found.1.now < length tokens.now) }
 {
-    if let Some((value, rest)) = split_truth(variables, tokens) {
+    if let Some((value, rest)) = split_truth(tokens) {
+        // By what `names` ensures, no variable is called as a truth.
+        let _names = variables.names();
         return Ok((Stmt::WriteExpr(truth(value), WriteAs::Bool), rest));
     }
     let (value, rest) = sum(alloc, variables, tokens)?;

@@ -15,17 +15,14 @@ use std::alloc::Global;
 const GREATEST_DEPTH: usize = 100;
 
 // How many brackets are open behind a token, where so many are open before it.
-#[tactic(auto, using(crate::proofs::Sources::behind_kind))]
 fn depth_behind(depth: usize, kind: Kind) -> usize
     requires { depth ≤ 100 }
     ensures { (text : List ℕ) → result ≡ depth_behind depth (word_of kind text) }
 {
-    if kind.opens() {
-        depth + 1
-    } else if kind.closes() {
-        depth.saturating_sub(1)
-    } else {
-        depth
+    match kind {
+        Kind::OpenParen | Kind::Module | Kind::If | Kind::While | Kind::Repeat => depth + 1,
+        Kind::CloseParen | Kind::End | Kind::Until => depth.saturating_sub(1),
+        _ => depth,
     }
 }
 

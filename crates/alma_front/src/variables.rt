@@ -1,6 +1,6 @@
 // The variables of a module.
-ghost use Rattle.std.specs.Prelude.{◌≡◌, ◌<◌, ◌≤◌, ◌++◌, ◌∷◌, [], Bool, None, Err, length, map, MatchOption, IfSome, IfOk, OnOk};
-ghost use Rattle.alma_front.specs.Words.{AreNew, is_one_of, predeclared, slot_of, truth_word};
+ghost use Rattle.std.specs.Prelude.{◌≡◌, ◌<◌, ◌≤◌, ◌++◌, ◌∷◌, [], Err, length, map, IfOk, OnOk};
+ghost use Rattle.alma_front.specs.Words.{AreNew, is_one_of, predeclared, slot_of};
 ghost use Rattle.alma_front.specs.declared.error.ReadError.TheVariants.{NotYet};
 
 use crate::error::ReadError;
@@ -30,17 +30,6 @@ fn is_predeclared(name: &[u8]) -> bool
     ensures { result ≡ is_one_of predeclared name.now }
 {
     name == b"INTEGER".as_slice() || name == b"TRUE".as_slice() || name == b"FALSE".as_slice()
-}
-
-// The truth that a name is declared to be from the start.
-fn truth_named(name: &[u8]) -> Option<bool>
-    ensures { MatchOption result ((value : Bool) → name.now ≡ truth_word value → ⊥) (λ value. name.now ≡ truth_word value) }
-{
-    match name {
-        b"TRUE" => Some(true),
-        b"FALSE" => Some(false),
-        _ => None,
-    }
 }
 
 impl Variables {
@@ -80,17 +69,6 @@ impl Variables {
     {
         let place = self.names.get_index_of(name)?;
         Some(place as u32 + 1)
-    }
-
-    /// The truth that a name stands for, where it is the name of no variable.
-    pub fn truth(&self, name: &[u8]) -> Option<bool>
-        ensures named { MatchOption result ((value : Bool) → name.now ≡ truth_word value → ⊥) (λ value. name.now ≡ truth_word value) }
-        ensures no_variable { IfSome result (λ _. slot_of self.now name.now ≡ None) }
-    {
-        match self.names.get_index_of(name) {
-            Some(_) => None,
-            None => truth_named(name),
-        }
     }
 
     /// The names, in order.

@@ -1,13 +1,12 @@
 // The first token of a list, as the grammar sees it.
-ghost use Rattle.std.specs.Prelude.{◌≡◌, ◌<◌, ◌≤◌, ◌∷◌, Bool, List, ℕ, pos, true, length, None, MatchOption, MatchResult, IfSome, IfOk};
+ghost use Rattle.std.specs.Prelude.{◌≡◌, ◌<◌, ◌≤◌, ◌∷◌, Bool, List, ℕ, pos, true, length, MatchOption, MatchResult, IfSome, IfOk};
 ghost use Rattle.alma_scan.specs.Bytes.{value_of};
 ghost use Rattle.alma_scan.specs.Spellings.{greatest_number};
-ghost use Rattle.alma_front.specs.Words.{Named, Digits, Fixed, truth_word, slot_of};
+ghost use Rattle.alma_front.specs.Words.{Named, Digits, Fixed, truth_word};
 ghost use Rattle.alma_front.specs.Parse.{words, is_fixed, BeginsNot};
 ghost use Rattle.alma_front.specs.declared.error.ReadError.TheVariants.{NotYet};
 
 use crate::error::ReadError;
-use crate::variables::Variables;
 use alma_scan::Token;
 use alma_tree::Kind;
 
@@ -89,16 +88,15 @@ pub fn number_value(digits: &[u8]) -> Option<i64>
     Some(value)
 }
 
-/// The truth in front, whose name no variable has, and the tokens behind it.
-pub fn split_truth<'t, 's>(
-    variables: &Variables,
-    tokens: &'t [Token<'s>],
-) -> Option<(bool, &'t [Token<'s>])>
+/// The truth in front, and the tokens behind it.
+pub fn split_truth<'t, 's>(tokens: &'t [Token<'s>]) -> Option<(bool, &'t [Token<'s>])>
     ensures split { MatchOption result ((value : Bool) → BeginsNot (Named (truth_word value)) (words tokens.now))
         (λ found. words tokens.now ≡ Named (truth_word found.0) ∷ words found.1.now) }
-    ensures no_variable { IfSome result (λ found. slot_of variables.now (truth_word found.0) ≡ None) }
     ensures shorter { IfSome result (λ found. length found.1.now < length tokens.now) }
 {
-    let (name, rest) = split_name(tokens)?;
-    Some((variables.truth(name)?, rest))
+    match split_name(tokens)? {
+        (b"TRUE", rest) => Some((true, rest)),
+        (b"FALSE", rest) => Some((false, rest)),
+        _ => None,
+    }
 }

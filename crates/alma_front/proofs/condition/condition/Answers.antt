@@ -7,7 +7,7 @@ use Rattle.alma_front.proofs.condition.condition.Goals as goal
 
 -- src/condition.rt:52:9
 pub returns-in-Some-clause-found : goal.returns-in-Some-clause-found
-returns-in-Some-clause-found c = truth_only _ _ _ c.in-Some.value c.truth.result c.in-Some.ensures.no_variable c.in-Some.ensures.split c.truth.ensures
+returns-in-Some-clause-found c = truth_only _ _ _ c.in-Some.value c.truth.result c.names-names.ensures.new c.in-Some.ensures.split c.truth.ensures
 
 -- src/condition.rt:55:31
 pub returns-in_err-comparison-clause-refused : goal.returns-in_err-comparison-clause-refused
