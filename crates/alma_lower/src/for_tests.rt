@@ -1,43 +1,19 @@
 // A program with two loops, built by hand, and its code.
-ghost use Rattle.std.specs.Prelude.{◌≡◌, ℤ, [], ◌∷◌, None, IfOk};
+ghost use Rattle.std.specs.Prelude.{◌≡◌, [], ◌∷◌, None, IfOk};
 ghost use Rattle.alma_ir.specs.declared.phrase.Root.TheVariants as root;
-ghost use Rattle.alma_ir.specs.View.{program_of, desig_of, expr_of, loop_of, stmts_list};
+ghost use Rattle.alma_ir.specs.View.{program_of, loop_of, stmts_list};
 ghost use Rattle.alma_ir.specs.Tree as tree;
 ghost use Rattle.alma_ir.specs.Checked.{IsChecked};
 ghost use Rattle.alma_base.specs.Numbers.{whole_range};
 ghost use Rattle.alma_lower.specs.Built.{IsBuilt};
 
 use crate::lower;
+use crate::tests::{load, number, variable};
 use alma_base::{NoMemory, Range};
 use alma_code::Instr;
-use alma_ir::{Desig, Expr, Loop, Program, Root, Routine, Stmt, WriteAs};
+use alma_ir::{Loop, Program, Routine, Stmt, WriteAs};
 use std::alloc::Global;
 use std::test::Fail;
-
-fn variable(alloc: Global) -> Desig
-    ensures { desig_of result ≡ tree.a_desig (root.Local 1) 1 tree.no_sels }
-{
-    Desig {
-        root: Root::Local(1),
-        cells: 1,
-        sels: Vec::new(alloc),
-    }
-}
-
-#[tactic(auto, using(alma_ir::proofs::Views::load_view))]
-fn load(alloc: Global) -> Expr
-    ensures { expr_of result ≡ tree.Load (tree.a_desig (root.Local 1) 1 tree.no_sels) }
-{
-    Expr::Load(variable(alloc))
-}
-
-// A number.
-#[tactic(auto, using(alma_ir::proofs::Views::const_view))]
-fn number(value: i64) -> Expr
-    ensures { expr_of result ≡ tree.Const value }
-{
-    Expr::Const(value)
-}
 
 // A module of one variable, and two hidden slots.
 fn module_of(alloc: Global, body: Vec<Stmt>) -> Result<Program, NoMemory>

@@ -13,7 +13,7 @@ use alma_ir::{Arm, CaseArm, Cmp, Desig, Expr, Program, Root, Routine, Stmt, Test
 use std::alloc::Global;
 use std::test::Fail;
 
-fn variable(alloc: Global) -> Desig
+pub(crate) fn variable(alloc: Global) -> Desig
     ensures { desig_of result ≡ tree.a_desig (root.Local 1) 1 tree.no_sels }
 {
     Desig {
@@ -24,7 +24,7 @@ fn variable(alloc: Global) -> Desig
 }
 
 #[tactic(auto, using(alma_ir::proofs::Views::load_view))]
-fn load(alloc: Global) -> Expr
+pub(crate) fn load(alloc: Global) -> Expr
     ensures { expr_of result ≡ tree.Load (tree.a_desig (root.Local 1) 1 tree.no_sels) }
 {
     Expr::Load(variable(alloc))
@@ -74,7 +74,7 @@ fn written(alloc: Global, value: Expr, how: WriteAs) -> Result<Vec<Stmt>, NoMemo
 
 // A number.
 #[tactic(auto, using(alma_ir::proofs::Views::const_view))]
-fn number(value: i64) -> Expr
+pub(crate) fn number(value: i64) -> Expr
     ensures { expr_of result ≡ tree.Const value }
 {
     Expr::Const(value)
