@@ -162,7 +162,12 @@ fn emit_repeat(emit: &mut Emit, body: &[Stmt], test: &Test) -> Result<(), NoMemo
 
 // An arm of CASE: its labels, a jump over its body, the body, and the jump out.
 #[cycle(body)]
-fn emit_case_arm(emit: &mut Emit, body: &[Stmt], labels: &[Range], head: CaseHead) -> Result<(), NoMemory>
+fn emit_case_arm(
+    emit: &mut Emit,
+    body: &[Stmt],
+    labels: &[Range],
+    head: CaseHead,
+) -> Result<(), NoMemory>
     requires body { BuiltStmts (stmts_list body.now) }
     requires bound { head.bound < 8388608 }
     requires room { filled emit.old + 16 + 16 * length labels.now + 16 * stmts_nodes (stmts_list body.now) ≤ 8388608 }

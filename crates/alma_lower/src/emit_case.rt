@@ -83,7 +83,12 @@ fn emit_label(emit: &mut Emit, head: CaseHead, hit: u32, label: &Range) -> Resul
 }
 
 // The labels of an arm in order.
-pub(crate) fn emit_labels(emit: &mut Emit, head: CaseHead, hit: u32, labels: &[Range]) -> Result<(), NoMemory>
+pub(crate) fn emit_labels(
+    emit: &mut Emit,
+    head: CaseHead,
+    hit: u32,
+    labels: &[Range],
+) -> Result<(), NoMemory>
     requires bound { head.bound < 8388608 }
     requires room { filled emit.old + 7 * length labels.now ≤ 8388608 }
     ensures puts { OnOk result (PutsLabels emit.old emit.new head.value head.bound hit labels.now) }

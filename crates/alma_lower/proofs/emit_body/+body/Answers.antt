@@ -1,4 +1,4 @@
-use Rattle.std.proofs.Common.{rules, ◌≡◌, ◌+◌, ◌*◌, ◌<◌, ◌≤◌, Some, None, [], length, drop, refl, sym, ap, ◌∙◌, subst, arith}
+use Rattle.std.proofs.Common.{rules, ◌≡◌, ◌+◌, ◌*◌, ◌≤◌, [], length, drop, sym, ap, ◌∙◌, subst, arith}
 use Rattle.std.proofs.Math.ListN.{drop_of_length-le}
 use Rattle.alma_ir.specs.declared.phrase.Arg.TheFolds.{the_lemmas}
 use Rattle.alma_ir.specs.Tree as tree
@@ -51,17 +51,17 @@ emit_cases-loop-arm-preserved t c =
     let built = subst BuiltCases one l.invariant.built in
     let few : filled c.if-not-is_empty.emit ≤ filled l.emit + 16 * (1 + length arm.labels.items + stmts_nodes (stmts_list arm.body.items)) =
     elim c.if-not-is_empty.branch [
-      emit_cases-then-not-is_empty+in_ok-emit_case_arm w ↦ omega (arith, ap filled w.emit-is, w.in_ok-emit_case_arm.ensures.few, ap length w.deref-then-not-is_empty.ensures.value, ap (λ x. stmts_nodes (stmts_list x)) w.deref.ensures.value)
-    | emit_cases-else-not-is_empty w ↦ omega (arith, ap filled w.emit-is)
+      | emit_cases-then-not-is_empty+in_ok-emit_case_arm w ↦ omega (arith, ap filled w.emit-is, w.in_ok-emit_case_arm.ensures.few, ap length w.deref-then-not-is_empty.ensures.value, ap (λ x. stmts_nodes (stmts_list x)) w.deref.ensures.value)
+      | emit_cases-else-not-is_empty w ↦ omega (arith, ap filled w.emit-is)
     ] in
     let puts : (d : Emit) (rest : tree.CaseArms) → PutsCases c.if-not-is_empty.emit d head.value head.bound head.exit rest → PutsCases l.emit d head.value head.bound head.exit (tree.more_cases arm.labels.items (stmts_list arm.body.items) rest) =
     elim c.if-not-is_empty.branch [
-      emit_cases-then-not-is_empty+in_ok-emit_case_arm w ↦ λ d rest h.
+      | emit_cases-then-not-is_empty+in_ok-emit_case_arm w ↦ λ d rest h.
           cases_put _ _ _ _ _ _ _ _ _ (omega (arith, some_elements _ w.if-not-is_empty.ensures, arm.labels.ok.0))
           (subst (λ x. PutsCaseArm l.emit w.emit_case_arm.new.emit head.value head.bound head.exit arm.labels.items (stmts_list x)) w.deref.ensures.value
           (subst (λ x. PutsCaseArm l.emit w.emit_case_arm.new.emit head.value head.bound head.exit x (stmts_list w.deref.result.now)) w.deref-then-not-is_empty.ensures.value w.in_ok-emit_case_arm.ensures.puts))
           (subst (λ e. PutsCases e d head.value head.bound head.exit rest) w.emit-is h)
-    | emit_cases-else-not-is_empty w ↦ λ d rest h.
+      | emit_cases-else-not-is_empty w ↦ λ d rest h.
           skipped_put _ _ _ _ _ _ _ _ (omega (arith, no_elements _ w.if-not-is_empty.ensures, arm.labels.ok.0)) (subst (λ e. PutsCases e d head.value head.bound head.exit rest) w.emit-is h)
     ] in
     record {
@@ -220,8 +220,8 @@ emit_stmt-aim-requires-in-Case-clause-room t c =
     let view : stmt_of c.args.stmt.now ≡ tree.Case (expr_of c.in-Case.value) (cases_list c.deref-in-Case.result.now) (else_option c.in-Case.rest) = ap stmt_of c.in-Case.is ∙ Views.case_view _ _ _ ∙ ap (λ x. tree.Case (expr_of c.in-Case.value) (cases_list x) (else_option c.in-Case.rest)) (sym c.deref-in-Case.ensures.value) in
     let few : filled c.match-rest.emit ≤ filled c.emit_cases.new.emit + 1 + 16 * else_nodes (else_option c.in-Case.rest) =
     elim c.match-rest.branch [
-      emit_stmt-in-Some+in_ok-emit_stmts-in-Some w ↦ omega (arith, ap filled w.emit-is, w.in_ok-emit_stmts-in-Some.ensures.few, ap (λ x. else_nodes (else_option x)) w.in-Some.is, ap (λ x. stmts_nodes (stmts_list x)) w.deref-in-Some.ensures.value)
-    | emit_stmt-in-None+in_ok-put-in-None w ↦ omega (arith, ap filled w.emit-is, w.in_ok-put-in-None.ensures.few)
+      | emit_stmt-in-Some+in_ok-emit_stmts-in-Some w ↦ omega (arith, ap filled w.emit-is, w.in_ok-emit_stmts-in-Some.ensures.few, ap (λ x. else_nodes (else_option x)) w.in-Some.is, ap (λ x. stmts_nodes (stmts_list x)) w.deref-in-Some.ensures.value)
+      | emit_stmt-in-None+in_ok-put-in-None w ↦ omega (arith, ap filled w.emit-is, w.in_ok-put-in-None.ensures.few)
     ] in
     omega (arith, c.requires.room, ap stmt_nodes view, c.in_ok-head-in-Case.ensures.few, c.in_ok-emit_cases-in-Case.ensures.few, few)
 
@@ -300,10 +300,10 @@ emit_stmt-returns-after-rest-clause-puts t c =
     let a = c.emit_cases.new.emit in
     let puts : PutsElse a c.match-rest.emit (else_option c.in-Case.rest) =
     elim c.match-rest.branch [
-      emit_stmt-in-Some+in_ok-emit_stmts-in-Some w ↦
+      | emit_stmt-in-Some+in_ok-emit_stmts-in-Some w ↦
           let some : else_option c.in-Case.rest ≡ tree.else_part (stmts_list w.deref-in-Some.result.now) = ap else_option w.in-Some.is ∙ ap (λ x. tree.else_part (stmts_list x)) (sym w.deref-in-Some.ensures.value) in
           subst (λ e. PutsElse a e (else_option c.in-Case.rest)) (sym w.emit-is) (subst (PutsElse a w.emit_stmts-in-Some.new.emit) (sym some) (else_put _ _ _ w.in_ok-emit_stmts-in-Some.ensures.puts))
-    | emit_stmt-in-None+in_ok-put-in-None w ↦
+      | emit_stmt-in-None+in_ok-put-in-None w ↦
           let none : else_option c.in-Case.rest ≡ tree.no_else = ap else_option w.in-None.is in
           subst (λ e. PutsElse a e (else_option c.in-Case.rest)) (sym w.emit-is) (subst (PutsElse a w.put-in-None.new.self) (sym none) (no_else_put _ _ w.in_ok-put-in-None.ensures.puts))
     ] in
@@ -316,8 +316,8 @@ emit_stmt-returns-after-rest-clause-few t c =
     let view : stmt_of c.args.stmt.now ≡ tree.Case (expr_of c.in-Case.value) (cases_list c.deref-in-Case.result.now) (else_option c.in-Case.rest) = ap stmt_of c.in-Case.is ∙ Views.case_view _ _ _ ∙ ap (λ x. tree.Case (expr_of c.in-Case.value) (cases_list x) (else_option c.in-Case.rest)) (sym c.deref-in-Case.ensures.value) in
     let few : filled c.match-rest.emit ≤ filled c.emit_cases.new.emit + 1 + 16 * else_nodes (else_option c.in-Case.rest) =
     elim c.match-rest.branch [
-      emit_stmt-in-Some+in_ok-emit_stmts-in-Some w ↦ omega (arith, ap filled w.emit-is, w.in_ok-emit_stmts-in-Some.ensures.few, ap (λ x. else_nodes (else_option x)) w.in-Some.is, ap (λ x. stmts_nodes (stmts_list x)) w.deref-in-Some.ensures.value)
-    | emit_stmt-in-None+in_ok-put-in-None w ↦ omega (arith, ap filled w.emit-is, w.in_ok-put-in-None.ensures.few)
+      | emit_stmt-in-Some+in_ok-emit_stmts-in-Some w ↦ omega (arith, ap filled w.emit-is, w.in_ok-emit_stmts-in-Some.ensures.few, ap (λ x. else_nodes (else_option x)) w.in-Some.is, ap (λ x. stmts_nodes (stmts_list x)) w.deref-in-Some.ensures.value)
+      | emit_stmt-in-None+in_ok-put-in-None w ↦ omega (arith, ap filled w.emit-is, w.in_ok-put-in-None.ensures.few)
     ] in
     omega (arith, ap stmt_nodes view, c.in_ok-head-in-Case.ensures.few, c.in_ok-emit_cases-in-Case.ensures.few, few, c.aim-in-Case.ensures.few)
 
