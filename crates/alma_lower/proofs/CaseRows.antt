@@ -1,5 +1,5 @@
 -- The rows of CASE: a label, the labels of an arm, an arm, the ELSE part, and the whole.
-use Rattle.std.proofs.Common.{◌≡◌, ◌≢◌, ℕ, suc, ◌+◌, ◌*◌, ◌<◌, ◌≤◌, Bool, true, false, List, [], ◌∷◌, ◌++◌, length, Some, refl, sym, ap, ◌∙◌, subst, arith, ℤ}
+use Rattle.std.proofs.Common.{◌≡◌, ◌≢◌, ℕ, ◌+◌, ◌*◌, ◌<◌, ◌≤◌, Bool, true, false, List, [], ◌∷◌, length, Some, refl, sym, subst, arith, ℤ}
 use Rattle.std.specs.Prelude.{slice_get, int_le, ◌&&◌}
 use Rattle.alma_base.specs.declared.number.Range.{Range}
 use Rattle.alma_base.specs.declared.fault.RunFault.TheVariants as fault
@@ -7,7 +7,6 @@ use Rattle.alma_base.specs.Choice.{if_true}
 use Rattle.alma_base.specs.Numbers.{within, bit}
 use Rattle.alma_code.specs.declared.cell.Cell.{Cell}
 use Rattle.alma_code.specs.declared.cell.Cell.TheVariants as cell
-use Rattle.alma_code.specs.declared.cell.SlotKind.{SlotKind}
 use Rattle.alma_code.specs.declared.cell.SlotKind.TheVariants as slot
 use Rattle.alma_code.specs.declared.instr.Instr.TheVariants as I
 use Rattle.alma_code.specs.Picture.{PlainEntry}
@@ -15,7 +14,7 @@ use Rattle.alma_code.specs.Plain.{PlainCode, kinds_at}
 use Rattle.alma_code.specs.Machine.{State}
 use Rattle.alma_ir.specs.Tree.{Program, routine_at}
 use Rattle.alma_mean.specs.Store.{Store}
-use Rattle.alma_mean.specs.Events.{Events, NoYield, Flow, Go, Return, Fault, bind, node}
+use Rattle.alma_mean.specs.Events.{Events, NoYield, Flow, Fault, bind, node}
 use Rattle.alma_mean.specs.Rows.{try_labels}
 use Rattle.alma_lower.specs.Templates.{label_code, labels_code}
 use Rattle.alma_lower.proofs.Goes.{Silently, IsGoing, and_then, Goes, before, weaker, bind_goes, node_goes, then_goes, credited}

@@ -10,7 +10,7 @@ use Rattle.alma_code.specs.declared.instr.Instr.TheVariants as I
 use Rattle.alma_ir.specs.Tree.{Stmts, CaseArms, Else, Expr, Case, no_cases, more_cases, no_else, else_part}
 use Rattle.alma_lower.specs.declared.emit.Emit.{Emit}
 use Rattle.alma_lower.specs.Templates.{expr_code, expr_slots, label_code, labels_code, stmts_code, stmts_slots, cases_code, cases_slots, else_code, else_slots}
-use Rattle.alma_lower.specs.Emitted.{next_slot, aimed, Appends, Puts, PutsExpr, PutsStmts, PutsStmt, PutsCaseHead, PutsLabels, case_arm_code, PutsCaseArm, PutsCases, PutsElse}
+use Rattle.alma_lower.specs.Emitted.{next_slot, aimed, Appends, Puts, PutsExpr, PutsStmts, PutsStmt, PutsCaseHead, PutsLabels, PutsCaseArm, PutsCases, PutsElse}
 use Rattle.alma_lower.proofs.Sizes.{labels_long}
 use Rattle.alma_lower.proofs.Emits.{nothing, append_then, append_as, slot_after, address_after}
 
