@@ -11,7 +11,7 @@ use Rattle.std.proofs.Math.Nat.{mul-le-mul_right}
 use Rattle.std.proofs.Math.Seq.{paste}
 use Rattle.alma_base.specs.Choice.{if_true}
 use Rattle.alma_base.specs.declared.number.Range.{Range}
-use Rattle.alma_base.specs.Numbers.{within}
+use Rattle.alma_base.specs.Numbers.{within, range_size}
 use Rattle.alma_code.specs.declared.cell.Cell.{Cell}
 use Rattle.alma_code.specs.declared.cell.Cell.TheVariants as cell
 use Rattle.alma_code.specs.declared.cell.CellPlace.{CellPlace}
@@ -20,7 +20,7 @@ use Rattle.alma_code.specs.Carries.{number_at}
 use Rattle.alma_code.specs.Kinds.{is_number}
 use Rattle.alma_code.specs.Machine.{State, copied, with_cell, to_place, put_place, stuck, went}
 use Rattle.alma_code.specs.Picture.{PlainFrame, last_frame, frame_with, written}
-use Rattle.alma_code.specs.Rules.{place_length, range_size, has_room}
+use Rattle.alma_code.specs.Rules.{place_length, has_room}
 use Rattle.alma_code.proofs.Ranges.{offset_le}
 use Rattle.alma_machine.specs.Rows.{HasNumber, width, IsCells, with_copied}
 

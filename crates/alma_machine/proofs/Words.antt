@@ -8,7 +8,7 @@ use Rattle.std.proofs.lemmas.Bool.Decides.{eqb_tells}
 use Rattle.std.proofs.lemmas.Option.{slice_get-get_or, get_or_from_slice_get}
 use Rattle.alma_base.specs.declared.fault.RunFault.{RunFault}
 use Rattle.alma_base.specs.declared.fault.RunFault.TheVariants as fault
-use Rattle.alma_base.specs.Numbers.{within, is_zero, int_eq}
+use Rattle.alma_base.specs.Numbers.{within, is_zero, int_eq, is_beyond}
 use Rattle.alma_code.specs.declared.cell.Cell.{Cell}
 use Rattle.alma_code.specs.declared.cell.Cell.TheVariants as cell
 use Rattle.alma_code.specs.declared.cell.CellPlace.{CellPlace}
@@ -18,7 +18,7 @@ use Rattle.alma_code.specs.Plain.{PlainCode}
 use Rattle.alma_code.specs.Carries.{number_at}
 use Rattle.alma_code.specs.Fits.{IsContent}
 use Rattle.alma_code.specs.Kinds.{is_number}
-use Rattle.alma_code.specs.Machine.{State, Stepped, number, place, content, known, as_number, as_place, as_content, faulted, put_number, put_place, to_number, to_place, store, went, stuck, with_slot, with_cell, act, as_range, ranged, is_beyond}
+use Rattle.alma_code.specs.Machine.{State, Stepped, number, place, content, known, as_number, as_place, as_content, faulted, put_number, put_place, to_number, to_place, store, went, stuck, with_slot, with_cell, act, as_range, ranged}
 use Rattle.alma_base.specs.Choice.{if_true}
 use Rattle.alma_code.specs.Picture.{PlainFrame, last_frame, cell_at}
 use Rattle.alma_machine.specs.Rows.{HasNumber, IsCells, HoldsCells, Gives, put_or_fault}

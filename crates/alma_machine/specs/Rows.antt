@@ -1,4 +1,5 @@
 -- What the parts of a step need and give.
+use Rattle.alma_base.specs.Numbers.{is_beyond}
 use Rattle.std.specs.Prelude.{◌≡◌, ◌+◌, ◌^◌, ◌<◌, ◌≤◌, ◌||◌, ◌+ℤ◌, nat_eq, ℕ, ℤ, true, [], ◌∷◌, length, get_or, slice_get, Option, Some, None, Result, Ok, Err, MatchResult}
 use Rattle.std.specs.List.{copy_within}
 use Rattle.alma_base.specs.Choice.{if_true}
@@ -12,7 +13,7 @@ use Rattle.alma_code.specs.declared.instr.Instr.TheVariants as I
 use Rattle.alma_code.specs.declared.step.Step.{Step}
 use Rattle.alma_code.specs.Fits.{IsContent}
 use Rattle.alma_code.specs.Kinds.{is_place}
-use Rattle.alma_code.specs.Machine.{Mode, Going, Failing, Ended, State, Stepped, number, place, put_number, put_place, copied, went, faulted, is_beyond}
+use Rattle.alma_code.specs.Machine.{Mode, Going, Failing, Ended, State, Stepped, number, place, put_number, put_place, copied, went, faulted}
 use Rattle.alma_code.specs.Picture.{PlainFrame}
 use Rattle.alma_code.specs.Plain.{PlainCode}
 use Rattle.alma_code.specs.Rules.{place_length, has_room}

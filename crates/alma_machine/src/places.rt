@@ -1,9 +1,8 @@
 // The parts of places, and the copies of their cells.
 ghost use Rattle.std.specs.Prelude.{◌≡◌, ◌+◌, ◌*◌, ◌^◌, ◌<◌, ◌≤◌, ◌-ℤ◌, ℕ, [], ◌∷◌, true, nat_abs};
 ghost use Rattle.alma_base.specs.declared.fault.RunFault.TheVariants as fault;
-ghost use Rattle.alma_base.specs.Numbers.{within};
+ghost use Rattle.alma_base.specs.Numbers.{within, range_size};
 ghost use Rattle.alma_code.specs.Machine.{State, number, place, ranged, put_place};
-ghost use Rattle.alma_code.specs.Rules.{range_size};
 ghost use Rattle.alma_machine.specs.Rows.{HasNumber, HasPlace, HasCells, width, GivesCopy, point_or_fault};
 
 use crate::frame::Frame;

@@ -4,11 +4,10 @@ ghost use Rattle.std.specs.Int.{int_rem_euclid};
 ghost use Rattle.alma_base.specs.Choice.{if_true};
 ghost use Rattle.alma_base.specs.declared.fault.RunFault.TheVariants as fault;
 ghost use Rattle.alma_base.specs.declared.value.Value.TheVariants as kind;
-ghost use Rattle.alma_base.specs.Numbers.{is_zero};
+ghost use Rattle.alma_base.specs.Numbers.{is_zero, range_size};
 ghost use Rattle.alma_base.specs.Value.{value_text};
 ghost use Rattle.alma_code.specs.Machine.{act, top, number, place, store, put_number, put_place, ranged, run_faults, went, ended, goes_to, fails_now, printed};
 ghost use Rattle.alma_code.specs.Plain.{code_of};
-ghost use Rattle.alma_code.specs.Rules.{range_size};
 ghost use Rattle.alma_machine.specs.Rows.{state_of, HasNumber, HasCells, HasOneCell, HasPlace, IsNumbered, KeepsOn, Needs, copying, counted, point_or_fault, put_or_fault, width};
 ghost use Rattle.alma_machine.specs.View.{stepped, PrintsOnly};
 

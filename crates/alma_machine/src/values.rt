@@ -2,8 +2,8 @@
 ghost use Rattle.std.specs.Prelude.{◌≡◌, List, ℕ, [], ◌∷◌, true, false, ◌+ℤ◌, ◌-ℤ◌, ◌*ℤ◌, neg_ℤ, int_lt, int_le, IfOk, MatchOption};
 ghost use Rattle.alma_base.specs.Choice.{if_true};
 ghost use Rattle.alma_base.specs.declared.fault.RunFault.TheVariants as fault;
-ghost use Rattle.alma_base.specs.Numbers.{within, is_zero, int_eq, bit, div_down_of, mod_down_of};
-ghost use Rattle.alma_code.specs.Machine.{State, act, number, place, content, known, fitted, ranged, faulted, is_beyond};
+ghost use Rattle.alma_base.specs.Numbers.{within, is_zero, int_eq, bit, div_down_of, mod_down_of, is_beyond};
+ghost use Rattle.alma_code.specs.Machine.{State, act, number, place, content, known, fitted, ranged, faulted};
 ghost use Rattle.alma_code.specs.Plain.{PlainCode};
 ghost use Rattle.alma_machine.specs.Rows.{HasNumber, HasCells, HasOneCell, Gives, GivesPlace, GivesNext, Computes, put_or_fault};
 
