@@ -16,5 +16,5 @@ returns-in_err-value-clause-refused c =
 
 pub returns-clause-found : goal.returns-clause-found
 returns-clause-found c =
-    rw (c.in_ok-list_of.ensures.found, assign_view _ _ _, c.desig_of_slot.ensures)
+    rw (c.in_ok-list_of.ensures.found, assign_view _ _ _, c.desig_of_slot.ensures, c.integer.ensures)
     (assignment_found _ _ _ _ _ _ (sym c.slot.ensures ∙ c.in_ok-slot.ensures.ok_part) c.in_ok-value.ensures.found)
