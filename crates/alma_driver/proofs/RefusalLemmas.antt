@@ -14,7 +14,7 @@ use Rattle.alma_scan.specs.Tokens.{Lexeme, Tokens, IsSlice}
 use Rattle.alma_scan.proofs.Once.{tokens_once, faults_once, never_both}
 use Rattle.alma_scan.proofs.Slices.{slices}
 use Rattle.alma_parse.specs.declared.error.ParseError.TheVariants as parse_error
-use Rattle.alma_parse.specs.Parsing.{kinds_of}
+use Rattle.alma_cursor.specs.Parsing.{kinds_of}
 use Rattle.alma_parse.specs.Refusals.{Refuses}
 use Rattle.alma_driver.specs.declared.fault.SourceFault.{SourceFault}
 use Rattle.alma_driver.specs.declared.fault.SourceFault.TheVariants.{Lex, Syntax}
