@@ -6,7 +6,7 @@ use Rattle.std.specs.List.{AllByRecursion}
 use Rattle.std.proofs.lemmas.Bool.{false≢true}
 use Rattle.alma_ir.specs.Phrases.{stmts_phrases}
 use Rattle.alma_ir.specs.Tree.{Routine, routine_at, a_loop, Assign, more_stmts, no_stmts}
-use Rattle.alma_ir.specs.Checked.{IsChecked, ParamsFirst, DeclaredFits, HeadRangesOrdered, RoutineKeepsLimits, EachRoutine, EachPhrase, IsHiddenSlot, RootLeaves, RootExists, PartsExist, CellsAgree, RangesOrdered, IsOrdered, HasStep, LoopIsApart, loops_of, CalleeExists, ResultAgrees, CallFits, HasChoice, ReturnAgrees, ReturnsStay, text_bytes}
+use Rattle.alma_ir.specs.Checked.{IsChecked, ParamsFirst, DeclaredFits, HeadRangesOrdered, RoutineKeepsLimits, EachRoutine, EachPhrase, IsHiddenSlot, RootLeaves, RootExists, PartsExist, CellsAgree, RangesOrdered, IsOrdered, HasStep, LoopIsApart, loops_of, CalleeExists, ResultAgrees, CallLeads, IsNested, HasLines, CallFits, HasChoice, ReturnAgrees, ReturnsStay, text_bytes}
 use Rattle.alma_mean.specs.Build.{int, var, held, number, load}
 use Rattle.alma_mean.specs.Conditions.{lives_again, ConditionsTell}
 
@@ -32,11 +32,11 @@ hidden slot l h = record {
   position = λ e. omega arith;
   params = (inr (omega arith), tt);
   globals = λ e. tt;
-  roots = both (λ holder routine. AllByRecursion (RootLeaves holder 1 slot) (stmts_phrases routine.body)) (tt, (tt, (tt, (λ e. absurd (omega arith), (tt, (tt, (tt, (tt, (λ e. absurd (omega arith), (tt, (tt, (tt, (λ e. absurd (omega arith), tt))))))))))))) (tt, (λ e. inr (omega arith), (tt, (tt, (tt, (tt, (tt, (λ e. inr (omega arith), tt))))))));
+  roots = both (λ holder routine. AllByRecursion (RootLeaves lives_again holder 1 slot) (stmts_phrases routine.body)) (tt, (tt, (tt, (λ e. absurd (omega arith), (tt, (tt, (tt, (tt, (λ e. absurd (omega arith), (tt, (tt, (tt, (λ e. absurd (omega arith), tt))))))))))))) (tt, (λ e. inr (omega arith), (tt, (tt, (tt, (tt, (tt, (λ e. inr (omega arith), tt))))))));
 }
 
 -- the loop's counter and limit
-apart : LoopIsApart lives_again 1 (a_loop (var 1) int 2 3 (number 1) (number 3) (pos 1) (more_stmts (Assign (held 0) (load 1) int) no_stmts))
+apart : LoopIsApart lives_again 1 (a_loop (var 1) int 2 3 (number 1) (number 3) (pos 1) (more_stmts 0 (Assign (held 0) (load 1) int) no_stmts))
 unfolding stmts_phrases
 apart = record {
   of_counter = hidden 2 (omega arith) (omega arith);
@@ -69,6 +69,23 @@ steps = both (λ r routine. AllByRecursion (λ x. AllByRecursion HasStep (loops_
 loops : EachPhrase lives_again (λ r routine x. AllByRecursion (LoopIsApart lives_again r) (loops_of x))
 unfolding stmts_phrases
 loops = both (λ r routine. AllByRecursion (λ x. AllByRecursion (LoopIsApart lives_again r) (loops_of x)) (stmts_phrases routine.body)) (tt, (tt, (tt, (tt, (tt, (tt, (tt, (tt, (tt, (tt, (tt, (tt, (tt, tt))))))))))))) ((apart, tt), (tt, (tt, (tt, (tt, (tt, (tt, (tt, tt))))))))
+
+links : EachPhrase lives_again (CallLeads lives_again)
+unfolding stmts_phrases
+links = both (λ r routine. AllByRecursion (CallLeads lives_again r routine) (stmts_phrases routine.body)) (tt, ((refl, refl), (tt, (tt, (tt, (tt, (tt, (tt, (tt, (tt, (tt, (tt, (tt, tt))))))))))))) (tt, (tt, (tt, (tt, (tt, (tt, (tt, (tt, tt))))))))
+
+-- the procedure stands in the body of the module
+nested : EachRoutine lives_again (IsNested lives_again)
+nested =
+    both (IsNested lives_again) (record { body = λ e. (refl, refl); exists = omega arith; above = λ l. absurd (omega (arith, l)); few = omega arith })
+    (record { body = λ e. absurd (omega (arith, e)); exists = omega arith; above = λ l. refl; few = omega arith })
+
+-- each statement stands on line 1
+lines : EachRoutine lives_again (λ r routine. HasLines routine)
+unfolding stmts_phrases
+lines =
+    both (λ r routine. HasLines routine) (record { line = omega arith; count = refl; lines = (omega arith, (omega arith, (omega arith, tt))) })
+    (record { line = omega arith; count = refl; lines = (omega arith, (omega arith, tt)) })
 
 callees : EachPhrase lives_again (λ r routine x. CalleeExists lives_again x)
 unfolding stmts_phrases
@@ -116,6 +133,7 @@ passes = record {
   params = both (λ r routine. ParamsFirst routine) (record { laid_out = tt; fit = omega arith; cells = tt }) (record { laid_out = (refl, tt); fit = omega arith; cells = (tt, tt) });
   declared = both DeclaredFits (record { within = omega arith; body = λ e. omega arith }) (record { within = omega arith; body = λ e. absurd (omega arith) });
   globals = tt;
+  nested = nested;
   roots = roots;
   parts = parts;
   cells = cells;
@@ -125,10 +143,12 @@ passes = record {
   loops = loops;
   callees = callees;
   results = results;
+  links = links;
   arguments = arguments;
   choices = choices;
   returns = returns;
   returns_stay = returns_stay;
+  lines = lines;
   names = record { globals = tt; routines = ((refl, tt), ((refl, tt), tt)) };
   limits = record { globals = omega arith; params = omega arith; names = omega arith; texts = texts };
   routine_limits = both (λ r routine. RoutineKeepsLimits routine) (record { declared = omega arith; slots = omega arith }) (record { declared = omega arith; slots = omega arith });

@@ -43,4 +43,4 @@ pub record ConditionsTell : Type 0 where
   -- COMMIT RETURN END
   pub return_in_commit : IsChecked (module_of 1 (Commit (stmts (Return no_result ∷ [])) ∷ [])) → ⊥
   -- a name with a digit in front
-  pub bad_name : IsChecked (record { name = []; globals = record { name = codes "1a"; slot = 1; cells = 1 } ∷ []; routines = record { name = codes "A"; params = []; result = None; declared = 1; slots = 2; body = stmts [] } ∷ [] }) → ⊥
+  pub bad_name : IsChecked (record { name = []; globals = record { name = codes "1a"; slot = 1; cells = 1 } ∷ []; routines = record { name = codes "A"; params = []; result = None; declared = 1; slots = 2; body = stmts []; level = 0; outer = 0; line = 1; lines = [] } ∷ [] }) → ⊥
