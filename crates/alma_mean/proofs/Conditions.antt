@@ -178,5 +178,12 @@ conditions_tell = record {
   no_branch = λ h. (h.choices 0 first_of_one).0;
   no_operand = λ h. (h.choices 0 first_of_one).1.0;
   return_in_commit = λ h. (h.returns_stay 0 first_of_one).0.0;
+  line_is_missing = λ h. let l : 0 ≡ 1 = (h.lines 0 first_of_one).count in omega (arith, l);
+  line_is_0 = λ h. let l : 0 < 0 = (h.lines 0 first_of_one).lines.0 in omega (arith, l);
+  link_too_many = λ h. let l : 2 ≡ 1 = (h.links 0 first_of_one).1.0.0 in omega (arith, l);
+  level_skipped = λ h. let l : 2 ≡ 1 = (h.nested 1 (omega arith)).above (omega arith) in omega (arith, l);
+  nine_inside = λ h. let l : 9 ≤ 8 = (h.nested 9 (omega arith)).few in omega (arith, l);
+  link_to_the_body = λ h. let l : 1 < 1 = (h.roots 1 (omega arith)).1.0.0.1 in omega (arith, l);
+  global_in_the_body = λ h. let l : 0 < 0 = (h.roots 0 first_of_one).1.0.0 in omega (arith, l);
   bad_name = λ h. false≢true (h.names.globals.0.0);
 }

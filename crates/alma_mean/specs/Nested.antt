@@ -1,11 +1,12 @@
 -- Programs with procedures inside procedures, and what they give.
 use Rattle.std.specs.Prelude.{ℕ, zero, suc, ◌-◌, true, List, [], ◌∷◌, ◌++◌, codes}
+use Rattle.std.specs.Fmt.{decimal}
 use Rattle.alma_ir.specs.declared.program.ArgKind.TheVariants as kind
 use Rattle.alma_ir.specs.declared.phrase.Cmp.TheVariants as cmp
 use Rattle.alma_ir.specs.declared.phrase.Op.TheVariants as op
 use Rattle.alma_ir.specs.Tree.{Stmt, Expr, Routine, Program, Assign, If, Load, Return, some_result, Value, Bind, Compare, Known, TestStmt, ByValue, ByPlace, MixValue, MixPlace}
 use Rattle.alma_mean.specs.Events.{Succeeded, Failed}
-use Rattle.alma_mean.specs.Build.{stmts, arms, int, module_with, procedure, function, inside, param, var, global, held, outer, outer_held, number, load, operate, plus, test, equals, let_be, write, write_bool, write_var, either, call, call_up, value_up, digits_of, Gives}
+use Rattle.alma_mean.specs.Build.{stmts, arms, int, module_with, procedure, function, inside, param, var, global, held, outer, outer_held, number, load, operate, plus, test, let_be, write, write_bool, write_var, either, call, call_up, value_up, digits_of, Gives}
 
 -- the value of a variable of a routine so many links up
 abbrev pub load_outer : (links slot : ℕ) → Expr
@@ -32,7 +33,7 @@ nested_from level (suc more) =
 abbrev pub nested_to : (level : ℕ) → Program
 nested_to level = module_with 1 (call 1 [] ∷ []) (nested_from 1 (level - 1))
 
--- empty procedures of the levels from one on, each with a call of the next
+-- procedures of the levels from one on, each with a call of the next, and the last with these statements
 abbrev pub calls_down : (level more : ℕ) → (last : List Stmt) → List Routine
 calls_down level zero last = inside level (level - 1) (procedure [] 1 last) ∷ []
 calls_down level (suc more) last = inside level (level - 1) (procedure [] 1 (call_up 0 (suc level) [] ∷ [])) ∷ calls_down (suc level) more last
@@ -90,7 +91,7 @@ pub record NestedRun : Type 0 where
       Gives 3 (module_with 2 (call 1 (MixPlace (var 1) ∷ []) ∷ write_var 1 ∷ call 1 (MixValue (number 7) int ∷ []) ∷ call 1 (MixValue (number 8) int ∷ []) ∷ [])
       (procedure (param kind.Mix 0 1 ∷ []) 2 (call_up 0 2 [] ∷ []) ∷
       inside 2 1 (procedure [] 0 (write_bool (Known (outer_held 1 0)) ∷ TestStmt (Bind (outer_held 1 0) (number 7) int true) ∷ [])) ∷ [])) []
-      (codes "FALSE" ++ digits_of (7 ∷ []) ++ codes "TRUETRUE") Failed
+      (codes "FALSE" ++ (decimal 7 ++ codes "TRUETRUE")) Failed
   -- PROCEDURE p; VAR l: INTEGER; PROCEDURE f(): INTEGER; BEGIN l := l + 1; RETURN l END f; BEGIN l := 1; WRITE(f() + f()) END p;  p
   pub function_inside :
       Gives 3 (module_with 1 (call 1 [] ∷ [])
@@ -98,8 +99,8 @@ pub record NestedRun : Type 0 where
       inside 2 1 (function [] int 0 (Assign (outer 1 0) (plus (load_outer 1 0) (number 1)) int ∷ Return (some_result (load_outer 1 0)) ∷ [])) ∷ [])) [] (digits_of (5 ∷ [])) Succeeded
   -- two, five and eight inside one another: the innermost prints the variables round it and sets the outermost
   pub levels_to_2 : Gives 3 (nested_to 2) [] (digits_of (1 ∷ 9 ∷ [])) Succeeded
-  pub levels_to_5 : Gives 6 (nested_to 5) [] (digits_of (1 ∷ 2 ∷ 3 ∷ 4 ∷ 4 ∷ 3 ∷ 2 ∷ 9 ∷ [])) Succeeded
-  pub levels_to_8 : Gives 9 (nested_to 8) [] (digits_of (1 ∷ 2 ∷ 3 ∷ 4 ∷ 5 ∷ 6 ∷ 7 ∷ 7 ∷ 6 ∷ 5 ∷ 4 ∷ 3 ∷ 2 ∷ 9 ∷ [])) Succeeded
+  pub levels_to_5 : Gives 6 (nested_to 5) [] (digits_of (4 ∷ 3 ∷ 2 ∷ 1 ∷ 4 ∷ 3 ∷ 2 ∷ 9 ∷ [])) Succeeded
+  pub levels_to_8 : Gives 9 (nested_to 8) [] (digits_of (7 ∷ 6 ∷ 5 ∷ 4 ∷ 3 ∷ 2 ∷ 1 ∷ 7 ∷ 6 ∷ 5 ∷ 4 ∷ 3 ∷ 2 ∷ 9 ∷ [])) Succeeded
   -- the eighth calls a procedure of the module, eight links up
   pub eight_links_up :
       Gives 10 (module_with 2 (call 1 [] ∷ write_var 1 ∷ []) (calls_down 1 7 (call_up 8 9 [] ∷ []) ++ procedure [] 0 (Assign (global 1) (number 3) int ∷ []) ∷ [])) [] (digits_of (3 ∷ [])) Succeeded
