@@ -36,6 +36,7 @@ least_code_counts = record {
   names = lit≤ tt;
   text_bytes = lit≤ tt;
   instrs = lit≤ tt;
+  lines = lit≤ tt;
 }
 
 pub least_code_records : KeepsRecords least

@@ -4,6 +4,7 @@ pub mod Cells
 mod Computed
 pub mod Entering
 pub mod Heads
+pub mod Links
 pub mod Ranges
 pub mod Ready
 pub mod Runs

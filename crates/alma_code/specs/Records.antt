@@ -38,6 +38,7 @@ pub record KeepsCounts (code : PlainCode) : Type 0 where
   pub names : name_count code ≤ 16777216
   pub text_bytes : text_count code ≤ 16777216
   pub instrs : length code.instrs ≤ 4194304
+  pub lines : length code.lines ≤ 1048576
 
 -- ---- records
 
@@ -56,12 +57,14 @@ has_cells param.Value n = nat_eq n 1
 has_cells param.Mix n = nat_eq n 1
 has_cells param.Place n = true
 has_cells param.Cells n = true
+has_cells param.Link n = true
 
 -- the two kinds are one, length included
 abbrev pub same_kind : SlotKind → SlotKind → Bool
 same_kind slot.Number slot.Number = true
 same_kind (slot.Place m) (slot.Place n) = nat_eq m n
 same_kind slot.Mark slot.Mark = true
+same_kind (slot.Link m) (slot.Link n) = nat_eq m n
 same_kind _ _ = false
 
 -- two runs that follow each other differ in kind or length
