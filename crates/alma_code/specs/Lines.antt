@@ -14,9 +14,13 @@ abbrev pub known_line : ℕ → Option ℕ
 known_line zero = None
 known_line (suc n) = Some (suc n)
 
+-- the line of an address, or 0 where none is known
+abbrev pub line_at : PlainCode → (at : ℕ) → ℕ
+line_at code at = last_line at 0 code.lines
+
 -- the line of an address, where one is known
 abbrev pub line_of : PlainCode → (at : ℕ) → Option ℕ
-line_of code at = known_line (last_line at 0 code.lines)
+line_of code at = known_line (line_at code at)
 
 -- the addresses rise from low on, and are below the count of instructions
 abbrev pub lines_rise : (low count : ℕ) → List Line → Bool
