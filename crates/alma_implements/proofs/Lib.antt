@@ -1,3 +1,5 @@
 pub mod Goes
 pub mod Follows
 pub mod Enough
+pub mod Frames
+pub mod Steps
