@@ -3,3 +3,4 @@ pub mod Follows
 pub mod Enough
 pub mod Frames
 pub mod Steps
+pub mod FrameLemmas
