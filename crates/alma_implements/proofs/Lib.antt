@@ -4,3 +4,4 @@ pub mod Enough
 pub mod Frames
 pub mod Steps
 pub mod FrameLemmas
+pub mod ExprRows
