@@ -393,6 +393,14 @@ module _ (p : Program) (code : PlainCode) where
       there : (k : ℕ) → k < q.size → q.slot + k < length (get_or v' q.frame store.no_frame).cells
       there k lt = omega (arith, numbers.cells k lt, same_slots)
 
+  -- a place stays the same place after a phrase
+  pub place_kept : (lo : ℕ) (q : Place) (c : CellPlace) (v v' : Store) (now later : List PlainFrame) → q.frame < length v → StandFor p code v now → Fits p code lo now v' later → SamePlace p v q c → SamePlace p v' q c
+  place_kept lo q c v v' now later lt h fit same =
+      let in_later : q.frame < length v' = omega (arith, lt, h.count, fit.same_count, fit.stand.count) in
+      let shifts : shift_in p v' q.frame ≡ shift_in p v q.frame =
+      ap (shift p) ((fit.stand.frames q.frame in_later).routine ∙ frame_routine lo q.frame v v' now later lt h fit ∙ sym (h.frames q.frame lt).routine) in
+      record { frame = same.frame; slot = ap (λ n. n + q.slot) shifts ∙ same.slot; size = same.size }
+
   -- what is at a place of one cell
   pub content_there : (v : Store) (now : List PlainFrame) (q : Place) (c : CellPlace) → StandFor p code v now → AreNumbers p code v now q → 0 < q.size → SamePlace p v q c
       → (number_at now c.frame c.slot ≡ true) × SameContent p v slot.Number (cell_of v q) (cell_at now c.frame c.slot cell.Unset)

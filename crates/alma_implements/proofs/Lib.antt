@@ -5,3 +5,4 @@ pub mod Frames
 pub mod Steps
 pub mod FrameLemmas
 pub mod ExprRows
+pub mod StmtRows
