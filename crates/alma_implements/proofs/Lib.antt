@@ -6,3 +6,4 @@ pub mod Steps
 pub mod FrameLemmas
 pub mod ExprRows
 pub mod StmtRows
+pub mod LinkRows
