@@ -7,3 +7,4 @@ pub mod FrameLemmas
 pub mod ExprRows
 pub mod StmtRows
 pub mod LinkRows
+pub mod LoopRows
