@@ -8,3 +8,4 @@ pub mod ExprRows
 pub mod StmtRows
 pub mod LinkRows
 pub mod LoopRows
+pub mod OperatorRows

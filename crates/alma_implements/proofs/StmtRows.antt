@@ -1,5 +1,5 @@
 -- The rows of statements: each is what its code does, given what its parts do.
-use Rattle.std.proofs.Common.{◌≡◌, ◌⊎◌, inl, inr, ℕ, ◌+◌, ◌-◌, ◌<◌, ◌≤◌, Bool, true, false, List, length, get_or, set, refl, sym, ap, ◌∙◌, subst, arith, ℤ}
+use Rattle.std.proofs.Common.{◌≡◌, ◌⊎◌, inl, inr, ℕ, ◌+◌, ◌-◌, ◌<◌, ◌≤◌, Bool, true, false, List, [], ◌∷◌, length, get_or, set, refl, sym, ap, ◌∙◌, subst, arith, ℤ}
 use Rattle.std.proofs.lemmas.Bool.{cases_eq}
 use Rattle.std.proofs.lemmas.List.{get_or-set_same, get_or-set_other, length-set}
 use Rattle.alma_base.specs.declared.fault.RunFault.{RunFault}
@@ -17,12 +17,15 @@ use Rattle.alma_code.specs.Machine.{State, Going}
 use Rattle.alma_ir.specs.Tree.{Program}
 use Rattle.alma_mean.specs.Store.{Store, Place, Number, put_at, top_frame}
 use Rattle.alma_mean.specs.Store as store
-use Rattle.alma_mean.specs.Events.{Events, NoYield, Flow, Go, Return, Visit, Alt, Fail, Fault, Cut, at_line, one, join, bind, visit_each, node, on_first}
-use Rattle.alma_mean.specs.Arithmetic.{check_range, fault_unless}
-use Rattle.alma_implements.proofs.Goes.{Silently, IsGoing, and_then, Goes, before, weaker, bind_goes, node_goes, one_goes, no_step, then_goes, credited, lined_goes}
+use Rattle.alma_mean.specs.Events.{Print, Events, NoYield, Flow, Go, Return, Visit, Alt, Fail, Fault, Cut, at_line, one, join, bind, visit_each, node, on_first}
+use Rattle.alma_mean.specs.Arithmetic.{check_range, fault_unless, written_text}
+use Rattle.alma_ir.specs.declared.phrase.WriteAs.{WriteAs}
+use Rattle.alma_ir.specs.declared.phrase.WriteAs.TheVariants as write_as
+use Rattle.alma_implements.specs.Operators.{write_code}
+use Rattle.alma_implements.proofs.Goes.{Silently, IsGoing, IsOn, and_then, Goes, before, weaker, bind_goes, node_goes, one_goes, no_step, then_goes, credited, lined_goes}
 use Rattle.alma_implements.proofs.Frames.{shift_in, own_end, StandFor, Fits, AreNumbers, SamePlace, IsAt}
 use Rattle.alma_implements.proofs.FrameLemmas.{fits_self, fits_on, fits_put, put_is, numbers_kept, place_kept, content_there}
-use Rattle.alma_implements.proofs.Steps.{Holds, InstrAt, check_fails, check_passes, zero_jumps, other_goes_on, store_step}
+use Rattle.alma_implements.proofs.Steps.{Holds, InstrAt, check_fails, check_passes, zero_jumps, other_goes_on, store_step, write_int_step, write_bool_step, write_char_step, write_line_step}
 use Rattle.alma_implements.proofs.ExprRows.{Left, LeavesValue, LeavesPlace, Begun, begun, RunsFrom, RunsExpr, RunsPlace, as_node, one_more, left_is_at, left_on, kept_slot}
 
 -- visits, and then one alternative with this store and nothing behind it, or a fault
@@ -159,6 +162,76 @@ module _ (p : Program) (code : PlainCode) (input : List ℕ) (line : ℕ) where
     condition_goes at x runs_x gives s c d le is stand routine =
         decided (x b0.store) gives s (c + 32)
         (weaker code input line 8 0 (LeavesValue p code input m lo r b0) b0.entries (x b0.store) s (c + 32) 0 q q (omega arith) (omega arith) (runs_x b0.store b0.frames b0.entries s is stand routine)) d le
+
+  -- ---- prints
+
+  write_goes : (m lo r : ℕ) (how : WriteAs) (b0 : Begun p code input) (held : List PlainEntry) (v : Store) (n : ℤ) (t : State) (q : ℕ) → InstrAt code input line m (write_code how lo) → IsGoing held t → LeavesValue p code input m lo r b0 v (Go n) t
+      → Goes code input line 0 24 (LeavesStmt p code input (m + 1) lo r b0) held (Print (written_text how n) (one v tt)) t 8 q
+  write_goes m lo r write_as.Int b0 held v n t q i going left =
+      let w = write_int_step code input line m t.now held t (left_is_at p code input m lo r b0.frames v t held going left.0) lo n i left.1 in (
+        0,
+        t,
+        omega arith,
+        no_step code input t,
+        w.to,
+        w.prints,
+        subst IsOn (sym w.is.mode) tt,
+        one_goes code input line 0 24 (LeavesStmt p code input (m + 1) lo r b0) held v tt w.to 7 (q - 1) (omega arith) (record { mode = w.is.mode; entries = w.is.entries })
+            (record { here = w.is.here; fits = subst (Fits p code lo b0.frames v) (sym w.is.frames) left.0.fits; routine = left.0.routine }),
+      )
+  write_goes m lo r write_as.Bool b0 held v n t q i going left =
+      let w = write_bool_step code input line m t.now held t (left_is_at p code input m lo r b0.frames v t held going left.0) lo n i left.1 in (
+        0,
+        t,
+        omega arith,
+        no_step code input t,
+        w.to,
+        w.prints,
+        subst IsOn (sym w.is.mode) tt,
+        one_goes code input line 0 24 (LeavesStmt p code input (m + 1) lo r b0) held v tt w.to 7 (q - 1) (omega arith) (record { mode = w.is.mode; entries = w.is.entries })
+            (record { here = w.is.here; fits = subst (Fits p code lo b0.frames v) (sym w.is.frames) left.0.fits; routine = left.0.routine }),
+      )
+  write_goes m lo r write_as.Char b0 held v n t q i going left =
+      let w = write_char_step code input line m t.now held t (left_is_at p code input m lo r b0.frames v t held going left.0) lo n i left.1 in (
+        0,
+        t,
+        omega arith,
+        no_step code input t,
+        w.to,
+        w.prints,
+        subst IsOn (sym w.is.mode) tt,
+        one_goes code input line 0 24 (LeavesStmt p code input (m + 1) lo r b0) held v tt w.to 7 (q - 1) (omega arith) (record { mode = w.is.mode; entries = w.is.entries })
+            (record { here = w.is.here; fits = subst (Fits p code lo b0.frames v) (sym w.is.frames) left.0.fits; routine = left.0.routine }),
+      )
+
+  pub write_row : (at m lo r : ℕ) (how : WriteAs) (x : Store → Events ℤ) (q : ℕ) → RunsExpr p code input line at m lo r x q → InstrAt code input line m (write_code how lo)
+      → RunsStmt at (m + 1) lo r (λ v. node (bind (x v) (λ t n. Print (written_text how n) (one t tt)))) q
+  write_row at m lo r how x q runs_x i =
+      as_node p code input line at r (LeavesStmt p code input (m + 1) lo r) (λ v. bind (x v) (λ t n. Print (written_text how n) (one t tt))) q
+      (λ v now held s is stand routine.
+      let b0 = begun p code input v now held in
+      bind_goes code input line 8 0 24 (LeavesValue p code input m lo r b0) (LeavesStmt p code input (m + 1) lo r b0) held (x v) (λ t n. Print (written_text how n) (one t tt)) s 32 q 8 (omega arith) (omega arith)
+      (weaker code input line 8 0 (LeavesValue p code input m lo r b0) held (x v) s 32 0 q q (omega arith) (omega arith) (runs_x v now held s is stand routine))
+      (λ v1 n t1 held1 going1 left1. write_goes m lo r how b0 held1 v1 n t1 q i going1 left1)
+      (λ v1 n t1 no. no))
+
+  -- an end of line
+  pub line_row : (at lo r q : ℕ) → InstrAt code input line at I.WriteLine → RunsStmt at (at + 1) lo r (λ v. node (Print (10 ∷ []) (one v tt))) q
+  line_row at lo r q i =
+      as_node p code input line at r (LeavesStmt p code input (at + 1) lo r) (λ v. Print (10 ∷ []) (one v tt)) q
+      (λ v now held s is stand routine.
+      let b0 = begun p code input v now held in
+      let w = write_line_step code input line at now held s is i in (
+        0,
+        s,
+        omega arith,
+        no_step code input s,
+        w.to,
+        w.prints,
+        subst IsOn (sym w.is.mode) tt,
+        one_goes code input line 0 24 (LeavesStmt p code input (at + 1) lo r b0) held v tt w.to 31 (q - 1) (omega arith) (record { mode = w.is.mode; entries = w.is.entries })
+            (record { here = w.is.here; fits = subst (Fits p code lo now v) (sym w.is.frames) (fits_self p code lo v now stand); routine = routine }),
+      ))
 
   -- ---- assignment
 
