@@ -9,3 +9,4 @@ pub mod StmtRows
 pub mod LinkRows
 pub mod LoopRows
 pub mod OperatorRows
+pub mod ForSteps
