@@ -10,3 +10,4 @@ pub mod LinkRows
 pub mod LoopRows
 pub mod OperatorRows
 pub mod ForSteps
+pub mod ForRows
