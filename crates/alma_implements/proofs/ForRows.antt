@@ -12,7 +12,7 @@ use Rattle.alma_code.specs.declared.instr.Instr.TheVariants as I
 use Rattle.alma_code.specs.Picture.{PlainFrame, PlainEntry}
 use Rattle.alma_code.specs.Plain.{PlainCode, kinds_at}
 use Rattle.alma_code.specs.Machine.{State}
-use Rattle.alma_ir.specs.Tree.{Program, routine_at}
+use Rattle.alma_ir.specs.Tree.{Program}
 use Rattle.alma_mean.specs.Store.{Store, Place, Number, put_at, put_top, top_frame, top_cell}
 use Rattle.alma_mean.specs.Events.{Events, NoYield, Go, one, bind, node}
 use Rattle.alma_mean.specs.Arithmetic.{fault_unless}

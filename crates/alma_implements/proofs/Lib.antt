@@ -11,3 +11,5 @@ pub mod LoopRows
 pub mod OperatorRows
 pub mod ForSteps
 pub mod ForRows
+pub mod Simple
+pub mod ExprRuns

@@ -1,2 +1,4 @@
 pub mod Implements
 pub mod Operators
+pub mod Built
+pub mod Templates
