@@ -13,3 +13,4 @@ pub mod ForSteps
 pub mod ForRows
 pub mod Simple
 pub mod ExprRuns
+pub mod CaseRows
