@@ -14,3 +14,4 @@ pub mod ForRows
 pub mod Simple
 pub mod ExprRuns
 pub mod CaseRows
+pub mod StmtRuns
