@@ -15,3 +15,5 @@ pub mod Simple
 pub mod ExprRuns
 pub mod CaseRows
 pub mod StmtRuns
+pub mod LineTable
+pub mod Correct
