@@ -17,3 +17,5 @@ pub mod CaseRows
 pub mod StmtRuns
 pub mod LineTable
 pub mod Correct
+pub mod Forms
+pub mod Sizes

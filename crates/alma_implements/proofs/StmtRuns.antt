@@ -36,7 +36,7 @@ owed_before zero = omega arith
 owed_before (suc n) = omega arith
 
 -- each label is 7 instructions
-labels_long : (line value bound at hit : ℕ) (labels : List Range) → length (labels_code line value bound at hit labels) ≡ 7 * length labels
+pub labels_long : (line value bound at hit : ℕ) (labels : List Range) → length (labels_code line value bound at hit labels) ≡ 7 * length labels
 labels_long line value bound at hit [] = omega arith
 labels_long line value bound at hit (label ∷ rest) =
     omega (arith, length-append (label_code line value bound at hit label) (labels_code line value bound (at + 7) hit rest), labels_long line value bound (at + 7) hit rest)
