@@ -19,3 +19,6 @@ pub mod LineTable
 pub mod Correct
 pub mod Forms
 pub mod Sizes
+pub mod Lined
+pub mod Sound
+pub mod SlotKinds

@@ -1,5 +1,8 @@
 // The laws of code that implements a program, each as the contract of a function that does nothing.
+ghost use Rattle.std.specs.Prelude.{ℕ, ◌*◌, ◌≤◌};
 ghost use Rattle.alma_code.specs.Plain.{PlainCode};
+ghost use Rattle.alma_code.specs.Rules.{IsSound};
+ghost use Rattle.alma_ir.specs.Count.{nodes};
 ghost use Rattle.alma_ir.specs.Tree.{Program};
 ghost use Rattle.alma_ir.specs.Checked.{IsChecked};
 ghost use Rattle.alma_implements.specs.Implements.{Implements, IsEnough};
@@ -17,4 +20,10 @@ pub fn steps_for_each_visit_are_enough()
 #[tactic(auto, using(crate::proofs::Correct::code_implements))]
 pub fn code_by_template_implements()
     ensures { (p : Program) (code : PlainCode) → IsChecked p → IsBuilt p → IsCodeOf p code → Implements code p }
+{}
+
+/// The code that the templates give is sound: a machine on it is never stuck.
+#[tactic(auto, using(crate::proofs::Sound::is_sound))]
+pub fn code_by_template_is_sound()
+    ensures { (p : Program) (code : PlainCode) → IsChecked p → IsBuilt p → IsCodeOf p code → 16 * nodes p ≤ 4194304 → IsSound code }
 {}
