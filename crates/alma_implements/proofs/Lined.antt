@@ -1,11 +1,10 @@
 -- A body of built forms, each statement with its line, has the forms, the roots and the slots of the body without lines.
-use Rattle.std.proofs.Common.{◌≡◌, ℕ, ◌+◌, ◌<◌, List, [], ◌∷◌, ◌++◌, refl, ap, drop}
+use Rattle.std.proofs.Common.{◌≡◌, ℕ, List, [], ◌∷◌, ◌++◌, refl, ap, drop}
 use Rattle.std.specs.List.{AllByRecursion}
-use Rattle.alma_code.specs.declared.cell.SlotKind.{SlotKind}
 use Rattle.alma_code.specs.declared.cell.SlotKind.TheVariants as slot
 use Rattle.alma_ir.specs.declared.phrase.Root.TheVariants as root
-use Rattle.alma_ir.specs.Tree.{Program, Routine, routine_at, Stmts, Stmt, Arms, Loop, Test, Expr, Links, Desig, no_stmts, more_stmts, TestStmt, Assign, CopyCells, If, While, Repeat, ForTo, SomeOf, Case, Either, Forall, Commit, Return, Read, WriteExpr, WriteText, WriteLine, no_arms, more_arms, a_loop, Value, Bind, Unify, SameCells, Seq, And, Or, Not, CallTest, Const, Load, Chain, Compare, Truth, Known, Chr, CallExpr, no_links, more_links, a_desig, no_sels, more_sels, CaseArms, Else, no_cases, more_cases, no_else, else_part}
-use Rattle.alma_ir.specs.Lines.{behind, stmts_with, stmt_with, arms_with, cases_with, else_with, loop_with, test_with, expr_with, links_with, desig_with, sels_with}
+use Rattle.alma_ir.specs.Tree.{Program, routine_at, Stmts, Stmt, Arms, Loop, Test, Expr, Links, Desig, no_stmts, more_stmts, TestStmt, Assign, CopyCells, If, While, Repeat, ForTo, SomeOf, Case, Either, Forall, Commit, Return, Read, WriteExpr, WriteText, WriteLine, no_arms, more_arms, a_loop, Value, Bind, Unify, SameCells, Seq, And, Or, Not, CallTest, Const, Load, Chain, Compare, Truth, Known, Chr, CallExpr, no_links, more_links, a_desig, no_sels, more_sels, CaseArms, Else, no_cases, more_cases, no_else, else_part}
+use Rattle.alma_ir.specs.Lines.{behind, stmts_with, stmt_with, arms_with, cases_with, else_with, loop_with, test_with, expr_with, links_with, desig_with}
 use Rattle.alma_ir.specs.Phrases.{Phrase, stmts_phrases, stmt_phrases, arms_phrases, loop_phrases, test_phrases, expr_phrases, links_phrases, desig_phrases, cases_phrases, else_phrases}
 use Rattle.alma_ir.specs.Checked.{RootExists, IsHiddenSlot, loops_of}
 use Rattle.alma_ir.proofs.Each.{each_of_front, each_of_back, each_of_append}

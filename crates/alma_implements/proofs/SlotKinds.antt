@@ -1,6 +1,6 @@
 -- No slot of a phrase that is built so far is one for links.
-use Rattle.std.proofs.Common.{◌≡◌, ℕ, zero, suc, ◌+◌, ◌-◌, ◌<◌, List, [], ◌∷◌, ◌++◌, replicate, refl, ap, ◌∙◌, subst, arith, sym}
-use Rattle.std.specs.Prelude.{true, ◌&&◌}
+use Rattle.std.proofs.Common.{◌≡◌, ℕ, zero, suc, ◌-◌, ◌<◌, List, [], ◌∷◌, ◌++◌, replicate, refl, arith}
+use Rattle.std.specs.Prelude.{true}
 use Rattle.std.specs.List.{AllByRecursion, list_all}
 use Rattle.alma_code.specs.declared.cell.SlotKind.{SlotKind}
 use Rattle.alma_code.specs.declared.cell.SlotKind.TheVariants as slot
@@ -9,7 +9,7 @@ use Rattle.alma_code.specs.Layout.{RunsRise, kinds_of}
 use Rattle.alma_code.specs.Plain.{PlainCode}
 use Rattle.alma_code.specs.Rules.{names_routine}
 use Rattle.alma_ir.specs.Tree.{Stmts, Stmt, Arms, Loop, Test, Expr, Links, Desig, no_stmts, more_stmts, TestStmt, Assign, CopyCells, If, While, Repeat, ForTo, SomeOf, Case, Either, Forall, Commit, Return, Read, WriteExpr, WriteText, WriteLine, no_arms, more_arms, a_loop, Value, Bind, Unify, SameCells, Seq, And, Or, Not, CallTest, Const, Load, Chain, Compare, Truth, Known, Chr, CallExpr, no_links, more_links, a_desig, CaseArms, Else, no_cases, more_cases, no_else, else_part}
-use Rattle.alma_ir.proofs.Each.{each_of_front, each_of_back, each_of_append}
+use Rattle.alma_ir.proofs.Each.{each_of_back, each_of_append}
 use Rattle.alma_implements.specs.Templates.{desig_slots, expr_slots, links_slots, test_slots, stmts_slots, stmt_slots, arms_slots, for_slots, cases_slots, else_slots}
 use Rattle.alma_implements.proofs.Forms.{two_true}
 

@@ -23,7 +23,6 @@ pub fn code_by_template_implements()
 {}
 
 /// The code that the templates give is sound: a machine on it is never stuck.
-#[tactic(auto, using(crate::proofs::Sound::is_sound))]
 pub fn code_by_template_is_sound()
     ensures { (p : Program) (code : PlainCode) → IsChecked p → IsBuilt p → IsCodeOf p code → 16 * nodes p ≤ 4194304 → IsSound code }
 {}
