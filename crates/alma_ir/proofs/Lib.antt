@@ -1,3 +1,4 @@
 pub mod Views
 pub mod Counts
 pub mod Each
+pub mod LinesBack
