@@ -1,11 +1,13 @@
 -- The table of lines gives each address the line of the instruction that stands there.
-use Rattle.std.proofs.Common.{◌≡◌, ℕ, zero, suc, ◌+◌, ◌<◌, Bool, true, false, List, [], ◌∷◌, ◌++◌, length, map, get_or, Some, refl, sym, ap, ◌∙◌, subst, arith, length-append, append_assoc}
+use Rattle.std.proofs.Common.{◌≡◌, ℕ, zero, suc, ◌+◌, ◌<◌, ◌≤◌, Bool, true, false, List, [], ◌∷◌, ◌++◌, length, map, get_or, drop, Some, refl, sym, ap, ◌∙◌, subst, arith, length-append, append_assoc, append-nil}
 use Rattle.std.specs.Prelude.{slice_get, nat_eq, nat_le}
-use Rattle.std.proofs.lemmas.Bool.{eqb-true, leb-true, le-leb}
+use Rattle.std.proofs.lemmas.Bool.{eqb-true, eq-eqb, leb-true, le-leb}
 use Rattle.std.proofs.lemmas.List.{length-map, get_or-map}
 use Rattle.std.proofs.lemmas.Option.{slice_get-get_or}
+use Rattle.std.proofs.Math.ListN.{drop_of_length-le}
 use Rattle.std.proofs.Math.Seq.{get_or-append_seam}
 use Rattle.alma_base.specs.Choice.{if_true}
+use Rattle.alma_code.specs.declared.code.Line.{Line}
 use Rattle.alma_code.specs.declared.instr.Instr.TheVariants as I
 use Rattle.alma_code.specs.Plain.{PlainCode}
 use Rattle.alma_code.specs.Lines.{last_line}
@@ -74,3 +76,47 @@ module _ (code : PlainCode) (input : List ℕ) where
         },
         subst (λ n. HasAt code input n is) at (stand_behind is (before ++ i ∷ []) (e ∙ ap (map (λ x. x.0)) (sym again)) (e2 ∙ ap (lines_from 0 0) (sym again))),
       )
+
+-- ---- the table, made record by record
+
+-- with these records for the instructions before i, and the line of the last of them
+pub record Told (lines : List Line) (before i at : ℕ) (placed : List Placed) : Type 0 where
+  pub all : lines ++ lines_from i before (drop i placed) ≡ lines_from 0 0 placed
+  pub here : at ≡ i
+  pub few : length lines ≤ i
+
+from_same : (i before : ℕ) (x : Placed) (rest : List Placed) → x.1 ≡ before → lines_from i before (x ∷ rest) ≡ lines_from (i + 1) before rest
+from_same i before x rest e =
+    ap (λ b. if_true b (λ _. lines_from (i + 1) before rest) (λ _. record { at = i; line = x.1 } ∷ lines_from (i + 1) x.1 rest)) (eq-eqb x.1 before e)
+
+from_other : (i before : ℕ) (x : Placed) (rest : List Placed) → (x.1 ≡ before → ⊥) → lines_from i before (x ∷ rest) ≡ record { at = i; line = x.1 } ∷ lines_from (i + 1) x.1 rest
+from_other i before x rest e = by (nat_eq x.1 before) refl
+  where
+    by : (b : Bool) → nat_eq x.1 before ≡ b
+        → if_true b (λ _. lines_from (i + 1) before rest) (λ _. record { at = i; line = x.1 } ∷ lines_from (i + 1) x.1 rest) ≡ record { at = i; line = x.1 } ∷ lines_from (i + 1) x.1 rest
+    by true same = absurd (e (eqb-true x.1 before same))
+    by false other = refl
+
+pub told_none : (placed : List Placed) → Told [] 0 0 0 placed
+told_none placed = record { all = refl; here = refl; few = omega arith }
+
+pub told_same : (lines : List Line) (before i at at2 : ℕ) (placed : List Placed) (x : Placed) → drop i placed ≡ x ∷ drop (i + 1) placed → x.1 ≡ before → at2 ≡ at + 1 → Told lines before i at placed → Told lines before (i + 1) at2 placed
+told_same lines before i at at2 placed x one e more h = record {
+  all = ap (λ s. lines ++ s) (sym (ap (lines_from i before) one ∙ from_same i before x (drop (i + 1) placed) e)) ∙ h.all;
+  here = omega (arith, more, h.here);
+  few = omega (arith, h.few);
+}
+
+pub told_other : (lines : List Line) (before i at at2 : ℕ) (placed : List Placed) (x : Placed) → drop i placed ≡ x ∷ drop (i + 1) placed → (x.1 ≡ before → ⊥) → at2 ≡ at + 1 → Told lines before i at placed
+    → Told (lines ++ record { at = at; line = x.1 } ∷ []) x.1 (i + 1) at2 placed
+told_other lines before i at at2 placed x one e more h = record {
+  all = append_assoc lines (record { at = at; line = x.1 } ∷ []) (lines_from (i + 1) x.1 (drop (i + 1) placed))
+      ∙ ap (λ n. lines ++ record { at = n; line = x.1 } ∷ lines_from (i + 1) x.1 (drop (i + 1) placed)) h.here
+      ∙ ap (λ s. lines ++ s) (sym (ap (lines_from i before) one ∙ from_other i before x (drop (i + 1) placed) e)) ∙ h.all;
+  here = omega (arith, more, h.here);
+  few = omega (arith, h.few, length-append lines (record { at = at; line = x.1 } ∷ []));
+}
+
+pub told_all : (lines : List Line) (before i at : ℕ) (placed : List Placed) → length placed ≤ i → Told lines before i at placed → lines ≡ lines_from 0 0 placed
+told_all lines before i at placed le h =
+    sym (append-nil lines) ∙ ap (λ s. lines ++ lines_from i before s) (sym (drop_of_length-le placed le)) ∙ h.all

@@ -2,3 +2,6 @@
 #![tactic(auto)]
 
 pub mod laws;
+mod line_table;
+
+pub use line_table::lines_of;
