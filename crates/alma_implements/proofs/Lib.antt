@@ -19,3 +19,17 @@ pub mod LineTable
 pub mod Correct
 pub mod Forms
 pub mod Sizes
+pub mod Address
+pub mod ChoiceSteps
+pub mod CallSteps
+pub mod Ways
+pub mod EitherRow
+pub mod FirstRow
+pub mod CallRow
+pub mod FunctionRow
+pub mod SomeRow
+pub mod BareRow
+pub mod ForallSteps
+pub mod ForallRow
+pub mod SeqRow
+pub mod Leaving
