@@ -32,4 +32,5 @@ pub mod BareRow
 pub mod ForallSteps
 pub mod ForallRow
 pub mod SeqRow
+pub mod TurnRow
 pub mod Leaving

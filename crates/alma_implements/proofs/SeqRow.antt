@@ -1,5 +1,5 @@
 -- Lists of statements, NOT and OR; and parts whose way out is said in another word.
-use Rattle.std.proofs.Common.{ℕ, ◌+◌, ◌≤◌, List, length, refl, sym, subst, arith, ℤ, Option}
+use Rattle.std.proofs.Common.{ℕ, ◌+◌, ◌≤◌, List, length, refl, sym, subst, arith, ℤ, Option, ◌-◌}
 use Rattle.alma_code.specs.declared.cell.Cell.TheVariants as cell
 use Rattle.alma_code.specs.declared.cell.SlotKind.TheVariants as slot
 use Rattle.alma_code.specs.declared.instr.Instr.TheVariants as I
@@ -50,9 +50,9 @@ module _ (code : PlainCode) (input : List ℕ) where
       → Inside code input line at (n + 2) now w2 (on_first e (λ u _. Fail) (λ _. one v tt)) q
   not_row line at n m now w w2 e v q mark choose cut fail kind runs keeps none held s is =
       weaker code input line 0 24 (Leaves (n + 2) w2) held (on_first e (λ u _. Fail) (λ _. one v tt)) s 32 11 q q (omega arith) (omega arith)
-      (first_row code input line at n (n + 2) m now w e 0 24 (Leaves (n + 2) w2) (λ u _. Fail) (λ _. one v tt) q mark choose cut kind runs keeps 0 held s is
+      (first_row code input line at n (n + 2) m now w e 0 24 (Leaves (n + 2) w2) (λ u _. Fail) (λ _. one v tt) q mark choose cut kind runs keeps 8 0 (omega arith) held s is
       (λ u y t there fit. let f = fail_step code input line (n + 1) t.now held t there fail in (1, f.to, omega arith, f.silently, f.is))
-      (λ t there. one_goes code input line 0 24 (Leaves (n + 2) w2) held v tt t 0 q (omega arith) (record { mode = there.mode; entries = there.entries })
+      (λ t there. one_goes code input line 0 24 (Leaves (n + 2) w2) held v tt t 0 (q - 1) (omega arith) (record { mode = there.mode; entries = there.entries })
       (there.here, subst (w2.goes v tt) (sym there.frames) (none (length held)))))
 
   -- an operand of OR that is not the last: where it has an alternative the way out leads from behind its Cut
@@ -65,10 +65,10 @@ module _ (code : PlainCode) (input : List ℕ) where
       → Inside code input line at exit now w2 (on_first e (λ u _. one u tt) rest) q
   operand_row line at n next exit m now w w2 e rest q mark choose cut leads kind runs keeps less later held s is =
       weaker code input line 0 24 (Leaves exit w2) held (on_first e (λ u _. one u tt) rest) s 32 19 q q (omega arith) (omega arith)
-      (first_row code input line at n next m now w e 0 24 (Leaves exit w2) (λ u _. one u tt) rest q mark choose cut kind runs keeps 8 held s is
+      (first_row code input line at n next m now w e 0 24 (Leaves exit w2) (λ u _. one u tt) rest q mark choose cut kind runs keeps 8 8 (omega arith) held s is
       (λ u y t there fit.
       let z = leads t.now held t there in
-      before code input line 0 24 (Leaves exit w2) held (one u tt) t z.1 z.0 16 8 q q z.3 (omega (arith, z.2)) (omega arith)
+      before code input line 0 24 (Leaves exit w2) held (one u tt) t z.1 z.0 16 8 (q - 1) q z.3 (omega (arith, z.2)) (omega arith)
       (one_goes code input line 0 24 (Leaves exit w2) held u tt z.1 8 q (omega arith) (record { mode = z.4.mode; entries = z.4.entries })
       (z.4.here, subst (w2.goes u tt) (sym z.4.frames) (less (length held) u y t.now fit))))
-      (λ t there. later (length held) held t there))
+      (λ t there. weaker code input line 0 24 (Leaves exit w2) held (rest tt) t 8 8 (q - 1) q (omega arith) (omega arith) (later (length held) held t there)))
