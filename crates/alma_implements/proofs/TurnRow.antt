@@ -1,20 +1,29 @@
 -- Conditions of every form, and the loops and the arms that they decide.
-use Rattle.std.proofs.Common.{ℕ, suc, ◌+◌, ◌-◌, ◌≤◌, List, length, arith, ℤ, Option, refl, sym, subst}
+use Rattle.std.proofs.Common.{ℕ, suc, ◌+◌, ◌-◌, ◌≤◌, List, length, arith, ℤ, Option, refl, sym, subst, ◌≡◌, [], ◌∷◌, ◌++◌, ◌∙◌, ap, append-nil, Bool, true, false}
+use Rattle.std.proofs.lemmas.List.{length-append}
+use Rattle.alma_base.specs.Choice.{if_true}
+use Rattle.alma_base.specs.Numbers.{is_zero}
 use Rattle.alma_code.specs.declared.cell.Cell.TheVariants as cell
 use Rattle.alma_code.specs.declared.cell.SlotKind.TheVariants as slot
 use Rattle.alma_code.specs.declared.instr.Instr.TheVariants as I
 use Rattle.alma_code.specs.Picture.{PlainFrame, PlainEntry}
 use Rattle.alma_code.specs.Plain.{PlainCode}
-use Rattle.alma_code.specs.Machine.{State}
+use Rattle.alma_code.specs.Machine.{State, Failing, after}
 use Rattle.alma_mean.specs.Store.{Store}
-use Rattle.alma_mean.specs.Events.{Events, NoYield, Flow, Go, one, bind, visit_each, on_first}
-use Rattle.alma_implements.proofs.Goes.{Goes, no_step, weaker, bind_goes, one_goes}
+use Rattle.alma_mean.specs.Events.{Events, NoYield, Flow, Go, one, bind, visit_each, on_first, Fail, join, node}
+use Rattle.alma_implements.proofs.Goes.{Goes, before, no_step, weaker, bind_goes, one_goes, like_self, and_then}
 use Rattle.alma_implements.proofs.Frames.{IsAt}
-use Rattle.alma_implements.proofs.Steps.{InstrAt, top_written, HasKind}
+use Rattle.alma_implements.proofs.Steps.{InstrAt, top_written, HasKind, Holds, zero_jumps, other_goes_on}
 use Rattle.alma_implements.proofs.ChoiceSteps.{jumps}
+use Rattle.alma_implements.proofs.StmtRows.{GivesOne, on_visit, on_one, at_fault, at_cut}
 use Rattle.alma_implements.proofs.Ways.{Ways, Leaves, Runs, Later, Visited, LeadsTo}
 use Rattle.alma_implements.proofs.EitherRow.{inner_goes}
 use Rattle.alma_implements.proofs.FirstRow.{KeepsMark, first_row}
+
+-- what is added to a list and leaves it as it was is nothing
+append-cancel : {A : Type 0} (a b : List A) → a ++ b ≡ a → b ≡ []
+append-cancel a [] e = refl
+append-cancel a (x ∷ b) e = let n : length (a ++ (x ∷ b)) ≡ length a + length (x ∷ b) = length-append a (x ∷ b) in let m : length (a ++ (x ∷ b)) ≡ length a = ap length e in absurd (omega (arith, n, m))
 
 module _ (code : PlainCode) (input : List ℕ) where
   -- a condition that stands from `at` on: where it has an alternative the code goes on behind it, where it has none at
@@ -86,3 +95,53 @@ module _ (code : PlainCode) (input : List ℕ) where
       weaker code input line 0 24 (Leaves exit w) held (visit_each (body x)) t 21 8 (q - 1) q (omega arith) (omega arith)
       (inner_goes code input line m y exit t.now w (body x) q leads (runs x t.now ok) held t there))
       (λ t there ok. weaker code input line 0 24 (Leaves exit w) held rest t 13 0 (q - 1) (q - 1) (omega arith) (omega arith) (later t.now ok 0 (q - 1) (omega arith) (omega arith) held t t (no_step code input t) there))
+
+  -- a simple condition: the value of an expression that has one alternative at most, in the store on entry, is tested by a jump
+  module _ (line m none_at slot b : ℕ) (v : Store) (wv : Ways ℤ) (held : List PlainEntry) (q : ℕ) (zero : InstrAt code input line m (I.JumpZero slot none_at))
+      (holds : (x : Store) (n : ℤ) (t : List PlainFrame) → wv.goes x n t → Holds t slot (cell.Int n))
+      (B : Type 0) (left2 more2 : ℕ) (fits2 : Store → Flow B → State → Type 0) (found : Store → Flow NoYield → Events B) (none : Unit {0} → Events B) (c : ℕ)
+      (on_found : (t : State) (n : ℤ) → IsAt (m + 1) t.now held t → wv.goes v n t.now → Goes code input line left2 more2 fits2 held (found v (Go tt)) t (b + c) (q - 1))
+      (on_none : (t : State) (n : ℤ) → IsAt none_at t.now held t → wv.goes v n t.now → Goes code input line left2 more2 fits2 held (none tt) t c (q - 1)) where
+    abbrev tested : Store → ℤ → Events NoYield
+    tested t n = if_true (is_zero n) (λ _. Fail) (λ _. one t tt)
+
+    value_decides : {e : Events ℤ} → GivesOne ℤ v e → (s : State) (r x d : ℕ) → c + 1 ≤ x → d ≤ q → Goes code input line b 0 (Leaves m wv) held e s r d
+        → Goes code input line left2 more2 fits2 held (on_first (visit_each (bind e tested)) found none) s (r + x) d
+    value_decides (on_visit {e = e} h) s r x d le owes goes =
+        weaker code input line left2 more2 fits2 held (on_first (visit_each (bind e tested)) found none) s (r + x + 32) (r + 32 + x) d d (omega arith) (omega arith) (value_decides h s (r + 32) x d le owes goes)
+    value_decides at_fault s r x d le owes goes = (goes.0, goes.1, omega (arith, goes.2), goes.3, goes.4, goes.5)
+    value_decides at_cut s r x d le owes goes = (goes.0, goes.1, omega (arith, goes.2), goes.3, goes.4, goes.5)
+    value_decides (on_one {y = n}) s r x d le owes goes = by (is_zero n) refl
+      where
+        -- nothing stands above, since nothing is left to be tried
+        alone : goes.4 ≡ []
+        alone =
+            let u : State = record goes.1 { mode = Failing; held = held ++ goes.4 } in
+            let z = goes.7 held u (like_self held) (record { mode = refl; entries = refl }) in
+            let none_left : z.0 ≡ 0 = omega (arith, z.2) in
+            let same : z.1 ≡ u = sym z.3.steps ∙ ap (λ k. after code input k u) none_left in
+            append-cancel held goes.4 (ap (λ t. t.held) (sym same) ∙ z.4.entries)
+
+        there : IsAt m goes.1.now held goes.1
+        there = record { mode = goes.5.mode; here = goes.6.0; frames = refl; entries = goes.5.entries ∙ ap (λ l. held ++ l) alone ∙ append-nil held }
+
+        by : (z : Bool) → is_zero n ≡ z → Goes code input line left2 more2 fits2 held (on_first (visit_each (join (if_true z (λ _. Fail) (λ _. one v tt)) Fail)) found none) s (r + x) d
+        by true e =
+            let w = zero_jumps code input line m goes.1.now held goes.1 there slot none_at n zero (holds v n goes.1.now goes.6.1) e in
+            before code input line left2 more2 fits2 held (none tt) s w.to (goes.0 + 1) (r + x) c d (q - 1) (and_then code input goes.3 w.silently) (omega (arith, goes.2, le)) (omega (arith, owes))
+            (on_none w.to n (record { mode = w.is.mode; here = w.is.here; frames = refl; entries = w.is.entries }) (subst (wv.goes v n) (sym w.is.frames) goes.6.1))
+        by false e =
+            let w = other_goes_on code input line m goes.1.now held goes.1 there slot none_at n zero (holds v n goes.1.now goes.6.1) e in
+            before code input line left2 more2 fits2 held (found v (Go tt)) s w.to (goes.0 + 1) (r + x + 32) (b + c) d (q - 1) (and_then code input goes.3 w.silently) (omega (arith, goes.2, le)) (omega (arith, owes))
+            (on_found w.to n (record { mode = w.is.mode; here = w.is.here; frames = refl; entries = w.is.entries }) (subst (wv.goes v n) (sym w.is.frames) goes.6.1))
+
+  pub simple_decides : (line at m none_at slot : ℕ) (now : List PlainFrame) (v : Store) (value : Events ℤ) (wv : Ways ℤ) (found_ok : Store → List PlainFrame → Type 0) (none_ok : List PlainFrame → Type 0) (q : ℕ)
+      → GivesOne ℤ v value → Runs code input line at m now wv value q → InstrAt code input line m (I.JumpZero slot none_at)
+      → ((x : Store) (n : ℤ) (t : List PlainFrame) → wv.goes x n t → Holds t slot (cell.Int n)) → ((n : ℤ) (t : List PlainFrame) → wv.goes v n t → found_ok v t) → ((n : ℤ) (t : List PlainFrame) → wv.goes v n t → none_ok t)
+      → Decides line at (m + 1) none_at now (node (bind value (λ t n. if_true (is_zero n) (λ _. Fail) (λ _. one t tt)))) found_ok none_ok q
+  simple_decides line at m none_at slot now v value wv found_ok none_ok q gives runs zero holds is_found is_none B left2 more2 fits2 found none b c le held s is on_found on_none =
+      weaker code input line left2 more2 fits2 held (on_first (visit_each (bind value (λ t n. if_true (is_zero n) (λ _. Fail) (λ _. one t tt)))) found none) s (3 + b + c + 32) (b + (c + 35)) q q (omega arith) (omega arith)
+      (value_decides line m none_at slot b v wv held q zero holds B left2 more2 fits2 found none c
+      (λ t n there fit. on_found v t there (is_found n t.now fit))
+      (λ t n there fit. on_none t there (is_none n t.now fit))
+      gives s b (c + 35) q (omega arith) (omega arith) (runs b le held s is))
