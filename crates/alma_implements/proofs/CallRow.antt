@@ -9,15 +9,13 @@ use Rattle.alma_code.specs.declared.instr.Instr.TheVariants as I
 use Rattle.alma_code.specs.Layout.{entered_frame}
 use Rattle.alma_code.specs.Picture.{PlainFrame, PlainEntry, last_frame, without_last, live_cells}
 use Rattle.alma_code.specs.Plain.{PlainCode, PlainRoutine, start_at}
-use Rattle.alma_code.specs.declared.step.End.TheVariants as end
-use Rattle.alma_code.specs.Machine.{State, Ended}
-use Rattle.alma_implements.specs.Implements.{line_in}
+use Rattle.alma_code.specs.Machine.{State}
 use Rattle.alma_ir.specs.Tree.{Program, routine_at}
 use Rattle.alma_mean.specs.Store.{Store, without_top}
 use Rattle.alma_mean.specs.Events.{Events, NoYield, Flow, Visit, Print, Alt, Fail, Fault, Cut}
 use Rattle.alma_mean.specs.Arithmetic.{fault_unless}
 use Rattle.alma_mean.specs.Rows.{ArgValue, as_test, enter, frame_of, declared_cells}
-use Rattle.alma_implements.proofs.Goes.{Silently, Goes, and_then, before, weaker, credited}
+use Rattle.alma_implements.proofs.Goes.{Goes, and_then, before, weaker, credited}
 use Rattle.alma_implements.proofs.Frames.{IsAt}
 use Rattle.alma_implements.proofs.Steps.{InstrAt, Faults}
 use Rattle.alma_implements.proofs.CallSteps.{HoldsArguments, call_step, depth_full, cells_full, return_step}
@@ -65,14 +63,13 @@ module _ (code : PlainCode) (input : List ℕ) where
     pub cells : live_cells now ≡ declared_cells p v
     pub declared : callee.head.declared ≡ (routine_at p r).declared
 
-  pub call_row : (p : Program) (line at r first exit : ℕ) (now : List PlainFrame) (v : Store) (callee : PlainRoutine) (args : List Cell) (links : ℕ) (taken : List ArgValue) (body : Store → Events NoYield) (wb w : Ways NoYield) (q : ℕ)
-      → InstrAt code input line at (I.Call r first 0) → slice_get code.routines r ≡ Some callee → CountsAlike p v now callee r
-      -- the body at the level below, in the frame that the call pushes
-      → Runs code input line (start_at code r) exit (now ++ entered_frame now callee.head r (at + 1) args ∷ []) wb (body (v ++ frame_of v r links (routine_at p r) taken ∷ [])) q
-      → ((x : Store) (f : Flow NoYield) (t : State) → Leaves exit wb x f t → Returns (at + 1) w x t)
+  -- the faults of a call, and the body at its beginning; `F` is what is done with the events of the body
+  pub enter_goes : {A : Type 0} (F : Events NoYield → Events A) → ((f : RunFault) (l : ℕ) → F (Fault f l) ≡ Fault f l) → (p : Program) (line at r first to : ℕ) (now : List PlainFrame) (v : Store) (callee : PlainRoutine) (args : List Cell) (links : ℕ) (taken : List ArgValue) (body : Store → Events NoYield) (fits : Store → Flow A → State → Type 0) (q : ℕ)
+      → InstrAt code input line at (I.Call r first to) → slice_get code.routines r ≡ Some callee → CountsAlike p v now callee r
       → (held : List PlainEntry) (s : State) → IsAt at now held s → HoldsArguments code input callee first args s
-      → Goes code input line 0 24 (Leaves (at + 1) w) held (as_test (enter p body r links v taken)) s 8 (suc q)
-  call_row p line at r first exit now v callee args links taken body wb w q i there alike runs comes_back held s is reads =
+      → ((t : State) → IsAt (start_at code r) (now ++ entered_frame now callee.head r (at + 1) args ∷ []) held t → Goes code input line 0 24 fits held (F (body (v ++ frame_of v r links (routine_at p r) taken ∷ []))) t 7 q)
+      → Goes code input line 0 24 fits held (F (enter p body r links v taken)) s 8 (suc q)
+  enter_goes {A = A} F stays p line at r first to now v callee args links taken body fits q i there alike held s is reads begins =
       by_depth (nat_lt (length now) 10000) refl (nat_le (live_cells now + callee.head.declared) 1048576) refl
     where
       depth : nat_lt (length v) 10000 ≡ nat_lt (length now) 10000
@@ -84,26 +81,36 @@ module _ (code : PlainCode) (input : List ℕ) where
       entry : Events NoYield
       entry = body (v ++ frame_of v r links (routine_at p r) taken ∷ [])
 
-      choices : Bool → Bool → Events NoYield
-      choices a b = as_test (fault_unless fault.DepthFull a (λ _. fault_unless fault.CellsFull b (λ _. entry)))
+      choices : Bool → Bool → Events A
+      choices a b = F (fault_unless fault.DepthFull a (λ _. fault_unless fault.CellsFull b (λ _. entry)))
 
-      is_so : (a b : Bool) → nat_lt (length now) 10000 ≡ a → nat_le (live_cells now + callee.head.declared) 1048576 ≡ b → choices a b ≡ as_test (enter p body r links v taken)
+      is_so : (a b : Bool) → nat_lt (length now) 10000 ≡ a → nat_le (live_cells now + callee.head.declared) 1048576 ≡ b → choices a b ≡ F (enter p body r links v taken)
       is_so a b e f = sym (ap (λ x. choices x (nat_le (declared_cells p v + (routine_at p r).declared) 1048576)) (depth ∙ e) ∙ ap (λ y. choices a y) (room ∙ f))
 
-      faulted_at : (f : RunFault) → Faults code input line s f → (t : State) × Silently code input 1 s t × (t.mode ≡ Ended (end.Fault f)) × (line_in code t ≡ line)
-      faulted_at f z =
-          (z.to, z.silently, z.is, z.on_line)
+      faulted : (f : RunFault) → Faults code input line s f → Goes code input line 0 24 fits held (F (Fault f 0)) s 8 (suc q)
+      faulted f z = subst (λ x. Goes code input line 0 24 fits held x s 8 (suc q)) (sym (stays f 0)) (1, z.to, omega arith, z.silently, z.is, z.on_line)
 
-      by_depth : (a : Bool) → nat_lt (length now) 10000 ≡ a → (b : Bool) → nat_le (live_cells now + callee.head.declared) 1048576 ≡ b → Goes code input line 0 24 (Leaves (at + 1) w) held (as_test (enter p body r links v taken)) s 8 (suc q)
+      by_depth : (a : Bool) → nat_lt (length now) 10000 ≡ a → (b : Bool) → nat_le (live_cells now + callee.head.declared) 1048576 ≡ b → Goes code input line 0 24 fits held (F (enter p body r links v taken)) s 8 (suc q)
       by_depth false e b f =
-          let z = faulted_at fault.DepthFull (depth_full code input line at r first 0 now held s callee args is i there reads e) in
-          subst (λ x. Goes code input line 0 24 (Leaves (at + 1) w) held x s 8 (suc q)) (is_so false b e f) (1, z.0, omega arith, z.1, z.2, z.3)
+          subst (λ x. Goes code input line 0 24 fits held x s 8 (suc q)) (is_so false b e f) (faulted fault.DepthFull (depth_full code input line at r first to now held s callee args is i there reads e))
       by_depth true e false f =
-          let z = faulted_at fault.CellsFull (cells_full code input line at r first 0 now held s callee args is i there reads e f) in
-          subst (λ x. Goes code input line 0 24 (Leaves (at + 1) w) held x s 8 (suc q)) (is_so true false e f) (1, z.0, omega arith, z.1, z.2, z.3)
+          subst (λ x. Goes code input line 0 24 fits held x s 8 (suc q)) (is_so true false e f) (faulted fault.CellsFull (cells_full code input line at r first to now held s callee args is i there reads e f))
       by_depth true e true f =
-          let z = call_step code input line at r first 0 now held s callee args is i there reads e f in
-          subst (λ x. Goes code input line 0 24 (Leaves (at + 1) w) held x s 8 (suc q)) (is_so true true e f)
-          (before code input line 0 24 (Leaves (at + 1) w) held (as_test entry) s z.to 1 8 7 (suc q) q z.silently (omega arith) (omega arith)
-          (credited code input line 6 0 0 24 (Leaves (at + 1) w) held (as_test entry) z.to 7 q (omega arith)
-          (as_test_goes line 7 6 0 (at + 1) (Leaves exit wb) w held entry z.to 7 q (omega arith) comes_back (runs 7 (omega arith) held z.to z.is))))
+          let z = call_step code input line at r first to now held s callee args is i there reads e f in
+          subst (λ x. Goes code input line 0 24 fits held x s 8 (suc q)) (is_so true true e f)
+          (before code input line 0 24 fits held (F entry) s z.to 1 8 7 (suc q) q z.silently (omega arith) (omega arith) (begins z.to z.is))
+
+  -- a call as a test
+  pub call_row : (p : Program) (line at r first exit : ℕ) (now : List PlainFrame) (v : Store) (callee : PlainRoutine) (args : List Cell) (links : ℕ) (taken : List ArgValue) (body : Store → Events NoYield) (wb w : Ways NoYield) (q : ℕ)
+      → InstrAt code input line at (I.Call r first 0) → slice_get code.routines r ≡ Some callee → CountsAlike p v now callee r
+      -- the body at the level below, in the frame that the call pushes
+      → Runs code input line (start_at code r) exit (now ++ entered_frame now callee.head r (at + 1) args ∷ []) wb (body (v ++ frame_of v r links (routine_at p r) taken ∷ [])) q
+      → ((x : Store) (f : Flow NoYield) (t : State) → Leaves exit wb x f t → Returns (at + 1) w x t)
+      → (held : List PlainEntry) (s : State) → IsAt at now held s → HoldsArguments code input callee first args s
+      → Goes code input line 0 24 (Leaves (at + 1) w) held (as_test (enter p body r links v taken)) s 8 (suc q)
+  call_row p line at r first exit now v callee args links taken body wb w q i there alike runs comes_back held s is reads =
+      enter_goes as_test (λ f l. refl) p line at r first 0 now v callee args links taken body (Leaves (at + 1) w) q i there alike held s is reads
+      (λ t begun.
+      let entry = body (v ++ frame_of v r links (routine_at p r) taken ∷ []) in
+      credited code input line 6 0 0 24 (Leaves (at + 1) w) held (as_test entry) t 7 q (omega arith)
+      (as_test_goes line 7 6 0 (at + 1) (Leaves exit wb) w held entry t 7 q (omega arith) comes_back (runs 7 (omega arith) held t begun)))

@@ -1,5 +1,5 @@
 -- The row of a call in an expression: the first way in which the body ends gives the number, and its other entries go.
-use Rattle.std.proofs.Common.{◌≡◌, ℕ, zero, suc, ◌+◌, ◌-◌, ◌≤◌, List, ◌++◌, length, Some, None, refl, sym, ap, ◌∙◌, subst, arith, ℤ}
+use Rattle.std.proofs.Common.{◌≡◌, ℕ, zero, suc, ◌+◌, ◌-◌, ◌≤◌, List, [], ◌∷◌, ◌++◌, length, Some, None, refl, sym, ap, ◌∙◌, subst, arith, ℤ}
 use Rattle.std.specs.Prelude.{slice_get}
 use Rattle.alma_base.specs.declared.fault.RunFault.TheVariants as fault
 use Rattle.alma_code.specs.declared.cell.Cell.TheVariants as cell
@@ -7,17 +7,22 @@ use Rattle.alma_code.specs.declared.cell.SlotKind.TheVariants as slot
 use Rattle.alma_code.specs.declared.instr.Instr.TheVariants as I
 use Rattle.alma_code.specs.declared.step.Step.TheVariants as answer
 use Rattle.alma_code.specs.Picture.{PlainFrame, PlainEntry, last_frame, without_last}
-use Rattle.alma_code.specs.Plain.{PlainCode}
+use Rattle.alma_code.specs.declared.cell.Cell.{Cell}
+use Rattle.alma_code.specs.Layout.{entered_frame}
+use Rattle.alma_code.specs.Plain.{PlainCode, PlainRoutine, start_at}
+use Rattle.alma_ir.specs.Tree.{Program, routine_at}
 use Rattle.alma_code.specs.Machine.{State, act, as_number, result_to, returned, left, with_slot, to_number}
 use Rattle.alma_mean.specs.Store.{Store, without_top}
 use Rattle.alma_mean.specs.Events.{Events, NoYield, Flow, Go, Return, Fail, one, line_or}
-use Rattle.alma_mean.specs.Rows.{as_value, function_value}
+use Rattle.alma_mean.specs.Rows.{ArgValue, as_value, function_value, enter, frame_of}
 use Rattle.alma_implements.proofs.Goes.{IsGoing, Goes, no_step, and_then, before, first_goes, one_goes}
 use Rattle.alma_implements.proofs.Address.{at_address}
 use Rattle.alma_implements.proofs.Frames.{IsAt}
 use Rattle.alma_implements.proofs.Steps.{InstrAt, does, passed, Holds, HasKind, top_written, fault_step}
 use Rattle.alma_implements.proofs.ChoiceSteps.{GoesOn, answered_silently, cut_step}
-use Rattle.alma_implements.proofs.Ways.{Ways, Leaves}
+use Rattle.alma_implements.proofs.CallRow.{CountsAlike, enter_goes}
+use Rattle.alma_implements.proofs.CallSteps.{HoldsArguments}
+use Rattle.alma_implements.proofs.Ways.{Ways, Leaves, Runs}
 
 module _ (code : PlainCode) (input : List ℕ) where
   -- the top frame is left, and the slot that the Call before names gets the number
@@ -88,3 +93,14 @@ module _ (code : PlainCode) (input : List ℕ) where
           kept : (n : ℕ) → 1 ≤ n → n ≡ line_or n line
           kept zero le = absurd (omega (arith, le))
           kept (suc n) le = refl
+
+  -- a call in an expression, behind its arguments and its Mark
+  pub function_call_row : (p : Program) (line function at r first to m exit : ℕ) (now : List PlainFrame) (v : Store) (callee : PlainRoutine) (args : List Cell) (links : ℕ) (taken : List ArgValue) (body : Store → Events NoYield) (w : Ways ℤ) (wb : Ways NoYield) (q : ℕ) (held : List PlainEntry) (s : State)
+      → InstrAt code input line at (I.Call r first to) → InstrAt code input line (at + 1) (I.Cut m) → 1 ≤ function → slice_get code.routines r ≡ Some callee → CountsAlike code input p v now callee r
+      → Runs code input line (start_at code r) exit (now ++ entered_frame now callee.head r (at + 1) args ∷ []) wb (body (v ++ frame_of v r links (routine_at p r) taken ∷ [])) q
+      → ((x : Store) (f : Flow NoYield) (t : State) → Leaves exit wb x f t → LeavesFunction at r first to m (length held) function w x f t)
+      → IsAt at now held s → HoldsArguments code input callee first args s
+      → Goes code input line 0 24 (Leaves (at + 2) w) held (as_value function (enter p body r links v taken)) s 8 (suc q)
+  function_call_row p line function at r first to m exit now v callee args links taken body w wb q held s call cut known there alike runs comes_back is reads =
+      enter_goes code input (as_value function) (λ f l. refl) p line at r first to now v callee args links taken body (Leaves (at + 2) w) q call there alike held s is reads
+      (λ t begun. function_row line function at exit r first to m now w wb (body (v ++ frame_of v r links (routine_at p r) taken ∷ [])) held t q call cut known comes_back (runs 7 (omega arith) held t begun))
