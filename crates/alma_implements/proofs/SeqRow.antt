@@ -8,10 +8,9 @@ use Rattle.alma_code.specs.Plain.{PlainCode}
 use Rattle.alma_code.specs.Machine.{State}
 use Rattle.alma_mean.specs.Store.{Store}
 use Rattle.alma_mean.specs.Events.{Events, NoYield, Flow, Go, Return, Fail, one, bind, at_line, on_first}
-use Rattle.alma_implements.proofs.Goes.{Silently, IsGoing, Goes, no_step, before, weaker, bind_goes, one_goes, lined_goes}
-use Rattle.alma_implements.proofs.Frames.{IsAt}
+use Rattle.alma_implements.proofs.Goes.{Silently, IsGoing, no_step, before, weaker, bind_goes, one_goes, lined_goes}
 use Rattle.alma_implements.proofs.Steps.{InstrAt, top_written, HasKind, fail_step}
-use Rattle.alma_implements.proofs.Ways.{Ways, Leaves, Runs, Inside, LeadsTo, then_up_to}
+use Rattle.alma_implements.proofs.Ways.{Ways, Leaves, Runs, Inside, LeadsTo, then_up_to, Behind}
 use Rattle.alma_implements.proofs.FirstRow.{KeepsMark, first_row}
 
 module _ (code : PlainCode) (input : List ℕ) where
@@ -61,7 +60,7 @@ module _ (code : PlainCode) (input : List ℕ) where
       → ((h : ℕ) → Runs code input line (at + 2) n (top_written now m (cell.Mark h)) (w h) e q) → ((h : ℕ) → KeepsMark code input m h (w h))
       → ((h : ℕ) (v : Store) (y : NoYield) (t : List PlainFrame) → (w h).goes v y t → w2.goes v tt t)
       -- the operands behind it, in the store on entry and with the mark slot written
-      → ((h : ℕ) (base : List PlainEntry) (t : State) → IsAt next (top_written now m (cell.Mark h)) base t → Goes code input line 0 24 (Leaves exit w2) base (rest tt) t 8 q)
+      → ((h : ℕ) → Behind code input line next exit (top_written now m (cell.Mark h)) w2 (rest tt) q)
       → Inside code input line at exit now w2 (on_first e (λ u _. one u tt) rest) q
   operand_row line at n next exit m now w w2 e rest q mark choose cut leads kind runs keeps less later held s is =
       weaker code input line 0 24 (Leaves exit w2) held (on_first e (λ u _. one u tt) rest) s 32 19 q q (omega arith) (omega arith)

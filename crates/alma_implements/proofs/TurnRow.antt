@@ -16,7 +16,7 @@ use Rattle.alma_implements.proofs.Frames.{IsAt}
 use Rattle.alma_implements.proofs.Steps.{InstrAt, top_written, HasKind, Holds, zero_jumps, other_goes_on}
 use Rattle.alma_implements.proofs.ChoiceSteps.{jumps}
 use Rattle.alma_implements.proofs.StmtRows.{GivesOne, on_visit, on_one, at_fault, at_cut}
-use Rattle.alma_implements.proofs.Ways.{Ways, Leaves, Runs, Later, Visited, LeadsTo}
+use Rattle.alma_implements.proofs.Ways.{Ways, Leaves, Runs, Later, Visited, LeadsTo, Behind}
 use Rattle.alma_implements.proofs.EitherRow.{inner_goes}
 use Rattle.alma_implements.proofs.FirstRow.{KeepsMark, first_row}
 
@@ -87,14 +87,14 @@ module _ (code : PlainCode) (input : List ℕ) where
   pub arm_row : (line at m y next exit : ℕ) (now : List PlainFrame) (w : Ways NoYield) (cond : Events NoYield) (body : Store → Events NoYield) (rest : Events NoYield) (found_ok : Store → List PlainFrame → Type 0) (none_ok : List PlainFrame → Type 0) (q : ℕ)
       → Decides line at m next now cond found_ok none_ok q → LeadsTo code input 8 y exit
       → ((x : Store) (t : List PlainFrame) → found_ok x t → Runs code input line m y t w (body x) q)
-      → ((t : List PlainFrame) → none_ok t → Later code input line next exit t w rest q)
+      → ((t : List PlainFrame) → none_ok t → Behind code input line next exit t w rest q)
       → Visited code input line at exit now w (on_first cond (λ x _. visit_each (body x)) (λ _. rest)) q
   arm_row line at m y next exit now w cond body rest found_ok none_ok q decides leads runs later held s is =
       decides NoYield 0 24 (Leaves exit w) (λ x _. visit_each (body x)) (λ _. rest) 8 13 (omega arith) held s is
       (λ x t there ok.
       weaker code input line 0 24 (Leaves exit w) held (visit_each (body x)) t 21 8 (q - 1) q (omega arith) (omega arith)
       (inner_goes code input line m y exit t.now w (body x) q leads (runs x t.now ok) held t there))
-      (λ t there ok. weaker code input line 0 24 (Leaves exit w) held rest t 13 0 (q - 1) (q - 1) (omega arith) (omega arith) (later t.now ok 0 (q - 1) (omega arith) (omega arith) held t t (no_step code input t) there))
+      (λ t there ok. weaker code input line 0 24 (Leaves exit w) held rest t 13 8 (q - 1) q (omega arith) (omega arith) (later t.now ok held t there))
 
   -- a simple condition: the value of an expression that has one alternative at most, in the store on entry, is tested by a jump
   module _ (line m none_at slot b : ℕ) (v : Store) (wv : Ways ℤ) (held : List PlainEntry) (q : ℕ) (zero : InstrAt code input line m (I.JumpZero slot none_at))

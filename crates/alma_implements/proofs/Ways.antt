@@ -6,7 +6,7 @@ use Rattle.alma_code.specs.Plain.{PlainCode}
 use Rattle.alma_code.specs.Machine.{State}
 use Rattle.alma_mean.specs.Store.{Store}
 use Rattle.alma_mean.specs.Events.{Events, Flow, Go, Return, Visit, Print, Alt, Fail, Fault, Cut}
-use Rattle.alma_implements.proofs.Goes.{Silently, IsGoing, Goes, no_step, and_then, before, weaker}
+use Rattle.alma_implements.proofs.Goes.{Silently, IsGoing, Goes, no_step, and_then, before, weaker, credited}
 use Rattle.alma_implements.proofs.Frames.{IsAt}
 use Rattle.alma_implements.proofs.Steps.{InstrAt}
 use Rattle.alma_implements.proofs.ChoiceSteps.{jumps}
@@ -44,6 +44,16 @@ module _ (code : PlainCode) (input : List ℕ) where
   -- the events of a phrase inside of its node, whose visit pays
   abbrev pub Inside : {A : Type 0} → (line at exit : ℕ) → List PlainFrame → Ways A → Events A → (q : ℕ) → Type 0
   Inside line at exit now w e q = (held : List PlainEntry) (s : State) → IsAt at now held s → Goes code input line 0 24 (Leaves exit w) held e s 32 q
+
+  -- a part inside of a node, with 8 steps left before it: the parts behind a condition
+  abbrev pub Behind : {A : Type 0} → (line at exit : ℕ) → List PlainFrame → Ways A → Events A → (q : ℕ) → Type 0
+  Behind line at exit now w e q = (held : List PlainEntry) (s : State) → IsAt at now held s → Goes code input line 0 24 (Leaves exit w) held e s 8 q
+
+  pub visited_behind : {A : Type 0} (line at exit : ℕ) (now : List PlainFrame) (w : Ways A) (e : Events A) (q : ℕ) → Visited line at exit now w e q → Behind line at exit now w (Visit e) q
+  visited_behind line at exit now w e q runs held s is = weaker code input line 0 24 (Leaves exit w) held e s 40 24 q q (omega arith) (omega arith) (runs held s is)
+
+  pub runs_behind : {A : Type 0} (line at exit : ℕ) (now : List PlainFrame) (w : Ways A) (e : Events A) (q : ℕ) → Runs line at exit now w e q → Behind line at exit now w e q
+  runs_behind line at exit now w e q runs held s is = credited code input line 8 0 0 24 (Leaves exit w) held e s 8 q (omega arith) (runs 8 (omega arith) held s is)
 
   -- so many steps at most, silently, to a state that goes on with the same frames and entries
   abbrev pub LeadsTo : (most at to_at : ℕ) → Type 0
