@@ -1,0 +1,7 @@
+pub mod Lined
+pub mod Tables
+pub mod Slots
+pub mod Pieces
+pub mod Templates
+pub mod Compiled
+pub mod Stands

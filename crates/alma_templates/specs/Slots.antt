@@ -1,0 +1,293 @@
+-- The slots of a routine's frame: the link, its own slots, and a fresh slot for each need of each phrase of its body, in
+-- the order of the phrases. No two phrases share one.
+use Rattle.std.specs.Prelude.{ℕ, zero, suc, ◌+◌, ◌-◌, Bool, true, false, ◌&&◌, List, [], ◌∷◌, ◌++◌, length, replicate, Option, Some, None}
+use Rattle.alma_code.specs.declared.cell.SlotKind.{SlotKind}
+use Rattle.alma_code.specs.declared.cell.SlotKind.TheVariants as slot
+use Rattle.alma_ir.specs.declared.phrase.Root.{Root}
+use Rattle.alma_ir.specs.declared.phrase.Root.TheVariants as root
+use Rattle.alma_ir.specs.declared.program.ArgKind.{ArgKind}
+use Rattle.alma_ir.specs.declared.program.ArgKind.TheVariants as kind
+use Rattle.alma_ir.specs.declared.program.Param.{Param}
+use Rattle.alma_ir.specs.Tree.{Stmts, Stmt, Arms, CaseArms, Else, Branches, Loop, ReturnExpr, Test, Tests, Expr, Links, Args, Arg, Desig, Sels, Sel, Routine, Program, routine_at, no_stmts, more_stmts, TestStmt, Assign, CopyCells, If, While, Repeat, ForTo, SomeOf, Case, Either, Forall, Commit, Return, Read, WriteExpr, WriteText, WriteLine, no_arms, more_arms, no_cases, more_cases, no_else, else_part, no_branches, more_branches, a_loop, no_result, some_result, Value, Bind, Unify, SameCells, Seq, And, Or, Not, CallTest, no_tests, more_tests, Const, Load, Chain, Compare, Truth, Known, Chr, CallExpr, no_links, more_links, no_args, more_args, ByValue, ByCells, ByPlace, MixValue, MixPlace, a_desig, no_sels, more_sels, Field, Index}
+use Rattle.alma_ir.specs.Checked.{link_slots}
+use Rattle.alma_ir.specs.Lines.{body_with_lines}
+
+-- ---- links
+
+-- how many slots stand before the own slots of a routine
+abbrev pub shift_of : Program → (r : ℕ) → ℕ
+shift_of p r = link_slots (routine_at p r).level
+
+-- a link to the routine's own frame, and one to each frame on the way so many links up
+abbrev pub chain_slots : Program → (r links : ℕ) → List SlotKind
+chain_slots p r zero = slot.Link r ∷ []
+chain_slots p r (suc links) = slot.Link r ∷ chain_slots p (routine_at p r).outer links
+
+-- ---- variables that are read and written in their own slot
+
+-- the slot of a variable of the routine that is named without a selector
+abbrev pub bare_desig : Desig → Option ℕ
+bare_desig (a_desig (root.Local from) cells no_sels) = Some from
+bare_desig _ = None
+
+abbrev pub bare : Expr → Option ℕ
+bare (Load d) = bare_desig d
+bare _ = None
+
+-- nothing where there is such a slot
+abbrev pub unless_bare : {A : Type 0} → Option ℕ → List A → List A
+unless_bare (Some from) all = []
+unless_bare None all = all
+
+-- ---- conditions that need no choice entry: the value of an expression without a call and without a truth
+
+abbrev mutual
+  pub is_simple_expr : Expr → Bool
+  is_simple_expr (Const n) = true
+  is_simple_expr (Load d) = is_simple_desig d
+  is_simple_expr (Chain negated e links) = is_simple_expr e && are_simple_links links
+  is_simple_expr (Compare how x y) = is_simple_expr x && is_simple_expr y
+  is_simple_expr (Truth t) = false
+  is_simple_expr (Known d) = is_simple_desig d
+  is_simple_expr (Chr e) = is_simple_expr e
+  is_simple_expr (CallExpr q args up) = false
+
+  pub are_simple_links : Links → Bool
+  are_simple_links no_links = true
+  are_simple_links (more_links how e rest) = is_simple_expr e && are_simple_links rest
+
+  pub is_simple_desig : Desig → Bool
+  is_simple_desig (a_desig root cells sels) = are_simple_sels sels
+
+  pub are_simple_sels : Sels → Bool
+  are_simple_sels no_sels = true
+  are_simple_sels (more_sels x rest) = is_simple_sel x && are_simple_sels rest
+
+  pub is_simple_sel : Sel → Bool
+  is_simple_sel (Field offset cells) = true
+  is_simple_sel (Index e range cells) = is_simple_expr e
+
+abbrev pub is_simple : Test → Bool
+is_simple (Value e) = is_simple_expr e
+is_simple _ = false
+
+-- the mark of a condition that has a choice entry
+abbrev pub mark_slots : (simple : Bool) → List SlotKind
+mark_slots true = []
+mark_slots false = slot.Mark ∷ []
+
+-- ---- arguments
+
+-- the cells of the place that a designator names
+abbrev pub cells_behind : ℕ → Sels → ℕ
+cells_behind cells no_sels = cells
+cells_behind cells (more_sels (Field offset part) rest) = cells_behind part rest
+cells_behind cells (more_sels (Index e range part) rest) = cells_behind part rest
+
+abbrev pub desig_cells : Desig → ℕ
+desig_cells (a_desig root cells sels) = cells_behind cells sels
+
+abbrev pub arg_kind : Arg → SlotKind
+arg_kind (ByValue e range) = slot.Number
+arg_kind (ByCells d) = slot.Place (desig_cells d)
+arg_kind (ByPlace d) = slot.Place (desig_cells d)
+arg_kind (MixValue e range) = slot.Number
+arg_kind (MixPlace d) = slot.Place (desig_cells d)
+
+-- the slots in which the arguments are handed over
+abbrev pub handed_slots : Args → List SlotKind
+handed_slots no_args = []
+handed_slots (more_args a rest) = arg_kind a ∷ handed_slots rest
+
+module _ (p : Program) (r : ℕ) where
+  -- the links on the way to the frame of the routine round the called one, of which the last is handed over
+  abbrev pub call_links : (called up : ℕ) → List SlotKind
+  call_links called up = links_if (shift_of p called)
+    where
+      links_if : ℕ → List SlotKind
+      links_if zero = []
+      links_if (suc one) = chain_slots p r up
+
+  abbrev pub root_slots : Root → List SlotKind
+  root_slots (root.Local from) = []
+  root_slots (root.Global from) = []
+  root_slots (root.Param from) = []
+  root_slots (root.Outer links from) = chain_slots p r links
+  root_slots (root.OuterParam links from) = chain_slots p r links
+
+  -- ---- phrases
+
+  abbrev mutual
+    pub stmts_slots : Stmts → List SlotKind
+    stmts_slots no_stmts = []
+    stmts_slots (more_stmts line x rest) = stmt_slots x ++ stmts_slots rest
+
+    pub stmt_slots : Stmt → List SlotKind
+    stmt_slots (TestStmt t) = test_slots t
+    stmt_slots (Assign d e range) = unless_bare (bare_desig d) (desig_slots d) ++ unless_bare (bare e) (expr_slots e)
+    stmt_slots (CopyCells d e) = desig_slots d ++ desig_slots e
+    stmt_slots (If arms rest) = arms_slots arms ++ stmts_slots rest
+    stmt_slots (While t body) = mark_slots (is_simple t) ++ (test_slots t ++ stmts_slots body)
+    stmt_slots (Repeat body t) = stmts_slots body ++ (mark_slots (is_simple t) ++ test_slots t)
+    stmt_slots (ForTo l) = for_slots l
+    stmt_slots (SomeOf l) = some_slots l
+    -- the value, and two numbers for the labels
+    stmt_slots (Case e arms rest) = expr_slots e ++ (slot.Number ∷ slot.Number ∷ (cases_slots arms ++ else_slots rest))
+    stmt_slots (Either branches) = branches_slots branches
+    stmt_slots (Forall x y) = slot.Mark ∷ (stmts_slots x ++ (slot.Mark ∷ stmts_slots y))
+    stmt_slots (Commit x) = slot.Mark ∷ stmts_slots x
+    stmt_slots (Return e) = return_slots e
+    stmt_slots (Read d how range) = desig_slots d
+    stmt_slots (WriteExpr e how) = unless_bare (bare e) (expr_slots e)
+    stmt_slots (WriteText text) = []
+    stmt_slots WriteLine = []
+
+    pub arms_slots : Arms → List SlotKind
+    arms_slots no_arms = []
+    arms_slots (more_arms t body rest) = mark_slots (is_simple t) ++ (test_slots t ++ (stmts_slots body ++ arms_slots rest))
+
+    -- an arm without labels is never tried: it has no code
+    pub cases_slots : CaseArms → List SlotKind
+    cases_slots no_cases = []
+    cases_slots (more_cases [] body rest) = cases_slots rest
+    cases_slots (more_cases (label ∷ labels) body rest) = stmts_slots body ++ cases_slots rest
+
+    pub else_slots : Else → List SlotKind
+    else_slots no_else = []
+    else_slots (else_part body) = stmts_slots body
+
+    pub branches_slots : Branches → List SlotKind
+    branches_slots no_branches = []
+    branches_slots (more_branches body rest) = stmts_slots body ++ branches_slots rest
+
+    -- the step, the first count, the limit, the place of the variable, and the body
+    pub for_slots : Loop → List SlotKind
+    for_slots (a_loop d range counter limit from to by body) =
+        slot.Number ∷ (expr_slots from ++ (expr_slots to ++ (unless_bare (bare_desig d) (desig_slots d) ++ stmts_slots body)))
+
+    -- and behind the limit whether there are more turns
+    pub some_slots : Loop → List SlotKind
+    some_slots (a_loop d range counter limit from to by body) =
+        slot.Number ∷ (expr_slots from ++ (expr_slots to ++ (slot.Number ∷ (unless_bare (bare_desig d) (desig_slots d) ++ stmts_slots body))))
+
+    pub return_slots : ReturnExpr → List SlotKind
+    return_slots no_result = []
+    return_slots (some_result e) = unless_bare (bare e) (expr_slots e)
+
+    pub test_slots : Test → List SlotKind
+    test_slots (Value e) = unless_bare (bare e) (expr_slots e)
+    test_slots (Bind d e range true) = desig_slots d ++ unless_bare (bare e) (expr_slots e)
+    test_slots (Bind d e range false) = expr_slots e ++ desig_slots d
+    test_slots (Unify d range e range') = desig_slots d ++ desig_slots e
+    test_slots (SameCells d e) = desig_slots d ++ desig_slots e
+    test_slots (Seq x) = stmts_slots x
+    test_slots (And ts) = and_slots ts
+    test_slots (Or ts) = or_slots ts
+    test_slots (Not t) = slot.Mark ∷ test_slots t
+    test_slots (CallTest called args up) = call_links called up ++ (handed_slots args ++ args_slots args)
+
+    pub and_slots : Tests → List SlotKind
+    and_slots no_tests = []
+    and_slots (more_tests t rest) = test_slots t ++ and_slots rest
+
+    -- each operand but the last has a mark
+    pub or_slots : Tests → List SlotKind
+    or_slots no_tests = []
+    or_slots (more_tests t no_tests) = test_slots t
+    or_slots (more_tests t (more_tests t' rest)) = slot.Mark ∷ (test_slots t ++ or_slots (more_tests t' rest))
+
+    -- the value stands in the first
+    pub expr_slots : Expr → List SlotKind
+    expr_slots (Const n) = slot.Number ∷ []
+    expr_slots (Load d) = slot.Number ∷ unless_bare (bare_desig d) (desig_slots d)
+    expr_slots (Chain negated e links) = expr_slots e ++ links_slots links
+    expr_slots (Compare how x y) = expr_slots x ++ unless_bare (bare y) (expr_slots y)
+    expr_slots (Truth t) = slot.Number ∷ (mark_slots (is_simple t) ++ test_slots t)
+    expr_slots (Known d) = slot.Number ∷ desig_slots d
+    expr_slots (Chr e) = expr_slots e
+    expr_slots (CallExpr called args up) = slot.Number ∷ slot.Mark ∷ (call_links called up ++ (handed_slots args ++ args_slots args))
+
+    pub links_slots : Links → List SlotKind
+    links_slots no_links = []
+    links_slots (more_links how e rest) = unless_bare (bare e) (expr_slots e) ++ links_slots rest
+
+    pub args_slots : Args → List SlotKind
+    args_slots no_args = []
+    args_slots (more_args a rest) = arg_slots a ++ args_slots rest
+
+    pub arg_slots : Arg → List SlotKind
+    arg_slots (ByValue e range) = unless_bare (bare e) (expr_slots e)
+    arg_slots (ByCells d) = desig_slots d
+    arg_slots (ByPlace d) = desig_slots d
+    arg_slots (MixValue e range) = unless_bare (bare e) (expr_slots e)
+    arg_slots (MixPlace d) = desig_slots d
+
+    -- the place of the root stands in the first
+    pub desig_slots : Desig → List SlotKind
+    desig_slots (a_desig root cells sels) = slot.Place cells ∷ (root_slots root ++ sels_slots sels)
+
+    pub sels_slots : Sels → List SlotKind
+    sels_slots no_sels = []
+    sels_slots (more_sels x rest) = sel_slots x ++ sels_slots rest
+
+    -- the place of the part stands in the last
+    pub sel_slots : Sel → List SlotKind
+    sel_slots (Field offset cells) = slot.Place cells ∷ []
+    sel_slots (Index e range cells) = unless_bare (bare e) (expr_slots e) ++ (slot.Place cells ∷ [])
+
+  -- ---- the first slot behind those of a phrase that takes them from `lo` on
+
+  abbrev pub behind_stmts : (lo : ℕ) → Stmts → ℕ
+  behind_stmts lo xs = lo + length (stmts_slots xs)
+
+  abbrev pub behind_stmt : (lo : ℕ) → Stmt → ℕ
+  behind_stmt lo x = lo + length (stmt_slots x)
+
+  abbrev pub behind_test : (lo : ℕ) → Test → ℕ
+  behind_test lo t = lo + length (test_slots t)
+
+  abbrev pub behind_condition : (lo : ℕ) → Test → ℕ
+  behind_condition lo t = lo + length (mark_slots (is_simple t)) + length (test_slots t)
+
+  abbrev pub behind_expr : (lo : ℕ) → Expr → ℕ
+  behind_expr lo e = lo + length (expr_slots e)
+
+  -- of a value that is used at once
+  abbrev pub behind_value : (lo : ℕ) → Expr → ℕ
+  behind_value lo e = lo + length (unless_bare (bare e) (expr_slots e))
+
+  abbrev pub behind_desig : (lo : ℕ) → Desig → ℕ
+  behind_desig lo d = lo + length (desig_slots d)
+
+  -- of a designator that is written
+  abbrev pub behind_target : (lo : ℕ) → Desig → ℕ
+  behind_target lo d = lo + length (unless_bare (bare_desig d) (desig_slots d))
+
+-- ---- the whole frame
+
+-- the slots of a parameter
+abbrev pub param_kinds : ArgKind → (cells : ℕ) → List SlotKind
+param_kinds kind.Value cells = slot.Number ∷ []
+param_kinds kind.Place cells = slot.Place cells ∷ []
+param_kinds kind.Mix cells = slot.Place 1 ∷ slot.Number ∷ []
+param_kinds kind.Cells cells = replicate cells slot.Number
+
+abbrev pub params_kinds : List Param → List SlotKind
+params_kinds [] = []
+params_kinds (q ∷ rest) = param_kinds q.kind q.cells ++ params_kinds rest
+
+-- the link of a routine of this level
+abbrev pub link_kinds : (level outer : ℕ) → List SlotKind
+link_kinds zero outer = []
+link_kinds (suc zero) outer = []
+link_kinds (suc (suc above)) outer = slot.Link outer ∷ []
+
+-- the link and the own slots of a routine: its parameters, and numbers
+abbrev pub own_kinds : Routine → List SlotKind
+own_kinds routine =
+    link_kinds routine.level routine.outer
+    ++ (params_kinds routine.params ++ replicate (routine.slots - length (params_kinds routine.params)) slot.Number)
+
+-- the kinds of all slots of a frame of the routine
+abbrev pub routine_kinds : Program → (r : ℕ) → List SlotKind
+routine_kinds p r = own_kinds (routine_at p r) ++ stmts_slots p r (body_with_lines (routine_at p r))
