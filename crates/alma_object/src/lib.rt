@@ -1,0 +1,5 @@
+//! Object files: a code as bytes, and a view of such bytes.
+#![tactic(auto)]
+
+mod bytes;
+mod instr;
