@@ -1,2 +1,4 @@
 pub mod Bytes
+pub mod Fault
+pub mod Header
 pub mod Instrs

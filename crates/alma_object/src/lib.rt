@@ -2,4 +2,8 @@
 #![tactic(auto)]
 
 mod bytes;
+mod fault;
+mod header;
 mod instr;
+
+pub use fault::ObjectFault;
