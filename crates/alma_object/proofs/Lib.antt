@@ -1,2 +1,4 @@
 pub mod Appends
+pub mod Faults
 pub mod Records
+pub mod Starts

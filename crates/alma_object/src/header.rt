@@ -1,8 +1,8 @@
 // The header of an object: its version and its counts.
-ghost use Rattle.std.specs.Prelude.{◌≡◌, ◌+◌, ◌≤◌, ◌<◌, ◌^◌, ◌||◌, nat_eq, length, IfOk, MatchResult, Some, None, true};
+ghost use Rattle.std.specs.Prelude.{◌≡◌, ◌+◌, ◌≤◌, ◌<◌, ◌*◌, ◌^◌, ◌||◌, nat_eq, length, IfOk, MatchResult, Some, None, true};
 ghost use Rattle.alma_object.specs.Bytes.{u16_at as u16_there, u32_at as u32_there};
 ghost use Rattle.alma_object.specs.Fault.{or_else};
-ghost use Rattle.alma_object.specs.Header.{IsWithin, header_of, magic_fault, version_fault, count_fault, counts_fault, header_fault};
+ghost use Rattle.alma_object.specs.Header.{IsWithin, header_of, magic_fault, version_fault, count_fault, counts_fault, header_fault, routines_at, globals_at, params_at, runs_at, ranges_at, texts_at, name_pool_at, text_pool_at, instrs_at, lines_at, end_at};
 
 use crate::bytes::{u16_at, u32_at};
 use crate::fault::ObjectFault;
@@ -21,6 +21,86 @@ pub struct Header {
     pub text_bytes: u32,
     pub instrs: u32,
     pub lines: u32,
+}
+
+impl Header {
+    /// The offset of the first record.
+    pub fn routines_at(&self) -> usize
+        ensures within { result < 2 ^ 6 }
+        ensures offset { result ≡ routines_at self.now }
+    {
+        if self.version == 2 { 50 } else { 46 }
+    }
+
+    pub fn globals_at(&self) -> usize
+        ensures within { result < 2 ^ 38 }
+        ensures offset { result ≡ globals_at self.now }
+    {
+        self.routines_at() + 28 * self.routines as usize
+    }
+
+    pub fn params_at(&self) -> usize
+        ensures within { result < 2 ^ 39 }
+        ensures offset { result ≡ params_at self.now }
+    {
+        self.globals_at() + 12 * self.globals as usize
+    }
+
+    pub fn runs_at(&self) -> usize
+        ensures within { result < 2 ^ 40 }
+        ensures offset { result ≡ runs_at self.now }
+    {
+        self.params_at() + 8 * self.params as usize
+    }
+
+    pub fn ranges_at(&self) -> usize
+        ensures within { result < 2 ^ 41 }
+        ensures offset { result ≡ ranges_at self.now }
+    {
+        self.runs_at() + 12 * self.runs as usize
+    }
+
+    pub fn texts_at(&self) -> usize
+        ensures within { result < 2 ^ 42 }
+        ensures offset { result ≡ texts_at self.now }
+    {
+        self.ranges_at() + 16 * self.ranges as usize
+    }
+
+    pub fn name_pool_at(&self) -> usize
+        ensures within { result < 2 ^ 43 }
+        ensures offset { result ≡ name_pool_at self.now }
+    {
+        self.texts_at() + 4 * self.texts as usize
+    }
+
+    pub fn text_pool_at(&self) -> usize
+        ensures within { result < 2 ^ 44 }
+        ensures offset { result ≡ text_pool_at self.now }
+    {
+        self.name_pool_at() + self.name_bytes as usize
+    }
+
+    pub fn instrs_at(&self) -> usize
+        ensures within { result < 2 ^ 45 }
+        ensures offset { result ≡ instrs_at self.now }
+    {
+        self.text_pool_at() + self.text_bytes as usize
+    }
+
+    pub fn lines_at(&self) -> usize
+        ensures within { result < 2 ^ 46 }
+        ensures offset { result ≡ lines_at self.now }
+    {
+        self.instrs_at() + 17 * self.instrs as usize
+    }
+
+    pub fn end_at(&self) -> usize
+        ensures within { result < 2 ^ 47 }
+        ensures offset { result ≡ end_at self.now }
+    {
+        self.lines_at() + 8 * self.lines as usize
+    }
 }
 
 // The count at an offset, with its greatest value.

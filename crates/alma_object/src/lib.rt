@@ -5,5 +5,6 @@ mod bytes;
 mod fault;
 mod header;
 mod instr;
+mod walk;
 
 pub use fault::ObjectFault;
