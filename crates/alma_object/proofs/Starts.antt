@@ -10,4 +10,9 @@ pub start_later : (end : ℕ → ℕ) (k : ℕ) → 0 < k → end (k - 1) ≡ st
 start_later end zero lt = absurd (omega arith)
 start_later end (suc k) lt = let z : suc k - 1 ≡ k = omega arith in ap end z
 
+pub start_next : (end : ℕ → ℕ) (k : ℕ) → start_of end (k + 1) ≡ end k
+start_next end k = let z : k + 1 ≡ suc k = omega arith in ap (start_of end) z
+
+pub ruleset next_starts = (start_next)
+
 pub ruleset starts = (start_first, start_later)

@@ -25,6 +25,10 @@ is_end start end count last = nat_le start end && (nat_le end count && (not last
 abbrev pub is_name_end : (start end count : ℕ) (last : Bool) → Bool
 is_name_end start end count last = nat_lt start end && (nat_le end count && (not last || nat_eq end count))
 
+-- a letter or `_` can stand in a name, and a digit where it is not the first byte
+abbrev pub can_stand : (first : Bool) → ℕ → Bool
+can_stand first byte = is_name_start byte || (not first && is_digit byte)
+
 module _ (bytes : List ℕ) (h : Header) where
   -- the fields of a routine
   abbrev pub routine_field : (field routine : ℕ) → ℕ
@@ -138,10 +142,6 @@ module _ (bytes : List ℕ) (h : Header) where
   texts_fault = first_fault text_fault 0 h.texts
 
   -- ---- the pools
-
-  -- a letter or `_` can stand in a name, and a digit where it is not the first byte
-  abbrev pub can_stand : (first : Bool) → ℕ → Bool
-  can_stand first byte = is_name_start byte || (not first && is_digit byte)
 
   -- of the bytes of a name
   unfoldable pub name_fault : ℕ → Option ObjectFault
