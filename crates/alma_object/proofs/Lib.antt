@@ -1,4 +1,5 @@
 pub mod Appends
 pub mod Faults
+pub mod Kept
 pub mod Records
 pub mod Starts

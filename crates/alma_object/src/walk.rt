@@ -511,3 +511,46 @@ fn lines_fault(bytes: &[u8], header: &Header) -> Option<ObjectFault>
     }
     None
 }
+
+// ---- the sections in order
+
+/// Of the sections behind the header.
+#[tactic(auto, unfolding(crate::specs::Walk::sections_fault))]
+pub fn sections_fault(bytes: &[u8], header: &Header) -> Option<ObjectFault>
+    requires within { IsWithin header.now }
+    requires before { routines_at header.now ≤ length bytes.now }
+    ensures fault { result ≡ sections_fault_of bytes.now header.now }
+    ensures whole { IfNone result (length bytes.now ≡ end_at header.now) }
+{
+    if let Some(fault) = routines_fault(bytes, header) {
+        return Some(fault);
+    }
+    if let Some(fault) = globals_fault(bytes, header) {
+        return Some(fault);
+    }
+    if let Some(fault) = params_fault(bytes, header) {
+        return Some(fault);
+    }
+    if let Some(fault) = runs_fault(bytes, header) {
+        return Some(fault);
+    }
+    if let Some(fault) = ranges_fault(bytes, header) {
+        return Some(fault);
+    }
+    if let Some(fault) = texts_fault(bytes, header) {
+        return Some(fault);
+    }
+    if let Some(fault) = pools_fault(bytes, header) {
+        return Some(fault);
+    }
+    if let Some(fault) = instrs_fault(bytes, header) {
+        return Some(fault);
+    }
+    if let Some(fault) = lines_fault(bytes, header) {
+        return Some(fault);
+    }
+    if bytes.len() > header.end_at() {
+        return Some(ObjectFault::Trailing(header.end_at()));
+    }
+    None
+}
