@@ -7,8 +7,8 @@ use Rattle.alma_object.specs.declared.fault.ObjectFault.{ObjectFault}
 use Rattle.alma_object.specs.declared.fault.ObjectFault.TheVariants as fault
 use Rattle.alma_object.specs.declared.header.Header.{Header}
 use Rattle.alma_object.specs.Fault.{unless, whole, or_else, first_fault}
-use Rattle.alma_object.specs.Header.{IsWithin, routines_at, globals_at}
-use Rattle.alma_object.specs.Walk.{start_of, is_end, is_name_end, params_end, runs_end, code_end, name_end, name_count, routine_field, routine_fault, routines_fault, global_fault, globals_fault}
+use Rattle.alma_object.specs.Header.{IsWithin, routines_at, globals_at, texts_at}
+use Rattle.alma_object.specs.Walk.{start_of, is_end, is_name_end, params_end, runs_end, code_end, name_end, name_count, routine_field, routine_fault, routines_fault, global_fault, globals_fault, text_end, text_fault, params_fault, runs_fault, ranges_fault, texts_fault, pools_fault, instrs_fault, lines_fault, sections_fault}
 
 pub unless_none : (b : Bool) (f : ObjectFault) (rest : Option ObjectFault) → unless b f rest ≡ None → (b ≡ true) × (rest ≡ None)
 unless_none true f rest e = (refl, e)
@@ -145,3 +145,46 @@ module _ (bytes : List ℕ) (h : Header) (some : 1 ≤ h.routines) (none : routi
 
   pub last_code : start_of (code_end bytes h) h.routines ≡ h.instrs
   last_code = start_last (code_end bytes h) h.routines h.instrs (omega arith) ((kept_at (h.routines - 1) (omega arith)).code.last_is)
+
+-- ---- all sections
+
+-- sections without fault
+pub record SectionsKept (bytes : List ℕ) (h : Header) : Type 0 where
+  pub routines : routines_fault bytes h ≡ None
+  pub globals : globals_fault bytes h ≡ None
+  pub params : params_fault bytes h ≡ None
+  pub runs : runs_fault bytes h ≡ None
+  pub ranges : ranges_fault bytes h ≡ None
+  pub texts : texts_fault bytes h ≡ None
+  pub pools : pools_fault bytes h ≡ None
+  pub instrs : instrs_fault bytes h ≡ None
+  pub lines : lines_fault bytes h ≡ None
+
+pub sections_kept : (bytes : List ℕ) (h : Header) → sections_fault bytes h ≡ None → SectionsKept bytes h
+unfolding sections_fault
+sections_kept bytes h e =
+    let a = or_none _ _ e in
+    let b = or_none _ _ a.1 in
+    let c = or_none _ _ b.1 in
+    let d = or_none _ _ c.1 in
+    let f = or_none _ _ d.1 in
+    let g = or_none _ _ f.1 in
+    let i = or_none _ _ g.1 in
+    let j = or_none _ _ i.1 in
+    let k = or_none _ _ j.1 in
+    record { routines = a.0; globals = b.0; params = c.0; runs = d.0; ranges = f.0; texts = g.0; pools = i.0; instrs = j.0; lines = k.0 }
+
+-- a text without fault
+pub text_kept : (bytes : List ℕ) (h : Header) (t : ℕ) → text_fault bytes h t ≡ None → EndFits (start_of (text_end bytes h) t) (text_end bytes h t) h.text_bytes (nat_eq (t + 1) h.texts)
+unfolding text_fault
+text_kept bytes h t e = end_fits _ _ _ _ (unless_none _ _ _ (whole_none bytes (texts_at h + 4 * t + 4) _ e).1).0
+
+module _ (bytes : List ℕ) (h : Header) (none : sections_fault bytes h ≡ None) where
+  pub routine_seen : (r : ℕ) → r < h.routines → RoutineKept bytes h r
+  routine_seen r lt = routine_kept bytes h r (first_none (routine_fault bytes h) 0 h.routines r (sections_kept bytes h none).routines (omega arith) (omega arith))
+
+  pub name_seen : (n : ℕ) → n < h.routines + h.globals → NameKept bytes h n
+  name_seen n lt = name_kept bytes h (sections_kept bytes h none).routines (sections_kept bytes h none).globals n lt
+
+  pub text_seen : (t : ℕ) → t < h.texts → EndFits (start_of (text_end bytes h) t) (text_end bytes h t) h.text_bytes (nat_eq (t + 1) h.texts)
+  text_seen t lt = text_kept bytes h t (first_none (text_fault bytes h) 0 h.texts t (sections_kept bytes h none).texts (omega arith) (omega arith))

@@ -1,5 +1,7 @@
 pub mod Appends
 pub mod Faults
+pub mod Items
 pub mod Kept
 pub mod Records
 pub mod Starts
+pub mod Views

@@ -2,4 +2,6 @@ pub mod Bytes
 pub mod Fault
 pub mod Header
 pub mod Instrs
+pub mod Reading
+pub mod View
 pub mod Walk

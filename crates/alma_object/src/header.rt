@@ -146,7 +146,7 @@ fn read_version(bytes: &[u8]) -> Result<u16, ObjectFault>
 fn read_counts(bytes: &[u8], version: u16) -> Result<Header, ObjectFault>
     requires version { version ≡ u16_there bytes.now 8 }
     requires known { (nat_eq version 1 || nat_eq version 2) ≡ true }
-    ensures header { IfOk result (λ h. (h ≡ header_of bytes.now) × IsWithin h) }
+    ensures header { IfOk result (λ h. (h ≡ header_of bytes.now) × IsWithin h × (routines_at h ≤ length bytes.now)) }
     ensures fault { MatchResult result (λ h. counts_fault bytes.now ≡ None) (λ fault. counts_fault bytes.now ≡ Some fault) }
 {
     let routines = read_count(bytes, 10, 262_144)?;
@@ -171,7 +171,7 @@ fn read_counts(bytes: &[u8], version: u16) -> Result<Header, ObjectFault>
 /// The header of an object, or its first fault.
 #[tactic(auto, unfolding(crate::specs::Header::header_fault))]
 pub fn read_header(bytes: &[u8]) -> Result<Header, ObjectFault>
-    ensures header { IfOk result (λ h. (h ≡ header_of bytes.now) × IsWithin h) }
+    ensures header { IfOk result (λ h. (h ≡ header_of bytes.now) × IsWithin h × (routines_at h ≤ length bytes.now)) }
     ensures fault { MatchResult result (λ h. header_fault bytes.now ≡ None) (λ fault. header_fault bytes.now ≡ Some fault) }
 {
     let version = read_version(bytes)?;

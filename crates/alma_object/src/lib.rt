@@ -5,6 +5,11 @@ mod bytes;
 mod fault;
 mod header;
 mod instr;
+mod record;
+mod routine;
+mod view;
 mod walk;
 
 pub use fault::ObjectFault;
+pub use routine::RoutineView;
+pub use view::ObjectView;

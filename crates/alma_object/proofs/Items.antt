@@ -1,0 +1,21 @@
+-- The items with the numbers below a count.
+use Rattle.std.proofs.Common.{◌≡◌, ℕ, zero, suc, ◌+◌, ◌-◌, ◌<◌, ◌≤◌, List, length, get_or, map, Option, Some, None, refl, sym, ap, ◌∙◌, arith}
+use Rattle.std.specs.Prelude.{slice_get}
+use Rattle.std.specs.List.{range_with_len}
+use Rattle.std.proofs.lemmas.List.FromFn.{length-map-range_with_len, get_or-map-range_with_len}
+use Rattle.std.proofs.lemmas.Option.{slice_get-get_or, slice_get_past}
+use Rattle.alma_object.specs.Reading.{items}
+
+pub length_items : {A : Type 0} (of : ℕ → A) (n : ℕ) → length (items of n) ≡ n
+length_items of n = length-map-range_with_len of 0 n
+
+pub item_at : {A : Type 0} (of : ℕ → A) (n k : ℕ) (d : A) → k < n → get_or (items of n) k d ≡ of k
+item_at of n k d lt = get_or-map-range_with_len of 0 n k k d lt (omega arith)
+
+pub get_item : {A : Type 0} (of : ℕ → A) (n k : ℕ) → k < n → slice_get (items of n) k ≡ Some (of k)
+get_item of n k lt = let within : k < length (items of n) = omega (arith, length_items of n) in slice_get-get_or (items of n) k (of k) within ∙ ap (λ x. Some x) (item_at of n k (of k) lt)
+
+pub get_no_item : {A : Type 0} (of : ℕ → A) (n k : ℕ) → n ≤ k → slice_get (items of n) k ≡ None
+get_no_item of n k le = slice_get_past (items of n) k (omega (arith, length_items of n))
+
+pub ruleset item_steps = (length_items, get_item, get_no_item)

@@ -1,0 +1,22 @@
+// A view of the bytes of an object.
+ghost use Rattle.std.specs.Prelude.{◌≡◌, length, None};
+ghost use Rattle.alma_object.specs.Header.{IsWithin, routines_at as routines_offset, instrs_at as instrs_offset, end_at};
+ghost use Rattle.alma_object.specs.Walk.{sections_fault};
+
+mod readers;
+
+use crate::header::Header;
+
+/// A view of the bytes of an object. It lends them, and each reader takes what it gives straight from them.
+#[derive(Clone, Copy, Debug)]
+pub struct ObjectView<'b> {
+    bytes: &'b [u8],
+    header: Header,
+    routines_at: usize,
+    instrs_at: usize,
+    ghost within: { IsWithin header },
+    ghost none: { sections_fault bytes.now header ≡ None },
+    ghost whole: { length bytes.now ≡ end_at header },
+    ghost routines: { routines_at ≡ routines_offset header },
+    ghost instrs: { instrs_at ≡ instrs_offset header },
+}
