@@ -1,4 +1,5 @@
 pub mod Appends
+pub mod Encoding
 pub mod Faults
 pub mod Items
 pub mod Kept

@@ -3,5 +3,6 @@ pub mod Fault
 pub mod Header
 pub mod Instrs
 pub mod Reading
+pub mod Object
 pub mod View
 pub mod Walk

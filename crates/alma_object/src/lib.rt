@@ -2,6 +2,7 @@
 #![tactic(auto)]
 
 mod bytes;
+mod encode;
 mod fault;
 mod header;
 mod instr;

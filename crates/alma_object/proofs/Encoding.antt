@@ -1,0 +1,91 @@
+-- One record more of a code that is written.
+use Rattle.std.proofs.Common.{◌≡◌, ℕ, zero, suc, ◌+◌, ◌<◌, ◌≤◌, Bool, List, [], ◌∷◌, ◌++◌, length, get_or, take, map, refl, sym, ap, subst, ◌∙◌, append_assoc, arith}
+use Rattle.std.specs.Prelude.{sum_by, if◌then◌else◌}
+use Rattle.std.specs.List.{flat_map, range_with_len}
+use Rattle.std.proofs.lemmas.List.{get_or-map, length-map, append-nil}
+use Rattle.std.proofs.lemmas.List.Sums.{sum_by_more, sum_by-take-le}
+use Rattle.std.proofs.lemmas.List.Concat.{flat_map-append}
+use Rattle.alma_code.specs.declared.code.Code.{Code}
+use Rattle.alma_code.specs.declared.code.CodeGlobal.{CodeGlobal}
+use Rattle.alma_code.specs.declared.code.RoutineHead.{RoutineHead}
+use Rattle.alma_code.specs.Plain.{PlainCode, PlainRoutine, PlainGlobal, code_of, routine_of, global_of, no_routine, routine_at}
+use Rattle.alma_code.specs.Records.{param_count, run_count, name_count, text_count}
+use Rattle.alma_object.specs.Bytes.{words_bytes, u32_bytes}
+use Rattle.alma_object.specs.Object.{section, end_of, routine_bytes, global_bytes, text_end_bytes, no_global}
+
+-- the items of one section, one more
+pub range_more : (a n : ℕ) → range_with_len a (n + 1) ≡ range_with_len a n ++ ((a + n) ∷ [])
+range_more a zero = let z : a ≡ a + 0 = omega arith in ap (λ k. k ∷ []) z
+range_more a (suc n) =
+    let one : suc n + 1 ≡ suc (n + 1) = omega arith in
+    let sum : a + 1 + n ≡ a + suc n = omega arith in
+    ap (range_with_len a) one ∙ ap (λ (t : List ℕ). a ∷ t) (range_more (a + 1) n ∙ ap (λ k. range_with_len (a + 1) n ++ (k ∷ [])) sum)
+
+pub section_more : (each : ℕ → List ℕ) (n : ℕ) → section each (n + 1) ≡ section each n ++ each n
+section_more each n =
+    let zero_sum : 0 + n ≡ n = omega arith in
+    ap (flat_map each) (range_more 0 n ∙ ap (λ k. range_with_len 0 n ++ (k ∷ [])) zero_sum)
+    ∙ flat_map-append each (range_with_len 0 n) (n ∷ []) ∙ ap (λ (t : List ℕ). section each n ++ t) (append-nil (each n))
+
+-- the next record is written
+pub section_next : (each : ℕ → List ℕ) (n : ℕ) (first was now part : List ℕ) → was ≡ first ++ section each n → now ≡ was ++ part → each n ≡ part → now ≡ first ++ section each (n + 1)
+section_next each n first was now part p q r =
+    q ∙ ap (λ (t : List ℕ). t ++ part) p ∙ append_assoc first (section each n) part
+    ∙ ap (λ (t : List ℕ). first ++ t) (sym (section_more each n ∙ ap (λ (t : List ℕ). section each n ++ t) r))
+
+-- the ends of one routine further
+pub record RoutineStep (code : PlainCode) (i : ℕ) (x : RoutineHead) : Type 0 where
+  pub names : sum_by (λ y. length y.name) (take i code.routines) + length x.name.items ≡ sum_by (λ y. length y.name) (take (i + 1) code.routines)
+  pub params : sum_by (λ y. length y.head.params) (take i code.routines) + length x.params.items ≡ sum_by (λ y. length y.head.params) (take (i + 1) code.routines)
+  pub runs : sum_by (λ y. length y.head.runs) (take i code.routines) + length x.kinds.items ≡ sum_by (λ y. length y.head.runs) (take (i + 1) code.routines)
+  pub names_within : sum_by (λ y. length y.name) (take (i + 1) code.routines) ≤ name_count code
+  pub params_within : sum_by (λ y. length y.head.params) (take (i + 1) code.routines) ≤ param_count code
+  pub runs_within : sum_by (λ y. length y.head.runs) (take (i + 1) code.routines) ≤ run_count code
+  pub bytes : routine_bytes code i ≡ words_bytes (
+      sum_by (λ y. length y.name) (take (i + 1) code.routines) ∷ sum_by (λ y. length y.head.params) (take (i + 1) code.routines)
+      ∷ sum_by (λ y. length y.head.runs) (take (i + 1) code.routines) ∷ x.code_end ∷ x.slots ∷ x.declared ∷ (if x.result then 1 else 0) ∷ [])
+
+pub routine_step : (code : Code) (ys : List RoutineHead) (i : ℕ) (x : RoutineHead) → ys ≡ code.routines.items → i < length ys → x ≡ get_or ys i x → RoutineStep (code_of code) i x
+unfolding routine_bytes
+routine_step code ys i x same lt is =
+    let rs = code.routines.items in
+    let plain = map routine_of rs in
+    let lt' : i < length rs = subst (λ (t : List RoutineHead). i < length t) same lt in
+    let is' : x ≡ get_or rs i x = subst (λ (t : List RoutineHead). x ≡ get_or t i x) same is in
+    let there : get_or plain i no_routine ≡ routine_of x = get_or-map routine_of rs i x no_routine lt' ∙ ap routine_of (sym is') in
+    let within : i < length plain = omega (arith, length-map rs routine_of) in
+    let more = λ (f : PlainRoutine → ℕ). sym (sum_by_more f plain i no_routine within ∙ ap (λ y. sum_by f (take i plain) + f y) there) in
+    record {
+      names = more (λ y. length y.name);
+      params = more (λ y. length y.head.params);
+      runs = more (λ y. length y.head.runs);
+      names_within = omega (arith, sum_by-take-le (λ (y : PlainRoutine). length y.name) plain (i + 1));
+      params_within = sum_by-take-le (λ (y : PlainRoutine). length y.head.params) plain (i + 1);
+      runs_within = sum_by-take-le (λ (y : PlainRoutine). length y.head.runs) plain (i + 1);
+      bytes = ap (λ (y : PlainRoutine). words_bytes (
+          end_of (λ z. length z.name) plain i ∷ end_of (λ z. length z.head.params) plain i ∷ end_of (λ z. length z.head.runs) plain i
+          ∷ y.code_end ∷ y.head.slots ∷ y.head.declared ∷ (if y.head.has_result then 1 else 0) ∷ [])) there;
+    }
+
+-- the next ends, and the record with them
+pub record RoutineWritten (code : PlainCode) (i : ℕ) (x : RoutineHead) (names params runs : ℕ) : Type 0 where
+  pub names_are : names ≡ sum_by (λ y. length y.name) (take (i + 1) code.routines)
+  pub params_are : params ≡ sum_by (λ y. length y.head.params) (take (i + 1) code.routines)
+  pub runs_are : runs ≡ sum_by (λ y. length y.head.runs) (take (i + 1) code.routines)
+  pub bytes : routine_bytes code i ≡ words_bytes (names ∷ params ∷ runs ∷ x.code_end ∷ x.slots ∷ x.declared ∷ (if x.result then 1 else 0) ∷ [])
+
+pub routine_written : (code : PlainCode) (i : ℕ) (x : RoutineHead) → RoutineStep code i x → (a b d p q r : ℕ) →
+    a ≡ sum_by (λ y. length y.name) (take i code.routines) → b ≡ sum_by (λ y. length y.head.params) (take i code.routines) → d ≡ sum_by (λ y. length y.head.runs) (take i code.routines) →
+    p ≡ length x.name.items → q ≡ length x.params.items → r ≡ length x.kinds.items → RoutineWritten code i x (a + p) (b + q) (d + r)
+routine_written code i x step a b d p q r ea eb ed ep eq er =
+    let names : a + p ≡ sum_by (λ y. length y.name) (take (i + 1) code.routines) = ap (λ k. k + p) ea ∙ ap (λ k. sum_by (λ y. length y.name) (take i code.routines) + k) ep ∙ step.names in
+    let params : b + q ≡ sum_by (λ y. length y.head.params) (take (i + 1) code.routines) = ap (λ k. k + q) eb ∙ ap (λ k. sum_by (λ y. length y.head.params) (take i code.routines) + k) eq ∙ step.params in
+    let runs : d + r ≡ sum_by (λ y. length y.head.runs) (take (i + 1) code.routines) = ap (λ k. k + r) ed ∙ ap (λ k. sum_by (λ y. length y.head.runs) (take i code.routines) + k) er ∙ step.runs in
+    let rest = x.code_end ∷ x.slots ∷ x.declared ∷ (if x.result then 1 else 0) ∷ [] in
+    record {
+      names_are = names; params_are = params; runs_are = runs;
+      bytes = step.bytes
+        ∙ ap (λ k. words_bytes (k ∷ sum_by (λ y. length y.head.params) (take (i + 1) code.routines) ∷ sum_by (λ y. length y.head.runs) (take (i + 1) code.routines) ∷ rest)) (sym names)
+        ∙ ap (λ k. words_bytes ((a + p) ∷ k ∷ sum_by (λ y. length y.head.runs) (take (i + 1) code.routines) ∷ rest)) (sym params)
+        ∙ ap (λ k. words_bytes ((a + p) ∷ (b + q) ∷ k ∷ rest)) (sym runs);
+    }
