@@ -89,3 +89,67 @@ routine_written code i x step a b d p q r ea eb ed ep eq er =
         ∙ ap (λ k. words_bytes ((a + p) ∷ k ∷ sum_by (λ y. length y.head.runs) (take (i + 1) code.routines) ∷ rest)) (sym params)
         ∙ ap (λ k. words_bytes ((a + p) ∷ (b + q) ∷ k ∷ rest)) (sym runs);
     }
+
+-- ---- lists of a code in memory
+
+pub flat_map-map : {A B C : Type 0} (f : B → List C) (g : A → B) (xs : List A) → flat_map f (map g xs) ≡ flat_map (λ x. f (g x)) xs
+flat_map-map f g [] = refl
+flat_map-map {C = C} f g (x ∷ xs) = ap (λ (t : List C). f (g x) ++ t) (flat_map-map f g xs)
+
+-- one global further, whose name ends where the names of the routines end and len more
+pub record GlobalWritten (code : PlainCode) (i : ℕ) (x : CodeGlobal) (end : ℕ) : Type 0 where
+  pub names : end ≡ sum_by (λ y. length y.name) code.routines + sum_by (λ y. length y.name) (take (i + 1) code.globals)
+  pub within : end ≤ name_count code
+  pub bytes : global_bytes code i ≡ words_bytes (end ∷ x.slot ∷ x.cells ∷ [])
+
+pub global_written : (code : Code) (ys : List CodeGlobal) (i : ℕ) (x : CodeGlobal) (a p : ℕ) → ys ≡ code.globals.items → i < length ys → x ≡ get_or ys i x →
+    a ≡ sum_by (λ y. length y.name) (code_of code).routines + sum_by (λ y. length y.name) (take i (code_of code).globals) → p ≡ length x.name.items → GlobalWritten (code_of code) i x (a + p)
+unfolding global_bytes
+global_written code ys i x a p same lt is ea ep =
+    let gs = code.globals.items in
+    let plain = map global_of gs in
+    let routines = (code_of code).routines in
+    let lt' : i < length gs = subst (λ (t : List CodeGlobal). i < length t) same lt in
+    let is' : x ≡ get_or gs i x = subst (λ (t : List CodeGlobal). x ≡ get_or t i x) same is in
+    let there : get_or plain i no_global ≡ global_of x = get_or-map global_of gs i x no_global lt' ∙ ap global_of (sym is') in
+    let within : i < length plain = omega (arith, length-map gs global_of) in
+    let more : sum_by (λ (y : PlainGlobal). length y.name) (take (i + 1) plain) ≡ sum_by (λ (y : PlainGlobal). length y.name) (take i plain) + length x.name.items =
+        sum_by_more (λ (y : PlainGlobal). length y.name) plain i no_global within ∙ ap (λ (y : PlainGlobal). sum_by (λ (z : PlainGlobal). length z.name) (take i plain) + length y.name) there in
+    let sum : a + p ≡ sum_by (λ (y : PlainRoutine). length y.name) routines + sum_by (λ (y : PlainGlobal). length y.name) (take (i + 1) plain) = omega arith in
+    record {
+      names = sum;
+      within = omega (arith, sum_by-take-le (λ (y : PlainGlobal). length y.name) plain (i + 1));
+      bytes = ap (λ (y : PlainGlobal). words_bytes ((sum_by (λ (z : PlainRoutine). length z.name) routines + end_of (λ (z : PlainGlobal). length z.name) plain i) ∷ y.slot ∷ y.cells ∷ [])) there
+        ∙ ap (λ k. words_bytes (k ∷ x.slot ∷ x.cells ∷ [])) (sym sum);
+    }
+
+-- one text further
+pub record TextWritten (code : PlainCode) (i : ℕ) (end : ℕ) : Type 0 where
+  pub ends : end ≡ sum_by length (take (i + 1) code.texts)
+  pub within : end ≤ text_count code
+  pub bytes : text_end_bytes code i ≡ words_bytes (end ∷ [])
+
+pub text_written : {V : Type 0} (code : PlainCode) (bytes_of : V → List ℕ) (rows ys : List V) (i : ℕ) (x : V) (a p : ℕ) → code.texts ≡ map bytes_of rows → ys ≡ rows → i < length ys → x ≡ get_or ys i x →
+    a ≡ sum_by length (take i code.texts) → p ≡ length (bytes_of x) → TextWritten code i (a + p)
+unfolding text_end_bytes
+text_written {V = V} code bytes_of rows ys i x a p texts same lt is ea ep =
+    let lt' : i < length rows = subst (λ (t : List V). i < length t) same lt in
+    let is' : x ≡ get_or rows i x = subst (λ (t : List V). x ≡ get_or t i x) same is in
+    let there : get_or code.texts i [] ≡ bytes_of x = ap (λ (t : List (List ℕ)). get_or t i []) texts ∙ get_or-map bytes_of rows i x [] lt' ∙ ap bytes_of (sym is') in
+    let within : i < length code.texts = omega (arith, length-map rows bytes_of, ap length texts) in
+    let more : sum_by length (take (i + 1) code.texts) ≡ sum_by length (take i code.texts) + length (bytes_of x) =
+        sum_by_more length code.texts i [] within ∙ ap (λ (y : List ℕ). sum_by length (take i code.texts) + length y) there in
+    let sum : a + p ≡ sum_by length (take (i + 1) code.texts) = omega arith in
+    record {
+      ends = sum;
+      within = omega (arith, sum_by-take-le length code.texts (i + 1));
+      bytes = ap (λ k. words_bytes (k ∷ [])) (sym sum);
+    }
+
+
+-- three parts, each appended to what was there
+pub three_parts : (o n1 n2 n3 a b d x y z : List ℕ) → n1 ≡ o ++ a → n2 ≡ n1 ++ b → n3 ≡ n2 ++ d → a ≡ x → b ≡ y → d ≡ z → n3 ≡ o ++ (x ++ (y ++ z))
+three_parts o n1 n2 n3 a b d x y z p q r ea eb ed =
+    r ∙ ap (λ (t : List ℕ). t ++ d) (q ∙ ap (λ (t : List ℕ). t ++ b) p)
+    ∙ append_assoc (o ++ a) b d ∙ append_assoc o a (b ++ d)
+    ∙ ap (λ (t : List ℕ). o ++ (t ++ (b ++ d))) ea ∙ ap (λ (t : List ℕ). o ++ (x ++ (t ++ d))) eb ∙ ap (λ (t : List ℕ). o ++ (x ++ (y ++ t))) ed

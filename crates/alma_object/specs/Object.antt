@@ -76,7 +76,7 @@ module _ (code : PlainCode) where
 
   -- the end of a text
   unfoldable pub text_end_bytes : ℕ → List ℕ
-  text_end_bytes t = u32_bytes (end_of length code.texts t)
+  text_end_bytes t = words_bytes (end_of length code.texts t ∷ [])
 
 unfoldable pub param_bytes : CodeParam → List ℕ
 param_bytes p = words_bytes (param_number p.kind ∷ p.cells ∷ [])

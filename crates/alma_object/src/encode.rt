@@ -74,3 +74,176 @@ fn push_routines(out: &mut Vec<u8>, code: &Code) -> Result<(), NoMemory>
     }
     Ok(())
 }
+
+// The records of the globals.
+fn push_globals(out: &mut Vec<u8>, code: &Code, name_start: u32) -> Result<(), NoMemory>
+    requires counts { KeepsCounts (code_of code.now) }
+    requires start { name_start ≡ sum_by (λ r. length r.name) (code_of code.now).routines }
+    ensures { OnOk result (out.new.items ≡ out.old.items ++ section (global_bytes (code_of code.now)) (length (code_of code.now).globals)) }
+{
+    let mut name_end = name_start;
+    for global in &code.globals {
+        name_end += global.name.len() as u32;
+        push_words(out, &[name_end, global.slot, global.cells])?;
+    }
+    Ok(())
+}
+
+#[tactic(auto, unfolding(crate::specs::Object::param_bytes))]
+fn push_param(out: &mut Vec<u8>, param: CodeParam) -> Result<(), NoMemory>
+    ensures { OnOk result (out.new.items ≡ out.old.items ++ param_bytes param) }
+{
+    push_words(out, &[param_number(param.kind), param.cells])?;
+    Ok(())
+}
+
+fn push_params(out: &mut Vec<u8>, params: &[CodeParam]) -> Result<(), NoMemory>
+    ensures { OnOk result (out.new.items ≡ out.old.items ++ flat_map param_bytes params.now) }
+{
+    for param in params {
+        push_param(out, *param)?;
+    }
+    Ok(())
+}
+
+// The params of the routines.
+fn push_all_params(out: &mut Vec<u8>, code: &Code) -> Result<(), NoMemory>
+    ensures { OnOk result (out.new.items ≡ out.old.items ++ flat_map param_bytes (flat_map (λ r. r.head.params) (code_of code.now).routines)) }
+{
+    for routine in &code.routines {
+        push_params(out, &routine.params)?;
+    }
+    Ok(())
+}
+
+#[tactic(auto, unfolding(crate::specs::Object::run_bytes))]
+fn push_run(out: &mut Vec<u8>, run: Run) -> Result<(), NoMemory>
+    ensures { OnOk result (out.new.items ≡ out.old.items ++ run_bytes run) }
+{
+    push_words(out, &[slot_number(run.kind), slot_size(run.kind), run.end])?;
+    Ok(())
+}
+
+fn push_runs(out: &mut Vec<u8>, runs: &[Run]) -> Result<(), NoMemory>
+    ensures { OnOk result (out.new.items ≡ out.old.items ++ flat_map run_bytes runs.now) }
+{
+    for run in runs {
+        push_run(out, *run)?;
+    }
+    Ok(())
+}
+
+// The runs of the routines.
+fn push_all_runs(out: &mut Vec<u8>, code: &Code) -> Result<(), NoMemory>
+    ensures { OnOk result (out.new.items ≡ out.old.items ++ flat_map run_bytes (flat_map (λ r. r.head.runs) (code_of code.now).routines)) }
+{
+    for routine in &code.routines {
+        push_runs(out, &routine.kinds)?;
+    }
+    Ok(())
+}
+
+#[tactic(auto, unfolding(crate::specs::Object::range_bytes))]
+fn push_range(out: &mut Vec<u8>, range: Range) -> Result<(), NoMemory>
+    ensures { OnOk result (out.new.items ≡ out.old.items ++ range_bytes range) }
+{
+    push_i64(out, range.low)?;
+    push_i64(out, range.high)?;
+    Ok(())
+}
+
+fn push_ranges(out: &mut Vec<u8>, ranges: &[Range]) -> Result<(), NoMemory>
+    ensures { OnOk result (out.new.items ≡ out.old.items ++ flat_map range_bytes ranges.now) }
+{
+    for range in ranges {
+        push_range(out, *range)?;
+    }
+    Ok(())
+}
+
+// The ends of the texts.
+fn push_text_ends(out: &mut Vec<u8>, code: &Code) -> Result<(), NoMemory>
+    requires { KeepsCounts (code_of code.now) }
+    ensures { OnOk result (out.new.items ≡ out.old.items ++ section (text_end_bytes (code_of code.now)) (length (code_of code.now).texts)) }
+{
+    let mut end: u32 = 0;
+    for text in &code.texts {
+        end += text.len() as u32;
+        push_words(out, &[end])?;
+    }
+    Ok(())
+}
+
+// The bytes of the names and of the texts.
+fn push_pools(out: &mut Vec<u8>, code: &Code) -> Result<(), NoMemory>
+    ensures { OnOk result (out.new.items ≡ out.old.items ++ pool_bytes (code_of code.now)) }
+{
+    for routine in &code.routines {
+        out.extend_from_slice(&routine.name)?;
+    }
+    for global in &code.globals {
+        out.extend_from_slice(&global.name)?;
+    }
+    for text in &code.texts {
+        out.extend_from_slice(text)?;
+    }
+    Ok(())
+}
+
+fn push_instrs(out: &mut Vec<u8>, instrs: &[Instr]) -> Result<(), NoMemory>
+    ensures { OnOk result (out.new.items ≡ out.old.items ++ flat_map instr_bytes instrs.now) }
+{
+    for instr in instrs {
+        push_instr(out, *instr)?;
+    }
+    Ok(())
+}
+
+#[tactic(auto, unfolding(crate::specs::Object::line_bytes))]
+fn push_line(out: &mut Vec<u8>, line: Line) -> Result<(), NoMemory>
+    ensures { OnOk result (out.new.items ≡ out.old.items ++ line_bytes line) }
+{
+    push_words(out, &[line.at, line.line])?;
+    Ok(())
+}
+
+fn push_lines(out: &mut Vec<u8>, lines: &[Line]) -> Result<(), NoMemory>
+    ensures { OnOk result (out.new.items ≡ out.old.items ++ flat_map line_bytes lines.now) }
+{
+    for line in lines {
+        push_line(out, *line)?;
+    }
+    Ok(())
+}
+
+// The magic, the version and the counts.
+#[tactic(auto, unfolding(crate::specs::Object::header_bytes, crate::specs::Bytes::u16_bytes))]
+fn push_header(out: &mut Vec<u8>, code: &Code, params: u32, runs: u32, names: u32, texts: u32) -> Result<(), NoMemory>
+    requires counts { KeepsCounts (code_of code.now) }
+    requires params { params ≡ param_count_of (code_of code.now) }
+    requires runs { runs ≡ run_count_of (code_of code.now) }
+    requires names { names ≡ name_count_of (code_of code.now) }
+    requires texts { texts ≡ text_count_of (code_of code.now) }
+    ensures { OnOk result (out.new.items ≡ out.old.items ++ header_bytes (code_of code.now)) }
+{
+    out.extend_from_slice(b"ALMA0OBJ")?;
+    out.extend_from_slice(&code.version.to_le_bytes())?;
+    push_words(
+        out,
+        &[
+            code.routines.len() as u32,
+            code.globals.len() as u32,
+            params,
+            runs,
+            code.ranges.len() as u32,
+            code.texts.len() as u32,
+            names,
+            texts,
+            code.code.len() as u32,
+        ],
+    )?;
+    if code.version == 2 {
+        push_words(out, &[code.lines.len() as u32])?;
+    }
+    Ok(())
+}
