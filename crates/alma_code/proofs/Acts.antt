@@ -580,6 +580,12 @@ module _ (code : PlainCode) where
   slot_kept rs qs f slot.Mark cell.Unknown same h = h
   slot_kept rs qs f slot.Mark (cell.Int v) same h = h
   slot_kept rs qs f slot.Mark (cell.Place p) same h = h
+  slot_kept rs qs f (slot.Link r) (cell.Place p) same h =
+      record { frame = h.frame; routine = same p.frame h.frame ∙ h.routine; slot = h.slot; len = h.len }
+  slot_kept rs qs f (slot.Link r) cell.Unset same h = h
+  slot_kept rs qs f (slot.Link r) cell.Unknown same h = h
+  slot_kept rs qs f (slot.Link r) (cell.Int v) same h = h
+  slot_kept rs qs f (slot.Link r) (cell.Mark m) same h = h
 
   -- a frame that fits, after frames above it came or went
   pub frame_kept : (rs qs : List ℕ) (f : ℕ) (fr : PlainFrame) → ((g : ℕ) → g ≤ f → get_or qs g 0 ≡ get_or rs g 0) → FitsFrame code rs f fr → FitsFrame code qs f fr

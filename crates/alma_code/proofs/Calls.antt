@@ -22,14 +22,14 @@ use Rattle.std.proofs.lemmas.List.{map-append}
 use Rattle.alma_code.specs.declared.instr.Instr.TheVariants as I
 use Rattle.alma_base.specs.declared.fault.RunFault.TheVariants as fault
 use Rattle.alma_code.specs.Plain.{PlainCode, no_routine, routine_at, head_at, kinds_at, start_at, end_at}
-use Rattle.alma_code.specs.Kinds.{is_number, is_place_of, numbers_from}
+use Rattle.alma_code.specs.Kinds.{is_number, is_place_of, is_link_of, numbers_from}
 use Rattle.alma_code.specs.Layout.{holds_param, hold_params, param_slots}
 use Rattle.alma_code.specs.Rules.{fits_argument, has_position, kind_in, is_free, is_address, rule_10, IsSound, is_main, fit_arguments, holds_first, holds_result, can_call}
 use Rattle.alma_base.specs.Choice.{if_true}
 use Rattle.alma_code.specs.Picture.{live_cells}
 use Rattle.alma_code.specs.Machine.{State, Stepped, top, stuck, as_argument, arguments, as_routine, entered, numbers_at, slot_of}
-use Rattle.alma_code.specs.Fits.{routines_of, IsPosition, FitsFrame, FitsFrames, IsContent, IsCell, IsPlace, FitsSlot}
-use Rattle.alma_code.proofs.Heads.{place_of_is, number_is}
+use Rattle.alma_code.specs.Fits.{routines_of, IsPosition, FitsFrame, FitsFrames, IsContent, IsCell, IsPlace, IsLink, FitsSlot}
+use Rattle.alma_code.proofs.Heads.{place_of_is, number_is, link_of_is}
 use Rattle.alma_code.proofs.Ready.{Ready, Good, if_true_keeps, went_good, fault_good, has_slot, number_there, number_at_is, content_is}
 use Rattle.alma_code.proofs.Acts.{Here, cell_kept, frame_kept, frame_live, numbers_from_at, top_is}
 
@@ -44,13 +44,15 @@ module _ (code : PlainCode) where
 
   -- the content of a number slot is read as an argument
   value_good : (r : ℕ) (s : State) (n : ℕ) (kind : ParamKind) (c : Cell) (k : Cell → Stepped) → Ready code r s → (kind ≡ param.Value) ⊎ (kind ≡ param.Mix) → IsContent c →
-      ((c : Cell) → FitsParam (IsPlace code (routines_of s.now) (top s)) kind n c → Good code (k c)) → Good code (as_argument kind n (Some c) s k)
+      ((c : Cell) → FitsParam (IsPlace code (routines_of s.now) (top s)) (IsLink code (routines_of s.now) (top s)) kind n c → Good code (k c)) → Good code (as_argument kind n (Some c) s k)
   value_good r s n param.Value (cell.Int v) k h w f good = good (cell.Int v) tt
   value_good r s n param.Mix (cell.Int v) k h w f good = good (cell.Int v) tt
   value_good r s n param.Place (cell.Int v) k h w f good = absurd (elim w [ inl e ↦ cc | inr e ↦ cc ])
   value_good r s n param.Cells (cell.Int v) k h w f good = absurd (elim w [ inl e ↦ cc | inr e ↦ cc ])
   value_good r s n param.Value cell.Unknown k h w f good = record { frames = h.frames; held = h.held; mode = tt }
   value_good r s n param.Mix cell.Unknown k h w f good = record { frames = h.frames; held = h.held; mode = tt }
+  value_good r s n param.Link (cell.Int v) k h w f good = absurd (elim w [ inl e ↦ cc | inr e ↦ cc ])
+  value_good r s n param.Link cell.Unknown k h w f good = record { frames = h.frames; held = h.held; mode = tt }
   value_good r s n param.Place cell.Unknown k h w f good = record { frames = h.frames; held = h.held; mode = tt }
   value_good r s n param.Cells cell.Unknown k h w f good = record { frames = h.frames; held = h.held; mode = tt }
   value_good r s n kind cell.Unset k h w f good = absurd f
@@ -63,11 +65,21 @@ module _ (code : PlainCode) where
   size_of param.Place n = n
   size_of param.Cells n = n
   size_of param.Mix n = 1
+  size_of param.Link n = n
+
+  -- the argument of such a parameter may be a place that is no link
+  abbrev TakesPlace : ParamKind → Type 0
+  TakesPlace param.Place = Unit {0}
+  TakesPlace param.Mix = Unit {0}
+  TakesPlace param.Cells = Unit {0}
+  TakesPlace param.Value = ⊥
+  TakesPlace param.Link = ⊥
 
   -- the cell of a place slot is read as an argument
-  spot_good : (r : ℕ) (s : State) (n : ℕ) (kind : ParamKind) (c : Cell) (k : Cell → Stepped) → Ready code r s → (kind ≡ param.Value → ⊥) → FitsSlot code (routines_of s.now) (top s) (slot.Place (size_of kind n)) c →
-      ((c : Cell) → FitsParam (IsPlace code (routines_of s.now) (top s)) kind n c → Good code (k c)) → Good code (as_argument kind n (Some c) s k)
-  spot_good r s n param.Value c k h w f good = absurd (w refl)
+  spot_good : (r : ℕ) (s : State) (n : ℕ) (kind : ParamKind) (c : Cell) (k : Cell → Stepped) → Ready code r s → TakesPlace kind → FitsSlot code (routines_of s.now) (top s) (slot.Place (size_of kind n)) c →
+      ((c : Cell) → FitsParam (IsPlace code (routines_of s.now) (top s)) (IsLink code (routines_of s.now) (top s)) kind n c → Good code (k c)) → Good code (as_argument kind n (Some c) s k)
+  spot_good r s n param.Value c k h w f good = absurd w
+  spot_good r s n param.Link c k h w f good = absurd w
   spot_good r s n param.Mix (cell.Place p) k h w f good =
       subst (λ b. Good code (if_true b (λ _. k (cell.Place p)) (λ _. stuck s))) (sym (eq-eqb p.len 1 f.0)) (good (cell.Place p) f)
   spot_good r s n param.Place (cell.Place p) k h w f good =
@@ -90,35 +102,53 @@ module _ (code : PlainCode) where
 
   -- a number slot is read as an argument
   number_argument : (r : ℕ) (s : State) (i n : ℕ) (kind : ParamKind) (k : Cell → Stepped) → Ready code r s → (kind ≡ param.Value) ⊎ (kind ≡ param.Mix) → is_number (kind_in code r i) ≡ true →
-      ((c : Cell) → FitsParam (IsPlace code (routines_of s.now) (top s)) kind n c → Good code (k c)) → Good code (as_argument kind n (slot_of s i) s k)
+      ((c : Cell) → FitsParam (IsPlace code (routines_of s.now) (top s)) (IsLink code (routines_of s.now) (top s)) kind n c → Good code (k c)) → Good code (as_argument kind n (slot_of s i) s k)
   number_argument r s i n kind k h w e good =
       let has = has_slot code r s i slot.Number h (number_is (kind_in code r i) e) in
       subst (λ o. Good code (as_argument kind n o s k)) (sym has.is) (value_good r s n kind has.cell k h w has.fits good)
 
   -- a place slot is read as an argument
-  place_argument : (r : ℕ) (s : State) (i n : ℕ) (kind : ParamKind) (k : Cell → Stepped) → Ready code r s → (kind ≡ param.Value → ⊥) → is_place_of (size_of kind n) (kind_in code r i) ≡ true →
-      ((c : Cell) → FitsParam (IsPlace code (routines_of s.now) (top s)) kind n c → Good code (k c)) → Good code (as_argument kind n (slot_of s i) s k)
+  place_argument : (r : ℕ) (s : State) (i n : ℕ) (kind : ParamKind) (k : Cell → Stepped) → Ready code r s → TakesPlace kind → is_place_of (size_of kind n) (kind_in code r i) ≡ true →
+      ((c : Cell) → FitsParam (IsPlace code (routines_of s.now) (top s)) (IsLink code (routines_of s.now) (top s)) kind n c → Good code (k c)) → Good code (as_argument kind n (slot_of s i) s k)
   place_argument r s i n kind k h w e good =
       let has = has_slot code r s i (slot.Place (size_of kind n)) h (place_of_is (size_of kind n) (kind_in code r i) e) in
       subst (λ o. Good code (as_argument kind n o s k)) (sym has.is) (spot_good r s n kind has.cell k h w has.fits good)
 
+  -- the cell of a link slot is read as an argument
+  link_cell_good : (r : ℕ) (s : State) (n : ℕ) (c : Cell) (k : Cell → Stepped) → Ready code r s → FitsSlot code (routines_of s.now) (top s) (slot.Link n) c →
+      ((c : Cell) → FitsParam (IsPlace code (routines_of s.now) (top s)) (IsLink code (routines_of s.now) (top s)) param.Link n c → Good code (k c)) → Good code (as_argument param.Link n (Some c) s k)
+  link_cell_good r s n (cell.Place p) k h f good =
+      subst (λ b. Good code (if_true b (λ _. k (cell.Place p)) (λ _. stuck s))) (sym (and_from (nat_eq p.slot 0) (nat_eq p.len 0) (eq-eqb p.slot 0 f.slot) (eq-eqb p.len 0 f.len))) (good (cell.Place p) (f.slot, f.len, f))
+  link_cell_good r s n cell.Unset k h f good = record { frames = h.frames; held = h.held; mode = tt }
+  link_cell_good r s n cell.Unknown k h f good = absurd f
+  link_cell_good r s n (cell.Int v) k h f good = absurd f
+  link_cell_good r s n (cell.Mark m) k h f good = absurd f
+
+  -- a link slot is read as an argument
+  link_argument : (r : ℕ) (s : State) (i n : ℕ) (k : Cell → Stepped) → Ready code r s → is_link_of n (kind_in code r i) ≡ true →
+      ((c : Cell) → FitsParam (IsPlace code (routines_of s.now) (top s)) (IsLink code (routines_of s.now) (top s)) param.Link n c → Good code (k c)) → Good code (as_argument param.Link n (slot_of s i) s k)
+  link_argument r s i n k h e good =
+      let has = has_slot code r s i (slot.Link n) h (link_of_is n (kind_in code r i) e) in
+      subst (λ o. Good code (as_argument param.Link n o s k)) (sym has.is) (link_cell_good r s n has.cell k h has.fits good)
+
   -- a slot that can be the argument of a parameter is read as one
   argument_good : (r : ℕ) (s : State) (i n : ℕ) (kind : ParamKind) (k : Cell → Stepped) → Ready code r s → fits_argument code r kind n i ≡ true →
-      ((c : Cell) → FitsParam (IsPlace code (routines_of s.now) (top s)) kind n c → Good code (k c)) → Good code (as_argument kind n (slot_of s i) s k)
+      ((c : Cell) → FitsParam (IsPlace code (routines_of s.now) (top s)) (IsLink code (routines_of s.now) (top s)) kind n c → Good code (k c)) → Good code (as_argument kind n (slot_of s i) s k)
   argument_good r s i n param.Value k h e good = number_argument r s i n param.Value k h (inl refl) e good
-  argument_good r s i n param.Place k h e good = place_argument r s i n param.Place k h (λ q. cc) e good
-  argument_good r s i n param.Cells k h e good = place_argument r s i n param.Cells k h (λ q. cc) e good
+  argument_good r s i n param.Place k h e good = place_argument r s i n param.Place k h tt e good
+  argument_good r s i n param.Cells k h e good = place_argument r s i n param.Cells k h tt e good
+  argument_good r s i n param.Link k h e good = link_argument r s i n k h e good
   argument_good r s i n param.Mix k h e good =
       elim (or_cases (is_number (kind_in code r i)) (is_place_of 1 (kind_in code r i)) e) [
         | inl a ↦ number_argument r s i n param.Mix k h (inr refl) a good
-        | inr a ↦ place_argument r s i n param.Mix k h (λ q. cc) a good
+        | inr a ↦ place_argument r s i n param.Mix k h tt a good
       ]
 
   -- one argument more that fits one parameter more
-  one_more : (rs : List ℕ) (f : ℕ) (p : CodeParam) (ps : List CodeParam) (c : Cell) (cs : List Cell) → FitsParam (IsPlace code rs f) p.kind p.cells c → FitsParams (IsPlace code rs f) ps cs → FitsParams (IsPlace code rs f) (p ∷ ps) (c ∷ cs)
+  one_more : (rs : List ℕ) (f : ℕ) (p : CodeParam) (ps : List CodeParam) (c : Cell) (cs : List Cell) → FitsParam (IsPlace code rs f) (IsLink code rs f) p.kind p.cells c → FitsParams (IsPlace code rs f) (IsLink code rs f) ps cs → FitsParams (IsPlace code rs f) (IsLink code rs f) (p ∷ ps) (c ∷ cs)
   one_more rs f p ps c cs a h = record {
     count = ap suc h.count;
-    each = λ k. elim k as (λ k. k < length (p ∷ ps) → FitsParam (IsPlace code rs f) (get_or (p ∷ ps) k no_param).kind (get_or (p ∷ ps) k no_param).cells (get_or (c ∷ cs) k cell.Unknown)) [
+    each = λ k. elim k as (λ k. k < length (p ∷ ps) → FitsParam (IsPlace code rs f) (IsLink code rs f) (get_or (p ∷ ps) k no_param).kind (get_or (p ∷ ps) k no_param).cells (get_or (c ∷ cs) k cell.Unknown)) [
       | zero ↦ λ _. a
       | suc j ↦ λ lt. h.each j (omega arith)
     ];
@@ -126,7 +156,7 @@ module _ (code : PlainCode) where
 
   -- the argument slots of a call are read
   pub arguments_good : (r : ℕ) (s : State) (ps : List CodeParam) (i : ℕ) (k : List Cell → Stepped) → Ready code r s → fit_arguments code r ps i ≡ true →
-      ((cs : List Cell) → FitsParams (IsPlace code (routines_of s.now) (top s)) ps cs → Good code (k cs)) → Good code (arguments ps s i k)
+      ((cs : List Cell) → FitsParams (IsPlace code (routines_of s.now) (top s)) (IsLink code (routines_of s.now) (top s)) ps cs → Good code (k cs)) → Good code (arguments ps s i k)
   arguments_good r s [] i k h e good = good [] (record { count = refl; each = λ j lt. absurd (omega arith) })
   arguments_good r s (p ∷ ps) i k h e good =
       let x = and_parts (is_free code r i && fits_argument code r p.kind p.cells i) (fit_arguments code r ps (suc i)) e in
@@ -176,6 +206,12 @@ module _ (code : PlainCode) where
       frame = omega (arith, fits.frame);
       cells = λ k lt. cell_kept code (routines_of s.now) rs p.frame (p.slot + k) (under p.frame (frame_live code r s p h fits)) (fits.cells k lt);
     }
+
+    -- and so is a link
+    link_moved : (q : ℕ) (p : CellPlace) → IsLink code (routines_of s.now) (top s) q p → IsLink code rs me q p
+    link_moved q p fits =
+        let lt : p.frame < me = omega (arith, h.frames.some, fits.frame) in
+        record { frame = omega (arith, fits.frame); routine = under p.frame lt ∙ fits.routine; slot = fits.slot; len = fits.len }
 
     -- one cell that fits its slot
     one_slot : (at : ℕ) (k : SlotKind) (x : Cell) → slice_get kinds at ≡ Some k → FitsSlot code rs me k x → FitsFrom at (x ∷ [])
@@ -247,7 +283,7 @@ module _ (code : PlainCode) where
         omega arith
 
     -- the cells of one argument
-    argument_fits : (at n : ℕ) (kind : ParamKind) (x : Cell) → at ≤ length kinds → holds_param (kinds_at code c) kind n at ≡ true → FitsParam (IsPlace code (routines_of s.now) (top s)) kind n x →
+    argument_fits : (at n : ℕ) (kind : ParamKind) (x : Cell) → at ≤ length kinds → holds_param (kinds_at code c) kind n at ≡ true → FitsParam (IsPlace code (routines_of s.now) (top s)) (IsLink code (routines_of s.now) (top s)) kind n x →
         FitsFrom at (arg_cells fs me at kind x) × (length (arg_cells fs me at kind x) ≡ param_slots kind n)
     argument_fits at n param.Value (cell.Int v) le e f = (one_slot at slot.Number (cell.Int v) (number_is (kind_in code c at) e) tt, refl)
     argument_fits at n param.Place (cell.Place p) le e f =
@@ -279,6 +315,12 @@ module _ (code : PlainCode) where
               (subst (λ q. FitsFrom q (cell.Int v ∷ [])) next (one_slot (suc at) slot.Number (cell.Int v) number tt)),
           refl,
         )
+    argument_fits at n param.Link (cell.Place p) le e f =
+        (one_slot at (slot.Link n) (cell.Place p) (link_of_is n (kind_in code c at) e) (link_moved n p f.2), refl)
+    argument_fits at n param.Link (cell.Int v) le e f = absurd f
+    argument_fits at n param.Link cell.Unknown le e f = absurd f
+    argument_fits at n param.Link cell.Unset le e f = absurd f
+    argument_fits at n param.Link (cell.Mark m) le e f = absurd f
     argument_fits at n param.Value (cell.Place p) le e f = absurd f
     argument_fits at n param.Place (cell.Int v) le e f = absurd f
     argument_fits at n param.Cells (cell.Int v) le e f = absurd f
@@ -301,7 +343,7 @@ module _ (code : PlainCode) where
       pub rest : hold_params (kinds_at code c) (drop n ps) (length (args_cells fs ps args n)) ≡ true
 
     -- the arguments fill the slots of their parameters, one after another
-    begun : (ps : List CodeParam) (args : List Cell) (n : ℕ) → n ≤ length ps → hold_params (kinds_at code c) ps 0 ≡ true → FitsParams (IsPlace code (routines_of s.now) (top s)) ps args → Begun ps args n
+    begun : (ps : List CodeParam) (args : List Cell) (n : ℕ) → n ≤ length ps → hold_params (kinds_at code c) ps 0 ≡ true → FitsParams (IsPlace code (routines_of s.now) (top s)) (IsLink code (routines_of s.now) (top s)) ps args → Begun ps args n
     begun ps args zero le e f = record { fits = record { within = omega arith; each = λ j lt. absurd (omega arith) }; rest = e }
     begun ps args (suc n) le e f =
         let b = begun ps args n (omega arith) e f in
@@ -324,6 +366,7 @@ module _ (code : PlainCode) where
     blank_fits slot.Number = tt
     blank_fits (slot.Place n) = tt
     blank_fits slot.Mark = tt
+    blank_fits (slot.Link q) = tt
 
     -- the blank cells from a slot on fit
     blanks_fit : (n : ℕ) → n ≤ length kinds → FitsFrom n (drop n (map blank_of kinds))
@@ -339,7 +382,7 @@ module _ (code : PlainCode) where
 
     -- the whole frame
     new_fits : (at back first to : ℕ) (args : List Cell) → 0 < c → c < length code.routines → hold_params (kinds_at code c) (head_at code c).params 0 ≡ true →
-        FitsParams (IsPlace code (routines_of s.now) (top s)) (head_at code c).params args → back ≡ suc at → slice_get code.instrs at ≡ Some (I.Call c first to) → start_at code r ≤ at → suc at < end_at code r →
+        FitsParams (IsPlace code (routines_of s.now) (top s)) (IsLink code (routines_of s.now) (top s)) (head_at code c).params args → back ≡ suc at → slice_get code.instrs at ≡ Some (I.Call c first to) → start_at code r ≤ at → suc at < end_at code r →
         FitsFrame code rs me (entered_frame s.now (head_at code c) c back args)
     new_fits at back first to args pos_c lc e f eb is low high =
         let ps = (head_at code c).params in
@@ -375,7 +418,7 @@ module _ (code : PlainCode) where
 
     -- a routine is entered
     entered_good : (at first to : ℕ) (args : List Cell) → 0 < c → c < length code.routines → start_at code c < end_at code c → hold_params (kinds_at code c) (head_at code c).params 0 ≡ true →
-        FitsParams (IsPlace code (routines_of s.now) (top s)) (head_at code c).params args → s.at ≡ suc at → slice_get code.instrs at ≡ Some (I.Call c first to) → start_at code r ≤ at → suc at < end_at code r →
+        FitsParams (IsPlace code (routines_of s.now) (top s)) (IsLink code (routines_of s.now) (top s)) (head_at code c).params args → s.at ≡ suc at → slice_get code.instrs at ≡ Some (I.Call c first to) → start_at code r ≤ at → suc at < end_at code r →
         Good code (entered s c (start_at code c) (head_at code c) args)
     entered_good at first to args pos_c lc le e f eb is low high =
         let nf = entered_frame s.now (head_at code c) c s.at args in

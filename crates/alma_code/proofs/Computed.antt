@@ -36,10 +36,11 @@ least_code_counts = record {
   names = lit≤ tt;
   text_bytes = lit≤ tt;
   instrs = lit≤ tt;
+  lines = lit≤ tt;
 }
 
 pub least_code_records : KeepsRecords least
-least_code_records = record { routines = refl; globals = refl; ranges = refl }
+least_code_records = record { routines = refl; globals = refl; ranges = refl; lines = refl }
 
 pub least_code_sound : code_fault least ≡ None
 unfolding words instr_fault instrs_fault routine_fault routines_fault rule_5 rule_6 rule_7 rule_10 rule_11 rule_12

@@ -9,7 +9,7 @@ use Rattle.alma_code.specs.declared.head.ParamKind.{ParamKind}
 use Rattle.alma_code.specs.declared.head.ParamKind.TheVariants as param
 use Rattle.alma_code.specs.declared.head.CodeParam.{CodeParam}
 use Rattle.alma_code.specs.Head.{PlainHead}
-use Rattle.alma_code.specs.Kinds.{is_number, is_place_of, numbers_from}
+use Rattle.alma_code.specs.Kinds.{is_number, is_place_of, is_link_of, numbers_from}
 use Rattle.alma_code.specs.Layout.{kinds_of, holds_param, param_slots, hold_params, IsHead}
 
 -- the kinds of the slots of a parameter
@@ -18,6 +18,7 @@ param_kinds param.Value n = slot.Number ∷ []
 param_kinds param.Place n = slot.Place n ∷ []
 param_kinds param.Mix n = slot.Place 1 ∷ slot.Number ∷ []
 param_kinds param.Cells n = replicate n slot.Number
+param_kinds param.Link n = slot.Link n ∷ []
 
 -- the kinds of the slots of the parameters, in order
 abbrev pub params_kinds : List CodeParam → List SlotKind
@@ -29,6 +30,7 @@ pub number_is : (o : Option SlotKind) → is_number o ≡ true → o ≡ Some sl
 number_is (Some slot.Number) e = refl
 number_is (Some (slot.Place l)) e = absurd (cc)
 number_is (Some slot.Mark) e = absurd (cc)
+number_is (Some (slot.Link q)) e = absurd (cc)
 number_is None e = absurd (cc)
 
 -- a slot that is a place slot of this length
@@ -36,7 +38,16 @@ pub place_of_is : (n : ℕ) (o : Option SlotKind) → is_place_of n o ≡ true �
 place_of_is n (Some (slot.Place l)) e = ap (λ m. Some (slot.Place m)) (eqb-true l n e)
 place_of_is n (Some slot.Number) e = absurd (cc)
 place_of_is n (Some slot.Mark) e = absurd (cc)
+place_of_is n (Some (slot.Link q)) e = absurd (cc)
 place_of_is n None e = absurd (cc)
+
+-- a slot that is a link slot for frames of this routine
+pub link_of_is : (r : ℕ) (o : Option SlotKind) → is_link_of r o ≡ true → o ≡ Some (slot.Link r)
+link_of_is r (Some (slot.Link q)) e = ap (λ m. Some (slot.Link m)) (eqb-true q r e)
+link_of_is r (Some slot.Number) e = absurd (cc)
+link_of_is r (Some (slot.Place l)) e = absurd (cc)
+link_of_is r (Some slot.Mark) e = absurd (cc)
+link_of_is r None e = absurd (cc)
 
 -- a list begins with what stands at its head
 take-one : (k : SlotKind) (ks : List SlotKind) (i : ℕ) → slice_get ks i ≡ Some k → drop i ks ≡ k ∷ drop (suc i) ks
@@ -67,6 +78,9 @@ param-drop ks param.Mix n i e =
     take-one (slot.Place 1) ks i (place_of_is 1 (slice_get ks i) both.0)
     ∙ ap (λ rest. slot.Place 1 ∷ rest) (take-one slot.Number ks (suc i) (number_is (slice_get ks (suc i)) both.1) ∙ ap (λ j. slot.Number ∷ drop j ks) z)
 param-drop ks param.Cells n i e = numbers-drop n ks i e
+param-drop ks param.Link n i e =
+    let z : suc i ≡ i + 1 = omega arith in
+    take-one (slot.Link n) ks i (link_of_is n (slice_get ks i) e) ∙ ap (λ j. slot.Link n ∷ drop j ks) z
 
 -- the slots that hold parameters
 params-drop : (ks : List SlotKind) (ps : List CodeParam) (i : ℕ) → hold_params ks ps i ≡ true → (j : ℕ) × (drop i ks ≡ params_kinds ps ++ drop j ks)

@@ -20,8 +20,8 @@ use Rattle.alma_code.specs.Machine
 use Rattle.alma_base.specs.Choice.{if_true}
 use Rattle.alma_code.specs.Plain.{PlainCode, kinds_at}
 use Rattle.alma_base.specs.Numbers.{within, is_integer, int_eq}
-use Rattle.alma_code.specs.Kinds.{is_number, is_place, is_mark}
-use Rattle.alma_code.specs.Rules.{place_length, kind_in, is_free, is_address}
+use Rattle.alma_code.specs.Kinds.{is_number, is_place, is_mark, is_link}
+use Rattle.alma_code.specs.Rules.{place_length, link_routine, kind_in, is_free, is_address}
 use Rattle.alma_code.specs.Machine.{Mode, Going, Failing, Ended, State, Stepped, went, ended, faulted, fails_now, answered, top, slot_of, kind_of, as_number, as_place, as_mark, number, place, mark, with_cell, with_slot, to_number, to_place, to_mark, put_number, put_place, put_mark, fitted, as_content, content, store, known, as_range, ranged, ranged_if, equated, equation}
 use Rattle.alma_code.specs.Fits.{routines_of, IsContent, IsPosition, IsCell, IsPlace, FitsSlot, FitsFrame, FitsFrames, FitsHeld, FitsMode, Fits}
 use Rattle.alma_code.proofs.Heads.{number_is}
@@ -32,6 +32,7 @@ pub place_is : (o : Option SlotKind) → is_place o ≡ true → o ≡ Some (slo
 place_is (Some (slot.Place l)) e = refl
 place_is (Some slot.Number) e = absurd (false≢true e)
 place_is (Some slot.Mark) e = absurd (false≢true e)
+place_is (Some (slot.Link q)) e = absurd (false≢true e)
 place_is None e = absurd (false≢true e)
 
 -- a slot that is a mark slot
@@ -39,7 +40,16 @@ pub mark_is : (o : Option SlotKind) → is_mark o ≡ true → o ≡ Some slot.M
 mark_is (Some slot.Mark) e = refl
 mark_is (Some slot.Number) e = absurd (false≢true e)
 mark_is (Some (slot.Place l)) e = absurd (false≢true e)
+mark_is (Some (slot.Link q)) e = absurd (false≢true e)
 mark_is None e = absurd (false≢true e)
+
+-- a slot that is a link slot
+pub link_is : (o : Option SlotKind) → is_link o ≡ true → o ≡ Some (slot.Link (link_routine o))
+link_is (Some (slot.Link q)) e = refl
+link_is (Some slot.Number) e = absurd (false≢true e)
+link_is (Some (slot.Place l)) e = absurd (false≢true e)
+link_is (Some slot.Mark) e = absurd (false≢true e)
+link_is None e = absurd (false≢true e)
 
 -- what holds of each side of a choice where its test says so holds of the choice
 pub if_true_keeps : {A : Type 0} (P : A → Type 0) (b : Bool) (k z : Unit {0} → A) → (b ≡ true → P (k tt)) → (b ≡ false → P (z tt)) → P (if_true b k z)

@@ -78,7 +78,7 @@ module _ (code : PlainCode) (sound : IsSound code) where
         let inside = end_inside code sound.table r fits.routine in
         let i = get_or code.instrs s.at I.Fail in
         let is : slice_get code.instrs s.at ≡ Some i = slice_get-get_or code.instrs s.at I.Fail (omega arith) in
-        let t : State = record (ticked code input s) { at = s.at + 1 } in
+        let t : State = record (ticked code input s) { at = s.at + 1; last = s.at } in
         let ready : Ready code r t = record { frames = f; held = h; routine = refl; going = going } in
         let next : s.at + 1 ≡ suc s.at = omega arith in
         subst (λ o. Good code (fetched code input o s)) (sym is)
@@ -102,6 +102,7 @@ module _ (code : PlainCode) (sound : IsSound code) where
   blank_fits slot.Number = tt
   blank_fits (slot.Place n) = tt
   blank_fits slot.Mark = tt
+  blank_fits (slot.Link q) = tt
 
   -- the start fits
   start_good : Fits code (start code)

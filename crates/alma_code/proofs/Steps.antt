@@ -16,12 +16,14 @@ use Rattle.alma_code.specs.declared.step.End.TheVariants as end
 use Rattle.alma_code.specs.Plain.{PlainCode}
 use Rattle.alma_base.specs.Numbers.{is_zero, div_down_of, mod_down_of, range_size, is_beyond}
 use Rattle.alma_code.specs.Words.{words}
-use Rattle.alma_code.specs.Rules.{kind_in, length_in, is_address, rule_5, rule_6, rule_7, rule_11, rule_12, has_room, IsSound}
+use Rattle.alma_code.specs.Rules.{kind_in, length_in, link_in, is_address, rule_5, rule_6, rule_7, rule_11, rule_12, has_room, IsSound}
 use Rattle.alma_code.specs.Machine.{State, went, top, act, put_number, with_cell, with_slot, to_mark, chose, pushed, as_text, as_fault, run_faults, left, found, char_found, overlay}
 use Rattle.alma_code.specs.Fits.{routines_of, IsCell}
 use Rattle.alma_code.proofs.Ready.{Good, mark_is, if_true_keeps, went_good, ended_good, fails_good, fault_good, number_good, place_good, mark_good, put_mark_good, fitted_good, content_good, store_good, known_good, ranged_good, as_range_good, equation_good, slot_ready, has_slot}
 use Rattle.alma_code.proofs.Acts.{Here, Obeys, addresses, bound_good, cells_of, char_good, copied_good, cut_good, entries, equations_good, finish_good, first_is, found_good, frame_live, goes_good, keep_good, left_ready, mark_word, next, number_word, one_good, overlay_ready, place_word, position_good, pushed_ready, put_good, put_place_at, result_good, slots, top_is, top_main, two_good}
 use Rattle.alma_code.proofs.Calls.{call_good}
+use Rattle.alma_code.proofs.Heads.{link_of_is, place_of_is}
+use Rattle.alma_code.proofs.Links.{link_word, link_above, link_good, link_in_good, place_in_good, put_link_good, outer_cells}
 
 module _ (code : PlainCode) (input : List ℕ) (sound : IsSound code) where
   -- what an instruction does that keeps its rules: one clause for each form
@@ -114,6 +116,30 @@ module _ (code : PlainCode) (input : List ℕ) (sound : IsSound code) where
       let w = slots code r at (I.Check a) (W.Number a) W.Free W.Free W.Free refl o in
       number_good code r s a _ h.ready (number_word code r a w.0).1 (λ v. if_true_keeps (Good code) (is_zero v) _ _ (λ _. fails_good code r s h.ready) (λ _. went_good code r s h.ready (next code r at s h o.r11)))
   act_good I.Fail r at s h o is lr = fails_good code r s h.ready
+  act_good (I.Own a) r at s h o is lr =
+      let w = slots code r at (I.Own a) (W.Link a) W.Free W.Free W.Free refl o in
+      put_link_good code r s a r (top s) h.ready (link_of_is r (kind_in code r a) o.r5) (link_word code r a w.0).0 (omega arith) (top_is code r s h.ready) (next code r at s h o.r11)
+  act_good (I.Chain a b c) r at s h o is lr =
+      let w = slots code r at (I.Chain a b c) (W.Link a) (W.Link b) W.Free W.Free refl o in
+      let to = link_in code r a in
+      let from = link_in code r b in
+      link_good code r s b from _ h.ready (link_word code r b w.1).1
+      (λ f le fr. link_in_good code r s f c from to _ h.ready le fr (link_of_is to (kind_in code from c) o.r5)
+      (λ p lp pr. put_link_good code r s a to p.frame h.ready (link_word code r a w.0).1 (link_word code r a w.0).0 lp pr (next code r at s h o.r11)))
+  act_good (I.Outer a b c) r at s h o is lr =
+      let w = slots code r at (I.Outer a b c) (W.Place a) (W.Link b) W.Free W.Free refl o in
+      let from = link_in code r b in
+      let known = (link_word code r b w.1).1 in
+      let above = link_above code r b from (sound.heads r lr).1 known in
+      link_good code r s b from _ h.ready known
+      (λ f le fr. put_place_at code r at s a f (λ _. c) h w.0 o.r11 le (λ k lt. outer_cells code r s f from (length_in code r a) c k h.ready fr above o.r5 lt))
+  act_good (I.OuterSame a b c) r at s h o is lr =
+      let w = slots code r at (I.OuterSame a b c) (W.Place a) (W.Link b) W.Free W.Free refl o in
+      let from = link_in code r b in
+      let l = length_in code r a in
+      link_good code r s b from _ h.ready (link_word code r b w.1).1
+      (λ f le fr. place_in_good code r s f c from l _ h.ready le fr (place_of_is l (kind_in code from c) o.r5)
+      (λ p len fits. put_place_at code r at s a p.frame (λ _. p.slot) h w.0 o.r11 fits.frame (λ k lt. fits.cells k (omega arith))))
   act_good (I.Mark a) r at s h o is lr =
       let w = slots code r at (I.Mark a) (W.Mark a) W.Free W.Free W.Free refl o in
       put_mark_good code r s a (length s.held) h.ready (mark_word code r a w.0).1 (mark_word code r a w.0).0 (next code r at s h o.r11)

@@ -45,6 +45,13 @@ module _ (code : PlainCode) where
     pub frame : p.frame ≤ f
     pub cells : (k : ℕ) → k < p.len → IsCell rs p.frame (p.slot + k)
 
+  -- a link that frame f may hold: to a frame of routine r that is not above it
+  pub record IsLink (rs : List ℕ) (f r : ℕ) (p : CellPlace) : Type 0 where
+    pub frame : p.frame ≤ f
+    pub routine : get_or rs p.frame 0 ≡ r
+    pub slot : p.slot ≡ 0
+    pub len : p.len ≡ 0
+
   -- a cell fits a slot of its kind in frame f
   abbrev pub FitsSlot : (rs : List ℕ) (f : ℕ) → SlotKind → Cell → Type 0
   FitsSlot rs f slot.Number c = IsContent c
@@ -58,6 +65,11 @@ module _ (code : PlainCode) where
   FitsSlot rs f slot.Mark cell.Unknown = ⊥
   FitsSlot rs f slot.Mark (cell.Int v) = ⊥
   FitsSlot rs f slot.Mark (cell.Place p) = ⊥
+  FitsSlot rs f (slot.Link r) (cell.Place p) = IsLink rs f r p
+  FitsSlot rs f (slot.Link r) cell.Unset = Unit {0}
+  FitsSlot rs f (slot.Link r) cell.Unknown = ⊥
+  FitsSlot rs f (slot.Link r) (cell.Int v) = ⊥
+  FitsSlot rs f (slot.Link r) (cell.Mark h) = ⊥
 
   -- an address just behind a Call of the callee, in the code of the caller and not its last
   pub record IsReturn (caller back callee : ℕ) : Type 0 where

@@ -10,7 +10,7 @@ use Rattle.alma_code.specs.declared.head.ParamKind.TheVariants as param
 use Rattle.alma_code.specs.declared.head.CodeParam.{CodeParam}
 use Rattle.alma_code.specs.declared.head.Run.{Run}
 use Rattle.alma_code.specs.Head.{PlainHead}
-use Rattle.alma_code.specs.Kinds.{is_number, is_place_of, numbers_from}
+use Rattle.alma_code.specs.Kinds.{is_number, is_place_of, is_link_of, numbers_from}
 use Rattle.alma_code.specs.Picture.{PlainFrame, no_frame}
 
 -- ---- runs
@@ -33,6 +33,7 @@ holds_param kinds param.Value n i = is_number (slice_get kinds i)
 holds_param kinds param.Place n i = is_place_of n (slice_get kinds i)
 holds_param kinds param.Mix n i = is_place_of 1 (slice_get kinds i) && is_number (slice_get kinds (suc i))
 holds_param kinds param.Cells n i = numbers_from n kinds i
+holds_param kinds param.Link n i = is_link_of n (slice_get kinds i)
 
 -- how many slots a parameter has
 abbrev pub param_slots : ParamKind → ℕ → ℕ
@@ -40,6 +41,7 @@ param_slots param.Value n = 1
 param_slots param.Place n = 1
 param_slots param.Mix n = 2
 param_slots param.Cells n = n
+param_slots param.Link n = 1
 
 -- the slots from i on are those of the parameters, in order
 abbrev pub hold_params : List SlotKind → List CodeParam → (i : ℕ) → Bool
@@ -58,6 +60,7 @@ abbrev pub blank_of : SlotKind → Cell
 blank_of slot.Number = cell.Unknown
 blank_of (slot.Place n) = cell.Unset
 blank_of slot.Mark = cell.Unset
+blank_of (slot.Link q) = cell.Unset
 
 -- what the slots of a frame hold at first
 abbrev pub blank_cells : PlainHead → List Cell
@@ -100,6 +103,7 @@ arg_cells frames me at param.Value c = c ∷ []
 arg_cells frames me at param.Place c = c ∷ []
 arg_cells frames me at param.Mix c = mix_cells me at c
 arg_cells frames me at param.Cells c = copied_cells frames c
+arg_cells frames me at param.Link c = c ∷ []
 
 -- what the first n arguments put into the slots of their parameters
 abbrev pub args_cells : List PlainFrame → List CodeParam → List Cell → (n : ℕ) → List Cell
@@ -144,14 +148,23 @@ FitsMix P cell.Unknown = ⊥
 FitsMix P cell.Unset = ⊥
 FitsMix P (cell.Mark h) = ⊥
 
--- an argument fits its parameter, where P says of which places
-abbrev pub FitsParam : (CellPlace → Type 0) → ParamKind → ℕ → Cell → Type 0
-FitsParam P param.Value n c = FitsNumber c
-FitsParam P param.Place n c = FitsPlace P n c
-FitsParam P param.Mix n c = FitsMix P c
-FitsParam P param.Cells n c = FitsPlace P n c
+-- a link to a frame of routine r, as L says
+abbrev pub FitsLink : (ℕ → CellPlace → Type 0) → (r : ℕ) → Cell → Type 0
+FitsLink L r (cell.Place p) = (p.slot ≡ 0) × (p.len ≡ 0) × L r p
+FitsLink L r (cell.Int v) = ⊥
+FitsLink L r cell.Unknown = ⊥
+FitsLink L r cell.Unset = ⊥
+FitsLink L r (cell.Mark h) = ⊥
+
+-- an argument fits its parameter, where P says of which places, and L of which frames
+abbrev pub FitsParam : (CellPlace → Type 0) → (ℕ → CellPlace → Type 0) → ParamKind → ℕ → Cell → Type 0
+FitsParam P L param.Value n c = FitsNumber c
+FitsParam P L param.Place n c = FitsPlace P n c
+FitsParam P L param.Mix n c = FitsMix P c
+FitsParam P L param.Cells n c = FitsPlace P n c
+FitsParam P L param.Link n c = FitsLink L n c
 
 -- one argument for each parameter, and each fits
-pub record FitsParams (P : CellPlace → Type 0) (ps : List CodeParam) (args : List Cell) : Type 0 where
+pub record FitsParams (P : CellPlace → Type 0) (L : ℕ → CellPlace → Type 0) (ps : List CodeParam) (args : List Cell) : Type 0 where
   pub count : length args ≡ length ps
-  pub each : (k : ℕ) → k < length ps → FitsParam P (get_or ps k no_param).kind (get_or ps k no_param).cells (get_or args k cell.Unknown)
+  pub each : (k : ℕ) → k < length ps → FitsParam P L (get_or ps k no_param).kind (get_or ps k no_param).cells (get_or args k cell.Unknown)

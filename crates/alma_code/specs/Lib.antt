@@ -4,10 +4,14 @@ pub mod Head
 pub mod Kinds
 pub mod Laws
 pub mod Layout
+pub mod Lines
+pub mod ListText
 pub mod Machine
 pub mod Picture
 pub mod Plain
 pub mod Records
 pub mod Rules
+pub mod TraceText
 pub mod Words
 pub mod Worked
+pub mod WorkedLinks

@@ -43,9 +43,10 @@ pub data Mode : Type 0 where
   Ended : End → Mode
   Stuck : Mode
 
--- the next address, the live frames, the choice entries from the bottom, and the counts of steps, of entries pushed and of entries popped
+-- the next address, the address of the last instruction taken, or 0 before any, the live frames, the choice entries from the bottom, and the counts of steps, of entries pushed and of entries popped
 pub record State : Type 0 where
   pub at : ℕ
+  pub last : ℕ
   pub mode : Mode
   pub now : List PlainFrame
   pub held : List PlainEntry
@@ -77,7 +78,7 @@ printed bytes s = record { answer = answer.Printed; printed = bytes; state = s }
 abbrev pub stuck : State → Stepped
 stuck s = went (record s { mode = Stuck })
 
--- with the end of the run; the address stays at the next instruction
+-- with the end of the run; the next address stays behind the instruction that ended it
 abbrev pub ended : End → State → Stepped
 ended e s = answered (answer.Done e) (record s { mode = Ended e })
 
@@ -125,6 +126,10 @@ as_place (Some (cell.Int v)) s k = stuck s
 as_place (Some (cell.Mark h)) s k = stuck s
 as_place None s k = stuck s
 
+-- what a slot of a frame holds, as a link to the frame finds it
+abbrev pub slot_in : State → (frame n : ℕ) → Option Cell
+slot_in s frame n = slice_get (get_or s.now frame no_frame).cells n
+
 -- a cell that is read as a mark
 abbrev pub as_mark : Option Cell → State → (ℕ → Stepped) → Stepped
 as_mark (Some (cell.Mark h)) s k = k h
@@ -146,6 +151,10 @@ place s n k = as_place (slot_of s n) s k
 abbrev pub mark : State → ℕ → (ℕ → Stepped) → Stepped
 mark s n k = as_mark (slot_of s n) s k
 
+-- goes on with the frame that the link in a slot names
+abbrev pub link : State → ℕ → (ℕ → Stepped) → Stepped
+link s n k = as_place (slot_of s n) s (λ p. k p.frame)
+
 -- the state after a write to a slot of a frame
 abbrev pub with_cell : State → ℕ → ℕ → Cell → State
 with_cell s frame n c = record s { now = written s.now frame n c }
@@ -159,6 +168,7 @@ abbrev pub to_number : Option SlotKind → State → (Unit {0} → Stepped) → 
 to_number (Some slot.Number) s k = k tt
 to_number (Some (slot.Place l)) s k = stuck s
 to_number (Some slot.Mark) s k = stuck s
+to_number (Some (slot.Link r)) s k = stuck s
 to_number None s k = stuck s
 
 -- goes on where it is a place slot, with the length that its places have
@@ -166,6 +176,7 @@ abbrev pub to_place : Option SlotKind → State → (ℕ → Stepped) → Steppe
 to_place (Some (slot.Place l)) s k = k l
 to_place (Some slot.Number) s k = stuck s
 to_place (Some slot.Mark) s k = stuck s
+to_place (Some (slot.Link r)) s k = stuck s
 to_place None s k = stuck s
 
 -- goes on where it is a mark slot
@@ -173,7 +184,16 @@ abbrev pub to_mark : Option SlotKind → State → (Unit {0} → Stepped) → St
 to_mark (Some slot.Mark) s k = k tt
 to_mark (Some slot.Number) s k = stuck s
 to_mark (Some (slot.Place l)) s k = stuck s
+to_mark (Some (slot.Link r)) s k = stuck s
 to_mark None s k = stuck s
+
+-- goes on where it is a link slot
+abbrev pub to_link : Option SlotKind → State → (Unit {0} → Stepped) → Stepped
+to_link (Some (slot.Link r)) s k = k tt
+to_link (Some slot.Number) s k = stuck s
+to_link (Some (slot.Place l)) s k = stuck s
+to_link (Some slot.Mark) s k = stuck s
+to_link None s k = stuck s
 
 -- slot n := the number
 abbrev pub put_number : State → ℕ → ℤ → Stepped
@@ -186,6 +206,14 @@ put_place s n frame first = to_place (kind_of s n) s (λ l. went (with_slot s n 
 -- slot n := the mark
 abbrev pub put_mark : State → ℕ → ℕ → Stepped
 put_mark s n h = to_mark (kind_of s n) s (λ _. went (with_slot s n (cell.Mark h)))
+
+-- a link to a frame
+abbrev pub link_to : (frame : ℕ) → CellPlace
+link_to frame = record { frame = frame; slot = 0; len = 0 }
+
+-- slot n := the link to a frame
+abbrev pub put_link : State → ℕ → (frame : ℕ) → Stepped
+put_link s n frame = to_link (kind_of s n) s (λ _. went (with_slot s n (cell.Place (link_to frame))))
 
 -- goes on with a result that is in INTEGER
 abbrev pub fitted : State → ℤ → (ℤ → Stepped) → Stepped
@@ -353,6 +381,9 @@ as_argument param.Mix n (Some (cell.Place p)) s k = if_true (nat_eq p.len 1) (λ
 as_argument param.Place n (Some (cell.Place p)) s k = if_true (nat_eq p.len n) (λ _. k (cell.Place p)) (λ _. stuck s)
 as_argument param.Cells n (Some (cell.Place p)) s k =
     if_true (nat_eq p.len n && numbers_at n s.now p.frame p.slot) (λ _. k (cell.Place p)) (λ _. stuck s)
+as_argument param.Link n (Some (cell.Int v)) s k = stuck s
+as_argument param.Link n (Some (cell.Place p)) s k =
+    if_true (nat_eq p.slot 0 && nat_eq p.len 0) (λ _. k (cell.Place p)) (λ _. stuck s)
 
 -- the argument slots from n on are all read, in order, before anything else is done
 abbrev pub arguments : List CodeParam → State → ℕ → (List Cell → Stepped) → Stepped
@@ -503,6 +534,10 @@ module _ (code : PlainCode) (input : List ℕ) where
   act (I.Step a b c d) s =
       number s a (λ x. number s b (λ y. number s c (λ z.
       if_true (is_beyond (x +ℤ z) y z) (λ _. goes_to d s) (λ _. put_number s a (x +ℤ z)))))
+  act (I.Own a) s = put_link s a (top s)
+  act (I.Chain a b c) s = link s b (λ f. as_place (slot_in s f c) s (λ p. put_link s a p.frame))
+  act (I.Outer a b c) s = link s b (λ f. put_place s a f (λ _. c))
+  act (I.OuterSame a b c) s = link s b (λ f. as_place (slot_in s f c) s (λ p. put_place s a p.frame (λ _. p.slot)))
 
   -- ---- steps
 
@@ -512,7 +547,7 @@ module _ (code : PlainCode) (input : List ℕ) where
 
   -- takes the instruction at the address
   abbrev pub fetched : Option Instr → State → Stepped
-  fetched (Some i) s = act i (record (ticked s) { at = s.at + 1 })
+  fetched (Some i) s = act i (record (ticked s) { at = s.at + 1; last = s.at })
   fetched None s = stuck s
 
   -- a step is one instruction, or a pop after one that failed; the pop that ends the run is a step too, and an ended machine does not change
@@ -538,4 +573,4 @@ module _ (code : PlainCode) (input : List ℕ) where
 
 -- the state in which a run begins
 abbrev pub start : PlainCode → State
-start code = record { at = 0; mode = Going; now = start_frame (head_at code 0) ∷ []; held = []; steps = 0; choices = 0; fails = 0 }
+start code = record { at = 0; last = 0; mode = Going; now = start_frame (head_at code 0) ∷ []; held = []; steps = 0; choices = 0; fails = 0 }

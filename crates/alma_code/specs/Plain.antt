@@ -6,6 +6,7 @@ use Rattle.alma_code.specs.declared.instr.Instr.{Instr}
 use Rattle.alma_code.specs.declared.code.RoutineHead.{RoutineHead}
 use Rattle.alma_code.specs.declared.code.CodeGlobal.{CodeGlobal}
 use Rattle.alma_code.specs.declared.code.Code.{Code}
+use Rattle.alma_code.specs.declared.code.Line.{Line}
 use Rattle.alma_code.specs.Head.{PlainHead}
 use Rattle.alma_code.specs.Layout.{kinds_of}
 
@@ -21,13 +22,15 @@ pub record PlainGlobal : Type 0 where
   pub slot : ℕ
   pub cells : ℕ
 
--- a code: its tables and its instructions
+-- a code: the version of its format, its tables, its instructions, and the lines of addresses
 pub record PlainCode : Type 0 where
+  pub version : ℕ
   pub routines : List PlainRoutine
   pub globals : List PlainGlobal
   pub ranges : List Range
   pub texts : List (List ℕ)
   pub instrs : List Instr
+  pub lines : List Line
 
 -- ---- what a code in memory stands for
 
@@ -46,11 +49,13 @@ global_of g = record { name = g.name.items; slot = g.slot; cells = g.cells }
 -- the whole code
 abbrev pub code_of : Code → PlainCode
 code_of c = record {
+  version = c.version;
   routines = map routine_of c.routines.items;
   globals = map global_of c.globals.items;
   ranges = c.ranges.items;
   texts = map (λ t. t.items) c.texts.items;
   instrs = c.code.items;
+  lines = c.lines.items;
 }
 
 -- ---- the parts of a code

@@ -1,5 +1,5 @@
 -- What the format of objects asks of the tables of a code, beside their order: no count is too large, and each record is as it must be.
-use Rattle.std.specs.Prelude.{◌≡◌, ◌+◌, ◌≤◌, ℕ, Bool, true, false, not, ◌&&◌, ◌||◌, nat_eq, nat_le, int_le, List, [], ◌∷◌, sum_by, length}
+use Rattle.std.specs.Prelude.{◌≡◌, ◌⊎◌, ◌+◌, ◌≤◌, ℕ, Bool, true, false, not, ◌&&◌, ◌||◌, nat_eq, nat_le, int_le, List, [], ◌∷◌, sum_by, length}
 use Rattle.std.specs.List.{list_all}
 use Rattle.alma_base.specs.Reading.{is_digit}
 use Rattle.alma_code.specs.declared.cell.SlotKind.{SlotKind}
@@ -7,6 +7,9 @@ use Rattle.alma_code.specs.declared.cell.SlotKind.TheVariants as slot
 use Rattle.alma_code.specs.declared.head.Run.{Run}
 use Rattle.alma_code.specs.declared.head.ParamKind.{ParamKind}
 use Rattle.alma_code.specs.declared.head.ParamKind.TheVariants as param
+use Rattle.alma_code.specs.declared.instr.Instr.{Instr}
+use Rattle.alma_code.specs.declared.instr.Instr.TheVariants as I
+use Rattle.alma_code.specs.Lines.{lines_rise}
 use Rattle.alma_code.specs.Plain.{PlainCode, PlainRoutine}
 
 -- ---- counts
@@ -38,6 +41,7 @@ pub record KeepsCounts (code : PlainCode) : Type 0 where
   pub names : name_count code ≤ 16777216
   pub text_bytes : text_count code ≤ 16777216
   pub instrs : length code.instrs ≤ 4194304
+  pub lines : length code.lines ≤ 1048576
 
 -- ---- records
 
@@ -56,12 +60,14 @@ has_cells param.Value n = nat_eq n 1
 has_cells param.Mix n = nat_eq n 1
 has_cells param.Place n = true
 has_cells param.Cells n = true
+has_cells param.Link n = true
 
 -- the two kinds are one, length included
 abbrev pub same_kind : SlotKind → SlotKind → Bool
 same_kind slot.Number slot.Number = true
 same_kind (slot.Place m) (slot.Place n) = nat_eq m n
 same_kind slot.Mark slot.Mark = true
+same_kind (slot.Link m) (slot.Link n) = nat_eq m n
 same_kind _ _ = false
 
 -- two runs that follow each other differ in kind or length
@@ -69,6 +75,47 @@ abbrev pub runs_differ : List Run → Bool
 runs_differ [] = true
 runs_differ (a ∷ []) = true
 runs_differ (a ∷ (b ∷ rest)) = not (same_kind a.kind b.kind) && runs_differ (b ∷ rest)
+
+-- ---- version 1
+
+-- a kind of version 1: no link
+abbrev pub is_first_kind : SlotKind → Bool
+is_first_kind (slot.Link r) = false
+is_first_kind slot.Number = true
+is_first_kind (slot.Place n) = true
+is_first_kind slot.Mark = true
+
+-- a parameter of version 1
+abbrev pub is_first_param : ParamKind → Bool
+is_first_param param.Link = false
+is_first_param param.Value = true
+is_first_param param.Place = true
+is_first_param param.Mix = true
+is_first_param param.Cells = true
+
+-- a form of version 1
+abbrev pub is_first_form : Instr → Bool
+is_first_form (I.Own a) = false
+is_first_form (I.Chain a b c) = false
+is_first_form (I.Outer a b c) = false
+is_first_form (I.OuterSame a b c) = false
+is_first_form _ = true
+
+abbrev pub is_first_routine : PlainRoutine → Bool
+is_first_routine r = list_all (λ run. is_first_kind run.kind) r.head.runs && list_all (λ p. is_first_param p.kind) r.head.params
+
+-- no link and no line
+pub record IsFirst (code : PlainCode) : Type 0 where
+  pub routines : list_all is_first_routine code.routines ≡ true
+  pub forms : list_all is_first_form code.instrs ≡ true
+  pub lines : code.lines ≡ []
+
+-- the version is 1 or 2, and a code of version 1 has no link and no line
+pub record KeepsVersion (code : PlainCode) : Type 0 where
+  pub version : (code.version ≡ 1) ⊎ (code.version ≡ 2)
+  pub first : code.version ≡ 1 → IsFirst code
+
+-- ---- all records
 
 -- the record of a routine
 abbrev pub is_routine_record : PlainRoutine → Bool
@@ -79,3 +126,4 @@ pub record KeepsRecords (code : PlainCode) : Type 0 where
   pub routines : list_all is_routine_record code.routines ≡ true
   pub globals : list_all (λ g. is_name g.name) code.globals ≡ true
   pub ranges : list_all (λ t. int_le t.low t.high) code.ranges ≡ true
+  pub lines : lines_rise 0 (length code.instrs) code.lines ≡ true

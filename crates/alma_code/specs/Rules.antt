@@ -16,7 +16,7 @@ use Rattle.alma_code.specs.declared.instr.Word.{Word}
 use Rattle.alma_code.specs.declared.instr.Word.TheVariants as W
 use Rattle.alma_code.specs.declared.step.VerifyFault.{VerifyFault}
 use Rattle.alma_code.specs.Head.{PlainHead}
-use Rattle.alma_code.specs.Kinds.{is_number, is_place, is_place_of, is_mark, numbers_from}
+use Rattle.alma_code.specs.Kinds.{is_number, is_place, is_place_of, is_mark, is_link, is_link_of, numbers_from}
 use Rattle.alma_code.specs.Layout.{RunsRise, hold_params}
 use Rattle.alma_code.specs.Plain.{PlainCode, PlainGlobal, head_at, start_at, end_at, kinds_at}
 use Rattle.alma_code.specs.Words.{words}
@@ -42,7 +42,16 @@ abbrev pub place_length : Option SlotKind → ℕ
 place_length (Some (slot.Place l)) = l
 place_length (Some slot.Number) = 0
 place_length (Some slot.Mark) = 0
+place_length (Some (slot.Link q)) = 0
 place_length None = 0
+
+-- the routine of a link slot's links, or 0 where it is no link slot
+abbrev pub link_routine : Option SlotKind → ℕ
+link_routine (Some (slot.Link q)) = q
+link_routine (Some slot.Number) = 0
+link_routine (Some (slot.Place l)) = 0
+link_routine (Some slot.Mark) = 0
+link_routine None = 0
 
 -- as many parts as a range has numbers fit into all; a range that is not there breaks rule 8 and not this
 abbrev pub has_room : Option Range → (part all : ℕ) → Bool
@@ -76,6 +85,10 @@ module _ (code : PlainCode) where
   abbrev pub is_free : (r n : ℕ) → Bool
   is_free r n = nat_lt 0 (r + n)
 
+  -- the routine to whose frames the links of a link slot lead
+  abbrev pub link_in : (r n : ℕ) → ℕ
+  link_in r n = link_routine (kind_in r n)
+
   -- n number slots from i on that leave out the input position; no slots may stand anywhere
   abbrev pub cells_in : (r i n : ℕ) → Bool
   cells_in r i zero = true
@@ -100,10 +113,18 @@ module _ (code : PlainCode) where
   abbrev pub rule_1 : ℕ → Bool
   rule_1 r = nat_lt (start_at code r) (end_at code r) && is_main r
 
-  -- rule 2: the runs end at the number of slots, at most 8,388,608; the declared cells are at most as many as the slots, and at most 1,048,576
+  -- the routine of a run of links is one from 1 on
+  abbrev pub names_routine : SlotKind → Bool
+  names_routine (slot.Link q) = nat_lt 0 q && nat_lt q (length code.routines)
+  names_routine slot.Number = true
+  names_routine (slot.Place n) = true
+  names_routine slot.Mark = true
+
+  -- rule 2: the runs end at the number of slots, at most 8,388,608, and those of links name routines from 1 on; the declared cells are at most as many as the slots, and at most 1,048,576
   abbrev pub rule_2 : ℕ → Bool
   rule_2 r =
-      (nat_eq (last_end 0 (head_at code r).runs) (head_at code r).slots && nat_le (head_at code r).slots 8388608)
+      (nat_eq (last_end 0 (head_at code r).runs) (head_at code r).slots
+      && (nat_le (head_at code r).slots 8388608 && list_all (λ run. names_routine run.kind) (head_at code r).runs))
       && (nat_le (head_at code r).declared (head_at code r).slots && nat_le (head_at code r).declared 1048576)
 
   -- slot 0 of routine 0 is a number slot
@@ -126,6 +147,7 @@ module _ (code : PlainCode) where
   names_slot r (W.Number n) = is_slot r n && is_number (kind_in r n)
   names_slot r (W.Place n) = is_slot r n && is_place (kind_in r n)
   names_slot r (W.Mark n) = is_slot r n && is_mark (kind_in r n)
+  names_slot r (W.Link n) = is_slot r n && is_link (kind_in r n)
   names_slot r (W.Slot n) = is_slot r n
   names_slot r (W.Range n) = true
   names_slot r (W.Text n) = true
@@ -136,12 +158,18 @@ module _ (code : PlainCode) where
   abbrev pub rule_4 : ℕ → Instr → Bool
   rule_4 r i = list_all (names_slot r) (words i)
 
-  -- rule 5: Local and Global name as many number slots as the place slot's length, Same keeps the length, and Field stays inside
+  -- rule 5: Local and Global name as many number slots as the place slot's length, Same keeps the length, and Field stays inside;
+  -- Own links to the routine itself, and in the routine to which the other link leads, Chain names a link to the same routine,
+  -- Outer as many number slots as the place slot's length, and OuterSame a place slot of that length
   unfoldable pub rule_5 : ℕ → Instr → Bool
   rule_5 r (I.Local a b) = cells_in r b (length_in r a)
   rule_5 r (I.Global a b) = cells_in 0 b (length_in r a)
   rule_5 r (I.Same a b) = nat_eq (length_in r a) (length_in r b)
   rule_5 r (I.Field a b c) = nat_le (c + length_in r a) (length_in r b)
+  rule_5 r (I.Own a) = is_link_of r (kind_in r a)
+  rule_5 r (I.Chain a b c) = is_link_of (link_in r a) (kind_in (link_in r b) c)
+  rule_5 r (I.Outer a b c) = numbers_from (length_in r a) (kinds_at code (link_in r b)) c
+  rule_5 r (I.OuterSame a b c) = is_place_of (length_in r a) (kind_in (link_in r b) c)
   rule_5 r _ = true
 
   -- rule 6: Index has a part for each number of its range
@@ -169,6 +197,7 @@ module _ (code : PlainCode) where
   names_entry (W.Number n) = true
   names_entry (W.Place n) = true
   names_entry (W.Mark n) = true
+  names_entry (W.Link n) = true
   names_entry (W.Slot n) = true
   names_entry (W.Address n) = true
   names_entry W.Free = true
@@ -183,6 +212,7 @@ module _ (code : PlainCode) where
   names_address r (W.Number n) = true
   names_address r (W.Place n) = true
   names_address r (W.Mark n) = true
+  names_address r (W.Link n) = true
   names_address r (W.Slot n) = true
   names_address r (W.Range n) = true
   names_address r (W.Text n) = true
@@ -198,6 +228,7 @@ module _ (code : PlainCode) where
   fits_argument r param.Place n i = is_place_of n (kind_in r i)
   fits_argument r param.Mix n i = is_number (kind_in r i) || is_place_of 1 (kind_in r i)
   fits_argument r param.Cells n i = is_place_of n (kind_in r i)
+  fits_argument r param.Link n i = is_link_of n (kind_in r i)
 
   -- the slots from i on can be the arguments of the parameters, and none is the input position
   abbrev pub fit_arguments : ℕ → List CodeParam → (i : ℕ) → Bool

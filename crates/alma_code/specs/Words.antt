@@ -9,7 +9,7 @@ use Rattle.alma_code.specs.declared.instr.Word.TheVariants as W
 abbrev pub four : Word → Word → Word → Word → List Word
 four a b c d = a ∷ b ∷ c ∷ d ∷ []
 
--- the words of an instruction; those of a Call, the first slot of a Global, an offset and a fault's number have rules of their own
+-- the words of an instruction; those of a Call, the first slot of a Global, the slot of a frame that a link names, an offset and a fault's number have rules of their own
 unfoldable pub words : Instr → List Word
 words (I.Const a v) = four (W.Number a) W.Free W.Free W.Free
 words (I.Move a b) = four (W.Number a) (W.Number b) W.Free W.Free
@@ -59,3 +59,7 @@ words (I.WriteText t) = four (W.Text t) W.Free W.Free W.Free
 words I.WriteLine = four W.Free W.Free W.Free W.Free
 words (I.Fault n) = four W.Free W.Free W.Free W.Free
 words (I.Step a b c d) = four (W.Number a) (W.Number b) (W.Number c) (W.Address d)
+words (I.Own a) = four (W.Link a) W.Free W.Free W.Free
+words (I.Chain a b c) = four (W.Link a) (W.Link b) W.Free W.Free
+words (I.Outer a b c) = four (W.Place a) (W.Link b) W.Free W.Free
+words (I.OuterSame a b c) = four (W.Place a) (W.Link b) W.Free W.Free

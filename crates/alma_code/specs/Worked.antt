@@ -69,11 +69,13 @@ routine_to slots runs params has_result code_end =
 -- a code of these routines, with the ranges INTEGER and 1 to 2, and a text
 abbrev pub code_with : List PlainRoutine → List Instr → PlainCode
 code_with routines instrs = record {
+  version = 1;
   routines = routines;
   globals = [];
   ranges = whole_range ∷ record { low = pos 1; high = pos 2 } ∷ [];
   texts = codes "Hi" ∷ [];
   instrs = instrs;
+  lines = [];
 }
 
 -- a code of one routine
@@ -89,11 +91,13 @@ plain_main instrs = main_with 7 (numbers_to 4 ∷ places_to 1 6 ∷ marks_to 7 �
 -- the least code: it succeeds at once
 abbrev pub least : PlainCode
 least = record {
+  version = 1;
   routines = routine_to 1 (numbers_to 1 ∷ []) [] false 1 ∷ [];
   globals = [];
   ranges = [];
   texts = [];
   instrs = I.Return ∷ [];
+  lines = [];
 }
 
 -- EITHER x := 1; WRITE('Hi'); FALSE ORELSE END, with x in slot 1

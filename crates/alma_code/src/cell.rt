@@ -9,6 +9,8 @@ pub enum SlotKind {
     Place(u32),
     /// A height of the stack of choice entries.
     Mark,
+    /// A frame of the routine with this number, as a place of slot 0 and length 0.
+    Link(u32),
 }
 
 /// Cells that follow one another in a frame. Frames are counted from 0, the global one.
@@ -25,7 +27,7 @@ pub enum Cell {
     /// A number slot with no number yet.
     Unknown,
     Int(i64),
-    /// A place slot or a mark slot that was not written yet.
+    /// A slot for a place, a mark or a link that was not written yet.
     Unset,
     Place(CellPlace),
     /// A height of the stack of choice entries.

@@ -61,14 +61,25 @@ pub struct CodeGlobal {
     pub cells: u32,
 }
 
+/// From this address on up to that of the next record, the line of the source; 0 where none is known.
+#[derive(Clone, Copy, Debug, PartialEq, Eq)]
+pub struct Line {
+    pub at: u32,
+    pub line: u32,
+}
+
 /// A code. Instructions name routines, ranges and texts by their places here, and one another by address.
 #[derive(Debug, Drop)]
 pub struct Code {
+    /// Of the format: 1, or 2 for a code that may have links and lines.
+    pub version: u16,
     pub routines: Vec<RoutineHead>,
     pub globals: Vec<CodeGlobal>,
     pub ranges: Vec<Range>,
     pub texts: Vec<Vec<u8>>,
     pub code: Vec<Instr>,
+    /// In the order of their addresses.
+    pub lines: Vec<Line>,
 }
 
 #[cfg(test)]

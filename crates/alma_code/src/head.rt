@@ -15,9 +15,11 @@ pub enum ParamKind {
     Mix,
     /// A place of which all cells are copied.
     Cells,
+    /// A link to a frame of the routine round it.
+    Link,
 }
 
-/// A parameter. `cells` is 1 for Value and Mix.
+/// A parameter. `cells` is 1 for Value and Mix, and for Link the routine to whose frame it links.
 #[derive(Clone, Copy, Debug, PartialEq, Eq)]
 pub struct CodeParam {
     pub kind: ParamKind,

@@ -188,6 +188,24 @@ pub enum Instr {
         by: u32,
         out: u32,
     },
+    Own {
+        to: u32,
+    },
+    Chain {
+        to: u32,
+        link: u32,
+        slot: u32,
+    },
+    Outer {
+        to: u32,
+        link: u32,
+        first: u32,
+    },
+    OuterSame {
+        to: u32,
+        link: u32,
+        slot: u32,
+    },
 }
 
 /// One word of an instruction, by what it names.
@@ -199,6 +217,8 @@ pub enum Word {
     Place(u32),
     /// A mark slot.
     Mark(u32),
+    /// A link slot.
+    Link(u32),
     /// A slot of any kind.
     Slot(u32),
     Range(u32),

@@ -10,7 +10,7 @@ mod step;
 pub mod worked;
 
 pub use cell::{Cell, CellPlace, ChoiceKind, SlotKind};
-pub use code::{Code, CodeGlobal, RoutineHead};
+pub use code::{Code, CodeGlobal, Line, RoutineHead};
 pub use head::{CodeParam, Head, ParamKind, Run};
 pub use instr::{Instr, Word};
 pub use step::{End, Step, VerifyFault};

@@ -11,6 +11,7 @@ ghost use Rattle.alma_code.specs.Picture.{cell_at, last_frame, top_of, entry_at}
 ghost use Rattle.alma_code.specs.Machine.{step, start};
 ghost use Rattle.alma_code.specs.Records.{KeepsCounts, KeepsRecords};
 ghost use Rattle.alma_code.specs.Rules.{IsTable, code_fault};
+ghost use Rattle.alma_code.specs.WorkedLinks.{LinksRun, LinksRefused, LinesTell, TextsTell};
 ghost use Rattle.alma_code.specs.Worked.{Ends, Prints, Breaks, state_after, change_of, param_of, numbers_to, places_to, marks_to, routine_to, code_with, main_with, plain_main, least, branch_undone, choices_cut, sum_carried, carry_grows, left_unknown, right_unknown, both_unknown, out_of_range, cells_equated, mix_called, frame_again, function_called, frame_too_large, input_again, read_one, loop_counts, values_print, operation, index_outside, part_named, global_written, array_copied, copy_overlaps, equation_overlaps, equation_stops, jump_if_zero, bound_to, byte_read, small_read, nothing_held, kept_below, unset_argument, loop_by};
 
 /// The least code is sound, and its first step ends it in success.
@@ -342,4 +343,28 @@ pub fn ended_machine_stays()
 pub fn loops_step_exactly()
     ensures down { Prints (loop_by (pos 5) (pos 1) (negsuc 1)) [] 12 (decimal 5 ∷ decimal 3 ∷ decimal 1 ∷ []) }
     ensures edge { Ends (loop_by (pos (2 ^ 63 - 1)) (pos (2 ^ 63 - 1)) (pos 1)) [] 6 end.Succeeded }
+{}
+
+/// A procedure inside another reaches the variables and parameters round it by links.
+#[tactic(auto, using(crate::proofs::ComputedLinks::links_run))]
+pub fn links_run()
+    ensures { LinksRun }
+{}
+
+/// The rules on links.
+#[tactic(auto, using(crate::proofs::ComputedLinks::links_refused))]
+pub fn links_refused()
+    ensures { LinksRefused }
+{}
+
+/// The line of an address, and the address of the last instruction taken.
+#[tactic(auto, using(crate::proofs::ComputedLinks::lines_tell))]
+pub fn lines_tell()
+    ensures { LinesTell }
+{}
+
+/// The texts of a code and of a run.
+#[tactic(auto, using(crate::proofs::ComputedLinks::texts_tell))]
+pub fn texts_tell()
+    ensures { TextsTell }
 {}

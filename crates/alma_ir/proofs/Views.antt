@@ -23,7 +23,7 @@ use Rattle.alma_ir.specs.View
 pub stmts_row : (n : _) (k : B.Row_of-Stmt n) → View.stmts_of k ≡ View.stmts_list (B.items-the_row-Stmt n k)
 unfolding View.stmts_of
 stmts_row n B.end_of-Stmt = refl
-stmts_row n (B.more_of-Stmt x rest) = ap (Tree.more_stmts (View.stmt_of x)) (stmts_row _ rest)
+stmts_row n (B.more_of-Stmt x rest) = ap (Tree.more_stmts 0 (View.stmt_of x)) (stmts_row _ rest)
 
 pub stmts_held : (v : Vec S.Stmt Global) → View.stmts_of (B.hidden-the_row-Stmt-3 v) ≡ View.stmts_list v.items
 stmts_held v = stmts_row _ (B.hidden-the_row-Stmt-3 v) ∙ ap View.stmts_list (B.items_hidden-the_row-Stmt-3 v)
@@ -152,9 +152,9 @@ pub not_view : (t : _) → View.test_of (T.Not t) ≡ Tree.Not (View.test_of t.v
 unfolding View.stmts_of
 not_view t = refl
 
-pub callexpr_view : (c : Call) → View.expr_of (E.Call c) ≡ Tree.CallExpr c.routine (View.args_list c.args.items)
+pub callexpr_view : (c : Call) → View.expr_of (E.Call c) ≡ Tree.CallExpr c.routine (View.args_list c.args.items) c.up
 unfolding View.stmts_of
-callexpr_view c = ap (Tree.CallExpr c.routine) (args_held c.args)
+callexpr_view c = ap (λ a. Tree.CallExpr c.routine a c.up) (args_held c.args)
 
 pub return_view : (x : Option E.Expr) → View.stmt_of (S.Return x) ≡ Tree.Return (View.return_option x)
 unfolding View.stmts_of
@@ -212,7 +212,7 @@ pub or_view : (v : Vec T.Test Global) → View.test_of (T.Or v) ≡ Tree.Or (Vie
 unfolding View.stmts_of
 or_view v = rw (tests_held v)
 
-pub calltest_view : (c : Call) → View.test_of (T.Call c) ≡ Tree.CallTest c.routine (View.args_list c.args.items)
+pub calltest_view : (c : Call) → View.test_of (T.Call c) ≡ Tree.CallTest c.routine (View.args_list c.args.items) c.up
 unfolding View.stmts_of
 calltest_view c = rw (args_held c.args)
 

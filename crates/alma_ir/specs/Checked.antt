@@ -1,5 +1,5 @@
 -- What the checker's programs keep, and what a program must keep to be compiled: each condition by itself, and all.
-use Rattle.std.specs.Prelude.{◌≡◌, ◌⊎◌, ℕ, ◌+◌, ◌*◌, ◌<◌, ◌≤◌, IsTrue, pos, ◌≤ℤ◌, List, [], ◌∷◌, ◌++◌, length, sum_by, Some, IsSome, IsNone}
+use Rattle.std.specs.Prelude.{◌≡◌, ◌⊎◌, ℕ, zero, suc, ◌+◌, ◌*◌, ◌<◌, ◌≤◌, IsTrue, pos, ◌≤ℤ◌, List, [], ◌∷◌, ◌++◌, length, sum_by, Some, IsSome, IsNone}
 use Rattle.std.specs.List.{AllByRecursion}
 use Rattle.alma_base.specs.Bytes.{is_letter, is_word_byte}
 use Rattle.alma_base.specs.Numbers.{range_size}
@@ -9,6 +9,7 @@ use Rattle.alma_ir.specs.declared.program.ArgKind.TheVariants as kind
 use Rattle.alma_ir.specs.declared.program.Param.{Param}
 use Rattle.alma_ir.specs.declared.phrase.Root.TheVariants as root
 use Rattle.alma_ir.specs.Tree.{Stmts, CaseArms, Loop, Args, Arg, Desig, Sels, Sel, Routine, Global, Program, routine_at, Assign, CopyCells, ForTo, SomeOf, Case, Either, Forall, Commit, Return, Read, WriteText, no_cases, more_cases, no_branches, a_loop, no_result, some_result, Bind, Unify, SameCells, Seq, Or, CallTest, no_tests, Load, Known, CallExpr, no_args, more_args, ByValue, ByCells, ByPlace, MixValue, MixPlace, a_desig, no_sels, more_sels, Field, Index}
+use Rattle.alma_ir.specs.Lines.{stmt_count}
 use Rattle.alma_ir.specs.Phrases.{Phrase, StmtPhrase, TestPhrase, ExprPhrase, ArgPhrase, DesigPhrase, SelPhrase, stmts_phrases, loop_phrases}
 
 -- ---- how the conditions are said
@@ -99,6 +100,30 @@ pub record AreNumbers (routine : Routine) (from count : ℕ) : Type 0 where
 abbrev pub LeavesPosition : (r slot : ℕ) → Type 0
 LeavesPosition r slot = r ≡ 0 → 0 < slot
 
+-- ---- routines inside routines
+
+-- the routine to which so many links lead from a routine
+abbrev pub outer_at : Program → (r links : ℕ) → ℕ
+outer_at p r zero = r
+outer_at p r (suc links) = outer_at p (routine_at p r).outer links
+
+-- the body of the module has level 0, and each other routine the level above that of the routine round it
+pub record IsNested (p : Program) (r : ℕ) (routine : Routine) : Type 0 where
+  pub body : r ≡ 0 → (routine.level ≡ 0) × (routine.outer ≡ 0)
+  pub exists : routine.outer < length p.routines
+  pub above : 0 < r → routine.level ≡ suc (routine_at p routine.outer).level
+  pub few : routine.level ≤ 8
+
+-- one for each routine of level 2 or more, whose code has a parameter more, for the link
+abbrev pub link_slots : (level : ℕ) → ℕ
+link_slots zero = 0
+link_slots (suc zero) = 0
+link_slots (suc (suc above)) = 1
+
+-- links that lead to a routine round the routine, and not to the body of the module
+abbrev pub LeadOut : Routine → (links : ℕ) → Type 0
+LeadOut routine links = (0 < links) × (links < routine.level)
+
 -- ---- globals and roots
 
 -- a variable of the module names number slots of routine 0, not the input position, where it begins even with no cells
@@ -106,12 +131,16 @@ pub record IsGlobal (p : Program) (g : Global) : Type 0 where
   pub slots : AreNumbers (routine_at p 0) g.slot g.cells
   pub position : 0 < g.slot
 
--- a root names number slots of its routine or of routine 0, and no input position, where it begins even with no cells; or
--- a parameter that holds a place of as many cells
+-- a root names number slots of its routine, of one round it or, in a procedure, of routine 0, and no input position, where it
+-- begins even with no cells; or a parameter of its routine or of one round it that holds a place of as many cells
 abbrev pub RootExists : Program → ℕ → Routine → Phrase → Type 0
 RootExists p r routine (DesigPhrase (a_desig (root.Local slot) cells sels)) = AreNumbers routine slot cells × LeavesPosition r slot
-RootExists p r routine (DesigPhrase (a_desig (root.Global slot) cells sels)) = AreNumbers (routine_at p 0) slot cells × (0 < slot)
+RootExists p r routine (DesigPhrase (a_desig (root.Global slot) cells sels)) = (0 < routine.level) × AreNumbers (routine_at p 0) slot cells × (0 < slot)
 RootExists p r routine (DesigPhrase (a_desig (root.Param slot) cells sels)) = HoldPlace routine.params slot cells
+RootExists p r routine (DesigPhrase (a_desig (root.Outer links slot) cells sels)) =
+    LeadOut routine links × AreNumbers (routine_at p (outer_at p r links)) slot cells
+RootExists p r routine (DesigPhrase (a_desig (root.OuterParam links slot) cells sels)) =
+    LeadOut routine links × HoldPlace (routine_at p (outer_at p r links)).params slot cells
 RootExists p r routine _ = Unit {0}
 
 -- ---- cells
@@ -202,10 +231,11 @@ abbrev pub HasStep : Loop → Type 0
 HasStep (a_loop d range counter limit from to by body) = by ≡ pos 0 → ⊥
 
 -- the root of a phrase of the routine `holder` leaves out this slot of routine r
-abbrev pub RootLeaves : (holder r slot : ℕ) → Phrase → Type 0
-RootLeaves holder r slot (DesigPhrase (a_desig (root.Local from) cells sels)) = holder ≡ r → IsOutside from cells slot
-RootLeaves holder r slot (DesigPhrase (a_desig (root.Global from) cells sels)) = r ≡ 0 → IsOutside from cells slot
-RootLeaves holder r slot _ = Unit {0}
+abbrev pub RootLeaves : Program → (holder r slot : ℕ) → Phrase → Type 0
+RootLeaves p holder r slot (DesigPhrase (a_desig (root.Local from) cells sels)) = holder ≡ r → IsOutside from cells slot
+RootLeaves p holder r slot (DesigPhrase (a_desig (root.Global from) cells sels)) = r ≡ 0 → IsOutside from cells slot
+RootLeaves p holder r slot (DesigPhrase (a_desig (root.Outer links from) cells sels)) = outer_at p holder links ≡ r → IsOutside from cells slot
+RootLeaves p holder r slot _ = Unit {0}
 
 -- neither of two slots is the counter or the limit of a loop
 abbrev pub LoopLeaves : (counter limit : ℕ) → Loop → Type 0
@@ -218,7 +248,7 @@ pub record IsHiddenSlot (p : Program) (r slot : ℕ) : Type 0 where
   pub position : LeavesPosition r slot
   pub params : AllByRecursion (λ q. IsOutside q.slot (param_slots q) slot) (routine_at p r).params
   pub globals : r ≡ 0 → AllByRecursion (λ g. IsOutside g.slot g.cells slot) p.globals
-  pub roots : EachPhrase p (λ holder routine x. RootLeaves holder r slot x)
+  pub roots : EachPhrase p (λ holder routine x. RootLeaves p holder r slot x)
 
 -- counter and limit of a loop are two such slots, which no loop inside of it has
 pub record CountsApart (p : Program) (r counter limit : ℕ) (inside : List Phrase) : Type 0 where
@@ -236,15 +266,24 @@ LoopIsApart p r (a_loop d range counter limit from to by body) =
 
 -- a routine that is called exists, and is not the body of the module
 abbrev pub CalleeExists : Program → Phrase → Type 0
-CalleeExists p (TestPhrase (CallTest r args)) = (0 < r) × (r < length p.routines)
-CalleeExists p (ExprPhrase (CallExpr r args)) = (0 < r) × (r < length p.routines)
+CalleeExists p (TestPhrase (CallTest q args up)) = (0 < q) × (q < length p.routines)
+CalleeExists p (ExprPhrase (CallExpr q args up)) = (0 < q) × (q < length p.routines)
 CalleeExists p _ = Unit {0}
 
 -- a call in an expression is of a routine with a result, and a call as a test of one without
 abbrev pub ResultAgrees : Program → Phrase → Type 0
-ResultAgrees p (TestPhrase (CallTest r args)) = IsNone (routine_at p r).result
-ResultAgrees p (ExprPhrase (CallExpr r args)) = IsSome (routine_at p r).result
+ResultAgrees p (TestPhrase (CallTest q args up)) = IsNone (routine_at p q).result
+ResultAgrees p (ExprPhrase (CallExpr q args up)) = IsSome (routine_at p q).result
 ResultAgrees p _ = Unit {0}
+
+-- the links of a call lead to the routine round the called one, as many as the levels say
+abbrev pub LinksAgree : Program → (r : ℕ) → Routine → (q up : ℕ) → Type 0
+LinksAgree p r routine q up = (up + (routine_at p q).level ≡ suc routine.level) × (outer_at p r up ≡ (routine_at p q).outer)
+
+abbrev pub CallLeads : Program → ℕ → Routine → Phrase → Type 0
+CallLeads p r routine (TestPhrase (CallTest q args up)) = LinksAgree p r routine q up
+CallLeads p r routine (ExprPhrase (CallExpr q args up)) = LinksAgree p r routine q up
+CallLeads p r routine _ = Unit {0}
 
 -- an argument is of the parameter's kind, and a designator has the parameter's cells
 abbrev pub ArgFits : Param → Arg → Type 0
@@ -263,8 +302,8 @@ ArgsFit (q ∷ qs) (more_args a rest) = ArgFits q a × ArgsFit qs rest
 
 -- the arguments of a call fit the parameters of the routine
 abbrev pub CallFits : Program → Phrase → Type 0
-CallFits p (TestPhrase (CallTest r args)) = ArgsFit (routine_at p r).params args
-CallFits p (ExprPhrase (CallExpr r args)) = ArgsFit (routine_at p r).params args
+CallFits p (TestPhrase (CallTest q args up)) = ArgsFit (routine_at p q).params args
+CallFits p (ExprPhrase (CallExpr q args up)) = ArgsFit (routine_at p q).params args
 CallFits p _ = Unit {0}
 
 -- ---- choices and RETURN
@@ -312,17 +351,23 @@ abbrev pub text_bytes : Phrase → ℕ
 text_bytes (StmtPhrase (WriteText text)) = length text
 text_bytes _ = 0
 
--- how much the whole program may hold
+-- the routine begins at a line, and each statement of its body has one
+pub record HasLines (routine : Routine) : Type 0 where
+  pub line : 0 < routine.line
+  pub count : length routine.lines ≡ stmt_count (stmts_phrases routine.body)
+  pub lines : AllByRecursion (λ l. 0 < l) routine.lines
+
+-- how much the whole program may hold, with a parameter more for each link
 pub record KeepsLimits (p : Program) : Type 0 where
   pub globals : length p.globals ≤ 1048576
-  pub params : sum_by (λ r. length r.params) p.routines ≤ 1048576
+  pub params : sum_by (λ r. length r.params + link_slots r.level) p.routines ≤ 1048576
   pub names : sum_by (λ r. length r.name) p.routines + sum_by (λ g. length g.name) p.globals ≤ 16777216
   pub texts : sum_by (λ r. sum_by text_bytes (stmts_phrases r.body)) p.routines ≤ 16777216
 
--- how much a routine may hold
+-- how much a routine may hold, with a slot more for its link
 pub record RoutineKeepsLimits (routine : Routine) : Type 0 where
   pub declared : routine.declared ≤ 1048576
-  pub slots : routine.slots ≤ 4194304
+  pub slots : routine.slots + link_slots routine.level ≤ 4194304
 
 -- ---- all conditions
 
@@ -334,6 +379,7 @@ pub record IsChecked (p : Program) : Type 0 where
   pub body_takes_nothing : BodyTakesNothing p
   pub params : EachRoutine p (λ r routine. ParamsFirst routine)
   pub declared : EachRoutine p DeclaredFits
+  pub nested : EachRoutine p (IsNested p)
   pub globals : AllByRecursion (IsGlobal p) p.globals
   pub roots : EachPhrase p (RootExists p)
   pub parts : EachPhrase p (λ r routine x. PartsExist x)
@@ -344,10 +390,12 @@ pub record IsChecked (p : Program) : Type 0 where
   pub loops : EachPhrase p (λ r routine x. AllByRecursion (LoopIsApart p r) (loops_of x))
   pub callees : EachPhrase p (λ r routine x. CalleeExists p x)
   pub results : EachPhrase p (λ r routine x. ResultAgrees p x)
+  pub links : EachPhrase p (CallLeads p)
   pub arguments : EachPhrase p (λ r routine x. CallFits p x)
   pub choices : EachPhrase p (λ r routine x. HasChoice x)
   pub returns : EachPhrase p (λ r routine x. ReturnAgrees routine x)
   pub returns_stay : EachPhrase p (λ r routine x. ReturnsStay x)
+  pub lines : EachRoutine p (λ r routine. HasLines routine)
   pub names : NamesSpelled p
   pub limits : KeepsLimits p
   pub routine_limits : EachRoutine p (λ r routine. RoutineKeepsLimits routine)

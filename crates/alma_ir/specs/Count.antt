@@ -5,7 +5,7 @@ use Rattle.alma_ir.specs.Tree.{Stmts, Stmt, Arms, CaseArms, Else, Branches, Loop
 abbrev mutual
   pub stmts_nodes : Stmts → ℕ
   stmts_nodes no_stmts = 0
-  stmts_nodes (more_stmts x rest) = stmt_nodes x + stmts_nodes rest
+  stmts_nodes (more_stmts line x rest) = stmt_nodes x + stmts_nodes rest
 
   pub stmt_nodes : Stmt → ℕ
   stmt_nodes (TestStmt t) = 1 + test_nodes t
@@ -59,7 +59,7 @@ abbrev mutual
   test_nodes (And ts) = 1 + tests_nodes ts
   test_nodes (Or ts) = 1 + tests_nodes ts
   test_nodes (Not t) = 1 + test_nodes t
-  test_nodes (CallTest routine args) = 1 + args_nodes args
+  test_nodes (CallTest routine args up) = 1 + args_nodes args
 
   pub tests_nodes : Tests → ℕ
   tests_nodes no_tests = 0
@@ -73,7 +73,7 @@ abbrev mutual
   expr_nodes (Truth t) = 1 + test_nodes t
   expr_nodes (Known d) = 1 + desig_nodes d
   expr_nodes (Chr e) = 1 + expr_nodes e
-  expr_nodes (CallExpr routine args) = 1 + args_nodes args
+  expr_nodes (CallExpr routine args up) = 1 + args_nodes args
 
   pub links_nodes : Links → ℕ
   links_nodes no_links = 0

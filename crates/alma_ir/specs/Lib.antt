@@ -2,4 +2,5 @@ pub mod Tree
 pub mod View
 pub mod Count
 pub mod Phrases
+pub mod Lines
 pub mod Checked

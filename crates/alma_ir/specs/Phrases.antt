@@ -14,7 +14,7 @@ pub data Phrase : Type 0 where
 unfoldable mutual
   pub stmts_phrases : Stmts → List Phrase
   stmts_phrases no_stmts = []
-  stmts_phrases (more_stmts x rest) = stmt_phrases x ++ stmts_phrases rest
+  stmts_phrases (more_stmts line x rest) = stmt_phrases x ++ stmts_phrases rest
 
   pub stmt_phrases : Stmt → List Phrase
   stmt_phrases (TestStmt t) = StmtPhrase (TestStmt t) ∷ test_phrases t
@@ -68,7 +68,7 @@ unfoldable mutual
   test_phrases (And ts) = TestPhrase (And ts) ∷ tests_phrases ts
   test_phrases (Or ts) = TestPhrase (Or ts) ∷ tests_phrases ts
   test_phrases (Not t) = TestPhrase (Not t) ∷ test_phrases t
-  test_phrases (CallTest routine args) = TestPhrase (CallTest routine args) ∷ args_phrases args
+  test_phrases (CallTest routine args up) = TestPhrase (CallTest routine args up) ∷ args_phrases args
 
   pub tests_phrases : Tests → List Phrase
   tests_phrases no_tests = []
@@ -82,7 +82,7 @@ unfoldable mutual
   expr_phrases (Truth t) = ExprPhrase (Truth t) ∷ test_phrases t
   expr_phrases (Known d) = ExprPhrase (Known d) ∷ desig_phrases d
   expr_phrases (Chr e) = ExprPhrase (Chr e) ∷ expr_phrases e
-  expr_phrases (CallExpr routine args) = ExprPhrase (CallExpr routine args) ∷ args_phrases args
+  expr_phrases (CallExpr routine args up) = ExprPhrase (CallExpr routine args up) ∷ args_phrases args
 
   pub links_phrases : Links → List Phrase
   links_phrases no_links = []

@@ -9,10 +9,10 @@ use Rattle.alma_ir.specs.declared.phrase.Root.{Root}
 use Rattle.alma_ir.specs.declared.program.Param.{Param}
 
 mutual
-  -- statements in order
+  -- statements in order, each with its line, or 0
   pub data Stmts : Type 0 where
     no_stmts : Stmts
-    more_stmts : Stmt → Stmts → Stmts
+    more_stmts : (line : ℕ) → Stmt → Stmts → Stmts
 
   pub data Stmt : Type 0 where
     TestStmt : Test → Stmt
@@ -69,7 +69,7 @@ mutual
     And : Tests → Test
     Or : Tests → Test
     Not : Test → Test
-    CallTest : (routine : ℕ) → Args → Test
+    CallTest : (routine : ℕ) → Args → (up : ℕ) → Test
 
   pub data Tests : Type 0 where
     no_tests : Tests
@@ -83,7 +83,7 @@ mutual
     Truth : Test → Expr
     Known : Desig → Expr
     Chr : Expr → Expr
-    CallExpr : (routine : ℕ) → Args → Expr
+    CallExpr : (routine : ℕ) → Args → (up : ℕ) → Expr
 
   pub data Links : Type 0 where
     no_links : Links
@@ -118,6 +118,10 @@ pub record Routine : Type 0 where
   pub declared : ℕ
   pub slots : ℕ
   pub body : Stmts
+  pub level : ℕ
+  pub outer : ℕ
+  pub line : ℕ
+  pub lines : List ℕ
 
 pub record Global : Type 0 where
   pub name : List ℕ
@@ -131,7 +135,7 @@ pub record Program : Type 0 where
 
 -- a routine that does nothing
 abbrev pub no_routine : Routine
-no_routine = record { name = []; params = []; result = None; declared = 0; slots = 0; body = no_stmts }
+no_routine = record { name = []; params = []; result = None; declared = 0; slots = 0; body = no_stmts; level = 0; outer = 0; line = 0; lines = [] }
 
 -- the routine with this number, or one that does nothing where there is none
 abbrev pub routine_at : Program → ℕ → Routine

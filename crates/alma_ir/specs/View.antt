@@ -20,7 +20,7 @@ use Rattle.alma_ir.specs.Tree
 unfoldable mutual
   pub stmts_of : {m : _} → S.Row_of-Stmt m → Tree.Stmts
   stmts_of S.end_of-Stmt = Tree.no_stmts
-  stmts_of (S.more_of-Stmt x rest) = Tree.more_stmts (stmt_of x) (stmts_of rest)
+  stmts_of (S.more_of-Stmt x rest) = Tree.more_stmts 0 (stmt_of x) (stmts_of rest)
 
   pub stmt_of : S.Stmt → Tree.Stmt
   stmt_of (S.Test t) = Tree.TestStmt (test_of t)
@@ -75,7 +75,7 @@ unfoldable mutual
   test_of (T.And' v ts) = Tree.And (tests_of ts)
   test_of (T.Or' v ts) = Tree.Or (tests_of ts)
   test_of (T.Not' p t) = Tree.Not (test_of t)
-  test_of (T.Call' routine v args) = Tree.CallTest routine (args_of args)
+  test_of (T.Call' routine v args up) = Tree.CallTest routine (args_of args) up
 
   pub tests_of : {m : _} → T.Row_of-Test m → Tree.Tests
   tests_of T.end_of-Test = Tree.no_tests
@@ -89,7 +89,7 @@ unfoldable mutual
   expr_of (E.Truth' p t) = Tree.Truth (test_of t)
   expr_of (E.Known' r c v sels) = Tree.Known (Tree.a_desig r c (sels_of sels))
   expr_of (E.Chr' p e) = Tree.Chr (expr_of e)
-  expr_of (E.Call' routine v args) = Tree.CallExpr routine (args_of args)
+  expr_of (E.Call' routine v args up) = Tree.CallExpr routine (args_of args) up
 
   pub links_of : {m : _} → E.Row_of-Link m → Tree.Links
   links_of E.end_of-Link = Tree.no_links
@@ -118,7 +118,7 @@ unfoldable mutual
 
 abbrev pub stmts_list : List S.Stmt → Tree.Stmts
 stmts_list [] = Tree.no_stmts
-stmts_list (x ∷ rest) = Tree.more_stmts (stmt_of x) (stmts_list rest)
+stmts_list (x ∷ rest) = Tree.more_stmts 0 (stmt_of x) (stmts_list rest)
 
 abbrev pub tests_list : List T.Test → Tree.Tests
 tests_list [] = Tree.no_tests
@@ -170,6 +170,10 @@ routine_of r = record {
   declared = r.declared;
   slots = r.slots;
   body = stmts_list r.body.items;
+  level = r.level;
+  outer = r.outer;
+  line = r.line;
+  lines = r.lines.items;
 }
 
 abbrev pub global_of : Global → Tree.Global

@@ -259,6 +259,10 @@ mod tests {
             declared: 0,
             slots: 1,
             body,
+            level: 0,
+            outer: 0,
+            line: 1,
+            lines: vec![in alloc; 1, 1]?,
         })?;
         let program = Program {
             name: Vec::new(alloc),

@@ -117,6 +117,8 @@ pub struct Link {
 pub struct Call {
     pub routine: u32,
     pub args: Vec<Arg>,
+    /// How many links lead from the frame of the call to that of the routine round the called one.
+    pub up: u32,
 }
 
 /// An argument. The range is that of the parameter's type.
@@ -159,6 +161,10 @@ pub enum Root {
     Global(u32),
     /// Where the place in this slot says: the first slot of a parameter.
     Param(u32),
+    /// So many links up, in the slots of the frame there, from this one on.
+    Outer(u32, u32),
+    /// So many links up, where the place in this slot of the frame there says.
+    OuterParam(u32, u32),
 }
 
 /// An operator on two numbers.

@@ -33,6 +33,14 @@ pub struct Routine {
     pub declared: u32,
     pub slots: u32,
     pub body: Vec<Stmt>,
+    /// 0 for the body of the module, and else one more than that of the routine round it.
+    pub level: u32,
+    /// The routine round it; 0 for the body of the module.
+    pub outer: u32,
+    /// The line of its MODULE or PROCEDURE.
+    pub line: u32,
+    /// The line of each statement of the body, a statement before those inside it.
+    pub lines: Vec<u32>,
 }
 
 /// A parameter. One of kind Mix has a slot for a place and, behind it, one for a number.

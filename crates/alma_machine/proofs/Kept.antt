@@ -8,15 +8,15 @@ use Rattle.alma_code.specs.declared.code.RoutineHead.{RoutineHead}
 use Rattle.alma_code.specs.declared.step.Step.{Step}
 use Rattle.alma_code.specs.declared.step.Step.TheVariants as answer
 use Rattle.alma_code.specs.Fits.{Fits}
-use Rattle.alma_code.specs.Layout.{kinds_of, start_frame}
+use Rattle.alma_code.specs.Layout.{RunsRise, kinds_of, start_frame}
 use Rattle.alma_code.specs.Machine.{Mode, Going, State, step, start}
 use Rattle.alma_code.specs.Picture.{PlainFrame}
 use Rattle.alma_code.specs.Plain.{PlainCode, code_of, head_of, head_at, routine_of, no_routine}
-use Rattle.alma_code.specs.Rules.{IsSound}
+use Rattle.alma_code.specs.Rules.{IsSound, last_end}
 use Rattle.alma_code.proofs.Runs.{start_fits, stays_fit}
 use Rattle.alma_machine.specs.Built.{HasOnlyBuilt}
 use Rattle.alma_machine.specs.View.{Keeps, IsLive, ModeAfter, stepped, goes_on, runs_after}
-use Rattle.alma_machine.proofs.Sound.{main_some}
+use Rattle.alma_machine.proofs.Sound.{main_runs, main_some}
 
 -- the head of the module body
 pub first_head : (c : Code) (h : RoutineHead) → 1 ≤ length (code_of c).routines → h ≡ get_or c.routines.items 0 h → head_at (code_of c) 0 ≡ head_of h
@@ -29,9 +29,13 @@ first_head c h some is =
 pub first_some : (c : Code) (h : RoutineHead) → IsSound (code_of c) → h ≡ get_or c.routines.items 0 h → 0 < length (kinds_of 0 h.kinds.items)
 first_some c h sound is = subst (λ q. 0 < length (kinds_of 0 q.runs)) (first_head c h sound.table.some is) (main_some (code_of c) sound)
 
+-- and its runs rise
+pub first_rise : (c : Code) (h : RoutineHead) → IsSound (code_of c) → h ≡ get_or c.routines.items 0 h → RunsRise 0 h.kinds.items (last_end 0 h.kinds.items)
+first_rise c h sound is = subst (λ q. RunsRise 0 q.runs (last_end 0 q.runs)) (first_head c h sound.table.some is) (main_runs (code_of c) sound)
+
 -- the state with this frame before the first step
 abbrev pub first_state : PlainFrame → State
-first_state f = record { at = 0; mode = Going; now = f ∷ []; held = []; steps = 0; choices = 0; fails = 0 }
+first_state f = record { at = 0; last = 0; mode = Going; now = f ∷ []; held = []; steps = 0; choices = 0; fails = 0 }
 
 -- the state before the first step is the start
 pub starts_at : (c : Code) (h : RoutineHead) (f : PlainFrame) → IsSound (code_of c) → h ≡ get_or c.routines.items 0 h → f ≡ start_frame (head_of h) → first_state f ≡ start (code_of c)

@@ -1,6 +1,7 @@
 -- What a sound code gives to the instruction at the address.
 use Rattle.std.proofs.Common.{◌≡◌, ℕ, ◌+◌, ◌-◌, ◌<◌, ◌≤◌, List, [], ◌∷◌, length, get_or, refl, sym, ap, ◌∙◌, subst, arith, Some}
 use Rattle.std.specs.Prelude.{Result, Ok, Err, IfOk, slice_get, true, ◌&&◌, nat_eq, nat_le, nat_lt}
+use Rattle.std.specs.List.{list_all}
 use Rattle.std.proofs.lemmas.Bool.{false≢true, and_parts, eqb-true, leb-true, ltb-true}
 use Rattle.std.proofs.lemmas.Option.{slice_get-get_or, slice_get_within, get_or_from_slice_get}
 use Rattle.alma_code.specs.declared.cell.Cell.{Cell}
@@ -19,7 +20,7 @@ use Rattle.alma_code.specs.Machine.{State, Going, Failing, step, step_in, act, f
 use Rattle.alma_code.proofs.Runs.{first_number, start_fits, stays_fit}
 use Rattle.alma_code.specs.Picture.{PlainFrame}
 use Rattle.alma_code.specs.Plain.{PlainCode, head_at, kinds_at, start_at, end_at}
-use Rattle.alma_code.specs.Rules.{IsSound, last_end, kind_in, length_in, place_length, has_room, names_slot, rule_5, rule_6, rule_7, rule_12}
+use Rattle.alma_code.specs.Rules.{IsSound, last_end, names_routine, kind_in, length_in, place_length, has_room, names_slot, rule_5, rule_6, rule_7, rule_12}
 use Rattle.alma_code.specs.Words.{words}
 use Rattle.alma_code.proofs.Acts.{Obeys, obeys, slots, entries, number_word, place_word}
 use Rattle.alma_code.proofs.Heads.{number_is}
@@ -171,10 +172,11 @@ module _ (code : PlainCode) (sound : IsSound code) (r : Registers) (fits : Fits 
   few_slots : length r.frame.kinds ≤ 8388608
   few_slots =
       let h = head_at code 0 in
-      let two = and_parts (nat_eq (last_end 0 h.runs) h.slots && nat_le h.slots 8388608) (nat_le h.declared h.slots && nat_le h.declared 1048576) (sound.heads 0 sound.table.some).1 in
-      let parts = and_parts (nat_eq (last_end 0 h.runs) h.slots) (nat_le h.slots 8388608) two.0 in
+      let named = list_all (λ run. names_routine code run.kind) h.runs in
+      let two = and_parts (nat_eq (last_end 0 h.runs) h.slots && (nat_le h.slots 8388608 && named)) (nat_le h.declared h.slots && nat_le h.declared 1048576) (sound.heads 0 sound.table.some).1 in
+      let parts = and_parts (nat_eq (last_end 0 h.runs) h.slots) (nat_le h.slots 8388608 && named) two.0 in
       let last = eqb-true (last_end 0 h.runs) h.slots parts.0 in
-      let low = leb-true h.slots 8388608 parts.1 in
+      let low = leb-true h.slots 8388608 (and_parts (nat_le h.slots 8388608) named parts.1).0 in
       let all = length_kinds 0 (last_end 0 h.runs) h.runs (sound.table.runs 0 sound.table.some) in
       let same : length r.frame.kinds ≡ length (kinds_at code 0) = ap length (frame_fits.kinds ∙ ap (kinds_at code) (frame_fits.main refl)) in
       omega arith
@@ -207,7 +209,7 @@ needs_at code r i sound built fits going is =
     subst (λ j. Needs code r.frame j) (get_or_from_slice_get code.instrs r.at i I.Fail is) (needs code sound r fits built going)
 
 -- a step of a machine that goes on is what its instruction does
-pub step_fetched : (code : PlainCode) (input : List ℕ) (s : State) (i : Instr) → s.mode ≡ Going → slice_get code.instrs s.at ≡ Some i → step code input s ≡ act code input i (record (ticked code input s) { at = s.at + 1 })
+pub step_fetched : (code : PlainCode) (input : List ℕ) (s : State) (i : Instr) → s.mode ≡ Going → slice_get code.instrs s.at ≡ Some i → step code input s ≡ act code input i (record (ticked code input s) { at = s.at + 1; last = s.at })
 step_fetched code input s i going is = ap (λ m. step_in code input m s) going ∙ ap (λ o. fetched code input o s) is
 
 -- an element that is read where there is one
@@ -216,7 +218,7 @@ read_is xs n i lt e = slice_get-get_or xs n i lt ∙ ap Some (sym e)
 
 -- a step whose instruction is done is that step of the copying code machine
 pub done_is : {E : Type 0} (result : Result Step E) (bytes : List ℕ) (new : State) (code : PlainCode) (s : State) (i : Instr) → s.mode ≡ Going → slice_get code.instrs s.at ≡ Some i
-    → IfOk result (λ answer. (input : List ℕ) → stepped answer bytes new ≡ act code input i (record s { at = s.at + 1; steps = s.steps + 1 }))
+    → IfOk result (λ answer. (input : List ℕ) → stepped answer bytes new ≡ act code input i (record s { at = s.at + 1; last = s.at; steps = s.steps + 1 }))
     → IfOk result (λ answer. (input : List ℕ) → stepped answer bytes new ≡ step code input s)
 done_is (Ok answer) bytes new code s i going is h = λ input. h input ∙ sym (step_fetched code input s i going is)
 done_is (Err fault) bytes new code s i going is h = tt

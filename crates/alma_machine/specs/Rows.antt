@@ -34,6 +34,7 @@ mode_of (mode.Ended end) = Ended end
 abbrev pub state_of : Registers → State
 state_of r = record {
   at = r.at;
+  last = r.last;
   mode = mode_of r.mode;
   now = r.frame ∷ [];
   held = [];

@@ -8,6 +8,7 @@ use Rattle.alma_code.specs.Plain.{PlainCode}
 -- four cells and two for two cells; a range and a text
 abbrev pub small_code : List Instr → PlainCode
 small_code instrs = record {
+  version = 1;
   routines = record {
     name = [];
     head = record {
@@ -24,4 +25,5 @@ small_code instrs = record {
   ranges = record { low = pos 1; high = pos 2 } ∷ [];
   texts = codes "ok" ∷ [];
   instrs = instrs;
+  lines = [];
 }

@@ -37,7 +37,7 @@ fn blank(kind: SlotKind) -> Cell
 {
     match kind {
         SlotKind::Number => Cell::Unknown,
-        SlotKind::Place(_) | SlotKind::Mark => Cell::Unset,
+        SlotKind::Place(_) | SlotKind::Mark | SlotKind::Link(_) => Cell::Unset,
     }
 }
 
@@ -98,7 +98,7 @@ impl Frame {
     {
         match self.kinds[slot as usize] {
             SlotKind::Place(length) => length,
-            SlotKind::Number | SlotKind::Mark => unreachable!(),
+            SlotKind::Number | SlotKind::Mark | SlotKind::Link(_) => unreachable!(),
         }
     }
 

@@ -82,11 +82,14 @@ fn take(code: &Code, registers: &mut Registers, printed: &mut Vec<u8>) -> Result
     ensures refused { OnErr result ((state_of registers.new ≡ state_of registers.old) × (printed.new.items ≡ [])) }
 {
     let instr = &code.code[registers.at];
+    let last = registers.last;
+    registers.last = registers.at;
     registers.at += 1;
     registers.steps += 1;
     let step = registers.act(code, instr, printed);
     if step.is_err() {
         registers.at -= 1;
+        registers.last = last;
         registers.steps -= 1;
     }
     step
@@ -143,6 +146,7 @@ impl<'b, 'i> Machine<'b, 'i> {
         let frame = Frame::new(alloc, &code.routines[0])?;
         let registers = Registers {
             at: 0,
+            last: 0,
             mode: Mode::Going,
             frame,
             steps: 0,

@@ -23,10 +23,11 @@ pub(crate) enum Mode {
     Ended(End),
 }
 
-/// The state of a run: the next address, the mode, the frame and the counts.
+/// The state of a run: the next address, that of the last instruction taken, the mode, the frame and the counts.
 #[derive(Drop)]
 pub(crate) struct Registers {
     pub(crate) at: usize,
+    pub(crate) last: usize,
     pub(crate) mode: Mode,
     pub(crate) frame: Frame,
     pub(crate) steps: u64,

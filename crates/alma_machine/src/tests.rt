@@ -192,11 +192,13 @@ fn small(alloc: Global, instrs: &[Instr]) -> Result<Code, NoMemory>
     let mut texts = Vec::new(alloc);
     texts.push(Vec::from_slice(alloc, b"ok")?)?;
     Ok(Code {
+        version: 1,
         routines,
         globals: Vec::new(alloc),
         ranges: Vec::from_slice(alloc, &[Range { low: 1, high: 2 }])?,
         texts,
         code: Vec::from_slice(alloc, instrs)?,
+        lines: Vec::new(alloc),
     })
 }
 

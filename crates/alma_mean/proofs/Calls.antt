@@ -1,11 +1,13 @@
 -- What programs with procedures and functions give, by computation.
 use Rattle.std.proofs.Common.{refl}
+use Rattle.alma_ir.specs.Phrases.{stmts_phrases}
+use Rattle.alma_ir.specs.Lines.{stmts_with}
 use Rattle.alma_mean.specs.Meaning.{ev_stmts}
 use Rattle.alma_mean.specs.Calls.{CallsRun}
 
 -- each side computes
 pub calls_run : CallsRun
-unfolding ev_stmts
+unfolding ev_stmts stmts_with stmts_phrases
 calls_run = record {
   mix_both_ways = refl;
   mix_handed_on = refl;

@@ -1,11 +1,13 @@
 -- What programs that choose give, by computation.
 use Rattle.std.proofs.Common.{refl}
+use Rattle.alma_ir.specs.Phrases.{stmts_phrases}
+use Rattle.alma_ir.specs.Lines.{stmts_with}
 use Rattle.alma_mean.specs.Meaning.{ev_stmts}
 use Rattle.alma_mean.specs.Choices.{ChoicesRun}
 
 -- each side computes
 pub choices_run : ChoicesRun
-unfolding ev_stmts
+unfolding ev_stmts stmts_with stmts_phrases
 choices_run = record {
   empty_module = refl;
   false_fails = refl;

@@ -6,7 +6,7 @@ use Rattle.std.specs.List.{AllByRecursion}
 use Rattle.std.proofs.lemmas.Bool.{false≢true}
 use Rattle.alma_ir.specs.Phrases.{stmts_phrases}
 use Rattle.alma_ir.specs.Tree.{Routine, routine_at, a_loop, Assign, more_stmts, no_stmts}
-use Rattle.alma_ir.specs.Checked.{IsChecked, ParamsFirst, DeclaredFits, HeadRangesOrdered, RoutineKeepsLimits, EachRoutine, EachPhrase, IsHiddenSlot, RootLeaves, RootExists, PartsExist, CellsAgree, RangesOrdered, IsOrdered, HasStep, LoopIsApart, loops_of, CalleeExists, ResultAgrees, CallFits, HasChoice, ReturnAgrees, ReturnsStay, text_bytes}
+use Rattle.alma_ir.specs.Checked.{IsChecked, ParamsFirst, DeclaredFits, HeadRangesOrdered, RoutineKeepsLimits, EachRoutine, EachPhrase, IsHiddenSlot, RootLeaves, RootExists, PartsExist, CellsAgree, RangesOrdered, IsOrdered, HasStep, LoopIsApart, loops_of, CalleeExists, ResultAgrees, CallLeads, IsNested, HasLines, CallFits, HasChoice, ReturnAgrees, ReturnsStay, text_bytes}
 use Rattle.alma_mean.specs.Build.{int, var, held, number, load}
 use Rattle.alma_mean.specs.Conditions.{lives_again, ConditionsTell}
 
@@ -32,11 +32,11 @@ hidden slot l h = record {
   position = λ e. omega arith;
   params = (inr (omega arith), tt);
   globals = λ e. tt;
-  roots = both (λ holder routine. AllByRecursion (RootLeaves holder 1 slot) (stmts_phrases routine.body)) (tt, (tt, (tt, (λ e. absurd (omega arith), (tt, (tt, (tt, (tt, (λ e. absurd (omega arith), (tt, (tt, (tt, (λ e. absurd (omega arith), tt))))))))))))) (tt, (λ e. inr (omega arith), (tt, (tt, (tt, (tt, (tt, (λ e. inr (omega arith), tt))))))));
+  roots = both (λ holder routine. AllByRecursion (RootLeaves lives_again holder 1 slot) (stmts_phrases routine.body)) (tt, (tt, (tt, (λ e. absurd (omega arith), (tt, (tt, (tt, (tt, (λ e. absurd (omega arith), (tt, (tt, (tt, (λ e. absurd (omega arith), tt))))))))))))) (tt, (λ e. inr (omega arith), (tt, (tt, (tt, (tt, (tt, (λ e. inr (omega arith), tt))))))));
 }
 
 -- the loop's counter and limit
-apart : LoopIsApart lives_again 1 (a_loop (var 1) int 2 3 (number 1) (number 3) (pos 1) (more_stmts (Assign (held 0) (load 1) int) no_stmts))
+apart : LoopIsApart lives_again 1 (a_loop (var 1) int 2 3 (number 1) (number 3) (pos 1) (more_stmts 0 (Assign (held 0) (load 1) int) no_stmts))
 unfolding stmts_phrases
 apart = record {
   of_counter = hidden 2 (omega arith) (omega arith);
@@ -69,6 +69,23 @@ steps = both (λ r routine. AllByRecursion (λ x. AllByRecursion HasStep (loops_
 loops : EachPhrase lives_again (λ r routine x. AllByRecursion (LoopIsApart lives_again r) (loops_of x))
 unfolding stmts_phrases
 loops = both (λ r routine. AllByRecursion (λ x. AllByRecursion (LoopIsApart lives_again r) (loops_of x)) (stmts_phrases routine.body)) (tt, (tt, (tt, (tt, (tt, (tt, (tt, (tt, (tt, (tt, (tt, (tt, (tt, tt))))))))))))) ((apart, tt), (tt, (tt, (tt, (tt, (tt, (tt, (tt, tt))))))))
+
+links : EachPhrase lives_again (CallLeads lives_again)
+unfolding stmts_phrases
+links = both (λ r routine. AllByRecursion (CallLeads lives_again r routine) (stmts_phrases routine.body)) (tt, ((refl, refl), (tt, (tt, (tt, (tt, (tt, (tt, (tt, (tt, (tt, (tt, (tt, tt))))))))))))) (tt, (tt, (tt, (tt, (tt, (tt, (tt, (tt, tt))))))))
+
+-- the procedure stands in the body of the module
+nested : EachRoutine lives_again (IsNested lives_again)
+nested =
+    both (IsNested lives_again) (record { body = λ e. (refl, refl); exists = omega arith; above = λ l. absurd (omega (arith, l)); few = omega arith })
+    (record { body = λ e. absurd (omega (arith, e)); exists = omega arith; above = λ l. refl; few = omega arith })
+
+-- each statement stands on line 1
+lines : EachRoutine lives_again (λ r routine. HasLines routine)
+unfolding stmts_phrases
+lines =
+    both (λ r routine. HasLines routine) (record { line = omega arith; count = refl; lines = (omega arith, (omega arith, (omega arith, tt))) })
+    (record { line = omega arith; count = refl; lines = (omega arith, (omega arith, tt)) })
 
 callees : EachPhrase lives_again (λ r routine x. CalleeExists lives_again x)
 unfolding stmts_phrases
@@ -116,6 +133,7 @@ passes = record {
   params = both (λ r routine. ParamsFirst routine) (record { laid_out = tt; fit = omega arith; cells = tt }) (record { laid_out = (refl, tt); fit = omega arith; cells = (tt, tt) });
   declared = both DeclaredFits (record { within = omega arith; body = λ e. omega arith }) (record { within = omega arith; body = λ e. absurd (omega arith) });
   globals = tt;
+  nested = nested;
   roots = roots;
   parts = parts;
   cells = cells;
@@ -125,10 +143,12 @@ passes = record {
   loops = loops;
   callees = callees;
   results = results;
+  links = links;
   arguments = arguments;
   choices = choices;
   returns = returns;
   returns_stay = returns_stay;
+  lines = lines;
   names = record { globals = tt; routines = ((refl, tt), ((refl, tt), tt)) };
   limits = record { globals = omega arith; params = omega arith; names = omega arith; texts = texts };
   routine_limits = both (λ r routine. RoutineKeepsLimits routine) (record { declared = omega arith; slots = omega arith }) (record { declared = omega arith; slots = omega arith });
@@ -158,5 +178,12 @@ conditions_tell = record {
   no_branch = λ h. (h.choices 0 first_of_one).0;
   no_operand = λ h. (h.choices 0 first_of_one).1.0;
   return_in_commit = λ h. (h.returns_stay 0 first_of_one).0.0;
+  line_is_missing = λ h. let l : 0 ≡ 1 = (h.lines 0 first_of_one).count in omega (arith, l);
+  line_is_0 = λ h. let l : 0 < 0 = (h.lines 0 first_of_one).lines.0 in omega (arith, l);
+  link_too_many = λ h. let l : 2 ≡ 1 = (h.links 0 first_of_one).1.0.0 in omega (arith, l);
+  level_skipped = λ h. let l : 2 ≡ 1 = (h.nested 1 (omega arith)).above (omega arith) in omega (arith, l);
+  nine_inside = λ h. let l : 9 ≤ 8 = (h.nested 9 (omega arith)).few in omega (arith, l);
+  link_to_the_body = λ h. let l : 1 < 1 = (h.roots 1 (omega arith)).1.0.0.1 in omega (arith, l);
+  global_in_the_body = λ h. let l : 0 < 0 = (h.roots 0 first_of_one).1.0.0 in omega (arith, l);
   bad_name = λ h. false≢true (h.names.globals.0.0);
 }

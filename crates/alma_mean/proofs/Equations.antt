@@ -1,11 +1,13 @@
 -- What programs with equations, assignments and numbers give, by computation.
 use Rattle.std.proofs.Common.{refl}
+use Rattle.alma_ir.specs.Phrases.{stmts_phrases}
+use Rattle.alma_ir.specs.Lines.{stmts_with}
 use Rattle.alma_mean.specs.Meaning.{ev_stmts}
 use Rattle.alma_mean.specs.Equations.{EquationsRun, NumbersRun}
 
 -- each side computes
 pub equations_run : EquationsRun
-unfolding ev_stmts
+unfolding ev_stmts stmts_with stmts_phrases
 equations_run = record {
   both_unknown = refl;
   unknown_with_itself = refl;
@@ -31,7 +33,7 @@ equations_run = record {
 
 -- each side computes
 pub numbers_run : NumbersRun
-unfolding ev_stmts
+unfolding ev_stmts stmts_with stmts_phrases
 numbers_run = record {
   sum_overflows = refl;
   division_rounds_down = refl;

@@ -1,13 +1,13 @@
 -- The words of event lists keep `Extends`.
 use Rattle.std.proofs.Common.{List, [], ◌∷◌}
-use Rattle.std.specs.Prelude.{Bool, true, false, ℤ}
+use Rattle.std.specs.Prelude.{ℕ, Bool, true, false, ℤ}
 use Rattle.alma_base.specs.Choice.{if_true}
 use Rattle.alma_base.specs.Numbers.{within}
 use Rattle.alma_base.specs.Carry.{Carry, with_changes}
 use Rattle.alma_base.specs.declared.number.Range.{Range}
 use Rattle.alma_base.specs.declared.fault.RunFault.{RunFault}
 use Rattle.alma_mean.specs.Store.{Store, Cell, Unknown, Number, At, over, changes}
-use Rattle.alma_mean.specs.Events.{Events, NoYield, Visit, Print, Alt, Flow, Go, Return, Fail, Fault, Cut, join, bind, visit_each, node, on_first}
+use Rattle.alma_mean.specs.Events.{Events, NoYield, Visit, Print, Alt, Flow, Go, Return, Fail, Fault, Cut, join, bind, visit_each, at_line, node, on_first}
 use Rattle.alma_mean.specs.Arithmetic.{fault_unless}
 use Rattle.alma_mean.specs.Rows.{read_cell, try_labels, forall_row, as_test, as_value, function_value}
 use Rattle.alma_mean.specs.Laws.{Extends, on_visit, on_print, on_alt, at_fail, at_fault, at_cut}
@@ -18,7 +18,7 @@ same (Visit e) = on_visit (same e)
 same (Print b e) = on_print (same e)
 same (Alt s y e) = on_alt (same e)
 same Fail = at_fail
-same (Fault x) = at_fault
+same (Fault x l) = at_fault
 same Cut = at_cut
 
 -- what follows a list may be extended too
@@ -48,6 +48,15 @@ visited (on_alt h) = on_visit (on_alt (visited h))
 visited at_fail = at_fail
 visited at_fault = at_fault
 visited at_cut = at_cut
+
+-- so does the line of a statement
+pub lined : {A : Type 0} (given : ℕ) {e e' : Events A} → Extends A e e' → Extends A (at_line given e) (at_line given e')
+lined given (on_visit h) = on_visit (lined given h)
+lined given (on_print h) = on_print (lined given h)
+lined given (on_alt h) = on_alt (lined given h)
+lined given at_fail = at_fail
+lined given at_fault = at_fault
+lined given at_cut = at_cut
 
 -- so does a node
 pub noded : {A : Type 0} {e e' : Events A} → Extends A e e' → Extends A (node e) (node e')
@@ -103,5 +112,5 @@ left at_fault = at_fault
 left at_cut = at_cut
 
 -- a call in an expression
-pub answered : {e e' : Events NoYield} → Extends NoYield e e' → Extends ℤ (as_value e) (as_value e')
-answered h = first_taken h (λ s f. same (function_value s f)) (λ _. at_fail)
+pub answered : (line : ℕ) {e e' : Events NoYield} → Extends NoYield e e' → Extends ℤ (as_value line e) (as_value line e')
+answered line h = first_taken h (λ s f. same (function_value line s f)) (λ _. at_fail)

@@ -1,11 +1,13 @@
 -- What programs with FORALL give, by computation.
 use Rattle.std.proofs.Common.{refl}
+use Rattle.alma_ir.specs.Phrases.{stmts_phrases}
+use Rattle.alma_ir.specs.Lines.{stmts_with}
 use Rattle.alma_mean.specs.Meaning.{ev_stmts}
 use Rattle.alma_mean.specs.Foralls.{ForallsRun}
 
 -- each side computes
 pub foralls_run : ForallsRun
-unfolding ev_stmts
+unfolding ev_stmts stmts_with stmts_phrases
 foralls_run = record {
   carry_counts = refl;
   carry_is_over_the_alternative = refl;

@@ -1,11 +1,13 @@
 -- What programs that read and write give, by computation.
 use Rattle.std.proofs.Common.{refl}
+use Rattle.alma_ir.specs.Phrases.{stmts_phrases}
+use Rattle.alma_ir.specs.Lines.{stmts_with}
 use Rattle.alma_mean.specs.Meaning.{ev_stmts}
 use Rattle.alma_mean.specs.InOut.{InOutRuns}
 
 -- each side computes
 pub in_out_runs : InOutRuns
-unfolding ev_stmts
+unfolding ev_stmts stmts_with stmts_phrases
 in_out_runs = record {
   position_is_given_back = refl;
   no_number = refl;

@@ -10,3 +10,5 @@ pub mod InOut
 pub mod Visits
 pub mod Choices
 pub mod Conditions
+pub mod Nested
+pub mod FaultLines

@@ -1,11 +1,13 @@
 -- What programs with loops give, by computation.
 use Rattle.std.proofs.Common.{refl}
+use Rattle.alma_ir.specs.Phrases.{stmts_phrases}
+use Rattle.alma_ir.specs.Lines.{stmts_with}
 use Rattle.alma_mean.specs.Meaning.{ev_stmts}
 use Rattle.alma_mean.specs.Loops.{LoopsRun, QueensRun}
 
 -- each side computes
 pub loops_run : LoopsRun
-unfolding ev_stmts
+unfolding ev_stmts stmts_with stmts_phrases
 loops_run = record {
   forever_at_4 = refl;
   forever_at_40 = refl;
@@ -33,7 +35,7 @@ loops_run = record {
 
 -- each side computes
 pub queens_run : QueensRun
-unfolding ev_stmts
+unfolding ev_stmts stmts_with stmts_phrases
 queens_run = record {
   on_four_rows = refl;
 }

@@ -5,12 +5,13 @@ use Rattle.alma_base.specs.Numbers.{is_beyond}
 use Rattle.alma_base.specs.declared.number.Range.{Range}
 use Rattle.alma_base.specs.declared.fault.RunFault.TheVariants as fault
 use Rattle.alma_ir.specs.Tree.{Stmts, Stmt, Arms, CaseArms, Else, Branches, Loop, ReturnExpr, Test, Tests, Expr, Links, Args, Arg, Desig, Sels, Sel, Program, routine_at, no_stmts, more_stmts, TestStmt, Assign, CopyCells, If, While, Repeat, ForTo, SomeOf, Case, Either, Forall, Commit, Return, Read, WriteExpr, WriteText, WriteLine, no_arms, more_arms, no_cases, more_cases, no_else, else_part, no_branches, more_branches, a_loop, no_result, some_result, Value, Bind, Unify, SameCells, Seq, And, Or, Not, CallTest, no_tests, more_tests, Const, Load, Chain, Compare, Truth, Known, Chr, CallExpr, no_links, more_links, no_args, more_args, ByValue, ByCells, ByPlace, MixValue, MixPlace, a_desig, no_sels, more_sels, Field, Index}
+use Rattle.alma_ir.specs.Lines.{body_with_lines}
 use Rattle.alma_mean.specs.Store.{Store, Place, top_cell}
 use Rattle.alma_mean.specs.Events.{Events, NoYield, Fail, one}
 use Rattle.alma_mean.specs.Rows.{ArgValue, next_turn, set_variable, for_turn, some_turn, while_turn, repeat_turn, begin_loop, enter, declared_cells, frame_of}
 use Rattle.alma_mean.specs.Meaning.{Level, level, level_above, ev_stmts, ev_stmt, ev_arms, ev_cases, ev_else, ev_branches, ev_for, ev_some, ev_return, ev_test, ev_and, ev_or, ev_expr, ev_links, ev_args, ev_arg, ev_desig, ev_sels, ev_sel, turn_for, turn_some, ev_program, start}
 use Rattle.alma_mean.specs.Laws.{Extends, on_visit, at_fail, at_fault, at_cut, IsBelow, LevelsRise}
-use Rattle.alma_mean.proofs.Extending.{same, joined, bound, visited, noded, first_taken, checked, chosen, read, labelled, gone_through, left, answered}
+use Rattle.alma_mean.proofs.Extending.{same, joined, bound, visited, lined, noded, first_taken, checked, chosen, read, labelled, gone_through, left, answered}
 
 -- a function of the store that extends another
 abbrev Over : {A : Type 0} → (Store → Events A) → (Store → Events A) → Type 0
@@ -53,11 +54,11 @@ begun counter limit by v l s f z = chosen (is_beyond v l by) (λ _. same _) (λ 
 
 module _ (p : Program) (input : List ℕ) (b c : Level) (h : IsBelow b c) where
   -- the body of a call, where it stands one level below
-  entered : (r : ℕ) (s : Store) (hs : List ArgValue) → Extends NoYield (enter p (b.routine r) r s hs) (enter p (c.routine r) r s hs)
-  entered r s hs =
+  entered : (r links : ℕ) (s : Store) (hs : List ArgValue) → Extends NoYield (enter p (b.routine r) r links s hs) (enter p (c.routine r) r links s hs)
+  entered r links s hs =
       checked fault.DepthFull (nat_lt (length s) 10000) (λ _.
       checked fault.CellsFull (nat_le (declared_cells p s + (routine_at p r).declared) 1048576) (λ _.
-      h.routine r (s ++ frame_of s r (routine_at p r) hs ∷ [])))
+      h.routine r (s ++ frame_of s r links (routine_at p r) hs ∷ [])))
 
   -- each phrase, where what stands one level below is extended
   mutual
@@ -65,7 +66,7 @@ module _ (p : Program) (input : List ℕ) (b c : Level) (h : IsBelow b c) where
 
     pub stmts_over : (x : Stmts) (s : Store) → Extends NoYield (ev_stmts p input b x s) (ev_stmts p input c x s)
     stmts_over no_stmts s = same _
-    stmts_over (more_stmts x rest) s = bound (stmt_over x s) (λ t _. stmts_over rest t)
+    stmts_over (more_stmts line x rest) s = bound (lined line (stmt_over x s)) (λ t _. stmts_over rest t)
 
     pub stmt_over : (x : Stmt) (s : Store) → Extends NoYield (ev_stmt p input b x s) (ev_stmt p input c x s)
     stmt_over (TestStmt t) s = noded (test_over t s)
@@ -130,7 +131,7 @@ module _ (p : Program) (input : List ℕ) (b c : Level) (h : IsBelow b c) where
     test_over (And ts) s = noded (and_over ts s)
     test_over (Or ts) s = noded (or_over ts s)
     test_over (Not t) s = noded (first_taken (test_over t s) (λ u _. at_fail) (λ _. same _))
-    test_over (CallTest r args) s = noded (bound (args_over args s) (λ t hs. left (entered r t hs)))
+    test_over (CallTest r args links) s = noded (bound (args_over args s) (λ t hs. left (entered r links t hs)))
 
     pub and_over : (ts : Tests) (s : Store) → Extends NoYield (ev_and p input b ts s) (ev_and p input c ts s)
     and_over no_tests s = same _
@@ -150,7 +151,7 @@ module _ (p : Program) (input : List ℕ) (b c : Level) (h : IsBelow b c) where
     expr_over (Truth t) s = noded (first_taken (test_over t s) (λ u _. same _) (λ _. same _))
     expr_over (Known d) s = noded (bound (desig_over d s) (λ t q. same _))
     expr_over (Chr e) s = noded (bound (expr_over e s) (λ t v. same _))
-    expr_over (CallExpr r args) s = noded (bound (args_over args s) (λ t hs. answered (entered r t hs)))
+    expr_over (CallExpr r args links) s = noded (bound (args_over args s) (λ t hs. answered (routine_at p r).line (entered r links t hs)))
 
     pub links_over : (x : Links) (v : ℤ) (s : Store) → Extends ℤ (ev_links p input b x v s) (ev_links p input c x v s)
     links_over no_links v s = same _
@@ -197,7 +198,7 @@ module _ (p : Program) (input : List ℕ) (b c : Level) (h : IsBelow b c) where
     arg = arg_over;
     desig = desig_over;
     sel = sel_over;
-    routine = λ r s. stmts_over (routine_at p r).body s;
+    routine = λ r s. stmts_over (body_with_lines (routine_at p r)) s;
     while = λ t x s. while_over (h.test t) (h.stmts x) (h.while t x) s;
     repeat = λ x t s. repeat_over (stmts_over x) (test_over t) (h.repeat x t) s;
     for = for_again_over;

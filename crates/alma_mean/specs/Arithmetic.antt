@@ -20,7 +20,7 @@ use Rattle.alma_mean.specs.Events.{Events, Fault, one}
 -- goes on, or ends in a fault where the test is false
 abbrev pub fault_unless : {A : Type 0} → RunFault → Bool → (Unit {0} → Events A) → Events A
 fault_unless f true k = k tt
-fault_unless f false k = Fault f
+fault_unless f false k = Fault f 0
 
 -- goes on with a number of the range
 abbrev pub check_range : {A : Type 0} → Range → ℤ → (Unit {0} → Events A) → Events A

@@ -1,5 +1,5 @@
 -- Words for small programs and for what they print. Variables are named by their slots.
-use Rattle.std.specs.Prelude.{◌≡◌, ℕ, suc, ◌-◌, ◌^◌, true, false, pos, List, [], ◌∷◌, ◌++◌, None, Some, codes}
+use Rattle.std.specs.Prelude.{◌≡◌, ℕ, suc, ◌-◌, ◌^◌, true, false, pos, List, [], ◌∷◌, ◌++◌, None, Some, codes, replicate}
 use Rattle.std.specs.Fmt.{decimal}
 use Rattle.alma_base.specs.Numbers.{whole_range}
 use Rattle.alma_base.specs.declared.number.Range.{Range}
@@ -10,6 +10,8 @@ use Rattle.alma_ir.specs.declared.phrase.Op.{Op}
 use Rattle.alma_ir.specs.declared.phrase.Op.TheVariants as op
 use Rattle.alma_ir.specs.declared.phrase.WriteAs.TheVariants as write_as
 use Rattle.alma_ir.specs.Tree.{Stmts, Stmt, Arms, CaseArms, Branches, Test, Tests, Expr, Links, Args, Arg, Desig, Sels, Sel, Routine, Program, no_stmts, more_stmts, TestStmt, Assign, ForTo, SomeOf, Either, Forall, WriteExpr, no_arms, more_arms, no_cases, more_cases, no_branches, more_branches, a_loop, Value, Bind, CallTest, no_tests, more_tests, Const, Load, Chain, Known, CallExpr, no_links, more_links, no_args, more_args, a_desig, no_sels, more_sels, Index}
+use Rattle.alma_ir.specs.Phrases.{stmts_phrases}
+use Rattle.alma_ir.specs.Lines.{stmt_count}
 use Rattle.alma_mean.specs.Events.{End, first, visit_count}
 use Rattle.alma_mean.specs.Meaning.{ev_program, result}
 
@@ -17,7 +19,7 @@ use Rattle.alma_mean.specs.Meaning.{ev_program, result}
 
 abbrev pub stmts : List Stmt → Stmts
 stmts [] = no_stmts
-stmts (x ∷ rest) = more_stmts x (stmts rest)
+stmts (x ∷ rest) = more_stmts 0 x (stmts rest)
 
 abbrev pub branches : List (List Stmt) → Branches
 branches [] = no_branches
@@ -56,22 +58,60 @@ int = whole_range
 abbrev pub range : ℕ → ℕ → Range
 range low high = record { low = pos low; high = pos high }
 
--- a module with so many slots, its statements and its procedures
-abbrev pub module_with : ℕ → List Stmt → List Routine → Program
-module_with slots body procedures = record {
+-- line 1 for each statement
+abbrev pub on_line_1 : List Stmt → List ℕ
+on_line_1 body = replicate (stmt_count (stmts_phrases (stmts body))) 1
+
+-- a module with so many slots, the lines of its statements, its statements and its procedures
+abbrev pub module_at : ℕ → List ℕ → List Stmt → List Routine → Program
+module_at slots lines body procedures = record {
   name = codes "A";
   globals = [];
-  routines = record { name = codes "A"; params = []; result = None; declared = slots - 1; slots = slots; body = stmts body } ∷ procedures;
+  routines = record {
+    name = codes "A";
+    params = [];
+    result = None;
+    declared = slots - 1;
+    slots = slots;
+    body = stmts body;
+    level = 0;
+    outer = 0;
+    line = 1;
+    lines = lines;
+  } ∷ procedures;
 }
+
+-- the same with all on line 1
+abbrev pub module_with : ℕ → List Stmt → List Routine → Program
+module_with slots body procedures = module_at slots (on_line_1 body) body procedures
 
 abbrev pub module_of : ℕ → List Stmt → Program
 module_of slots body = module_with slots body []
 
 abbrev pub procedure : List Param → ℕ → List Stmt → Routine
-procedure params slots body = record { name = codes "p"; params = params; result = None; declared = slots; slots = slots; body = stmts body }
+procedure params slots body = record {
+  name = codes "p";
+  params = params;
+  result = None;
+  declared = slots;
+  slots = slots;
+  body = stmts body;
+  level = 1;
+  outer = 0;
+  line = 1;
+  lines = on_line_1 body;
+}
 
 abbrev pub function : List Param → Range → ℕ → List Stmt → Routine
-function params result slots body = record { name = codes "f"; params = params; result = Some result; declared = slots; slots = slots; body = stmts body }
+function params result slots body = record (procedure params slots body) { name = codes "f"; result = Some result }
+
+-- a routine inside another, with its level and the number of that
+abbrev pub inside : (level outer : ℕ) → Routine → Routine
+inside level outer routine = record routine { level = level; outer = outer }
+
+-- a routine that begins at a line, and the lines of its statements
+abbrev pub at_lines : ℕ → List ℕ → Routine → Routine
+at_lines line lines routine = record routine { line = line; lines = lines }
 
 abbrev pub param : ArgKind → ℕ → ℕ → Param
 param kind slot cells = record { kind = kind; slot = slot; cells = cells; range = int }
@@ -88,6 +128,13 @@ global slot = a_desig (root.Global slot) 1 no_sels
 -- what a parameter's place names
 abbrev pub held : ℕ → Desig
 held slot = a_desig (root.Param slot) 1 no_sels
+
+-- a variable of a routine so many links up, and what the place of a parameter there names
+abbrev pub outer : (links slot : ℕ) → Desig
+outer links slot = a_desig (root.Outer links slot) 1 no_sels
+
+abbrev pub outer_held : (links slot : ℕ) → Desig
+outer_held links slot = a_desig (root.OuterParam links slot) 1 no_sels
 
 -- all cells of a structured variable
 abbrev pub whole : ℕ → ℕ → Desig
@@ -172,12 +219,19 @@ some slot hidden from to body = SomeOf (a_loop (var slot) int hidden (suc hidden
 abbrev pub for : ℕ → ℕ → Expr → Expr → List Stmt → Stmt
 for slot hidden from to body = ForTo (a_loop (var slot) int hidden (suc hidden) from to (pos 1) (stmts body))
 
--- a call of a procedure, and of a function
+-- a call of a procedure, and of a function, so many links up
+abbrev pub call_up : (links r : ℕ) → List Arg → Stmt
+call_up links r given = TestStmt (CallTest r (args given) links)
+
+abbrev pub value_up : (links r : ℕ) → List Arg → Expr
+value_up links r given = CallExpr r (args given) links
+
+-- a call in the body of the module
 abbrev pub call : ℕ → List Arg → Stmt
-call r given = TestStmt (CallTest r (args given))
+call r given = call_up 0 r given
 
 abbrev pub value_of : ℕ → List Arg → Expr
-value_of r given = CallExpr r (args given)
+value_of r given = value_up 0 r given
 
 -- ---- what is shown
 

@@ -9,7 +9,7 @@ use Rattle.alma_ir.specs.Tree.{Stmt, Routine, Program, TestStmt, Assign, If, Som
 use Rattle.alma_mean.specs.Store.{no_frame}
 use Rattle.alma_mean.specs.Events.{Succeeded, Failed, Faulted, CutOff, Visit, Fault, Cut}
 use Rattle.alma_mean.specs.Meaning.{level_0, ev_test}
-use Rattle.alma_mean.specs.Build.{stmts, arms, int, range, module_with, procedure, function, param, var, global, held, whole, element, number, load, operate, plus, greatest, test, fail, equals, is, let_be, write, write_var, write_known, some, call, value_of, digits_of, Gives}
+use Rattle.alma_mean.specs.Build.{stmts, arms, int, range, module_with, procedure, function, param, var, global, held, whole, element, number, load, operate, plus, greatest, test, fail, equals, is, let_be, write, write_var, write_known, some, call, call_up, value_of, value_up, digits_of, Gives}
 
 -- PROCEDURE p(MIX a: INTEGER); BEGIN a = 7 END p;
 abbrev pub mix_is_seven : Routine
@@ -23,11 +23,11 @@ prints_and_gives = function [] int 0 (write (number 1) ∷ Return (some_result (
 abbrev pub factorial : Routine
 factorial = function (param kind.Value 0 1 ∷ []) int 1
     (If (arms ((equals 0 0, Return (some_result (number 1)) ∷ []) ∷ []))
-    (stmts (Return (some_result (operate op.Mul (load 0) (value_of 1 (ByValue (operate op.Sub (load 0) (number 1)) int ∷ [])))) ∷ [])) ∷ [])
+    (stmts (Return (some_result (operate op.Mul (load 0) (value_up 1 1 (ByValue (operate op.Sub (load 0) (number 1)) int ∷ [])))) ∷ [])) ∷ [])
 
 -- a procedure with so many declared cells; more than its slots, which no source can say
 abbrev pub declares : List Param → ℕ → Routine
-declares params cells = record { name = codes "p"; params = params; result = None; declared = cells; slots = 1; body = stmts [] }
+declares params cells = record { name = codes "p"; params = params; result = None; declared = cells; slots = 1; body = stmts []; level = 1; outer = 0; line = 1; lines = [] }
 
 -- a module with a procedure of no statements
 abbrev pub with_empty_procedure : List Stmt → Program
@@ -40,7 +40,7 @@ pub record CallsRun : Type 0 where
   -- PROCEDURE r(MIX b: INTEGER); BEGIN p(b) END r;  r(x); WRITE(x); r(7)
   pub mix_handed_on :
       Gives 3 (module_with 2 (call 2 (MixPlace (var 1) ∷ []) ∷ write_var 1 ∷ call 2 (MixValue (number 7) int ∷ []) ∷ [])
-      (mix_is_seven ∷ procedure (param kind.Mix 0 1 ∷ []) 2 (call 1 (MixPlace (held 0) ∷ []) ∷ []) ∷ [])) [] (digits_of (7 ∷ [])) Succeeded
+      (mix_is_seven ∷ procedure (param kind.Mix 0 1 ∷ []) 2 (call_up 1 1 (MixPlace (held 0) ∷ []) ∷ []) ∷ [])) [] (digits_of (7 ∷ [])) Succeeded
   -- PROCEDURE q(VAR a: INTEGER); VAR l: INTEGER; BEGIN SOME l := 1 TO 3 DO a := l END END q;  q(x); x > 2; WRITE(x):
   -- the frame of q lives again twice
   pub frame_lives_again :
@@ -67,7 +67,7 @@ pub record CallsRun : Type 0 where
   -- p(10, f()), the first parameter of [0..9]: f does not print
   pub value_is_checked_in_its_turn :
       Gives 2 (module_with 1 (call 1 (ByValue (number 10) (range 0 9) ∷ ByValue (value_of 2 []) int ∷ []) ∷ [])
-      (procedure (param kind.Value 0 1 ∷ param kind.Value 1 1 ∷ []) 2 [] ∷ prints_and_gives ∷ [])) [] [] (Faulted fault.Range)
+      (procedure (param kind.Value 0 1 ∷ param kind.Value 1 1 ∷ []) 2 [] ∷ prints_and_gives ∷ [])) [] [] (Faulted fault.Range 1)
   -- PROCEDURE p; BEGIN x := 3 END p;  p; WRITE(x)
   pub global_is_set : Gives 2 (module_with 2 (call 1 [] ∷ write_var 1 ∷ []) (procedure [] 0 (Assign (global 1) (number 3) int ∷ []) ∷ [])) [] (digits_of (3 ∷ [])) Succeeded
   -- PROCEDURE p; VAR l: INTEGER; BEGIN WRITE(KNOWN(l)); l := 1 END p;  p; p
@@ -79,20 +79,20 @@ pub record CallsRun : Type 0 where
   -- PROCEDURE f(): INTEGER; BEGIN FALSE END f;  x := f()
   pub function_fails : Gives 2 (module_with 2 (let_be 1 (value_of 1 []) ∷ []) (function [] int 0 (fail ∷ []) ∷ [])) [] [] Failed
   -- PROCEDURE f(): INTEGER; END f;  x := f()
-  pub function_without_return : Gives 2 (module_with 2 (let_be 1 (value_of 1 []) ∷ []) (function [] int 0 [] ∷ [])) [] [] (Faulted fault.NoReturn)
+  pub function_without_return : Gives 2 (module_with 2 (let_be 1 (value_of 1 []) ∷ []) (function [] int 0 [] ∷ [])) [] [] (Faulted fault.NoReturn 1)
   -- PROCEDURE f(): t; BEGIN RETURN 10 END f;  x := f(), t = [0..9]
-  pub result_out_of_range : Gives 2 (module_with 2 (let_be 1 (value_of 1 []) ∷ []) (function [] (range 0 9) 0 (Return (some_result (number 10)) ∷ []) ∷ [])) [] [] (Faulted fault.Range)
+  pub result_out_of_range : Gives 2 (module_with 2 (let_be 1 (value_of 1 []) ∷ []) (function [] (range 0 9) 0 (Return (some_result (number 10)) ∷ []) ∷ [])) [] [] (Faulted fault.Range 1)
   -- PROCEDURE f(): INTEGER; BEGIN x := 1; RETURN 2 END f;  x = f(): the cell is looked at after the call
   pub cell_is_looked_at_last : Gives 2 (module_with 2 (TestStmt (Bind (var 1) (value_of 1 []) int true) ∷ []) (function [] int 0 (Assign (global 1) (number 1) int ∷ Return (some_result (number 2)) ∷ []) ∷ [])) [] [] Failed
   -- WRITE(9223372036854775807 + 1 + f()): f does not print
-  pub sum_overflows_in_its_turn : Gives 2 (module_with 1 (write (plus (plus greatest (number 1)) (value_of 1 [])) ∷ []) (prints_and_gives ∷ [])) [] [] (Faulted fault.Overflow)
+  pub sum_overflows_in_its_turn : Gives 2 (module_with 1 (write (plus (plus greatest (number 1)) (value_of 1 [])) ∷ []) (prints_and_gives ∷ [])) [] [] (Faulted fault.Overflow 1)
   -- p(f()), p with 1,048,576 declared cells and one variable of the module: f prints
-  pub cells_full : Gives 2 (module_with 2 (call 1 (ByValue (value_of 2 []) int ∷ []) ∷ []) (declares (param kind.Value 0 1 ∷ []) 1048576 ∷ prints_and_gives ∷ [])) [] (digits_of (1 ∷ [])) (Faulted fault.CellsFull)
+  pub cells_full : Gives 2 (module_with 2 (call 1 (ByValue (value_of 2 []) int ∷ []) ∷ []) (declares (param kind.Value 0 1 ∷ []) 1048576 ∷ prints_and_gives ∷ [])) [] (digits_of (1 ∷ [])) (Faulted fault.CellsFull 1)
   -- the same with no variable of the module
   pub cells_not_full : Gives 2 (module_with 1 (call 1 [] ∷ []) (declares [] 1048576 ∷ [])) [] [] Succeeded
   -- a call where 10,000 frames live, and where one fewer lives
-  pub depth_full : ev_test (with_empty_procedure []) [] level_0 (CallTest 1 no_args) (replicate 10000 no_frame) ≡ Visit (Fault fault.DepthFull)
-  pub depth_not_full : ev_test (with_empty_procedure []) [] level_0 (CallTest 1 no_args) (replicate 9999 no_frame) ≡ Visit Cut
+  pub depth_full : ev_test (with_empty_procedure []) [] level_0 (CallTest 1 no_args 0) (replicate 10000 no_frame) ≡ Visit (Fault fault.DepthFull 0)
+  pub depth_not_full : ev_test (with_empty_procedure []) [] level_0 (CallTest 1 no_args 0) (replicate 9999 no_frame) ≡ Visit Cut
   -- a call of an empty procedure needs one level more
   pub call_at_1 : Gives 1 (with_empty_procedure (call 1 [] ∷ [])) [] [] CutOff
   pub call_at_2 : Gives 2 (with_empty_procedure (call 1 [] ∷ [])) [] [] Succeeded

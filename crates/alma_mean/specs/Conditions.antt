@@ -4,7 +4,8 @@ use Rattle.alma_ir.specs.declared.program.ArgKind.TheVariants as kind
 use Rattle.alma_ir.specs.declared.phrase.Cmp.TheVariants as cmp
 use Rattle.alma_ir.specs.Tree.{Program, Assign, Commit, Return, no_result, ForTo, a_loop, Compare, Load, ByPlace, TestStmt, Or, no_tests}
 use Rattle.alma_ir.specs.Checked.{IsChecked}
-use Rattle.alma_mean.specs.Build.{stmts, int, module_of, module_with, procedure, param, var, held, whole, number, load, test, let_be, write, write_var, either, some, for, call, value_of}
+use Rattle.alma_mean.specs.Nested.{nested_to}
+use Rattle.alma_mean.specs.Build.{stmts, int, module_of, module_at, module_with, inside, outer, global, succeed, call_up, procedure, param, var, held, whole, number, load, test, let_be, write, write_var, either, some, for, call, value_of}
 
 -- PROCEDURE q(VAR a: INTEGER); VAR l: INTEGER; BEGIN SOME l := 1 TO 3 DO a := l END END q;  q(x); x > 2; WRITE(x)
 abbrev pub lives_again : Program
@@ -42,5 +43,16 @@ pub record ConditionsTell : Type 0 where
   pub no_operand : IsChecked (module_of 1 (TestStmt (Or no_tests) ∷ [])) → ⊥
   -- COMMIT RETURN END
   pub return_in_commit : IsChecked (module_of 1 (Commit (stmts (Return no_result ∷ [])) ∷ [])) → ⊥
+  -- a statement without a line, and one at line 0
+  pub line_is_missing : IsChecked (module_at 1 [] (succeed ∷ []) []) → ⊥
+  pub line_is_0 : IsChecked (module_at 1 (0 ∷ []) (succeed ∷ []) []) → ⊥
+  -- a call with one link too many
+  pub link_too_many : IsChecked (module_with 1 (call_up 1 1 [] ∷ []) (procedure [] 0 [] ∷ [])) → ⊥
+  -- a procedure of level 2 in the body of the module, and nine inside one another
+  pub level_skipped : IsChecked (module_with 1 [] (inside 2 0 (procedure [] 0 []) ∷ [])) → ⊥
+  pub nine_inside : IsChecked (nested_to 9) → ⊥
+  -- a variable of the module by a link, and one of the module's body as if it stood in a procedure
+  pub link_to_the_body : IsChecked (module_with 2 [] (procedure [] 0 (Assign (outer 1 1) (number 1) int ∷ []) ∷ [])) → ⊥
+  pub global_in_the_body : IsChecked (module_of 2 (Assign (global 1) (number 1) int ∷ [])) → ⊥
   -- a name with a digit in front
-  pub bad_name : IsChecked (record { name = []; globals = record { name = codes "1a"; slot = 1; cells = 1 } ∷ []; routines = record { name = codes "A"; params = []; result = None; declared = 1; slots = 2; body = stmts [] } ∷ [] }) → ⊥
+  pub bad_name : IsChecked (record { name = []; globals = record { name = codes "1a"; slot = 1; cells = 1 } ∷ []; routines = record { name = codes "A"; params = []; result = None; declared = 1; slots = 2; body = stmts []; level = 0; outer = 0; line = 1; lines = [] } ∷ [] }) → ⊥

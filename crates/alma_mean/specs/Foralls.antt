@@ -42,7 +42,7 @@ pub record ForallsRun : Type 0 where
       Gives 3 (module_of 3 (forall (either ((Read (var 1) read_as.Int int ∷ []) ∷ (Read (var 1) read_as.Int int ∷ Read (var 1) read_as.Int int ∷ Read (var 1) read_as.Int int ∷ []) ∷ []) ∷ [])
       (Read (var 2) read_as.Int int ∷ write_var 2 ∷ []) ∷ [])) (codes "1 2 3 4") (digits_of (2 ∷ 3 ∷ [])) Succeeded
   -- FORALL EITHER TRUE ORELSE x := 1 DIV 0 END DO WRITE(1) END
-  pub fault_ends_it : Gives 1 (module_of 2 (forall (either ((succeed ∷ []) ∷ (let_be 1 (operate op.Div (number 1) (number 0)) ∷ []) ∷ []) ∷ []) (write (number 1) ∷ []) ∷ [])) [] (digits_of (1 ∷ [])) (Faulted fault.ZeroDivide)
+  pub fault_ends_it : Gives 1 (module_of 2 (forall (either ((succeed ∷ []) ∷ (let_be 1 (operate op.Div (number 1) (number 0)) ∷ []) ∷ []) ∷ []) (write (number 1) ∷ []) ∷ [])) [] (digits_of (1 ∷ [])) (Faulted fault.ZeroDivide 1)
   -- FORALL EITHER TRUE ORELSE TRUE END DO WRITE(1) END; FALSE
   pub it_has_one_alternative : Gives 1 (module_of 1 (forall (either ((succeed ∷ []) ∷ (succeed ∷ []) ∷ []) ∷ []) (write (number 1) ∷ []) ∷ fail ∷ [])) [] (digits_of (1 ∷ 1 ∷ [])) Failed
   -- FORALL TRUE DO EITHER WRITE(1) ORELSE WRITE(2) END END; FALSE

@@ -23,7 +23,7 @@ pub record InOutRuns : Type 0 where
   pub position_is_given_back : Gives 1 (module_of 2 (either ((read 1 ∷ is 1 6 ∷ []) ∷ (read 1 ∷ []) ∷ []) ∷ write_var 1 ∷ [])) (codes "5 6") (digits_of (5 ∷ [])) Succeeded
   -- READ(x); WRITE(x); READ(y)
   pub no_number : Gives 1 (module_of 3 (read 1 ∷ write_var 1 ∷ read 2 ∷ [])) (codes " 12a") (digits_of (12 ∷ [])) Failed
-  pub number_too_large : Gives 1 (module_of 3 (read 1 ∷ write_var 1 ∷ read 2 ∷ [])) (codes "99999999999999999999") [] (Faulted fault.ReadRange)
+  pub number_too_large : Gives 1 (module_of 3 (read 1 ∷ write_var 1 ∷ read 2 ∷ [])) (codes "99999999999999999999") [] (Faulted fault.ReadRange 1)
   -- READ(x); WRITE(x), behind space, TAB, CR and LF, and with signs
   pub blanks_are_skipped : Gives 1 (module_of 2 (read 1 ∷ write_var 1 ∷ [])) (32 ∷ 9 ∷ 13 ∷ 10 ∷ 53 ∷ []) (digits_of (5 ∷ [])) Succeeded
   pub minus_is_read : Gives 1 (module_of 2 (read 1 ∷ write_var 1 ∷ [])) (codes "-7") (codes "-" ++ digits_of (7 ∷ [])) Succeeded
@@ -31,16 +31,16 @@ pub record InOutRuns : Type 0 where
   -- EITHER READ(x) ORELSE READ(c); WRITE(c) END: a sign with no digits moves nothing
   pub sign_alone : Gives 1 (module_of 3 (either ((read 1 ∷ []) ∷ (read_byte 2 ∷ write_char 2 ∷ []) ∷ []) ∷ [])) (codes " +a") (codes " ") Succeeded
   -- READ(x), x of [0..9]
-  pub read_out_of_range : Gives 1 (module_of 2 (Read (var 1) read_as.Int (range 0 9) ∷ [])) (codes "10") [] (Faulted fault.Range)
-  pub too_large_comes_first : Gives 1 (module_of 2 (Read (var 1) read_as.Int (range 0 9) ∷ [])) (codes "99999999999999999999") [] (Faulted fault.ReadRange)
+  pub read_out_of_range : Gives 1 (module_of 2 (Read (var 1) read_as.Int (range 0 9) ∷ [])) (codes "10") [] (Faulted fault.Range 1)
+  pub too_large_comes_first : Gives 1 (module_of 2 (Read (var 1) read_as.Int (range 0 9) ∷ [])) (codes "99999999999999999999") [] (Faulted fault.ReadRange 1)
   -- READ(c); READ(d); WRITE(d); WRITE(c)
   pub bytes : Gives 1 (module_of 3 (read_byte 1 ∷ read_byte 2 ∷ write_char 2 ∷ write_char 1 ∷ [])) (codes "a b") (codes " a") Succeeded
   -- READ(c); READ(d), at the end of the input
   pub no_byte : Gives 1 (module_of 3 (read_byte 1 ∷ read_byte 2 ∷ [])) (codes "a") [] Failed
   -- READ(c), c of ['a'..'b']
-  pub byte_out_of_range : Gives 1 (module_of 2 (Read (var 1) read_as.Char (range 97 98) ∷ [])) (codes "c") [] (Faulted fault.Range)
+  pub byte_out_of_range : Gives 1 (module_of 2 (Read (var 1) read_as.Char (range 97 98) ∷ [])) (codes "c") [] (Faulted fault.Range 1)
   -- READ(a[3]), a of two cells: the variable is located before the input is looked at
-  pub located_first : Gives 1 (module_of 3 (Read (element 1 2 (number 3)) read_as.Int int ∷ [])) [] [] (Faulted fault.Index)
+  pub located_first : Gives 1 (module_of 3 (Read (element 1 2 (number 3)) read_as.Int int ∷ [])) [] [] (Faulted fault.Index 1)
   -- WRITE(-7, TRUE, FALSE, 'a', 'bc', ''); WRITELN
   pub items :
       Gives 1 (module_of 1 (write (minus 7) ∷ write_bool (number 1) ∷ write_bool (number 0) ∷ write_byte 97 ∷ WriteText (codes "bc") ∷ WriteText [] ∷ WriteLine ∷ [])) []

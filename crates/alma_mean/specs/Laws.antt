@@ -14,7 +14,7 @@ pub data Extends (A : Type 0) : Events A → Events A → Type 0 where
   on_print : {b : List ℕ} {e f : Events A} → Extends A e f → Extends A (Print b e) (Print b f)
   on_alt : {s : Store} {w : Flow A} {e f : Events A} → Extends A e f → Extends A (Alt s w e) (Alt s w f)
   at_fail : Extends A Fail Fail
-  at_fault : {x : RunFault} → Extends A (Fault x) (Fault x)
+  at_fault : {x : RunFault} {l : ℕ} → Extends A (Fault x l) (Fault x l)
   at_cut : {f : Events A} → Extends A Cut f
 
 -- the list closes with Cut
@@ -23,7 +23,7 @@ ends_in_cut (Visit e) = ends_in_cut e
 ends_in_cut (Print b e) = ends_in_cut e
 ends_in_cut (Alt s w e) = ends_in_cut e
 ends_in_cut Fail = false
-ends_in_cut (Fault x) = false
+ends_in_cut (Fault x l) = false
 ends_in_cut Cut = true
 
 -- a list with no Cut is extended by itself alone

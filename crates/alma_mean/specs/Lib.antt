@@ -12,4 +12,6 @@ pub mod Calls
 pub mod InOut
 pub mod Visits
 pub mod Choices
+pub mod Nested
+pub mod FaultLines
 pub mod Conditions

@@ -51,9 +51,9 @@ pub record LoopsRun : Type 0 where
   -- but counter and limit are stored
   pub empty_for_stores_its_bounds :
       first ((level (module_of 4 []) [] 1).stmt empty_for (start (module_of 4 []))) ≡
-      Visit (Visit (Visit (Visit (Visit (Visit (Alt (record { routine = 0; cells = Number (pos 0) ∷ Unknown ∷ Number (pos 3) ∷ Number (pos 1) ∷ [] } ∷ []) (Go tt) Fail))))))
+      Visit (Visit (Visit (Visit (Visit (Visit (Alt (record { routine = 0; link = 0; cells = Number (pos 0) ∷ Unknown ∷ Number (pos 3) ∷ Number (pos 1) ∷ [] } ∷ []) (Go tt) Fail))))))
   -- FOR i := 1 TO 3 DO WRITE(i) END, i of [1..2]
-  pub for_leaves_the_range : Gives 4 (module_of 4 (ForTo (a_loop (var 1) (range 1 2) 2 3 (number 1) (number 3) (pos 1) (stmts (write_var 1 ∷ []))) ∷ [])) [] (digits_of (1 ∷ 2 ∷ [])) (Faulted fault.Range)
+  pub for_leaves_the_range : Gives 4 (module_of 4 (ForTo (a_loop (var 1) (range 1 2) 2 3 (number 1) (number 3) (pos 1) (stmts (write_var 1 ∷ []))) ∷ [])) [] (digits_of (1 ∷ 2 ∷ [])) (Faulted fault.Range 1)
   -- FOR i := 9223372036854775806 TO 9223372036854775807 DO WRITE(1) END
   pub count_does_not_overflow : Gives 3 (module_of 4 (for 1 2 (number (2 ^ 63 - 2)) greatest (write (number 1) ∷ []) ∷ [])) [] (digits_of (1 ∷ 1 ∷ [])) Succeeded
   -- x := 2; FOR i := 1 TO x DO x := 5; WRITE(i) END

@@ -6,9 +6,10 @@ use Rattle.alma_base.specs.Choice.{if_true}
 use Rattle.alma_base.specs.Numbers.{is_zero, bit}
 use Rattle.alma_base.specs.declared.fault.RunFault.TheVariants as fault
 use Rattle.alma_ir.specs.Tree.{Stmts, Stmt, Arms, CaseArms, Else, Branches, Loop, ReturnExpr, Test, Tests, Expr, Links, Args, Arg, Desig, Sels, Sel, Program, routine_at, no_stmts, more_stmts, TestStmt, Assign, CopyCells, If, While, Repeat, ForTo, SomeOf, Case, Either, Forall, Commit, Return, Read, WriteExpr, WriteText, WriteLine, no_arms, more_arms, no_cases, more_cases, no_else, else_part, no_branches, more_branches, a_loop, no_result, some_result, Value, Bind, Unify, SameCells, Seq, And, Or, Not, CallTest, no_tests, more_tests, Const, Load, Chain, Compare, Truth, Known, Chr, CallExpr, no_links, more_links, no_args, more_args, ByValue, ByCells, ByPlace, MixValue, MixPlace, a_desig, no_sels, more_sels, Field, Index}
+use Rattle.alma_ir.specs.Lines.{body_with_lines}
 use Rattle.alma_mean.specs.Store.{Store, Place, Number, top_frame, part, cell_of, put_at, start_cells}
 use Rattle.alma_mean.specs.Events as events
-use Rattle.alma_mean.specs.Events.{Events, NoYield, Visit, Print, Alt, Fail, Fault, Cut, one, join, bind, node, visit_each, first, on_first, End, end_of, prints}
+use Rattle.alma_mean.specs.Events.{Events, NoYield, Visit, Print, Alt, Fail, Fault, Cut, one, join, bind, node, visit_each, at_line, first, on_first, End, end_of, prints}
 use Rattle.alma_mean.specs.Arithmetic.{check_range, apply_op, apply_sign, compares, written_text}
 use Rattle.alma_mean.specs.Rows.{read_cell, known_bit, root_place, index_place, bind_cell, unify_cells, match_cells, copy_cells, while_turn, repeat_turn, for_turn, some_turn, begin_loop, try_labels, forall_row, read_row, ArgValue, ArgNumber, ArgMix, ArgPlace, ArgCells, enter, as_test, as_value, return_within}
 
@@ -50,7 +51,8 @@ module _ (p : Program) (input : List ℕ) (below : Level) where
   unfoldable mutual
     pub ev_stmts : Stmts → Store → Events NoYield
     ev_stmts no_stmts s = one s tt
-    ev_stmts (more_stmts x rest) s = bind (ev_stmt x s) (λ t _. ev_stmts rest t)
+    -- a fault in a statement that has no line yet stands at the line of the statement
+    ev_stmts (more_stmts line x rest) s = bind (at_line line (ev_stmt x s)) (λ t _. ev_stmts rest t)
 
     pub ev_stmt : Stmt → Store → Events NoYield
     -- a test as a statement is two nodes, the statement and the test
@@ -92,7 +94,7 @@ module _ (p : Program) (input : List ℕ) (below : Level) where
         try_labels labels n (λ _. node (ev_stmts body s)) (λ _. ev_cases rest n s otherwise)
 
     pub ev_else : Else → Store → Events NoYield
-    ev_else no_else s = Fault fault.NoCase
+    ev_else no_else s = Fault fault.NoCase 0
     ev_else (else_part body) s = ev_stmts body s
 
     -- each branch is a node, in the store on entry
@@ -139,7 +141,7 @@ module _ (p : Program) (input : List ℕ) (below : Level) where
     -- where there is no alternative the store is the one on entry, hidden cells and the input position too
     ev_test (Not t) s = node (on_first (ev_test t s) (λ u _. Fail) (λ _. one s tt))
     -- at a call the routine's statements are taken, with no visit of the routine's own node
-    ev_test (CallTest r args) s = node (bind (ev_args args s) (λ t taken. as_test (enter p (below.routine r) r t taken)))
+    ev_test (CallTest r args links) s = node (bind (ev_args args s) (λ t taken. as_test (enter p (below.routine r) r links t taken)))
 
     pub ev_and : Tests → Store → Events NoYield
     ev_and no_tests s = one s tt
@@ -164,7 +166,8 @@ module _ (p : Program) (input : List ℕ) (below : Level) where
     ev_expr (Known d) s = node (bind (ev_desig d s) (λ t q. one t (known_bit (cell_of t q))))
     ev_expr (Chr e) s =
         node (bind (ev_expr e s) (λ t n. check_range (record { low = pos 0; high = pos 255 }) n (λ _. one t n)))
-    ev_expr (CallExpr r args) s = node (bind (ev_args args s) (λ t taken. as_value (enter p (below.routine r) r t taken)))
+    ev_expr (CallExpr r args links) s =
+        node (bind (ev_args args s) (λ t taken. as_value (routine_at p r).line (enter p (below.routine r) r links t taken)))
 
     -- the operators behind the number n
     pub ev_links : Links → ℤ → Store → Events ℤ
@@ -197,9 +200,9 @@ module _ (p : Program) (input : List ℕ) (below : Level) where
     ev_sel (Field offset cells) q s = node (one s (part q offset cells))
     ev_sel (Index e range cells) q s = node (bind (ev_expr e s) (λ t n. index_place t q n range cells))
 
-  -- the statements of a routine
+  -- the statements of a routine, each with its line
   abbrev pub ev_routine : ℕ → Store → Events NoYield
-  ev_routine r s = ev_stmts (routine_at p r).body s
+  ev_routine r s = ev_stmts (body_with_lines (routine_at p r)) s
 
   abbrev pub turn_for : Loop → Store → Events NoYield
   turn_for (a_loop d range counter limit from to by body) =
@@ -233,7 +236,7 @@ level p input (suc n) = level_above p input (level p input n)
 
 -- one frame, of routine 0, with the input position 0 and all other cells unknown
 abbrev pub start : Program → Store
-start p = record { routine = 0; cells = start_cells (routine_at p 0).slots } ∷ []
+start p = record { routine = 0; link = 0; cells = start_cells (routine_at p 0).slots } ∷ []
 
 -- the events of the program at level n: the one place where the node of a routine is visited
 abbrev pub ev_program : ℕ → Program → List ℕ → Events NoYield

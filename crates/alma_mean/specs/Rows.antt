@@ -14,7 +14,7 @@ use Rattle.alma_ir.specs.declared.phrase.ReadAs.{ReadAs}
 use Rattle.alma_ir.specs.declared.phrase.ReadAs.TheVariants as read_as
 use Rattle.alma_ir.specs.declared.program.Param.{Param}
 use Rattle.alma_ir.specs.Tree.{Routine, Program, routine_at}
-use Rattle.alma_mean.specs.Store.{Store, Frame, Cell, Place, Unknown, Number, At, cell_at, put, put_all, cells_of, cell_of, put_at, part, top, top_cell, put_top, without_top, over, changes}
+use Rattle.alma_mean.specs.Store.{Store, Frame, Cell, Place, Unknown, Number, At, cell_at, put, put_all, cells_of, cell_of, put_at, part, top, up, top_cell, put_top, without_top, over, changes}
 use Rattle.alma_mean.specs.Events.{Events, NoYield, Visit, Print, Alt, Flow, Go, Return, Fail, Fault, Cut, one, join, bind, on_first}
 use Rattle.alma_mean.specs.Arithmetic.{check_range, fault_unless}
 
@@ -23,8 +23,8 @@ use Rattle.alma_mean.specs.Arithmetic.{check_range, fault_unless}
 -- the number of a cell, or fault Unknown
 abbrev pub read_cell : {A : Type 0} → Cell → (ℤ → Events A) → Events A
 read_cell (Number n) k = k n
-read_cell Unknown k = Fault fault.Unknown
-read_cell (At p) k = Fault fault.Unknown
+read_cell Unknown k = Fault fault.Unknown 0
+read_cell (At p) k = Fault fault.Unknown 0
 
 -- 1 where the cell is known, and else 0
 abbrev pub known_bit : Cell → ℤ
@@ -35,14 +35,17 @@ known_bit (At p) = pos 0
 -- the place that a cell holds, or fault Unknown
 abbrev pub place_held : Store → Cell → Events Place
 place_held s (At p) = one s p
-place_held s Unknown = Fault fault.Unknown
-place_held s (Number n) = Fault fault.Unknown
+place_held s Unknown = Fault fault.Unknown 0
+place_held s (Number n) = Fault fault.Unknown 0
 
--- the place of a root: cells of the frame on top, cells of the global frame, or the place that a parameter holds
+-- the place of a root: cells of the frame on top, of the global frame or of a frame up the links, or the place that a
+-- parameter holds there
 abbrev pub root_place : Store → Root → ℕ → Events Place
 root_place s (root.Local slot) cells = one s (record { frame = top s; slot = slot; size = cells })
 root_place s (root.Global slot) cells = one s (record { frame = 0; slot = slot; size = cells })
 root_place s (root.Param slot) cells = place_held s (top_cell s slot)
+root_place s (root.Outer links slot) cells = one s (record { frame = up s links; slot = slot; size = cells })
+root_place s (root.OuterParam links slot) cells = place_held s (cell_at s (up s links) slot)
 
 -- the element of an array with this index, or fault Index
 abbrev pub index_place : Store → Place → ℤ → Range → ℕ → Events Place
@@ -66,11 +69,11 @@ bind_cell s p (At q) range n = check_range range n (λ _. one (put_at s p (Numbe
 abbrev pub unify_cells : Store → Place → Cell → Range → Place → Cell → Range → Events NoYield
 unify_cells s p (Number a) r q c r' = bind_cell s q c r' a
 unify_cells s p Unknown r q (Number b) r' = bind_cell s p Unknown r b
-unify_cells s p Unknown r q Unknown r' = Fault fault.Unknown
-unify_cells s p Unknown r q (At y) r' = Fault fault.Unknown
+unify_cells s p Unknown r q Unknown r' = Fault fault.Unknown 0
+unify_cells s p Unknown r q (At y) r' = Fault fault.Unknown 0
 unify_cells s p (At x) r q (Number b) r' = bind_cell s p (At x) r b
-unify_cells s p (At x) r q Unknown r' = Fault fault.Unknown
-unify_cells s p (At x) r q (At y) r' = Fault fault.Unknown
+unify_cells s p (At x) r q Unknown r' = Fault fault.Unknown 0
+unify_cells s p (At x) r q (At y) r' = Fault fault.Unknown 0
 
 -- two cells of one type, so that no range is asked; k goes on
 abbrev pub match_cell : Store → Place → Cell → Place → Cell → (Store → Events NoYield) → Events NoYield
@@ -78,11 +81,11 @@ match_cell s p (Number a) q (Number b) k = bind (succeed_if s (int_eq a b)) (λ 
 match_cell s p (Number a) q Unknown k = k (put_at s q (Number a))
 match_cell s p (Number a) q (At y) k = k (put_at s q (Number a))
 match_cell s p Unknown q (Number b) k = k (put_at s p (Number b))
-match_cell s p Unknown q Unknown k = Fault fault.Unknown
-match_cell s p Unknown q (At y) k = Fault fault.Unknown
+match_cell s p Unknown q Unknown k = Fault fault.Unknown 0
+match_cell s p Unknown q (At y) k = Fault fault.Unknown 0
 match_cell s p (At x) q (Number b) k = k (put_at s p (Number b))
-match_cell s p (At x) q Unknown k = Fault fault.Unknown
-match_cell s p (At x) q (At y) k = Fault fault.Unknown
+match_cell s p (At x) q Unknown k = Fault fault.Unknown 0
+match_cell s p (At x) q (At y) k = Fault fault.Unknown 0
 
 -- n cells of two places in their order, each in the store that the one before left;
 -- it fails or faults at the first that does
@@ -155,7 +158,7 @@ forall_row then_do s carry (Alt x w e) =
     (λ t _. forall_row then_do s (with_changes (changes (over x carry) t) carry) e)
     (λ _. forall_row then_do s carry e)
 forall_row then_do s carry Fail = one (over s carry) tt
-forall_row then_do s carry (Fault x) = Fault x
+forall_row then_do s carry (Fault x l) = Fault x l
 forall_row then_do s carry Cut = Cut
 
 -- ---- READ
@@ -177,7 +180,7 @@ set_position s n = put s 0 0 (Number (pos n))
 -- A number outside 64 bits is fault ReadRange, one outside the variable's type fault Range
 abbrev pub store_number : Store → Place → Range → ReadInt → Events NoYield
 store_number s p range found.NoNumber = Fail
-store_number s p range found.TooLarge = Fault fault.ReadRange
+store_number s p range found.TooLarge = Fault fault.ReadRange 0
 store_number s p range (found.Number n place) = check_range range n (λ _. one (put_at (set_position s place) p (Number n)) tt)
 
 -- the first byte of the input that is left
@@ -221,20 +224,21 @@ with_params s frame (p ∷ ps) (a ∷ args) cells = with_params s frame ps args 
 abbrev pub declared_cells : Program → Store → ℕ
 declared_cells p s = sum_by (λ f. (routine_at p f.routine).declared) s
 
--- the new frame: the parameters' cells, and all others unknown
-abbrev pub frame_of : Store → ℕ → Routine → List ArgValue → Frame
-frame_of s r routine args = record {
+-- the new frame: its link leads up from the caller, and all cells but the parameters' are unknown
+abbrev pub frame_of : Store → (r links : ℕ) → Routine → List ArgValue → Frame
+frame_of s r links routine args = record {
   routine = r;
+  link = up s links;
   cells = with_params s (length s) routine.params args (replicate routine.slots Unknown);
 }
 
 -- the new frame pushed and the body taken, where at most 10,000 frames live then, and they declare at most 1,048,576
 -- cells. Both are asked after all arguments
-abbrev pub enter : Program → (body : Store → Events NoYield) → ℕ → Store → List ArgValue → Events NoYield
-enter p body r s args =
+abbrev pub enter : Program → (body : Store → Events NoYield) → (r links : ℕ) → Store → List ArgValue → Events NoYield
+enter p body r links s args =
     fault_unless fault.DepthFull (nat_lt (length s) 10000) (λ _.
     fault_unless fault.CellsFull (nat_le (declared_cells p s + (routine_at p r).declared) 1048576) (λ _.
-    body (s ++ frame_of s r (routine_at p r) args ∷ [])))
+    body (s ++ frame_of s r links (routine_at p r) args ∷ [])))
 
 -- a call as a test: each alternative of the body, with the top frame dropped, goes on
 abbrev pub as_test : Events NoYield → Events NoYield
@@ -242,19 +246,19 @@ as_test (Visit e) = Visit (as_test e)
 as_test (Print b e) = Print b (as_test e)
 as_test (Alt s w e) = Alt (without_top s) (Go tt) (as_test e)
 as_test Fail = Fail
-as_test (Fault x) = Fault x
+as_test (Fault x l) = Fault x l
 as_test Cut = Cut
 
--- a function that ends with no number is fault NoReturn
-abbrev pub function_value : Store → Flow NoYield → Events ℤ
-function_value s (Return (Some n)) = one (without_top s) n
-function_value s (Return None) = Fault fault.NoReturn
-function_value s (Go y) = Fault fault.NoReturn
+-- a function that ends with no number is fault NoReturn at its own line
+abbrev pub function_value : (line : ℕ) → Store → Flow NoYield → Events ℤ
+function_value line s (Return (Some n)) = one (without_top s) n
+function_value line s (Return None) = Fault fault.NoReturn line
+function_value line s (Go y) = Fault fault.NoReturn line
 
 -- A call in an expression: the number of the first way in which the body ends. A body that fails leaves the expression
 -- without an alternative, and so what holds it: an assignment fails, and a condition has no alternative, as if it failed
-abbrev pub as_value : Events NoYield → Events ℤ
-as_value e = on_first e function_value (λ _. Fail)
+abbrev pub as_value : (line : ℕ) → Events NoYield → Events ℤ
+as_value line e = on_first e (function_value line) (λ _. Fail)
 
 -- RETURN with a number, which is in the range of the routine's result
 abbrev pub return_within : Option Range → Store → ℤ → Events NoYield

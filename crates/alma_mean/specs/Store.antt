@@ -15,9 +15,11 @@ pub data Cell : Type 0 where
   Number : ℤ → Cell
   At : Place → Cell
 
--- a call that lives: its routine, and its cells, one a slot
+-- a call that lives: its routine, its link, which is the number of a frame of the routine round it, or 0 for the global
+-- frame, and its cells, one a slot
 pub record Frame : Type 0 where
   pub routine : ℕ
+  pub link : ℕ
   pub cells : List Cell
 
 -- the frames that live, the global frame first; cell 0 of the global frame is the input position
@@ -25,7 +27,7 @@ abbrev pub Store : Type 0
 Store = List Frame
 
 abbrev pub no_frame : Frame
-no_frame = record { routine = 0; cells = [] }
+no_frame = record { routine = 0; link = 0; cells = [] }
 
 -- the cell at a slot of a frame, Unknown where there is none
 abbrev pub cell_at : Store → ℕ → ℕ → Cell
@@ -72,6 +74,15 @@ top s = length s - 1
 
 abbrev pub top_frame : Store → Frame
 top_frame s = get_or s (top s) no_frame
+
+-- the number of the frame to which so many links lead from a frame
+abbrev pub up_from : Store → (frame links : ℕ) → ℕ
+up_from s frame zero = frame
+up_from s frame (suc links) = up_from s (get_or s frame no_frame).link links
+
+-- and from the frame on top
+abbrev pub up : Store → (links : ℕ) → ℕ
+up s links = up_from s (top s) links
 
 abbrev pub without_top : Store → Store
 without_top s = take (top s) s

@@ -4,6 +4,8 @@ ghost use Rattle.alma_mean.specs.Equations.{EquationsRun, NumbersRun};
 ghost use Rattle.alma_mean.specs.Loops.{LoopsRun, QueensRun};
 ghost use Rattle.alma_mean.specs.Foralls.{ForallsRun};
 ghost use Rattle.alma_mean.specs.Calls.{CallsRun};
+ghost use Rattle.alma_mean.specs.Nested.{NestedRun};
+ghost use Rattle.alma_mean.specs.FaultLines.{FaultLines};
 ghost use Rattle.alma_mean.specs.InOut.{InOutRuns};
 ghost use Rattle.alma_mean.specs.Conditions.{ConditionsTell};
 ghost use Rattle.alma_mean.specs.Visits.{VisitsCount};
@@ -48,6 +50,18 @@ pub fn foralls_run()
 #[tactic(auto, using(crate::proofs::Calls::calls_run))]
 pub fn calls_run()
     ensures { CallsRun }
+{}
+
+/// Programs with procedures inside procedures.
+#[tactic(auto, using(crate::proofs::Nested::nested_run))]
+pub fn nested_run()
+    ensures { NestedRun }
+{}
+
+/// Programs that end in a fault, and its line.
+#[tactic(auto, using(crate::proofs::FaultLines::fault_lines))]
+pub fn fault_lines()
+    ensures { FaultLines }
 {}
 
 /// Programs that read and write.

@@ -77,11 +77,12 @@ copied-length fs n cell.Unset w h = absurd h
 copied-length fs n (cell.Mark m) w h = absurd h
 
 -- an argument fills the slots of its parameter
-pub arg-length : (fs : List PlainFrame) (me at n : ℕ) (k : ParamKind) (c : Cell) → AreWhole fs → FitsParam (IsLive fs) k n c → length (arg_cells fs me at k c) ≡ length (param_kinds k n)
+pub arg-length : (fs : List PlainFrame) (me at n : ℕ) (k : ParamKind) (c : Cell) → AreWhole fs → FitsParam (IsLive fs) (λ routine. IsLive fs) k n c → length (arg_cells fs me at k c) ≡ length (param_kinds k n)
 arg-length fs me at n param.Value c w h = refl
 arg-length fs me at n param.Place c w h = refl
 arg-length fs me at n param.Mix c w h = mix-length fs me at c h
 arg-length fs me at n param.Cells c w h = copied-length fs n c w h ∙ sym (length-replicate n slot.Number)
+arg-length fs me at n param.Link c w h = refl
 
 -- the slots of one more parameter
 pub params-push : (ps : List CodeParam) (p : CodeParam) → length (params_kinds (ps ++ p ∷ [])) ≡ length (params_kinds ps) + length (param_kinds p.kind p.cells)
@@ -108,7 +109,7 @@ pub params-more : (n : ℕ) (ps : List CodeParam) → n < length ps →
 params-more n ps l = ap (λ qs. length (params_kinds qs)) (take_more ps n no_param l) ∙ params-push (take n ps) (get_or ps n no_param)
 
 -- arguments fill the slots of their parameters
-pub args-length : (fs : List PlainFrame) (ps : List CodeParam) (args : List Cell) (n : ℕ) → AreWhole fs → FitsParams (IsLive fs) ps args → n ≤ length ps →
+pub args-length : (fs : List PlainFrame) (ps : List CodeParam) (args : List Cell) (n : ℕ) → AreWhole fs → FitsParams (IsLive fs) (λ routine. IsLive fs) ps args → n ≤ length ps →
     length (args_cells fs ps args n) ≡ length (params_kinds (take n ps))
 args-length fs ps args zero w f l = refl
 args-length fs ps args (suc n) w f l =
@@ -131,7 +132,7 @@ head-room h i =
     omega (arith, a, b, c)
 
 -- a Mix parameter has room for its two slots
-pub mix-room : (fs : List PlainFrame) (h : PlainHead) (args : List Cell) (n : ℕ) → IsHead h → AreWhole fs → FitsParams (IsLive fs) h.params args → n < length h.params →
+pub mix-room : (fs : List PlainFrame) (h : PlainHead) (args : List Cell) (n : ℕ) → IsHead h → AreWhole fs → FitsParams (IsLive fs) (λ routine. IsLive fs) h.params args → n < length h.params →
     (get_or h.params n no_param).kind ≡ param.Mix → length (args_cells fs h.params args n) + 2 ≤ h.slots
 mix-room fs h args n i w f l m =
     let a = args-length fs h.params args n w f (omega arith) in
@@ -157,7 +158,7 @@ head-fits h i =
     omega (arith, b, c)
 
 -- an entered frame has a cell for each kind
-pub entered-length : (fs : List PlainFrame) (h : PlainHead) (args : List Cell) → IsHead h → AreWhole fs → FitsParams (IsLive fs) h.params args →
+pub entered-length : (fs : List PlainFrame) (h : PlainHead) (args : List Cell) → IsHead h → AreWhole fs → FitsParams (IsLive fs) (λ routine. IsLive fs) h.params args →
     length (kinds_of 0 h.runs) ≡ length (entered_cells fs h args)
 entered-length fs h args i w f =
     let first : List Cell = args_cells fs h.params args (length h.params) in

@@ -41,7 +41,7 @@ fn blank(kind: SlotKind) -> Cell
 {
     match kind {
         SlotKind::Number => Cell::Unknown,
-        SlotKind::Place(_) | SlotKind::Mark => Cell::Unset,
+        SlotKind::Place(_) | SlotKind::Mark | SlotKind::Link(_) => Cell::Unset,
     }
 }
 
@@ -63,13 +63,13 @@ fn push_arg(
     param: CodeParam,
     arg: Cell,
 ) -> Result<(), NoMemory>
-    requires fits { FitsParam (IsLive frames.now) param.kind param.cells arg }
+    requires fits { FitsParam (IsLive frames.now) (λ routine. IsLive frames.now) param.kind param.cells arg }
     requires whole { AreWhole frames.now }
     requires room { param.kind ≡ ParamKind.Mix → length cells.old.items + 1 < 2 ^ 32 }
     ensures { IfOk result (λ _. cells.new.items ≡ cells.old.items ++ arg_cells frames.now (length frames.now) (length cells.old.items) param.kind arg) }
 {
     match param.kind {
-        ParamKind::Value | ParamKind::Place => {
+        ParamKind::Value | ParamKind::Place | ParamKind::Link => {
             cells.push(arg)?;
             Ok(())
         }
@@ -133,7 +133,7 @@ fn cells_from<H: Head>(
     requires head { IsHead (H.head head.now) }
     requires whole { AreWhole frames.now }
     requires kinds { kinds.now ≡ kinds_of 0 (H.head head.now).runs }
-    requires args { FitsParams (IsLive frames.now) (H.head head.now).params args.now }
+    requires args { FitsParams (IsLive frames.now) (λ routine. IsLive frames.now) (H.head head.now).params args.now }
     ensures { IfOk result (λ cells. cells.items ≡ entered_cells frames.now (H.head head.now) args.now) }
 {
     let mut cells = Vec::with_capacity(alloc, head.slots() as usize)?;
@@ -169,7 +169,7 @@ pub fn frame_from<H: Head>(
 ) -> Result<Frame, NoMemory>
     requires head { IsHead (H.head head.now) }
     requires whole { AreWhole frames.now }
-    requires args { FitsParams (IsLive frames.now) (H.head head.now).params args.now }
+    requires args { FitsParams (IsLive frames.now) (λ routine. IsLive frames.now) (H.head head.now).params args.now }
     ensures frame { IfOk result (λ frame. frame ≡ entered_frame frames.now (H.head head.now) routine ret args.now) }
     ensures whole { IfOk result IsWhole }
 {

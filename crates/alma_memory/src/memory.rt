@@ -174,7 +174,7 @@ impl Memory {
         args: &[Cell],
     ) -> Result<(), EnterError>
         requires head { IsHead (H.head head.now) }
-        requires args { FitsParams (IsLive self.old.now) (H.head head.now).params args.now }
+        requires args { FitsParams (IsLive self.old.now) (λ routine. IsLive self.old.now) (H.head head.now).params args.now }
         ensures now { self.new.now ≡ (if is_ok result
             then self.old.now ++ entered_frame self.old.now (H.head head.now) routine ret args.now ∷ []
             else self.old.now) }
