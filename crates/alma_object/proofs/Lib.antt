@@ -4,5 +4,6 @@ pub mod Faults
 pub mod Items
 pub mod Kept
 pub mod Records
+pub mod Slices
 pub mod Starts
 pub mod Views

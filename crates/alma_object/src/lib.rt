@@ -2,7 +2,7 @@
 #![tactic(auto)]
 
 mod bytes;
-mod encode;
+
 mod fault;
 mod header;
 mod instr;
@@ -10,7 +10,9 @@ mod record;
 mod routine;
 mod view;
 mod walk;
+mod writing;
 
+pub use writing::encode;
 pub use fault::ObjectFault;
 pub use routine::RoutineView;
 pub use view::ObjectView;
