@@ -153,3 +153,18 @@ three_parts o n1 n2 n3 a b d x y z p q r ea eb ed =
     r ∙ ap (λ (t : List ℕ). t ++ d) (q ∙ ap (λ (t : List ℕ). t ++ b) p)
     ∙ append_assoc (o ++ a) b d ∙ append_assoc o a (b ++ d)
     ∙ ap (λ (t : List ℕ). o ++ (t ++ (b ++ d))) ea ∙ ap (λ (t : List ℕ). o ++ (x ++ (t ++ d))) eb ∙ ap (λ (t : List ℕ). o ++ (x ++ (y ++ t))) ed
+
+-- ten parts, each appended to what was there
+pub ten_parts : (n0 n1 n2 n3 n4 n5 n6 n7 n8 n9 n10 h a b c d e f p i l : List ℕ) → n0 ≡ [] → n1 ≡ n0 ++ h → n2 ≡ n1 ++ a → n3 ≡ n2 ++ b → n4 ≡ n3 ++ c → n5 ≡ n4 ++ d → n6 ≡ n5 ++ e → n7 ≡ n6 ++ f →
+    n8 ≡ n7 ++ p → n9 ≡ n8 ++ i → n10 ≡ n9 ++ l → n10 ≡ h ++ ((a ++ (b ++ (c ++ (d ++ (e ++ f))))) ++ (p ++ (i ++ l)))
+ten_parts n0 n1 n2 n3 n4 n5 n6 n7 n8 n9 n10 h a b c d e f p i l e0 e1 e2 e3 e4 e5 e6 e7 e8 e9 e10 =
+    let s1 : n1 ≡ h = e1 ∙ ap (λ (t : List ℕ). t ++ h) e0 in
+    let s2 : n2 ≡ h ++ a = e2 ∙ ap (λ (t : List ℕ). t ++ a) s1 in
+    let s3 : n3 ≡ (h ++ a) ++ b = e3 ∙ ap (λ (t : List ℕ). t ++ b) s2 in
+    let s4 : n4 ≡ ((h ++ a) ++ b) ++ c = e4 ∙ ap (λ (t : List ℕ). t ++ c) s3 in
+    let s5 : n5 ≡ (((h ++ a) ++ b) ++ c) ++ d = e5 ∙ ap (λ (t : List ℕ). t ++ d) s4 in
+    let s6 : n6 ≡ ((((h ++ a) ++ b) ++ c) ++ d) ++ e = e6 ∙ ap (λ (t : List ℕ). t ++ e) s5 in
+    let s7 : n7 ≡ (((((h ++ a) ++ b) ++ c) ++ d) ++ e) ++ f = e7 ∙ ap (λ (t : List ℕ). t ++ f) s6 in
+    let s8 : n8 ≡ ((((((h ++ a) ++ b) ++ c) ++ d) ++ e) ++ f) ++ p = e8 ∙ ap (λ (t : List ℕ). t ++ p) s7 in
+    let s9 : n9 ≡ (((((((h ++ a) ++ b) ++ c) ++ d) ++ e) ++ f) ++ p) ++ i = e9 ∙ ap (λ (t : List ℕ). t ++ i) s8 in
+    e10 ∙ ap (λ (t : List ℕ). t ++ l) s9 ∙ simp append_assoc

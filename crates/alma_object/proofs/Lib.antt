@@ -5,5 +5,6 @@ pub mod Items
 pub mod Kept
 pub mod Records
 pub mod Slices
+pub mod Spelled
 pub mod Starts
 pub mod Views

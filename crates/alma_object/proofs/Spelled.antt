@@ -1,0 +1,87 @@
+-- Bytes without fault are spelled by the code that stands in them: the records.
+use Rattle.std.proofs.Common.{◌≡◌, ℕ, zero, suc, ◌+◌, ◌-◌, ◌*◌, ◌^◌, ◌<◌, ◌≤◌, ℤ, Bool, true, false, ◌&&◌, not, Option, Some, None, List, [], ◌∷◌, ◌++◌, length, get_or, take, drop, map, refl, sym, ap, subst, ◌∙◌, append_assoc, arith, inl, inr}
+use Rattle.std.specs.Prelude.{slice_index, slice_range, sum_by, nat_eq, nat_le, nat_lt, ◌||◌, if◌then◌else◌}
+use Rattle.std.specs.List.{flat_map, range_with_len}
+use Rattle.std.specs.Int.{w16, w32, w64, from_le_bytes, to_le_bytes, cast_signed, cast_unsigned}
+use Rattle.std.proofs.lemmas.List.{append-nil}
+use Rattle.std.proofs.lemmas.List.Sums.{sum_by_more, sum_by-append}
+use Rattle.alma_code.specs.declared.head.CodeParam.{CodeParam}
+use Rattle.alma_code.specs.declared.head.Run.{Run}
+use Rattle.alma_object.specs.declared.header.Header.{Header}
+use Rattle.alma_object.specs.Bytes.{u32_bytes, i64_bytes, words_bytes, u32_at, i64_at}
+use Rattle.alma_object.specs.Fault.{unless, whole, first_fault}
+use Rattle.alma_object.specs.Header.{params_at, runs_at}
+use Rattle.alma_object.specs.Walk.{start_of, param_fault, run_fault, range_fault, line_fault}
+use Rattle.alma_object.specs.Object.{param_number, slot_number, slot_size, param_bytes, run_bytes, range_bytes, line_bytes}
+use Rattle.alma_object.specs.Reading.{items, param_kind, slot_kind, param_in, run_in, range_in, line_in}
+use Rattle.alma_object.proofs.Kept.{unless_none, whole_none, le_fact}
+use Rattle.alma_object.proofs.Slices.{IsBytes, words_from, words_slice, slice_join, u32_slice}
+
+-- ---- kinds
+
+kind_again : (n : ℕ) → n ≤ 4 → param_number (param_kind n) ≡ n
+kind_again zero le = refl
+kind_again (suc zero) le = refl
+kind_again (suc (suc zero)) le = refl
+kind_again (suc (suc (suc zero))) le = refl
+kind_again (suc (suc (suc (suc zero)))) le = refl
+kind_again (suc (suc (suc (suc (suc n))))) le = absurd (omega arith)
+
+slot_again : (n size : ℕ) → n ≤ 3 → slot_number (slot_kind n size) ≡ n
+slot_again zero size le = refl
+slot_again (suc zero) size le = refl
+slot_again (suc (suc zero)) size le = refl
+slot_again (suc (suc (suc zero))) size le = refl
+slot_again (suc (suc (suc (suc n)))) size le = absurd (omega arith)
+
+size_again : (n size : ℕ) → n ≤ 3 → (nat_eq n 1 || (nat_eq n 3 || nat_eq size 0)) ≡ true → slot_size (slot_kind n size) ≡ size
+size_again zero zero le e = refl
+size_again zero (suc size) le e = absurd cc
+size_again (suc zero) size le e = refl
+size_again (suc (suc zero)) zero le e = refl
+size_again (suc (suc zero)) (suc size) le e = absurd cc
+size_again (suc (suc (suc zero))) size le e = refl
+size_again (suc (suc (suc (suc n)))) size le e = absurd (omega arith)
+
+last_kind : (two : Bool) (n a b : ℕ) → a ≤ b → nat_le n (if two then b else a) ≡ true → n ≤ b
+last_kind true n a b le e = le_fact n b e
+last_kind false n a b le e = let f = le_fact n a e in omega arith
+
+-- ---- records of two words, of three, and of two numbers of INTEGER
+
+two_words : (bytes : List ℕ) (at : ℕ) → IsBytes bytes → at + 8 ≤ length bytes → slice_range bytes at (at + 8) ≡ words_bytes (u32_at bytes at ∷ u32_at bytes (at + 4) ∷ [])
+unfolding words_from
+two_words bytes at fits le = words_slice bytes at 2 fits le
+
+three_words : (bytes : List ℕ) (at : ℕ) → IsBytes bytes → at + 12 ≤ length bytes → slice_range bytes at (at + 12) ≡ words_bytes (u32_at bytes at ∷ u32_at bytes (at + 4) ∷ u32_at bytes (at + 8) ∷ [])
+unfolding words_from
+three_words bytes at fits le =
+    let e : at + 4 + 4 ≡ at + 8 = omega arith in
+    words_slice bytes at 3 fits le ∙ ap (λ k. words_bytes (u32_at bytes at ∷ u32_at bytes (at + 4) ∷ u32_at bytes k ∷ [])) e
+
+-- ---- params and runs
+
+pub param_spelled : (bytes : List ℕ) (h : Header) (p : ℕ) → IsBytes bytes → param_fault bytes h p ≡ None → slice_range bytes (params_at h + 8 * p) (params_at h + 8 * p + 8) ≡ param_bytes (param_in bytes (params_at h + 8 * p))
+unfolding param_fault param_bytes param_in
+param_spelled bytes h p fits e =
+    let at = params_at h + 8 * p in
+    let a = whole_none bytes (at + 8) _ e in
+    let b = unless_none _ _ _ a.1 in
+    let kind : u32_at bytes at ≤ 4 = last_kind (nat_eq h.version 2) (u32_at bytes at) 3 4 (omega arith) b.0 in
+    two_words bytes at fits a.0 ∙ ap (λ k. words_bytes (k ∷ u32_at bytes (at + 4) ∷ [])) (sym (kind_again (u32_at bytes at) kind))
+
+pub run_spelled : (bytes : List ℕ) (h : Header) (first : Bool) (r : ℕ) → IsBytes bytes → run_fault bytes h first r ≡ None → slice_range bytes (runs_at h + 12 * r) (runs_at h + 12 * r + 12) ≡ run_bytes (run_in bytes (runs_at h + 12 * r))
+unfolding run_fault run_bytes run_in
+run_spelled bytes h first r fits e =
+    let at = runs_at h + 12 * r in
+    let a = whole_none bytes (at + 12) _ e in
+    let b = unless_none _ _ _ a.1 in
+    let c = unless_none _ _ _ b.1 in
+    let kind : u32_at bytes at ≤ 3 = last_kind (nat_eq h.version 2) (u32_at bytes at) 2 3 (omega arith) b.0 in
+    three_words bytes at fits a.0
+    ∙ ap (λ k. words_bytes (k ∷ u32_at bytes (at + 4) ∷ u32_at bytes (at + 8) ∷ [])) (sym (slot_again (u32_at bytes at) (u32_at bytes (at + 4)) kind))
+    ∙ ap (λ k. words_bytes (slot_number (slot_kind (u32_at bytes at) (u32_at bytes (at + 4))) ∷ k ∷ u32_at bytes (at + 8) ∷ [])) (sym (size_again (u32_at bytes at) (u32_at bytes (at + 4)) kind c.0))
+
+pub line_spelled : (bytes : List ℕ) (at : ℕ) → IsBytes bytes → at + 8 ≤ length bytes → slice_range bytes at (at + 8) ≡ line_bytes (line_in bytes at)
+unfolding line_bytes line_in
+line_spelled bytes at fits le = two_words bytes at fits le
