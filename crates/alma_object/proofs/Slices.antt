@@ -86,12 +86,11 @@ u32_slice bytes at fits le =
     is ∙ sym (le_bytes_4 four (from_le_bytes w32 four) refl within refl)
 
 -- n words from an offset on
-pub words_from : List ℕ → ℕ → ℕ → List ℕ
+abbrev pub words_from : List ℕ → ℕ → ℕ → List ℕ
 words_from bytes at zero = []
 words_from bytes at (suc n) = u32_at bytes at ∷ words_from bytes (at + 4) n
 
 pub words_slice : (bytes : List ℕ) (at n : ℕ) → IsBytes bytes → at + 4 * n ≤ length bytes → slice_range bytes at (at + 4 * n) ≡ words_bytes (words_from bytes at n)
-unfolding words_from
 words_slice bytes at zero fits le = let z : at + 4 * 0 ≡ at = omega arith in ap (slice_range bytes at) z ∙ slice_none bytes at
 words_slice bytes at (suc n) fits le =
     let e : at + 4 + 4 * n ≡ at + 4 * suc n = omega arith in

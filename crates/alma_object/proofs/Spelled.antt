@@ -4,6 +4,7 @@ use Rattle.std.specs.Prelude.{slice_index, slice_range, sum_by, nat_eq, nat_le, 
 use Rattle.std.specs.List.{flat_map, range_with_len}
 use Rattle.std.specs.Int.{w16, w32, w64, from_le_bytes, to_le_bytes, cast_signed, cast_unsigned}
 use Rattle.std.proofs.lemmas.List.{append-nil}
+use Rattle.std.proofs.lemmas.Bool.Decides.{nat_tests}
 use Rattle.std.proofs.lemmas.List.Sums.{sum_by_more, sum_by-append}
 use Rattle.alma_code.specs.declared.head.CodeParam.{CodeParam}
 use Rattle.alma_code.specs.declared.head.Run.{Run}
@@ -12,7 +13,8 @@ use Rattle.alma_object.specs.Bytes.{u32_bytes, i64_bytes, words_bytes, u32_at, i
 use Rattle.alma_object.specs.Fault.{unless, whole, first_fault}
 use Rattle.alma_object.specs.Header.{params_at, runs_at}
 use Rattle.alma_object.specs.Walk.{start_of, param_fault, run_fault, range_fault, line_fault}
-use Rattle.alma_object.specs.Object.{param_number, slot_number, slot_size, param_bytes, run_bytes, range_bytes, line_bytes}
+use Rattle.std.proofs.lemmas.List.FromFn.{sum_by-map-range_with_len_more, take-map-range_with_len}
+use Rattle.alma_object.specs.Object.{end_of, param_number, slot_number, slot_size, param_bytes, run_bytes, range_bytes, line_bytes}
 use Rattle.alma_object.specs.Reading.{items, param_kind, slot_kind, param_in, run_in, range_in, line_in}
 use Rattle.alma_object.proofs.Kept.{unless_none, whole_none, le_fact}
 use Rattle.alma_object.proofs.Slices.{IsBytes, words_from, words_slice, slice_join, u32_slice}
@@ -34,12 +36,15 @@ slot_again (suc (suc zero)) size le = refl
 slot_again (suc (suc (suc zero))) size le = refl
 slot_again (suc (suc (suc (suc n)))) size le = absurd (omega arith)
 
+eq_fact : (m n : ℕ) → nat_eq m n ≡ true → m ≡ n
+eq_fact m n e = grind (arith, nat_tests)
+
 size_again : (n size : ℕ) → n ≤ 3 → (nat_eq n 1 || (nat_eq n 3 || nat_eq size 0)) ≡ true → slot_size (slot_kind n size) ≡ size
 size_again zero zero le e = refl
-size_again zero (suc size) le e = absurd cc
+size_again zero (suc size) le e = let f = eq_fact (suc size) 0 e in absurd (omega arith)
 size_again (suc zero) size le e = refl
 size_again (suc (suc zero)) zero le e = refl
-size_again (suc (suc zero)) (suc size) le e = absurd cc
+size_again (suc (suc zero)) (suc size) le e = let f = eq_fact (suc size) 0 e in absurd (omega arith)
 size_again (suc (suc (suc zero))) size le e = refl
 size_again (suc (suc (suc (suc n)))) size le e = absurd (omega arith)
 
@@ -50,11 +55,9 @@ last_kind false n a b le e = let f = le_fact n a e in omega arith
 -- ---- records of two words, of three, and of two numbers of INTEGER
 
 two_words : (bytes : List ℕ) (at : ℕ) → IsBytes bytes → at + 8 ≤ length bytes → slice_range bytes at (at + 8) ≡ words_bytes (u32_at bytes at ∷ u32_at bytes (at + 4) ∷ [])
-unfolding words_from
 two_words bytes at fits le = words_slice bytes at 2 fits le
 
 three_words : (bytes : List ℕ) (at : ℕ) → IsBytes bytes → at + 12 ≤ length bytes → slice_range bytes at (at + 12) ≡ words_bytes (u32_at bytes at ∷ u32_at bytes (at + 4) ∷ u32_at bytes (at + 8) ∷ [])
-unfolding words_from
 three_words bytes at fits le =
     let e : at + 4 + 4 ≡ at + 8 = omega arith in
     words_slice bytes at 3 fits le ∙ ap (λ k. words_bytes (u32_at bytes at ∷ u32_at bytes (at + 4) ∷ u32_at bytes k ∷ [])) e
@@ -77,7 +80,7 @@ run_spelled bytes h first r fits e =
     let a = whole_none bytes (at + 12) _ e in
     let b = unless_none _ _ _ a.1 in
     let c = unless_none _ _ _ b.1 in
-    let kind : u32_at bytes at ≤ 3 = last_kind (nat_eq h.version 2) (u32_at bytes at) 2 3 (omega arith) b.0 in
+    let kind : u32_at bytes (runs_at h + 12 * r) ≤ 3 = last_kind (nat_eq h.version 2) (u32_at bytes at) 2 3 (omega arith) b.0 in
     three_words bytes at fits a.0
     ∙ ap (λ k. words_bytes (k ∷ u32_at bytes (at + 4) ∷ u32_at bytes (at + 8) ∷ [])) (sym (slot_again (u32_at bytes at) (u32_at bytes (at + 4)) kind))
     ∙ ap (λ k. words_bytes (slot_number (slot_kind (u32_at bytes at) (u32_at bytes (at + 4))) ∷ k ∷ u32_at bytes (at + 8) ∷ [])) (sym (size_again (u32_at bytes at) (u32_at bytes (at + 4)) kind c.0))
@@ -85,3 +88,30 @@ run_spelled bytes h first r fits e =
 pub line_spelled : (bytes : List ℕ) (at : ℕ) → IsBytes bytes → at + 8 ≤ length bytes → slice_range bytes at (at + 8) ≡ line_bytes (line_in bytes at)
 unfolding line_bytes line_in
 line_spelled bytes at fits le = two_words bytes at fits le
+
+-- ---- parts that follow one another
+
+-- the end of the part of an item, in the sum of the sizes
+pub sum_ends : {A : Type 0} (size : A → ℕ) (of : ℕ → A) (end : ℕ → ℕ) (n : ℕ) → ((k : ℕ) → k < n → start_of end k ≤ end k) → ((k : ℕ) → k < n → size (of k) ≡ end k - start_of end k) →
+    sum_by size (items of n) ≡ start_of end n
+sum_ends size of end zero rise sizes = refl
+sum_ends size of end (suc n) rise sizes =
+    let e : suc n ≡ n + 1 = omega arith in
+    let before = sum_ends size of end n (λ k lt. rise k (omega arith)) (λ k lt. sizes k (omega arith)) in
+    let low = rise n (omega arith) in
+    let same = sizes n (omega arith) in
+    let more : sum_by size (items of (n + 1)) ≡ sum_by size (items of n) + size (of n) = sum_by-map-range_with_len_more size of 0 n n (omega arith) in
+    let last : start_of end (suc n) ≡ end n = refl in
+    ap (λ k. sum_by size (items of k)) e ∙ more ∙ omega (arith, before, low, same)
+
+-- the sum up to an item is its end
+pub end_is : {A : Type 0} (size : A → ℕ) (of : ℕ → A) (end : ℕ → ℕ) (n k : ℕ) → k < n → ((k : ℕ) → k < n → start_of end k ≤ end k) → ((k : ℕ) → k < n → size (of k) ≡ end k - start_of end k) →
+    end_of size (items of n) k ≡ end k
+end_is size of end n k lt rise sizes =
+    let e : k + 1 ≡ suc k = omega arith in
+    ap (sum_by size) (take-map-range_with_len of 0 n (k + 1) (omega arith))
+    ∙ sum_ends size of end (k + 1) (λ j l. rise j (omega arith)) (λ j l. sizes j (omega arith)) ∙ ap (start_of end) e
+
+-- the offsets of parts at ends
+pub starts_rise : (end : ℕ → ℕ) (n : ℕ) → ((k : ℕ) → k < n → start_of end k ≤ end k) → (k : ℕ) → k < n → start_of end k ≤ start_of end (k + 1)
+starts_rise end n rise k lt = let e : k + 1 ≡ suc k = omega arith in omega (arith, rise k lt, ap (start_of end) e)
