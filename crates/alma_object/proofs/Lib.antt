@@ -4,6 +4,7 @@ pub mod Faults
 pub mod Items
 pub mod Kept
 pub mod Records
+pub mod Sections
 pub mod Slices
 pub mod Spelled
 pub mod Starts

@@ -25,26 +25,37 @@ pub slice_none : {A : Type 0} (xs : List A) (a : ℕ) → slice_range xs a a ≡
 slice_none xs a = let z : a - a ≡ 0 = omega arith in ap (λ k. take k (drop a xs)) z
 
 -- offsets that never fall
-pub offsets_rise : (off : ℕ → ℕ) (a n : ℕ) → ((k : ℕ) → k < a + n → off k ≤ off (k + 1)) → off a ≤ off (a + n)
+pub offsets_rise : (off : ℕ → ℕ) (a n : ℕ) → ((k : ℕ) → a ≤ k → k < a + n → off k ≤ off (k + 1)) → off a ≤ off (a + n)
 offsets_rise off a zero rise = let z : a ≡ a + 0 = omega arith in omega (arith, ap off z)
 offsets_rise off a (suc n) rise =
-    let before = offsets_rise off a n (λ k lt. rise k (omega arith)) in
-    let last = rise (a + n) (omega arith) in
+    let before = offsets_rise off a n (λ k le lt. rise k le (omega arith)) in
+    let last = rise (a + n) (omega arith) (omega arith) in
     let e : a + n + 1 ≡ a + suc n = omega arith in
     omega (arith, before, last, ap off e)
 
 -- parts that stand at offsets one after another are the whole
-pub section_is : (bytes : List ℕ) (off : ℕ → ℕ) (each : ℕ → List ℕ) (a n : ℕ) → ((k : ℕ) → k < a + n → off k ≤ off (k + 1)) →
-    ((k : ℕ) → k < a + n → slice_range bytes (off k) (off (k + 1)) ≡ each k) → flat_map each (range_with_len a n) ≡ slice_range bytes (off a) (off (a + n))
+pub section_is : (bytes : List ℕ) (off : ℕ → ℕ) (each : ℕ → List ℕ) (a n : ℕ) → ((k : ℕ) → a ≤ k → k < a + n → off k ≤ off (k + 1)) →
+    ((k : ℕ) → a ≤ k → k < a + n → slice_range bytes (off k) (off (k + 1)) ≡ each k) → flat_map each (range_with_len a n) ≡ slice_range bytes (off a) (off (a + n))
 section_is bytes off each a zero rise parts =
     let z : a ≡ a + 0 = omega arith in sym (slice_none bytes (off a)) ∙ ap (λ k. slice_range bytes (off a) (off k)) z
 section_is bytes off each a (suc n) rise parts =
     let e : a + 1 + n ≡ a + suc n = omega arith in
-    let rest = section_is bytes off each (a + 1) n (λ k lt. rise k (omega arith)) (λ k lt. parts k (omega arith)) in
-    let up : off (a + 1) ≤ off (a + 1 + n) = offsets_rise off (a + 1) n (λ k lt. rise k (omega arith)) in
+    let rest = section_is bytes off each (a + 1) n (λ k le lt. rise k (omega arith) (omega arith)) (λ k le lt. parts k (omega arith) (omega arith)) in
+    let up : off (a + 1) ≤ off (a + 1 + n) = offsets_rise off (a + 1) n (λ k le lt. rise k (omega arith) (omega arith)) in
     ap (λ (t : List ℕ). each a ++ t) rest
-    ∙ ap (λ (t : List ℕ). t ++ slice_range bytes (off (a + 1)) (off (a + 1 + n))) (sym (parts a (omega arith)))
-    ∙ slice_join bytes (off a) (off (a + 1)) (off (a + 1 + n)) (rise a (omega arith)) up ∙ ap (λ k. slice_range bytes (off a) (off k)) e
+    ∙ ap (λ (t : List ℕ). t ++ slice_range bytes (off (a + 1)) (off (a + 1 + n))) (sym (parts a (omega arith) (omega arith)))
+    ∙ slice_join bytes (off a) (off (a + 1)) (off (a + 1 + n)) (rise a (omega arith) (omega arith)) up ∙ ap (λ k. slice_range bytes (off a) (off k)) e
+
+-- numbers counted from another one
+pub shifted : (f g : ℕ → List ℕ) (a b n : ℕ) → ((k : ℕ) → k < n → f (a + k) ≡ g (b + k)) → flat_map f (range_with_len a n) ≡ flat_map g (range_with_len b n)
+shifted f g a b zero same = refl
+shifted f g a b (suc n) same =
+    let za : a + 0 ≡ a = omega arith in
+    let zb : b + 0 ≡ b = omega arith in
+    let here : f a ≡ g b = ap f (sym za) ∙ same 0 (omega arith) ∙ ap g zb in
+    let next : (k : ℕ) → k < n → f (a + 1 + k) ≡ g (b + 1 + k) = λ k lt.
+        (let ea : a + 1 + k ≡ a + suc k = omega arith in let eb : b + suc k ≡ b + 1 + k = omega arith in ap f ea ∙ same (suc k) (omega arith) ∙ ap g eb) in
+    ap (λ (t : List ℕ). t ++ flat_map f (range_with_len (a + 1) n)) here ∙ ap (λ (t : List ℕ). g b ++ t) (shifted f g (a + 1) (b + 1) n next)
 
 -- ---- numbers
 
