@@ -127,7 +127,7 @@ name_ends_fit bytes h er eg n lt = (name_kept bytes h er eg n lt).name.high
 eq_test : (m n : ℕ) → m ≡ n → nat_eq m n ≡ true
 eq_test m n e = grind (arith, nat_tests)
 
-start_last : (end : ℕ → ℕ) (n count : ℕ) → 0 < n → (nat_eq (n - 1 + 1) n ≡ true → end (n - 1) ≡ count) → start_of end n ≡ count
+pub start_last : (end : ℕ → ℕ) (n count : ℕ) → 0 < n → (nat_eq (n - 1 + 1) n ≡ true → end (n - 1) ≡ count) → start_of end n ≡ count
 start_last end zero count lt h = absurd (omega arith)
 start_last end (suc n) count lt h =
     let same : suc n - 1 ≡ n = omega arith in

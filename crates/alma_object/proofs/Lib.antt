@@ -1,6 +1,7 @@
 pub mod Appends
 pub mod Encoding
 pub mod Faults
+pub mod Forms
 pub mod Items
 pub mod Kept
 pub mod Records

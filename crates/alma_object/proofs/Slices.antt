@@ -108,3 +108,24 @@ words_slice bytes at (suc n) fits le =
     ap (slice_range bytes at) (sym e) ∙ sym (slice_join bytes at (at + 4) (at + 4 + 4 * n) (omega arith) (omega arith))
     ∙ ap (λ (t : List ℕ). t ++ slice_range bytes (at + 4) (at + 4 + 4 * n)) (u32_slice bytes at fits (omega arith))
     ∙ ap (λ (t : List ℕ). u32_bytes (u32_at bytes at) ++ t) (words_slice bytes (at + 4) n fits (omega arith))
+
+-- eight bytes from an offset on
+abbrev pub long_at : List ℕ → (at : ℕ) → List ℕ
+long_at bytes at =
+    slice_index bytes at ∷ slice_index bytes (at + 1) ∷ slice_index bytes (at + 2) ∷ slice_index bytes (at + 3)
+    ∷ slice_index bytes (at + 4) ∷ slice_index bytes (at + 5) ∷ slice_index bytes (at + 6) ∷ slice_index bytes (at + 7) ∷ []
+
+pub long_slice : (bytes : List ℕ) (at : ℕ) → at + 8 ≤ length bytes → slice_range bytes at (at + 8) ≡ long_at bytes at
+unfolding cells
+long_slice bytes at le =
+    let c2 : at + 1 + 1 ≡ at + 2 = omega arith in
+    let c3 : at + 2 + 1 ≡ at + 3 = omega arith in
+    let c4 : at + 3 + 1 ≡ at + 4 = omega arith in
+    let c5 : at + 4 + 1 ≡ at + 5 = omega arith in
+    let c6 : at + 5 + 1 ≡ at + 6 = omega arith in
+    let c7 : at + 6 + 1 ≡ at + 7 = omega arith in
+    slice_cells bytes at 8 le ∙ simp (c2, c3, c4, c5, c6, c7)
+
+pub one_slice : (bytes : List ℕ) (at : ℕ) → at + 1 ≤ length bytes → slice_range bytes at (at + 1) ≡ slice_index bytes at ∷ []
+unfolding cells
+one_slice bytes at le = slice_cells bytes at 1 le

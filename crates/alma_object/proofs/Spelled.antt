@@ -3,7 +3,9 @@ use Rattle.std.proofs.Common.{◌≡◌, ℕ, zero, suc, ◌+◌, ◌-◌, ◌*�
 use Rattle.std.specs.Prelude.{slice_index, slice_range, sum_by, nat_eq, nat_le, nat_lt, ◌||◌, if◌then◌else◌}
 use Rattle.std.specs.List.{flat_map, range_with_len}
 use Rattle.std.specs.Int.{w16, w32, w64, from_le_bytes, to_le_bytes, cast_signed, cast_unsigned}
-use Rattle.std.proofs.lemmas.List.{append-nil}
+use Rattle.std.proofs.lemmas.List.{append-nil, length-take, length-drop}
+use Rattle.std.proofs.lemmas.Nat.{le_bytes_8}
+use Rattle.std.proofs.lemmas.Int.{of_z-to_z}
 use Rattle.std.proofs.lemmas.Bool.Decides.{nat_tests}
 use Rattle.std.proofs.lemmas.List.Sums.{sum_by_more, sum_by-append}
 use Rattle.alma_code.specs.declared.head.CodeParam.{CodeParam}
@@ -17,7 +19,7 @@ use Rattle.std.proofs.lemmas.List.FromFn.{sum_by-map-range_with_len_more, take-m
 use Rattle.alma_object.specs.Object.{end_of, param_number, slot_number, slot_size, param_bytes, run_bytes, range_bytes, line_bytes}
 use Rattle.alma_object.specs.Reading.{items, param_kind, slot_kind, param_in, run_in, range_in, line_in}
 use Rattle.alma_object.proofs.Kept.{unless_none, whole_none, le_fact}
-use Rattle.alma_object.proofs.Slices.{IsBytes, words_from, words_slice, slice_join, u32_slice}
+use Rattle.alma_object.proofs.Slices.{IsBytes, words_from, words_slice, slice_join, u32_slice, long_at, long_slice}
 
 -- ---- kinds
 
@@ -57,7 +59,7 @@ last_kind false n a b le e = let f = le_fact n a e in omega arith
 two_words : (bytes : List ℕ) (at : ℕ) → IsBytes bytes → at + 8 ≤ length bytes → slice_range bytes at (at + 8) ≡ words_bytes (u32_at bytes at ∷ u32_at bytes (at + 4) ∷ [])
 two_words bytes at fits le = words_slice bytes at 2 fits le
 
-three_words : (bytes : List ℕ) (at : ℕ) → IsBytes bytes → at + 12 ≤ length bytes → slice_range bytes at (at + 12) ≡ words_bytes (u32_at bytes at ∷ u32_at bytes (at + 4) ∷ u32_at bytes (at + 8) ∷ [])
+pub three_words : (bytes : List ℕ) (at : ℕ) → IsBytes bytes → at + 12 ≤ length bytes → slice_range bytes at (at + 12) ≡ words_bytes (u32_at bytes at ∷ u32_at bytes (at + 4) ∷ u32_at bytes (at + 8) ∷ [])
 three_words bytes at fits le =
     let e : at + 4 + 4 ≡ at + 8 = omega arith in
     words_slice bytes at 3 fits le ∙ ap (λ k. words_bytes (u32_at bytes at ∷ u32_at bytes (at + 4) ∷ u32_at bytes k ∷ [])) e
@@ -89,7 +91,39 @@ pub line_spelled : (bytes : List ℕ) (at : ℕ) → IsBytes bytes → at + 8 �
 unfolding line_bytes line_in
 line_spelled bytes at fits le = two_words bytes at fits le
 
+-- ---- numbers of INTEGER, and ranges
+
+eight_fit : (a b c d e f g i : ℕ) → a < 256 → b < 256 → c < 256 → d < 256 → e < 256 → f < 256 → g < 256 → i < 256 → (k : ℕ) → get_or (a ∷ b ∷ c ∷ d ∷ e ∷ f ∷ g ∷ i ∷ []) k 0 < 256
+eight_fit a b c d e f g i fa fb fc fd fe ff fg fi zero = fa
+eight_fit a b c d e f g i fa fb fc fd fe ff fg fi (suc zero) = fb
+eight_fit a b c d e f g i fa fb fc fd fe ff fg fi (suc (suc zero)) = fc
+eight_fit a b c d e f g i fa fb fc fd fe ff fg fi (suc (suc (suc zero))) = fd
+eight_fit a b c d e f g i fa fb fc fd fe ff fg fi (suc (suc (suc (suc zero)))) = fe
+eight_fit a b c d e f g i fa fb fc fd fe ff fg fi (suc (suc (suc (suc (suc zero))))) = ff
+eight_fit a b c d e f g i fa fb fc fd fe ff fg fi (suc (suc (suc (suc (suc (suc zero)))))) = fg
+eight_fit a b c d e f g i fa fb fc fd fe ff fg fi (suc (suc (suc (suc (suc (suc (suc zero))))))) = fi
+eight_fit a b c d e f g i fa fb fc fd fe ff fg fi (suc (suc (suc (suc (suc (suc (suc (suc k)))))))) = omega arith
+
+pub i64_slice : (bytes : List ℕ) (at : ℕ) → IsBytes bytes → at + 8 ≤ length bytes → slice_range bytes at (at + 8) ≡ i64_bytes (i64_at bytes at)
+unfolding i64_bytes i64_at
+i64_slice bytes at fits le =
+    let eight = long_at bytes at in
+    let small = eight_fit _ _ _ _ _ _ _ _ (fits at) (fits (at + 1)) (fits (at + 2)) (fits (at + 3)) (fits (at + 4)) (fits (at + 5)) (fits (at + 6)) (fits (at + 7)) in
+    let below : from_le_bytes w64 eight < 2 ^ 64 = omega (arith, fits at, fits (at + 1), fits (at + 2), fits (at + 3), fits (at + 4), fits (at + 5), fits (at + 6), fits (at + 7)) in
+    long_slice bytes at le ∙ sym (le_bytes_8 eight (from_le_bytes w64 eight) refl small refl) ∙ ap (to_le_bytes w64) (sym (of_z-to_z w64 (from_le_bytes w64 eight) below))
+
+pub range_spelled : (bytes : List ℕ) (at : ℕ) → IsBytes bytes → at + 16 ≤ length bytes → slice_range bytes at (at + 16) ≡ range_bytes (range_in bytes at)
+unfolding range_bytes range_in
+range_spelled bytes at fits le =
+    let e : at + 8 + 8 ≡ at + 16 = omega arith in
+    sym (slice_join bytes at (at + 8) (at + 16) (omega arith) (omega arith))
+    ∙ ap (λ (t : List ℕ). t ++ slice_range bytes (at + 8) (at + 16)) (i64_slice bytes at fits (omega arith))
+    ∙ ap (λ (t : List ℕ). i64_bytes (i64_at bytes at) ++ t) (ap (slice_range bytes (at + 8)) (sym e) ∙ i64_slice bytes (at + 8) fits (omega arith))
+
 -- ---- parts that follow one another
+
+pub length_slice : (bytes : List ℕ) (a b : ℕ) → b ≤ length bytes → length (slice_range bytes a b) ≡ b - a
+length_slice bytes a b le = omega (arith, length-take (b - a) (drop a bytes), length-drop a bytes)
 
 -- the end of the part of an item, in the sum of the sizes
 pub sum_ends : {A : Type 0} (size : A → ℕ) (of : ℕ → A) (end : ℕ → ℕ) (n : ℕ) → ((k : ℕ) → k < n → start_of end k ≤ end k) → ((k : ℕ) → k < n → size (of k) ≡ end k - start_of end k) →
