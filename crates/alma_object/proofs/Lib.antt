@@ -10,3 +10,4 @@ pub mod Slices
 pub mod Spelled
 pub mod Starts
 pub mod Views
+pub mod Whole

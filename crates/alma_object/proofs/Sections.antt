@@ -357,3 +357,26 @@ module _ (bytes : List ℕ) (h : Header) (fits : IsBytes bytes) (within : IsWith
         ∙ (let z : instrs_at h + 17 * 0 ≡ instrs_at h = omega arith in
            let last : instrs_at h + 17 * (0 + h.instrs) ≡ lines_at h = omega arith in
            ap (λ k. slice_range bytes k (instrs_at h + 17 * (0 + h.instrs))) z ∙ ap (slice_range bytes (instrs_at h)) last)
+
+    -- ---- totals
+
+    pub params_total : sum_by (λ (x : PlainRoutine). length x.head.params) (items (routine_in bytes h) h.routines) ≡ h.params
+    params_total =
+        sum_ends (λ (x : PlainRoutine). length x.head.params) (routine_in bytes h) (params_end bytes h) h.routines (λ k l. (routine_seen bytes h none k l).params.low) (λ k l. routine_params_length k)
+        ∙ last_params bytes h within.some (sections_kept bytes h none).routines
+
+    pub runs_total : sum_by (λ (x : PlainRoutine). length x.head.runs) (items (routine_in bytes h) h.routines) ≡ h.runs
+    runs_total =
+        sum_ends (λ (x : PlainRoutine). length x.head.runs) (routine_in bytes h) (runs_end bytes h) h.routines (λ k l. (routine_seen bytes h none k l).runs.low) (λ k l. routine_runs_length k)
+        ∙ last_runs bytes h within.some (sections_kept bytes h none).routines
+
+    pub names_total : sum_by (λ (x : PlainRoutine). length x.name) (items (routine_in bytes h) h.routines) + sum_by (λ (x : PlainGlobal). length x.name) (items (global_in bytes h) h.globals) ≡ h.name_bytes
+    names_total =
+        let routines : sum_by (λ (x : PlainRoutine). length x.name) (items (routine_in bytes h) h.routines) ≡ start_of (name_end bytes h) h.routines =
+            sum_ends (λ (x : PlainRoutine). length x.name) (routine_in bytes h) (name_end bytes h) h.routines (λ k l. (routine_seen bytes h none k l).name.low) routine_name_length in
+        let globals : sum_by (λ (x : PlainGlobal). length x.name) (items (global_in bytes h) h.globals) ≡ start_of global_end h.globals =
+            sum_ends (λ (x : PlainGlobal). length x.name) (global_in bytes h) global_end h.globals global_low global_length in
+        omega (arith, routines, globals, global_start h.globals (omega arith), last_name)
+
+    pub texts_total : sum_by length (items (text_in bytes h) h.texts) ≡ h.text_bytes
+    texts_total = sum_ends length (text_in bytes h) (text_end bytes h) h.texts (λ k l. (text_seen bytes h none k l).low) text_length ∙ last_text

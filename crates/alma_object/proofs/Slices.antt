@@ -129,3 +129,14 @@ long_slice bytes at le =
 pub one_slice : (bytes : List ℕ) (at : ℕ) → at + 1 ≤ length bytes → slice_range bytes at (at + 1) ≡ slice_index bytes at ∷ []
 unfolding cells
 one_slice bytes at le = slice_cells bytes at 1 le
+
+two_fit : (a b : ℕ) → a < 256 → b < 256 → (i : ℕ) → get_or (a ∷ b ∷ []) i 0 < 256
+two_fit a b fa fb zero = fa
+two_fit a b fa fb (suc zero) = fb
+two_fit a b fa fb (suc (suc n)) = omega arith
+
+pub u16_slice : (bytes : List ℕ) (at : ℕ) → IsBytes bytes → at + 2 ≤ length bytes → slice_range bytes at (at + 2) ≡ u16_bytes (u16_at bytes at)
+unfolding u16_bytes u16_at cells
+u16_slice bytes at fits le =
+    let two = slice_index bytes at ∷ slice_index bytes (at + 1) ∷ [] in
+    slice_cells bytes at 2 le ∙ sym (le_bytes_2 two (from_le_bytes w16 two) refl (two_fit _ _ (fits at) (fits (at + 1))) refl)
