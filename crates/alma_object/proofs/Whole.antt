@@ -123,3 +123,9 @@ module _ (bytes : List ℕ) (fits : IsBytes bytes) (within : IsWithin (header_of
       ap (λ (t : List ℕ). t ++ (table_bytes code ++ (pool_bytes code ++ (flat_map instr_bytes code.instrs ++ flat_map line_bytes code.lines)))) (by_version (nat_eq (u16_at bytes 8) 2) refl)
       ∙ ap (λ (t : List ℕ). slice_range bytes 0 (routines_at h) ++ t) tables ∙ slice_join bytes 0 (routines_at h) (end_at h) (omega arith) (omega arith)
       ∙ (let z : end_at h - 0 ≡ end_at h = omega arith in ap (λ k. take k bytes) z ∙ take_all (end_at h) bytes (omega arith))
+
+-- the same for the header that was read
+pub stands_for : (bytes : List ℕ) (h : Header) → IsBytes bytes → h ≡ header_of bytes → IsWithin h → header_fault bytes ≡ None → sections_fault bytes h ≡ None → length bytes ≡ end_at h → object_bytes (code_in bytes h) ≡ bytes
+stands_for bytes h fits same within clean none whole =
+    let P : Header → Type 0 = λ k. IsWithin k → sections_fault bytes k ≡ None → length bytes ≡ end_at k → object_bytes (code_in bytes k) ≡ bytes in
+    subst P (sym same) (λ w n l. object_stands bytes fits w clean n l) within none whole

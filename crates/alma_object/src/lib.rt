@@ -2,7 +2,6 @@
 #![tactic(auto)]
 
 mod bytes;
-
 mod fault;
 mod header;
 mod instr;
@@ -12,7 +11,10 @@ mod view;
 mod walk;
 mod writing;
 
-pub use writing::encode;
 pub use fault::ObjectFault;
 pub use routine::RoutineView;
-pub use view::ObjectView;
+pub use view::{GlobalView, ObjectView};
+pub use writing::encode;
+
+#[cfg(test)]
+mod tests;

@@ -5,6 +5,8 @@ ghost use Rattle.alma_object.specs.Walk.{sections_fault};
 
 mod readers;
 
+pub use readers::GlobalView;
+
 use crate::header::Header;
 
 /// A view of the bytes of an object. It lends them, and each reader takes what it gives straight from them.

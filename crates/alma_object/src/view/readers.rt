@@ -2,6 +2,7 @@
 ghost use Rattle.std.specs.Prelude.{◌≡◌, ◌+◌, ◌<◌, ◌≤◌, length, map, slice_get, slice_range, option_map, Some, None, MatchOption, MatchResult, IfOk, IfSome};
 ghost use Rattle.std.specs.List.{list_any};
 ghost use Rattle.alma_code.specs.Plain.{start_at};
+ghost use Rattle.alma_object.specs.Object.{object_bytes};
 ghost use Rattle.alma_object.specs.Reading.{name_in};
 ghost use Rattle.alma_object.specs.Walk.{object_fault};
 ghost use Rattle.alma_object.specs.View.{code_of_view, routine_of_view, global_of_view, is_read as is_read_of};
@@ -38,6 +39,7 @@ impl<'b> ObjectView<'b> {
     pub fn new(bytes: &'b [u8]) -> Result<ObjectView<'b>, ObjectFault>
         ensures fault { MatchResult result (λ view. object_fault bytes.now ≡ None) (λ fault. object_fault bytes.now ≡ Some fault) }
         ensures bytes { IfOk result (λ view. view.bytes.now ≡ bytes.now) }
+        ensures spelled { IfOk result (λ view. object_bytes (code_of_view view) ≡ bytes.now) }
     {
         let header = read_header(bytes)?;
         if let Some(fault) = sections_fault(bytes, &header) {
