@@ -9,5 +9,6 @@ pub mod Sections
 pub mod Slices
 pub mod Spelled
 pub mod Starts
+pub mod Tables
 pub mod Views
 pub mod Whole

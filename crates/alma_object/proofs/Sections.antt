@@ -79,7 +79,7 @@ name_end_global bytes h g =
     ∙ ap (λ k. u32_at bytes (globals_at h + 12 * k)) e
 
 module _ (bytes : List ℕ) (h : Header) (fits : IsBytes bytes) (within : IsWithin h) (none : sections_fault bytes h ≡ None) where
-  param_none : (p : ℕ) → p < h.params → param_fault bytes h p ≡ None
+  pub param_none : (p : ℕ) → p < h.params → param_fault bytes h p ≡ None
   param_none p lt = first_none (param_fault bytes h) 0 h.params p (sections_kept bytes h none).params (omega arith) (omega arith)
 
   params_body : (r : ℕ) → r < h.routines → flat_map param_bytes (routine_in bytes h r).head.params ≡ flat_map (λ p. param_bytes (param_in bytes (params_at h + 8 * p))) (range_with_len (start_of (params_end bytes h) r) (params_end bytes h r - start_of (params_end bytes h) r))
@@ -105,7 +105,7 @@ module _ (bytes : List ℕ) (h : Header) (fits : IsBytes bytes) (within : IsWith
          let last : params_at h + 8 * start_of (params_end bytes h) h.routines ≡ runs_at h = omega (arith, last_params bytes h within.some (sections_kept bytes h none).routines) in
          ap (λ k. slice_range bytes k (params_at h + 8 * start_of (params_end bytes h) h.routines)) z ∙ ap (slice_range bytes (params_at h)) last)
 
-  run_none : (r : ℕ) → r < h.routines → (k : ℕ) → start_of (runs_end bytes h) r ≤ k → k < runs_end bytes h r → run_fault bytes h (nat_eq k (start_of (runs_end bytes h) r)) k ≡ None
+  pub run_none : (r : ℕ) → r < h.routines → (k : ℕ) → start_of (runs_end bytes h) r ≤ k → k < runs_end bytes h r → run_fault bytes h (nat_eq k (start_of (runs_end bytes h) r)) k ≡ None
   unfolding routine_runs_fault
   run_none r lt k low high =
       let whole = first_none (routine_runs_fault bytes h) 0 h.routines r (sections_kept bytes h none).runs (omega arith) (omega arith) in
