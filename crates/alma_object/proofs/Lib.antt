@@ -5,6 +5,7 @@ pub mod Forms
 pub mod Items
 pub mod Kept
 pub mod Records
+pub mod Rows
 pub mod Sections
 pub mod Slices
 pub mod Spelled

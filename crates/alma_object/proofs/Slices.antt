@@ -1,7 +1,11 @@
 -- Parts of bytes: parts that follow one another, and the numbers that stand in them.
-use Rattle.std.proofs.Common.{◌≡◌, ℕ, zero, suc, ◌+◌, ◌-◌, ◌*◌, ◌^◌, ◌<◌, ◌≤◌, ℤ, List, [], ◌∷◌, ◌++◌, length, get_or, take, drop, map, refl, sym, ap, subst, ◌∙◌, append_assoc, arith}
+use Rattle.std.specs.Prelude.{◌||◌}
+use Rattle.std.proofs.Common.{◌≡◌, Bool, true, false, ◌&&◌, not, ℕ, zero, suc, ◌+◌, ◌-◌, ◌*◌, ◌^◌, ◌<◌, ◌≤◌, ℤ, List, [], ◌∷◌, ◌++◌, length, get_or, take, drop, map, refl, sym, ap, subst, ◌∙◌, append_assoc, arith}
 use Rattle.std.specs.Prelude.{slice_index, slice_range}
-use Rattle.std.specs.List.{flat_map, range_with_len}
+use Rattle.std.specs.List.{flat_map, range_with_len, list_all}
+use Rattle.alma_base.specs.Reading.{is_digit}
+use Rattle.alma_code.specs.Records.{is_name, is_name_start}
+use Rattle.alma_object.specs.Walk.{can_stand}
 use Rattle.std.specs.Int.{w16, w32, w64, from_le_bytes, to_le_bytes, cast_signed, cast_unsigned}
 use Rattle.std.proofs.lemmas.List.{take-append-drop, take-take, drop-take, drop-drop, drop_more, length-take, length-drop, get_or-drop, get_or-take, get_or_past, append-nil}
 use Rattle.std.proofs.lemmas.Nat.{le_bytes_2, le_bytes_4, le_bytes_8}
@@ -140,3 +144,27 @@ unfolding u16_bytes u16_at cells
 u16_slice bytes at fits le =
     let two = slice_index bytes at ∷ slice_index bytes (at + 1) ∷ [] in
     slice_cells bytes at 2 le ∙ sym (le_bytes_2 two (from_le_bytes w16 two) refl (two_fit _ _ (fits at) (fits (at + 1))) refl)
+
+-- ---- names
+
+rest_stands : (bytes : List ℕ) (at n : ℕ) → ((i : ℕ) → at ≤ i → i < at + n → can_stand false (slice_index bytes i) ≡ true) → list_all (λ d. is_name_start d || is_digit d) (cells bytes at n) ≡ true
+unfolding cells
+rest_stands bytes at zero h = refl
+rest_stands bytes at (suc n) h =
+    ap (λ b. b && list_all (λ d. is_name_start d || is_digit d) (cells bytes (at + 1) n)) (h at (omega arith) (omega arith)) ∙ rest_stands bytes (at + 1) n (λ i low high. h i (omega arith) (omega arith))
+
+or_false : (b : Bool) → (b || (not true && false)) ≡ true → b ≡ true
+or_false true e = refl
+or_false false e = absurd cc
+
+start_stands : (c : ℕ) → can_stand true c ≡ true → is_name_start c ≡ true
+start_stands c e = or_false (is_name_start c) e
+
+-- bytes that can stand in a name are one
+pub can_name : (bytes : List ℕ) (a b : ℕ) → a < b → b ≤ length bytes → can_stand true (slice_index bytes a) ≡ true → ((i : ℕ) → a < i → i < b → can_stand false (slice_index bytes i) ≡ true) → is_name (slice_range bytes a b) ≡ true
+unfolding cells
+can_name bytes a b lt le first rest =
+    let n : a + suc (b - a - 1) ≡ b = omega arith in
+    ap (λ k. is_name (slice_range bytes a k)) (sym n) ∙ ap is_name (slice_cells bytes a (suc (b - a - 1)) (omega arith))
+    ∙ ap (λ x. x && list_all (λ d. is_name_start d || is_digit d) (cells bytes (a + 1) (b - a - 1))) (start_stands (slice_index bytes a) first)
+    ∙ rest_stands bytes (a + 1) (b - a - 1) (λ i low high. rest i (omega arith) (omega arith))
