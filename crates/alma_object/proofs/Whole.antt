@@ -15,10 +15,12 @@ use Rattle.alma_object.specs.Fault.{unless, whole, or_else}
 use Rattle.alma_object.specs.Header.{IsWithin, magic, header_of, magic_fault, version_fault, count_fault, counts_fault, header_fault, routines_at, globals_at, params_at, runs_at, ranges_at, texts_at, name_pool_at, text_pool_at, instrs_at, lines_at, end_at}
 use Rattle.alma_object.specs.Walk.{start_of, sections_fault, object_fault, params_end, runs_end, name_end, text_end}
 use Rattle.alma_object.specs.Instrs.{instr_bytes}
-use Rattle.alma_object.specs.Object.{section, counts_of, header_bytes, table_bytes, pool_bytes, object_bytes, line_bytes}
+use Rattle.alma_object.specs.Object.{section, counts_of, header_bytes, table_bytes, pool_bytes, object_bytes, line_bytes, IsObject}
 use Rattle.alma_object.specs.Reading.{items, routine_in, global_in, text_in, code_in}
 use Rattle.alma_object.proofs.Items.{length_items}
 use Rattle.alma_object.proofs.Kept.{unless_none, or_none, whole_none, le_fact, and_parts}
+use Rattle.alma_object.proofs.Rows.{keeps_records, keeps_version}
+use Rattle.alma_object.proofs.Tables.{is_table, keeps_counts}
 use Rattle.alma_object.proofs.Sections.{routines_stand, globals_stand, params_stand, runs_stand, ranges_stand, text_ends_stand, names_stand, texts_stand, instrs_stand, lines_stand, names_total, params_total, runs_total, texts_total}
 use Rattle.alma_object.proofs.Slices.{IsBytes, words_from, words_slice, slice_join, slice_cells, cells, u16_slice}
 
@@ -129,3 +131,13 @@ pub stands_for : (bytes : List ℕ) (h : Header) → IsBytes bytes → h ≡ hea
 stands_for bytes h fits same within clean none whole =
     let P : Header → Type 0 = λ k. IsWithin k → sections_fault bytes k ≡ None → length bytes ≡ end_at k → object_bytes (code_in bytes k) ≡ bytes in
     subst P (sym same) (λ w n l. object_stands bytes fits w clean n l) within none whole
+
+-- the code that stands in bytes without fault has these bytes as its object
+pub is_object : (bytes : List ℕ) (h : Header) → IsBytes bytes → h ≡ header_of bytes → IsWithin h → header_fault bytes ≡ None → sections_fault bytes h ≡ None → length bytes ≡ end_at h → IsObject (code_in bytes h) bytes
+is_object bytes h fits same within clean none whole = record {
+  version = keeps_version bytes h fits within none whole;
+  counts = keeps_counts bytes h fits within none whole;
+  records = keeps_records bytes h fits within none whole;
+  table = is_table bytes h fits within none whole;
+  spelled = stands_for bytes h fits same within clean none whole;
+}

@@ -10,7 +10,8 @@ use Rattle.alma_code.specs.declared.head.ParamKind.{ParamKind}
 use Rattle.alma_code.specs.declared.head.ParamKind.TheVariants as param
 use Rattle.alma_code.specs.declared.head.Run.{Run}
 use Rattle.alma_code.specs.Plain.{PlainCode, PlainRoutine, PlainGlobal, no_routine, routine_at}
-use Rattle.alma_code.specs.Records.{param_count, run_count, name_count, text_count}
+use Rattle.alma_code.specs.Records.{param_count, run_count, name_count, text_count, KeepsVersion, KeepsCounts, KeepsRecords}
+use Rattle.alma_code.specs.Rules.{IsTable}
 use Rattle.alma_object.specs.Bytes.{u16_bytes, u32_bytes, words_bytes, i64_bytes}
 use Rattle.alma_object.specs.Instrs.{instr_bytes}
 use Rattle.alma_object.specs.Header.{magic}
@@ -118,3 +119,13 @@ pool_bytes code = flat_map (λ r. r.name) code.routines ++ (flat_map (λ g. g.na
 -- the whole object
 unfoldable pub object_bytes : PlainCode → List ℕ
 object_bytes code = header_bytes code ++ (table_bytes code ++ (pool_bytes code ++ (flat_map instr_bytes code.instrs ++ flat_map line_bytes code.lines)))
+
+-- ---- objects
+
+-- the bytes are the object of a code, whose version, counts, records and tables the format allows
+pub record IsObject (code : PlainCode) (bytes : List ℕ) : Type 0 where
+  pub version : KeepsVersion code
+  pub counts : KeepsCounts code
+  pub records : KeepsRecords code
+  pub table : IsTable code
+  pub spelled : object_bytes code ≡ bytes

@@ -1,6 +1,6 @@
 // A view of the bytes of an object.
-ghost use Rattle.std.specs.Prelude.{◌≡◌, length, None};
-ghost use Rattle.alma_object.specs.Header.{IsWithin, routines_at as routines_offset, instrs_at as instrs_offset, end_at};
+ghost use Rattle.std.specs.Prelude.{◌≡◌, ◌<◌, ℕ, length, get_or, None};
+ghost use Rattle.alma_object.specs.Header.{IsWithin, header_of, header_fault, routines_at as routines_offset, instrs_at as instrs_offset, end_at};
 ghost use Rattle.alma_object.specs.Walk.{sections_fault};
 
 mod readers;
@@ -16,6 +16,9 @@ pub struct ObjectView<'b> {
     header: Header,
     routines_at: usize,
     instrs_at: usize,
+    ghost cells: { (i : ℕ) → get_or bytes.now i 0 < 256 },
+    ghost read: { header ≡ header_of bytes.now },
+    ghost clean: { header_fault bytes.now ≡ None },
     ghost within: { IsWithin header },
     ghost none: { sections_fault bytes.now header ≡ None },
     ghost whole: { length bytes.now ≡ end_at header },

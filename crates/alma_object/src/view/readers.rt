@@ -1,8 +1,9 @@
 // What a view reads.
 ghost use Rattle.std.specs.Prelude.{◌≡◌, ◌+◌, ◌<◌, ◌≤◌, length, map, slice_get, slice_range, option_map, Some, None, MatchOption, MatchResult, IfOk, IfSome};
 ghost use Rattle.std.specs.List.{list_any};
+ghost use Rattle.alma_code.specs.Lines.{line_of as line_of_code};
 ghost use Rattle.alma_code.specs.Plain.{start_at};
-ghost use Rattle.alma_object.specs.Object.{object_bytes};
+ghost use Rattle.alma_object.specs.Object.{IsObject};
 ghost use Rattle.alma_object.specs.Reading.{name_in};
 ghost use Rattle.alma_object.specs.Walk.{object_fault};
 ghost use Rattle.alma_object.specs.View.{code_of_view, routine_of_view, global_of_view, is_read as is_read_of};
@@ -14,7 +15,7 @@ use crate::bytes::u32_at;
 use crate::fault::ObjectFault;
 use crate::header::read_header;
 use crate::instr::instr_at;
-use crate::record::range_in;
+use crate::record::{line_in, range_in};
 use crate::routine::RoutineView;
 use crate::view::ObjectView;
 use crate::walk::{code_end, code_start, name_end, name_start, params_end, params_start, runs_end, runs_start, sections_fault, text_end, text_start};
@@ -38,14 +39,19 @@ impl<'b> ObjectView<'b> {
     #[tactic(auto, unfolding(crate::specs::Walk::object_fault))]
     pub fn new(bytes: &'b [u8]) -> Result<ObjectView<'b>, ObjectFault>
         ensures fault { MatchResult result (λ view. object_fault bytes.now ≡ None) (λ fault. object_fault bytes.now ≡ Some fault) }
-        ensures bytes { IfOk result (λ view. view.bytes.now ≡ bytes.now) }
-        ensures spelled { IfOk result (λ view. object_bytes (code_of_view view) ≡ bytes.now) }
+        ensures object { IfOk result (λ view. IsObject (code_of_view view) bytes.now) }
     {
         let header = read_header(bytes)?;
         if let Some(fault) = sections_fault(bytes, &header) {
             return Err(fault);
         }
         Ok(ObjectView { bytes, header, routines_at: header.routines_at(), instrs_at: header.instrs_at() })
+    }
+
+    /// What each view keeps: its bytes are the object of its code.
+    pub fn keeps_object(&self)
+        ensures { IsObject (code_of_view self.now) self.now.bytes.now }
+    {
     }
 
     pub fn version(&self) -> u16
@@ -184,5 +190,21 @@ impl<'b> ObjectView<'b> {
             }
         }
         false
+    }
+
+    /// The line of the last record at or before an address, where one is known.
+    #[tactic(auto, using(crate::proofs::Items::item_steps))]
+    pub fn line_of(&self, at: u32) -> Option<u32>
+        ensures { result ≡ line_of_code (code_of_view self.now) at }
+    {
+        let lines_at = self.header.lines_at();
+        let mut found = 0;
+        for k in 0..self.header.lines {
+            let line = line_in(self.bytes, lines_at + 8 * k as usize);
+            if line.at <= at {
+                found = line.line;
+            }
+        }
+        if found == 0 { None } else { Some(found) }
     }
 }
