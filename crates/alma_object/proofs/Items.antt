@@ -1,9 +1,10 @@
 -- The items with the numbers below a count.
-use Rattle.std.proofs.Common.{◌≡◌, ℕ, zero, suc, ◌+◌, ◌-◌, ◌<◌, ◌≤◌, List, length, get_or, map, Option, Some, None, refl, sym, ap, ◌∙◌, arith}
+use Rattle.std.proofs.Common.{◌≡◌, ℕ, zero, suc, ◌+◌, ◌-◌, ◌<◌, ◌≤◌, List, [], ◌∷◌, ◌++◌, length, take, get_or, map, Option, Some, None, refl, sym, ap, ◌∙◌, arith}
 use Rattle.std.specs.Prelude.{slice_get}
 use Rattle.std.specs.List.{range_with_len}
 use Rattle.std.proofs.lemmas.List.FromFn.{length-map-range_with_len, get_or-map-range_with_len}
-use Rattle.std.proofs.lemmas.Option.{slice_get-get_or, slice_get_past}
+use Rattle.std.proofs.lemmas.Option.{slice_get-get_or, slice_get_past, slice_get_within, get_or_from_slice_get}
+use Rattle.std.proofs.lemmas.List.{take_more, take_all}
 use Rattle.alma_object.specs.Reading.{items}
 
 pub length_items : {A : Type 0} (of : ℕ → A) (n : ℕ) → length (items of n) ≡ n
@@ -19,3 +20,12 @@ pub get_no_item : {A : Type 0} (of : ℕ → A) (n k : ℕ) → n ≤ k → slic
 get_no_item of n k le = slice_get_past (items of n) k (omega (arith, length_items of n))
 
 pub ruleset item_steps = (length_items, get_item, get_no_item)
+
+-- a list that is copied, one item more and whole
+pub take_next : {A : Type 0} (xs : List A) (i : ℕ) (x : A) → slice_get xs i ≡ Some x → take (i + 1) xs ≡ take i xs ++ (x ∷ [])
+take_next xs i x e = take_more xs i x (slice_get_within xs i x e) ∙ ap (λ y. take i xs ++ (y ∷ [])) (get_or_from_slice_get xs i x x e)
+
+pub take_items : {A : Type 0} (of : ℕ → A) (n : ℕ) → take n (items of n) ≡ items of n
+take_items of n = take_all n (items of n) (omega (arith, length_items of n))
+
+pub ruleset take_steps = (length_items, take_next, take_items)

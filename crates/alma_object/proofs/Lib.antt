@@ -9,6 +9,7 @@ pub mod Rows
 pub mod Sections
 pub mod Slices
 pub mod Spelled
+pub mod Stands
 pub mod Starts
 pub mod Tables
 pub mod Views

@@ -168,3 +168,17 @@ can_name bytes a b lt le first rest =
     ap (λ k. is_name (slice_range bytes a k)) (sym n) ∙ ap is_name (slice_cells bytes a (suc (b - a - 1)) (omega arith))
     ∙ ap (λ x. x && list_all (λ d. is_name_start d || is_digit d) (cells bytes (a + 1) (b - a - 1))) (start_stands (slice_index bytes a) first)
     ∙ rest_stands bytes (a + 1) (b - a - 1) (λ i low high. rest i (omega arith) (omega arith))
+
+-- a number is that of its four bytes
+pub u32_cells : (bytes : List ℕ) (at : ℕ) → at + 4 ≤ length bytes → u32_at bytes at ≡ from_le_bytes w32 (slice_range bytes at (at + 4))
+unfolding u32_at cells
+u32_cells bytes at le =
+    let c2 : at + 1 + 1 ≡ at + 2 = omega arith in
+    let c3 : at + 2 + 1 ≡ at + 3 = omega arith in
+    let four = slice_index bytes at ∷ slice_index bytes (at + 1) ∷ slice_index bytes (at + 2) ∷ slice_index bytes (at + 3) ∷ [] in
+    let is : slice_range bytes at (at + 4) ≡ four = slice_cells bytes at 4 le ∙ simp (c2, c3) in
+    ap (from_le_bytes w32) (sym is)
+
+pub u16_cells : (bytes : List ℕ) (at : ℕ) → at + 2 ≤ length bytes → u16_at bytes at ≡ from_le_bytes w16 (slice_range bytes at (at + 2))
+unfolding u16_at cells
+u16_cells bytes at le = ap (from_le_bytes w16) (sym (slice_cells bytes at 2 le))

@@ -3,6 +3,7 @@ ghost use Rattle.std.specs.Prelude.{◌≡◌, ◌<◌, ℕ, length, get_or, Non
 ghost use Rattle.alma_object.specs.Header.{IsWithin, header_of, header_fault, routines_at as routines_offset, instrs_at as instrs_offset, end_at};
 ghost use Rattle.alma_object.specs.Walk.{sections_fault};
 
+mod copy;
 mod readers;
 
 pub use readers::GlobalView;

@@ -1,15 +1,16 @@
 // What a view reads.
-ghost use Rattle.std.specs.Prelude.{◌≡◌, ◌+◌, ◌<◌, ◌≤◌, length, map, slice_get, slice_range, option_map, Some, None, MatchOption, MatchResult, IfOk, IfSome};
+ghost use Rattle.alma_base.specs.Choice.{if_true};
+ghost use Rattle.std.specs.Prelude.{nat_le, ◌≡◌, ◌+◌, ◌<◌, ◌≤◌, length, map, slice_get, slice_range, option_map, Some, None, MatchOption, MatchResult, IfOk, IfSome};
 ghost use Rattle.std.specs.List.{list_any};
-ghost use Rattle.alma_code.specs.Lines.{line_of as line_of_code};
+ghost use Rattle.alma_code.specs.Lines.{line_of as line_of_code, known_line as known_line_of};
 ghost use Rattle.alma_code.specs.Plain.{start_at};
 ghost use Rattle.alma_object.specs.Object.{IsObject};
-ghost use Rattle.alma_object.specs.Reading.{name_in};
+ghost use Rattle.alma_object.specs.Reading.{name_in, text_in, routine_in, global_in};
 ghost use Rattle.alma_object.specs.Walk.{object_fault};
 ghost use Rattle.alma_object.specs.View.{code_of_view, routine_of_view, global_of_view, is_read as is_read_of};
 
 use alma_base::Range;
-use alma_code::Instr;
+use alma_code::{Instr, Line};
 
 use crate::bytes::u32_at;
 use crate::fault::ObjectFault;
@@ -32,6 +33,19 @@ fn is_read(instr: Instr) -> bool
     ensures { result ≡ is_read_of instr }
 {
     matches!(instr, Instr::ReadInt { .. } | Instr::ReadChar { .. })
+}
+
+// The line of a record at or before an address, or else another.
+fn line_or(line: Line, at: u32, other: u32) -> u32
+    ensures { result ≡ if_true (nat_le line.at at) (λ _. line.line) (λ _. other) }
+{
+    if line.at <= at { line.line } else { other }
+}
+
+fn known_line(line: u32) -> Option<u32>
+    ensures { result ≡ known_line_of line }
+{
+    if line == 0 { None } else { Some(line) }
 }
 
 impl<'b> ObjectView<'b> {
@@ -122,19 +136,17 @@ impl<'b> ObjectView<'b> {
         self.part(at + start as usize, at + end as usize)
     }
 
-    /// A routine, which lends its name and its records.
+    // A routine below their count.
     #[tactic(auto, unfolding(crate::specs::Reading::routine_in), using(crate::proofs::Items::item_steps))]
-    pub fn routine(&self, i: u32) -> Option<RoutineView<'b>>
-        ensures routine { option_map routine_of_view result ≡ slice_get (code_of_view self.now).routines i }
-        ensures start { IfSome result (λ routine. routine.code_start ≡ start_at (code_of_view self.now) i) }
+    pub(crate) fn routine_view(&self, i: u32) -> RoutineView<'b>
+        requires { i < self.now.header.routines }
+        ensures routine { routine_of_view result ≡ routine_in self.now.bytes.now self.now.header i }
+        ensures start { result.code_start ≡ start_at (code_of_view self.now) i }
     {
-        if i >= self.header.routines {
-            return None;
-        }
         let at = self.routines_at + 28 * i as usize;
         let params = params_start(self.bytes, &self.header, i);
         let runs = runs_start(self.bytes, &self.header, i);
-        Some(RoutineView {
+        RoutineView {
             bytes: self.bytes,
             name: self.name(i),
             params_at: self.header.params_at() + 8 * params as usize,
@@ -146,37 +158,70 @@ impl<'b> ObjectView<'b> {
             result: u32_at(self.bytes, at + 24) == 1,
             code_start: code_start(self.bytes, &self.header, i),
             code_end: code_end(self.bytes, &self.header, i),
-        })
+        }
     }
 
-    /// A global, which lends its name.
-    #[tactic(auto, unfolding(crate::specs::Reading::global_in), using(crate::proofs::Items::item_steps))]
-    pub fn global(&self, i: u32) -> Option<GlobalView<'b>>
-        ensures { option_map global_of_view result ≡ slice_get (code_of_view self.now).globals i }
+    /// A routine, which lends its name and its records.
+    #[tactic(auto, using(crate::proofs::Items::item_steps))]
+    pub fn routine(&self, i: u32) -> Option<RoutineView<'b>>
+        ensures routine { option_map routine_of_view result ≡ slice_get (code_of_view self.now).routines i }
+        ensures start { IfSome result (λ routine. routine.code_start ≡ start_at (code_of_view self.now) i) }
     {
-        if i >= self.header.globals {
-            return None;
+        if i < self.header.routines {
+            Some(self.routine_view(i))
+        } else {
+            None
         }
+    }
+
+    // A global below their count.
+    #[tactic(auto, unfolding(crate::specs::Reading::global_in))]
+    pub(crate) fn global_view(&self, i: u32) -> GlobalView<'b>
+        requires { i < self.now.header.globals }
+        ensures { global_of_view result ≡ global_in self.now.bytes.now self.now.header i }
+    {
         let at = self.header.globals_at() + 12 * i as usize;
-        Some(GlobalView {
+        GlobalView {
             name: self.name(self.header.routines + i),
             slot: u32_at(self.bytes, at + 4),
             cells: u32_at(self.bytes, at + 8),
-        })
+        }
     }
 
-    /// The bytes of a text.
-    #[tactic(auto, unfolding(crate::specs::Reading::text_in), using(crate::proofs::Items::item_steps))]
-    pub fn text(&self, i: u32) -> Option<&'b [u8]>
-        ensures { option_map (λ text. text.now) result ≡ slice_get (code_of_view self.now).texts i }
+    /// A global, which lends its name.
+    #[tactic(auto, using(crate::proofs::Items::item_steps))]
+    pub fn global(&self, i: u32) -> Option<GlobalView<'b>>
+        ensures { option_map global_of_view result ≡ slice_get (code_of_view self.now).globals i }
     {
-        if i >= self.header.texts {
-            return None;
+        if i < self.header.globals {
+            Some(self.global_view(i))
+        } else {
+            None
         }
+    }
+
+    // The bytes of a text below their count.
+    #[tactic(auto, unfolding(crate::specs::Reading::text_in))]
+    pub(crate) fn text_view(&self, i: u32) -> &'b [u8]
+        requires { i < self.now.header.texts }
+        ensures { result.now ≡ text_in self.now.bytes.now self.now.header i }
+    {
         let at = self.header.text_pool_at();
         let start = text_start(self.bytes, &self.header, i);
         let end = text_end(self.bytes, &self.header, i);
-        Some(self.part(at + start as usize, at + end as usize))
+        self.part(at + start as usize, at + end as usize)
+    }
+
+    /// The bytes of a text.
+    #[tactic(auto, using(crate::proofs::Items::item_steps))]
+    pub fn text(&self, i: u32) -> Option<&'b [u8]>
+        ensures { option_map (λ text. text.now) result ≡ slice_get (code_of_view self.now).texts i }
+    {
+        if i < self.header.texts {
+            Some(self.text_view(i))
+        } else {
+            None
+        }
     }
 
     /// Whether a ReadInt or a ReadChar stands in the code.
@@ -198,13 +243,10 @@ impl<'b> ObjectView<'b> {
         ensures { result ≡ line_of_code (code_of_view self.now) at }
     {
         let lines_at = self.header.lines_at();
-        let mut found = 0;
+        let mut found: u32 = 0;
         for k in 0..self.header.lines {
-            let line = line_in(self.bytes, lines_at + 8 * k as usize);
-            if line.at <= at {
-                found = line.line;
-            }
+            found = line_or(line_in(self.bytes, lines_at + 8 * k as usize), at, found);
         }
-        if found == 0 { None } else { Some(found) }
+        known_line(found)
     }
 }
