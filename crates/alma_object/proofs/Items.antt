@@ -4,7 +4,7 @@ use Rattle.std.specs.Prelude.{slice_get}
 use Rattle.std.specs.List.{range_with_len}
 use Rattle.std.proofs.lemmas.List.FromFn.{length-map-range_with_len, get_or-map-range_with_len}
 use Rattle.std.proofs.lemmas.Option.{slice_get-get_or, slice_get_past, slice_get_within, get_or_from_slice_get}
-use Rattle.std.proofs.lemmas.List.{take_more, take_all}
+use Rattle.std.proofs.lemmas.List.{take_more, take_all, map_push}
 use Rattle.alma_object.specs.Reading.{items}
 
 pub length_items : {A : Type 0} (of : ℕ → A) (n : ℕ) → length (items of n) ≡ n
@@ -29,3 +29,17 @@ pub take_items : {A : Type 0} (of : ℕ → A) (n : ℕ) → take n (items of n)
 take_items of n = take_all n (items of n) (omega (arith, length_items of n))
 
 pub ruleset take_steps = (length_items, take_next, take_items)
+
+-- a list whose items stand for others, one item more
+pub copied : {A B : Type 0} (f : A → B) (of : ℕ → B) (n i : ℕ) (xs new : List A) (y : A) → i < n → map f xs ≡ take i (items of n) → new ≡ xs ++ (y ∷ []) → f y ≡ of i → map f new ≡ take (i + 1) (items of n)
+copied {A = A} {B = B} f of n i xs new y lt was is same =
+    ap (map f) is ∙ map_push f xs y ∙ ap (λ (t : List B). t ++ (f y ∷ [])) was ∙ ap (λ (z : B). take i (items of n) ++ (z ∷ [])) same ∙ sym (take_next (items of n) i (of i) (get_item of n i lt))
+
+pub copied_plain : {A : Type 0} (of : ℕ → A) (n i : ℕ) (xs new : List A) (y : A) → i < n → xs ≡ take i (items of n) → new ≡ xs ++ (y ∷ []) → y ≡ of i → new ≡ take (i + 1) (items of n)
+copied_plain {A = A} of n i xs new y lt was is same =
+    is ∙ ap (λ (t : List A). t ++ (y ∷ [])) was ∙ ap (λ (z : A). take i (items of n) ++ (z ∷ [])) same ∙ sym (take_next (items of n) i (of i) (get_item of n i lt))
+
+pub take_past : {A : Type 0} (of : ℕ → A) (n i : ℕ) → n ≤ i → take i (items of n) ≡ items of n
+take_past of n i le = take_all i (items of n) (omega (arith, length_items of n))
+
+pub ruleset copy_steps = (take_past)

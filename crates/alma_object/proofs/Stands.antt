@@ -128,7 +128,7 @@ unfolding i64_bytes i64_at
 i64_stands bytes at n fit s =
     let within = stands_within bytes at (to_le_bytes w64 (cast_unsigned w64 n)) s in
     let is = sym (long_slice bytes at within) ∙ stands_slice bytes at (at + 8) (to_le_bytes w64 (cast_unsigned w64 n)) refl s in
-    ap (λ (t : List ℕ). cast_signed w64 (from_le_bytes w64 t)) is ∙ ap (cast_signed w64) (from_le_bytes-to_le_bytes_8 (cast_unsigned w64 n) (Fits-of_z fit)) ∙ to_z-of_z w64 n fit
+    ap (λ (t : List ℕ). cast_signed w64 (from_le_bytes w64 t)) is ∙ ap (cast_signed w64) (from_le_bytes-to_le_bytes_8 (cast_unsigned w64 n) (omega (arith, Fits-of_z fit))) ∙ to_z-of_z w64 n fit
 
 pub u16_length : (n : ℕ) → length (u16_bytes n) ≡ 2
 unfolding u16_bytes
