@@ -83,11 +83,13 @@ routine_written code i x step a b d p q r ea eb ed ep eq er =
     let runs : d + r ≡ sum_by (λ y. length y.head.runs) (take (i + 1) code.routines) = ap (λ k. k + r) ed ∙ ap (λ k. sum_by (λ y. length y.head.runs) (take i code.routines) + k) er ∙ step.runs in
     let rest = x.code_end ∷ x.slots ∷ x.declared ∷ (if x.result then 1 else 0) ∷ [] in
     record {
-      names_are = names; params_are = params; runs_are = runs;
+      names_are = names;
+      params_are = params;
+      runs_are = runs;
       bytes = step.bytes
-        ∙ ap (λ k. words_bytes (k ∷ sum_by (λ y. length y.head.params) (take (i + 1) code.routines) ∷ sum_by (λ y. length y.head.runs) (take (i + 1) code.routines) ∷ rest)) (sym names)
-        ∙ ap (λ k. words_bytes ((a + p) ∷ k ∷ sum_by (λ y. length y.head.runs) (take (i + 1) code.routines) ∷ rest)) (sym params)
-        ∙ ap (λ k. words_bytes ((a + p) ∷ (b + q) ∷ k ∷ rest)) (sym runs);
+          ∙ ap (λ k. words_bytes (k ∷ sum_by (λ y. length y.head.params) (take (i + 1) code.routines) ∷ sum_by (λ y. length y.head.runs) (take (i + 1) code.routines) ∷ rest)) (sym names)
+          ∙ ap (λ k. words_bytes ((a + p) ∷ k ∷ sum_by (λ y. length y.head.runs) (take (i + 1) code.routines) ∷ rest)) (sym params)
+          ∙ ap (λ k. words_bytes ((a + p) ∷ (b + q) ∷ k ∷ rest)) (sym runs);
     }
 
 -- ---- lists of a code in memory
@@ -114,13 +116,13 @@ global_written code ys i x a p same lt is ea ep =
     let there : get_or plain i no_global ≡ global_of x = get_or-map global_of gs i x no_global lt' ∙ ap global_of (sym is') in
     let within : i < length plain = omega (arith, length-map gs global_of) in
     let more : sum_by (λ (y : PlainGlobal). length y.name) (take (i + 1) plain) ≡ sum_by (λ (y : PlainGlobal). length y.name) (take i plain) + length x.name.items =
-        sum_by_more (λ (y : PlainGlobal). length y.name) plain i no_global within ∙ ap (λ (y : PlainGlobal). sum_by (λ (z : PlainGlobal). length z.name) (take i plain) + length y.name) there in
+    sum_by_more (λ (y : PlainGlobal). length y.name) plain i no_global within ∙ ap (λ (y : PlainGlobal). sum_by (λ (z : PlainGlobal). length z.name) (take i plain) + length y.name) there in
     let sum : a + p ≡ sum_by (λ (y : PlainRoutine). length y.name) routines + sum_by (λ (y : PlainGlobal). length y.name) (take (i + 1) plain) = omega arith in
     record {
       names = sum;
       within = omega (arith, sum_by-take-le (λ (y : PlainGlobal). length y.name) plain (i + 1));
       bytes = ap (λ (y : PlainGlobal). words_bytes ((sum_by (λ (z : PlainRoutine). length z.name) routines + end_of (λ (z : PlainGlobal). length z.name) plain i) ∷ y.slot ∷ y.cells ∷ [])) there
-        ∙ ap (λ k. words_bytes (k ∷ x.slot ∷ x.cells ∷ [])) (sym sum);
+          ∙ ap (λ k. words_bytes (k ∷ x.slot ∷ x.cells ∷ [])) (sym sum);
     }
 
 -- one text further
@@ -138,14 +140,13 @@ text_written {V = V} code bytes_of rows ys i x a p texts same lt is ea ep =
     let there : get_or code.texts i [] ≡ bytes_of x = ap (λ (t : List (List ℕ)). get_or t i []) texts ∙ get_or-map bytes_of rows i x [] lt' ∙ ap bytes_of (sym is') in
     let within : i < length code.texts = omega (arith, length-map rows bytes_of, ap length texts) in
     let more : sum_by length (take (i + 1) code.texts) ≡ sum_by length (take i code.texts) + length (bytes_of x) =
-        sum_by_more length code.texts i [] within ∙ ap (λ (y : List ℕ). sum_by length (take i code.texts) + length y) there in
+    sum_by_more length code.texts i [] within ∙ ap (λ (y : List ℕ). sum_by length (take i code.texts) + length y) there in
     let sum : a + p ≡ sum_by length (take (i + 1) code.texts) = omega arith in
     record {
       ends = sum;
       within = omega (arith, sum_by-take-le length code.texts (i + 1));
       bytes = ap (λ k. words_bytes (k ∷ [])) (sym sum);
     }
-
 
 -- three parts, each appended to what was there
 pub three_parts : (o n1 n2 n3 a b d x y z : List ℕ) → n1 ≡ o ++ a → n2 ≡ n1 ++ b → n3 ≡ n2 ++ d → a ≡ x → b ≡ y → d ≡ z → n3 ≡ o ++ (x ++ (y ++ z))

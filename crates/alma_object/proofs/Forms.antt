@@ -112,11 +112,11 @@ const_again bytes at fits le last =
     let first : slice_range bytes (at + 1) (at + 5) ≡ words_bytes (u32_at bytes (at + 1) ∷ []) = ap (slice_range bytes (at + 1)) (sym a) ∙ words_slice bytes (at + 1) 1 fits (omega arith) in
     let middle : slice_range bytes (at + 5) (at + 13) ≡ i64_bytes (i64_at bytes (at + 5)) = ap (slice_range bytes (at + 5)) (sym b) ∙ i64_slice bytes (at + 5) fits (omega arith) in
     let end : slice_range bytes (at + 13) (at + 17) ≡ words_bytes (0 ∷ []) =
-        ap (slice_range bytes (at + 13)) (sym c) ∙ words_slice bytes (at + 13) 1 fits (omega arith) ∙ ap (λ k. words_bytes (k ∷ [])) last in
+    ap (slice_range bytes (at + 13)) (sym c) ∙ words_slice bytes (at + 13) 1 fits (omega arith) ∙ ap (λ k. words_bytes (k ∷ [])) last in
     sym (slice_join bytes (at + 1) (at + 5) (at + 17) (omega arith) (omega arith))
     ∙ ap (λ (t : List ℕ). t ++ slice_range bytes (at + 5) (at + 17)) first
     ∙ ap (λ (t : List ℕ). words_bytes (u32_at bytes (at + 1) ∷ []) ++ t)
-        (sym (slice_join bytes (at + 5) (at + 13) (at + 17) (omega arith) (omega arith)) ∙ ap (λ (t : List ℕ). t ++ slice_range bytes (at + 13) (at + 17)) middle ∙ ap (λ (t : List ℕ). i64_bytes (i64_at bytes (at + 5)) ++ t) end)
+    (sym (slice_join bytes (at + 5) (at + 13) (at + 17) (omega arith) (omega arith)) ∙ ap (λ (t : List ℕ). t ++ slice_range bytes (at + 13) (at + 17)) middle ∙ ap (λ (t : List ℕ). i64_bytes (i64_at bytes (at + 5)) ++ t) end)
 
 by_opcode : (bytes : List ℕ) (at n : ℕ) → IsBytes bytes → at + 17 ≤ length bytes → 1 ≤ n → n ≤ 52 →
     zeros (drop (get_or used_words (n - 1) 0) (u32_at bytes (at + 1) ∷ u32_at bytes (at + 5) ∷ u32_at bytes (at + 9) ∷ u32_at bytes (at + 13) ∷ [])) ≡ true →

@@ -174,8 +174,8 @@ lines_from : (of : ℕ → Line) (count a n low : ℕ) → (0 < n → low ≤ (o
 lines_from of count a zero low first below next = refl
 lines_from of count a (suc n) low first below next =
     both (nat_le low (of a).at && nat_lt (of a).at count) (lines_rise (suc (of a).at) count (map of (range_with_len (a + 1) n)))
-      (both (nat_le low (of a).at) (nat_lt (of a).at count) (le_test _ _ (first (omega arith))) (lt_test _ _ (below a (omega arith) (omega arith))))
-      (lines_from of count (a + 1) n (suc (of a).at) (λ lt. next a (omega arith) (omega arith)) (λ k low high. below k (omega arith) (omega arith)) (λ k low high. next k (omega arith) (omega arith)))
+    (both (nat_le low (of a).at) (nat_lt (of a).at count) (le_test _ _ (first (omega arith))) (lt_test _ _ (below a (omega arith) (omega arith))))
+    (lines_from of count (a + 1) n (suc (of a).at) (λ lt. next a (omega arith) (omega arith)) (λ k low high. below k (omega arith) (omega arith)) (λ k low high. next k (omega arith) (omega arith)))
 
 ne_test : (m n : ℕ) → n < m → nat_eq m n ≡ false
 ne_test m n lt = grind (arith, nat_tests)
@@ -254,23 +254,23 @@ module _ (bytes : List ℕ) (h : Header) (fits : IsBytes bytes) (within : IsWith
       let start = start_of (runs_end bytes h) r in
       let seen = routine_seen bytes h none r lt in
       differ_from (λ k. run_in bytes (runs_at h + 12 * start + 12 * k)) 0 (runs_end bytes h r - start)
-        (λ k low high. (let at = runs_at h + 12 * start + 12 * k in
-           let next = runs_at h + 12 * start + 12 * (k + 1) in
-           let this = run_at r lt (start + k) (omega arith) (omega (arith, seen.runs.low)) in
-           let that = run_at r lt (start + (k + 1)) (omega arith) (omega (arith, seen.runs.low)) in
-           let e : runs_at h + 12 * (start + k) ≡ at = omega arith in
-           let f : runs_at h + 12 * (start + (k + 1)) ≡ next = omega arith in
-           let this' : RunKept bytes h (nat_eq (start + k) start) at = subst (RunKept bytes h (nat_eq (start + k) start)) e this in
-           let that' : RunKept bytes h (nat_eq (start + (k + 1)) start) next = subst (RunKept bytes h (nat_eq (start + (k + 1)) start)) f that in
-           let that'' : RunKept bytes h false next = subst (λ b. RunKept bytes h b next) (ne_test (start + (k + 1)) start (omega arith)) that' in
-           let g : next - 12 ≡ at = omega arith in
-           let i : next - 8 ≡ at + 4 = omega arith in
-           let differs : (nat_eq (u32_at bytes at) (u32_at bytes next) && nat_eq (u32_at bytes (at + 4)) (u32_at bytes (next + 4))) ≡ false =
-               ap (λ o. nat_eq (u32_at bytes o) (u32_at bytes next) && nat_eq (u32_at bytes (at + 4)) (u32_at bytes (next + 4))) (sym g)
-               ∙ ap (λ o. nat_eq (u32_at bytes (next - 12)) (u32_at bytes next) && nat_eq (u32_at bytes o) (u32_at bytes (next + 4))) (sym i)
-               ∙ not_true (nat_eq (u32_at bytes (next - 12)) (u32_at bytes next) && nat_eq (u32_at bytes (next - 8)) (u32_at bytes (next + 4))) that''.differs in
-           same_numbers (u32_at bytes at) (u32_at bytes (at + 4)) (u32_at bytes next) (u32_at bytes (next + 4))
-             (last_kind (nat_eq h.version 2) (u32_at bytes at) 2 3 (omega arith) this'.kind) (last_kind (nat_eq h.version 2) (u32_at bytes next) 2 3 (omega arith) that''.kind) this'.size that''.size differs))
+      (λ k low high. (let at = runs_at h + 12 * start + 12 * k in
+      let next = runs_at h + 12 * start + 12 * (k + 1) in
+      let this = run_at r lt (start + k) (omega arith) (omega (arith, seen.runs.low)) in
+      let that = run_at r lt (start + (k + 1)) (omega arith) (omega (arith, seen.runs.low)) in
+      let e : runs_at h + 12 * (start + k) ≡ at = omega arith in
+      let f : runs_at h + 12 * (start + (k + 1)) ≡ next = omega arith in
+      let this' : RunKept bytes h (nat_eq (start + k) start) at = subst (RunKept bytes h (nat_eq (start + k) start)) e this in
+      let that' : RunKept bytes h (nat_eq (start + (k + 1)) start) next = subst (RunKept bytes h (nat_eq (start + (k + 1)) start)) f that in
+      let that'' : RunKept bytes h false next = subst (λ b. RunKept bytes h b next) (ne_test (start + (k + 1)) start (omega arith)) that' in
+      let g : next - 12 ≡ at = omega arith in
+      let i : next - 8 ≡ at + 4 = omega arith in
+      let differs : (nat_eq (u32_at bytes at) (u32_at bytes next) && nat_eq (u32_at bytes (at + 4)) (u32_at bytes (next + 4))) ≡ false =
+      ap (λ o. nat_eq (u32_at bytes o) (u32_at bytes next) && nat_eq (u32_at bytes (at + 4)) (u32_at bytes (next + 4))) (sym g)
+      ∙ ap (λ o. nat_eq (u32_at bytes (next - 12)) (u32_at bytes next) && nat_eq (u32_at bytes o) (u32_at bytes (next + 4))) (sym i)
+      ∙ not_true (nat_eq (u32_at bytes (next - 12)) (u32_at bytes next) && nat_eq (u32_at bytes (next - 8)) (u32_at bytes (next + 4))) that''.differs in
+      same_numbers (u32_at bytes at) (u32_at bytes (at + 4)) (u32_at bytes next) (u32_at bytes (next + 4))
+      (last_kind (nat_eq h.version 2) (u32_at bytes at) 2 3 (omega arith) this'.kind) (last_kind (nat_eq h.version 2) (u32_at bytes next) 2 3 (omega arith) that''.kind) this'.size that''.size differs))
 
   param_at : (r : ℕ) → r < h.routines → (k : ℕ) → k < params_end bytes h r - start_of (params_end bytes h) r → ParamKept bytes h (params_at h + 8 * start_of (params_end bytes h) r + 8 * k)
   param_at r lt k high =
@@ -284,8 +284,8 @@ module _ (bytes : List ℕ) (h : Header) (fits : IsBytes bytes) (within : IsWith
   params_kept r lt =
       let start = start_of (params_end bytes h) r in
       all_items (λ (p : CodeParam). has_cells p.kind p.cells) (λ k. param_in bytes (params_at h + 8 * start + 8 * k)) (params_end bytes h r - start)
-        (λ k high. (let at = params_at h + 8 * start + 8 * k in let kept = param_at r lt k high in
-           cells_kept (u32_at bytes at) (u32_at bytes (at + 4)) (last_kind (nat_eq h.version 2) (u32_at bytes at) 3 4 (omega arith) kept.kind) kept.size))
+      (λ k high. (let at = params_at h + 8 * start + 8 * k in let kept = param_at r lt k high in
+      cells_kept (u32_at bytes at) (u32_at bytes (at + 4)) (last_kind (nat_eq h.version 2) (u32_at bytes at) 3 4 (omega arith) kept.kind) kept.size))
 
   names_clean : first_fault (name_fault bytes h) 0 (name_count bytes h) ≡ None
   names_clean = (or_none (first_fault (name_fault bytes h) 0 (name_count bytes h)) (whole_fault bytes (instrs_at h) None) (whole_none bytes (text_pool_at h) _ (sections_kept bytes h none).pools).1).0
@@ -297,10 +297,10 @@ module _ (bytes : List ℕ) (h : Header) (fits : IsBytes bytes) (within : IsWith
       let start = start_of (name_end bytes h) n in
       let clean = first_none (name_fault bytes h) 0 (name_count bytes h) n names_clean (omega arith) (omega arith) in
       can_name bytes (name_pool_at h + start) (name_pool_at h + name_end bytes h n) (omega (arith, seen.some)) (omega (arith, seen.name.high))
-        (ap (λ b. can_stand b (slice_index bytes (name_pool_at h + start))) (sym (eq_test start start refl)) ∙ byte_stands bytes h n start clean (omega arith) seen.some)
-        (λ i low high. (let j = i - name_pool_at h in
-           let back : name_pool_at h + j ≡ i = omega arith in
-           ap (λ o. can_stand false (slice_index bytes o)) (sym back) ∙ ap (λ b. can_stand b (slice_index bytes (name_pool_at h + j))) (sym (ne_test j start (omega arith))) ∙ byte_stands bytes h n j clean (omega arith) (omega arith)))
+      (ap (λ b. can_stand b (slice_index bytes (name_pool_at h + start))) (sym (eq_test start start refl)) ∙ byte_stands bytes h n start clean (omega arith) seen.some)
+      (λ i low high. (let j = i - name_pool_at h in
+      let back : name_pool_at h + j ≡ i = omega arith in
+      ap (λ o. can_stand false (slice_index bytes o)) (sym back) ∙ ap (λ b. can_stand b (slice_index bytes (name_pool_at h + j))) (sym (ne_test j start (omega arith))) ∙ byte_stands bytes h n j clean (omega arith) (omega arith)))
 
   line_at : (k : ℕ) → k < h.lines → LineKept bytes h k
   line_at k lt = line_kept bytes h k (first_none (line_fault bytes h) 0 h.lines k (sections_kept bytes h none).lines (omega arith) (omega arith))
@@ -309,38 +309,38 @@ module _ (bytes : List ℕ) (h : Header) (fits : IsBytes bytes) (within : IsWith
   unfolding routine_in global_in range_in line_in
   keeps_records = record {
     routines = all_items is_routine_record (routine_in bytes h) h.routines
-      (λ r lt. both (is_name (name_in bytes h r)) _ (is_name_in r (omega arith)) (both _ (runs_differ (routine_in bytes h r).head.runs) (params_kept r lt) (runs_kept r lt)));
+        (λ r lt. both (is_name (name_in bytes h r)) _ (is_name_in r (omega arith)) (both _ (runs_differ (routine_in bytes h r).head.runs) (params_kept r lt) (runs_kept r lt)));
     globals = all_items (λ (g : PlainGlobal). is_name g.name) (global_in bytes h) h.globals (λ g lt. is_name_in (h.routines + g) (omega arith));
     ranges = all_items (λ (t : Range). int_le t.low t.high) (λ k. range_in bytes (ranges_at h + 16 * k)) h.ranges
-      (λ k lt. range_kept bytes h k (first_none (range_fault bytes h) 0 h.ranges k (sections_kept bytes h none).ranges (omega arith) (omega arith)));
+        (λ k lt. range_kept bytes h k (first_none (range_fault bytes h) 0 h.ranges k (sections_kept bytes h none).ranges (omega arith) (omega arith)));
     lines = ap (λ n. lines_rise 0 n (code_in bytes h).lines) (length_items (λ k. instr_at bytes (instrs_at h + 17 * k)) h.instrs)
-      ∙ lines_from (λ k. line_in bytes (lines_at h + 8 * k)) h.instrs 0 h.lines 0 (λ some. omega arith)
-          (λ k low high. lt_fact (u32_at bytes (lines_at h + 8 * k)) h.instrs (line_at k (omega arith)).below)
-          (λ k low high. (let e : lines_at h + 8 * (k + 1) - 8 ≡ lines_at h + 8 * k = omega arith in
-             let kept = (line_at (k + 1) (omega arith)).rises in
-             lt_fact (u32_at bytes (lines_at h + 8 * k)) (u32_at bytes (lines_at h + 8 * (k + 1)))
-               (ap (λ o. nat_lt (u32_at bytes o) (u32_at bytes (lines_at h + 8 * (k + 1)))) (sym e)
-               ∙ ap (λ b. b || nat_lt (u32_at bytes (lines_at h + 8 * (k + 1) - 8)) (u32_at bytes (lines_at h + 8 * (k + 1)))) (sym (ne_test (k + 1) 0 (omega arith))) ∙ kept)));
+        ∙ lines_from (λ k. line_in bytes (lines_at h + 8 * k)) h.instrs 0 h.lines 0 (λ some. omega arith)
+        (λ k low high. lt_fact (u32_at bytes (lines_at h + 8 * k)) h.instrs (line_at k (omega arith)).below)
+        (λ k low high. (let e : lines_at h + 8 * (k + 1) - 8 ≡ lines_at h + 8 * k = omega arith in
+        let kept = (line_at (k + 1) (omega arith)).rises in
+        lt_fact (u32_at bytes (lines_at h + 8 * k)) (u32_at bytes (lines_at h + 8 * (k + 1)))
+        (ap (λ o. nat_lt (u32_at bytes o) (u32_at bytes (lines_at h + 8 * (k + 1)))) (sym e)
+        ∙ ap (λ b. b || nat_lt (u32_at bytes (lines_at h + 8 * (k + 1) - 8)) (u32_at bytes (lines_at h + 8 * (k + 1)))) (sym (ne_test (k + 1) 0 (omega arith))) ∙ kept)));
   }
 
   is_first : h.version ≡ 1 → IsFirst (code_in bytes h)
   unfolding routine_in param_in run_in instr_at
   is_first one = record {
     routines = all_items is_first_routine (routine_in bytes h) h.routines
-      (λ r lt. both (list_all (λ run. is_first_kind run.kind) (routine_in bytes h r).head.runs) (list_all (λ p. is_first_param p.kind) (routine_in bytes h r).head.params)
+        (λ r lt. both (list_all (λ run. is_first_kind run.kind) (routine_in bytes h r).head.runs) (list_all (λ p. is_first_param p.kind) (routine_in bytes h r).head.params)
         (all_items (λ (run : Run). is_first_kind run.kind) (λ k. run_in bytes (runs_at h + 12 * start_of (runs_end bytes h) r + 12 * k)) (runs_end bytes h r - start_of (runs_end bytes h) r)
-          (λ k high. (let start = start_of (runs_end bytes h) r in
-             let seen = routine_seen bytes h none r lt in
-             let e : runs_at h + 12 * (start + k) ≡ runs_at h + 12 * start + 12 * k = omega arith in
-             let kept = run_at r lt (start + k) (omega arith) (omega (arith, seen.runs.low)) in
-             let at = runs_at h + 12 * start + 12 * k in
-             first_slot (u32_at bytes at) (u32_at bytes (at + 4)) (first_last h.version (u32_at bytes at) 2 3 one (ap (λ o. nat_le (u32_at bytes o) (if nat_eq h.version 2 then 3 else 2)) (sym e) ∙ kept.kind)))))
+        (λ k high. (let start = start_of (runs_end bytes h) r in
+        let seen = routine_seen bytes h none r lt in
+        let e : runs_at h + 12 * (start + k) ≡ runs_at h + 12 * start + 12 * k = omega arith in
+        let kept = run_at r lt (start + k) (omega arith) (omega (arith, seen.runs.low)) in
+        let at = runs_at h + 12 * start + 12 * k in
+        first_slot (u32_at bytes at) (u32_at bytes (at + 4)) (first_last h.version (u32_at bytes at) 2 3 one (ap (λ o. nat_le (u32_at bytes o) (if nat_eq h.version 2 then 3 else 2)) (sym e) ∙ kept.kind)))))
         (all_items (λ (p : CodeParam). is_first_param p.kind) (λ k. param_in bytes (params_at h + 8 * start_of (params_end bytes h) r + 8 * k)) (params_end bytes h r - start_of (params_end bytes h) r)
-          (λ k high. (let at = params_at h + 8 * start_of (params_end bytes h) r + 8 * k in first_param (u32_at bytes at) (first_last h.version (u32_at bytes at) 3 4 one (param_at r lt k high).kind)))));
+        (λ k high. (let at = params_at h + 8 * start_of (params_end bytes h) r + 8 * k in first_param (u32_at bytes at) (first_last h.version (u32_at bytes at) 3 4 one (param_at r lt k high).kind)))));
     forms = all_items is_first_form (λ k. instr_at bytes (instrs_at h + 17 * k)) h.instrs
-      (λ k lt. (let at = instrs_at h + 17 * k in
-         first_form (slice_index bytes at) (u32_at bytes (at + 1)) (u32_at bytes (at + 5)) (u32_at bytes (at + 9)) (u32_at bytes (at + 13)) (i64_at bytes (at + 5))
-           (opcode_low bytes h k one (first_none (instr_fault bytes h) 0 h.instrs k (sections_kept bytes h none).instrs (omega arith) (omega arith)))));
+        (λ k lt. (let at = instrs_at h + 17 * k in
+        first_form (slice_index bytes at) (u32_at bytes (at + 1)) (u32_at bytes (at + 5)) (u32_at bytes (at + 9)) (u32_at bytes (at + 13)) (i64_at bytes (at + 5))
+        (opcode_low bytes h k one (first_none (instr_fault bytes h) 0 h.instrs k (sections_kept bytes h none).instrs (omega arith) (omega arith)))));
     lines = ap (items (λ k. line_in bytes (lines_at h + 8 * k))) (within.no_lines one);
   }
 

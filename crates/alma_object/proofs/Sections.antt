@@ -37,16 +37,16 @@ nested_is : (bytes : List ℕ) (off : ℕ → ℕ) (each body : ℕ → List ℕ
 nested_is bytes off each body end n rise up parts bodies =
     let outer : ℕ → ℕ = λ r. off (start_of end r) in
     let climbs : (r : ℕ) → r < n → off (start_of end r) ≤ off (start_of end (r + 1)) = λ r lt.
-        (let low = rise r lt in
-         let next : start_of end (r + 1) ≡ end r = (let e : r + 1 ≡ suc r = omega arith in ap (start_of end) e) in
-         let to : start_of end r + (end r - start_of end r) ≡ start_of end (r + 1) = omega arith in
-         subst (λ k. off (start_of end r) ≤ off k) to (offsets_rise off (start_of end r) (end r - start_of end r) (λ k a b. up k))) in
+    (let low = rise r lt in
+    let next : start_of end (r + 1) ≡ end r = (let e : r + 1 ≡ suc r = omega arith in ap (start_of end) e) in
+    let to : start_of end r + (end r - start_of end r) ≡ start_of end (r + 1) = omega arith in
+    subst (λ k. off (start_of end r) ≤ off k) to (offsets_rise off (start_of end r) (end r - start_of end r) (λ k a b. up k))) in
     let stand : (r : ℕ) → r < n → slice_range bytes (off (start_of end r)) (off (start_of end (r + 1))) ≡ body r = λ r lt.
-        (let low = rise r lt in
-         let next : start_of end (r + 1) ≡ end r = (let e : r + 1 ≡ suc r = omega arith in ap (start_of end) e) in
-         let to : start_of end r + (end r - start_of end r) ≡ start_of end (r + 1) = omega arith in
-         ap (λ k. slice_range bytes (off (start_of end r)) (off k)) (sym to)
-         ∙ sym (section_is bytes off each (start_of end r) (end r - start_of end r) (λ k a b. up k) (λ k a b. parts r lt k a (omega arith))) ∙ sym (bodies r lt)) in
+    (let low = rise r lt in
+    let next : start_of end (r + 1) ≡ end r = (let e : r + 1 ≡ suc r = omega arith in ap (start_of end) e) in
+    let to : start_of end r + (end r - start_of end r) ≡ start_of end (r + 1) = omega arith in
+    ap (λ k. slice_range bytes (off (start_of end r)) (off k)) (sym to)
+    ∙ sym (section_is bytes off each (start_of end r) (end r - start_of end r) (λ k a b. up k) (λ k a b. parts r lt k a (omega arith))) ∙ sym (bodies r lt)) in
     section_is bytes outer body 0 n (λ k a b. climbs k (omega arith)) (λ k a b. stand k (omega arith))
     ∙ (let z : 0 + n ≡ n = omega arith in ap (λ k. slice_range bytes (off 0) (off (start_of end k))) z)
 
@@ -89,21 +89,21 @@ module _ (bytes : List ℕ) (h : Header) (fits : IsBytes bytes) (within : IsWith
       let n = params_end bytes h r - start in
       flat_map-map param_bytes (λ k. param_in bytes (params_at h + 8 * start + 8 * k)) (range_with_len 0 n)
       ∙ shifted (λ k. param_bytes (param_in bytes (params_at h + 8 * start + 8 * k))) (λ p. param_bytes (param_in bytes (params_at h + 8 * p))) 0 start n
-          (λ k lt. (let e : params_at h + 8 * start + 8 * (0 + k) ≡ params_at h + 8 * (start + k) = omega arith in ap (λ o. param_bytes (param_in bytes o)) e))
+      (λ k lt. (let e : params_at h + 8 * start + 8 * (0 + k) ≡ params_at h + 8 * (start + k) = omega arith in ap (λ o. param_bytes (param_in bytes o)) e))
 
   pub params_stand : flat_map param_bytes (flat_map (λ r. r.head.params) (items (routine_in bytes h) h.routines)) ≡ slice_range bytes (params_at h) (runs_at h)
   params_stand =
       flat_map-flat_map param_bytes (λ (r : PlainRoutine). r.head.params) (items (routine_in bytes h) h.routines)
       ∙ flat_map-map (λ (r : PlainRoutine). flat_map param_bytes r.head.params) (routine_in bytes h) (range_with_len 0 h.routines)
       ∙ nested_is bytes (λ p. params_at h + 8 * p) (λ p. param_bytes (param_in bytes (params_at h + 8 * p))) (λ r. flat_map param_bytes (routine_in bytes h r).head.params) (params_end bytes h) h.routines
-          (λ r lt. (routine_seen bytes h none r lt).params.low) (λ k. omega arith)
-          (λ r lt p low high. (let seen = routine_seen bytes h none r lt in
-             let e : params_at h + 8 * p + 8 ≡ params_at h + 8 * (p + 1) = omega arith in
-             ap (slice_range bytes (params_at h + 8 * p)) (sym e) ∙ param_spelled bytes h p fits (param_none p (omega (arith, seen.params.high)))))
-          params_body
+      (λ r lt. (routine_seen bytes h none r lt).params.low) (λ k. omega arith)
+      (λ r lt p low high. (let seen = routine_seen bytes h none r lt in
+      let e : params_at h + 8 * p + 8 ≡ params_at h + 8 * (p + 1) = omega arith in
+      ap (slice_range bytes (params_at h + 8 * p)) (sym e) ∙ param_spelled bytes h p fits (param_none p (omega (arith, seen.params.high)))))
+      params_body
       ∙ (let z : params_at h + 8 * 0 ≡ params_at h = omega arith in
-         let last : params_at h + 8 * start_of (params_end bytes h) h.routines ≡ runs_at h = omega (arith, last_params bytes h within.some (sections_kept bytes h none).routines) in
-         ap (λ k. slice_range bytes k (params_at h + 8 * start_of (params_end bytes h) h.routines)) z ∙ ap (slice_range bytes (params_at h)) last)
+      let last : params_at h + 8 * start_of (params_end bytes h) h.routines ≡ runs_at h = omega (arith, last_params bytes h within.some (sections_kept bytes h none).routines) in
+      ap (λ k. slice_range bytes k (params_at h + 8 * start_of (params_end bytes h) h.routines)) z ∙ ap (slice_range bytes (params_at h)) last)
 
   pub run_none : (r : ℕ) → r < h.routines → (k : ℕ) → start_of (runs_end bytes h) r ≤ k → k < runs_end bytes h r → run_fault bytes h (nat_eq k (start_of (runs_end bytes h) r)) k ≡ None
   unfolding routine_runs_fault
@@ -118,20 +118,20 @@ module _ (bytes : List ℕ) (h : Header) (fits : IsBytes bytes) (within : IsWith
       let n = runs_end bytes h r - start in
       flat_map-map run_bytes (λ k. run_in bytes (runs_at h + 12 * start + 12 * k)) (range_with_len 0 n)
       ∙ shifted (λ k. run_bytes (run_in bytes (runs_at h + 12 * start + 12 * k))) (λ p. run_bytes (run_in bytes (runs_at h + 12 * p))) 0 start n
-          (λ k lt. (let e : runs_at h + 12 * start + 12 * (0 + k) ≡ runs_at h + 12 * (start + k) = omega arith in ap (λ o. run_bytes (run_in bytes o)) e))
+      (λ k lt. (let e : runs_at h + 12 * start + 12 * (0 + k) ≡ runs_at h + 12 * (start + k) = omega arith in ap (λ o. run_bytes (run_in bytes o)) e))
 
   pub runs_stand : flat_map run_bytes (flat_map (λ r. r.head.runs) (items (routine_in bytes h) h.routines)) ≡ slice_range bytes (runs_at h) (ranges_at h)
   runs_stand =
       flat_map-flat_map run_bytes (λ (r : PlainRoutine). r.head.runs) (items (routine_in bytes h) h.routines)
       ∙ flat_map-map (λ (r : PlainRoutine). flat_map run_bytes r.head.runs) (routine_in bytes h) (range_with_len 0 h.routines)
       ∙ nested_is bytes (λ p. runs_at h + 12 * p) (λ p. run_bytes (run_in bytes (runs_at h + 12 * p))) (λ r. flat_map run_bytes (routine_in bytes h r).head.runs) (runs_end bytes h) h.routines
-          (λ r lt. (routine_seen bytes h none r lt).runs.low) (λ k. omega arith)
-          (λ r lt p low high. (let e : runs_at h + 12 * p + 12 ≡ runs_at h + 12 * (p + 1) = omega arith in
-             ap (slice_range bytes (runs_at h + 12 * p)) (sym e) ∙ run_spelled bytes h (nat_eq p (start_of (runs_end bytes h) r)) p fits (run_none r lt p low high)))
-          runs_body
+      (λ r lt. (routine_seen bytes h none r lt).runs.low) (λ k. omega arith)
+      (λ r lt p low high. (let e : runs_at h + 12 * p + 12 ≡ runs_at h + 12 * (p + 1) = omega arith in
+      ap (slice_range bytes (runs_at h + 12 * p)) (sym e) ∙ run_spelled bytes h (nat_eq p (start_of (runs_end bytes h) r)) p fits (run_none r lt p low high)))
+      runs_body
       ∙ (let z : runs_at h + 12 * 0 ≡ runs_at h = omega arith in
-         let last : runs_at h + 12 * start_of (runs_end bytes h) h.routines ≡ ranges_at h = omega (arith, last_runs bytes h within.some (sections_kept bytes h none).routines) in
-         ap (λ k. slice_range bytes k (runs_at h + 12 * start_of (runs_end bytes h) h.routines)) z ∙ ap (slice_range bytes (runs_at h)) last)
+      let last : runs_at h + 12 * start_of (runs_end bytes h) h.routines ≡ ranges_at h = omega (arith, last_runs bytes h within.some (sections_kept bytes h none).routines) in
+      ap (λ k. slice_range bytes k (runs_at h + 12 * start_of (runs_end bytes h) h.routines)) z ∙ ap (slice_range bytes (runs_at h)) last)
 
   -- ---- ranges, texts' ends, lines
 
@@ -140,24 +140,24 @@ module _ (bytes : List ℕ) (h : Header) (fits : IsBytes bytes) (within : IsWith
   ranges_stand =
       flat_map-map range_bytes (λ k. range_in bytes (ranges_at h + 16 * k)) (range_with_len 0 h.ranges)
       ∙ section_is bytes (λ k. ranges_at h + 16 * k) (λ k. range_bytes (range_in bytes (ranges_at h + 16 * k))) 0 h.ranges (λ k a b. omega arith)
-          (λ k a b. (let e : ranges_at h + 16 * (k + 1) ≡ ranges_at h + 16 * k + 16 = omega arith in
-             let whole = (whole_none bytes (ranges_at h + 16 * k + 16) _ (first_none (range_fault bytes h) 0 h.ranges k (sections_kept bytes h none).ranges (omega arith) (omega arith))).0 in
-             ap (slice_range bytes (ranges_at h + 16 * k)) e ∙ range_spelled bytes (ranges_at h + 16 * k) fits whole))
+      (λ k a b. (let e : ranges_at h + 16 * (k + 1) ≡ ranges_at h + 16 * k + 16 = omega arith in
+      let whole = (whole_none bytes (ranges_at h + 16 * k + 16) _ (first_none (range_fault bytes h) 0 h.ranges k (sections_kept bytes h none).ranges (omega arith) (omega arith))).0 in
+      ap (slice_range bytes (ranges_at h + 16 * k)) e ∙ range_spelled bytes (ranges_at h + 16 * k) fits whole))
       ∙ (let z : ranges_at h + 16 * 0 ≡ ranges_at h = omega arith in
-         let last : ranges_at h + 16 * (0 + h.ranges) ≡ texts_at h = omega arith in
-         ap (λ k. slice_range bytes k (ranges_at h + 16 * (0 + h.ranges))) z ∙ ap (slice_range bytes (ranges_at h)) last)
+      let last : ranges_at h + 16 * (0 + h.ranges) ≡ texts_at h = omega arith in
+      ap (λ k. slice_range bytes k (ranges_at h + 16 * (0 + h.ranges))) z ∙ ap (slice_range bytes (ranges_at h)) last)
 
   pub lines_stand : flat_map line_bytes (items (λ k. line_in bytes (lines_at h + 8 * k)) h.lines) ≡ slice_range bytes (lines_at h) (end_at h)
   unfolding line_fault
   lines_stand =
       flat_map-map line_bytes (λ k. line_in bytes (lines_at h + 8 * k)) (range_with_len 0 h.lines)
       ∙ section_is bytes (λ k. lines_at h + 8 * k) (λ k. line_bytes (line_in bytes (lines_at h + 8 * k))) 0 h.lines (λ k a b. omega arith)
-          (λ k a b. (let e : lines_at h + 8 * (k + 1) ≡ lines_at h + 8 * k + 8 = omega arith in
-             let whole = (whole_none bytes (lines_at h + 8 * k + 8) _ (first_none (line_fault bytes h) 0 h.lines k (sections_kept bytes h none).lines (omega arith) (omega arith))).0 in
-             ap (slice_range bytes (lines_at h + 8 * k)) e ∙ line_spelled bytes (lines_at h + 8 * k) fits whole))
+      (λ k a b. (let e : lines_at h + 8 * (k + 1) ≡ lines_at h + 8 * k + 8 = omega arith in
+      let whole = (whole_none bytes (lines_at h + 8 * k + 8) _ (first_none (line_fault bytes h) 0 h.lines k (sections_kept bytes h none).lines (omega arith) (omega arith))).0 in
+      ap (slice_range bytes (lines_at h + 8 * k)) e ∙ line_spelled bytes (lines_at h + 8 * k) fits whole))
       ∙ (let z : lines_at h + 8 * 0 ≡ lines_at h = omega arith in
-         let last : lines_at h + 8 * (0 + h.lines) ≡ end_at h = omega arith in
-         ap (λ k. slice_range bytes k (lines_at h + 8 * (0 + h.lines))) z ∙ ap (slice_range bytes (lines_at h)) last)
+      let last : lines_at h + 8 * (0 + h.lines) ≡ end_at h = omega arith in
+      ap (λ k. slice_range bytes k (lines_at h + 8 * (0 + h.lines))) z ∙ ap (slice_range bytes (lines_at h)) last)
 
   -- ---- the pools
 
@@ -171,8 +171,8 @@ module _ (bytes : List ℕ) (h : Header) (fits : IsBytes bytes) (within : IsWith
   unfolding name_in
   names_part a n le =
       section_is bytes (λ k. name_pool_at h + start_of (name_end bytes h) k) (name_in bytes h) a n
-        (λ k low high. (let up = starts_rise (name_end bytes h) (h.routines + h.globals) (λ j lt. (name_seen bytes h none j lt).name.low) k (omega arith) in omega arith))
-        (λ k low high. (let e : k + 1 ≡ suc k = omega arith in ap (λ j. slice_range bytes (name_pool_at h + start_of (name_end bytes h) k) (name_pool_at h + start_of (name_end bytes h) j)) e))
+      (λ k low high. (let up = starts_rise (name_end bytes h) (h.routines + h.globals) (λ j lt. (name_seen bytes h none j lt).name.low) k (omega arith) in omega arith))
+      (λ k low high. (let e : k + 1 ≡ suc k = omega arith in ap (λ j. slice_range bytes (name_pool_at h + start_of (name_end bytes h) k) (name_pool_at h + start_of (name_end bytes h) j)) e))
 
   last_name : start_of (name_end bytes h) (h.routines + h.globals) ≡ h.name_bytes
   last_name = start_last (name_end bytes h) (h.routines + h.globals) h.name_bytes (omega (arith, within.some)) ((name_seen bytes h none (h.routines + h.globals - 1) (omega (arith, within.some))).name.last_is)
@@ -183,12 +183,12 @@ module _ (bytes : List ℕ) (h : Header) (fits : IsBytes bytes) (within : IsWith
   names_stand =
       let first = flat_map-map (λ (r : PlainRoutine). r.name) (routine_in bytes h) (range_with_len 0 h.routines) ∙ names_part 0 h.routines (omega arith) in
       let second = flat_map-map (λ (g : PlainGlobal). g.name) (global_in bytes h) (range_with_len 0 h.globals)
-          ∙ shifted (λ g. name_in bytes h (h.routines + g)) (name_in bytes h) 0 h.routines h.globals (λ k lt. (let z : 0 + k ≡ k = omega arith in ap (λ j. name_in bytes h (h.routines + j)) z))
-          ∙ names_part h.routines h.globals (omega arith) in
+      ∙ shifted (λ g. name_in bytes h (h.routines + g)) (name_in bytes h) 0 h.routines h.globals (λ k lt. (let z : 0 + k ≡ k = omega arith in ap (λ j. name_in bytes h (h.routines + j)) z))
+      ∙ names_part h.routines h.globals (omega arith) in
       let z : 0 + h.routines ≡ h.routines = omega arith in
       let start : name_pool_at h + 0 ≡ name_pool_at h = omega arith in
       let low : start_of (name_end bytes h) h.routines ≤ start_of (name_end bytes h) (h.routines + h.globals) =
-          offsets_rise (start_of (name_end bytes h)) h.routines h.globals (λ k a b. starts_rise (name_end bytes h) (h.routines + h.globals) (λ j lt. (name_seen bytes h none j lt).name.low) k (omega arith)) in
+      offsets_rise (start_of (name_end bytes h)) h.routines h.globals (λ k a b. starts_rise (name_end bytes h) (h.routines + h.globals) (λ j lt. (name_seen bytes h none j lt).name.low) k (omega arith)) in
       ap (λ (t : List ℕ). t ++ flat_map (λ g. g.name) (items (global_in bytes h) h.globals)) (first ∙ ap (λ k. slice_range bytes (name_pool_at h + 0) (name_pool_at h + start_of (name_end bytes h) k)) z)
       ∙ ap (λ (t : List ℕ). slice_range bytes (name_pool_at h + 0) (name_pool_at h + start_of (name_end bytes h) h.routines) ++ t) second
       ∙ slice_join bytes (name_pool_at h + 0) (name_pool_at h + start_of (name_end bytes h) h.routines) (name_pool_at h + start_of (name_end bytes h) (h.routines + h.globals)) (omega arith) (omega arith)
@@ -206,12 +206,12 @@ module _ (bytes : List ℕ) (h : Header) (fits : IsBytes bytes) (within : IsWith
   texts_stand =
       flat_map-map (λ t. t) (text_in bytes h) (range_with_len 0 h.texts)
       ∙ section_is bytes (λ k. text_pool_at h + start_of (text_end bytes h) k) (text_in bytes h) 0 h.texts
-          (λ k low high. (let up = starts_rise (text_end bytes h) h.texts (λ j lt. (text_seen bytes h none j lt).low) k (omega arith) in omega arith))
-          (λ k low high. (let e : k + 1 ≡ suc k = omega arith in ap (λ j. slice_range bytes (text_pool_at h + start_of (text_end bytes h) k) (text_pool_at h + start_of (text_end bytes h) j)) e))
+      (λ k low high. (let up = starts_rise (text_end bytes h) h.texts (λ j lt. (text_seen bytes h none j lt).low) k (omega arith) in omega arith))
+      (λ k low high. (let e : k + 1 ≡ suc k = omega arith in ap (λ j. slice_range bytes (text_pool_at h + start_of (text_end bytes h) k) (text_pool_at h + start_of (text_end bytes h) j)) e))
       ∙ (let z : text_pool_at h + 0 ≡ text_pool_at h = omega arith in
-         let n : 0 + h.texts ≡ h.texts = omega arith in
-         ap (λ k. slice_range bytes k (text_pool_at h + start_of (text_end bytes h) (0 + h.texts))) z
-         ∙ ap (λ k. slice_range bytes (text_pool_at h) (text_pool_at h + start_of (text_end bytes h) k)) n ∙ ap (λ k. slice_range bytes (text_pool_at h) (text_pool_at h + k)) last_text)
+      let n : 0 + h.texts ≡ h.texts = omega arith in
+      ap (λ k. slice_range bytes k (text_pool_at h + start_of (text_end bytes h) (0 + h.texts))) z
+      ∙ ap (λ k. slice_range bytes (text_pool_at h) (text_pool_at h + start_of (text_end bytes h) k)) n ∙ ap (λ k. slice_range bytes (text_pool_at h) (text_pool_at h + k)) last_text)
 
   -- ---- the records of routines, globals and texts
 
@@ -249,23 +249,23 @@ module _ (bytes : List ℕ) (h : Header) (fits : IsBytes bytes) (within : IsWith
         let seen = routine_seen bytes h none r lt in
         let there : routine_at (code_in bytes h) r ≡ routine_in bytes h r = item_at (routine_in bytes h) h.routines r no_routine lt in
         let names : end_of (λ (x : PlainRoutine). length x.name) (items (routine_in bytes h) h.routines) r ≡ name_end bytes h r =
-            end_is (λ (x : PlainRoutine). length x.name) (routine_in bytes h) (name_end bytes h) h.routines r lt (λ k l. (routine_seen bytes h none k l).name.low) routine_name_length in
+        end_is (λ (x : PlainRoutine). length x.name) (routine_in bytes h) (name_end bytes h) h.routines r lt (λ k l. (routine_seen bytes h none k l).name.low) routine_name_length in
         let params : end_of (λ (x : PlainRoutine). length x.head.params) (items (routine_in bytes h) h.routines) r ≡ params_end bytes h r =
-            end_is (λ (x : PlainRoutine). length x.head.params) (routine_in bytes h) (params_end bytes h) h.routines r lt (λ k l. (routine_seen bytes h none k l).params.low) (λ k l. routine_params_length k) in
+        end_is (λ (x : PlainRoutine). length x.head.params) (routine_in bytes h) (params_end bytes h) h.routines r lt (λ k l. (routine_seen bytes h none k l).params.low) (λ k l. routine_params_length k) in
         let runs : end_of (λ (x : PlainRoutine). length x.head.runs) (items (routine_in bytes h) h.routines) r ≡ runs_end bytes h r =
-            end_is (λ (x : PlainRoutine). length x.head.runs) (routine_in bytes h) (runs_end bytes h) h.routines r lt (λ k l. (routine_seen bytes h none k l).runs.low) (λ k l. routine_runs_length k) in
+        end_is (λ (x : PlainRoutine). length x.head.runs) (routine_in bytes h) (runs_end bytes h) h.routines r lt (λ k l. (routine_seen bytes h none k l).runs.low) (λ k l. routine_runs_length k) in
         seven_words at seen.is_whole
         ∙ sym (seven_same _ _ _ _ _ _ _ (u32_at bytes at) (u32_at bytes (at + 4)) (u32_at bytes (at + 8)) (u32_at bytes (at + 12)) (u32_at bytes (at + 16)) (u32_at bytes (at + 20)) (u32_at bytes (at + 24))
-            (names ∙ name_end_routine bytes h r lt) params runs (ap (λ (x : PlainRoutine). x.code_end) there) (ap (λ (x : PlainRoutine). x.head.slots) there) (ap (λ (x : PlainRoutine). x.head.declared) there)
-            (ap (λ (x : PlainRoutine). if x.head.has_result then 1 else 0) there ∙ flag_again (u32_at bytes (at + 24)) seen.result))
+        (names ∙ name_end_routine bytes h r lt) params runs (ap (λ (x : PlainRoutine). x.code_end) there) (ap (λ (x : PlainRoutine). x.head.slots) there) (ap (λ (x : PlainRoutine). x.head.declared) there)
+        (ap (λ (x : PlainRoutine). if x.head.has_result then 1 else 0) there ∙ flag_again (u32_at bytes (at + 24)) seen.result))
 
     pub routines_stand : section (routine_bytes (code_in bytes h)) h.routines ≡ slice_range bytes (routines_at h) (globals_at h)
     routines_stand =
         section_is bytes (λ k. routines_at h + 28 * k) (routine_bytes (code_in bytes h)) 0 h.routines (λ k a b. omega arith)
-          (λ k a b. (let e : routines_at h + 28 * (k + 1) ≡ routines_at h + 28 * k + 28 = omega arith in ap (slice_range bytes (routines_at h + 28 * k)) e ∙ routine_spelled k (omega arith)))
+        (λ k a b. (let e : routines_at h + 28 * (k + 1) ≡ routines_at h + 28 * k + 28 = omega arith in ap (slice_range bytes (routines_at h + 28 * k)) e ∙ routine_spelled k (omega arith)))
         ∙ (let z : routines_at h + 28 * 0 ≡ routines_at h = omega arith in
-           let last : routines_at h + 28 * (0 + h.routines) ≡ globals_at h = omega arith in
-           ap (λ k. slice_range bytes k (routines_at h + 28 * (0 + h.routines))) z ∙ ap (slice_range bytes (routines_at h)) last)
+        let last : routines_at h + 28 * (0 + h.routines) ≡ globals_at h = omega arith in
+        ap (λ k. slice_range bytes k (routines_at h + 28 * (0 + h.routines))) z ∙ ap (slice_range bytes (routines_at h)) last)
 
     global_whole : (g : ℕ) → g < h.globals → globals_at h + 12 * g + 12 ≤ length bytes
     global_whole g lt = (global_kept bytes h g (first_none (global_fault bytes h) 0 h.globals g (sections_kept bytes h none).globals (omega arith) (omega arith))).is_whole
@@ -305,23 +305,23 @@ module _ (bytes : List ℕ) (h : Header) (fits : IsBytes bytes) (within : IsWith
         let at = globals_at h + 12 * g in
         let there : get_or (code_in bytes h).globals g no_global ≡ global_in bytes h g = item_at (global_in bytes h) h.globals g no_global lt in
         let routines : sum_by (λ (x : PlainRoutine). length x.name) (items (routine_in bytes h) h.routines) ≡ start_of (name_end bytes h) h.routines =
-            sum_ends (λ (x : PlainRoutine). length x.name) (routine_in bytes h) (name_end bytes h) h.routines (λ k l. (routine_seen bytes h none k l).name.low) routine_name_length in
+        sum_ends (λ (x : PlainRoutine). length x.name) (routine_in bytes h) (name_end bytes h) h.routines (λ k l. (routine_seen bytes h none k l).name.low) routine_name_length in
         let globals : end_of (λ (x : PlainGlobal). length x.name) (items (global_in bytes h) h.globals) g ≡ global_end g =
-            end_is (λ (x : PlainGlobal). length x.name) (global_in bytes h) global_end h.globals g lt global_low global_length in
+        end_is (λ (x : PlainGlobal). length x.name) (global_in bytes h) global_end h.globals g lt global_low global_length in
         let seen = name_seen bytes h none (h.routines + g) (omega arith) in
         let base = base_low g (omega arith) in
         let name : sum_by (λ (x : PlainRoutine). length x.name) (items (routine_in bytes h) h.routines) + end_of (λ (x : PlainGlobal). length x.name) (items (global_in bytes h) h.globals) g ≡ name_end bytes h (h.routines + g) =
-            omega (arith, routines, globals, seen.name.low, base) in
+        omega (arith, routines, globals, seen.name.low, base) in
         three_words bytes at fits (global_whole g lt)
         ∙ sym (three_same _ _ _ (u32_at bytes at) (u32_at bytes (at + 4)) (u32_at bytes (at + 8)) (name ∙ name_end_global bytes h g) (ap (λ (x : PlainGlobal). x.slot) there) (ap (λ (x : PlainGlobal). x.cells) there))
 
     pub globals_stand : section (global_bytes (code_in bytes h)) h.globals ≡ slice_range bytes (globals_at h) (params_at h)
     globals_stand =
         section_is bytes (λ k. globals_at h + 12 * k) (global_bytes (code_in bytes h)) 0 h.globals (λ k a b. omega arith)
-          (λ k a b. (let e : globals_at h + 12 * (k + 1) ≡ globals_at h + 12 * k + 12 = omega arith in ap (slice_range bytes (globals_at h + 12 * k)) e ∙ global_spelled k (omega arith)))
+        (λ k a b. (let e : globals_at h + 12 * (k + 1) ≡ globals_at h + 12 * k + 12 = omega arith in ap (slice_range bytes (globals_at h + 12 * k)) e ∙ global_spelled k (omega arith)))
         ∙ (let z : globals_at h + 12 * 0 ≡ globals_at h = omega arith in
-           let last : globals_at h + 12 * (0 + h.globals) ≡ params_at h = omega arith in
-           ap (λ k. slice_range bytes k (globals_at h + 12 * (0 + h.globals))) z ∙ ap (slice_range bytes (globals_at h)) last)
+        let last : globals_at h + 12 * (0 + h.globals) ≡ params_at h = omega arith in
+        ap (λ k. slice_range bytes k (globals_at h + 12 * (0 + h.globals))) z ∙ ap (slice_range bytes (globals_at h)) last)
 
     text_length : (t : ℕ) → t < h.texts → length (text_in bytes h t) ≡ text_end bytes h t - start_of (text_end bytes h) t
     unfolding text_in
@@ -334,29 +334,29 @@ module _ (bytes : List ℕ) (h : Header) (fits : IsBytes bytes) (within : IsWith
     text_end_spelled t lt =
         let at = texts_at h + 4 * t in
         let end : end_of length (items (text_in bytes h) h.texts) t ≡ text_end bytes h t =
-            end_is length (text_in bytes h) (text_end bytes h) h.texts t lt (λ k l. (text_seen bytes h none k l).low) text_length in
+        end_is length (text_in bytes h) (text_end bytes h) h.texts t lt (λ k l. (text_seen bytes h none k l).low) text_length in
         u32_slice bytes at fits (omega arith) ∙ ap u32_bytes (sym end) ∙ sym (append-nil (u32_bytes (end_of length (items (text_in bytes h) h.texts) t)))
 
     pub text_ends_stand : section (text_end_bytes (code_in bytes h)) h.texts ≡ slice_range bytes (texts_at h) (name_pool_at h)
     text_ends_stand =
         section_is bytes (λ k. texts_at h + 4 * k) (text_end_bytes (code_in bytes h)) 0 h.texts (λ k a b. omega arith)
-          (λ k a b. (let e : texts_at h + 4 * (k + 1) ≡ texts_at h + 4 * k + 4 = omega arith in ap (slice_range bytes (texts_at h + 4 * k)) e ∙ text_end_spelled k (omega arith)))
+        (λ k a b. (let e : texts_at h + 4 * (k + 1) ≡ texts_at h + 4 * k + 4 = omega arith in ap (slice_range bytes (texts_at h + 4 * k)) e ∙ text_end_spelled k (omega arith)))
         ∙ (let z : texts_at h + 4 * 0 ≡ texts_at h = omega arith in
-           let last : texts_at h + 4 * (0 + h.texts) ≡ name_pool_at h = omega arith in
-           ap (λ k. slice_range bytes k (texts_at h + 4 * (0 + h.texts))) z ∙ ap (slice_range bytes (texts_at h)) last)
+        let last : texts_at h + 4 * (0 + h.texts) ≡ name_pool_at h = omega arith in
+        ap (λ k. slice_range bytes k (texts_at h + 4 * (0 + h.texts))) z ∙ ap (slice_range bytes (texts_at h)) last)
 
     pub instrs_stand : flat_map instr_bytes (items (λ k. instr_at bytes (instrs_at h + 17 * k)) h.instrs) ≡ slice_range bytes (instrs_at h) (lines_at h)
     unfolding instr_fault
     instrs_stand =
         flat_map-map instr_bytes (λ k. instr_at bytes (instrs_at h + 17 * k)) (range_with_len 0 h.instrs)
         ∙ section_is bytes (λ k. instrs_at h + 17 * k) (λ k. instr_bytes (instr_at bytes (instrs_at h + 17 * k))) 0 h.instrs (λ k a b. omega arith)
-            (λ k a b. (let e : instrs_at h + 17 * (k + 1) ≡ instrs_at h + 17 * k + 17 = omega arith in
-               let seen = whole_none bytes (instrs_at h + 17 * k + 17) _ (first_none (instr_fault bytes h) 0 h.instrs k (sections_kept bytes h none).instrs (omega arith) (omega arith)) in
-               let form = unless_none _ _ _ seen.1 in
-               ap (slice_range bytes (instrs_at h + 17 * k)) e ∙ instr_spelled h.version bytes (instrs_at h + 17 * k) fits seen.0 form.0))
+        (λ k a b. (let e : instrs_at h + 17 * (k + 1) ≡ instrs_at h + 17 * k + 17 = omega arith in
+        let seen = whole_none bytes (instrs_at h + 17 * k + 17) _ (first_none (instr_fault bytes h) 0 h.instrs k (sections_kept bytes h none).instrs (omega arith) (omega arith)) in
+        let form = unless_none _ _ _ seen.1 in
+        ap (slice_range bytes (instrs_at h + 17 * k)) e ∙ instr_spelled h.version bytes (instrs_at h + 17 * k) fits seen.0 form.0))
         ∙ (let z : instrs_at h + 17 * 0 ≡ instrs_at h = omega arith in
-           let last : instrs_at h + 17 * (0 + h.instrs) ≡ lines_at h = omega arith in
-           ap (λ k. slice_range bytes k (instrs_at h + 17 * (0 + h.instrs))) z ∙ ap (slice_range bytes (instrs_at h)) last)
+        let last : instrs_at h + 17 * (0 + h.instrs) ≡ lines_at h = omega arith in
+        ap (λ k. slice_range bytes k (instrs_at h + 17 * (0 + h.instrs))) z ∙ ap (slice_range bytes (instrs_at h)) last)
 
     -- ---- totals
 
@@ -373,9 +373,9 @@ module _ (bytes : List ℕ) (h : Header) (fits : IsBytes bytes) (within : IsWith
     pub names_total : sum_by (λ (x : PlainRoutine). length x.name) (items (routine_in bytes h) h.routines) + sum_by (λ (x : PlainGlobal). length x.name) (items (global_in bytes h) h.globals) ≡ h.name_bytes
     names_total =
         let routines : sum_by (λ (x : PlainRoutine). length x.name) (items (routine_in bytes h) h.routines) ≡ start_of (name_end bytes h) h.routines =
-            sum_ends (λ (x : PlainRoutine). length x.name) (routine_in bytes h) (name_end bytes h) h.routines (λ k l. (routine_seen bytes h none k l).name.low) routine_name_length in
+        sum_ends (λ (x : PlainRoutine). length x.name) (routine_in bytes h) (name_end bytes h) h.routines (λ k l. (routine_seen bytes h none k l).name.low) routine_name_length in
         let globals : sum_by (λ (x : PlainGlobal). length x.name) (items (global_in bytes h) h.globals) ≡ start_of global_end h.globals =
-            sum_ends (λ (x : PlainGlobal). length x.name) (global_in bytes h) global_end h.globals global_low global_length in
+        sum_ends (λ (x : PlainGlobal). length x.name) (global_in bytes h) global_end h.globals global_low global_length in
         omega (arith, routines, globals, global_start h.globals (omega arith), last_name)
 
     pub texts_total : sum_by length (items (text_in bytes h) h.texts) ≡ h.text_bytes

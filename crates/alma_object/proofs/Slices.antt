@@ -58,7 +58,7 @@ shifted f g a b (suc n) same =
     let zb : b + 0 ≡ b = omega arith in
     let here : f a ≡ g b = ap f (sym za) ∙ same 0 (omega arith) ∙ ap g zb in
     let next : (k : ℕ) → k < n → f (a + 1 + k) ≡ g (b + 1 + k) = λ k lt.
-        (let ea : a + 1 + k ≡ a + suc k = omega arith in let eb : b + suc k ≡ b + 1 + k = omega arith in ap f ea ∙ same (suc k) (omega arith) ∙ ap g eb) in
+    (let ea : a + 1 + k ≡ a + suc k = omega arith in let eb : b + suc k ≡ b + 1 + k = omega arith in ap f ea ∙ same (suc k) (omega arith) ∙ ap g eb) in
     ap (λ (t : List ℕ). t ++ flat_map f (range_with_len (a + 1) n)) here ∙ ap (λ (t : List ℕ). g b ++ t) (shifted f g (a + 1) (b + 1) n next)
 
 -- ---- numbers
@@ -94,9 +94,9 @@ u32_slice bytes at fits le =
     let three : at + 1 + 1 + 1 ≡ at + 3 = omega arith in
     let four = slice_index bytes at ∷ slice_index bytes (at + 1) ∷ slice_index bytes (at + 2) ∷ slice_index bytes (at + 3) ∷ [] in
     let is : slice_range bytes at (at + 4) ≡ four =
-        slice_cells bytes at 4 le
-        ∙ ap (λ k. slice_index bytes at ∷ slice_index bytes (at + 1) ∷ slice_index bytes k ∷ slice_index bytes (at + 1 + 1 + 1) ∷ []) two
-        ∙ ap (λ k. slice_index bytes at ∷ slice_index bytes (at + 1) ∷ slice_index bytes (at + 2) ∷ slice_index bytes k ∷ []) three in
+    slice_cells bytes at 4 le
+    ∙ ap (λ k. slice_index bytes at ∷ slice_index bytes (at + 1) ∷ slice_index bytes k ∷ slice_index bytes (at + 1 + 1 + 1) ∷ []) two
+    ∙ ap (λ k. slice_index bytes at ∷ slice_index bytes (at + 1) ∷ slice_index bytes (at + 2) ∷ slice_index bytes k ∷ []) three in
     let within : (i : ℕ) → get_or four i 0 < 256 = four_fit (slice_index bytes at) (slice_index bytes (at + 1)) (slice_index bytes (at + 2)) (slice_index bytes (at + 3)) (fits at) (fits (at + 1)) (fits (at + 2)) (fits (at + 3)) in
     is ∙ sym (le_bytes_4 four (from_le_bytes w32 four) refl within refl)
 

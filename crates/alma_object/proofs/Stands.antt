@@ -33,7 +33,9 @@ stands_first bytes at xs ys s = record { front = s.front; behind = ys ++ s.behin
 
 pub stands_second : (bytes : List ℕ) (at next : ℕ) (xs ys : List ℕ) → at + length xs ≡ next → Stands bytes at (xs ++ ys) → Stands bytes next ys
 stands_second bytes at next xs ys e s = record {
-  front = s.front ++ xs; behind = s.behind; front_length = length-append s.front xs ∙ omega (arith, s.front_length);
+  front = s.front ++ xs;
+  behind = s.behind;
+  front_length = length-append s.front xs ∙ omega (arith, s.front_length);
   spelled = s.spelled ∙ ap (λ (t : List ℕ). s.front ++ t) (append_assoc xs ys s.behind) ∙ sym (append_assoc s.front xs (ys ++ s.behind));
 }
 
@@ -91,7 +93,7 @@ stands_nth bytes at w f (x ∷ xs) same s zero d lt =
     stands_as bytes at (at + w * 0) (f x) (omega (arith, mul-zero w)) (stands_first bytes at (f x) (flat_map f xs) s)
 stands_nth bytes at w f (x ∷ xs) same s (suc k) d lt =
     stands_as bytes (at + w + w * k) (at + w * suc k) (f (get_or xs k d)) (omega (arith, mul-suc w k))
-      (stands_nth bytes (at + w) w f xs same (stands_second bytes at (at + w) (f x) (flat_map f xs) (omega (arith, same x)) s) k d (omega arith))
+    (stands_nth bytes (at + w) w f xs same (stands_second bytes at (at + w) (f x) (flat_map f xs) (omega (arith, same x)) s) k d (omega arith))
 
 -- no fault of items that have none
 pub first_clean : (of : ℕ → Option ObjectFault) (i n : ℕ) → ((k : ℕ) → i ≤ k → k < i + n → of k ≡ None) → first_fault of i n ≡ None

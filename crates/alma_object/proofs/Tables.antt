@@ -63,15 +63,15 @@ module _ (bytes : List ℕ) (h : Header) (fits : IsBytes bytes) (within : IsWith
       let seen = routine_seen bytes h none r lt in
       let of = λ (k : ℕ). run_in bytes (runs_at h + 12 * start + 12 * k) in
       rise_from of 0 n 0
-        (λ some. (let kept = run_end_above bytes h (nat_eq start start) start (run_none bytes h fits within none r lt start (omega arith) (omega (arith, seen.runs.low))) in
-           let first : nat_eq start start ≡ true = eq_test start start refl in
-           let e : runs_at h + 12 * start + 8 ≡ runs_at h + 12 * start + 12 * 0 + 8 = omega arith in
-           omega (arith, kept, ap (λ b. if b then 0 else u32_at bytes (runs_at h + 12 * start - 4)) first, ap (u32_at bytes) e)))
-        (λ k low high. (let kept = run_end_above bytes h (nat_eq (start + (k + 1)) start) (start + (k + 1)) (run_none bytes h fits within none r lt (start + (k + 1)) (omega arith) (omega (arith, seen.runs.low))) in
-           let later : nat_eq (start + (k + 1)) start ≡ false = ne_test (start + (k + 1)) start (omega arith) in
-           let e : runs_at h + 12 * (start + (k + 1)) - 4 ≡ runs_at h + 12 * start + 12 * k + 8 = omega arith in
-           let f : runs_at h + 12 * (start + (k + 1)) + 8 ≡ runs_at h + 12 * start + 12 * (k + 1) + 8 = omega arith in
-           omega (arith, kept, ap (λ b. if b then 0 else u32_at bytes (runs_at h + 12 * (start + (k + 1)) - 4)) later, ap (u32_at bytes) e, ap (u32_at bytes) f)))
+      (λ some. (let kept = run_end_above bytes h (nat_eq start start) start (run_none bytes h fits within none r lt start (omega arith) (omega (arith, seen.runs.low))) in
+      let first : nat_eq start start ≡ true = eq_test start start refl in
+      let e : runs_at h + 12 * start + 8 ≡ runs_at h + 12 * start + 12 * 0 + 8 = omega arith in
+      omega (arith, kept, ap (λ b. if b then 0 else u32_at bytes (runs_at h + 12 * start - 4)) first, ap (u32_at bytes) e)))
+      (λ k low high. (let kept = run_end_above bytes h (nat_eq (start + (k + 1)) start) (start + (k + 1)) (run_none bytes h fits within none r lt (start + (k + 1)) (omega arith) (omega (arith, seen.runs.low))) in
+      let later : nat_eq (start + (k + 1)) start ≡ false = ne_test (start + (k + 1)) start (omega arith) in
+      let e : runs_at h + 12 * (start + (k + 1)) - 4 ≡ runs_at h + 12 * start + 12 * k + 8 = omega arith in
+      let f : runs_at h + 12 * (start + (k + 1)) + 8 ≡ runs_at h + 12 * start + 12 * (k + 1) + 8 = omega arith in
+      omega (arith, kept, ap (λ b. if b then 0 else u32_at bytes (runs_at h + 12 * (start + (k + 1)) - 4)) later, ap (u32_at bytes) e, ap (u32_at bytes) f)))
 
   pub is_table : IsTable (code_in bytes h)
   unfolding routine_in
@@ -81,13 +81,13 @@ module _ (bytes : List ℕ) (h : Header) (fits : IsBytes bytes) (within : IsWith
       record {
         some = omega (arith, count, within.some);
         rise = λ r lt. (let lt' : r < h.routines = omega (arith, count) in
-          let start = code_start_is bytes h r (omega arith) in
-          let end = ap (λ (x : PlainRoutine). x.code_end) (there r lt') in
-          omega (arith, (routine_seen bytes h none r lt').code.low, start, end));
+            let start = code_start_is bytes h r (omega arith) in
+            let end = ap (λ (x : PlainRoutine). x.code_end) (there r lt') in
+            omega (arith, (routine_seen bytes h none r lt').code.low, start, end));
         last = ap (start_at (code_in bytes h)) count ∙ sym (code_start_is bytes h h.routines (omega arith)) ∙ last_code bytes h within.some (sections_kept bytes h none).routines ∙ sym (length_items _ _);
         runs = λ r lt. (let lt' : r < h.routines = omega (arith, count) in
-          let P : PlainRoutine → Type 0 = λ x. RunsRise 0 x.head.runs (last_end 0 x.head.runs) in
-          subst P (sym (there r lt')) (runs_rise r lt'));
+            let P : PlainRoutine → Type 0 = λ x. RunsRise 0 x.head.runs (last_end 0 x.head.runs) in
+            subst P (sym (there r lt')) (runs_rise r lt'));
       }
 
   pub keeps_counts : KeepsCounts (code_in bytes h)

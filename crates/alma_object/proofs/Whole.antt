@@ -44,10 +44,10 @@ module _ (bytes : List ℕ) (h : Header) (fits : IsBytes bytes) (within : IsWith
   unfolding table_bytes
   tables_stand =
       six_parts bytes (routines_at h) (globals_at h) (params_at h) (runs_at h) (ranges_at h) (texts_at h) (name_pool_at h) _ _ _ _ _ _
-        (omega arith) (omega arith) (omega arith) (omega arith) (omega arith) (omega arith)
-        (counted _ _ _ _ (length_items (routine_in bytes h) h.routines) (routines_stand bytes h fits within none whole)) (counted _ _ _ _ (length_items (global_in bytes h) h.globals) (globals_stand bytes h fits within none whole))
-        (params_stand bytes h fits within none) (runs_stand bytes h fits within none) (ranges_stand bytes h fits within none)
-        (counted _ _ _ _ (length_items (text_in bytes h) h.texts) (text_ends_stand bytes h fits within none whole))
+      (omega arith) (omega arith) (omega arith) (omega arith) (omega arith) (omega arith)
+      (counted _ _ _ _ (length_items (routine_in bytes h) h.routines) (routines_stand bytes h fits within none whole)) (counted _ _ _ _ (length_items (global_in bytes h) h.globals) (globals_stand bytes h fits within none whole))
+      (params_stand bytes h fits within none) (runs_stand bytes h fits within none) (ranges_stand bytes h fits within none)
+      (counted _ _ _ _ (length_items (text_in bytes h) h.texts) (text_ends_stand bytes h fits within none whole))
 
   pub pools_stand : pool_bytes (code_in bytes h) ≡ slice_range bytes (name_pool_at h) (instrs_at h)
   unfolding pool_bytes
@@ -97,7 +97,7 @@ module _ (bytes : List ℕ) (fits : IsBytes bytes) (within : IsWithin (header_of
       let third : words_bytes (counts_of (code_in bytes h)) ≡ slice_range bytes 10 end = ap words_bytes (counts_are rest last) ∙ sym words in
       ap (λ (t : List ℕ). t ++ (u16_bytes (u16_at bytes 8) ++ words_bytes (counts_of (code_in bytes h)))) first
       ∙ ap (λ (t : List ℕ). slice_range bytes 0 8 ++ t)
-          (ap (λ (t : List ℕ). t ++ words_bytes (counts_of (code_in bytes h))) second ∙ ap (λ (t : List ℕ). slice_range bytes 8 10 ++ t) third ∙ slice_join bytes 8 10 end (lit≤ tt) (omega arith))
+      (ap (λ (t : List ℕ). t ++ words_bytes (counts_of (code_in bytes h))) second ∙ ap (λ (t : List ℕ). slice_range bytes 8 10 ++ t) third ∙ slice_join bytes 8 10 end (lit≤ tt) (omega arith))
       ∙ slice_join bytes 0 8 end (lit≤ tt) (omega arith) ∙ ap (slice_range bytes 0) (sym at)
 
   by_version : (two : Bool) → nat_eq (u16_at bytes 8) 2 ≡ two → header_bytes (code_in bytes h) ≡ slice_range bytes 0 (routines_at h)
@@ -116,12 +116,12 @@ module _ (bytes : List ℕ) (fits : IsBytes bytes) (within : IsWithin (header_of
   object_stands =
       let code = code_in bytes h in
       let last : flat_map instr_bytes code.instrs ++ flat_map line_bytes code.lines ≡ slice_range bytes (instrs_at h) (end_at h) =
-          ap (λ (t : List ℕ). t ++ flat_map line_bytes code.lines) (instrs_stand bytes h fits within none whole) ∙ ap (λ (t : List ℕ). slice_range bytes (instrs_at h) (lines_at h) ++ t) (lines_stand bytes h fits within none)
-          ∙ slice_join bytes (instrs_at h) (lines_at h) (end_at h) (omega arith) (omega arith) in
+      ap (λ (t : List ℕ). t ++ flat_map line_bytes code.lines) (instrs_stand bytes h fits within none whole) ∙ ap (λ (t : List ℕ). slice_range bytes (instrs_at h) (lines_at h) ++ t) (lines_stand bytes h fits within none)
+      ∙ slice_join bytes (instrs_at h) (lines_at h) (end_at h) (omega arith) (omega arith) in
       let pools = ap (λ (t : List ℕ). t ++ (flat_map instr_bytes code.instrs ++ flat_map line_bytes code.lines)) (pools_stand bytes h fits within none whole) ∙ ap (λ (t : List ℕ). slice_range bytes (name_pool_at h) (instrs_at h) ++ t) last
-          ∙ slice_join bytes (name_pool_at h) (instrs_at h) (end_at h) (omega arith) (omega arith) in
+      ∙ slice_join bytes (name_pool_at h) (instrs_at h) (end_at h) (omega arith) (omega arith) in
       let tables = ap (λ (t : List ℕ). t ++ (pool_bytes code ++ (flat_map instr_bytes code.instrs ++ flat_map line_bytes code.lines))) (tables_stand bytes h fits within none whole) ∙ ap (λ (t : List ℕ). slice_range bytes (routines_at h) (name_pool_at h) ++ t) pools
-          ∙ slice_join bytes (routines_at h) (name_pool_at h) (end_at h) (omega arith) (omega arith) in
+      ∙ slice_join bytes (routines_at h) (name_pool_at h) (end_at h) (omega arith) (omega arith) in
       ap (λ (t : List ℕ). t ++ (table_bytes code ++ (pool_bytes code ++ (flat_map instr_bytes code.instrs ++ flat_map line_bytes code.lines)))) (by_version (nat_eq (u16_at bytes 8) 2) refl)
       ∙ ap (λ (t : List ℕ). slice_range bytes 0 (routines_at h) ++ t) tables ∙ slice_join bytes 0 (routines_at h) (end_at h) (omega arith) (omega arith)
       ∙ (let z : end_at h - 0 ≡ end_at h = omega arith in ap (λ k. take k bytes) z ∙ take_all (end_at h) bytes (omega arith))

@@ -58,22 +58,22 @@ module _ (code : PlainCode) where
   -- the ends of its name, params, runs and code, its slots and declared cells, and whether it has a result
   unfoldable pub routine_bytes : ℕ → List ℕ
   routine_bytes r = words_bytes (
-    end_of (λ x. length x.name) code.routines r
-    ∷ end_of (λ x. length x.head.params) code.routines r
-    ∷ end_of (λ x. length x.head.runs) code.routines r
-    ∷ (routine_at code r).code_end
-    ∷ (routine_at code r).head.slots
-    ∷ (routine_at code r).head.declared
-    ∷ (if (routine_at code r).head.has_result then 1 else 0)
-    ∷ [])
+      end_of (λ x. length x.name) code.routines r
+      ∷ end_of (λ x. length x.head.params) code.routines r
+      ∷ end_of (λ x. length x.head.runs) code.routines r
+      ∷ (routine_at code r).code_end
+      ∷ (routine_at code r).head.slots
+      ∷ (routine_at code r).head.declared
+      ∷ (if (routine_at code r).head.has_result then 1 else 0)
+      ∷ [])
 
   -- the end of its name, which stands behind those of the routines, its slot and its cells
   unfoldable pub global_bytes : ℕ → List ℕ
   global_bytes g = words_bytes (
-    (sum_by (λ x. length x.name) code.routines + end_of (λ x. length x.name) code.globals g)
-    ∷ (get_or code.globals g no_global).slot
-    ∷ (get_or code.globals g no_global).cells
-    ∷ [])
+      (sum_by (λ x. length x.name) code.routines + end_of (λ x. length x.name) code.globals g)
+      ∷ (get_or code.globals g no_global).slot
+      ∷ (get_or code.globals g no_global).cells
+      ∷ [])
 
   -- the end of a text
   unfoldable pub text_end_bytes : ℕ → List ℕ

@@ -148,7 +148,7 @@ module _ (bytes : List ℕ) (h : Header) where
   name_fault n =
       let start = start_of name_end n in
       first_fault (λ i. unless (can_stand (nat_eq i start) (slice_index bytes (name_pool_at h + i))) (fault.BadName (name_pool_at h + i)) None)
-        start (name_end n - start)
+      start (name_end n - start)
 
   -- the name bytes, and behind them the text bytes
   abbrev pub pools_fault : Option ObjectFault

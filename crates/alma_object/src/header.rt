@@ -164,8 +164,24 @@ fn read_counts(bytes: &[u8], version: u16) -> Result<Header, ObjectFault>
         return Err(ObjectFault::BadCount(38));
     }
     let instrs = read_count(bytes, 42, 4_194_304)?;
-    let lines = if version == 2 { read_count(bytes, 46, 1_048_576)? } else { 0 };
-    Ok(Header { version, routines, globals, params, runs, ranges, texts, name_bytes, text_bytes, instrs, lines })
+    let lines = if version == 2 {
+        read_count(bytes, 46, 1_048_576)?
+    } else {
+        0
+    };
+    Ok(Header {
+        version,
+        routines,
+        globals,
+        params,
+        runs,
+        ranges,
+        texts,
+        name_bytes,
+        text_bytes,
+        instrs,
+        lines,
+    })
 }
 
 /// The header of an object, or its first fault.

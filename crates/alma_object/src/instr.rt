@@ -3,19 +3,14 @@ ghost use Rattle.std.specs.Prelude.{◌≡◌, ◌+◌, ◌≤◌, ◌++◌, ◌
 ghost use Rattle.alma_object.specs.Bytes.{words_bytes};
 ghost use Rattle.alma_object.specs.Instrs.{const_bytes, instr_bytes, is_instr as is_instr_there, instr_at as instr_there};
 
+use crate::bytes::{i64_at, push_i64, push_words, u32_at};
 use alma_base::NoMemory;
 use alma_code::Instr;
 
-use crate::bytes::{i64_at, push_i64, push_words, u32_at};
-
-/// How many bytes a record has.
-pub const INSTR_SIZE: usize = 17;
-
 // How many words the forms use, in the order of their opcodes from 1 on.
 const USED_WORDS: [u8; 52] = [
-    3, 2, 3, 3, 3, 3, 3, 2, 3, 3, 3, 2, 2, 2, 2, 2, 3, 4, 2, 2,
-    2, 3, 4, 2, 2, 1, 2, 1, 0, 1, 1, 1, 2, 2, 1, 0, 3, 0, 1, 2,
-    2, 1, 1, 1, 1, 0, 1, 4, 1, 3, 3, 3,
+    3, 2, 3, 3, 3, 3, 3, 2, 3, 3, 3, 2, 2, 2, 2, 2, 3, 4, 2, 2, 2, 3, 4, 2, 2, 1, 2, 1, 0, 1, 1, 1,
+    2, 2, 1, 0, 3, 0, 1, 2, 2, 1, 1, 1, 1, 0, 1, 4, 1, 3, 3, 3,
 ];
 
 // An opcode and its words.
@@ -61,12 +56,26 @@ pub fn push_instr(out: &mut Vec<u8>, instr: Instr) -> Result<(), NoMemory>
         Instr::Global { to, first } => push_record(out, 15, &[to, first, 0, 0]),
         Instr::Same { to, from } => push_record(out, 16, &[to, from, 0, 0]),
         Instr::Field { to, from, offset } => push_record(out, 17, &[to, from, offset, 0]),
-        Instr::Index { to, from, index, range } => push_record(out, 18, &[to, from, index, range]),
+        Instr::Index {
+            to,
+            from,
+            index,
+            range,
+        } => push_record(out, 18, &[to, from, index, range]),
         Instr::Load { to, from } => push_record(out, 19, &[to, from, 0, 0]),
         Instr::Store { to, from } => push_record(out, 20, &[to, from, 0, 0]),
         Instr::Known { to, of } => push_record(out, 21, &[to, of, 0, 0]),
-        Instr::Bind { place, value, range } => push_record(out, 22, &[place, value, range, 0]),
-        Instr::Unify { left, left_range, right, right_range } => push_record(out, 23, &[left, left_range, right, right_range]),
+        Instr::Bind {
+            place,
+            value,
+            range,
+        } => push_record(out, 22, &[place, value, range, 0]),
+        Instr::Unify {
+            left,
+            left_range,
+            right,
+            right_range,
+        } => push_record(out, 23, &[left, left_range, right, right_range]),
         Instr::CopyCells { to, from } => push_record(out, 24, &[to, from, 0, 0]),
         Instr::SameCells { left, right } => push_record(out, 25, &[left, right, 0, 0]),
         Instr::Jump { to } => push_record(out, 26, &[to, 0, 0, 0]),
@@ -91,7 +100,12 @@ pub fn push_instr(out: &mut Vec<u8>, instr: Instr) -> Result<(), NoMemory>
         Instr::WriteText { text } => push_record(out, 45, &[text, 0, 0, 0]),
         Instr::WriteLine => push_record(out, 46, &[0, 0, 0, 0]),
         Instr::Fault { number } => push_record(out, 47, &[number, 0, 0, 0]),
-        Instr::Step { counter, limit, by, out: past } => push_record(out, 48, &[counter, limit, by, past]),
+        Instr::Step {
+            counter,
+            limit,
+            by,
+            out: past,
+        } => push_record(out, 48, &[counter, limit, by, past]),
         Instr::Own { to } => push_record(out, 49, &[to, 0, 0, 0]),
         Instr::Chain { to, link, slot } => push_record(out, 50, &[to, link, slot, 0]),
         Instr::Outer { to, link, first } => push_record(out, 51, &[to, link, first, 0]),
@@ -134,29 +148,82 @@ pub fn instr_at(bytes: &[u8], at: usize) -> Instr
     let c = u32_at(bytes, at + 9);
     let d = u32_at(bytes, at + 13);
     match bytes[at] {
-        1 => Instr::Const { to: a, value: i64_at(bytes, at + 5) },
+        1 => Instr::Const {
+            to: a,
+            value: i64_at(bytes, at + 5),
+        },
         2 => Instr::Move { to: a, from: b },
-        3 => Instr::Add { to: a, left: b, right: c },
-        4 => Instr::Sub { to: a, left: b, right: c },
-        5 => Instr::Mul { to: a, left: b, right: c },
-        6 => Instr::Div { to: a, left: b, right: c },
-        7 => Instr::Mod { to: a, left: b, right: c },
+        3 => Instr::Add {
+            to: a,
+            left: b,
+            right: c,
+        },
+        4 => Instr::Sub {
+            to: a,
+            left: b,
+            right: c,
+        },
+        5 => Instr::Mul {
+            to: a,
+            left: b,
+            right: c,
+        },
+        6 => Instr::Div {
+            to: a,
+            left: b,
+            right: c,
+        },
+        7 => Instr::Mod {
+            to: a,
+            left: b,
+            right: c,
+        },
         8 => Instr::Neg { to: a, from: b },
-        9 => Instr::Equal { to: a, left: b, right: c },
-        10 => Instr::Less { to: a, left: b, right: c },
-        11 => Instr::LessEq { to: a, left: b, right: c },
+        9 => Instr::Equal {
+            to: a,
+            left: b,
+            right: c,
+        },
+        10 => Instr::Less {
+            to: a,
+            left: b,
+            right: c,
+        },
+        11 => Instr::LessEq {
+            to: a,
+            left: b,
+            right: c,
+        },
         12 => Instr::Flip { to: a, from: b },
         13 => Instr::InRange { value: a, range: b },
         14 => Instr::Local { to: a, first: b },
         15 => Instr::Global { to: a, first: b },
         16 => Instr::Same { to: a, from: b },
-        17 => Instr::Field { to: a, from: b, offset: c },
-        18 => Instr::Index { to: a, from: b, index: c, range: d },
+        17 => Instr::Field {
+            to: a,
+            from: b,
+            offset: c,
+        },
+        18 => Instr::Index {
+            to: a,
+            from: b,
+            index: c,
+            range: d,
+        },
         19 => Instr::Load { to: a, from: b },
         20 => Instr::Store { to: a, from: b },
         21 => Instr::Known { to: a, of: b },
-        22 => Instr::Bind { place: a, value: b, range: c },
-        23 => Instr::Unify { left: a, left_range: b, right: c, right_range: d },
+        22 => Instr::Bind {
+            place: a,
+            value: b,
+            range: c,
+        },
+        23 => Instr::Unify {
+            left: a,
+            left_range: b,
+            right: c,
+            right_range: d,
+        },
         24 => Instr::CopyCells { to: a, from: b },
         25 => Instr::SameCells { left: a, right: b },
         26 => Instr::Jump { to: a },
@@ -170,7 +237,11 @@ pub fn instr_at(bytes: &[u8], at: usize) -> Instr
         34 => Instr::Overlay { mark: a, resume: b },
         35 => Instr::Keep { mark: a },
         36 => Instr::Finish,
-        37 => Instr::Call { routine: a, first: b, to: c },
+        37 => Instr::Call {
+            routine: a,
+            first: b,
+            to: c,
+        },
         38 => Instr::Return,
         39 => Instr::ReturnValue { value: a },
         40 => Instr::ReadInt { place: a, range: b },
@@ -181,11 +252,28 @@ pub fn instr_at(bytes: &[u8], at: usize) -> Instr
         45 => Instr::WriteText { text: a },
         46 => Instr::WriteLine,
         47 => Instr::Fault { number: a },
-        48 => Instr::Step { counter: a, limit: b, by: c, out: d },
+        48 => Instr::Step {
+            counter: a,
+            limit: b,
+            by: c,
+            out: d,
+        },
         49 => Instr::Own { to: a },
-        50 => Instr::Chain { to: a, link: b, slot: c },
-        51 => Instr::Outer { to: a, link: b, first: c },
-        52 => Instr::OuterSame { to: a, link: b, slot: c },
+        50 => Instr::Chain {
+            to: a,
+            link: b,
+            slot: c,
+        },
+        51 => Instr::Outer {
+            to: a,
+            link: b,
+            first: c,
+        },
+        52 => Instr::OuterSame {
+            to: a,
+            link: b,
+            slot: c,
+        },
         _ => Instr::Fail,
     }
 }

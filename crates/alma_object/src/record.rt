@@ -2,10 +2,9 @@
 ghost use Rattle.std.specs.Prelude.{◌≡◌, ◌+◌, ◌≤◌, length};
 ghost use Rattle.alma_object.specs.Reading.{param_kind as param_kind_of, slot_kind as slot_kind_of, param_in as param_there, run_in as run_there, range_in as range_there, line_in as line_there};
 
+use crate::bytes::{i64_at, u32_at};
 use alma_base::Range;
 use alma_code::{CodeParam, Line, ParamKind, Run, SlotKind};
-
-use crate::bytes::{i64_at, u32_at};
 
 #[tactic(auto, using(std::proofs::lemmas::List::get_or_past))]
 fn param_kind(number: u32) -> ParamKind

@@ -1,9 +1,8 @@
 // A view of one routine of an object.
 ghost use Rattle.std.specs.Prelude.{◌≡◌, ◌+◌, ◌*◌, ◌≤◌, length};
 
-use alma_code::{CodeParam, Head, Run};
-
 use crate::record::{param_in, run_in};
+use alma_code::{CodeParam, Head, Run};
 
 /// A routine of an object. It lends the bytes of the object.
 #[derive(Clone, Copy, Debug)]

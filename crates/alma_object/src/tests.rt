@@ -31,14 +31,31 @@ fn with_byte(at: usize, byte: u8) -> [u8; 104]
 fn an_object_is_read(rt: HostRuntime) -> Result<(), Fail> {
     let view = ObjectView::new(&FIRST).ok().ok_or("an object")?;
     assert_eq!(rt; view.version(), 1);
-    assert_eq!(rt; (view.routine_count(), view.code_count(), view.global_count()), (1, 1, 0));
+    assert_eq!(rt;
+        (view.routine_count(), view.code_count(), view.global_count()),
+        (1, 1, 0)
+    );
     assert_eq!(rt; view.instr(0), Instr::Return);
     let routine = view.routine(0).ok_or("a routine")?;
     assert_eq!(rt; routine.name(), b"A".as_slice());
     assert_eq!(rt; (routine.code_start(), routine.code_end()), (0, 1));
-    assert_eq!(rt; (routine.slots(), routine.declared(), routine.param_count(), routine.has_result()), (1, 0, 0, false));
+    assert_eq!(rt;
+        (
+            routine.slots(),
+            routine.declared(),
+            routine.param_count(),
+            routine.has_result()
+        ),
+        (1, 0, 0, false)
+    );
     assert_eq!(rt; routine.run_count(), 1);
-    assert_eq!(rt; routine.run(0), Run { kind: SlotKind::Number, end: 1 });
+    assert_eq!(rt;
+        routine.run(0),
+        Run {
+            kind: SlotKind::Number,
+            end: 1
+        }
+    );
     assert!(rt; view.routine(1).is_none());
     assert!(rt; view.global(0).is_none());
     assert!(rt; view.range(0).is_none());
@@ -50,7 +67,10 @@ fn an_object_is_read(rt: HostRuntime) -> Result<(), Fail> {
 #[test]
 fn each_front_is_cut(rt: HostRuntime) {
     for n in 0..104 {
-        assert_eq!(rt; ObjectView::new(&FIRST[..n]).err(), Some(ObjectFault::Cut(n)));
+        assert_eq!(rt;
+            ObjectView::new(&FIRST[..n]).err(),
+            Some(ObjectFault::Cut(n))
+        );
     }
 }
 
@@ -86,7 +106,10 @@ fn one_byte_altered(rt: HostRuntime) {
 fn a_byte_after_the_object(rt: HostRuntime) {
     let mut bytes = [0; 105];
     bytes[..104].copy_from_slice(&FIRST);
-    assert_eq!(rt; ObjectView::new(&bytes).err(), Some(ObjectFault::Trailing(104)));
+    assert_eq!(rt;
+        ObjectView::new(&bytes).err(),
+        Some(ObjectFault::Trailing(104))
+    );
 }
 
 #[test]
@@ -94,10 +117,23 @@ fn version_two(rt: HostRuntime) -> Result<(), Fail> {
     let bytes = second();
     let view = ObjectView::new(&bytes).ok().ok_or("an object")?;
     assert_eq!(rt; (view.version(), view.instr(0)), (2, Instr::Return));
-    assert_eq!(rt; ObjectView::new(&bytes[..107]).err(), Some(ObjectFault::Cut(107)));
+    assert_eq!(rt;
+        ObjectView::new(&bytes[..107]).err(),
+        Some(ObjectFault::Cut(107))
+    );
     let mut own = bytes;
     own[91] = 0x31;
     let view = ObjectView::new(&own).ok().ok_or("an object")?;
     assert_eq!(rt; view.instr(0), Instr::Own { to: 0 });
+    Ok(())
+}
+
+#[test]
+fn a_code_that_is_copied_has_the_same_object(rt: HostRuntime) -> Result<(), Fail> {
+    let bytes = second();
+    let view = ObjectView::new(&bytes).ok().ok_or("an object")?;
+    let code = view.to_code(rt.alloc()).ok().ok_or("memory")?;
+    let object = encode(rt.alloc(), &code).ok().ok_or("memory")?;
+    assert_eq!(rt; object.as_slice(), bytes.as_slice());
     Ok(())
 }

@@ -6,9 +6,8 @@ ghost use Rattle.alma_object.specs.Walk.{sections_fault};
 mod copy;
 mod readers;
 
-pub use readers::GlobalView;
-
 use crate::header::Header;
+pub use readers::GlobalView;
 
 /// A view of the bytes of an object. It lends them, and each reader takes what it gives straight from them.
 #[derive(Clone, Copy, Debug)]

@@ -9,9 +9,6 @@ use crate::fault::ObjectFault;
 use crate::header::Header;
 use crate::instr::is_instr;
 
-/// The size of the record of a routine.
-pub const ROUTINE_SIZE: usize = 28;
-
 // ---- ends
 
 /// Where the params of a routine end.
@@ -60,7 +57,10 @@ pub fn name_end(bytes: &[u8], header: &Header, name: u32) -> u32
     if name < header.routines {
         u32_at(bytes, header.routines_at() + 28 * name as usize)
     } else {
-        u32_at(bytes, header.globals_at() + 12 * (name - header.routines) as usize)
+        u32_at(
+            bytes,
+            header.globals_at() + 12 * (name - header.routines) as usize,
+        )
     }
 }
 
@@ -70,7 +70,11 @@ pub fn params_start(bytes: &[u8], header: &Header, routine: u32) -> u32
     requires { routines_at header.now + 28 * routine ≤ length bytes.now }
     ensures { result ≡ start_of (params_end_of bytes.now header.now) routine }
 {
-    if routine == 0 { 0 } else { params_end(bytes, header, routine - 1) }
+    if routine == 0 {
+        0
+    } else {
+        params_end(bytes, header, routine - 1)
+    }
 }
 
 /// Where the runs of a routine begin.
@@ -79,7 +83,11 @@ pub fn runs_start(bytes: &[u8], header: &Header, routine: u32) -> u32
     requires { routines_at header.now + 28 * routine ≤ length bytes.now }
     ensures { result ≡ start_of (runs_end_of bytes.now header.now) routine }
 {
-    if routine == 0 { 0 } else { runs_end(bytes, header, routine - 1) }
+    if routine == 0 {
+        0
+    } else {
+        runs_end(bytes, header, routine - 1)
+    }
 }
 
 /// Where the code of a routine begins.
@@ -88,7 +96,11 @@ pub fn code_start(bytes: &[u8], header: &Header, routine: u32) -> u32
     requires { routines_at header.now + 28 * routine ≤ length bytes.now }
     ensures { result ≡ start_of (code_end_of bytes.now header.now) routine }
 {
-    if routine == 0 { 0 } else { code_end(bytes, header, routine - 1) }
+    if routine == 0 {
+        0
+    } else {
+        code_end(bytes, header, routine - 1)
+    }
 }
 
 /// Where a text begins.
@@ -97,7 +109,11 @@ pub fn text_start(bytes: &[u8], header: &Header, text: u32) -> u32
     requires { texts_at header.now + 4 * text ≤ length bytes.now }
     ensures { result ≡ start_of (text_end_of bytes.now header.now) text }
 {
-    if text == 0 { 0 } else { text_end(bytes, header, text - 1) }
+    if text == 0 {
+        0
+    } else {
+        text_end(bytes, header, text - 1)
+    }
 }
 
 /// Where a name begins.
@@ -107,7 +123,11 @@ pub fn name_start(bytes: &[u8], header: &Header, name: u32) -> u32
     requires global { header.now.routines ≤ name → globals_at header.now + 12 * (name - header.now.routines) ≤ length bytes.now }
     ensures { result ≡ start_of (name_end_of bytes.now header.now) name }
 {
-    if name == 0 { 0 } else { name_end(bytes, header, name - 1) }
+    if name == 0 {
+        0
+    } else {
+        name_end(bytes, header, name - 1)
+    }
 }
 
 fn is_end(start: u32, end: u32, count: u32, last: bool) -> bool
@@ -137,17 +157,38 @@ fn routine_fault(bytes: &[u8], header: &Header, routine: u32) -> Option<ObjectFa
         return Some(ObjectFault::Cut(bytes.len()));
     }
     let last = routine + 1 == header.routines;
-    let last_name = u64::from(routine) + 1 == u64::from(header.routines) + u64::from(header.globals);
-    if !is_name_end(name_start(bytes, header, routine), name_end(bytes, header, routine), header.name_bytes, last_name) {
+    let last_name = u64::from(routine) + 1
+        == u64::from(header.routines) + u64::from(header.globals);
+    if !is_name_end(
+        name_start(bytes, header, routine),
+        name_end(bytes, header, routine),
+        header.name_bytes,
+        last_name,
+    ) {
         return Some(ObjectFault::BadName(at));
     }
-    if !is_end(params_start(bytes, header, routine), params_end(bytes, header, routine), header.params, last) {
+    if !is_end(
+        params_start(bytes, header, routine),
+        params_end(bytes, header, routine),
+        header.params,
+        last,
+    ) {
         return Some(ObjectFault::BadCount(at + 4));
     }
-    if !is_end(runs_start(bytes, header, routine), runs_end(bytes, header, routine), header.runs, last) {
+    if !is_end(
+        runs_start(bytes, header, routine),
+        runs_end(bytes, header, routine),
+        header.runs,
+        last,
+    ) {
         return Some(ObjectFault::BadCount(at + 8));
     }
-    if !is_end(code_start(bytes, header, routine), code_end(bytes, header, routine), header.instrs, last) {
+    if !is_end(
+        code_start(bytes, header, routine),
+        code_end(bytes, header, routine),
+        header.instrs,
+        last,
+    ) {
         return Some(ObjectFault::BadCount(at + 12));
     }
     if u32_at(bytes, at + 24) > 1 {
@@ -188,7 +229,12 @@ fn global_fault(bytes: &[u8], header: &Header, global: u32) -> Option<ObjectFaul
     }
     let name = header.routines + global;
     let last = name + 1 == header.routines + header.globals;
-    if !is_name_end(name_start(bytes, header, name), name_end(bytes, header, name), header.name_bytes, last) {
+    if !is_name_end(
+        name_start(bytes, header, name),
+        name_end(bytes, header, name),
+        header.name_bytes,
+        last,
+    ) {
         return Some(ObjectFault::BadName(at));
     }
     None
@@ -361,7 +407,12 @@ fn text_fault(bytes: &[u8], header: &Header, text: u32) -> Option<ObjectFault>
         return Some(ObjectFault::Cut(bytes.len()));
     }
     let last = text + 1 == header.texts;
-    if !is_end(text_start(bytes, header, text), text_end(bytes, header, text), header.text_bytes, last) {
+    if !is_end(
+        text_start(bytes, header, text),
+        text_end(bytes, header, text),
+        header.text_bytes,
+        last,
+    ) {
         return Some(ObjectFault::BadCount(at));
     }
     None

@@ -7,12 +7,11 @@ ghost use Rattle.alma_object.specs.Object.{section, header_bytes, table_bytes, p
 ghost use Rattle.alma_object.specs.Bytes.{words_bytes};
 ghost use Rattle.alma_object.specs.Instrs.{instr_bytes};
 
+use crate::bytes::{push_i64, push_words};
+use crate::instr::push_instr;
 use alma_base::{NoMemory, Range};
 use alma_code::{Code, CodeParam, Instr, Line, ParamKind, RoutineHead, Run, SlotKind};
 use std::alloc::Global;
-
-use crate::bytes::{push_i64, push_words};
-use crate::instr::push_instr;
 
 fn param_number(kind: ParamKind) -> u32
     ensures { result ≡ param_number_of kind }
@@ -47,13 +46,27 @@ fn slot_size(kind: SlotKind) -> u32
 }
 
 // The record of a routine, with the ends of its parts.
-fn push_routine(out: &mut Vec<u8>, routine: &RoutineHead, name_end: u32, params_end: u32, runs_end: u32) -> Result<(), NoMemory>
+fn push_routine(
+    out: &mut Vec<u8>,
+    routine: &RoutineHead,
+    name_end: u32,
+    params_end: u32,
+    runs_end: u32,
+) -> Result<(), NoMemory>
     ensures { OnOk result (out.new.items ≡ out.old.items ++ words_bytes (name_end ∷ params_end ∷ runs_end ∷ routine.now.code_end ∷ routine.now.slots ∷ routine.now.declared ∷ (if routine.now.result then 1 else 0) ∷ [])) }
 {
     let result = if routine.result { 1 } else { 0 };
     push_words(
         out,
-        &[name_end, params_end, runs_end, routine.code_end, routine.slots, routine.declared, result],
+        &[
+            name_end,
+            params_end,
+            runs_end,
+            routine.code_end,
+            routine.slots,
+            routine.declared,
+            result,
+        ],
     )?;
     Ok(())
 }
@@ -218,7 +231,14 @@ fn push_lines(out: &mut Vec<u8>, lines: &[Line]) -> Result<(), NoMemory>
 
 // The magic, the version and the counts.
 #[tactic(auto, unfolding(crate::specs::Object::header_bytes, crate::specs::Bytes::u16_bytes))]
-fn push_header(out: &mut Vec<u8>, code: &Code, params: u32, runs: u32, names: u32, texts: u32) -> Result<(), NoMemory>
+fn push_header(
+    out: &mut Vec<u8>,
+    code: &Code,
+    params: u32,
+    runs: u32,
+    names: u32,
+    texts: u32,
+) -> Result<(), NoMemory>
     requires counts { KeepsCounts (code_of code.now) }
     requires params { params ≡ param_count_of (code_of code.now) }
     requires runs { runs ≡ run_count_of (code_of code.now) }
@@ -270,7 +290,11 @@ fn count_totals(code: &Code) -> Totals
         params += routine.params.len() as u32;
         runs += routine.kinds.len() as u32;
     }
-    Totals { names, params, runs }
+    Totals {
+        names,
+        params,
+        runs,
+    }
 }
 
 // How many bytes all names have together.
@@ -305,7 +329,14 @@ pub fn encode(alloc: Global, code: &Code) -> Result<Vec<u8>, NoMemory>
 {
     let totals = count_totals(code);
     let mut out = Vec::new(alloc);
-    push_header(&mut out, code, totals.params, totals.runs, total_names(code, totals.names), total_texts(code))?;
+    push_header(
+        &mut out,
+        code,
+        totals.params,
+        totals.runs,
+        total_names(code, totals.names),
+        total_texts(code),
+    )?;
     push_routines(&mut out, code)?;
     push_globals(&mut out, code, totals.names)?;
     push_all_params(&mut out, code)?;

@@ -9,9 +9,6 @@ ghost use Rattle.alma_object.specs.Reading.{name_in, text_in, routine_in, global
 ghost use Rattle.alma_object.specs.Walk.{object_fault};
 ghost use Rattle.alma_object.specs.View.{code_of_view, routine_of_view, global_of_view, is_read as is_read_of};
 
-use alma_base::Range;
-use alma_code::{Instr, Line};
-
 use crate::bytes::u32_at;
 use crate::fault::ObjectFault;
 use crate::header::read_header;
@@ -19,7 +16,12 @@ use crate::instr::instr_at;
 use crate::record::{line_in, range_in};
 use crate::routine::RoutineView;
 use crate::view::ObjectView;
-use crate::walk::{code_end, code_start, name_end, name_start, params_end, params_start, runs_end, runs_start, sections_fault, text_end, text_start};
+use crate::walk::{
+    code_end, code_start, name_end, name_start, params_end, params_start, runs_end, runs_start,
+    sections_fault, text_end, text_start,
+};
+use alma_base::Range;
+use alma_code::{Instr, Line};
 
 /// A global of an object. It lends its name.
 #[derive(Clone, Copy, Debug)]
@@ -59,14 +61,18 @@ impl<'b> ObjectView<'b> {
         if let Some(fault) = sections_fault(bytes, &header) {
             return Err(fault);
         }
-        Ok(ObjectView { bytes, header, routines_at: header.routines_at(), instrs_at: header.instrs_at() })
+        Ok(ObjectView {
+            bytes,
+            header,
+            routines_at: header.routines_at(),
+            instrs_at: header.instrs_at(),
+        })
     }
 
     /// What each view keeps: its bytes are the object of its code.
     pub fn keeps_object(&self)
         ensures { IsObject (code_of_view self.now) self.now.bytes.now }
-    {
-    }
+    {}
 
     pub fn version(&self) -> u16
         ensures { result ≡ (code_of_view self.now).version }

@@ -35,5 +35,5 @@ loop-routine-preserved c =
     let p : c.len-in-loop-routine.result ≡ length c.routine-item.result.params.items = search rules in
     let r : c.len-in-loop-routine-2.result ≡ length c.routine-item.result.kinds.items = search rules in
     let next = routine_written (code_of c.args.code.now) c.loop-routine.routine-index c.routine-item.result step c.loop-routine.names c.loop-routine.params c.loop-routine.runs
-        c.len.result c.len-in-loop-routine.result c.len-in-loop-routine-2.result c.loop-routine.invariant.names c.loop-routine.invariant.params c.loop-routine.invariant.runs n p r in
+    c.len.result c.len-in-loop-routine.result c.len-in-loop-routine-2.result c.loop-routine.invariant.names c.loop-routine.invariant.params c.loop-routine.invariant.runs n p r in
     record { names = next.names_are; params = next.params_are; runs = next.runs_are }

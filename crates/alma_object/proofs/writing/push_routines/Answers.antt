@@ -38,8 +38,10 @@ loop-routine-preserved c =
     let p : c.len-in-loop-routine.result ≡ length c.routine-item.result.params.items = search rules in
     let r : c.len-in-loop-routine-2.result ≡ length c.routine-item.result.kinds.items = search rules in
     let next = routine_written (code_of c.args.code.now) c.loop-routine.routine-index c.routine-item.result step c.loop-routine.name_end c.loop-routine.params_end c.loop-routine.runs_end
-        c.len.result c.len-in-loop-routine.result c.len-in-loop-routine-2.result c.loop-routine.invariant.names c.loop-routine.invariant.params c.loop-routine.invariant.runs n p r in
+    c.len.result c.len-in-loop-routine.result c.len-in-loop-routine-2.result c.loop-routine.invariant.names c.loop-routine.invariant.params c.loop-routine.invariant.runs n p r in
     record {
-      names = next.names_are; params = next.params_are; runs = next.runs_are;
+      names = next.names_are;
+      params = next.params_are;
+      runs = next.runs_are;
       written = section_next (routine_bytes (code_of c.args.code.now)) c.loop-routine.routine-index _ _ _ _ c.loop-routine.invariant.written c.in_ok-push_routine.ensures next.bytes;
     }

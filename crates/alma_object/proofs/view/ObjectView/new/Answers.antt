@@ -9,4 +9,4 @@ pub returns-clause-object : goal.returns-clause-object
 returns-clause-object c =
     let cells : (i : ℕ) → get_or c.args.bytes.now i 0 < 256 = λ i. omega (arith, c.type_inv.bytes i) in
     is_object c.args.bytes.now c.in_ok-header.header cells c.in_ok-header.ensures.header.0 c.in_ok-header.ensures.header.1
-      c.in_ok-header.ensures.fault (sym c.sections_fault.ensures.fault ∙ c.in_default.is) c.in_default.ensures.whole
+    c.in_ok-header.ensures.fault (sym c.sections_fault.ensures.fault ∙ c.in_default.is) c.in_default.ensures.whole
