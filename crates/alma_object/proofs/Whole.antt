@@ -7,8 +7,11 @@ use Rattle.std.proofs.lemmas.Bool.Decides.{nat_tests, Decides-eqb}
 use Rattle.std.proofs.lemmas.Slice.Eq.{starts_is}
 use Rattle.std.proofs.lemmas.List.{append-nil, take_at, take_all}
 use Rattle.std.proofs.lemmas.Nat.{le_bytes_2}
+use Rattle.alma_base.specs.declared.number.Range.{Range}
+use Rattle.alma_code.specs.declared.code.Line.{Line}
+use Rattle.alma_code.specs.declared.instr.Instr.{Instr}
 use Rattle.alma_code.specs.Plain.{PlainCode, PlainRoutine, PlainGlobal}
-use Rattle.alma_code.specs.Records.{param_count, run_count, name_count, text_count}
+use Rattle.alma_code.specs.Records.{KeepsCounts, param_count, run_count, name_count, text_count}
 use Rattle.alma_object.specs.declared.header.Header.{Header}
 use Rattle.alma_object.specs.Bytes.{u16_bytes, u32_bytes, words_bytes, u16_at, u32_at}
 use Rattle.alma_object.specs.Fault.{unless, whole, or_else}
@@ -141,3 +144,17 @@ is_object bytes h fits same within clean none whole = record {
   table = is_table bytes h fits within none whole;
   spelled = stands_for bytes h fits same within clean none whole;
 }
+
+-- a code that is that of an object keeps its counts
+pub keeps_counts_of : (code plain : PlainCode) (bytes : List ℕ) → code ≡ plain → IsObject plain bytes → KeepsCounts code
+keeps_counts_of code plain bytes same object = subst KeepsCounts (sym same) object.counts
+
+-- a code with the parts of another is that code
+pub code_same : (plain : PlainCode) (rs : List PlainRoutine) (gs : List PlainGlobal) (xs : List Range) (ts : List (List ℕ)) (is : List Instr) (ls : List Line) →
+    rs ≡ plain.routines → gs ≡ plain.globals → xs ≡ plain.ranges → ts ≡ plain.texts → is ≡ plain.instrs → ls ≡ plain.lines →
+    record plain { routines = rs; globals = gs; ranges = xs; texts = ts; instrs = is; lines = ls } ≡ plain
+code_same plain rs gs xs ts is ls a b c d e f =
+    ap (λ y. record plain { routines = y; globals = gs; ranges = xs; texts = ts; instrs = is; lines = ls }) a
+    ∙ ap (λ y. record plain { globals = y; ranges = xs; texts = ts; instrs = is; lines = ls }) b
+    ∙ ap (λ y. record plain { ranges = y; texts = ts; instrs = is; lines = ls }) c
+    ∙ ap (λ y. record plain { texts = y; instrs = is; lines = ls }) d ∙ ap (λ y. record plain { instrs = y; lines = ls }) e ∙ ap (λ y. record plain { lines = y }) f

@@ -1,3 +1,5 @@
+ghost use Rattle.std.specs.Prelude.{◌<◌};
+
 use super::*;
 use alma_code::{Head, Instr, Run, SlotKind};
 use std::test::*;
@@ -11,13 +13,9 @@ const FIRST: [u8; 104] = [
 ];
 
 // The same of version 2: the tenth count stands at 46.
-fn second() -> [u8; 108] {
-    let mut bytes = [0; 108];
-    bytes[..46].copy_from_slice(&FIRST[..46]);
-    bytes[50..].copy_from_slice(&FIRST[46..]);
-    bytes[8] = 2;
-    bytes
-}
+const SECOND: [u8; 108] = [
+    0x41, 0x4c, 0x4d, 0x41, 0x30, 0x4f, 0x42, 0x4a, 2, 0, 1, 0, 0, 0, 0, 0, 0, 0, 0, 0, 0, 0, 1, 0, 0, 0, 0, 0, 0, 0, 0, 0, 0, 0, 1, 0, 0, 0, 0, 0, 0, 0, 1, 0, 0, 0, 0, 0, 0, 0, 1, 0, 0, 0, 0, 0, 0, 0, 1, 0, 0, 0, 1, 0, 0, 0, 1, 0, 0, 0, 0, 0, 0, 0, 0, 0, 0, 0, 0, 0, 0, 0, 0, 0, 0, 0, 1, 0, 0, 0, 0x41, 0x26, 0, 0, 0, 0, 0, 0, 0, 0, 0, 0, 0, 0, 0, 0, 0, 0,
+];
 
 fn with_byte(at: usize, byte: u8) -> [u8; 104]
     requires { at < 104 }
@@ -114,26 +112,26 @@ fn a_byte_after_the_object(rt: HostRuntime) {
 
 #[test]
 fn version_two(rt: HostRuntime) -> Result<(), Fail> {
-    let bytes = second();
-    let view = ObjectView::new(&bytes).ok().ok_or("an object")?;
+    let view = ObjectView::new(&SECOND).ok().ok_or("an object")?;
+    assert_eq!(rt; view.code_count(), 1);
     assert_eq!(rt; (view.version(), view.instr(0)), (2, Instr::Return));
     assert_eq!(rt;
-        ObjectView::new(&bytes[..107]).err(),
+        ObjectView::new(&SECOND[..107]).err(),
         Some(ObjectFault::Cut(107))
     );
-    let mut own = bytes;
+    let mut own = SECOND;
     own[91] = 0x31;
     let view = ObjectView::new(&own).ok().ok_or("an object")?;
+    assert_eq!(rt; view.code_count(), 1);
     assert_eq!(rt; view.instr(0), Instr::Own { to: 0 });
     Ok(())
 }
 
 #[test]
 fn a_code_that_is_copied_has_the_same_object(rt: HostRuntime) -> Result<(), Fail> {
-    let bytes = second();
-    let view = ObjectView::new(&bytes).ok().ok_or("an object")?;
+    let view = ObjectView::new(&SECOND).ok().ok_or("an object")?;
     let code = view.to_code(rt.alloc()).ok().ok_or("memory")?;
     let object = encode(rt.alloc(), &code).ok().ok_or("memory")?;
-    assert_eq!(rt; object.as_slice(), bytes.as_slice());
+    assert_eq!(rt; object.as_slice(), SECOND.as_slice());
     Ok(())
 }

@@ -1,6 +1,7 @@
 // The code of a view, copied.
 ghost use Rattle.std.specs.Prelude.{◌≡◌, ◌<◌, ◌^◌, map, length, IfOk};
 ghost use Rattle.alma_code.specs.Plain.{code_of, routine_of, global_of};
+ghost use Rattle.alma_code.specs.Records.{KeepsCounts};
 ghost use Rattle.alma_object.specs.View.{code_of_view, head_of_view, routine_of_view, global_of_view};
 
 use crate::record::{line_in, range_in};
@@ -135,7 +136,8 @@ impl<'b> ObjectView<'b> {
 
     /// A copy of the code.
     pub fn to_code(&self, alloc: Global) -> Result<Code, NoMemory>
-        ensures { IfOk result (λ code. code_of code ≡ code_of_view self.now) }
+        ensures code { IfOk result (λ code. code_of code ≡ code_of_view self.now) }
+        ensures counts { IfOk result (λ code. KeepsCounts (code_of code)) }
     {
         Ok(Code {
             version: self.header.version,
