@@ -1,5 +1,5 @@
 -- One part appended after another.
-use Rattle.std.proofs.Common.{◌≡◌, ℕ, List, [], ◌∷◌, ◌++◌, refl, sym, ap, ◌∙◌, append_assoc}
+use Rattle.std.proofs.Common.{◌≡◌, List, [], ◌∷◌, ◌++◌, ap, ◌∙◌, append_assoc}
 
 -- a byte and then a part
 pub after_byte : {A : Type 0} (o n1 n2 a : List A) (x : A) → n1 ≡ o ++ (x ∷ []) → n2 ≡ n1 ++ a → n2 ≡ o ++ (x ∷ a)

@@ -1,5 +1,5 @@
 -- One record more of a code that is written.
-use Rattle.std.proofs.Common.{◌≡◌, ℕ, zero, suc, ◌+◌, ◌<◌, ◌≤◌, Bool, List, [], ◌∷◌, ◌++◌, length, get_or, take, map, refl, sym, ap, subst, ◌∙◌, append_assoc, arith}
+use Rattle.std.proofs.Common.{◌≡◌, ℕ, zero, suc, ◌+◌, ◌<◌, ◌≤◌, List, [], ◌∷◌, ◌++◌, length, get_or, take, map, refl, sym, ap, subst, ◌∙◌, append_assoc, arith}
 use Rattle.std.specs.Prelude.{sum_by, if◌then◌else◌}
 use Rattle.std.specs.List.{flat_map, range_with_len}
 use Rattle.std.proofs.lemmas.List.{get_or-map, length-map, append-nil}
@@ -8,9 +8,9 @@ use Rattle.std.proofs.lemmas.List.Concat.{flat_map-append}
 use Rattle.alma_code.specs.declared.code.Code.{Code}
 use Rattle.alma_code.specs.declared.code.CodeGlobal.{CodeGlobal}
 use Rattle.alma_code.specs.declared.code.RoutineHead.{RoutineHead}
-use Rattle.alma_code.specs.Plain.{PlainCode, PlainRoutine, PlainGlobal, code_of, routine_of, global_of, no_routine, routine_at}
+use Rattle.alma_code.specs.Plain.{PlainCode, PlainRoutine, PlainGlobal, code_of, routine_of, global_of, no_routine}
 use Rattle.alma_code.specs.Records.{param_count, run_count, name_count, text_count}
-use Rattle.alma_object.specs.Bytes.{words_bytes, u32_bytes}
+use Rattle.alma_object.specs.Bytes.{words_bytes}
 use Rattle.alma_object.specs.Object.{section, end_of, routine_bytes, global_bytes, text_end_bytes, no_global}
 
 -- the items of one section, one more

@@ -1,14 +1,13 @@
 -- The record of an instruction is spelled by the instruction that stands in it.
-use Rattle.std.proofs.Common.{◌≡◌, ℕ, zero, suc, ◌+◌, ◌-◌, ◌*◌, ◌<◌, ◌≤◌, ℤ, Bool, true, false, ◌&&◌, List, [], ◌∷◌, ◌++◌, length, get_or, take, drop, refl, sym, ap, ◌∙◌, arith}
+use Rattle.std.proofs.Common.{◌≡◌, ℕ, zero, suc, ◌+◌, ◌-◌, ◌*◌, ◌≤◌, ℤ, Bool, true, false, ◌&&◌, List, [], ◌∷◌, ◌++◌, length, get_or, drop, refl, sym, ap, ◌∙◌, arith}
 use Rattle.std.specs.Prelude.{slice_index, slice_range, nat_eq, nat_le, if◌then◌else◌}
 use Rattle.std.specs.List.{list_all}
 use Rattle.std.proofs.lemmas.Bool.Decides.{nat_tests}
-use Rattle.std.proofs.lemmas.List.{append-nil}
 use Rattle.alma_code.specs.declared.instr.Instr.TheVariants as I
-use Rattle.alma_object.specs.Bytes.{u32_bytes, i64_bytes, words_bytes, u32_at, i64_at}
-use Rattle.alma_object.specs.Instrs.{record_bytes, const_bytes, instr_bytes, instrs_with, used_words, last_opcode, words_at, is_instr, instr_at}
+use Rattle.alma_object.specs.Bytes.{i64_bytes, words_bytes, u32_at, i64_at}
+use Rattle.alma_object.specs.Instrs.{record_bytes, instr_bytes, instrs_with, used_words, last_opcode, words_at, is_instr, instr_at}
 use Rattle.alma_object.proofs.Kept.{and_parts, le_fact}
-use Rattle.alma_object.proofs.Slices.{IsBytes, words_from, words_slice, slice_join, slice_cells, cells, u32_slice, one_slice}
+use Rattle.alma_object.proofs.Slices.{IsBytes, words_slice, slice_join, one_slice}
 use Rattle.alma_object.proofs.Spelled.{i64_slice}
 
 eq_fact : (m n : ℕ) → nat_eq m n ≡ true → m ≡ n

@@ -7,7 +7,7 @@ use Rattle.alma_object.specs.declared.fault.ObjectFault.{ObjectFault}
 use Rattle.alma_object.specs.declared.fault.ObjectFault.TheVariants as fault
 use Rattle.alma_object.specs.declared.header.Header.{Header}
 use Rattle.alma_object.specs.Fault.{unless, whole, or_else, first_fault}
-use Rattle.alma_object.specs.Header.{IsWithin, routines_at, globals_at, texts_at}
+use Rattle.alma_object.specs.Header.{routines_at, globals_at, texts_at}
 use Rattle.alma_object.specs.Walk.{start_of, is_end, is_name_end, params_end, runs_end, code_end, name_end, name_count, routine_field, routine_fault, routines_fault, global_fault, globals_fault, text_end, text_fault, params_fault, runs_fault, ranges_fault, texts_fault, pools_fault, instrs_fault, lines_fault, sections_fault}
 
 pub unless_none : (b : Bool) (f : ObjectFault) (rest : Option ObjectFault) → unless b f rest ≡ None → (b ≡ true) × (rest ≡ None)

@@ -1,18 +1,16 @@
 -- The records of the code that stands in bytes without fault are as they must be.
-use Rattle.std.proofs.Common.{◌≡◌, ◌⊎◌, ℕ, zero, suc, ◌+◌, ◌-◌, ◌*◌, ◌<◌, ◌≤◌, ℤ, Bool, true, false, ◌&&◌, not, Option, Some, None, List, [], ◌∷◌, length, get_or, take, drop, map, refl, sym, ap, subst, ◌∙◌, arith, inl, inr}
-use Rattle.std.specs.Prelude.{nat_eq, nat_lt, nat_le, int_le, ◌||◌, if◌then◌else◌, slice_index, slice_range}
+use Rattle.std.proofs.Common.{◌≡◌, ◌⊎◌, ℕ, zero, suc, ◌+◌, ◌-◌, ◌*◌, ◌<◌, ◌≤◌, ℤ, Bool, true, false, ◌&&◌, not, None, List, ◌∷◌, length, get_or, map, refl, sym, ap, subst, ◌∙◌, arith, inl, inr}
+use Rattle.std.specs.Prelude.{nat_eq, nat_lt, nat_le, int_le, ◌||◌, if◌then◌else◌, slice_index}
 use Rattle.std.specs.List.{range_with_len, list_all}
-use Rattle.std.proofs.lemmas.Bool.{cases_lt}
 use Rattle.std.proofs.lemmas.Bool.Decides.{nat_tests}
-use Rattle.alma_base.specs.Reading.{is_digit}
 use Rattle.alma_base.specs.declared.number.Range.{Range}
 use Rattle.alma_code.specs.declared.code.Line.{Line}
 use Rattle.alma_code.specs.declared.head.CodeParam.{CodeParam}
 use Rattle.alma_code.specs.declared.head.Run.{Run}
 use Rattle.alma_code.specs.declared.instr.Instr.TheVariants as I
 use Rattle.alma_code.specs.Lines.{lines_rise}
-use Rattle.alma_code.specs.Plain.{PlainCode, PlainRoutine, PlainGlobal}
-use Rattle.alma_code.specs.Records.{KeepsRecords, KeepsVersion, IsFirst, is_name, is_name_start, has_cells, same_kind, runs_differ, is_routine_record, is_first_kind, is_first_param, is_first_form, is_first_routine}
+use Rattle.alma_code.specs.Plain.{PlainGlobal}
+use Rattle.alma_code.specs.Records.{KeepsRecords, KeepsVersion, IsFirst, is_name, has_cells, same_kind, runs_differ, is_routine_record, is_first_kind, is_first_param, is_first_form, is_first_routine}
 use Rattle.alma_object.specs.declared.fault.ObjectFault.TheVariants as fault
 use Rattle.alma_object.specs.declared.header.Header.{Header}
 use Rattle.alma_object.specs.Bytes.{u32_at, i64_at}
@@ -20,12 +18,12 @@ use Rattle.alma_object.specs.Fault.{unless, first_fault}
 use Rattle.alma_object.specs.Fault.{whole as whole_fault}
 use Rattle.alma_object.specs.Header.{IsWithin, params_at, runs_at, ranges_at, name_pool_at, text_pool_at, instrs_at, lines_at, end_at}
 use Rattle.alma_object.specs.Instrs.{instr_at, instrs_with, is_instr, last_opcode}
-use Rattle.alma_object.specs.Walk.{start_of, can_stand, name_count, name_end, params_end, runs_end, param_fault, run_fault, range_fault, name_fault, instr_fault, line_fault, pools_fault, sections_fault}
+use Rattle.alma_object.specs.Walk.{start_of, can_stand, name_count, name_end, params_end, runs_end, param_fault, range_fault, name_fault, instr_fault, line_fault, sections_fault}
 use Rattle.alma_object.specs.Reading.{items, param_kind, slot_kind, param_in, run_in, range_in, line_in, name_in, routine_in, global_in, code_in}
 use Rattle.alma_object.proofs.Items.{length_items}
 use Rattle.alma_object.proofs.Kept.{unless_none, or_none, whole_none, le_fact, lt_fact, and_parts, first_none, routine_seen, name_seen, sections_kept}
 use Rattle.alma_object.proofs.Sections.{param_none, run_none}
-use Rattle.alma_object.proofs.Slices.{IsBytes, cells, slice_cells, can_name}
+use Rattle.alma_object.proofs.Slices.{IsBytes, can_name}
 use Rattle.alma_object.proofs.Tables.{RunKept, run_kept}
 
 -- ---- tests of all items

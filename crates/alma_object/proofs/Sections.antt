@@ -1,27 +1,24 @@
 -- Bytes without fault are spelled by the code that stands in them: the sections.
-use Rattle.std.proofs.Common.{◌≡◌, ℕ, zero, suc, ◌+◌, ◌-◌, ◌*◌, ◌^◌, ◌<◌, ◌≤◌, ℤ, Bool, true, false, ◌&&◌, not, Option, Some, None, List, [], ◌∷◌, ◌++◌, length, get_or, take, drop, map, refl, sym, ap, subst, ◌∙◌, append_assoc, arith, inl, inr}
-use Rattle.std.specs.Prelude.{slice_index, slice_range, sum_by, nat_eq, nat_le, nat_lt, ◌||◌, if◌then◌else◌}
+use Rattle.std.proofs.Common.{◌≡◌, ℕ, zero, suc, ◌+◌, ◌-◌, ◌*◌, ◌<◌, ◌≤◌, true, false, None, List, [], ◌∷◌, ◌++◌, length, get_or, refl, sym, ap, subst, ◌∙◌, arith, inl, inr}
+use Rattle.std.specs.Prelude.{slice_range, sum_by, nat_eq, nat_lt, if◌then◌else◌}
 use Rattle.std.specs.List.{flat_map, range_with_len}
-use Rattle.std.proofs.lemmas.List.{append-nil, length-take, length-drop}
+use Rattle.std.proofs.lemmas.List.{append-nil}
 use Rattle.std.proofs.lemmas.Bool.{cases_lt}
 use Rattle.std.proofs.lemmas.Bool.Decides.{nat_tests}
 use Rattle.std.proofs.lemmas.List.Concat.{flat_map-append}
-use Rattle.alma_code.specs.declared.head.CodeParam.{CodeParam}
-use Rattle.alma_code.specs.declared.head.Run.{Run}
-use Rattle.alma_code.specs.Plain.{PlainCode, PlainRoutine, PlainGlobal, routine_at, no_routine}
+use Rattle.alma_code.specs.Plain.{PlainRoutine, PlainGlobal, routine_at, no_routine}
 use Rattle.alma_object.specs.declared.header.Header.{Header}
-use Rattle.alma_object.specs.Bytes.{u32_bytes, i64_bytes, words_bytes, u32_at, i64_at}
-use Rattle.alma_object.specs.Fault.{unless, whole, first_fault}
+use Rattle.alma_object.specs.Bytes.{u32_bytes, words_bytes, u32_at}
 use Rattle.alma_object.specs.Header.{IsWithin, routines_at, globals_at, params_at, runs_at, ranges_at, texts_at, name_pool_at, text_pool_at, instrs_at, lines_at, end_at}
-use Rattle.alma_object.specs.Walk.{start_of, params_end, runs_end, code_end, name_end, text_end, routine_field, name_count, sections_fault, params_fault, param_fault, runs_fault, routine_runs_fault, run_fault, range_fault, line_fault, global_fault, instr_fault}
-use Rattle.alma_object.specs.Object.{section, end_of, param_number, slot_number, slot_size, param_bytes, run_bytes, range_bytes, line_bytes, routine_bytes, global_bytes, text_end_bytes, no_global}
-use Rattle.alma_object.specs.Reading.{items, params_in, runs_in, param_in, run_in, range_in, line_in, routine_in, global_in, name_in, text_in, code_in}
+use Rattle.alma_object.specs.Walk.{start_of, params_end, runs_end, code_end, name_end, text_end, sections_fault, param_fault, routine_runs_fault, run_fault, range_fault, line_fault, global_fault, instr_fault}
+use Rattle.alma_object.specs.Object.{section, end_of, param_bytes, run_bytes, range_bytes, line_bytes, routine_bytes, global_bytes, text_end_bytes, no_global}
+use Rattle.alma_object.specs.Reading.{items, param_in, run_in, range_in, line_in, routine_in, global_in, name_in, text_in, code_in}
 use Rattle.alma_object.specs.Instrs.{instr_bytes, instr_at}
 use Rattle.alma_object.proofs.Encoding.{flat_map-map}
 use Rattle.alma_object.proofs.Forms.{instr_spelled}
 use Rattle.alma_object.proofs.Items.{length_items, item_at}
-use Rattle.alma_object.proofs.Kept.{first_none, routine_seen, name_seen, text_seen, sections_kept, last_params, last_runs, last_code, whole_none, start_last, global_kept, unless_none}
-use Rattle.alma_object.proofs.Slices.{IsBytes, words_from, words_slice, slice_join, slice_none, section_is, offsets_rise, shifted, u32_slice}
+use Rattle.alma_object.proofs.Kept.{first_none, routine_seen, name_seen, text_seen, sections_kept, last_params, last_runs, whole_none, start_last, global_kept, unless_none}
+use Rattle.alma_object.proofs.Slices.{IsBytes, words_slice, slice_join, section_is, offsets_rise, shifted, u32_slice}
 use Rattle.alma_object.proofs.Spelled.{param_spelled, run_spelled, line_spelled, range_spelled, length_slice, three_words, starts_rise, end_is, sum_ends}
 
 -- lists of lists

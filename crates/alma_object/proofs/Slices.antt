@@ -1,15 +1,15 @@
 -- Parts of bytes: parts that follow one another, and the numbers that stand in them.
 use Rattle.std.specs.Prelude.{◌||◌}
-use Rattle.std.proofs.Common.{◌≡◌, Bool, true, false, ◌&&◌, not, ℕ, zero, suc, ◌+◌, ◌-◌, ◌*◌, ◌^◌, ◌<◌, ◌≤◌, ℤ, List, [], ◌∷◌, ◌++◌, length, get_or, take, drop, map, refl, sym, ap, subst, ◌∙◌, append_assoc, arith}
+use Rattle.std.proofs.Common.{◌≡◌, Bool, true, false, ◌&&◌, not, ℕ, zero, suc, ◌+◌, ◌-◌, ◌*◌, ◌<◌, ◌≤◌, List, [], ◌∷◌, ◌++◌, length, get_or, take, drop, refl, sym, ap, ◌∙◌, arith}
 use Rattle.std.specs.Prelude.{slice_index, slice_range}
 use Rattle.std.specs.List.{flat_map, range_with_len, list_all}
 use Rattle.alma_base.specs.Reading.{is_digit}
 use Rattle.alma_code.specs.Records.{is_name, is_name_start}
 use Rattle.alma_object.specs.Walk.{can_stand}
-use Rattle.std.specs.Int.{w16, w32, w64, from_le_bytes, to_le_bytes, cast_signed, cast_unsigned}
-use Rattle.std.proofs.lemmas.List.{take-append-drop, take-take, drop-take, drop-drop, drop_more, length-take, length-drop, get_or-drop, get_or-take, get_or_past, append-nil}
-use Rattle.std.proofs.lemmas.Nat.{le_bytes_2, le_bytes_4, le_bytes_8}
-use Rattle.alma_object.specs.Bytes.{u16_bytes, u32_bytes, i64_bytes, words_bytes, u16_at, u32_at, i64_at}
+use Rattle.std.specs.Int.{w16, w32, from_le_bytes}
+use Rattle.std.proofs.lemmas.List.{take-append-drop, take-take, drop-take, drop-drop, drop_more}
+use Rattle.std.proofs.lemmas.Nat.{le_bytes_2, le_bytes_4}
+use Rattle.alma_object.specs.Bytes.{u16_bytes, u32_bytes, words_bytes, u16_at, u32_at}
 
 -- ---- parts that follow one another
 

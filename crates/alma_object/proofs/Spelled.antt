@@ -1,25 +1,20 @@
 -- Bytes without fault are spelled by the code that stands in them: the records.
-use Rattle.std.proofs.Common.{◌≡◌, ℕ, zero, suc, ◌+◌, ◌-◌, ◌*◌, ◌^◌, ◌<◌, ◌≤◌, ℤ, Bool, true, false, ◌&&◌, not, Option, Some, None, List, [], ◌∷◌, ◌++◌, length, get_or, take, drop, map, refl, sym, ap, subst, ◌∙◌, append_assoc, arith, inl, inr}
-use Rattle.std.specs.Prelude.{slice_index, slice_range, sum_by, nat_eq, nat_le, nat_lt, ◌||◌, if◌then◌else◌}
-use Rattle.std.specs.List.{flat_map, range_with_len}
-use Rattle.std.specs.Int.{w16, w32, w64, from_le_bytes, to_le_bytes, cast_signed, cast_unsigned}
-use Rattle.std.proofs.lemmas.List.{append-nil, length-take, length-drop}
+use Rattle.std.proofs.Common.{◌≡◌, ℕ, zero, suc, ◌+◌, ◌-◌, ◌*◌, ◌^◌, ◌<◌, ◌≤◌, Bool, true, false, None, List, [], ◌∷◌, ◌++◌, length, get_or, drop, refl, sym, ap, ◌∙◌, arith}
+use Rattle.std.specs.Prelude.{slice_range, sum_by, nat_eq, nat_le, ◌||◌, if◌then◌else◌}
+use Rattle.std.specs.Int.{w64, from_le_bytes, to_le_bytes}
+use Rattle.std.proofs.lemmas.List.{length-take, length-drop}
 use Rattle.std.proofs.lemmas.Nat.{le_bytes_8}
 use Rattle.std.proofs.lemmas.Int.{of_z-to_z}
 use Rattle.std.proofs.lemmas.Bool.Decides.{nat_tests}
-use Rattle.std.proofs.lemmas.List.Sums.{sum_by_more, sum_by-append}
-use Rattle.alma_code.specs.declared.head.CodeParam.{CodeParam}
-use Rattle.alma_code.specs.declared.head.Run.{Run}
 use Rattle.alma_object.specs.declared.header.Header.{Header}
-use Rattle.alma_object.specs.Bytes.{u32_bytes, i64_bytes, words_bytes, u32_at, i64_at}
-use Rattle.alma_object.specs.Fault.{unless, whole, first_fault}
+use Rattle.alma_object.specs.Bytes.{i64_bytes, words_bytes, u32_at, i64_at}
 use Rattle.alma_object.specs.Header.{params_at, runs_at}
-use Rattle.alma_object.specs.Walk.{start_of, param_fault, run_fault, range_fault, line_fault}
+use Rattle.alma_object.specs.Walk.{start_of, param_fault, run_fault}
 use Rattle.std.proofs.lemmas.List.FromFn.{sum_by-map-range_with_len_more, take-map-range_with_len}
 use Rattle.alma_object.specs.Object.{end_of, param_number, slot_number, slot_size, param_bytes, run_bytes, range_bytes, line_bytes}
 use Rattle.alma_object.specs.Reading.{items, param_kind, slot_kind, param_in, run_in, range_in, line_in}
 use Rattle.alma_object.proofs.Kept.{unless_none, whole_none, le_fact}
-use Rattle.alma_object.proofs.Slices.{IsBytes, words_from, words_slice, slice_join, u32_slice, long_at, long_slice}
+use Rattle.alma_object.proofs.Slices.{IsBytes, words_slice, slice_join, long_at, long_slice}
 
 -- ---- kinds
 

@@ -1,22 +1,21 @@
 -- What stands in the bytes of an object at an offset.
-use Rattle.std.proofs.Common.{◌≡◌, ℕ, zero, suc, ◌+◌, ◌-◌, ◌*◌, ◌^◌, ◌<◌, ◌≤◌, ℤ, SFits, Bool, true, false, List, [], ◌∷◌, ◌++◌, length, get_or, take, drop, map, refl, sym, ap, subst, ◌∙◌, append_assoc, arith, inl, inr}
-use Rattle.std.specs.Prelude.{slice_index, slice_range}
-use Rattle.std.specs.List.{flat_map, range_with_len}
+use Rattle.std.proofs.Common.{◌≡◌, ℕ, zero, suc, ◌+◌, ◌-◌, ◌*◌, ◌^◌, ◌<◌, ◌≤◌, ℤ, SFits, Bool, true, false, List, [], ◌∷◌, ◌++◌, length, get_or, take, drop, refl, sym, ap, subst, ◌∙◌, append_assoc, arith}
+use Rattle.std.specs.Prelude.{slice_range}
+use Rattle.std.specs.List.{flat_map}
 use Rattle.std.specs.Int.{w16, w32, w64, from_le_bytes, to_le_bytes, cast_signed, cast_unsigned}
-use Rattle.std.proofs.lemmas.Bool.{cases_lt}
-use Rattle.std.proofs.lemmas.List.{append-nil, length-append, take_at, drop_at, drop-drop, length-take, length-drop, take-append-drop, append_cancel_left}
+use Rattle.std.proofs.lemmas.List.{append-nil, length-append, take_at, drop_at}
 use Rattle.std.proofs.lemmas.Nat.{from_le_bytes-to_le_bytes_2, from_le_bytes-to_le_bytes_4, from_le_bytes-to_le_bytes_8}
 use Rattle.std.proofs.lemmas.Int.{to_z-of_z}
 use Rattle.std.proofs.Math.Nat.{mul-suc, mul-zero}
 use Rattle.std.proofs.Math.Facts.{Fits-of_z}
 use Rattle.std.proofs.lemmas.Bool.Decides.{nat_tests}
 use Rattle.std.specs.Prelude.{nat_eq, nat_lt, nat_le}
-use Rattle.std.proofs.Common.{Option, Some, None}
+use Rattle.std.proofs.Common.{Option, None}
 use Rattle.alma_object.specs.declared.fault.ObjectFault.{ObjectFault}
 use Rattle.alma_object.specs.declared.fault.ObjectFault.TheVariants as fault
 use Rattle.alma_object.specs.Fault.{unless, whole, or_else, first_fault}
 use Rattle.alma_object.specs.Bytes.{u16_bytes, u32_bytes, i64_bytes, words_bytes, u16_at, u32_at, i64_at}
-use Rattle.alma_object.proofs.Slices.{cells, slice_cells, words_from, long_at, long_slice, u32_cells, u16_cells}
+use Rattle.alma_object.proofs.Slices.{words_from, long_slice, u32_cells, u16_cells}
 
 -- the bytes have these at an offset, and more or nothing behind them
 pub record Stands (bytes : List ℕ) (at : ℕ) (part : List ℕ) : Type 0 where

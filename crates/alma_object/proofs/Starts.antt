@@ -1,5 +1,5 @@
 -- Where the part of an item begins.
-use Rattle.std.proofs.Common.{◌≡◌, ℕ, zero, suc, ◌+◌, ◌-◌, ◌<◌, ◌≤◌, refl, sym, ap, ◌∙◌, arith}
+use Rattle.std.proofs.Common.{◌≡◌, ℕ, zero, suc, ◌+◌, ◌-◌, ◌<◌, refl, ap, arith}
 use Rattle.alma_object.specs.Walk.{start_of}
 
 pub start_first : (end : ℕ → ℕ) (k : ℕ) → k ≡ 0 → start_of end k ≡ 0

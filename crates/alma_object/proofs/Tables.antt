@@ -1,19 +1,18 @@
 -- The tables of the code that stands in bytes without fault are in order, and no count is too large.
-use Rattle.std.proofs.Common.{◌≡◌, ℕ, zero, suc, ◌+◌, ◌-◌, ◌*◌, ◌<◌, ◌≤◌, Bool, true, false, ◌&&◌, not, Option, Some, None, List, [], ◌∷◌, length, get_or, map, refl, sym, ap, subst, ◌∙◌, arith, inl, inr}
-use Rattle.std.specs.Prelude.{nat_eq, nat_lt, nat_le, ◌||◌, if◌then◌else◌, sum_by}
+use Rattle.std.proofs.Common.{◌≡◌, ℕ, zero, suc, ◌+◌, ◌-◌, ◌*◌, ◌<◌, ◌≤◌, Bool, true, false, ◌&&◌, not, None, List, length, map, refl, sym, ap, subst, ◌∙◌, arith}
+use Rattle.std.specs.Prelude.{nat_eq, nat_lt, nat_le, ◌||◌, if◌then◌else◌}
 use Rattle.std.specs.List.{range_with_len}
 use Rattle.std.proofs.lemmas.Bool.Decides.{nat_tests}
 use Rattle.alma_code.specs.declared.head.Run.{Run}
 use Rattle.alma_code.specs.Layout.{RunsRise}
-use Rattle.alma_code.specs.Plain.{PlainCode, PlainRoutine, PlainGlobal, routine_at, head_at, start_at, no_routine}
-use Rattle.alma_code.specs.Plain.{end_at as code_end_at}
+use Rattle.alma_code.specs.Plain.{PlainRoutine, start_at, no_routine}
 use Rattle.alma_code.specs.Records.{KeepsCounts}
 use Rattle.alma_code.specs.Rules.{IsTable, last_end}
 use Rattle.alma_object.specs.declared.header.Header.{Header}
 use Rattle.alma_object.specs.Bytes.{u32_at}
 use Rattle.alma_object.specs.Header.{IsWithin, runs_at, end_at}
-use Rattle.alma_object.specs.Walk.{start_of, runs_end, code_end, run_fault, sections_fault}
-use Rattle.alma_object.specs.Reading.{items, routine_in, global_in, text_in, run_in, runs_in, range_in, line_in, code_in}
+use Rattle.alma_object.specs.Walk.{start_of, runs_end, run_fault, sections_fault}
+use Rattle.alma_object.specs.Reading.{routine_in, global_in, text_in, run_in, code_in}
 use Rattle.alma_object.proofs.Items.{length_items, item_at}
 use Rattle.alma_object.proofs.Kept.{unless_none, whole_none, lt_fact, routine_seen, sections_kept, last_code}
 use Rattle.alma_object.proofs.Sections.{run_none, params_total, runs_total, names_total, texts_total}

@@ -1,31 +1,29 @@
 -- Bytes without fault are the object of the code that stands in them.
-use Rattle.std.proofs.Common.{◌≡◌, ℕ, zero, suc, ◌+◌, ◌-◌, ◌*◌, ◌^◌, ◌<◌, ◌≤◌, Bool, true, false, ◌&&◌, not, Option, Some, None, List, [], ◌∷◌, ◌++◌, length, get_or, take, drop, map, lit≤, refl, sym, ap, subst, ◌∙◌, append_assoc, arith, inl, inr}
-use Rattle.std.specs.Prelude.{slice_index, slice_range, sum_by, nat_eq, nat_le, nat_lt, ◌||◌, if◌then◌else◌}
-use Rattle.std.specs.List.{flat_map, range_with_len, starts_with}
-use Rattle.std.specs.Int.{w16, from_le_bytes, to_le_bytes}
-use Rattle.std.proofs.lemmas.Bool.Decides.{nat_tests, Decides-eqb}
+use Rattle.std.proofs.Common.{◌≡◌, ℕ, ◌-◌, ◌≤◌, Bool, true, false, None, List, [], ◌∷◌, ◌++◌, length, take, drop, lit≤, refl, sym, ap, subst, ◌∙◌, append_assoc, arith}
+use Rattle.std.specs.Prelude.{slice_range, nat_eq, if◌then◌else◌}
+use Rattle.std.specs.List.{flat_map, starts_with}
+use Rattle.std.proofs.lemmas.Bool.Decides.{Decides-eqb}
 use Rattle.std.proofs.lemmas.Slice.Eq.{starts_is}
-use Rattle.std.proofs.lemmas.List.{append-nil, take_at, take_all}
-use Rattle.std.proofs.lemmas.Nat.{le_bytes_2}
+use Rattle.std.proofs.lemmas.List.{take_at, take_all}
 use Rattle.alma_base.specs.declared.number.Range.{Range}
 use Rattle.alma_code.specs.declared.code.Line.{Line}
 use Rattle.alma_code.specs.declared.instr.Instr.{Instr}
 use Rattle.alma_code.specs.Plain.{PlainCode, PlainRoutine, PlainGlobal}
-use Rattle.alma_code.specs.Records.{KeepsCounts, param_count, run_count, name_count, text_count}
+use Rattle.alma_code.specs.Records.{KeepsCounts}
 use Rattle.alma_object.specs.declared.header.Header.{Header}
-use Rattle.alma_object.specs.Bytes.{u16_bytes, u32_bytes, words_bytes, u16_at, u32_at}
-use Rattle.alma_object.specs.Fault.{unless, whole, or_else}
-use Rattle.alma_object.specs.Header.{IsWithin, magic, header_of, magic_fault, version_fault, count_fault, counts_fault, header_fault, routines_at, globals_at, params_at, runs_at, ranges_at, texts_at, name_pool_at, text_pool_at, instrs_at, lines_at, end_at}
-use Rattle.alma_object.specs.Walk.{start_of, sections_fault, object_fault, params_end, runs_end, name_end, text_end}
+use Rattle.alma_object.specs.Bytes.{u16_bytes, words_bytes, u16_at, u32_at}
+use Rattle.alma_object.specs.Fault.{whole}
+use Rattle.alma_object.specs.Header.{IsWithin, magic, header_of, magic_fault, header_fault, routines_at, globals_at, params_at, runs_at, ranges_at, texts_at, name_pool_at, text_pool_at, instrs_at, lines_at, end_at}
+use Rattle.alma_object.specs.Walk.{sections_fault}
 use Rattle.alma_object.specs.Instrs.{instr_bytes}
 use Rattle.alma_object.specs.Object.{section, counts_of, header_bytes, table_bytes, pool_bytes, object_bytes, line_bytes, IsObject}
 use Rattle.alma_object.specs.Reading.{items, routine_in, global_in, text_in, code_in}
 use Rattle.alma_object.proofs.Items.{length_items}
-use Rattle.alma_object.proofs.Kept.{unless_none, or_none, whole_none, le_fact, and_parts}
+use Rattle.alma_object.proofs.Kept.{unless_none, or_none, whole_none}
 use Rattle.alma_object.proofs.Rows.{keeps_records, keeps_version}
 use Rattle.alma_object.proofs.Tables.{is_table, keeps_counts}
 use Rattle.alma_object.proofs.Sections.{routines_stand, globals_stand, params_stand, runs_stand, ranges_stand, text_ends_stand, names_stand, texts_stand, instrs_stand, lines_stand, names_total, params_total, runs_total, texts_total}
-use Rattle.alma_object.proofs.Slices.{IsBytes, words_from, words_slice, slice_join, slice_cells, cells, u16_slice}
+use Rattle.alma_object.proofs.Slices.{IsBytes, words_slice, slice_join, u16_slice}
 
 -- six parts that follow one another
 six_parts : (bytes : List ℕ) (a b c d e f g : ℕ) (p q r s t u : List ℕ) → a ≤ b → b ≤ c → c ≤ d → d ≤ e → e ≤ f → f ≤ g →

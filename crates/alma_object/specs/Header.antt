@@ -1,5 +1,5 @@
 -- The header of an object: the magic, the version and the counts.
-use Rattle.std.specs.Prelude.{◌≡◌, ℕ, ◌+◌, ◌*◌, ◌≤◌, Bool, true, not, ◌&&◌, ◌||◌, nat_eq, nat_le, if◌then◌else◌, Option, None, List, codes}
+use Rattle.std.specs.Prelude.{◌≡◌, ℕ, ◌+◌, ◌*◌, ◌≤◌, true, ◌||◌, nat_eq, nat_le, if◌then◌else◌, Option, None, List, codes}
 use Rattle.std.specs.List.{starts_with}
 use Rattle.alma_object.specs.declared.fault.ObjectFault.{ObjectFault}
 use Rattle.alma_object.specs.declared.fault.ObjectFault.TheVariants as fault

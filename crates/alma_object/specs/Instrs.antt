@@ -1,5 +1,5 @@
 -- The record of an instruction: its opcode and four words.
-use Rattle.std.specs.Prelude.{if◌then◌else◌, ℕ, ◌+◌, ◌-◌, ℤ, Bool, true, false, ◌&&◌, nat_eq, nat_le, List, [], ◌∷◌, ◌++◌, get_or, drop, slice_index}
+use Rattle.std.specs.Prelude.{if◌then◌else◌, ℕ, ◌+◌, ◌-◌, ℤ, Bool, ◌&&◌, nat_eq, nat_le, List, [], ◌∷◌, ◌++◌, get_or, drop, slice_index}
 use Rattle.std.specs.List.{list_all}
 use Rattle.alma_code.specs.declared.instr.Instr.{Instr}
 use Rattle.alma_code.specs.declared.instr.Instr.TheVariants as I

@@ -1,5 +1,5 @@
 -- The bytes of an object: the sections of a code, one after another.
-use Rattle.std.specs.Prelude.{◌≡◌, ℕ, ◌+◌, Bool, true, false, nat_eq, if◌then◌else◌, List, [], ◌∷◌, ◌++◌, length, take, get_or, sum_by}
+use Rattle.std.specs.Prelude.{◌≡◌, ℕ, ◌+◌, nat_eq, if◌then◌else◌, List, [], ◌∷◌, ◌++◌, length, take, get_or, sum_by}
 use Rattle.std.specs.List.{flat_map, range_with_len}
 use Rattle.alma_base.specs.declared.number.Range.{Range}
 use Rattle.alma_code.specs.declared.cell.SlotKind.{SlotKind}
@@ -9,10 +9,10 @@ use Rattle.alma_code.specs.declared.head.CodeParam.{CodeParam}
 use Rattle.alma_code.specs.declared.head.ParamKind.{ParamKind}
 use Rattle.alma_code.specs.declared.head.ParamKind.TheVariants as param
 use Rattle.alma_code.specs.declared.head.Run.{Run}
-use Rattle.alma_code.specs.Plain.{PlainCode, PlainRoutine, PlainGlobal, no_routine, routine_at}
+use Rattle.alma_code.specs.Plain.{PlainCode, PlainGlobal, routine_at}
 use Rattle.alma_code.specs.Records.{param_count, run_count, name_count, text_count, KeepsVersion, KeepsCounts, KeepsRecords}
 use Rattle.alma_code.specs.Rules.{IsTable}
-use Rattle.alma_object.specs.Bytes.{u16_bytes, u32_bytes, words_bytes, i64_bytes}
+use Rattle.alma_object.specs.Bytes.{u16_bytes, words_bytes, i64_bytes}
 use Rattle.alma_object.specs.Instrs.{instr_bytes}
 use Rattle.alma_object.specs.Header.{magic}
 

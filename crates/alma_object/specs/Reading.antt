@@ -9,12 +9,11 @@ use Rattle.alma_code.specs.declared.head.CodeParam.{CodeParam}
 use Rattle.alma_code.specs.declared.head.ParamKind.{ParamKind}
 use Rattle.alma_code.specs.declared.head.ParamKind.TheVariants as param
 use Rattle.alma_code.specs.declared.head.Run.{Run}
-use Rattle.alma_code.specs.declared.instr.Instr.{Instr}
 use Rattle.alma_code.specs.Plain.{PlainCode, PlainRoutine, PlainGlobal}
 use Rattle.alma_object.specs.declared.header.Header.{Header}
 use Rattle.alma_object.specs.Bytes.{u32_at, i64_at}
 use Rattle.alma_object.specs.Instrs.{instr_at}
-use Rattle.alma_object.specs.Header.{routines_at, globals_at, params_at, runs_at, ranges_at, name_pool_at, text_pool_at, instrs_at, lines_at}
+use Rattle.alma_object.specs.Header.{globals_at, params_at, runs_at, ranges_at, name_pool_at, text_pool_at, instrs_at, lines_at}
 use Rattle.alma_object.specs.Walk.{start_of, routine_field, params_end, runs_end, code_end, text_end, name_end}
 
 -- the items with the numbers below n

@@ -1,5 +1,5 @@
 -- The walk over the bytes of an object behind its header, section by section, and the first fault that it meets.
-use Rattle.std.specs.Prelude.{ℕ, zero, suc, ◌+◌, ◌-◌, ◌*◌, Bool, true, not, ◌&&◌, ◌||◌, nat_eq, nat_lt, nat_le, int_le, if◌then◌else◌, Option, None, List, length, slice_index}
+use Rattle.std.specs.Prelude.{ℕ, zero, suc, ◌+◌, ◌-◌, ◌*◌, Bool, not, ◌&&◌, ◌||◌, nat_eq, nat_lt, nat_le, int_le, if◌then◌else◌, Option, None, List, length, slice_index}
 use Rattle.alma_base.specs.Reading.{is_digit}
 use Rattle.alma_code.specs.Records.{is_name_start}
 use Rattle.alma_object.specs.declared.fault.ObjectFault.{ObjectFault}

@@ -1,4 +1,4 @@
-use Rattle.std.proofs.Common.{rules, ◌≡◌, ◌<◌, ◌≤◌, ℕ, ◌+◌, slice_index, arith}
+use Rattle.std.proofs.Common.{◌<◌, ◌+◌, slice_index, arith}
 use Rattle.alma_object.specs.Bytes.{u32_at, i64_at}
 use Rattle.alma_object.specs.Instrs.{instr_at as instr_there, instrs_with}
 use Rattle.alma_code.specs.declared.instr.Instr.TheVariants as I

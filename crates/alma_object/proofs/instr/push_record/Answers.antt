@@ -1,4 +1,3 @@
-use Rattle.std.proofs.Common.{rules, ◌≡◌}
 use Rattle.alma_object.proofs.Appends.{after_byte}
 use Rattle.alma_object.proofs.instr.push_record.Goals as goal
 

@@ -1,4 +1,4 @@
-use Rattle.std.proofs.Common.{◌≡◌, ◌+◌, ◌-◌, ◌*◌, ◌≤◌, length, None}
+use Rattle.std.proofs.Common.{◌≡◌, ◌+◌, ◌-◌, None}
 use Rattle.std.specs.Prelude.{nat_eq, slice_index}
 use Rattle.alma_object.specs.declared.fault.ObjectFault.TheVariants as fault
 use Rattle.alma_object.specs.Fault.{unless, first_fault}

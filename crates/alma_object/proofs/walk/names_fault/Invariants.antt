@@ -1,4 +1,4 @@
-use Rattle.std.proofs.Common.{◌≡◌, ◌+◌, ◌-◌, ◌*◌, ◌≤◌, length}
+use Rattle.std.proofs.Common.{◌≡◌, ◌-◌}
 use Rattle.alma_object.specs.Fault.{first_fault}
 use Rattle.alma_object.specs.Walk.{name_fault, name_count}
 use Rattle.alma_object.proofs.walk.names_fault.Given as goal

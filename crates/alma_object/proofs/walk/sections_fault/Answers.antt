@@ -1,4 +1,4 @@
-use Rattle.std.proofs.Common.{rules, ◌≡◌, ◌≤◌, ◌∙◌, sym, arith}
+use Rattle.std.proofs.Common.{◌∙◌, sym, arith}
 use Rattle.alma_object.proofs.Kept.{last_runs, name_ends_fit}
 use Rattle.alma_object.proofs.walk.sections_fault.Goals as goal
 

@@ -1,6 +1,5 @@
-use Rattle.std.proofs.Common.{rules, ◌≡◌, ◌≤◌, ◌∙◌, ap, take, length, sum_by, arith}
-use Rattle.std.proofs.lemmas.List.{take_all, length-map}
-use Rattle.alma_code.specs.Plain.{PlainRoutine, code_of, routine_of}
+use Rattle.std.proofs.Common.{rules, ◌≡◌, length, arith}
+use Rattle.alma_code.specs.Plain.{code_of}
 use Rattle.alma_object.proofs.Encoding.{routine_step, routine_written}
 use Rattle.alma_object.proofs.writing.count_totals.Goals as goal
 

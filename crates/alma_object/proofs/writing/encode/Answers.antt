@@ -1,4 +1,4 @@
-use Rattle.std.proofs.Common.{rules, ◌≡◌, ◌++◌, List, ap, ◌∙◌}
+use Rattle.std.proofs.Common.{◌++◌, ap, ◌∙◌}
 use Rattle.std.specs.List.{flat_map}
 use Rattle.alma_object.specs.Instrs.{instr_bytes}
 use Rattle.alma_object.specs.Object.{object_bytes, table_bytes, range_bytes, line_bytes}

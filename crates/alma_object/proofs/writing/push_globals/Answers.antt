@@ -1,4 +1,4 @@
-use Rattle.std.proofs.Common.{rules, ◌≡◌, ◌≤◌, length, arith}
+use Rattle.std.proofs.Common.{rules, ◌≡◌, length, arith}
 use Rattle.alma_code.specs.Plain.{code_of}
 use Rattle.alma_object.specs.Object.{global_bytes}
 use Rattle.alma_object.proofs.Encoding.{global_written, section_next}

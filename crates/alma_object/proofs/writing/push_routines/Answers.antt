@@ -1,10 +1,7 @@
-use Rattle.std.proofs.Common.{rules, ◌≡◌, ◌≤◌, ◌+◌, ◌∷◌, [], length, ap, ◌∙◌, sym, arith}
-use Rattle.std.specs.Prelude.{if◌then◌else◌}
-use Rattle.std.specs.Vec.{vec_len}
+use Rattle.std.proofs.Common.{rules, ◌≡◌, length, arith}
 use Rattle.alma_code.specs.Plain.{code_of}
-use Rattle.alma_object.specs.Bytes.{words_bytes}
 use Rattle.alma_object.specs.Object.{routine_bytes}
-use Rattle.alma_object.proofs.Encoding.{RoutineStep, routine_step, routine_written, section_next}
+use Rattle.alma_object.proofs.Encoding.{routine_step, routine_written, section_next}
 use Rattle.alma_object.proofs.writing.push_routines.Goals as goal
 
 pub overflow_cast-name_end : goal.overflow_cast-name_end

@@ -1,4 +1,4 @@
-use Rattle.std.proofs.Common.{rules, ◌≡◌, ◌≤◌, length, arith, refl}
+use Rattle.std.proofs.Common.{rules, ◌≡◌, length, arith, refl}
 use Rattle.alma_code.specs.Plain.{code_of}
 use Rattle.alma_object.specs.Object.{text_end_bytes}
 use Rattle.alma_object.proofs.Encoding.{text_written, section_next}

@@ -1,4 +1,4 @@
-use Rattle.std.proofs.Common.{◌≡◌, ◌++◌, ◌+◌, take, length, sum_by}
+use Rattle.std.proofs.Common.{◌≡◌, ◌++◌, take, length, sum_by}
 use Rattle.alma_code.specs.Plain.{code_of}
 use Rattle.alma_object.specs.Object.{section, text_end_bytes}
 use Rattle.alma_object.proofs.writing.push_text_ends.Given as goal

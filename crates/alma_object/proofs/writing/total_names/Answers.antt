@@ -1,4 +1,4 @@
-use Rattle.std.proofs.Common.{rules, ◌≡◌, ◌≤◌, length, arith}
+use Rattle.std.proofs.Common.{rules, ◌≡◌, length, arith}
 use Rattle.alma_object.proofs.Encoding.{global_written}
 use Rattle.alma_object.proofs.writing.total_names.Goals as goal
 

@@ -1,4 +1,4 @@
-use Rattle.std.proofs.Common.{rules, ◌≡◌, ◌≤◌, length, arith, refl}
+use Rattle.std.proofs.Common.{rules, ◌≡◌, length, arith, refl}
 use Rattle.alma_code.specs.Plain.{code_of}
 use Rattle.alma_object.proofs.Encoding.{text_written}
 use Rattle.alma_object.proofs.writing.total_texts.Goals as goal

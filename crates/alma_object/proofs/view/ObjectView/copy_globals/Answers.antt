@@ -1,4 +1,4 @@
-use Rattle.std.proofs.Common.{rules, ◌≡◌, ◌+◌, ◌*◌, ◌∙◌, ap, arith}
+use Rattle.std.proofs.Common.{◌∙◌}
 use Rattle.alma_code.specs.Plain.{global_of}
 use Rattle.alma_object.specs.Reading.{global_in}
 use Rattle.alma_object.proofs.Items.{copied}

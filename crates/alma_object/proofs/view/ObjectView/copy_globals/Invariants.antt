@@ -1,5 +1,5 @@
 use Rattle.std.proofs.Common.{◌≡◌, take, map}
-use Rattle.alma_code.specs.Plain.{routine_of, global_of}
+use Rattle.alma_code.specs.Plain.{global_of}
 use Rattle.alma_object.specs.View.{code_of_view}
 use Rattle.alma_object.proofs.view.ObjectView.copy_globals.Given as goal
 

@@ -1,4 +1,4 @@
-use Rattle.std.proofs.Common.{rules, ◌≡◌, ◌+◌, ◌*◌, ◌∙◌, ap, arith}
+use Rattle.std.proofs.Common.{◌+◌, ◌*◌, ◌∙◌, ap}
 use Rattle.alma_object.specs.Header.{ranges_at}
 use Rattle.alma_object.specs.Reading.{range_in}
 use Rattle.alma_object.proofs.Items.{copied_plain}

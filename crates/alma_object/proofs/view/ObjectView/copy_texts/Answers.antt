@@ -1,4 +1,4 @@
-use Rattle.std.proofs.Common.{rules, ◌≡◌, ◌+◌, ◌*◌, ◌∙◌, ap, arith}
+use Rattle.std.proofs.Common.{◌∙◌}
 use Rattle.alma_object.specs.Reading.{text_in}
 use Rattle.alma_object.proofs.Items.{copied}
 use Rattle.alma_object.proofs.view.ObjectView.copy_texts.Goals as goal

@@ -1,4 +1,3 @@
-use Rattle.std.proofs.Common.{rules, ◌≡◌}
 use Rattle.alma_object.proofs.Whole.{is_object}
 use Rattle.alma_object.proofs.view.ObjectView.keeps_object.Goals as goal
 

@@ -1,6 +1,4 @@
-use Rattle.std.proofs.Common.{rules, ◌≡◌, ◌≤◌, ◌+◌, ◌*◌, length, drop, Some, ap, sym, ◌∙◌, arith}
-use Rattle.std.specs.Prelude.{nat_le, slice_get}
-use Rattle.alma_base.specs.Choice.{if_true}
+use Rattle.std.proofs.Common.{◌≡◌, ◌+◌, ◌*◌, drop, Some, ap, sym, ◌∙◌, arith}
 use Rattle.alma_code.specs.Lines.{last_line, known_line}
 use Rattle.alma_object.specs.Header.{lines_at}
 use Rattle.alma_object.specs.Reading.{line_in}

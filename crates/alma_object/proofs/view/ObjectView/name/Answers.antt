@@ -1,4 +1,4 @@
-use Rattle.std.proofs.Common.{rules, ◌≡◌, ◌≤◌, arith}
+use Rattle.std.proofs.Common.{arith}
 use Rattle.alma_object.proofs.Kept.{name_seen}
 use Rattle.alma_object.proofs.view.ObjectView.name.Goals as goal
 

@@ -1,4 +1,4 @@
-use Rattle.std.proofs.Common.{rules, ◌≡◌, ◌<◌, ℕ, get_or, ◌∙◌, sym, arith}
+use Rattle.std.proofs.Common.{◌<◌, ℕ, get_or, ◌∙◌, sym, arith}
 use Rattle.alma_object.proofs.Whole.{is_object}
 use Rattle.alma_object.proofs.view.ObjectView.new.Goals as goal
 

@@ -1,4 +1,4 @@
-use Rattle.std.proofs.Common.{rules, ◌≡◌, ◌≤◌, arith}
+use Rattle.std.proofs.Common.{arith}
 use Rattle.alma_object.proofs.Kept.{text_seen}
 use Rattle.alma_object.proofs.view.ObjectView.text_view.Goals as goal
 
