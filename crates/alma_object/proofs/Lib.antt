@@ -1,0 +1,16 @@
+pub mod Appends
+pub mod Encoding
+pub mod Faults
+pub mod Forms
+pub mod Items
+pub mod Kept
+pub mod Records
+pub mod Rows
+pub mod Sections
+pub mod Slices
+pub mod Spelled
+pub mod Stands
+pub mod Starts
+pub mod Tables
+pub mod Views
+pub mod Whole

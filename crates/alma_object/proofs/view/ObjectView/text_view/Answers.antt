@@ -1,0 +1,13 @@
+use Rattle.std.proofs.Common.{arith}
+use Rattle.alma_object.proofs.Kept.{text_seen}
+use Rattle.alma_object.proofs.view.ObjectView.text_view.Goals as goal
+
+pub part-requires-clause-order : goal.part-requires-clause-order
+part-requires-clause-order c =
+    let seen = text_seen c.args.self.now.bytes.now c.args.self.now.header c.args.self.now.none c.args.i c.requires in
+    omega (arith, seen.low)
+
+pub part-requires-clause-end : goal.part-requires-clause-end
+part-requires-clause-end c =
+    let seen = text_seen c.args.self.now.bytes.now c.args.self.now.header c.args.self.now.none c.args.i c.requires in
+    omega (arith, seen.high, c.args.self.now.whole)

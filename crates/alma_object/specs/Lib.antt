@@ -1,0 +1,8 @@
+pub mod Bytes
+pub mod Fault
+pub mod Header
+pub mod Instrs
+pub mod Reading
+pub mod Object
+pub mod View
+pub mod Walk

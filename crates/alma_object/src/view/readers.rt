@@ -1,0 +1,258 @@
+// What a view reads.
+ghost use Rattle.alma_base.specs.Choice.{if_true};
+ghost use Rattle.std.specs.Prelude.{nat_le, ◌≡◌, ◌+◌, ◌<◌, ◌≤◌, length, map, slice_get, slice_range, option_map, Some, None, MatchOption, MatchResult, IfOk, IfSome};
+ghost use Rattle.std.specs.List.{list_any};
+ghost use Rattle.alma_code.specs.Lines.{line_of as line_of_code, known_line as known_line_of};
+ghost use Rattle.alma_code.specs.Plain.{start_at};
+ghost use Rattle.alma_object.specs.Object.{IsObject};
+ghost use Rattle.alma_object.specs.Reading.{name_in, text_in, routine_in, global_in};
+ghost use Rattle.alma_object.specs.Walk.{object_fault};
+ghost use Rattle.alma_object.specs.View.{code_of_view, routine_of_view, global_of_view, is_read as is_read_of};
+
+use crate::bytes::u32_at;
+use crate::fault::ObjectFault;
+use crate::header::read_header;
+use crate::instr::instr_at;
+use crate::record::{line_in, range_in};
+use crate::routine::RoutineView;
+use crate::view::ObjectView;
+use crate::walk::{
+    code_end, code_start, name_end, name_start, params_end, params_start, runs_end, runs_start,
+    sections_fault, text_end, text_start,
+};
+use alma_base::Range;
+use alma_code::{Instr, Line};
+
+/// A global of an object. It lends its name.
+#[derive(Clone, Copy, Debug)]
+pub struct GlobalView<'b> {
+    pub name: &'b [u8],
+    pub slot: u32,
+    pub cells: u32,
+}
+
+fn is_read(instr: Instr) -> bool
+    ensures { result ≡ is_read_of instr }
+{
+    matches!(instr, Instr::ReadInt { .. } | Instr::ReadChar { .. })
+}
+
+// The line of a record at or before an address, or else another.
+fn line_or(line: Line, at: u32, other: u32) -> u32
+    ensures { result ≡ if_true (nat_le line.at at) (λ _. line.line) (λ _. other) }
+{
+    if line.at <= at { line.line } else { other }
+}
+
+fn known_line(line: u32) -> Option<u32>
+    ensures { result ≡ known_line_of line }
+{
+    if line == 0 { None } else { Some(line) }
+}
+
+impl<'b> ObjectView<'b> {
+    /// The view of the bytes of an object, or the first fault of bytes that are none.
+    #[tactic(auto, unfolding(crate::specs::Walk::object_fault))]
+    pub fn new(bytes: &'b [u8]) -> Result<ObjectView<'b>, ObjectFault>
+        ensures fault { MatchResult result (λ view. object_fault bytes.now ≡ None) (λ fault. object_fault bytes.now ≡ Some fault) }
+        ensures object { IfOk result (λ view. IsObject (code_of_view view) bytes.now) }
+    {
+        let header = read_header(bytes)?;
+        if let Some(fault) = sections_fault(bytes, &header) {
+            return Err(fault);
+        }
+        Ok(ObjectView {
+            bytes,
+            header,
+            routines_at: header.routines_at(),
+            instrs_at: header.instrs_at(),
+        })
+    }
+
+    /// What each view keeps: its bytes are the object of its code.
+    pub fn keeps_object(&self)
+        ensures { IsObject (code_of_view self.now) self.now.bytes.now }
+    {}
+
+    pub fn version(&self) -> u16
+        ensures { result ≡ (code_of_view self.now).version }
+    {
+        self.header.version
+    }
+
+    #[tactic(auto, using(crate::proofs::Items::item_steps))]
+    pub fn routine_count(&self) -> u32
+        ensures { result ≡ length (code_of_view self.now).routines }
+    {
+        self.header.routines
+    }
+
+    #[tactic(auto, using(crate::proofs::Items::item_steps))]
+    pub fn code_count(&self) -> u32
+        ensures { result ≡ length (code_of_view self.now).instrs }
+    {
+        self.header.instrs
+    }
+
+    #[tactic(auto, using(crate::proofs::Items::item_steps))]
+    pub fn global_count(&self) -> u32
+        ensures { result ≡ length (code_of_view self.now).globals }
+    {
+        self.header.globals
+    }
+
+    /// The instruction at an address, straight from its record.
+    #[tactic(auto, using(crate::proofs::Items::item_steps))]
+    pub fn instr(&self, at: u32) -> Instr
+        requires { at < length (code_of_view self.now).instrs }
+        ensures { slice_get (code_of_view self.now).instrs at ≡ Some result }
+    {
+        instr_at(self.bytes, self.instrs_at + 17 * at as usize)
+    }
+
+    #[tactic(auto, using(crate::proofs::Items::item_steps))]
+    pub fn range(&self, i: u32) -> Option<Range>
+        ensures { result ≡ slice_get (code_of_view self.now).ranges i }
+    {
+        if i < self.header.ranges {
+            Some(range_in(self.bytes, self.header.ranges_at() + 16 * i as usize))
+        } else {
+            None
+        }
+    }
+
+    // The bytes from one offset to another.
+    fn part(&self, start: usize, end: usize) -> &'b [u8]
+        requires order { start ≤ end }
+        requires end { end ≤ length self.now.bytes.now }
+        ensures { result.now ≡ slice_range self.now.bytes.now start end }
+    {
+        &self.bytes[start..end]
+    }
+
+    // A name of routines and globals.
+    #[tactic(auto, unfolding(crate::specs::Reading::name_in))]
+    fn name(&self, name: u32) -> &'b [u8]
+        requires { name < self.now.header.routines + self.now.header.globals }
+        ensures { result.now ≡ name_in self.now.bytes.now self.now.header name }
+    {
+        let at = self.header.name_pool_at();
+        let start = name_start(self.bytes, &self.header, name);
+        let end = name_end(self.bytes, &self.header, name);
+        self.part(at + start as usize, at + end as usize)
+    }
+
+    // A routine below their count.
+    #[tactic(auto, unfolding(crate::specs::Reading::routine_in), using(crate::proofs::Items::item_steps))]
+    pub(crate) fn routine_view(&self, i: u32) -> RoutineView<'b>
+        requires { i < self.now.header.routines }
+        ensures routine { routine_of_view result ≡ routine_in self.now.bytes.now self.now.header i }
+        ensures start { result.code_start ≡ start_at (code_of_view self.now) i }
+    {
+        let at = self.routines_at + 28 * i as usize;
+        let params = params_start(self.bytes, &self.header, i);
+        let runs = runs_start(self.bytes, &self.header, i);
+        RoutineView {
+            bytes: self.bytes,
+            name: self.name(i),
+            params_at: self.header.params_at() + 8 * params as usize,
+            param_count: params_end(self.bytes, &self.header, i) - params,
+            runs_at: self.header.runs_at() + 12 * runs as usize,
+            run_count: runs_end(self.bytes, &self.header, i) - runs,
+            slots: u32_at(self.bytes, at + 16),
+            declared: u32_at(self.bytes, at + 20),
+            result: u32_at(self.bytes, at + 24) == 1,
+            code_start: code_start(self.bytes, &self.header, i),
+            code_end: code_end(self.bytes, &self.header, i),
+        }
+    }
+
+    /// A routine, which lends its name and its records.
+    #[tactic(auto, using(crate::proofs::Items::item_steps))]
+    pub fn routine(&self, i: u32) -> Option<RoutineView<'b>>
+        ensures routine { option_map routine_of_view result ≡ slice_get (code_of_view self.now).routines i }
+        ensures start { IfSome result (λ routine. routine.code_start ≡ start_at (code_of_view self.now) i) }
+    {
+        if i < self.header.routines {
+            Some(self.routine_view(i))
+        } else {
+            None
+        }
+    }
+
+    // A global below their count.
+    #[tactic(auto, unfolding(crate::specs::Reading::global_in))]
+    pub(crate) fn global_view(&self, i: u32) -> GlobalView<'b>
+        requires { i < self.now.header.globals }
+        ensures { global_of_view result ≡ global_in self.now.bytes.now self.now.header i }
+    {
+        let at = self.header.globals_at() + 12 * i as usize;
+        GlobalView {
+            name: self.name(self.header.routines + i),
+            slot: u32_at(self.bytes, at + 4),
+            cells: u32_at(self.bytes, at + 8),
+        }
+    }
+
+    /// A global, which lends its name.
+    #[tactic(auto, using(crate::proofs::Items::item_steps))]
+    pub fn global(&self, i: u32) -> Option<GlobalView<'b>>
+        ensures { option_map global_of_view result ≡ slice_get (code_of_view self.now).globals i }
+    {
+        if i < self.header.globals {
+            Some(self.global_view(i))
+        } else {
+            None
+        }
+    }
+
+    // The bytes of a text below their count.
+    #[tactic(auto, unfolding(crate::specs::Reading::text_in))]
+    pub(crate) fn text_view(&self, i: u32) -> &'b [u8]
+        requires { i < self.now.header.texts }
+        ensures { result.now ≡ text_in self.now.bytes.now self.now.header i }
+    {
+        let at = self.header.text_pool_at();
+        let start = text_start(self.bytes, &self.header, i);
+        let end = text_end(self.bytes, &self.header, i);
+        self.part(at + start as usize, at + end as usize)
+    }
+
+    /// The bytes of a text.
+    #[tactic(auto, using(crate::proofs::Items::item_steps))]
+    pub fn text(&self, i: u32) -> Option<&'b [u8]>
+        ensures { option_map (λ text. text.now) result ≡ slice_get (code_of_view self.now).texts i }
+    {
+        if i < self.header.texts {
+            Some(self.text_view(i))
+        } else {
+            None
+        }
+    }
+
+    /// Whether a ReadInt or a ReadChar stands in the code.
+    #[tactic(auto, using(std::proofs::lemmas::List::Folds::list_any_more, std::proofs::lemmas::List::Folds::list_any_at, crate::proofs::Items::item_steps))]
+    pub fn has_read(&self) -> bool
+        ensures { result ≡ list_any is_read_of (code_of_view self.now).instrs }
+    {
+        for at in 0..self.header.instrs {
+            if is_read(self.instr(at)) {
+                return true;
+            }
+        }
+        false
+    }
+
+    /// The line of the last record at or before an address, where one is known.
+    #[tactic(auto, using(crate::proofs::Items::item_steps))]
+    pub fn line_of(&self, at: u32) -> Option<u32>
+        ensures { result ≡ line_of_code (code_of_view self.now) at }
+    {
+        let lines_at = self.header.lines_at();
+        let mut found: u32 = 0;
+        for k in 0..self.header.lines {
+            found = line_or(line_in(self.bytes, lines_at + 8 * k as usize), at, found);
+        }
+        known_line(found)
+    }
+}
