@@ -1,0 +1,15 @@
+pub mod Numbered
+pub mod View
+pub mod Judged
+pub mod Scene
+pub mod Parts
+pub mod ExprRules
+pub mod StmtRules
+pub mod Nodes
+pub mod Walk
+pub mod Places
+pub mod Types
+pub mod Decls
+pub mod Modules
+pub mod Answers
+pub mod Rising

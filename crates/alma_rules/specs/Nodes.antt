@@ -1,0 +1,238 @@
+-- What the walk makes of a node of statements and expressions, from what is judged of its parts.
+use Rattle.std.specs.Prelude.{ℕ, ◌+◌, ℤ, pos, Bool, true, false, ◌||◌, nat_eq, List, [], ◌∷◌, ◌++◌, length, Option, None, Some, unwrap_or}
+use Rattle.alma_base.specs.Choice.{if_true}
+use Rattle.alma_base.specs.declared.fault.CheckFault.{CheckFault}
+use Rattle.alma_base.specs.declared.number.Range.{Range}
+use Rattle.alma_tree.specs.declared.leaf.Relation.{Relation}
+use Rattle.alma_tree.specs.declared.leaf.Sign.{Sign}
+use Rattle.alma_ir.specs.Tree as ir
+use Rattle.alma_rules.specs.Numbered as tree
+use Rattle.alma_rules.specs.Judged.{Judged, fine, of_value, at_node, both, after, with, with_some}
+use Rattle.alma_rules.specs.Scene.{Scene, FormalOf, found, literal_at, range}
+use Rattle.alma_rules.specs.Parts.{plain, a_test, Typing, value_of, test_of, without_place, integer_typing, char_typing, boolean_typing, Located, desig_of, Denoted, denoted, select_index, located_in, Callee, argument_of, called, related, Operator, add_operator, mul_operator, is_logical, Operands, chained, one_stmt, append_stmts, read_stmts, write_stmts, Span, span_of, ranges_of, append_cases}
+use Rattle.alma_rules.specs.ExprRules.{name_rules, index_rules, Operand, alone, operand_rules, chain_rules, call_rules, simple_rules, sequence_rules, relation_rules, constant_rules, test_rules, argument_kind, argument_rules}
+use Rattle.alma_rules.specs.StmtRules.{loop_name_rules, loop_rules, by_rules, case_rules, label_rules, return_rules, read_rules, write_rules}
+
+-- ---- what a node makes of its parts
+
+-- a name in use, and what it denotes
+abbrev pub judge_name : Scene → ℕ → tree.Name → Judged Denoted
+judge_name s n name = at_node name.node (name_rules (found s name)) (of_value n (denoted s (found s name)))
+
+abbrev pub is_selected : tree.SelectorTail → Bool
+is_selected tree.no_selector = false
+is_selected (tree.more_selector x rest) = true
+
+-- an index with the designator in front of it
+abbrev pub indexed : Scene → Judged Denoted → ℕ → Judged Typing → Judged Denoted
+indexed s d node i =
+    after (at_node node (index_rules s d.value) i)
+    (λ j. record { faults = d.faults ++ j.faults; next = j.next; value = select_index s d.value j.value })
+
+-- a literal of one byte
+abbrev pub byte_of : List ℕ → ℤ
+byte_of [] = pos 0
+byte_of (b ∷ bs) = pos b
+
+abbrev pub literal_typing : Scene → ℕ → Typing
+literal_typing s t = char_typing (byte_of (literal_at s t))
+
+-- a single expression in parentheses stands for itself
+abbrev pub in_parens : Scene → ℕ → Judged Typing → Judged Typing
+in_parens s k j = with without_place (at_node k (simple_rules s) j)
+
+-- any other sequence of statements in parentheses is a Boolean one
+abbrev pub as_sequence : Scene → ℕ → Judged ir.Stmts → Judged Typing
+as_sequence s k j = with (λ body. boolean_typing (a_test (ir.Seq body))) (at_node k (sequence_rules s) j)
+
+-- a single expression where there is one, and else a sequence
+abbrev pub or_sequence : Option (Judged Typing) → (Judged Typing → Judged Typing) → (Unit {0} → Judged Typing) → Judged Typing
+or_sequence (Some j) single sequence = single j
+or_sequence None single sequence = sequence tt
+
+abbrev pub only_of : tree.StmtTail → Option (Judged Typing) → Option (Judged Typing)
+only_of tree.no_stmt j = j
+only_of (tree.more_stmt x rest) j = None
+
+abbrev pub known_typing : Located → Typing
+known_typing l = boolean_typing (plain (ir.Known (desig_of l)))
+
+abbrev pub ord_typing : Typing → Typing
+ord_typing t = record { shape = 0; constant = t.constant; meaning = plain (value_of t.meaning) }
+
+abbrev pub chr_typing : Typing → Typing
+chr_typing t = record { shape = 1; constant = t.constant; meaning = plain (ir.Chr (value_of t.meaning)) }
+
+abbrev pub not_typing : Typing → Typing
+not_typing t = boolean_typing (a_test (ir.Not (test_of t.meaning)))
+
+-- the formals of a callee, and what is left of them behind the first
+abbrev pub formals_of : Option Callee → List FormalOf
+formals_of None = []
+formals_of (Some c) = c.heading.formals
+
+abbrev pub expr_count : tree.ExprTail → ℕ
+expr_count tree.no_expr = 0
+expr_count (tree.more_expr e rest) = 1 + expr_count rest
+
+abbrev pub argument_count : tree.Exprs → ℕ
+argument_count (tree.exprs e rest) = 1 + expr_count rest
+
+abbrev pub called_at : Scene → ℕ → Judged Callee → ℕ → Judged ir.Args → Judged Typing
+called_at s k callee count args = with called (at_node k (call_rules s callee.value count) (both callee args))
+
+abbrev pub judged_argument : Scene → Option FormalOf → tree.Expr → Judged Typing → Judged ir.Arg
+judged_argument s f e j = with (argument_of s f) (at_node (tree.expr_node e) (argument_rules s f (argument_kind s e)) j)
+
+abbrev pub cons_arg : ir.Arg × ir.Args → ir.Args
+cons_arg p = ir.more_args p.0 p.1
+
+abbrev pub cons_operand : Operator → Typing × Operands → Operands
+cons_operand o p = (o, p.0) ∷ p.1
+
+-- a Simple or Term with a sign or with operators
+abbrev pub chain_at : Scene → (ir.Tests → ir.Test) → Operand → ℕ → Option Sign → Bool → Judged (Typing × Operands) → Judged Typing
+chain_at s join o k sign with_logical j = with (chained join sign) (at_node k (chain_rules s join o sign with_logical) j)
+
+abbrev pub operand_behind : Bool → Operator → Operand
+operand_behind sort o = record { signed = false; sort = sort; operator = Some o }
+
+abbrev pub is_signed : Option Sign → Bool
+is_signed None = false
+is_signed (Some sign) = true
+
+-- the first operand belongs to the first operator
+abbrev pub first_add : Option Sign → tree.TermTail → Operand
+first_add sign tree.no_term = record { signed = is_signed sign; sort = false; operator = None }
+first_add sign (tree.more_term o t rest) =
+    record { signed = is_signed sign; sort = is_logical (add_operator o); operator = Some (add_operator o) }
+
+abbrev pub first_mul : tree.FactorTail → Operand
+first_mul tree.no_factor = alone
+first_mul (tree.more_factor o f rest) = operand_behind (is_logical (mul_operator o)) (mul_operator o)
+
+abbrev pub any_or : tree.TermTail → Bool
+any_or tree.no_term = false
+any_or (tree.more_term o t rest) = is_logical (add_operator o) || any_or rest
+
+abbrev pub any_and : tree.FactorTail → Bool
+any_and tree.no_factor = false
+any_and (tree.more_factor o f rest) = is_logical (mul_operator o) || any_and rest
+
+abbrev pub alone_in : {A B : Type 0} → Judged (A × B) → Judged A
+alone_in j = with (λ p. p.0) j
+
+-- a Simple, and a Term in its place: without sign and operators it is its only part
+abbrev pub sum_at : Scene → ℕ → Option Sign → tree.TermTail → Judged (Typing × Operands) → Judged Typing
+sum_at s k None tree.no_term j = alone_in j
+sum_at s k sign rest j = chain_at s ir.Or alone k sign (any_or rest) j
+
+abbrev pub product_at : Scene → Operand → ℕ → tree.FactorTail → Judged (Typing × Operands) → Judged Typing
+product_at s o k tree.no_factor j = at_node k (operand_rules s o) (alone_in j)
+product_at s o k rest j = chain_at s ir.And o k None (any_and rest) j
+
+-- a relation, and what a condition and a value are
+abbrev pub relation_at : Scene → ℕ → Relation → Judged (Typing × Typing) → Judged Typing
+relation_at s k relation j = with (related s relation) (at_node k (relation_rules s relation) j)
+
+abbrev pub as_test : Judged Typing → Judged ir.Test
+as_test j = with (λ t. test_of t.meaning) j
+
+abbrev pub as_expr : Judged Typing → Judged ir.Expr
+as_expr j = with (λ t. value_of t.meaning) j
+
+-- ---- statements
+
+-- a condition, or an expression as a statement
+abbrev pub condition_at : Scene → tree.Expr → Judged Typing → Judged ir.Test
+condition_at s e j = as_test (at_node (tree.expr_node e) (test_rules s) j)
+
+-- the step behind BY
+abbrev pub constant_in : Typing → Option ℤ
+constant_in t = t.constant
+
+abbrev pub step_at : Scene → tree.Expr → Judged Typing → Judged ℤ
+step_at s e j = with_some constant_in (at_node (tree.expr_node e) (by_rules s) j)
+
+abbrev pub one : Judged ir.Stmt → Judged ir.Stmts
+one j = with one_stmt j
+
+abbrev pub if_of : ir.Test × (ir.Stmts × (ir.Arms × ir.Stmts)) → ir.Stmt
+if_of p = ir.If (ir.more_arms p.0 p.1.0 p.1.1.0) p.1.1.1
+
+abbrev pub arms_of : ir.Test × (ir.Stmts × ir.Arms) → ir.Arms
+arms_of p = ir.more_arms p.0 p.1.0 p.1.1
+
+-- a loop Name, and the variable that it names
+abbrev pub loop_variable : Scene → ℕ → tree.Name → Judged Located
+loop_variable s n name =
+    at_node name.node (loop_name_rules s (found s name)) (with_some located_in (of_value n (denoted s (found s name))))
+
+abbrev pub loop_of : Scene → ℕ → Located × (Typing × (Typing × (ℤ × ir.Stmts))) → ir.Loop
+loop_of s n p = ir.a_loop (desig_of p.0) (range s p.0.shape) n (n + 1) (value_of p.1.0.meaning) (value_of p.1.1.0.meaning) p.1.1.1.0 p.1.1.1.1
+
+abbrev pub loop_at : Scene → ℕ → ℕ → Judged Located → Judged Typing → Judged Typing → Judged ℤ → Judged ir.Stmts → Judged ir.Loop
+loop_at s n k var low high by body =
+    with (loop_of s n) (at_node k (loop_rules s var.value low.value high.value) (both var (both low (both high (both by body)))))
+
+abbrev pub one_case : Span × List Span → List Range
+one_case p = p.0.range ∷ ranges_of p.1
+
+-- a label with the labels before it in its CASE
+abbrev pub label_at : Scene → Option Typing → List Span → ℕ → Judged Typing → Judged Typing → Judged Span
+label_at s case earlier k low high =
+    with_some (span_of s) (at_node k (label_rules s case earlier (span_of s) low.value high.value) (both low high))
+
+abbrev pub cons_span : Span × List Span → List Span
+cons_span p = p.0 ∷ p.1
+
+-- an arm of CASE, and its labels
+pub record Armed : Type 0 where
+  pub arm : Judged ir.CaseArms
+  pub spans : List Span
+
+abbrev pub arm_of : List Span × ir.Stmts → ir.CaseArms
+arm_of p = ir.more_cases (ranges_of p.0) p.1 ir.no_cases
+
+abbrev pub armed : Judged (List Span) → Judged ir.Stmts → Armed
+armed labels body = record { arm = with arm_of (both labels body); spans = unwrap_or labels.value [] }
+
+abbrev pub joined_cases : ir.CaseArms × ir.CaseArms → ir.CaseArms
+joined_cases p = append_cases p.0 p.1
+
+abbrev pub case_at : Scene → ℕ → Judged Typing → Judged ir.CaseArms → Judged ir.Else → Judged ir.Stmt
+case_at s k case arms other =
+    with (λ p. ir.Case (value_of p.0.meaning) p.1.0 p.1.1) (at_node k (case_rules s case.value) (both case (both arms other)))
+
+abbrev pub read_at : Scene → tree.Desig → Judged Denoted → Judged ir.Stmts
+read_at s d j = with (read_stmts s) (at_node (tree.desig_node d) (read_rules s) (with_some located_in j))
+
+-- a RETURN with a value, or without one
+abbrev pub return_at : Scene → ℕ → Judged Typing → Judged ir.Stmt
+return_at s k j = with (λ t. ir.Return (ir.some_result (value_of t.meaning))) (at_node k (return_rules s true) j)
+
+abbrev pub no_result : Scene → Option Typing → List CheckFault
+no_result s v = return_rules s false None
+
+abbrev pub bare_return_at : Scene → ℕ → ℕ → Judged ir.Stmt
+bare_return_at s n k = with (λ t. ir.Return ir.no_result) (at_node k (no_result s) (fine n (integer_typing (pos 0))))
+
+abbrev pub with_line : ir.Stmts → ir.Stmts
+with_line xs = append_stmts xs (one_stmt ir.WriteLine)
+
+-- a literal that is a whole item of WRITE, and not of length 1: its node and token
+abbrev pub item_literal : tree.Expr → Option (ℕ × ℕ)
+item_literal (tree.expr n (tree.simple m None (tree.term k (tree.factor i (tree.literal j t)) tree.no_factor) tree.no_term) tree.no_relation) = Some (j, t)
+item_literal e = None
+
+abbrev pub text_rules : {A : Type 0} → Scene → Option A → List CheckFault
+text_rules s v = constant_rules s
+
+abbrev pub text_item : Scene → ℕ → ℕ → List ℕ → Judged Typing → ℕ → Judged ir.Stmts
+text_item s n j text item node = if_true (nat_eq (length text) 1)
+    (λ _. with (write_stmts s) (at_node node (write_rules s) item))
+    (λ _. at_node j (text_rules s) (fine n (one_stmt (ir.WriteText text))))
+
+abbrev pub item_of : Scene → ℕ → ℕ → Option (ℕ × ℕ) → Judged Typing → Judged ir.Stmts
+item_of s n node None item = with (write_stmts s) (at_node node (write_rules s) item)
+item_of s n node (Some l) item = text_item s n l.0 (literal_at s l.1) item node

@@ -1,0 +1,348 @@
+-- What the phrases of a source stand for in the resolved program.
+use Rattle.std.specs.Prelude.{ℕ, ℤ, neg_ℤ, ◌+ℤ◌, ◌-ℤ◌, ◌*ℤ◌, Bool, true, false, if◌then◌else◌, List, [], ◌∷◌, Option, None, Some, option_map, option_and_then}
+use Rattle.alma_base.specs.Choice.{if_true}
+use Rattle.alma_base.specs.Numbers.{is_integer, is_zero, div_down_of, mod_down_of, whole_range}
+use Rattle.alma_base.specs.declared.number.Range.{Range}
+use Rattle.alma_tree.specs.declared.leaf.Relation.{Relation}
+use Rattle.alma_tree.specs.declared.leaf.Relation.TheVariants as relations
+use Rattle.alma_tree.specs.declared.leaf.Sign.{Sign}
+use Rattle.alma_tree.specs.declared.leaf.Sign.TheVariants as signs
+use Rattle.alma_tree.specs.declared.leaf.AddOperator.{AddOperator}
+use Rattle.alma_tree.specs.declared.leaf.AddOperator.TheVariants as adds
+use Rattle.alma_tree.specs.declared.leaf.MulOperator.{MulOperator}
+use Rattle.alma_tree.specs.declared.leaf.MulOperator.TheVariants as muls
+use Rattle.alma_tree.specs.declared.leaf.Mode.{Mode}
+use Rattle.alma_tree.specs.declared.leaf.Mode.TheVariants as modes
+use Rattle.alma_names.specs.Shapes.{field_at}
+use Rattle.std.specs.Prelude.{slice_get}
+use Rattle.alma_ir.specs.declared.phrase.Op.{Op}
+use Rattle.alma_ir.specs.declared.phrase.Op.TheVariants as ops
+use Rattle.alma_ir.specs.declared.phrase.Cmp.{Cmp}
+use Rattle.alma_ir.specs.declared.phrase.Cmp.TheVariants as compares
+use Rattle.alma_ir.specs.declared.phrase.Root.{Root}
+use Rattle.alma_ir.specs.declared.phrase.ReadAs.{ReadAs}
+use Rattle.alma_ir.specs.declared.phrase.ReadAs.TheVariants as reads
+use Rattle.alma_ir.specs.declared.phrase.WriteAs.{WriteAs}
+use Rattle.alma_ir.specs.declared.phrase.WriteAs.TheVariants as writes
+use Rattle.alma_ir.specs.Tree as ir
+use Rattle.alma_rules.specs.Scene.{Scene, Heading, FormalOf, Found, absent, bad, constant, named, variable, routine, base, cells, range, is_structured, has_integer, has_char, row_at}
+
+-- ---- expressions
+
+-- an expression is exactly the designator of a variable, another plain one, or one that is not plain
+pub data Meaning : Type 0 where
+  a_place : ir.Desig → Meaning
+  plain : ir.Expr → Meaning
+  a_test : ir.Test → Meaning
+
+-- the shape of an expression, its value in a constant place, and what it stands for
+pub record Typing : Type 0 where
+  pub shape : ℕ
+  pub constant : Option ℤ
+  pub meaning : Meaning
+
+-- as a value a plain expression is itself, and any other the truth of its test
+abbrev pub value_of : Meaning → ir.Expr
+value_of (a_place d) = ir.Load d
+value_of (plain e) = e
+value_of (a_test t) = ir.Truth t
+
+-- as a test a plain expression is its value
+abbrev pub test_of : Meaning → ir.Test
+test_of (a_place d) = ir.Value (ir.Load d)
+test_of (plain e) = ir.Value e
+test_of (a_test t) = t
+
+-- in parentheses or behind a sign it is no longer exactly a designator
+abbrev pub no_place : Meaning → Meaning
+no_place (a_place d) = plain (ir.Load d)
+no_place (plain e) = plain e
+no_place (a_test t) = a_test t
+
+abbrev pub without_place : Typing → Typing
+without_place t = record { shape = t.shape; constant = t.constant; meaning = no_place t.meaning }
+
+abbrev pub integer_typing : ℤ → Typing
+integer_typing v = record { shape = 0; constant = Some v; meaning = plain (ir.Const v) }
+
+abbrev pub char_typing : ℤ → Typing
+char_typing v = record { shape = 1; constant = Some v; meaning = plain (ir.Const v) }
+
+abbrev pub boolean_typing : Meaning → Typing
+boolean_typing m = record { shape = 2; constant = None; meaning = m }
+
+-- ---- designators
+
+-- a variable or a part of one: its shape, where the variable stands, its cells, and the selectors
+pub record Located : Type 0 where
+  pub shape : ℕ
+  pub root : Root
+  pub cells : ℕ
+  pub sels : ir.Sels
+
+abbrev pub desig_of : Located → ir.Desig
+desig_of l = ir.a_desig l.root l.cells l.sels
+
+abbrev pub with_sel : ir.Sels → ir.Sel → ir.Sels
+with_sel ir.no_sels x = ir.more_sels x ir.no_sels
+with_sel (ir.more_sels y rest) x = ir.more_sels y (with_sel rest x)
+
+-- what a designator names: a constant, a variable, a routine, or nothing, since an index stands on a type that is no array
+pub data Denoted : Type 0 where
+  a_constant : (shape : ℕ) → ℤ → Denoted
+  a_variable : Located → Denoted
+  a_routine : (number up : ℕ) → Heading → Denoted
+  no_array : Denoted
+
+abbrev pub denoted : Scene → Found → Option Denoted
+denoted s absent = None
+denoted s bad = None
+denoted s (constant shape v) = Some (a_constant shape v)
+denoted s (named shape) = None
+denoted s (variable shape root) = Some (a_variable (record { shape = shape; root = root; cells = cells s shape; sels = ir.no_sels }))
+denoted s (routine number up heading) = option_map (a_routine number up) heading
+
+-- the field of a name
+abbrev pub field_of : Scene → List ℕ → Located → Option (ℕ × ℕ)
+field_of s name l = field_at name (slice_get s.shapes l.shape)
+
+abbrev pub field_part : Scene → Located → ℕ × ℕ → Denoted
+field_part s l f =
+    a_variable (record { shape = f.1; root = l.root; cells = l.cells; sels = with_sel l.sels (ir.Field f.0 (cells s f.1)) })
+
+abbrev pub select_field : Scene → List ℕ → Denoted → Option Denoted
+select_field s name (a_variable l) = option_map (field_part s l) (field_of s name l)
+select_field s name d = Some d
+
+-- the element of an index
+abbrev pub element_part : Scene → Located → ℕ × ℕ → Typing → Denoted
+element_part s l r i =
+    a_variable (record { shape = r.1; root = l.root; cells = l.cells; sels = with_sel l.sels (ir.Index (value_of i.meaning) (range s r.0) (cells s r.1)) })
+
+abbrev pub select_in : Scene → Located → Option (ℕ × ℕ) → Option Typing → Option Denoted
+select_in s l None i = Some no_array
+select_in s l (Some r) i = option_map (element_part s l r) i
+
+abbrev pub select_index : Scene → Option Denoted → Option Typing → Option Denoted
+select_index s None i = None
+select_index s (Some (a_variable l)) i = select_in s l (row_at s l.shape) i
+select_index s (Some no_array) i = Some no_array
+select_index s (Some (a_constant shape v)) i = option_map (λ t. a_constant shape v) i
+select_index s (Some (a_routine number up heading)) i = option_map (λ t. a_routine number up heading) i
+
+abbrev pub located_in : Denoted → Option Located
+located_in (a_variable l) = Some l
+located_in (a_constant shape v) = None
+located_in (a_routine number up heading) = None
+located_in no_array = None
+
+-- a designator as an expression: a routine is called without arguments
+abbrev pub typing_in : Denoted → Option Typing
+typing_in (a_constant shape v) = Some (record { shape = shape; constant = Some v; meaning = plain (ir.Const v) })
+typing_in (a_variable l) = Some (record { shape = l.shape; constant = None; meaning = a_place (desig_of l) })
+typing_in (a_routine number up heading) = Some (boolean_typing (a_test (ir.CallTest number ir.no_args up)))
+typing_in no_array = None
+
+-- ---- calls
+
+pub record Callee : Type 0 where
+  pub number : ℕ
+  pub up : ℕ
+  pub heading : Heading
+
+abbrev pub callee_in : Denoted → Option Callee
+callee_in (a_routine number up heading) = Some (record { number = number; up = up; heading = heading })
+callee_in (a_constant shape v) = None
+callee_in (a_variable l) = None
+callee_in no_array = None
+
+-- an argument: to a VAR formal and to a structured MIX formal the place, to a structured value formal its cells
+abbrev pub simple_argument : Scene → Option Mode → ℕ → Meaning → ir.Arg
+simple_argument s None shape m = ir.ByValue (value_of m) (range s shape)
+simple_argument s (Some modes.Var) shape (a_place d) = ir.ByPlace d
+simple_argument s (Some modes.Var) shape m = ir.ByValue (value_of m) (range s shape)
+simple_argument s (Some modes.Mix) shape (a_place d) = ir.MixPlace d
+simple_argument s (Some modes.Mix) shape m = ir.MixValue (value_of m) (range s shape)
+
+abbrev pub structured_argument : Option Mode → Meaning → ir.Arg
+structured_argument None (a_place d) = ir.ByCells d
+structured_argument (Some m) (a_place d) = ir.ByPlace d
+structured_argument mode (plain e) = ir.ByValue e whole_range
+structured_argument mode (a_test t) = ir.ByValue (ir.Truth t) whole_range
+
+abbrev pub argument_of : Scene → Option FormalOf → Typing → ir.Arg
+argument_of s None t = ir.ByValue (value_of t.meaning) whole_range
+argument_of s (Some f) t =
+    if is_structured s f.shape then structured_argument f.mode t.meaning else simple_argument s f.mode f.shape t.meaning
+
+-- a call of a function is plain, and one of a procedure without result is a test
+abbrev pub call_typing : Callee → Option ℕ → ir.Args → Typing
+call_typing c None args = boolean_typing (a_test (ir.CallTest c.number args c.up))
+call_typing c (Some shape) args = record { shape = shape; constant = None; meaning = plain (ir.CallExpr c.number args c.up) }
+
+abbrev pub called : Callee × ir.Args → Typing
+called p = call_typing p.0 p.0.heading.result p.1
+
+-- ---- relations
+
+abbrev pub compare_of : Relation → Cmp
+compare_of relations.Equal = compares.Equal
+compare_of relations.Unequal = compares.Unequal
+compare_of relations.Less = compares.Less
+compare_of relations.LessEq = compares.LessEq
+compare_of relations.Greater = compares.Greater
+compare_of relations.GreaterEq = compares.GreaterEq
+
+-- an equation with exactly one designator binds it; one of two unifies them, or their cells
+abbrev pub equation_of : Scene → Typing → Typing → Meaning → Meaning → Meaning
+equation_of s a b (a_place d) (a_place e) =
+    a_test (if is_structured s a.shape then ir.SameCells d e else ir.Unify d (range s a.shape) e (range s b.shape))
+equation_of s a b (a_place d) m = a_test (ir.Bind d (value_of m) (range s a.shape) true)
+equation_of s a b m (a_place e) = a_test (ir.Bind e (value_of m) (range s b.shape) false)
+equation_of s a b l r = plain (ir.Compare compares.Equal (value_of l) (value_of r))
+
+abbrev pub relation_of : Scene → Relation → Typing × Typing → Meaning
+relation_of s relations.Equal p = equation_of s p.0 p.1 p.0.meaning p.1.meaning
+relation_of s relation p = plain (ir.Compare (compare_of relation) (value_of p.0.meaning) (value_of p.1.meaning))
+
+abbrev pub related : Scene → Relation → Typing × Typing → Typing
+related s relation p = boolean_typing (relation_of s relation p)
+
+-- ---- operators
+
+-- AND and OR are of one sort, all others of the other
+pub data Operator : Type 0 where
+  arithmetic : Op → Operator
+  logical : Operator
+
+abbrev pub add_operator : AddOperator → Operator
+add_operator adds.Plus = arithmetic ops.Add
+add_operator adds.Minus = arithmetic ops.Sub
+add_operator adds.Or = logical
+
+abbrev pub mul_operator : MulOperator → Operator
+mul_operator muls.Star = arithmetic ops.Mul
+mul_operator muls.Div = arithmetic ops.Div
+mul_operator muls.Mod = arithmetic ops.Mod
+mul_operator muls.And = logical
+
+abbrev pub is_logical : Operator → Bool
+is_logical (arithmetic op) = false
+is_logical logical = true
+
+-- the operands behind operators, in order
+abbrev pub Operands : Type 0
+Operands = List (Operator × Typing)
+
+-- the value of an operation on constants; None where it leaves INTEGER or divides by zero
+abbrev pub in_integer : ℤ → Option ℤ
+in_integer v = if is_integer v then Some v else None
+
+abbrev pub apply_op : Op → ℤ → ℤ → Option ℤ
+apply_op ops.Add a b = in_integer (a +ℤ b)
+apply_op ops.Sub a b = in_integer (a -ℤ b)
+apply_op ops.Mul a b = in_integer (a *ℤ b)
+apply_op ops.Div a b = if_true (is_zero b) (λ _. None) (λ _. in_integer (div_down_of a b))
+apply_op ops.Mod a b = if_true (is_zero b) (λ _. None) (λ _. in_integer (mod_down_of a b))
+
+abbrev pub apply_sign : Option Sign → ℤ → Option ℤ
+apply_sign (Some signs.Minus) v = in_integer (neg_ℤ v)
+apply_sign sign v = Some v
+
+abbrev pub apply_operator : Operator → Typing → ℤ → Option ℤ
+apply_operator (arithmetic op) t a = option_and_then (apply_op op a) t.constant
+apply_operator logical t a = None
+
+-- from left to right
+abbrev pub folded_from : Option ℤ → Operands → Option ℤ
+folded_from a [] = a
+folded_from a (x ∷ xs) = folded_from (option_and_then (apply_operator x.0 x.1) a) xs
+
+abbrev pub folded : Option Sign → Typing × Operands → Option ℤ
+folded sign p = folded_from (option_and_then (apply_sign sign) p.0.constant) p.1
+
+abbrev pub links_of : Operands → ir.Links
+links_of [] = ir.no_links
+links_of ((arithmetic op, t) ∷ xs) = ir.more_links op (value_of t.meaning) (links_of xs)
+links_of ((logical, t) ∷ xs) = links_of xs
+
+abbrev pub tests_of : Operands → ir.Tests
+tests_of [] = ir.no_tests
+tests_of (x ∷ xs) = ir.more_tests (test_of x.1.meaning) (tests_of xs)
+
+abbrev pub is_minus : Option Sign → Bool
+is_minus (Some signs.Minus) = true
+is_minus sign = false
+
+-- a sum or product: a plus sign leaves nothing, all operands of AND are one And, those of OR one Or
+abbrev pub arithmetic_of : Option Sign → Typing × Operands → ir.Expr
+arithmetic_of sign p = ir.Chain (is_minus sign) (value_of p.0.meaning) (links_of p.1)
+
+abbrev pub chain_of : (ir.Tests → ir.Test) → Option Sign → Typing × Operands → Meaning
+chain_of join (Some signs.Plus) (first, []) = no_place first.meaning
+chain_of join None (first, []) = first.meaning
+chain_of join sign (first, []) = plain (arithmetic_of sign (first, []))
+chain_of join sign (first, (arithmetic op, t) ∷ rest) = plain (arithmetic_of sign (first, (arithmetic op, t) ∷ rest))
+chain_of join sign (first, (logical, t) ∷ rest) = a_test (join (ir.more_tests (test_of first.meaning) (tests_of ((logical, t) ∷ rest))))
+
+abbrev pub chain_shape : Operands → ℕ
+chain_shape [] = 0
+chain_shape ((arithmetic op, t) ∷ rest) = 0
+chain_shape ((logical, t) ∷ rest) = 2
+
+abbrev pub chained : (ir.Tests → ir.Test) → Option Sign → Typing × Operands → Typing
+chained join sign p = record { shape = chain_shape p.1; constant = folded sign p; meaning = chain_of join sign p }
+
+-- ---- statements
+
+abbrev pub one_stmt : ir.Stmt → ir.Stmts
+one_stmt x = ir.more_stmts 0 x ir.no_stmts
+
+abbrev pub append_stmts : ir.Stmts → ir.Stmts → ir.Stmts
+append_stmts ir.no_stmts ys = ys
+append_stmts (ir.more_stmts line x xs) ys = ir.more_stmts line x (append_stmts xs ys)
+
+abbrev pub joined_stmts : ir.Stmts × ir.Stmts → ir.Stmts
+joined_stmts p = append_stmts p.0 p.1
+
+-- a structured value is copied cell by cell
+abbrev pub assigned_to : Scene → Located → Meaning → ir.Stmt
+assigned_to s l (a_place d) =
+    if is_structured s l.shape then ir.CopyCells (desig_of l) d else ir.Assign (desig_of l) (ir.Load d) (range s l.shape)
+assigned_to s l m = ir.Assign (desig_of l) (value_of m) (range s l.shape)
+
+abbrev pub assigned : Scene → Located × Typing → ir.Stmts
+assigned s p = one_stmt (assigned_to s p.0 p.1.meaning)
+
+abbrev pub read_as : Scene → ℕ → ReadAs
+read_as s shape = if has_integer s shape then reads.Int else reads.Char
+
+abbrev pub read_stmts : Scene → Located → ir.Stmts
+read_stmts s l = one_stmt (ir.Read (desig_of l) (read_as s l.shape) (range s l.shape))
+
+abbrev pub write_as : Scene → ℕ → WriteAs
+write_as s shape = if has_integer s shape then writes.Int else if has_char s shape then writes.Char else writes.Bool
+
+abbrev pub write_stmts : Scene → Typing → ir.Stmts
+write_stmts s t = one_stmt (ir.WriteExpr (value_of t.meaning) (write_as s t.shape))
+
+-- a label of CASE: the base of its type, and its values
+pub record Span : Type 0 where
+  pub base : ℕ
+  pub range : Range
+
+abbrev pub span_from : ℕ → Option ℤ → Option ℤ → Option Span
+span_from base (Some a) (Some b) = Some (record { base = base; range = record { low = a; high = b } })
+span_from base (Some a) None = None
+span_from base None b = None
+
+abbrev pub span_of : Scene → Typing × Typing → Option Span
+span_of s p = span_from (base s p.0.shape) p.0.constant p.1.constant
+
+abbrev pub ranges_of : List Span → List Range
+ranges_of [] = []
+ranges_of (x ∷ xs) = x.range ∷ ranges_of xs
+
+abbrev pub append_cases : ir.CaseArms → ir.CaseArms → ir.CaseArms
+append_cases ir.no_cases ys = ys
+append_cases (ir.more_cases labels body xs) ys = ir.more_cases labels body (append_cases xs ys)

@@ -1,0 +1,303 @@
+-- Types: the rules broken in a type expression, the names and shapes that it declares, and its shape.
+use Rattle.std.specs.Prelude.{ℕ, ◌+◌, ℤ, pos, Bool, true, false, ◌&&◌, ◌||◌, not, nat_eq, if◌then◌else◌, List, [], ◌∷◌, ◌++◌, length, bytes_eq, Option, None, Some, option_map}
+use Rattle.alma_base.specs.declared.fault.CheckFault.{CheckFault}
+use Rattle.alma_base.specs.declared.fault.CheckFault.TheVariants as fault
+use Rattle.alma_base.specs.Choice.{if_true}
+use Rattle.alma_names.specs.declared.block.Entry.{Entry}
+use Rattle.alma_names.specs.declared.block.Entry.TheVariants as entry
+use Rattle.alma_names.specs.Shapes.{PlainShape, PlainField, listed, sub, row, fields, is_too_large, placed_shape, cell_counts}
+use Rattle.alma_names.specs.Blocks.{shape_id}
+use Rattle.alma_names.specs.Scopes.{with_declared}
+use Rattle.alma_rules.specs.Numbered as tree
+use Rattle.alma_rules.specs.Judged.{Broken, Judged, broken_at, unless, unbroken, both_of, when, holds}
+use Rattle.alma_rules.specs.Scene.{Scene, Found, absent, bad, named, found, text_at, base, is_structured, is_first, in_constant}
+use Rattle.alma_rules.specs.Parts.{Typing}
+use Rattle.alma_rules.specs.ExprRules.{undeclared}
+use Rattle.alma_rules.specs.StmtRules.{is_above}
+use Rattle.alma_rules.specs.Walk.{judge_expr}
+
+-- what a type expression gives: the rules broken in it, the scene with what it declares, and its value, or None where it is Bad
+pub record Reading (A : Type 0) : Type 0 where
+  pub faults : List Broken
+  pub scene : Scene
+  pub value : Option A
+
+abbrev pub gives : {A : Type 0} → Scene → A → Reading A
+gives s x = record { faults = []; scene = s; value = Some x }
+
+-- the rules of a node
+abbrev pub reading_at : {A : Type 0} → ℕ → (Option A → List CheckFault) → Reading A → Reading A
+reading_at n rules r =
+    record { faults = r.faults ++ broken_at n (rules r.value); scene = r.scene; value = unless (rules r.value) r.value }
+
+-- one phrase and then another, in the scene that the first leaves
+abbrev pub reading_both : {A B : Type 0} → Reading A → Reading B → Reading (A × B)
+reading_both a b = record { faults = a.faults ++ b.faults; scene = b.scene; value = both_of a.value b.value }
+
+abbrev pub reading_then : {A B : Type 0} → Reading A → (Scene → Reading B) → Reading (A × B)
+reading_then a f = reading_both a (f a.scene)
+
+abbrev pub reading_with : {A B : Type 0} → (A → B) → Reading A → Reading B
+reading_with f r = record { faults = r.faults; scene = r.scene; value = option_map f r.value }
+
+-- a value that changes the scene
+abbrev pub changed : {B : Type 0} → Scene → List Broken → Option (Scene × B) → Reading B
+changed s faults None = record { faults = faults; scene = s; value = None }
+changed s faults (Some p) = record { faults = faults; scene = p.0; value = Some p.1 }
+
+abbrev pub reading_change : {A B : Type 0} → (Scene → A → Scene × B) → Reading A → Reading B
+reading_change f r = changed r.scene r.faults (option_map (f r.scene) r.value)
+
+-- an expression in a constant place
+abbrev pub reading_of : {A : Type 0} → Scene → Judged A → Reading A
+reading_of s j = record { faults = j.faults; scene = s; value = j.value }
+
+abbrev pub read_constant : Scene → tree.Expr → Reading Typing
+read_constant s e = reading_of s (judge_expr (in_constant s) 0 e)
+
+-- ---- declarations
+
+-- the scene with a name, visible from a token on, where it is the first of its name in its block
+abbrev pub declared : Scene → tree.Name → (from : ℕ) → Entry → Scene
+declared s name from e =
+    if is_first s name then record s { blocks = with_declared s.blocks (record { name = text_at s name.token; from = from; entry = e }) } else s
+
+-- Redeclared: a Name in a declaration whose block declares it earlier in the text
+abbrev pub redeclared : Scene → tree.Name → List CheckFault
+redeclared s name = when (not (is_first s name)) fault.Redeclared
+
+abbrev pub redeclared_all : Scene → List tree.Name → List Broken
+redeclared_all s [] = []
+redeclared_all s (x ∷ xs) = broken_at x.node (redeclared s x) ++ redeclared_all s xs
+
+-- ---- the rules
+
+-- NotType: a Name in place of a type that names no type
+abbrev pub not_type : Found → Bool
+not_type absent = false
+not_type bad = false
+not_type (named shape) = false
+not_type f = true
+
+abbrev pub type_name_rules : Found → Option ℕ → List CheckFault
+type_name_rules f v = when (undeclared f) fault.Undeclared ++ when (not_type f) fault.NotType
+
+abbrev pub shape_in : Found → Option ℕ
+shape_in (named shape) = Some shape
+shape_in f = None
+
+abbrev pub read_type_name : Scene → tree.Name → Reading ℕ
+read_type_name s name =
+    reading_at name.node (type_name_rules (found s name)) (record { faults = []; scene = s; value = shape_in (found s name) })
+
+-- a shape of the table, or one past a limit, which is in none
+pub data Formed : Type 0 where
+  formed : (shape : ℕ) → Formed
+  too_large : Formed
+
+-- IndexType: an index type of an array that is INTEGER itself or structured
+abbrev pub bad_index : Scene → Formed → Bool
+bad_index s (formed shape) = nat_eq shape 0 || is_structured s shape
+bad_index s too_large = true
+
+abbrev pub index_type_rules : Scene → Option Formed → List CheckFault
+index_type_rules s v = when (holds (bad_index s) v) fault.IndexType
+
+-- TypeMismatch: the subrange whose bounds have different bases; ConstRange: one with low above high
+abbrev pub other_bounds : Scene → Typing × Typing → Bool
+other_bounds s p = not (nat_eq (base s p.0.shape) (base s p.1.shape))
+
+abbrev pub no_subrange : Scene → Typing × Typing → Bool
+no_subrange s p = nat_eq (base s p.0.shape) (base s p.1.shape) && is_above p.0.constant p.1.constant
+
+abbrev pub subrange_rules : Scene → Option (Typing × Typing) → List CheckFault
+subrange_rules s v = when (holds (other_bounds s) v) fault.TypeMismatch ++ when (holds (no_subrange s) v) fault.ConstRange
+
+-- TooLarge: a TypeNode past a limit
+abbrev pub is_past : Formed → Bool
+is_past (formed shape) = false
+is_past too_large = true
+
+abbrev pub size_rules : Option Formed → List CheckFault
+size_rules v = when (holds is_past v) fault.TooLarge
+
+-- ---- shapes
+
+-- the table with one more shape, where it is not past a limit
+abbrev pub add_shape : Scene → PlainShape → Scene × Formed
+add_shape s shape = if_true (is_too_large s.shapes shape)
+    (λ _. (s, too_large))
+    (λ _. (record s { shapes = s.shapes ++ placed_shape (cell_counts s.shapes) shape ∷ [] }, formed (length s.shapes)))
+
+abbrev pub row_on : ℕ → Scene × Formed → Scene × Formed
+row_on i (s, formed e) = add_shape s (row i e)
+row_on i (s, too_large) = (s, too_large)
+
+-- the arrays with these indices, from the inside outwards
+abbrev pub rows_on : Scene → List ℕ → Formed → Scene × Formed
+rows_on s [] f = (s, f)
+rows_on s (i ∷ is) f = row_on i (rows_on s is f)
+
+abbrev pub rows_of : Scene → List ℕ × Formed → Scene × Formed
+rows_of s p = rows_on s p.0 p.1
+
+abbrev pub number_in : Formed → ℕ
+number_in (formed shape) = shape
+number_in too_large = 0
+
+abbrev pub subrange_from : Scene → ℕ → Option ℤ → Option ℤ → Scene × Formed
+subrange_from s b (Some low) (Some high) = add_shape s (sub b (record { low = low; high = high }))
+subrange_from s b low high = (s, too_large)
+
+abbrev pub subrange_of : Scene → Typing × Typing → Scene × Formed
+subrange_of s p = subrange_from s (base s p.0.shape) p.0.constant p.1.constant
+
+-- ---- enumerations
+
+abbrev pub all_first : Scene → List tree.Name → Bool
+all_first s [] = true
+all_first s (x ∷ xs) = is_first s x && all_first s xs
+
+abbrev pub last_token : tree.Name → List tree.Name → ℕ
+last_token x [] = x.token
+last_token x (y ∷ ys) = last_token y ys
+
+-- the names from number i on stand for the values of a shape, or are Bad; they are visible behind the closing parenthesis
+abbrev pub value_entry : Option ℕ → ℕ → Entry
+value_entry None i = entry.Bad
+value_entry (Some shape) i = entry.Constant (shape_id shape) (pos i)
+
+abbrev pub declare_values : Scene → (from : ℕ) → Option ℕ → (i : ℕ) → List tree.Name → Scene
+declare_values s from shape i [] = s
+declare_values s from shape i (x ∷ xs) = declare_values (declared s x from (value_entry shape i)) from shape (i + 1) xs
+
+abbrev pub listed_in : List Broken → (from : ℕ) → List tree.Name → Scene × Formed → Reading Formed
+listed_in faults from names (s, formed shape) =
+    record { faults = faults; scene = declare_values s from (Some shape) 0 names; value = Some (formed shape) }
+listed_in faults from names (s, too_large) = record { faults = faults; scene = declare_values s from None 0 names; value = Some too_large }
+
+abbrev pub read_listed : Scene → List tree.Name → (from : ℕ) → Reading Formed
+read_listed s names from = if_true (all_first s names)
+    (λ _. listed_in [] from names (add_shape s (listed (length names))))
+    (λ _. record { faults = redeclared_all s names; scene = declare_values s from None 0 names; value = None })
+
+abbrev pub all_names : tree.Names → List tree.Name
+all_names x = x.first ∷ x.more
+
+-- ---- records
+
+-- Redeclared: a field whose record declares it earlier in the text
+abbrev pub is_field : Scene → tree.Name → List tree.Name → Bool
+is_field s x [] = false
+is_field s x (y ∷ ys) = bytes_eq (text_at s y.token) (text_at s x.token) || is_field s x ys
+
+abbrev pub redeclared_fields : Scene → (earlier : List tree.Name) → List tree.Name → List Broken
+redeclared_fields s earlier [] = []
+redeclared_fields s earlier (x ∷ xs) =
+    broken_at x.node (when (is_field s x earlier) fault.Redeclared) ++ redeclared_fields s (earlier ++ x ∷ []) xs
+
+abbrev pub fields_with : Scene → List tree.Name → ℕ → List PlainField
+fields_with s [] shape = []
+fields_with s (x ∷ xs) shape = record { name = text_at s x.token; offset = 0; shape = shape } ∷ fields_with s xs shape
+
+-- the fields of a list, Bad where one is declared twice
+abbrev pub fields_of_type : Scene → List tree.Name → List Broken → Reading ℕ → Reading (List PlainField)
+fields_of_type s names faults t =
+    record { faults = faults ++ t.faults; scene = t.scene; value = unbroken faults (option_map (fields_with s names) t.value) }
+
+abbrev pub joined_fields : List PlainField × List PlainField → List PlainField
+joined_fields p = p.0 ++ p.1
+
+abbrev pub record_of : Scene → List PlainField → Scene × Formed
+record_of s fs = add_shape s (fields fs)
+
+-- the names of a field list
+abbrev pub field_names : tree.FieldList → List tree.Name
+field_names (tree.empty_fields n) = []
+field_names (tree.fields n names t) = all_names names
+
+abbrev pub joined_indices : List ℕ × List ℕ → List ℕ
+joined_indices p = p.0 ++ p.1
+
+abbrev pub cons_index : Formed × List ℕ → List ℕ
+cons_index p = number_in p.0 ∷ p.1
+
+-- an index type
+abbrev pub index_at : tree.PlainType → Reading Formed → Reading Formed
+index_at p r = reading_at (tree.plain_node p) (index_type_rules r.scene) r
+
+-- ---- the walk
+
+unfoldable mutual
+  pub read_type : Scene → tree.TypeNode → Reading ℕ
+  read_type s (tree.type_node n dims p) =
+      reading_with number_in (reading_at n size_rules (reading_change rows_of (reading_then (read_arrays s dims) (λ i. read_plain i p))))
+
+  pub read_arrays : Scene → tree.Arrays → Reading (List ℕ)
+  read_arrays s tree.no_arrays = gives s []
+  read_arrays s (tree.arrays n d rest) = reading_with joined_indices (reading_then (read_dimensions s d) (λ i. read_dimension_tail i rest))
+
+  pub read_dimension_tail : Scene → tree.DimensionTail → Reading (List ℕ)
+  read_dimension_tail s tree.no_dimensions = gives s []
+  read_dimension_tail s (tree.more_dimensions d rest) =
+      reading_with joined_indices (reading_then (read_dimensions s d) (λ i. read_dimension_tail i rest))
+
+  pub read_dimensions : Scene → tree.Dimensions → Reading (List ℕ)
+  read_dimensions s (tree.dimensions p rest) = reading_with cons_index (reading_then (index_at p (read_plain s p)) (λ i. read_plains i rest))
+
+  pub read_plains : Scene → tree.PlainTail → Reading (List ℕ)
+  read_plains s tree.no_plain = gives s []
+  read_plains s (tree.more_plain p rest) = reading_with cons_index (reading_then (index_at p (read_plain s p)) (λ i. read_plains i rest))
+
+  pub read_plain : Scene → tree.PlainType → Reading Formed
+  read_plain s (tree.type_name n name) = reading_with formed (read_type_name s name)
+  read_plain s (tree.listed n names) = read_listed s (all_names names) (last_token names.first names.more + 2)
+  read_plain s (tree.subrange n low high) =
+      reading_change subrange_of (reading_at n (subrange_rules s) (reading_then (read_constant s low) (λ i. read_constant i high)))
+  read_plain s (tree.record_type n first rest) =
+      reading_change record_of (reading_with joined_fields (reading_then (read_fields s [] first) (λ i. read_field_tail i (field_names first) rest)))
+
+  -- fields, behind those with these names
+  pub read_fields : Scene → (earlier : List tree.Name) → tree.FieldList → Reading (List PlainField)
+  read_fields s earlier (tree.empty_fields n) = gives s []
+  read_fields s earlier (tree.fields n names t) =
+      fields_of_type s (all_names names) (redeclared_fields s earlier (all_names names)) (read_type s t)
+
+  pub read_field_tail : Scene → (earlier : List tree.Name) → tree.FieldListTail → Reading (List PlainField)
+  read_field_tail s earlier tree.no_fields = gives s []
+  read_field_tail s earlier (tree.more_fields x rest) =
+      reading_with joined_fields (reading_then (read_fields s earlier x) (λ i. read_field_tail i (earlier ++ field_names x) rest))
+
+-- the names of the enumerations in a type, in the order of the text
+unfoldable mutual
+  pub type_names : tree.TypeNode → List tree.Name
+  type_names (tree.type_node n dims p) = arrays_names dims ++ plain_names p
+
+  pub arrays_names : tree.Arrays → List tree.Name
+  arrays_names tree.no_arrays = []
+  arrays_names (tree.arrays n d rest) = dimensions_names d ++ dimension_tail_names rest
+
+  pub dimension_tail_names : tree.DimensionTail → List tree.Name
+  dimension_tail_names tree.no_dimensions = []
+  dimension_tail_names (tree.more_dimensions d rest) = dimensions_names d ++ dimension_tail_names rest
+
+  pub dimensions_names : tree.Dimensions → List tree.Name
+  dimensions_names (tree.dimensions p rest) = plain_names p ++ plains_names rest
+
+  pub plains_names : tree.PlainTail → List tree.Name
+  plains_names tree.no_plain = []
+  plains_names (tree.more_plain p rest) = plain_names p ++ plains_names rest
+
+  pub plain_names : tree.PlainType → List tree.Name
+  plain_names (tree.type_name n name) = []
+  plain_names (tree.listed n names) = all_names names
+  plain_names (tree.subrange n low high) = []
+  plain_names (tree.record_type n first rest) = fields_names first ++ field_tail_names rest
+
+  pub fields_names : tree.FieldList → List tree.Name
+  fields_names (tree.empty_fields n) = []
+  fields_names (tree.fields n names t) = type_names t
+
+  pub field_tail_names : tree.FieldListTail → List tree.Name
+  field_tail_names tree.no_fields = []
+  field_tail_names (tree.more_fields x rest) = fields_names x ++ field_tail_names rest
