@@ -1,0 +1,65 @@
+-- An object is accepted: its header.
+use Rattle.std.proofs.Common.{◌≡◌, ◌⊎◌, ℕ, zero, suc, ◌+◌, ◌-◌, ◌*◌, ◌^◌, ◌<◌, ◌≤◌, Bool, true, false, ◌&&◌, Option, Some, None, List, [], ◌∷◌, ◌++◌, length, get_or, take, drop, refl, sym, ap, subst, ◌∙◌, arith, inl, inr}
+use Rattle.std.specs.Prelude.{nat_eq, nat_lt, nat_le, ◌||◌, if◌then◌else◌}
+use Rattle.std.specs.List.{starts_with}
+use Rattle.std.proofs.lemmas.Bool.Decides.{nat_tests}
+use Rattle.alma_code.specs.Plain.{PlainCode}
+use Rattle.alma_code.specs.Records.{KeepsCounts, KeepsVersion, param_count, run_count, name_count, text_count}
+use Rattle.alma_object.specs.declared.header.Header.{Header}
+use Rattle.alma_object.specs.Bytes.{u16_bytes, words_bytes, u16_at, u32_at}
+use Rattle.alma_object.specs.Header.{magic, header_of}
+use Rattle.alma_object.specs.Object.{IsObject, counts_of, header_bytes, table_bytes, pool_bytes, object_bytes}
+use Rattle.alma_object.proofs.Slices.{words_from}
+use Rattle.alma_object.proofs.Stands.{Stands, AreWords, no_words, more_words, stands_all, stands_first, stands_second, words_stand, u16_stands, u16_length}
+
+-- the header that the object of a code has
+abbrev pub header_for : PlainCode → Header
+header_for code = record {
+  version = code.version;
+  routines = length code.routines;
+  globals = length code.globals;
+  params = param_count code;
+  runs = run_count code;
+  ranges = length code.ranges;
+  texts = length code.texts;
+  name_bytes = name_count code;
+  text_bytes = text_count code;
+  instrs = length code.instrs;
+  lines = length code.lines;
+}
+
+small_version : (v : ℕ) → (v ≡ 1) ⊎ (v ≡ 2) → v < 2 ^ 16
+small_version v (inl e) = omega arith
+small_version v (inr e) = omega arith
+
+last_fits : (two : Bool) (n : ℕ) → n < 2 ^ 32 → AreWords (if two then n ∷ [] else [])
+last_fits true n lt = more_words n [] lt no_words
+last_fits false n lt = no_words
+
+module _ (code : PlainCode) (bytes : List ℕ) (object : IsObject code bytes) where
+  header_stands : Stands bytes 0 (header_bytes code)
+  unfolding object_bytes
+  header_stands =
+      let P : List ℕ → Type 0 = λ t. Stands t 0 (object_bytes code) in
+      stands_first bytes 0 (header_bytes code) _ (subst P object.spelled (stands_all (object_bytes code)))
+
+  pub version_is : u16_at bytes 8 ≡ code.version
+  unfolding header_bytes
+  version_is =
+      let rest = stands_second bytes 0 8 magic (u16_bytes code.version ++ words_bytes (counts_of code)) refl header_stands in
+      let small : code.version < 2 ^ 16 = small_version code.version object.version.version in
+      u16_stands bytes 8 code.version small (stands_first bytes 8 (u16_bytes code.version) (words_bytes (counts_of code)) rest)
+
+  counts_fit : AreWords (counts_of code)
+  counts_fit =
+      let c = object.counts in
+      more_words _ _ (omega (arith, c.routines)) (more_words _ _ (omega (arith, c.globals)) (more_words _ _ (omega (arith, c.params)) (more_words _ _ (omega (arith, c.runs))
+      (more_words _ _ (omega (arith, c.ranges)) (more_words _ _ (omega (arith, c.texts)) (more_words _ _ (omega (arith, c.names)) (more_words _ _ (omega (arith, c.text_bytes))
+      (more_words _ _ (omega (arith, c.instrs)) (last_fits (nat_eq code.version 2) (length code.lines) (omega (arith, c.lines)))))))))))
+
+  pub counts_are : words_from bytes 10 (length (counts_of code)) ≡ counts_of code
+  unfolding header_bytes
+  counts_are =
+      let rest = stands_second bytes 0 8 magic (u16_bytes code.version ++ words_bytes (counts_of code)) refl header_stands in
+      let counts = stands_second bytes 8 10 (u16_bytes code.version) (words_bytes (counts_of code)) (omega (arith, u16_length code.version)) rest in
+      words_stand bytes 10 (counts_of code) counts_fit counts
