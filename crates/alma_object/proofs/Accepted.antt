@@ -32,6 +32,17 @@ small_version : (v : ℕ) → (v ≡ 1) ⊎ (v ≡ 2) → v < 2 ^ 16
 small_version v (inl e) = omega arith
 small_version v (inr e) = omega arith
 
+first_version : (v : ℕ) → (v ≡ 1) ⊎ (v ≡ 2) → nat_eq v 2 ≡ false → v ≡ 1
+first_version v (inl e) f = e
+first_version v (inr e) f = (let two : nat_eq v 2 ≡ true = ap (λ k. nat_eq k 2) e in absurd cc)
+
+word_at : (bytes : List ℕ) (at : ℕ) (ns : List ℕ) → words_from bytes at (length ns) ≡ ns → (k : ℕ) → k < length ns → u32_at bytes (at + 4 * k) ≡ get_or ns k 0
+word_at bytes at [] e k lt = absurd (omega arith)
+word_at bytes at (n ∷ ns) e zero lt = (let z : at + 4 * 0 ≡ at = omega arith in ap (u32_at bytes) z ∙ ap (λ (t : List ℕ). get_or t 0 0) e)
+word_at bytes at (n ∷ ns) e (suc k) lt =
+    let o : at + 4 * suc k ≡ at + 4 + 4 * k = omega arith in
+    ap (u32_at bytes) o ∙ word_at bytes (at + 4) ns (ap (drop 1) e) k (omega arith)
+
 last_fits : (two : Bool) (n : ℕ) → n < 2 ^ 32 → AreWords (if two then n ∷ [] else [])
 last_fits true n lt = more_words n [] lt no_words
 last_fits false n lt = no_words
@@ -63,3 +74,30 @@ module _ (code : PlainCode) (bytes : List ℕ) (object : IsObject code bytes) wh
       let rest = stands_second bytes 0 8 magic (u16_bytes code.version ++ words_bytes (counts_of code)) refl header_stands in
       let counts = stands_second bytes 8 10 (u16_bytes code.version) (words_bytes (counts_of code)) (omega (arith, u16_length code.version)) rest in
       words_stand bytes 10 (counts_of code) counts_fit counts
+
+  count_at : (k n : ℕ) → 10 + 4 * k ≡ n → k < length (counts_of code) → u32_at bytes n ≡ get_or (counts_of code) k 0
+  count_at k n e lt = ap (u32_at bytes) (sym e) ∙ word_at bytes 10 (counts_of code) counts_are k lt
+
+  lines_by : (two : Bool) → nat_eq code.version 2 ≡ two → (if nat_eq (u16_at bytes 8) 2 then u32_at bytes 46 else 0) ≡ length code.lines
+  lines_by true e =
+      let there : nat_eq (u16_at bytes 8) 2 ≡ true = ap (λ v. nat_eq v 2) version_is ∙ e in
+      let last : (if nat_eq code.version 2 then length code.lines ∷ [] else []) ≡ length code.lines ∷ [] = ap (λ b. if b then length code.lines ∷ [] else []) e in
+      ap (λ b. if b then u32_at bytes 46 else 0) there ∙ count_at 9 46 refl (omega (arith, ap length last)) ∙ ap (λ (t : List ℕ). get_or t 0 0) last
+  lines_by false e =
+      let there : nat_eq (u16_at bytes 8) 2 ≡ false = ap (λ v. nat_eq v 2) version_is ∙ e in
+      ap (λ b. if b then u32_at bytes 46 else 0) there ∙ sym (ap length (object.version.first (first_version code.version object.version.version e)).lines)
+
+  pub header_is : header_of bytes ≡ header_for code
+  header_is =
+      let v = version_is in
+      let c0 = count_at 0 10 refl (omega arith) in
+      let c1 = count_at 1 14 refl (omega arith) in
+      let c2 = count_at 2 18 refl (omega arith) in
+      let c3 = count_at 3 22 refl (omega arith) in
+      let c4 = count_at 4 26 refl (omega arith) in
+      let c5 = count_at 5 30 refl (omega arith) in
+      let c6 = count_at 6 34 refl (omega arith) in
+      let c7 = count_at 7 38 refl (omega arith) in
+      let c8 = count_at 8 42 refl (omega arith) in
+      let c9 = lines_by (nat_eq code.version 2) refl in
+      cc
