@@ -5,6 +5,7 @@ pub mod Faults
 pub mod Forms
 pub mod Items
 pub mod Kept
+pub mod Places
 pub mod Records
 pub mod Rows
 pub mod Sections
