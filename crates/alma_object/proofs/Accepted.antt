@@ -1,18 +1,17 @@
 -- An object is accepted: its header.
-use Rattle.std.proofs.Common.{◌≡◌, ◌⊎◌, ℕ, zero, suc, ◌+◌, ◌-◌, ◌*◌, ◌^◌, ◌<◌, ◌≤◌, Bool, true, false, ◌&&◌, Option, Some, None, List, [], ◌∷◌, ◌++◌, length, get_or, take, drop, refl, sym, ap, subst, ◌∙◌, arith, inl, inr}
-use Rattle.std.specs.Prelude.{nat_eq, nat_lt, nat_le, ◌||◌, if◌then◌else◌, sum_by}
+use Rattle.std.proofs.Common.{◌≡◌, ◌⊎◌, ℕ, zero, suc, ◌+◌, ◌*◌, ◌^◌, ◌<◌, ◌≤◌, Bool, true, false, Option, None, List, [], ◌∷◌, ◌++◌, length, get_or, take, drop, refl, sym, ap, subst, ◌∙◌, arith, inl, inr}
+use Rattle.std.specs.Prelude.{nat_eq, nat_le, ◌||◌, if◌then◌else◌, sum_by}
 use Rattle.std.specs.List.{starts_with}
-use Rattle.std.proofs.lemmas.Bool.Decides.{nat_tests}
 use Rattle.alma_code.specs.Plain.{PlainCode}
-use Rattle.alma_code.specs.Records.{KeepsCounts, KeepsVersion, param_count, run_count, name_count, text_count}
+use Rattle.alma_code.specs.Records.{param_count, run_count, name_count, text_count}
 use Rattle.alma_object.specs.declared.header.Header.{Header}
 use Rattle.alma_object.specs.Bytes.{u16_bytes, words_bytes, u16_at, u32_at}
 use Rattle.std.specs.Cmp.Lexicographic.{pointwise}
 use Rattle.alma_object.specs.declared.fault.ObjectFault.{ObjectFault}
 use Rattle.alma_object.specs.declared.fault.ObjectFault.TheVariants as fault
-use Rattle.alma_object.specs.Fault.{unless, whole, or_else}
-use Rattle.alma_object.specs.Header.{magic, header_of, magic_fault, version_fault, count_fault, counts_fault, header_fault}
-use Rattle.alma_object.specs.Object.{IsObject, counts_of, header_bytes, table_bytes, pool_bytes, object_bytes}
+use Rattle.alma_object.specs.Fault.{or_else}
+use Rattle.alma_object.specs.Header.{magic, header_of, count_fault, counts_fault, header_fault}
+use Rattle.alma_object.specs.Object.{IsObject, counts_of, header_bytes, object_bytes}
 use Rattle.alma_object.proofs.Slices.{words_from}
 use Rattle.alma_object.proofs.Stands.{Stands, AreWords, no_words, more_words, stands_all, stands_first, stands_second, stands_slice, stands_within, words_length, whole_true, unless_true, le_test, words_stand, u16_stands, u16_length}
 
@@ -161,7 +160,7 @@ module _ (code : PlainCode) (bytes : List ℕ) (object : IsObject code bytes) wh
       (or_clean (count_clean 38 16777216 (text_count code) (omega (arith, header_whole)) c7 c.text_bytes)
       (unless_true (nat_eq (u32_at bytes 38) 0 || nat_le 1 (u32_at bytes 30)) (fault.BadCount 38) _ (ap (λ k. nat_eq k 0 || nat_le 1 (u32_at bytes 30)) c7 ∙ ap (λ k. nat_eq (text_count code) 0 || nat_le 1 k) c5 ∙ some_text code.texts)
       (or_clean (count_clean 42 4194304 (length code.instrs) (omega (arith, header_whole)) (count_at 8 42 refl (omega arith)) c.instrs)
-        (lines_clean (nat_eq code.version 2) refl)))))))))))
+      (lines_clean (nat_eq code.version 2) refl)))))))))))
 
   -- the header of an object has no fault
   pub header_clean : header_fault bytes ≡ None
@@ -171,5 +170,5 @@ module _ (code : PlainCode) (bytes : List ℕ) (object : IsObject code bytes) wh
       let is : take 8 bytes ≡ magic = stands_slice bytes 0 8 magic refl first in
       or_clean (whole_true bytes 8 _ (omega (arith, header_whole)) (unless_true (starts_with nat_eq bytes magic) fault.Magic None (ap (pointwise nat_eq magic) is) refl))
       (or_clean (whole_true bytes 10 _ (omega (arith, header_whole)) (unless_true (nat_eq (u16_at bytes 8) 1 || nat_eq (u16_at bytes 8) 2) (fault.Version (u16_at bytes 8)) None
-          (ap (λ v. nat_eq v 1 || nat_eq v 2) version_is ∙ known_version code.version object.version.version) refl))
-        counts_clean)
+      (ap (λ v. nat_eq v 1 || nat_eq v 2) version_is ∙ known_version code.version object.version.version) refl))
+      counts_clean)

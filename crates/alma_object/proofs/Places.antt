@@ -1,5 +1,5 @@
 -- Where the sections of an object stand.
-use Rattle.std.proofs.Common.{◌≡◌, ℕ, zero, suc, ◌+◌, ◌*◌, ◌≤◌, Bool, true, false, List, [], ◌∷◌, ◌++◌, length, get_or, refl, sym, ap, subst, ◌∙◌, arith}
+use Rattle.std.proofs.Common.{◌≡◌, ℕ, suc, ◌+◌, ◌*◌, Bool, true, false, List, [], ◌∷◌, ◌++◌, length, get_or, refl, ap, subst, ◌∙◌, arith}
 use Rattle.std.specs.Prelude.{nat_eq, if◌then◌else◌, sum_by}
 use Rattle.std.specs.List.{flat_map, range_with_len}
 use Rattle.std.proofs.lemmas.List.{length-append}
@@ -13,8 +13,8 @@ use Rattle.alma_code.specs.declared.instr.Instr.{Instr}
 use Rattle.alma_code.specs.declared.instr.Instr.TheVariants as I
 use Rattle.alma_code.specs.Plain.{PlainCode, PlainRoutine, PlainGlobal, routine_at}
 use Rattle.alma_object.specs.Bytes.{u16_bytes, words_bytes, i64_bytes}
-use Rattle.alma_object.specs.Instrs.{instr_bytes, record_bytes, const_bytes}
-use Rattle.alma_object.specs.Header.{magic, routines_at, globals_at, params_at, runs_at, ranges_at, texts_at, name_pool_at, text_pool_at, instrs_at, lines_at, end_at}
+use Rattle.alma_object.specs.Instrs.{instr_bytes, record_bytes}
+use Rattle.alma_object.specs.Header.{magic, routines_at, globals_at, params_at, runs_at, ranges_at, texts_at, name_pool_at, text_pool_at, instrs_at, lines_at}
 use Rattle.alma_object.specs.Object.{IsObject, end_of, no_global, param_number, slot_number, slot_size, section, counts_of, header_bytes, table_bytes, pool_bytes, object_bytes, routine_bytes, global_bytes, param_bytes, run_bytes, range_bytes, text_end_bytes, line_bytes}
 use Rattle.alma_object.proofs.Accepted.{header_for}
 use Rattle.alma_object.proofs.Stands.{Stands, stands_all, stands_first, stands_second, words_length, u16_length, i64_length, each_length}
@@ -145,10 +145,18 @@ sections_length each w n same = each_length each w (range_with_len 0 n) same ∙
 table_length : (code : PlainCode) → routines_at (header_for code) + length (table_bytes code) ≡ name_pool_at (header_for code)
 unfolding table_bytes
 table_length code =
-    omega (arith, length-append {A = ℕ}, sections_length (routine_bytes code) 28 (length code.routines) (routine_length code), sections_length (global_bytes code) 12 (length code.globals) (global_length code),
-      each_length param_bytes 8 (flat_map (λ r. r.head.params) code.routines) param_length, each_length run_bytes 12 (flat_map (λ r. r.head.runs) code.routines) run_length,
-      length-flat_map (λ (r : PlainRoutine). r.head.params) code.routines, length-flat_map (λ (r : PlainRoutine). r.head.runs) code.routines,
-      each_length range_bytes 16 code.ranges range_length, sections_length (text_end_bytes code) 4 (length code.texts) (text_length code))
+    omega (
+      arith,
+      length-append {A = ℕ},
+      sections_length (routine_bytes code) 28 (length code.routines) (routine_length code),
+      sections_length (global_bytes code) 12 (length code.globals) (global_length code),
+      each_length param_bytes 8 (flat_map (λ r. r.head.params) code.routines) param_length,
+      each_length run_bytes 12 (flat_map (λ r. r.head.runs) code.routines) run_length,
+      length-flat_map (λ (r : PlainRoutine). r.head.params) code.routines,
+      length-flat_map (λ (r : PlainRoutine). r.head.runs) code.routines,
+      each_length range_bytes 16 code.ranges range_length,
+      sections_length (text_end_bytes code) 4 (length code.texts) (text_length code),
+    )
 
 pool_length : (code : PlainCode) → name_pool_at (header_for code) + length (pool_bytes code) ≡ instrs_at (header_for code)
 unfolding pool_bytes
@@ -167,9 +175,9 @@ sections_stand code bytes object =
     let params_count = length-flat_map (λ (r : PlainRoutine). r.head.params) code.routines in
     let runs_count = length-flat_map (λ (r : PlainRoutine). r.head.runs) code.routines in
     let globals = stands_second bytes (routines_at (header_for code)) (globals_at (header_for code)) (section (routine_bytes code) (length code.routines)) _
-        (omega (arith, sections_length (routine_bytes code) 28 (length code.routines) (routine_length code))) tables in
+    (omega (arith, sections_length (routine_bytes code) 28 (length code.routines) (routine_length code))) tables in
     let params = stands_second bytes (globals_at (header_for code)) (params_at (header_for code)) (section (global_bytes code) (length code.globals)) _
-        (omega (arith, sections_length (global_bytes code) 12 (length code.globals) (global_length code))) globals in
+    (omega (arith, sections_length (global_bytes code) 12 (length code.globals) (global_length code))) globals in
     let runs = stands_second bytes (params_at (header_for code)) (runs_at (header_for code)) (flat_map param_bytes (flat_map (λ r. r.head.params) code.routines)) _ (omega (arith, params_size, params_count)) params in
     let ranges = stands_second bytes (runs_at (header_for code)) (ranges_at (header_for code)) (flat_map run_bytes (flat_map (λ r. r.head.runs) code.routines)) _ (omega (arith, runs_size, runs_count)) runs in
     let h = header_for code in
@@ -183,6 +191,15 @@ sections_stand code bytes object =
     let instrs = stands_second bytes (name_pool_at h) (instrs_at h) (pool_bytes code) _ (omega (arith, pool_length code)) pools in
     let lines = stands_second bytes (instrs_at h) (lines_at h) (flat_map instr_bytes code.instrs) _ (omega (arith, each_length instr_bytes 17 code.instrs instr_length)) instrs in
     record {
-      routines = stands_first _ _ _ _ tables; globals = stands_first _ _ _ _ globals; params = stands_first _ _ _ _ params; runs = stands_first _ _ _ _ runs;
-      ranges = stands_first _ _ _ _ ranges; texts = texts; names = stands_first _ _ _ _ pool; global_names = stands_first _ _ _ _ after_names; text_pool = text_pool; instrs = stands_first _ _ _ _ instrs; lines = lines;
+      routines = stands_first _ _ _ _ tables;
+      globals = stands_first _ _ _ _ globals;
+      params = stands_first _ _ _ _ params;
+      runs = stands_first _ _ _ _ runs;
+      ranges = stands_first _ _ _ _ ranges;
+      texts = texts;
+      names = stands_first _ _ _ _ pool;
+      global_names = stands_first _ _ _ _ after_names;
+      text_pool = text_pool;
+      instrs = stands_first _ _ _ _ instrs;
+      lines = lines;
     }
