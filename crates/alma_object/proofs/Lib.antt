@@ -1,9 +1,11 @@
+pub mod Accepted
 pub mod Appends
 pub mod Encoding
 pub mod Faults
 pub mod Forms
 pub mod Items
 pub mod Kept
+pub mod Places
 pub mod Records
 pub mod Rows
 pub mod Sections

@@ -141,3 +141,12 @@ u16_stands bytes at n lt s =
     let within = stands_within bytes at (u16_bytes n) s in
     let is = stands_slice bytes at (at + 2) (u16_bytes n) refl s in
     u16_cells bytes at within ∙ ap (from_le_bytes w16) is ∙ from_le_bytes-to_le_bytes_2 n lt
+
+pub no_words : AreWords []
+unfolding AreWords
+no_words k = omega arith
+
+pub more_words : (n : ℕ) (ns : List ℕ) → n < 2 ^ 32 → AreWords ns → AreWords (n ∷ ns)
+unfolding AreWords
+more_words n ns lt rest zero = lt
+more_words n ns lt rest (suc k) = rest k
