@@ -1,5 +1,5 @@
 -- The phrases with their lines have exactly the lines that were handed out, in order.
-use Rattle.std.proofs.Common.{◌≡◌, ℕ, zero, suc, ◌+◌, ◌≤◌, List, [], ◌∷◌, ◌++◌, length, get_or, take, drop, refl, sym, ap, ◌∙◌, subst, arith, length-drop}
+use Rattle.std.proofs.Common.{◌≡◌, ℕ, zero, suc, true, false, ◌+◌, ◌≤◌, List, [], ◌∷◌, ◌++◌, length, get_or, take, drop, refl, sym, ap, ◌∙◌, subst, arith, length-drop}
 use Rattle.std.proofs.Math.Seq.{take-length}
 use Rattle.alma_ir.specs.Tree.{Stmts, Stmt, Arms, CaseArms, Else, Branches, Loop, ReturnExpr, Test, Tests, Expr, Links, Args, Arg, Desig, Sels, Sel, no_stmts, more_stmts, Routine, TestStmt, Assign, CopyCells, If, While, Repeat, ForTo, SomeOf, Case, Either, Forall, Commit, Return, Read, WriteExpr, WriteText, WriteLine, no_arms, more_arms, no_cases, more_cases, no_else, else_part, no_branches, more_branches, a_loop, no_result, some_result, Value, Bind, Unify, SameCells, Seq, And, Or, Not, CallTest, no_tests, more_tests, Const, Load, Chain, Compare, Truth, Known, Chr, CallExpr, no_links, more_links, no_args, more_args, ByValue, ByCells, ByPlace, MixValue, MixPlace, a_desig, no_sels, more_sels, Field, Index}
 use Rattle.alma_ir.specs.Lines.{stmt_count, behind, body_with_lines, stmts_with, stmt_with, arms_with, cases_with, else_with, branches_with, loop_with, return_with, test_with, tests_with, expr_with, links_with, args_with, arg_with, desig_with, sels_with, sel_with}
@@ -56,7 +56,8 @@ abbrev mutual
 
   pub test_lines : Test → List ℕ
   test_lines (Value e) = expr_lines e
-  test_lines (Bind d e range left) = desig_lines d ++ expr_lines e
+  test_lines (Bind d e range true) = desig_lines d ++ expr_lines e
+  test_lines (Bind d e range false) = expr_lines e ++ desig_lines d
   test_lines (Unify d range e range2) = desig_lines d ++ desig_lines e
   test_lines (SameCells d e) = desig_lines d ++ desig_lines e
   test_lines (Seq x) = stmts_lines x
@@ -252,7 +253,13 @@ mutual
 
   test_back : (x : Test) (ls : List ℕ) → Enough (test_phrases x) ls → Are (test_lines (test_with x ls)) (test_phrases x) ls
   test_back (Value e) ls le = expr_back e ls le
-  test_back (Bind d e range left) ls le = let some : Enough (desig_phrases d ++ expr_phrases e) ls = le in two (desig_phrases d) (expr_phrases e) ls (desig_lines (desig_with d ls)) (expr_lines (expr_with e (behind (desig_phrases d) ls))) (desig_back d ls (front (desig_phrases d) (expr_phrases e) ls some)) (expr_back e (behind (desig_phrases d) ls) (back (desig_phrases d) (expr_phrases e) ls some))
+  test_back (Bind d e range true) ls le = let some : Enough (desig_phrases d ++ expr_phrases e) ls = le in two (desig_phrases d) (expr_phrases e) ls (desig_lines (desig_with d ls)) (expr_lines (expr_with e (behind (desig_phrases d) ls))) (desig_back d ls (front (desig_phrases d) (expr_phrases e) ls some)) (expr_back e (behind (desig_phrases d) ls) (back (desig_phrases d) (expr_phrases e) ls some))
+  test_back (Bind d e range false) ls le =
+      let same : stmt_count (desig_phrases d ++ expr_phrases e) ≡ stmt_count (expr_phrases e ++ desig_phrases d) = omega (arith, count_sum (desig_phrases d) (expr_phrases e), count_sum (expr_phrases e) (desig_phrases d)) in
+      let given : Enough (desig_phrases d ++ expr_phrases e) ls = le in
+      let some : Enough (expr_phrases e ++ desig_phrases d) ls = omega (arith, given, same) in
+      two (expr_phrases e) (desig_phrases d) ls (expr_lines (expr_with e ls)) (desig_lines (desig_with d (behind (expr_phrases e) ls))) (expr_back e ls (front (expr_phrases e) (desig_phrases d) ls some)) (desig_back d (behind (expr_phrases e) ls) (back (expr_phrases e) (desig_phrases d) ls some))
+      ∙ ap (λ n. take n ls) (sym same)
   test_back (Unify d range e range2) ls le = let some : Enough (desig_phrases d ++ desig_phrases e) ls = le in two (desig_phrases d) (desig_phrases e) ls (desig_lines (desig_with d ls)) (desig_lines (desig_with e (behind (desig_phrases d) ls))) (desig_back d ls (front (desig_phrases d) (desig_phrases e) ls some)) (desig_back e (behind (desig_phrases d) ls) (back (desig_phrases d) (desig_phrases e) ls some))
   test_back (SameCells d e) ls le = let some : Enough (desig_phrases d ++ desig_phrases e) ls = le in two (desig_phrases d) (desig_phrases e) ls (desig_lines (desig_with d ls)) (desig_lines (desig_with e (behind (desig_phrases d) ls))) (desig_back d ls (front (desig_phrases d) (desig_phrases e) ls some)) (desig_back e (behind (desig_phrases d) ls) (back (desig_phrases d) (desig_phrases e) ls some))
   test_back (Seq x) ls le = stmts_back x ls le

@@ -1,5 +1,5 @@
 -- The line of each statement: `lines` of a routine has them in order, a statement before those inside it.
-use Rattle.std.specs.Prelude.{ℕ, suc, List, [], ◌∷◌, get_or, drop}
+use Rattle.std.specs.Prelude.{ℕ, suc, true, false, List, [], ◌∷◌, get_or, drop}
 use Rattle.alma_ir.specs.Tree.{Stmts, Stmt, Arms, CaseArms, Else, Branches, Loop, ReturnExpr, Test, Tests, Expr, Links, Args, Arg, Desig, Sels, Sel, no_stmts, more_stmts, Routine, TestStmt, Assign, CopyCells, If, While, Repeat, ForTo, SomeOf, Case, Either, Forall, Commit, Return, Read, WriteExpr, WriteText, WriteLine, no_arms, more_arms, no_cases, more_cases, no_else, else_part, no_branches, more_branches, a_loop, no_result, some_result, Value, Bind, Unify, SameCells, Seq, And, Or, Not, CallTest, no_tests, more_tests, Const, Load, Chain, Compare, Truth, Known, Chr, CallExpr, no_links, more_links, no_args, more_args, ByValue, ByCells, ByPlace, MixValue, MixPlace, a_desig, no_sels, more_sels, Field, Index}
 use Rattle.alma_ir.specs.Phrases.{Phrase, StmtPhrase, TestPhrase, ExprPhrase, ArgPhrase, DesigPhrase, SelPhrase, stmts_phrases, stmt_phrases, arms_phrases, cases_phrases, test_phrases, expr_phrases, arg_phrases, desig_phrases, sel_phrases}
 
@@ -73,7 +73,8 @@ unfoldable mutual
 
   pub test_with : Test → List ℕ → Test
   test_with (Value e) ls = Value (expr_with e ls)
-  test_with (Bind d e range left) ls = Bind (desig_with d ls) (expr_with e (behind (desig_phrases d) ls)) range left
+  test_with (Bind d e range true) ls = Bind (desig_with d ls) (expr_with e (behind (desig_phrases d) ls)) range true
+  test_with (Bind d e range false) ls = Bind (desig_with d (behind (expr_phrases e) ls)) (expr_with e ls) range false
   test_with (Unify d range e range') ls = Unify (desig_with d ls) range (desig_with e (behind (desig_phrases d) ls)) range'
   test_with (SameCells d e) ls = SameCells (desig_with d ls) (desig_with e (behind (desig_phrases d) ls))
   test_with (Seq body) ls = Seq (stmts_with body ls)
