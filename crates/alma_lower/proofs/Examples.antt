@@ -10,7 +10,7 @@ use Rattle.alma_ir.specs.Tree.{Routine, Program, routine_at, Stmts, Desig, no_st
 use Rattle.std.specs.List.{AllByRecursion}
 use Rattle.alma_ir.specs.Checked.{EachRoutine, EachPhrase, IsChecked, ParamsFirst, DeclaredFits, HeadRangesOrdered, RoutineKeepsLimits, AreNumbers, RootExists, PartsExist, CellsAgree, RangesOrdered, HasStep, LoopIsApart, loops_of, CalleeExists, ResultAgrees, CallFits, HasChoice, ReturnAgrees, ReturnsStay, text_bytes}
 use Rattle.alma_ir.specs.Phrases.{Phrase, stmts_phrases}
-use Rattle.alma_lower.specs.Built.{IsBuilt}
+use Rattle.alma_implements.specs.Built.{IsBuilt}
 
 abbrev pub variable : Desig
 variable = a_desig (root.Local 1) 1 no_sels

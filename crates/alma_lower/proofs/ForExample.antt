@@ -12,7 +12,7 @@ use Rattle.alma_ir.specs.Phrases.{stmts_phrases, loop_phrases}
 use Rattle.alma_ir.specs.View.{expr_of, loop_of, stmt_of, stmts_list}
 use Rattle.alma_ir.proofs.Views
 use Rattle.alma_base.specs.Numbers.{whole_range}
-use Rattle.alma_lower.specs.Built.{IsBuilt}
+use Rattle.alma_implements.specs.Built.{IsBuilt}
 use Rattle.alma_lower.proofs.Examples.{variable, module_with, each, IsPlainWith, plain_checked_with}
 
 -- a loop over the variable

@@ -1,7 +1,7 @@
 use Rattle.std.proofs.Common.{◌≡◌, ◌∙◌, ap, sym, subst}
 use Rattle.alma_ir.specs.View.{stmts_list}
 use Rattle.alma_ir.specs.Checked.{IsChecked}
-use Rattle.alma_lower.specs.Built.{IsBuilt}
+use Rattle.alma_implements.specs.Built.{IsBuilt}
 use Rattle.alma_lower.proofs.Examples.{module_of, case_body, case_built, case_checked}
 use Rattle.alma_lower.proofs.ExampleViews.{if_ok_map, one_pushed, two_pushed, wrote, case_made}
 use Rattle.alma_lower.proofs.tests.case_program.Goals as goal

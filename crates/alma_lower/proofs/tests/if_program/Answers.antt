@@ -1,7 +1,7 @@
 use Rattle.std.proofs.Common.{◌≡◌, ◌∙◌, ap, sym, subst}
 use Rattle.alma_ir.specs.View.{stmts_list}
 use Rattle.alma_ir.specs.Checked.{IsChecked}
-use Rattle.alma_lower.specs.Built.{IsBuilt}
+use Rattle.alma_implements.specs.Built.{IsBuilt}
 use Rattle.alma_lower.proofs.Examples.{module_of, if_body, if_built, if_checked}
 use Rattle.alma_lower.proofs.ExampleViews.{if_ok_map, if_made}
 use Rattle.alma_lower.proofs.tests.if_program.Goals as goal

@@ -2,7 +2,7 @@ use Rattle.std.proofs.Common.{◌≡◌, ◌∙◌, [], ◌∷◌, ◌++◌, ap,
 use Rattle.alma_ir.specs.declared.phrase.Stmt as S
 use Rattle.alma_ir.specs.View.{stmts_list}
 use Rattle.alma_ir.specs.Checked.{IsChecked}
-use Rattle.alma_lower.specs.Built.{IsBuilt}
+use Rattle.alma_implements.specs.Built.{IsBuilt}
 use Rattle.alma_lower.proofs.Examples.{module_of, loop_body, loop_built, loop_checked}
 use Rattle.alma_lower.proofs.ExampleViews.{if_ok_map, loop_made}
 use Rattle.alma_lower.proofs.tests.loop_program.Goals as goal
