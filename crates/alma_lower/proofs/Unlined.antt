@@ -1,6 +1,6 @@
 -- Expressions, designators and tests that are built have no statements inside them: they have no lines and pass none. So
 -- the lines of a statement go to the statements inside it.
-use Rattle.std.proofs.Common.{◌≡◌, ℕ, ℤ, zero, suc, ◌+◌, List, [], ◌∷◌, ◌++◌, get_or, refl, sym, ap, ◌∙◌, arith, drop, subst}
+use Rattle.std.proofs.Common.{◌≡◌, ℕ, ℤ, zero, suc, List, [], ◌∷◌, ◌++◌, get_or, refl, sym, ap, ◌∙◌, arith, drop, subst}
 use Rattle.alma_ir.specs.declared.phrase.Root.TheVariants as root
 use Rattle.alma_ir.specs.declared.phrase.WriteAs.{WriteAs}
 use Rattle.alma_base.specs.declared.number.Range.{Range}
@@ -142,11 +142,11 @@ loop_lined d range counter limit from to by body ls built built2 built3 =
     let y1 : y ≡ ls = behind_none (expr_phrases from) x b.0 ∙ x1 in
     let z1 : z ≡ ls = behind_none (expr_phrases to) y c.0 ∙ y1 in (
       ap (λ v. a_loop v range counter limit (expr_with from x) (expr_with to y) by (stmts_with body z)) (a.1 ls)
-      ∙ ap (λ v. a_loop d range counter limit v (expr_with to y) by (stmts_with body z)) (b.1 x)
-      ∙ ap (λ v. a_loop d range counter limit from v by (stmts_with body z)) (c.1 y)
-      ∙ ap (λ l. a_loop d range counter limit from to by (stmts_with body l)) z1,
+          ∙ ap (λ v. a_loop d range counter limit v (expr_with to y) by (stmts_with body z)) (b.1 x)
+          ∙ ap (λ v. a_loop d range counter limit from v by (stmts_with body z)) (c.1 y)
+          ∙ ap (λ l. a_loop d range counter limit from to by (stmts_with body l)) z1,
       behind_first ((desig_phrases d ++ expr_phrases from) ++ expr_phrases to) (stmts_phrases body) ls
-      (omega (arith, count_sum (desig_phrases d ++ expr_phrases from) (expr_phrases to), count_sum (desig_phrases d) (expr_phrases from), a.0, b.0, c.0)),
+          (omega (arith, count_sum (desig_phrases d ++ expr_phrases from) (expr_phrases to), count_sum (desig_phrases d) (expr_phrases from), a.0, b.0, c.0)),
     )
 
 pub case_lined : (e : Expr) (arms : CaseArms) (rest : Else) (ls : List ℕ) → BuiltExpr e
@@ -173,7 +173,7 @@ arms_lined t body rest ls built =
     let x = behind (test_phrases t) ls in
     let x1 : x ≡ ls = behind_none (test_phrases t) ls a.0 in (
       ap (λ v. more_arms v (stmts_with body x) (arms_with rest (behind (stmts_phrases body) x))) (a.1 ls)
-      ∙ ap (λ l. more_arms t (stmts_with body l) (arms_with rest (behind (stmts_phrases body) l))) x1,
+          ∙ ap (λ l. more_arms t (stmts_with body l) (arms_with rest (behind (stmts_phrases body) l))) x1,
       behind_two (test_phrases t ++ stmts_phrases body) (arms_phrases rest) ls ∙ ap (behind (arms_phrases rest)) (behind_first (test_phrases t) (stmts_phrases body) ls a.0),
     )
 

@@ -167,39 +167,57 @@ fn emit_cmp(emit: &mut Emit, line: u32, cmp: Cmp, to: u32, other: u32) -> Result
     ensures few { OnOk result (filled emit.new ≤ filled emit.old + 2) }
 {
     match cmp {
-        Cmp::Equal => emit.put(line, Instr::Equal {
-            to,
-            left: to,
-            right: other,
-        }),
-        Cmp::Unequal => {
-            emit.put(line, Instr::Equal {
+        Cmp::Equal => emit.put(
+            line,
+            Instr::Equal {
                 to,
                 left: to,
                 right: other,
-            })?;
+            },
+        ),
+        Cmp::Unequal => {
+            emit.put(
+                line,
+                Instr::Equal {
+                    to,
+                    left: to,
+                    right: other,
+                },
+            )?;
             emit.put(line, Instr::Flip { to, from: to })
         }
-        Cmp::Less => emit.put(line, Instr::Less {
-            to,
-            left: to,
-            right: other,
-        }),
-        Cmp::LessEq => emit.put(line, Instr::LessEq {
-            to,
-            left: to,
-            right: other,
-        }),
-        Cmp::Greater => emit.put(line, Instr::Less {
-            to,
-            left: other,
-            right: to,
-        }),
-        Cmp::GreaterEq => emit.put(line, Instr::LessEq {
-            to,
-            left: other,
-            right: to,
-        }),
+        Cmp::Less => emit.put(
+            line,
+            Instr::Less {
+                to,
+                left: to,
+                right: other,
+            },
+        ),
+        Cmp::LessEq => emit.put(
+            line,
+            Instr::LessEq {
+                to,
+                left: to,
+                right: other,
+            },
+        ),
+        Cmp::Greater => emit.put(
+            line,
+            Instr::Less {
+                to,
+                left: other,
+                right: to,
+            },
+        ),
+        Cmp::GreaterEq => emit.put(
+            line,
+            Instr::LessEq {
+                to,
+                left: other,
+                right: to,
+            },
+        ),
     }
 }
 

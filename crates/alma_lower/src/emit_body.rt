@@ -101,7 +101,14 @@ fn emit_write(emit: &mut Emit, line: u32, value: &Expr, how: WriteAs) -> Result<
 
 // A condition, and what is done where it has an alternative, which ends in a jump to `back`.
 #[cycle(body)]
-fn emit_guarded(emit: &mut Emit, lines: &mut Lines, line: u32, body: &[Stmt], test: &Test, back: u32) -> Result<(), NoMemory>
+fn emit_guarded(
+    emit: &mut Emit,
+    lines: &mut Lines,
+    line: u32,
+    body: &[Stmt],
+    test: &Test,
+    back: u32,
+) -> Result<(), NoMemory>
     requires body { BuiltStmts (stmts_list body.now) }
     requires test { BuiltTest (test_of test.now) }
     requires room { filled emit.old + 16 * test_nodes (test_of test.now) + 16 * stmts_nodes (stmts_list body.now) ≤ 8388608 }
@@ -118,7 +125,13 @@ fn emit_guarded(emit: &mut Emit, lines: &mut Lines, line: u32, body: &[Stmt], te
 
 // The arms of IF, each of which leaves by the jump at `exit`.
 #[cycle(body)]
-fn emit_arms(emit: &mut Emit, lines: &mut Lines, line: u32, exit: u32, arms: &[Arm]) -> Result<(), NoMemory>
+fn emit_arms(
+    emit: &mut Emit,
+    lines: &mut Lines,
+    line: u32,
+    exit: u32,
+    arms: &[Arm],
+) -> Result<(), NoMemory>
     requires built { BuiltArms (arms_list arms.now) }
     requires room { filled emit.old + 16 * arms_nodes (arms_list arms.now) ≤ 8388608 }
     ensures puts { OnOk result (PutsArms emit.old emit.new line exit (arms_with (arms_list arms.now) (left lines.old))) }
@@ -133,7 +146,13 @@ fn emit_arms(emit: &mut Emit, lines: &mut Lines, line: u32, exit: u32, arms: &[A
 
 // WHILE.
 #[cycle(body)]
-fn emit_while(emit: &mut Emit, lines: &mut Lines, line: u32, body: &[Stmt], test: &Test) -> Result<(), NoMemory>
+fn emit_while(
+    emit: &mut Emit,
+    lines: &mut Lines,
+    line: u32,
+    body: &[Stmt],
+    test: &Test,
+) -> Result<(), NoMemory>
     requires body { BuiltStmts (stmts_list body.now) }
     requires test { BuiltTest (test_of test.now) }
     requires room { filled emit.old + 16 + 16 * test_nodes (test_of test.now) + 16 * stmts_nodes (stmts_list body.now) ≤ 8388608 }
@@ -148,7 +167,13 @@ fn emit_while(emit: &mut Emit, lines: &mut Lines, line: u32, body: &[Stmt], test
 
 // REPEAT.
 #[cycle(body)]
-fn emit_repeat(emit: &mut Emit, lines: &mut Lines, line: u32, body: &[Stmt], test: &Test) -> Result<(), NoMemory>
+fn emit_repeat(
+    emit: &mut Emit,
+    lines: &mut Lines,
+    line: u32,
+    body: &[Stmt],
+    test: &Test,
+) -> Result<(), NoMemory>
     requires body { BuiltStmts (stmts_list body.now) }
     requires test { BuiltTest (test_of test.now) }
     requires room { filled emit.old + 16 + 16 * test_nodes (test_of test.now) + 16 * stmts_nodes (stmts_list body.now) ≤ 8388608 }
@@ -160,10 +185,13 @@ fn emit_repeat(emit: &mut Emit, lines: &mut Lines, line: u32, body: &[Stmt], tes
     emit_stmts(emit, lines, body)?;
     let value = emit_condition(emit, line, test)?;
     let jump = emit.here();
-    emit.put(line, Instr::JumpZero {
-        value,
-        to: jump + 2,
-    })?;
+    emit.put(
+        line,
+        Instr::JumpZero {
+            value,
+            to: jump + 2,
+        },
+    )?;
     emit.put(line, Instr::Jump { to: jump + 3 })?;
     emit.put(line, Instr::Jump { to: start })?;
     Ok(())
@@ -171,7 +199,13 @@ fn emit_repeat(emit: &mut Emit, lines: &mut Lines, line: u32, body: &[Stmt], tes
 
 // The turns of FOR, whose step stands in a slot.
 #[cycle(body)]
-fn emit_turns(emit: &mut Emit, lines: &mut Lines, line: u32, each: &Loop, step: u32) -> Result<(), NoMemory>
+fn emit_turns(
+    emit: &mut Emit,
+    lines: &mut Lines,
+    line: u32,
+    each: &Loop,
+    step: u32,
+) -> Result<(), NoMemory>
     requires var { BuiltDesig (desig_of each.now.var) }
     requires body { BuiltStmts (stmts_list each.now.body.items) }
     requires room { filled emit.old + 8 + 16 * desig_nodes (desig_of each.now.var) + 16 * stmts_nodes (stmts_list each.now.body.items) ≤ 8388608 }
@@ -181,18 +215,24 @@ fn emit_turns(emit: &mut Emit, lines: &mut Lines, line: u32, each: &Loop, step: 
 {
     let turn = emit.here();
     let place = emit_desig(emit, line, &each.var)?;
-    emit.put(line, Instr::Store {
-        to: place,
-        from: each.counter,
-    })?;
+    emit.put(
+        line,
+        Instr::Store {
+            to: place,
+            from: each.counter,
+        },
+    )?;
     emit_stmts(emit, lines, &each.body)?;
     let last = emit.here();
-    emit.put(line, Instr::Step {
-        counter: each.counter,
-        limit: each.limit,
-        by: step,
-        out: last + 2,
-    })?;
+    emit.put(
+        line,
+        Instr::Step {
+            counter: each.counter,
+            limit: each.limit,
+            by: step,
+            out: last + 2,
+        },
+    )?;
     emit.put(line, Instr::Jump { to: turn })?;
     Ok(())
 }
@@ -243,7 +283,13 @@ fn emit_case_arm(
 // The arms of CASE. An arm without labels is never tried: its code is dropped, while the lines of its statements are
 // handed out.
 #[cycle(body)]
-fn emit_cases(emit: &mut Emit, lines: &mut Lines, line: u32, arms: &[CaseArm], head: CaseHead) -> Result<(), NoMemory>
+fn emit_cases(
+    emit: &mut Emit,
+    lines: &mut Lines,
+    line: u32,
+    arms: &[CaseArm],
+    head: CaseHead,
+) -> Result<(), NoMemory>
     requires built { BuiltCases (cases_list arms.now) }
     requires bound { head.bound < 8388608 }
     requires room { filled emit.old + 16 * cases_nodes (cases_list arms.now) ≤ 8388608 }

@@ -44,7 +44,13 @@ pub(crate) fn emit_case_head(emit: &mut Emit, line: u32, value: &Expr) -> Result
 }
 
 // A label, which goes on to `hit` where the value lies in it.
-fn emit_label(emit: &mut Emit, line: u32, head: CaseHead, hit: u32, label: &Range) -> Result<(), NoMemory>
+fn emit_label(
+    emit: &mut Emit,
+    line: u32,
+    head: CaseHead,
+    hit: u32,
+    label: &Range,
+) -> Result<(), NoMemory>
     requires bound { head.bound < 8388608 }
     requires room { filled emit.old + 7 ≤ 8388608 }
     ensures puts { OnOk result (Appends emit.old emit.new (λ at lo. label_code line head.value head.bound at hit label.now) []) }
@@ -53,32 +59,50 @@ fn emit_label(emit: &mut Emit, line: u32, head: CaseHead, hit: u32, label: &Rang
     let CaseHead { value, bound, .. } = head;
     let truth = bound + 1;
     let miss = emit.here() + 7;
-    emit.put(line, Instr::Const {
-        to: bound,
-        value: label.low,
-    })?;
-    emit.put(line, Instr::LessEq {
-        to: truth,
-        left: bound,
-        right: value,
-    })?;
-    emit.put(line, Instr::JumpZero {
-        value: truth,
-        to: miss,
-    })?;
-    emit.put(line, Instr::Const {
-        to: bound,
-        value: label.high,
-    })?;
-    emit.put(line, Instr::LessEq {
-        to: truth,
-        left: value,
-        right: bound,
-    })?;
-    emit.put(line, Instr::JumpZero {
-        value: truth,
-        to: miss,
-    })?;
+    emit.put(
+        line,
+        Instr::Const {
+            to: bound,
+            value: label.low,
+        },
+    )?;
+    emit.put(
+        line,
+        Instr::LessEq {
+            to: truth,
+            left: bound,
+            right: value,
+        },
+    )?;
+    emit.put(
+        line,
+        Instr::JumpZero {
+            value: truth,
+            to: miss,
+        },
+    )?;
+    emit.put(
+        line,
+        Instr::Const {
+            to: bound,
+            value: label.high,
+        },
+    )?;
+    emit.put(
+        line,
+        Instr::LessEq {
+            to: truth,
+            left: value,
+            right: bound,
+        },
+    )?;
+    emit.put(
+        line,
+        Instr::JumpZero {
+            value: truth,
+            to: miss,
+        },
+    )?;
     emit.put(line, Instr::Jump { to: hit })
 }
 

@@ -41,19 +41,28 @@ pub(crate) fn emit_bounds(emit: &mut Emit, line: u32, each: &Loop) -> Result<u32
 {
     let first = emit_expr(emit, line, &each.from)?;
     let last = emit_expr(emit, line, &each.to)?;
-    emit.put(line, Instr::Move {
-        to: each.counter,
-        from: first,
-    })?;
-    emit.put(line, Instr::Move {
-        to: each.limit,
-        from: last,
-    })?;
+    emit.put(
+        line,
+        Instr::Move {
+            to: each.counter,
+            from: first,
+        },
+    )?;
+    emit.put(
+        line,
+        Instr::Move {
+            to: each.limit,
+            from: last,
+        },
+    )?;
     emit.put(line, entry_instr(each.by, first, last))?;
     let jump = emit.here();
-    emit.put(line, Instr::JumpZero {
-        value: first,
-        to: 0,
-    })?;
+    emit.put(
+        line,
+        Instr::JumpZero {
+            value: first,
+            to: 0,
+        },
+    )?;
     Ok(jump)
 }

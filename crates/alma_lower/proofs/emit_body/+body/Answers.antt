@@ -1,4 +1,4 @@
-use Rattle.std.proofs.Common.{rules, ◌≡◌, [], drop, sym, ap, ◌∙◌, subst, arith, to_z, of_z, w64, ◌+◌, ◌*◌, ◌<◌, ◌≤◌, Some, None, length, refl, get_or}
+use Rattle.std.proofs.Common.{rules, ◌≡◌, [], drop, sym, ap, ◌∙◌, subst, arith, to_z, of_z, w64, ◌+◌, ◌*◌, ◌≤◌, length, get_or}
 use Rattle.std.proofs.lemmas.Int.{to_z-of_z}
 use mir.Val.{SFits}
 use Rattle.std.proofs.Math.ListN.{drop_of_length-le}
