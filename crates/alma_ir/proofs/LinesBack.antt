@@ -122,7 +122,7 @@ take_two (suc m) n (l ∷ ls) =
     let e : suc m + n ≡ suc (m + n) = omega arith in
     ap (λ k. take k (l ∷ ls)) e ∙ ap (λ s. l ∷ s) (take_two m n ls)
 
-drop_two : (m n : ℕ) (ls : List ℕ) → drop (m + n) ls ≡ drop n (drop m ls)
+pub drop_two : (m n : ℕ) (ls : List ℕ) → drop (m + n) ls ≡ drop n (drop m ls)
 drop_two zero n ls = let e : 0 + n ≡ n = omega arith in ap (λ k. drop k ls) e
 drop_two (suc m) n [] = drop_none (suc m + n) ∙ sym (drop_none n)
   where
@@ -155,7 +155,7 @@ front xs ys ls le = omega (arith, le, count_sum xs ys)
 back : (xs ys : List Phrase) (ls : List ℕ) → Enough (xs ++ ys) ls → Enough ys (behind xs ls)
 back xs ys ls le = omega (arith, le, count_sum xs ys, length-drop (stmt_count xs) ls)
 
-behind_two : (xs ys : List Phrase) (ls : List ℕ) → behind (xs ++ ys) ls ≡ behind ys (behind xs ls)
+pub behind_two : (xs ys : List Phrase) (ls : List ℕ) → behind (xs ++ ys) ls ≡ behind ys (behind xs ls)
 behind_two xs ys ls = ap (λ n. drop n ls) (count_sum xs ys) ∙ drop_two (stmt_count xs) (stmt_count ys) ls
 
 two : (xs ys : List Phrase) (ls a b : List ℕ) → Are a xs ls → Are b ys (behind xs ls) → Are (a ++ b) (xs ++ ys) ls

@@ -9,7 +9,7 @@ use Rattle.alma_code.specs.declared.cell.SlotKind.TheVariants as slot
 use Rattle.alma_code.specs.declared.head.Run.{Run}
 use Rattle.alma_code.specs.Layout.{RunsRise, kinds_of}
 use Rattle.alma_code.specs.Rules.{last_end}
-use Rattle.alma_lower.specs.Templates.{RunsDiffer, NamesKinds}
+use Rattle.alma_implements.specs.Templates.{RunsDiffer, NamesKinds}
 
 -- these runs, and an latest one behind them, name these kinds
 pub record Opens (runs : List Run) (latest : Run) (kinds : List SlotKind) : Type 0 where

@@ -1,4 +1,1 @@
-pub mod Built
 pub mod Emitted
-pub mod Implements
-pub mod Templates

@@ -4,8 +4,9 @@ ghost use Rattle.alma_code.specs.declared.instr.Instr.{Instr};
 ghost use Rattle.alma_ir.specs.View.{desig_of, expr_of, links_list};
 ghost use Rattle.alma_ir.specs.Count.{desig_nodes, expr_nodes, links_nodes};
 ghost use Rattle.alma_ir.specs.Tree as tree;
-ghost use Rattle.alma_lower.specs.Built.{BuiltDesig, BuiltExpr, BuiltLinks};
-ghost use Rattle.alma_lower.specs.Templates.{op_code, cmp_code, neg_code};
+ghost use Rattle.alma_implements.specs.Built.{BuiltDesig, BuiltExpr, BuiltLinks};
+ghost use Rattle.alma_implements.specs.Operators.{op_code};
+ghost use Rattle.alma_implements.specs.Templates.{Placed, cmp_code, neg_code};
 ghost use Rattle.alma_lower.specs.Emitted.{next_slot, filled, aimed, Appends, Puts, PutsDesig, PutsExpr, PutsLinks};
 
 use alma_base::NoMemory;
@@ -13,10 +14,12 @@ use alma_code::{Instr, SlotKind};
 use alma_ir::{Cmp, Desig, Expr, Link, Op, Root};
 use std::alloc::Global;
 
-// The instructions so far, how many slots the routine has of its own, and the kinds of those behind them.
+// The instructions so far, each with its line, how many slots the routine has of its own, and the kinds of those behind
+// them.
 #[derive(Drop)]
 pub(crate) struct Emit {
-    pub(crate) code: Vec<Instr>,
+    pub(crate) alloc: Global,
+    pub(crate) code: Vec<(Instr, u32)>,
     pub(crate) base: u32,
     pub(crate) kinds: Vec<SlotKind>,
 }
@@ -31,19 +34,20 @@ impl Emit {
         ensures empty { filled result ≡ base }
     {
         Emit {
+            alloc,
             code: Vec::new(alloc),
             base,
             kinds: Vec::new(alloc),
         }
     }
 
-    // One more instruction.
+    // One more instruction, at a line.
     #[tactic(auto, unfolding(crate::specs::Emitted::filled))]
-    pub(crate) fn put(&mut self, instr: Instr) -> Result<(), NoMemory>
-        ensures puts { OnOk result (Puts self.old self.new instr) }
+    pub(crate) fn put(&mut self, line: u32, instr: Instr) -> Result<(), NoMemory>
+        ensures puts { OnOk result (Puts self.old self.new line instr) }
         ensures few { OnOk result (filled self.new ≡ filled self.old + 1) }
     {
-        self.code.push(instr)?;
+        self.code.push((instr, line))?;
         Ok(())
     }
 
@@ -75,14 +79,14 @@ impl Emit {
     pub(crate) fn aim(&mut self, at: u32)
         requires jump { at < length self.old.code.items }
         requires room { filled self.old ≤ 8388608 }
-        ensures code { (before after : List Instr) (jump : Instr) → self.old.code.items ≡ before ++ jump ∷ after → length before ≡ at → self.new.code.items ≡ before ++ aimed jump (length self.old.code.items) ∷ after }
+        ensures code { (before after : List Placed) (jump : Instr) (line : ℕ) → self.old.code.items ≡ before ++ (jump, line) ∷ after → length before ≡ at → self.new.code.items ≡ before ++ (aimed jump (length self.old.code.items), line) ∷ after }
         ensures kinds { self.new.kinds.items ≡ self.old.kinds.items }
         ensures base { self.new.base ≡ self.old.base }
         ensures few { filled self.new ≡ filled self.old }
     {
         let to = self.here();
-        let jump = aimed_at(self.code[at as usize], to);
-        self.code[at as usize] = jump;
+        let (jump, line) = self.code[at as usize];
+        self.code[at as usize] = (aimed_at(jump, to), line);
     }
 }
 
@@ -98,46 +102,48 @@ fn aimed_at(jump: Instr, to: u32) -> Instr
 }
 
 // The place of a variable, and its slot.
-pub(crate) fn emit_desig(emit: &mut Emit, desig: &Desig) -> Result<u32, NoMemory>
+pub(crate) fn emit_desig(emit: &mut Emit, line: u32, desig: &Desig) -> Result<u32, NoMemory>
     requires built { BuiltDesig (desig_of desig.now) }
     requires room { filled emit.old + 16 * desig_nodes (desig_of desig.now) ≤ 8388608 }
     ensures slot { IfOk result (λ slot. slot ≡ next_slot emit.old) }
-    ensures puts { OnOk result (PutsDesig emit.old emit.new (desig_of desig.now)) }
+    ensures puts { OnOk result (PutsDesig emit.old emit.new line (desig_of desig.now)) }
     ensures few { OnOk result (filled emit.new ≤ filled emit.old + 16 * desig_nodes (desig_of desig.now)) }
 {
     match desig.root {
         Root::Local(first) => {
             let to = emit.slot(SlotKind::Place(desig.cells))?;
-            emit.put(Instr::Local { to, first })?;
+            emit.put(line, Instr::Local { to, first })?;
             Ok(to)
         }
-        Root::Global(_) | Root::Param(_) => unreachable!(),
+        Root::Global(_) | Root::Param(_) | Root::Outer(_, _) | Root::OuterParam(_, _) => {
+            unreachable!()
+        },
     }
 }
 
 // A number.
-pub(crate) fn emit_const(emit: &mut Emit, value: i64) -> Result<u32, NoMemory>
+pub(crate) fn emit_const(emit: &mut Emit, line: u32, value: i64) -> Result<u32, NoMemory>
     requires room { filled emit.old < 8388608 }
     ensures slot { IfOk result (λ slot. slot ≡ next_slot emit.old) }
-    ensures puts { OnOk result (PutsExpr emit.old emit.new (tree.Const value)) }
+    ensures puts { OnOk result (PutsExpr emit.old emit.new line (tree.Const value)) }
     ensures few { OnOk result (filled emit.new ≤ filled emit.old + 2) }
 {
     let to = emit.slot(SlotKind::Number)?;
-    emit.put(Instr::Const { to, value })?;
+    emit.put(line, Instr::Const { to, value })?;
     Ok(to)
 }
 
 // The number of a variable.
-fn emit_load(emit: &mut Emit, desig: &Desig) -> Result<u32, NoMemory>
+fn emit_load(emit: &mut Emit, line: u32, desig: &Desig) -> Result<u32, NoMemory>
     requires built { BuiltDesig (desig_of desig.now) }
     requires room { filled emit.old + 16 + 16 * desig_nodes (desig_of desig.now) ≤ 8388608 }
     ensures slot { IfOk result (λ slot. slot ≡ next_slot emit.old) }
-    ensures puts { OnOk result (PutsExpr emit.old emit.new (tree.Load (desig_of desig.now))) }
+    ensures puts { OnOk result (PutsExpr emit.old emit.new line (tree.Load (desig_of desig.now))) }
     ensures few { OnOk result (filled emit.new ≤ filled emit.old + 2 + 16 * desig_nodes (desig_of desig.now)) }
 {
     let to = emit.slot(SlotKind::Number)?;
-    let from = emit_desig(emit, desig)?;
-    emit.put(Instr::Load { to, from })?;
+    let from = emit_desig(emit, line, desig)?;
+    emit.put(line, Instr::Load { to, from })?;
     Ok(to)
 }
 
@@ -156,69 +162,87 @@ fn op_instr(op: Op, to: u32, right: u32) -> Instr
 }
 
 // A comparison of the numbers in two slots.
-fn emit_cmp(emit: &mut Emit, cmp: Cmp, to: u32, other: u32) -> Result<(), NoMemory>
-    ensures puts { OnOk result (Appends emit.old emit.new (λ at lo. cmp_code cmp to other) []) }
+fn emit_cmp(emit: &mut Emit, line: u32, cmp: Cmp, to: u32, other: u32) -> Result<(), NoMemory>
+    ensures puts { OnOk result (Appends emit.old emit.new (λ at lo. cmp_code line cmp to other) []) }
     ensures few { OnOk result (filled emit.new ≤ filled emit.old + 2) }
 {
     match cmp {
-        Cmp::Equal => emit.put(Instr::Equal {
-            to,
-            left: to,
-            right: other,
-        }),
-        Cmp::Unequal => {
-            emit.put(Instr::Equal {
+        Cmp::Equal => emit.put(
+            line,
+            Instr::Equal {
                 to,
                 left: to,
                 right: other,
-            })?;
-            emit.put(Instr::Flip { to, from: to })
+            },
+        ),
+        Cmp::Unequal => {
+            emit.put(
+                line,
+                Instr::Equal {
+                    to,
+                    left: to,
+                    right: other,
+                },
+            )?;
+            emit.put(line, Instr::Flip { to, from: to })
         }
-        Cmp::Less => emit.put(Instr::Less {
-            to,
-            left: to,
-            right: other,
-        }),
-        Cmp::LessEq => emit.put(Instr::LessEq {
-            to,
-            left: to,
-            right: other,
-        }),
-        Cmp::Greater => emit.put(Instr::Less {
-            to,
-            left: other,
-            right: to,
-        }),
-        Cmp::GreaterEq => emit.put(Instr::LessEq {
-            to,
-            left: other,
-            right: to,
-        }),
+        Cmp::Less => emit.put(
+            line,
+            Instr::Less {
+                to,
+                left: to,
+                right: other,
+            },
+        ),
+        Cmp::LessEq => emit.put(
+            line,
+            Instr::LessEq {
+                to,
+                left: to,
+                right: other,
+            },
+        ),
+        Cmp::Greater => emit.put(
+            line,
+            Instr::Less {
+                to,
+                left: other,
+                right: to,
+            },
+        ),
+        Cmp::GreaterEq => emit.put(
+            line,
+            Instr::LessEq {
+                to,
+                left: other,
+                right: to,
+            },
+        ),
     }
 }
 
 // The sign of a first operand.
-fn emit_neg(emit: &mut Emit, negated: bool, to: u32) -> Result<(), NoMemory>
-    ensures puts { OnOk result (Appends emit.old emit.new (λ at lo. neg_code negated to) []) }
+fn emit_neg(emit: &mut Emit, line: u32, negated: bool, to: u32) -> Result<(), NoMemory>
+    ensures puts { OnOk result (Appends emit.old emit.new (λ at lo. neg_code line negated to) []) }
     ensures few { OnOk result (filled emit.new ≤ filled emit.old + 1) }
 {
     if negated {
-        emit.put(Instr::Neg { to, from: to })?;
+        emit.put(line, Instr::Neg { to, from: to })?;
     }
     Ok(())
 }
 
 // Operators and their operands, from left to right.
 #[cycle(exprs)]
-fn emit_links(emit: &mut Emit, to: u32, links: &[Link]) -> Result<(), NoMemory>
+fn emit_links(emit: &mut Emit, line: u32, to: u32, links: &[Link]) -> Result<(), NoMemory>
     requires built { BuiltLinks (links_list links.now) }
     requires room { filled emit.old + 16 * links_nodes (links_list links.now) ≤ 8388608 }
-    ensures puts { OnOk result (PutsLinks emit.old emit.new to (links_list links.now)) }
+    ensures puts { OnOk result (PutsLinks emit.old emit.new line to (links_list links.now)) }
     ensures few { OnOk result (filled emit.new ≤ filled emit.old + 16 * links_nodes (links_list links.now)) }
 {
     for link in links {
-        let operand = emit_expr(emit, &link.operand)?;
-        emit.put(op_instr(link.op, to, operand))?;
+        let operand = emit_expr(emit, line, &link.operand)?;
+        emit.put(line, op_instr(link.op, to, operand))?;
     }
     Ok(())
 }
@@ -226,26 +250,26 @@ fn emit_links(emit: &mut Emit, to: u32, links: &[Link]) -> Result<(), NoMemory>
 // An expression, and the slot of its number.
 #[tactic(auto, using(alma_ir::proofs::Views::const_view))]
 #[cycle(exprs)]
-pub(crate) fn emit_expr(emit: &mut Emit, expr: &Expr) -> Result<u32, NoMemory>
+pub(crate) fn emit_expr(emit: &mut Emit, line: u32, expr: &Expr) -> Result<u32, NoMemory>
     requires built { BuiltExpr (expr_of expr.now) }
     requires room { filled emit.old + 16 * expr_nodes (expr_of expr.now) ≤ 8388608 }
     ensures slot { IfOk result (λ slot. slot ≡ next_slot emit.old) }
-    ensures puts { OnOk result (PutsExpr emit.old emit.new (expr_of expr.now)) }
+    ensures puts { OnOk result (PutsExpr emit.old emit.new line (expr_of expr.now)) }
     ensures few { OnOk result (filled emit.new + 1 ≤ filled emit.old + 16 * expr_nodes (expr_of expr.now)) }
 {
     match expr {
-        Expr::Const(value) => emit_const(emit, *value),
-        Expr::Load(desig) => emit_load(emit, desig),
+        Expr::Const(value) => emit_const(emit, line, *value),
+        Expr::Load(desig) => emit_load(emit, line, desig),
         Expr::Chain(negated, first, links) => {
-            let to = emit_expr(emit, first)?;
-            emit_neg(emit, *negated, to)?;
-            emit_links(emit, to, links)?;
+            let to = emit_expr(emit, line, first)?;
+            emit_neg(emit, line, *negated, to)?;
+            emit_links(emit, line, to, links)?;
             Ok(to)
         }
         Expr::Compare(cmp, left, right) => {
-            let to = emit_expr(emit, left)?;
-            let other = emit_expr(emit, right)?;
-            emit_cmp(emit, *cmp, to, other)?;
+            let to = emit_expr(emit, line, left)?;
+            let other = emit_expr(emit, line, right)?;
+            emit_cmp(emit, line, *cmp, to, other)?;
             Ok(to)
         }
         Expr::Truth(_) => unreachable!(),

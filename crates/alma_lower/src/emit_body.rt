@@ -4,14 +4,17 @@ ghost use Rattle.alma_base.specs.Numbers.{whole_range};
 ghost use Rattle.alma_code.specs.declared.instr.Instr.TheVariants as instr;
 ghost use Rattle.alma_ir.specs.View.{desig_of, expr_of, test_of, stmt_of, loop_of, stmts_list, arms_list, cases_list};
 ghost use Rattle.alma_ir.specs.Count.{desig_nodes, expr_nodes, test_nodes, stmt_nodes, stmts_nodes, arms_nodes, loop_nodes, cases_nodes};
+ghost use Rattle.alma_ir.specs.Lines.{behind, stmts_with, stmt_with, arms_with, cases_with, loop_with};
+ghost use Rattle.alma_ir.specs.Phrases.{stmts_phrases, arms_phrases, cases_phrases, loop_phrases};
 ghost use Rattle.alma_ir.specs.Tree as tree;
-ghost use Rattle.alma_lower.specs.Built.{BuiltDesig, BuiltExpr, BuiltTest, BuiltWrite, BuiltStmts, BuiltStmt, BuiltArms, BuiltLoop, BuiltCases};
-ghost use Rattle.alma_lower.specs.Templates.{condition_code, test_slots};
-ghost use Rattle.alma_lower.specs.Emitted.{next_slot, filled, Appends, PutsCondition, PutsTest, PutsGuarded, PutsStmts, PutsStmt, PutsArms, PutsTurns, PutsCaseArm, PutsCases};
+ghost use Rattle.alma_implements.specs.Built.{BuiltDesig, BuiltExpr, BuiltTest, BuiltWrite, BuiltStmts, BuiltStmt, BuiltArms, BuiltLoop, BuiltCases};
+ghost use Rattle.alma_implements.specs.Templates.{condition_code, test_slots};
+ghost use Rattle.alma_lower.specs.Emitted.{left, inside, next_slot, filled, Appends, PutsCondition, PutsTest, PutsGuarded, PutsStmts, PutsStmt, PutsArms, PutsTurns, PutsCaseArm, PutsCases};
 
 use crate::emit::{Emit, emit_const, emit_desig, emit_expr};
 use crate::emit_case::{CaseHead, emit_case_head, emit_labels};
 use crate::emit_loop::emit_bounds;
+use crate::lines::Lines;
 use alma_base::{NoMemory, Range};
 use alma_code::Instr;
 use alma_ir::{Arm, CaseArm, Desig, Expr, Loop, Stmt, Test, WriteAs};
@@ -20,15 +23,15 @@ use alma_ir::{Arm, CaseArm, Desig, Expr, Loop, Stmt, Test, WriteAs};
 const NO_CASE: u32 = 5;
 
 // A condition, and the slot that is 0 where it has no alternative.
-fn emit_condition(emit: &mut Emit, test: &Test) -> Result<u32, NoMemory>
+fn emit_condition(emit: &mut Emit, line: u32, test: &Test) -> Result<u32, NoMemory>
     requires built { BuiltTest (test_of test.now) }
     requires room { filled emit.old + 16 * test_nodes (test_of test.now) ≤ 8388608 }
     ensures slot { IfOk result (λ slot. slot ≡ next_slot emit.old) }
-    ensures puts { OnOk result (PutsCondition emit.old emit.new (test_of test.now)) }
+    ensures puts { OnOk result (PutsCondition emit.old emit.new line (test_of test.now)) }
     ensures few { OnOk result (filled emit.new + 16 ≤ filled emit.old + 16 * test_nodes (test_of test.now)) }
 {
     match test {
-        Test::Value(value) => emit_expr(emit, value),
+        Test::Value(value) => emit_expr(emit, line, value),
         Test::Bind(_, _, _, _) => unreachable!(),
         Test::Unify(_, _, _, _) => unreachable!(),
         Test::SameCells(_, _) => unreachable!(),
@@ -41,165 +44,211 @@ fn emit_condition(emit: &mut Emit, test: &Test) -> Result<u32, NoMemory>
 }
 
 // A test as a statement.
-fn emit_test(emit: &mut Emit, test: &Test) -> Result<(), NoMemory>
+fn emit_test(emit: &mut Emit, line: u32, test: &Test) -> Result<(), NoMemory>
     requires built { BuiltTest (test_of test.now) }
     requires room { filled emit.old + 16 * test_nodes (test_of test.now) ≤ 8388608 }
-    ensures puts { OnOk result (PutsTest emit.old emit.new (test_of test.now)) }
+    ensures puts { OnOk result (PutsTest emit.old emit.new line (test_of test.now)) }
     ensures few { OnOk result (filled emit.new ≤ filled emit.old + 16 * test_nodes (test_of test.now)) }
 {
-    let value = emit_condition(emit, test)?;
-    emit.put(Instr::Check { value })?;
+    let value = emit_condition(emit, line, test)?;
+    emit.put(line, Instr::Check { value })?;
     Ok(())
 }
 
 // A condition and the jump where it has no alternative, which is still to be aimed; the address of the jump.
-fn emit_guard(emit: &mut Emit, test: &Test) -> Result<u32, NoMemory>
+fn emit_guard(emit: &mut Emit, line: u32, test: &Test) -> Result<u32, NoMemory>
     requires built { BuiltTest (test_of test.now) }
     requires room { filled emit.old + 16 * test_nodes (test_of test.now) ≤ 8388608 }
     ensures jump { IfOk result (λ jump. jump + 1 ≡ length emit.new.code.items) }
-    ensures puts { OnOk result (Appends emit.old emit.new (λ at lo. condition_code lo (test_of test.now) ++ instr.JumpZero lo 0 ∷ []) (test_slots (test_of test.now))) }
+    ensures puts { OnOk result (Appends emit.old emit.new (λ at lo. condition_code line lo (test_of test.now) ++ (instr.JumpZero lo 0, line) ∷ []) (test_slots (test_of test.now))) }
     ensures few { OnOk result (filled emit.new + 15 ≤ filled emit.old + 16 * test_nodes (test_of test.now)) }
 {
-    let value = emit_condition(emit, test)?;
+    let value = emit_condition(emit, line, test)?;
     let jump = emit.here();
-    emit.put(Instr::JumpZero { value, to: 0 })?;
+    emit.put(line, Instr::JumpZero { value, to: 0 })?;
     Ok(jump)
 }
 
 // A number for a variable.
-fn emit_assign(emit: &mut Emit, desig: &Desig, value: &Expr) -> Result<(), NoMemory>
+fn emit_assign(emit: &mut Emit, line: u32, desig: &Desig, value: &Expr) -> Result<(), NoMemory>
     requires desig { BuiltDesig (desig_of desig.now) }
     requires value { BuiltExpr (expr_of value.now) }
     requires room { filled emit.old + 16 * desig_nodes (desig_of desig.now) + 16 * expr_nodes (expr_of value.now) ≤ 8388608 }
-    ensures puts { OnOk result (PutsStmt emit.old emit.new (tree.Assign (desig_of desig.now) (expr_of value.now) whole_range)) }
+    ensures puts { OnOk result (PutsStmt emit.old emit.new line (tree.Assign (desig_of desig.now) (expr_of value.now) whole_range)) }
     ensures few { OnOk result (filled emit.new ≤ filled emit.old + 16 * desig_nodes (desig_of desig.now) + 16 * expr_nodes (expr_of value.now)) }
 {
-    let to = emit_desig(emit, desig)?;
-    let from = emit_expr(emit, value)?;
-    emit.put(Instr::Store { to, from })?;
+    let to = emit_desig(emit, line, desig)?;
+    let from = emit_expr(emit, line, value)?;
+    emit.put(line, Instr::Store { to, from })?;
     Ok(())
 }
 
 // The text of a number.
-fn emit_write(emit: &mut Emit, value: &Expr, how: WriteAs) -> Result<(), NoMemory>
+fn emit_write(emit: &mut Emit, line: u32, value: &Expr, how: WriteAs) -> Result<(), NoMemory>
     requires value { BuiltExpr (expr_of value.now) }
     requires how { BuiltWrite how }
     requires room { filled emit.old + 16 * expr_nodes (expr_of value.now) ≤ 8388608 }
-    ensures puts { OnOk result (PutsStmt emit.old emit.new (tree.WriteExpr (expr_of value.now) how)) }
+    ensures puts { OnOk result (PutsStmt emit.old emit.new line (tree.WriteExpr (expr_of value.now) how)) }
     ensures few { OnOk result (filled emit.new ≤ filled emit.old + 16 * expr_nodes (expr_of value.now)) }
 {
-    let value = emit_expr(emit, value)?;
+    let value = emit_expr(emit, line, value)?;
     match how {
-        WriteAs::Int => emit.put(Instr::WriteInt { value }),
-        WriteAs::Bool => emit.put(Instr::WriteBool { value }),
-        WriteAs::Char => emit.put(Instr::WriteChar { value }),
+        WriteAs::Int => emit.put(line, Instr::WriteInt { value }),
+        WriteAs::Bool => emit.put(line, Instr::WriteBool { value }),
+        WriteAs::Char => emit.put(line, Instr::WriteChar { value }),
     }
 }
 
 // A condition, and what is done where it has an alternative, which ends in a jump to `back`.
 #[cycle(body)]
-fn emit_guarded(emit: &mut Emit, body: &[Stmt], test: &Test, back: u32) -> Result<(), NoMemory>
+fn emit_guarded(
+    emit: &mut Emit,
+    lines: &mut Lines,
+    line: u32,
+    body: &[Stmt],
+    test: &Test,
+    back: u32,
+) -> Result<(), NoMemory>
     requires body { BuiltStmts (stmts_list body.now) }
     requires test { BuiltTest (test_of test.now) }
     requires room { filled emit.old + 16 * test_nodes (test_of test.now) + 16 * stmts_nodes (stmts_list body.now) ≤ 8388608 }
-    ensures puts { OnOk result (PutsGuarded emit.old emit.new (test_of test.now) (stmts_list body.now) back) }
+    ensures puts { OnOk result (PutsGuarded emit.old emit.new line (test_of test.now) (stmts_with (stmts_list body.now) (left lines.old)) back) }
+    ensures left { OnOk result (left lines.new ≡ behind (stmts_phrases (stmts_list body.now)) (left lines.old)) }
     ensures few { OnOk result (filled emit.new ≤ filled emit.old + 16 * test_nodes (test_of test.now) + 16 * stmts_nodes (stmts_list body.now)) }
 {
-    let jump = emit_guard(emit, test)?;
-    emit_stmts(emit, body)?;
-    emit.put(Instr::Jump { to: back })?;
+    let jump = emit_guard(emit, line, test)?;
+    emit_stmts(emit, lines, body)?;
+    emit.put(line, Instr::Jump { to: back })?;
     emit.aim(jump);
     Ok(())
 }
 
 // The arms of IF, each of which leaves by the jump at `exit`.
 #[cycle(body)]
-fn emit_arms(emit: &mut Emit, exit: u32, arms: &[Arm]) -> Result<(), NoMemory>
+fn emit_arms(
+    emit: &mut Emit,
+    lines: &mut Lines,
+    line: u32,
+    exit: u32,
+    arms: &[Arm],
+) -> Result<(), NoMemory>
     requires built { BuiltArms (arms_list arms.now) }
     requires room { filled emit.old + 16 * arms_nodes (arms_list arms.now) ≤ 8388608 }
-    ensures puts { OnOk result (PutsArms emit.old emit.new exit (arms_list arms.now)) }
+    ensures puts { OnOk result (PutsArms emit.old emit.new line exit (arms_with (arms_list arms.now) (left lines.old))) }
+    ensures left { OnOk result (left lines.new ≡ behind (arms_phrases (arms_list arms.now)) (left lines.old)) }
     ensures few { OnOk result (filled emit.new ≤ filled emit.old + 16 * arms_nodes (arms_list arms.now)) }
 {
     for arm in arms {
-        emit_guarded(emit, &arm.body, &arm.cond, exit)?;
+        emit_guarded(emit, lines, line, &arm.body, &arm.cond, exit)?;
     }
     Ok(())
 }
 
 // WHILE.
 #[cycle(body)]
-fn emit_while(emit: &mut Emit, body: &[Stmt], test: &Test) -> Result<(), NoMemory>
+fn emit_while(
+    emit: &mut Emit,
+    lines: &mut Lines,
+    line: u32,
+    body: &[Stmt],
+    test: &Test,
+) -> Result<(), NoMemory>
     requires body { BuiltStmts (stmts_list body.now) }
     requires test { BuiltTest (test_of test.now) }
     requires room { filled emit.old + 16 + 16 * test_nodes (test_of test.now) + 16 * stmts_nodes (stmts_list body.now) ≤ 8388608 }
-    ensures puts { OnOk result (PutsStmt emit.old emit.new (tree.While (test_of test.now) (stmts_list body.now))) }
+    ensures puts { OnOk result (PutsStmt emit.old emit.new line (tree.While (test_of test.now) (stmts_with (stmts_list body.now) (left lines.old)))) }
+    ensures left { OnOk result (left lines.new ≡ behind (stmts_phrases (stmts_list body.now)) (left lines.old)) }
     ensures few { OnOk result (filled emit.new ≤ filled emit.old + 16 + 16 * test_nodes (test_of test.now) + 16 * stmts_nodes (stmts_list body.now)) }
 {
     let start = emit.here();
-    emit.put(Instr::Jump { to: start + 1 })?;
-    emit_guarded(emit, body, test, start)
+    emit.put(line, Instr::Jump { to: start + 1 })?;
+    emit_guarded(emit, lines, line, body, test, start)
 }
 
 // REPEAT.
 #[cycle(body)]
-fn emit_repeat(emit: &mut Emit, body: &[Stmt], test: &Test) -> Result<(), NoMemory>
+fn emit_repeat(
+    emit: &mut Emit,
+    lines: &mut Lines,
+    line: u32,
+    body: &[Stmt],
+    test: &Test,
+) -> Result<(), NoMemory>
     requires body { BuiltStmts (stmts_list body.now) }
     requires test { BuiltTest (test_of test.now) }
     requires room { filled emit.old + 16 + 16 * test_nodes (test_of test.now) + 16 * stmts_nodes (stmts_list body.now) ≤ 8388608 }
-    ensures puts { OnOk result (PutsStmt emit.old emit.new (tree.Repeat (stmts_list body.now) (test_of test.now))) }
+    ensures puts { OnOk result (PutsStmt emit.old emit.new line (tree.Repeat (stmts_with (stmts_list body.now) (left lines.old)) (test_of test.now))) }
+    ensures left { OnOk result (left lines.new ≡ behind (stmts_phrases (stmts_list body.now)) (left lines.old)) }
     ensures few { OnOk result (filled emit.new ≤ filled emit.old + 16 + 16 * test_nodes (test_of test.now) + 16 * stmts_nodes (stmts_list body.now)) }
 {
     let start = emit.here();
-    emit_stmts(emit, body)?;
-    let value = emit_condition(emit, test)?;
+    emit_stmts(emit, lines, body)?;
+    let value = emit_condition(emit, line, test)?;
     let jump = emit.here();
-    emit.put(Instr::JumpZero {
-        value,
-        to: jump + 2,
-    })?;
-    emit.put(Instr::Jump { to: jump + 3 })?;
-    emit.put(Instr::Jump { to: start })?;
+    emit.put(
+        line,
+        Instr::JumpZero {
+            value,
+            to: jump + 2,
+        },
+    )?;
+    emit.put(line, Instr::Jump { to: jump + 3 })?;
+    emit.put(line, Instr::Jump { to: start })?;
     Ok(())
 }
 
 // The turns of FOR, whose step stands in a slot.
 #[cycle(body)]
-fn emit_turns(emit: &mut Emit, each: &Loop, step: u32) -> Result<(), NoMemory>
+fn emit_turns(
+    emit: &mut Emit,
+    lines: &mut Lines,
+    line: u32,
+    each: &Loop,
+    step: u32,
+) -> Result<(), NoMemory>
     requires var { BuiltDesig (desig_of each.now.var) }
     requires body { BuiltStmts (stmts_list each.now.body.items) }
     requires room { filled emit.old + 8 + 16 * desig_nodes (desig_of each.now.var) + 16 * stmts_nodes (stmts_list each.now.body.items) ≤ 8388608 }
-    ensures puts { OnOk result (PutsTurns emit.old emit.new each.now.counter each.now.limit step (desig_of each.now.var) (stmts_list each.now.body.items)) }
+    ensures puts { OnOk result (PutsTurns emit.old emit.new line each.now.counter each.now.limit step (desig_of each.now.var) (stmts_with (stmts_list each.now.body.items) (left lines.old))) }
+    ensures left { OnOk result (left lines.new ≡ behind (stmts_phrases (stmts_list each.now.body.items)) (left lines.old)) }
     ensures few { OnOk result (filled emit.new ≤ filled emit.old + 3 + 16 * desig_nodes (desig_of each.now.var) + 16 * stmts_nodes (stmts_list each.now.body.items)) }
 {
     let turn = emit.here();
-    let place = emit_desig(emit, &each.var)?;
-    emit.put(Instr::Store {
-        to: place,
-        from: each.counter,
-    })?;
-    emit_stmts(emit, &each.body)?;
+    let place = emit_desig(emit, line, &each.var)?;
+    emit.put(
+        line,
+        Instr::Store {
+            to: place,
+            from: each.counter,
+        },
+    )?;
+    emit_stmts(emit, lines, &each.body)?;
     let last = emit.here();
-    emit.put(Instr::Step {
-        counter: each.counter,
-        limit: each.limit,
-        by: step,
-        out: last + 2,
-    })?;
-    emit.put(Instr::Jump { to: turn })?;
+    emit.put(
+        line,
+        Instr::Step {
+            counter: each.counter,
+            limit: each.limit,
+            by: step,
+            out: last + 2,
+        },
+    )?;
+    emit.put(line, Instr::Jump { to: turn })?;
     Ok(())
 }
 
 // FOR.
 #[cycle(body)]
-fn emit_for(emit: &mut Emit, each: &Loop) -> Result<(), NoMemory>
+fn emit_for(emit: &mut Emit, lines: &mut Lines, line: u32, each: &Loop) -> Result<(), NoMemory>
     requires built { BuiltLoop (loop_of each.now) }
     requires room { filled emit.old + 16 + 16 * loop_nodes (loop_of each.now) ≤ 8388608 }
-    ensures puts { OnOk result (PutsStmt emit.old emit.new (tree.ForTo (loop_of each.now))) }
+    ensures puts { OnOk result (PutsStmt emit.old emit.new line (tree.ForTo (loop_with (loop_of each.now) (left lines.old)))) }
+    ensures left { OnOk result (left lines.new ≡ behind (loop_phrases (loop_of each.now)) (left lines.old)) }
     ensures few { OnOk result (filled emit.new ≤ filled emit.old + 16 + 16 * loop_nodes (loop_of each.now)) }
 {
-    let step = emit_const(emit, each.by)?;
-    let jump = emit_bounds(emit, each)?;
-    emit_turns(emit, each, step)?;
+    let step = emit_const(emit, line, each.by)?;
+    let jump = emit_bounds(emit, line, each)?;
+    emit_turns(emit, lines, line, each, step)?;
     emit.aim(jump);
     Ok(())
 }
@@ -208,6 +257,8 @@ fn emit_for(emit: &mut Emit, each: &Loop) -> Result<(), NoMemory>
 #[cycle(body)]
 fn emit_case_arm(
     emit: &mut Emit,
+    lines: &mut Lines,
+    line: u32,
     body: &[Stmt],
     labels: &[Range],
     head: CaseHead,
@@ -215,31 +266,43 @@ fn emit_case_arm(
     requires body { BuiltStmts (stmts_list body.now) }
     requires bound { head.bound < 8388608 }
     requires room { filled emit.old + 16 + 16 * length labels.now + 16 * stmts_nodes (stmts_list body.now) ≤ 8388608 }
-    ensures puts { OnOk result (PutsCaseArm emit.old emit.new head.value head.bound head.exit labels.now (stmts_list body.now)) }
+    ensures puts { OnOk result (PutsCaseArm emit.old emit.new line head.value head.bound head.exit labels.now (stmts_with (stmts_list body.now) (left lines.old))) }
+    ensures left { OnOk result (left lines.new ≡ behind (stmts_phrases (stmts_list body.now)) (left lines.old)) }
     ensures few { OnOk result (filled emit.new ≤ filled emit.old + 16 + 16 * length labels.now + 16 * stmts_nodes (stmts_list body.now)) }
 {
     let hit = emit.here() + 7 * labels.len() as u32 + 1;
-    emit_labels(emit, head, hit, labels)?;
+    emit_labels(emit, line, head, hit, labels)?;
     let over = emit.here();
-    emit.put(Instr::Jump { to: 0 })?;
-    emit_stmts(emit, body)?;
-    emit.put(Instr::Jump { to: head.exit })?;
+    emit.put(line, Instr::Jump { to: 0 })?;
+    emit_stmts(emit, lines, body)?;
+    emit.put(line, Instr::Jump { to: head.exit })?;
     emit.aim(over);
     Ok(())
 }
 
-// The arms of CASE. An arm without labels is never tried: it has no code.
+// The arms of CASE. An arm without labels is never tried: its code is dropped, while the lines of its statements are
+// handed out.
 #[cycle(body)]
-fn emit_cases(emit: &mut Emit, arms: &[CaseArm], head: CaseHead) -> Result<(), NoMemory>
+fn emit_cases(
+    emit: &mut Emit,
+    lines: &mut Lines,
+    line: u32,
+    arms: &[CaseArm],
+    head: CaseHead,
+) -> Result<(), NoMemory>
     requires built { BuiltCases (cases_list arms.now) }
     requires bound { head.bound < 8388608 }
     requires room { filled emit.old + 16 * cases_nodes (cases_list arms.now) ≤ 8388608 }
-    ensures puts { OnOk result (PutsCases emit.old emit.new head.value head.bound head.exit (cases_list arms.now)) }
+    ensures puts { OnOk result (PutsCases emit.old emit.new line head.value head.bound head.exit (cases_with (cases_list arms.now) (left lines.old))) }
+    ensures left { OnOk result (left lines.new ≡ behind (cases_phrases (cases_list arms.now)) (left lines.old)) }
     ensures few { OnOk result (filled emit.new ≤ filled emit.old + 16 * cases_nodes (cases_list arms.now)) }
 {
     for arm in arms {
         if !arm.labels.is_empty() {
-            emit_case_arm(emit, &arm.body, &arm.labels, head)?;
+            emit_case_arm(emit, lines, line, &arm.body, &arm.labels, head)?;
+        } else {
+            let mut dropped = Emit::new(emit.alloc, 0);
+            emit_stmts(&mut dropped, lines, &arm.body)?;
         }
     }
     Ok(())
@@ -247,53 +310,57 @@ fn emit_cases(emit: &mut Emit, arms: &[CaseArm], head: CaseHead) -> Result<(), N
 
 // Statements in order.
 #[cycle(body)]
-pub(crate) fn emit_stmts(emit: &mut Emit, body: &[Stmt]) -> Result<(), NoMemory>
+pub(crate) fn emit_stmts(emit: &mut Emit, lines: &mut Lines, body: &[Stmt]) -> Result<(), NoMemory>
     requires built { BuiltStmts (stmts_list body.now) }
     requires room { filled emit.old + 16 * stmts_nodes (stmts_list body.now) ≤ 8388608 }
-    ensures puts { OnOk result (PutsStmts emit.old emit.new (stmts_list body.now)) }
+    ensures puts { OnOk result (PutsStmts emit.old emit.new (stmts_with (stmts_list body.now) (left lines.old))) }
+    ensures left { OnOk result (left lines.new ≡ behind (stmts_phrases (stmts_list body.now)) (left lines.old)) }
     ensures few { OnOk result (filled emit.new ≤ filled emit.old + 16 * stmts_nodes (stmts_list body.now)) }
 {
     for stmt in body {
-        emit_stmt(emit, stmt)?;
+        let line = lines.next();
+        emit_stmt(emit, lines, line, stmt)?;
     }
     Ok(())
 }
 
+// A statement, at its line.
 #[cycle(body)]
-fn emit_stmt(emit: &mut Emit, stmt: &Stmt) -> Result<(), NoMemory>
+fn emit_stmt(emit: &mut Emit, lines: &mut Lines, line: u32, stmt: &Stmt) -> Result<(), NoMemory>
     requires built { BuiltStmt (stmt_of stmt.now) }
     requires room { filled emit.old + 16 * stmt_nodes (stmt_of stmt.now) ≤ 8388608 }
-    ensures puts { OnOk result (PutsStmt emit.old emit.new (stmt_of stmt.now)) }
+    ensures puts { OnOk result (PutsStmt emit.old emit.new line (stmt_with (stmt_of stmt.now) (left lines.old))) }
+    ensures left { OnOk result (left lines.new ≡ behind (inside (stmt_of stmt.now)) (left lines.old)) }
     ensures few { OnOk result (filled emit.new ≤ filled emit.old + 16 * stmt_nodes (stmt_of stmt.now)) }
 {
     match stmt {
-        Stmt::Test(test) => emit_test(emit, test),
-        Stmt::Assign(desig, value, _) => emit_assign(emit, desig, value),
+        Stmt::Test(test) => emit_test(emit, line, test),
+        Stmt::Assign(desig, value, _) => emit_assign(emit, line, desig, value),
         Stmt::If(arms, rest) => {
             let start = emit.here();
-            emit.put(Instr::Jump { to: start + 2 })?;
+            emit.put(line, Instr::Jump { to: start + 2 })?;
             let exit = emit.here();
-            emit.put(Instr::Jump { to: 0 })?;
-            emit_arms(emit, exit, arms)?;
-            emit_stmts(emit, rest)?;
+            emit.put(line, Instr::Jump { to: 0 })?;
+            emit_arms(emit, lines, line, exit, arms)?;
+            emit_stmts(emit, lines, rest)?;
             emit.aim(exit);
             Ok(())
         }
-        Stmt::While(test, body) => emit_while(emit, body, test),
-        Stmt::Repeat(body, test) => emit_repeat(emit, body, test),
+        Stmt::While(test, body) => emit_while(emit, lines, line, body, test),
+        Stmt::Repeat(body, test) => emit_repeat(emit, lines, line, body, test),
         Stmt::Case(value, arms, rest) => {
-            let head = emit_case_head(emit, value)?;
-            emit_cases(emit, arms, head)?;
+            let head = emit_case_head(emit, line, value)?;
+            emit_cases(emit, lines, line, arms, head)?;
             match rest {
-                Some(body) => emit_stmts(emit, body)?,
-                None => emit.put(Instr::Fault { number: NO_CASE })?,
+                Some(body) => emit_stmts(emit, lines, body)?,
+                None => emit.put(line, Instr::Fault { number: NO_CASE })?,
             }
             emit.aim(head.exit);
             Ok(())
         }
-        Stmt::WriteExpr(value, how) => emit_write(emit, value, *how),
+        Stmt::WriteExpr(value, how) => emit_write(emit, line, value, *how),
         Stmt::CopyCells(_, _) => unreachable!(),
-        Stmt::ForTo(each) => emit_for(emit, each),
+        Stmt::ForTo(each) => emit_for(emit, lines, line, each),
         Stmt::SomeOf(_) => unreachable!(),
         Stmt::Either(_) => unreachable!(),
         Stmt::Forall(_, _) => unreachable!(),
@@ -301,6 +368,6 @@ fn emit_stmt(emit: &mut Emit, stmt: &Stmt) -> Result<(), NoMemory>
         Stmt::Return(_) => unreachable!(),
         Stmt::Read(_, _, _) => unreachable!(),
         Stmt::WriteText(_) => unreachable!(),
-        Stmt::WriteLine => emit.put(Instr::WriteLine),
+        Stmt::WriteLine => emit.put(line, Instr::WriteLine),
     }
 }

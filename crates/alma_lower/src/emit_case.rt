@@ -2,8 +2,8 @@
 ghost use Rattle.std.specs.Prelude.{◌≡◌, ◌+◌, ◌*◌, ◌<◌, ◌≤◌, [], length, IfOk, OnOk};
 ghost use Rattle.alma_ir.specs.View.{expr_of};
 ghost use Rattle.alma_ir.specs.Count.{expr_nodes};
-ghost use Rattle.alma_lower.specs.Built.{BuiltExpr};
-ghost use Rattle.alma_lower.specs.Templates.{expr_slots, label_code};
+ghost use Rattle.alma_implements.specs.Built.{BuiltExpr};
+ghost use Rattle.alma_implements.specs.Templates.{expr_slots, label_code};
 ghost use Rattle.alma_lower.specs.Emitted.{next_slot, filled, Appends, PutsCaseHead, PutsLabels};
 
 use crate::emit::{Emit, emit_expr};
@@ -23,79 +23,104 @@ pub(crate) struct CaseHead {
 // The value of CASE, the slots for its labels, and the jump over the jump by which the arms leave, which is still to be
 // aimed.
 #[tactic(auto, unfolding(crate::specs::Emitted::filled))]
-pub(crate) fn emit_case_head(emit: &mut Emit, value: &Expr) -> Result<CaseHead, NoMemory>
+pub(crate) fn emit_case_head(emit: &mut Emit, line: u32, value: &Expr) -> Result<CaseHead, NoMemory>
     requires built { BuiltExpr (expr_of value.now) }
     requires room { filled emit.old + 16 + 16 * expr_nodes (expr_of value.now) ≤ 8388608 }
     ensures value { IfOk result (λ head. head.value ≡ next_slot emit.old) }
     ensures bound { IfOk result (λ head. head.bound ≡ next_slot emit.old + length (expr_slots (expr_of value.now))) }
     ensures exit { IfOk result (λ head. head.exit + 1 ≡ length emit.new.code.items) }
     ensures small { IfOk result (λ head. head.bound < 8388608) }
-    ensures puts { OnOk result (PutsCaseHead emit.old emit.new (expr_of value.now)) }
+    ensures puts { OnOk result (PutsCaseHead emit.old emit.new line (expr_of value.now)) }
     ensures few { OnOk result (filled emit.new ≤ filled emit.old + 3 + 16 * expr_nodes (expr_of value.now)) }
 {
-    let value = emit_expr(emit, value)?;
+    let value = emit_expr(emit, line, value)?;
     let bound = emit.slot(SlotKind::Number)?;
     emit.slot(SlotKind::Number)?;
     let start = emit.here();
-    emit.put(Instr::Jump { to: start + 2 })?;
+    emit.put(line, Instr::Jump { to: start + 2 })?;
     let exit = emit.here();
-    emit.put(Instr::Jump { to: 0 })?;
+    emit.put(line, Instr::Jump { to: 0 })?;
     Ok(CaseHead { value, bound, exit })
 }
 
 // A label, which goes on to `hit` where the value lies in it.
-fn emit_label(emit: &mut Emit, head: CaseHead, hit: u32, label: &Range) -> Result<(), NoMemory>
+fn emit_label(
+    emit: &mut Emit,
+    line: u32,
+    head: CaseHead,
+    hit: u32,
+    label: &Range,
+) -> Result<(), NoMemory>
     requires bound { head.bound < 8388608 }
     requires room { filled emit.old + 7 ≤ 8388608 }
-    ensures puts { OnOk result (Appends emit.old emit.new (λ at lo. label_code head.value head.bound at hit label.now) []) }
+    ensures puts { OnOk result (Appends emit.old emit.new (λ at lo. label_code line head.value head.bound at hit label.now) []) }
     ensures few { OnOk result (filled emit.new ≤ filled emit.old + 7) }
 {
     let CaseHead { value, bound, .. } = head;
     let truth = bound + 1;
     let miss = emit.here() + 7;
-    emit.put(Instr::Const {
-        to: bound,
-        value: label.low,
-    })?;
-    emit.put(Instr::LessEq {
-        to: truth,
-        left: bound,
-        right: value,
-    })?;
-    emit.put(Instr::JumpZero {
-        value: truth,
-        to: miss,
-    })?;
-    emit.put(Instr::Const {
-        to: bound,
-        value: label.high,
-    })?;
-    emit.put(Instr::LessEq {
-        to: truth,
-        left: value,
-        right: bound,
-    })?;
-    emit.put(Instr::JumpZero {
-        value: truth,
-        to: miss,
-    })?;
-    emit.put(Instr::Jump { to: hit })
+    emit.put(
+        line,
+        Instr::Const {
+            to: bound,
+            value: label.low,
+        },
+    )?;
+    emit.put(
+        line,
+        Instr::LessEq {
+            to: truth,
+            left: bound,
+            right: value,
+        },
+    )?;
+    emit.put(
+        line,
+        Instr::JumpZero {
+            value: truth,
+            to: miss,
+        },
+    )?;
+    emit.put(
+        line,
+        Instr::Const {
+            to: bound,
+            value: label.high,
+        },
+    )?;
+    emit.put(
+        line,
+        Instr::LessEq {
+            to: truth,
+            left: value,
+            right: bound,
+        },
+    )?;
+    emit.put(
+        line,
+        Instr::JumpZero {
+            value: truth,
+            to: miss,
+        },
+    )?;
+    emit.put(line, Instr::Jump { to: hit })
 }
 
 // The labels of an arm in order.
 pub(crate) fn emit_labels(
     emit: &mut Emit,
+    line: u32,
     head: CaseHead,
     hit: u32,
     labels: &[Range],
 ) -> Result<(), NoMemory>
     requires bound { head.bound < 8388608 }
     requires room { filled emit.old + 7 * length labels.now ≤ 8388608 }
-    ensures puts { OnOk result (PutsLabels emit.old emit.new head.value head.bound hit labels.now) }
+    ensures puts { OnOk result (PutsLabels emit.old emit.new line head.value head.bound hit labels.now) }
     ensures few { OnOk result (filled emit.new ≤ filled emit.old + 7 * length labels.now) }
 {
     for label in labels {
-        emit_label(emit, head, hit, label)?;
+        emit_label(emit, line, head, hit, label)?;
     }
     Ok(())
 }

@@ -2,8 +2,8 @@
 ghost use Rattle.std.specs.Prelude.{◌≡◌, ◌+◌, ◌*◌, ◌≤◌, length, IfOk, OnOk};
 ghost use Rattle.alma_ir.specs.View.{expr_of};
 ghost use Rattle.alma_ir.specs.Count.{expr_nodes};
-ghost use Rattle.alma_lower.specs.Built.{BuiltExpr};
-ghost use Rattle.alma_lower.specs.Templates.{entry_code};
+ghost use Rattle.alma_implements.specs.Built.{BuiltExpr};
+ghost use Rattle.alma_implements.specs.Operators.{entry_code};
 ghost use Rattle.alma_lower.specs.Emitted.{filled, PutsBounds};
 
 use crate::emit::{Emit, emit_expr};
@@ -31,29 +31,38 @@ fn entry_instr(by: i64, from: u32, to: u32) -> Instr
 }
 
 // The bounds, counter and limit, and the jump over the turns, which is still to be aimed; the address of the jump.
-pub(crate) fn emit_bounds(emit: &mut Emit, each: &Loop) -> Result<u32, NoMemory>
+pub(crate) fn emit_bounds(emit: &mut Emit, line: u32, each: &Loop) -> Result<u32, NoMemory>
     requires from { BuiltExpr (expr_of each.now.from) }
     requires to { BuiltExpr (expr_of each.now.to) }
     requires room { filled emit.old + 8 + 16 * expr_nodes (expr_of each.now.from) + 16 * expr_nodes (expr_of each.now.to) ≤ 8388608 }
     ensures jump { IfOk result (λ jump. jump + 1 ≡ length emit.new.code.items) }
-    ensures puts { OnOk result (PutsBounds emit.old emit.new each.now.by each.now.counter each.now.limit (expr_of each.now.from) (expr_of each.now.to)) }
+    ensures puts { OnOk result (PutsBounds emit.old emit.new line each.now.by each.now.counter each.now.limit (expr_of each.now.from) (expr_of each.now.to)) }
     ensures few { OnOk result (filled emit.new ≤ filled emit.old + 2 + 16 * expr_nodes (expr_of each.now.from) + 16 * expr_nodes (expr_of each.now.to)) }
 {
-    let first = emit_expr(emit, &each.from)?;
-    let last = emit_expr(emit, &each.to)?;
-    emit.put(Instr::Move {
-        to: each.counter,
-        from: first,
-    })?;
-    emit.put(Instr::Move {
-        to: each.limit,
-        from: last,
-    })?;
-    emit.put(entry_instr(each.by, first, last))?;
+    let first = emit_expr(emit, line, &each.from)?;
+    let last = emit_expr(emit, line, &each.to)?;
+    emit.put(
+        line,
+        Instr::Move {
+            to: each.counter,
+            from: first,
+        },
+    )?;
+    emit.put(
+        line,
+        Instr::Move {
+            to: each.limit,
+            from: last,
+        },
+    )?;
+    emit.put(line, entry_instr(each.by, first, last))?;
     let jump = emit.here();
-    emit.put(Instr::JumpZero {
-        value: first,
-        to: 0,
-    })?;
+    emit.put(
+        line,
+        Instr::JumpZero {
+            value: first,
+            to: 0,
+        },
+    )?;
     Ok(jump)
 }

@@ -3,10 +3,10 @@ ghost use Rattle.std.specs.Prelude.{◌≡◌, ◌+◌, ◌*◌, ◌<◌, ◌≤
 ghost use Rattle.alma_code.specs.declared.cell.SlotKind.TheVariants as slot;
 ghost use Rattle.alma_code.specs.Plain as code;
 ghost use Rattle.alma_ir.specs.View as view;
-ghost use Rattle.alma_lower.specs.Templates.{NamesKinds, global_named};
+ghost use Rattle.alma_implements.specs.Templates.{NamesKinds, global_named};
 
 use alma_base::NoMemory;
-use alma_code::{CodeGlobal, Run, SlotKind};
+use alma_code::{CodeGlobal, Instr, Run, SlotKind};
 use std::alloc::Global;
 
 // Whether two kinds are equal.
@@ -42,6 +42,17 @@ pub(crate) fn runs_of(alloc: Global, numbers: u32, kinds: &[SlotKind]) -> Result
     }
     runs.push(latest)?;
     Ok(runs)
+}
+
+// The instructions without their lines.
+pub(crate) fn instrs_of(alloc: Global, placed: &[(Instr, u32)]) -> Result<Vec<Instr>, NoMemory>
+    ensures { IfOk result (λ instrs. instrs.items ≡ map (λ x. x.0) placed.now) }
+{
+    let mut instrs = Vec::new(alloc);
+    for one in placed {
+        instrs.push(one.0)?;
+    }
+    Ok(instrs)
 }
 
 // The variables of the module, as a code names them.

@@ -5,7 +5,7 @@ ghost use Rattle.alma_ir.specs.View.{program_of, loop_of, stmts_list};
 ghost use Rattle.alma_ir.specs.Tree as tree;
 ghost use Rattle.alma_ir.specs.Checked.{IsChecked};
 ghost use Rattle.alma_base.specs.Numbers.{whole_range};
-ghost use Rattle.alma_lower.specs.Built.{IsBuilt};
+ghost use Rattle.alma_implements.specs.Built.{IsBuilt};
 
 use crate::lower;
 use crate::tests::{load, number, variable};
@@ -16,8 +16,8 @@ use std::alloc::Global;
 use std::test::Fail;
 
 // A module of one variable, and two hidden slots.
-fn module_of(alloc: Global, body: Vec<Stmt>) -> Result<Program, NoMemory>
-    ensures { IfOk result (λ p. program_of p ≡ record { name = []; globals = []; routines = record { name = 65 ∷ []; params = []; result = None; declared = 1; slots = 4; body = stmts_list body.items } ∷ [] }) }
+fn module_of(alloc: Global, lines: &[u32], body: Vec<Stmt>) -> Result<Program, NoMemory>
+    ensures { IfOk result (λ p. program_of p ≡ record { name = []; globals = []; routines = record { name = 65 ∷ []; params = []; result = None; declared = 1; slots = 4; body = stmts_list body.items; level = 0; outer = 0; line = 1; lines = lines.now } ∷ [] }) }
 {
     let mut name = Vec::new(alloc);
     name.push(65)?;
@@ -29,6 +29,10 @@ fn module_of(alloc: Global, body: Vec<Stmt>) -> Result<Program, NoMemory>
         declared: 1,
         slots: 4,
         body,
+        level: 0,
+        outer: 0,
+        line: 1,
+        lines: Vec::from_slice(alloc, lines)?,
     })?;
     Ok(Program {
         name: Vec::new(alloc),
@@ -68,7 +72,7 @@ fn for_program(alloc: Global) -> Result<Program, NoMemory>
     let mut body = Vec::new(alloc);
     body.push(Stmt::ForTo(counting(alloc, 1, 3, 1, first)))?;
     body.push(Stmt::ForTo(counting(alloc, 3, 1, -2, second)))?;
-    module_of(alloc, body)
+    module_of(alloc, &[2, 3, 4, 5], body)
 }
 
 #[test]

@@ -8,7 +8,7 @@ mod emit_loop;
 mod emit_tables;
 #[cfg(test)]
 mod for_tests;
-pub mod laws;
+mod lines;
 mod lowering;
 #[cfg(test)]
 mod tests;

@@ -5,15 +5,20 @@ ghost use Rattle.alma_code.specs.Plain.{code_of};
 ghost use Rattle.alma_ir.specs.View.{program_of, routine_of, stmts_list};
 ghost use Rattle.alma_ir.specs.Count.{capped, nodes, stmts_nodes};
 ghost use Rattle.alma_ir.specs.Checked.{IsChecked};
-ghost use Rattle.alma_lower.specs.Built.{IsBuilt, BuiltStmts};
+ghost use Rattle.alma_ir.specs.Lines.{body_with_lines};
+ghost use Rattle.alma_code.specs.Rules.{IsSound};
+ghost use Rattle.alma_implements.specs.Built.{IsBuilt, BuiltStmts};
+ghost use Rattle.alma_implements.specs.Implements.{Implements};
 ghost use Rattle.alma_lower.specs.Emitted.{filled};
-ghost use Rattle.alma_lower.specs.Templates.{IsCodeOf, body_code, stmts_slots};
+ghost use Rattle.alma_implements.specs.Templates.{IsCodeOf, body_code, stmts_slots};
 
 use crate::emit::Emit;
 use crate::emit_body::emit_stmts;
-use crate::emit_tables::{globals_of, runs_of};
+use crate::emit_tables::{globals_of, instrs_of, runs_of};
+use crate::lines::Lines;
 use alma_base::NoMemory;
 use alma_code::{Code, Instr, RoutineHead};
+use alma_implements::lines_of;
 use alma_ir::{Program, Routine, size};
 use std::alloc::Global;
 use thiserror::Error;
@@ -31,11 +36,13 @@ pub enum LowerError {
     Memory,
 }
 
-/// The code of a program.
+/// A code that implements the program: a machine on it does what the program means, each fault at the line of its
+/// statement.
 pub fn lower(alloc: Global, program: &Program) -> Result<Code, LowerError>
     requires built { IsBuilt (program_of program.now) }
     requires checked { IsChecked (program_of program.now) }
-    ensures code { IfOk result (λ code. IsCodeOf (program_of program.now) (code_of code)) }
+    ensures implements { IfOk result (λ code. Implements (code_of code) (program_of program.now)) }
+    ensures sound { IfOk result (λ code. IsSound (code_of code)) }
     ensures few { IfOk result (λ code. length (code_of code).instrs ≤ 16 * nodes (program_of program.now)) }
     ensures too_much { let size = capped (16 * nodes (program_of program.now)) in 4194304 < size → result ≡ Err (LowerError.TooMuchCode size) }
     ensures within { let size = capped (16 * nodes (program_of program.now)) in size ≤ 4194304 → (n : ℕ) → result ≡ Err (LowerError.TooMuchCode n) → ⊥ }
@@ -72,11 +79,13 @@ fn compiled(alloc: Global, program: &Program) -> Result<Code, NoMemory>
         code_end: emit.here(),
     })?;
     Ok(Code {
+        version: 2,
         routines,
         globals: globals_of(alloc, &program.globals)?,
         ranges: Vec::new(alloc),
         texts: Vec::new(alloc),
-        code: emit.code,
+        code: instrs_of(alloc, &emit.code)?,
+        lines: lines_of(alloc, &emit.code)?,
     })
 }
 
@@ -87,14 +96,15 @@ fn emitted(alloc: Global, body: &Routine) -> Result<Emit, NoMemory>
     requires slots { body.now.slots ≤ 4194304 }
     requires size { 16 + 16 * stmts_nodes (stmts_list body.now.body.items) ≤ 4194304 }
     ensures code { IfOk result (λ emit. emit.code.items ≡ body_code (routine_of body.now)) }
-    ensures kinds { IfOk result (λ emit. emit.kinds.items ≡ stmts_slots (stmts_list body.now.body.items)) }
+    ensures kinds { IfOk result (λ emit. emit.kinds.items ≡ stmts_slots (body_with_lines (routine_of body.now))) }
     ensures base { IfOk result (λ emit. emit.base ≡ body.now.slots) }
     ensures few { IfOk result (λ emit. length emit.code.items ≤ 16 + 16 * stmts_nodes (stmts_list body.now.body.items)) }
     ensures room { IfOk result (λ emit. emit.base + length emit.kinds.items ≤ 8388608) }
     ensures full { IfOk result (λ emit. filled emit ≤ 8388608) }
 {
     let mut emit = Emit::new(alloc, body.slots);
-    emit_stmts(&mut emit, &body.body)?;
-    emit.put(Instr::Return)?;
+    let mut lines = Lines::new(Vec::from_slice(alloc, &body.lines)?);
+    emit_stmts(&mut emit, &mut lines, &body.body)?;
+    emit.put(body.line, Instr::Return)?;
     Ok(emit)
 }

@@ -4,11 +4,11 @@ ghost use Rattle.alma_ir.specs.declared.phrase.Root.TheVariants as root;
 ghost use Rattle.alma_ir.specs.View.{program_of, desig_of, expr_of, test_of, stmts_list};
 ghost use Rattle.alma_ir.specs.Tree as tree;
 ghost use Rattle.alma_ir.specs.Checked.{IsChecked};
-ghost use Rattle.alma_lower.specs.Built.{IsBuilt};
+ghost use Rattle.alma_implements.specs.Built.{IsBuilt};
 
 use crate::lower;
 use alma_base::{NoMemory, Range};
-use alma_code::Instr;
+use alma_code::{Instr, Line};
 use alma_ir::{Arm, CaseArm, Cmp, Desig, Expr, Program, Root, Routine, Stmt, Test, WriteAs};
 use std::alloc::Global;
 use std::test::Fail;
@@ -31,8 +31,8 @@ pub(crate) fn load(alloc: Global) -> Expr
 }
 
 // A module of one variable.
-fn module_of(alloc: Global, body: Vec<Stmt>) -> Result<Program, NoMemory>
-    ensures { IfOk result (λ p. program_of p ≡ record { name = []; globals = []; routines = record { name = 65 ∷ []; params = []; result = None; declared = 1; slots = 2; body = stmts_list body.items } ∷ [] }) }
+fn module_of(alloc: Global, lines: &[u32], body: Vec<Stmt>) -> Result<Program, NoMemory>
+    ensures { IfOk result (λ p. program_of p ≡ record { name = []; globals = []; routines = record { name = 65 ∷ []; params = []; result = None; declared = 1; slots = 2; body = stmts_list body.items; level = 0; outer = 0; line = 1; lines = lines.now } ∷ [] }) }
 {
     let mut name = Vec::new(alloc);
     name.push(65)?;
@@ -44,6 +44,10 @@ fn module_of(alloc: Global, body: Vec<Stmt>) -> Result<Program, NoMemory>
         declared: 1,
         slots: 2,
         body,
+        level: 0,
+        outer: 0,
+        line: 1,
+        lines: Vec::from_slice(alloc, lines)?,
     })?;
     Ok(Program {
         name: Vec::new(alloc),
@@ -65,7 +69,7 @@ fn compared(alloc: Global, cmp: Cmp, left: Expr, right: Expr) -> Result<Test, No
 // WRITE of an expression, alone.
 #[tactic(auto, using(alma_ir::proofs::Views::writeexpr_view))]
 fn written(alloc: Global, value: Expr, how: WriteAs) -> Result<Vec<Stmt>, NoMemory>
-    ensures { IfOk result (λ body. stmts_list body.items ≡ tree.more_stmts (tree.WriteExpr (expr_of value) how) tree.no_stmts) }
+    ensures { IfOk result (λ body. stmts_list body.items ≡ tree.more_stmts 0 (tree.WriteExpr (expr_of value) how) tree.no_stmts) }
 {
     let mut body = Vec::new(alloc);
     body.push(Stmt::WriteExpr(value, how))?;
@@ -90,7 +94,7 @@ fn loop_program(alloc: Global) -> Result<Program, NoMemory>
     let mut body = Vec::new(alloc);
     body.push(Stmt::Assign(variable(alloc), number(3), Range::integer()))?;
     body.push(Stmt::While(test, inside))?;
-    module_of(alloc, body)
+    module_of(alloc, &[2, 3, 4], body)
 }
 
 // IF x = 1 THEN WRITE(x) ELSIF x THEN WRITE(1 as a truth) END
@@ -109,7 +113,7 @@ fn if_program(alloc: Global) -> Result<Program, NoMemory>
     })?;
     let mut body = Vec::new(alloc);
     body.push(Stmt::If(arms, Vec::new(alloc)))?;
-    module_of(alloc, body)
+    module_of(alloc, &[2, 3, 5], body)
 }
 
 // CASE x OF 1, 3..4: WRITE(x) END, with an arm without labels before; CASE x OF 7: ELSE WRITE(1 as a truth) END
@@ -140,7 +144,7 @@ fn case_program(alloc: Global) -> Result<Program, NoMemory>
     let mut body = Vec::new(alloc);
     body.push(Stmt::Case(load(alloc), arms, None))?;
     body.push(Stmt::Case(load(alloc), others, Some(last)))?;
-    module_of(alloc, body)
+    module_of(alloc, &[2, 3, 4, 5, 6], body)
 }
 
 #[test]
@@ -170,6 +174,14 @@ fn a_loop_jumps_back_to_its_condition(rt: HostRuntime) -> Result<(), Fail> {
     assert_eq!(rt; code.code.as_slice(), expected.as_slice());
     assert_eq!(rt; code.routines.len(), 1);
     assert_eq!(rt; code.routines[0].slots, 9);
+    let lines = [
+        Line { at: 0, line: 2 },
+        Line { at: 3, line: 3 },
+        Line { at: 9, line: 4 },
+        Line { at: 12, line: 3 },
+        Line { at: 13, line: 1 },
+    ];
+    assert_eq!(rt; code.lines.as_slice(), lines.as_slice());
     Ok(())
 }
 
@@ -277,5 +289,14 @@ fn each_label_leads_to_its_arm_or_behind_it(rt: HostRuntime) -> Result<(), Fail>
     ];
     assert_eq!(rt; code.code.as_slice(), expected.as_slice());
     assert_eq!(rt; code.routines[0].slots, 13);
+    let lines = [
+        Line { at: 0, line: 2 },
+        Line { at: 19, line: 4 },
+        Line { at: 22, line: 2 },
+        Line { at: 24, line: 5 },
+        Line { at: 37, line: 6 },
+        Line { at: 39, line: 1 },
+    ];
+    assert_eq!(rt; code.lines.as_slice(), lines.as_slice());
     Ok(())
 }

@@ -5,7 +5,7 @@ use Rattle.alma_ir.specs.View.{desig_of, expr_of, links_list}
 use Rattle.alma_ir.specs.Count.{expr_nodes, links_nodes}
 use Rattle.alma_ir.proofs.Views
 use Rattle.std.proofs.Math.ListN.{drop_of_length-le}
-use Rattle.alma_lower.specs.Built.{BuiltExpr, BuiltLinks}
+use Rattle.alma_implements.specs.Built.{BuiltExpr, BuiltLinks}
 use Rattle.alma_lower.specs.Emitted.{Puts, PutsLinks}
 use Rattle.alma_lower.proofs.Emits.{on_ok_map, expr_as, drop_one, links_put, no_links_put, chain_put, compare_put}
 use Rattle.alma_lower.proofs.emit.+exprs.Goals as goal
@@ -43,7 +43,7 @@ emit_expr-returns-in-Const-clause-few t c =
 
 pub emit_expr-returns-in-Load-clause-puts : goal.emit_expr-returns-in-Load-clause-puts
 emit_expr-returns-in-Load-clause-puts t c =
-    expr_as c.emit_load.result _ _ _ _ (ap expr_of c.in-Load.is ∙ Views.load_view _) c.emit_load.ensures.puts
+    expr_as c.emit_load.result _ _ _ _ _ (ap expr_of c.in-Load.is ∙ Views.load_view _) c.emit_load.ensures.puts
 
 pub emit_expr-returns-in-Load-clause-few : goal.emit_expr-returns-in-Load-clause-few
 emit_expr-returns-in-Load-clause-few t c =
@@ -68,14 +68,14 @@ emit_links-loop-link-preserved t c =
     record {
       built = built.1;
       few = omega (arith, l.invariant.few, ap links_nodes one, c.in_ok-operand.ensures.few, c.in_ok-put.ensures.few);
-      completes = λ d h. l.invariant.completes d (subst (PutsLinks l.emit d c.args.to) (sym one) (links_put _ _ _ _ _ _ _ _ _ c.in_ok-operand.ensures.slot c.in_ok-operand.ensures.puts (subst (Puts c.emit_expr.new.emit c.put.new.self) c.op_instr.ensures c.in_ok-put.ensures.puts) h));
+      completes = λ d h. l.invariant.completes d (subst (PutsLinks l.emit d c.args.line c.args.to) (sym one) (links_put _ _ _ _ _ _ _ _ _ _ c.in_ok-operand.ensures.slot c.in_ok-operand.ensures.puts (subst (Puts c.emit_expr.new.emit c.put.new.self c.args.line) c.op_instr.ensures c.in_ok-put.ensures.puts) h));
     }
 
 pub emit_links-returns-clause-puts : goal.emit_links-returns-clause-puts
 emit_links-returns-clause-puts t c =
     let l = c.loop-link in
     let none : drop l.link-index c.args.links.now ≡ [] = drop_of_length-le c.args.links.now (omega (arith, c.loop-link-test.false)) in
-    l.invariant.completes _ (subst (PutsLinks l.emit l.emit c.args.to) (ap links_list (sym none)) (no_links_put l.emit c.args.to))
+    l.invariant.completes _ (subst (PutsLinks l.emit l.emit c.args.line c.args.to) (ap links_list (sym none)) (no_links_put l.emit c.args.line c.args.to))
 
 pub emit_links-returns-clause-few : goal.emit_links-returns-clause-few
 emit_links-returns-clause-few t c = omega (arith, c.loop-link.invariant.few)
@@ -113,7 +113,7 @@ emit_expr-emit_expr-requires-in-Compare-2 t c =
 pub emit_expr-returns-in_ok-emit_links-in-Chain-clause-puts : goal.emit_expr-returns-in_ok-emit_links-in-Chain-clause-puts
 emit_expr-returns-in_ok-emit_links-in-Chain-clause-puts t c =
     let view : expr_of c.args.expr.now ≡ tree.Chain c.in-Chain.negated (expr_of c.deref.result.now) (links_list c.deref-in-Chain.result.now) = ap expr_of c.in-Chain.is ∙ Views.chain_view _ _ _ ∙ ap (λ x. tree.Chain c.in-Chain.negated (expr_of x) (links_list c.in-Chain.links.items)) (sym c.deref.ensures) ∙ ap (λ x. tree.Chain c.in-Chain.negated (expr_of c.deref.result.now) (links_list x)) (sym c.deref-in-Chain.ensures.value) in
-    chain_put _ _ _ _ _ _ _ _ _ view c.in_ok-to-in-Chain.ensures.slot c.in_ok-to-in-Chain.ensures.puts c.in_ok-emit_neg-in-Chain.ensures.puts c.in_ok-emit_links-in-Chain.ensures.puts
+    chain_put _ _ _ _ _ _ _ _ _ _ view c.in_ok-to-in-Chain.ensures.slot c.in_ok-to-in-Chain.ensures.puts c.in_ok-emit_neg-in-Chain.ensures.puts c.in_ok-emit_links-in-Chain.ensures.puts
 
 pub emit_expr-returns-in_ok-emit_links-in-Chain-clause-few : goal.emit_expr-returns-in_ok-emit_links-in-Chain-clause-few
 emit_expr-returns-in_ok-emit_links-in-Chain-clause-few t c =
@@ -123,7 +123,7 @@ emit_expr-returns-in_ok-emit_links-in-Chain-clause-few t c =
 pub emit_expr-returns-in_ok-emit_cmp-in-Compare-clause-puts : goal.emit_expr-returns-in_ok-emit_cmp-in-Compare-clause-puts
 emit_expr-returns-in_ok-emit_cmp-in-Compare-clause-puts t c =
     let view : expr_of c.args.expr.now ≡ tree.Compare c.in-Compare.cmp (expr_of c.deref-in-Compare.result.now) (expr_of c.deref-in-Compare-2.result.now) = ap expr_of c.in-Compare.is ∙ Views.compare_view _ _ _ ∙ ap (λ x. tree.Compare c.in-Compare.cmp (expr_of x) (expr_of c.in-Compare.right.value)) (sym c.deref-in-Compare.ensures) ∙ ap (λ x. tree.Compare c.in-Compare.cmp (expr_of c.deref-in-Compare.result.now) (expr_of x)) (sym c.deref-in-Compare-2.ensures) in
-    compare_put _ _ _ _ _ _ _ _ _ _ view c.in_ok-to-in-Compare.ensures.slot c.in_ok-other-in-Compare.ensures.slot c.in_ok-to-in-Compare.ensures.puts c.in_ok-other-in-Compare.ensures.puts c.in_ok-emit_cmp-in-Compare.ensures.puts
+    compare_put _ _ _ _ _ _ _ _ _ _ _ view c.in_ok-to-in-Compare.ensures.slot c.in_ok-other-in-Compare.ensures.slot c.in_ok-to-in-Compare.ensures.puts c.in_ok-other-in-Compare.ensures.puts c.in_ok-emit_cmp-in-Compare.ensures.puts
 
 pub emit_expr-returns-in_ok-emit_cmp-in-Compare-clause-few : goal.emit_expr-returns-in_ok-emit_cmp-in-Compare-clause-few
 emit_expr-returns-in_ok-emit_cmp-in-Compare-clause-few t c =

@@ -3,7 +3,7 @@ use Rattle.alma_ir.specs.Tree as tree
 use Rattle.alma_ir.specs.View.{expr_of, test_of}
 use Rattle.alma_ir.specs.Count.{test_nodes}
 use Rattle.alma_ir.proofs.Views
-use Rattle.alma_lower.specs.Built.{BuiltTest}
+use Rattle.alma_implements.specs.Built.{BuiltTest}
 use Rattle.alma_lower.specs.Emitted.{PutsCondition}
 use Rattle.alma_lower.proofs.Emits.{on_ok_map}
 use Rattle.alma_lower.proofs.emit_body.emit_condition.Goals as goal
@@ -43,7 +43,7 @@ unreachable-requires-in-Call c = subst BuiltTest (ap test_of c.in-Call.is ∙ Vi
 pub returns-clause-puts : goal.returns-clause-puts
 returns-clause-puts c =
     let view : test_of c.args.test.now ≡ tree.Value (expr_of c.in-Value.value) = ap test_of c.in-Value.is ∙ Views.value_view _ in
-    on_ok_map c.emit_expr.result (λ h. subst (PutsCondition c.args.emit.now c.emit_expr.new.emit) (sym view) (record { all = h.all })) c.emit_expr.ensures.puts
+    on_ok_map c.emit_expr.result (λ h. subst (PutsCondition c.args.emit.now c.emit_expr.new.emit c.args.line) (sym view) (record { all = h.all })) c.emit_expr.ensures.puts
 
 pub returns-clause-few : goal.returns-clause-few
 returns-clause-few c =

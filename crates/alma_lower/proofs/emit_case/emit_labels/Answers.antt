@@ -12,7 +12,7 @@ loop-label-preserved c =
     let labels = c.args.labels.now in
     record {
       few = omega (arith, l.invariant.few, length-drop l.label-index labels, length-drop (l.label-index + 1) labels, c.loop-label-test.true, c.in_ok-emit_label.ensures.few);
-      completes = λ d h. l.invariant.completes d (subst (PutsLabels l.emit d head.value head.bound c.args.hit) (sym (drop_read labels l.label-index _ c.loop-label-test.true)) (labels_put _ _ _ _ _ _ _ _ c.in_ok-emit_label.ensures.puts h));
+      completes = λ d h. l.invariant.completes d (subst (PutsLabels l.emit d c.args.line head.value head.bound c.args.hit) (sym (drop_read labels l.label-index _ c.loop-label-test.true)) (labels_put _ _ _ _ _ _ _ _ _ c.in_ok-emit_label.ensures.puts h));
     }
 
 pub returns-clause-puts : goal.returns-clause-puts
@@ -20,4 +20,4 @@ returns-clause-puts c =
     let l = c.loop-label in
     let head = c.args.head in
     let none : drop l.label-index c.args.labels.now ≡ [] = drop_of_length-le c.args.labels.now (omega (arith, c.loop-label-test.false)) in
-    l.invariant.completes _ (subst (PutsLabels l.emit l.emit head.value head.bound c.args.hit) (sym none) (no_labels_put l.emit head.value head.bound c.args.hit))
+    l.invariant.completes _ (subst (PutsLabels l.emit l.emit c.args.line head.value head.bound c.args.hit) (sym none) (no_labels_put l.emit c.args.line head.value head.bound c.args.hit))

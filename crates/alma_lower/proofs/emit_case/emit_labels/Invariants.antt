@@ -7,5 +7,5 @@ use Rattle.alma_lower.proofs.emit_case.emit_labels.Given as goal
 abbrev pub invariant-loop-label : goal.invariant-loop-label
 invariant-loop-label l = record {
   few : filled l.emit + 7 * length (drop l.label-index l.labels) ≤ filled l.fn.emit + 7 * length l.labels;
-  completes : (c : Emit) → PutsLabels l.emit c l.head.value l.head.bound l.hit (drop l.label-index l.labels) → PutsLabels l.fn.emit c l.head.value l.head.bound l.hit l.labels;
+  completes : (c : Emit) → PutsLabels l.emit c l.line l.head.value l.head.bound l.hit (drop l.label-index l.labels) → PutsLabels l.fn.emit c l.line l.head.value l.head.bound l.hit l.labels;
 }

@@ -2,7 +2,7 @@ use Rattle.std.proofs.Common.{◌≡◌, take}
 use Rattle.std.specs.Prelude.{map}
 use Rattle.alma_code.specs.Plain as code
 use Rattle.alma_ir.specs.View as view
-use Rattle.alma_lower.specs.Templates.{global_named}
+use Rattle.alma_implements.specs.Templates.{global_named}
 use Rattle.alma_lower.proofs.emit_tables.globals_of.Given as goal
 
 abbrev pub invariant-loop-global : goal.invariant-loop-global

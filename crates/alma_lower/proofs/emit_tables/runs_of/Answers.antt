@@ -6,7 +6,7 @@ use Rattle.std.specs.Prelude.{Vec, List}
 use Rattle.std.specs.declared.alloc.Global.{Global}
 use Rattle.alma_code.specs.declared.head.Run.{Run}
 use Rattle.alma_code.specs.declared.cell.SlotKind.{SlotKind}
-use Rattle.alma_lower.specs.Templates.{NamesKinds}
+use Rattle.alma_implements.specs.Templates.{NamesKinds}
 use Rattle.alma_lower.proofs.RunLemmas.{Opens, opens_same, opens_other, opens_closed, front_one}
 use Rattle.alma_lower.proofs.emit_tables.runs_of.Goals.{then-is_same, else-is_same+in_ok-push}
 use Rattle.alma_lower.proofs.emit_tables.runs_of.Goals as goal

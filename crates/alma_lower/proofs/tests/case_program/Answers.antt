@@ -1,8 +1,8 @@
 use Rattle.std.proofs.Common.{◌≡◌, ◌∙◌, ap, sym, subst}
 use Rattle.alma_ir.specs.View.{stmts_list}
 use Rattle.alma_ir.specs.Checked.{IsChecked}
-use Rattle.alma_lower.specs.Built.{IsBuilt}
-use Rattle.alma_lower.proofs.Examples.{module_of, case_body, case_built, case_checked}
+use Rattle.alma_implements.specs.Built.{IsBuilt}
+use Rattle.alma_lower.proofs.Examples.{module_of, case_lines, case_body, case_built, case_checked}
 use Rattle.alma_lower.proofs.ExampleViews.{if_ok_map, one_pushed, two_pushed, wrote, case_made}
 use Rattle.alma_lower.proofs.tests.case_program.Goals as goal
 
@@ -17,7 +17,7 @@ returns-clause-built c =
     let second = wrote _ _ _ _ c.in_ok-written-2.ensures c.load-2.ensures in
     let last = wrote _ _ _ _ c.in_ok-last.ensures c.number.ensures in
     let body : stmts_list c.push-8.new.self.items ≡ case_body = case_made _ _ _ _ _ _ _ _ _ _ _ _ arms c.new.ensures.items first labels second others sevens c.new-2.ensures.items last c.load-3.ensures c.load-4.ensures all in
-    if_ok_map c.module_of.result (λ p h. subst IsBuilt (sym (h ∙ ap module_of body)) case_built) c.module_of.ensures
+    if_ok_map c.module_of.result (λ p h. subst IsBuilt (sym (h ∙ ap (module_of case_lines) body)) case_built) c.module_of.ensures
 
 pub returns-clause-checked : goal.returns-clause-checked
 returns-clause-checked c =
@@ -30,4 +30,4 @@ returns-clause-checked c =
     let second = wrote _ _ _ _ c.in_ok-written-2.ensures c.load-2.ensures in
     let last = wrote _ _ _ _ c.in_ok-last.ensures c.number.ensures in
     let body : stmts_list c.push-8.new.self.items ≡ case_body = case_made _ _ _ _ _ _ _ _ _ _ _ _ arms c.new.ensures.items first labels second others sevens c.new-2.ensures.items last c.load-3.ensures c.load-4.ensures all in
-    if_ok_map c.module_of.result (λ p h. subst IsChecked (sym (h ∙ ap module_of body)) case_checked) c.module_of.ensures
+    if_ok_map c.module_of.result (λ p h. subst IsChecked (sym (h ∙ ap (module_of case_lines) body)) case_checked) c.module_of.ensures

@@ -5,11 +5,12 @@ use Rattle.alma_lower.specs.Emitted.{aimed}
 use Rattle.alma_lower.proofs.emit.Emit.aim.Goals as goal
 
 pub returns-clause-code : goal.returns-clause-code
-returns-clause-code c before after jump is at =
+returns-clause-code c before after jump line is at =
     let d = c.index.result.now in
-    let got : d ≡ jump = c.index.ensures ∙ ap (λ l. get_or l c.args.at d) is ∙ ap (λ n. get_or (before ++ jump ∷ after) n d) (sym at) ∙ get_or-append_seam before jump after d in
-    let to : c.aimed_at-jump.result ≡ aimed jump (length c.args.self.now.code.items) = c.aimed_at-jump.ensures ∙ ap (λ i. aimed i c.here-to.result) got ∙ ap (aimed jump) c.here-to.ensures.address in
-    ap (λ l. slice_set l c.args.at c.aimed_at-jump.result) is
-    ∙ ap (λ n. slice_set (before ++ jump ∷ after) n c.aimed_at-jump.result) (sym at)
-    ∙ set-append_seam before jump after c.aimed_at-jump.result
-    ∙ ap (λ i. before ++ i ∷ after) to
+    let got : d ≡ (jump, line) = c.index.ensures ∙ ap (λ l. get_or l c.args.at d) is ∙ ap (λ n. get_or (before ++ (jump, line) ∷ after) n d) (sym at) ∙ get_or-append_seam before (jump, line) after d in
+    let to : c.aimed_at.result ≡ aimed jump (length c.args.self.now.code.items) = c.aimed_at.ensures ∙ ap (λ p. aimed p.0 c.here-to.result) got ∙ ap (aimed jump) c.here-to.ensures.address in
+    ap (λ l. slice_set l c.args.at (c.aimed_at.result, d.1)) is
+    ∙ ap (λ n. slice_set (before ++ (jump, line) ∷ after) n (c.aimed_at.result, d.1)) (sym at)
+    ∙ set-append_seam before (jump, line) after (c.aimed_at.result, d.1)
+    ∙ ap (λ i. before ++ (i, d.1) ∷ after) to
+    ∙ ap (λ p. before ++ (aimed jump (length c.args.self.now.code.items), p.1) ∷ after) got
