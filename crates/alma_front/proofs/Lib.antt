@@ -2,6 +2,7 @@ pub mod Conditions
 pub mod DeclaredNames
 pub mod LawsChecked
 pub mod LawsForms
+pub mod LawsLines
 pub mod LawsOnce
 pub mod LawsSums
 pub mod LawsWords
