@@ -10,4 +10,5 @@ pub mod Modules
 pub mod Sources
 pub mod Statements
 pub mod Sums
+pub mod TokenLines
 pub mod Tokens

@@ -1,5 +1,5 @@
 // The lines of a module and of its statements.
-ghost use Rattle.std.specs.Prelude.{◌≡◌, ◌≤◌, ℕ, List, All, length, IfOk};
+ghost use Rattle.std.specs.Prelude.{◌≡◌, ◌≤◌, ℕ, true, List, All, length, IfOk};
 ghost use Rattle.alma_scan.specs.Places.{line_at};
 ghost use Rattle.alma_scan.specs.Tokens.{IsSlice};
 ghost use Rattle.alma_scan.specs.Scanned.{lexemes};
@@ -128,8 +128,8 @@ pub fn module_lines(alloc: Global, source: &[u8], tokens: &[Token<'_>]) -> Resul
     requires slices { All (IsSlice source.now) (lexemes tokens.now) }
     ensures { IfOk result (λ lines. lines_of lines ≡ spec.module_lines source.now (lexemes tokens.now)) }
 {
-    let heading = match tokens.first() {
-        Some(first) => place(source, first.start).line,
+    let heading = match tokens.split_first() {
+        Some((first, _)) => place(source, first.start).line,
         None => 1,
     };
     let statements = statement_lines(alloc, source, heading, behind_begin(tokens))?;
