@@ -1,5 +1,5 @@
 -- Each statement of a module has its line.
-use Rattle.std.proofs.Common.{◌≡◌, ◌≤◌, ◌<◌, ◌+◌, ℕ, suc, Bool, true, false, List, [], ◌∷◌, ◌++◌, length, map, Some, refl, sym, ap, ◌∙◌, subst, arith, if◌then◌else◌}
+use Rattle.std.proofs.Common.{◌≡◌, ◌<◌, ◌+◌, ℕ, suc, Bool, true, false, List, [], ◌∷◌, ◌++◌, length, map, Some, refl, sym, ap, ◌∙◌, arith, if◌then◌else◌}
 use Rattle.std.specs.List.{AllByRecursion}
 use Rattle.alma_tree.specs.declared.kind.Kind.{Kind}
 use Rattle.alma_tree.specs.declared.kind.Kind.TheVariants as kinds
@@ -14,7 +14,7 @@ use Rattle.alma_ir.specs.Lines.{stmt_count}
 use Rattle.alma_ir.specs.Checked.{HasLines}
 use Rattle.alma_ir.proofs.LinesBack.{count_sum}
 use Rattle.alma_front.specs.Words.{Word, Named, Digits, Fixed, word, factor_op, term_op, comparison}
-use Rattle.alma_front.specs.Grammar.{one, followed_by, HasSign, no_sign, plus_sign, minus_sign, IsOperand, number, variable_named, nested, IsFactors, no_factors, more_factors, IsProduct, product, IsTerms, no_terms, more_terms, IsSum, sum, IsCondition, truth, compared, IsItem, truth_item, sum_item, IsItems, last_item, more_items, IsStatement, nothing, test, assignment, write, if_else, while_loop, repeat_loop, IsArms, last_arm, elsif, IsElse, no_else, else_part, IsStatements, last_statement, more_statements, IsNames, last_name, more_names, HasVariables, no_variables, variables, HasBody, no_body, body, IsModule, body_routine}
+use Rattle.alma_front.specs.Grammar.{followed_by, HasSign, no_sign, plus_sign, minus_sign, IsOperand, number, variable_named, nested, IsFactors, no_factors, more_factors, IsProduct, product, IsTerms, no_terms, more_terms, IsSum, sum, IsCondition, truth, compared, IsItem, truth_item, sum_item, IsItems, last_item, more_items, IsStatement, nothing, test, assignment, write, if_else, while_loop, repeat_loop, IsArms, last_arm, elsif, IsElse, no_else, else_part, IsStatements, last_statement, more_statements, IsNames, last_name, more_names, HasVariables, no_variables, variables, HasBody, no_body, body, IsModule, body_routine}
 use Rattle.alma_front.specs.Parse.{first_is, start_word, ends_word, ends_list, ends_arms}
 use Rattle.alma_front.specs.Lines.{opens_statement, begins_statement, is_begin, is_comma, token_line, behind_begin, lines_from, heading_line, module_lines}
 use Rattle.alma_front.proofs.LawsWords.{none_some}

@@ -13,7 +13,7 @@ use Rattle.alma_ir.specs.Tree.{Program}
 use Rattle.alma_ir.specs.View.{program_of}
 use Rattle.alma_front.specs.declared.error.ReadError.{ReadError}
 use Rattle.alma_front.specs.declared.error.ReadError.TheVariants.{NotYet, Memory}
-use Rattle.alma_front.specs.Words.{Word, word, KeepsDepth}
+use Rattle.alma_front.specs.Words.{word, KeepsDepth}
 use Rattle.alma_front.specs.Grammar.{IsModule}
 use Rattle.alma_front.specs.Lines.{module_lines}
 use Rattle.alma_front.specs.Parse.{words, scan_end}

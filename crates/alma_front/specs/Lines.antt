@@ -1,7 +1,7 @@
 -- The lines of a module, found in the tokens of its source. A statement begins behind BEGIN, THEN, ELSE, DO, REPEAT and a
 -- semicolon, unless what stands there is the end of statements; and each comma of a WRITE begins one more, on the line of
 -- this word.
-use Rattle.std.specs.Prelude.{ℕ, ◌+◌, Bool, true, false, ◌&&◌, not, List, [], ◌∷◌, if◌then◌else◌}
+use Rattle.std.specs.Prelude.{ℕ, Bool, true, false, ◌&&◌, not, List, [], ◌∷◌, if◌then◌else◌}
 use Rattle.alma_tree.specs.declared.kind.Kind.TheVariants as kinds
 use Rattle.alma_scan.specs.Places.{line_at}
 use Rattle.alma_scan.specs.Tokens.{Lexeme}

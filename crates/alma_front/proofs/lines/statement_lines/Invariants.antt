@@ -1,4 +1,4 @@
-use Rattle.std.proofs.Common.{◌≡◌, ◌≤◌, ◌++◌, true, drop, length}
+use Rattle.std.proofs.Common.{◌≡◌, ◌++◌, true, drop}
 use Rattle.alma_scan.specs.Places.{line_at}
 use Rattle.alma_scan.specs.Scanned.{lexemes}
 use Rattle.alma_front.specs.Lines as spec
