@@ -1,0 +1,10 @@
+//! Whether a code is sound, and the first rule that it breaks.
+#![tactic(auto)]
+
+mod heads;
+mod reader;
+mod rules;
+mod verifier;
+mod words;
+
+pub use alma_code::VerifyFault;
