@@ -11,3 +11,6 @@ mod words;
 
 pub use alma_code::VerifyFault;
 pub use verified::{Verified, verify};
+
+#[cfg(test)]
+mod tests;

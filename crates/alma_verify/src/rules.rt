@@ -5,10 +5,9 @@ ghost use Rattle.alma_code.specs.Kinds.{is_number as is_number_spec, is_mark as 
 ghost use Rattle.alma_verify.specs.Runs.{Covers};
 ghost use Rattle.alma_code.specs.Rules.{IsTable, kind_in, length_in, link_in, place_length as place_length_spec, link_routine as link_routine_spec, is_slot as is_slot_spec, names_slot as names_slot_spec, rule_4 as rule_4_spec, rule_7 as rule_7_spec, names_entry as names_entry_spec, rule_8 as rule_8_spec, rule_12 as rule_12_spec, ends_routine as ends_routine_spec, cells_in, is_free, rule_5 as rule_5_spec, rule_6 as rule_6_spec, has_room as has_room_spec, is_address as is_address_spec, names_address as names_address_spec, rule_9 as rule_9_spec, rule_10 as rule_10_spec, rule_11 as rule_11_spec, fits_argument as fits_argument_spec, fit_arguments, holds_result as holds_result_spec, holds_first, can_call as can_call_spec};
 
-use alma_code::{CodeParam, Instr, ParamKind, Run, SlotKind, Word};
-
 use crate::reader::CodeReader;
 use crate::words::words_of;
+use alma_code::{CodeParam, Instr, ParamKind, Run, SlotKind, Word};
 
 /// The run over a slot, by halving.
 pub fn run_over<R: CodeReader>(reader: &R, routine: u32, slot: u64) -> Option<Run>
@@ -27,7 +26,11 @@ pub fn run_over<R: CodeReader>(reader: &R, routine: u32, slot: u64) -> Option<Ru
             low = middle + 1;
         }
     }
-    if low < count { Some(reader.run(routine, low)) } else { None }
+    if low < count {
+        Some(reader.run(routine, low))
+    } else {
+        None
+    }
 }
 
 /// The kind of a slot.
@@ -184,10 +187,17 @@ pub fn rule_7<R: CodeReader>(reader: &R, routine: u32, instr: Instr) -> bool
         Instr::Load { to: _, from } => length_of(reader, routine, from) == 1,
         Instr::Store { to, from: _ } => length_of(reader, routine, to) == 1,
         Instr::Known { to: _, of } => length_of(reader, routine, of) == 1,
-        Instr::Bind { place, value: _, range: _ } => length_of(reader, routine, place) == 1,
-        Instr::Unify { left, left_range: _, right, right_range: _ } => {
-            length_of(reader, routine, left) == 1 && length_of(reader, routine, right) == 1
-        }
+        Instr::Bind {
+            place,
+            value: _,
+            range: _,
+        } => length_of(reader, routine, place) == 1,
+        Instr::Unify {
+            left,
+            left_range: _,
+            right,
+            right_range: _,
+        } => { length_of(reader, routine, left) == 1 && length_of(reader, routine, right) == 1 }
         Instr::CopyCells { to, from } => {
             length_of(reader, routine, to) == length_of(reader, routine, from)
         }
@@ -206,8 +216,13 @@ pub fn names_entry<R: CodeReader>(reader: &R, word: Word) -> bool
     match word {
         Word::Range(range) => reader.range(range).is_some(),
         Word::Text(text) => reader.has_text(text),
-        Word::Number(_) | Word::Place(_) | Word::Mark(_) | Word::Link(_) | Word::Slot(_)
-        | Word::Address(_) | Word::Free => true,
+        Word::Number(_)
+        | Word::Place(_)
+        | Word::Mark(_)
+        | Word::Link(_)
+        | Word::Slot(_)
+        | Word::Address(_)
+        | Word::Free => true,
     }
 }
 
@@ -226,7 +241,11 @@ pub fn start_of<R: CodeReader>(reader: &R, routine: u32) -> u32
     requires { routine < length (R.code reader.now).routines }
     ensures { result ≡ start_at (R.code reader.now) routine }
 {
-    if routine == 0 { 0 } else { reader.code_end(routine - 1) }
+    if routine == 0 {
+        0
+    } else {
+        reader.code_end(routine - 1)
+    }
 }
 
 #[tactic(auto, unfolding(alma_code::specs::Rules::rule_12))]
@@ -353,8 +372,14 @@ pub fn names_address<R: CodeReader>(reader: &R, routine: u32, word: Word) -> boo
 {
     match word {
         Word::Address(at) => is_address(reader, routine, at),
-        Word::Number(_) | Word::Place(_) | Word::Mark(_) | Word::Link(_) | Word::Slot(_)
-        | Word::Range(_) | Word::Text(_) | Word::Free => true,
+        Word::Number(_)
+        | Word::Place(_)
+        | Word::Mark(_)
+        | Word::Link(_)
+        | Word::Slot(_)
+        | Word::Range(_)
+        | Word::Text(_)
+        | Word::Free => true,
     }
 }
 
@@ -431,7 +456,11 @@ pub fn rule_10<R: CodeReader>(reader: &R, routine: u32, at: u32, instr: Instr) -
     ensures { result ≡ rule_10_spec (R.code reader.now) routine at instr }
 {
     match instr {
-        Instr::Call { routine: callee, first, to } => {
+        Instr::Call {
+            routine: callee,
+            first,
+            to,
+        } => {
             callee > 0
                 && callee < reader.routine_count()
                 && fit_all(reader, routine, callee, first)
@@ -463,7 +492,12 @@ pub fn rule_6<R: CodeReader>(reader: &R, routine: u32, instr: Instr) -> bool
     ensures { result ≡ rule_6_spec (R.code reader.now) routine instr }
 {
     match instr {
-        Instr::Index { to, from, index: _, range } => has_room(
+        Instr::Index {
+            to,
+            from,
+            index: _,
+            range,
+        } => has_room(
             reader,
             range,
             length_of(reader, routine, to),

@@ -3,10 +3,9 @@ ghost use Rattle.std.specs.Prelude.{◌≡◌, None, Some, MatchResult, IfOk};
 ghost use Rattle.alma_code.specs.Rules.{IsSound, code_fault as code_fault_of};
 ghost use Rattle.alma_object.specs.View.{code_of_view};
 
+use crate::verifier::code_fault;
 use alma_code::VerifyFault;
 use alma_object::ObjectView;
-
-use crate::verifier::code_fault;
 
 /// A view of an object whose code is sound.
 #[derive(Clone, Copy, Debug)]

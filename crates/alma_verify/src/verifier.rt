@@ -5,13 +5,12 @@ ghost use Rattle.alma_code.specs.Records.{KeepsCounts};
 ghost use Rattle.alma_code.specs.declared.instr.Instr.TheVariants as I;
 ghost use Rattle.alma_code.specs.Rules.{IsTable, instr_fault as instr_fault_spec, instrs_fault as instrs_fault_spec, routine_fault as routine_fault_spec, code_fault as code_fault_spec};
 
-use alma_code::VerifyFault;
-
 use crate::heads::{rule_1, rule_2, rule_3};
 use crate::reader::CodeReader;
 use crate::rules::{
     rule_4, rule_5, rule_6, rule_7, rule_8, rule_9, rule_10, rule_11, rule_12, start_of,
 };
+use alma_code::VerifyFault;
 
 /// The least broken rule of the instruction at an address of a routine.
 #[tactic(auto, unfolding(alma_code::specs::Rules::instr_fault))]
@@ -53,7 +52,12 @@ pub fn instr_fault<R: CodeReader>(reader: &R, routine: u32, at: u32) -> Option<V
 }
 
 #[tactic(auto, using(crate::proofs::Starts::fault_steps))]
-pub fn instrs_fault<R: CodeReader>(reader: &R, routine: u32, start: u32, end: u32) -> Option<VerifyFault>
+pub fn instrs_fault<R: CodeReader>(
+    reader: &R,
+    routine: u32,
+    start: u32,
+    end: u32,
+) -> Option<VerifyFault>
     requires routine { routine < length (R.code reader.now).routines }
     requires table { IsTable (R.code reader.now) }
     requires order { start ≤ end }
@@ -78,15 +82,29 @@ pub fn routine_fault<R: CodeReader>(reader: &R, routine: u32) -> Option<VerifyFa
     ensures { result ≡ routine_fault_spec (R.code reader.now) routine }
 {
     if !rule_1(reader, routine) {
-        return Some(VerifyFault { rule: 1, at: routine });
+        return Some(VerifyFault {
+            rule: 1,
+            at: routine,
+        });
     }
     if !rule_2(reader, routine) {
-        return Some(VerifyFault { rule: 2, at: routine });
+        return Some(VerifyFault {
+            rule: 2,
+            at: routine,
+        });
     }
     if !rule_3(reader, routine) {
-        return Some(VerifyFault { rule: 3, at: routine });
+        return Some(VerifyFault {
+            rule: 3,
+            at: routine,
+        });
     }
-    instrs_fault(reader, routine, start_of(reader, routine), reader.code_end(routine))
+    instrs_fault(
+        reader,
+        routine,
+        start_of(reader, routine),
+        reader.code_end(routine),
+    )
 }
 
 /// The first broken rule of the code.

@@ -4,11 +4,10 @@ ghost use Rattle.alma_code.specs.Plain.{routine_at};
 ghost use Rattle.alma_object.specs.View.{code_of_view, routine_of_view, global_of_view};
 ghost use Rattle.alma_verify.specs.Runs.{no_global};
 
+use crate::reader::CodeReader;
 use alma_base::Range;
 use alma_code::{CodeParam, Head, Instr, Run};
 use alma_object::{GlobalView, ObjectView, RoutineView};
-
-use crate::reader::CodeReader;
 
 // A routine below their count.
 fn routine_of<'b>(view: &ObjectView<'b>, routine: u32) -> RoutineView<'b>

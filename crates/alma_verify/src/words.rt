@@ -22,29 +22,68 @@ pub fn words_of(instr: Instr) -> [Word; 4]
         | Instr::Equal { to, left, right }
         | Instr::Less { to, left, right }
         | Instr::LessEq { to, left, right } => {
-            [Word::Number(to), Word::Number(left), Word::Number(right), free]
+            [
+                Word::Number(to),
+                Word::Number(left),
+                Word::Number(right),
+                free,
+            ]
         }
         Instr::InRange { value, range } => [Word::Number(value), Word::Range(range), free, free],
         Instr::Local { to, first } => [Word::Place(to), Word::Slot(first), free, free],
         Instr::Global { to, first: _ } => [Word::Place(to), free, free, free],
         Instr::Same { to, from }
         | Instr::CopyCells { to, from }
-        | Instr::SameCells { left: to, right: from } => {
-            [Word::Place(to), Word::Place(from), free, free]
-        }
-        Instr::Field { to, from, offset: _ } => [Word::Place(to), Word::Place(from), free, free],
-        Instr::Index { to, from, index, range } => {
-            [Word::Place(to), Word::Place(from), Word::Number(index), Word::Range(range)]
+        | Instr::SameCells {
+            left: to,
+            right: from,
+        } => { [Word::Place(to), Word::Place(from), free, free] }
+        Instr::Field {
+            to,
+            from,
+            offset: _,
+        } => [Word::Place(to), Word::Place(from), free, free],
+        Instr::Index {
+            to,
+            from,
+            index,
+            range,
+        } => {
+            [
+                Word::Place(to),
+                Word::Place(from),
+                Word::Number(index),
+                Word::Range(range),
+            ]
         }
         Instr::Load { to, from } | Instr::Known { to, of: from } => {
             [Word::Number(to), Word::Place(from), free, free]
         }
         Instr::Store { to, from } => [Word::Place(to), Word::Number(from), free, free],
-        Instr::Bind { place, value, range } => {
-            [Word::Place(place), Word::Number(value), Word::Range(range), free]
+        Instr::Bind {
+            place,
+            value,
+            range,
+        } => {
+            [
+                Word::Place(place),
+                Word::Number(value),
+                Word::Range(range),
+                free,
+            ]
         }
-        Instr::Unify { left, left_range, right, right_range } => {
-            [Word::Place(left), Word::Range(left_range), Word::Place(right), Word::Range(right_range)]
+        Instr::Unify {
+            left,
+            left_range,
+            right,
+            right_range,
+        } => {
+            [
+                Word::Place(left),
+                Word::Range(left_range),
+                Word::Place(right),
+                Word::Range(right_range),
+            ]
         }
         Instr::Jump { to } | Instr::Choose { resume: to } => [Word::Address(to), free, free, free],
         Instr::JumpZero { value, to } => [Word::Number(value), Word::Address(to), free, free],
@@ -63,8 +102,18 @@ pub fn words_of(instr: Instr) -> [Word; 4]
             [Word::Place(place), Word::Range(range), free, free]
         }
         Instr::WriteText { text } => [Word::Text(text), free, free, free],
-        Instr::Step { counter, limit, by, out } => {
-            [Word::Number(counter), Word::Number(limit), Word::Number(by), Word::Address(out)]
+        Instr::Step {
+            counter,
+            limit,
+            by,
+            out,
+        } => {
+            [
+                Word::Number(counter),
+                Word::Number(limit),
+                Word::Number(by),
+                Word::Address(out),
+            ]
         }
         Instr::Own { to } => [Word::Link(to), free, free, free],
         Instr::Chain { to, link, slot: _ } => [Word::Link(to), Word::Link(link), free, free],

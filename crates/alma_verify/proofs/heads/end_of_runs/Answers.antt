@@ -1,4 +1,4 @@
-use Rattle.std.proofs.Common.{arith, ◌≡◌, ◌<◌, List, length}
+use Rattle.std.proofs.Common.{arith, ◌<◌, List, length}
 use Rattle.alma_code.specs.declared.head.Run.{Run}
 use Rattle.alma_code.specs.Plain.{head_at}
 use Rattle.alma_verify.proofs.Starts.{last_some}

@@ -1,7 +1,6 @@
-use Rattle.std.proofs.Common.{arith, ◌≡◌, ℕ, ◌+◌, ◌-◌, ◌∙◌, List, sym, ap, Some}
-use Rattle.std.specs.Prelude.{slice_get, true}
+use Rattle.std.proofs.Common.{arith, ◌≡◌, ℕ, ◌+◌, ◌-◌, ◌∙◌, List, ap, Some}
+use Rattle.std.specs.Prelude.{true}
 use Rattle.alma_code.specs.declared.cell.SlotKind.{SlotKind}
-use Rattle.alma_code.specs.declared.cell.SlotKind.TheVariants as slot
 use Rattle.alma_code.specs.Plain.{kinds_at}
 use Rattle.alma_code.specs.Kinds.{numbers_from, is_number}
 use Rattle.alma_code.proofs.Heads.{number_is}

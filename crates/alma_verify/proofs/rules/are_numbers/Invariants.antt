@@ -1,4 +1,4 @@
-use Rattle.std.proofs.Common.{◌≡◌, ◌+◌, ◌-◌, ◌≤◌}
+use Rattle.std.proofs.Common.{◌≡◌, ◌+◌, ◌-◌}
 use Rattle.alma_code.specs.Plain.{kinds_at}
 use Rattle.alma_code.specs.Kinds.{numbers_from}
 use Rattle.alma_verify.proofs.rules.are_numbers.Given as goal
@@ -8,8 +8,8 @@ invariant-walk g l =
     record {
       end : l.end ≡ l.first + l.count;
       rest :
-        numbers_from l.count (kinds_at (g.R.CodeReader.code l.reader) l.routine) l.first
-        ≡ numbers_from (l.end - l.at) (kinds_at (g.R.CodeReader.code l.reader) l.routine) l.at;
+          numbers_from l.count (kinds_at (g.R.CodeReader.code l.reader) l.routine) l.first
+          ≡ numbers_from (l.end - l.at) (kinds_at (g.R.CodeReader.code l.reader) l.routine) l.at;
     }
 
 abbrev pub decreases-walk : goal.decreases-walk

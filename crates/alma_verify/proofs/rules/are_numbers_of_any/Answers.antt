@@ -1,4 +1,4 @@
-use Rattle.std.proofs.Common.{arith, ◌≡◌, ◌≤◌, length, sym}
+use Rattle.std.proofs.Common.{arith, ◌≤◌, length, sym}
 use Rattle.alma_verify.proofs.Starts.{no_numbers}
 use Rattle.alma_verify.proofs.rules.are_numbers_of_any.Goals as goal
 

@@ -1,4 +1,4 @@
-use Rattle.std.proofs.Common.{◌≡◌, ℕ, ◌≤◌, ◌<◌, ◌-◌, List, length, get_or}
+use Rattle.std.proofs.Common.{◌≡◌, ◌≤◌, ◌<◌, ◌-◌, List, length, get_or}
 use Rattle.alma_code.specs.declared.head.Run.{Run}
 use Rattle.alma_code.specs.Plain.{head_at}
 use Rattle.alma_verify.specs.Runs.{begin_from, no_run}
