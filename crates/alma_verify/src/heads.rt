@@ -1,0 +1,157 @@
+// The rules of a routine's head.
+ghost use Rattle.std.specs.Prelude.{◌≡◌, ◌≤◌, ◌<◌, ◌+◌, ◌^◌, length};
+ghost use Rattle.std.specs.List.{list_all};
+ghost use Rattle.alma_code.specs.Layout.{holds_param as holds_param_spec, hold_params, param_slots as param_slots_spec};
+ghost use Rattle.alma_code.specs.Plain.{head_at, kinds_at};
+ghost use Rattle.alma_code.specs.Rules.{IsTable, is_global, is_main as is_main_spec, rule_1 as rule_1_spec, last_end, names_routine as names_routine_spec, rule_2 as rule_2_spec, has_position as has_position_spec, rule_3 as rule_3_spec};
+
+use crate::reader::CodeReader;
+use crate::rules::{are_cells, are_numbers, is_link_of, is_number, is_place_of, kind_of, start_of};
+use alma_code::{CodeParam, ParamKind, SlotKind};
+
+#[tactic(auto, using(std::proofs::lemmas::List::Folds::list_all_more, std::proofs::lemmas::List::Folds::list_all_at))]
+pub fn are_globals<R: CodeReader>(reader: &R) -> bool
+    requires table { IsTable (R.code reader.now) }
+    ensures { result ≡ list_all (is_global (R.code reader.now)) (R.code reader.now).globals }
+{
+    for k in 0..reader.global_count() {
+        if !are_cells(reader, 0, reader.global_slot(k), reader.global_cells(k)) {
+            return false;
+        }
+    }
+    true
+}
+
+#[tactic(auto, using(crate::proofs::Starts::mains))]
+pub fn is_main<R: CodeReader>(reader: &R, routine: u32) -> bool
+    requires routine { routine < length (R.code reader.now).routines }
+    requires table { IsTable (R.code reader.now) }
+    ensures { result ≡ is_main_spec (R.code reader.now) routine }
+{
+    if routine > 0 {
+        return true;
+    }
+    reader.param_count(0) == 0 && !reader.has_result(0) && are_globals(reader)
+}
+
+pub fn rule_1<R: CodeReader>(reader: &R, routine: u32) -> bool
+    requires routine { routine < length (R.code reader.now).routines }
+    requires table { IsTable (R.code reader.now) }
+    ensures { result ≡ rule_1_spec (R.code reader.now) routine }
+{
+    start_of(reader, routine) < reader.code_end(routine) && is_main(reader, routine)
+}
+
+#[tactic(auto, using(crate::proofs::Starts::lasts))]
+pub fn end_of_runs<R: CodeReader>(reader: &R, routine: u32) -> u32
+    requires routine { routine < length (R.code reader.now).routines }
+    ensures { result ≡ last_end 0 (head_at (R.code reader.now) routine).runs }
+{
+    let count = reader.run_count(routine);
+    if count == 0 {
+        0
+    } else {
+        reader.run(routine, count - 1).end
+    }
+}
+
+/// Whether a run of links names a routine from 1 on.
+pub fn names_routine<R: CodeReader>(reader: &R, kind: SlotKind) -> bool
+    ensures { result ≡ names_routine_spec (R.code reader.now) kind }
+{
+    match kind {
+        SlotKind::Link(routine) => routine > 0 && routine < reader.routine_count(),
+        SlotKind::Number | SlotKind::Place(_) | SlotKind::Mark => true,
+    }
+}
+
+pub fn name_routines<R: CodeReader>(reader: &R, routine: u32) -> bool
+    requires routine { routine < length (R.code reader.now).routines }
+    ensures { result ≡ list_all (λ run. names_routine_spec (R.code reader.now) run.kind) (head_at (R.code reader.now) routine).runs }
+{
+    for k in 0..reader.run_count(routine) {
+        let run = reader.run(routine, k);
+        if !names_routine(reader, run.kind) {
+            return false;
+        }
+    }
+    true
+}
+
+pub fn rule_2<R: CodeReader>(reader: &R, routine: u32) -> bool
+    requires routine { routine < length (R.code reader.now).routines }
+    ensures { result ≡ rule_2_spec (R.code reader.now) routine }
+{
+    let slots = reader.slots(routine);
+    let declared = reader.declared(routine);
+    end_of_runs(reader, routine) == slots
+        && slots <= 8_388_608
+        && name_routines(reader, routine)
+        && declared <= slots
+        && declared <= 1_048_576
+}
+
+#[tactic(auto, using(crate::proofs::Starts::nexts))]
+pub fn holds_param<R: CodeReader>(reader: &R, routine: u32, param: CodeParam, slot: u64) -> bool
+    requires routine { routine < length (R.code reader.now).routines }
+    requires table { IsTable (R.code reader.now) }
+    requires slot { slot < 2 ^ 62 }
+    ensures { result ≡ holds_param_spec (kinds_at (R.code reader.now) routine) param.kind param.cells slot }
+{
+    match param.kind {
+        ParamKind::Value => is_number(kind_of(reader, routine, slot)),
+        ParamKind::Place => is_place_of(param.cells, kind_of(reader, routine, slot)),
+        ParamKind::Mix => {
+            is_place_of(1, kind_of(reader, routine, slot))
+                && is_number(kind_of(reader, routine, slot + 1))
+        }
+        ParamKind::Cells => are_numbers(reader, routine, slot, param.cells),
+        ParamKind::Link => is_link_of(param.cells, kind_of(reader, routine, slot)),
+    }
+}
+
+pub fn param_slots(param: CodeParam) -> u32
+    ensures { result ≡ param_slots_spec param.kind param.cells }
+{
+    match param.kind {
+        ParamKind::Value | ParamKind::Place | ParamKind::Link => 1,
+        ParamKind::Mix => 2,
+        ParamKind::Cells => param.cells,
+    }
+}
+
+#[tactic(auto, using(crate::proofs::Starts::param_steps))]
+pub fn are_params<R: CodeReader>(reader: &R, routine: u32) -> bool
+    requires routine { routine < length (R.code reader.now).routines }
+    requires table { IsTable (R.code reader.now) }
+    requires few { length (head_at (R.code reader.now) routine).params ≤ 1048576 }
+    ensures { result ≡ hold_params (kinds_at (R.code reader.now) routine) (head_at (R.code reader.now) routine).params 0 }
+{
+    let mut slot: u64 = 0;
+    for k in 0..reader.param_count(routine) {
+        let param = reader.param(routine, k);
+        if !holds_param(reader, routine, param, slot) {
+            return false;
+        }
+        slot += u64::from(param_slots(param));
+    }
+    true
+}
+
+#[tactic(auto, using(crate::proofs::Starts::mains))]
+pub fn has_position<R: CodeReader>(reader: &R, routine: u32) -> bool
+    requires routine { routine < length (R.code reader.now).routines }
+    requires table { IsTable (R.code reader.now) }
+    ensures { result ≡ has_position_spec (R.code reader.now) routine }
+{
+    routine > 0 || is_number(kind_of(reader, 0, 0))
+}
+
+pub fn rule_3<R: CodeReader>(reader: &R, routine: u32) -> bool
+    requires routine { routine < length (R.code reader.now).routines }
+    requires table { IsTable (R.code reader.now) }
+    requires few { length (head_at (R.code reader.now) routine).params ≤ 1048576 }
+    ensures { result ≡ rule_3_spec (R.code reader.now) routine }
+{
+    are_params(reader, routine) && has_position(reader, routine)
+}

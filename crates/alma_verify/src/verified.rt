@@ -1,0 +1,39 @@
+// Views whose code is sound.
+ghost use Rattle.std.specs.Prelude.{◌≡◌, None, Some, MatchResult, IfOk};
+ghost use Rattle.alma_code.specs.Rules.{IsSound, code_fault as code_fault_of};
+ghost use Rattle.alma_object.specs.View.{code_of_view};
+
+use crate::verifier::code_fault;
+use alma_code::VerifyFault;
+use alma_object::ObjectView;
+
+/// A view of an object whose code is sound.
+#[derive(Clone, Copy, Debug)]
+pub struct Verified<'b> {
+    view: ObjectView<'b>,
+    ghost clean: { code_fault_of (code_of_view view) ≡ None },
+}
+
+/// The view, where its code breaks no rule, and else the first rule that it breaks. It takes no memory.
+pub fn verify<'b>(view: ObjectView<'b>) -> Result<Verified<'b>, VerifyFault>
+    ensures fault { MatchResult result (λ verified. code_fault_of (code_of_view view.entry) ≡ None) (λ fault. code_fault_of (code_of_view view.entry) ≡ Some fault) }
+    ensures view { IfOk result (λ verified. verified.view ≡ view.entry) }
+    ensures sound { IfOk result (λ verified. IsSound (code_of_view view.entry)) }
+{
+    view.keeps_object();
+    match code_fault(&view) {
+        Some(fault) => Err(fault),
+        None => Ok(Verified { view }),
+    }
+}
+
+impl<'b> Verified<'b> {
+    /// The view. Its code is sound.
+    pub fn view(&self) -> &ObjectView<'b>
+        ensures view { result.now ≡ self.now.view }
+        ensures sound { IsSound (code_of_view result.now) }
+    {
+        self.view.keeps_object();
+        &self.view
+    }
+}

@@ -1,0 +1,123 @@
+// The first broken rule.
+ghost use Rattle.std.specs.Prelude.{◌≡◌, ◌≤◌, ◌<◌, ◌-◌, ℕ, length, get_or};
+ghost use Rattle.alma_code.specs.Plain.{head_at, start_at, end_at};
+ghost use Rattle.alma_code.specs.Records.{KeepsCounts};
+ghost use Rattle.alma_code.specs.declared.instr.Instr.TheVariants as I;
+ghost use Rattle.alma_code.specs.Rules.{IsTable, instr_fault as instr_fault_spec, instrs_fault as instrs_fault_spec, routine_fault as routine_fault_spec, code_fault as code_fault_spec};
+
+use crate::heads::{rule_1, rule_2, rule_3};
+use crate::reader::CodeReader;
+use crate::rules::{
+    rule_4, rule_5, rule_6, rule_7, rule_8, rule_9, rule_10, rule_11, rule_12, start_of,
+};
+use alma_code::VerifyFault;
+
+/// The least broken rule of the instruction at an address of a routine.
+#[tactic(auto, unfolding(alma_code::specs::Rules::instr_fault))]
+pub fn instr_fault<R: CodeReader>(reader: &R, routine: u32, at: u32) -> Option<VerifyFault>
+    requires routine { routine < length (R.code reader.now).routines }
+    requires table { IsTable (R.code reader.now) }
+    requires at { at < length (R.code reader.now).instrs }
+    ensures { result ≡ instr_fault_spec (R.code reader.now) routine at (get_or (R.code reader.now).instrs at I.Fail) }
+{
+    let instr = reader.instr(at);
+    if !rule_4(reader, routine, instr) {
+        return Some(VerifyFault { rule: 4, at });
+    }
+    if !rule_5(reader, routine, instr) {
+        return Some(VerifyFault { rule: 5, at });
+    }
+    if !rule_6(reader, routine, instr) {
+        return Some(VerifyFault { rule: 6, at });
+    }
+    if !rule_7(reader, routine, instr) {
+        return Some(VerifyFault { rule: 7, at });
+    }
+    if !rule_8(reader, instr) {
+        return Some(VerifyFault { rule: 8, at });
+    }
+    if !rule_9(reader, routine, instr) {
+        return Some(VerifyFault { rule: 9, at });
+    }
+    if !rule_10(reader, routine, at, instr) {
+        return Some(VerifyFault { rule: 10, at });
+    }
+    if !rule_11(reader, routine, at, instr) {
+        return Some(VerifyFault { rule: 11, at });
+    }
+    if !rule_12(reader, routine, instr) {
+        return Some(VerifyFault { rule: 12, at });
+    }
+    None
+}
+
+#[tactic(auto, using(crate::proofs::Starts::fault_steps))]
+pub fn instrs_fault<R: CodeReader>(
+    reader: &R,
+    routine: u32,
+    start: u32,
+    end: u32,
+) -> Option<VerifyFault>
+    requires routine { routine < length (R.code reader.now).routines }
+    requires table { IsTable (R.code reader.now) }
+    requires order { start ≤ end }
+    requires end { end ≤ length (R.code reader.now).instrs }
+    ensures { result ≡ instrs_fault_spec (R.code reader.now) routine start (end - start) }
+{
+    for at in start..end {
+        if let Some(fault) = instr_fault(reader, routine, at) {
+            return Some(fault);
+        }
+    }
+    None
+}
+
+#[tactic(auto, unfolding(alma_code::specs::Rules::routine_fault))]
+pub fn routine_fault<R: CodeReader>(reader: &R, routine: u32) -> Option<VerifyFault>
+    requires routine { routine < length (R.code reader.now).routines }
+    requires table { IsTable (R.code reader.now) }
+    requires few { length (head_at (R.code reader.now) routine).params ≤ 1048576 }
+    requires order { start_at (R.code reader.now) routine ≤ end_at (R.code reader.now) routine }
+    requires end { end_at (R.code reader.now) routine ≤ length (R.code reader.now).instrs }
+    ensures { result ≡ routine_fault_spec (R.code reader.now) routine }
+{
+    if !rule_1(reader, routine) {
+        return Some(VerifyFault {
+            rule: 1,
+            at: routine,
+        });
+    }
+    if !rule_2(reader, routine) {
+        return Some(VerifyFault {
+            rule: 2,
+            at: routine,
+        });
+    }
+    if !rule_3(reader, routine) {
+        return Some(VerifyFault {
+            rule: 3,
+            at: routine,
+        });
+    }
+    instrs_fault(
+        reader,
+        routine,
+        start_of(reader, routine),
+        reader.code_end(routine),
+    )
+}
+
+/// The first broken rule of the code.
+#[tactic(auto, using(crate::proofs::Starts::fault_steps, alma_code::proofs::Tables::tables))]
+pub fn code_fault<R: CodeReader>(reader: &R) -> Option<VerifyFault>
+    requires table { IsTable (R.code reader.now) }
+    requires counts { KeepsCounts (R.code reader.now) }
+    ensures { result ≡ code_fault_spec (R.code reader.now) }
+{
+    for routine in 0..reader.routine_count() {
+        if let Some(fault) = routine_fault(reader, routine) {
+            return Some(fault);
+        }
+    }
+    None
+}
