@@ -45,7 +45,7 @@ module _ (p : Program) where
   content_below v w (slot.Link r) a b same h = absurd h
 
 module _ (p : Program) (code : PlainCode) where
-  same_below : (v w : Store) (f : Frame) (g : PlainFrame) → ((i : ℕ) (q : Place) → get_or f.cells i Unknown ≡ At q → shift_in p w q.frame ≡ shift_in p v q.frame) → SameFrame p code v f g → SameFrame p code w f g
+  pub same_below : (v w : Store) (f : Frame) (g : PlainFrame) → ((i : ℕ) (q : Place) → get_or f.cells i Unknown ≡ At q → shift_in p w q.frame ≡ shift_in p v q.frame) → SameFrame p code v f g → SameFrame p code w f g
   same_below v w f g same h = record {
     routine = h.routine;
     kinds = h.kinds;
