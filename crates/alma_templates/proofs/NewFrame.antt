@@ -3,7 +3,8 @@ use Rattle.std.proofs.Common.{◌≡◌, ◌≢◌, ℕ, zero, suc, ◌+◌, ◌
 use Rattle.std.specs.Prelude.{slice_get, true, sum_by}
 use Rattle.std.proofs.lemmas.Bool.{cases_eq, cases_lt}
 use Rattle.std.proofs.Math.Seq.{get_or-append_seam}
-use Rattle.std.proofs.lemmas.List.{get_or-set_same, get_or-set_other, set-get_or, length-set, length-append, length-map, length-drop, length-replicate, get_or-replicate, get_or_past, get_or_append_left, get_or-append_right, get_or-append-add, get_or-map}
+use Rattle.std.proofs.lemmas.List.{get_or-set_same, get_or-set_other, set-get_or, length-set, length-append, length-map, length-drop, length-replicate, get_or-replicate, get_or_past, get_or-drop, get_or_append_left, get_or-append_right, get_or-append-add, get_or-map}
+use Rattle.std.proofs.lemmas.List.Sums.{sum_by-cons}
 use Rattle.std.proofs.lemmas.Option.{slice_get-get_or, get_or_from_slice_get}
 use Rattle.alma_base.specs.Numbers.{is_integer}
 use Rattle.alma_code.specs.declared.cell.Cell.{Cell}
@@ -22,6 +23,7 @@ use Rattle.alma_ir.specs.declared.program.ArgKind.{ArgKind}
 use Rattle.alma_ir.specs.declared.program.ArgKind.TheVariants as kind
 use Rattle.alma_ir.specs.declared.program.Param.{Param}
 use Rattle.alma_ir.specs.Tree.{Program, routine_at}
+use Rattle.alma_ir.specs.Lines.{body_with_lines}
 use Rattle.alma_ir.specs.Checked.{link_slots, slots_of_kind, param_slots, AreLaidOut, ParamsFirst}
 use Rattle.alma_mean.specs.Store.{Store, Place, Frame, Unknown, Number, At, cell_at, cells_from, up}
 use Rattle.alma_mean.specs.Store as store
@@ -285,3 +287,345 @@ module _ (p : Program) (code : PlainCode) (v : Store) (now : List PlainFrame) (s
       within (suc m) e some =
           let frame = stand.frames q.frame alike.numbers.frame in
           omega (arith, frame.within, alike.numbers.cells m (omega (arith, e)), e)
+
+  -- ---- all parameters
+
+  -- the kinds of the slots of the parameters, from a slot of the routine on
+  abbrev pub KindsFrom : (at : ℕ) → List Param → Type 0
+  KindsFrom at [] = Unit {0}
+  KindsFrom at (q ∷ qs) = ((i : ℕ) → i < param_slots q → kind_of (at + i) ≡ get_or (param_kinds q.kind q.cells) i slot.Mark) × KindsFrom (at + param_slots q) qs
+
+  module _ (ps : List CodeParam) (args : List Cell) where
+    -- from number k on these are the parameters of the code, and what stands for them
+    abbrev pub StandsAs : (k : ℕ) → List Param → List Cell → Type 0
+    StandsAs k [] [] = Unit {0}
+    StandsAs k (q ∷ qs) (c ∷ cs) = (get_or ps k no_param ≡ param_named q) × (get_or args k cell.Unknown ≡ c) × StandsAs (suc k) qs cs
+    StandsAs k [] (c ∷ cs) = ⊥
+    StandsAs k (q ∷ qs) [] = ⊥
+
+    all_params : (qs : List Param) (taken : List ArgValue) (cs : List Cell) (k at : ℕ) (cells : List store.Cell) → AllHanded p code v now qs taken cs → StandsAs k qs cs → AreLaidOut at qs → KindsFrom at qs → at + sum_by param_slots qs ≤ (routine_at p r).slots
+        → FrontSame at cells (args_cells now ps args k) → FrontSame (at + sum_by param_slots qs) (with_params v (length v) qs taken cells) (args_cells now ps args (k + length qs))
+    all_params [] [] [] k at cells handed are laid are_kinds room h =
+        let a0 : at ≡ at + 0 = omega arith in
+        let k0 : k ≡ k + 0 = omega arith in
+        subst (λ m. FrontSame m cells (args_cells now ps args (k + 0))) a0 (subst (λ m. FrontSame at cells (args_cells now ps args m)) k0 h)
+    all_params [] [] (c ∷ cs) k at cells handed are laid are_kinds room h = absurd handed
+    all_params [] (a ∷ taken) cs k at cells handed are laid are_kinds room h = absurd handed
+    all_params (q ∷ qs) [] cs k at cells handed are laid are_kinds room h = absurd handed
+    all_params (q ∷ qs) (a ∷ taken) [] k at cells handed are laid are_kinds room h = absurd handed
+    all_params (q ∷ qs) (a ∷ taken) (c ∷ cs) k at cells handed are laid are_kinds room h =
+        let done = args_cells now ps args k in
+        let sum : sum_by param_slots (q ∷ qs) ≡ param_slots q + sum_by param_slots qs = sum_by-cons param_slots q qs in
+        let one = param_step q.kind q.cells a c at cells done handed.0 (omega (arith, room, sum)) are_kinds.0 h in
+        let put : FrontSame (at + param_slots q) (with_param v (length v) q.slot a cells) (done ++ arg_cells now (length now) (length done) (param_kind q.kind) c) =
+        subst (λ s. FrontSame (at + param_slots q) (with_param v (length v) s a cells) (done ++ arg_cells now (length now) (length done) (param_kind q.kind) c)) (sym laid.0) one in
+        let next : FrontSame (at + param_slots q) (with_param v (length v) q.slot a cells) (args_cells now ps args (suc k)) =
+        subst (λ x. FrontSame (at + param_slots q) (with_param v (length v) q.slot a cells) (done ++ arg_cells now (length now) (length done) (get_or ps k no_param).kind x)) (sym are.1)
+        (subst (λ x. FrontSame (at + param_slots q) (with_param v (length v) q.slot a cells) (done ++ arg_cells now (length now) (length done) x.kind c)) (sym are.0) put) in
+        let rest = all_params qs taken cs (suc k) (at + param_slots q) (with_param v (length v) q.slot a cells) handed.1 are.2 laid.1 are_kinds.1 (omega (arith, room, sum)) next in
+        let ats : at + param_slots q + sum_by param_slots qs ≡ at + sum_by param_slots (q ∷ qs) = omega (arith, sum) in
+        let ks : suc k + length qs ≡ k + suc (length qs) = omega arith in
+        let all_cells = with_params v (length v) (q ∷ qs) (a ∷ taken) cells in
+        subst (λ m. FrontSame m all_cells (args_cells now ps args (k + suc (length qs)))) ats (subst (λ m. FrontSame (at + param_slots q + sum_by param_slots qs) all_cells (args_cells now ps args m)) ks rest)
+
+  -- ---- the start
+
+  front_start : (done : List Cell) → length done ≡ shift p r → (1 ≤ shift p r → get_or done 0 cell.Unset ≡ cell.Place (link_to f)) → FrontSame 0 (replicate (routine_at p r).slots Unknown) done
+  front_start done long link = record {
+    long = omega (arith, long);
+    slots = length-replicate (routine_at p r).slots Unknown;
+    same = λ i lt. absurd (omega (arith, lt));
+    behind = λ i le. unknown_at i;
+    link = link;
+    places = λ i q e. unknown_no_place i q (sym (unknown_at i) ∙ e);
+  }
+    where
+      unknown_at : (i : ℕ) → get_or (replicate (routine_at p r).slots Unknown) i Unknown ≡ Unknown
+      unknown_at i = elim (cases_lt i (routine_at p r).slots) [
+        | inl lt ↦ get_or-replicate (routine_at p r).slots i Unknown Unknown lt
+        | inr past ↦ get_or_past (replicate (routine_at p r).slots Unknown) i Unknown (omega (arith, past, length-replicate (routine_at p r).slots Unknown))
+      ]
+
+-- ---- the new frame
+
+-- what the code says of a routine
+pub record IsCompiled (p : Program) (code : PlainCode) (r : ℕ) (callee : PlainRoutine) : Type 0 where
+  pub there : slice_get code.routines r ≡ Some callee
+  pub params : callee.head.params ≡ link_params (routine_at p r).level (routine_at p r).outer ++ map param_named (routine_at p r).params
+  pub declared : callee.head.declared ≡ (routine_at p r).declared
+  pub kinds : kinds_of 0 callee.head.runs ≡ routine_kinds p r
+
+-- the arguments as the machine reads them, the link before them
+abbrev pub handed_all : Program → (r frame : ℕ) → List Cell → List Cell
+handed_all p r f cs = with_link (routine_at p r).level f cs
+
+module _ (p : Program) (code : PlainCode) (v : Store) (now : List PlainFrame) (stand : StandFor p code v now) (r links back : ℕ) (callee : PlainRoutine) (taken : List ArgValue) (cs : List Cell)
+    (is : IsCompiled p code r callee) (exists : r < length p.routines) (first : ParamsFirst (routine_at p r)) (live : up v links < length v) (outer : (get_or v (up v links) store.no_frame).routine ≡ (routine_at p r).outer)
+    (handed : AllHanded p code v now (routine_at p r).params taken cs) where
+  abbrev new : Frame
+  new = frame_of v r links (routine_at p r) taken
+
+  abbrev args : List Cell
+  args = handed_all p r (up v links) cs
+
+  abbrev pushed : PlainFrame
+  pushed = entered_frame now callee.head r back args
+
+  abbrev w : Store
+  w = v ++ new ∷ []
+
+  abbrev later : List PlainFrame
+  later = now ++ pushed ∷ []
+
+  abbrev kinds : List SlotKind
+  kinds = kinds_of 0 callee.head.runs
+
+  below : (k : ℕ) → k < length v → get_or w k store.no_frame ≡ get_or v k store.no_frame
+  below k lt = get_or_append_left v (new ∷ []) store.no_frame k lt
+
+  above : get_or w (length v) store.no_frame ≡ new
+  above = get_or-append_seam v new [] store.no_frame
+
+  below_now : (k : ℕ) → k < length v → get_or later k picture.no_frame ≡ get_or now k picture.no_frame
+  below_now k lt = get_or_append_left now (pushed ∷ []) picture.no_frame k (omega (arith, lt, stand.count))
+
+  above_now : get_or later (length v) picture.no_frame ≡ pushed
+  above_now = ap (λ n. get_or later n picture.no_frame) (sym stand.count) ∙ get_or-append_seam now pushed [] picture.no_frame
+
+  long : length w ≡ length v + 1
+  long = length-append v (new ∷ [])
+
+  abbrev Front : (at : ℕ) (cells : List store.Cell) (done : List Cell) → Type 0
+  Front at cells done = FrontSame p code v now stand r (up v links) kinds w below (ap (λ g. g.routine) above) at cells done
+
+  -- ---- the kinds
+
+  own_long : (level : ℕ) → length (link_kinds level (routine_at p r).outer) ≡ link_slots level
+  own_long zero = refl
+  own_long (suc zero) = refl
+  own_long (suc (suc n)) = refl
+
+  kinds_long : (k : _) (n : ℕ) → length (param_kinds k n) ≡ slots_of_kind k n
+  kinds_long kind.Value n = refl
+  kinds_long kind.Place n = refl
+  kinds_long kind.Mix n = refl
+  kinds_long kind.Cells n = length-replicate n slot.Number
+
+  params_long : (qs : List Param) → length (params_kinds qs) ≡ sum_by param_slots qs
+  params_long [] = refl
+  params_long (q ∷ qs) =
+      let sum : sum_by param_slots (q ∷ qs) ≡ param_slots q + sum_by param_slots qs = sum_by-cons param_slots q qs in
+      omega (arith, length-append (param_kinds q.kind q.cells) (params_kinds qs), kinds_long q.kind q.cells, params_long qs, sum)
+
+  abbrev params : List Param
+  params = (routine_at p r).params
+
+  abbrev own_part : List SlotKind
+  own_part = params_kinds params ++ replicate ((routine_at p r).slots - length (params_kinds params)) slot.Number
+
+  own_part_long : length own_part ≡ (routine_at p r).slots
+  own_part_long =
+      omega (arith, length-append (params_kinds params) (replicate ((routine_at p r).slots - length (params_kinds params)) slot.Number), length-replicate ((routine_at p r).slots - length (params_kinds params)) slot.Number, params_long params, first.fit)
+
+  -- behind the link stand the kinds of the routine's own slots
+  own_kind : (i : ℕ) → i < (routine_at p r).slots → get_or kinds (shift p r + i) slot.Mark ≡ get_or own_part i slot.Mark
+  own_kind i lt =
+      let l = link_kinds (routine_at p r).level (routine_at p r).outer in
+      let ol : length l ≡ shift p r = own_long (routine_at p r).level in
+      ap (λ ks. get_or ks (shift p r + i) slot.Mark) is.kinds
+      ∙ get_or_append_left (l ++ own_part) _ slot.Mark (shift p r + i) (omega (arith, length-append l own_part, ol, lt, own_part_long))
+      ∙ ap (λ n. get_or (l ++ own_part) (n + i) slot.Mark) (sym ol) ∙ get_or-append-add l own_part i slot.Mark
+
+  all_long : shift p r + (routine_at p r).slots ≤ length kinds
+  all_long =
+      let l = link_kinds (routine_at p r).level (routine_at p r).outer in
+      omega (arith, ap length is.kinds, length-append (l ++ own_part) (stmts_slots p r (body_with_lines (routine_at p r))), length-append l own_part, own_long (routine_at p r).level, own_part_long)
+
+  -- the slots behind the parameters are for numbers
+  other_kind : (i : ℕ) → sum_by param_slots params ≤ i → i < (routine_at p r).slots → get_or kinds (shift p r + i) slot.Mark ≡ slot.Number
+  other_kind i le lt =
+      own_kind i lt ∙ get_or-append_right (params_kinds params) (replicate ((routine_at p r).slots - length (params_kinds params)) slot.Number) (sum_by param_slots params) i slot.Mark (params_long params) le
+      ∙ get_or-replicate ((routine_at p r).slots - length (params_kinds params)) (i - sum_by param_slots params) slot.Number slot.Mark (omega (arith, le, lt, params_long params))
+
+  params_from : (qs : List Param) (at : ℕ) → ((i : ℕ) → i < length (params_kinds qs) → get_or kinds (shift p r + (at + i)) slot.Mark ≡ get_or (params_kinds qs) i slot.Mark)
+      → KindsFrom p code v now stand r (up v links) kinds w below (ap (λ g. g.routine) above) at qs
+  params_from [] at h = tt
+  params_from (q ∷ qs) at h =
+      let a = param_kinds q.kind q.cells in
+      let al : length a ≡ param_slots q = kinds_long q.kind q.cells in
+      let both : length (a ++ params_kinds qs) ≡ length a + length (params_kinds qs) = length-append a (params_kinds qs) in (
+        λ i lt. h i (omega (arith, lt, al, both)) ∙ get_or_append_left a (params_kinds qs) slot.Mark i (omega (arith, lt, al)),
+        params_from qs (at + param_slots q) (λ i lt.
+          (let e : shift p r + (at + param_slots q + i) ≡ shift p r + (at + (param_slots q + i)) = omega arith in ap (λ n. get_or kinds n slot.Mark) e)
+          ∙ h (param_slots q + i) (omega (arith, lt, al, both)) ∙ ap (λ n. get_or (a ++ params_kinds qs) (n + i) slot.Mark) (sym al) ∙ get_or-append-add a (params_kinds qs) i slot.Mark),
+      )
+
+  -- ---- the arguments
+
+  abbrev Stands : (ps : List CodeParam) (xs : List Cell) (k : ℕ) → List Param → List Cell → Type 0
+  Stands ps xs k qs ys = StandsAs p code v now stand r (up v links) kinds w below (ap (λ g. g.routine) above) ps xs k qs ys
+
+  one_more : (x : CodeParam) (y : Cell) (ps : List CodeParam) (xs : List Cell) (k : ℕ) (qs : List Param) (ys : List Cell) → Stands ps xs k qs ys → Stands (x ∷ ps) (y ∷ xs) (suc k) qs ys
+  one_more x y ps xs k [] [] h = tt
+  one_more x y ps xs k [] (c ∷ ys) h = absurd h
+  one_more x y ps xs k (q ∷ qs) [] h = absurd h
+  one_more x y ps xs k (q ∷ qs) (c ∷ ys) h = (h.0, h.1, one_more x y ps xs (suc k) qs ys h.2)
+
+  as_named : (qs : List Param) (as_ : List ArgValue) (ys : List Cell) → AllHanded p code v now qs as_ ys → Stands (map param_named qs) ys 0 qs ys
+  as_named [] [] [] h = tt
+  as_named [] [] (c ∷ ys) h = absurd h
+  as_named [] (a ∷ as_) ys h = absurd h
+  as_named (q ∷ qs) [] ys h = absurd h
+  as_named (q ∷ qs) (a ∷ as_) [] h = absurd h
+  as_named (q ∷ qs) (a ∷ as_) (c ∷ ys) h = (refl, refl, one_more (param_named q) c (map param_named qs) ys 0 qs ys (as_named qs as_ ys h.1))
+
+  behind_link : (level : ℕ) → Stands (link_params level (routine_at p r).outer ++ map param_named params) (with_link level (up v links) cs) (link_slots level) params cs
+  behind_link zero = as_named params taken cs handed
+  behind_link (suc zero) = as_named params taken cs handed
+  behind_link (suc (suc n)) = one_more _ (cell.Place (link_to (up v links))) (map param_named params) cs 0 params cs (as_named params taken cs handed)
+
+  link_front : (level : ℕ) → (length (args_cells now (link_params level (routine_at p r).outer ++ map param_named params) (with_link level (up v links) cs) (link_slots level)) ≡ link_slots level)
+      × (1 ≤ link_slots level → get_or (args_cells now (link_params level (routine_at p r).outer ++ map param_named params) (with_link level (up v links) cs) (link_slots level)) 0 cell.Unset ≡ cell.Place (link_to (up v links)))
+  link_front zero = (refl, λ some. absurd (omega (arith, some)))
+  link_front (suc zero) = (refl, λ some. absurd (omega (arith, some)))
+  link_front (suc (suc n)) = (refl, λ some. refl)
+
+  abbrev ps : List CodeParam
+  ps = link_params (routine_at p r).level (routine_at p r).outer ++ map param_named params
+
+  count_is : (level : ℕ) → length (link_params level (routine_at p r).outer ++ map param_named params) ≡ link_slots level + length params
+  count_is zero = omega (arith, length-map params param_named)
+  count_is (suc zero) = omega (arith, length-map params param_named)
+  count_is (suc (suc n)) = omega (arith, length-map params param_named)
+
+  -- the parameters are there
+  all_there : Front (sum_by param_slots params) new.cells (args_cells now callee.head.params args (length callee.head.params))
+  all_there =
+      let start = link_front (routine_at p r).level in
+      let laid = all_params p code v now stand r (up v links) kinds w below (ap (λ g. g.routine) above) ps args params taken cs (shift p r) 0 (replicate (routine_at p r).slots Unknown)
+      handed (behind_link (routine_at p r).level) first.laid_out (params_from params 0 (λ i lt. (let z : 0 + i ≡ i = omega arith in ap (λ n. get_or kinds (shift p r + n) slot.Mark) z) ∙ own_kind i (omega (arith, lt, params_long params, first.fit)) ∙ get_or_append_left (params_kinds params) _ slot.Mark i lt)) (omega (arith, first.fit))
+      (front_start p code v now stand r (up v links) kinds w below (ap (λ g. g.routine) above) (args_cells now ps args (shift p r)) start.0 start.1) in
+      let z : 0 + sum_by param_slots params ≡ sum_by param_slots params = omega arith in
+      subst (λ z. Front (sum_by param_slots params) new.cells (args_cells now z args (length z))) (sym is.params)
+      (subst (λ n. Front (sum_by param_slots params) new.cells (args_cells now ps args n)) (sym (count_is (routine_at p r).level)) (subst (λ n. Front n new.cells (args_cells now ps args (shift p r + length params))) z laid))
+
+  -- ---- the frame
+
+  abbrev made : List Cell
+  made = args_cells now callee.head.params args (length callee.head.params)
+
+  blanks_long : length (blank_cells callee.head) ≡ length kinds
+  blanks_long = length-map kinds blank_of
+
+  made_long : length made ≡ shift p r + sum_by param_slots params
+  made_long = all_there.long
+
+  entered_long : length pushed.cells ≡ length kinds
+  entered_long =
+      omega (arith, length-append made (drop (length made) (blank_cells callee.head)), length-drop (length made) (blank_cells callee.head), blanks_long, made_long, first.fit, all_long)
+
+  -- a cell behind the parameters
+  blank_there : (i : ℕ) → sum_by param_slots params ≤ i → i < (routine_at p r).slots → get_or pushed.cells (shift p r + i) cell.Unset ≡ cell.Unknown
+  blank_there i le lt =
+      let at : shift p r + i ≡ length made + (i - sum_by param_slots params) = omega (arith, le, made_long) in
+      ap (λ n. get_or pushed.cells n cell.Unset) at ∙ get_or-append-add made (drop (length made) (blank_cells callee.head)) (i - sum_by param_slots params) cell.Unset
+      ∙ get_or-drop (length made) (blank_cells callee.head) (i - sum_by param_slots params) cell.Unset ∙ ap (λ n. get_or (blank_cells callee.head) n cell.Unset) (sym at)
+      ∙ get_or-map blank_of kinds (shift p r + i) slot.Mark cell.Unset (omega (arith, lt, all_long)) ∙ ap blank_of (other_kind i le lt)
+
+  kinds_same : kinds ≡ kinds_at code r
+  kinds_same = ap (λ c. kinds_of 0 c.head.runs) (sym (get_or_from_slice_get code.routines r callee plain.no_routine is.there))
+
+  new_same : SameFrame p code w new pushed
+  new_same = record {
+    routine = refl;
+    kinds = kinds_same;
+    full = entered_long;
+    slots = all_there.slots;
+    within = omega (arith, all_there.slots, entered_long, all_long);
+    cells = λ i lt. cell_same i (omega (arith, lt, all_there.slots)) (cases_lt i (sum_by param_slots params));
+    link = λ some. get_or_append_left made (drop (length made) (blank_cells callee.head)) cell.Unset 0 (omega (arith, some, made_long)) ∙ all_there.link some;
+  }
+    where
+      cell_same : (i : ℕ) → i < (routine_at p r).slots → (i < sum_by param_slots params) ⊎ (sum_by param_slots params ≤ i) → SameContent p w (get_or kinds (shift p r + i) slot.Mark) (get_or new.cells i Unknown) (get_or pushed.cells (shift p r + i) cell.Unset)
+      cell_same i lt (inl early) =
+          subst (SameContent p w (get_or kinds (shift p r + i) slot.Mark) (get_or new.cells i Unknown)) (sym (get_or_append_left made (drop (length made) (blank_cells callee.head)) cell.Unset (shift p r + i) (omega (arith, early, made_long))))
+          (all_there.same i early)
+      cell_same i lt (inr late) =
+          let content : SameContent p w slot.Number Unknown cell.Unknown = tt in
+          subst (λ k. SameContent p w k (get_or new.cells i Unknown) (get_or pushed.cells (shift p r + i) cell.Unset)) (sym (other_kind i late lt))
+          (subst (λ a. SameContent p w slot.Number a (get_or pushed.cells (shift p r + i) cell.Unset)) (sym (all_there.behind i late)) (subst (SameContent p w slot.Number Unknown) (sym (blank_there i late lt)) content))
+
+  old_front : FrontAlike p code (length v) v w now later
+  old_front = record {
+    live = omega (arith, long);
+    routine = λ k lt. ap (λ g. g.routine) (below k lt);
+    long = λ k lt. ap (λ g. length g.cells) (below k lt);
+    kinds = λ k lt. ap (λ g. g.kinds) (below_now k lt);
+  }
+
+  -- a fact of each frame: of those of the caller, and of the new one
+  each_frame : (P : ℕ → Type 0) → ((k : ℕ) → k < length v → P k) → P (length v) → (k : ℕ) → k < length w → P k
+  each_frame P old this k lt = elim (cases_lt k (length v)) [
+    | inl early ↦ old k early
+    | inr late ↦ let e : length v ≡ k = omega (arith, late, lt, long) in subst P e this
+  ]
+
+  -- the frames of a call stand for the frames of the meaning
+  pub enter_stands : StandFor p code w later
+  enter_stands = record {
+    count = length-append now (pushed ∷ []) ∙ ap (λ n. n + 1) stand.count ∙ sym long;
+    some = omega (arith, long);
+    frames = each_frame (λ k. SameFrame p code w (get_or w k store.no_frame) (get_or later k picture.no_frame))
+        (λ k lt.
+        subst (λ g. SameFrame p code w g (get_or later k picture.no_frame)) (sym (below k lt))
+        (subst (SameFrame p code w (get_or v k store.no_frame)) (sym (below_now k lt))
+        (same_below p code v w (get_or v k store.no_frame) (get_or now k picture.no_frame) (λ i q e. ap (λ g. shift p g.routine) (below q.frame (omega (arith, lt, (stand.places k i q lt e).below)))) (stand.frames k lt))))
+        (subst (λ g. SameFrame p code w g (get_or later (length v) picture.no_frame)) (sym above) (subst (SameFrame p code w new) (sym above_now) new_same));
+    links = λ k lt some. link_at k lt some;
+    declared = each_frame (λ k. (get_or later k picture.no_frame).declared ≡ (routine_at p (get_or w k store.no_frame).routine).declared)
+        (λ k lt. ap (λ g. g.declared) (below_now k lt) ∙ stand.declared k lt ∙ ap (λ g. (routine_at p g.routine).declared) (sym (below k lt)))
+        (ap (λ g. g.declared) above_now ∙ is.declared ∙ ap (λ g. (routine_at p g.routine).declared) (sym above));
+    places = λ k i q lt e. place_at i q k lt e;
+    routines = each_frame (λ k. (get_or w k store.no_frame).routine < length p.routines) (λ k lt. omega (arith, stand.routines k lt, ap (λ g. g.routine) (below k lt))) (omega (arith, exists, ap (λ g. g.routine) above));
+    main = ap (λ g. g.routine) (below 0 (omega (arith, stand.some))) ∙ stand.main;
+  }
+    where
+      link_at : (k : ℕ) → k < length w → 1 ≤ k → HasLink p w k (get_or w k store.no_frame)
+      link_at k lt some =
+          each_frame (λ n. 1 ≤ n → HasLink p w n (get_or w n store.no_frame))
+          (λ n small pos.
+          let h = stand.links n small pos in
+          subst (HasLink p w n) (sym (below n small)) (record { below = h.below; outer = ap (λ g. g.routine) (below (get_or v n store.no_frame).link (omega (arith, h.below, small))) ∙ h.outer }))
+          (λ pos. subst (HasLink p w (length v)) (sym above) (record { below = live; outer = ap (λ g. g.routine) (below (up v links) live) ∙ outer }))
+          k lt some
+
+      place_new : (i : ℕ) (q : Place) → get_or new.cells i Unknown ≡ At q → HeldPlace p code w later (length v) i q
+      place_new i q e =
+          let h = all_there.places i q e in
+          let of_new : shift_in p w (length v) ≡ shift p r = ap (λ g. shift p g.routine) above in
+          let size : get_or (get_or later (length v) picture.no_frame).kinds (shift_in p w (length v) + i) slot.Mark ≡ slot.Place q.size =
+          ap (λ g. get_or g.kinds (shift_in p w (length v) + i) slot.Mark) above_now ∙ ap (λ n. get_or kinds (n + i) slot.Mark) of_new ∙ h.size in
+          elim h.is [
+            | inl numbers ↦ record { below = omega (arith, numbers.frame); numbers = numbers_moved p code (length v) v w now later q old_front numbers.frame numbers; size = size }
+            | inr o ↦
+                let frame_is : get_or w q.frame store.no_frame ≡ new = ap (λ n. get_or w n store.no_frame) o.frame ∙ above in
+                let now_is : get_or later q.frame picture.no_frame ≡ pushed = ap (λ n. get_or later n picture.no_frame) o.frame ∙ above_now in
+                record {
+                  below = omega (arith, o.frame);
+                  numbers = record {
+                    frame = omega (arith, o.frame, long);
+                    cells = λ k lt. omega (arith, lt, o.size, o.there, ap (λ g. length g.cells) frame_is, all_there.slots);
+                    kinds = λ k lt.
+                        let z : q.slot + k ≡ q.slot = omega (arith, lt, o.size) in
+                        ap (λ g. get_or g.kinds (shift_in p w q.frame + (q.slot + k)) slot.Mark) now_is ∙ ap (λ g. get_or kinds (shift p g.routine + (q.slot + k)) slot.Mark) frame_is
+                        ∙ ap (λ n. get_or kinds (shift p r + n) slot.Mark) z ∙ o.kind;
+                  };
+                  size = size;
+                }
+          ]
+
+      place_at : (i : ℕ) (q : Place) (k : ℕ) → k < length w → get_or (get_or w k store.no_frame).cells i Unknown ≡ At q → HeldPlace p code w later k i q
+      place_at i q =
+          each_frame (λ k. get_or (get_or w k store.no_frame).cells i Unknown ≡ At q → HeldPlace p code w later k i q)
+          (λ k lt e. held_moved p code (length v) v w now later k i q old_front lt (stand.places k i q lt (ap (λ g. get_or g.cells i Unknown) (sym (below k lt)) ∙ e)))
+          (λ e. place_new i q (ap (λ g. get_or g.cells i Unknown) (sym above) ∙ e))
