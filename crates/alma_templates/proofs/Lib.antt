@@ -2,3 +2,4 @@ pub mod Stands
 pub mod EitherRuns
 pub mod Statements
 pub mod NewFrame
+pub mod Handing
