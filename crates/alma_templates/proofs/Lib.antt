@@ -1,3 +1,4 @@
 pub mod Stands
 pub mod EitherRuns
 pub mod Statements
+pub mod Parts
