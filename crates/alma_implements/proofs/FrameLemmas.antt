@@ -450,7 +450,7 @@ module _ (p : Program) (code : PlainCode) where
   -- ---- places
 
   -- each frame is of the routine that it was of, and has the kinds that it had
-  frame_routine : (lo k : ℕ) (v v' : Store) (now later : List PlainFrame) → k < length v → StandFor p code v now → Fits p code lo now v' later
+  pub frame_routine : (lo k : ℕ) (v v' : Store) (now later : List PlainFrame) → k < length v → StandFor p code v now → Fits p code lo now v' later
       → (get_or later k picture.no_frame).routine ≡ (get_or now k picture.no_frame).routine
   frame_routine lo k v v' now later lt h fit = by (cases_lt (suc k) (length later))
     where

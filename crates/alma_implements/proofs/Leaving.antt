@@ -16,6 +16,10 @@ use Rattle.alma_implements.proofs.Frames.{shift, shift_in, own_end, SameContent,
 use Rattle.alma_implements.proofs.FrameLemmas.{top_is, held_moved}
 use Rattle.alma_implements.proofs.Steps.{top_written, Holds}
 
+-- a place that a frame holds names a frame that is not above it
+abbrev pub PlacesBelow : Store → Type 0
+PlacesBelow v = (k i : ℕ) (q : Place) → k < length v → get_or (get_or v k store.no_frame).cells i Unknown ≡ At q → q.frame ≤ k
+
 module _ (p : Program) where
   -- a cell stands for a cell of another store too, where the frame of its place has the shift that it had
   content_below : (v w : Store) (kind : SlotKind) (a : store.Cell) (b : Cell) → ((q : Place) → a ≡ At q → shift_in p w q.frame ≡ shift_in p v q.frame) → SameContent p v kind a b → SameContent p w kind a b
