@@ -6,3 +6,4 @@ pub mod PlaceSteps
 pub mod AtOnce
 pub mod NewFrame
 pub mod Handing
+pub mod Args
