@@ -1,6 +1,7 @@
 -- The frames after a Return, and a mark that a part keeps.
-use Rattle.std.proofs.Common.{◌≡◌, ℕ, ◌+◌, ◌-◌, ◌<◌, ◌≤◌, List, [], ◌∷◌, ◌++◌, length, get_or, set, Some, refl, sym, ap, ◌∙◌, subst, arith}
-use Rattle.std.proofs.lemmas.List.{get_or-set_same, length-set, length-append, length-take-le, get_or-take, get_or_append_left}
+use Rattle.std.proofs.Common.{◌≡◌, ℕ, ◌+◌, ◌-◌, ◌<◌, ◌≤◌, ◌⊎◌, inl, inr, List, [], ◌∷◌, ◌++◌, length, get_or, set, Some, refl, sym, ap, ◌∙◌, subst, arith}
+use Rattle.std.proofs.lemmas.Bool.{cases_lt}
+use Rattle.std.proofs.lemmas.List.{get_or_past, get_or-set_same, length-set, length-append, length-take-le, get_or-take, get_or_append_left}
 use Rattle.std.proofs.lemmas.Option.{slice_get-get_or}
 use Rattle.alma_code.specs.declared.cell.Cell.{Cell}
 use Rattle.alma_code.specs.declared.cell.Cell.TheVariants as cell
@@ -102,16 +103,21 @@ module _ (p : Program) (code : PlainCode) where
           subst (HasLink p (without_top v) k) (sym (kept k lt))
           (record { below = z.below; outer = ap (λ f. f.routine) (kept (get_or v k store.no_frame).link (omega (arith, z.below, lt))) ∙ z.outer })
 
-  less_kept : (lo lo2 : ℕ) (g g' : PlainFrame) → lo ≤ lo2 → KeptBelow p code lo2 g g' → KeptBelow p code lo g g'
-  less_kept lo lo2 g g' le h = record { back = h.back; routine = h.routine; declared = h.declared; long = h.long; link = h.link; cells = λ i from to. h.cells i from (omega (arith, to, le)) }
+  -- all slots of a frame are kept
+  any_kept : (lo : ℕ) (g g' : PlainFrame) → KeptBelow p code (length g.cells) g g' → KeptBelow p code lo g g'
+  any_kept lo g g' h = record { back = h.back; routine = h.routine; declared = h.declared; long = h.long; link = h.link; cells = λ i from to. by i from (cases_lt i (length g.cells)) }
+    where
+      by : (i : ℕ) → own_end p g.routine ≤ i → (i < length g.cells) ⊎ (length g.cells ≤ i) → get_or g'.cells i cell.Unset ≡ get_or g.cells i cell.Unset
+      by i from (inl lt) = h.cells i from lt
+      by i from (inr past) = get_or_past g'.cells i cell.Unset (omega (arith, past, h.long)) ∙ sym (get_or_past g.cells i cell.Unset past)
 
   -- the frames of the caller, after a body that began with one frame more
-  pub leave_fits : (lo lo2 : ℕ) (now : List PlainFrame) (g : PlainFrame) (v : Store) (later : List PlainFrame) → 1 ≤ length now → lo ≤ length (last_frame now).cells → Fits p code lo2 (now ++ g ∷ []) v later → Fits p code lo now (without_top v) (without_last later)
-  leave_fits lo lo2 now g v later some within h = record {
+  pub leave_fits : (lo lo2 : ℕ) (now : List PlainFrame) (g : PlainFrame) (v : Store) (later : List PlainFrame) → 1 ≤ length now → Fits p code lo2 (now ++ g ∷ []) v later → Fits p code lo now (without_top v) (without_last later)
+  leave_fits lo lo2 now g v later some h = record {
     stand = leave_stands v later (omega (arith, h.stand.count, same, some)) h.stand;
     same_count = count;
     top = subst (KeptBelow p code lo (last_frame now)) (sym last_is)
-        (less_kept lo (length (last_frame now).cells) (last_frame now) (get_or later (length now - 1) picture.no_frame) within (other (length now - 1) (omega (arith, some))));
+        (any_kept lo (last_frame now) (get_or later (length now - 1) picture.no_frame) (other (length now - 1) (omega (arith, some))));
     others = λ k lt. subst (KeptBelow p code (length (get_or now k picture.no_frame).cells) (get_or now k picture.no_frame)) (sym (get_or-take (length later - 1) later k picture.no_frame (omega (arith, lt, count, same))))
         (other k (omega (arith, lt, count)));
   }

@@ -3,6 +3,7 @@ use Rattle.std.proofs.Common.{◌≡◌, ℕ, suc, ◌+◌, ◌<◌, ◌≤◌, 
 use Rattle.std.specs.Prelude.{slice_get}
 use Rattle.std.proofs.lemmas.Option.{slice_get-get_or, slice_get_within, get_or_from_slice_get}
 use Rattle.alma_base.specs.declared.fault.RunFault.{RunFault}
+use Rattle.alma_base.specs.declared.number.Range.{Range}
 use Rattle.alma_base.specs.Numbers.{is_integer}
 use Rattle.alma_code.specs.declared.cell.Cell.{Cell}
 use Rattle.alma_code.specs.declared.cell.Cell.TheVariants as cell
@@ -39,6 +40,9 @@ module _ (p : Program) (code : PlainCode) (input : List ℕ) where
     pub routines : (k : ℕ) → k < length v → (get_or v k store.no_frame).routine < length p.routines
     pub below : PlacesBelow v
     pub live : (k i : ℕ) (q : Place) → k < length v → cell_at v k i ≡ At q → AreNumbers p code v now q
+
+  pub sound_of : (v : Store) (now : List PlainFrame) → StandFor p code v now → Sound v now
+  sound_of v now h = record { main = h.main; routines = h.routines; below = λ k i q lt e. (h.places k i q lt e).below; live = λ k i q lt e. (h.places k i q lt e).numbers }
 
   -- where a phrase of the routine r begins
   pub record Begins (r : ℕ) (v : Store) (now : List PlainFrame) : Type 0 where
@@ -136,10 +140,21 @@ module _ (p : Program) (code : PlainCode) (input : List ℕ) where
   ReturnsAt None at now = slice_get code.instrs at ≡ Some I.Return
   ReturnsAt (Some n) at now = (a : ℕ) × (slice_get code.instrs at ≡ Some (I.ReturnValue a)) × Holds now a (cell.Int n)
 
+  -- a number where the routine has a result, and none where it has none
+  abbrev pub ResultIs : Option Range → Option ℤ → Type 0
+  ResultIs None None = Unit {0}
+  ResultIs None (Some n) = ⊥
+  ResultIs (Some range) None = ⊥
+  ResultIs (Some range) (Some n) = Unit {0}
+
+  pub record ReturnsFrom (r : ℕ) (n : Option ℤ) (at : ℕ) (now : List PlainFrame) : Type 0 where
+    pub there : ReturnsAt n at now
+    pub result : ResultIs (routine_at p r).result n
+
   abbrev pub leaving : {A : Type 0} → (lo r : ℕ) → List PlainFrame → (Store → A → List PlainFrame → Type 0) → Ways A
   leaving lo r before yields = record {
     goes = λ v y now. Left lo r before v now × yields v y now;
-    returns = λ v n at now. Left (own_end p r) r before v now × ReturnsAt n at now;
+    returns = λ v n at now. Left (own_end p r) r before v now × ReturnsFrom r n at now;
   }
 
   abbrev pub Nothing : Store → NoYield → List PlainFrame → Type 0
