@@ -7,3 +7,4 @@ pub mod AtOnce
 pub mod NewFrame
 pub mod Handing
 pub mod Args
+pub mod Calls

@@ -140,12 +140,12 @@ module _ (p : Program) (code : PlainCode) (input : List ℕ) where
   ReturnsAt None at now = slice_get code.instrs at ≡ Some I.Return
   ReturnsAt (Some n) at now = (a : ℕ) × (slice_get code.instrs at ≡ Some (I.ReturnValue a)) × Holds now a (cell.Int n)
 
-  -- a number where the routine has a result, and none where it has none
+  -- a number of INTEGER where the routine has a result, and none where it has none
   abbrev pub ResultIs : Option Range → Option ℤ → Type 0
   ResultIs None None = Unit {0}
   ResultIs None (Some n) = ⊥
   ResultIs (Some range) None = ⊥
-  ResultIs (Some range) (Some n) = Unit {0}
+  ResultIs (Some range) (Some n) = is_integer n ≡ true
 
   pub record ReturnsFrom (r : ℕ) (n : Option ℤ) (at : ℕ) (now : List PlainFrame) : Type 0 where
     pub there : ReturnsAt n at now
