@@ -238,7 +238,7 @@ module _ (p : Program) (tables : Tables) (code : PlainCode) (input : List ℕ) (
 
   -- ---- all arguments
 
-  handed_after : (lo : ℕ) (k : ArgKind) (n : ℕ) (a : ArgValue) (c : Cell) (v w : Store) (now later : List PlainFrame) → Begins p code input r v now → Left p code input lo r now w later → HandedAs p code v now k n a c → HandedAs p code w later k n a c
+  pub handed_after : (lo : ℕ) (k : ArgKind) (n : ℕ) (a : ArgValue) (c : Cell) (v w : Store) (now later : List PlainFrame) → Begins p code input r v now → Left p code input lo r now w later → HandedAs p code v now k n a c → HandedAs p code w later k n a c
   handed_after lo k n a c v w now later b left (a_value x fits) = a_value x fits
   handed_after lo k n a c v w now later b left (mix_value x fits) = mix_value x fits
   handed_after lo k n a d v w now later b left (a_place y c alike) = a_place y c (alike_after n y c alike)

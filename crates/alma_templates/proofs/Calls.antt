@@ -17,13 +17,13 @@ use Rattle.alma_code.specs.Picture.{PlainFrame, PlainEntry, last_frame, without_
 use Rattle.alma_code.specs.Picture as picture
 use Rattle.alma_code.specs.Plain.{PlainCode, PlainRoutine, kinds_at, start_at}
 use Rattle.alma_code.specs.Machine.{State, link_to}
-use Rattle.alma_ir.specs.Tree.{Program, Args, routine_at}
+use Rattle.alma_ir.specs.Tree.{Program, Args, no_args, more_args, CallTest, CallExpr, routine_at}
 use Rattle.alma_ir.specs.Checked.{IsNested, LinksAgree, ParamsFirst, ArgsFit, HasOneCellAs, link_slots, outer_at, EachRoutine}
 use Rattle.alma_mean.specs.Store.{Store, top, top_frame, up, up_from, without_top}
 use Rattle.alma_mean.specs.Store as store
 use Rattle.alma_mean.specs.Events.{Events, NoYield, Flow, Go, Return, bind, node}
 use Rattle.alma_mean.specs.Rows.{ArgValue, enter, as_test, as_value, frame_of}
-use Rattle.alma_mean.specs.Meaning.{Level, ev_stmts, ev_args}
+use Rattle.alma_mean.specs.Meaning.{Level, ev_stmts, ev_args, ev_test, ev_expr}
 use Rattle.alma_implements.proofs.Goes.{Silently, Goes, no_step, and_then, before, bind_goes}
 use Rattle.alma_implements.proofs.Address.{at_address}
 use Rattle.alma_implements.proofs.Frames.{shift, shift_in, own_end, HasLink, StandFor, KeptBelow, Fits, HasSlots, IsAt}
@@ -34,14 +34,14 @@ use Rattle.alma_implements.proofs.Leaving.{leave_fits}
 use Rattle.alma_implements.proofs.CallRow.{Returns, call_row}
 use Rattle.alma_implements.proofs.Steps.{Holds, InstrAt, top_written}
 use Rattle.alma_implements.proofs.Ways.{Ways, Leaves, Runs}
-use Rattle.alma_templates.specs.Lined.{Lined, own}
+use Rattle.alma_templates.specs.Lined.{Lined, own, in_row}
 use Rattle.alma_templates.specs.Tables.{Tables}
-use Rattle.alma_templates.specs.Pieces.{chain_code, link_code}
-use Rattle.alma_templates.specs.Slots.{shift_of, chain_slots, links_if, call_links, handed_slots, args_slots}
-use Rattle.alma_templates.specs.Templates.{link_if, handed_from, args_code}
+use Rattle.alma_templates.specs.Pieces.{chain_code, link_code, first_argument}
+use Rattle.alma_templates.specs.Slots.{shift_of, chain_slots, links_if, call_links, handed_slots, args_slots, test_slots, expr_slots}
+use Rattle.alma_templates.specs.Templates.{link_if, call_link_code, call_code, arguments_from, handed_from, args_code, test_code, expr_code}
 use Rattle.alma_templates.specs.Stands.{Stands}
 use Rattle.alma_templates.proofs.Stands.{stands_front, stands_back}
-use Rattle.alma_templates.proofs.Parts.{Begins, Left, Sound, sound_of, begins, left_self, left_on, left_less, on_from, holds_after, Nothing, From, leaving, ReturnsAt, ReturnsFrom, ResultIs}
+use Rattle.alma_templates.proofs.Parts.{Begins, Left, Sound, sound_of, begins, left_self, left_on, left_less, on_from, holds_after, Nothing, NodeFor, node_runs, From, leaving, ReturnsAt, ReturnsFrom, ResultIs}
 use Rattle.alma_templates.proofs.NewFrame.{AllHanded, with_link, handed_all, IsCompiled, enter_stands}
 use Rattle.alma_templates.proofs.Handing.{HeldFrom, counts_alike, holds_arguments}
 use Rattle.alma_templates.proofs.Args.{ArgsIn, ArgParts, args_run}
@@ -248,25 +248,26 @@ module _ (p : Program) (tables : Tables) (code : PlainCode) (input : List ℕ) (
         linked_up p code v now (top v) up callee.nested b.stand.routines b.stand.main b.stand (omega (arith, b.stand.some))
         (omega (arith, two_levels (routine_at p called).level some, callee.leads.0, ap (λ x. (routine_at p x).level) b.routine))
 
-    pub front_from : {A : Type 0} (args : Args) (lo at exit : ℕ) (yields : Store → A → List PlainFrame → Type 0) (k : Store → List ArgValue → Events A) (v : Store) (now : List PlainFrame)
-        → ArgsFit (routine_at p called).params args → own_end p r ≤ lo → HasSlots p code r lo (call_links p r called up ++ (handed_slots args ++ args_slots p r args))
+    pub front_from : {A : Type 0} (args : Args) (lo la at exit : ℕ) (yields : Store → A → List PlainFrame → Type 0) (k : Store → List ArgValue → Events A) (v : Store) (now : List PlainFrame)
+        → ArgsFit (routine_at p called).params args → own_end p r ≤ lo → lo ≤ la → HasSlots p code r la (call_links p r called up ++ (handed_slots args ++ args_slots p r args))
         → ((m first : ℕ) → ArgParts p tables code input below r line q m first (first + length (handed_slots args)) args)
-        → let first : ℕ = lo + length (call_links p r called up) in
-          let link : List Lined = own line (link_if p tables r (shift_of p called) up lo) in
+        → let first : ℕ = la + length (call_links p r called up) in
+          let link : List Lined = own line (link_if p tables r (shift_of p called) up la) in
           let given : List Lined = args_code p tables r line (at + length link) first (first + length (handed_slots args)) args in
           Stands code at (link ++ given) → Begins p code input r v now
-        → ((u : Store) (taken : List ArgValue) (t : List PlainFrame) → Left p code input lo r now u t → ArgsDone called up lo u taken t → From p code input line 8 (at + length (link ++ given)) exit t (leaving p code input lo r t yields) (k u taken) q)
+        → ((u : Store) (taken : List ArgValue) (t : List PlainFrame) → Left p code input la r now u t → ArgsDone called up la u taken t → From p code input line 8 (at + length (link ++ given)) exit t (leaving p code input lo r t yields) (k u taken) q)
         → From p code input line 32 at exit now (leaving p code input lo r now yields) (bind (ev_args p input below args v) k) q
-    front_from args lo at exit yields k v now fits own_lo slots parts stands b later held s is =
+    front_from args lo la at exit yields k v now fits own_lo behind_lo slots parts stands b later held s is =
         let sh : ℕ = shift_of p called in
         let links : List SlotKind = call_links p r called up in
-        let first : ℕ = lo + length links in
-        let link : List Lined = own line (link_if p tables r sh up lo) in
+        let own_la : own_end p r ≤ la = omega (arith, own_lo, behind_lo) in
+        let first : ℕ = la + length links in
+        let link : List Lined = own line (link_if p tables r sh up la) in
         let m : ℕ = at + length link in
         let given : List Lined = args_code p tables r line m first (first + length (handed_slots args)) args in
-        let z = link_done sh up lo at v now held s own_lo (reached v now b) up_few (slots_first p code input r lo links (handed_slots args ++ args_slots p r args) slots) (stands_front code at link given stands) b is in
-        let b1 : Begins p code input r v z.frames = begins p code input lo r now v z.frames z.left in
-        let behind = slots_behind p code input r lo links (handed_slots args ++ args_slots p r args) slots in
+        let z = link_done sh up la at v now held s own_la (reached v now b) up_few (slots_first p code input r la links (handed_slots args ++ args_slots p r args) slots) (stands_front code at link given stands) b is in
+        let b1 : Begins p code input r v z.frames = begins p code input la r now v z.frames z.left in
+        let behind = slots_behind p code input r la links (handed_slots args ++ args_slots p r args) slots in
         let w : Ways _ = leaving p code input lo r now yields in
         let wa : Ways (List ArgValue) = leaving p code input first r z.frames (ArgsIn p tables code input below r line q first (routine_at p called).params) in
         let both : m + length given ≡ at + length (link ++ given) = omega (arith, length-append link given) in
@@ -275,27 +276,153 @@ module _ (p : Program) (tables : Tables) (code : PlainCode) (input : List ℕ) (
         (args_run p tables code input below r line q args (routine_at p called).params m first (first + length (handed_slots args)) fits callee.first.cells (slots_first p code input r first (handed_slots args) (args_slots p r args) behind) (omega arith) (parts m first) (stands_back code at link given stands) v z.frames b1 8 (omega arith) held z.to z.is)
         (λ u taken t base going left.
         let done = left.1.1 in
-        let whole : Left p code input lo r now u t.now = left_on p code input lo first r now v u z.frames t.now (omega arith) z.left left.1.0 in
+        let whole : Left p code input la r now u t.now = left_on p code input la first r now v u z.frames t.now (omega arith) z.left left.1.0 in
         let same : 1 ≤ sh → up_from u (top u) up ≡ up_from v (top v) up =
         λ some. ap (λ n. up_from u (n - 1) up) (sym left.1.0.fits.stand.count ∙ left.1.0.fits.same_count ∙ b1.stand.count) ∙ up_same p code first (top v) up v u z.frames t.now b1.stand left.1.0.fits (reached v z.frames b1 some) in
-        let hf : ℕ = handed_from p tables r sh up lo in
+        let hf : ℕ = handed_from p tables r sh up la in
         let few : sh ≤ 1 = slots_few (routine_at p called).level in
         let first_is : first ≡ hf + sh = elim (cases_eq sh 0) [
-          | inl e ↦ omega (arith, e, handed_flat sh up lo e)
-          | inr ne ↦ omega (arith, few, ne, handed_long sh up lo (omega (arith, ne)))
+          | inl e ↦ omega (arith, e, handed_flat sh up la e)
+          | inr ne ↦ omega (arith, few, ne, handed_long sh up la (omega (arith, ne)))
         ] in
         let link_kept : 1 ≤ sh → Holds t.now hf (cell.Place (link_to (up_from u (top u) up))) =
         λ some.
-        let is_up : hf ≡ lo + up = handed_above sh up lo some in
+        let is_up : hf ≡ la + up = handed_above sh up la some in
         subst (λ n. Holds t.now n (cell.Place (link_to (up_from u (top u) up)))) (sym is_up)
-        (subst (λ g. Holds t.now (lo + up) (cell.Place (link_to g))) (sym (same some))
-        (holds_after p code input first r (lo + up) (cell.Place (link_to (up_from v (top v) up))) v u z.frames t.now b1 (omega (arith, own_lo)) (omega (arith, is_up, handed_long sh up lo some)) left.1.0 (z.link some))) in
-        let all : ArgsDone called up lo u taken t.now = record {
+        (subst (λ g. Holds t.now (la + up) (cell.Place (link_to g))) (sym (same some))
+        (holds_after p code input first r (la + up) (cell.Place (link_to (up_from v (top v) up))) v u z.frames t.now b1 (omega (arith, own_la)) (omega (arith, is_up, handed_long sh up la some)) left.1.0 (z.link some))) in
+        let all : ArgsDone called up la u taken t.now = record {
           cells = done.cells;
           handed = done.handed;
           there = link_before (routine_at p called).level (up_from u (top u) up) hf t.now done.cells link_kept (subst (λ n. HeldFrom t.now n done.cells) first_is done.there);
         } in
-        on_from p code input line 8 (at + length (link ++ given)) exit lo lo r u now t.now yields (k u taken) q (omega arith) own_lo whole
+        on_from p code input line 8 (at + length (link ++ given)) exit lo lo r u now t.now yields (k u taken) q (omega arith) own_lo (left_less p code input lo la r now u t.now behind_lo whole)
         (later u taken t.now whole all) base t (record { mode = going.mode; here = left.0 ∙ both; frames = refl; entries = going.entries }))
         (λ u n t left.
-        (left_on p code input (own_end p r) (own_end p r) r now v u z.frames t.now (omega arith) (left_less p code input (own_end p r) lo r now v z.frames own_lo z.left) left.0, left.1)))
+        (left_on p code input (own_end p r) (own_end p r) r now v u z.frames t.now (omega arith) (left_less p code input (own_end p r) la r now v z.frames own_la z.left) left.0, left.1)))
+
+-- ---- the routine at the level below
+
+module _ (p : Program) (tables : Tables) (code : PlainCode) (input : List ℕ) (below : Level) where
+  -- what stands at the end of the body: a Return, or the fault of a function
+  abbrev pub EndsAt : (r exit : ℕ) → Option Range → Type 0
+  EndsAt r exit None = slice_get code.instrs exit ≡ Some I.Return
+  EndsAt r exit (Some range) = InstrAt code input (routine_at p r).line exit (I.Fault 6)
+
+  -- the body of a routine runs, in whatever statement it was called
+  pub record RoutineRuns (r q : ℕ) : Type 0 where
+    pub exit : ℕ
+    pub runs : (line : ℕ) (v : Store) (now : List PlainFrame) → Begins p code input r v now → Runs code input line (start_at code r) exit now (leaving p code input (own_end p r) r now (Nothing p code input)) (below.routine r v) q
+    pub ends : EndsAt r exit (routine_at p r).result
+
+  module _ (r line q : ℕ) (called up : ℕ) (callee : Callee p tables code input below r line (suc q) called up) (routine : RoutineRuns called q) where
+    -- ---- the frames in which the body runs
+
+    module _ (v : Store) (now : List PlainFrame) (b : Begins p code input r v now) (taken : List ArgValue) (cells : List Cell) (handed : AllHanded p code v now (routine_at p called).params taken cells) (back : ℕ) where
+      abbrev new_store : Store
+      new_store = v ++ frame_of v called up (routine_at p called) taken ∷ []
+
+      abbrev pushed : PlainFrame
+      pushed = entered_frame now callee.named.head called back (handed_all p called (up_from v (top v) up) cells)
+
+      abbrev new_frames : List PlainFrame
+      new_frames = now ++ pushed ∷ []
+
+      begins_inside : Begins p code input called new_store new_frames
+      begins_inside =
+          let l = link_there p tables code input below r line (suc q) called up callee v now b in
+          let stand : StandFor p code new_store new_frames = enter_stands p code v now b.stand called up back callee.named taken cells callee.is callee.exists callee.first l.0 l.1 handed in
+          let last : length new_store - 1 ≡ length v = omega (arith, length-append v (frame_of v called up (routine_at p called) taken ∷ [])) in
+          record {
+            stand = stand;
+            routine = ap (λ n. (get_or new_store n store.no_frame).routine) last ∙ ap (λ f. f.routine) (get_or-append_seam v (frame_of v called up (routine_at p called) taken) [] store.no_frame);
+            sound = sound_of p code input new_store new_frames stand;
+          }
+
+      -- what the body leaves, and the frames of the caller below it
+      record Backed (x : Store) (z : List PlainFrame) : Type 0 where
+        some : 2 ≤ length z
+        back_at : (last_frame z).back ≡ back
+        left : (lo : ℕ) → Left p code input lo r now (without_top x) (without_last z)
+
+      backed : (lo2 : ℕ) (x : Store) (z : List PlainFrame) → Left p code input lo2 called new_frames x z → Backed x z
+      backed lo2 x z h =
+          let long : length new_frames ≡ length now + 1 = length-append now (pushed ∷ []) in
+          let some_now : 1 ≤ length now = omega (arith, b.stand.count, b.stand.some) in
+          let last : length new_frames - 1 ≡ length now = omega (arith, long) in
+          let is : last_frame new_frames ≡ pushed = ap (λ n. get_or new_frames n picture.no_frame) last ∙ get_or-append_seam now pushed [] picture.no_frame in
+          record {
+            some = omega (arith, h.fits.same_count, long, some_now);
+            back_at = h.fits.top.back ∙ ap (λ g. g.back) is;
+            left = λ lo.
+                let fit : Fits p code lo now (without_top x) (without_last z) = leave_fits p code lo lo2 now pushed x z some_now h.fits in
+                record { fits = fit; routine = routine_after p code lo r v (without_top x) now (without_last z) b.stand b.routine fit; sound = sound_of p code input (without_top x) (without_last z) fit.stand };
+          }
+
+    -- ---- the arguments, where nothing is handed over
+
+    no_link : (level f : ℕ) (cs : List Cell) → link_slots level ≡ 0 → with_link level f cs ≡ cs
+    no_link zero f cs e = refl
+    no_link (suc zero) f cs e = refl
+    no_link (suc (suc n)) f cs e = absurd (omega (arith, e))
+
+    none_handed : (args : Args) (ps : _) (v : Store) (now : List PlainFrame) (taken : List ArgValue) (cs : List Cell) → length (handed_slots args) ≡ 0 → ArgsFit ps args → AllHanded p code v now ps taken cs → cs ≡ []
+    none_handed no_args [] v now [] [] e fits handed = refl
+    none_handed no_args [] v now [] (c ∷ cs) e fits handed = absurd handed
+    none_handed no_args [] v now (a ∷ taken) cs e fits handed = absurd handed
+    none_handed no_args (x ∷ ps) v now taken cs e fits handed = absurd fits
+    none_handed (more_args a rest) ps v now taken cs e fits handed = absurd (omega (arith, e))
+
+    first_held : (handed first : ℕ) (now : List PlainFrame) (cs : List Cell) → (handed ≡ 0 → cs ≡ []) → HeldFrom now first cs → HeldFrom now (first_argument handed first) cs
+    first_held zero first now cs none h = subst (HeldFrom now 0) (sym (none refl)) tt
+    first_held (suc n) first now cs none h = h
+
+    all_held : (args : Args) (hf f : ℕ) (v : Store) (now : List PlainFrame) (taken : List ArgValue) (cs : List Cell) → ArgsFit (routine_at p called).params args → AllHanded p code v now (routine_at p called).params taken cs → HeldFrom now hf (handed_all p called f cs)
+        → HeldFrom now (first_argument (shift_of p called + length (handed_slots args)) hf) (handed_all p called f cs)
+    all_held args hf f v now taken cs fits handed h =
+        first_held (shift_of p called + length (handed_slots args)) hf now (handed_all p called f cs)
+        (λ e. no_link (routine_at p called).level f cs (omega (arith, e)) ∙ none_handed args (routine_at p called).params v now taken cs (omega (arith, e)) fits handed) h
+
+    -- ---- a call as a test
+
+    module _ (none : (routine_at p called).result ≡ None) where
+      pub call_test_runs : (args : Args) (lo at : ℕ) → ArgsFit (routine_at p called).params args → HasSlots p code r lo (test_slots p r (CallTest called args up))
+          → ((m first : ℕ) → ArgParts p tables code input below r line (suc q) m first (first + length (handed_slots args)) args)
+          → NodeFor p code input r line at lo (test_code p tables r line at lo (CallTest called args up)) (ev_test p input below (CallTest called args up)) (Nothing p code input) (suc q)
+      unfolding ev_stmts
+      call_test_runs args lo at fits slots parts stands v now b =
+          let front : List Lined = in_row at (own line (call_link_code p tables r called up lo)) (λ next. args_code p tables r line next (arguments_from p tables r called up lo) (arguments_from p tables r called up lo + length (handed_slots args)) args) in
+          let call : List Lined = own line (call_code p tables r called args up lo 0 ∷ []) in
+          let m : ℕ = at + length front in
+          let exit : ℕ = at + length (front ++ call) in
+          let end : m + 1 ≡ exit = omega (arith, length-append front call) in
+          let call_there : Stands code m call = stands_back code at front call stands in
+          let calls : InstrAt code input line m (call_code p tables r called args up lo 0) = record { instr = call_there.0; on_line = call_there.1 } in
+          node_runs p code input line 32 at exit now (leaving p code input lo r now (Nothing p code input)) (bind (ev_args p input below args v) (λ t taken. as_test (enter p (below.routine called) called up t taken))) (suc q) (omega arith)
+          (front_from p tables code input below r line (suc q) called up callee args lo lo at exit (Nothing p code input) (λ t taken. as_test (enter p (below.routine called) called up t taken)) v now fits slots.behind (omega arith) slots parts (stands_front code at front call stands) b
+          (λ u taken t left done held s is.
+          let bt : Begins p code input r u t = begins p code input lo r now u t left in
+          let inside = begins_inside u t bt taken done.cells done.handed (m + 1) in
+          let frames = new_frames u t bt taken done.cells done.handed (m + 1) in
+          let w : Ways NoYield = leaving p code input lo r t (Nothing p code input) in
+          let wb : Ways NoYield = leaving p code input (own_end p called) called frames (Nothing p code input) in
+          let first : ℕ = first_argument (shift_of p called + length (handed_slots args)) (handed_from p tables r (shift_of p called) up lo) in
+          let given : List Cell = handed_all p called (up_from u (top u) up) done.cells in
+          subst (λ n. Goes code input line 0 24 (Leaves n w) held (as_test (enter p (below.routine called) called up u taken)) s 8 (suc q)) end
+          (call_row code input p line m called first routine.exit t u callee.named given up taken (below.routine called) wb w q calls callee.is.there (counts_alike p code input u t callee.named called bt.stand callee.is)
+          (routine.runs line (new_store u t bt taken done.cells done.handed (m + 1)) frames inside)
+          (comes_back u t bt taken done.cells done.handed lo m)
+          held s is
+          (holds_arguments p code input u t callee.named called (up_from u (top u) up) first m taken done.cells held s bt.stand callee.is is done.handed
+          (all_held args (handed_from p tables r (shift_of p called) up lo) (up_from u (top u) up) u t taken done.cells fits done.handed done.there)))))
+        where
+          comes_back : (u : Store) (t : List PlainFrame) (bt : Begins p code input r u t) (taken : List ArgValue) (cells : List Cell) (handed : AllHanded p code u t (routine_at p called).params taken cells) (lo m : ℕ) (x : Store) (f : Flow NoYield) (z : State)
+              → Leaves routine.exit (leaving p code input (own_end p called) called (new_frames u t bt taken cells handed (m + 1)) (Nothing p code input)) x f z → Returns code input (m + 1) (leaving p code input lo r t (Nothing p code input)) x z
+          comes_back u t bt taken cells handed lo m x (Go y) z left =
+              let back = backed u t bt taken cells handed (m + 1) (own_end p called) x z.now left.1.0 in
+              let return_there : slice_get code.instrs routine.exit ≡ Some I.Return = subst (EndsAt called routine.exit) none routine.ends in
+              record { line = line_at code z.at; instr = record { instr = ap (slice_get code.instrs) left.0 ∙ return_there; on_line = refl }; some = back.some; back_at = back.back_at; goes = (back.left lo, tt) }
+          comes_back u t bt taken cells handed lo m x (Return None) z left =
+              let back = backed u t bt taken cells handed (m + 1) (own_end p called) x z.now left.0 in
+              record { line = line_at code z.at; instr = record { instr = left.1.there; on_line = refl }; some = back.some; back_at = back.back_at; goes = (back.left lo, tt) }
+          comes_back u t bt taken cells handed lo m x (Return (Some n)) z left = absurd (subst (λ o. ResultIs p code input o (Some n)) none left.1.result)
