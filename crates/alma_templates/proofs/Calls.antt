@@ -32,6 +32,8 @@ use Rattle.alma_implements.proofs.ExprRows.{first_kind, slots_first, slots_behin
 use Rattle.alma_implements.proofs.LinkRows.{LinkedUp, linked_up, ChainsAt, AreLinks, link_goes}
 use Rattle.alma_implements.proofs.Leaving.{leave_fits}
 use Rattle.alma_implements.proofs.CallRow.{Returns, call_row}
+use Rattle.alma_implements.proofs.FunctionRow.{GivesNumber, LeavesFunction, function_call_row}
+use Rattle.alma_implements.proofs.ChoiceSteps.{mark_step}
 use Rattle.alma_implements.proofs.Steps.{Holds, InstrAt, top_written}
 use Rattle.alma_implements.proofs.Ways.{Ways, Leaves, Runs}
 use Rattle.alma_templates.specs.Lined.{Lined, own, in_row}
@@ -41,10 +43,10 @@ use Rattle.alma_templates.specs.Slots.{shift_of, chain_slots, links_if, call_lin
 use Rattle.alma_templates.specs.Templates.{link_if, call_link_code, call_code, arguments_from, handed_from, args_code, test_code, expr_code}
 use Rattle.alma_templates.specs.Stands.{Stands}
 use Rattle.alma_templates.proofs.Stands.{stands_front, stands_back}
-use Rattle.alma_templates.proofs.Parts.{Begins, Left, Sound, sound_of, begins, left_self, left_on, left_less, on_from, holds_after, Nothing, NodeFor, node_runs, From, leaving, ReturnsAt, ReturnsFrom, ResultIs}
+use Rattle.alma_templates.proofs.Parts.{Begins, Left, Sound, sound_of, begins, left_self, left_on, left_less, on_from, holds_after, Nothing, ValueIn, NodeFor, node_runs, From, leaving, left_temp, holds_temp, has_kind, ReturnsAt, ReturnsFrom, ResultIs}
 use Rattle.alma_templates.proofs.NewFrame.{AllHanded, with_link, handed_all, IsCompiled, enter_stands}
 use Rattle.alma_templates.proofs.Handing.{HeldFrom, counts_alike, holds_arguments}
-use Rattle.alma_templates.proofs.Args.{ArgsIn, ArgParts, args_run}
+use Rattle.alma_templates.proofs.Args.{ArgsIn, ArgParts, args_run, handed_after}
 
 -- ---- up the links
 
@@ -426,3 +428,114 @@ module _ (p : Program) (tables : Tables) (code : PlainCode) (input : List ℕ) (
               let back = backed u t bt taken cells handed (m + 1) (own_end p called) x z.now left.0 in
               record { line = line_at code z.at; instr = record { instr = left.1.there; on_line = refl }; some = back.some; back_at = back.back_at; goes = (back.left lo, tt) }
           comes_back u t bt taken cells handed lo m x (Return (Some n)) z left = absurd (subst (λ o. ResultIs p code input o (Some n)) none left.1.result)
+
+    -- ---- a call in an expression
+
+    handed_all_after : (lo : ℕ) (ps : _) (taken : List ArgValue) (cs : List Cell) (v w : Store) (now later : List PlainFrame) → Begins p code input r v now → Left p code input lo r now w later → AllHanded p code v now ps taken cs → AllHanded p code w later ps taken cs
+    handed_all_after lo [] [] [] v w now later b left h = tt
+    handed_all_after lo [] [] (c ∷ cs) v w now later b left h = absurd h
+    handed_all_after lo [] (a ∷ taken) cs v w now later b left h = absurd h
+    handed_all_after lo (x ∷ ps) [] cs v w now later b left h = absurd h
+    handed_all_after lo (x ∷ ps) (a ∷ taken) [] v w now later b left h = absurd h
+    handed_all_after lo (x ∷ ps) (a ∷ taken) (c ∷ cs) v w now later b left h =
+        (handed_after p tables code input below r line q lo x.kind x.cells a c v w now later b left h.0, handed_all_after lo ps taken cs v w now later b left h.1)
+
+    held_other : (now : List PlainFrame) (n first : ℕ) (c : Cell) (cs : List Cell) → 1 ≤ length now → n < first → HeldFrom now first cs → HeldFrom (top_written now n c) first cs
+    held_other now n first c [] some lt h = tt
+    held_other now n first c (x ∷ cs) some lt h = (holds_other now n first c x some (λ e. omega (arith, e, lt)) h.0, held_other now n (suc first) c cs some (omega (arith, lt)) h.1)
+
+    module _ (range : Range) (result : (routine_at p called).result ≡ Some range) (known : 1 ≤ (routine_at p called).line) where
+      module _ (u : Store) (t : List PlainFrame) (bt : Begins p code input r u t) (lo m first h : ℕ) (own_lo : own_end p r ≤ lo) (result_kind : slice_get (kinds_at code r) lo ≡ Some slot.Number) (mark_kind : slice_get (kinds_at code r) (lo + 1) ≡ Some slot.Mark) where
+        abbrev marked : List PlainFrame
+        marked = top_written t (lo + 1) (cell.Mark h)
+
+        marked_left : Left p code input (lo + 1) r t u marked
+        marked_left = left_temp p code input (lo + 1) r (lo + 1) u t (cell.Mark h) (omega arith) (omega (arith, own_lo)) bt
+
+        bm : Begins p code input r u marked
+        bm = begins p code input (lo + 1) r t u marked marked_left
+
+        module _ (taken : List ArgValue) (cells : List Cell) (handed : AllHanded p code u marked (routine_at p called).params taken cells) where
+          gives_back : (x : Store) (f : Flow NoYield) (z : State)
+              → Leaves routine.exit (leaving p code input (own_end p called) called (new_frames u marked bm taken cells handed (m + 1 + 1)) (Nothing p code input)) x f z
+              → LeavesFunction code input (m + 1) called first lo (lo + 1) h (routine_at p called).line (leaving p code input lo r t (ValueIn p code input lo)) x f z
+          gives_back x (Go y) z left =
+              let ends : InstrAt code input (routine_at p called).line routine.exit (I.Fault 6) = subst (EndsAt called routine.exit) result routine.ends in
+              record { instr = ap (slice_get code.instrs) left.0 ∙ ends.instr; on_line = ap (line_at code) left.0 ∙ ends.on_line }
+          gives_back x (Return None) z left = absurd (subst (λ o. ResultIs p code input o None) result left.1.result)
+          gives_back x (Return (Some n)) z left =
+              let back = backed u marked bm taken cells handed (m + 1 + 1) (own_end p called) x z.now left.0 in
+              let integer : is_integer n ≡ true = subst (λ o. ResultIs p code input o (Some n)) result left.1.result in
+              let kept : Left p code input (lo + 2) r marked (without_top x) (without_last z.now) = back.left (lo + 2) in
+              let bx : Begins p code input r (without_top x) (without_last z.now) = begins p code input (lo + 2) r marked (without_top x) (without_last z.now) kept in
+              let last : List PlainFrame = top_written (without_last z.now) lo (cell.Int n) in
+              let put : Left p code input lo r (without_last z.now) (without_top x) last = left_temp p code input lo r lo (without_top x) (without_last z.now) (cell.Int n) (omega arith) own_lo bx in
+              let some_now : 1 ≤ length (without_last z.now) = omega (arith, bx.stand.count, bx.stand.some) in
+              let mark_there : Holds (without_last z.now) (lo + 1) (cell.Mark h) =
+              holds_after p code input (lo + 2) r (lo + 1) (cell.Mark h) u (without_top x) marked (without_last z.now) bm (omega (arith, own_lo)) (omega arith) kept (holds_temp p code input r (lo + 1) u t (cell.Mark h) slot.Mark mark_kind bt) in
+              let from_t : Left p code input lo r t (without_top x) (without_last z.now) = left_on p code input lo (lo + 1) r t u (without_top x) marked (without_last z.now) (omega arith) (left_less p code input lo (lo + 1) r t u marked (omega arith) marked_left) (left_less p code input (lo + 1) (lo + 2) r marked (without_top x) (without_last z.now) (omega arith) kept) in
+              record {
+                from = left.1.there.0;
+                line = line_at code z.at;
+                instr = record { instr = left.1.there.1; on_line = refl };
+                number = left.1.there.2;
+                back = back.back_at;
+                kind = has_kind p code input r lo (without_top x) (without_last z.now) slot.Number result_kind bx;
+                mark = holds_other (without_last z.now) lo (lo + 1) (cell.Int n) (cell.Mark h) some_now (λ e. omega (arith, e)) mark_there;
+                goes = (left_on p code input lo lo r t (without_top x) (without_top x) (without_last z.now) last (omega arith) from_t put, record { holds = holds_temp p code input r lo (without_top x) (without_last z.now) (cell.Int n) slot.Number result_kind bx; integer = integer });
+              }
+
+      pub call_expr_runs : (args : Args) (lo at : ℕ) → ArgsFit (routine_at p called).params args → HasSlots p code r lo (expr_slots p r (CallExpr called args up))
+          → ((m first : ℕ) → ArgParts p tables code input below r line (suc q) m first (first + length (handed_slots args)) args)
+          → NodeFor p code input r line at lo (expr_code p tables r line at lo (CallExpr called args up)) (ev_expr p input below (CallExpr called args up)) (ValueIn p code input lo) (suc q)
+      unfolding ev_stmts
+      call_expr_runs args lo at fits slots parts stands v now b =
+          let la : ℕ = lo + 2 in
+          let function : ℕ = (routine_at p called).line in
+          let front : List Lined = in_row at (own line (call_link_code p tables r called up la)) (λ next. args_code p tables r line next (arguments_from p tables r called up la) (arguments_from p tables r called up la + length (handed_slots args)) args) in
+          let call : List Lined = own line (I.Mark (lo + 1) ∷ call_code p tables r called args up la lo ∷ I.Cut (lo + 1) ∷ []) in
+          let m : ℕ = at + length front in
+          let exit : ℕ = at + length (front ++ call) in
+          let end : m + 1 + 2 ≡ exit = omega (arith, length-append front call) in
+          let there : Stands code m call = stands_back code at front call stands in
+          let marks : InstrAt code input line m (I.Mark (lo + 1)) = record { instr = there.0; on_line = there.1 } in
+          let calls : InstrAt code input line (m + 1) (call_code p tables r called args up la lo) = record { instr = there.2.0; on_line = there.2.1 } in
+          let cuts : InstrAt code input line (m + 1 + 1) (I.Cut (lo + 1)) = record { instr = there.2.2.0; on_line = there.2.2.1 } in
+          let result_kind : slice_get (kinds_at code r) lo ≡ Some slot.Number = first_kind p code input r lo slot.Number _ slots in
+          let rest = slots_behind p code input r lo (slot.Number ∷ []) _ slots in
+          let mark_kind : slice_get (kinds_at code r) (lo + 1) ≡ Some slot.Mark = first_kind p code input r (lo + 1) slot.Mark _ rest in
+          let parts_slots = slots_behind p code input r lo (slot.Number ∷ slot.Mark ∷ []) (call_links p r called up ++ (handed_slots args ++ args_slots p r args)) slots in
+          node_runs p code input line 32 at exit now (leaving p code input lo r now (ValueIn p code input lo)) (bind (ev_args p input below args v) (λ t taken. as_value function (enter p (below.routine called) called up t taken))) (suc q) (omega arith)
+          (front_from p tables code input below r line (suc q) called up callee args lo la at exit (ValueIn p code input lo) (λ t taken. as_value function (enter p (below.routine called) called up t taken)) v now fits slots.behind (omega arith) parts_slots parts
+          (stands_front code at front call stands) b
+          (λ u taken t left done held s is.
+          let bt : Begins p code input r u t = begins p code input la r now u t left in
+          let h : ℕ = length held in
+          let marked : List PlainFrame = top_written t (lo + 1) (cell.Mark h) in
+          let z = mark_step code input line m (lo + 1) t held s is marks (has_kind p code input r (lo + 1) u t slot.Mark mark_kind bt) in
+          let marked_left : Left p code input (lo + 1) r t u marked = left_temp p code input (lo + 1) r (lo + 1) u t (cell.Mark h) (omega arith) (omega (arith, slots.behind)) bt in
+          let bm : Begins p code input r u marked = begins p code input (lo + 1) r t u marked marked_left in
+          let handed = handed_all_after (lo + 1) (routine_at p called).params taken done.cells u u t marked bt marked_left done.handed in
+          let some_now : 1 ≤ length t = omega (arith, bt.stand.count, bt.stand.some) in
+          let hf : ℕ = handed_from p tables r (shift_of p called) up la in
+          let above : lo + 1 < hf = omega (arith, from_there (shift_of p called) la) in
+          let held_there = held_other t (lo + 1) hf (cell.Mark h) (handed_all p called (up_from u (top u) up) done.cells) some_now above done.there in
+          let inside = begins_inside u marked bm taken done.cells handed (m + 1 + 1) in
+          let frames = new_frames u marked bm taken done.cells handed (m + 1 + 1) in
+          let w : Ways ℤ = leaving p code input lo r t (ValueIn p code input lo) in
+          let wb : Ways NoYield = leaving p code input (own_end p called) called frames (Nothing p code input) in
+          let first : ℕ = first_argument (shift_of p called + length (handed_slots args)) hf in
+          let given : List Cell = handed_all p called (up_from u (top u) up) done.cells in
+          before code input line 0 24 (Leaves exit w) held (as_value function (enter p (below.routine called) called up u taken)) s z.to 1 8 7 (suc q) (suc q) z.silently (omega arith) (omega arith)
+          (subst (λ n. Goes code input line 0 24 (Leaves n w) held (as_value function (enter p (below.routine called) called up u taken)) z.to 7 (suc q)) end
+          (function_call_row code input p line function (m + 1) called first lo (lo + 1) routine.exit marked u callee.named given up taken (below.routine called) w wb 6 q held z.to (omega arith) (omega arith)
+          calls cuts known callee.is.there (counts_alike p code input u marked callee.named called bm.stand callee.is)
+          (routine.runs line (new_store u marked bm taken done.cells handed (m + 1 + 1)) frames inside)
+          (gives_back u t bt lo m first h slots.behind result_kind mark_kind taken done.cells handed)
+          z.is
+          (holds_arguments p code input u marked callee.named called (up_from u (top u) up) first (m + 1) taken done.cells held z.to bm.stand callee.is z.is handed
+          (all_held args hf (up_from u (top u) up) u marked taken done.cells fits handed held_there))))))
+        where
+          from_there : (sh la : ℕ) → la ≤ handed_from p tables r sh up la
+          from_there zero la = omega arith
+          from_there (suc one) la = omega arith
