@@ -53,7 +53,7 @@ use Rattle.alma_templates.proofs.NewFrame.{PlaceAlike, HandedAs, a_value, a_plac
 use Rattle.alma_templates.proofs.Handing.{HeldFrom}
 
 -- instructions in two parts
-own_both : (line : ℕ) (a b : List Instr) → own line (a ++ b) ≡ own line a ++ own line b
+pub own_both : (line : ℕ) (a b : List Instr) → own line (a ++ b) ≡ own line a ++ own line b
 own_both line a b = map-append _ a b
 
 -- a range of all numbers holds each number of INTEGER
@@ -114,11 +114,11 @@ module _ (p : Program) (tables : Tables) (code : PlainCode) (input : List ℕ) w
       by false is there e1 held s is_at = checked_by (within range x) refl there (fits is) e1 held s is_at
 
   -- the check, or what is behind it, reads the number first
-  pub fit_reads : (line at slot : ℕ) (now : List PlainFrame) (range : Range) (to : ℕ) → RangeFits range → Stands code at (own line (fit_code tables range slot ++ (I.Move to slot ∷ []))) → (line_at code at ≡ line) × ReadsFirst code input at slot now
-  fit_reads line at slot now range to fits stands = by (is_whole range) refl stands
+  pub fit_reads : (line at slot : ℕ) (now : List PlainFrame) (range : Range) (next : Instr) → RangeFits range → (InstrAt code input line at next → ReadsFirst code input at slot now) → Stands code at (own line (fit_code tables range slot ++ (next ∷ []))) → (line_at code at ≡ line) × ReadsFirst code input at slot now
+  fit_reads line at slot now range next fits reads stands = by (is_whole range) refl stands
     where
-      by : (b : Bool) → is_whole range ≡ b → Stands code at (own line (unless_whole b (I.InRange slot (range_number tables range) ∷ []) ++ (I.Move to slot ∷ []))) → (line_at code at ≡ line) × ReadsFirst code input at slot now
-      by true is there = (there.1, move_reads code input line at to slot now (record { instr = there.0; on_line = there.1 }))
+      by : (b : Bool) → is_whole range ≡ b → Stands code at (own line (unless_whole b (I.InRange slot (range_number tables range) ∷ []) ++ (next ∷ []))) → (line_at code at ≡ line) × ReadsFirst code input at slot now
+      by true is there = (there.1, reads (record { instr = there.0; on_line = there.1 }))
       by false is there = (there.1, in_range_first code input line at slot (range_number tables range) range now (record { instr = there.0; on_line = there.1 }) (fits is))
 
 -- ---- one argument
@@ -155,7 +155,7 @@ module _ (p : Program) (tables : Tables) (code : PlainCode) (input : List ℕ) (
       let whole : length (first ++ second) ≡ length first + length second = length-append first second in
       let of_second : length second ≡ length (own line fit) + 1 = ap length split ∙ length-append (own line fit) (own line (I.Move to value ∷ [])) in
       let end : m2 + 1 ≡ exit = omega (arith, whole, of_second) in
-      let reads = fit_reads p tables code input line m value now range to fits behind in
+      let reads = fit_reads p tables code input line m value now range (I.Move to value) fits (move_reads code input line m to value now) behind in
       node_runs p code input line 0 at exit now (leaving p code input to r now (ArgIn to k n)) (bind (ev_expr p input below e v) (λ t x. check_range range x (λ _. one t (wrap x)))) q (omega arith)
       (at_once p tables code input below r line q exit to la at v now (ArgIn to k n) (λ t x. check_range range x (λ _. one t (wrap x))) (omega (arith, small)) own_to b e once (stands_front code at first second stands) reads.0 reads.1
       (λ u x t left value_there.

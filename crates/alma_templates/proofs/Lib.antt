@@ -8,3 +8,4 @@ pub mod NewFrame
 pub mod Handing
 pub mod Args
 pub mod Calls
+pub mod Returning
