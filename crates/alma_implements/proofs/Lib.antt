@@ -34,3 +34,4 @@ pub mod ForallRow
 pub mod SeqRow
 pub mod TurnRow
 pub mod Leaving
+pub mod CarryMaps
