@@ -335,7 +335,7 @@ module _ (p : Program) (code : PlainCode) where
   -- ---- where a phrase leaves the frames
 
   kept_self : (lo : ℕ) (g : PlainFrame) → KeptBelow p code lo g g
-  kept_self lo g = record { back = refl; routine = refl; declared = refl; long = refl; link = λ i a. refl; cells = λ i a b. refl }
+  kept_self lo g = record { back = refl; routine = refl; declared = refl; long = refl; link = λ i a. refl; cells = λ i a b. refl; kinds = refl; places = λ i l e a. refl }
 
   kept_on : (lo lo' : ℕ) (g g' g'' : PlainFrame) → lo ≤ lo' → KeptBelow p code lo g g' → KeptBelow p code lo' g' g'' → KeptBelow p code lo g g''
   kept_on lo lo' g g' g'' le h k = record {
@@ -345,6 +345,8 @@ module _ (p : Program) (code : PlainCode) where
     long = k.long ∙ h.long;
     link = λ i a. k.link i (subst (λ r. i < shift p r) (sym h.routine) a) ∙ h.link i a;
     cells = λ i a b. k.cells i (subst (λ r. own_end p r ≤ i) (sym h.routine) a) (omega arith) ∙ h.cells i a b;
+    kinds = k.kinds ∙ h.kinds;
+    places = λ i l e a. k.places i l (ap (λ ks. get_or ks i slot.Mark) h.kinds ∙ e) (subst (λ r. i < own_end p r) (sym h.routine) a) ∙ h.places i l e a;
   }
 
   -- a phrase that has done nothing yet
@@ -373,7 +375,7 @@ module _ (p : Program) (code : PlainCode) where
   fits_less lo lo' v before now le h = record {
     stand = h.stand;
     same_count = h.same_count;
-    top = record { back = h.top.back; routine = h.top.routine; declared = h.top.declared; long = h.top.long; link = h.top.link; cells = λ i a b. h.top.cells i a (omega arith) };
+    top = record { back = h.top.back; routine = h.top.routine; declared = h.top.declared; long = h.top.long; link = h.top.link; cells = λ i a b. h.top.cells i a (omega arith); kinds = h.top.kinds; places = h.top.places };
     others = h.others;
   }
 
@@ -399,13 +401,21 @@ module _ (p : Program) (code : PlainCode) where
       long = length-set (last_frame now).cells n c;
       link = λ i a. get_or-set_other (last_frame now).cells n i c cell.Unset (λ e. omega (arith, e, a, behind, ap (shift p) (top_same v now h).routine));
       cells = λ i a b. get_or-set_other (last_frame now).cells n i c cell.Unset (λ e. omega (arith, e));
+      kinds = refl;
+      places = λ i l e a. get_or-set_other (last_frame now).cells n i c cell.Unset (λ z. omega (arith, z, a, behind, slots_are v now h, ap (shift p) (top_same v now h).routine));
     });
     others = λ i lt. others_kept now n i c lt;
   }
 
   -- a frame after a number was stored in one of the slots of its routine
-  kept_put : (v : Store) (lo : ℕ) (f : Frame) (g : PlainFrame) (n : ℕ) (c : Cell) → n < length f.cells → SameFrame p code v f g → KeptBelow p code lo g (frame_with g (shift p f.routine + n) c)
-  kept_put v lo f g n c there same =
+  abbrev IsNumberKind : SlotKind → Type 0
+  IsNumberKind slot.Number = Unit {0}
+  IsNumberKind (slot.Place l) = ⊥
+  IsNumberKind slot.Mark = ⊥
+  IsNumberKind (slot.Link r) = ⊥
+
+  kept_put : (v : Store) (lo : ℕ) (f : Frame) (g : PlainFrame) (n : ℕ) (c : Cell) → n < length f.cells → get_or g.kinds (shift p f.routine + n) slot.Mark ≡ slot.Number → SameFrame p code v f g → KeptBelow p code lo g (frame_with g (shift p f.routine + n) c)
+  kept_put v lo f g n c there kind same =
       let shifts : shift p f.routine ≡ shift p g.routine = ap (shift p) same.routine in
       let slots : length f.cells ≡ (routine_at p g.routine).slots = same.slots ∙ ap (λ r. (routine_at p r).slots) same.routine in
       record {
@@ -415,6 +425,8 @@ module _ (p : Program) (code : PlainCode) where
         long = length-set g.cells (shift p f.routine + n) c;
         link = λ i a. get_or-set_other g.cells (shift p f.routine + n) i c cell.Unset (λ e. omega (arith, e, a, shifts));
         cells = λ i a b. get_or-set_other g.cells (shift p f.routine + n) i c cell.Unset (λ e. omega (arith, e, a, there, slots, shifts));
+        kinds = refl;
+        places = λ i l is a. get_or-set_other g.cells (shift p f.routine + n) i c cell.Unset (λ e. subst IsNumberKind (sym kind ∙ ap (λ m. get_or g.kinds m slot.Mark) (sym e) ∙ is) tt);
       }
 
   -- a number stored in a slot of a routine
@@ -437,7 +449,7 @@ module _ (p : Program) (code : PlainCode) where
           ∙ ap (λ m. frame_with (get_or now m picture.no_frame) (shift_in p v m + n) (cell.Int x)) (sym e) in
           let here : n < length (get_or v k store.no_frame).cells = subst (λ m. n < length (get_or v m store.no_frame).cells) (sym e) there in
           subst (KeptBelow p code lo2 (get_or now k picture.no_frame)) (sym is)
-          (kept_put v lo2 (get_or v k store.no_frame) (get_or now k picture.no_frame) n (cell.Int x) here (h.frames k (omega (arith, e, live))))
+          (kept_put v lo2 (get_or v k store.no_frame) (get_or now k picture.no_frame) n (cell.Int x) here (subst (λ m. get_or (get_or now m picture.no_frame).kinds (shift_in p v m + n) slot.Mark ≡ slot.Number) (sym e) kind) (h.frames k (omega (arith, e, live))))
       at k lo2 (inr ne) =
           subst (KeptBelow p code lo2 (get_or now k picture.no_frame)) (sym (get_or-set_other now f k (frame_with (get_or now f picture.no_frame) (shift_in p v f + n) (cell.Int x)) picture.no_frame ne))
           (kept_self lo2 (get_or now k picture.no_frame))

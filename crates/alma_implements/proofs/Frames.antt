@@ -101,6 +101,9 @@ module _ (p : Program) where
       pub long : length g'.cells ≡ length g.cells
       pub link : (i : ℕ) → i < shift g.routine → get_or g'.cells i cell.Unset ≡ get_or g.cells i cell.Unset
       pub cells : (i : ℕ) → own_end g.routine ≤ i → i < lo → get_or g'.cells i cell.Unset ≡ get_or g.cells i cell.Unset
+      pub kinds : g'.kinds ≡ g.kinds
+      -- what a parameter's place is never changes
+      pub places : (i l : ℕ) → get_or g.kinds i slot.Mark ≡ slot.Place l → i < own_end g.routine → get_or g'.cells i cell.Unset ≡ get_or g.cells i cell.Unset
 
     -- a phrase that began with the frames `before` and has its own slots from lo on leaves the frames `now`, which stand
     -- for the store v
