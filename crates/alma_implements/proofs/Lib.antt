@@ -35,3 +35,5 @@ pub mod SeqRow
 pub mod TurnRow
 pub mod Leaving
 pub mod CarryMaps
+pub mod LaidOver
+pub mod Carrying
