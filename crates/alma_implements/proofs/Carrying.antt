@@ -111,13 +111,13 @@ module _ (p : Program) (code : PlainCode) where
         by true e = overlaid_cell now c f s alike.rising (full_frames v now stand) e ∙ ap (λ o. or_else o (cell_at now f s cell.Unset)) none
         by false e = overlaid_other now c f s e
 
-    kind_number : (f i : ℕ) (k : SlotKind) → f < length v → i < length (get_or v f store.no_frame).cells → kind_in v now f i ≡ k → number_at now f (shift_in p v f + i) ≡ is_number (Some k)
+    pub kind_number : (f i : ℕ) (k : SlotKind) → f < length v → i < length (get_or v f store.no_frame).cells → kind_in v now f i ≡ k → number_at now f (shift_in p v f + i) ≡ is_number (Some k)
     kind_number f i k lt there e =
         let frame = stand.frames f lt in
         ap is_number (slice_get-get_or (get_or now f picture.no_frame).kinds (shift_in p v f + i) slot.Mark (omega (arith, there, frame.within, frame.full)) ∙ ap Some e)
 
     -- a slot of a routine
-    laid_content : (f i : ℕ) (k : SlotKind) → f < length v → i < length (get_or v f store.no_frame).cells → kind_in v now f i ≡ k → SameContent p v k (store.cell_at (over v carry) f i) (cell_at (overlaid now c) f (shift_in p v f + i) cell.Unset)
+    pub laid_content : (f i : ℕ) (k : SlotKind) → f < length v → i < length (get_or v f store.no_frame).cells → kind_in v now f i ≡ k → SameContent p v k (store.cell_at (over v carry) f i) (cell_at (overlaid now c) f (shift_in p v f + i) cell.Unset)
     laid_content f i slot.Number lt there e =
         let was : SameContent p v slot.Number (store.cell_at v f i) (cell_at now f (shift_in p v f + i) cell.Unset) = subst (λ k. SameContent p v k (store.cell_at v f i) (cell_at now f (shift_in p v f + i) cell.Unset)) e ((stand.frames f lt).cells i there) in
         let a = over_cell v carry f i alike.carry_rising lt there in

@@ -104,7 +104,7 @@ module _ (p : Program) (code : PlainCode) where
           (record { below = z.below; outer = ap (λ f. f.routine) (kept (get_or v k store.no_frame).link (omega (arith, z.below, lt))) ∙ z.outer })
 
   -- all slots of a frame are kept
-  any_kept : (lo : ℕ) (g g' : PlainFrame) → KeptBelow p code (length g.cells) g g' → KeptBelow p code lo g g'
+  pub any_kept : (lo : ℕ) (g g' : PlainFrame) → KeptBelow p code (length g.cells) g g' → KeptBelow p code lo g g'
   any_kept lo g g' h = record { back = h.back; routine = h.routine; declared = h.declared; long = h.long; link = h.link; cells = λ i from to. by i from (cases_lt i (length g.cells)); kinds = h.kinds; places = h.places }
     where
       by : (i : ℕ) → own_end p g.routine ≤ i → (i < length g.cells) ⊎ (length g.cells ≤ i) → get_or g'.cells i cell.Unset ≡ get_or g.cells i cell.Unset

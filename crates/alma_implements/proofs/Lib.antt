@@ -37,3 +37,4 @@ pub mod Leaving
 pub mod CarryMaps
 pub mod LaidOver
 pub mod Carrying
+pub mod Gaining
