@@ -9,3 +9,4 @@ pub mod Handing
 pub mod Args
 pub mod Calls
 pub mod Returning
+pub mod ForallRuns
