@@ -18,13 +18,12 @@ use Rattle.alma_mean.specs.Store.{Store, Place, At, top_frame, cell_at}
 use Rattle.alma_mean.specs.Store as store
 use Rattle.alma_mean.specs.Events.{Events, Flow, Go, Return, NoYield, Fail, Fault, Print, one, join, bind, node}
 use Rattle.alma_mean.specs.Arithmetic.{fault_unless}
-use Rattle.alma_implements.proofs.Goes.{Silently, Prints, IsOn, IsGoing, IsFailing, Goes, before, weaker, join_goes, bind_goes, one_goes, no_step}
+use Rattle.alma_implements.proofs.Goes.{Silently, Prints, IsOn, IsGoing, IsFailing, Goes, before, weaker, credited, join_goes, bind_goes, node_goes, one_goes, no_step}
 use Rattle.alma_implements.proofs.Frames.{own_end, StandFor, Fits, AreNumbers, SamePlace, HasSlots, IsAt}
 use Rattle.alma_implements.proofs.FrameLemmas.{top_same, fits_self, fits_on, fits_less, fits_temp, frame_routine, numbers_kept, place_kept, holds_written}
 use Rattle.alma_implements.proofs.ExprRows.{first_kind, kind_there, within_frame, slots_behind_routine, some_frames}
 use Rattle.alma_implements.proofs.Steps.{top_written, Holds, HasKind, InstrAt, Writes, Faults, FailsNow, PrintsNow}
 use Rattle.alma_implements.proofs.ChoiceSteps.{GoesOn}
-use Rattle.alma_implements.proofs.EitherRow.{node_row}
 use Rattle.alma_implements.proofs.SeqRow.{runs_less}
 use Rattle.alma_implements.proofs.Leaving.{PlacesBelow}
 use Rattle.alma_implements.proofs.Ways.{Ways, Leaves, Runs, Behind, Inside, then_up_to}
@@ -152,9 +151,21 @@ module _ (p : Program) (code : PlainCode) (input : List ℕ) where
   abbrev pub PlaceIn : (slot size : ℕ) → Store → Place → List PlainFrame → Type 0
   PlaceIn slot size v q now = IsPlace slot size v q now
 
-  -- how a phrase of the routine r runs that stands somewhere; `f` is its events, `q` its debt
+  -- how a list of the routine r runs that stands somewhere; `f` is its events, `q` its debt
   abbrev pub RunsFor : {A : Type 0} → (r line at lo : ℕ) → List Lined → (Store → Events A) → (yields : Store → A → List PlainFrame → Type 0) → (q : ℕ) → Type 0
   RunsFor r line at lo made f yields q = Stands code at made → (v : Store) (now : List PlainFrame) → Begins r v now → Runs code input line at (at + length made) now (leaving lo r now yields) (f v) q
+
+  -- a node leaves 8 steps, whatever it was given
+  abbrev pub NodeRuns : {A : Type 0} → (line at exit : ℕ) → List PlainFrame → Ways A → Events A → (q : ℕ) → Type 0
+  NodeRuns line at exit now w e q = (held : List PlainEntry) (s : State) → IsAt at now held s → Goes code input line 8 0 (Leaves exit w) held e s 0 q
+
+  -- and how one runs that stands somewhere
+  abbrev pub NodeFor : {A : Type 0} → (r line at lo : ℕ) → List Lined → (Store → Events A) → (yields : Store → A → List PlainFrame → Type 0) → (q : ℕ) → Type 0
+  NodeFor r line at lo made f yields q = Stands code at made → (v : Store) (now : List PlainFrame) → Begins r v now → NodeRuns line at (at + length made) now (leaving lo r now yields) (f v) q
+
+  pub as_runs : {A : Type 0} (line at exit : ℕ) (now : List PlainFrame) (w : Ways A) (e : Events A) (q : ℕ) → NodeRuns line at exit now w e q → Runs code input line at exit now w e q
+  as_runs line at exit now w e q h c le held s is =
+      weaker code input line c 0 (Leaves exit w) held e s c 0 q q (omega arith) (omega arith) (credited code input line 8 c 0 0 (Leaves exit w) held e s 0 q (omega arith) (h held s is))
 
   -- ---- parts inside of a node, with so many steps left
 
@@ -165,8 +176,9 @@ module _ (p : Program) (code : PlainCode) (input : List ℕ) where
   from_more line c d at exit now w e q le h held s is = weaker code input line 0 24 (Leaves exit w) held e s d c q q le (omega arith) (h held s is)
 
   -- a node
-  pub node_runs : {A : Type 0} (line c at exit : ℕ) (now : List PlainFrame) (w : Ways A) (e : Events A) (q : ℕ) → c ≤ 32 → From line c at exit now w e q → Runs code input line at exit now w (node e) q
-  node_runs line c at exit now w e q le h = node_row code input line at exit now w e q (from_more line c 32 at exit now w e q le h)
+  pub node_runs : {A : Type 0} (line c at exit : ℕ) (now : List PlainFrame) (w : Ways A) (e : Events A) (q : ℕ) → c ≤ 32 → From line c at exit now w e q → NodeRuns line at exit now w (node e) q
+  node_runs line c at exit now w e q le h held s is =
+      node_goes code input line 0 8 24 (Leaves exit w) held e s 0 q (omega arith) (weaker code input line 0 24 (Leaves exit w) held e s 32 c q q le (omega arith) (h held s is))
 
   -- a weaker way out
   pub from_less : {A : Type 0} (line c at exit : ℕ) (now : List PlainFrame) (w w2 : Ways A) (e : Events A) (q : ℕ)
@@ -194,14 +206,14 @@ module _ (p : Program) (code : PlainCode) (input : List ℕ) where
       (λ x y u h. (left_on lo la r now v x t u le left h.0, h.1))
       (λ x n a u h. (left_on (own_end p r) (own_end p r) r now v x t u (omega arith) (left_less (own_end p r) lo r now v t own left) h.0, h.1))
 
-  -- a part, and what is behind it, which leaves the slots before lo of the frames that it finds
-  pub then_from : {A B : Type 0} (line c at m exit lo la r : ℕ) (now : List PlainFrame) (ya : Store → A → List PlainFrame → Type 0) (yb : Store → B → List PlainFrame → Type 0) (e : Events A) (k : Store → A → Events B) (q : ℕ)
-      → 8 ≤ c → lo ≤ la → own_end p r ≤ lo → Runs code input line at m now (leaving la r now ya) e q
+  -- a part that is a node, and what is behind it, which leaves the slots before lo of the frames that it finds
+  pub then_from : {A B : Type 0} (line at m exit lo la r : ℕ) (now : List PlainFrame) (ya : Store → A → List PlainFrame → Type 0) (yb : Store → B → List PlainFrame → Type 0) (e : Events A) (k : Store → A → Events B) (q : ℕ)
+      → lo ≤ la → own_end p r ≤ lo → NodeRuns line at m now (leaving la r now ya) e q
       → ((v : Store) (y : A) (t : List PlainFrame) → Left la r now v t → ya v y t → From line 8 m exit t (leaving lo r t yb) (k v y) q)
-      → From line c at exit now (leaving lo r now yb) (bind e k) q
-  then_from line c at m exit lo la r now ya yb e k q some le own runs later held s is =
-      bind_goes code input line 8 0 24 (Leaves m (leaving la r now ya)) (Leaves exit (leaving lo r now yb)) held e k s c q 8 (omega arith) (omega arith)
-      (weaker code input line 8 0 (Leaves m (leaving la r now ya)) held e s c 8 q q some (omega arith) (runs 8 (omega arith) held s is))
+      → From line 0 at exit now (leaving lo r now yb) (bind e k) q
+  then_from line at m exit lo la r now ya yb e k q le own runs later held s is =
+      bind_goes code input line 8 0 24 (Leaves m (leaving la r now ya)) (Leaves exit (leaving lo r now yb)) held e k s 0 q 8 (omega arith) (omega arith)
+      (runs held s is)
       (λ v y t base going left.
       on_from line 8 m exit lo lo r v now t.now yb (k v y) q (omega arith) own (left_less lo la r now v t.now le left.1.0) (later v y t.now left.1.0 left.1.1) base t
       (record { mode = going.mode; here = left.0; frames = refl; entries = going.entries }))
@@ -250,3 +262,12 @@ module _ (p : Program) (code : PlainCode) (input : List ℕ) where
       step_from line c at (at + 1) (at + 1) lo r v now (top_written now lo (cell.Int x)) (ValueIn lo) (one v x) q own (writes_take at lo now (cell.Int x) w) left
       (ends_here line c (at + 1) lo r v (top_written now lo (cell.Int x)) (ValueIn lo) x q (begins lo r now v (top_written now lo (cell.Int x)) left)
       (record { holds = holds_temp r lo v now (cell.Int x) slot.Number kind b; integer = integer }))
+
+  -- a value goes into a slot by one step, and the phrase goes on
+  pub value_goes_on : {B : Type 0} (line c at exit lo r : ℕ) (v : Store) (now : List PlainFrame) (x : ℤ) (yields : Store → B → List PlainFrame → Type 0) (e : Events B) (q : ℕ) → own_end p r ≤ lo → slice_get (kinds_at code r) lo ≡ Some slot.Number → is_integer x ≡ true → Begins r v now
+      → ((held : List PlainEntry) (s : State) → IsAt at now held s → Writes code input at now held s lo (cell.Int x))
+      → ((t : List PlainFrame) → Left lo r now v t → IsValue lo x t → From line c (at + 1) exit t (leaving lo r t yields) e q) → From line (suc c) at exit now (leaving lo r now yields) e q
+  value_goes_on line c at exit lo r v now x yields e q own kind integer b w later =
+      let left = left_temp lo r lo v now (cell.Int x) (omega arith) own b in
+      step_from line c at (at + 1) exit lo r v now (top_written now lo (cell.Int x)) yields e q own (writes_take at lo now (cell.Int x) w) left
+      (later (top_written now lo (cell.Int x)) left (record { holds = holds_temp r lo v now (cell.Int x) slot.Number kind b; integer = integer }))
