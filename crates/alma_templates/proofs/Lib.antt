@@ -5,3 +5,6 @@ pub mod Parts
 pub mod PlaceSteps
 pub mod AtOnce
 pub mod OperatorParts
+pub mod FormRuns
+pub mod CellEnds
+pub mod ExprForms
