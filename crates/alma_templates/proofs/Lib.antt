@@ -8,3 +8,5 @@ pub mod OperatorParts
 pub mod FormRuns
 pub mod CellEnds
 pub mod ExprForms
+pub mod RootForms
+pub mod DesigForms

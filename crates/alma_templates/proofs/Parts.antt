@@ -19,7 +19,7 @@ use Rattle.alma_mean.specs.Store as store
 use Rattle.alma_mean.specs.Events.{Events, Flow, Go, Return, NoYield, Fail, Fault, Print, one, join, bind, node}
 use Rattle.alma_mean.specs.Arithmetic.{fault_unless}
 use Rattle.alma_implements.proofs.Goes.{Silently, Prints, IsOn, IsGoing, IsFailing, Goes, before, weaker, credited, join_goes, bind_goes, node_goes, one_goes, no_step}
-use Rattle.alma_implements.proofs.Frames.{own_end, StandFor, Fits, AreNumbers, SamePlace, HasSlots, IsAt}
+use Rattle.alma_implements.proofs.Frames.{shift, shift_in, own_end, StandFor, Fits, AreNumbers, SamePlace, HasSlots, IsAt}
 use Rattle.alma_implements.proofs.FrameLemmas.{top_same, fits_self, fits_on, fits_less, fits_temp, frame_routine, numbers_kept, place_kept, holds_written}
 use Rattle.alma_implements.proofs.ExprRows.{first_kind, kind_there, within_frame, slots_behind_routine, some_frames}
 use Rattle.alma_implements.proofs.Steps.{top_written, Holds, HasKind, InstrAt, Writes, Faults, FailsNow, PrintsNow}
@@ -39,6 +39,7 @@ module _ (p : Program) (code : PlainCode) (input : List ℕ) where
     pub routines : (k : ℕ) → k < length v → (get_or v k store.no_frame).routine < length p.routines
     pub below : PlacesBelow v
     pub live : (k i : ℕ) (q : Place) → k < length v → cell_at v k i ≡ At q → AreNumbers p code v now q
+    pub sized : (k i l : ℕ) (q : Place) → k < length v → slice_get (kinds_at code (get_or v k store.no_frame).routine) (shift_in p v k + i) ≡ Some (slot.Place l) → cell_at v k i ≡ At q → q.size ≡ l
 
   -- where a phrase of the routine r begins
   pub record Begins (r : ℕ) (v : Store) (now : List PlainFrame) : Type 0 where
@@ -65,6 +66,7 @@ module _ (p : Program) (code : PlainCode) (input : List ℕ) where
     routines = λ k lt. subst (λ x. x < length p.routines) (sym (routine k (omega (arith, lt, long)))) (h.routines k (omega (arith, lt, long)));
     below = λ k i q lt e. h.below k i q (omega (arith, lt, long)) (old k i q e);
     live = λ k i q lt e. numbers_kept p code lo q v w now later stand fit (h.live k i q (omega (arith, lt, long)) (old k i q e));
+    sized = λ k i l q lt kind e. h.sized k i l q (omega (arith, lt, long)) (subst (λ x. slice_get (kinds_at code x) (shift p x + i) ≡ Some (slot.Place l)) (routine k (omega (arith, lt, long))) kind) (old k i q e);
   }
     where
       long : length w ≡ length v
@@ -271,3 +273,19 @@ module _ (p : Program) (code : PlainCode) (input : List ℕ) where
       let left = left_temp lo r lo v now (cell.Int x) (omega arith) own b in
       step_from line c at (at + 1) exit lo r v now (top_written now lo (cell.Int x)) yields e q own (writes_take at lo now (cell.Int x) w) left
       (later (top_written now lo (cell.Int x)) left (record { holds = holds_temp r lo v now (cell.Int x) slot.Number kind b; integer = integer }))
+
+  -- a place goes into a slot by one step, and the phrase goes on
+  pub place_goes_on : {B : Type 0} (line c at exit lo r n size : ℕ) (v : Store) (now : List PlainFrame) (a : Place) (m : CellPlace) (yields : Store → B → List PlainFrame → Type 0) (e : Events B) (q : ℕ) → own_end p r ≤ lo → lo ≤ n → slice_get (kinds_at code r) n ≡ Some (slot.Place size) → Begins r v now
+      → AreNumbers p code v now a → a.size ≡ size → SamePlace p v a m
+      → ((held : List PlainEntry) (s : State) → IsAt at now held s → Writes code input at now held s n (cell.Place m))
+      → ((t : List PlainFrame) → Left lo r now v t → IsPlace n size v a t → From line c (at + 1) exit t (leaving lo r t yields) e q) → From line (suc c) at exit now (leaving lo r now yields) e q
+  place_goes_on line c at exit lo r n size v now a m yields e q own le kind b numbers sized same w later =
+      let t = top_written now n (cell.Place m) in
+      let left : Left lo r now v t = left_temp lo r n v now (cell.Place m) le (omega (arith, own, le)) b in
+      step_from line c at (at + 1) exit lo r v now t yields e q own (writes_take at n now (cell.Place m) w) left
+      (later t left (record { numbers = numbers_kept p code lo a v v now t b.stand left.fits numbers; sized = sized; place = m; same = same; holds = holds_temp r n v now (cell.Place m) (slot.Place size) kind b }))
+
+  -- with fewer slots of the phrase
+  pub from_lower : {A : Type 0} (line c at exit lo la r : ℕ) (v : Store) (now : List PlainFrame) (yields : Store → A → List PlainFrame → Type 0) (e : Events A) (q : ℕ) → lo ≤ la → own_end p r ≤ lo → Begins r v now
+      → From line c at exit now (leaving la r now yields) e q → From line c at exit now (leaving lo r now yields) e q
+  from_lower line c at exit lo la r v now yields e q le own b h = on_from line c at exit lo la r v now now yields e q le own (left_self lo r v now b) h
