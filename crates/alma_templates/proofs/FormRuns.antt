@@ -1,6 +1,6 @@
 -- How the phrases of one statement run, in words: each stands somewhere, takes its slots from `lo` on, and is at the line
 -- of the statement.
-use Rattle.std.proofs.Common.{◌≡◌, ℕ, ◌<◌, Option, Some, List}
+use Rattle.std.proofs.Common.{◌≡◌, ℕ, Bool, Option, Some, List}
 use Rattle.std.specs.Prelude.{slice_get}
 use Rattle.alma_base.specs.declared.number.Range.{Range}
 use Rattle.alma_code.specs.Picture.{PlainFrame}
@@ -22,11 +22,16 @@ module _ (p : Program) (tables : Tables) (code : PlainCode) (input : List ℕ) (
   abbrev pub TestRuns : (at lo : ℕ) → Test → Type 0
   TestRuns at lo t = NodeFor p code input r line at lo (test_code p tables r line at lo t) (ev_test p input below t) (Nothing p code input) q
 
+  -- a statement without RETURN
   abbrev pub StmtRuns : (at lo : ℕ) → Stmt → Type 0
   StmtRuns at lo x = NodeFor p code input r line at lo (stmt_code p tables r line at lo x) (ev_stmt p input below x) (Nothing p code input) q
 
-  abbrev pub ListRuns : (at lo : ℕ) → Stmts → Type 0
-  ListRuns at lo xs = RunsFor p code input r line at lo (stmts_code p tables r at lo xs) (ev_stmts p input below xs) (Nothing p code input) q
+  -- a statement, and a list of statements
+  abbrev pub StatementRuns : (may : Bool) → (at lo : ℕ) → Stmt → Type 0
+  StatementRuns may at lo x = RunsFor p code input may r line at lo (stmt_code p tables r line at lo x) (ev_stmt p input below x) q
+
+  abbrev pub ListRuns : (may : Bool) → (at lo : ℕ) → Stmts → Type 0
+  ListRuns may at lo xs = RunsFor p code input may r line at lo (stmts_code p tables r at lo xs) (ev_stmts p input below xs) q
 
   -- the code has the range by its number
   abbrev pub HasRange : Range → Type 0

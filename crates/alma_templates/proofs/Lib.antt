@@ -10,3 +10,6 @@ pub mod CellEnds
 pub mod ExprForms
 pub mod RootForms
 pub mod DesigForms
+pub mod RangeChecks
+pub mod Targets
+pub mod StmtForms

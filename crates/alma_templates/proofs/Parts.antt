@@ -133,15 +133,23 @@ module _ (p : Program) (code : PlainCode) (input : List ℕ) where
 
   -- ---- where phrases leave off
 
+  -- what has no RETURN inside of it
+  abbrev pub leaving : {A : Type 0} → (lo r : ℕ) → List PlainFrame → (Store → A → List PlainFrame → Type 0) → Ways A
+  leaving lo r before yields = record {
+    goes = λ v y now. Left lo r before v now × yields v y now;
+    returns = λ v n at now. ⊥;
+  }
+
   -- before the Return of the routine, or before a ReturnValue of the number
   abbrev pub ReturnsAt : Option ℤ → (at : ℕ) → List PlainFrame → Type 0
   ReturnsAt None at now = slice_get code.instrs at ≡ Some I.Return
   ReturnsAt (Some n) at now = (a : ℕ) × (slice_get code.instrs at ≡ Some (I.ReturnValue a)) × Holds now a (cell.Int n)
 
-  abbrev pub leaving : {A : Type 0} → (lo r : ℕ) → List PlainFrame → (Store → A → List PlainFrame → Type 0) → Ways A
-  leaving lo r before yields = record {
-    goes = λ v y now. Left lo r before v now × yields v y now;
-    returns = λ v n at now. Left (own_end p r) r before v now × ReturnsAt n at now;
+  -- statements; `may` says whether a RETURN may stand inside
+  abbrev pub ending : (may : Bool) → (lo r : ℕ) → List PlainFrame → Ways NoYield
+  ending may lo r before = record {
+    goes = λ v y now. Left lo r before v now;
+    returns = λ v n at now. (may ≡ true) × Left (own_end p r) r before v now × ReturnsAt n at now;
   }
 
   abbrev pub Nothing : Store → NoYield → List PlainFrame → Type 0
@@ -153,9 +161,9 @@ module _ (p : Program) (code : PlainCode) (input : List ℕ) where
   abbrev pub PlaceIn : (slot size : ℕ) → Store → Place → List PlainFrame → Type 0
   PlaceIn slot size v q now = IsPlace slot size v q now
 
-  -- how a list of the routine r runs that stands somewhere; `f` is its events, `q` its debt
-  abbrev pub RunsFor : {A : Type 0} → (r line at lo : ℕ) → List Lined → (Store → Events A) → (yields : Store → A → List PlainFrame → Type 0) → (q : ℕ) → Type 0
-  RunsFor r line at lo made f yields q = Stands code at made → (v : Store) (now : List PlainFrame) → Begins r v now → Runs code input line at (at + length made) now (leaving lo r now yields) (f v) q
+  -- how statements of the routine r run that stand somewhere; `f` is their events, `q` their debt
+  abbrev pub RunsFor : (may : Bool) → (r line at lo : ℕ) → List Lined → (Store → Events NoYield) → (q : ℕ) → Type 0
+  RunsFor may r line at lo made f q = Stands code at made → (v : Store) (now : List PlainFrame) → Begins r v now → Runs code input line at (at + length made) now (ending may lo r now) (f v) q
 
   -- a node leaves 8 steps, whatever it was given
   abbrev pub NodeRuns : {A : Type 0} → (line at exit : ℕ) → List PlainFrame → Ways A → Events A → (q : ℕ) → Type 0
@@ -199,14 +207,14 @@ module _ (p : Program) (code : PlainCode) (input : List ℕ) where
   on_from line c at exit lo la r v now t yields e q le own left =
       from_less line c at exit t (leaving la r t yields) (leaving lo r now yields) e q
       (λ x y u h. (left_on lo la r now v x t u le left h.0, h.1))
-      (λ x n a u h. (left_on (own_end p r) (own_end p r) r now v x t u (omega arith) (left_less (own_end p r) lo r now v t own left) h.0, h.1))
+      (λ x n a u h. h)
 
   pub on_runs : {A : Type 0} (line at exit lo la r : ℕ) (v : Store) (now t : List PlainFrame) (yields : Store → A → List PlainFrame → Type 0) (e : Events A) (q : ℕ) → lo ≤ la → own_end p r ≤ lo → Left lo r now v t
       → Runs code input line at exit t (leaving la r t yields) e q → Runs code input line at exit t (leaving lo r now yields) e q
   on_runs line at exit lo la r v now t yields e q le own left =
       runs_less code input line at exit t (leaving la r t yields) (leaving lo r now yields) e q
       (λ x y u h. (left_on lo la r now v x t u le left h.0, h.1))
-      (λ x n a u h. (left_on (own_end p r) (own_end p r) r now v x t u (omega arith) (left_less (own_end p r) lo r now v t own left) h.0, h.1))
+      (λ x n a u h. h)
 
   -- a part that is a node, and what is behind it, which leaves the slots before lo of the frames that it finds
   pub then_from : {A B : Type 0} (line at m exit lo la r : ℕ) (now : List PlainFrame) (ya : Store → A → List PlainFrame → Type 0) (yb : Store → B → List PlainFrame → Type 0) (e : Events A) (k : Store → A → Events B) (q : ℕ)
@@ -289,3 +297,31 @@ module _ (p : Program) (code : PlainCode) (input : List ℕ) where
   pub from_lower : {A : Type 0} (line c at exit lo la r : ℕ) (v : Store) (now : List PlainFrame) (yields : Store → A → List PlainFrame → Type 0) (e : Events A) (q : ℕ) → lo ≤ la → own_end p r ≤ lo → Begins r v now
       → From line c at exit now (leaving la r now yields) e q → From line c at exit now (leaving lo r now yields) e q
   from_lower line c at exit lo la r v now yields e q le own b h = on_from line c at exit lo la r v now now yields e q le own (left_self lo r v now b) h
+
+  -- ---- parts as they run
+
+  -- a node inside of a node, and a part that leaves what it was given
+  pub node_from : {A : Type 0} (line at exit : ℕ) (now : List PlainFrame) (w : Ways A) (e : Events A) (q : ℕ) → NodeRuns line at exit now w e q → From line 0 at exit now w e q
+  node_from line at exit now w e q h held s is = credited code input line 8 0 0 24 (Leaves exit w) held e s 0 q (omega arith) (h held s is)
+
+  pub runs_from : {A : Type 0} (line at exit : ℕ) (now : List PlainFrame) (w : Ways A) (e : Events A) (q : ℕ) → Runs code input line at exit now w e q → From line 8 at exit now w e q
+  runs_from line at exit now w e q h held s is = credited code input line 8 0 0 24 (Leaves exit w) held e s 8 q (omega arith) (h 8 (omega arith) held s is)
+
+  -- statements behind what has left these frames
+  pub on_ending : (may : Bool) (line at exit lo la r : ℕ) (v : Store) (now t : List PlainFrame) (e : Events NoYield) (q : ℕ) → lo ≤ la → own_end p r ≤ lo → Left lo r now v t
+      → Runs code input line at exit t (ending may la r t) e q → Runs code input line at exit t (ending may lo r now) e q
+  on_ending may line at exit lo la r v now t e q le own left =
+      runs_less code input line at exit t (ending may la r t) (ending may lo r now) e q
+      (λ x y u h. left_on lo la r now v x t u le left h)
+      (λ x n a u h. (h.0, left_on (own_end p r) (own_end p r) r now v x t u (omega arith) (left_less (own_end p r) lo r now v t own left) h.1, h.2))
+
+  -- a phrase without RETURN as a statement
+  pub as_statement : (may : Bool) (line at exit lo r : ℕ) (now : List PlainFrame) (e : Events NoYield) (q : ℕ) → NodeRuns line at exit now (leaving lo r now Nothing) e q → Runs code input line at exit now (ending may lo r now) e q
+  as_statement may line at exit lo r now e q h =
+      runs_less code input line at exit now (leaving lo r now Nothing) (ending may lo r now) e q (λ x y u z. z.0) (λ x n a u z. absurd z)
+      (as_runs line at exit now (leaving lo r now Nothing) e q h)
+
+  -- and statements with none inside
+  pub none_returns : (line at exit lo r : ℕ) (now : List PlainFrame) (e : Events NoYield) (q : ℕ) → Runs code input line at exit now (ending false lo r now) e q → Runs code input line at exit now (leaving lo r now Nothing) e q
+  none_returns line at exit lo r now e q h =
+      runs_less code input line at exit now (ending false lo r now) (leaving lo r now Nothing) e q (λ x y u z. (z, tt)) (λ x n a u z. absurd (let bad : false ≡ true = z.0 in cc)) h
