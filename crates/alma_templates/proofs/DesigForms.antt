@@ -165,7 +165,7 @@ module _ (p : Program) (tables : Tables) (code : PlainCode) (input : List ℕ) (
       let end : exit ≡ at + length (first ++ after) = omega (arith, whole) in
       let yields = PlaceIn p code input (part_at p tables r lo next sels) (cells_after sels cells) in
       subst (λ n. NodeRuns p code input line at n now (leaving p code input lo r now yields) (ev_desig p input below (a_desig root cells sels) v) q) end
-      (node_runs p code input line 32 at exit now (leaving p code input lo r now yields) (bind (root_place v root cells) (λ t a. ev_sels p input below sels a t)) q (omega arith)
+      (node_runs p code input line 24 at exit now (leaving p code input lo r now yields) (bind (root_place v root cells) (λ t a. ev_sels p input below sels a t)) q (omega arith)
       (root_from p code input tables line q at exit lo r cells root v now slots.behind yields (λ t a. ev_sels p input below sels a t) fits nested
       (slots_first p code input r lo (slot.Place cells ∷ root_slots p r root) (sels_slots p r sels) slots) (stands_front code at first after stands) b
       (λ a t left place.

@@ -13,3 +13,6 @@ pub mod DesigForms
 pub mod RangeChecks
 pub mod Targets
 pub mod StmtForms
+pub mod SimpleOne
+pub mod Conditions
+pub mod BarrierForms

@@ -165,9 +165,13 @@ module _ (p : Program) (code : PlainCode) (input : List ℕ) where
   abbrev pub RunsFor : (may : Bool) → (r line at lo : ℕ) → List Lined → (Store → Events NoYield) → (q : ℕ) → Type 0
   RunsFor may r line at lo made f q = Stands code at made → (v : Store) (now : List PlainFrame) → Begins r v now → Runs code input line at (at + length made) now (ending may lo r now) (f v) q
 
-  -- a node leaves 8 steps, whatever it was given
+  -- a node leaves 8 steps, whatever it was given, and pays for up to 8 steps before it
   abbrev pub NodeRuns : {A : Type 0} → (line at exit : ℕ) → List PlainFrame → Ways A → Events A → (q : ℕ) → Type 0
-  NodeRuns line at exit now w e q = (held : List PlainEntry) (s : State) → IsAt at now held s → Goes code input line 8 0 (Leaves exit w) held e s 0 q
+  NodeRuns line at exit now w e q = (j : ℕ) → j ≤ 8 → (held : List PlainEntry) (s u : State) → Silently code input j s u → IsAt at now held u → Goes code input line 8 0 (Leaves exit w) held e s 0 q
+
+  pub node_here : {A : Type 0} (line at exit : ℕ) (now : List PlainFrame) (w : Ways A) (e : Events A) (q : ℕ) → NodeRuns line at exit now w e q
+      → (held : List PlainEntry) (s : State) → IsAt at now held s → Goes code input line 8 0 (Leaves exit w) held e s 0 q
+  node_here line at exit now w e q h held s is = h 0 (omega arith) held s s (no_step code input s) is
 
   -- and how one runs that stands somewhere
   abbrev pub NodeFor : {A : Type 0} → (r line at lo : ℕ) → List Lined → (Store → Events A) → (yields : Store → A → List PlainFrame → Type 0) → (q : ℕ) → Type 0
@@ -175,7 +179,7 @@ module _ (p : Program) (code : PlainCode) (input : List ℕ) where
 
   pub as_runs : {A : Type 0} (line at exit : ℕ) (now : List PlainFrame) (w : Ways A) (e : Events A) (q : ℕ) → NodeRuns line at exit now w e q → Runs code input line at exit now w e q
   as_runs line at exit now w e q h c le held s is =
-      weaker code input line c 0 (Leaves exit w) held e s c 0 q q (omega arith) (omega arith) (credited code input line 8 c 0 0 (Leaves exit w) held e s 0 q (omega arith) (h held s is))
+      weaker code input line c 0 (Leaves exit w) held e s c 0 q q (omega arith) (omega arith) (credited code input line 8 c 0 0 (Leaves exit w) held e s 0 q (omega arith) (node_here line at exit now w e q h held s is))
 
   -- ---- parts inside of a node, with so many steps left
 
@@ -186,9 +190,9 @@ module _ (p : Program) (code : PlainCode) (input : List ℕ) where
   from_more line c d at exit now w e q le h held s is = weaker code input line 0 24 (Leaves exit w) held e s d c q q le (omega arith) (h held s is)
 
   -- a node
-  pub node_runs : {A : Type 0} (line c at exit : ℕ) (now : List PlainFrame) (w : Ways A) (e : Events A) (q : ℕ) → c ≤ 32 → From line c at exit now w e q → NodeRuns line at exit now w (node e) q
-  node_runs line c at exit now w e q le h held s is =
-      node_goes code input line 0 8 24 (Leaves exit w) held e s 0 q (omega arith) (weaker code input line 0 24 (Leaves exit w) held e s 32 c q q le (omega arith) (h held s is))
+  pub node_runs : {A : Type 0} (line c at exit : ℕ) (now : List PlainFrame) (w : Ways A) (e : Events A) (q : ℕ) → c ≤ 24 → From line c at exit now w e q → NodeRuns line at exit now w (node e) q
+  node_runs line c at exit now w e q le h j few held s u silently is =
+      node_goes code input line 0 8 24 (Leaves exit w) held e s 0 q (omega arith) (before code input line 0 24 (Leaves exit w) held e s u j 32 c q q silently (omega (arith, few, le)) (omega arith) (h held u is))
 
   -- a weaker way out
   pub from_less : {A : Type 0} (line c at exit : ℕ) (now : List PlainFrame) (w w2 : Ways A) (e : Events A) (q : ℕ)
@@ -223,7 +227,7 @@ module _ (p : Program) (code : PlainCode) (input : List ℕ) where
       → From line 0 at exit now (leaving lo r now yb) (bind e k) q
   then_from line at m exit lo la r now ya yb e k q le own runs later held s is =
       bind_goes code input line 8 0 24 (Leaves m (leaving la r now ya)) (Leaves exit (leaving lo r now yb)) held e k s 0 q 8 (omega arith) (omega arith)
-      (runs held s is)
+      (node_here line at m now (leaving la r now ya) e q runs held s is)
       (λ v y t base going left.
       on_from line 8 m exit lo lo r v now t.now yb (k v y) q (omega arith) own (left_less lo la r now v t.now le left.1.0) (later v y t.now left.1.0 left.1.1) base t
       (record { mode = going.mode; here = left.0; frames = refl; entries = going.entries }))
@@ -302,7 +306,7 @@ module _ (p : Program) (code : PlainCode) (input : List ℕ) where
 
   -- a node inside of a node, and a part that leaves what it was given
   pub node_from : {A : Type 0} (line at exit : ℕ) (now : List PlainFrame) (w : Ways A) (e : Events A) (q : ℕ) → NodeRuns line at exit now w e q → From line 0 at exit now w e q
-  node_from line at exit now w e q h held s is = credited code input line 8 0 0 24 (Leaves exit w) held e s 0 q (omega arith) (h held s is)
+  node_from line at exit now w e q h held s is = credited code input line 8 0 0 24 (Leaves exit w) held e s 0 q (omega arith) (node_here line at exit now w e q h held s is)
 
   pub runs_from : {A : Type 0} (line at exit : ℕ) (now : List PlainFrame) (w : Ways A) (e : Events A) (q : ℕ) → Runs code input line at exit now w e q → From line 8 at exit now w e q
   runs_from line at exit now w e q h held s is = credited code input line 8 0 0 24 (Leaves exit w) held e s 8 q (omega arith) (h 8 (omega arith) held s is)

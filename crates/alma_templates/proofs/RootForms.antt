@@ -170,7 +170,7 @@ module _ (p : Program) (code : PlainCode) (input : List ℕ) where
     linked_from : (at links : ℕ) (now : List PlainFrame) (rest : List Instr) (e : Events Place) → Begins p code input r v now → ((s : ℕ) → s < length p.routines → IsNested p s (routine_at p s)) → links < (routine_at p r).level
         → HasSlots p code r (lo + 1) (chain_slots p r links) → Stands code at (own line (link_code (lo + 1) links ++ rest))
         → ((t : List PlainFrame) → Begins p code input r v t → LinkedUp p v (top v) links → Holds t (lo + 1 + links) (cell.Place (link_to (up v links))) → Stands code (at + 1 + links) (own line rest) → Left p code input lo r now v t → Taken (at + 1 + links) t e)
-        → From p code input line 32 at exit now (leaving p code input lo r now yields) (bind e k) q
+        → From p code input line 24 at exit now (leaving p code input lo r now yields) (bind e k) q
     linked_from at links now rest e b nested few slots stands later held s is =
         let live : top v < length v = omega (arith, b.stand.some) in
         let there : r < length p.routines = subst (λ x. x < length p.routines) b.routine (b.sound.routines (top v) live) in
@@ -179,7 +179,7 @@ module _ (p : Program) (code : PlainCode) (input : List ℕ) where
         let z = chains_stand line links (at + 1) (lo + 1) rest stands.2 in
         let l = link_goes p code input line links at (lo + 1) r v now held s (omega (arith, behind)) is b.stand b.routine up_there (record { instr = stands.0; on_line = stands.1 }) r (chain_first links r r (lo + 1) slots) z.0 (links_are line links r r (lo + 1) slots) in
         let left : Left p code input lo r now v l.frames = record { fits = fits_less p code lo (lo + 1) v now l.frames (omega arith) l.fits; routine = b.routine; sound = sound_after p code input (lo + 1) v v now l.frames b.stand l.fits (λ j i x y. y) b.sound } in
-        before code input line 0 24 (Leaves exit (leaving p code input lo r now yields)) held (bind e k) s l.to (1 + links) 32 9 q q l.silently (omega (arith, few, short)) (omega arith)
+        before code input line 0 24 (Leaves exit (leaving p code input lo r now yields)) held (bind e k) s l.to (1 + links) 24 9 q q l.silently (omega (arith, few, short)) (omega arith)
         (on_from p code input line 9 (at + 1 + links) exit lo lo r v now l.frames yields (bind e k) q (omega arith) behind left
         (later l.frames (begins p code input lo r now v l.frames left) up_there l.holds z.1 left) held l.to l.is)
 
@@ -209,16 +209,16 @@ module _ (p : Program) (code : PlainCode) (input : List ℕ) where
   -- the place of a root, and what is done with it
   pub root_from : (tables : Tables) (line q at exit lo r cells : ℕ) (root : Root) (v : Store) (now : List PlainFrame) (behind : own_end p r ≤ lo) {B : Type 0} (yields : Store → B → List PlainFrame → Type 0) (k : Store → Place → Events B) → RootFits r root cells
       → ((s : ℕ) → s < length p.routines → IsNested p s (routine_at p s)) → HasSlots p code r lo (slot.Place cells ∷ root_slots p r root) → Stands code at (own line (root_code p tables r lo root)) → Begins p code input r v now
-      → GoesOnAt line q exit lo r v behind yields k (at + length (own line (root_code p tables r lo root))) cells now → From p code input line 32 at exit now (leaving p code input lo r now yields) (bind (root_place v root cells) k) q
+      → GoesOnAt line q exit lo r v behind yields k (at + length (own line (root_code p tables r lo root))) cells now → From p code input line 24 at exit now (leaving p code input lo r now yields) (bind (root_place v root cells) k) q
   root_from tables line q at exit lo r cells (root.Local from) v now behind yields k fits nested slots stands b later =
-      from_more p code input line 9 32 at exit now (leaving p code input lo r now yields) (bind (root_place v (root.Local from) cells) k) q (omega arith)
+      from_more p code input line 9 24 at exit now (leaving p code input lo r now yields) (bind (root_place v (root.Local from) cells) k) q (omega arith)
       (variables_from line q exit lo r v behind yields k at (top v) r from cells now b (first_kind p code input r lo (slot.Place cells) [] slots) (omega (arith, b.stand.some)) b.routine fits
       (λ held s is. subst (λ n. Writes code input at now held s lo (cell.Place (record { frame = n - 1; slot = shift p r + from; len = cells }))) b.stand.count
       (local_step code input line at now held s is lo (shift p r + from) cells (record { instr = stands.0; on_line = stands.1 }) (has_kind p code input r lo v now (slot.Place cells) (first_kind p code input r lo (slot.Place cells) [] slots) b)))
       later)
   root_from tables line q at exit lo r cells (root.Global from) v now behind yields k fits nested slots stands b later =
       let e : from ≡ shift p 0 + from = omega (arith, fits.1) in
-      from_more p code input line 9 32 at exit now (leaving p code input lo r now yields) (bind (root_place v (root.Global from) cells) k) q (omega arith)
+      from_more p code input line 9 24 at exit now (leaving p code input lo r now yields) (bind (root_place v (root.Global from) cells) k) q (omega arith)
       (variables_from line q exit lo r v behind yields k at 0 0 from cells now b (first_kind p code input r lo (slot.Place cells) [] slots) (omega (arith, b.stand.some)) b.sound.main fits.0
       (λ held s is. subst (λ n. Writes code input at now held s lo (cell.Place (record { frame = 0; slot = n; len = cells }))) e
       (global_step code input line at now held s is lo from cells (record { instr = stands.0; on_line = stands.1 }) (has_kind p code input r lo v now (slot.Place cells) (first_kind p code input r lo (slot.Place cells) [] slots) b)))
@@ -227,7 +227,7 @@ module _ (p : Program) (code : PlainCode) (input : List ℕ) where
       let kind = first_kind p code input r lo (slot.Place cells) [] slots in
       let i : InstrAt code input line at (I.Same lo (shift p r + from)) = record { instr = stands.0; on_line = stands.1 } in
       let at_top : top v ≡ length now - 1 = ap (λ n. n - 1) (sym b.stand.count) in
-      from_more p code input line 9 32 at exit now (leaving p code input lo r now yields) (bind (root_place v (root.Param from) cells) k) q (omega arith)
+      from_more p code input line 9 24 at exit now (leaving p code input lo r now yields) (bind (root_place v (root.Param from) cells) k) q (omega arith)
       (held_from line q exit lo r v behind yields k at (top v) r from cells now b kind (omega (arith, b.stand.some)) b.routine fits
       (λ c there held s is. same_step code input line at now held s is lo (shift p r + from) cells c i (has_kind p code input r lo v now (slot.Place cells) kind b) (subst (λ n. slice_get (get_or now n picture.no_frame).cells (shift p r + from) ≡ Some (cell.Place c)) at_top there))
       (λ there held s is. same_unset line at lo (shift p r + from) now held s is i (subst (λ n. slice_get (get_or now n picture.no_frame).cells (shift p r + from) ≡ Some cell.Unset) at_top there))
