@@ -16,3 +16,4 @@ pub mod StmtForms
 pub mod SimpleOne
 pub mod Conditions
 pub mod BarrierForms
+pub mod GuardedForms

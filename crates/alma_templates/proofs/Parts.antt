@@ -329,3 +329,11 @@ module _ (p : Program) (code : PlainCode) (input : List ℕ) where
   pub none_returns : (line at exit lo r : ℕ) (now : List PlainFrame) (e : Events NoYield) (q : ℕ) → Runs code input line at exit now (ending false lo r now) e q → Runs code input line at exit now (leaving lo r now Nothing) e q
   none_returns line at exit lo r now e q h =
       runs_less code input line at exit now (ending false lo r now) (leaving lo r now Nothing) e q (λ x y u z. (z, tt)) (λ x n a u z. absurd (let bad : false ≡ true = z.0 in cc)) h
+
+  pub from_ending : (may : Bool) (line c at exit lo la r : ℕ) (v : Store) (now t : List PlainFrame) (e : Events NoYield) (q : ℕ) → lo ≤ la → own_end p r ≤ lo → Left lo r now v t
+      → From line c at exit t (ending may la r t) e q → From line c at exit t (ending may lo r now) e q
+  from_ending may line c at exit lo la r v now t e q le own left h =
+      from_less line c at exit t (ending may la r t) (ending may lo r now) e q
+      (λ x y u h. left_on lo la r now v x t u le left h)
+      (λ x n a u h. (h.0, left_on (own_end p r) (own_end p r) r now v x t u (omega arith) (left_less (own_end p r) lo r now v t own left) h.1, h.2))
+      h
