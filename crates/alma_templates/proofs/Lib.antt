@@ -17,3 +17,4 @@ pub mod SimpleOne
 pub mod Conditions
 pub mod BarrierForms
 pub mod GuardedForms
+pub mod LoopForms

@@ -26,7 +26,7 @@ use Rattle.alma_implements.proofs.Steps.{top_written, Holds, HasKind, InstrAt, W
 use Rattle.alma_implements.proofs.ChoiceSteps.{GoesOn}
 use Rattle.alma_implements.proofs.SeqRow.{runs_less}
 use Rattle.alma_implements.proofs.Leaving.{PlacesBelow}
-use Rattle.alma_implements.proofs.Ways.{Ways, Leaves, Runs, Behind, Inside, then_up_to}
+use Rattle.alma_implements.proofs.Ways.{Ways, Leaves, Runs, Later, then_up_to}
 use Rattle.alma_templates.specs.Lined.{Lined}
 use Rattle.alma_templates.specs.Stands.{Stands}
 
@@ -337,3 +337,13 @@ module _ (p : Program) (code : PlainCode) (input : List ℕ) where
       (λ x y u h. left_on lo la r now v x t u le left h)
       (λ x n a u h. (h.0, left_on (own_end p r) (own_end p r) r now v x t u (omega arith) (left_less (own_end p r) lo r now v t own left) h.1, h.2))
       h
+
+  -- the same from a state before
+  pub on_later : (may : Bool) (line at exit lo la r : ℕ) (v : Store) (now t : List PlainFrame) (e : Events NoYield) (q : ℕ) → lo ≤ la → own_end p r ≤ lo → Left lo r now v t
+      → Later code input line at exit t (ending may la r t) e q → Later code input line at exit t (ending may lo r now) e q
+  on_later may line at exit lo la r v now t e q le own left h j d few owes held s u silently is =
+      then_up_to code input line 0 0 24 0 (Leaves exit (ending may la r t)) (Leaves exit (ending may lo r now)) held e s 0 d (omega arith) less (h j d few owes held s u silently is)
+    where
+      less : (x : Store) (f : Flow NoYield) (y : State) (base : List PlainEntry) → IsGoing base y → Leaves exit (ending may la r t) x f y → (i : ℕ) × (z : State) × (i ≤ 0) × Silently code input i y z × IsGoing base z × Leaves exit (ending may lo r now) x f z
+      less x (Go n) y base going out = (0, y, omega arith, no_step code input y, going, (out.0, left_on lo la r now v x t y.now le left out.1))
+      less x (Return n) y base going out = (0, y, omega arith, no_step code input y, going, (out.0, left_on (own_end p r) (own_end p r) r now v x t y.now (omega arith) (left_less (own_end p r) lo r now v t own left) out.1, out.2))
