@@ -18,3 +18,5 @@ pub mod Conditions
 pub mod BarrierForms
 pub mod GuardedForms
 pub mod LoopForms
+pub mod ChoiceForms
+pub mod CellTests

@@ -71,24 +71,29 @@ module _ (p : Program) (code : PlainCode) (input : List ℕ) where
       record { fits = fit; routine = put_routine v f i (Number x) live ∙ b.routine; sound = sound_after p code input lo v (put v f i (Number x)) now (written now f (shift_in p v f + i) (cell.Int x)) b.stand fit (put_places v f i x live there) b.sound }
 
   module _ {B : Type 0} (line c at exit lo r : ℕ) (v : Store) (now : List PlainFrame) (x : ℤ) (yields : Store → B → List PlainFrame → Type 0) (e : Events B) (q : ℕ) (behind : own_end p r ≤ lo) (b : Begins p code input r v now) where
-    -- a number is stored at a place, and the phrase goes on
-    pub store_goes_on : (n size value : ℕ) (a : Place) → 0 < size → IsPlace p code input n size v a now → IsValue p code input value x now → InstrAt code input line at (I.Store n value)
+    -- a number goes into a place by one step, and the phrase goes on
+    pub put_goes_on : (n size : ℕ) (a : Place) → 0 < size → (h : IsPlace p code input n size v a now) → is_integer x ≡ true → Takes p code input at (at + 1) now (written now h.place.frame h.place.slot (cell.Int x))
         → ((t : List PlainFrame) → Left p code input lo r now (put_at v a (Number x)) t → From p code input line c (at + 1) exit t (leaving p code input lo r t yields) e q) → From p code input line (suc c) at exit now (leaving p code input lo r now yields) e q
-    store_goes_on n size value a some h hx i later =
+    put_goes_on n size a some h integer takes later =
         let sh : ℕ = shift_in p v a.frame in
         let some_cell : 0 < a.size = omega (arith, some, h.sized) in
         let there : a.slot < length (get_or v a.frame store_of.no_frame).cells = omega (arith, h.numbers.cells 0 some_cell) in
         let zero : sh + (a.slot + 0) ≡ sh + a.slot = omega arith in
         let kind : get_or (get_or now a.frame picture.no_frame).kinds (sh + a.slot) slot.Mark ≡ slot.Number = ap (λ n. get_or (get_or now a.frame picture.no_frame).kinds n slot.Mark) (sym zero) ∙ h.numbers.kinds 0 some_cell in
-        let live = content_there p code v now a h.place b.stand h.numbers some_cell h.same in
         let t : List PlainFrame = written now a.frame (sh + a.slot) (cell.Int x) in
         let here : written now h.place.frame h.place.slot (cell.Int x) ≡ t = ap (λ f. written now f h.place.slot (cell.Int x)) (sym h.same.frame) ∙ ap (λ n. written now a.frame n (cell.Int x)) (sym h.same.slot) in
-        let left : Left p code input lo r now (put_at v a (Number x)) t = left_put lo r a.frame a.slot x v now h.numbers.frame there kind hx.integer b in
+        let left : Left p code input lo r now (put_at v a (Number x)) t = left_put lo r a.frame a.slot x v now h.numbers.frame there kind integer b in
         step_from p code input line c at (at + 1) exit lo r (put_at v a (Number x)) now t yields e q behind
-        (λ held s is.
-        let w = store_step code input line at now held s is n value h.place x i h.holds hx.holds live.0 in
-        record { to = w.to; silently = w.silently; is = record { mode = w.is.mode; here = w.is.here; frames = w.is.frames ∙ here; entries = w.is.entries } })
+        (λ held s is. let w = takes held s is in record { to = w.to; silently = w.silently; is = record { mode = w.is.mode; here = w.is.here; frames = w.is.frames ∙ here; entries = w.is.entries } })
         left (later t left)
+
+    -- a number is stored at a place, and the phrase goes on
+    pub store_goes_on : (n size value : ℕ) (a : Place) → 0 < size → IsPlace p code input n size v a now → IsValue p code input value x now → InstrAt code input line at (I.Store n value)
+        → ((t : List PlainFrame) → Left p code input lo r now (put_at v a (Number x)) t → From p code input line c (at + 1) exit t (leaving p code input lo r t yields) e q) → From p code input line (suc c) at exit now (leaving p code input lo r now yields) e q
+    store_goes_on n size value a some h hx i later =
+        let live = content_there p code v now a h.place b.stand h.numbers (omega (arith, some, h.sized)) h.same in
+        put_goes_on n size a some h hx.integer
+        (λ held s is. let w = store_step code input line at now held s is n value h.place x i h.holds hx.holds live.0 in record { to = w.to; silently = w.silently; is = w.is }) later
 
     -- a number goes into a variable of the routine
     pub move_goes_on : (from value : ℕ) → AreVariables p code input r from 1 → IsValue p code input value x now → InstrAt code input line at (I.Move (shift p r + from) value)
