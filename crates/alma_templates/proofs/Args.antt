@@ -302,6 +302,5 @@ module _ (p : Program) (tables : Tables) (code : PlainCode) (input : List ℕ) (
         handed = (handed_after (to + 1) x.kind x.cells taken left.1.1.cell v1 v2 t.now t2.now b1 one_more left.1.1.handed, left2.1.1.handed);
         there = (holds_after p code input (to + 1) r to left.1.1.cell v1 v2 t.now t2.now b1 slots.behind (omega arith) one_more left.1.1.holds, let e : to + 1 ≡ suc to = omega arith in subst (λ n. HeldFrom t2.now n left2.1.1.cells) e left2.1.1.there);
       })))
-      (λ v2 n t2 left2.
-      (left_on p code input (own_end p r) (own_end p r) r now v1 v2 t.now t2.now (omega arith) (left_less p code input (own_end p r) to r now v1 t.now slots.behind left.1.0) left2.0, left2.1)))
+      (λ v2 n t2 left2. left2))
       (λ v1 n t left. left)

@@ -37,7 +37,7 @@ bare_place (a_desig (root.Param n) cells sels) from e = absurd (cc)
 bare_place (a_desig (root.Outer links n) cells sels) from e = absurd (cc)
 bare_place (a_desig (root.OuterParam links n) cells sels) from e = absurd (cc)
 
-bare_value : (x : Expr) (from : ℕ) → bare x ≡ Some from → (cells : ℕ) × (x ≡ Load (a_desig (root.Local from) cells no_sels))
+pub bare_value : (x : Expr) (from : ℕ) → bare x ≡ Some from → (cells : ℕ) × (x ≡ Load (a_desig (root.Local from) cells no_sels))
 bare_value (Load d) from e = let z = bare_place d from e in (z.0, ap Load z.1)
 bare_value (Const n) from e = absurd (cc)
 bare_value (Chain negated x links) from e = absurd (cc)

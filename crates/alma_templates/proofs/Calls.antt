@@ -43,7 +43,7 @@ use Rattle.alma_templates.specs.Slots.{shift_of, chain_slots, links_if, call_lin
 use Rattle.alma_templates.specs.Templates.{link_if, call_link_code, call_code, arguments_from, handed_from, args_code, test_code, expr_code}
 use Rattle.alma_templates.specs.Stands.{Stands}
 use Rattle.alma_templates.proofs.Stands.{stands_front, stands_back}
-use Rattle.alma_templates.proofs.Parts.{Begins, Left, Sound, sound_of, begins, left_self, left_on, left_less, on_from, holds_after, Nothing, ValueIn, NodeFor, node_runs, From, leaving, left_temp, holds_temp, has_kind, ReturnsAt, ReturnsFrom, ResultIs}
+use Rattle.alma_templates.proofs.Parts.{Begins, Left, Sound, sound_of, begins, left_self, left_on, left_less, on_from, holds_after, Nothing, ValueIn, NodeFor, node_runs, From, leaving, ending, left_temp, holds_temp, has_kind, ReturnsAt, ReturnsFrom, ResultIs}
 use Rattle.alma_templates.proofs.NewFrame.{AllHanded, with_link, handed_all, IsCompiled, enter_stands}
 use Rattle.alma_templates.proofs.Handing.{HeldFrom, counts_alike, holds_arguments}
 use Rattle.alma_templates.proofs.Args.{ArgsIn, ArgParts, args_run, handed_after}
@@ -258,7 +258,7 @@ module _ (p : Program) (tables : Tables) (code : PlainCode) (input : List ℕ) (
           let given : List Lined = args_code p tables r line (at + length link) first (first + length (handed_slots args)) args in
           Stands code at (link ++ given) → Begins p code input r v now
         → ((u : Store) (taken : List ArgValue) (t : List PlainFrame) → Left p code input la r now u t → ArgsDone called up la u taken t → From p code input line 8 (at + length (link ++ given)) exit t (leaving p code input lo r t yields) (k u taken) q)
-        → From p code input line 32 at exit now (leaving p code input lo r now yields) (bind (ev_args p input below args v) k) q
+        → From p code input line 24 at exit now (leaving p code input lo r now yields) (bind (ev_args p input below args v) k) q
     front_from args lo la at exit yields k v now fits own_lo behind_lo slots parts stands b later held s is =
         let sh : ℕ = shift_of p called in
         let links : List SlotKind = call_links p r called up in
@@ -273,7 +273,7 @@ module _ (p : Program) (tables : Tables) (code : PlainCode) (input : List ℕ) (
         let w : Ways _ = leaving p code input lo r now yields in
         let wa : Ways (List ArgValue) = leaving p code input first r z.frames (ArgsIn p tables code input below r line q first (routine_at p called).params) in
         let both : m + length given ≡ at + length (link ++ given) = omega (arith, length-append link given) in
-        before code input line 0 24 (Leaves exit w) held (bind (ev_args p input below args v) k) s z.to z.steps 32 8 q q z.silently (omega (arith, z.few)) (omega arith)
+        before code input line 0 24 (Leaves exit w) held (bind (ev_args p input below args v) k) s z.to z.steps 24 8 q q z.silently (omega (arith, z.few)) (omega arith)
         (bind_goes code input line 8 0 24 (Leaves (m + length given) wa) (Leaves exit w) held (ev_args p input below args v) k z.to 8 q 8 (omega arith) (omega arith)
         (args_run p tables code input below r line q args (routine_at p called).params m first (first + length (handed_slots args)) fits callee.first.cells (slots_first p code input r first (handed_slots args) (args_slots p r args) behind) (omega arith) (parts m first) (stands_back code at link given stands) v z.frames b1 8 (omega arith) held z.to z.is)
         (λ u taken t base going left.
@@ -300,8 +300,7 @@ module _ (p : Program) (tables : Tables) (code : PlainCode) (input : List ℕ) (
         } in
         on_from p code input line 8 (at + length (link ++ given)) exit lo lo r u now t.now yields (k u taken) q (omega arith) own_lo (left_less p code input lo la r now u t.now behind_lo whole)
         (later u taken t.now whole all) base t (record { mode = going.mode; here = left.0 ∙ both; frames = refl; entries = going.entries }))
-        (λ u n t left.
-        (left_on p code input (own_end p r) (own_end p r) r now v u z.frames t.now (omega arith) (left_less p code input (own_end p r) la r now v z.frames own_la z.left) left.0, left.1)))
+        (λ u n t left. left))
 
 -- ---- the routine at the level below
 
@@ -314,7 +313,7 @@ module _ (p : Program) (tables : Tables) (code : PlainCode) (input : List ℕ) (
   -- the body of a routine runs, in whatever statement it was called
   pub record RoutineRuns (r q : ℕ) : Type 0 where
     pub exit : ℕ
-    pub runs : (line : ℕ) (v : Store) (now : List PlainFrame) → Begins p code input r v now → Runs code input line (start_at code r) exit now (leaving p code input (own_end p r) r now (Nothing p code input)) (below.routine r v) q
+    pub runs : (line : ℕ) (v : Store) (now : List PlainFrame) → Begins p code input r v now → Runs code input line (start_at code r) exit now (ending p code input true (own_end p r) r now) (below.routine r v) q
     pub ends : EndsAt r exit (routine_at p r).result
 
   module _ (r line q : ℕ) (called up : ℕ) (callee : Callee p tables code input below r line (suc q) called up) (routine : RoutineRuns called q) where
@@ -400,14 +399,14 @@ module _ (p : Program) (tables : Tables) (code : PlainCode) (input : List ℕ) (
           let end : m + 1 ≡ exit = omega (arith, length-append front call) in
           let call_there : Stands code m call = stands_back code at front call stands in
           let calls : InstrAt code input line m (call_code p tables r called args up lo 0) = record { instr = call_there.0; on_line = call_there.1 } in
-          node_runs p code input line 32 at exit now (leaving p code input lo r now (Nothing p code input)) (bind (ev_args p input below args v) (λ t taken. as_test (enter p (below.routine called) called up t taken))) (suc q) (omega arith)
+          node_runs p code input line 24 at exit now (leaving p code input lo r now (Nothing p code input)) (bind (ev_args p input below args v) (λ t taken. as_test (enter p (below.routine called) called up t taken))) (suc q) (omega arith)
           (front_from p tables code input below r line (suc q) called up callee args lo lo at exit (Nothing p code input) (λ t taken. as_test (enter p (below.routine called) called up t taken)) v now fits slots.behind (omega arith) slots parts (stands_front code at front call stands) b
           (λ u taken t left done held s is.
           let bt : Begins p code input r u t = begins p code input lo r now u t left in
           let inside = begins_inside u t bt taken done.cells done.handed (m + 1) in
           let frames = new_frames u t bt taken done.cells done.handed (m + 1) in
           let w : Ways NoYield = leaving p code input lo r t (Nothing p code input) in
-          let wb : Ways NoYield = leaving p code input (own_end p called) called frames (Nothing p code input) in
+          let wb : Ways NoYield = ending p code input true (own_end p called) called frames in
           let first : ℕ = first_argument (shift_of p called + length (handed_slots args)) (handed_from p tables r (shift_of p called) up lo) in
           let given : List Cell = handed_all p called (up_from u (top u) up) done.cells in
           subst (λ n. Goes code input line 0 24 (Leaves n w) held (as_test (enter p (below.routine called) called up u taken)) s 8 (suc q)) end
@@ -419,15 +418,15 @@ module _ (p : Program) (tables : Tables) (code : PlainCode) (input : List ℕ) (
           (all_held args (handed_from p tables r (shift_of p called) up lo) (up_from u (top u) up) u t taken done.cells fits done.handed done.there)))))
         where
           comes_back : (u : Store) (t : List PlainFrame) (bt : Begins p code input r u t) (taken : List ArgValue) (cells : List Cell) (handed : AllHanded p code u t (routine_at p called).params taken cells) (lo m : ℕ) (x : Store) (f : Flow NoYield) (z : State)
-              → Leaves routine.exit (leaving p code input (own_end p called) called (new_frames u t bt taken cells handed (m + 1)) (Nothing p code input)) x f z → Returns code input (m + 1) (leaving p code input lo r t (Nothing p code input)) x z
+              → Leaves routine.exit (ending p code input true (own_end p called) called (new_frames u t bt taken cells handed (m + 1))) x f z → Returns code input (m + 1) (leaving p code input lo r t (Nothing p code input)) x z
           comes_back u t bt taken cells handed lo m x (Go y) z left =
-              let back = backed u t bt taken cells handed (m + 1) (own_end p called) x z.now left.1.0 in
+              let back = backed u t bt taken cells handed (m + 1) (own_end p called) x z.now left.1 in
               let return_there : slice_get code.instrs routine.exit ≡ Some I.Return = subst (EndsAt called routine.exit) none routine.ends in
               record { line = line_at code z.at; instr = record { instr = ap (slice_get code.instrs) left.0 ∙ return_there; on_line = refl }; some = back.some; back_at = back.back_at; goes = (back.left lo, tt) }
           comes_back u t bt taken cells handed lo m x (Return None) z left =
-              let back = backed u t bt taken cells handed (m + 1) (own_end p called) x z.now left.0 in
-              record { line = line_at code z.at; instr = record { instr = left.1.there; on_line = refl }; some = back.some; back_at = back.back_at; goes = (back.left lo, tt) }
-          comes_back u t bt taken cells handed lo m x (Return (Some n)) z left = absurd (subst (λ o. ResultIs p code input o (Some n)) none left.1.result)
+              let back = backed u t bt taken cells handed (m + 1) (own_end p called) x z.now left.1 in
+              record { line = line_at code z.at; instr = record { instr = left.2.there; on_line = refl }; some = back.some; back_at = back.back_at; goes = (back.left lo, tt) }
+          comes_back u t bt taken cells handed lo m x (Return (Some n)) z left = absurd (subst (λ o. ResultIs p code input o (Some n)) none left.2.result)
 
     -- ---- a call in an expression
 
@@ -457,15 +456,15 @@ module _ (p : Program) (tables : Tables) (code : PlainCode) (input : List ℕ) (
 
         module _ (taken : List ArgValue) (cells : List Cell) (handed : AllHanded p code u marked (routine_at p called).params taken cells) where
           gives_back : (x : Store) (f : Flow NoYield) (z : State)
-              → Leaves routine.exit (leaving p code input (own_end p called) called (new_frames u marked bm taken cells handed (m + 1 + 1)) (Nothing p code input)) x f z
+              → Leaves routine.exit (ending p code input true (own_end p called) called (new_frames u marked bm taken cells handed (m + 1 + 1))) x f z
               → LeavesFunction code input (m + 1) called first lo (lo + 1) h (routine_at p called).line (leaving p code input lo r t (ValueIn p code input lo)) x f z
           gives_back x (Go y) z left =
               let ends : InstrAt code input (routine_at p called).line routine.exit (I.Fault 6) = subst (EndsAt called routine.exit) result routine.ends in
               record { instr = ap (slice_get code.instrs) left.0 ∙ ends.instr; on_line = ap (line_at code) left.0 ∙ ends.on_line }
-          gives_back x (Return None) z left = absurd (subst (λ o. ResultIs p code input o None) result left.1.result)
+          gives_back x (Return None) z left = absurd (subst (λ o. ResultIs p code input o None) result left.2.result)
           gives_back x (Return (Some n)) z left =
-              let back = backed u marked bm taken cells handed (m + 1 + 1) (own_end p called) x z.now left.0 in
-              let integer : is_integer n ≡ true = subst (λ o. ResultIs p code input o (Some n)) result left.1.result in
+              let back = backed u marked bm taken cells handed (m + 1 + 1) (own_end p called) x z.now left.1 in
+              let integer : is_integer n ≡ true = subst (λ o. ResultIs p code input o (Some n)) result left.2.result in
               let kept : Left p code input (lo + 2) r marked (without_top x) (without_last z.now) = back.left (lo + 2) in
               let bx : Begins p code input r (without_top x) (without_last z.now) = begins p code input (lo + 2) r marked (without_top x) (without_last z.now) kept in
               let last : List PlainFrame = top_written (without_last z.now) lo (cell.Int n) in
@@ -475,10 +474,10 @@ module _ (p : Program) (tables : Tables) (code : PlainCode) (input : List ℕ) (
               holds_after p code input (lo + 2) r (lo + 1) (cell.Mark h) u (without_top x) marked (without_last z.now) bm (omega (arith, own_lo)) (omega arith) kept (holds_temp p code input r (lo + 1) u t (cell.Mark h) slot.Mark mark_kind bt) in
               let from_t : Left p code input lo r t (without_top x) (without_last z.now) = left_on p code input lo (lo + 1) r t u (without_top x) marked (without_last z.now) (omega arith) (left_less p code input lo (lo + 1) r t u marked (omega arith) marked_left) (left_less p code input (lo + 1) (lo + 2) r marked (without_top x) (without_last z.now) (omega arith) kept) in
               record {
-                from = left.1.there.0;
+                from = left.2.there.0;
                 line = line_at code z.at;
-                instr = record { instr = left.1.there.1; on_line = refl };
-                number = left.1.there.2;
+                instr = record { instr = left.2.there.1; on_line = refl };
+                number = left.2.there.2;
                 back = back.back_at;
                 kind = has_kind p code input r lo (without_top x) (without_last z.now) slot.Number result_kind bx;
                 mark = holds_other (without_last z.now) lo (lo + 1) (cell.Int n) (cell.Mark h) some_now (λ e. omega (arith, e)) mark_there;
@@ -505,7 +504,7 @@ module _ (p : Program) (tables : Tables) (code : PlainCode) (input : List ℕ) (
           let rest = slots_behind p code input r lo (slot.Number ∷ []) _ slots in
           let mark_kind : slice_get (kinds_at code r) (lo + 1) ≡ Some slot.Mark = first_kind p code input r (lo + 1) slot.Mark _ rest in
           let parts_slots = slots_behind p code input r lo (slot.Number ∷ slot.Mark ∷ []) (call_links p r called up ++ (handed_slots args ++ args_slots p r args)) slots in
-          node_runs p code input line 32 at exit now (leaving p code input lo r now (ValueIn p code input lo)) (bind (ev_args p input below args v) (λ t taken. as_value function (enter p (below.routine called) called up t taken))) (suc q) (omega arith)
+          node_runs p code input line 24 at exit now (leaving p code input lo r now (ValueIn p code input lo)) (bind (ev_args p input below args v) (λ t taken. as_value function (enter p (below.routine called) called up t taken))) (suc q) (omega arith)
           (front_from p tables code input below r line (suc q) called up callee args lo la at exit (ValueIn p code input lo) (λ t taken. as_value function (enter p (below.routine called) called up t taken)) v now fits slots.behind (omega arith) parts_slots parts
           (stands_front code at front call stands) b
           (λ u taken t left done held s is.
@@ -523,7 +522,7 @@ module _ (p : Program) (tables : Tables) (code : PlainCode) (input : List ℕ) (
           let inside = begins_inside u marked bm taken done.cells handed (m + 1 + 1) in
           let frames = new_frames u marked bm taken done.cells handed (m + 1 + 1) in
           let w : Ways ℤ = leaving p code input lo r t (ValueIn p code input lo) in
-          let wb : Ways NoYield = leaving p code input (own_end p called) called frames (Nothing p code input) in
+          let wb : Ways NoYield = ending p code input true (own_end p called) called frames in
           let first : ℕ = first_argument (shift_of p called + length (handed_slots args)) hf in
           let given : List Cell = handed_all p called (up_from u (top u) up) done.cells in
           before code input line 0 24 (Leaves exit w) held (as_value function (enter p (below.routine called) called up u taken)) s z.to 1 8 7 (suc q) (suc q) z.silently (omega arith) (omega arith)
