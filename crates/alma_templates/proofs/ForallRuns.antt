@@ -1,5 +1,5 @@
 -- FORALL, from template to run: its first part is gone through, and the second runs in frames over which the carry was laid.
-use Rattle.std.proofs.Common.{◌≡◌, ℕ, suc, ◌+◌, ◌-◌, ◌<◌, ◌≤◌, inl, inr, List, [], ◌∷◌, ◌++◌, length, get_or, Some, Option, refl, sym, ap, ◌∙◌, subst, arith, length-append}
+use Rattle.std.proofs.Common.{◌≡◌, ℕ, suc, ◌+◌, ◌-◌, ◌<◌, ◌≤◌, inl, inr, true, false, List, [], ◌∷◌, ◌++◌, length, get_or, Some, Option, refl, sym, ap, ◌∙◌, subst, arith, length-append}
 use Rattle.std.specs.Prelude.{slice_get}
 use Rattle.std.proofs.lemmas.Bool.{cases_lt}
 use Rattle.alma_base.specs.Carry.{Carry, with_changes}
@@ -18,7 +18,7 @@ use Rattle.alma_mean.specs.Store.{Store, top_frame, over, changes}
 use Rattle.alma_mean.specs.Store as store
 use Rattle.alma_mean.specs.Events.{Events, NoYield}
 use Rattle.alma_mean.specs.Rows.{forall_row}
-use Rattle.alma_mean.specs.Meaning.{Level, ev_stmts}
+use Rattle.alma_mean.specs.Meaning.{Level, ev_stmts, ev_stmt}
 use Rattle.alma_implements.proofs.Goes.{Goes, before, weaker}
 use Rattle.alma_implements.proofs.Address.{at_address}
 use Rattle.alma_implements.proofs.Frames.{own_end, StandFor, Fits, HasSlots, IsAt}
@@ -40,7 +40,8 @@ use Rattle.alma_templates.specs.Templates.{stmts_code, stmt_code}
 use Rattle.alma_templates.specs.Pieces.{begin_each, end_each}
 use Rattle.alma_templates.specs.Stands.{Stands}
 use Rattle.alma_templates.proofs.Stands.{stands_front, stands_back}
-use Rattle.alma_templates.proofs.Parts.{Begins, Left, sound_of, begins, left_on, left_less, left_temp, holds_temp, has_kind, holds_after, From}
+use Rattle.alma_templates.proofs.Parts.{Begins, Left, sound_of, begins, left_on, left_less, left_temp, holds_temp, has_kind, holds_after, From, from_less, node_runs, leaving, ending, Nothing}
+use Rattle.alma_templates.proofs.FormRuns.{ListRuns, StmtRuns}
 
 module _ (p : Program) (code : PlainCode) where
   -- the frames are of the same routines after a part, and before it
@@ -180,9 +181,9 @@ module _ (p : Program) (tables : Tables) (code : PlainCode) (input : List ℕ) (
             (runs stands u marked bm))
 
   -- FORALL: the runs of both parts, which hold no RETURN
-  pub forall_from : (x y : Stmts) (lo at : ℕ) → HasSlots p code r lo (stmt_slots p r (Forall x y)) → ((next : ℕ) → StayingFor (lo + 1) next x) → ((next : ℕ) → StayingFor (behind_stmts p r (lo + 1) x + 1) next y)
+  pub forall_from : (x y : Stmts) (lo at : ℕ) → HasSlots p code r lo (stmt_slots p r (Forall x y)) → StayingFor (lo + 1) (at + 1) x → StayingFor (behind_stmts p r (lo + 1) x + 1) (at + 1 + length (stmts_code p tables r (at + 1) (lo + 1) x) + 2) y
       → Stands code at (stmt_code p tables r line at lo (Forall x y)) → (v : Store) (now : List PlainFrame) → Begins p code input r v now
-      → From p code input line 32 at (at + length (stmt_code p tables r line at lo (Forall x y))) now (staying lo now) (forall_row (ev_stmts p input below y) v [] (ev_stmts p input below x v)) q
+      → From p code input line 24 at (at + length (stmt_code p tables r line at lo (Forall x y))) now (staying lo now) (forall_row (ev_stmts p input below y) v [] (ev_stmts p input below x v)) q
   forall_from x y lo at slots first second stands v now b held s is =
       let inner : ℕ = behind_stmts p r (lo + 1) x in
       let xs : List SlotKind = stmts_slots p r x in
@@ -222,10 +223,26 @@ module _ (p : Program) (tables : Tables) (code : PlainCode) (input : List ℕ) (
       let h : ℕ = length held + 1 in
       let opens : InstrAt code input line at (I.Forall lo (n + 3)) = record { instr = stands.0 ∙ ap (λ k. Some (I.Forall lo k)) out; on_line = stands.1 } in
       let z = forall_step code input line at lo (n + 3) now held s is opens (has_kind p code input r lo v now slot.Mark first_mark b) in
-      let made = parts_of lo inner h v now b slots.behind above first_mark second_mark m n 0 y refl second_there (second (m + 2)) in
+      let made = parts_of lo inner h v now b slots.behind above first_mark second_mark m n 0 y refl second_there second in
       let w : Ways NoYield = staying lo now in
-      subst (λ k. Goes code input line 0 24 (Leaves k w) held (forall_row (ev_stmts p input below y) v [] (ev_stmts p input below x v)) s 32 q) exit
-      (before code input line 0 24 (Leaves (n + 4) w) held (forall_row (ev_stmts p input below y) v [] (ev_stmts p input below x v)) s z.to 1 32 8 q q z.silently (omega arith) (omega arith)
+      subst (λ k. Goes code input line 0 24 (Leaves k w) held (forall_row (ev_stmts p input below y) v [] (ev_stmts p input below x v)) s 24 q) exit
+      (before code input line 0 24 (Leaves (n + 4) w) held (forall_row (ev_stmts p input below y) v [] (ev_stmts p input below x v)) s z.to 1 24 8 q q z.silently (omega arith) (omega arith)
       (forall_goes code input line m n lo inner now held q v (same lo inner h v now b slots.behind above first_mark second_mark) (ev_stmts p input below y) (first_ways lo inner h v now b slots.behind above first_mark second_mark) w is_code made
       (ev_stmts p input below x v) [] [] z.to 8 q (omega arith) (nothing_alike p code inner v now)
-      (first (at + 1) first_there v (top_written now lo (cell.Mark h)) (begins_first lo inner h v now b slots.behind above first_mark second_mark) 8 (omega arith) _ z.to z.is)))
+      (first first_there v (top_written now lo (cell.Mark h)) (begins_first lo inner h v now b slots.behind above first_mark second_mark) 8 (omega arith) _ z.to z.is)))
+
+  -- a list without RETURN, in words of lists
+  stays : (lo at : ℕ) (x : Stmts) → ListRuns p tables code input below r line q false at lo x → StayingFor lo at x
+  stays lo at x runs stands v now b =
+      runs_less code input line at (at + length (stmts_code p tables r at lo x)) now (ending p code input false lo r now) (staying lo now) (ev_stmts p input below x v) q
+      (λ u y t left. left) (λ u n a t h. let no : false ≡ true = h.0 in absurd (cc)) (runs stands v now b)
+
+  pub forall_runs : (x y : Stmts) (at lo : ℕ) → HasSlots p code r lo (stmt_slots p r (Forall x y)) → ListRuns p tables code input below r line q false (at + 1) (lo + 1) x
+      → ListRuns p tables code input below r line q false (at + 1 + length (stmts_code p tables r (at + 1) (lo + 1) x) + 2) (behind_stmts p r (lo + 1) x + 1) y → StmtRuns p tables code input below r line q at lo (Forall x y)
+  unfolding ev_stmts
+  forall_runs x y at lo slots first second stands v now b =
+      let made = stmt_code p tables r line at lo (Forall x y) in
+      let e = forall_row (ev_stmts p input below y) v [] (ev_stmts p input below x v) in
+      node_runs p code input line 24 (at) (at + length made) now (leaving p code input lo r now (Nothing p code input)) e q (omega arith)
+      (from_less p code input line 24 at (at + length made) now (staying lo now) (leaving p code input lo r now (Nothing p code input)) e q (λ u z t left. (left, tt)) (λ u n a t h. h)
+      (forall_from x y lo at slots (stays (lo + 1) (at + 1) x first) (stays (behind_stmts p r (lo + 1) x + 1) (at + 1 + length (stmts_code p tables r (at + 1) (lo + 1) x) + 2) y second) stands v now b))

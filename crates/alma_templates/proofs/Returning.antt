@@ -23,7 +23,7 @@ use Rattle.alma_mean.specs.Events as events
 use Rattle.alma_mean.specs.Events.{Events, NoYield, Go, Visit, Print, Alt, Fail, Fault, Cut, one, join, bind, node}
 use Rattle.alma_mean.specs.Arithmetic.{check_range, fault_unless}
 use Rattle.alma_mean.specs.Rows.{return_within}
-use Rattle.alma_mean.specs.Meaning.{Level, level_0, level_above, ev_stmts, ev_stmt, ev_expr}
+use Rattle.alma_mean.specs.Meaning.{Level, level, level_0, level_above, ev_stmts, ev_stmt, ev_expr}
 use Rattle.alma_implements.proofs.Goes.{IsOn, Goes, no_step}
 use Rattle.alma_implements.proofs.BareRow.{ReadsFirst}
 use Rattle.alma_implements.proofs.Frames.{own_end, IsAt}
@@ -195,6 +195,14 @@ module _ (p : Program) (tables : Tables) (code : PlainCode) (input : List ℕ) w
   abbrev body_code_of : (r : ℕ) → List Lined
   body_code_of r = stmts_code p tables r (start_at code r) (body_slot r) (body_with_lines (routine_at p r))
 
+  -- what stands at its end
+  routine_ends : (below : Level) (r : ℕ) → Stands code (start_at code r) (routine_code p tables r (start_at code r)) → EndsAt p tables code input below r (start_at code r + length (body_code_of r)) (routine_at p r).result
+  routine_ends below r stands = ends_at (routine_at p r).result (stands_back code (start_at code r) (body_code_of r) (own (routine_at p r).line (end_code p tables r (routine_at p r).result ∷ [])) stands)
+    where
+      ends_at : (result : Option Range) → Stands code (start_at code r + length (body_code_of r)) (own (routine_at p r).line (end_code p tables r result ∷ [])) → EndsAt p tables code input below r (start_at code r + length (body_code_of r)) result
+      ends_at None h = h.0
+      ends_at (Some range) h = record { instr = h.0; on_line = h.1 }
+
   -- a routine whose statements run runs to its end
   pub routine_runs : (below : Level) (r q : ℕ) → ParamsFirst (routine_at p r) → Stands code (start_at code r) (routine_code p tables r (start_at code r))
       → ((line : ℕ) → RunsFor p code input true r line (start_at code r) (body_slot r) (body_code_of r) (ev_stmts p input below (body_with_lines (routine_at p r))) q)
@@ -204,12 +212,8 @@ module _ (p : Program) (tables : Tables) (code : PlainCode) (input : List ℕ) w
     runs = λ line v now b.
         subst (λ lo. Runs code input line (start_at code r) (start_at code r + length (body_code_of r)) now (ending p code input true lo r now) (ev_stmts p input below (body_with_lines (routine_at p r)) v) q) (own_long r first)
         (body line (stands_front code (start_at code r) (body_code_of r) (own (routine_at p r).line (end_code p tables r (routine_at p r).result ∷ [])) stands) v now b);
-    ends = ends_at (routine_at p r).result (stands_back code (start_at code r) (body_code_of r) (own (routine_at p r).line (end_code p tables r (routine_at p r).result ∷ [])) stands);
+    ends = routine_ends (level_above p input below) r stands;
   }
-    where
-      ends_at : (result : Option Range) → Stands code (start_at code r + length (body_code_of r)) (own (routine_at p r).line (end_code p tables r result ∷ [])) → EndsAt p tables code input (level_above p input below) r (start_at code r + length (body_code_of r)) result
-      ends_at None h = h.0
-      ends_at (Some range) h = record { instr = h.0; on_line = h.1 }
 
   -- at level 0 all is cut off
   pub routine_cut : (r exit : ℕ) → EndsAt p tables code input level_0 r exit (routine_at p r).result → RoutineRuns p tables code input level_0 r 0
@@ -218,3 +222,12 @@ module _ (p : Program) (tables : Tables) (code : PlainCode) (input : List ℕ) w
     runs = λ line v now b c le held s is. (0, s, omega arith, no_step code input s, omega arith, subst IsOn (sym is.mode) tt);
     ends = ends;
   }
+
+  -- the routines of all levels run: a body at a level runs where routines of the level below do
+  pub routines_run : ((r : ℕ) → r < length p.routines → ParamsFirst (routine_at p r)) → ((r : ℕ) → r < length p.routines → Stands code (start_at code r) (routine_code p tables r (start_at code r)))
+      → ((n : ℕ) → ((r : ℕ) → r < length p.routines → RoutineRuns p tables code input (level p input n) r n) → (r line : ℕ) → r < length p.routines
+      → RunsFor p code input true r line (start_at code r) (body_slot r) (body_code_of r) (ev_stmts p input (level p input n) (body_with_lines (routine_at p r))) (suc n))
+      → (n r : ℕ) → r < length p.routines → RoutineRuns p tables code input (level p input n) r n
+  routines_run first stands bodies zero r lt = routine_cut r (start_at code r + length (body_code_of r)) (routine_ends level_0 r (stands r lt))
+  routines_run first stands bodies (suc n) r lt =
+      routine_runs (level p input n) r (suc n) (first r lt) (stands r lt) (λ line. bodies n (λ q small. routines_run first stands bodies n q small) r line lt)
