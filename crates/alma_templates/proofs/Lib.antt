@@ -26,3 +26,4 @@ pub mod LoopForms
 pub mod ChoiceForms
 pub mod CellTests
 pub mod Returning
+pub mod Whole
