@@ -27,3 +27,4 @@ pub mod ChoiceForms
 pub mod CellTests
 pub mod Returning
 pub mod Whole
+pub mod CallForms
