@@ -20,3 +20,4 @@ pub mod GuardedForms
 pub mod LoopForms
 pub mod ChoiceForms
 pub mod CellTests
+pub mod CaseForms
