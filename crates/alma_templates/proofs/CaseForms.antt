@@ -25,7 +25,7 @@ use Rattle.alma_implements.proofs.ChoiceSteps.{jumps}
 use Rattle.alma_implements.proofs.EitherRow.{inner_goes}
 use Rattle.alma_implements.proofs.ExprRows.{some_frames}
 use Rattle.alma_implements.proofs.Steps.{top_written, Holds, Writes, InstrAt, const_step, less_eq_step, zero_jumps, other_goes_on, fault_step}
-use Rattle.alma_implements.proofs.Ways.{Ways, Leaves, Runs, LeadsTo, leads_by_jump, leads_then}
+use Rattle.alma_implements.proofs.Ways.{Ways, Leaves, Runs, LeadsTo, leads_nowhere, leads_by_jump, leads_then}
 use Rattle.alma_templates.specs.Lined.{Lined, own}
 use Rattle.alma_templates.specs.Tables.{Tables}
 use Rattle.alma_templates.specs.Slots.{stmts_slots, behind_stmts, behind_expr}
@@ -33,7 +33,7 @@ use Rattle.alma_templates.specs.Pieces.{label_code, last_label_code, labels_code
 use Rattle.alma_templates.specs.Templates.{stmts_code, stmt_code, expr_code, case_code, cases_code, else_code}
 use Rattle.alma_templates.specs.Stands.{Stands}
 use Rattle.alma_templates.proofs.Stands.{stands_front, stands_back}
-use Rattle.alma_templates.proofs.Parts.{Begins, begins, Left, left_self, left_on, left_temp, has_kind, holds_temp, IsValue, ValueIn, From, ending, from_more, from_ending, on_ending, as_runs, node_runs, runs_from, faults_here}
+use Rattle.alma_templates.proofs.Parts.{Begins, begins, Left, left_self, left_on, left_temp, has_kind, holds_temp, IsValue, ValueIn, From, ending, from_more, from_ending, on_ending, then_ending, as_runs, node_runs, runs_from, faults_here}
 use Rattle.alma_templates.proofs.RangeChecks.{past_from}
 use Rattle.alma_templates.proofs.FormRuns.{ExprRuns, StatementRuns, ListRuns}
 
@@ -202,3 +202,63 @@ module _ (p : Program) (tables : Tables) (code : PlainCode) (input : List ℕ) (
       subst (λ m. From p code input line 8 at m now (ending p code input may lo r now) (ev_stmts p input below body v) q) (sym is)
       (from_ending p code input may line 8 at there lo la r v now now (ev_stmts p input below body v) q le behind (left_self p code input lo r v now b)
       (runs_from p code input line at there now (ending p code input may la r now) (ev_stmts p input below body v) q (runs stands v now b)))
+
+  -- ---- the whole: the value, and the arms from the first on
+
+  module _ (lo bound : ℕ) (apart : lo < bound) (behind : own_end p r ≤ lo) (kind : slice_get (kinds_at code r) bound ≡ Some slot.Number) (kind2 : slice_get (kinds_at code r) (bound + 1) ≡ Some slot.Number) (els : Else) where
+    abbrev pub FirstRun : (at la : ℕ) → CaseArms → Type 0
+    FirstRun at la arms =
+        Stands code at (case_code p tables r line lo bound at la arms (λ next la. else_code p tables r line next la els)) → (exit : ℕ) → exit ≡ at + length (case_code p tables r line lo bound at la arms (λ next la. else_code p tables r line next la els))
+        → (v : Store) (n : ℤ) → GoesAt lo bound exit v n apart behind kind kind2 8 at (ev_cases p input below arms n v (ev_else p input below els))
+
+    pub no_first_run : (at la : ℕ) → ((jump : ℕ) → CasesRun lo bound apart behind kind kind2 els jump at la no_cases) → FirstRun at la no_cases
+    no_first_run at la h stands exit is v n = h exit stands exit is (leads_nowhere code input 7 exit) v n
+
+    pub unlabelled_first_run : (at la : ℕ) (body : Stmts) (rest : CaseArms) → FirstRun at la rest → FirstRun at la (more_cases [] body rest)
+    unfolding ev_stmts
+    unlabelled_first_run at la body rest h = h
+
+    pub labelled_first_run : (at la : ℕ) (label : Range) (labels : List Range) (body : Stmts) (rest : CaseArms) → lo ≤ la → ((next : ℕ) → ListRuns p tables code input below r line q may next la body)
+        → ((jump next : ℕ) → CasesRun lo bound apart behind kind kind2 els jump next (behind_stmts p r la body) rest) → FirstRun at la (more_cases (label ∷ labels) body rest)
+    unfolding ev_stmts
+    labelled_first_run at la label labels body rest le runs others stands exit is v n now b value =
+        let hit : ℕ = behind_labels at labels in
+        let made : List Lined = stmts_code p tables r hit la body in
+        let head : List Lined = case_arm line lo bound at label labels made in
+        let jump : ℕ = at + length head in
+        let next : ℕ = at + length head + 1 in
+        let after : List Lined = cases_code p tables r line lo bound jump next (behind_stmts p r la body) rest (λ next la. else_code p tables r line next la els) in
+        let out : List Lined = own line (I.Jump (jump + 1 + length after) ∷ []) in
+        let back = stands_back code at head (out ++ after) stands in
+        let labels_part : List Lined = own line (labels_code lo bound at hit (hit + length made + 1) label labels) in
+        let long : length head ≡ length labels_part + length made = length-append labels_part made in
+        let y : ℕ = hit + length made in
+        let ends : jump ≡ y = omega (arith, long, labels_long lo bound at hit (hit + length made + 1) label labels) in
+        let whole : length (head ++ (out ++ after)) ≡ length head + suc (length after) = length-append head (out ++ after) in
+        let end : jump + 1 + length after ≡ exit = omega (arith, is, whole) in
+        let here : next ≡ y + 1 = omega (arith, ends) in
+        let last : exit ≡ next + length after = omega (arith, is, whole) in
+        let i : InstrAt code input line jump (I.Jump exit) = subst (λ m. InstrAt code input line jump (I.Jump m)) end (record { instr = back.0; on_line = back.1 }) in
+        from_more p code input line 0 8 at exit now (ending p code input may lo r now) (ev_cases p input below (more_cases (label ∷ labels) body rest) n v (ev_else p input below els)) q (omega arith)
+        (arm_goes lo bound apart behind kind kind2 els at la exit label labels body (λ u k. ev_cases p input below rest k u (ev_else p input below els)) v n le (stands_front code at head (out ++ after) stands) (runs hit)
+        (subst (λ m. LeadsTo code input 8 m exit) ends (leads_by_jump code input line 8 jump exit (omega arith) i))
+        (subst (λ m. GoesAt lo bound exit v n apart behind kind kind2 8 m (ev_cases p input below rest n v (ev_else p input below els))) here
+        (others jump next back.2 exit last (leads_by_jump code input line 7 jump exit (omega arith) i) v n)) now b value)
+
+    pub case_runs : (at la : ℕ) (x : Expr) (arms : CaseArms) → bound ≡ behind_expr p r lo x → la ≡ bound + 2 → ExprRuns p tables code input below r line q at lo x → ((next : ℕ) → FirstRun next la arms) → StatementRuns p tables code input below r line q may at lo (Case x arms els)
+    unfolding ev_stmts
+    case_runs at la x arms is_bound is_la runs first stands v now b =
+        let inner : List Lined = expr_code p tables r line at lo x in
+        let m : ℕ = at + length inner in
+        let after = λ (d a : ℕ). case_code p tables r line lo d m a arms (λ next la. else_code p tables r line next la els) in
+        let rest : List Lined = after (behind_expr p r lo x) (behind_expr p r lo x + 2) in
+        let same : rest ≡ after bound la = ap (λ d. after d (d + 2)) (sym is_bound) ∙ ap (after bound) (sym is_la) in
+        let whole : length (inner ++ rest) ≡ length inner + length rest = length-append inner rest in
+        let exit : ℕ = at + length (inner ++ rest) in
+        let end : exit ≡ m + length (after bound la) = omega (arith, whole, ap length same) in
+        let w = ending p code input may lo r now in
+        as_runs p code input line at exit now w (node (bind (ev_expr p input below x v) (λ t n. ev_cases p input below arms n t (ev_else p input below els)))) q
+        (node_runs p code input line 0 at exit now w (bind (ev_expr p input below x v) (λ t n. ev_cases p input below arms n t (ev_else p input below els))) q (omega arith)
+        (then_ending p code input may line at m exit lo lo r now (ValueIn p code input lo) (ev_expr p input below x v) (λ t n. ev_cases p input below arms n t (ev_else p input below els)) q (omega arith) behind
+        (runs (stands_front code at inner rest stands) v now b)
+        (λ u n t left value. first m (subst (Stands code m) same (stands_back code at inner rest stands)) exit end u n t (begins p code input lo r now u t left) value)))
