@@ -19,6 +19,7 @@ use Rattle.alma_code.specs.Machine.{State, Stepped, Failing, act, step, went, fa
 use Rattle.alma_ir.specs.Tree.{Program, Expr, Desig, Test, Bind, Unify}
 use Rattle.alma_ir.specs.Checked.{desig_cells}
 use Rattle.alma_mean.specs.Store.{Store, Place, Unknown, Number, At, cell_of, put_at}
+use Rattle.alma_mean.specs.Store as store_of
 use Rattle.alma_mean.specs.Events.{Events, NoYield, Fail, one, bind, node}
 use Rattle.alma_mean.specs.Arithmetic.{check_range, fault_unless}
 use Rattle.alma_mean.specs.Rows.{bind_cell, unify_cells, succeed_if}
@@ -193,3 +194,88 @@ module _ (p : Program) (tables : Tables) (code : PlainCode) (input : List ℕ) (
       (λ u2 k t2 left2 place.
       bind_ends m2 lo a lo (desig_cells d) u2 t2 k range n behind (omega (arith, cells)) has (begins p code input la r t u2 t2 left2) place
       (value_after p code input la r lo n u u2 t t2 b1 behind (omega (arith, some_slots p code input r x)) left2 value) i)))))
+
+  -- ---- a cell against a cell
+
+  unify_does : (at a b m n : ℕ) (c e : CellPlace) (range range' : Range) (x y : Cell) (now : List PlainFrame) → InstrAt code input line at (I.Unify a m b n) → slice_get code.ranges m ≡ Some range → slice_get code.ranges n ≡ Some range' → Holds now a (cell.Place c) → Holds now b (cell.Place e)
+      → number_at now c.frame c.slot ≡ true → cell_at now c.frame c.slot cell.Unset ≡ x → number_at now e.frame e.slot ≡ true → cell_at now e.frame e.slot cell.Unset ≡ y
+      → Does at now (λ s. as_content true x s (λ u. as_content true y s (λ w. equated s c.frame c.slot (Some range) u e.frame e.slot (Some range') w went)))
+  unfolding act
+  unify_does at a b m n c e range range' x y now i has has' ha hb live is_x live' is_y held s is =
+      let here : State = passed code input s in
+      does code input line at now held s (I.Unify a m b n) is i
+      ∙ place_is code input now here a c (λ k. as_range (slice_get code.ranges m) here (λ t. place here b (λ l. as_range (slice_get code.ranges n) here (λ t2. equation here k.frame k.slot (Some t) l.frame l.slot (Some t2) went)))) is.frames ha
+      ∙ ap (λ o. as_range o here (λ t. place here b (λ l. as_range (slice_get code.ranges n) here (λ t2. equation here c.frame c.slot (Some t) l.frame l.slot (Some t2) went)))) has
+      ∙ place_is code input now here b e (λ l. as_range (slice_get code.ranges n) here (λ t2. equation here c.frame c.slot (Some range) l.frame l.slot (Some t2) went)) is.frames hb
+      ∙ ap (λ o. as_range o here (λ t2. equation here c.frame c.slot (Some range) e.frame e.slot (Some t2) went)) has'
+      ∙ content_is code input line at now held s is c x (λ u. content here e.frame e.slot (λ w. equated here c.frame c.slot (Some range) u e.frame e.slot (Some range') w went)) (live, is_x)
+      ∙ second x (λ u w. equated here c.frame c.slot (Some range) u e.frame e.slot (Some range') w went)
+    where
+      second : (z : Cell) (k : Option ℤ → Option ℤ → Stepped) → as_content true z (passed code input s) (λ u. content (passed code input s) e.frame e.slot (λ w. k u w)) ≡ as_content true z (passed code input s) (λ u. as_content true y (passed code input s) (λ w. k u w))
+      second (cell.Int z) k = content_is code input line at now held s is e y (λ w. k (Some z) w) (live', is_y)
+      second cell.Unknown k = content_is code input line at now held s is e y (λ w. k None w) (live', is_y)
+      second cell.Unset k = refl
+      second (cell.Place z) k = refl
+      second (cell.Mark z) k = refl
+
+  unify_ends : (at lo a b size size' : ℕ) (v : Store) (now : List PlainFrame) (m k : Place) (range range' : Range) → own_end p r ≤ lo → 0 < size → 0 < size' → HasRange p tables code input below r line q range → HasRange p tables code input below r line q range' → Begins p code input r v now
+      → IsPlace p code input a size v m now → IsPlace p code input b size' v k now → InstrAt code input line at (I.Unify a (range_number tables range) b (range_number tables range'))
+      → From p code input line 8 at (at + 1) now (leaving p code input lo r now (Nothing p code input)) (unify_cells v m (cell_of v m) range k (cell_of v k) range') q
+  unify_ends at lo a b size size' v now m k range range' behind some some' has has' begun h h' i = by (cell_is p code input r a size v m now some begun h) (cell_is p code input r b size' v k now some' begun h')
+    where
+      Goal : store_of.Cell → store_of.Cell → Type 0
+      Goal x y = From p code input line 8 at (at + 1) now (leaving p code input lo r now (Nothing p code input)) (unify_cells v m x range k y range') q
+
+      steps : (x y : Cell) → number_at now h.place.frame h.place.slot ≡ true → cell_at now h.place.frame h.place.slot cell.Unset ≡ x → number_at now h'.place.frame h'.place.slot ≡ true → cell_at now h'.place.frame h'.place.slot cell.Unset ≡ y
+          → Does at now (λ s. as_content true x s (λ u. as_content true y s (λ w. equated s h.place.frame h.place.slot (Some range) u h'.place.frame h'.place.slot (Some range') w went)))
+      steps x y live is live' is' = unify_does at a b (range_number tables range) (range_number tables range') h.place h'.place range range' x y now i has has' h.holds h'.holds live is live' is'
+
+      by : CellIs p code input v m now h.place → CellIs p code input v k now h'.place → Goal (cell_of v m) (cell_of v k)
+      by (is_number x e live is integer) (is_number y e' live' is' integer') =
+          subst (λ c. Goal c (cell_of v k)) (sym e) (subst (λ c. Goal (Number x) c) (sym e')
+          (subst (λ z. From p code input line 8 at (at + 1) now (leaving p code input lo r now (Nothing p code input)) (succeed_if v z) q) (equal_either_way x y)
+          (equals_ends at lo v now (int_eq x y) begun (steps (cell.Int x) (cell.Int y) live is live' is'))))
+      by (is_number x e live is integer) (is_unknown e' live' is') =
+          subst (λ c. Goal c (cell_of v k)) (sym e) (subst (λ c. Goal (Number x) c) (sym e')
+          (puts_ends at lo b size' v now k range' x behind some' begun h' integer live' i.on_line (steps (cell.Int x) cell.Unknown live is live' is')))
+      by (is_unknown e live is) (is_number y e' live' is' integer') =
+          subst (λ c. Goal c (cell_of v k)) (sym e) (subst (λ c. Goal Unknown c) (sym e')
+          (puts_ends at lo a size v now m range y behind some begun h integer' live i.on_line (steps cell.Unknown (cell.Int y) live is live' is')))
+      by (is_unknown e live is) (is_unknown e' live' is') =
+          subst (λ c. Goal c (cell_of v k)) (sym e) (subst (λ c. Goal Unknown c) (sym e')
+          (faults_here p code input line 7 at (at + 1) now (leaving p code input lo r now (Nothing p code input)) fault.Unknown q
+          (λ held s there. faults_now code input line s fault.Unknown (here_too code input line at now held s there i.on_line) (steps cell.Unknown cell.Unknown live is live' is' held s there))))
+
+  pub unify_runs : (at lo : ℕ) (d e : Desig) (range range' : Range) → own_end p r ≤ lo → desig_cells d ≡ 1 → desig_cells e ≡ 1 → HasRange p tables code input below r line q range → HasRange p tables code input below r line q range' → DesigRuns p tables code input below r line q at lo d
+      → ((next : ℕ) → DesigRuns p tables code input below r line q next (behind_desig p r lo d) e) → TestRuns p tables code input below r line q at lo (Unify d range e range')
+  unfolding ev_expr
+  unify_runs at lo d e range range' behind cells cells' has has' runs others stands v now b =
+      let a : ℕ = place_at p tables r lo d in
+      let la : ℕ = behind_desig p r lo d in
+      let c : ℕ = place_at p tables r la e in
+      let inside = place_within p tables code input below r line q lo d in
+      let first : List Lined = desig_code p tables r line at lo d in
+      let m : ℕ = at + length first in
+      let second : List Lined = desig_code p tables r line m la e in
+      let last : List Lined = own line (I.Unify a (range_number tables range) c (range_number tables range') ∷ []) in
+      let front = stands_front code at (first ++ second) last stands in
+      let back = stands_back code at (first ++ second) last stands in
+      let both : length (first ++ second) ≡ length first + length second = length-append first second in
+      let whole : length ((first ++ second) ++ last) ≡ length (first ++ second) + 1 = length-append (first ++ second) last in
+      let m2 : ℕ = m + length second in
+      let here : at + length (first ++ second) ≡ m2 = omega (arith, both) in
+      let i : InstrAt code input line m2 (I.Unify a (range_number tables range) c (range_number tables range')) = subst (λ n. InstrAt code input line n (I.Unify a (range_number tables range) c (range_number tables range'))) here (record { instr = back.0; on_line = back.1 }) in
+      let end : m2 + 1 ≡ at + length ((first ++ second) ++ last) = omega (arith, both, whole) in
+      let w = leaving p code input lo r now (Nothing p code input) in
+      subst (λ n. NodeRuns p code input line at n now w (ev_test p input below (Unify d range e range') v) q) end
+      (node_runs p code input line 0 at (m2 + 1) now w (bind (ev_desig p input below d v) (λ t k. bind (ev_desig p input below e t) (λ u l. unify_cells u k (cell_of u k) range l (cell_of u l) range'))) q (omega arith)
+      (then_from p code input line at m (m2 + 1) lo lo r now (PlaceIn p code input a (desig_cells d)) (Nothing p code input) (ev_desig p input below d v) (λ t k. bind (ev_desig p input below e t) (λ u l. unify_cells u k (cell_of u k) range l (cell_of u l) range')) q (omega arith) behind
+      (runs (stands_front code at first second front) v now b)
+      (λ u k t left place.
+      let b1 = begins p code input lo r now u t left in
+      from_more p code input line 0 8 m (m2 + 1) t (leaving p code input lo r t (Nothing p code input)) (bind (ev_desig p input below e u) (λ u2 l. unify_cells u2 k (cell_of u2 k) range l (cell_of u2 l) range')) q (omega arith)
+      (then_from p code input line m m2 (m2 + 1) lo la r t (PlaceIn p code input c (desig_cells e)) (Nothing p code input) (ev_desig p input below e u) (λ u2 l. unify_cells u2 k (cell_of u2 k) range l (cell_of u2 l) range') q (omega arith) behind
+      (others m (stands_back code at first second front) u t b1)
+      (λ u2 l t2 left2 place2.
+      unify_ends m2 lo a c (desig_cells d) (desig_cells e) u2 t2 k l range range' behind (omega (arith, cells)) (omega (arith, cells')) has has' (begins p code input la r t u2 t2 left2)
+      (place_after p code input la r a (desig_cells d) k u u2 t t2 b1 (omega (arith, behind, inside.0)) inside.1 left2 place) place2 i)))))

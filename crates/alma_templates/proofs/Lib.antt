@@ -28,3 +28,4 @@ pub mod CellTests
 pub mod Returning
 pub mod Whole
 pub mod CallForms
+pub mod CaseForms

@@ -375,3 +375,16 @@ module _ (p : Program) (code : PlainCode) (input : List ℕ) where
       less : (x : Store) (f : Flow NoYield) (y : State) (base : List PlainEntry) → IsGoing base y → Leaves exit (ending may la r t) x f y → (i : ℕ) × (z : State) × (i ≤ 0) × Silently code input i y z × IsGoing base z × Leaves exit (ending may lo r now) x f z
       less x (Go n) y base going out = (0, y, omega arith, no_step code input y, going, (out.0, left_on lo la r now v x t y.now le left out.1))
       less x (Return n) y base going out = (0, y, omega arith, no_step code input y, going, (out.0, left_on (own_end p r) (own_end p r) r now v x t y.now (omega arith) (left_less (own_end p r) lo r now v t own left) out.1, out.2))
+
+  -- a part without RETURN, and statements behind it
+  pub then_ending : {A : Type 0} (may : Bool) (line at m exit lo la r : ℕ) (now : List PlainFrame) (ya : Store → A → List PlainFrame → Type 0) (e : Events A) (k : Store → A → Events NoYield) (q : ℕ)
+      → lo ≤ la → own_end p r ≤ lo → NodeRuns line at m now (leaving la r now ya) e q
+      → ((v : Store) (y : A) (t : List PlainFrame) → Left la r now v t → ya v y t → From line 8 m exit t (ending may lo r t) (k v y) q)
+      → From line 0 at exit now (ending may lo r now) (bind e k) q
+  then_ending may line at m exit lo la r now ya e k q le own runs later held s is =
+      bind_goes code input line 8 0 24 (Leaves m (leaving la r now ya)) (Leaves exit (ending may lo r now)) held e k s 0 q 8 (omega arith) (omega arith)
+      (node_here line at m now (leaving la r now ya) e q runs held s is)
+      (λ v y t base going left.
+      from_ending may line 8 m exit lo lo r v now t.now (k v y) q (omega arith) own (left_less lo la r now v t.now le left.1.0) (later v y t.now left.1.0 left.1.1) base t
+      (record { mode = going.mode; here = left.0; frames = refl; entries = going.entries }))
+      (λ v n t left. absurd left)
