@@ -29,3 +29,4 @@ pub mod Returning
 pub mod Whole
 pub mod CallForms
 pub mod CaseForms
+pub mod Starting
