@@ -170,10 +170,13 @@ laid_full : (now : List PlainFrame) (x : Change Cell) → AreFull now → AreFul
 laid_full now x full k = let b = laid_form now x k in b.long ∙ full k ∙ ap length (sym b.kinds)
 
 pub number_within : (now : List PlainFrame) (f s : ℕ) → AreFull now → number_at now f s ≡ true → (f < length now) × (s < length (get_or now f picture.no_frame).cells)
-number_within now f s full e = (elim (cases_lt f (length now)) [
-  | inl lt ↦ lt
-  | inr past ↦ let is : get_or now f picture.no_frame ≡ picture.no_frame = get_or_past now f picture.no_frame past in absurd (no_kind s (ap (λ g. is_number (slice_get g.kinds s)) (sym is) ∙ e))
-], omega (arith, full f, kind_within (get_or now f picture.no_frame).kinds s e))
+number_within now f s full e = (
+  elim (cases_lt f (length now)) [
+    | inl lt ↦ lt
+    | inr past ↦ let is : get_or now f picture.no_frame ≡ picture.no_frame = get_or_past now f picture.no_frame past in absurd (no_kind s (ap (λ g. is_number (slice_get g.kinds s)) (sym is) ∙ e))
+  ],
+  omega (arith, full f, kind_within (get_or now f picture.no_frame).kinds s e),
+)
   where
     no_kind : (n : ℕ) → is_number (slice_get [] n) ≡ true → ⊥
     no_kind n h = absurd (cc)

@@ -295,12 +295,16 @@ module _ (p : Program) (tables : Tables) (code : PlainCode) (input : List ℕ) (
       (record { mode = going.mode; here = left.0; frames = refl; entries = going.entries }))
       (λ v2 others t2 base2 going2 left2.
       let one_more = left2.1.0 in
-      one_goes code input line c 0 (Leaves exit w) base2 v2 (taken ∷ others) t2 c q (omega arith) going2
-      (left2.0 ∙ end, (left_on p code input to (to + 1) r now v1 v2 t.now t2.now (omega arith) left.1.0 one_more,
-      record {
-        cells = left.1.1.cell ∷ left2.1.1.cells;
-        handed = (handed_after (to + 1) x.kind x.cells taken left.1.1.cell v1 v2 t.now t2.now b1 one_more left.1.1.handed, left2.1.1.handed);
-        there = (holds_after p code input (to + 1) r to left.1.1.cell v1 v2 t.now t2.now b1 slots.behind (omega arith) one_more left.1.1.holds, let e : to + 1 ≡ suc to = omega arith in subst (λ n. HeldFrom t2.now n left2.1.1.cells) e left2.1.1.there);
-      })))
+      one_goes code input line c 0 (Leaves exit w) base2 v2 (taken ∷ others) t2 c q (omega arith) going2 (
+        left2.0 ∙ end,
+        (
+          left_on p code input to (to + 1) r now v1 v2 t.now t2.now (omega arith) left.1.0 one_more,
+          record {
+            cells = left.1.1.cell ∷ left2.1.1.cells;
+            handed = (handed_after (to + 1) x.kind x.cells taken left.1.1.cell v1 v2 t.now t2.now b1 one_more left.1.1.handed, left2.1.1.handed);
+            there = (holds_after p code input (to + 1) r to left.1.1.cell v1 v2 t.now t2.now b1 slots.behind (omega arith) one_more left.1.1.holds, let e : to + 1 ≡ suc to = omega arith in subst (λ n. HeldFrom t2.now n left2.1.1.cells) e left2.1.1.there);
+          },
+        ),
+      ))
       (λ v2 n t2 left2. left2))
       (λ v1 n t left. left)

@@ -254,9 +254,9 @@ module _ (p : Program) (tables : Tables) (code : PlainCode) (input : List ℕ) (
         → ArgsFit (routine_at p called).params args → own_end p r ≤ lo → lo ≤ la → HasSlots p code r la (call_links p r called up ++ (handed_slots args ++ args_slots p r args))
         → ((m first : ℕ) → ArgParts p tables code input below r line q m first (first + length (handed_slots args)) args)
         → let first : ℕ = la + length (call_links p r called up) in
-          let link : List Lined = own line (link_if p tables r (shift_of p called) up la) in
-          let given : List Lined = args_code p tables r line (at + length link) first (first + length (handed_slots args)) args in
-          Stands code at (link ++ given) → Begins p code input r v now
+        let link : List Lined = own line (link_if p tables r (shift_of p called) up la) in
+        let given : List Lined = args_code p tables r line (at + length link) first (first + length (handed_slots args)) args in
+        Stands code at (link ++ given) → Begins p code input r v now
         → ((u : Store) (taken : List ArgValue) (t : List PlainFrame) → Left p code input la r now u t → ArgsDone called up la u taken t → From p code input line 8 (at + length (link ++ given)) exit t (leaving p code input lo r t yields) (k u taken) q)
         → From p code input line 24 at exit now (leaving p code input lo r now yields) (bind (ev_args p input below args v) k) q
     front_from args lo la at exit yields k v now fits own_lo behind_lo slots parts stands b later held s is =

@@ -59,13 +59,13 @@ module _ (p : Program) (code : PlainCode) (input : List ℕ) where
 
     place_numbers : (n : ℕ) (q : Place) (c : CellPlace) → PlaceAlike p code v now n q c → numbers_at n now c.frame c.slot ≡ true
     place_numbers n q c alike = numbers_up n c.frame c.slot (λ k lt.
-      let inside : k < q.size = omega (arith, lt, alike.size) in
-      let frame = stand.frames q.frame alike.numbers.frame in
-      let sh = shift_in p v q.frame in
-      let kinds = (get_or now q.frame picture.no_frame).kinds in
-      let at : c.slot + k ≡ sh + (q.slot + k) = omega (arith, alike.same.slot) in
-      ap (λ f. number_at now f (c.slot + k)) (sym alike.same.frame) ∙ ap (number_at now q.frame) at
-      ∙ ap is_number (slice_get-get_or kinds (sh + (q.slot + k)) slot.Mark (omega (arith, alike.numbers.cells k inside, frame.within, frame.full)) ∙ ap Some (alike.numbers.kinds k inside)))
+        let inside : k < q.size = omega (arith, lt, alike.size) in
+        let frame = stand.frames q.frame alike.numbers.frame in
+        let sh = shift_in p v q.frame in
+        let kinds = (get_or now q.frame picture.no_frame).kinds in
+        let at : c.slot + k ≡ sh + (q.slot + k) = omega (arith, alike.same.slot) in
+        ap (λ f. number_at now f (c.slot + k)) (sym alike.same.frame) ∙ ap (number_at now q.frame) at
+        ∙ ap is_number (slice_get-get_or kinds (sh + (q.slot + k)) slot.Mark (omega (arith, alike.numbers.cells k inside, frame.within, frame.full)) ∙ ap Some (alike.numbers.kinds k inside)))
 
     one_argument : (kind : ArgKind) (n : ℕ) (a : ArgValue) (c : Cell) (k : Cell → Stepped) → HandedAs p code v now kind n a c → as_argument (param_kind kind) n (Some c) s k ≡ k c
     one_argument kind n a c k (a_value x fits) = refl

@@ -456,8 +456,8 @@ module _ (p : Program) (code : PlainCode) (v : Store) (now : List PlainFrame) (s
       let both : length (a ++ params_kinds qs) ≡ length a + length (params_kinds qs) = length-append a (params_kinds qs) in (
         λ i lt. h i (omega (arith, lt, al, both)) ∙ get_or_append_left a (params_kinds qs) slot.Mark i (omega (arith, lt, al)),
         params_from qs (at + param_slots q) (λ i lt.
-          (let e : shift p r + (at + param_slots q + i) ≡ shift p r + (at + (param_slots q + i)) = omega arith in ap (λ n. get_or kinds n slot.Mark) e)
-          ∙ h (param_slots q + i) (omega (arith, lt, al, both)) ∙ ap (λ n. get_or (a ++ params_kinds qs) (n + i) slot.Mark) (sym al) ∙ get_or-append-add a (params_kinds qs) i slot.Mark),
+            (let e : shift p r + (at + param_slots q + i) ≡ shift p r + (at + (param_slots q + i)) = omega arith in ap (λ n. get_or kinds n slot.Mark) e)
+            ∙ h (param_slots q + i) (omega (arith, lt, al, both)) ∙ ap (λ n. get_or (a ++ params_kinds qs) (n + i) slot.Mark) (sym al) ∙ get_or-append-add a (params_kinds qs) i slot.Mark),
       )
 
   -- ---- the arguments

@@ -186,8 +186,15 @@ module _ (p : Program) (tables : Tables) (code : PlainCode) (input : List ℕ) w
   own_long r first =
       let params = params_kinds (routine_at p r).params in
       let others = replicate ((routine_at p r).slots - length params) slot.Number in
-      omega (arith, length-append (link_kinds (routine_at p r).level (routine_at p r).outer) (params ++ others), length-append params others, length-replicate ((routine_at p r).slots - length params) slot.Number,
-      link_long (routine_at p r).level (routine_at p r).outer, params_long (routine_at p r).params, first.fit)
+      omega (
+        arith,
+        length-append (link_kinds (routine_at p r).level (routine_at p r).outer) (params ++ others),
+        length-append params others,
+        length-replicate ((routine_at p r).slots - length params) slot.Number,
+        link_long (routine_at p r).level (routine_at p r).outer,
+        params_long (routine_at p r).params,
+        first.fit,
+      )
 
   abbrev body_slot : (r : ℕ) → ℕ
   body_slot r = length (own_kinds (routine_at p r))
