@@ -26,7 +26,7 @@ module _ (code : PlainCode) (input : List ℕ) where
   abbrev pub ReadsFirst : (at slot : ℕ) → List PlainFrame → Type 0
   ReadsFirst at slot now = (held : List PlainEntry) (s : State) → IsAt at now held s → (k : ℤ → Stepped) × (step code input s ≡ number (passed code input s) slot k)
 
-  reads_unknown : (line at slot : ℕ) (now : List PlainFrame) (held : List PlainEntry) (s : State) → ReadsFirst at slot now → IsAt at now held s → line_at code at ≡ line → Holds now slot cell.Unknown → Faults code input line s fault.Unknown
+  pub reads_unknown : (line at slot : ℕ) (now : List PlainFrame) (held : List PlainEntry) (s : State) → ReadsFirst at slot now → IsAt at now held s → line_at code at ≡ line → Holds now slot cell.Unknown → Faults code input line s fault.Unknown
   reads_unknown line at slot now held s reads is here there =
       let r = reads held s is in
       faults_now code input line s fault.Unknown (ap (line_at code) is.here ∙ here)
@@ -38,7 +38,7 @@ module _ (code : PlainCode) (input : List ℕ) where
     both_unknown : SameNumber store.Unknown cell.Unknown
 
   module _ (p : Program) (below : Level) (from cells : ℕ) (v : Store) where
-    bare_is : ev_expr p input below (Load (a_desig (root.Local from) cells no_sels)) v ≡ Visit (Visit (Visit (visit_each (join (read_cell (top_cell v from) (λ n. one v n)) Fail))))
+    pub bare_is : ev_expr p input below (Load (a_desig (root.Local from) cells no_sels)) v ≡ Visit (Visit (Visit (visit_each (join (read_cell (top_cell v from) (λ n. one v n)) Fail))))
     unfolding ev_expr
     bare_is = refl
 

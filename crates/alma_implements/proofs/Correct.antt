@@ -1,8 +1,9 @@
 -- Code that is a program's implements it.
-use Rattle.std.proofs.Common.{◌≡◌, ℕ, zero, suc, ◌+◌, ◌<◌, ◌≤◌, List, [], ◌∷◌, ◌++◌, length, map, replicate, get_or, set, drop, Some, refl, sym, ap, ◌∙◌, subst, arith, pos, length-append, length-drop}
+use Rattle.std.proofs.Common.{◌≡◌, ℕ, zero, suc, ◌+◌, ◌<◌, ◌≤◌, inl, inr, List, [], ◌∷◌, ◌++◌, length, map, replicate, get_or, set, drop, Some, refl, sym, ap, ◌∙◌, subst, arith, pos, length-append, length-drop}
 use Rattle.std.specs.Prelude.{slice_get}
 use Rattle.std.specs.List.{AllByRecursion}
-use Rattle.std.proofs.lemmas.List.{get_or-set_same, get_or-set_other, length-set, get_or_append_left, get_or-append-add, length-map, length-replicate, get_or-replicate, get_or-map}
+use Rattle.std.proofs.lemmas.Bool.{cases_eq, cases_lt}
+use Rattle.std.proofs.lemmas.List.{get_or_past, get_or-set_same, get_or-set_other, length-set, get_or_append_left, get_or-append-add, length-map, length-replicate, get_or-replicate, get_or-map}
 use Rattle.std.proofs.lemmas.Option.{slice_get-get_or, get_or_from_slice_get}
 use Rattle.std.proofs.Math.Nat.{mul-div-le}
 use Rattle.alma_code.specs.declared.cell.Cell.{Cell}
@@ -33,6 +34,7 @@ use Rattle.alma_implements.specs.Templates.{stmts_slots, stmts_code, body_kinds,
 use Rattle.alma_implements.proofs.Goes.{weaker, node_goes}
 use Rattle.alma_implements.proofs.Follows.{AgreesFrom, EndsWell, follows}
 use Rattle.alma_implements.proofs.Frames.{shift, SameContent, SameFrame, StandFor, HasSlots}
+use Rattle.alma_implements.proofs.FrameLemmas.{HoldsPlace}
 use Rattle.alma_implements.proofs.LineTable.{stand_behind}
 use Rattle.alma_implements.proofs.Steps.{InstrAt, return_ends}
 use Rattle.alma_implements.proofs.ExprRows.{AreVariables, begun}
@@ -310,13 +312,20 @@ module _ (p : Program) (code : PlainCode) (input : List ℕ) where
     abbrev Same : SlotKind → store.Cell → Cell → Type 0
     Same k a c = SameContent p (meaning.start p) k a c
 
-    starts_alike : StandFor p code (meaning.start p) (start_frame (head_at code 0) ∷ [])
-    starts_alike = record {
+    starts_alike : 0 < length p.routines → StandFor p code (meaning.start p) (start_frame (head_at code 0) ∷ [])
+    starts_alike exists = record {
       count = refl;
       some = omega arith;
       frames = λ k lt. let e : k ≡ 0 = omega arith in
           subst (λ n. SameFrame p code (meaning.start p) (get_or (meaning.start p) n store.no_frame) (get_or (start_frame (head_at code 0) ∷ []) n picture.no_frame)) (sym e) same;
       links = λ k lt ge. absurd (omega (arith, lt, ge));
+      declared = λ k lt. let e : k ≡ 0 = omega (arith, lt) in
+          subst (λ n. (get_or (start_frame (head_at code 0) ∷ []) n picture.no_frame).declared ≡ (routine_at p (get_or (meaning.start p) n store.no_frame).routine).declared) (sym e) (ap (λ c. (head_at c 0).declared) is_code.is);
+      places = λ k i q lt e. let z : k ≡ 0 = omega (arith, lt) in
+          absurd (holds_none i (subst HoldsPlace (sym (ap (λ n. get_or (get_or (meaning.start p) n store.no_frame).cells i Unknown) (sym z) ∙ e)) tt));
+      routines = λ k lt. let e : k ≡ 0 = omega (arith, lt) in
+          subst (λ n. (get_or (meaning.start p) n store.no_frame).routine < length p.routines) (sym e) exists;
+      main = refl;
     }
       where
         kinds : List SlotKind
@@ -333,6 +342,15 @@ module _ (p : Program) (code : PlainCode) (input : List ℕ) where
 
         unknowns_long : length (set unknowns 0 (Number (pos 0))) ≡ own.slots
         unknowns_long = length-set unknowns 0 (Number (pos 0)) ∙ length-replicate own.slots Unknown
+
+        holds_none : (i : ℕ) → HoldsPlace (get_or (set unknowns 0 (Number (pos 0))) i Unknown) → ⊥
+        holds_none i h = elim (cases_lt i own.slots) [
+          | inr past ↦ subst HoldsPlace (get_or_past (set unknowns 0 (Number (pos 0))) i Unknown (omega (arith, past, unknowns_long))) h
+          | inl lt ↦ elim (cases_eq i 0) [
+            | inl e ↦ subst HoldsPlace (ap (λ m. get_or (set unknowns 0 (Number (pos 0))) m Unknown) e ∙ get_or-set_same unknowns 0 (Number (pos 0)) Unknown (omega (arith, lt, length-replicate own.slots Unknown))) h
+            | inr ne ↦ subst HoldsPlace (get_or-set_other unknowns 0 i (Number (pos 0)) Unknown ne ∙ get_or-replicate own.slots i Unknown Unknown lt) h
+          ]
+        ]
 
         kinds_long : own.slots ≤ length kinds
         kinds_long = omega (arith, ap length kinds_are, length-append (replicate own.slots slot.Number) (stmts_slots lined_body), length-replicate own.slots slot.Number)
@@ -400,7 +418,7 @@ module _ (p : Program) (code : PlainCode) (input : List ℕ) where
         let has_lines = checked.lines 0 some in
         let fine = fine_stmts own_numbers flat own.body own.lines own_built roots (record { known = has_lines.lines; enough = omega (arith, has_lines.count) }) in
         let runs = (runs_at p code input (suc n)).stmts 0 lined_body 0 own.slots 0 fine (at_front code input 0 (stmts_code 0 own.slots lined_body) ((I.Return, own.line) ∷ []) all_instrs) phrase_slots in
-        let goes = runs 8 (omega arith) (meaning.start p) frames [] (start code) (record { mode = refl; here = refl; frames = refl; entries = refl }) starts_alike refl in
+        let goes = runs 8 (omega arith) (meaning.start p) frames [] (start code) (record { mode = refl; here = refl; frames = refl; entries = refl }) (starts_alike some) refl in
         let as_node = node_goes code input 0 8 8 0 (LeavesStmt p code input (0 + exit) own.slots 0 b) [] ((level p input (suc n)).stmts lined_body (meaning.start p)) (start code) 0 n (omega arith)
         (weaker code input 0 8 0 (LeavesStmt p code input (0 + exit) own.slots 0 b) [] ((level p input (suc n)).stmts lined_body (meaning.start p)) (start code) 32 8 n n (omega arith) (omega arith) goes) in
         comes_to n (state_after code input n).mode (line_in code (state_after code input n)) (printed_by code input n)

@@ -125,7 +125,7 @@ module _ (p : Program) (code : PlainCode) (input : List ℕ) where
     pub exist : from + cells ≤ (routine_at p r).slots
     pub numbers : (k : ℕ) → k < cells → slice_get (kinds_at code r) (shift p r + (from + k)) ≡ Some slot.Number
 
-  variables_are_numbers : (r from cells : ℕ) (v : Store) (now : List PlainFrame) → StandFor p code v now → (top_frame v).routine ≡ r → AreVariables r from cells → AreNumbers p code v now (local_place from cells v)
+  pub variables_are_numbers : (r from cells : ℕ) (v : Store) (now : List PlainFrame) → StandFor p code v now → (top_frame v).routine ≡ r → AreVariables r from cells → AreNumbers p code v now (local_place from cells v)
   variables_are_numbers r from cells v now stand routine h =
       let same = top_same p code v now stand in
       let slots : length (top_frame v).cells ≡ (routine_at p r).slots = same.slots ∙ ap (λ x. (routine_at p x).slots) routine in

@@ -150,7 +150,7 @@ module _ (p : Program) (code : PlainCode) (input : List ℕ) where
         by (not_known e h) = absurd (let bad : Unknown ≡ Number x = sym e ∙ known in cc)
 
     -- a number that the store and the machine get
-    fits_top : (lo : ℕ) (y : ℤ) → is_integer y ≡ true → Fits p code lo now (put_top v n (Number y)) (top_written now at_slot (cell.Int y))
+    pub fits_top : (lo : ℕ) (y : ℤ) → is_integer y ≡ true → Fits p code lo now (put_top v n (Number y)) (top_written now at_slot (cell.Int y))
     fits_top lo y integer =
         let at : top v ≡ length now - 1 = ap (λ k. k - 1) (sym stand.count) in
         let there : shift_in p v (top v) + n ≡ shift p r + n = shifts in

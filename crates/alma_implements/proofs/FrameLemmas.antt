@@ -18,7 +18,7 @@ use Rattle.alma_code.specs.Plain.{PlainCode, kinds_at}
 use Rattle.alma_ir.specs.Tree.{Program, routine_at}
 use Rattle.alma_mean.specs.Store.{Store, Place, Frame, Unknown, Number, At, with_cell, put, top, top_frame, cell_of}
 use Rattle.alma_mean.specs.Store as store
-use Rattle.alma_implements.proofs.Frames.{shift, shift_in, own_end, SameContent, HasLink, SameFrame, StandFor, KeptBelow, Fits, AreNumbers, SamePlace}
+use Rattle.alma_implements.proofs.Frames.{shift, shift_in, own_end, SameContent, HasLink, SameFrame, StandFor, HeldPlace, KeptBelow, Fits, AreNumbers, SamePlace}
 use Rattle.alma_implements.proofs.Steps.{top_written, Holds, HasKind}
 
 -- ---- the top frame after a write
@@ -57,6 +57,59 @@ pub put_is : (v : Store) (k n : ℕ) (c : store.Cell) → k < length v → put v
 put_is [] k n c lt = absurd (omega arith)
 put_is (f ∷ v) zero n c lt = refl
 put_is (f ∷ v) (suc k) n c lt = ap (λ z. f ∷ z) (put_is v k n c (omega arith))
+
+-- a write changes the kinds, the routine and the declared cells of no frame
+pub written_frame : (now : List PlainFrame) (f n k : ℕ) (c : Cell) → f < length now
+    → ((get_or (written now f n c) k picture.no_frame).kinds ≡ (get_or now k picture.no_frame).kinds) × ((get_or (written now f n c) k picture.no_frame).declared ≡ (get_or now k picture.no_frame).declared)
+written_frame now f n k c lt = elim (cases_eq k f) [
+  | inl e ↦
+      let is : get_or (written now f n c) k picture.no_frame ≡ frame_with (get_or now k picture.no_frame) n c =
+      ap (λ m. get_or (written now f n c) m picture.no_frame) e ∙ get_or-set_same now f (frame_with (get_or now f picture.no_frame) n c) picture.no_frame lt ∙ ap (λ m. frame_with (get_or now m picture.no_frame) n c) (sym e) in
+      (ap (λ g. g.kinds) is, ap (λ g. g.declared) is)
+  | inr ne ↦
+      let is : get_or (written now f n c) k picture.no_frame ≡ get_or now k picture.no_frame = get_or-set_other now f k (frame_with (get_or now f picture.no_frame) n c) picture.no_frame ne in
+      (ap (λ g. g.kinds) is, ap (λ g. g.declared) is)
+]
+
+-- a cell that holds a place
+abbrev pub HoldsPlace : store.Cell → Type 0
+HoldsPlace Unknown = ⊥
+HoldsPlace (Number x) = ⊥
+HoldsPlace (At q) = Unit {0}
+
+-- a number that is put hides no place
+place_put : (v : Store) (f n k i : ℕ) (x : ℤ) (q : Place) → f < length v → n < length (get_or v f store.no_frame).cells → get_or (get_or (put v f n (Number x)) k store.no_frame).cells i Unknown ≡ At q → get_or (get_or v k store.no_frame).cells i Unknown ≡ At q
+place_put v f n k i x q lt there e = by (cases_eq k f) (cases_eq i n)
+  where
+    g : Frame
+    g = with_cell (get_or v f store.no_frame) n (Number x)
+
+    moved : get_or (get_or (set v f g) k store.no_frame).cells i Unknown ≡ At q
+    moved = ap (λ z. get_or (get_or z k store.no_frame).cells i Unknown) (sym (put_is v f n (Number x) lt)) ∙ e
+
+    by : (k ≡ f) ⊎ (k ≡ f → ⊥) → (i ≡ n) ⊎ (i ≡ n → ⊥) → get_or (get_or v k store.no_frame).cells i Unknown ≡ At q
+    by (inr ne) at = ap (λ h. get_or h.cells i Unknown) (sym (get_or-set_other v f k g store.no_frame ne)) ∙ moved
+    by (inl a) (inl b) =
+        let is : get_or (get_or (set v f g) k store.no_frame).cells i Unknown ≡ Number x =
+        ap (λ m. get_or (get_or (set v f g) m store.no_frame).cells i Unknown) a ∙ ap (λ h. get_or h.cells i Unknown) (get_or-set_same v f g store.no_frame lt)
+        ∙ ap (λ m. get_or (set (get_or v f store.no_frame).cells n (Number x)) m Unknown) b ∙ get_or-set_same (get_or v f store.no_frame).cells n (Number x) Unknown there in
+        absurd (subst HoldsPlace (sym moved ∙ is) tt)
+    by (inl a) (inr nb) =
+        let is : get_or (get_or (set v f g) k store.no_frame).cells i Unknown ≡ get_or (get_or v k store.no_frame).cells i Unknown =
+        ap (λ m. get_or (get_or (set v f g) m store.no_frame).cells i Unknown) a ∙ ap (λ h. get_or h.cells i Unknown) (get_or-set_same v f g store.no_frame lt)
+        ∙ get_or-set_other (get_or v f store.no_frame).cells n i (Number x) Unknown nb ∙ ap (λ m. get_or (get_or v m store.no_frame).cells i Unknown) (sym a) in
+        sym is ∙ moved
+
+-- and no frame becomes longer
+put_long : (v : Store) (f n k : ℕ) (c : store.Cell) → f < length v → length (get_or (put v f n c) k store.no_frame).cells ≡ length (get_or v k store.no_frame).cells
+put_long v f n k c lt = ap (λ z. length (get_or z k store.no_frame).cells) (put_is v f n c lt) ∙ by (cases_eq k f)
+  where
+    by : (k ≡ f) ⊎ (k ≡ f → ⊥) → length (get_or (set v f (with_cell (get_or v f store.no_frame) n c)) k store.no_frame).cells ≡ length (get_or v k store.no_frame).cells
+    by (inl e) =
+        ap (λ m. length (get_or (set v f (with_cell (get_or v f store.no_frame) n c)) m store.no_frame).cells) e
+        ∙ ap (λ h. length h.cells) (get_or-set_same v f (with_cell (get_or v f store.no_frame) n c) store.no_frame lt) ∙ length-set (get_or v f store.no_frame).cells n c
+        ∙ ap (λ m. length (get_or v m store.no_frame).cells) (sym e)
+    by (inr ne) = ap (λ h. length h.cells) (get_or-set_other v f k (with_cell (get_or v f store.no_frame) n c) store.no_frame ne)
 
 module _ (p : Program) where
   -- ---- shifts
@@ -165,6 +218,29 @@ module _ (p : Program) (code : PlainCode) where
           subst (λ a. SameContent p v (get_or g.kinds (shift p f.routine + i) slot.Mark) a (get_or (set g.cells (shift p f.routine + n) (cell.Int x)) (shift p f.routine + i) cell.Unset)) (sym (get_or-set_other f.cells n i (Number x) Unknown ne))
           (subst (SameContent p v (get_or g.kinds (shift p f.routine + i) slot.Mark) (get_or f.cells i Unknown)) (sym (get_or-set_other g.cells (shift p f.routine + n) (shift p f.routine + i) (cell.Int x) cell.Unset (λ e. ne (omega (arith, e))))) (h.cells i lt))
 
+  -- the first m frames of two stores are of the same routines, as long, and of the same kinds
+  pub record FrontAlike (m : ℕ) (v w : Store) (now later : List PlainFrame) : Type 0 where
+    pub live : m ≤ length w
+    pub routine : (k : ℕ) → k < m → (get_or w k store.no_frame).routine ≡ (get_or v k store.no_frame).routine
+    pub long : (k : ℕ) → k < m → length (get_or w k store.no_frame).cells ≡ length (get_or v k store.no_frame).cells
+    pub kinds : (k : ℕ) → k < m → (get_or later k picture.no_frame).kinds ≡ (get_or now k picture.no_frame).kinds
+
+  -- numbers of a front are numbers
+  pub numbers_moved : (m : ℕ) (v w : Store) (now later : List PlainFrame) (q : Place) → FrontAlike m v w now later → q.frame < m → AreNumbers p code v now q → AreNumbers p code w later q
+  numbers_moved m v w now later q alike lt h = record {
+    frame = omega (arith, lt, alike.live);
+    cells = λ k small. omega (arith, h.cells k small, alike.long q.frame lt);
+    kinds = λ k small. ap (λ r. get_or (get_or later q.frame picture.no_frame).kinds (shift p r + (q.slot + k)) slot.Mark) (alike.routine q.frame lt) ∙ ap (λ ks. get_or ks (shift_in p v q.frame + (q.slot + k)) slot.Mark) (alike.kinds q.frame lt) ∙ h.kinds k small;
+  }
+
+  -- and what a frame of it holds
+  pub held_moved : (m : ℕ) (v w : Store) (now later : List PlainFrame) (k i : ℕ) (q : Place) → FrontAlike m v w now later → k < m → HeldPlace p code v now k i q → HeldPlace p code w later k i q
+  held_moved m v w now later k i q alike lt h = record {
+    below = h.below;
+    numbers = numbers_moved m v w now later q alike (omega (arith, h.below, lt)) h.numbers;
+    size = ap (λ r. get_or (get_or later k picture.no_frame).kinds (shift p r + i) slot.Mark) (alike.routine k lt) ∙ ap (λ ks. get_or ks (shift_in p v k + i) slot.Mark) (alike.kinds k lt) ∙ h.size;
+  }
+
   -- ---- frames that stand for a store
 
   -- the top frame stands for the top frame
@@ -180,8 +256,16 @@ module _ (p : Program) (code : PlainCode) where
     some = h.some;
     frames = λ k lt. by k lt (cases_eq k (length now - 1));
     links = h.links;
+    declared = λ k lt. (written_frame now (length now - 1) n k c some_now).1 ∙ h.declared k lt;
+    places = λ k i q lt e. held_moved (length v) v v now (top_written now n c) k i q
+        (record { live = omega arith; routine = λ j a. refl; long = λ j a. refl; kinds = λ j a. (written_frame now (length now - 1) n j c some_now).0 }) lt (h.places k i q lt e);
+    routines = h.routines;
+    main = h.main;
   }
     where
+      some_now : length now - 1 < length now
+      some_now = omega (arith, h.count, h.some)
+
       at : length now - 1 ≡ length v - 1
       at = ap (λ m. m - 1) h.count
 
@@ -205,8 +289,21 @@ module _ (p : Program) (code : PlainCode) where
     frames = λ k lt. same_moved v (put v f n (Number x)) (get_or (put v f n (Number x)) k store.no_frame) (get_or (written now f (shift_in p v f + n) (cell.Int x)) k picture.no_frame) (λ j. put_shift p v f n j (Number x) live)
         (subst (λ z. SameFrame p code v (get_or z k store.no_frame) (get_or (written now f (shift_in p v f + n) (cell.Int x)) k picture.no_frame)) (sym is) (by k (omega (arith, lt, long)) (cases_eq k f)));
     links = λ k lt some. moved_link k (omega (arith, lt, long)) some;
+    declared = λ k lt. (written_frame now f (shift_in p v f + n) k (cell.Int x) live_now).1 ∙ h.declared k (omega (arith, lt, long)) ∙ ap (λ r. (routine_at p r).declared) (sym (put_frame p v f n k (Number x) live).0);
+    places = λ k i q lt e. held_moved (length v) v (put v f n (Number x)) now (written now f (shift_in p v f + n) (cell.Int x)) k i q
+        (record {
+          live = omega (arith, long);
+          routine = λ j a. (put_frame p v f n j (Number x) live).0;
+          long = λ j a. put_long v f n j (Number x) live;
+          kinds = λ j a. (written_frame now f (shift_in p v f + n) j (cell.Int x) live_now).0;
+        }) (omega (arith, lt, long)) (h.places k i q (omega (arith, lt, long)) (place_put v f n k i x q live there e));
+    routines = λ k lt. omega (arith, h.routines k (omega (arith, lt, long)), (put_frame p v f n k (Number x) live).0);
+    main = (put_frame p v f n 0 (Number x) live).0 ∙ h.main;
   }
     where
+      live_now : f < length now
+      live_now = omega (arith, live, h.count)
+
       is : put v f n (Number x) ≡ set v f (with_cell (get_or v f store.no_frame) n (Number x))
       is = put_is v f n (Number x) live
 
@@ -238,7 +335,7 @@ module _ (p : Program) (code : PlainCode) where
   -- ---- where a phrase leaves the frames
 
   kept_self : (lo : ℕ) (g : PlainFrame) → KeptBelow p code lo g g
-  kept_self lo g = record { back = refl; routine = refl; declared = refl; long = refl; link = λ i a. refl; cells = λ i a b. refl }
+  kept_self lo g = record { back = refl; routine = refl; declared = refl; long = refl; link = λ i a. refl; cells = λ i a b. refl; kinds = refl; places = λ i l e a. refl }
 
   kept_on : (lo lo' : ℕ) (g g' g'' : PlainFrame) → lo ≤ lo' → KeptBelow p code lo g g' → KeptBelow p code lo' g' g'' → KeptBelow p code lo g g''
   kept_on lo lo' g g' g'' le h k = record {
@@ -248,6 +345,8 @@ module _ (p : Program) (code : PlainCode) where
     long = k.long ∙ h.long;
     link = λ i a. k.link i (subst (λ r. i < shift p r) (sym h.routine) a) ∙ h.link i a;
     cells = λ i a b. k.cells i (subst (λ r. own_end p r ≤ i) (sym h.routine) a) (omega arith) ∙ h.cells i a b;
+    kinds = k.kinds ∙ h.kinds;
+    places = λ i l e a. k.places i l (ap (λ ks. get_or ks i slot.Mark) h.kinds ∙ e) (subst (λ r. i < own_end p r) (sym h.routine) a) ∙ h.places i l e a;
   }
 
   -- a phrase that has done nothing yet
@@ -276,7 +375,7 @@ module _ (p : Program) (code : PlainCode) where
   fits_less lo lo' v before now le h = record {
     stand = h.stand;
     same_count = h.same_count;
-    top = record { back = h.top.back; routine = h.top.routine; declared = h.top.declared; long = h.top.long; link = h.top.link; cells = λ i a b. h.top.cells i a (omega arith) };
+    top = record { back = h.top.back; routine = h.top.routine; declared = h.top.declared; long = h.top.long; link = h.top.link; cells = λ i a b. h.top.cells i a (omega arith); kinds = h.top.kinds; places = h.top.places };
     others = h.others;
   }
 
@@ -302,13 +401,21 @@ module _ (p : Program) (code : PlainCode) where
       long = length-set (last_frame now).cells n c;
       link = λ i a. get_or-set_other (last_frame now).cells n i c cell.Unset (λ e. omega (arith, e, a, behind, ap (shift p) (top_same v now h).routine));
       cells = λ i a b. get_or-set_other (last_frame now).cells n i c cell.Unset (λ e. omega (arith, e));
+      kinds = refl;
+      places = λ i l e a. get_or-set_other (last_frame now).cells n i c cell.Unset (λ z. omega (arith, z, a, behind, slots_are v now h, ap (shift p) (top_same v now h).routine));
     });
     others = λ i lt. others_kept now n i c lt;
   }
 
   -- a frame after a number was stored in one of the slots of its routine
-  kept_put : (v : Store) (lo : ℕ) (f : Frame) (g : PlainFrame) (n : ℕ) (c : Cell) → n < length f.cells → SameFrame p code v f g → KeptBelow p code lo g (frame_with g (shift p f.routine + n) c)
-  kept_put v lo f g n c there same =
+  abbrev IsNumberKind : SlotKind → Type 0
+  IsNumberKind slot.Number = Unit {0}
+  IsNumberKind (slot.Place l) = ⊥
+  IsNumberKind slot.Mark = ⊥
+  IsNumberKind (slot.Link r) = ⊥
+
+  kept_put : (v : Store) (lo : ℕ) (f : Frame) (g : PlainFrame) (n : ℕ) (c : Cell) → n < length f.cells → get_or g.kinds (shift p f.routine + n) slot.Mark ≡ slot.Number → SameFrame p code v f g → KeptBelow p code lo g (frame_with g (shift p f.routine + n) c)
+  kept_put v lo f g n c there kind same =
       let shifts : shift p f.routine ≡ shift p g.routine = ap (shift p) same.routine in
       let slots : length f.cells ≡ (routine_at p g.routine).slots = same.slots ∙ ap (λ r. (routine_at p r).slots) same.routine in
       record {
@@ -318,6 +425,8 @@ module _ (p : Program) (code : PlainCode) where
         long = length-set g.cells (shift p f.routine + n) c;
         link = λ i a. get_or-set_other g.cells (shift p f.routine + n) i c cell.Unset (λ e. omega (arith, e, a, shifts));
         cells = λ i a b. get_or-set_other g.cells (shift p f.routine + n) i c cell.Unset (λ e. omega (arith, e, a, there, slots, shifts));
+        kinds = refl;
+        places = λ i l is a. get_or-set_other g.cells (shift p f.routine + n) i c cell.Unset (λ e. subst IsNumberKind (sym kind ∙ ap (λ m. get_or g.kinds m slot.Mark) (sym e) ∙ is) tt);
       }
 
   -- a number stored in a slot of a routine
@@ -340,7 +449,7 @@ module _ (p : Program) (code : PlainCode) where
           ∙ ap (λ m. frame_with (get_or now m picture.no_frame) (shift_in p v m + n) (cell.Int x)) (sym e) in
           let here : n < length (get_or v k store.no_frame).cells = subst (λ m. n < length (get_or v m store.no_frame).cells) (sym e) there in
           subst (KeptBelow p code lo2 (get_or now k picture.no_frame)) (sym is)
-          (kept_put v lo2 (get_or v k store.no_frame) (get_or now k picture.no_frame) n (cell.Int x) here (h.frames k (omega (arith, e, live))))
+          (kept_put v lo2 (get_or v k store.no_frame) (get_or now k picture.no_frame) n (cell.Int x) here (subst (λ m. get_or (get_or now m picture.no_frame).kinds (shift_in p v m + n) slot.Mark ≡ slot.Number) (sym e) kind) (h.frames k (omega (arith, e, live))))
       at k lo2 (inr ne) =
           subst (KeptBelow p code lo2 (get_or now k picture.no_frame)) (sym (get_or-set_other now f k (frame_with (get_or now f picture.no_frame) (shift_in p v f + n) (cell.Int x)) picture.no_frame ne))
           (kept_self lo2 (get_or now k picture.no_frame))
@@ -353,7 +462,7 @@ module _ (p : Program) (code : PlainCode) where
   -- ---- places
 
   -- each frame is of the routine that it was of, and has the kinds that it had
-  frame_routine : (lo k : ℕ) (v v' : Store) (now later : List PlainFrame) → k < length v → StandFor p code v now → Fits p code lo now v' later
+  pub frame_routine : (lo k : ℕ) (v v' : Store) (now later : List PlainFrame) → k < length v → StandFor p code v now → Fits p code lo now v' later
       → (get_or later k picture.no_frame).routine ≡ (get_or now k picture.no_frame).routine
   frame_routine lo k v v' now later lt h fit = by (cases_lt (suc k) (length later))
     where

@@ -15,7 +15,7 @@ use Rattle.alma_code.specs.Machine.{State, act, as_number, result_to, returned, 
 use Rattle.alma_mean.specs.Store.{Store, without_top}
 use Rattle.alma_mean.specs.Events.{Events, NoYield, Flow, Go, Return, Fail, one, line_or}
 use Rattle.alma_mean.specs.Rows.{ArgValue, as_value, function_value, enter, frame_of}
-use Rattle.alma_implements.proofs.Goes.{IsGoing, Goes, no_step, and_then, before, first_goes, one_goes}
+use Rattle.alma_implements.proofs.Goes.{IsGoing, Goes, no_step, and_then, before, weaker, first_goes, one_goes}
 use Rattle.alma_implements.proofs.Address.{at_address}
 use Rattle.alma_implements.proofs.Frames.{IsAt}
 use Rattle.alma_implements.proofs.Steps.{InstrAt, does, passed, Holds, HasKind, top_written, fault_step}
@@ -65,42 +65,43 @@ module _ (code : PlainCode) (input : List ℕ) where
   LeavesFunction at r first to m h line w v (Go y) t = InstrAt code input line t.at (I.Fault 6)
 
   -- behind the Call, which stands at `at`, with the mark set before it; `function` is the line of the routine
-  pub function_row : (line function at exit r first to m : ℕ) (now : List PlainFrame) (w : Ways ℤ) (wb : Ways NoYield) (e : Events NoYield) (held : List PlainEntry) (s : State) (q : ℕ)
+  pub function_row : (line function at exit r first to m : ℕ) (now : List PlainFrame) (w : Ways ℤ) (wb : Ways NoYield) (e : Events NoYield) (held : List PlainEntry) (s : State) (c q : ℕ) → 2 ≤ c
       → InstrAt code input line at (I.Call r first to) → InstrAt code input line (at + 1) (I.Cut m) → 1 ≤ function
       → ((v : Store) (f : Flow NoYield) (t : State) → Leaves exit wb v f t → LeavesFunction at r first to m (length held) function w v f t)
-      → Goes code input line 7 0 (Leaves exit wb) held e s 7 q
-      → Goes code input line 0 24 (Leaves (at + 2) w) held (as_value function e) s 7 q
-  function_row line function at exit r first to m now w wb e held s q call cut known comes_back runs =
-      first_goes code input line 7 0 24 (Leaves exit wb) (Leaves (at + 2) w) held held e (function_value function) (λ _. Fail) 0 s 7 q runs
+      → Goes code input line c 0 (Leaves exit wb) held e s c q
+      → Goes code input line 0 24 (Leaves (at + 2) w) held (as_value function e) s c q
+  function_row line function at exit r first to m now w wb e held s c q two call cut known comes_back runs =
+      weaker code input line 0 24 (Leaves (at + 2) w) held (as_value function e) s c (c + 0) q q (omega arith) (omega arith)
+      (first_goes code input line c 0 24 (Leaves exit wb) (Leaves (at + 2) w) held held e (function_value function) (λ _. Fail) 0 s c q runs
       (λ v f t above going left. ends v f t above going (comes_back v f t left))
-      (λ u failing. (0, u, omega arith, no_step code input u, failing))
+      (λ u failing. (0, u, omega arith, no_step code input u, failing)))
     where
       ends : (v : Store) (f : Flow NoYield) (t : State) (above : List PlainEntry) → IsGoing (held ++ above) t → LeavesFunction at r first to m (length held) function w v f t
-          → Goes code input line 0 24 (Leaves (at + 2) w) held (function_value function v f) t (7 + 0) q
+          → Goes code input line 0 24 (Leaves (at + 2) w) held (function_value function v f) t (c + 0) q
       ends v (Return (Some n)) t above going g =
           let call_there : (last_frame t.now).back - 1 ≡ at = omega (arith, g.back) in
           let a = return_value_step g.line t.at g.from r first to n t.now (held ++ above) t (record { mode = going.mode; here = refl; frames = refl; entries = going.entries }) g.instr g.number (ap (slice_get code.instrs) call_there ∙ call.instr) g.kind in
           let behind = at_address (last_frame t.now).back (at + 1) (top_written (without_last t.now) to (cell.Int n)) (held ++ above) a.to g.back a.is in
           let b = cut_step code input line (at + 1) m (top_written (without_last t.now) to (cell.Int n)) held above a.to behind cut g.mark in
-          before code input line 0 24 (Leaves (at + 2) w) held (one (without_top v) n) t b.to 2 (7 + 0) 5 q q (and_then code input a.silently b.silently) (omega arith) (omega arith)
-          (one_goes code input line 0 24 (Leaves (at + 2) w) held (without_top v) n b.to 5 q (omega arith) (record { mode = b.is.mode; entries = b.is.entries })
+          before code input line 0 24 (Leaves (at + 2) w) held (one (without_top v) n) t b.to 2 (c + 0) (c - 2) q q (and_then code input a.silently b.silently) (omega (arith, two)) (omega arith)
+          (one_goes code input line 0 24 (Leaves (at + 2) w) held (without_top v) n b.to (c - 2) q (omega arith) (record { mode = b.is.mode; entries = b.is.entries })
           (let e2 : at + 1 + 1 ≡ at + 2 = omega arith in b.is.here ∙ e2, subst (w.goes (without_top v) n) (sym b.is.frames) g.goes))
       ends v (Return None) t above going g = absurd g
       ends v (Go y) t above going g =
           let z = fault_step code input function t.at t.now (held ++ above) t (record { mode = going.mode; here = refl; frames = refl; entries = going.entries }) 6 fault.NoReturn g refl in
-          (1, z.to, omega arith, z.silently, z.is, z.on_line ∙ kept function known)
+          (1, z.to, omega (arith, two), z.silently, z.is, z.on_line ∙ kept function known)
         where
           kept : (n : ℕ) → 1 ≤ n → n ≡ line_or n line
           kept zero le = absurd (omega (arith, le))
           kept (suc n) le = refl
 
   -- a call in an expression, behind its arguments and its Mark
-  pub function_call_row : (p : Program) (line function at r first to m exit : ℕ) (now : List PlainFrame) (v : Store) (callee : PlainRoutine) (args : List Cell) (links : ℕ) (taken : List ArgValue) (body : Store → Events NoYield) (w : Ways ℤ) (wb : Ways NoYield) (q : ℕ) (held : List PlainEntry) (s : State)
+  pub function_call_row : (p : Program) (line function at r first to m exit : ℕ) (now : List PlainFrame) (v : Store) (callee : PlainRoutine) (args : List Cell) (links : ℕ) (taken : List ArgValue) (body : Store → Events NoYield) (w : Ways ℤ) (wb : Ways NoYield) (c q : ℕ) (held : List PlainEntry) (s : State) → 2 ≤ c → c ≤ 8
       → InstrAt code input line at (I.Call r first to) → InstrAt code input line (at + 1) (I.Cut m) → 1 ≤ function → slice_get code.routines r ≡ Some callee → CountsAlike code input p v now callee r
       → Runs code input line (start_at code r) exit (now ++ entered_frame now callee.head r (at + 1) args ∷ []) wb (body (v ++ frame_of v r links (routine_at p r) taken ∷ [])) q
       → ((x : Store) (f : Flow NoYield) (t : State) → Leaves exit wb x f t → LeavesFunction at r first to m (length held) function w x f t)
       → IsAt at now held s → HoldsArguments code input callee first args s
-      → Goes code input line 0 24 (Leaves (at + 2) w) held (as_value function (enter p body r links v taken)) s 8 (suc q)
-  function_call_row p line function at r first to m exit now v callee args links taken body w wb q held s call cut known there alike runs comes_back is reads =
-      enter_goes code input (as_value function) (λ f l. refl) p line at r first to now v callee args links taken body (Leaves (at + 2) w) q call there alike held s is reads
-      (λ t begun. function_row line function at exit r first to m now w wb (body (v ++ frame_of v r links (routine_at p r) taken ∷ [])) held t q call cut known comes_back (runs 7 (omega arith) held t begun))
+      → Goes code input line 0 24 (Leaves (at + 2) w) held (as_value function (enter p body r links v taken)) s (suc c) (suc q)
+  function_call_row p line function at r first to m exit now v callee args links taken body w wb c q held s two few call cut known there alike runs comes_back is reads =
+      enter_goes code input (as_value function) (λ f l. refl) p line at r first to now v callee args links taken body (Leaves (at + 2) w) c q call there alike held s is reads
+      (λ t begun. function_row line function at exit r first to m now w wb (body (v ++ frame_of v r links (routine_at p r) taken ∷ [])) held t c q two call cut known comes_back (runs c few held t begun))

@@ -37,3 +37,7 @@ pub mod ForallRow
 pub mod SeqRow
 pub mod TurnRow
 pub mod Leaving
+pub mod CarryMaps
+pub mod LaidOver
+pub mod Carrying
+pub mod Gaining

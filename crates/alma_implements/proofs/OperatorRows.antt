@@ -42,13 +42,13 @@ zero_bit true = refl
 zero_bit false = refl
 
 -- what a division leaves is a number of INTEGER, where the divisor is one
-rest_integer : (b r : ℤ) → is_integer b ≡ true → IsRest b r → is_integer r ≡ true
+pub rest_integer : (b r : ℤ) → is_integer b ≡ true → IsRest b r → is_integer r ≡ true
 rest_integer (pos n) (pos m) fits h = grind (arith, ints, nat_tests)
 rest_integer (pos n) (negsuc m) fits h = absurd (let low : pos 0 ≤ℤ negsuc m = h.0 in omega (arith, ints))
 rest_integer (negsuc n) (pos m) fits h = grind (arith, ints, nat_tests)
 rest_integer (negsuc n) (negsuc m) fits h = grind (arith, ints, nat_tests)
 
-nonzero : (b : ℤ) → is_zero b ≡ false → b ≢ pos 0
+pub nonzero : (b : ℤ) → is_zero b ≡ false → b ≢ pos 0
 nonzero b h e = absurd (let bad : true ≡ false = ap is_zero (sym e) ∙ h in cc)
 
 module _ (p : Program) (code : PlainCode) (input : List ℕ) where

@@ -72,7 +72,7 @@ module _ (code : PlainCode) (input : List ℕ) where
     pub silently : Silently code input 1 s to
     pub is : IsAt (at + 1) (top_written now n c) held to
 
-  written_from : (at : ℕ) (now : List PlainFrame) (held : List PlainEntry) (s : State) (n : ℕ) (c : Cell) → IsAt at now held s → step code input s ≡ went (with_slot (passed s) n c) → Writes at now held s n c
+  pub written_from : (at : ℕ) (now : List PlainFrame) (held : List PlainEntry) (s : State) (n : ℕ) (c : Cell) → IsAt at now held s → step code input s ≡ went (with_slot (passed s) n c) → Writes at now held s n c
   written_from at now held s n c h e = record {
     to = with_slot (passed s) n c;
     silently = went_on s (with_slot (passed s) n c) e;
@@ -102,7 +102,7 @@ module _ (code : PlainCode) (input : List ℕ) where
 
   module _ (line at : ℕ) (now : List PlainFrame) (held : List PlainEntry) (s : State) (h : IsAt at now held s) where
     -- the line of the address is that of the state
-    here_too : line_at code at ≡ line → line_at code s.at ≡ line
+    pub here_too : line_at code at ≡ line → line_at code s.at ≡ line
     here_too there = ap (line_at code) h.here ∙ there
 
     pub const_step : (n : ℕ) (x : ℤ) → InstrAt line at (I.Const n x) → HasKind now n slot.Number → Writes at now held s n (cell.Int x)
@@ -202,7 +202,7 @@ module _ (code : PlainCode) (input : List ℕ) where
     link_put a q f kind =
         ap (λ o. to_link o (passed s) (λ _. went (with_slot (passed s) a (cell.Place (link_to f))))) (ap (λ z. slice_get (last_frame z).kinds a) h.frames ∙ kind)
 
-    place_put : (a l frame : ℕ) (first : ℕ → ℕ) → HasKind now a (slot.Place l) → put_place (passed s) a frame first ≡ went (with_slot (passed s) a (cell.Place (record { frame = frame; slot = first l; len = l })))
+    pub place_put : (a l frame : ℕ) (first : ℕ → ℕ) → HasKind now a (slot.Place l) → put_place (passed s) a frame first ≡ went (with_slot (passed s) a (cell.Place (record { frame = frame; slot = first l; len = l })))
     place_put a l frame first kind =
         ap (λ o. to_place o (passed s) (λ m. went (with_slot (passed s) a (cell.Place (record { frame = frame; slot = first m; len = m }))))) (ap (λ z. slice_get (last_frame z).kinds a) h.frames ∙ kind)
 
@@ -238,7 +238,7 @@ module _ (code : PlainCode) (input : List ℕ) where
     abbrev pub HasContent : CellPlace → Cell → Type 0
     HasContent q c = (number_at now q.frame q.slot ≡ true) × (cell_at now q.frame q.slot cell.Unset ≡ c)
 
-    loads : (a b : ℕ) (q : CellPlace) (c : Cell) → InstrAt line at (I.Load a b) → Holds now b (cell.Place q) → HasContent q c
+    pub loads : (a b : ℕ) (q : CellPlace) (c : Cell) → InstrAt line at (I.Load a b) → Holds now b (cell.Place q) → HasContent q c
         → step code input s ≡ as_content true c (passed s) (λ o. known (passed s) o (λ v. put_number (passed s) a v))
     unfolding act
     loads a b q c i hb hc =
@@ -317,7 +317,7 @@ module _ (code : PlainCode) (input : List ℕ) where
       pub silently : Silently code input 1 s to
       pub is : IsFailing held to
 
-    fails_from : step code input s ≡ fails_now (passed s) → FailsNow
+    pub fails_from : step code input s ≡ fails_now (passed s) → FailsNow
     fails_from e = record {
       to = record (passed s) { mode = Failing };
       silently = went_on s (record (passed s) { mode = Failing }) e;
@@ -366,7 +366,7 @@ module _ (code : PlainCode) (input : List ℕ) where
       pub prints : Prints code input bytes s to
       pub is : IsAt (at + 1) now held to
 
-    prints_from : (bytes : List ℕ) → step code input s ≡ printed bytes (passed s) → PrintsNow bytes
+    pub prints_from : (bytes : List ℕ) → step code input s ≡ printed bytes (passed s) → PrintsNow bytes
     prints_from bytes e = record {
       to = passed s;
       prints = record { on = subst IsOn (sym h.mode) tt; leads = ap (λ x. x.state) e; printed = ap (λ x. x.printed) e };

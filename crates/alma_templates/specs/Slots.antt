@@ -101,12 +101,12 @@ handed_slots (more_args a rest) = arg_kind a ∷ handed_slots rest
 
 module _ (p : Program) (r : ℕ) where
   -- the links on the way to the frame of the routine round the called one, of which the last is handed over
+  abbrev pub links_if : (shift up : ℕ) → List SlotKind
+  links_if zero up = []
+  links_if (suc one) up = chain_slots p r up
+
   abbrev pub call_links : (called up : ℕ) → List SlotKind
-  call_links called up = links_if (shift_of p called)
-    where
-      links_if : ℕ → List SlotKind
-      links_if zero = []
-      links_if (suc one) = chain_slots p r up
+  call_links called up = links_if (shift_of p called) up
 
   abbrev pub root_slots : Root → List SlotKind
   root_slots (root.Local from) = []
