@@ -21,3 +21,4 @@ pub mod LoopForms
 pub mod ChoiceForms
 pub mod CellTests
 pub mod CaseForms
+pub mod ForForms

@@ -57,7 +57,7 @@ module _ (p : Program) (input : List ℕ) (below : Level) where
         let z = and_parts (is_simple_expr x) (are_simple_links rest) h in
         one_bound _ (expr_one x v z.0) (λ b. one_bound _ (one_op v how a b) (λ c. links_one rest c v z.1))
 
-    desig_one : (d : Desig) (v : Store) → is_simple_desig d ≡ true → GivesOne Place v (ev_desig p input below d v)
+    pub desig_one : (d : Desig) (v : Store) → is_simple_desig d ≡ true → GivesOne Place v (ev_desig p input below d v)
     desig_one (a_desig x cells sels) v h = one_noded (one_bound _ (root_one v x cells) (λ a. sels_one sels a v h))
 
     sels_one : (sels : Sels) (a : Place) (v : Store) → are_simple_sels sels ≡ true → GivesOne Place v (ev_sels p input below sels a v)
