@@ -164,7 +164,7 @@ module _ (p : Program) (tables : Tables) (code : PlainCode) (input : List ℕ) (
       (subst (λ m. From p code input line 8 m exit now w (k v a) q) zero (later a now (left_self p code input la r v now b) (refl, refl))) held s is))
 
   -- the number is set by one step
-  set_step : (o : Option ℕ) (at lo la value : ℕ) (d : Desig) (v : Store) (now : List PlainFrame) (a : Place) (x : ℤ) → BareFits p tables code input below r line q o → desig_cells d ≡ 1 → own_end p r ≤ lo → Begins p code input r v now
+  pub set_step : (o : Option ℕ) (at lo la value : ℕ) (d : Desig) (v : Store) (now : List PlainFrame) (a : Place) (x : ℤ) → BareFits p tables code input below r line q o → desig_cells d ≡ 1 → own_end p r ≤ lo → Begins p code input r v now
       → IsTarget p tables code input below r line q o la d v a now → IsValue p code input value x now → InstrAt code input line at (set_by p tables r o la value d)
       → (t : List PlainFrame) × Takes p code input at (at + 1) now t × Left p code input lo r now (put_at v a (Number x)) t
   set_step None at lo la value d v now a x fits cells behind b h hx i =

@@ -22,3 +22,4 @@ pub mod ChoiceForms
 pub mod CellTests
 pub mod CaseForms
 pub mod ForForms
+pub mod ForStatement
