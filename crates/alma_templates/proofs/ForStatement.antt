@@ -6,6 +6,7 @@ use Rattle.alma_base.specs.Choice.{if_true}
 use Rattle.alma_base.specs.Numbers.{is_integer, is_beyond, is_zero}
 use Rattle.alma_base.specs.declared.number.Range.{Range}
 use Rattle.alma_code.specs.declared.cell.Cell.TheVariants as cell
+use Rattle.alma_code.specs.declared.cell.SlotKind.{SlotKind}
 use Rattle.alma_code.specs.declared.cell.SlotKind.TheVariants as slot
 use Rattle.alma_code.specs.declared.instr.Instr.TheVariants as I
 use Rattle.alma_code.specs.Picture.{PlainFrame, PlainEntry}
@@ -20,15 +21,21 @@ use Rattle.alma_mean.specs.Meaning.{Level, ev_stmts, ev_stmt, ev_expr, turn_for}
 use Rattle.alma_implements.specs.Operators as operators
 use Rattle.alma_implements.proofs.Goes.{Silently, Goes, before, weaker, and_then, one_goes}
 use Rattle.alma_implements.proofs.Frames.{shift, own_end, HasSlots, IsAt}
-use Rattle.alma_implements.proofs.ExprRows.{AreVariables, first_kind}
+use Rattle.alma_implements.proofs.ExprRows.{AreVariables, first_kind, slots_first, slots_behind}
 use Rattle.alma_implements.proofs.ForSteps.{entered, entered_is, entered_integer, entry_step, slot_within, top_put, top_put_other}
 use Rattle.alma_implements.proofs.Steps.{top_written, Holds, InstrAt, const_step, zero_jumps, other_goes_on}
 use Rattle.alma_implements.proofs.Ways.{Ways, Leaves, Runs, Later}
 use Rattle.alma_templates.specs.Lined.{Lined, own}
 use Rattle.alma_templates.specs.Tables.{Tables}
-use Rattle.alma_templates.specs.Pieces.{entry_code}
-use Rattle.alma_templates.specs.Templates.{set_by}
-use Rattle.alma_templates.proofs.Parts.{Takes, Begins, begins, Left, left_self, left_on, left_less, left_temp, has_kind, holds_temp, holds_after, value_after, IsValue, From, ending, from_ending, on_later}
+use Rattle.alma_templates.specs.Pieces.{entry_code, bounds_code, turn_code, fit_code}
+use Rattle.alma_templates.specs.Pieces.{begin_loop as loop_begins}
+use Rattle.alma_templates.specs.Slots.{bare_desig, unless_bare, expr_slots, desig_slots, stmts_slots, for_slots, behind_expr, behind_target}
+use Rattle.alma_templates.specs.Stands.{Stands}
+use Rattle.alma_templates.proofs.Stands.{stands_front, stands_back}
+use Rattle.alma_templates.proofs.ExprForms.{first_slot, some_slots}
+use Rattle.alma_templates.proofs.FormRuns.{ExprRuns, StatementRuns}
+use Rattle.alma_templates.specs.Templates.{set_by, set_code, stmt_code, stmts_code, expr_code, desig_code}
+use Rattle.alma_templates.proofs.Parts.{Takes, Begins, begins, Left, left_self, left_on, left_less, left_temp, has_kind, holds_temp, holds_after, value_after, IsValue, ValueIn, From, ending, from_more, from_ending, on_later, then_ending, as_runs, node_runs}
 use Rattle.alma_templates.proofs.AtOnce.{BareFits}
 use Rattle.alma_templates.proofs.ForForms.{CountsOn, set_step}
 
@@ -86,3 +93,71 @@ module _ (p : Program) (tables : Tables) (code : PlainCode) (input : List ℕ) (
           let m = other_goes_on code input line (at + 1 + 1 + 1) t3 held s3 is3 (lo + 1) exit (entered by n l) jump there other in
           weaker code input line 0 24 (Leaves exit (ending p code input may (lo + 1) r now)) held (turn v2) s 8 0 q q (omega arith) (omega arith)
           (on_later p code input may line (at + 1 + 1 + 1 + 1) exit (lo + 1) (lo + 1) r v2 now t3 (turn v2) u (omega arith) (omega (arith, behind)) whole (turns v2 t3 n b3 known step3) 4 q (omega arith) (omega (arith, owes)) held s m.to (and_then code input run m.silently) m.is)
+
+  -- ---- the whole
+
+  abbrev pub for_front : (at lo : ℕ) (from to : Expr) (by : ℤ) → List Lined
+  for_front at lo from to by = loop_begins line at lo by (λ at. expr_code p tables r line at (lo + 1) from) (λ at. expr_code p tables r line at (behind_expr p r (lo + 1) from) to)
+
+  -- where the turns begin
+  abbrev pub for_top : (at lo : ℕ) (from to : Expr) (by : ℤ) → ℕ
+  for_top at lo from to by = at + length (for_front at lo from to by) + 1 + 1 + 1 + 1
+
+  pub for_runs : (at lo u : ℕ) (d : Desig) (range : Range) (counter limit : ℕ) (from to : Expr) (by : ℤ) (body : Stmts) → desig_cells d ≡ 1 → q ≤ 4 + u → counter ≢ limit
+      → HasSlots p code r lo (for_slots p r (a_loop d range counter limit from to by body)) → AreVariables p code input r counter 1 → AreVariables p code input r limit 1
+      → ExprRuns p tables code input below r line q (at + 1) (lo + 1) from → ((next : ℕ) → ExprRuns p tables code input below r line q next (behind_expr p r (lo + 1) from) to)
+      → CountsOn p tables code input below r line q may (for_top at lo from to by) (at + length (stmt_code p tables r line at lo (ForTo (a_loop d range counter limit from to by body)))) lo counter by (turn_for p input below (a_loop d range counter limit from to by body)) u
+      → StatementRuns p tables code input below r line q may at lo (ForTo (a_loop d range counter limit from to by body))
+  unfolding ev_stmts
+  for_runs at lo u d range counter limit from to by body cells owes two slots of_counter of_limit runs_from_ runs_to turns stands v now b =
+      let last : ℕ = behind_expr p r (lo + 1) from in
+      let place : ℕ = behind_expr p r last to in
+      let others : List SlotKind = expr_slots p r from ++ (expr_slots p r to ++ (unless_bare (bare_desig d) (desig_slots p r d) ++ stmts_slots p r body)) in
+      let kind0 = first_kind p code input r lo slot.Number others slots in
+      let from_slots = slots_first p code input r (lo + 1) (expr_slots p r from) (expr_slots p r to ++ (unless_bare (bare_desig d) (desig_slots p r d) ++ stmts_slots p r body)) (slots_behind p code input r lo (slot.Number ∷ []) others slots) in
+      let kind1 = first_slot p code input r (lo + 1) from from_slots in
+      let above : lo + 1 < last = omega (arith, some_slots p code input r from) in
+      let first : List Lined = expr_code p tables r line (at + 1) (lo + 1) from in
+      let m1 : ℕ = at + 1 + length first in
+      let second : List Lined = expr_code p tables r line m1 last to in
+      let front : List Lined = for_front at lo from to by in
+      let next : ℕ = at + length front in
+      let both : length (first ++ second) ≡ length first + length second = length-append first second in
+      let here : m1 + length second ≡ next = omega (arith, both) in
+      let turn : List Lined = turn_code line (next + 4) (fit_code tables range (shift p r + counter)) (λ at. unless_bare (bare_desig d) (desig_code p tables r line at place d)) (set_code p tables r place (shift p r + counter) d) (λ at. stmts_code p tables r at (behind_target p r place d) body) in
+      let empty : ℕ = next + 4 + length turn + 2 in
+      let step_part : List Lined = own line (I.Step (shift p r + counter) (shift p r + limit) lo empty ∷ I.Jump (next + 4) ∷ []) in
+      let bounds : List Lined = own line (bounds_code by (shift p r + counter) (shift p r + limit) (lo + 1) last empty) in
+      let tail : List Lined = bounds ++ (turn ++ step_part) in
+      let turn_long : length (turn ++ step_part) ≡ length turn + 2 = length-append turn step_part in
+      let whole : length (front ++ tail) ≡ length front + suc (suc (suc (suc (length (turn ++ step_part))))) = length-append front tail in
+      let exit : ℕ = at + length (front ++ tail) in
+      let end : empty ≡ exit = omega (arith, turn_long, whole) in
+      let begin = stands_front code at front tail stands in
+      let back = stands_back code at front tail stands in
+      let four : next + 1 + 1 + 1 + 1 ≡ next + 4 = omega arith in
+      let w = ending p code input may lo r now in
+      let jump : InstrAt code input line (next + 1 + 1 + 1) (I.JumpZero (lo + 1) exit) = subst (λ m. InstrAt code input line (next + 1 + 1 + 1) (I.JumpZero (lo + 1) m)) end (record { instr = back.2.2.2.0; on_line = back.2.2.2.1 }) in
+      let t0 : List PlainFrame = top_written now lo (cell.Int by) in
+      let left0 : Left p code input lo r now v t0 = left_temp p code input lo r lo v now (cell.Int by) (omega arith) slots.behind b in
+      let b0 = begins p code input lo r now v t0 left0 in
+      let step0 = holds_temp p code input r lo v now (cell.Int by) slot.Number kind0 b in
+      let rest = λ (t : Store) (n : ℤ). bind (ev_expr p input below to t) (λ x l. begin_loop counter limit by n l x (turn_for p input below (a_loop d range counter limit from to by body)) (λ y. one y tt)) in
+      as_runs p code input line at exit now w (node (bind (ev_expr p input below from v) rest)) q
+      (node_runs p code input line 1 at exit now w (bind (ev_expr p input below from v) rest) q (omega arith)
+      (λ held s is.
+      let c = const_step code input line at now held s is lo by (record { instr = begin.0; on_line = begin.1 }) (has_kind p code input r lo v now slot.Number kind0 b) in
+      before code input line 0 24 (Leaves exit w) held (bind (ev_expr p input below from v) rest) s c.to 1 1 0 q q c.silently (omega arith) (omega arith)
+      (from_ending p code input may line 0 (at + 1) exit lo (lo + 1) r v now t0 (bind (ev_expr p input below from v) rest) q (omega arith) slots.behind left0
+      (then_ending p code input may line (at + 1) m1 exit (lo + 1) (lo + 1) r t0 (ValueIn p code input (lo + 1)) (ev_expr p input below from v) rest q (omega arith) (omega (arith, slots.behind)) (runs_from_ (stands_front code (at + 1) first second begin.2) v t0 b0)
+      (λ v1 n t1 left1 value1.
+      let b1 = begins p code input (lo + 1) r t0 v1 t1 left1 in
+      let step1 = holds_after p code input (lo + 1) r lo (cell.Int by) v v1 t0 t1 b0 slots.behind (omega arith) left1 step0 in
+      from_more p code input line 0 8 m1 exit t1 (ending p code input may (lo + 1) r t1) (rest v1 n) q (omega arith)
+      (then_ending p code input may line m1 (m1 + length second) exit (lo + 1) last r t1 (ValueIn p code input last) (ev_expr p input below to v1) (λ x l. begin_loop counter limit by n l x (turn_for p input below (a_loop d range counter limit from to by body)) (λ y. one y tt)) q (omega (arith, above)) (omega (arith, slots.behind)) (runs_to m1 (stands_back code (at + 1) first second begin.2) v1 t1 b1)
+      (λ v2 l t2 left2 value2.
+      let b2 = begins p code input last r t1 v2 t2 left2 in
+      subst (λ m. From p code input line 8 m exit t2 (ending p code input may (lo + 1) r t2) (begin_loop counter limit by n l v2 (turn_for p input below (a_loop d range counter limit from to by body)) (λ y. one y tt)) q) (sym here)
+      (bounds_from next exit lo last counter limit u by d (turn_for p input below (a_loop d range counter limit from to by body)) v2 t2 n l cells slots.behind above owes of_counter of_limit two kind1
+      (record { instr = back.0; on_line = back.1 }) (record { instr = back.2.0; on_line = back.2.1 }) (record { instr = back.2.2.0; on_line = back.2.2.1 }) jump b2
+      (value_after p code input last r (lo + 1) n v1 v2 t1 t2 b1 (omega (arith, slots.behind)) above left2 value1) value2 (holds_after p code input last r lo (cell.Int by) v1 v2 t1 t2 b1 slots.behind (omega (arith, above)) left2 step1) turns))))) held c.to c.is)))
