@@ -1,5 +1,5 @@
 -- OR and EITHER, from template to run.
-use Rattle.std.proofs.Common.{◌≡◌, ℕ, suc, ◌+◌, ◌≤◌, Bool, true, false, List, [], ◌∷◌, ◌++◌, length, Option, Some, None, refl, sym, ap, ◌∙◌, subst, arith, ℤ, append_assoc}
+use Rattle.std.proofs.Common.{◌≡◌, ℕ, suc, ◌+◌, ◌≤◌, Bool, List, [], ◌∷◌, ◌++◌, length, Some, refl, sym, ◌∙◌, subst, arith, append_assoc}
 use Rattle.std.specs.Prelude.{slice_get}
 use Rattle.std.proofs.lemmas.List.{length-append}
 use Rattle.alma_code.specs.declared.cell.Cell.TheVariants as cell
@@ -8,26 +8,26 @@ use Rattle.alma_code.specs.declared.instr.Instr.TheVariants as I
 use Rattle.alma_code.specs.Picture.{PlainFrame, PlainEntry}
 use Rattle.alma_code.specs.Plain.{PlainCode, kinds_at}
 use Rattle.alma_code.specs.Machine.{State}
-use Rattle.alma_ir.specs.Tree.{Program, Stmts, Branches, Test, Tests, no_tests, more_tests, Or, Either, no_branches, more_branches}
+use Rattle.alma_ir.specs.Tree.{Program, Branches, Test, Tests, no_tests, more_tests, Or, Either, no_branches, more_branches}
 use Rattle.alma_mean.specs.Store.{Store}
-use Rattle.alma_mean.specs.Events.{Events, NoYield, Flow, Go, Return, one, node, on_first}
-use Rattle.alma_mean.specs.Meaning.{Level, ev_stmts, ev_stmt, ev_test, ev_or, ev_branches}
+use Rattle.alma_mean.specs.Events.{Events, NoYield, Flow, Go, Return, one, on_first}
+use Rattle.alma_mean.specs.Meaning.{Level, ev_stmts, ev_test, ev_or}
 use Rattle.alma_implements.proofs.Goes.{Silently, IsGoing, Goes, before, and_then, credited, first_goes, one_goes, no_step}
 use Rattle.alma_implements.proofs.Frames.{own_end, HasSlots, IsAt}
 use Rattle.alma_implements.proofs.Address.{at_address}
 use Rattle.alma_implements.proofs.ChoiceSteps.{branch_entry, mark_step, choose_step, pop_step, cut_step}
 use Rattle.alma_implements.proofs.ExprRows.{first_kind}
 use Rattle.alma_implements.proofs.Steps.{top_written, InstrAt}
-use Rattle.alma_implements.proofs.Ways.{Ways, Leaves, Runs, LeadsTo, leads_by_jump, leads_then, then_up_to}
+use Rattle.alma_implements.proofs.Ways.{Ways, Leaves, LeadsTo, leads_by_jump, leads_then, then_up_to}
 use Rattle.alma_templates.specs.Lined.{Lined, own}
 use Rattle.alma_templates.specs.Tables.{Tables}
 use Rattle.alma_templates.specs.Slots.{stmts_slots, test_slots, or_slots, branches_slots, behind_test}
 use Rattle.alma_templates.specs.Pieces.{first_of_two}
-use Rattle.alma_templates.specs.Templates.{stmts_code, stmt_code, test_code, or_code, operands_code, either_code}
+use Rattle.alma_templates.specs.Templates.{stmts_code, test_code, operands_code}
 use Rattle.alma_templates.specs.Stands.{Stands}
 use Rattle.alma_templates.proofs.Stands.{stands_front, stands_back}
 use Rattle.alma_templates.proofs.EitherRuns as either
-use Rattle.alma_templates.proofs.Parts.{Begins, begins, Left, left_self, left_on, has_kind, Nothing, NodeRuns, From, leaving, ending, on_ending, node_runs, node_from}
+use Rattle.alma_templates.proofs.Parts.{Begins, begins, Left, left_self, left_on, has_kind, Nothing, NodeRuns, leaving, ending, on_ending, node_runs, node_from}
 use Rattle.alma_templates.proofs.Conditions.{marked, part_keeps}
 use Rattle.alma_templates.proofs.FormRuns.{TestRuns, StatementRuns, ListRuns}
 

@@ -1,14 +1,12 @@
 -- A turn of FOR, from template to run. Its variable is located by expressions without a call and without a truth, which
 -- leave the store as it was: so the count that is checked is the one that is set.
 use Rattle.std.proofs.Common.{◌≡◌, ℕ, suc, ◌+◌, ◌<◌, ◌≤◌, Bool, true, false, List, [], ◌∷◌, ◌++◌, length, get_or, Option, Some, None, refl, sym, ap, ◌∙◌, subst, arith, ℤ, ◌+ℤ◌}
-use Rattle.std.specs.Prelude.{slice_get}
 use Rattle.std.proofs.lemmas.List.{length-append}
 use Rattle.alma_base.specs.Choice.{if_true}
 use Rattle.alma_base.specs.declared.fault.RunFault.TheVariants as fault
 use Rattle.alma_base.specs.declared.number.Range.{Range}
-use Rattle.alma_base.specs.Numbers.{is_integer, is_beyond, within}
+use Rattle.alma_base.specs.Numbers.{is_integer, is_beyond}
 use Rattle.alma_code.specs.declared.cell.Cell.TheVariants as cell
-use Rattle.alma_code.specs.declared.instr.Instr.{Instr}
 use Rattle.alma_code.specs.declared.instr.Instr.TheVariants as I
 use Rattle.alma_code.specs.Picture.{PlainFrame, PlainEntry, written}
 use Rattle.alma_code.specs.Picture as picture
@@ -24,7 +22,7 @@ use Rattle.alma_mean.specs.Arithmetic.{check_range, fault_unless}
 use Rattle.alma_mean.specs.Rows.{read_cell, next_turn, set_variable}
 use Rattle.alma_mean.specs.Meaning.{Level, ev_expr, ev_desig}
 use Rattle.alma_implements.proofs.Goes.{IsGoing, Goes, Silently, before, weaker, and_then, bind_goes, one_goes, no_step}
-use Rattle.alma_implements.proofs.Frames.{shift, shift_in, own_end, Fits, IsAt}
+use Rattle.alma_implements.proofs.Frames.{shift, shift_in, own_end, Fits}
 use Rattle.alma_implements.proofs.ChoiceSteps.{jumps}
 use Rattle.alma_implements.proofs.ExprRows.{AreVariables}
 use Rattle.alma_implements.proofs.ForSteps.{SlotThere, a_number, not_known, slot_there, slot_within, slot_has_kind, number_there, fits_top, top_put, count_integer, no_counter, no_limit, loop_ends, next_count, move_step}
@@ -39,9 +37,9 @@ use Rattle.alma_templates.specs.Pieces.{unless_whole, fit_code}
 use Rattle.alma_templates.specs.Templates.{stmts_code, desig_code, place_at, set_by}
 use Rattle.alma_templates.specs.Stands.{Stands}
 use Rattle.alma_templates.proofs.Stands.{stands_front, stands_back}
-use Rattle.alma_templates.proofs.Parts.{Takes, RunsFor, alone_from, Begins, begins, Left, left_self, left_less, left_on, sound_after, holds_after, IsValue, IsPlace, PlaceIn, Nothing, NodeRuns, From, leaving, ending, from_more, from_ending, on_later, then_ending, faults_here, ends_here}
+use Rattle.alma_templates.proofs.Parts.{Takes, RunsFor, alone_from, Begins, begins, Left, left_self, left_less, sound_after, holds_after, IsValue, PlaceIn, NodeRuns, From, leaving, ending, from_more, from_ending, on_later, then_ending, faults_here}
 use Rattle.alma_templates.proofs.AtOnce.{BareFits, bare_place}
-use Rattle.alma_templates.proofs.RangeChecks.{whole_within, check_from, past_from}
+use Rattle.alma_templates.proofs.RangeChecks.{whole_within, check_from}
 use Rattle.alma_templates.proofs.SimpleOne.{desig_one}
 use Rattle.alma_templates.proofs.Targets.{IsTarget, put_places, left_put}
 use Rattle.alma_templates.proofs.FormRuns.{DesigRuns, HasRange}

@@ -1,15 +1,15 @@
 -- FOR, from template to run: the step and both bounds, and the first turn.
-use Rattle.std.proofs.Common.{◌≡◌, ◌≢◌, ℕ, suc, ◌+◌, ◌-◌, ◌<◌, ◌≤◌, Bool, true, false, List, [], ◌∷◌, ◌++◌, length, Option, Some, None, refl, sym, ap, ◌∙◌, subst, arith, ℤ, pos, negsuc}
+use Rattle.std.proofs.Common.{◌≡◌, ◌≢◌, ℕ, suc, ◌+◌, ◌<◌, ◌≤◌, Bool, true, false, List, [], ◌∷◌, ◌++◌, length, Some, refl, sym, ◌∙◌, subst, arith, ℤ, pos, negsuc}
 use Rattle.std.specs.Prelude.{slice_get}
 use Rattle.std.proofs.lemmas.List.{length-append}
 use Rattle.alma_base.specs.Choice.{if_true}
-use Rattle.alma_base.specs.Numbers.{is_integer, is_beyond, is_zero}
+use Rattle.alma_base.specs.Numbers.{is_beyond, is_zero}
 use Rattle.alma_base.specs.declared.number.Range.{Range}
 use Rattle.alma_code.specs.declared.cell.Cell.TheVariants as cell
 use Rattle.alma_code.specs.declared.cell.SlotKind.{SlotKind}
 use Rattle.alma_code.specs.declared.cell.SlotKind.TheVariants as slot
 use Rattle.alma_code.specs.declared.instr.Instr.TheVariants as I
-use Rattle.alma_code.specs.Picture.{PlainFrame, PlainEntry}
+use Rattle.alma_code.specs.Picture.{PlainFrame}
 use Rattle.alma_code.specs.Plain.{PlainCode, kinds_at}
 use Rattle.alma_code.specs.Machine.{State}
 use Rattle.alma_ir.specs.Tree.{Program, Desig, Expr, Stmts, ForTo, a_loop}
@@ -17,26 +17,24 @@ use Rattle.alma_ir.specs.Checked.{desig_cells}
 use Rattle.alma_mean.specs.Store.{Store, Place, Number, put_top, top, top_cell}
 use Rattle.alma_mean.specs.Events.{Events, NoYield, one, bind, node}
 use Rattle.alma_mean.specs.Rows.{begin_loop}
-use Rattle.alma_mean.specs.Meaning.{Level, ev_stmts, ev_stmt, ev_expr, turn_for}
+use Rattle.alma_mean.specs.Meaning.{Level, ev_stmts, ev_expr, turn_for}
 use Rattle.alma_implements.specs.Operators as operators
 use Rattle.alma_implements.proofs.Goes.{Silently, Goes, before, weaker, and_then, one_goes}
 use Rattle.alma_implements.proofs.Frames.{shift, own_end, HasSlots, IsAt}
 use Rattle.alma_implements.proofs.ExprRows.{AreVariables, first_kind, slots_first, slots_behind}
-use Rattle.alma_implements.proofs.ForSteps.{entered, entered_is, entered_integer, entry_step, slot_within, top_put, top_put_other}
+use Rattle.alma_implements.proofs.ForSteps.{entered, entered_is, entry_step, slot_within, top_put, top_put_other}
 use Rattle.alma_implements.proofs.Steps.{top_written, Holds, InstrAt, const_step, zero_jumps, other_goes_on}
-use Rattle.alma_implements.proofs.Ways.{Ways, Leaves, Runs, Later}
+use Rattle.alma_implements.proofs.Ways.{Leaves}
 use Rattle.alma_templates.specs.Lined.{Lined, own}
 use Rattle.alma_templates.specs.Tables.{Tables}
 use Rattle.alma_templates.specs.Pieces.{entry_code, bounds_code, turn_code, fit_code}
 use Rattle.alma_templates.specs.Pieces.{begin_loop as loop_begins}
 use Rattle.alma_templates.specs.Slots.{bare_desig, unless_bare, expr_slots, desig_slots, stmts_slots, for_slots, behind_expr, behind_target}
-use Rattle.alma_templates.specs.Stands.{Stands}
 use Rattle.alma_templates.proofs.Stands.{stands_front, stands_back}
 use Rattle.alma_templates.proofs.ExprForms.{first_slot, some_slots}
 use Rattle.alma_templates.proofs.FormRuns.{ExprRuns, StatementRuns}
-use Rattle.alma_templates.specs.Templates.{set_by, set_code, stmt_code, stmts_code, expr_code, desig_code}
-use Rattle.alma_templates.proofs.Parts.{Takes, Begins, begins, Left, left_self, left_on, left_less, left_temp, has_kind, holds_temp, holds_after, value_after, IsValue, ValueIn, From, ending, from_more, from_ending, on_later, then_ending, as_runs, node_runs}
-use Rattle.alma_templates.proofs.AtOnce.{BareFits}
+use Rattle.alma_templates.specs.Templates.{set_code, stmt_code, stmts_code, expr_code, desig_code}
+use Rattle.alma_templates.proofs.Parts.{Begins, begins, Left, left_on, left_less, left_temp, has_kind, holds_temp, holds_after, value_after, IsValue, ValueIn, From, ending, from_more, from_ending, on_later, then_ending, as_runs, node_runs}
 use Rattle.alma_templates.proofs.ForForms.{CountsOn, set_step}
 
 same_entry : (by : ℤ) (from to : ℕ) → entry_code by from to ≡ operators.entry_code by from to
