@@ -70,9 +70,11 @@ module _ (p : Program) (tables : Tables) (code : PlainCode) (input : List ℕ) (
           ((part_keeps p code input lo r (length held) v now behind kind b).keeps x m y.now left.1) in
           let l = leads y.now held c.to c.is in
           before code input line 0 24 (Leaves exit (leaving p code input lo r now (Nothing p code input))) held (one x tt) y l.1 (1 + l.0) (8 + 0) 0 q q (and_then code input c.silently l.3) (omega (arith, l.2)) (omega arith)
-          (one_goes code input line 0 24 (Leaves exit (leaving p code input lo r now (Nothing p code input))) held x tt l.1 0 q (omega arith) (record { mode = l.4.mode; entries = l.4.entries })
-          (l.4.here, subst (λ f. Left p code input lo r now x f × Unit {0}) (sym l.4.frames)
-              (left_on p code input lo (lo + 1) r now v x (top_written now lo (cell.Mark (length held))) y.now (omega arith) (marked p code input lo r (length held) v now behind b) left.1.0, tt)))
+          (one_goes code input line 0 24 (Leaves exit (leaving p code input lo r now (Nothing p code input))) held x tt l.1 0 q (omega arith) (record { mode = l.4.mode; entries = l.4.entries }) (
+            l.4.here,
+            subst (λ f. Left p code input lo r now x f × Unit {0}) (sym l.4.frames)
+                (left_on p code input lo (lo + 1) r now v x (top_written now lo (cell.Mark (length held))) y.now (omega arith) (marked p code input lo r (length held) v now behind b) left.1.0, tt),
+          ))
       on_alternative x (Return m) y above going left = absurd left
 
   abbrev pub OperandsRun : (jump at lo : ℕ) → Tests → Type 0
@@ -188,10 +190,11 @@ module _ (p : Program) (tables : Tables) (code : PlainCode) (input : List ℕ) (
 
   each_list : (may : Bool) (lo : ℕ) (v : Store) (now : List PlainFrame) → own_end p r ≤ lo → Begins p code input r v now → (branches : Branches) → EachRuns may branches → either.ListsRun p tables r code input below line v now (ending p code input may lo r now) q lo branches
   each_list may lo v now behind b no_branches each = tt
-  each_list may lo v now behind b (more_branches body rest) each =
-      (λ at lo2 le slots stands.
-          on_ending p code input may line at (at + length (stmts_code p tables r at lo2 body)) lo lo2 r v now now (ev_stmts p input below body v) q le behind (left_self p code input lo r v now b) (each.0 at lo2 slots stands v now b),
-      each_list may lo v now behind b rest each.1)
+  each_list may lo v now behind b (more_branches body rest) each = (
+    λ at lo2 le slots stands.
+        on_ending p code input may line at (at + length (stmts_code p tables r at lo2 body)) lo lo2 r v now now (ev_stmts p input below body v) q le behind (left_self p code input lo r v now b) (each.0 at lo2 slots stands v now b),
+    each_list may lo v now behind b rest each.1,
+  )
 
   pub either_form : (may : Bool) (at lo : ℕ) (branches : Branches) → HasSlots p code r lo (branches_slots p r branches) → (branches ≡ no_branches → ⊥) → EachRuns may branches → StatementRuns p tables code input below r line q may at lo (Either branches)
   unfolding ev_stmts

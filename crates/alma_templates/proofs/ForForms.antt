@@ -173,20 +173,22 @@ module _ (p : Program) (tables : Tables) (code : PlainCode) (input : List ℕ) (
       let kind : get_or (get_or now a.frame picture.no_frame).kinds (sh + a.slot) slot.Mark ≡ slot.Number = ap (λ n. get_or (get_or now a.frame picture.no_frame).kinds n slot.Mark) (sym zero) ∙ h.numbers.kinds 0 some_cell in
       let live = content_there p code v now a h.place b.stand h.numbers some_cell h.same in
       let t : List PlainFrame = written now a.frame (sh + a.slot) (cell.Int x) in
-      let here : written now h.place.frame h.place.slot (cell.Int x) ≡ t = ap (λ f. written now f h.place.slot (cell.Int x)) (sym h.same.frame) ∙ ap (λ n. written now a.frame n (cell.Int x)) (sym h.same.slot) in
-      (t,
-          (λ held s is.
-          let w = store_step code input line at now held s is (place_at p tables r la d) value h.place x i h.holds hx.holds live.0 in
-          record { to = w.to; silently = w.silently; is = record { mode = w.is.mode; here = w.is.here; frames = w.is.frames ∙ here; entries = w.is.entries } }),
-          left_put p code input lo r a.frame a.slot x v now h.numbers.frame there kind hx.integer b)
+      let here : written now h.place.frame h.place.slot (cell.Int x) ≡ t = ap (λ f. written now f h.place.slot (cell.Int x)) (sym h.same.frame) ∙ ap (λ n. written now a.frame n (cell.Int x)) (sym h.same.slot) in (
+        t,
+        (λ held s is.
+            let w = store_step code input line at now held s is (place_at p tables r la d) value h.place x i h.holds hx.holds live.0 in
+            record { to = w.to; silently = w.silently; is = record { mode = w.is.mode; here = w.is.here; frames = w.is.frames ∙ here; entries = w.is.entries } }),
+        left_put p code input lo r a.frame a.slot x v now h.numbers.frame there kind hx.integer b,
+      )
   set_step (Some from) at lo la value d v now a x fits cells behind b h hx i =
       let t : List PlainFrame = top_written now (shift p r + from) (cell.Int x) in
       let live : top v < length v = omega (arith, b.stand.some) in
       let fit : Fits p code lo now (put_top v from (Number x)) t = fits_top p code input r from fits v now b.stand b.routine lo x hx.integer in
-      let left : Left p code input lo r now (put_top v from (Number x)) t = record { fits = fit; routine = put_routine v (top v) from (Number x) live ∙ b.routine; sound = sound_after p code input lo v (put_top v from (Number x)) now t b.stand fit (put_places p code input v (top v) from x live (slot_within p code input r from fits v now b.stand b.routine)) b.sound } in
-      (t,
-          (λ held s is. let w = move_step code input line at now held s is (shift p r + from) value x i (slot_has_kind p code input r from fits v now b.stand b.routine) hx.holds in record { to = w.to; silently = w.silently; is = w.is }),
-          subst (λ f. Left p code input lo r now (put v f a.slot (Number x)) t) (sym h.0) (subst (λ n. Left p code input lo r now (put v (top v) n (Number x)) t) (sym h.1) left))
+      let left : Left p code input lo r now (put_top v from (Number x)) t = record { fits = fit; routine = put_routine v (top v) from (Number x) live ∙ b.routine; sound = sound_after p code input lo v (put_top v from (Number x)) now t b.stand fit (put_places p code input v (top v) from x live (slot_within p code input r from fits v now b.stand b.routine)) b.sound } in (
+        t,
+        (λ held s is. let w = move_step code input line at now held s is (shift p r + from) value x i (slot_has_kind p code input r from fits v now b.stand b.routine) hx.holds in record { to = w.to; silently = w.silently; is = w.is }),
+        subst (λ f. Left p code input lo r now (put v f a.slot (Number x)) t) (sym h.0) (subst (λ n. Left p code input lo r now (put v (top v) n (Number x)) t) (sym h.1) left),
+      )
 
   -- the check of the count
   count_checked : (z : Bool) (at exit value : ℕ) (range : Range) (n : ℤ) (now : List PlainFrame) (w : Ways NoYield) (e : Events NoYield) → is_whole range ≡ z → HasRange p tables code input below r line q range → Stands code at (own line (unless_whole z (I.InRange value (range_number tables range) ∷ []))) → IsValue p code input value n now

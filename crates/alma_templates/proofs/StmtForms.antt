@@ -94,10 +94,17 @@ module _ (p : Program) (tables : Tables) (code : PlainCode) (input : List ℕ) (
   print_ends : (c at lo : ℕ) (v : Store) (now : List PlainFrame) (bytes : List ℕ) → Begins p code input r v now → ((held : List PlainEntry) (s : State) → (is : IsAt at now held s) → PrintsNow code input line at now held s is bytes)
       → From p code input line (suc c) at (at + 1) now (leaving p code input lo r now (Nothing p code input)) (Print bytes (one v tt)) q
   print_ends c at lo v now bytes b prints held s is =
-      let w = prints held s is in
-      (0, s, omega arith, no_step code input s, w.to, w.prints, subst IsOn (sym w.is.mode) tt,
-          one_goes code input line 0 24 (Leaves (at + 1) (leaving p code input lo r now (Nothing p code input))) held v tt w.to (suc c - 1) (q - 1) (omega arith) (record { mode = w.is.mode; entries = w.is.entries })
-          (w.is.here, subst (λ t. Left p code input lo r now v t × Unit {0}) (sym w.is.frames) (left_self p code input lo r v now b, tt)))
+      let w = prints held s is in (
+        0,
+        s,
+        omega arith,
+        no_step code input s,
+        w.to,
+        w.prints,
+        subst IsOn (sym w.is.mode) tt,
+        one_goes code input line 0 24 (Leaves (at + 1) (leaving p code input lo r now (Nothing p code input))) held v tt w.to (suc c - 1) (q - 1) (omega arith) (record { mode = w.is.mode; entries = w.is.entries })
+            (w.is.here, subst (λ t. Left p code input lo r now v t × Unit {0}) (sym w.is.frames) (left_self p code input lo r v now b, tt)),
+      )
 
   write_reads : (how : WriteAs) (at from : ℕ) (now : List PlainFrame) → InstrAt code input line at (write_code how from) → ReadsFirst code input at from now
   unfolding act

@@ -176,6 +176,8 @@ module _ (p : Program) (tables : Tables) (code : PlainCode) (input : List ℕ) (
   pub set_reads : (o : Option ℕ) (at la value : ℕ) (d : Desig) (v : Store) (a : Place) (now : List PlainFrame) → IsTarget o la d v a now → InstrAt code input line at (set_by p tables r o la value d) → ReadsFirst code input at value now
   unfolding act
   set_reads (Some from) at la value d v a now h i held s is = (_, does code input line at now held s (I.Move (shift p r + from) value) is i)
-  set_reads None at la value d v a now h i held s is =
-      (_, does code input line at now held s (I.Store (place_at p tables r la d) value) is i
-      ∙ place_is code input now (passed code input s) (place_at p tables r la d) h.place (λ c. number (passed code input s) value (λ n. store (passed code input s) c.frame c.slot n went)) is.frames h.holds)
+  set_reads None at la value d v a now h i held s is = (
+    _,
+    does code input line at now held s (I.Store (place_at p tables r la d) value) is i
+        ∙ place_is code input now (passed code input s) (place_at p tables r la d) h.place (λ c. number (passed code input s) value (λ n. store (passed code input s) c.frame c.slot n went)) is.frames h.holds,
+  )
