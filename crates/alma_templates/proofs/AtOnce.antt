@@ -1,26 +1,21 @@
 -- A value that is used at once: a variable of the routine stands for itself, any other expression has its code.
-use Rattle.std.proofs.Common.{◌≡◌, ℕ, suc, ◌+◌, ◌<◌, ◌≤◌, List, [], ◌∷◌, ◌++◌, length, Some, None, Option, refl, sym, ap, ◌∙◌, subst, arith, ℤ}
+use Rattle.std.proofs.Common.{◌≡◌, ℕ, ◌+◌, ◌≤◌, List, length, Some, None, Option, refl, sym, ap, ◌∙◌, subst, arith, ℤ}
 use Rattle.alma_base.specs.declared.fault.RunFault.TheVariants as fault
-use Rattle.alma_code.specs.declared.cell.Cell.TheVariants as cell
 use Rattle.alma_code.specs.Lines.{line_at}
-use Rattle.alma_code.specs.Picture.{PlainFrame, PlainEntry}
+use Rattle.alma_code.specs.Picture.{PlainFrame}
 use Rattle.alma_code.specs.Plain.{PlainCode}
-use Rattle.alma_code.specs.Machine.{State}
 use Rattle.alma_ir.specs.declared.phrase.Root.TheVariants as root
 use Rattle.alma_ir.specs.Tree.{Program, Expr, Desig, Const, Load, Chain, Compare, Truth, Known, Chr, CallExpr, a_desig, no_sels, more_sels}
-use Rattle.alma_mean.specs.Store.{Store, Unknown, Number, top_cell}
-use Rattle.alma_mean.specs.Store as store
-use Rattle.alma_mean.specs.Events.{Events, Visit, Fail, Fault, one, join, bind, visit_each}
+use Rattle.alma_mean.specs.Store.{Store, top_cell}
+use Rattle.alma_mean.specs.Events.{Events, Visit, Fail, one, join, bind, visit_each}
 use Rattle.alma_mean.specs.Rows.{read_cell}
 use Rattle.alma_mean.specs.Meaning.{Level, ev_expr}
-use Rattle.alma_implements.proofs.Goes.{Goes, weaker}
-use Rattle.alma_implements.proofs.Frames.{own_end, IsAt, shift}
-use Rattle.alma_implements.proofs.Address.{at_address}
+use Rattle.alma_implements.proofs.Goes.{weaker}
+use Rattle.alma_implements.proofs.Frames.{own_end, shift}
 use Rattle.alma_implements.proofs.BareRow.{ReadsFirst, reads_unknown, bare_is}
 use Rattle.alma_implements.proofs.ExprRows.{AreVariables}
 use Rattle.alma_implements.proofs.ForSteps.{SlotThere, a_number, not_known, slot_there}
-use Rattle.alma_implements.proofs.Steps.{Holds}
-use Rattle.alma_implements.proofs.Ways.{Ways, Leaves}
+use Rattle.alma_implements.proofs.Ways.{Leaves}
 use Rattle.alma_templates.specs.Lined.{Lined}
 use Rattle.alma_templates.specs.Tables.{Tables}
 use Rattle.alma_templates.specs.Slots.{bare, bare_desig, unless_bare}

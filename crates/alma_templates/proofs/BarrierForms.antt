@@ -1,32 +1,30 @@
 -- COMMIT, NOT, sequences and AND, from template to run.
-use Rattle.std.proofs.Common.{◌≡◌, ℕ, suc, ◌+◌, ◌-◌, ◌≤◌, Bool, true, false, List, [], ◌∷◌, ◌++◌, length, Option, Some, None, refl, sym, ap, ◌∙◌, subst, arith, ℤ}
-use Rattle.std.specs.Prelude.{slice_get}
+use Rattle.std.proofs.Common.{◌≡◌, ℕ, suc, ◌+◌, ◌-◌, ◌≤◌, Bool, false, List, [], ◌∷◌, ◌++◌, length, refl, sym, subst, arith}
 use Rattle.std.proofs.lemmas.List.{length-append}
 use Rattle.alma_code.specs.declared.cell.Cell.TheVariants as cell
 use Rattle.alma_code.specs.declared.cell.SlotKind.TheVariants as slot
 use Rattle.alma_code.specs.declared.instr.Instr.TheVariants as I
-use Rattle.alma_code.specs.Picture.{PlainFrame, PlainEntry}
-use Rattle.alma_code.specs.Plain.{PlainCode, kinds_at}
-use Rattle.alma_code.specs.Machine.{State}
+use Rattle.alma_code.specs.Picture.{PlainFrame}
+use Rattle.alma_code.specs.Plain.{PlainCode}
 use Rattle.alma_ir.specs.Tree.{Program, Stmts, Stmt, Test, Tests, no_stmts, more_stmts, Commit, Seq, And, Not, no_tests, more_tests}
 use Rattle.alma_mean.specs.Store.{Store}
-use Rattle.alma_mean.specs.Events.{Events, NoYield, Fail, one, bind, node, on_first, at_line}
+use Rattle.alma_mean.specs.Events.{Fail, one, on_first}
 use Rattle.alma_mean.specs.Meaning.{Level, ev_stmts, ev_stmt, ev_test, ev_and}
-use Rattle.alma_implements.proofs.Goes.{Goes, bind_goes, weaker, one_goes}
-use Rattle.alma_implements.proofs.Frames.{own_end, HasSlots, IsAt}
+use Rattle.alma_implements.proofs.Goes.{bind_goes, one_goes}
+use Rattle.alma_implements.proofs.Frames.{own_end, HasSlots}
 use Rattle.alma_implements.proofs.ChoiceSteps.{fails_by}
 use Rattle.alma_implements.proofs.ExprRows.{first_kind}
-use Rattle.alma_implements.proofs.FirstRow.{KeepsMark, first_row, commit_goes}
+use Rattle.alma_implements.proofs.FirstRow.{first_row, commit_goes}
 use Rattle.alma_implements.proofs.SeqRow.{no_stmts_row, more_stmts_row}
 use Rattle.alma_implements.proofs.Steps.{top_written, InstrAt}
-use Rattle.alma_implements.proofs.Ways.{Ways, Leaves, Runs}
+use Rattle.alma_implements.proofs.Ways.{Leaves, Runs}
 use Rattle.alma_templates.specs.Lined.{Lined, own}
 use Rattle.alma_templates.specs.Tables.{Tables}
 use Rattle.alma_templates.specs.Slots.{stmts_slots, test_slots, behind_stmt, behind_test}
 use Rattle.alma_templates.specs.Templates.{stmts_code, stmt_code, test_code, and_code}
 use Rattle.alma_templates.specs.Stands.{Stands}
 use Rattle.alma_templates.proofs.Stands.{stands_front, stands_back}
-use Rattle.alma_templates.proofs.Parts.{Begins, begins, Left, left_self, left_on, has_kind, Nothing, NodeRuns, RunsFor, From, leaving, ending, on_runs, on_ending, as_runs, node_runs, runs_from, none_returns}
+use Rattle.alma_templates.proofs.Parts.{Begins, begins, Left, left_self, left_on, has_kind, Nothing, NodeRuns, leaving, ending, on_runs, on_ending, as_runs, node_runs, runs_from, none_returns}
 use Rattle.alma_templates.proofs.Conditions.{marked, part_keeps}
 use Rattle.alma_templates.proofs.FormRuns.{TestRuns, StmtRuns, StatementRuns, ListRuns}
 

@@ -1,5 +1,5 @@
 -- CASE, from template to run: labels, arms and the ELSE part.
-use Rattle.std.proofs.Common.{◌≡◌, ◌≢◌, ℕ, suc, ◌+◌, ◌*◌, ◌<◌, ◌≤◌, Bool, true, false, List, [], ◌∷◌, ◌++◌, length, Option, Some, None, refl, sym, ap, ◌∙◌, subst, arith, ℤ}
+use Rattle.std.proofs.Common.{◌≡◌, ◌≢◌, ℕ, suc, ◌+◌, ◌*◌, ◌<◌, ◌≤◌, Bool, true, false, List, [], ◌∷◌, ◌++◌, length, Some, refl, sym, ap, ◌∙◌, subst, arith, ℤ}
 use Rattle.std.specs.Prelude.{slice_get, int_le, ◌&&◌}
 use Rattle.std.proofs.lemmas.List.{length-append}
 use Rattle.alma_base.specs.Choice.{if_true}
@@ -8,32 +8,31 @@ use Rattle.alma_base.specs.declared.number.Range.{Range}
 use Rattle.alma_base.specs.Numbers.{within, bit}
 use Rattle.alma_code.specs.declared.cell.Cell.TheVariants as cell
 use Rattle.alma_code.specs.declared.cell.SlotKind.TheVariants as slot
-use Rattle.alma_code.specs.declared.instr.Instr.{Instr}
 use Rattle.alma_code.specs.declared.instr.Instr.TheVariants as I
 use Rattle.alma_code.specs.Picture.{PlainFrame, PlainEntry}
 use Rattle.alma_code.specs.Plain.{PlainCode, kinds_at}
 use Rattle.alma_code.specs.Machine.{State}
 use Rattle.alma_ir.specs.Tree.{Program, Stmts, CaseArms, Else, Expr, Case, no_cases, more_cases, no_else, else_part}
 use Rattle.alma_mean.specs.Store.{Store}
-use Rattle.alma_mean.specs.Events.{Events, NoYield, Visit, Fault, bind, node, visit_each}
+use Rattle.alma_mean.specs.Events.{Events, NoYield, bind, node, visit_each}
 use Rattle.alma_mean.specs.Rows.{try_labels}
-use Rattle.alma_mean.specs.Meaning.{Level, ev_stmts, ev_stmt, ev_expr, ev_cases, ev_else}
-use Rattle.alma_implements.proofs.Goes.{Goes, before, weaker}
-use Rattle.alma_implements.proofs.Frames.{own_end, HasSlots, IsAt}
+use Rattle.alma_mean.specs.Meaning.{Level, ev_stmts, ev_expr, ev_cases, ev_else}
+use Rattle.alma_implements.proofs.Goes.{before, weaker}
+use Rattle.alma_implements.proofs.Frames.{own_end, IsAt}
 use Rattle.alma_implements.proofs.FrameLemmas.{holds_other}
 use Rattle.alma_implements.proofs.ChoiceSteps.{jumps}
 use Rattle.alma_implements.proofs.EitherRow.{inner_goes}
 use Rattle.alma_implements.proofs.ExprRows.{some_frames}
 use Rattle.alma_implements.proofs.Steps.{top_written, Holds, Writes, InstrAt, const_step, less_eq_step, zero_jumps, other_goes_on, fault_step}
-use Rattle.alma_implements.proofs.Ways.{Ways, Leaves, Runs, LeadsTo, leads_nowhere, leads_by_jump, leads_then}
+use Rattle.alma_implements.proofs.Ways.{Leaves, LeadsTo, leads_nowhere, leads_by_jump, leads_then}
 use Rattle.alma_templates.specs.Lined.{Lined, own}
 use Rattle.alma_templates.specs.Tables.{Tables}
-use Rattle.alma_templates.specs.Slots.{stmts_slots, behind_stmts, behind_expr}
-use Rattle.alma_templates.specs.Pieces.{label_code, last_label_code, labels_code, behind_labels, case_arm}
-use Rattle.alma_templates.specs.Templates.{stmts_code, stmt_code, expr_code, case_code, cases_code, else_code}
+use Rattle.alma_templates.specs.Slots.{behind_stmts, behind_expr}
+use Rattle.alma_templates.specs.Pieces.{last_label_code, labels_code, behind_labels, case_arm}
+use Rattle.alma_templates.specs.Templates.{stmts_code, expr_code, case_code, cases_code, else_code}
 use Rattle.alma_templates.specs.Stands.{Stands}
 use Rattle.alma_templates.proofs.Stands.{stands_front, stands_back}
-use Rattle.alma_templates.proofs.Parts.{Begins, begins, Left, left_self, left_on, left_temp, has_kind, holds_temp, IsValue, ValueIn, From, ending, from_more, from_ending, on_ending, then_ending, as_runs, node_runs, runs_from, faults_here}
+use Rattle.alma_templates.proofs.Parts.{Begins, begins, Left, left_self, left_temp, has_kind, holds_temp, IsValue, ValueIn, From, ending, from_more, from_ending, on_ending, then_ending, as_runs, node_runs, runs_from, faults_here}
 use Rattle.alma_templates.proofs.RangeChecks.{past_from}
 use Rattle.alma_templates.proofs.FormRuns.{ExprRuns, StatementRuns, ListRuns}
 

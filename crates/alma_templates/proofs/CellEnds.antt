@@ -1,5 +1,5 @@
 -- What is at a place, and the phrases that end by looking there.
-use Rattle.std.proofs.Common.{◌≡◌, ℕ, suc, ◌+◌, ◌<◌, ◌≤◌, true, List, Some, refl, sym, ap, ◌∙◌, subst, arith, ℤ, pos}
+use Rattle.std.proofs.Common.{◌≡◌, ℕ, ◌+◌, ◌<◌, ◌≤◌, true, List, Some, refl, sym, ap, ◌∙◌, subst, arith, ℤ, pos}
 use Rattle.std.specs.Prelude.{slice_get}
 use Rattle.alma_base.specs.declared.fault.RunFault.TheVariants as fault
 use Rattle.alma_base.specs.Numbers.{is_integer}
@@ -18,8 +18,8 @@ use Rattle.alma_mean.specs.Events.{one}
 use Rattle.alma_mean.specs.Rows.{read_cell, known_bit}
 use Rattle.alma_implements.proofs.Frames.{own_end, SameContent}
 use Rattle.alma_implements.proofs.FrameLemmas.{content_there}
-use Rattle.alma_implements.proofs.Steps.{Holds, InstrAt, load_step, load_unknown}
-use Rattle.alma_templates.proofs.Parts.{Begins, has_kind, IsValue, IsPlace, ValueIn, From, leaving, faults_here, value_ends}
+use Rattle.alma_implements.proofs.Steps.{InstrAt, load_step, load_unknown}
+use Rattle.alma_templates.proofs.Parts.{Begins, has_kind, IsPlace, ValueIn, From, leaving, faults_here, value_ends}
 use Rattle.alma_templates.proofs.PlaceSteps.{known_step, not_known_step}
 
 module _ (p : Program) (code : PlainCode) (input : List ℕ) where

@@ -1,5 +1,5 @@
 -- Equations, from template to run: a cell against a number, and a cell against a cell.
-use Rattle.std.proofs.Common.{◌≡◌, ℕ, suc, ◌+◌, ◌<◌, ◌≤◌, Bool, true, false, List, [], ◌∷◌, ◌++◌, length, get_or, Option, Some, None, refl, sym, ap, ◌∙◌, subst, arith, ℤ, pos, negsuc}
+use Rattle.std.proofs.Common.{◌≡◌, ℕ, ◌+◌, ◌<◌, ◌≤◌, Bool, true, false, List, [], ◌∷◌, ◌++◌, length, Option, Some, None, refl, sym, ap, ◌∙◌, subst, arith, ℤ, pos, negsuc}
 use Rattle.std.specs.Prelude.{slice_get, nat_eq}
 use Rattle.std.proofs.lemmas.List.{length-append}
 use Rattle.std.proofs.lemmas.Bool.Decides.{nat_tests}
@@ -15,27 +15,24 @@ use Rattle.alma_code.specs.Carries.{number_at}
 use Rattle.alma_code.specs.Picture.{PlainFrame, PlainEntry, written, cell_at}
 use Rattle.alma_code.specs.Plain.{PlainCode}
 use Rattle.alma_code.specs.Lines.{line_at}
-use Rattle.alma_code.specs.Machine.{State, Stepped, Failing, act, step, went, faulted, fails_now, stuck, with_cell, as_range, as_content, number, place, content, bound, ranged, store, equated, equation}
-use Rattle.alma_ir.specs.Tree.{Program, Expr, Desig, Test, Bind, Unify}
+use Rattle.alma_code.specs.Machine.{State, Stepped, Failing, act, step, went, faulted, fails_now, stuck, with_cell, as_range, as_content, number, place, content, bound, store, equated, equation}
+use Rattle.alma_ir.specs.Tree.{Program, Expr, Desig, Bind, Unify}
 use Rattle.alma_ir.specs.Checked.{desig_cells}
 use Rattle.alma_mean.specs.Store.{Store, Place, Unknown, Number, At, cell_of, put_at}
 use Rattle.alma_mean.specs.Store as store_of
-use Rattle.alma_mean.specs.Events.{Events, NoYield, Fail, one, bind, node}
+use Rattle.alma_mean.specs.Events.{Fail, one, bind}
 use Rattle.alma_mean.specs.Arithmetic.{check_range, fault_unless}
 use Rattle.alma_mean.specs.Rows.{bind_cell, unify_cells, succeed_if}
 use Rattle.alma_mean.specs.Meaning.{Level, ev_test, ev_expr, ev_desig}
-use Rattle.alma_implements.proofs.Goes.{IsFailing, Silently}
 use Rattle.alma_implements.proofs.Frames.{own_end, IsAt}
 use Rattle.alma_implements.proofs.BareRow.{ReadsFirst}
-use Rattle.alma_implements.proofs.Steps.{Holds, InstrAt, Faults, passed, does, went_on, number_is, place_is, faults_now, here_too}
-use Rattle.alma_implements.proofs.ChoiceSteps.{GoesOn}
+use Rattle.alma_implements.proofs.Steps.{Holds, InstrAt, passed, does, went_on, number_is, place_is, faults_now, here_too}
 use Rattle.alma_templates.specs.Lined.{Lined, own}
 use Rattle.alma_templates.specs.Tables.{Tables, range_number}
-use Rattle.alma_templates.specs.Slots.{bare, unless_bare, desig_slots, expr_slots, behind_desig, behind_expr}
-use Rattle.alma_templates.specs.Templates.{test_code, expr_code, desig_code, place_at, value_at}
-use Rattle.alma_templates.specs.Stands.{Stands}
+use Rattle.alma_templates.specs.Slots.{bare, unless_bare, behind_desig, behind_expr}
+use Rattle.alma_templates.specs.Templates.{expr_code, desig_code, place_at, value_at}
 use Rattle.alma_templates.proofs.Stands.{stands_front, stands_back}
-use Rattle.alma_templates.proofs.Parts.{Begins, begins, Left, place_after, value_after, IsValue, IsPlace, ValueIn, PlaceIn, Nothing, NodeRuns, From, leaving, from_more, node_runs, then_from, faults_here, fails_here, ends_here}
+use Rattle.alma_templates.proofs.Parts.{Begins, begins, place_after, value_after, IsValue, IsPlace, ValueIn, PlaceIn, Nothing, NodeRuns, From, leaving, from_more, node_runs, then_from, faults_here, fails_here, ends_here}
 use Rattle.alma_templates.proofs.AtOnce.{AtOnce, at_once}
 use Rattle.alma_templates.proofs.CellEnds.{CellIs, is_number, is_unknown, cell_is}
 use Rattle.alma_templates.proofs.ExprForms.{some_slots}

@@ -1,5 +1,5 @@
 -- OR and EITHER, from template to run.
-use Rattle.std.proofs.Common.{◌≡◌, ℕ, suc, ◌+◌, ◌≤◌, Bool, true, false, List, [], ◌∷◌, ◌++◌, length, Option, Some, None, refl, sym, ap, ◌∙◌, subst, arith, ℤ, append_assoc}
+use Rattle.std.proofs.Common.{◌≡◌, ℕ, suc, ◌+◌, ◌≤◌, Bool, List, [], ◌∷◌, ◌++◌, length, Some, refl, sym, ◌∙◌, subst, arith, append_assoc}
 use Rattle.std.specs.Prelude.{slice_get}
 use Rattle.std.proofs.lemmas.List.{length-append}
 use Rattle.alma_code.specs.declared.cell.Cell.TheVariants as cell
@@ -8,26 +8,26 @@ use Rattle.alma_code.specs.declared.instr.Instr.TheVariants as I
 use Rattle.alma_code.specs.Picture.{PlainFrame, PlainEntry}
 use Rattle.alma_code.specs.Plain.{PlainCode, kinds_at}
 use Rattle.alma_code.specs.Machine.{State}
-use Rattle.alma_ir.specs.Tree.{Program, Stmts, Branches, Test, Tests, no_tests, more_tests, Or, Either, no_branches, more_branches}
+use Rattle.alma_ir.specs.Tree.{Program, Branches, Test, Tests, no_tests, more_tests, Or, Either, no_branches, more_branches}
 use Rattle.alma_mean.specs.Store.{Store}
-use Rattle.alma_mean.specs.Events.{Events, NoYield, Flow, Go, Return, one, node, on_first}
-use Rattle.alma_mean.specs.Meaning.{Level, ev_stmts, ev_stmt, ev_test, ev_or, ev_branches}
+use Rattle.alma_mean.specs.Events.{Events, NoYield, Flow, Go, Return, one, on_first}
+use Rattle.alma_mean.specs.Meaning.{Level, ev_stmts, ev_test, ev_or}
 use Rattle.alma_implements.proofs.Goes.{Silently, IsGoing, Goes, before, and_then, credited, first_goes, one_goes, no_step}
 use Rattle.alma_implements.proofs.Frames.{own_end, HasSlots, IsAt}
 use Rattle.alma_implements.proofs.Address.{at_address}
 use Rattle.alma_implements.proofs.ChoiceSteps.{branch_entry, mark_step, choose_step, pop_step, cut_step}
 use Rattle.alma_implements.proofs.ExprRows.{first_kind}
 use Rattle.alma_implements.proofs.Steps.{top_written, InstrAt}
-use Rattle.alma_implements.proofs.Ways.{Ways, Leaves, Runs, LeadsTo, leads_by_jump, leads_then, then_up_to}
+use Rattle.alma_implements.proofs.Ways.{Ways, Leaves, LeadsTo, leads_by_jump, leads_then, then_up_to}
 use Rattle.alma_templates.specs.Lined.{Lined, own}
 use Rattle.alma_templates.specs.Tables.{Tables}
 use Rattle.alma_templates.specs.Slots.{stmts_slots, test_slots, or_slots, branches_slots, behind_test}
 use Rattle.alma_templates.specs.Pieces.{first_of_two}
-use Rattle.alma_templates.specs.Templates.{stmts_code, stmt_code, test_code, or_code, operands_code, either_code}
+use Rattle.alma_templates.specs.Templates.{stmts_code, test_code, operands_code}
 use Rattle.alma_templates.specs.Stands.{Stands}
 use Rattle.alma_templates.proofs.Stands.{stands_front, stands_back}
 use Rattle.alma_templates.proofs.EitherRuns as either
-use Rattle.alma_templates.proofs.Parts.{Begins, begins, Left, left_self, left_on, has_kind, Nothing, NodeRuns, From, leaving, ending, on_ending, node_runs, node_from}
+use Rattle.alma_templates.proofs.Parts.{Begins, begins, Left, left_self, left_on, has_kind, Nothing, NodeRuns, leaving, ending, on_ending, node_runs, node_from}
 use Rattle.alma_templates.proofs.Conditions.{marked, part_keeps}
 use Rattle.alma_templates.proofs.FormRuns.{TestRuns, StatementRuns, ListRuns}
 
@@ -70,9 +70,11 @@ module _ (p : Program) (tables : Tables) (code : PlainCode) (input : List ℕ) (
           ((part_keeps p code input lo r (length held) v now behind kind b).keeps x m y.now left.1) in
           let l = leads y.now held c.to c.is in
           before code input line 0 24 (Leaves exit (leaving p code input lo r now (Nothing p code input))) held (one x tt) y l.1 (1 + l.0) (8 + 0) 0 q q (and_then code input c.silently l.3) (omega (arith, l.2)) (omega arith)
-          (one_goes code input line 0 24 (Leaves exit (leaving p code input lo r now (Nothing p code input))) held x tt l.1 0 q (omega arith) (record { mode = l.4.mode; entries = l.4.entries })
-          (l.4.here, subst (λ f. Left p code input lo r now x f × Unit {0}) (sym l.4.frames)
-              (left_on p code input lo (lo + 1) r now v x (top_written now lo (cell.Mark (length held))) y.now (omega arith) (marked p code input lo r (length held) v now behind b) left.1.0, tt)))
+          (one_goes code input line 0 24 (Leaves exit (leaving p code input lo r now (Nothing p code input))) held x tt l.1 0 q (omega arith) (record { mode = l.4.mode; entries = l.4.entries }) (
+            l.4.here,
+            subst (λ f. Left p code input lo r now x f × Unit {0}) (sym l.4.frames)
+                (left_on p code input lo (lo + 1) r now v x (top_written now lo (cell.Mark (length held))) y.now (omega arith) (marked p code input lo r (length held) v now behind b) left.1.0, tt),
+          ))
       on_alternative x (Return m) y above going left = absurd left
 
   abbrev pub OperandsRun : (jump at lo : ℕ) → Tests → Type 0
@@ -188,10 +190,11 @@ module _ (p : Program) (tables : Tables) (code : PlainCode) (input : List ℕ) (
 
   each_list : (may : Bool) (lo : ℕ) (v : Store) (now : List PlainFrame) → own_end p r ≤ lo → Begins p code input r v now → (branches : Branches) → EachRuns may branches → either.ListsRun p tables r code input below line v now (ending p code input may lo r now) q lo branches
   each_list may lo v now behind b no_branches each = tt
-  each_list may lo v now behind b (more_branches body rest) each =
-      (λ at lo2 le slots stands.
-          on_ending p code input may line at (at + length (stmts_code p tables r at lo2 body)) lo lo2 r v now now (ev_stmts p input below body v) q le behind (left_self p code input lo r v now b) (each.0 at lo2 slots stands v now b),
-      each_list may lo v now behind b rest each.1)
+  each_list may lo v now behind b (more_branches body rest) each = (
+    λ at lo2 le slots stands.
+        on_ending p code input may line at (at + length (stmts_code p tables r at lo2 body)) lo lo2 r v now now (ev_stmts p input below body v) q le behind (left_self p code input lo r v now b) (each.0 at lo2 slots stands v now b),
+    each_list may lo v now behind b rest each.1,
+  )
 
   pub either_form : (may : Bool) (at lo : ℕ) (branches : Branches) → HasSlots p code r lo (branches_slots p r branches) → (branches ≡ no_branches → ⊥) → EachRuns may branches → StatementRuns p tables code input below r line q may at lo (Either branches)
   unfolding ev_stmts

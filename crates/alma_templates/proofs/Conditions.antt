@@ -1,35 +1,32 @@
 -- Conditions, from template to what they decide: a simple one is tested by a jump, any other stands behind a choice entry.
-use Rattle.std.proofs.Common.{◌≡◌, ℕ, suc, ◌+◌, ◌<◌, ◌≤◌, Bool, true, false, List, [], ◌∷◌, ◌++◌, length, Option, Some, None, refl, sym, ap, ◌∙◌, subst, arith, ℤ}
+use Rattle.std.proofs.Common.{◌≡◌, ℕ, ◌+◌, ◌≤◌, Bool, true, false, List, [], ◌∷◌, ◌++◌, length, Option, Some, None, refl, sym, ap, ◌∙◌, subst, arith, ℤ}
 use Rattle.std.specs.Prelude.{slice_get}
 use Rattle.std.proofs.lemmas.List.{length-append}
-use Rattle.alma_base.specs.Choice.{if_true}
-use Rattle.alma_base.specs.Numbers.{is_zero}
 use Rattle.alma_base.specs.declared.fault.RunFault.TheVariants as fault
 use Rattle.alma_code.specs.declared.cell.Cell.TheVariants as cell
-use Rattle.alma_code.specs.declared.cell.SlotKind.{SlotKind}
 use Rattle.alma_code.specs.declared.cell.SlotKind.TheVariants as slot
 use Rattle.alma_code.specs.declared.instr.Instr.TheVariants as I
 use Rattle.alma_code.specs.Lines.{line_at}
-use Rattle.alma_code.specs.Picture.{PlainFrame, PlainEntry, last_frame}
+use Rattle.alma_code.specs.Picture.{PlainFrame, last_frame}
 use Rattle.alma_code.specs.Plain.{PlainCode, kinds_at}
-use Rattle.alma_code.specs.Machine.{State, act}
+use Rattle.alma_code.specs.Machine.{act}
 use Rattle.alma_ir.specs.declared.phrase.Root.TheVariants as root
 use Rattle.alma_ir.specs.Tree.{Program, Expr, Test, Load, a_desig, no_sels, Value, Bind, Unify, SameCells, Seq, And, Or, Not, CallTest}
-use Rattle.alma_mean.specs.Store.{Store, top_frame, top_cell}
-use Rattle.alma_mean.specs.Events.{Events, NoYield, Visit, Fail, one, join, bind, node}
+use Rattle.alma_mean.specs.Store.{Store, top_cell}
+use Rattle.alma_mean.specs.Events.{Visit, Fail, one, join}
 use Rattle.alma_mean.specs.Rows.{read_cell}
 use Rattle.alma_mean.specs.Meaning.{Level, ev_test, ev_expr}
-use Rattle.alma_implements.proofs.Goes.{Goes, weaker}
-use Rattle.alma_implements.proofs.Frames.{shift, own_end, HasSlots, IsAt}
+use Rattle.alma_implements.proofs.Goes.{weaker}
+use Rattle.alma_implements.proofs.Frames.{shift, own_end, HasSlots}
 use Rattle.alma_implements.proofs.FrameLemmas.{top_same}
 use Rattle.alma_implements.proofs.BareRow.{ReadsFirst, reads_unknown, bare_is}
-use Rattle.alma_implements.proofs.ExprRows.{first_kind, slots_behind, within_frame, some_frames, AreVariables}
+use Rattle.alma_implements.proofs.ExprRows.{first_kind, within_frame, some_frames, AreVariables}
 use Rattle.alma_implements.proofs.FirstRow.{KeepsMark}
 use Rattle.alma_implements.proofs.ForSteps.{SlotThere, a_number, not_known, slot_there}
 use Rattle.alma_implements.proofs.Leaving.{keeps_mark}
-use Rattle.alma_implements.proofs.Steps.{top_written, HasKind, Holds, InstrAt, does}
+use Rattle.alma_implements.proofs.Steps.{top_written, InstrAt, does}
 use Rattle.alma_implements.proofs.TurnRow.{Decides, barrier_decides, simple_decides}
-use Rattle.alma_implements.proofs.Ways.{Ways, Leaves, Runs}
+use Rattle.alma_implements.proofs.Ways.{Ways, Leaves}
 use Rattle.alma_templates.specs.Lined.{Lined, own}
 use Rattle.alma_templates.specs.Tables.{Tables}
 use Rattle.alma_templates.specs.Slots.{bare, unless_bare, is_simple, mark_slots, test_slots}
@@ -37,7 +34,7 @@ use Rattle.alma_templates.specs.Pieces.{condition}
 use Rattle.alma_templates.specs.Templates.{expr_code, test_code, jump_code, slot_or, value_at}
 use Rattle.alma_templates.specs.Stands.{Stands}
 use Rattle.alma_templates.proofs.Stands.{stands_front, stands_back}
-use Rattle.alma_templates.proofs.Parts.{Begins, begins, Left, left_on, left_temp, has_kind, IsValue, ValueIn, Nothing, NodeRuns, NodeFor, From, leaving, node_runs, as_runs, alone_from, faults_here, ends_here}
+use Rattle.alma_templates.proofs.Parts.{Begins, begins, Left, left_on, left_temp, has_kind, ValueIn, Nothing, NodeRuns, NodeFor, From, leaving, node_runs, as_runs, alone_from, faults_here, ends_here}
 use Rattle.alma_templates.proofs.AtOnce.{AtOnce, BareFits, bare_value}
 use Rattle.alma_templates.proofs.SimpleOne.{expr_one}
 use Rattle.alma_templates.proofs.FormRuns.{TestRuns}

@@ -1,12 +1,11 @@
 -- Selectors and designators, from template to run: each selector takes a part of the place before it.
-use Rattle.std.proofs.Common.{◌≡◌, ℕ, suc, ◌+◌, ◌*◌, ◌<◌, ◌≤◌, Bool, true, false, List, [], ◌∷◌, ◌++◌, length, get_or, Option, Some, None, refl, sym, ap, ◌∙◌, subst, arith, ℤ, ◌-ℤ◌}
+use Rattle.std.proofs.Common.{◌≡◌, ℕ, ◌+◌, ◌*◌, ◌<◌, ◌≤◌, Bool, true, false, List, [], ◌∷◌, ◌++◌, length, get_or, Some, refl, subst, arith, ℤ, ◌-ℤ◌}
 use Rattle.std.specs.Prelude.{slice_get, nat_abs}
 use Rattle.std.proofs.lemmas.List.{length-append}
 use Rattle.alma_base.specs.declared.fault.RunFault.TheVariants as fault
 use Rattle.alma_base.specs.declared.number.Range.{Range}
 use Rattle.alma_base.specs.Numbers.{within, range_size}
 use Rattle.alma_code.proofs.Ranges.{offset_within}
-use Rattle.alma_code.specs.declared.cell.Cell.TheVariants as cell
 use Rattle.alma_code.specs.declared.cell.CellPlace.{CellPlace}
 use Rattle.alma_code.specs.declared.cell.SlotKind.TheVariants as slot
 use Rattle.alma_code.specs.declared.instr.Instr.TheVariants as I
@@ -14,23 +13,23 @@ use Rattle.alma_code.specs.Picture.{PlainFrame, PlainEntry}
 use Rattle.alma_code.specs.Picture as picture
 use Rattle.alma_code.specs.Plain.{PlainCode, kinds_at}
 use Rattle.alma_ir.specs.declared.phrase.Root.{Root}
-use Rattle.alma_ir.specs.Tree.{Program, Expr, Desig, Sels, Sel, a_desig, no_sels, more_sels, Field, Index, routine_at}
-use Rattle.alma_ir.specs.Checked.{IsNested, sel_cells, cells_after, desig_cells, IsPart}
+use Rattle.alma_ir.specs.Tree.{Program, Expr, Sels, Sel, a_desig, no_sels, more_sels, Field, Index, routine_at}
+use Rattle.alma_ir.specs.Checked.{IsNested, sel_cells, cells_after}
 use Rattle.alma_mean.specs.Store.{Store, Place, part}
-use Rattle.alma_mean.specs.Events.{Events, one, bind, node}
+use Rattle.alma_mean.specs.Events.{one, bind}
 use Rattle.alma_mean.specs.Arithmetic.{fault_unless}
 use Rattle.alma_mean.specs.Rows.{root_place, index_place}
 use Rattle.alma_mean.specs.Meaning.{Level, ev_expr, ev_desig, ev_sels, ev_sel}
 use Rattle.alma_implements.proofs.Frames.{shift_in, own_end, AreNumbers, SamePlace, HasSlots}
 use Rattle.alma_implements.proofs.ExprRows.{first_kind, slots_first, slots_behind}
-use Rattle.alma_implements.proofs.Steps.{Holds, InstrAt}
+use Rattle.alma_implements.proofs.Steps.{InstrAt}
 use Rattle.alma_templates.specs.Lined.{Lined, own}
 use Rattle.alma_templates.specs.Tables.{Tables, range_number}
 use Rattle.alma_templates.specs.Slots.{bare, unless_bare, expr_slots, root_slots, sels_slots, sel_slots, desig_slots, behind_value}
-use Rattle.alma_templates.specs.Templates.{expr_code, desig_code, sels_code, sel_code, root_code, value_at, part_slot, part_at, place_at, behind_root}
+use Rattle.alma_templates.specs.Templates.{expr_code, sels_code, sel_code, root_code, value_at, part_slot, part_at, behind_root}
 use Rattle.alma_templates.specs.Stands.{Stands}
 use Rattle.alma_templates.proofs.Stands.{stands_front, stands_back}
-use Rattle.alma_templates.proofs.Parts.{Begins, begins, Left, has_kind, place_after, IsPlace, IsValue, ValueIn, PlaceIn, NodeRuns, From, leaving, from_more, from_lower, node_runs, then_from, faults_here, ends_here, place_goes_on}
+use Rattle.alma_templates.proofs.Parts.{Begins, begins, has_kind, place_after, IsPlace, IsValue, PlaceIn, NodeRuns, From, leaving, from_more, from_lower, node_runs, then_from, faults_here, ends_here, place_goes_on}
 use Rattle.alma_templates.proofs.AtOnce.{AtOnce, at_once}
 use Rattle.alma_templates.proofs.PlaceSteps.{field_step, index_reads, index_step, index_faults}
 use Rattle.alma_templates.proofs.RootForms.{RootFits, root_from}

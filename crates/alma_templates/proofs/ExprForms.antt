@@ -1,49 +1,45 @@
 -- The forms of expressions, from template to run: constants, variables, sums, comparisons, KNOWN and CHR.
-use Rattle.std.proofs.Common.{◌≡◌, ℕ, suc, ◌+◌, ◌<◌, ◌≤◌, Bool, true, false, List, [], ◌∷◌, ◌++◌, length, Option, Some, None, refl, sym, ap, ◌∙◌, subst, arith, ℤ, pos}
+use Rattle.std.proofs.Common.{◌≡◌, ℕ, ◌+◌, ◌<◌, ◌≤◌, Bool, true, List, [], ◌∷◌, ◌++◌, length, Option, Some, None, refl, sym, ap, subst, arith, ℤ}
 use Rattle.std.specs.Prelude.{slice_get}
 use Rattle.std.proofs.lemmas.List.{length-append}
 use Rattle.alma_base.specs.declared.fault.RunFault.TheVariants as fault
-use Rattle.alma_base.specs.declared.number.Range.{Range}
-use Rattle.alma_base.specs.Numbers.{is_integer, bit, within}
+use Rattle.alma_base.specs.Numbers.{is_integer, bit}
 use Rattle.alma_code.specs.declared.cell.Cell.TheVariants as cell
-use Rattle.alma_code.specs.declared.cell.SlotKind.{SlotKind}
 use Rattle.alma_code.specs.declared.cell.SlotKind.TheVariants as slot
 use Rattle.alma_code.specs.declared.instr.Instr.TheVariants as I
 use Rattle.alma_code.specs.Lines.{line_at}
-use Rattle.alma_code.specs.Picture.{PlainFrame, PlainEntry}
+use Rattle.alma_code.specs.Picture.{PlainFrame}
 use Rattle.alma_code.specs.Plain.{PlainCode, kinds_at}
-use Rattle.alma_code.specs.Machine.{State, act, number, put_number}
+use Rattle.alma_code.specs.Machine.{act}
 use Rattle.alma_ir.specs.declared.phrase.Op.{Op}
 use Rattle.alma_ir.specs.declared.phrase.Cmp.{Cmp}
 use Rattle.alma_ir.specs.declared.phrase.Cmp.TheVariants as cmp
-use Rattle.alma_ir.specs.declared.phrase.Root.TheVariants as root
-use Rattle.alma_ir.specs.Tree.{Program, Expr, Links, Desig, Const, Load, Chain, Compare, Truth, Known, Chr, CallExpr, no_links, more_links, a_desig, no_sels}
+use Rattle.alma_ir.specs.Tree.{Program, Expr, Links, Desig, Const, Load, Chain, Compare, Truth, Known, Chr, CallExpr, no_links, more_links}
 use Rattle.alma_ir.specs.Checked.{desig_cells}
-use Rattle.alma_mean.specs.Store.{Store, Place, cell_of, top_cell}
-use Rattle.alma_mean.specs.Events.{Events, Visit, Fail, one, join, bind, node, visit_each}
-use Rattle.alma_mean.specs.Arithmetic.{apply_op, apply_sign, compares, check_range, fault_unless}
+use Rattle.alma_mean.specs.Store.{Store, cell_of, top_cell}
+use Rattle.alma_mean.specs.Events.{Visit, Fail, one, join, bind}
+use Rattle.alma_mean.specs.Arithmetic.{apply_op, apply_sign, compares}
 use Rattle.alma_mean.specs.Rows.{read_cell, known_bit}
 use Rattle.alma_mean.specs.Meaning.{Level, ev_expr, ev_links, ev_desig}
-use Rattle.alma_implements.proofs.Goes.{Goes, weaker}
-use Rattle.alma_implements.proofs.Frames.{own_end, IsAt, HasSlots, shift}
-use Rattle.alma_implements.proofs.BareRow.{ReadsFirst, reads_unknown, bare_is}
-use Rattle.alma_implements.proofs.ExprRows.{first_kind, slots_first, slots_behind, AreVariables}
+use Rattle.alma_implements.proofs.Goes.{weaker}
+use Rattle.alma_implements.proofs.Frames.{own_end, HasSlots, shift}
+use Rattle.alma_implements.proofs.BareRow.{ReadsFirst, reads_unknown}
+use Rattle.alma_implements.proofs.ExprRows.{first_kind, slots_first, AreVariables}
 use Rattle.alma_implements.proofs.ForSteps.{SlotThere, a_number, not_known, slot_there, move_step}
-use Rattle.alma_implements.proofs.Steps.{Holds, InstrAt, const_step, does}
-use Rattle.alma_implements.proofs.Ways.{Ways, Leaves}
+use Rattle.alma_implements.proofs.Steps.{InstrAt, const_step, does}
+use Rattle.alma_implements.proofs.Ways.{Leaves}
 use Rattle.alma_templates.specs.Lined.{Lined, own}
-use Rattle.alma_templates.specs.Tables.{Tables, range_number}
+use Rattle.alma_templates.specs.Tables.{Tables}
 use Rattle.alma_templates.specs.Slots.{bare, bare_desig, unless_bare, expr_slots, links_slots, desig_slots, test_slots, mark_slots, is_simple, call_links, handed_slots, args_slots, behind_expr, behind_value}
 use Rattle.alma_templates.specs.Pieces.{op_code, cmp_code, neg_code}
-use Rattle.alma_templates.specs.Templates.{expr_code, links_code, desig_code, place_at, value_at, load_by, char_range}
+use Rattle.alma_templates.specs.Templates.{expr_code, links_code, desig_code, place_at, value_at, load_by}
 use Rattle.alma_templates.specs.Stands.{Stands}
 use Rattle.alma_templates.proofs.Stands.{stands_front, stands_back}
-use Rattle.alma_templates.proofs.Parts.{Begins, begins, Left, left_self, has_kind, holds_after, value_after, IsValue, IsPlace, ValueIn, PlaceIn, NodeRuns, NodeFor, From, leaving, from_more, node_runs, then_from, alone_from, faults_here, step_from, ends_here, value_ends}
+use Rattle.alma_templates.proofs.Parts.{Begins, begins, has_kind, holds_after, IsValue, ValueIn, PlaceIn, NodeRuns, NodeFor, From, leaving, from_more, node_runs, then_from, alone_from, faults_here, ends_here, value_ends}
 use Rattle.alma_templates.proofs.AtOnce.{AtOnce, BareFits, at_once, bare_place}
 use Rattle.alma_templates.proofs.OperatorParts.{op_reads, cmp_reads, op_from, sign_from, compare_ends}
 use Rattle.alma_templates.proofs.CellEnds.{load_ends, known_ends}
-use Rattle.alma_templates.proofs.PlaceSteps.{in_range_passes, in_range_faults}
-use Rattle.alma_templates.proofs.FormRuns.{ExprRuns, DesigRuns, HasRange}
+use Rattle.alma_templates.proofs.FormRuns.{ExprRuns, DesigRuns}
 
 module _ (p : Program) (code : PlainCode) (input : List ℕ) (r : ℕ) where
   -- the first slot of an expression is for its value

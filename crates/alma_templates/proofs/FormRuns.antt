@@ -1,9 +1,8 @@
 -- How the phrases of one statement run, in words: each stands somewhere, takes its slots from `lo` on, and is at the line
 -- of the statement.
-use Rattle.std.proofs.Common.{◌≡◌, ℕ, Bool, Option, Some, List}
+use Rattle.std.proofs.Common.{◌≡◌, ℕ, Bool, Some, List}
 use Rattle.std.specs.Prelude.{slice_get}
 use Rattle.alma_base.specs.declared.number.Range.{Range}
-use Rattle.alma_code.specs.Picture.{PlainFrame}
 use Rattle.alma_code.specs.Plain.{PlainCode}
 use Rattle.alma_ir.specs.Tree.{Program, Stmts, Stmt, Test, Expr, Desig}
 use Rattle.alma_ir.specs.Checked.{desig_cells}

@@ -1,34 +1,27 @@
 -- IF, WHILE, REPEAT and truths as numbers, from template to run.
-use Rattle.std.proofs.Common.{◌≡◌, ℕ, suc, ◌+◌, ◌-◌, ◌≤◌, Bool, true, false, List, [], ◌∷◌, ◌++◌, length, Option, Some, None, refl, sym, ap, ◌∙◌, subst, arith, ℤ, pos}
-use Rattle.std.specs.Prelude.{slice_get}
+use Rattle.std.proofs.Common.{◌≡◌, ℕ, suc, ◌+◌, ◌≤◌, Bool, true, false, List, [], ◌∷◌, ◌++◌, length, refl, sym, ap, ◌∙◌, subst, arith}
 use Rattle.std.proofs.lemmas.List.{length-append}
-use Rattle.alma_code.specs.declared.cell.SlotKind.TheVariants as slot
 use Rattle.alma_code.specs.declared.instr.Instr.TheVariants as I
-use Rattle.alma_code.specs.Picture.{PlainFrame, PlainEntry}
-use Rattle.alma_code.specs.Plain.{PlainCode, kinds_at}
-use Rattle.alma_code.specs.Machine.{State}
-use Rattle.alma_ir.specs.Tree.{Program, Stmts, Stmt, Test, Arms, Expr, no_arms, more_arms, If, While, Repeat, Truth, Value, Bind, Unify, SameCells, Seq, And, Or, Not, CallTest}
+use Rattle.alma_code.specs.Picture.{PlainFrame}
+use Rattle.alma_code.specs.Plain.{PlainCode}
+use Rattle.alma_ir.specs.Tree.{Program, Stmts, Test, Arms, no_arms, more_arms, If, Value, Bind, Unify, SameCells, Seq, And, Or, Not, CallTest}
 use Rattle.alma_mean.specs.Store.{Store}
-use Rattle.alma_mean.specs.Events.{Events, NoYield, Visit, Fail, one, bind, node, on_first, visit_each}
-use Rattle.alma_mean.specs.Rows.{while_turn, repeat_turn}
-use Rattle.alma_mean.specs.Meaning.{Level, ev_stmts, ev_stmt, ev_test, ev_arms, ev_expr}
-use Rattle.alma_implements.proofs.Goes.{Goes, before, weaker}
-use Rattle.alma_implements.proofs.Frames.{own_end, HasSlots, IsAt}
-use Rattle.alma_implements.proofs.ChoiceSteps.{jumps}
-use Rattle.alma_implements.proofs.ExprRows.{first_kind, slots_first, slots_behind}
-use Rattle.alma_implements.proofs.Steps.{InstrAt, const_step}
-use Rattle.alma_implements.proofs.TurnRow.{Decides, while_row, repeat_row, arm_row}
-use Rattle.alma_implements.proofs.Ways.{Ways, Leaves, Runs, Later, Visited, LeadsTo, leads_by_jump, leads_then, visited_later, visited_behind}
+use Rattle.alma_mean.specs.Events.{Events, NoYield, Visit, node, on_first, visit_each}
+use Rattle.alma_mean.specs.Meaning.{Level, ev_stmts, ev_test, ev_arms}
+use Rattle.alma_implements.proofs.Frames.{own_end, HasSlots}
+use Rattle.alma_implements.proofs.Steps.{InstrAt}
+use Rattle.alma_implements.proofs.TurnRow.{Decides, arm_row}
+use Rattle.alma_implements.proofs.Ways.{Visited, LeadsTo, leads_by_jump, leads_then, visited_behind}
 use Rattle.alma_templates.specs.Lined.{Lined, own}
 use Rattle.alma_templates.specs.Tables.{Tables}
-use Rattle.alma_templates.specs.Slots.{is_simple, mark_slots, stmts_slots, test_slots, arms_slots, behind_stmts, behind_condition}
+use Rattle.alma_templates.specs.Slots.{is_simple, mark_slots, test_slots, behind_stmts, behind_condition}
 use Rattle.alma_templates.specs.Pieces.{condition, guarded}
-use Rattle.alma_templates.specs.Templates.{stmts_code, stmt_code, test_code, jump_code, if_code, arms_code, expr_code}
+use Rattle.alma_templates.specs.Templates.{stmts_code, test_code, jump_code, arms_code}
 use Rattle.alma_templates.specs.Stands.{Stands}
 use Rattle.alma_templates.proofs.Stands.{stands_front, stands_back}
-use Rattle.alma_templates.proofs.Parts.{Begins, begins, Left, left_self, left_on, has_kind, ValueIn, Nothing, NodeRuns, From, leaving, ending, on_ending, from_ending, as_runs, node_runs, runs_from, from_more, from_lower, on_from, value_ends}
-use Rattle.alma_templates.proofs.Conditions.{TestKnown, condition_code, ConditionDecides, condition_decides}
-use Rattle.alma_templates.proofs.FormRuns.{ExprRuns, StatementRuns, ListRuns}
+use Rattle.alma_templates.proofs.Parts.{Begins, begins, Left, From, ending, on_ending, from_ending, as_runs, node_runs, runs_from}
+use Rattle.alma_templates.proofs.Conditions.{TestKnown, condition_code, condition_decides}
+use Rattle.alma_templates.proofs.FormRuns.{StatementRuns, ListRuns}
 
 module _ (p : Program) (tables : Tables) (code : PlainCode) (input : List ℕ) (below : Level) (r line q : ℕ) where
   -- ---- a condition and what it guards

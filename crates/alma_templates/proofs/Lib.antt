@@ -30,3 +30,5 @@ pub mod Whole
 pub mod CallForms
 pub mod CaseForms
 pub mod Starting
+pub mod ForForms
+pub mod ForStatement

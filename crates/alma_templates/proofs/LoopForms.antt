@@ -1,33 +1,30 @@
 -- Truths as numbers, WHILE and REPEAT, from template to run.
-use Rattle.std.proofs.Common.{◌≡◌, ℕ, suc, ◌+◌, ◌-◌, ◌≤◌, Bool, true, false, List, [], ◌∷◌, ◌++◌, length, Option, Some, None, refl, sym, ap, ◌∙◌, subst, arith, ℤ, pos}
-use Rattle.std.specs.Prelude.{slice_get}
+use Rattle.std.proofs.Common.{◌≡◌, ℕ, suc, ◌+◌, ◌-◌, ◌≤◌, Bool, List, [], ◌∷◌, ◌++◌, length, refl, sym, subst, arith, ℤ, pos}
 use Rattle.std.proofs.lemmas.List.{length-append}
 use Rattle.alma_code.specs.declared.cell.SlotKind.TheVariants as slot
 use Rattle.alma_code.specs.declared.instr.Instr.TheVariants as I
-use Rattle.alma_code.specs.Picture.{PlainFrame, PlainEntry}
-use Rattle.alma_code.specs.Plain.{PlainCode, kinds_at}
-use Rattle.alma_code.specs.Machine.{State}
-use Rattle.alma_ir.specs.Tree.{Program, Stmts, Test, Expr, While, Repeat, Truth}
+use Rattle.alma_code.specs.Picture.{PlainFrame}
+use Rattle.alma_code.specs.Plain.{PlainCode}
+use Rattle.alma_ir.specs.Tree.{Program, Stmts, Test, While, Repeat, Truth}
 use Rattle.alma_mean.specs.Store.{Store}
 use Rattle.alma_mean.specs.Events.{Events, NoYield, Visit, one, bind, node, on_first}
-use Rattle.alma_mean.specs.Rows.{while_turn, repeat_turn}
-use Rattle.alma_mean.specs.Meaning.{Level, ev_stmts, ev_stmt, ev_test, ev_expr}
-use Rattle.alma_implements.proofs.Goes.{Goes, before, weaker}
-use Rattle.alma_implements.proofs.Frames.{own_end, HasSlots, IsAt}
+use Rattle.alma_mean.specs.Meaning.{Level, ev_stmts, ev_test, ev_expr}
+use Rattle.alma_implements.proofs.Goes.{before}
+use Rattle.alma_implements.proofs.Frames.{own_end, HasSlots}
 use Rattle.alma_implements.proofs.ChoiceSteps.{jumps}
-use Rattle.alma_implements.proofs.ExprRows.{first_kind, slots_behind}
+use Rattle.alma_implements.proofs.ExprRows.{first_kind}
 use Rattle.alma_implements.proofs.Steps.{InstrAt, const_step}
-use Rattle.alma_implements.proofs.TurnRow.{Decides, while_row, repeat_row}
-use Rattle.alma_implements.proofs.Ways.{Ways, Leaves, Runs, Later, Visited, visited_behind}
+use Rattle.alma_implements.proofs.TurnRow.{while_row, repeat_row}
+use Rattle.alma_implements.proofs.Ways.{Leaves, Later, Visited, visited_behind}
 use Rattle.alma_templates.specs.Lined.{Lined, own}
 use Rattle.alma_templates.specs.Tables.{Tables}
 use Rattle.alma_templates.specs.Slots.{is_simple, mark_slots, expr_slots, test_slots, behind_stmts, behind_condition}
-use Rattle.alma_templates.specs.Templates.{stmts_code, stmt_code, expr_code}
+use Rattle.alma_templates.specs.Templates.{stmts_code, stmt_code}
 use Rattle.alma_templates.specs.Stands.{Stands}
 use Rattle.alma_templates.proofs.Stands.{stands_front, stands_back}
-use Rattle.alma_templates.proofs.Parts.{Begins, begins, Left, left_less, left_on, has_kind, ValueIn, NodeRuns, From, RunsFor, leaving, ending, on_ending, on_later, as_runs, node_runs, from_more, on_from, ends_here, value_ends, value_goes_on}
+use Rattle.alma_templates.proofs.Parts.{Begins, begins, Left, left_less, left_on, has_kind, ValueIn, NodeRuns, From, RunsFor, leaving, ending, on_ending, on_later, as_runs, node_runs, on_from, ends_here, value_ends, value_goes_on}
 use Rattle.alma_templates.proofs.RangeChecks.{past_from}
-use Rattle.alma_templates.proofs.GuardedForms.{Decided, behind_test_at, none_at, guarded_code, guarded_front, guarded_back, guarded_long, condition_long}
+use Rattle.alma_templates.proofs.GuardedForms.{Decided, behind_test_at, guarded_code, guarded_front, guarded_back, guarded_long, condition_long}
 use Rattle.alma_templates.proofs.Conditions.{condition_code}
 use Rattle.alma_templates.proofs.FormRuns.{ExprRuns, StatementRuns, ListRuns}
 

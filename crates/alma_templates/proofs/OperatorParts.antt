@@ -1,6 +1,6 @@
 -- Operators, signs and comparisons inside of an expression: the value stands in the first slot of the expression, and an
 -- operand in any slot.
-use Rattle.std.proofs.Common.{◌≡◌, ℕ, suc, ◌+◌, ◌≤◌, Bool, true, false, not, List, [], ◌∷◌, length, Some, refl, sym, ap, ◌∙◌, subst, arith, ℤ, ◌+ℤ◌, ◌-ℤ◌, ◌*ℤ◌, neg_ℤ}
+use Rattle.std.proofs.Common.{◌≡◌, ℕ, ◌+◌, ◌≤◌, Bool, true, false, not, List, length, Some, refl, ap, ◌∙◌, subst, arith, ℤ, ◌+ℤ◌, ◌-ℤ◌, ◌*ℤ◌, neg_ℤ}
 use Rattle.std.specs.Prelude.{slice_get, int_lt, int_le}
 use Rattle.alma_base.specs.declared.fault.RunFault.TheVariants as fault
 use Rattle.alma_base.specs.Choice.{if_true}
@@ -28,7 +28,7 @@ use Rattle.alma_implements.proofs.BareRow.{ReadsFirst}
 use Rattle.alma_templates.specs.Lined.{own}
 use Rattle.alma_templates.specs.Pieces.{op_code, cmp_code, neg_code}
 use Rattle.alma_templates.specs.Stands.{Stands}
-use Rattle.alma_templates.proofs.Parts.{Begins, begins, Left, left_self, has_kind, IsValue, ValueIn, From, leaving, from_more, alone_from, faults_here, ends_here, value_ends, value_goes_on}
+use Rattle.alma_templates.proofs.Parts.{Begins, begins, Left, left_self, has_kind, IsValue, ValueIn, From, leaving, from_more, alone_from, faults_here, value_ends, value_goes_on}
 
 module _ (p : Program) (code : PlainCode) (input : List ℕ) (line q lo r : ℕ) (behind : own_end p r ≤ lo) (kind : slice_get (kinds_at code r) lo ≡ Some slot.Number) where
   -- ---- a second operand is read once the first is known

@@ -1,5 +1,5 @@
 -- What each part of a phrase keeps, and how one part follows another.
-use Rattle.std.proofs.Common.{◌≡◌, ℕ, suc, ◌+◌, ◌<◌, ◌≤◌, Bool, true, false, List, [], ◌∷◌, ◌++◌, length, get_or, Some, None, Option, refl, sym, ap, ◌∙◌, subst, arith, ℤ, append-nil}
+use Rattle.std.proofs.Common.{◌≡◌, ℕ, suc, ◌+◌, ◌<◌, ◌≤◌, Bool, true, false, List, [], ◌++◌, length, get_or, Some, None, Option, refl, sym, ap, ◌∙◌, subst, arith, ℤ, append-nil}
 use Rattle.std.specs.Prelude.{slice_get}
 use Rattle.std.proofs.lemmas.Option.{slice_get-get_or, slice_get_within, get_or_from_slice_get}
 use Rattle.alma_base.specs.declared.fault.RunFault.{RunFault}
@@ -15,16 +15,15 @@ use Rattle.alma_code.specs.Picture.{PlainFrame, PlainEntry, last_frame}
 use Rattle.alma_code.specs.Picture as picture
 use Rattle.alma_code.specs.Plain.{PlainCode, kinds_at}
 use Rattle.alma_code.specs.Machine.{State}
-use Rattle.alma_ir.specs.Tree.{Program, routine_at}
+use Rattle.alma_ir.specs.Tree.{Program}
 use Rattle.alma_mean.specs.Store.{Store, Place, At, top_frame, cell_at}
 use Rattle.alma_mean.specs.Store as store
-use Rattle.alma_mean.specs.Events.{Events, Flow, Go, Return, NoYield, Fail, Fault, Print, one, join, bind, node}
-use Rattle.alma_mean.specs.Arithmetic.{fault_unless}
-use Rattle.alma_implements.proofs.Goes.{Silently, Prints, IsOn, IsGoing, IsFailing, Goes, before, weaker, credited, join_goes, bind_goes, node_goes, one_goes, no_step}
-use Rattle.alma_implements.proofs.Frames.{shift, shift_in, own_end, StandFor, Fits, AreNumbers, SamePlace, HasSlots, IsAt}
+use Rattle.alma_mean.specs.Events.{Events, Flow, Go, Return, NoYield, Fail, Fault, one, join, bind, node}
+use Rattle.alma_implements.proofs.Goes.{Silently, IsGoing, IsFailing, Goes, before, weaker, credited, join_goes, bind_goes, node_goes, one_goes, no_step}
+use Rattle.alma_implements.proofs.Frames.{shift, shift_in, own_end, StandFor, Fits, AreNumbers, SamePlace, IsAt}
 use Rattle.alma_implements.proofs.FrameLemmas.{top_same, fits_self, fits_on, fits_less, fits_temp, frame_routine, numbers_kept, place_kept, holds_written}
-use Rattle.alma_implements.proofs.ExprRows.{first_kind, kind_there, within_frame, slots_behind_routine, some_frames}
-use Rattle.alma_implements.proofs.Steps.{top_written, Holds, HasKind, InstrAt, Writes, Faults, FailsNow, PrintsNow}
+use Rattle.alma_implements.proofs.ExprRows.{kind_there, within_frame, slots_behind_routine, some_frames}
+use Rattle.alma_implements.proofs.Steps.{top_written, Holds, HasKind, Writes, Faults}
 use Rattle.alma_implements.proofs.ChoiceSteps.{GoesOn}
 use Rattle.alma_implements.proofs.SeqRow.{runs_less}
 use Rattle.alma_implements.proofs.Leaving.{PlacesBelow}

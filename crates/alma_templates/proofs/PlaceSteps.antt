@@ -1,24 +1,21 @@
 -- One step of the machine at ranges, places and cells.
-use Rattle.std.proofs.Common.{◌≡◌, ℕ, suc, ◌+◌, ◌-◌, ◌*◌, Bool, true, false, List, length, Option, Some, None, refl, sym, ap, ◌∙◌, ℤ, pos, ◌-ℤ◌}
+use Rattle.std.proofs.Common.{◌≡◌, ℕ, ◌+◌, ◌*◌, Bool, true, false, List, Option, Some, ap, ◌∙◌, ℤ, pos, ◌-ℤ◌}
 use Rattle.std.specs.Prelude.{slice_get, nat_abs}
-use Rattle.alma_base.specs.declared.fault.RunFault.{RunFault}
 use Rattle.alma_base.specs.declared.fault.RunFault.TheVariants as fault
 use Rattle.alma_base.specs.declared.number.Range.{Range}
 use Rattle.alma_base.specs.Choice.{if_true}
-use Rattle.alma_base.specs.Numbers.{within, int_eq, bit}
+use Rattle.alma_base.specs.Numbers.{within, bit}
 use Rattle.alma_code.specs.declared.cell.Cell.{Cell}
 use Rattle.alma_code.specs.declared.cell.Cell.TheVariants as cell
 use Rattle.alma_code.specs.declared.cell.CellPlace.{CellPlace}
 use Rattle.alma_code.specs.declared.cell.SlotKind.TheVariants as slot
 use Rattle.alma_code.specs.declared.instr.Instr.TheVariants as I
 use Rattle.alma_code.specs.Carries.{number_at}
-use Rattle.alma_code.specs.Picture.{PlainFrame, PlainEntry, last_frame, written, cell_at}
+use Rattle.alma_code.specs.Picture.{PlainFrame, PlainEntry, cell_at}
 use Rattle.alma_code.specs.Plain.{PlainCode}
-use Rattle.alma_code.specs.Lines.{line_at}
-use Rattle.alma_code.specs.Machine.{State, Stepped, act, step, went, faulted, fails_now, as_range, as_place, as_content, as_text, number, place, content, ranged, put_number, put_place, with_slot, with_cell, bound, store, stuck, is_known, printed}
-use Rattle.alma_implements.proofs.Goes.{Silently}
+use Rattle.alma_code.specs.Machine.{State, Stepped, act, step, went, faulted, as_range, as_content, as_text, number, content, ranged, put_number, put_place, is_known}
 use Rattle.alma_implements.proofs.Frames.{IsAt}
-use Rattle.alma_implements.proofs.Steps.{Holds, HasKind, InstrAt, Writes, Faults, PrintsNow, passed, does, went_on, number_is, place_is, number_put, written_from, puts, faults_now, place_put, here_too, prints_from, HasContent}
+use Rattle.alma_implements.proofs.Steps.{Holds, HasKind, InstrAt, Writes, Faults, PrintsNow, passed, does, went_on, number_is, place_is, written_from, puts, faults_now, place_put, here_too, prints_from, HasContent}
 use Rattle.alma_implements.proofs.ChoiceSteps.{GoesOn}
 
 module _ (code : PlainCode) (input : List ℕ) (line at : ℕ) (now : List PlainFrame) (held : List PlainEntry) (s : State) (h : IsAt at now held s) where

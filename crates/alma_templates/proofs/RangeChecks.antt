@@ -1,6 +1,6 @@
 -- The check that a number is in a range, which has no code for a range of all numbers; and CHR.
-use Rattle.std.proofs.Common.{◌≡◌, ℕ, suc, ◌+◌, ◌≤◌, Bool, true, false, List, [], ◌∷◌, ◌++◌, length, Some, refl, sym, ap, ◌∙◌, subst, arith, ℤ, pos, negsuc, ◌≤ℤ◌}
-use Rattle.std.specs.Prelude.{slice_get, int_le, ◌&&◌}
+use Rattle.std.proofs.Common.{◌≡◌, ℕ, suc, ◌+◌, Bool, true, false, List, [], ◌∷◌, ◌++◌, length, refl, sym, subst, arith, ℤ, pos, negsuc}
+use Rattle.std.specs.Prelude.{int_le}
 use Rattle.std.proofs.lemmas.List.{length-append}
 use Rattle.std.proofs.lemmas.Bool.{and_parts, and_from}
 use Rattle.std.proofs.lemmas.Bool.Decides.{nat_tests}
@@ -11,16 +11,14 @@ use Rattle.alma_base.specs.Numbers.{within, is_integer, whole_range}
 use Rattle.alma_code.specs.declared.instr.Instr.{Instr}
 use Rattle.alma_code.specs.declared.instr.Instr.TheVariants as I
 use Rattle.alma_code.specs.Lines.{line_at}
-use Rattle.alma_code.specs.Picture.{PlainFrame, PlainEntry}
+use Rattle.alma_code.specs.Picture.{PlainFrame}
 use Rattle.alma_code.specs.Plain.{PlainCode}
-use Rattle.alma_code.specs.Machine.{State}
 use Rattle.alma_ir.specs.Tree.{Program, Expr, Chr}
-use Rattle.alma_mean.specs.Store.{Store}
 use Rattle.alma_mean.specs.Events.{Events, one, bind}
 use Rattle.alma_mean.specs.Arithmetic.{check_range, fault_unless}
 use Rattle.alma_mean.specs.Meaning.{Level, ev_expr}
-use Rattle.alma_implements.proofs.Goes.{Goes, before}
-use Rattle.alma_implements.proofs.Frames.{own_end, HasSlots, IsAt}
+use Rattle.alma_implements.proofs.Goes.{before}
+use Rattle.alma_implements.proofs.Frames.{HasSlots}
 use Rattle.alma_implements.proofs.BareRow.{ReadsFirst}
 use Rattle.alma_implements.proofs.Steps.{InstrAt}
 use Rattle.alma_implements.proofs.Ways.{Ways, Leaves}
@@ -31,7 +29,7 @@ use Rattle.alma_templates.specs.Pieces.{unless_whole, fit_code}
 use Rattle.alma_templates.specs.Templates.{expr_code, char_range}
 use Rattle.alma_templates.specs.Stands.{Stands}
 use Rattle.alma_templates.proofs.Stands.{stands_front, stands_back}
-use Rattle.alma_templates.proofs.Parts.{Begins, begins, Left, IsValue, ValueIn, NodeRuns, From, Takes, leaving, from_more, node_runs, then_from, faults_here, ends_here}
+use Rattle.alma_templates.proofs.Parts.{begins, IsValue, ValueIn, NodeRuns, From, Takes, leaving, from_more, node_runs, then_from, faults_here, ends_here}
 use Rattle.alma_templates.proofs.PlaceSteps.{in_range_reads, in_range_passes, in_range_faults}
 use Rattle.alma_templates.proofs.FormRuns.{ExprRuns, HasRange}
 

@@ -1,8 +1,7 @@
 -- The root of a designator, from template to run: its place goes into the first slot.
-use Rattle.std.proofs.Common.{◌≡◌, ℕ, zero, suc, ◌+◌, ◌-◌, ◌<◌, ◌≤◌, List, [], ◌∷◌, ◌++◌, length, get_or, Option, Some, None, refl, sym, ap, ◌∙◌, subst, arith}
+use Rattle.std.proofs.Common.{◌≡◌, ℕ, zero, suc, ◌+◌, ◌-◌, ◌<◌, ◌≤◌, List, [], ◌∷◌, ◌++◌, length, get_or, Some, refl, sym, ap, ◌∙◌, subst, arith}
 use Rattle.std.specs.Prelude.{slice_get}
-use Rattle.std.proofs.lemmas.List.{length-append}
-use Rattle.std.proofs.lemmas.Option.{slice_get-get_or, slice_get_within, get_or_from_slice_get}
+use Rattle.std.proofs.lemmas.Option.{slice_get-get_or, get_or_from_slice_get}
 use Rattle.alma_base.specs.declared.fault.RunFault.TheVariants as fault
 use Rattle.alma_code.specs.declared.cell.Cell.{Cell}
 use Rattle.alma_code.specs.declared.cell.Cell.TheVariants as cell
@@ -20,22 +19,21 @@ use Rattle.alma_ir.specs.Tree.{Program, routine_at}
 use Rattle.alma_ir.specs.Checked.{IsNested, outer_at}
 use Rattle.alma_mean.specs.Store.{Store, Place, Unknown, Number, At, top, top_frame, up, cell_at}
 use Rattle.alma_mean.specs.Store as store
-use Rattle.alma_mean.specs.Events.{Events, one, join, bind}
+use Rattle.alma_mean.specs.Events.{Events, one, bind}
 use Rattle.alma_mean.specs.Rows.{root_place, place_held}
-use Rattle.alma_implements.proofs.Goes.{Goes, before}
+use Rattle.alma_implements.proofs.Goes.{before}
 use Rattle.alma_implements.proofs.Frames.{shift, shift_in, own_end, StandFor, SameContent, AreNumbers, SamePlace, HasSlots, IsAt}
 use Rattle.alma_implements.proofs.FrameLemmas.{fits_less}
-use Rattle.alma_implements.proofs.ExprRows.{first_kind, slots_first, slots_behind, AreVariables}
+use Rattle.alma_implements.proofs.ExprRows.{first_kind, slots_behind, AreVariables}
 use Rattle.alma_implements.proofs.LinkRows.{LinkedUp, linked_up, up_live, up_routine, ChainsAt, AreLinks, link_goes}
 use Rattle.alma_implements.proofs.Steps.{Holds, InstrAt, Writes, Faults, passed, does, place_is, faults_now, here_too, local_step, outer_step, outer_same_step}
-use Rattle.alma_implements.proofs.Ways.{Ways, Leaves}
-use Rattle.alma_templates.specs.Lined.{Lined, own}
+use Rattle.alma_implements.proofs.Ways.{Leaves}
+use Rattle.alma_templates.specs.Lined.{own}
 use Rattle.alma_templates.specs.Tables.{Tables}
 use Rattle.alma_templates.specs.Slots.{root_slots, chain_slots}
 use Rattle.alma_templates.specs.Pieces.{link_code, chain_code}
 use Rattle.alma_templates.specs.Templates.{root_code}
 use Rattle.alma_templates.specs.Stands.{Stands}
-use Rattle.alma_templates.proofs.Stands.{stands_front, stands_back}
 use Rattle.alma_templates.proofs.Parts.{Begins, begins, Left, has_kind, IsPlace, From, leaving, from_more, alone_from, faults_here, on_from, left_on, sound_after, place_goes_on}
 use Rattle.alma_templates.proofs.PlaceSteps.{global_step, same_step}
 

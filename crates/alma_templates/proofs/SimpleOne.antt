@@ -1,15 +1,13 @@
 -- An expression without a call and without a truth has one alternative at most, in the store on entry.
-use Rattle.std.proofs.Common.{◌≡◌, ℕ, ◌*◌, Bool, true, false, List, ◌-ℤ◌, ℤ, pos}
+use Rattle.std.proofs.Common.{◌≡◌, ℕ, ◌*◌, Bool, true, false, List, ◌-ℤ◌, ℤ}
 use Rattle.std.specs.Prelude.{nat_abs}
 use Rattle.std.proofs.lemmas.Bool.{and_parts}
 use Rattle.alma_base.specs.declared.fault.RunFault.{RunFault}
-use Rattle.alma_base.specs.declared.number.Range.{Range}
-use Rattle.alma_base.specs.Numbers.{within}
 use Rattle.alma_ir.specs.declared.phrase.Root.{Root}
 use Rattle.alma_ir.specs.declared.phrase.Root.TheVariants as root
 use Rattle.alma_ir.specs.Tree.{Program, Expr, Links, Desig, Sels, Sel, Const, Load, Chain, Compare, Truth, Known, Chr, CallExpr, no_links, more_links, a_desig, no_sels, more_sels, Field, Index}
 use Rattle.alma_mean.specs.Store.{Store, Place, Cell, Unknown, Number, At, cell_of, cell_at, top_cell, part, up}
-use Rattle.alma_mean.specs.Events.{Events, one}
+use Rattle.alma_mean.specs.Events.{one}
 use Rattle.alma_mean.specs.Arithmetic.{fault_unless}
 use Rattle.alma_mean.specs.Rows.{place_held, root_place}
 use Rattle.alma_mean.specs.Meaning.{Level, ev_expr, ev_links, ev_desig, ev_sels, ev_sel}
@@ -57,7 +55,7 @@ module _ (p : Program) (input : List ℕ) (below : Level) where
         let z = and_parts (is_simple_expr x) (are_simple_links rest) h in
         one_bound _ (expr_one x v z.0) (λ b. one_bound _ (one_op v how a b) (λ c. links_one rest c v z.1))
 
-    desig_one : (d : Desig) (v : Store) → is_simple_desig d ≡ true → GivesOne Place v (ev_desig p input below d v)
+    pub desig_one : (d : Desig) (v : Store) → is_simple_desig d ≡ true → GivesOne Place v (ev_desig p input below d v)
     desig_one (a_desig x cells sels) v h = one_noded (one_bound _ (root_one v x cells) (λ a. sels_one sels a v h))
 
     sels_one : (sels : Sels) (a : Place) (v : Store) → are_simple_sels sels ≡ true → GivesOne Place v (ev_sels p input below sels a v)

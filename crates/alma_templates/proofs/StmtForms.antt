@@ -1,31 +1,29 @@
 -- Statements without parts that are statements, from template to run: assignment and WRITE; and the value of an expression
 -- as a test.
-use Rattle.std.proofs.Common.{◌≡◌, ℕ, suc, ◌+◌, ◌-◌, ◌≤◌, Bool, true, false, List, [], ◌∷◌, ◌++◌, length, Option, Some, None, refl, sym, ap, ◌∙◌, subst, arith, ℤ}
+use Rattle.std.proofs.Common.{◌≡◌, ℕ, suc, ◌+◌, ◌-◌, ◌≤◌, Bool, true, false, List, [], ◌∷◌, ◌++◌, length, Option, Some, None, refl, sym, ap, subst, arith, ℤ}
 use Rattle.std.specs.Prelude.{slice_get}
 use Rattle.std.proofs.lemmas.List.{length-append}
 use Rattle.alma_base.specs.Choice.{if_true}
 use Rattle.alma_base.specs.Numbers.{is_zero}
 use Rattle.alma_base.specs.declared.number.Range.{Range}
-use Rattle.alma_base.specs.Value.{value_text}
 use Rattle.alma_code.specs.declared.instr.Instr.{Instr}
 use Rattle.alma_code.specs.declared.instr.Instr.TheVariants as I
-use Rattle.alma_code.specs.Lines.{line_at}
 use Rattle.alma_code.specs.Picture.{PlainFrame, PlainEntry}
 use Rattle.alma_code.specs.Plain.{PlainCode}
 use Rattle.alma_code.specs.Machine.{State, act}
 use Rattle.alma_ir.specs.declared.phrase.WriteAs.{WriteAs}
 use Rattle.alma_ir.specs.declared.phrase.WriteAs.TheVariants as write_as
-use Rattle.alma_ir.specs.Tree.{Program, Expr, Desig, Test, Stmt, Assign, WriteExpr, WriteText, WriteLine, TestStmt, Value}
+use Rattle.alma_ir.specs.Tree.{Program, Expr, Desig, Test, Assign, WriteExpr, WriteText, WriteLine, TestStmt, Value}
 use Rattle.alma_ir.specs.Checked.{desig_cells}
-use Rattle.alma_mean.specs.Store.{Store, Place, Number, put_at}
-use Rattle.alma_mean.specs.Events.{Events, NoYield, Print, Fail, one, bind, node}
+use Rattle.alma_mean.specs.Store.{Store, Number, put_at}
+use Rattle.alma_mean.specs.Events.{Print, Fail, one, bind}
 use Rattle.alma_mean.specs.Arithmetic.{check_range, written_text}
 use Rattle.alma_mean.specs.Meaning.{Level, ev_stmt, ev_test, ev_expr, ev_desig}
 use Rattle.alma_implements.proofs.Goes.{IsOn, no_step, one_goes}
 use Rattle.alma_implements.proofs.Frames.{own_end, IsAt}
 use Rattle.alma_implements.proofs.BareRow.{ReadsFirst}
 use Rattle.alma_implements.proofs.Steps.{InstrAt, PrintsNow, does, check_fails, check_passes, write_int_step, write_bool_step, write_char_step, write_line_step}
-use Rattle.alma_implements.proofs.Ways.{Ways, Leaves}
+use Rattle.alma_implements.proofs.Ways.{Leaves}
 use Rattle.alma_templates.specs.Lined.{Lined, own, in_row}
 use Rattle.alma_templates.specs.Tables.{Tables, text_number}
 use Rattle.alma_templates.specs.Slots.{bare, bare_desig, unless_bare, desig_slots}
@@ -36,9 +34,9 @@ use Rattle.alma_templates.proofs.Stands.{stands_front, stands_back}
 use Rattle.alma_templates.proofs.Parts.{Begins, begins, Left, left_self, IsValue, Nothing, NodeRuns, NodeFor, From, leaving, from_more, node_runs, node_from, fails_here, ends_here}
 use Rattle.alma_templates.proofs.AtOnce.{AtOnce, BareFits, at_once}
 use Rattle.alma_templates.proofs.RangeChecks.{past_from, fit_from, fit_line, fit_reads, fit_long, behind_fit}
-use Rattle.alma_templates.proofs.Targets.{IsTarget, target_after, target_from, set_from, set_reads}
+use Rattle.alma_templates.proofs.Targets.{target_after, target_from, set_from, set_reads}
 use Rattle.alma_templates.proofs.PlaceSteps.{write_text_step}
-use Rattle.alma_templates.proofs.FormRuns.{ExprRuns, DesigRuns, TestRuns, StmtRuns, HasRange}
+use Rattle.alma_templates.proofs.FormRuns.{DesigRuns, TestRuns, StmtRuns, HasRange}
 
 module _ (p : Program) (tables : Tables) (code : PlainCode) (input : List ℕ) (below : Level) (r line q : ℕ) where
   -- ---- assignment
@@ -96,10 +94,17 @@ module _ (p : Program) (tables : Tables) (code : PlainCode) (input : List ℕ) (
   print_ends : (c at lo : ℕ) (v : Store) (now : List PlainFrame) (bytes : List ℕ) → Begins p code input r v now → ((held : List PlainEntry) (s : State) → (is : IsAt at now held s) → PrintsNow code input line at now held s is bytes)
       → From p code input line (suc c) at (at + 1) now (leaving p code input lo r now (Nothing p code input)) (Print bytes (one v tt)) q
   print_ends c at lo v now bytes b prints held s is =
-      let w = prints held s is in
-      (0, s, omega arith, no_step code input s, w.to, w.prints, subst IsOn (sym w.is.mode) tt,
-          one_goes code input line 0 24 (Leaves (at + 1) (leaving p code input lo r now (Nothing p code input))) held v tt w.to (suc c - 1) (q - 1) (omega arith) (record { mode = w.is.mode; entries = w.is.entries })
-          (w.is.here, subst (λ t. Left p code input lo r now v t × Unit {0}) (sym w.is.frames) (left_self p code input lo r v now b, tt)))
+      let w = prints held s is in (
+        0,
+        s,
+        omega arith,
+        no_step code input s,
+        w.to,
+        w.prints,
+        subst IsOn (sym w.is.mode) tt,
+        one_goes code input line 0 24 (Leaves (at + 1) (leaving p code input lo r now (Nothing p code input))) held v tt w.to (suc c - 1) (q - 1) (omega arith) (record { mode = w.is.mode; entries = w.is.entries })
+            (w.is.here, subst (λ t. Left p code input lo r now v t × Unit {0}) (sym w.is.frames) (left_self p code input lo r v now b, tt)),
+      )
 
   write_reads : (how : WriteAs) (at from : ℕ) (now : List PlainFrame) → InstrAt code input line at (write_code how from) → ReadsFirst code input at from now
   unfolding act

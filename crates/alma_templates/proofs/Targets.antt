@@ -1,40 +1,35 @@
 -- Numbers that are stored: at a place, or in a variable of the routine that is written in its own slot.
-use Rattle.std.proofs.Common.{◌≡◌, ◌≢◌, ℕ, suc, ◌+◌, ◌-◌, ◌<◌, ◌≤◌, ◌⊎◌, inl, inr, true, List, [], ◌∷◌, ◌++◌, length, get_or, set, Option, Some, None, refl, sym, ap, ◌∙◌, subst, arith, ℤ}
-use Rattle.std.specs.Prelude.{slice_get}
+use Rattle.std.proofs.Common.{◌≡◌, ℕ, suc, ◌+◌, ◌-◌, ◌<◌, ◌≤◌, ◌⊎◌, inl, inr, true, List, [], ◌∷◌, ◌++◌, length, get_or, set, Option, Some, None, refl, sym, ap, ◌∙◌, subst, arith, ℤ}
 use Rattle.std.proofs.lemmas.Bool.{cases_eq}
 use Rattle.std.proofs.lemmas.List.{get_or-set_same, get_or-set_other, length-append}
 use Rattle.alma_base.specs.Numbers.{is_integer}
 use Rattle.alma_code.specs.declared.cell.Cell.TheVariants as cell
-use Rattle.alma_code.specs.declared.cell.CellPlace.{CellPlace}
 use Rattle.alma_code.specs.declared.cell.SlotKind.TheVariants as slot
-use Rattle.alma_code.specs.declared.instr.Instr.{Instr}
 use Rattle.alma_code.specs.declared.instr.Instr.TheVariants as I
 use Rattle.alma_code.specs.Picture.{PlainFrame, PlainEntry, written}
 use Rattle.alma_code.specs.Picture as picture
 use Rattle.alma_code.specs.Plain.{PlainCode}
-use Rattle.alma_code.specs.Machine.{State, act, number, store, put_number, went}
-use Rattle.alma_ir.specs.declared.phrase.Root.TheVariants as root
+use Rattle.alma_code.specs.Machine.{act, number, store, went}
 use Rattle.alma_ir.specs.Tree.{Program, Desig, Sels, a_desig, no_sels, more_sels, Field, Index}
 use Rattle.alma_ir.specs.Checked.{desig_cells}
 use Rattle.alma_mean.specs.Store.{Store, Frame, Place, Unknown, Number, At, cell_at, put, put_at, put_top, top, with_cell}
 use Rattle.alma_mean.specs.Store as store_of
-use Rattle.alma_mean.specs.Events.{Events, NoYield, Visit, Fail, one, join, bind}
+use Rattle.alma_mean.specs.Events.{Events, Fail, join, bind}
 use Rattle.alma_mean.specs.Meaning.{Level, ev_desig, ev_expr}
-use Rattle.alma_implements.proofs.Goes.{Goes, weaker}
-use Rattle.alma_implements.proofs.Frames.{shift, shift_in, own_end, Fits, AreNumbers, IsAt}
+use Rattle.alma_implements.proofs.Goes.{weaker}
+use Rattle.alma_implements.proofs.Frames.{shift, shift_in, own_end, Fits}
 use Rattle.alma_implements.proofs.FrameLemmas.{put_is, fits_put, content_there}
 use Rattle.alma_implements.proofs.BareRow.{ReadsFirst}
 use Rattle.alma_implements.proofs.ExprRows.{AreVariables}
 use Rattle.alma_implements.proofs.ForSteps.{slot_within, slot_has_kind, fits_top, move_step}
-use Rattle.alma_implements.proofs.Steps.{top_written, Holds, InstrAt, passed, does, place_is, store_step}
+use Rattle.alma_implements.proofs.Steps.{top_written, InstrAt, passed, does, place_is, store_step}
 use Rattle.alma_implements.proofs.StmtRows.{put_routine}
-use Rattle.alma_implements.proofs.Ways.{Ways, Leaves}
-use Rattle.alma_templates.specs.Lined.{Lined}
+use Rattle.alma_implements.proofs.Ways.{Leaves}
 use Rattle.alma_templates.specs.Tables.{Tables}
 use Rattle.alma_templates.specs.Slots.{bare, bare_desig, unless_bare, expr_slots, desig_slots, sels_slots, root_slots, behind_value}
 use Rattle.alma_templates.specs.Templates.{desig_code, place_at, part_at, behind_root, set_by}
 use Rattle.alma_templates.specs.Stands.{Stands}
-use Rattle.alma_templates.proofs.Parts.{Begins, begins, Left, left_self, sound_after, place_after, IsValue, IsPlace, PlaceIn, NoNewPlaces, From, Takes, leaving, step_from, then_from, alone_from}
+use Rattle.alma_templates.proofs.Parts.{Begins, Left, left_self, sound_after, place_after, IsValue, IsPlace, PlaceIn, NoNewPlaces, From, Takes, leaving, step_from, then_from, alone_from}
 use Rattle.alma_templates.proofs.AtOnce.{BareFits, bare_place}
 use Rattle.alma_templates.proofs.FormRuns.{DesigRuns}
 
@@ -181,6 +176,8 @@ module _ (p : Program) (tables : Tables) (code : PlainCode) (input : List ℕ) (
   pub set_reads : (o : Option ℕ) (at la value : ℕ) (d : Desig) (v : Store) (a : Place) (now : List PlainFrame) → IsTarget o la d v a now → InstrAt code input line at (set_by p tables r o la value d) → ReadsFirst code input at value now
   unfolding act
   set_reads (Some from) at la value d v a now h i held s is = (_, does code input line at now held s (I.Move (shift p r + from) value) is i)
-  set_reads None at la value d v a now h i held s is =
-      (_, does code input line at now held s (I.Store (place_at p tables r la d) value) is i
-      ∙ place_is code input now (passed code input s) (place_at p tables r la d) h.place (λ c. number (passed code input s) value (λ n. store (passed code input s) c.frame c.slot n went)) is.frames h.holds)
+  set_reads None at la value d v a now h i held s is = (
+    _,
+    does code input line at now held s (I.Store (place_at p tables r la d) value) is i
+        ∙ place_is code input now (passed code input s) (place_at p tables r la d) h.place (λ c. number (passed code input s) value (λ n. store (passed code input s) c.frame c.slot n went)) is.frames h.holds,
+  )
