@@ -15,7 +15,7 @@ use Rattle.alma_code.specs.Picture.{PlainFrame, PlainEntry, last_frame}
 use Rattle.alma_code.specs.Picture as picture
 use Rattle.alma_code.specs.Plain.{PlainCode, kinds_at}
 use Rattle.alma_code.specs.Machine.{State}
-use Rattle.alma_ir.specs.Tree.{Program}
+use Rattle.alma_ir.specs.Tree.{Program, routine_at}
 use Rattle.alma_mean.specs.Store.{Store, Place, At, top_frame, cell_at}
 use Rattle.alma_mean.specs.Store as store
 use Rattle.alma_mean.specs.Events.{Events, Flow, Go, Return, NoYield, Fail, Fault, one, join, bind, node}
