@@ -1,0 +1,109 @@
+-- What the parts of a step need and give.
+use Rattle.std.specs.Prelude.{◌≡◌, ◌+◌, ◌-◌, ◌^◌, ◌<◌, ◌≤◌, ◌||◌, ◌+ℤ◌, nat_eq, ℕ, ℤ, true, List, [], ◌∷◌, length, get_or, slice_get, Option, Some, None, Result, Ok, Err, MatchResult}
+use Rattle.alma_base.specs.declared.fault.RunFault.{RunFault}
+use Rattle.alma_code.specs.declared.cell.Cell.{Cell}
+use Rattle.alma_code.specs.declared.cell.Cell.TheVariants as cell
+use Rattle.alma_code.specs.declared.cell.CellPlace.{CellPlace}
+use Rattle.alma_code.specs.declared.cell.SlotKind.TheVariants as slot
+use Rattle.alma_code.specs.declared.step.Step.{Step}
+use Rattle.alma_code.specs.Fits.{IsContent}
+use Rattle.alma_code.specs.Kinds.{is_place}
+use Rattle.alma_code.specs.Machine.{Mode, Going, Failing, Ended, State, Stepped, number, place, put_number, put_place, went, faulted}
+use Rattle.alma_code.specs.Picture.{PlainFrame, no_frame, last_frame}
+use Rattle.alma_code.specs.Rules.{place_length}
+use Rattle.alma_engine.specs.declared.registers.Mode as rust
+use Rattle.alma_engine.specs.declared.registers.Mode.TheVariants as mode
+use Rattle.alma_engine.specs.declared.registers.Registers.{Registers}
+use Rattle.alma_engine.specs.View.{IsLive, ModeAfter}
+
+-- ---- the state
+
+-- the mode of the copying code machine
+abbrev pub mode_of : rust.Mode → Mode
+mode_of mode.Going = Going
+mode_of mode.Failing = Failing
+mode_of (mode.Ended end) = Ended end
+
+-- the state of the copying code machine: the frames and entries are those of the memory's picture
+abbrev pub state_of : Registers → State
+state_of r = record {
+  at = r.at;
+  last = r.last;
+  mode = mode_of r.mode;
+  now = r.memory.now;
+  held = r.memory.held;
+  steps = r.steps;
+  choices = r.choices;
+  fails = r.fails;
+}
+
+-- ---- what a slot must be
+
+-- a slot of the top frame
+pub record HasSlot (now : List PlainFrame) (n : ℕ) : Type 0 where
+  pub some : 1 ≤ length now
+  pub below : n < length (last_frame now).cells
+
+-- a number slot of a frame, with a content
+pub record HasNumberIn (now : List PlainFrame) (frame n : ℕ) : Type 0 where
+  pub live : frame < length now
+  pub below : n < length (get_or now frame no_frame).cells
+  pub kind : slice_get (get_or now frame no_frame).kinds n ≡ Some slot.Number
+  pub content : IsContent (get_or (get_or now frame no_frame).cells n cell.Unset)
+
+-- a number slot of the top frame
+abbrev pub HasNumber : List PlainFrame → ℕ → Type 0
+HasNumber now n = HasNumberIn now (length now - 1) n
+
+-- how many cells the places of a slot have
+abbrev pub width : List PlainFrame → ℕ → ℕ
+width now n = place_length (slice_get (last_frame now).kinds n)
+
+-- a place of l number slots of a live frame; where there are any, all are below the greatest number of 32 bits
+pub record IsCells (now : List PlainFrame) (l : ℕ) (p : CellPlace) : Type 0 where
+  pub live : p.frame < length now
+  pub many : p.len ≡ l
+  pub few : 1 ≤ l → p.slot + l < 2 ^ 32
+  pub each : (k : ℕ) → k < l → HasNumberIn now p.frame (p.slot + k)
+
+-- such a place, or no place yet
+abbrev pub HoldsCells : List PlainFrame → ℕ → Cell → Type 0
+HoldsCells now l (cell.Place p) = IsCells now l p
+HoldsCells now l cell.Unset = Unit {0}
+HoldsCells now l cell.Unknown = ⊥
+HoldsCells now l (cell.Int v) = ⊥
+HoldsCells now l (cell.Mark h) = ⊥
+
+-- a slot for places
+pub record HasCells (now : List PlainFrame) (n : ℕ) : Type 0 where
+  pub some : 1 ≤ length now
+  pub below : n < length (last_frame now).cells
+  pub content : HoldsCells now (width now n) (get_or (last_frame now).cells n cell.Unset)
+
+-- a slot for places of one cell
+pub record HasOneCell (now : List PlainFrame) (n : ℕ) : Type 0 where
+  pub place : HasCells now n
+  pub one : width now n ≡ 1
+
+-- ---- what a part of a step gives, whatever comes after it
+
+-- a word of the copying code machine goes on with the number, or ends in the fault, in each state with these frames
+abbrev pub Gives : List PlainFrame → (State → (ℤ → Stepped) → Stepped) → Result ℤ RunFault → Type 0
+Gives now word result = MatchResult result
+    (λ v. (s : State) (k : ℤ → Stepped) → s.now ≡ now → word s k ≡ k v)
+    (λ f. (s : State) (k : ℤ → Stepped) → s.now ≡ now → word s k ≡ faulted f s)
+
+-- reading a place goes on with a place of live number slots, or ends in the fault
+abbrev pub GivesPlace : List PlainFrame → ℕ → Result CellPlace RunFault → Type 0
+GivesPlace now n result = MatchResult result
+    (λ p. IsCells now (width now n) p × ((s : State) (k : CellPlace → Stepped) → s.now ≡ now → place s n k ≡ k p))
+    (λ f. (s : State) (k : CellPlace → Stepped) → s.now ≡ now → place s n k ≡ faulted f s)
+
+-- the number goes into the slot, or the run ends in the fault
+abbrev pub put_or_fault : State → ℕ → Result ℤ RunFault → Stepped
+put_or_fault s n (Ok v) = put_number s n v
+put_or_fault s n (Err f) = faulted f s
+
+-- a part of a step counts no step, and its answer tells the mode
+abbrev pub KeepsOn : Step → State → State → Type 0
+KeepsOn step old new = (new.steps ≡ old.steps) × (IsLive old.mode → ModeAfter step new.mode)
