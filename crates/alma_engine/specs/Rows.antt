@@ -1,5 +1,7 @@
 -- What the parts of a step need and give.
 use Rattle.std.specs.Prelude.{◌≡◌, ◌+◌, ◌-◌, ◌^◌, ◌<◌, ◌≤◌, ◌||◌, ◌+ℤ◌, nat_eq, ℕ, ℤ, true, List, [], ◌∷◌, length, get_or, slice_get, Option, Some, None, Result, Ok, Err, MatchResult}
+use Rattle.alma_base.specs.Choice.{if_true}
+use Rattle.alma_base.specs.Numbers.{is_beyond}
 use Rattle.alma_base.specs.declared.fault.RunFault.{RunFault}
 use Rattle.alma_code.specs.declared.cell.Cell.{Cell}
 use Rattle.alma_code.specs.declared.cell.Cell.TheVariants as cell
@@ -8,7 +10,7 @@ use Rattle.alma_code.specs.declared.cell.SlotKind.TheVariants as slot
 use Rattle.alma_code.specs.declared.step.Step.{Step}
 use Rattle.alma_code.specs.Fits.{IsContent}
 use Rattle.alma_code.specs.Kinds.{is_place}
-use Rattle.alma_code.specs.Machine.{Mode, Going, Failing, Ended, State, Stepped, number, place, put_number, put_place, went, faulted}
+use Rattle.alma_code.specs.Machine.{Mode, Going, Failing, Ended, State, Stepped, number, place, content, put_number, put_place, went, faulted}
 use Rattle.alma_code.specs.Picture.{PlainFrame, no_frame, last_frame}
 use Rattle.alma_code.specs.Rules.{place_length}
 use Rattle.alma_engine.specs.declared.registers.Mode as rust
@@ -98,6 +100,26 @@ abbrev pub GivesPlace : List PlainFrame → ℕ → Result CellPlace RunFault �
 GivesPlace now n result = MatchResult result
     (λ p. IsCells now (width now n) p × ((s : State) (k : CellPlace → Stepped) → s.now ≡ now → place s n k ≡ k p))
     (λ f. (s : State) (k : CellPlace → Stepped) → s.now ≡ now → place s n k ≡ faulted f s)
+
+-- a counter is counted on: the run goes out where the next number is beyond the limit
+abbrev pub counted : State → (counter limit by : ℕ) → (out : Stepped) → (ℤ → Stepped) → Stepped
+counted s counter limit by out k =
+    number s counter (λ x. number s limit (λ y. number s by (λ z. if_true (is_beyond (x +ℤ z) y z) (λ _. out) (λ _. k (x +ℤ z)))))
+
+-- the run goes on with the number where there is one, and else elsewhere
+abbrev pub next_or : Stepped → (ℤ → Stepped) → Option ℤ → Stepped
+next_or out k (Some next) = k next
+next_or out k None = out
+
+-- counting on goes on with the next number of the counter, goes out where that is beyond the limit, or ends in the fault
+abbrev pub GivesNext : List PlainFrame → (counter limit by : ℕ) → Result (Option ℤ) RunFault → Type 0
+GivesNext now counter limit by result = MatchResult result
+    (λ next. (s : State) (out : Stepped) (k : ℤ → Stepped) → s.now ≡ now → counted s counter limit by out k ≡ next_or out k next)
+    (λ f. (s : State) (out : Stepped) (k : ℤ → Stepped) → s.now ≡ now → counted s counter limit by out k ≡ faulted f s)
+
+-- looking at a number slot of a frame goes on with what it knows
+abbrev pub GivesContent : List PlainFrame → (frame n : ℕ) → Option ℤ → Type 0
+GivesContent now frame n result = (s : State) (k : Option ℤ → Stepped) → s.now ≡ now → content s frame n k ≡ k result
 
 -- the number goes into the slot, or the run ends in the fault
 abbrev pub put_or_fault : State → ℕ → Result ℤ RunFault → Stepped
