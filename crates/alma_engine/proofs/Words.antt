@@ -1,11 +1,12 @@
 -- What the reading of slots gives.
 use Rattle.std.proofs.Common.{inl, inr, ◌≡◌, ℕ, ◌+◌, ◌-◌, ◌<◌, List, length, get_or, refl, sym, ap, ◌∙◌, subst, arith, Some}
-use Rattle.std.specs.Prelude.{ℤ, pos, negsuc, zero, suc, slice_get, Bool, true, false, ◌&&◌, ◌-ℤ◌, ◌≤ℤ◌, ◌<ℤ◌, int_le, nat_abs, Option, None, Result, Ok, Err}
+use Rattle.std.specs.Prelude.{ℤ, pos, negsuc, zero, suc, slice_get, Bool, true, false, ◌&&◌, ◌-ℤ◌, ◌≤ℤ◌, ◌<ℤ◌, int_le, nat_abs, Option, None, Result, Ok, Err, IfOk}
 use Rattle.std.proofs.lemmas.Bool.{eq-eqb, and_from}
 use Rattle.std.proofs.lemmas.Int.{ints}
 use Rattle.std.proofs.lemmas.Bool.Decides.{eqb_tells}
 use Rattle.alma_base.specs.declared.number.Range.{Range}
 use Rattle.alma_base.specs.Numbers.{within, is_zero, int_eq, is_beyond}
+use Rattle.alma_base.specs.Choice.{if_true}
 use Rattle.alma_code.specs.Carries.{number_at}
 use Rattle.alma_code.specs.Kinds.{is_number}
 use Rattle.std.proofs.lemmas.Option.{slice_get-get_or, get_or_from_slice_get}
@@ -15,9 +16,11 @@ use Rattle.alma_code.specs.declared.cell.Cell.{Cell}
 use Rattle.alma_code.specs.declared.cell.Cell.TheVariants as cell
 use Rattle.alma_code.specs.declared.cell.CellPlace.{CellPlace}
 use Rattle.alma_code.specs.declared.cell.SlotKind.TheVariants as slot
+use Rattle.alma_code.specs.declared.step.Step.{Step}
 use Rattle.alma_code.specs.Fits.{IsContent}
-use Rattle.alma_code.specs.Machine.{State, Stepped, number, place, content, as_content, as_number, as_place, faulted, put_number, to_number, went, with_slot}
+use Rattle.alma_code.specs.Machine.{State, Stepped, number, place, content, as_content, as_number, as_place, faulted, put_number, to_number, went, stuck, store, with_slot, with_cell}
 use Rattle.alma_code.specs.Picture.{PlainFrame, no_frame, last_frame, cell_at}
+use Rattle.alma_engine.specs.View.{stepped}
 use Rattle.alma_engine.specs.Rows.{HasSlot, HasNumber, HasNumberIn, IsCells, HoldsCells, Gives, put_or_fault}
 
 -- what a slot holds that has a content is a content
@@ -160,6 +163,10 @@ one_slot now l p h one =
     let here : p.slot + 0 ≡ p.slot = omega arith in
     subst (HasNumberIn now p.frame) here (h.each 0 (omega arith))
 
+-- a number goes to a number slot of a frame
+pub store_is : (s : State) (f n : ℕ) (v : ℤ) (k : State → Stepped) → HasNumberIn s.now f n → store s f n v k ≡ k (with_cell s f n (cell.Int v))
+store_is s f n v k h = ap (λ o. if_true (is_number o) (λ _. k (with_cell s f n (cell.Int v))) (λ _. stuck s)) h.kind
+
 -- ---- writes
 
 -- a number goes into a number slot
@@ -171,3 +178,15 @@ pub number_is_slot : (now : List PlainFrame) (n : ℕ) → HasNumber now n → H
 number_is_slot now n h = record { some = omega (arith, h.live); below = h.below }
 
 pub ruleset puts = (put_is, number_is_slot)
+
+-- ---- answers
+
+-- a step that is one thing is what that is equal to
+pub ok_is : {E : Type 0} (r : Result Step E) (bytes : List ℕ) (new : State) (x y : Stepped) → IfOk r (λ a. stepped a bytes new ≡ x) → x ≡ y → IfOk r (λ a. stepped a bytes new ≡ y)
+ok_is (Ok a) bytes new x y h e = h ∙ e
+ok_is (Err f) bytes new x y h e = tt
+
+-- the same for one that speaks of each number
+pub ok_is_for : {E : Type 0} (r : Result Step E) (bytes : List ℕ) (new : State) (x : ℕ → Stepped) (n : ℕ) (y : Stepped) → IfOk r (λ a. (n : ℕ) → stepped a bytes new ≡ x n) → x n ≡ y → IfOk r (λ a. stepped a bytes new ≡ y)
+ok_is_for (Ok a) bytes new x n y h e = h n ∙ e
+ok_is_for (Err f) bytes new x n y h e = tt

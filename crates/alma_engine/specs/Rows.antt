@@ -9,10 +9,11 @@ use Rattle.alma_code.specs.declared.cell.CellPlace.{CellPlace}
 use Rattle.alma_code.specs.declared.cell.SlotKind.TheVariants as slot
 use Rattle.alma_code.specs.declared.step.Step.{Step}
 use Rattle.alma_code.specs.Fits.{IsContent}
-use Rattle.alma_code.specs.Kinds.{is_place}
-use Rattle.alma_code.specs.Machine.{Mode, Going, Failing, Ended, State, Stepped, number, place, content, put_number, put_place, went, faulted}
+use Rattle.alma_code.specs.Kinds.{is_place, is_link}
+use Rattle.alma_code.specs.Machine.{Mode, Going, Failing, Ended, State, Stepped, number, place, content, link, mark, slot_in, as_place, put_number, put_place, put_link, went, faulted}
 use Rattle.alma_code.specs.Picture.{PlainFrame, no_frame, last_frame}
 use Rattle.alma_code.specs.Rules.{place_length}
+use Rattle.alma_engine.specs.declared.places.Spot.{Spot}
 use Rattle.alma_engine.specs.declared.registers.Mode as rust
 use Rattle.alma_engine.specs.declared.registers.Mode.TheVariants as mode
 use Rattle.alma_engine.specs.declared.registers.Registers.{Registers}
@@ -87,6 +88,59 @@ pub record HasOneCell (now : List PlainFrame) (n : ℕ) : Type 0 where
   pub place : HasCells now n
   pub one : width now n ≡ 1
 
+-- a place slot
+pub record HasPlace (now : List PlainFrame) (n : ℕ) : Type 0 where
+  pub some : 1 ≤ length now
+  pub below : n < length (last_frame now).cells
+  pub kind : is_place (slice_get (last_frame now).kinds n) ≡ true
+
+-- a place, or none yet
+abbrev pub HoldsPlace : Cell → Type 0
+HoldsPlace (cell.Place p) = Unit {0}
+HoldsPlace cell.Unset = Unit {0}
+HoldsPlace cell.Unknown = ⊥
+HoldsPlace (cell.Int v) = ⊥
+HoldsPlace (cell.Mark h) = ⊥
+
+-- a slot of a frame for places or links
+pub record HasPlaceIn (now : List PlainFrame) (frame n : ℕ) : Type 0 where
+  pub live : frame < length now
+  pub below : n < length (get_or now frame no_frame).cells
+  pub content : HoldsPlace (get_or (get_or now frame no_frame).cells n cell.Unset)
+
+-- a link slot that is read
+abbrev pub HasLink : List PlainFrame → ℕ → Type 0
+HasLink now n = HasPlaceIn now (length now - 1) n
+
+-- a link slot that is written
+pub record HasLinkTo (now : List PlainFrame) (n : ℕ) : Type 0 where
+  pub some : 1 ≤ length now
+  pub below : n < length (last_frame now).cells
+  pub kind : is_link (slice_get (last_frame now).kinds n) ≡ true
+
+-- a link leads to a frame that has a slot for places or links
+abbrev pub LeadsTo : List PlainFrame → (link n : ℕ) → Type 0
+LeadsTo now link n = (p : CellPlace) → slice_get (last_frame now).cells link ≡ Some (cell.Place p) → HasPlaceIn now p.frame n
+
+-- a height, or none yet
+abbrev pub HoldsMark : Cell → Type 0
+HoldsMark (cell.Mark h) = Unit {0}
+HoldsMark cell.Unset = Unit {0}
+HoldsMark cell.Unknown = ⊥
+HoldsMark (cell.Int v) = ⊥
+HoldsMark (cell.Place p) = ⊥
+
+-- a mark slot
+pub record HasMark (now : List PlainFrame) (n : ℕ) : Type 0 where
+  pub some : 1 ≤ length now
+  pub below : n < length (last_frame now).cells
+  pub kind : slice_get (last_frame now).kinds n ≡ Some slot.Mark
+  pub content : HoldsMark (get_or (last_frame now).cells n cell.Unset)
+
+-- the number of the fault NoCase or of the fault NoReturn
+abbrev pub IsNumbered : ℕ → Type 0
+IsNumbered number = (nat_eq number 5 || nat_eq number 6) ≡ true
+
 -- ---- what a part of a step gives, whatever comes after it
 
 -- a word of the copying code machine goes on with the number, or ends in the fault, in each state with these frames
@@ -125,6 +179,34 @@ GivesContent now frame n result = (s : State) (k : Option ℤ → Stepped) → s
 abbrev pub put_or_fault : State → ℕ → Result ℤ RunFault → Stepped
 put_or_fault s n (Ok v) = put_number s n v
 put_or_fault s n (Err f) = faulted f s
+
+-- reading a slot of a frame for places or links goes on with what it holds, or ends in the fault
+abbrev pub GivesHeld : List PlainFrame → (frame n : ℕ) → Result CellPlace RunFault → Type 0
+GivesHeld now frame n result = MatchResult result
+    (λ p. (s : State) (k : CellPlace → Stepped) → s.now ≡ now → as_place (slot_in s frame n) s k ≡ k p)
+    (λ f. (s : State) (k : CellPlace → Stepped) → s.now ≡ now → as_place (slot_in s frame n) s k ≡ faulted f s)
+
+-- reading a link goes on with the frame of what the slot holds, or ends in the fault
+abbrev pub GivesLink : List PlainFrame → ℕ → Result ℕ RunFault → Type 0
+GivesLink now n result = MatchResult result
+    (λ f. ((m : ℕ) → LeadsTo now n m → HasPlaceIn now f m) × ((s : State) (k : ℕ → Stepped) → s.now ≡ now → link s n k ≡ k f))
+    (λ f. (s : State) (k : ℕ → Stepped) → s.now ≡ now → link s n k ≡ faulted f s)
+
+-- reading a mark goes on with the height, or ends in the fault
+abbrev pub GivesMark : List PlainFrame → ℕ → Result ℕ RunFault → Type 0
+GivesMark now n result = MatchResult result
+    (λ h. (s : State) (k : ℕ → Stepped) → s.now ≡ now → mark s n k ≡ k h)
+    (λ f. (s : State) (k : ℕ → Stepped) → s.now ≡ now → mark s n k ≡ faulted f s)
+
+-- the place that begins at a spot goes into the slot, or the run ends in the fault
+abbrev pub point_or_fault : State → ℕ → Result Spot RunFault → Stepped
+point_or_fault s n (Ok spot) = put_place s n spot.frame (λ _. spot.slot)
+point_or_fault s n (Err f) = faulted f s
+
+-- the link goes into the slot, or the run ends in the fault
+abbrev pub link_or_fault : State → ℕ → Result ℕ RunFault → Stepped
+link_or_fault s n (Ok frame) = put_link s n frame
+link_or_fault s n (Err f) = faulted f s
 
 -- a part of a step counts no step, and its answer tells the mode
 abbrev pub KeepsOn : Step → State → State → Type 0

@@ -1,8 +1,14 @@
 //! The machine that runs compiled code over a memory that undoes, step by step as the copying code machine does.
 #![tactic(auto)]
 
+mod cells;
+mod choices;
 mod codes;
+mod control;
+mod links;
 mod numbers;
+mod output;
+mod places;
 mod registers;
 
 pub use alma_code::{End, Step};
