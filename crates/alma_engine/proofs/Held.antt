@@ -1,6 +1,15 @@
 -- What the reading and writing of links and marks gives.
 use Rattle.std.proofs.Common.{◌≡◌, ℕ, ◌+◌, ◌-◌, ◌<◌, ◌≤◌, List, [], ◌∷◌, length, get_or, take, refl, sym, ap, ◌∙◌, subst, arith, Some}
-use Rattle.std.specs.Prelude.{slice_get, true, false, nat_lt}
+use Rattle.std.specs.Prelude.{zero, suc, ◌++◌, map, slice_get, Bool, true, false, ◌&&◌, nat_lt, Option, None}
+use Rattle.std.proofs.lemmas.List.{length-map, length-append}
+use Rattle.std.proofs.lemmas.Option.{slice_get_within}
+use Rattle.std.proofs.lemmas.Bool.{and_from}
+use Rattle.std.proofs.Math.ListN.{get_or-map}
+use Rattle.alma_code.specs.declared.cell.ChoiceKind.{ChoiceKind}
+use Rattle.alma_code.specs.declared.cell.ChoiceKind.TheVariants as choice
+use Rattle.alma_code.specs.Carries.{IsForallAt, IsTop, kept}
+use Rattle.alma_code.specs.Picture.{no_entry, entry_at, kind_at}
+use Rattle.alma_code.specs.Machine.{overlay, laid_over, keep, finish, is_kind, is_forall_at, chose, pushed, kind_of}
 use Rattle.std.proofs.lemmas.Bool.{false≢true, lt-ltb, le-ltb}
 use Rattle.std.proofs.lemmas.Option.{slice_get-get_or, get_or_from_slice_get}
 use Rattle.alma_base.specs.declared.fault.RunFault.TheVariants as fault
@@ -118,3 +127,110 @@ pub pop_some : (s : State) → (s.held ≡ [] → ⊥) → pop s
 pop_some s some = pop_to s s.held some
 
 pub ruleset pops = (pop_none, pop_some)
+
+-- ---- entries of FORALL
+
+-- the entry at a height is of the kind that is found there
+entry_kind : (held : List PlainEntry) (h : ℕ) (kind : ChoiceKind) → kind_at held h ≡ Some kind → (1 ≤ h) × (h ≤ length held) × ((entry_at held h).kind ≡ kind)
+entry_kind held zero kind e = absurd (cc)
+entry_kind held (suc below) kind e =
+    let kinds = map (λ (entry : PlainEntry). entry.kind) held in
+    let lt : below < length kinds = slice_get_within kinds below kind e in
+    let same : length kinds ≡ length held = length-map held (λ (entry : PlainEntry). entry.kind) in
+    let here : get_or kinds below no_entry.kind ≡ kind = get_or_from_slice_get kinds below kind no_entry.kind e in
+    let place : suc below - 1 ≡ below = omega arith in
+    (omega arith, omega arith, ap (λ n. (get_or held n no_entry).kind) place ∙ sym (get_or-map (λ (entry : PlainEntry). entry.kind) held below no_entry) ∙ here)
+
+-- where a Forall is found one stands
+pub forall_there : (held : List PlainEntry) (h : ℕ) → kind_at held h ≡ Some choice.Forall → IsForallAt held h
+forall_there held h e = let x = entry_kind held h choice.Forall e in record { some = x.0; below = x.1; forall = x.2 }
+
+-- where a Body or a Done is found on top one stands there
+pub top_there : (held : List PlainEntry) (kind : ChoiceKind) → kind_at held (length held) ≡ Some kind → IsTop held kind
+top_there held kind e = let x = entry_kind held (length held) kind e in record { some = x.0; top = x.2 }
+
+-- a Forall is laid over
+pub overlay_is : (s : State) (h : ℕ) → kind_at s.held h ≡ Some choice.Forall → overlay s h ≡ laid_over s h
+overlay_is s h e = ap (λ o. if_true (is_kind choice.Forall o) (λ _. laid_over s h) (λ _. s)) e
+
+-- another kind is not of the kind
+other_kind : (k : ChoiceKind) (o : Option ChoiceKind) → (o ≡ Some k → ⊥) → is_kind k o ≡ false
+other_kind choice.Branch (Some choice.Branch) ne = absurd (ne refl)
+other_kind choice.Forall (Some choice.Forall) ne = absurd (ne refl)
+other_kind choice.Body (Some choice.Body) ne = absurd (ne refl)
+other_kind choice.Done (Some choice.Done) ne = absurd (ne refl)
+other_kind choice.Branch (Some choice.Forall) ne = refl
+other_kind choice.Branch (Some choice.Body) ne = refl
+other_kind choice.Branch (Some choice.Done) ne = refl
+other_kind choice.Forall (Some choice.Branch) ne = refl
+other_kind choice.Forall (Some choice.Body) ne = refl
+other_kind choice.Forall (Some choice.Done) ne = refl
+other_kind choice.Body (Some choice.Branch) ne = refl
+other_kind choice.Body (Some choice.Forall) ne = refl
+other_kind choice.Body (Some choice.Done) ne = refl
+other_kind choice.Done (Some choice.Branch) ne = refl
+other_kind choice.Done (Some choice.Forall) ne = refl
+other_kind choice.Done (Some choice.Body) ne = refl
+other_kind choice.Branch None ne = refl
+other_kind choice.Forall None ne = refl
+other_kind choice.Body None ne = refl
+other_kind choice.Done None ne = refl
+
+-- without a Forall nothing is laid over
+pub overlay_none : (s : State) (h : ℕ) → (kind_at s.held h ≡ Some choice.Forall → ⊥) → overlay s h ≡ s
+overlay_none s h ne = ap (λ b. if_true b (λ _. laid_over s h) (λ _. s)) (other_kind choice.Forall (kind_at s.held h) ne)
+
+pub ruleset overlays = (forall_there, overlay_is, overlay_none)
+
+-- a Body is kept
+pub keep_is : (s : State) (h : ℕ) → kind_at s.held h ≡ Some choice.Forall → h < length s.held → kind_at s.held (length s.held) ≡ Some choice.Body → keep s h ≡ fell (record s { held = kept s.held h s.now })
+keep_is s h e lt f =
+    let test : (is_forall_at s.held h && (nat_lt h (length s.held) && is_kind choice.Body (kind_at s.held (length s.held)))) ≡ true =
+    and_from (is_forall_at s.held h) (nat_lt h (length s.held) && is_kind choice.Body (kind_at s.held (length s.held))) (ap (is_kind choice.Forall) e)
+    (and_from (nat_lt h (length s.held)) (is_kind choice.Body (kind_at s.held (length s.held))) (lt-ltb h (length s.held) lt) (ap (is_kind choice.Body) f)) in
+    ap (λ b. if_true b (λ _. fell (record s { held = kept s.held h s.now })) (λ _. went s)) test
+
+-- a test that fails
+keep_out : (s : State) (h : ℕ) → (is_forall_at s.held h && (nat_lt h (length s.held) && is_kind choice.Body (kind_at s.held (length s.held)))) ≡ false → keep s h ≡ went s
+keep_out s h e = ap (λ b. if_true b (λ _. fell (record s { held = kept s.held h s.now })) (λ _. went s)) e
+
+and_right : (a b : Bool) → b ≡ false → (a && b) ≡ false
+and_right true b e = e
+and_right false b e = refl
+
+-- without a Forall, below a Body on top, nothing is kept
+pub keep_no_forall : (s : State) (h : ℕ) → (kind_at s.held h ≡ Some choice.Forall → ⊥) → keep s h ≡ went s
+keep_no_forall s h ne = keep_out s h (ap (λ b. b && (nat_lt h (length s.held) && is_kind choice.Body (kind_at s.held (length s.held)))) (other_kind choice.Forall (kind_at s.held h) ne))
+
+pub keep_not_below : (s : State) (h : ℕ) → length s.held ≤ h → keep s h ≡ went s
+keep_not_below s h le =
+    keep_out s h (and_right (is_forall_at s.held h) (nat_lt h (length s.held) && is_kind choice.Body (kind_at s.held (length s.held)))
+    (ap (λ b. b && is_kind choice.Body (kind_at s.held (length s.held))) (le-ltb h (length s.held) le)))
+
+pub keep_no_body : (s : State) (h : ℕ) → (kind_at s.held (length s.held) ≡ Some choice.Body → ⊥) → keep s h ≡ went s
+keep_no_body s h ne =
+    keep_out s h (and_right (is_forall_at s.held h) (nat_lt h (length s.held) && is_kind choice.Body (kind_at s.held (length s.held)))
+    (and_right (nat_lt h (length s.held)) (is_kind choice.Body (kind_at s.held (length s.held))) (other_kind choice.Body (kind_at s.held (length s.held)) ne)))
+
+pub ruleset keeps = (forall_there, top_there, keep_is, keep_no_forall, keep_not_below, keep_no_body)
+
+-- a Done is finished
+pub finish_is : (s : State) → kind_at s.held (length s.held) ≡ Some choice.Done → finish s ≡ fell (record (laid_over s (length s.held)) { held = take (length s.held - 1) s.held })
+finish_is s e = ap (λ o. if_true (is_kind choice.Done o) (λ _. fell (record (laid_over s (length s.held)) { held = take (length s.held - 1) s.held })) (λ _. went s)) e
+
+-- without one nothing is
+pub finish_none : (s : State) → (kind_at s.held (length s.held) ≡ Some choice.Done → ⊥) → finish s ≡ went s
+finish_none s ne = ap (λ b. if_true b (λ _. fell (record (laid_over s (length s.held)) { held = take (length s.held - 1) s.held })) (λ _. went s)) (other_kind choice.Done (kind_at s.held (length s.held)) ne)
+
+pub ruleset finishes = (top_there, finish_is, finish_none)
+
+-- one more entry
+pub one_more : (held : List PlainEntry) (e : PlainEntry) → length (held ++ e ∷ []) ≡ length held + 1
+one_more held e = length-append held (e ∷ [])
+
+-- a Forall is pushed
+pub forall_is : (s : State) (n resume : ℕ) → HasMark s.now n → to_mark (kind_of s n) s (λ _. chose (with_slot (pushed s choice.Forall resume) n (cell.Mark (length s.held + 1))))
+    ≡ chose (with_slot (pushed s choice.Forall resume) n (cell.Mark (length s.held + 1)))
+forall_is s n resume h = ap (λ o. to_mark o s (λ _. chose (with_slot (pushed s choice.Forall resume) n (cell.Mark (length s.held + 1))))) h.kind
+
+pub ruleset foralls = (one_more, forall_is)

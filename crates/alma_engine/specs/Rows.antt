@@ -58,6 +58,10 @@ pub record HasNumberIn (now : List PlainFrame) (frame n : ℕ) : Type 0 where
 abbrev pub HasNumber : List PlainFrame → ℕ → Type 0
 HasNumber now n = HasNumberIn now (length now - 1) n
 
+-- each number slot stays one
+abbrev pub KeepsNumbers : (old new : List PlainFrame) → Type 0
+KeepsNumbers old new = (frame n : ℕ) → HasNumberIn old frame n → HasNumberIn new frame n
+
 -- how many cells the places of a slot have
 abbrev pub width : List PlainFrame → ℕ → ℕ
 width now n = place_length (slice_get (last_frame now).kinds n)

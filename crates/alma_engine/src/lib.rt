@@ -5,6 +5,7 @@ mod cells;
 mod choices;
 mod codes;
 mod control;
+mod equations;
 mod links;
 mod numbers;
 mod output;

@@ -32,6 +32,7 @@ impl Registers {
     /// Ends the run.
     pub(crate) fn end(&mut self, end: End) -> Step
         ensures step { stepped result [] (state_of self.new) ≡ ended end (state_of self.old) }
+        ensures memory { self.new.memory ≡ self.old.memory }
         ensures kept { KeepsOn result (state_of self.old) (state_of self.new) }
     {
         self.mode = Mode::Ended(end);
@@ -50,6 +51,7 @@ impl Registers {
     /// Fails.
     pub(crate) fn fail(&mut self) -> Step
         ensures step { stepped result [] (state_of self.new) ≡ fails_now (state_of self.old) }
+        ensures memory { self.new.memory ≡ self.old.memory }
         ensures kept { KeepsOn result (state_of self.old) (state_of self.new) }
     {
         self.mode = Mode::Failing;
