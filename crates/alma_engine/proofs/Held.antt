@@ -149,10 +149,6 @@ forall_there held h e = let x = entry_kind held h choice.Forall e in record { so
 pub top_there : (held : List PlainEntry) (kind : ChoiceKind) → kind_at held (length held) ≡ Some kind → IsTop held kind
 top_there held kind e = let x = entry_kind held (length held) kind e in record { some = x.0; top = x.2 }
 
--- a Forall is laid over
-pub overlay_is : (s : State) (h : ℕ) → kind_at s.held h ≡ Some choice.Forall → overlay s h ≡ laid_over s h
-overlay_is s h e = ap (λ o. if_true (is_kind choice.Forall o) (λ _. laid_over s h) (λ _. s)) e
-
 -- another kind is not of the kind
 other_kind : (k : ChoiceKind) (o : Option ChoiceKind) → (o ≡ Some k → ⊥) → is_kind k o ≡ false
 other_kind choice.Branch (Some choice.Branch) ne = absurd (ne refl)
@@ -176,11 +172,24 @@ other_kind choice.Forall None ne = refl
 other_kind choice.Body None ne = refl
 other_kind choice.Done None ne = refl
 
--- without a Forall nothing is laid over
-pub overlay_none : (s : State) (h : ℕ) → (kind_at s.held h ≡ Some choice.Forall → ⊥) → overlay s h ≡ s
-overlay_none s h ne = ap (λ b. if_true b (λ _. laid_over s h) (λ _. s)) (other_kind choice.Forall (kind_at s.held h) ne)
+-- a Forall that is found
+forall_kind : (o : Option ChoiceKind) → is_kind choice.Forall o ≡ true → o ≡ Some choice.Forall
+forall_kind (Some choice.Forall) e = refl
+forall_kind (Some choice.Branch) e = absurd (false≢true e)
+forall_kind (Some choice.Body) e = absurd (false≢true e)
+forall_kind (Some choice.Done) e = absurd (false≢true e)
+forall_kind None e = absurd (false≢true e)
 
-pub ruleset overlays = (forall_there, overlay_is, overlay_none)
+pub forall_found : (held : List PlainEntry) (h : ℕ) → is_forall_at held h ≡ true → IsForallAt held h
+forall_found held h e = forall_there held h (forall_kind (kind_at held h) e)
+
+pub overlay_yes : (s : State) (h : ℕ) → is_forall_at s.held h ≡ true → overlay s h ≡ laid_over s h
+overlay_yes s h e = ap (λ b. if_true b (λ _. laid_over s h) (λ _. s)) e
+
+pub overlay_no : (s : State) (h : ℕ) → is_forall_at s.held h ≡ false → overlay s h ≡ s
+overlay_no s h e = ap (λ b. if_true b (λ _. laid_over s h) (λ _. s)) e
+
+pub ruleset overlays = (forall_found, overlay_yes, overlay_no)
 
 -- a Body is kept
 pub keep_is : (s : State) (h : ℕ) → kind_at s.held h ≡ Some choice.Forall → h < length s.held → kind_at s.held (length s.held) ≡ Some choice.Body → keep s h ≡ fell (record s { held = kept s.held h s.now })

@@ -1,3 +1,4 @@
+pub mod Given
 pub mod Held
 pub mod Meetings
 pub mod Parts

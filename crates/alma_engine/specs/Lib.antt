@@ -1,3 +1,4 @@
+pub mod Calls
 pub mod Meets
 pub mod Rows
 pub mod View

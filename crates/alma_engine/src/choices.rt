@@ -2,7 +2,7 @@
 ghost use Rattle.std.specs.Prelude.{◌≡◌, ◌≢◌, ◌+◌, ◌<◌, ◌≤◌, ◌^◌, [], length, IsOk, IfOk, OnOk, OnErr};
 ghost use Rattle.alma_code.specs.declared.cell.Cell.TheVariants as cell;
 ghost use Rattle.alma_code.specs.declared.cell.ChoiceKind.TheVariants as choice;
-ghost use Rattle.alma_code.specs.Machine.{chose, pushed, put_mark, mark, cut_to, pop, to_mark, kind_of, with_slot, overlay, keep, finish};
+ghost use Rattle.alma_code.specs.Machine.{chose, pushed, put_mark, mark, cut_to, pop, to_mark, kind_of, with_slot, is_forall_at, overlay, keep, finish};
 ghost use Rattle.alma_engine.specs.Rows.{state_of, HasMark, KeepsOn, GivesMark};
 ghost use Rattle.alma_engine.specs.View.{stepped};
 
@@ -114,6 +114,16 @@ impl Registers {
         Ok(Step::Chose(height))
     }
 
+    // Whether a Forall is at a height.
+    fn has_forall(&self, height: usize) -> bool
+        ensures { result ≡ is_forall_at self.now.memory.held height }
+    {
+        match self.memory.kind_at(height) {
+            Some(ChoiceKind::Forall) => true,
+            Some(ChoiceKind::Branch | ChoiceKind::Body | ChoiceKind::Done) | None => false,
+        }
+    }
+
     // Lays the carry of the Forall at a height over the frames, where there is one.
     #[tactic(auto, using(crate::proofs::Held::overlays))]
     fn lay_over(&mut self, height: usize) -> Result<(), NoMemory>
@@ -123,7 +133,7 @@ impl Registers {
         ensures refused { OnErr result (state_of self.new ≡ state_of self.old) }
     {
         self.memory.reserve(1, 0)?;
-        if self.memory.kind_at(height) == Some(ChoiceKind::Forall) {
+        if self.has_forall(height) {
             self.memory.overlay(height)?;
         }
         Ok(())

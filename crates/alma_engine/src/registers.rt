@@ -7,6 +7,7 @@ ghost use Rattle.alma_engine.specs.View.{stepped};
 use alma_base::{NoMemory, RunFault};
 use alma_code::{Cell, End, Step};
 use alma_memory::Memory;
+use std::alloc::Global;
 
 /// Whether the next step is an instruction or a pop, or the run has ended.
 #[derive(Clone, Copy)]
@@ -19,6 +20,7 @@ pub(crate) enum Mode {
 /// The state of a run: the next address, that of the last instruction taken, the mode, the memory and the counts.
 #[derive(Drop)]
 pub(crate) struct Registers {
+    pub(crate) alloc: Global,
     pub(crate) at: u32,
     pub(crate) last: u32,
     pub(crate) mode: Mode,
