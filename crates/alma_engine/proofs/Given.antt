@@ -1,9 +1,10 @@
 -- What the reading of arguments, and calls and returns, give.
-use Rattle.std.proofs.Common.{◌≡◌, ℕ, zero, suc, ◌+◌, ◌-◌, ◌<◌, ◌≤◌, List, [], ◌∷◌, ◌++◌, length, get_or, refl, sym, ap, ◌∙◌, subst, arith, Some}
+use Rattle.std.proofs.Common.{inl, inr, ◌≡◌, ℕ, zero, suc, ◌+◌, ◌-◌, ◌<◌, ◌≤◌, List, [], ◌∷◌, ◌++◌, length, get_or, refl, sym, ap, ◌∙◌, subst, arith, Some}
 use Rattle.std.specs.Prelude.{ℤ, slice_get, Bool, true, false, ◌&&◌, nat_eq, nat_lt, nat_le, Option, None}
-use Rattle.std.proofs.lemmas.Bool.{eq-eqb, ne_eqb, and_from, lt-ltb, le-ltb, le-leb, lt-leb}
+use Rattle.std.proofs.lemmas.Bool.{eq-eqb, ne_eqb, and_from, lt-ltb, le-ltb, le-leb, lt-leb, cases_lt}
 use Rattle.std.proofs.lemmas.Option.{slice_get-get_or, get_or_from_slice_get}
-use Rattle.std.proofs.lemmas.List.{length-append}
+use Rattle.std.proofs.lemmas.List.{length-append, get_or-append_right}
+use Rattle.std.proofs.Math.ListN.{get_or-append}
 use Rattle.alma_base.specs.Choice.{if_true}
 use Rattle.alma_base.specs.declared.fault.RunFault.{RunFault}
 use Rattle.alma_base.specs.declared.fault.RunFault.TheVariants as fault
@@ -21,7 +22,7 @@ use Rattle.alma_code.specs.Layout.{FitsParam, FitsParams, no_param, entered_fram
 use Rattle.alma_code.specs.Machine.{State, Stepped, slot_of, as_argument, arguments, numbers_at, faulted, entered, answered, ended, returned, left, stuck}
 use Rattle.alma_code.specs.Picture.{PlainFrame, last_frame, live_cells}
 use Rattle.alma_memory.specs.Refusals.{HasFrameRoom, RefusesFor}
-use Rattle.alma_engine.specs.Calls.{IsSpot, HoldsArgument, HasArgument, IsArgument}
+use Rattle.alma_engine.specs.Calls.{IsSpot, HoldsArgument, HasArgument, HasArguments, IsArgument, GivesArguments}
 
 -- ---- one argument
 
@@ -131,6 +132,45 @@ one_fails now (p ∷ ps) first (suc i) (c ∷ args) f s k same lt each ends =
     ∙ one_fails now ps (suc first) i args f s (λ cs. k (c ∷ cs)) same (omega arith)
     (λ j below. let next : first + suc j ≡ suc first + j = omega arith in subst (λ n. IsArgument now (get_or ps j no_param) n (get_or args j cell.Unknown)) next (each (suc j) (omega arith)))
     (λ s k same. ap (λ n. as_argument (get_or ps i no_param).kind (get_or ps i no_param).cells (slot_of s n) s k) (sym next) ∙ ends s k same)
+
+-- the first i arguments are read
+pub record ReadSo (now : List PlainFrame) (ps : List CodeParam) (first i : ℕ) (args : List Cell) : Type 0 where
+  pub count : length args ≡ i
+  pub each : (j : ℕ) → j < i → IsArgument now (get_or ps j no_param) (first + j) (get_or args j cell.Unknown)
+
+-- the slot of a parameter
+pub arg_at : (now : List PlainFrame) (ps : List CodeParam) (first i : ℕ) (p : CodeParam) → HasArguments now ps first → i < length ps → slice_get ps i ≡ Some p → HasArgument now p (first + i)
+arg_at now ps first i p has lt is = subst (λ q. HasArgument now q (first + i)) (get_or_from_slice_get ps i p no_param is) (has i lt)
+
+-- one more is read
+pub reads_more : (now : List PlainFrame) (ps : List CodeParam) (first i : ℕ) (p : CodeParam) (c : Cell) (args : List Cell) → slice_get ps i ≡ Some p → ReadSo now ps first i args → IsArgument now p (first + i) c
+    → ReadSo now ps first (i + 1) (args ++ c ∷ [])
+reads_more now ps first i p c args is h one = record {
+  count = omega (arith, length-append args (c ∷ []), h.count);
+  each = λ j lt.
+      elim (cases_lt j i) [
+        | inl below ↦ subst (λ a. IsArgument now (get_or ps j no_param) (first + j) a) (sym (get_or-append args (c ∷ []) cell.Unknown j (omega (arith, h.count)))) (h.each j below)
+        | inr le ↦
+            let same : j ≡ i = omega arith in
+            let at : j - length args ≡ 0 = omega (arith, h.count) in
+            let here : get_or (args ++ c ∷ []) j cell.Unknown ≡ c = get_or-append_right args (c ∷ []) (length args) j cell.Unknown refl (omega (arith, h.count)) ∙ ap (λ n. get_or (c ∷ []) n cell.Unknown) at in
+            subst (λ a. IsArgument now (get_or ps j no_param) (first + j) a) (sym here)
+            (subst (λ m. IsArgument now (get_or ps m no_param) (first + m) c) (sym same) (subst (λ q. IsArgument now q (first + i) c) (sym (get_or_from_slice_get ps i p no_param is)) one))
+      ];
+}
+
+-- all are read
+pub all_done : (now : List PlainFrame) (ps : List CodeParam) (first : ℕ) (args : List Cell) → ReadSo now ps first (length ps) args → GivesArguments now ps first None args
+all_done now ps first args h =
+    (record { count = h.count; each = λ k lt. (h.each k lt).fits },
+    λ s k same. all_read now ps first args s k same h.count h.each)
+
+-- one is not known
+pub fails_at : (now : List PlainFrame) (ps : List CodeParam) (first i : ℕ) (p : CodeParam) (args rest : List Cell) (f : RunFault) → i < length ps → slice_get ps i ≡ Some p → ReadSo now ps first i args
+    → ((s : State) (k : Cell → Stepped) → s.now ≡ now → as_argument p.kind p.cells (slot_of s (first + i)) s k ≡ faulted f s) → GivesArguments now ps first (Some f) rest
+fails_at now ps first i p args rest f lt is h ends = λ s k same.
+    one_fails now ps first i args f s k same lt h.each
+    (λ s k same. ap (λ (q : CodeParam). as_argument q.kind q.cells (slot_of s (first + i)) s k) (get_or_from_slice_get ps i p no_param is) ∙ ends s k same)
 
 -- ---- entering
 

@@ -1,6 +1,8 @@
+pub mod Back
 pub mod Given
 pub mod Held
 pub mod Meetings
 pub mod Parts
+pub mod Reading
 pub mod Stays
 pub mod Words

@@ -1,5 +1,5 @@
 // Calls and returns.
-ghost use Rattle.std.specs.Prelude.{◌≡◌, ◌≤◌, [], length, Some, IfOk, OnErr};
+ghost use Rattle.std.specs.Prelude.{◌≡◌, ◌≤◌, ℤ, [], length, Some, IfOk, OnErr};
 ghost use Rattle.alma_code.specs.declared.step.End.TheVariants as end;
 ghost use Rattle.alma_code.specs.Carries.{IsLive};
 ghost use Rattle.alma_code.specs.Layout.{IsHead, FitsParams};
@@ -113,6 +113,47 @@ impl Registers {
             return Ok(self.end(End::Succeeded));
         }
         self.at = self.memory.leave()?;
+        Ok(Step::Returned(self.memory.frames()))
+    }
+
+    /// Returns a number to the slot that the Call before the return address names.
+    pub(crate) fn leave_with<V: CodeView>(&mut self, view: &V, value: u32) -> Result<Step, NoMemory>
+        requires slot { HasNumber self.old.memory.now value }
+        requires back { CallsBack (V.code view.now) self.old.memory.now }
+        ensures ok { let s = state_of self.old in IfOk result (λ answer. stepped answer [] (state_of self.new)
+            ≡ number s value (λ v. result_to (slice_get (V.code view.now).instrs ((last_frame s.now).back - 1)) (left s) v)) }
+        ensures kept { IfOk result (λ answer. KeepsOn answer (state_of self.old) (state_of self.new)) }
+        ensures refused { OnErr result (state_of self.new ≡ state_of self.old) }
+    {
+        match self.number(value) {
+            Ok(number) => self.give_back(view, Cell::Int(number)),
+            Err(fault) => Ok(self.end(End::Fault(fault))),
+        }
+    }
+
+    // Leaves the top frame, and puts a cell into the slot of the caller.
+    #[tactic(auto, using(crate::proofs::Back::backs))]
+    fn give_back<V: CodeView>(&mut self, view: &V, cell: Cell) -> Result<Step, NoMemory>
+        requires { CallsBack (V.code view.now) self.old.memory.now }
+        ensures ok { let s = state_of self.old in IfOk result (λ answer. (v : ℤ) → cell ≡ Cell.Int v → stepped answer [] (state_of self.new)
+            ≡ result_to (slice_get (V.code view.now).instrs ((last_frame s.now).back - 1)) (left s) v) }
+        ensures kept { IfOk result (λ answer. KeepsOn answer (state_of self.old) (state_of self.new)) }
+        ensures refused { OnErr result (state_of self.new ≡ state_of self.old) }
+    {
+        self.memory.reserve(0, 2)?;
+        let back = match self.memory.leave() {
+            Ok(back) => back,
+            Err(_) => unreachable!(),
+        };
+        let Instr::Call { to, .. } = view.instr(back - 1) else {
+            unreachable!()
+        };
+        let frame = self.memory.frames() - 1;
+        match self.memory.write(frame, to, cell) {
+            Ok(()) => (),
+            Err(_) => unreachable!(),
+        }
+        self.at = back;
         Ok(Step::Returned(self.memory.frames()))
     }
 }

@@ -100,4 +100,42 @@ impl Registers {
         let right_known = self.content(right.frame, right.slot);
         self.settle(left, left_range, left_known, right, right_range, right_known)
     }
+
+    /// The equation of the cells at the places in two slots.
+    #[tactic(auto, using(crate::proofs::Words::one_slot, std::proofs::lemmas::Grind::common_steps))]
+    pub(crate) fn unify(
+        &mut self,
+        left: u32,
+        left_range: Range,
+        right: u32,
+        right_range: Range,
+    ) -> Result<Step, NoMemory>
+        requires left { HasOneCell self.old.memory.now left }
+        requires right { HasOneCell self.old.memory.now right }
+        ensures ok { let s = state_of self.old in IfOk result (λ answer. stepped answer [] (state_of self.new)
+            ≡ place s left (λ p. place s right (λ q. equation s p.frame p.slot (Some left_range) q.frame q.slot (Some right_range) went))) }
+        ensures kept { IfOk result (λ answer. KeepsOn answer (state_of self.old) (state_of self.new)) }
+        ensures refused { OnErr result (state_of self.new ≡ state_of self.old) }
+    {
+        let left = match self.place(left) {
+            Ok(place) => place,
+            Err(fault) => return Ok(self.end(End::Fault(fault))),
+        };
+        let right = match self.place(right) {
+            Ok(place) => place,
+            Err(fault) => return Ok(self.end(End::Fault(fault))),
+        };
+        let first = Spot {
+            frame: left.frame,
+            slot: left.slot,
+        };
+        let second = Spot {
+            frame: right.frame,
+            slot: right.slot,
+        };
+        match self.equate(first, Some(left_range), second, Some(right_range))? {
+            Met::Holds => Ok(Step::Went),
+            Met::Ends(step) => Ok(step),
+        }
+    }
 }

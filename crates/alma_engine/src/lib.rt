@@ -7,6 +7,7 @@ mod choices;
 mod codes;
 mod control;
 mod equations;
+mod input;
 mod links;
 mod numbers;
 mod output;
