@@ -1,3 +1,4 @@
+pub mod Acting
 pub mod Back
 pub mod Given
 pub mod Held

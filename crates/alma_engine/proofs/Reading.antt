@@ -1,6 +1,6 @@
 -- What READ gives.
 use Rattle.std.proofs.Common.{◌≡◌, ℕ, suc, ◌+◌, ◌-◌, ◌*◌, ◌<◌, ◌≤◌, List, [], ◌∷◌, length, get_or, drop, refl, sym, ap, ◌∙◌, subst, arith, Some}
-use Rattle.std.specs.Prelude.{ℤ, pos, negsuc, slice_get, Bool, true, false, nat_eq, nat_abs}
+use Rattle.std.specs.Prelude.{ℤ, pos, negsuc, slice_get, Option, Bool, true, false, nat_eq, nat_abs}
 use Rattle.std.proofs.lemmas.List.{drop_all, length-drop}
 use Rattle.std.proofs.lemmas.Option.{slice_get-get_or, get_or_from_slice_get}
 use Rattle.alma_base.specs.Choice.{if_true}
@@ -14,7 +14,7 @@ use Rattle.alma_code.specs.declared.cell.Cell.{Cell}
 use Rattle.alma_code.specs.declared.cell.Cell.TheVariants as cell
 use Rattle.alma_code.specs.declared.cell.CellPlace.{CellPlace}
 use Rattle.alma_code.specs.Fits.{IsPosition}
-use Rattle.alma_code.specs.Machine.{State, Stepped, position, as_position, took, ranged, faulted, store, went, with_cell}
+use Rattle.alma_code.specs.Machine.{State, Stepped, position, as_position, char_found, found, took, ranged, faulted, store, went, with_cell}
 use Rattle.alma_code.specs.Picture.{PlainFrame, no_frame, cell_at}
 use Rattle.alma_engine.specs.Inputs.{HasPosition, IsBelow}
 use Rattle.alma_engine.specs.Rows.{HasNumberIn}
@@ -107,6 +107,10 @@ pub position_slot : (now : List PlainFrame) → HasPosition now → HasNumberIn 
 position_slot now h = h.number
 
 pub ruleset positions = (position_is, position_held, position_slot)
+
+-- a byte is read as a number
+pub byte_read : (o : Option ℕ) (s : State) (r : Range) (p : CellPlace) (at byte : ℕ) → o ≡ Some byte → char_found s r p at o ≡ found s r p (Number (pos byte) (at + 1))
+byte_read o s r p at byte is = ap (char_found s r p at) is
 
 -- ---- what is taken
 

@@ -186,7 +186,7 @@ pub ok_is : {E : Type 0} (r : Result Step E) (bytes : List ℕ) (new : State) (x
 ok_is (Ok a) bytes new x y h e = h ∙ e
 ok_is (Err f) bytes new x y h e = tt
 
--- the same for one that speaks of each number
-pub ok_is_for : {E : Type 0} (r : Result Step E) (bytes : List ℕ) (new : State) (x : ℕ → Stepped) (n : ℕ) (y : Stepped) → IfOk r (λ a. (n : ℕ) → stepped a bytes new ≡ x n) → x n ≡ y → IfOk r (λ a. stepped a bytes new ≡ y)
-ok_is_for (Ok a) bytes new x n y h e = h n ∙ e
-ok_is_for (Err f) bytes new x n y h e = tt
+-- the same for one that speaks of the number in a cell
+pub ok_is_int : {E : Type 0} (r : Result Step E) (bytes : List ℕ) (new : State) (x : ℤ → Stepped) (v : ℤ) (y : Stepped) → IfOk r (λ a. (w : ℤ) → cell.Int v ≡ cell.Int w → stepped a bytes new ≡ x w) → x v ≡ y → IfOk r (λ a. stepped a bytes new ≡ y)
+ok_is_int (Ok a) bytes new x v y h e = h v refl ∙ e
+ok_is_int (Err f) bytes new x v y h e = tt

@@ -1,5 +1,6 @@
 pub mod Calls
 pub mod Inputs
 pub mod Meets
+pub mod Needs
 pub mod Rows
 pub mod View

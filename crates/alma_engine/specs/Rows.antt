@@ -212,6 +212,7 @@ abbrev pub link_or_fault : State → ℕ → Result ℕ RunFault → Stepped
 link_or_fault s n (Ok frame) = put_link s n frame
 link_or_fault s n (Err f) = faulted f s
 
--- a part of a step counts no step, and its answer tells the mode
+-- a part of a step counts no step, its answer tells the mode, and it pushes and pops at most one entry
 abbrev pub KeepsOn : Step → State → State → Type 0
-KeepsOn step old new = (new.steps ≡ old.steps) × (IsLive old.mode → ModeAfter step new.mode)
+KeepsOn step old new =
+    (new.steps ≡ old.steps) × (IsLive old.mode → ModeAfter step new.mode) × (new.choices ≤ old.choices + 1) × (new.fails ≤ old.fails + 1)

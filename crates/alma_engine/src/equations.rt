@@ -5,7 +5,7 @@ ghost use Rattle.alma_code.specs.Fits.{IsContent};
 ghost use Rattle.alma_code.specs.Machine.{place, equated, equation, equations, copied, went};
 ghost use Rattle.alma_code.specs.Picture.{cell_at};
 ghost use Rattle.alma_engine.specs.Rows.{state_of, HasCells, HasOneCell, HasNumberIn, IsCells, KeepsOn, KeepsNumbers, width};
-ghost use Rattle.alma_engine.specs.Meets.{Meets, MeetsOn, given};
+ghost use Rattle.alma_engine.specs.Meets.{Meets, MeetsOn, AreNumbers, given};
 ghost use Rattle.alma_engine.specs.View.{stepped};
 
 use crate::places::Spot;
@@ -137,5 +137,63 @@ impl Registers {
             Met::Holds => Ok(Step::Went),
             Met::Ends(step) => Ok(step),
         }
+    }
+
+    // The equations of so many cells, one after another.
+    #[tactic(auto, using(crate::proofs::Meetings::cell_of))]
+    fn equate_all(&mut self, count: u32, left: Spot, right: Spot) -> Step
+        requires left { AreNumbers self.old.memory.now left.frame left.slot count }
+        requires right { AreNumbers self.old.memory.now right.frame right.slot count }
+        requires room { count ≤ self.old.memory.trail_room }
+        ensures step { stepped result [] (state_of self.new) ≡ equations count (state_of self.old) left.frame left.slot right.frame right.slot }
+        ensures kept { KeepsOn result (state_of self.old) (state_of self.new) }
+    {
+        for k in 0..count {
+            let first = Spot {
+                frame: left.frame,
+                slot: left.slot + k,
+            };
+            let second = Spot {
+                frame: right.frame,
+                slot: right.slot + k,
+            };
+            match self.equate(first, None, second, None) {
+                Ok(Met::Holds) => (),
+                Ok(Met::Ends(step)) => return step,
+                Err(_) => unreachable!(),
+            }
+        }
+        Step::Went
+    }
+
+    /// The equations of all cells at the places in two slots.
+    #[tactic(auto, using(crate::proofs::Meetings::numbers_of))]
+    pub(crate) fn same_cells(&mut self, left: u32, right: u32) -> Result<Step, NoMemory>
+        requires left { HasCells self.old.memory.now left }
+        requires right { HasCells self.old.memory.now right }
+        requires alike { width self.old.memory.now left ≡ width self.old.memory.now right }
+        ensures ok { let s = state_of self.old in IfOk result (λ answer. stepped answer [] (state_of self.new)
+            ≡ place s left (λ p. place s right (λ q. equations p.len s p.frame p.slot q.frame q.slot))) }
+        ensures kept { IfOk result (λ answer. KeepsOn answer (state_of self.old) (state_of self.new)) }
+        ensures refused { OnErr result (state_of self.new ≡ state_of self.old) }
+    {
+        let left = match self.place(left) {
+            Ok(place) => place,
+            Err(fault) => return Ok(self.end(End::Fault(fault))),
+        };
+        let right = match self.place(right) {
+            Ok(place) => place,
+            Err(fault) => return Ok(self.end(End::Fault(fault))),
+        };
+        self.memory.reserve(0, left.len as usize)?;
+        let first = Spot {
+            frame: left.frame,
+            slot: left.slot,
+        };
+        let second = Spot {
+            frame: right.frame,
+            slot: right.slot,
+        };
+        Ok(self.equate_all(left.len, first, second))
     }
 }

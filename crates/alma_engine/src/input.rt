@@ -23,6 +23,19 @@ fn find_number(input: &[u8], from: usize) -> ReadInt
     read_int(input, from)
 }
 
+// What READ finds on a CHAR type: the byte at a place.
+#[tactic(auto, using(crate::proofs::Reading::byte_read))]
+fn find_char(input: &[u8], from: usize) -> ReadInt
+    requires { length input.now ≤ 16777216 }
+    ensures found { (s : State) (r : Range) (p : CellPlace) → char_found s r p from (slice_get input.now from) ≡ found s r p result }
+    ensures below { IsBelow result }
+{
+    match input.get(from) {
+        Some(byte) => ReadInt::Number(i64::from(*byte), from + 1),
+        None => ReadInt::NoNumber,
+    }
+}
+
 impl Registers {
     // The input position.
     #[tactic(auto, using(crate::proofs::Reading::positions))]
@@ -67,7 +80,7 @@ impl Registers {
     }
 
     /// Reads a number into the cell at the place in a slot.
-    #[tactic(auto, using(crate::proofs::Words::one_slot, std::proofs::lemmas::Grind::common_steps))]
+    #[tactic(auto, using(crate::proofs::Words::one_slot, crate::proofs::Reading::position_slot, std::proofs::lemmas::Grind::common_steps))]
     pub(crate) fn read_number(&mut self, input: &[u8], to: u32, range: &Range) -> Result<Step, NoMemory>
         requires lawful { length input.now ≤ 16777216 }
         requires position { HasPosition self.old.memory.now }
@@ -81,6 +94,26 @@ impl Registers {
             Ok(place) => {
                 let from = self.position();
                 self.take(find_number(input, from), place, range)
+            }
+            Err(fault) => Ok(self.end(End::Fault(fault))),
+        }
+    }
+
+    /// Reads a byte into the cell at the place in a slot.
+    #[tactic(auto, using(crate::proofs::Words::one_slot, crate::proofs::Reading::position_slot))]
+    pub(crate) fn read_char(&mut self, input: &[u8], to: u32, range: &Range) -> Result<Step, NoMemory>
+        requires lawful { length input.now ≤ 16777216 }
+        requires position { HasPosition self.old.memory.now }
+        requires to { HasOneCell self.old.memory.now to }
+        ensures ok { let s = state_of self.old in IfOk result (λ answer. stepped answer [] (state_of self.new)
+            ≡ place s to (λ p. position s (λ n. char_found s range.now p n (slice_get input.now n)))) }
+        ensures kept { IfOk result (λ answer. KeepsOn answer (state_of self.old) (state_of self.new)) }
+        ensures refused { OnErr result (state_of self.new ≡ state_of self.old) }
+    {
+        match self.place(to) {
+            Ok(place) => {
+                let from = self.position();
+                self.take(find_char(input, from), place, range)
             }
             Err(fault) => Ok(self.end(End::Fault(fault))),
         }

@@ -1,6 +1,7 @@
 //! The machine that runs compiled code over a memory that undoes, step by step as the copying code machine does.
 #![tactic(auto)]
 
+mod act;
 mod calls;
 mod cells;
 mod choices;
