@@ -1,6 +1,6 @@
 -- What a return with a number gives.
 use Rattle.std.proofs.Common.{◌≡◌, ℕ, suc, ◌+◌, ◌-◌, ◌<◌, ◌≤◌, List, length, get_or, take, refl, sym, ap, ◌∙◌, subst, arith, Some, length-set}
-use Rattle.std.specs.Prelude.{ℤ, slice_get, Option}
+use Rattle.std.specs.Prelude.{ℤ, slice_get, Option, Result, Ok, Err}
 use Rattle.std.proofs.lemmas.List.{length-take-le}
 use Rattle.std.proofs.lemmas.Option.{slice_get_within}
 use Rattle.alma_code.specs.declared.cell.Cell.{Cell}
@@ -10,8 +10,9 @@ use Rattle.alma_code.specs.declared.instr.Instr.TheVariants as I
 use Rattle.alma_code.specs.Machine.{State, Stepped, result_to, to_number, kind_of, returned, left, with_slot}
 use Rattle.alma_code.specs.Picture.{PlainFrame, last_frame, without_last, written, frame_with, no_frame}
 use Rattle.alma_code.specs.Plain.{PlainCode}
-use Rattle.alma_engine.specs.Rows.{HasNumber}
-use Rattle.alma_engine.specs.Calls.{CallsBack}
+use Rattle.alma_engine.specs.Rows.{HasNumber, Gives}
+use Rattle.alma_base.specs.declared.fault.RunFault.{RunFault}
+use Rattle.alma_engine.specs.Calls.{CallsBack, back_or_fault}
 
 -- the return address is behind an instruction
 pub back_some : (code : PlainCode) (now : List PlainFrame) → CallsBack code now → 1 ≤ (last_frame now).back
@@ -44,3 +45,8 @@ pub one_less : (now : List PlainFrame) → length (without_last now) ≡ length 
 one_less now = length-take-le (length now - 1) now (omega arith)
 
 pub ruleset backs = (back_some, back_inside, same_frames, one_less)
+
+-- what a word gives is returned, or ends the run
+pub gives_back : (now : List PlainFrame) (word : State → (ℤ → Stepped) → Stepped) (s : State) (o : Option Instr) (result : Result ℤ RunFault) → s.now ≡ now → Gives now word result → word s (λ v. result_to o (left s) v) ≡ back_or_fault o s result
+gives_back now word s o (Ok v) same h = h s (λ v. result_to o (left s) v) same
+gives_back now word s o (Err f) same h = h s (λ v. result_to o (left s) v) same

@@ -1,8 +1,11 @@
 pub mod Acting
 pub mod Back
+pub mod Counting
+pub mod Fitting
 pub mod Given
 pub mod Held
 pub mod Meetings
+pub mod Needing
 pub mod Parts
 pub mod Reading
 pub mod Stays

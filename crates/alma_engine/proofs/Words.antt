@@ -1,5 +1,5 @@
 -- What the reading of slots gives.
-use Rattle.std.proofs.Common.{inl, inr, ◌≡◌, ℕ, ◌+◌, ◌-◌, ◌<◌, List, length, get_or, refl, sym, ap, ◌∙◌, subst, arith, Some}
+use Rattle.std.proofs.Common.{inl, inr, [], ◌≡◌, ℕ, ◌+◌, ◌-◌, ◌<◌, List, length, get_or, refl, sym, ap, ◌∙◌, subst, arith, Some}
 use Rattle.std.specs.Prelude.{ℤ, pos, negsuc, zero, suc, slice_get, Bool, true, false, ◌&&◌, ◌-ℤ◌, ◌≤ℤ◌, ◌<ℤ◌, int_le, nat_abs, Option, None, Result, Ok, Err, IfOk}
 use Rattle.std.proofs.lemmas.Bool.{eq-eqb, and_from}
 use Rattle.std.proofs.lemmas.Int.{ints}
@@ -186,7 +186,12 @@ pub ok_is : {E : Type 0} (r : Result Step E) (bytes : List ℕ) (new : State) (x
 ok_is (Ok a) bytes new x y h e = h ∙ e
 ok_is (Err f) bytes new x y h e = tt
 
--- the same for one that speaks of the number in a cell
-pub ok_is_int : {E : Type 0} (r : Result Step E) (bytes : List ℕ) (new : State) (x : ℤ → Stepped) (v : ℤ) (y : Stepped) → IfOk r (λ a. (w : ℤ) → cell.Int v ≡ cell.Int w → stepped a bytes new ≡ x w) → x v ≡ y → IfOk r (λ a. stepped a bytes new ≡ y)
-ok_is_int (Ok a) bytes new x v y h e = h v refl ∙ e
-ok_is_int (Err f) bytes new x v y h e = tt
+-- the same where it prints nothing
+pub ok_quiet : {E : Type 0} (r : Result Step E) (bytes : List ℕ) (new : State) (x y : Stepped) → bytes ≡ [] → IfOk r (λ a. stepped a [] new ≡ x) → x ≡ y → IfOk r (λ a. stepped a bytes new ≡ y)
+ok_quiet (Ok a) bytes new x y none h e = ap (λ b. stepped a b new) none ∙ h ∙ e
+ok_quiet (Err f) bytes new x y none h e = tt
+
+-- what a word gives goes into a slot, or ends the run
+pub gives_put : (now : List PlainFrame) (word : State → (ℤ → Stepped) → Stepped) (s : State) (to : ℕ) (result : Result ℤ RunFault) → s.now ≡ now → Gives now word result → word s (λ v. put_number s to v) ≡ put_or_fault s to result
+gives_put now word s to (Ok v) same h = h s (λ v. put_number s to v) same
+gives_put now word s to (Err fault) same h = h s (λ v. put_number s to v) same

@@ -1,5 +1,5 @@
 -- What calls need and give.
-use Rattle.std.specs.Prelude.{◌≡◌, ℕ, suc, ◌+◌, ◌-◌, ◌^◌, ◌<◌, ◌≤◌, true, List, Option, None, length, get_or, Some, slice_get, Result, MatchResult}
+use Rattle.std.specs.Prelude.{◌≡◌, ℕ, suc, ◌+◌, ◌-◌, ◌^◌, ◌<◌, ◌≤◌, true, List, Option, None, length, get_or, Some, slice_get, ℤ, Result, Ok, Err, MatchResult}
 use Rattle.alma_base.specs.declared.fault.RunFault.{RunFault}
 use Rattle.alma_code.specs.declared.cell.Cell.{Cell}
 use Rattle.alma_code.specs.declared.cell.Cell.TheVariants as cell
@@ -7,10 +7,11 @@ use Rattle.alma_code.specs.declared.cell.CellPlace.{CellPlace}
 use Rattle.alma_code.specs.declared.head.CodeParam.{CodeParam}
 use Rattle.alma_code.specs.declared.head.ParamKind.{ParamKind}
 use Rattle.alma_code.specs.declared.head.ParamKind.TheVariants as param
+use Rattle.alma_code.specs.declared.instr.Instr.{Instr}
 use Rattle.alma_code.specs.declared.instr.Instr.TheVariants as I
 use Rattle.alma_code.specs.Carries.{IsLive}
 use Rattle.alma_code.specs.Layout.{FitsParam, FitsParams, no_param}
-use Rattle.alma_code.specs.Machine.{State, Stepped, slot_of, as_argument, arguments, numbers_at, faulted}
+use Rattle.alma_code.specs.Machine.{State, Stepped, slot_of, as_argument, arguments, numbers_at, faulted, left, result_to}
 use Rattle.alma_code.specs.Picture.{PlainFrame, last_frame, without_last}
 use Rattle.alma_code.specs.Plain.{PlainCode}
 use Rattle.alma_engine.specs.Rows.{HasNumber}
@@ -74,3 +75,8 @@ pub record CallsBack (code : PlainCode) (now : List PlainFrame) : Type 0 where
   pub behind : (last_frame now).back ≡ suc at
   pub call : slice_get code.instrs at ≡ Some (I.Call routine first to)
   pub slot : HasNumber (without_last now) to
+
+-- the number goes to the slot that the instruction names, or the run ends in the fault
+abbrev pub back_or_fault : Option Instr → State → Result ℤ RunFault → Stepped
+back_or_fault o s (Ok v) = result_to o (left s) v
+back_or_fault o s (Err f) = faulted f s

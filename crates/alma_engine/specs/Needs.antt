@@ -70,3 +70,12 @@ Needs code f (I.Outer to link first) = HasPlace f to × HasLink f link
 Needs code f (I.OuterSame to link slot) = HasPlace f to × HasLink f link × LeadsTo f link slot
 Needs code f (I.CopyCells to from) = ⊥
 Needs code f i = Computes f i
+
+-- the instruction prints
+unfoldable pub prints : Instr → Bool
+prints (I.WriteInt value) = true
+prints (I.WriteChar value) = true
+prints (I.WriteBool value) = true
+prints (I.WriteText text) = true
+prints I.WriteLine = true
+prints _ = false

@@ -40,8 +40,39 @@ impl Registers {
         }
     }
 
-    /// What an instruction does that prints nothing, with the address already at the next one.
+    /// What an instruction does, with the address already at the next one. Where memory is wanted, nothing has happened.
     #[tactic(auto, unfolding(alma_code::specs::Machine::act, crate::specs::Needs::Needs), using(crate::proofs::Acting::actings))]
+    pub(crate) fn act<V: CodeView>(
+        &mut self,
+        view: &V,
+        instr: Instr,
+        input: &[u8],
+        bytes: &mut Vec<u8>,
+    ) -> Result<Step, NoMemory>
+        requires needs { Needs (V.code view.now) self.old.memory.now instr }
+        requires few { self.old.choices + 1 < 2 ^ 63 }
+        requires lawful { length input.now ≤ 16777216 }
+        requires empty { bytes.old.items ≡ [] }
+        ensures ok { IfOk result (λ answer. stepped answer bytes.new.items (state_of self.new) ≡ act (V.code view.now) input.now instr (state_of self.old)) }
+        ensures kept { IfOk result (λ answer. KeepsOn answer (state_of self.old) (state_of self.new)) }
+        ensures quiet { IfOk result (λ answer. PrintsOnly answer bytes.new.items) }
+        ensures refused { OnErr result ((state_of self.new ≡ state_of self.old) × (bytes.new.items ≡ [])) }
+    {
+        match instr {
+            Instr::WriteInt { value } => self.print_number(value, bytes),
+            Instr::WriteChar { value } => self.print_character(value, bytes),
+            Instr::WriteBool { value } => self.print_truth(value, bytes),
+            Instr::WriteText { text } => match view.text(text) {
+                Some(text) => print_text(text, bytes),
+                None => unreachable!(),
+            },
+            Instr::WriteLine => print_text(b"\n", bytes),
+            _ => self.act_quiet(view, instr, input),
+        }
+    }
+
+    // What an instruction does that prints nothing.
+    #[tactic(auto, unfolding(alma_code::specs::Machine::act, crate::specs::Needs::Needs, crate::specs::Needs::prints), using(crate::proofs::Acting::actings))]
     fn act_quiet<V: CodeView>(
         &mut self,
         view: &V,
@@ -49,15 +80,39 @@ impl Registers {
         input: &[u8],
     ) -> Result<Step, NoMemory>
         requires needs { Needs (V.code view.now) self.old.memory.now instr }
+        requires quiet { prints instr ≡ false }
         requires few { self.old.choices + 1 < 2 ^ 63 }
         requires lawful { length input.now ≤ 16777216 }
         ensures ok { IfOk result (λ answer. stepped answer [] (state_of self.new) ≡ act (V.code view.now) input.now instr (state_of self.old)) }
         ensures kept { IfOk result (λ answer. KeepsOn answer (state_of self.old) (state_of self.new)) }
+        ensures quiet { IfOk result (λ answer. PrintsOnly answer []) }
         ensures refused { OnErr result (state_of self.new ≡ state_of self.old) }
     {
         match instr {
             Instr::InRange { value, range } => match view.range(range) {
                 Some(range) => Ok(self.in_range(value, &range)),
+                None => unreachable!(),
+            },
+            Instr::Local { to, first } => self.put_place(to, self.memory.frames() - 1, first),
+            Instr::Global { to, first } => self.put_place(to, 0, first),
+            Instr::Same { to, from } => {
+                let spot = self.whole(from);
+                self.point(to, spot)
+            }
+            Instr::Field { to, from, offset } => {
+                let spot = self.field(from, offset);
+                self.point(to, spot)
+            }
+            Instr::Index {
+                to,
+                from,
+                index,
+                range,
+            } => match view.range(range) {
+                Some(range) => {
+                    let spot = self.part(to, from, index, &range);
+                    self.point(to, spot)
+                }
                 None => unreachable!(),
             },
             Instr::Store { to, from } => self.store(to, from),
@@ -81,8 +136,29 @@ impl Registers {
             Instr::Overlay { mark, resume } => self.begin_body(mark, resume),
             Instr::Keep { mark } => self.keep(mark),
             Instr::Finish => self.finish(),
+            Instr::Call { routine, first, .. } => match view.routine(routine) {
+                Some(head) => self.call(&head, routine, view.start(routine), first),
+                None => unreachable!(),
+            },
             Instr::Return => self.leave(),
             Instr::ReturnValue { value } => self.leave_with(view, value),
+            Instr::ReadInt { place, range } => match view.range(range) {
+                Some(range) => self.read_number(input, place, &range),
+                None => unreachable!(),
+            },
+            Instr::ReadChar { place, range } => match view.range(range) {
+                Some(range) => self.read_char(input, place, &range),
+                None => unreachable!(),
+            },
+            Instr::Unify {
+                left,
+                left_range,
+                right,
+                right_range,
+            } => match (view.range(left_range), view.range(right_range)) {
+                (Some(first), Some(second)) => self.unify(left, first, right, second),
+                _ => unreachable!(),
+            },
             Instr::Fault { number } => Ok(self.end(End::Fault(numbered(number)))),
             Instr::Step {
                 counter,
@@ -90,6 +166,19 @@ impl Registers {
                 by,
                 out,
             } => self.count(counter, limit, by, out),
+            Instr::Own { to } => self.put_link(to, Ok(self.memory.frames() - 1)),
+            Instr::Chain { to, link, slot } => {
+                let frame = self.chained(link, slot);
+                self.put_link(to, frame)
+            }
+            Instr::Outer { to, link, first } => {
+                let spot = self.outer(link, first);
+                self.point(to, spot)
+            }
+            Instr::OuterSame { to, link, slot } => {
+                let spot = self.outer_whole(link, slot);
+                self.point(to, spot)
+            }
             _ => {
                 let (to, number) = self.computed(instr);
                 self.put(to, number)

@@ -1,5 +1,5 @@
 // Calls and returns.
-ghost use Rattle.std.specs.Prelude.{◌≡◌, ◌≤◌, ℤ, [], length, Some, IfOk, OnErr};
+ghost use Rattle.std.specs.Prelude.{◌≡◌, ◌≤◌, [], length, Some, IfOk, OnErr};
 ghost use Rattle.alma_code.specs.declared.step.End.TheVariants as end;
 ghost use Rattle.alma_code.specs.Carries.{IsLive};
 ghost use Rattle.alma_code.specs.Layout.{IsHead, FitsParams};
@@ -8,7 +8,7 @@ ghost use Rattle.std.specs.Prelude.{nat_eq, ◌-◌, slice_get};
 ghost use Rattle.alma_code.specs.Machine.{number, arguments, entered, ended, returned, left, result_to};
 ghost use Rattle.alma_code.specs.Picture.{last_frame};
 ghost use Rattle.alma_engine.specs.Rows.{state_of, HasNumber, KeepsOn};
-ghost use Rattle.alma_engine.specs.Calls.{HasArgument, HasArguments, GivesArgument, GivesArguments, CallsBack};
+ghost use Rattle.alma_engine.specs.Calls.{HasArgument, HasArguments, GivesArgument, GivesArguments, CallsBack, back_or_fault};
 ghost use Rattle.alma_engine.specs.View.{stepped};
 
 use crate::codes::CodeView;
@@ -125,21 +125,23 @@ impl Registers {
         ensures kept { IfOk result (λ answer. KeepsOn answer (state_of self.old) (state_of self.new)) }
         ensures refused { OnErr result (state_of self.new ≡ state_of self.old) }
     {
-        match self.number(value) {
-            Ok(number) => self.give_back(view, Cell::Int(number)),
-            Err(fault) => Ok(self.end(End::Fault(fault))),
-        }
+        let number = self.number(value);
+        self.give_back(view, number)
     }
 
-    // Leaves the top frame, and puts a cell into the slot of the caller.
+    // Leaves the top frame and puts a number into the slot of the caller, or ends the run in its fault.
     #[tactic(auto, using(crate::proofs::Back::backs))]
-    fn give_back<V: CodeView>(&mut self, view: &V, cell: Cell) -> Result<Step, NoMemory>
+    fn give_back<V: CodeView>(&mut self, view: &V, number: Result<i64, RunFault>) -> Result<Step, NoMemory>
         requires { CallsBack (V.code view.now) self.old.memory.now }
-        ensures ok { let s = state_of self.old in IfOk result (λ answer. (v : ℤ) → cell ≡ Cell.Int v → stepped answer [] (state_of self.new)
-            ≡ result_to (slice_get (V.code view.now).instrs ((last_frame s.now).back - 1)) (left s) v) }
+        ensures ok { let s = state_of self.old in IfOk result (λ answer. stepped answer [] (state_of self.new)
+            ≡ back_or_fault (slice_get (V.code view.now).instrs ((last_frame s.now).back - 1)) s number) }
         ensures kept { IfOk result (λ answer. KeepsOn answer (state_of self.old) (state_of self.new)) }
         ensures refused { OnErr result (state_of self.new ≡ state_of self.old) }
     {
+        let number = match number {
+            Ok(number) => number,
+            Err(fault) => return Ok(self.end(End::Fault(fault))),
+        };
         self.memory.reserve(0, 2)?;
         let back = match self.memory.leave() {
             Ok(back) => back,
@@ -149,7 +151,7 @@ impl Registers {
             unreachable!()
         };
         let frame = self.memory.frames() - 1;
-        match self.memory.write(frame, to, cell) {
+        match self.memory.write(frame, to, Cell::Int(number)) {
             Ok(()) => (),
             Err(_) => unreachable!(),
         }

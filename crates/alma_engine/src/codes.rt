@@ -9,7 +9,7 @@ use alma_code::{Head, Instr};
 pub trait CodeView {
     ghost code: { Self → PlainCode };
 
-    type Routine: Head;
+    type Routine: Head + Copy;
 
     fn code_count(&self) -> u32
         ensures { result ≡ length (code self.now).instrs };
