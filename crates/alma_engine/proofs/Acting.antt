@@ -51,7 +51,7 @@ unfolding act
 read_char_is code input to range s r is = ap (λ o. place s to (λ p. as_range o s (λ t. position s (λ n. char_found s t p n (slice_get input n))))) is
 
 -- what is there, or another
-get_some : PlainHead → Option PlainHead → PlainHead
+abbrev get_some : PlainHead → Option PlainHead → PlainHead
 get_some other (Some x) = x
 get_some other None = other
 

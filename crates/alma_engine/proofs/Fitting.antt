@@ -30,15 +30,15 @@ use Rattle.alma_engine.proofs.Counting.{few_kinds}
 
 module _ (code : PlainCode) (sound : IsSound code) (r : ℕ) (s : State) (h : Ready code r s) where
   -- a slot of the top frame that holds a cell is one
-  below_of : (n : ℕ) (c : Cell) → slot_of s n ≡ Some c → n < length (last_frame s.now).cells
+  pub below_of : (n : ℕ) (c : Cell) → slot_of s n ≡ Some c → n < length (last_frame s.now).cells
   below_of n c is = slice_get_within (last_frame s.now).cells n c is
 
   -- and holds it whatever stands for a slot that is not there
-  cell_of : (n : ℕ) (c : Cell) → slot_of s n ≡ Some c → get_or (last_frame s.now).cells n cell.Unset ≡ c
+  pub cell_of : (n : ℕ) (c : Cell) → slot_of s n ≡ Some c → get_or (last_frame s.now).cells n cell.Unset ≡ c
   cell_of n c is = get_or_from_slice_get (last_frame s.now).cells n c cell.Unset is
 
   -- a number slot
-  number_has : (n : ℕ) → kind_in code r n ≡ Some slot.Number → HasNumber s.now n
+  pub number_has : (n : ℕ) → kind_in code r n ≡ Some slot.Number → HasNumber s.now n
   number_has n e =
       let has = has_slot code r s n slot.Number h e in
       record {
@@ -139,7 +139,7 @@ module _ (code : PlainCode) (sound : IsSound code) (r : ℕ) (s : State) (h : Re
   -- ---- links
 
   -- what fits a link slot of a frame
-  holds_link : (f q : ℕ) (c : Cell) → FitsSlot code (routines_of s.now) f (slot.Link q) c → HoldsPlace c
+  pub holds_link : (f q : ℕ) (c : Cell) → FitsSlot code (routines_of s.now) f (slot.Link q) c → HoldsPlace c
   holds_link f q (cell.Place p) x = tt
   holds_link f q cell.Unset x = tt
   holds_link f q cell.Unknown x = absurd x
@@ -165,8 +165,8 @@ module _ (code : PlainCode) (sound : IsSound code) (r : ℕ) (s : State) (h : Re
 
   -- ---- the position
 
-  pub has_position : slice_get (kinds_at code 0) 0 ≡ Some slot.Number → HasPosition s.now
-  has_position first =
+  pub position_there : slice_get (kinds_at code 0) 0 ≡ Some slot.Number → HasPosition s.now
+  position_there first =
       let ff = h.frames.each 0 h.frames.some in
       let ks : slice_get (get_or s.now 0 no_frame).kinds 0 ≡ Some slot.Number = ap (λ k. slice_get k 0) (ff.kinds ∙ ap (kinds_at code) (ff.main refl)) ∙ first in
       let lt : 0 < length (get_or s.now 0 no_frame).kinds = slice_get_within (get_or s.now 0 no_frame).kinds 0 slot.Number ks in

@@ -1,5 +1,5 @@
 -- What an instruction needs of the top frame and of the code.
-use Rattle.std.specs.Prelude.{◌≡◌, ◌<◌, ◌≤◌, ℕ, Bool, true, false, List, length, slice_get}
+use Rattle.std.specs.Prelude.{◌≡◌, ◌<◌, ◌≤◌, ℕ, Bool, true, false, List, length, get_or, slice_get}
 use Rattle.alma_code.specs.declared.instr.Instr.{Instr}
 use Rattle.alma_code.specs.declared.instr.Instr.TheVariants as I
 use Rattle.alma_code.specs.Layout.{IsHead}
@@ -79,3 +79,12 @@ prints (I.WriteBool value) = true
 prints (I.WriteText text) = true
 prints I.WriteLine = true
 prints _ = false
+
+-- the machine runs the form
+unfoldable pub is_built : Instr → Bool
+is_built (I.CopyCells to from) = false
+is_built _ = true
+
+-- each instruction of the code is of such a form
+abbrev pub HasOnlyBuilt : PlainCode → Type 0
+HasOnlyBuilt code = (at : ℕ) → at < length code.instrs → is_built (get_or code.instrs at I.Fail) ≡ true

@@ -1,8 +1,8 @@
 // What each instruction does.
-ghost use Rattle.std.specs.Prelude.{◌≡◌, ◌+◌, ◌^◌, ◌<◌, ◌≤◌, List, ℕ, [], length, IfOk, OnErr};
+ghost use Rattle.std.specs.Prelude.{false, ◌≡◌, ◌+◌, ◌^◌, ◌<◌, ◌≤◌, List, ℕ, [], length, IfOk, OnErr};
 ghost use Rattle.alma_code.specs.Machine.{State, act};
 ghost use Rattle.alma_code.specs.Plain.{PlainCode};
-ghost use Rattle.alma_engine.specs.Needs.{Computes, Needs};
+ghost use Rattle.alma_engine.specs.Needs.{Computes, Needs, prints};
 ghost use Rattle.alma_engine.specs.Rows.{state_of, HasNumber, KeepsOn, put_or_fault};
 ghost use Rattle.alma_engine.specs.View.{stepped, PrintsOnly};
 
@@ -93,7 +93,10 @@ impl Registers {
                 Some(range) => Ok(self.in_range(value, &range)),
                 None => unreachable!(),
             },
-            Instr::Local { to, first } => self.put_place(to, self.memory.frames() - 1, first),
+            Instr::Local { to, first } => {
+                let frame = self.memory.frames() - 1;
+                self.put_place(to, frame, first)
+            }
             Instr::Global { to, first } => self.put_place(to, 0, first),
             Instr::Same { to, from } => {
                 let spot = self.whole(from);
@@ -166,7 +169,10 @@ impl Registers {
                 by,
                 out,
             } => self.count(counter, limit, by, out),
-            Instr::Own { to } => self.put_link(to, Ok(self.memory.frames() - 1)),
+            Instr::Own { to } => {
+                let frame = self.memory.frames() - 1;
+                self.put_link(to, Ok(frame))
+            }
             Instr::Chain { to, link, slot } => {
                 let frame = self.chained(link, slot);
                 self.put_link(to, frame)
