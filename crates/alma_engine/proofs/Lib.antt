@@ -6,6 +6,7 @@ pub mod Given
 pub mod Held
 pub mod Meetings
 pub mod Needing
+pub mod Others
 pub mod Parts
 pub mod Reading
 pub mod Stays
