@@ -10,4 +10,5 @@ pub mod Others
 pub mod Parts
 pub mod Reading
 pub mod Stays
+pub mod Stepping
 pub mod Words

@@ -3,4 +3,5 @@ pub mod Inputs
 pub mod Meets
 pub mod Needs
 pub mod Rows
+pub mod Stands
 pub mod View

@@ -10,6 +10,7 @@ mod control;
 mod equations;
 mod input;
 mod links;
+mod machine;
 mod numbers;
 mod output;
 mod places;
