@@ -18,3 +18,4 @@ mod registers;
 
 pub use alma_code::{End, Step};
 pub use codes::CodeView;
+pub use machine::Machine;
