@@ -1,5 +1,6 @@
 pub mod Acting
 pub mod Back
+pub mod Budget
 pub mod Counting
 pub mod Fitting
 pub mod Given

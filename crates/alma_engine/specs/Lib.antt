@@ -3,5 +3,6 @@ pub mod Inputs
 pub mod Meets
 pub mod Needs
 pub mod Rows
+pub mod Runs
 pub mod Stands
 pub mod View

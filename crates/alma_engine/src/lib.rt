@@ -18,4 +18,4 @@ mod registers;
 
 pub use alma_code::{End, Step};
 pub use codes::CodeView;
-pub use machine::Machine;
+pub use machine::{Machine, RunEnd};

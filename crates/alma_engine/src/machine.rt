@@ -4,18 +4,47 @@ ghost use Rattle.alma_code.specs.Layout.{start_frame};
 ghost use Rattle.alma_code.specs.Plain.{head_at};
 ghost use Rattle.alma_code.specs.Rules.{IsSound};
 ghost use Rattle.alma_engine.specs.Needs.{HasOnlyBuilt};
-ghost use Rattle.alma_code.specs.Machine.{Going, step, start};
+ghost use Rattle.alma_code.specs.Machine.{Going, step, start, after, prints};
 ghost use Rattle.alma_engine.specs.Rows.{state_of};
 ghost use Rattle.alma_engine.specs.View.{stepped, runs_after, ModeAfter, PrintsOnly};
 ghost use Rattle.alma_engine.specs.Stands.{Stands};
+ghost use Rattle.alma_io.specs.Causes.{HasCause};
+ghost use Rattle.alma_io.specs.Fronts.{AppendsFront};
+ghost use Rattle.alma_engine.specs.Runs.{end_of, run_end_of, is_steps_out, all_written, made, OnWhole, OnStepsOut, OnWriteFault, OnMemory};
+ghost use Rattle.std.specs.Io.KnownBytes.{Appends};
 
 use crate::codes::CodeView;
 use crate::registers::{Mode, Registers};
-use alma_base::NoMemory;
-use alma_code::Step;
+use alma_base::{NoMemory, RunFault};
+use alma_code::{End, Step};
+use alma_io::{Sink, write_all};
 use alma_memory::Memory;
 use std::alloc::Global;
 use std::marker::Model;
+
+/// How a run with a budget ends.
+#[derive(Clone, Copy, Debug, PartialEq, Eq)]
+pub enum RunEnd {
+    Succeeded,
+    Failed,
+    Fault(RunFault),
+    StepsOut,
+    WriteFault,
+    /// Memory ran out.
+    Memory,
+}
+
+impl From<End> for RunEnd {
+    ghost from_gives = { λ end result. result ≡ end_of end };
+
+    fn from(end: End) -> RunEnd {
+        match end {
+            End::Succeeded => RunEnd::Succeeded,
+            End::Failed => RunEnd::Failed,
+            End::Fault(fault) => RunEnd::Fault(fault),
+        }
+    }
+}
 
 // The next instruction of the code. Where memory is wanted, nothing has happened.
 #[tactic(auto, using(crate::proofs::Stepping::taken))]
@@ -205,5 +234,46 @@ impl<'v, 'i, V: CodeView> Machine<'v, 'i, V> {
         ensures { result ≡ self.now.state.fails }
     {
         self.registers.fails
+    }
+
+    /// Steps until the run ends, and at most `budget` of them. Each print is written as it comes, in one call.
+    pub fn run<K: Sink>(&mut self, budget: u64, out: &mut K) -> RunEnd
+        requires running { IsTrue self.old.running }
+        requires few { self.old.state.steps + budget < 2 ^ 63 }
+
+        // Without a fault of the sink and a want of memory: what the copying code machine does in so many steps.
+        ensures answer { OnWhole result (result ≡ run_end_of (after self.old.code self.old.input budget self.old.state).mode) }
+        ensures state { OnWhole result (self.new.state ≡ after self.old.code self.old.input budget self.old.state) }
+        ensures out { OnWhole result
+            (Appends (K.written out.old) (K.written out.new) (prints self.old.code self.old.input budget self.old.state)) }
+
+        // In each case: what it does in the steps that were made.
+        ensures few { self.new.state.steps ≤ self.old.state.steps + budget }
+        ensures made { self.new.state ≡ after self.old.code self.old.input (made self.old self.new) self.old.state }
+        ensures steps_out { OnStepsOut result (made self.old self.new ≡ budget) }
+        ensures memory { OnMemory result
+            (Appends (K.written out.old) (K.written out.new) (prints self.old.code self.old.input (made self.old self.new) self.old.state)) }
+        ensures write_fault { OnWriteFault result
+            (AppendsFront (K.written out.old) (K.written out.new) (prints self.old.code self.old.input (made self.old self.new) self.old.state)) }
+        ensures cause { HasCause (K.faults out.old) (K.faults out.new) (all_written result) }
+        ensures running { self.new.running ≡ is_steps_out result }
+        ensures same { (self.new.code ≡ self.old.code) × (self.new.input ≡ self.old.input) }
+    {
+        let mut made = 0;
+        while made < budget {
+            let Ok(step) = self.step() else {
+                return RunEnd::Memory;
+            };
+            if let Step::Done(end) = step {
+                return RunEnd::from(end);
+            }
+            if write_all(out, self.printed()).is_err() {
+                self.running = false;
+                return RunEnd::WriteFault;
+            }
+            made += 1;
+        }
+        let _ = &self.running;
+        RunEnd::StepsOut
     }
 }
