@@ -1,5 +1,5 @@
 // One live frame.
-ghost use Rattle.std.specs.Prelude.{◌≡◌, ◌<◌, length, slice_get, slice_index_or, IfOk};
+ghost use Rattle.std.specs.Prelude.{◌≡◌, ◌<◌, length, slice_get, slice_index_or, Some, IfOk};
 ghost use Rattle.alma_code.specs.Picture.{frame_with};
 ghost use Rattle.alma_code.specs.Kinds.{is_number};
 ghost use Rattle.alma_memory.specs.Frames.{IsWhole};
@@ -110,6 +110,14 @@ impl Frame {
         ensures { result ≡ slice_index_or self.now.cells slot cell.Unknown }
     {
         self.cells[slot as usize]
+    }
+
+    /// The kind of a slot.
+    pub fn kind(&self, slot: u32) -> SlotKind
+        requires { slot < length self.now.kinds }
+        ensures { slice_get self.now.kinds slot ≡ Some result }
+    {
+        self.kinds[slot as usize]
     }
 
     pub fn write(&mut self, slot: u32, cell: Cell)

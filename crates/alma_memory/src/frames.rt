@@ -71,6 +71,14 @@ impl Frames {
         &self.list[frame as usize]
     }
 
+    /// The top frame.
+    pub fn top(&self) -> &Frame
+        requires { 1 ≤ length self.now }
+        ensures { result.now ≡ last_frame self.now }
+    {
+        &self.list[self.list.len() - 1]
+    }
+
     pub fn cell(&self, place: SlotPlace) -> Cell
         requires live { place.frame < length self.now }
         requires slot_of { place.slot < length (slice_index_or self.now place.frame no_frame).cells }

@@ -1,5 +1,5 @@
 // The memory of the machine, and its calls.
-ghost use Rattle.std.specs.Prelude.{◌≡◌, ◌≢◌, ◌+◌, ◌-◌, ◌<◌, ◌≤◌, [], ◌∷◌, ◌++◌, length, take, is_ok, is_some, slice_index_or, IfOk, OnOk, OnErr, IsOk, IsSome, IsNone, IfSome, IfNone, MatchResult, if◌then◌else◌, ◌↔◌};
+ghost use Rattle.std.specs.Prelude.{◌≡◌, ◌≢◌, ◌+◌, ◌-◌, ◌<◌, ◌≤◌, [], ◌∷◌, ◌++◌, length, take, is_ok, is_some, slice_index_or, slice_get, Some, IfOk, OnOk, OnErr, IsOk, IsSome, IsNone, IfSome, IfNone, MatchResult, if◌then◌else◌, ◌↔◌};
 ghost use Rattle.alma_code.specs.Picture.{no_frame, written, cell_at, kind_at, last_frame, without_last, live_cells, popped, top_of, entry_at};
 ghost use Rattle.alma_code.specs.Carries.{IsLive, IsForallAt, IsTop, kept, overlaid};
 ghost use Rattle.alma_code.specs.Layout.{IsHead, FitsParams, start_frame, entered_frame};
@@ -17,7 +17,7 @@ use crate::trail::{
     Entry, Note, cut_to, enter_noted, fail_to, leave_noted, room_for_notes, write_noted,
 };
 use alma_base::NoMemory;
-use alma_code::{Cell, ChoiceKind, Head};
+use alma_code::{Cell, ChoiceKind, Head, SlotKind};
 use std::alloc::Global;
 use std::marker::Model;
 
@@ -142,6 +142,22 @@ impl Memory {
         ensures { result ≡ cell_at self.now.now frame slot cell.Unknown }
     {
         self.frames.cell(SlotPlace { frame, slot })
+    }
+
+    /// What a slot of the top frame holds.
+    pub fn top(&self, slot: u32) -> Cell
+        requires { slot < length (last_frame self.now.now).cells }
+        ensures { slice_get (last_frame self.now.now).cells slot ≡ Some result }
+    {
+        self.frames.top().cell(slot)
+    }
+
+    /// The kind of a slot of the top frame.
+    pub fn top_kind(&self, slot: u32) -> SlotKind
+        requires { slot < length (last_frame self.now.now).kinds }
+        ensures { slice_get (last_frame self.now.now).kinds slot ≡ Some result }
+    {
+        self.frames.top().kind(slot)
     }
 
     pub fn write(&mut self, frame: u32, slot: u32, cell: Cell) -> Result<(), NoMemory>

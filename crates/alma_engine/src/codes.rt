@@ -1,0 +1,35 @@
+// The readers of a code, as the tables of a code in memory or the view of an object give them.
+ghost use Rattle.std.specs.Prelude.{◌≡◌, ◌<◌, ◌^◌, length, map, slice_get, option_map, Some, IfSome};
+ghost use Rattle.alma_code.specs.Plain.{PlainCode, start_at};
+
+use alma_base::Range;
+use alma_code::{Head, Instr};
+
+/// A code that is read in parts.
+pub trait CodeView {
+    ghost code: { Self → PlainCode };
+
+    type Routine: Head + Copy;
+
+    fn code_count(&self) -> u32
+        ensures { result ≡ length (code self.now).instrs };
+
+    fn instr(&self, at: u32) -> Instr
+        requires { at < length (code self.now).instrs }
+        ensures { slice_get (code self.now).instrs at ≡ Some result };
+
+    fn range(&self, i: u32) -> Option<Range>
+        ensures { result ≡ slice_get (code self.now).ranges i };
+
+    fn text(&self, i: u32) -> Option<&[u8]>
+        ensures { option_map (λ text. text.now) result ≡ slice_get (code self.now).texts i };
+
+    /// The head of a routine.
+    fn routine(&self, i: u32) -> Option<Self::Routine>
+        ensures { option_map Self.Routine.head result ≡ slice_get (map (λ r. r.head) (code self.now).routines) i };
+
+    /// The address of the first instruction of a routine.
+    fn start(&self, i: u32) -> u32
+        requires { i < length (code self.now).routines }
+        ensures { result ≡ start_at (code self.now) i };
+}
