@@ -55,6 +55,14 @@ entry_below id (b ∷ bs) = if nat_lt id (length b) then entry_in (slice_get b i
 abbrev pub entry_at : ℕ → Blocks → Entry
 entry_at id s = if nat_lt id (entries_of s.below) then entry_below id s.below else entry_in (slice_get s.top (id - entries_of s.below))
 
+-- the number of the block in which the entry of a number stands, 0 for the lowest
+abbrev pub level_from : ℕ → ℕ → List (List Declared) → ℕ
+level_from id n [] = n
+level_from id n (b ∷ bs) = if nat_lt id (length b) then n else level_from (id - length b) (n + 1) bs
+
+abbrev pub level_of : ℕ → Blocks → ℕ
+level_of id s = level_from id 0 s.below
+
 -- the number of the entry that the top block has under a name
 abbrev pub taken : List ℕ → Blocks → Option ℕ
 taken name s = option_map (λ i. entries_of s.below + i) (place name s.top)

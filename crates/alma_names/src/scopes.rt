@@ -2,7 +2,7 @@
 #![tactic(auto, using(crate::proofs::Stacks::entries_push, std::proofs::lemmas::Grind::common_steps))]
 
 ghost use Rattle.std.specs.Prelude.{◌≡◌, ◌+◌, ◌-◌, ◌^◌, ◌<◌, ◌≤◌, Option, None, Some, length, option_map, IfSome, IfOk, OnErr, OnOk};
-ghost use Rattle.alma_names.specs.Scopes.{Blocks, first_blocks, entries_of, entry_count, visible, entry_at, opened, closed, with_declared, taken, RefusesTwice};
+ghost use Rattle.alma_names.specs.Scopes.{Blocks, first_blocks, entries_of, entry_count, visible, entry_at, opened, closed, with_declared, taken, level_of, RefusesTwice};
 
 use crate::block::{Block, Entry};
 use alma_base::NoMemory;
@@ -117,6 +117,29 @@ impl Scopes {
             start += block.len();
         }
         found
+    }
+
+    /// The number of blocks below the top one.
+    pub fn depth(&self) -> usize
+        ensures { result ≡ length self.now.below }
+    {
+        self.below.len()
+    }
+
+    /// The number of the block in which an entry stands, 0 for the lowest.
+    pub fn level(&self, id: Id) -> usize
+        ensures { result ≡ level_of id.0 self.now }
+    {
+        let mut left = id.0 as usize;
+        let mut level: usize = 0;
+        for block in &self.below {
+            if left < block.len() {
+                return level;
+            }
+            left -= block.len();
+            level += 1;
+        }
+        level
     }
 
     /// What an entry of a block that still stands is.

@@ -114,6 +114,13 @@ impl Shapes {
         }
     }
 
+    /// The number of shapes.
+    pub fn len(&self) -> usize
+        ensures { result ≡ length self.now }
+    {
+        self.shapes.len()
+    }
+
     /// The shape of a number.
     pub fn get(&self, id: ShapeId) -> &Shape
         requires { id.0 < length self.now }

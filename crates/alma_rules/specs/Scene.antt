@@ -12,7 +12,7 @@ use Rattle.alma_names.specs.declared.block.Entry.{Entry}
 use Rattle.alma_names.specs.declared.block.Entry.TheVariants as entry
 use Rattle.alma_names.specs.Shapes.{PlainShape, row, fields, range_at, base_at, cells_at}
 use Rattle.alma_names.specs.Blocks.{Declared}
-use Rattle.alma_names.specs.Scopes.{Blocks, visible, entry_at}
+use Rattle.alma_names.specs.Scopes.{Blocks, visible, entry_at, level_of}
 use Rattle.alma_ir.specs.declared.program.Param.{Param}
 use Rattle.alma_ir.specs.declared.phrase.Root.{Root}
 use Rattle.alma_ir.specs.declared.phrase.Root.TheVariants as root
@@ -140,14 +140,6 @@ pub data Found : Type 0 where
   named : (shape : ℕ) → Found
   variable : (shape : ℕ) → Root → Found
   routine : (number up : ℕ) → Option Heading → Found
-
--- the number of the block in which the entry of a number stands, 0 for the lowest
-abbrev pub level_from : ℕ → ℕ → List (List Declared) → ℕ
-level_from id n [] = n
-level_from id n (b ∷ bs) = if nat_lt id (length b) then n else level_from (id - length b) (n + 1) bs
-
-abbrev pub level_of : ℕ → Blocks → ℕ
-level_of id b = level_from id 0 b.below
 
 -- the level of the routine round the phrase: 0 in the body of the module
 abbrev pub level : Scene → ℕ

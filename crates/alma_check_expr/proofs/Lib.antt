@@ -1,0 +1,4 @@
+pub mod Rows
+pub mod Judging
+pub mod Walking
+pub mod Steps
