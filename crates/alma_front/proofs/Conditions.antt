@@ -122,12 +122,12 @@ sum_item_only names words rest e n h = record { is_one = sum_item (expr_of e) h.
 
 followed_assoc : (a b c : Stmts) → followed_by (followed_by a b) c ≡ followed_by a (followed_by b c)
 followed_assoc no_stmts b c = refl
-followed_assoc (more_stmts x rest) b c = ap (more_stmts x) (followed_assoc rest b c)
+followed_assoc (more_stmts line x rest) b c = ap (more_stmts line x) (followed_assoc rest b c)
 
 -- the list of items with one more at its end
 pub items_added : (items : List S.Stmt) (item : S.Stmt) → stmts_list (items ++ item ∷ []) ≡ followed_by (stmts_list items) (one (stmt_of item))
 items_added [] item = refl
-items_added (x ∷ items) item = ap (more_stmts (stmt_of x)) (items_added items item)
+items_added (x ∷ items) item = ap (more_stmts 0 (stmt_of x)) (items_added items item)
 
 -- ) is no operator
 ends_sum : (rest : List Word) → EndsItems rest → EndsSum rest
@@ -158,7 +158,7 @@ items_start names words rest item h = record {
   go y later e (last_item item' h' k) = let j = h.alone item' later (ends_sum later e) h' in no_more (k ∙ ap one j.0) j.1
   go y later e (more_items item' others inner h' i k) =
       let j = h.alone item' (Fixed kinds.Comma ∷ inner) (refl, refl) h' in
-      more inner others (sym j.1) i (k ∙ ap (λ (z : Stmt). more_stmts z others) j.0)
+      more inner others (sym j.1) i (k ∙ ap (λ (z : Stmt). more_stmts 0 z others) j.0)
 
 -- behind a comma and more of them
 items_then : (names : List (List ℕ)) (words rest inner behind : List Word) (so_far next : Stmts) → ItemsRead names words so_far rest

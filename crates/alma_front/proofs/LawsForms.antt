@@ -3,9 +3,10 @@ use Rattle.std.proofs.Common.{◌≡◌, ◌≤◌, ◌<◌, ◌+◌, ℕ, Bool,
 use Rattle.alma_base.specs.Numbers.{whole_range, is_integer}
 use Rattle.alma_ir.specs.declared.phrase.Root.TheVariants as root
 use Rattle.alma_ir.specs.Tree.{Program, Stmts, Stmt, Arms, Test, Expr, Links, Desig, no_stmts, more_stmts, TestStmt, Assign, CopyCells, If, While, Repeat, ForTo, SomeOf, Case, Either, Forall, Commit, Return, Read, WriteExpr, WriteText, WriteLine, no_arms, more_arms, Value, Bind, Unify, SameCells, Seq, And, Or, Not, CallTest, Const, Load, Chain, Compare, Truth, Known, Chr, CallExpr, no_links, more_links, a_desig, no_sels, more_sels}
-use Rattle.alma_lower.specs.Built.{BuiltDesig, BuiltExpr, BuiltLinks, BuiltTest, BuiltWrite, BuiltStmts, BuiltStmt, BuiltArms, IsBuilt}
+use Rattle.alma_implements.specs.Built.{BuiltDesig, BuiltExpr, BuiltLinks, BuiltTest, BuiltWrite, BuiltStmts, BuiltStmt, BuiltArms, IsBuilt}
 use Rattle.alma_front.specs.Words.{Word, slot_from}
-use Rattle.alma_front.specs.Grammar.{truth_number, chained, followed_by, HasSign, no_sign, plus_sign, minus_sign, IsOperand, number, variable_named, nested, IsFactors, no_factors, more_factors, IsProduct, product, IsTerms, no_terms, more_terms, IsSum, sum, IsCondition, truth, compared, IsItem, truth_item, sum_item, IsItems, last_item, more_items, IsStatement, nothing, test, assignment, write, if_else, while_loop, repeat_loop, IsArms, last_arm, elsif, IsElse, no_else, else_part, IsStatements, last_statement, more_statements, IsNames, last_name, more_names, HasVariables, no_variables, variables, HasBody, no_body, body, IsModule, body_routine}
+use Rattle.alma_front.specs.Grammar.{truth_number, chained, followed_by, HasSign, no_sign, plus_sign, minus_sign, IsOperand, number, variable_named, nested, IsFactors, no_factors, more_factors, IsProduct, product, IsTerms, no_terms, more_terms, IsSum, sum, IsCondition, truth, compared, IsItem, truth_item, sum_item, IsItems, last_item, more_items, IsStatement, nothing, test, assignment, write, if_else, while_loop, repeat_loop, IsArms, last_arm, elsif, IsElse, no_else, else_part, IsStatements, last_statement, more_statements, IsNames, last_name, more_names, HasVariables, no_variables, variables, HasBody, no_body, body, IsModule, Lines, body_routine}
+use Rattle.alma_front.specs.Lines.{module_lines}
 use Rattle.alma_front.specs.Source.{IsSource}
 use Rattle.alma_front.proofs.LawsWords.{none_some, some_same, SoundWords, sound_words, small_integer}
 
@@ -17,6 +18,8 @@ FormDesig count (a_desig (root.Local slot) cells no_sels) = (cells ≡ 1) × (1 
 FormDesig count (a_desig (root.Local slot) cells (more_sels x rest)) = ⊥
 FormDesig count (a_desig (root.Global slot) cells sels) = ⊥
 FormDesig count (a_desig (root.Param slot) cells sels) = ⊥
+FormDesig count (a_desig (root.Outer links slot) cells sels) = ⊥
+FormDesig count (a_desig (root.OuterParam links slot) cells sels) = ⊥
 
 -- numbers, variables, chains and comparisons
 abbrev mutual
@@ -28,7 +31,7 @@ abbrev mutual
   FormExpr count (Truth t) = ⊥
   FormExpr count (Known d) = ⊥
   FormExpr count (Chr e) = ⊥
-  FormExpr count (CallExpr r args) = ⊥
+  FormExpr count (CallExpr r args up) = ⊥
 
   pub FormLinks : (count : ℕ) → Links → Type 0
   FormLinks count no_links = Unit {0}
@@ -44,13 +47,13 @@ FormTest count (Seq x) = ⊥
 FormTest count (And ts) = ⊥
 FormTest count (Or ts) = ⊥
 FormTest count (Not t) = ⊥
-FormTest count (CallTest r args) = ⊥
+FormTest count (CallTest r args up) = ⊥
 
 -- truths, assignments, IF, WHILE, REPEAT and WRITE
 abbrev mutual
   pub FormStmts : (count : ℕ) → Stmts → Type 0
   FormStmts count no_stmts = Unit {0}
-  FormStmts count (more_stmts x rest) = FormStmt count x × FormStmts count rest
+  FormStmts count (more_stmts line x rest) = FormStmt count x × FormStmts count rest
 
   pub FormStmt : (count : ℕ) → Stmt → Type 0
   FormStmt count (TestStmt t) = FormTest count t
@@ -94,7 +97,7 @@ form_chained count true first (more_links o operand rest) f l = (f, l)
 
 form_followed : (count : ℕ) (first others : Stmts) → FormStmts count first → FormStmts count others → FormStmts count (followed_by first others)
 form_followed count no_stmts others f o = o
-form_followed count (more_stmts x rest) others f o = (f.0, form_followed count rest others f.1 o)
+form_followed count (more_stmts line x rest) others f o = (f.0, form_followed count rest others f.1 o)
 
 -- the number of a truth
 form_truth : (count : ℕ) (value : Bool) → FormExpr count (Const (truth_number value))
@@ -240,7 +243,7 @@ form_body {names = names} (no_body e k) s = subst (FormStmts (length names)) (sy
 form_body (body inner e h) s = (form_statements h (subst SoundWords e s).1).0
 
 -- the statements of a module
-pub form_module : {words : List Word} {p : Program} (m : IsModule words p) → SoundWords words → FormStmts (length m.names) m.stmts
+pub form_module : {lines : Lines} {words : List Word} {p : Program} (m : IsModule lines words p) → SoundWords words → FormStmts (length m.names) m.stmts
 form_module m s = form_body m.body (variables_sound m.variables (subst SoundWords m.heading s).1.1.1)
 
 -- ---- such forms are compiled
@@ -250,6 +253,8 @@ built_desig count (a_desig (root.Local slot) cells no_sels) f = f.0
 built_desig count (a_desig (root.Local slot) cells (more_sels x rest)) f = f
 built_desig count (a_desig (root.Global slot) cells sels) f = f
 built_desig count (a_desig (root.Param slot) cells sels) f = f
+built_desig count (a_desig (root.Outer links slot) cells sels) f = f
+built_desig count (a_desig (root.OuterParam links slot) cells sels) f = f
 
 mutual
   built_expr : (count : ℕ) (e : Expr) → FormExpr count e → BuiltExpr e
@@ -260,7 +265,7 @@ mutual
   built_expr count (Truth t) f = f
   built_expr count (Known d) f = f
   built_expr count (Chr e) f = f
-  built_expr count (CallExpr r args) f = f
+  built_expr count (CallExpr r args up) f = f
 
   built_links : (count : ℕ) (links : Links) → FormLinks count links → BuiltLinks links
   built_links count no_links f = tt
@@ -275,12 +280,12 @@ built_test count (Seq x) f = f
 built_test count (And ts) f = f
 built_test count (Or ts) f = f
 built_test count (Not t) f = f
-built_test count (CallTest r args) f = f
+built_test count (CallTest r args up) f = f
 
 mutual
   built_stmts : (count : ℕ) (x : Stmts) → FormStmts count x → BuiltStmts x
   built_stmts count no_stmts f = tt
-  built_stmts count (more_stmts x rest) f = (built_stmt count x f.0, built_stmts count rest f.1)
+  built_stmts count (more_stmts line x rest) f = (built_stmt count x f.0, built_stmts count rest f.1)
 
   built_stmt : (count : ℕ) (x : Stmt) → FormStmt count x → BuiltStmt x
   built_stmt count (TestStmt t) f = built_test count t f
@@ -310,4 +315,4 @@ pub source_built : (source : List ℕ) (p : Program) → IsSource source p → I
 source_built source p h =
     let m = h.whole in
     let forms = form_module m (sound_words (length source) source h.tokens [] h.scanned) in
-    subst IsBuilt (sym m.stands_for) record { routine = body_routine m.name m.names m.stmts; alone = refl; body = built_stmts (length m.names) m.stmts forms }
+    subst IsBuilt (sym m.stands_for) record { routine = body_routine (module_lines source h.tokens) m.name m.names m.stmts; alone = refl; body = built_stmts (length m.names) m.stmts forms }

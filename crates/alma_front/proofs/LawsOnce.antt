@@ -6,7 +6,8 @@ use Rattle.alma_scan.specs.Tokens.{Lexeme}
 use Rattle.alma_scan.proofs.Once.{tokens_once}
 use Rattle.alma_ir.specs.Tree.{Program, Stmts, Arms, Expr, Assign}
 use Rattle.alma_front.specs.Words.{Word, Named, Digits, Fixed, word, slot_of}
-use Rattle.alma_front.specs.Grammar.{variable, one, followed_by, IsSum, IsCondition, IsItems, IsStatement, nothing, test, assignment, write, if_else, while_loop, repeat_loop, IsArms, last_arm, elsif, IsElse, no_else, else_part, IsStatements, last_statement, more_statements, IsNames, last_name, more_names, HasVariables, no_variables, variables, HasBody, no_body, body, IsModule, program}
+use Rattle.alma_front.specs.Grammar.{variable, one, followed_by, IsSum, IsCondition, IsItems, IsStatement, nothing, test, assignment, write, if_else, while_loop, repeat_loop, IsArms, last_arm, elsif, IsElse, no_else, else_part, IsStatements, last_statement, more_statements, IsNames, last_name, more_names, HasVariables, no_variables, variables, HasBody, no_body, body, Lines, IsModule, program}
+use Rattle.alma_front.specs.Lines.{module_lines}
 use Rattle.alma_front.specs.Source.{IsSource}
 use Rattle.alma_scan.proofs.Basics.{true_false}
 use Rattle.alma_front.specs.Parse.{first_is, factor_word, term_word, start_word, ends_word, ends_list, ends_arms}
@@ -265,8 +266,8 @@ same_body {names = names} {d = d} {after = after} free (body inner w h) (body in
     (same_statements free h (subst (λ (z : List Word). IsStatements names z d after) n h') r s).0
 
 -- words are one module
-same_module : {words : List Word} {p q : Program} → IsModule words p → IsModule words q → p ≡ q
-same_module m o =
+same_module : {lines : Lines} {words : List Word} {p q : Program} → IsModule lines words p → IsModule lines words q → p ≡ q
+same_module {lines = lines} m o =
     let w = m.heading in
     let v = o.heading in
     let called : m.name ≡ o.name = cc (w, v) in
@@ -275,11 +276,11 @@ same_module m o =
     let b = subst (λ (z : List Word). HasBody o.names z o.stmts (Fixed kinds.End ∷ Named o.name ∷ Fixed kinds.Dot ∷ [])) (sym i.1) o.body in
     let c = subst (λ (z : List (List ℕ)). HasBody z m.statements o.stmts (Fixed kinds.End ∷ Named o.name ∷ Fixed kinds.Dot ∷ [])) (sym i.0) b in
     let j = same_body (no_truth m.names m.new) m.body c refl refl refl refl in
-    m.stands_for ∙ ap (λ (z : List ℕ). program z m.names m.stmts) called ∙ ap (λ (z : List (List ℕ)). program o.name z m.stmts) i.0
-    ∙ ap (program o.name o.names) j ∙ sym o.stands_for
+    m.stands_for ∙ ap (λ (z : List ℕ). program lines z m.names m.stmts) called ∙ ap (λ (z : List (List ℕ)). program lines o.name z m.stmts) i.0
+    ∙ ap (program lines o.name o.names) j ∙ sym o.stands_for
 
 -- a source is at most one program
 pub source_once : (source : List ℕ) (p q : Program) → IsSource source p → IsSource source q → p ≡ q
 source_once source p q h i =
     let same = tokens_once (length source) source h.tokens i.tokens h.scanned i.scanned in
-    same_module h.whole (subst (λ (z : List Lexeme). IsModule (map word z) q) (sym same) i.whole)
+    same_module h.whole (subst (λ (z : List Lexeme). IsModule (module_lines source z) (map word z) q) (sym same) i.whole)

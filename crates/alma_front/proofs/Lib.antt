@@ -2,6 +2,7 @@ pub mod Conditions
 pub mod DeclaredNames
 pub mod LawsChecked
 pub mod LawsForms
+pub mod LawsLines
 pub mod LawsOnce
 pub mod LawsSums
 pub mod LawsWords
@@ -9,4 +10,5 @@ pub mod Modules
 pub mod Sources
 pub mod Statements
 pub mod Sums
+pub mod TokenLines
 pub mod Tokens

@@ -9,7 +9,9 @@ use Rattle.alma_tree.specs.declared.kind.Kind.TheVariants as kinds
 use Rattle.alma_front.specs.declared.error.ReadError.{ReadError}
 use Rattle.alma_front.specs.declared.error.ReadError.TheVariants.{NotYet}
 use Rattle.alma_front.specs.Words.{Word, Named, Fixed, AreNew}
-use Rattle.alma_front.specs.Grammar.{IsNames, last_name, more_names, HasVariables, no_variables, variables, HasBody, no_body, body, IsStatements, IsModule, globals_from, program}
+use Rattle.alma_front.specs.declared.lines.Lines as raw
+use Rattle.alma_front.specs.Lines.{lines_of}
+use Rattle.alma_front.specs.Grammar.{IsNames, last_name, more_names, HasVariables, no_variables, variables, HasBody, no_body, body, IsStatements, Lines, IsModule, globals_from, program}
 use Rattle.alma_scan.specs.declared.scanner.Token.{Token}
 use Rattle.alma_ir.specs.declared.program.Global.{Global as RawGlobal}
 use Rattle.alma_ir.specs.Tree.{Stmts, Program}
@@ -155,16 +157,16 @@ ending_no_var : (name : List ℕ) → EndsVariables (ending name)
 ending_no_var name other e = cc e
 
 -- the program of the parts that were read
-pub module_read : (words declarations statements : List Word) (name : List ℕ) (names : List (List ℕ)) (stmts : Stmts) (p : Program)
-    → IsHeading words name declarations → HasVariables declarations names statements → AreNew names → HasBody names statements stmts (ending name) → p ≡ program name names stmts → IsModule words p
-module_read words declarations statements name names stmts p h v new b e =
+pub module_read : (lines : Lines) (words declarations statements : List Word) (name : List ℕ) (names : List (List ℕ)) (stmts : Stmts) (p : Program)
+    → IsHeading words name declarations → HasVariables declarations names statements → AreNew names → HasBody names statements stmts (ending name) → p ≡ program lines name names stmts → IsModule lines words p
+module_read lines words declarations statements name names stmts p h v new b e =
     record { name = name; names = names; stmts = stmts; declarations = declarations; statements = statements; heading = h; variables = v; new = new; body = b; stands_for = e }
 
 -- a body before the end of its module
 pub ended : {names : List (List ℕ)} {words : List Word} {stmts : Stmts} {rest : List Word} {name : List ℕ} → HasBody names words stmts rest → rest ≡ ending name → HasBody names words stmts (ending name)
 ended {names = names} {words = words} {stmts = stmts} h e = subst (λ (z : List Word). HasBody names words stmts z) e h
 
-module _ {words : List Word} {name : List ℕ} {behind : List Word} (h : Only (IsHeading words) Anything name behind) {p : Program} (m : IsModule words p) where
+module _ {words : List Word} {name : List ℕ} {behind : List Word} (h : Only (IsHeading words) Anything name behind) {lines : Lines} {p : Program} (m : IsModule lines words p) where
   -- the heading of a module is the one that is read
   named : m.name ≡ name
   named = (h.alone m.name m.declarations tt m.heading).0
@@ -252,8 +254,8 @@ ending_here all first second rest name last e f g same empty is =
 -- ---- the whole program
 
 -- the program of parts that are stored
-pub stored_program : (called titled : Vec ℕ TheGlobal) (params : Vec Param TheGlobal) (globals : Vec RawGlobal TheGlobal) (routines : Vec Routine TheGlobal) (counted : ℕ) (stmts : Vec Stmt TheGlobal)
+pub stored_program : (lines : raw.Lines) (called titled : Vec ℕ TheGlobal) (params : Vec Param TheGlobal) (globals : Vec RawGlobal TheGlobal) (routines : Vec Routine TheGlobal) (counted : ℕ) (stmts : Vec Stmt TheGlobal)
     (name : List ℕ) (names : List (List ℕ)) → titled.items ≡ name → map global_of globals.items ≡ globals_from 1 names
-    → routines.items ≡ record { name = called; params = params; result = None; declared = counted; slots = counted + 1; body = stmts } ∷ []
-    → called.items ≡ name → params.items ≡ [] → counted ≡ length names → program_of (record { name = titled; globals = globals; routines = routines }) ≡ program name names (stmts_list stmts.items)
-stored_program called titled params globals routines counted stmts name names n g r c p d = rw (n, g, r, c, p, d) refl
+    → routines.items ≡ record { name = called; params = params; result = None; declared = counted; slots = counted + 1; body = stmts; level = 0; outer = 0; line = lines.heading; lines = lines.statements } ∷ []
+    → called.items ≡ name → params.items ≡ [] → counted ≡ length names → program_of (record { name = titled; globals = globals; routines = routines }) ≡ program (lines_of lines) name names (stmts_list stmts.items)
+stored_program lines called titled params globals routines counted stmts name names n g r c p d = rw (n, g, r, c, p, d) refl

@@ -3,7 +3,7 @@ use Rattle.std.proofs.Common.{◌≡◌, ℕ, List, Result, Ok, Err, IfOk, lengt
 use Rattle.std.specs.Prelude.{IsErrAnd}
 use Rattle.std.proofs.lemmas.Result.{err_from_is_err_and}
 use Rattle.alma_scan.proofs.Once.{tokens_once, never_both}
-use Rattle.alma_scan.specs.Tokens.{Tokens}
+use Rattle.alma_scan.specs.Tokens.{Tokens, Lexeme}
 use Rattle.alma_scan.specs.Scanned.{lexemes, IsStopOf}
 use Rattle.alma_scan.specs.declared.scanner.Token.{Token}
 use Rattle.alma_scan.specs.declared.scanner.ScanError.{ScanError}
@@ -13,8 +13,9 @@ use Rattle.alma_ir.specs.Tree.{Program}
 use Rattle.alma_ir.specs.View.{program_of}
 use Rattle.alma_front.specs.declared.error.ReadError.{ReadError}
 use Rattle.alma_front.specs.declared.error.ReadError.TheVariants.{NotYet, Memory}
-use Rattle.alma_front.specs.Words.{Word, word, KeepsDepth}
+use Rattle.alma_front.specs.Words.{word, KeepsDepth}
 use Rattle.alma_front.specs.Grammar.{IsModule}
+use Rattle.alma_front.specs.Lines.{module_lines}
 use Rattle.alma_front.specs.Parse.{words, scan_end}
 use Rattle.alma_front.specs.Source.{IsSource, IsRead}
 
@@ -27,9 +28,13 @@ unread source scan.Memory h = tt
 pub scan_refused : (source : List ℕ) (error : ScanError) → IsStopOf source error → (result : Result ir.Program ReadError) → IsErrAnd result (λ e. e ≡ scan_end error) → IsRead source result
 scan_refused source error h result same = let p = err_from_is_err_and result same in rw (p.1, p.2) (unread source error h)
 
+-- a source has no other tokens
+own_tokens : (source : List ℕ) (tokens : List Token) → Tokens source (lexemes tokens) → {p : Program} → (s : IsSource source p) → s.tokens ≡ lexemes tokens
+own_tokens source tokens h s = tokens_once (length source) source s.tokens (lexemes tokens) s.scanned h
+
 -- the words of a source are those of its tokens
 own_words : (source : List ℕ) (tokens : List Token) → Tokens source (lexemes tokens) → {p : Program} → (s : IsSource source p) → map word s.tokens ≡ words tokens
-own_words source tokens h s = ap (map word) (tokens_once (length source) source s.tokens (lexemes tokens) s.scanned h)
+own_words source tokens h s = ap (map word) (own_tokens source tokens h s)
 
 -- a source whose brackets are too deep is no program
 pub too_deep : (source : List ℕ) (tokens : List Token) → Tokens source (lexemes tokens) → (KeepsDepth 0 (words tokens) → ⊥) → (p : Program) → IsSource source p → ⊥
@@ -37,7 +42,7 @@ too_deep source tokens h deep p s = deep (subst (KeepsDepth 0) (own_words source
 
 -- what the module that the tokens are says of the source
 pub is_read : (source : List ℕ) (tokens : List Token) → Tokens source (lexemes tokens) → KeepsDepth 0 (words tokens) → (result : Result ir.Program ReadError)
-    → IfOk result (λ p. IsModule (words tokens) (program_of p)) → (result ≡ Err NotYet → (p : Program) → IsModule (words tokens) p → ⊥) → IsRead source result
+    → IfOk result (λ p. IsModule (module_lines source (lexemes tokens)) (words tokens) (program_of p)) → (result ≡ Err NotYet → (p : Program) → IsModule (module_lines source (lexemes tokens)) (words tokens) p → ⊥) → IsRead source result
 is_read source tokens h depth (Ok p) found refused = record { tokens = lexemes tokens; scanned = h; depth = depth; whole = found }
-is_read source tokens h depth (Err NotYet) found refused = λ p s. refused refl p (subst (λ (z : List Word). IsModule z p) (own_words source tokens h s) s.whole)
+is_read source tokens h depth (Err NotYet) found refused = λ p s. refused refl p (subst (λ (z : List Lexeme). IsModule (module_lines source z) (map word z) p) (own_tokens source tokens h s) s.whole)
 is_read source tokens h depth (Err Memory) found refused = tt

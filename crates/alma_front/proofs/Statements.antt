@@ -603,16 +603,16 @@ arms_ended names entry now so_far s n = record {
 
 followed_none : (x : Stmts) → followed_by x no_stmts ≡ x
 followed_none no_stmts = refl
-followed_none (more_stmts first rest) = ap (more_stmts first) (followed_none rest)
+followed_none (more_stmts line first rest) = ap (more_stmts line first) (followed_none rest)
 
 followed_assoc : (x y z : Stmts) → followed_by (followed_by x y) z ≡ followed_by x (followed_by y z)
 followed_assoc no_stmts y z = refl
-followed_assoc (more_stmts first rest) y z = ap (more_stmts first) (followed_assoc rest y z)
+followed_assoc (more_stmts line first rest) y z = ap (more_stmts line first) (followed_assoc rest y z)
 
 -- statements of two lists
 pub stmts_appended : (xs ys : List S.Stmt) → stmts_list (xs ++ ys) ≡ followed_by (stmts_list xs) (stmts_list ys)
 stmts_appended [] ys = refl
-stmts_appended (x ∷ xs) ys = ap (more_stmts (stmt_of x)) (stmts_appended xs ys)
+stmts_appended (x ∷ xs) ys = ap (more_stmts 0 (stmt_of x)) (stmts_appended xs ys)
 
 -- behind a statement: no more, or a semicolon and statements
 pub data IsMore (names : List (List ℕ)) (now : List Word) (others : Stmts) (later : List Word) : Type 0 where

@@ -30,13 +30,14 @@ chained false first no_links = first
 chained true first no_links = Chain true first no_links
 chained negated first (more_links o operand rest) = Chain negated first (more_links o operand rest)
 
+-- one statement; the lines of statements stand beside the body, and not in it
 abbrev pub one : Stmt → Stmts
-one statement = more_stmts statement no_stmts
+one statement = more_stmts 0 statement no_stmts
 
 -- statements and then others
 abbrev pub followed_by : Stmts → Stmts → Stmts
 followed_by no_stmts others = others
-followed_by (more_stmts first rest) others = more_stmts first (followed_by rest others)
+followed_by (more_stmts line first rest) others = more_stmts line first (followed_by rest others)
 
 -- ---- expressions, where these are the names of the variables
 
@@ -107,7 +108,7 @@ pub data IsItems : (names : List (List ℕ)) → List Word → Stmts → List Wo
       → IsItem names words item rest → items ≡ one item → IsItems names words items rest
   more_items : {names : List (List ℕ)} {words rest : List Word} {items : Stmts} (item : Stmt) (others : Stmts) (inner : List Word)
       → IsItem names words item (Fixed kinds.Comma ∷ inner) → IsItems names inner others rest
-      → items ≡ more_stmts item others → IsItems names words items rest
+      → items ≡ more_stmts 0 item others → IsItems names words items rest
 
 mutual
   -- Statement: it stands for none, one or, where it is WRITE, as many as it has items.
@@ -181,16 +182,31 @@ abbrev pub globals_from : (slot : ℕ) → (names : List (List ℕ)) → List Gl
 globals_from slot [] = []
 globals_from slot (name ∷ names) = record { name = name; slot = slot; cells = 1 } ∷ globals_from (slot + 1) names
 
+-- the lines of a module: that of its first word, and that of each statement of its body, a statement before those inside it
+pub record Lines : Type 0 where
+  pub heading : ℕ
+  pub statements : List ℕ
+
 -- the body of the module, with a slot for each variable behind that of the input position
-abbrev pub body_routine : (name : List ℕ) (names : List (List ℕ)) → Stmts → Routine
-body_routine name names stmts =
-    record { name = name; params = []; result = None; declared = length names; slots = length names + 1; body = stmts }
+abbrev pub body_routine : Lines → (name : List ℕ) (names : List (List ℕ)) → Stmts → Routine
+body_routine lines name names stmts = record {
+  name = name;
+  params = [];
+  result = None;
+  declared = length names;
+  slots = length names + 1;
+  body = stmts;
+  level = 0;
+  outer = 0;
+  line = lines.heading;
+  lines = lines.statements;
+}
 
-abbrev pub program : (name : List ℕ) (names : List (List ℕ)) → Stmts → Program
-program name names stmts = record { name = name; globals = globals_from 1 names; routines = body_routine name names stmts ∷ [] }
+abbrev pub program : Lines → (name : List ℕ) (names : List (List ℕ)) → Stmts → Program
+program lines name names stmts = record { name = name; globals = globals_from 1 names; routines = body_routine lines name names stmts ∷ [] }
 
--- Module: the words are all those of a module, whose names are new and which stands for this program.
-pub record IsModule (words : List Word) (p : Program) : Type 0 where
+-- Module: the words are all those of a module, whose names are new and which, on these lines, stands for this program.
+pub record IsModule (lines : Lines) (words : List Word) (p : Program) : Type 0 where
   pub name : List ℕ
   pub names : List (List ℕ)
   pub stmts : Stmts
@@ -200,4 +216,4 @@ pub record IsModule (words : List Word) (p : Program) : Type 0 where
   pub variables : HasVariables declarations names statements
   pub new : AreNew names
   pub body : HasBody names statements stmts (Fixed kinds.End ∷ Named name ∷ Fixed kinds.Dot ∷ [])
-  pub stands_for : p ≡ program name names stmts
+  pub stands_for : p ≡ program lines name names stmts

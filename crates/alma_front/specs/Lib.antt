@@ -1,4 +1,5 @@
 pub mod Grammar
+pub mod Lines
 pub mod Parse
 pub mod Source
 pub mod Words

@@ -2,7 +2,7 @@
 ghost use Rattle.std.specs.Prelude.{◌≡◌, ℕ, ◌≤◌, List, length};
 ghost use Rattle.alma_ir.specs.Tree.{Program};
 ghost use Rattle.alma_ir.specs.Checked.{IsChecked};
-ghost use Rattle.alma_lower.specs.Built.{IsBuilt};
+ghost use Rattle.alma_implements.specs.Built.{IsBuilt};
 ghost use Rattle.alma_front.specs.Source.{IsSource};
 
 /// A source's program is of the forms that are compiled.

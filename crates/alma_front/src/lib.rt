@@ -5,6 +5,7 @@
 mod condition;
 mod error;
 pub mod laws;
+mod lines;
 mod module;
 mod source;
 mod statement;

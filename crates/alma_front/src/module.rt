@@ -5,10 +5,12 @@ ghost use Rattle.alma_ir.specs.Tree as tree;
 ghost use Rattle.alma_ir.specs.View.{program_of, global_of, stmts_list};
 ghost use Rattle.alma_front.specs.Words.{Word, Named, Fixed};
 ghost use Rattle.alma_front.specs.Grammar.{IsNames, HasVariables, HasBody, IsModule, globals_from, program};
+ghost use Rattle.alma_front.specs.Lines.{lines_of};
 ghost use Rattle.alma_front.specs.Parse.{words, texts, Anything, IsHeading, EndsNames, EndsVariables, EndsStatements, BeginsNot, Only, Refused};
 ghost use Rattle.alma_front.specs.declared.error.ReadError.TheVariants.{NotYet};
 
 use crate::error::ReadError;
+use crate::lines::Lines;
 use crate::statement::statements;
 use crate::variables::Variables;
 use crate::word::{expect, skip, split_name};
@@ -139,11 +141,12 @@ fn globals(alloc: Global, variables: &Variables) -> Result<Vec<Variable>, NoMemo
 // The program of these parts.
 fn assemble(
     alloc: Global,
+    lines: Lines,
     name: &[u8],
     variables: &Variables,
     statements: Vec<Stmt>,
 ) -> Result<Program, NoMemory>
-    ensures { IfOk result (λ p. program_of p ≡ program name.now variables.now (stmts_list statements.items)) }
+    ensures { IfOk result (λ p. program_of p ≡ program (lines_of lines) name.now variables.now (stmts_list statements.items)) }
 {
     let globals = globals(alloc, variables)?;
     let declared = variables.names().len() as u32;
@@ -155,6 +158,10 @@ fn assemble(
         declared,
         slots: declared + 1,
         body: statements,
+        level: 0,
+        outer: 0,
+        line: lines.heading,
+        lines: lines.statements,
     })?;
     Ok(Program {
         name: name.to_vec(alloc)?,
@@ -163,11 +170,11 @@ fn assemble(
     })
 }
 
-/// The program that all these tokens are, their brackets left aside.
-pub fn module(alloc: Global, tokens: &[Token<'_>]) -> Result<Program, ReadError>
+/// The program that all these tokens are, their brackets left aside, with the lines of its statements.
+pub fn module(alloc: Global, tokens: &[Token<'_>], lines: Lines) -> Result<Program, ReadError>
     requires { length tokens.now ≤ 1048576 }
-    ensures found { IfOk result (λ p. IsModule (words tokens.now) (program_of p)) }
-    ensures refused { result ≡ Err NotYet → (p : tree.Program) → IsModule (words tokens.now) p → ⊥ }
+    ensures found { IfOk result (λ p. IsModule (lines_of lines) (words tokens.now) (program_of p)) }
+    ensures refused { result ≡ Err NotYet → (p : tree.Program) → IsModule (lines_of lines) (words tokens.now) p → ⊥ }
 {
     let (name, behind) = heading(tokens)?;
     let (names, behind) = declarations(alloc, behind)?;
@@ -176,5 +183,5 @@ pub fn module(alloc: Global, tokens: &[Token<'_>]) -> Result<Program, ReadError>
     if !is_ending(name, rest) {
         return Err(ReadError::NotYet);
     }
-    Ok(assemble(alloc, name, &variables, statements)?)
+    Ok(assemble(alloc, lines, name, &variables, statements)?)
 }

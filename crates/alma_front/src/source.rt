@@ -5,6 +5,7 @@ ghost use Rattle.alma_front.specs.Parse.{words, scan_end};
 ghost use Rattle.alma_front.specs.Source.{IsRead};
 
 use crate::error::ReadError;
+use crate::lines::module_lines;
 use crate::module::module;
 use alma_ir::Program;
 use alma_scan::{ScanError, Token, scan};
@@ -61,5 +62,6 @@ pub fn read_source(alloc: Global, source: &[u8]) -> Result<Program, ReadError>
     if !keeps_depth(&tokens) {
         return Err(ReadError::NotYet);
     }
-    module(alloc, &tokens)
+    let lines = module_lines(alloc, source, &tokens)?;
+    module(alloc, &tokens, lines)
 }

@@ -174,6 +174,45 @@ fn other_sources_are_refused(rt: HostRuntime) {
     }
 }
 
+/// A source, the line of its module and those of its statements.
+type Lined = (&'static [u8], u32, &'static [u32]);
+
+const LINED: [Lined; 4] = [
+    (b"MODULE A; BEGIN WRITE(1) END A.", 1, &[1]),
+    (b"\n(* c\n *) MODULE A;\nEND A.", 3, &[]),
+    (b"MODULE A; VAR x,\n y: INTEGER; BEGIN\n;\n; END A.", 1, &[]),
+    (
+        b"MODULE\nA;\nVAR x,\n y: INTEGER;\nBEGIN\n x := 1;;\n WRITE\n(x,\n TRUE);\n IF x < 1 THEN\n y := 2 ELSIF\nTRUE THEN ELSE\nREPEAT WHILE\nFALSE DO END; x\n := 3 UNTIL x\n > 2 END;\nEND A.\n",
+        1,
+        &[6, 7, 7, 10, 11, 13, 13, 14],
+    ),
+];
+
+// The source is read, with these lines.
+fn check_lines(rt: &impl Abort, alloc: Global, lined: &Lined) -> Result<(), Fail> {
+    let (source, heading, lines) = *lined;
+    assert!(rt; source.len() <= 1_048_576);
+    match read_source(alloc, source) {
+        Ok(program) => match program.routines.first() {
+            Some(body) => {
+                assert_eq!(rt; body.line, heading);
+                assert!(rt; body.lines.as_slice() == lines);
+            }
+            None => panic!(rt; "no body"),
+        },
+        Err(error) => panic!(rt; "{error:?}"),
+    }
+    Ok(())
+}
+
+#[test]
+fn statements_have_their_lines(rt: HostRuntime) -> Result<(), Fail> {
+    for lined in &LINED {
+        check_lines(&rt, rt.alloc(), lined)?;
+    }
+    Ok(())
+}
+
 /// The tokens of a module none of which can be missing or doubled.
 const TOKENS: [&[u8]; 47] = [
     b"MODULE", b"A", b";", b"VAR", b"x", b",", b"y", b":", b"INTEGER", b";", b"BEGIN", b"IF", b"x",

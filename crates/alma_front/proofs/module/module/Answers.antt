@@ -27,4 +27,4 @@ returns-then-not-is_ending-clause-refused c = λ e p m.
 pub returns-clause-found : goal.returns-clause-found
 returns-clause-found c =
     let v = renamed (ap texts (sym c.deref.ensures.value) ∙ sym c.in_ok-variables.ensures.names) c.in_ok-names.ensures.found in
-    module_read _ _ _ _ _ _ _ c.in_ok-name.ensures.found.is_one v.is_one c.in_ok-variables.ensures.new (ended c.in_ok-statements.ensures.found.is_one (c.if-not-is_ending.ensures.0 refl)) c.in_ok-assemble.ensures
+    module_read _ _ _ _ _ _ _ _ c.in_ok-name.ensures.found.is_one v.is_one c.in_ok-variables.ensures.new (ended c.in_ok-statements.ensures.found.is_one (c.if-not-is_ending.ensures.0 refl)) c.in_ok-assemble.ensures

@@ -15,4 +15,4 @@ returns-then-not-keeps_depth c =
 pub returns : goal.returns
 returns c =
     is_read _ c.in_ok-tokens.tokens.items c.in_ok-tokens.ensures.tokens (subst (λ z. KeepsDepth 0 (words z)) c.deref.ensures.value (c.if-not-keeps_depth.ensures.0 refl)) _
-    (rw c.deref-2.ensures.value at c.module.ensures.found) (rw c.deref-2.ensures.value at c.module.ensures.refused)
+    (rw (c.in_ok-lines.ensures, c.deref-2.ensures.value, c.deref-3.ensures.value) at c.module.ensures.found) (rw (c.in_ok-lines.ensures, c.deref-2.ensures.value, c.deref-3.ensures.value) at c.module.ensures.refused)
