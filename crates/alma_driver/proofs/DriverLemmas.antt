@@ -1,13 +1,12 @@
 -- From what the parts of a call ensure to how the call may go.
-use Rattle.std.proofs.Common.{◌≡◌, ◌≤◌, ◌<◌, ◌*◌, ◌^◌, ◌-◌, ◌∙◌, ℕ, List, [], length, ap, sym, subst, refl, inl, inr, arith}
-use Rattle.std.specs.Prelude.{◌⊎◌, min, Result, Ok, Err}
+use Rattle.std.proofs.Common.{◌≡◌, ◌≤◌, ◌<◌, ◌∙◌, ℕ, List, [], length, ap, sym, subst, refl, inl, inr}
+use Rattle.std.specs.Prelude.{◌⊎◌, Result, Ok, Err}
 use Rattle.std.proofs.lemmas.Bool.{cases_lt}
 use Rattle.alma_io.specs.Files.{MayHave, IsFetched}
 use Rattle.alma_io.specs.declared.files.Fetch.{Fetch}
 use Rattle.alma_io.specs.declared.files.Fetch.TheVariants as fetch
 use Rattle.alma_io.proofs.Known.{appends_none}
 use Rattle.alma_ir.specs.Tree.{Program}
-use Rattle.alma_ir.specs.Count.{nodes}
 use Rattle.alma_code.specs.declared.code.Code.{Code}
 use Rattle.alma_code.specs.Plain.{PlainCode}
 use Rattle.alma_code.specs.Rules.{IsSound}

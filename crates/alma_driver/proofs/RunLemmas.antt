@@ -21,7 +21,7 @@ use Rattle.alma_machine.specs.View.{MachineView}
 use Rattle.alma_machine.proofs.Budget.{ended_after}
 use Rattle.alma_driver.specs.Outside.{SinkSide}
 use Rattle.alma_driver.specs.Ends.{mode_end, run_end}
-use Rattle.alma_driver.specs.Outcome.{Due, due_of, code_due, size_of, size_limit, silent, MayRunOut, ProgramOutcome, ran, too_much_code, Meant, whole, front, too_large}
+use Rattle.alma_driver.specs.Outcome.{Due, due_of, code_due, size_of, size_limit, MayRunOut, ProgramOutcome, ran, too_much_code, Meant, whole, front, too_large}
 use Rattle.alma_driver.specs.Course.{Goes}
 
 -- ---- a run of the machine

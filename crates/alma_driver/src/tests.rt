@@ -228,7 +228,7 @@ struct Stop {
     err: &'static [u8],
 }
 
-const STOPS: [Stop; 9] = [
+const STOPS: [Stop; 13] = [
     Stop {
         source: b"MODULE A; VAR x: INTEGER; BEGIN x := 9223372036854775807; x := x + 1 END A.",
         out: b"",
@@ -273,6 +273,26 @@ const STOPS: [Stop; 9] = [
         source: b"MODULE A; VAR x: INTEGER; BEGIN WRITE(2); x := x + 1 END A.",
         out: b"2",
         err: b"alma: fault Unknown line 1\n",
+    },
+    Stop {
+        source: b"MODULE A;\nVAR x: INTEGER;\nBEGIN\n  WRITE(1);\n  x :=\n    x + 1\nEND A.\n",
+        out: b"1",
+        err: b"alma: fault Unknown line 5\n",
+    },
+    Stop {
+        source: b"MODULE A;\nVAR x: INTEGER;\nBEGIN\n  x := 1;\n  IF x < 2 THEN\n    WRITE(2);\n    x := 1 DIV (x - 1)\n  END;\n  WRITE(3)\nEND A.\n",
+        out: b"2",
+        err: b"alma: fault ZeroDivide line 7\n",
+    },
+    Stop {
+        source: b"MODULE A;\nVAR x: INTEGER;\nBEGIN\n  x := 1;\n  WHILE 6 DIV x > 1 DO\n    WRITE(x);\n    x := x - 1\n  END\nEND A.\n",
+        out: b"1",
+        err: b"alma: fault ZeroDivide line 5\n",
+    },
+    Stop {
+        source: b"MODULE A;\nVAR x: INTEGER;\nBEGIN\n  x := 1;\n  REPEAT\n    WRITE(x);\n    x := x - 1\n  UNTIL 6 DIV x < 1\nEND A.\n",
+        out: b"1",
+        err: b"alma: fault ZeroDivide line 5\n",
     },
 ];
 
