@@ -7,17 +7,18 @@ use Rattle.alma_io.specs.Fronts.{AppendsFront}
 use Rattle.alma_io.specs.Causes.{Rose}
 use Rattle.alma_io.specs.Files.{Told, Missing, MayHave, MayPass}
 use Rattle.alma_ir.specs.Tree.{Program}
-use Rattle.alma_code.specs.declared.step.End as code
+use Rattle.alma_code.specs.Machine.{Mode, Going, Failing, Ended, Stuck}
+use Rattle.alma_implements.specs.Implements.{state_after, printed_by, line_in}
 use Rattle.alma_code.specs.declared.step.End.TheVariants as code_end
 use Rattle.alma_driver.specs.Words.{Request, Run, Asks, file_of}
 use Rattle.alma_driver.specs.Refusal.{place_of}
 use Rattle.alma_driver.specs.Outside.{SinkSide, Outside}
-use Rattle.alma_driver.specs.Ends.{ended_end, status_of, text_of}
-use Rattle.alma_driver.specs.Outcome.{Due, size_of, ProgramOutcome, ran, steps_out, too_much_code, SourceOutcome, refused, compiled, not_yet, RequestOutcome, absent, too_long, fetched, Outcome, bad_word, asks, silent, Lacks, source_limit}
+use Rattle.alma_driver.specs.Ends.{mode_end, status_of, text_of}
+use Rattle.alma_driver.specs.Outcome.{Due, size_of, ProgramOutcome, ran, too_much_code, SourceOutcome, refused, compiled, not_yet, RequestOutcome, absent, too_long, fetched, Outcome, bad_word, asks, silent, Lacks, source_limit}
 use Rattle.alma_driver.specs.Course.{Gains, FailsWithin, GainsPrefix, Goes, Fetches, Reports, Answers}
 use Rattle.alma_driver.specs.Causes.{Causes, WriteFailed, WritesGrew}
 use Rattle.alma_driver.specs.declared.end.End.{End}
-use Rattle.alma_driver.specs.declared.end.End.TheVariants.{Succeeded, Failed, BadWord, Refused, Fault, StepsOut, ReadFault, WriteFault, Memory, TooLong, TooMuchCode, NotYet}
+use Rattle.alma_driver.specs.declared.end.End.TheVariants.{Succeeded, Failed, BadWord, Refused, Faulted, StepsOut, ReadFault, WriteFault, Memory, TooLong, TooMuchCode, NotYet}
 
 -- the ways in which a call may go, by the end that it comes to
 data Way (P : Due → Type 0) (a b : SinkSide) (end : End) : Type 0 where
@@ -32,7 +33,7 @@ way_of P a b Succeeded g = ended (λ e. absurd (omega (arith, e))) g.0 g.1 g.2 g
 way_of P a b Failed g = ended (λ e. absurd (omega (arith, e))) g.0 g.1 g.2 g.3
 way_of P a b (BadWord k) g = ended (λ e. absurd (omega (arith, e))) g.0 g.1 g.2 g.3
 way_of P a b (Refused fault place) g = ended (λ e. absurd (omega (arith, e))) g.0 g.1 g.2 g.3
-way_of P a b (Fault fault) g = ended (λ e. absurd (omega (arith, e))) g.0 g.1 g.2 g.3
+way_of P a b (Faulted fault line) g = ended (λ e. absurd (omega (arith, e))) g.0 g.1 g.2 g.3
 way_of P a b StepsOut g = ended (λ e. absurd (omega (arith, e))) g.0 g.1 g.2 g.3
 way_of P a b ReadFault g = ended (λ e. absurd (omega (arith, e))) g.0 g.1 g.2 g.3
 way_of P a b TooLong g = ended (λ e. absurd (omega (arith, e))) g.0 g.1 g.2 g.3
@@ -45,7 +46,7 @@ read_status Succeeded e = absurd (omega (arith, e))
 read_status Failed e = absurd (omega (arith, e))
 read_status (BadWord k) e = absurd (omega (arith, e))
 read_status (Refused fault place) e = absurd (omega (arith, e))
-read_status (Fault fault) e = absurd (omega (arith, e))
+read_status (Faulted fault line) e = absurd (omega (arith, e))
 read_status StepsOut e = absurd (omega (arith, e))
 read_status ReadFault e = refl
 read_status WriteFault e = absurd (omega (arith, e))
@@ -62,14 +63,18 @@ end_is : (due : Due) (end end' : End) (out : List ℕ) → due ≡ record { end 
 end_is due end end' out e q = sym (ap (λ (d : Due). d.end) e) ∙ q
 
 -- no run ends in a read fault
-run_reads : (end : code.End) → ended_end end ≡ ReadFault → ⊥
-run_reads code_end.Succeeded e = cc e
-run_reads code_end.Failed e = cc e
-run_reads (code_end.Fault fault) e = cc e
+run_reads : (m : Mode) (line : ℕ) → mode_end m line ≡ ReadFault → ⊥
+run_reads (Ended code_end.Succeeded) line e = cc e
+run_reads (Ended code_end.Failed) line e = cc e
+run_reads (Ended (code_end.Fault fault)) line e = cc e
+run_reads Going line e = cc e
+run_reads Failing line e = cc e
+run_reads Stuck line e = cc e
 
 program_reads : (p : Program) (steps : ℕ) (due : Due) → ProgramOutcome p steps due → due.end ≡ ReadFault → ⊥
-program_reads p steps due (ran printed end size meaning e) q = run_reads end (end_is due (ended_end end) ReadFault printed e q)
-program_reads p steps due (steps_out printed size covers few e) q = cc (end_is due StepsOut ReadFault printed e q)
+program_reads p steps due (ran code size sound implements e) q =
+    let s = state_after code [] steps in
+    run_reads s.mode (line_in code s) (end_is due (mode_end s.mode (line_in code s)) ReadFault (printed_by code [] steps) e q)
 program_reads p steps due (too_much_code size e) q = cc (end_is due (TooMuchCode (size_of p)) ReadFault [] e q)
 
 source_reads : (source : List ℕ) (steps : ℕ) (due : Due) → SourceOutcome source steps due → due.end ≡ ReadFault → ⊥

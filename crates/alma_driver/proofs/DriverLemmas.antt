@@ -1,18 +1,18 @@
 -- From what the parts of a call ensure to how the call may go.
-use Rattle.std.proofs.Common.{◌≡◌, ◌≤◌, ◌<◌, ◌*◌, ◌^◌, ◌-◌, ◌∙◌, ℕ, List, [], length, ap, sym, subst, refl, inl, inr, arith}
-use Rattle.std.specs.Prelude.{◌⊎◌, min, Result, Ok, Err}
+use Rattle.std.proofs.Common.{◌≡◌, ◌≤◌, ◌<◌, ◌∙◌, ℕ, List, [], length, ap, sym, subst, refl, inl, inr}
+use Rattle.std.specs.Prelude.{◌⊎◌, Result, Ok, Err}
 use Rattle.std.proofs.lemmas.Bool.{cases_lt}
 use Rattle.alma_io.specs.Files.{MayHave, IsFetched}
 use Rattle.alma_io.specs.declared.files.Fetch.{Fetch}
 use Rattle.alma_io.specs.declared.files.Fetch.TheVariants as fetch
 use Rattle.alma_io.proofs.Known.{appends_none}
 use Rattle.alma_ir.specs.Tree.{Program}
-use Rattle.alma_ir.specs.Count.{nodes}
 use Rattle.alma_code.specs.declared.code.Code.{Code}
 use Rattle.alma_code.specs.Plain.{PlainCode}
+use Rattle.alma_code.specs.Rules.{IsSound}
 use Rattle.alma_lower.specs.declared.lowering.LowerError.{LowerError}
 use Rattle.alma_lower.specs.declared.lowering.LowerError.TheVariants as lower
-use Rattle.alma_lower.specs.Implements.{Implements}
+use Rattle.alma_implements.specs.Implements.{Implements}
 use Rattle.alma_front.specs.declared.error.ReadError.{ReadError}
 use Rattle.alma_front.specs.declared.error.ReadError.TheVariants as read
 use Rattle.alma_front.specs.Source.{IsSource, IsRead}
@@ -23,13 +23,13 @@ use Rattle.alma_scan.specs.Places.{line_at, column_at}
 use Rattle.alma_driver.specs.Refusal.{IsRefused, IsParsed}
 use Rattle.alma_driver.specs.declared.fault.SourceFault.{SourceFault}
 use Rattle.alma_driver.specs.Ends.{lower_end, read_end, words_end, fetch_end}
-use Rattle.alma_driver.specs.Outcome.{Due, size_of, size_limit, ProgramOutcome, too_much_code, SourceOutcome, refused, compiled, not_yet, RequestOutcome, absent, too_long, fetched, Outcome, bad_word, asks, silent, source_limit}
+use Rattle.alma_driver.specs.Outcome.{Due, size_of, size_limit, ProgramOutcome, ran, too_much_code, SourceOutcome, refused, compiled, not_yet, RequestOutcome, absent, too_long, fetched, Outcome, bad_word, asks, silent, source_limit}
 use Rattle.alma_driver.specs.Course.{Gains, GainsPrefix, Goes, Fetches, Performs}
 use Rattle.alma_driver.specs.declared.words.WordsError.{WordsError}
 use Rattle.alma_driver.specs.declared.words.WordsError.TheVariants as words
 use Rattle.alma_driver.specs.declared.end.End.{End}
-use Rattle.alma_driver.specs.declared.end.End.TheVariants.{Succeeded, Failed, BadWord, Refused, Fault, StepsOut, ReadFault, WriteFault, Memory, TooLong, TooMuchCode, NotYet}
-use Rattle.alma_driver.proofs.RunLemmas.{IsDue, program_due}
+use Rattle.alma_driver.specs.declared.end.End.TheVariants.{Succeeded, Failed, BadWord, Refused, Faulted, StepsOut, ReadFault, WriteFault, Memory, TooLong, TooMuchCode, NotYet}
+use Rattle.alma_driver.proofs.RunLemmas.{IsDue}
 
 -- an outcome inside another
 pub goes_map : (P Q : Due → Type 0) → ((due : Due) → P due → Q due) → (a b : SinkSide) (end : End) → Goes P a b end → Goes Q a b end
@@ -42,7 +42,7 @@ goes_map P Q f a b Succeeded g = (g.0, g.1, f g.0 g.2, g.3)
 goes_map P Q f a b Failed g = (g.0, g.1, f g.0 g.2, g.3)
 goes_map P Q f a b (BadWord k) g = (g.0, g.1, f g.0 g.2, g.3)
 goes_map P Q f a b (Refused fault place) g = (g.0, g.1, f g.0 g.2, g.3)
-goes_map P Q f a b (Fault fault) g = (g.0, g.1, f g.0 g.2, g.3)
+goes_map P Q f a b (Faulted fault line) g = (g.0, g.1, f g.0 g.2, g.3)
 goes_map P Q f a b StepsOut g = (g.0, g.1, f g.0 g.2, g.3)
 goes_map P Q f a b ReadFault g = (g.0, g.1, f g.0 g.2, g.3)
 goes_map P Q f a b TooLong g = (g.0, g.1, f g.0 g.2, g.3)
@@ -87,20 +87,12 @@ compiled_within p code too_much = by (cases_lt size_limit (size_of p))
     by (inl large) = cc (too_much large)
     by (inr small) = small
 
--- what is within a limit below its cap is so without the cap
-uncapped : (n cap limit : ℕ) → limit < cap → min n cap ≤ limit → n ≤ limit
-uncapped n cap limit below within = omega arith
-
--- its nodes are few enough for the limits of code
-pub few_nodes : (p : Program) → size_of p ≤ size_limit → 16 * nodes p ≤ 4194304
-few_nodes p within = uncapped (16 * nodes p) (2 ^ 64 - 1) 4194304 (omega arith) within
-
 -- a program that was compiled and run
-pub goes_compiled : (p : Program) (code : PlainCode) (steps : ℕ) (a b : SinkSide) (end : End) → Implements code p → size_of p ≤ size_limit
+pub goes_compiled : (p : Program) (code : PlainCode) (steps : ℕ) (a b : SinkSide) (end : End) → IsSound code → Implements code p → size_of p ≤ size_limit
     → Goes (IsDue code steps) a b end → Goes (ProgramOutcome p steps) a b end
-goes_compiled p code steps a b end implements within g =
+goes_compiled p code steps a b end sound implements within g =
     goes_map (IsDue code steps) (ProgramOutcome p steps)
-    (λ due e. subst (λ (d : Due). ProgramOutcome p steps d) (sym e) (program_due p code steps implements within)) a b end g
+    (λ due e. subst (λ (d : Due). ProgramOutcome p steps d) (sym e) (ran code within sound implements refl)) a b end g
 
 -- a source that was read, compiled and run
 pub goes_read : (source : List ℕ) (p : Program) (steps : ℕ) (a b : SinkSide) (end : End) → IsParsed source → IsSource source p → Goes (ProgramOutcome p steps) a b end

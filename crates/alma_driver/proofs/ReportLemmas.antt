@@ -1,8 +1,12 @@
 -- Parts that are written one after another.
-use Rattle.std.proofs.Common.{◌≡◌, ◌<◌, ◌+◌, ℕ, List, ◌++◌, length, take, drop, get_or, ap, sym, ◌∙◌, add-one, append_assoc, drop-cons}
+use Rattle.std.proofs.Common.{◌≡◌, ◌<◌, ◌+◌, ℕ, zero, suc, List, [], ◌++◌, refl, length, take, drop, get_or, ap, sym, ◌∙◌, add-one, append_assoc, drop-cons}
 use Rattle.std.proofs.lemmas.List.{take-append-drop}
 use Rattle.std.proofs.lemmas.List.Concat.{flat_map-append}
-use Rattle.std.specs.Prelude.{Option, flat_map}
+use Rattle.std.specs.Prelude.{Option, flat_map, codes, decimal}
+use Rattle.alma_base.specs.Fault.{run_fault_text}
+use Rattle.alma_base.specs.declared.fault.RunFault.{RunFault}
+use Rattle.alma_code.specs.Lines.{known_line}
+use Rattle.alma_driver.specs.Ends.{line_text, fault_text}
 use Rattle.std.specs.Borrow.{Bor}
 use Rattle.std.specs.Io.KnownBytes.{Appends}
 use Rattle.alma_io.specs.Fronts.{AppendsFront}
@@ -26,3 +30,21 @@ front_after front bytes rest whole a b c e h x = (
   e ∙ ap (λ z. front ++ (z ++ rest)) x.2 ∙ ap (λ z. front ++ z) (append_assoc x.0 x.1 rest) ∙ sym (append_assoc front x.0 (x.1 ++ rest)),
   appends_trans a b c front x.0 h x.3,
 )
+
+-- the parts of the text of a fault whose line is not known
+pub unknown_parts : (fault : RunFault) (line : ℕ) (front name end : List ℕ) → line ≡ 0 → front ≡ codes "alma: fault " → name ≡ run_fault_text fault → end ≡ codes "\n"
+    → front ++ (name ++ (end ++ [])) ≡ fault_text fault line
+unknown_parts fault line front name end z f n e =
+    ap (λ x. x ++ (name ++ (end ++ []))) f ∙ ap (λ x. codes "alma: fault " ++ (x ++ (end ++ []))) n ∙ ap (λ x. codes "alma: fault " ++ (run_fault_text fault ++ (x ++ []))) e
+    ∙ ap (λ k. codes "alma: fault " ++ (run_fault_text fault ++ (line_text (known_line k) ++ codes "\n"))) (sym z)
+
+-- and of one whose line is
+pub known_parts : (fault : RunFault) (line : ℕ) (front name middle number end : List ℕ) → (line ≡ 0 → ⊥) → front ≡ codes "alma: fault " → name ≡ run_fault_text fault
+    → middle ≡ codes " line " → number ≡ decimal line → end ≡ codes "\n" → front ++ (name ++ (middle ++ (number ++ (end ++ [])))) ≡ fault_text fault line
+known_parts fault zero front name middle number end some f n m d e = absurd (some refl)
+known_parts fault (suc k) front name middle number end some f n m d e =
+    ap (λ x. x ++ (name ++ (middle ++ (number ++ (end ++ []))))) f ∙ ap (λ x. codes "alma: fault " ++ (x ++ (middle ++ (number ++ (end ++ []))))) n
+    ∙ ap (λ x. codes "alma: fault " ++ (run_fault_text fault ++ (x ++ (number ++ (end ++ []))))) m
+    ∙ ap (λ x. codes "alma: fault " ++ (run_fault_text fault ++ (codes " line " ++ (x ++ (end ++ []))))) d
+    ∙ ap (λ x. codes "alma: fault " ++ (run_fault_text fault ++ (codes " line " ++ (decimal (suc k) ++ (x ++ []))))) e
+    ∙ ap (λ x. codes "alma: fault " ++ (run_fault_text fault ++ x)) (sym (append_assoc (codes " line ") (decimal (suc k)) (codes "\n")))

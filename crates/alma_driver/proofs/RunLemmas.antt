@@ -12,8 +12,8 @@ use Rattle.alma_code.specs.declared.step.End as code
 use Rattle.alma_code.specs.declared.step.End.TheVariants as ended
 use Rattle.alma_code.specs.Machine.{Mode, Going, Failing, Ended, Stuck, State, start, step, after, prints}
 use Rattle.alma_code.specs.Plain.{PlainCode}
-use Rattle.alma_lower.specs.Implements.{Implements, ComesTo, HasEnded, IsEnough, state_after, printed_by}
-use Rattle.alma_lower.proofs.Enough.{is_enough}
+use Rattle.alma_implements.specs.Implements.{Implements, ComesTo, HasEnded, IsEnough, state_after, printed_by, line_in}
+use Rattle.alma_implements.proofs.Enough.{is_enough}
 use Rattle.alma_machine.specs.declared.machine.RunEnd.{RunEnd}
 use Rattle.alma_machine.specs.declared.machine.RunEnd.TheVariants as run
 use Rattle.alma_machine.specs.Runs.{run_end_of, made, all_written, OnWhole, OnMemory, OnWriteFault}
@@ -21,7 +21,7 @@ use Rattle.alma_machine.specs.View.{MachineView}
 use Rattle.alma_machine.proofs.Budget.{ended_after}
 use Rattle.alma_driver.specs.Outside.{SinkSide}
 use Rattle.alma_driver.specs.Ends.{mode_end, run_end}
-use Rattle.alma_driver.specs.Outcome.{Due, due_of, code_due, size_of, size_limit, MayRunOut, ProgramOutcome, ran, steps_out}
+use Rattle.alma_driver.specs.Outcome.{Due, due_of, code_due, size_of, size_limit, MayRunOut, ProgramOutcome, ran, too_much_code, Meant, whole, front, too_large}
 use Rattle.alma_driver.specs.Course.{Goes}
 
 -- ---- a run of the machine
@@ -48,13 +48,20 @@ whole_is_front : (a b : Option (List ℕ)) (code : PlainCode) (input : List ℕ)
 whole_is_front a b code input m n s le h = let more = prints_front code input m n s le in (prints code input m s, more.0, more.1, h)
 
 -- the answer of a run that was not cut short is by the mode in which it is left
-mode_is : (m : Mode) → mode_end m ≡ run_end (run_end_of m)
-mode_is Going = refl
-mode_is Failing = refl
-mode_is Stuck = refl
-mode_is (Ended ended.Succeeded) = refl
-mode_is (Ended ended.Failed) = refl
-mode_is (Ended (ended.Fault fault)) = refl
+mode_is : (m : Mode) (line : ℕ) → mode_end m line ≡ run_end (run_end_of m) line
+mode_is Going line = refl
+mode_is Failing line = refl
+mode_is Stuck line = refl
+mode_is (Ended ended.Succeeded) line = refl
+mode_is (Ended ended.Failed) line = refl
+mode_is (Ended (ended.Fault fault)) line = refl
+
+-- the end of a run that was not cut short is due
+end_is : (code : PlainCode) (new : State) (steps : ℕ) (answer : RunEnd) → answer ≡ run_end_of (state_after code [] steps).mode → new ≡ state_after code [] steps
+    → mode_end (state_after code [] steps).mode (line_in code (state_after code [] steps)) ≡ run_end answer (line_in code new)
+end_is code new steps answer is same =
+    let s = state_after code [] steps in
+    mode_is s.mode (line_in code s) ∙ ap (λ r. run_end r (line_in code s)) (sym is) ∙ ap (λ t. run_end answer (line_in code t)) (sym same)
 
 -- a machine at the start of the code, without input
 abbrev pub fresh : PlainCode → MachineView
@@ -63,6 +70,7 @@ fresh code = record { code = code; input = []; state = start code; running = tru
 -- what a run ensures
 pub record HasRun (old new : MachineView) (steps : ℕ) (answer : RunEnd) (a b : SinkSide) : Type 0 where
   pub answered : OnWhole answer (answer ≡ run_end_of (after old.code old.input steps old.state).mode)
+  pub state : OnWhole answer (new.state ≡ after old.code old.input steps old.state)
   pub out : OnWhole answer (Appends a.written b.written (prints old.code old.input steps old.state))
   pub few : new.state.steps ≤ old.state.steps + steps
   pub memory : OnMemory answer (Appends a.written b.written (prints old.code old.input (made old new) old.state))
@@ -75,22 +83,22 @@ IsDue code steps due = due ≡ code_due code steps
 
 -- a run from the start goes as its code is due
 goes_fresh : (code : PlainCode) (new : MachineView) (steps : ℕ) (answer : RunEnd) (a b : SinkSide) → HasRun (fresh code) new steps answer a b
-    → Goes (IsDue code steps) a b (run_end answer)
+    → Goes (IsDue code steps) a b (run_end answer (line_in code new.state))
 goes_fresh code new steps run.Succeeded a b h =
-    (code_due code steps, mode_is (state_after code [] steps).mode ∙ ap run_end (sym h.answered), refl, (h.out, h.cause.ok))
+    (code_due code steps, end_is code new.state steps run.Succeeded h.answered h.state, refl, (h.out, h.cause.ok))
 goes_fresh code new steps run.Failed a b h =
-    (code_due code steps, mode_is (state_after code [] steps).mode ∙ ap run_end (sym h.answered), refl, (h.out, h.cause.ok))
+    (code_due code steps, end_is code new.state steps run.Failed h.answered h.state, refl, (h.out, h.cause.ok))
 goes_fresh code new steps (run.Fault fault) a b h =
-    (code_due code steps, mode_is (state_after code [] steps).mode ∙ ap run_end (sym h.answered), refl, (h.out, h.cause.ok))
+    (code_due code steps, end_is code new.state steps (run.Fault fault) h.answered h.state, refl, (h.out, h.cause.ok))
 goes_fresh code new steps run.StepsOut a b h =
-    (code_due code steps, mode_is (state_after code [] steps).mode ∙ ap run_end (sym h.answered), refl, (h.out, h.cause.ok))
+    (code_due code steps, end_is code new.state steps run.StepsOut h.answered h.state, refl, (h.out, h.cause.ok))
 goes_fresh code new steps run.WriteFault a b h =
     (code_due code steps, refl, (front_of_more a.written b.written code [] (made (fresh code) new) steps (start code) (omega (arith, h.few)) h.write_fault, (h.cause.later, h.cause.err)))
 goes_fresh code new steps run.Memory a b h =
     (inr (code_due code steps, refl, whole_is_front a.written b.written code [] (made (fresh code) new) steps (start code) (omega (arith, h.few)) h.memory), h.cause.ok)
 
 pub goes_run : (code : PlainCode) (old new : MachineView) (steps : ℕ) (answer : RunEnd) (a b : SinkSide) → old ≡ fresh code → HasRun old new steps answer a b
-    → Goes (IsDue code steps) a b (run_end answer)
+    → Goes (IsDue code steps) a b (run_end answer (line_in code new.state))
 goes_run code old new steps answer a b e h = goes_fresh code new steps answer a b (subst (λ (o : MachineView). HasRun o new steps answer a b) e h)
 
 -- ---- a run of code that implements a program
@@ -115,16 +123,21 @@ may_run_out code p steps enough out level uncut = by (cases_lt steps (32 * (visi
         let e = in_end (state_after code [] plenty).mode there in
         absurd (out (subst (λ (s : State). HasEnded s.mode) (sym (ended_after code [] plenty steps (start code) e.0 many e.1)) there))
 
--- what is due from code that implements a program is due from the program
-pub program_due : (p : Program) (code : PlainCode) (steps : ℕ) → Implements code p → size_of p ≤ size_limit → ProgramOutcome p steps (code_due code steps)
-program_due p code steps implements size = by (state_after code [] steps).mode refl (implements [] (omega arith) steps)
+-- what is due from code that implements a program is what the program means
+code_means : (p : Program) (code : PlainCode) (steps : ℕ) → Implements code p → size_of p ≤ size_limit → Meant p steps (code_due code steps)
+code_means p code steps implements size = by (state_after code [] steps).mode refl (implements [] (omega arith) steps)
   where
     cut : (m : Mode) → (state_after code [] steps).mode ≡ m → (HasEnded m → ⊥) → MayRunOut p steps
     cut m same out = may_run_out code p steps (is_enough code p implements) (λ h. out (subst HasEnded same h))
 
-    by : (m : Mode) → (state_after code [] steps).mode ≡ m → ComesTo m (printed_by code [] steps) p [] steps
-        → ProgramOutcome p steps (due_of (mode_end m) (printed_by code [] steps))
-    by (Ended e) same h = ran (printed_by code [] steps) e size h refl
-    by Going same h = steps_out (printed_by code [] steps) size h (cut Going same (λ x. x)) refl
-    by Failing same h = steps_out (printed_by code [] steps) size h (cut Failing same (λ x. x)) refl
-    by Stuck same h = steps_out (printed_by code [] steps) size h (cut Stuck same (λ x. x)) refl
+    by : (m : Mode) → (state_after code [] steps).mode ≡ m → ComesTo m (line_in code (state_after code [] steps)) (printed_by code [] steps) p [] steps
+        → Meant p steps (due_of (mode_end m (line_in code (state_after code [] steps))) (printed_by code [] steps))
+    by (Ended e) same h = whole (printed_by code [] steps) e (line_in code (state_after code [] steps)) size h refl
+    by Going same h = front (printed_by code [] steps) size h (cut Going same (λ x. x)) refl
+    by Failing same h = front (printed_by code [] steps) size h (cut Failing same (λ x. x)) refl
+    by Stuck same h = front (printed_by code [] steps) size h (cut Stuck same (λ x. x)) refl
+
+-- what a run of a program comes to is what the program means
+pub outcome_means : (p : Program) (steps : ℕ) (due : Due) → ProgramOutcome p steps due → Meant p steps due
+outcome_means p steps due (ran code size sound implements e) = subst (Meant p steps) (sym e) (code_means p code steps implements size)
+outcome_means p steps due (too_much_code size e) = too_large size e

@@ -1,5 +1,5 @@
 -- The ends of a call: their statuses and their texts.
-use Rattle.std.specs.Prelude.{List, ℕ, [], ◌++◌, codes, decimal}
+use Rattle.std.specs.Prelude.{List, ℕ, [], ◌++◌, codes, decimal, Option, Some, None}
 use Rattle.alma_base.specs.Fault.{lex_fault_text, syntax_fault_text, run_fault_text}
 use Rattle.alma_base.specs.declared.place.Place.{Place}
 use Rattle.alma_io.specs.declared.files.Fetch.{Fetch}
@@ -10,6 +10,8 @@ use Rattle.alma_lower.specs.declared.lowering.LowerError.{LowerError}
 use Rattle.alma_lower.specs.declared.lowering.LowerError.TheVariants as lower
 use Rattle.alma_code.specs.declared.step.End as code
 use Rattle.alma_code.specs.declared.step.End.TheVariants as ended
+use Rattle.alma_code.specs.Lines.{known_line}
+use Rattle.alma_base.specs.declared.fault.RunFault.{RunFault}
 use Rattle.alma_code.specs.Machine.{Mode, Going, Failing, Ended, Stuck}
 use Rattle.alma_machine.specs.declared.machine.RunEnd.{RunEnd}
 use Rattle.alma_machine.specs.declared.machine.RunEnd.TheVariants as run
@@ -18,7 +20,7 @@ use Rattle.alma_driver.specs.declared.words.WordsError.TheVariants as words
 use Rattle.alma_driver.specs.declared.fault.SourceFault.{SourceFault}
 use Rattle.alma_driver.specs.declared.fault.SourceFault.TheVariants.{Lex, Syntax}
 use Rattle.alma_driver.specs.declared.end.End.{End}
-use Rattle.alma_driver.specs.declared.end.End.TheVariants.{Succeeded, Failed, BadWord, Refused, Fault, StepsOut, ReadFault, WriteFault}
+use Rattle.alma_driver.specs.declared.end.End.TheVariants.{Succeeded, Failed, BadWord, Refused, Faulted, StepsOut, ReadFault, WriteFault}
 use Rattle.alma_driver.specs.declared.end.End.TheVariants.{Memory, TooLong, TooMuchCode, NotYet}
 
 -- the status of an end
@@ -27,7 +29,7 @@ status_of Succeeded = 0
 status_of Failed = 1
 status_of (BadWord k) = 2
 status_of (Refused fault place) = 3
-status_of (Fault fault) = 4
+status_of (Faulted fault line) = 4
 status_of StepsOut = 5
 status_of ReadFault = 6
 status_of WriteFault = 7
@@ -42,7 +44,7 @@ fixed_text Succeeded = []
 fixed_text Failed = []
 fixed_text (BadWord k) = []
 fixed_text (Refused fault place) = []
-fixed_text (Fault fault) = []
+fixed_text (Faulted fault line) = []
 fixed_text StepsOut = codes "alma: steps out\n"
 fixed_text ReadFault = codes "alma: read fault\n"
 fixed_text WriteFault = codes "alma: write fault\n"
@@ -64,35 +66,44 @@ refusal_line file line column fault = file ++ (codes ":" ++ (line ++ (codes ":" 
 abbrev pub refusal_text : (file : List ℕ) → SourceFault → Place → List ℕ
 refusal_text file fault place = refusal_line file (decimal place.line) (decimal place.column) (source_fault_text fault)
 
+-- where a run stopped in a fault, if its line is known
+abbrev pub line_text : Option ℕ → List ℕ
+line_text None = []
+line_text (Some line) = codes " line " ++ decimal line
+
+-- the text of a run that stopped in a fault
+abbrev pub fault_text : RunFault → (line : ℕ) → List ℕ
+fault_text fault line = codes "alma: fault " ++ (run_fault_text fault ++ (line_text (known_line line) ++ codes "\n"))
+
 -- the text of an end, where the words name this file
 abbrev pub text_of : (file : List ℕ) → End → List ℕ
 text_of file (BadWord k) = codes "alma: bad word " ++ (decimal k ++ codes "\n")
 text_of file (Refused fault place) = refusal_text file fault place
-text_of file (Fault fault) = codes "alma: fault " ++ (run_fault_text fault ++ codes "\n")
+text_of file (Faulted fault line) = fault_text fault line
 text_of file (TooMuchCode size) = codes "alma: too much code " ++ (decimal size ++ codes "\n")
 text_of file end = fixed_text end
 
--- the end of a call whose run ended
-abbrev pub ended_end : code.End → End
-ended_end ended.Succeeded = Succeeded
-ended_end ended.Failed = Failed
-ended_end (ended.Fault fault) = Fault fault
+-- the end of a call whose run ended, with the line of the last instruction
+abbrev pub ended_end : code.End → (line : ℕ) → End
+ended_end ended.Succeeded line = Succeeded
+ended_end ended.Failed line = Failed
+ended_end (ended.Fault fault) line = Faulted fault line
 
 -- the end of a call whose run is left in this mode
-abbrev pub mode_end : Mode → End
-mode_end (Ended end) = ended_end end
-mode_end Going = StepsOut
-mode_end Failing = StepsOut
-mode_end Stuck = StepsOut
+abbrev pub mode_end : Mode → (line : ℕ) → End
+mode_end (Ended end) line = ended_end end line
+mode_end Going line = StepsOut
+mode_end Failing line = StepsOut
+mode_end Stuck line = StepsOut
 
 -- the end of a call by the answer of its run
-abbrev pub run_end : RunEnd → End
-run_end run.Succeeded = Succeeded
-run_end run.Failed = Failed
-run_end (run.Fault fault) = Fault fault
-run_end run.StepsOut = StepsOut
-run_end run.WriteFault = WriteFault
-run_end run.Memory = Memory
+abbrev pub run_end : RunEnd → (line : ℕ) → End
+run_end run.Succeeded line = Succeeded
+run_end run.Failed line = Failed
+run_end (run.Fault fault) line = Faulted fault line
+run_end run.StepsOut line = StepsOut
+run_end run.WriteFault line = WriteFault
+run_end run.Memory line = Memory
 
 -- the end of a program that was not compiled
 abbrev pub lower_end : LowerError → End

@@ -7,7 +7,8 @@ use Rattle.alma_mean.specs.Events.{first, end_of, visit_count, CutOff}
 use Rattle.alma_mean.specs.Meaning.{ev_program, result}
 use Rattle.alma_code.specs.declared.step.End as code
 use Rattle.alma_code.specs.Plain.{PlainCode}
-use Rattle.alma_lower.specs.Implements.{Covers, meant_end, state_after, printed_by}
+use Rattle.alma_code.specs.Rules.{IsSound}
+use Rattle.alma_implements.specs.Implements.{Implements, Covers, meant_end, state_after, printed_by, line_in}
 use Rattle.alma_front.specs.Source.{IsSource}
 use Rattle.alma_driver.specs.Words.{Request, Run, Asks, IsBadWord}
 use Rattle.alma_driver.specs.Ends.{ended_end, mode_end}
@@ -43,21 +44,31 @@ silent end = due_of end []
 
 -- what a run of code for so many steps, without input, comes to
 abbrev pub code_due : PlainCode → (steps : ℕ) → Due
-code_due code steps = due_of (mode_end (state_after code [] steps).mode) (printed_by code [] steps)
+code_due code steps = due_of (mode_end (state_after code [] steps).mode (line_in code (state_after code [] steps))) (printed_by code [] steps)
+
+-- What a run of a program for so many steps comes to, without input: what a sound code that implements it comes to in
+-- so many steps, or the refusal of its size.
+pub data ProgramOutcome (p : Program) (steps : ℕ) (due : Due) : Type 0 where
+  ran : (code : PlainCode) → size_of p ≤ size_limit → IsSound code → Implements code p → due ≡ code_due code steps → ProgramOutcome p steps due
+  too_much_code : size_limit < size_of p → due ≡ silent (TooMuchCode (size_of p)) → ProgramOutcome p steps due
+
+-- ---- the same by the meaning alone
 
 -- So many steps may not be enough for the meaning of the program: at 32 steps for each visit, and 32 more, they would be.
 abbrev pub MayRunOut : Program → (steps : ℕ) → Type 0
 MayRunOut p steps =
     (level : ℕ) → (end_of (first (ev_program level p [])) ≡ CutOff → ⊥) → steps < 32 * (visit_count (first (ev_program level p [])) + 1)
 
--- What a run of a program for so many steps comes to, without input: its meaning, a front of the meaning's prints that
--- covers one visit for each 32 steps, or the refusal of its size.
-pub data ProgramOutcome (p : Program) (steps : ℕ) (due : Due) : Type 0 where
-  ran : (printed : List ℕ) (end : code.End) → size_of p ≤ size_limit → result (suc steps) p [] ≡ (printed, meant_end end)
-      → due ≡ due_of (ended_end end) printed → ProgramOutcome p steps due
-  steps_out : (printed : List ℕ) → size_of p ≤ size_limit → Covers (first (ev_program (suc steps) p [])) printed (steps / 32)
-      → MayRunOut p steps → due ≡ due_of StepsOut printed → ProgramOutcome p steps due
-  too_much_code : size_limit < size_of p → due ≡ silent (TooMuchCode (size_of p)) → ProgramOutcome p steps due
+-- What the meaning of a program says of such a run: its result, a fault at the line where it comes, or a front of its
+-- prints that covers one visit for each 32 steps; or the refusal of its size.
+pub data Meant (p : Program) (steps : ℕ) (due : Due) : Type 0 where
+  whole : (printed : List ℕ) (end : code.End) (line : ℕ) → size_of p ≤ size_limit → result (suc steps) p [] ≡ (printed, meant_end end line)
+      → due ≡ due_of (ended_end end line) printed → Meant p steps due
+  front : (printed : List ℕ) → size_of p ≤ size_limit → Covers (first (ev_program (suc steps) p [])) printed (steps / 32)
+      → MayRunOut p steps → due ≡ due_of StepsOut printed → Meant p steps due
+  too_large : size_limit < size_of p → due ≡ silent (TooMuchCode (size_of p)) → Meant p steps due
+
+-- ---- sources and requests
 
 -- What a run of a source for so many steps comes to: the refusal of what is no program of the grammar, what its program
 -- does, or that it is a program of the grammar alone.

@@ -5,7 +5,7 @@ ghost use Rattle.alma_code.specs.Rules.{IsSound};
 ghost use Rattle.alma_front.specs.Source.{IsSource};
 ghost use Rattle.alma_ir.specs.View.{program_of};
 ghost use Rattle.alma_ir.specs.Checked.{IsChecked};
-ghost use Rattle.alma_lower.specs.Built.{IsBuilt};
+ghost use Rattle.alma_implements.specs.Built.{IsBuilt};
 ghost use Rattle.alma_machine.specs.Built.{HasOnlyBuilt};
 ghost use Rattle.alma_driver.specs.Words.{Run, texts, asked, greatest_steps, IsWithinSteps};
 ghost use Rattle.alma_driver.specs.Outside.{sink_side, source_side, files_side, outside_of};
@@ -15,7 +15,7 @@ ghost use Rattle.alma_driver.specs.Course.{Goes, Performs, Answers};
 ghost use Rattle.alma_driver.specs.Causes.{Causes};
 
 use crate::check::{SourceStop, check_source};
-use crate::end::End;
+use crate::end::{End, end_of, line_of};
 use crate::report::report;
 use crate::words::{Request, file_word, read_words};
 use alma_base::{NoMemory, Status};
@@ -40,7 +40,10 @@ fn run_code<O: Sink>(alloc: Global, code: &Code, steps: u64, out: &mut O) -> End
         (sink_side (O.written out.new) (O.faults out.new)) result }
 {
     match Machine::new(alloc, code, b"") {
-        Ok(mut machine) => End::from(machine.run(steps, out)),
+        Ok(mut machine) => {
+            let end = machine.run(steps, out);
+            end_of(end, line_of(code, machine.at()))
+        }
         Err(NoMemory) => End::Memory,
     }
 }

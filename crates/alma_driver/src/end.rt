@@ -1,10 +1,13 @@
 // The ends of a call: how they come from the answers of its parts, their statuses and their texts.
 ghost use Rattle.std.specs.Prelude.{◌≡◌};
+ghost use Rattle.alma_code.specs.Lines.{line_at};
+ghost use Rattle.alma_code.specs.Plain.{code_of};
 ghost use Rattle.alma_driver.specs.Ends.{status_of, fixed_text, run_end, lower_end, read_end, words_end, fetch_end};
 
 use crate::fault::SourceFault;
 use crate::words::WordsError;
 use alma_base::{Place, RunFault};
+use alma_code::Code;
 use alma_front::ReadError;
 use alma_io::Fetch;
 use alma_lower::LowerError;
@@ -21,8 +24,8 @@ pub enum End {
     BadWord(usize),
     /// The source is no program of the grammar: its fault, and the place of it.
     Refused(SourceFault, Place),
-    /// The run stopped in a fault.
-    Fault(RunFault),
+    /// The run stopped in a fault, at this line; 0 where none is known.
+    Faulted(RunFault, u32),
     /// All steps were made, and the run was not at its end.
     StepsOut,
     /// The file is missing, or a fetch failed.
@@ -49,7 +52,7 @@ impl End {
             End::Failed => 1,
             End::BadWord(_) => 2,
             End::Refused(_, _) => 3,
-            End::Fault(_) => 4,
+            End::Faulted(_, _) => 4,
             End::StepsOut => 5,
             End::ReadFault => 6,
             End::WriteFault => 7,
@@ -67,7 +70,7 @@ impl End {
         match self {
             End::Succeeded | End::Failed => b"",
             End::BadWord(_) | End::Refused(_, _) => b"",
-            End::Fault(_) | End::TooMuchCode(_) => b"",
+            End::Faulted(_, _) | End::TooMuchCode(_) => b"",
             End::StepsOut => b"alma: steps out\n",
             End::ReadFault => b"alma: read fault\n",
             End::WriteFault => b"alma: write fault\n",
@@ -78,19 +81,31 @@ impl End {
     }
 }
 
-impl From<RunEnd> for End {
-    ghost from_gives = { λ run end. end ≡ run_end run };
+/// The end of a call by the answer of its run, and the line of the last instruction.
+pub fn end_of(run: RunEnd, line: u32) -> End
+    ensures { result ≡ run_end run line }
+{
+    match run {
+        RunEnd::Succeeded => End::Succeeded,
+        RunEnd::Failed => End::Failed,
+        RunEnd::Fault(fault) => End::Faulted(fault, line),
+        RunEnd::StepsOut => End::StepsOut,
+        RunEnd::WriteFault => End::WriteFault,
+        RunEnd::Memory => End::Memory,
+    }
+}
 
-    fn from(run: RunEnd) -> Self {
-        match run {
-            RunEnd::Succeeded => End::Succeeded,
-            RunEnd::Failed => End::Failed,
-            RunEnd::Fault(fault) => End::Fault(fault),
-            RunEnd::StepsOut => End::StepsOut,
-            RunEnd::WriteFault => End::WriteFault,
-            RunEnd::Memory => End::Memory,
+/// The line of an address; 0 where none is known.
+pub fn line_of(code: &Code, at: u32) -> u32
+    ensures { result ≡ line_at (code_of code.now) at }
+{
+    let mut line = 0;
+    for record in &code.lines {
+        if record.at <= at {
+            line = record.line;
         }
     }
+    line
 }
 
 impl From<LowerError> for End {

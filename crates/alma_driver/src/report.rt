@@ -4,12 +4,12 @@ ghost use Rattle.std.specs.Io.KnownBytes.{Appends};
 ghost use Rattle.alma_io.specs.Causes.{HasCause};
 ghost use Rattle.alma_io.specs.Fronts.{AppendsFront};
 ghost use Rattle.alma_driver.specs.Outside.{sink_side};
-ghost use Rattle.alma_driver.specs.Ends.{refusal_line, refusal_text, text_of};
+ghost use Rattle.alma_driver.specs.Ends.{fault_text, refusal_line, refusal_text, text_of};
 ghost use Rattle.alma_driver.specs.Course.{Reports};
 
 use crate::end::End;
 use crate::fault::SourceFault;
-use alma_base::{Place, Status};
+use alma_base::{Place, RunFault, Status};
 use alma_io::{Sink, WriteFault, write_all};
 use itoa::Buffer;
 
@@ -70,6 +70,23 @@ fn write_refusal<E: Sink>(
     write_refusal_line(err, file.as_bytes(), line, column, fault.text().as_bytes())
 }
 
+// Writes the fault of a run, and its line where it is known.
+fn write_fault<E: Sink>(err: &mut E, fault: RunFault, line: u32) -> Result<(), WriteFault>
+    ensures ok { OnOk result (Appends (E.written err.old) (E.written err.new) (fault_text fault line)) }
+    ensures front { OnErr result (AppendsFront (E.written err.old) (E.written err.new) (fault_text fault line)) }
+    ensures cause { HasCause (E.faults err.old) (E.faults err.new) result }
+{
+    let front = b"alma: fault ".as_slice();
+    let name = fault.text().as_bytes();
+    let end = b"\n".as_slice();
+    if line == 0 {
+        return write_parts(err, &[front, name, end]);
+    }
+    let mut digits = Buffer::new();
+    let number = digits.format(line).as_bytes();
+    write_parts(err, &[front, name, b" line ".as_slice(), number, end])
+}
+
 // Writes the text of an end, where the words name this file.
 fn write_end<E: Sink>(err: &mut E, file: &str, end: End) -> Result<(), WriteFault>
     ensures ok { OnOk result (Appends (E.written err.old) (E.written err.new) (text_of file.now end)) }
@@ -82,7 +99,7 @@ fn write_end<E: Sink>(err: &mut E, file: &str, end: End) -> Result<(), WriteFaul
             write_line(err, b"alma: bad word ", digits.format(word).as_bytes())
         }
         End::Refused(fault, place) => write_refusal(err, file, fault, place),
-        End::Fault(fault) => write_line(err, b"alma: fault ", fault.text().as_bytes()),
+        End::Faulted(fault, line) => write_fault(err, fault, line),
         End::TooMuchCode(size) => {
             write_line(err, b"alma: too much code ", digits.format(size).as_bytes())
         }

@@ -228,51 +228,71 @@ struct Stop {
     err: &'static [u8],
 }
 
-const STOPS: [Stop; 9] = [
+const STOPS: [Stop; 13] = [
     Stop {
         source: b"MODULE A; VAR x: INTEGER; BEGIN x := 9223372036854775807; x := x + 1 END A.",
         out: b"",
-        err: b"alma: fault Overflow\n",
+        err: b"alma: fault Overflow line 1\n",
     },
     Stop {
         source: b"MODULE A; VAR x: INTEGER; BEGIN x := -9223372036854775807; x := x - 2 END A.",
         out: b"",
-        err: b"alma: fault Overflow\n",
+        err: b"alma: fault Overflow line 1\n",
     },
     Stop {
         source: b"MODULE A; VAR x: INTEGER; BEGIN x := 4611686018427387904; WRITE(x - 1); x := x * 2 END A.",
         out: b"4611686018427387903",
-        err: b"alma: fault Overflow\n",
+        err: b"alma: fault Overflow line 1\n",
     },
     Stop {
         source: b"MODULE A; VAR x: INTEGER; BEGIN x := -9223372036854775807 - 1; WRITE(x); x := -x END A.",
         out: b"-9223372036854775808",
-        err: b"alma: fault Overflow\n",
+        err: b"alma: fault Overflow line 1\n",
     },
     Stop {
         source: b"MODULE A; VAR x: INTEGER; BEGIN x := -9223372036854775807 - 1; x := x DIV (-1) END A.",
         out: b"",
-        err: b"alma: fault Overflow\n",
+        err: b"alma: fault Overflow line 1\n",
     },
     Stop {
         source: b"MODULE A; VAR x: INTEGER; BEGIN x := 0; WRITE(1, 1 DIV x) END A.",
         out: b"1",
-        err: b"alma: fault ZeroDivide\n",
+        err: b"alma: fault ZeroDivide line 1\n",
     },
     Stop {
         source: b"MODULE A; VAR x: INTEGER; BEGIN x := 0; IF 1 MOD x < 1 THEN WRITE(1) END END A.",
         out: b"",
-        err: b"alma: fault ZeroDivide\n",
+        err: b"alma: fault ZeroDivide line 1\n",
     },
     Stop {
         source: b"MODULE A; VAR x: INTEGER; BEGIN WRITE(x) END A.",
         out: b"",
-        err: b"alma: fault Unknown\n",
+        err: b"alma: fault Unknown line 1\n",
     },
     Stop {
         source: b"MODULE A; VAR x: INTEGER; BEGIN WRITE(2); x := x + 1 END A.",
         out: b"2",
-        err: b"alma: fault Unknown\n",
+        err: b"alma: fault Unknown line 1\n",
+    },
+    Stop {
+        source: b"MODULE A;\nVAR x: INTEGER;\nBEGIN\n  WRITE(1);\n  x :=\n    x + 1\nEND A.\n",
+        out: b"1",
+        err: b"alma: fault Unknown line 5\n",
+    },
+    Stop {
+        source: b"MODULE A;\nVAR x: INTEGER;\nBEGIN\n  x := 1;\n  IF x < 2 THEN\n    WRITE(2);\n    x := 1 DIV (x - 1)\n  END;\n  WRITE(3)\nEND A.\n",
+        out: b"2",
+        err: b"alma: fault ZeroDivide line 7\n",
+    },
+    Stop {
+        source: b"MODULE A;\nVAR x: INTEGER;\nBEGIN\n  x := 1;\n  WHILE 6 DIV x > 1 DO\n    WRITE(x);\n    x := x - 1\n  END\nEND A.\n",
+        out: b"1",
+        err: b"alma: fault ZeroDivide line 5\n",
+    },
+    Stop {
+        source: b"MODULE A;\nVAR x: INTEGER;\nBEGIN\n  x := 1;\n  REPEAT\n    WRITE(x);\n    x := x - 1\n  UNTIL 6 DIV x < 1\nEND A.\n",
+        out: b"1",
+        err: b"alma: fault ZeroDivide line 5\n",
     },
 ];
 

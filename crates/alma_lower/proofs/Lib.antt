@@ -5,5 +5,6 @@ pub mod EmitsCase
 pub mod ExampleViews
 pub mod Examples
 pub mod ForExample
+pub mod Made
 pub mod RunLemmas
 pub mod Unlined

@@ -10,6 +10,7 @@ ghost use Rattle.alma_code.specs.Rules.{IsSound};
 ghost use Rattle.alma_implements.specs.Built.{IsBuilt, BuiltStmts};
 ghost use Rattle.alma_implements.specs.Implements.{Implements};
 ghost use Rattle.alma_lower.specs.Emitted.{filled};
+ghost use Rattle.alma_lower.specs.Forms.{HasOnlyMade};
 ghost use Rattle.alma_implements.specs.Templates.{IsCodeOf, body_code, stmts_slots};
 
 use crate::emit::Emit;
@@ -43,6 +44,7 @@ pub fn lower(alloc: Global, program: &Program) -> Result<Code, LowerError>
     requires checked { IsChecked (program_of program.now) }
     ensures implements { IfOk result (λ code. Implements (code_of code) (program_of program.now)) }
     ensures sound { IfOk result (λ code. IsSound (code_of code)) }
+    ensures forms { IfOk result (λ code. HasOnlyMade (code_of code)) }
     ensures few { IfOk result (λ code. length (code_of code).instrs ≤ 16 * nodes (program_of program.now)) }
     ensures too_much { let size = capped (16 * nodes (program_of program.now)) in 4194304 < size → result ≡ Err (LowerError.TooMuchCode size) }
     ensures within { let size = capped (16 * nodes (program_of program.now)) in size ≤ 4194304 → (n : ℕ) → result ≡ Err (LowerError.TooMuchCode n) → ⊥ }

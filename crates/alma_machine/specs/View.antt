@@ -1,5 +1,5 @@
 -- What contracts see of a machine.
-use Rattle.std.specs.Prelude.{◌≡◌, ℕ, Bool, true, false, List, [], Result, Ok, Err}
+use Rattle.std.specs.Prelude.{◌≡◌, ◌<◌, ◌^◌, ℕ, Bool, length, true, false, List, [], Result, Ok, Err}
 use Rattle.alma_code.specs.declared.step.Step.{Step}
 use Rattle.alma_code.specs.declared.step.Step.TheVariants as answer
 use Rattle.alma_code.specs.Plain.{PlainCode}
@@ -65,9 +65,11 @@ ModeAfter (answer.Called routine frames) mode = IsLive mode
 ModeAfter (answer.Returned frames) mode = IsLive mode
 ModeAfter answer.Printed mode = IsLive mode
 
--- what a machine keeps: its code is sound and of built forms, its state fits, and while it is running it has not ended
+-- what a machine keeps: its code is sound, of built forms and not too long for its addresses, its state fits, and while it
+-- is running it has not ended
 pub record Keeps (code : PlainCode) (state : State) (running : Bool) : Type 0 where
   pub sound : IsSound code
   pub built : HasOnlyBuilt code
+  pub short : length code.instrs < 2 ^ 32
   pub fits : Fits code state
   pub live : running ≡ true → IsLive state.mode

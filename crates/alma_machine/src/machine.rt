@@ -83,7 +83,7 @@ fn take(code: &Code, registers: &mut Registers, printed: &mut Vec<u8>) -> Result
 {
     let instr = &code.code[registers.at];
     let last = registers.last;
-    registers.last = registers.at;
+    registers.last = registers.at as u32;
     registers.at += 1;
     registers.steps += 1;
     let step = registers.act(code, instr, printed);
@@ -143,6 +143,8 @@ impl<'b, 'i> Machine<'b, 'i> {
           printed = [];
         }) }
     {
+        // The last routine ends with the code: so each address is a u32.
+        let _size: u32 = code.routines[code.routines.len() - 1].code_end;
         let frame = Frame::new(alloc, &code.routines[0])?;
         let registers = Registers {
             at: 0,
@@ -193,6 +195,13 @@ impl<'b, 'i> Machine<'b, 'i> {
         ensures { result.now ≡ self.now.printed }
     {
         &self.printed
+    }
+
+    /// The address of the last instruction that was taken; 0 before any.
+    pub fn at(&self) -> u32
+        ensures { result ≡ self.now.state.last }
+    {
+        self.registers.last
     }
 
     /// How many steps were made.

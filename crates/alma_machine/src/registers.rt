@@ -27,7 +27,7 @@ pub(crate) enum Mode {
 #[derive(Drop)]
 pub(crate) struct Registers {
     pub(crate) at: usize,
-    pub(crate) last: usize,
+    pub(crate) last: u32,
     pub(crate) mode: Mode,
     pub(crate) frame: Frame,
     pub(crate) steps: u64,

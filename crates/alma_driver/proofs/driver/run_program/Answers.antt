@@ -1,21 +1,12 @@
 use Rattle.alma_code.specs.Plain.{code_of}
 use Rattle.alma_ir.specs.View.{program_of}
-use Rattle.alma_lower.proofs.Correct.{code_implements}
-use Rattle.alma_lower.proofs.Sound.{is_sound}
 use Rattle.alma_driver.specs.Outside.{sink_side}
-use Rattle.alma_driver.proofs.BuiltLemmas.{has_only_built}
-use Rattle.alma_driver.proofs.DriverLemmas.{compiled_within, few_nodes, goes_compiled, goes_refused}
+use Rattle.alma_driver.proofs.BuiltLemmas.{made_is_built}
+use Rattle.alma_driver.proofs.DriverLemmas.{compiled_within, goes_compiled, goes_refused}
 use Rattle.alma_driver.proofs.driver.run_program.Goals as goal
 
-pub run_code-requires-clause-sound : goal.run_code-requires-clause-sound
-run_code-requires-clause-sound g c =
-    let p = program_of c.args.program.now in
-    is_sound p (code_of c.in-Ok.code) c.requires.checked c.requires.built c.in-Ok.ensures.code (few_nodes p (compiled_within p c.in-Ok.code c.in-Ok.ensures.too_much))
-
 pub run_code-requires-clause-built : goal.run_code-requires-clause-built
-run_code-requires-clause-built g c =
-    let p = program_of c.args.program.now in
-    has_only_built p (code_of c.in-Ok.code) c.requires.checked c.requires.built c.in-Ok.ensures.code (few_nodes p (compiled_within p c.in-Ok.code c.in-Ok.ensures.too_much))
+run_code-requires-clause-built g c = made_is_built (code_of c.in-Ok.code) c.in-Ok.ensures.forms
 
 pub returns-in-Ok : goal.returns-in-Ok
 returns-in-Ok g c =
@@ -23,7 +14,7 @@ returns-in-Ok g c =
     let code = code_of c.in-Ok.code in
     goes_compiled p code c.args.steps (sink_side (g.O.Sink.written c.args.out.now) (g.O.Sink.faults c.args.out.now))
     (sink_side (g.O.Sink.written c.run_code.new.out) (g.O.Sink.faults c.run_code.new.out)) c.run_code.result
-    (code_implements p code c.requires.checked c.requires.built c.in-Ok.ensures.code) (compiled_within p c.in-Ok.code c.in-Ok.ensures.too_much) c.run_code.ensures
+    c.in-Ok.ensures.sound c.in-Ok.ensures.implements (compiled_within p c.in-Ok.code c.in-Ok.ensures.too_much) c.run_code.ensures
 
 pub returns-in-Err : goal.returns-in-Err
 returns-in-Err g c =

@@ -3,6 +3,7 @@ use Rattle.alma_ir.specs.Count.{nodes}
 use Rattle.alma_ir.specs.View.{program_of}
 use Rattle.alma_implements.proofs.Correct.{code_implements}
 use Rattle.alma_implements.proofs.Sound.{is_sound}
+use Rattle.alma_lower.proofs.Made.{has_only_made}
 use Rattle.alma_lower.proofs.lowering.lower.Goals as goal
 
 pub returns-in-Ok-clause-implements : goal.returns-in-Ok-clause-implements
@@ -12,3 +13,8 @@ pub returns-in-Ok-clause-sound : goal.returns-in-Ok-clause-sound
 returns-in-Ok-clause-sound c =
     let few : 16 * nodes (program_of c.args.program.now) ≤ 4194304 = omega (arith, c.if-size-gt-GREATEST_SIZE.false, c.size-size.ensures) in
     is_sound _ _ c.requires.checked c.requires.built c.in-Ok.ensures.code few
+
+pub returns-in-Ok-clause-forms : goal.returns-in-Ok-clause-forms
+returns-in-Ok-clause-forms c =
+    let few : 16 * nodes (program_of c.args.program.now) ≤ 4194304 = omega (arith, c.if-size-gt-GREATEST_SIZE.false, c.size-size.ensures) in
+    has_only_made _ _ c.requires.checked c.requires.built c.in-Ok.ensures.code few
