@@ -1,6 +1,6 @@
 -- The lines of a module, found in the tokens of its source. A statement begins behind BEGIN, THEN, ELSE, DO, REPEAT and a
--- semicolon, unless what stands there is the end of statements; and each comma of a WRITE begins one more, on the line of
--- this word.
+-- semicolon, unless what stands there is the end of statements. In a body a comma stands only between the items of a WRITE;
+-- it begins one more statement, on the line of the word WRITE.
 use Rattle.std.specs.Prelude.{ℕ, Bool, true, false, ◌&&◌, not, List, [], ◌∷◌, if◌then◌else◌}
 use Rattle.alma_tree.specs.declared.kind.Kind.TheVariants as kinds
 use Rattle.alma_scan.specs.Places.{line_at}
@@ -24,14 +24,17 @@ opens_statement word = false
 abbrev pub begins_statement : (may_begin : Bool) → Word → Bool
 begins_statement may_begin word = may_begin && not (ends_word word)
 
+-- the word is BEGIN
 abbrev pub is_begin : Word → Bool
 is_begin (Fixed kinds.Begin) = true
 is_begin word = false
 
+-- the word is a comma
 abbrev pub is_comma : Word → Bool
 is_comma (Fixed kinds.Comma) = true
 is_comma word = false
 
+-- the line of a token
 abbrev pub token_line : (source : List ℕ) → Lexeme → ℕ
 token_line source token = line_at source token.start
 
