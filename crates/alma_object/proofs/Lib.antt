@@ -1,7 +1,11 @@
 pub mod Accepted
+pub mod Again
 pub mod Appends
+pub mod Clean
 pub mod Encoding
+pub mod Ends
 pub mod Faults
+pub mod Fields
 pub mod Forms
 pub mod Items
 pub mod Kept

@@ -5,6 +5,7 @@ mod bytes;
 mod fault;
 mod header;
 mod instr;
+pub mod laws;
 mod record;
 mod routine;
 mod view;
