@@ -23,9 +23,10 @@ use Rattle.alma_object.specs.Header.{header_of, routines_at, globals_at, params_
 use Rattle.alma_object.specs.Instrs.{instr_at}
 use Rattle.alma_object.specs.Object.{IsObject, end_of, no_global, param_number, slot_number, slot_size}
 use Rattle.alma_object.specs.Reading.{items, param_kind, slot_kind, param_in, run_in, range_in, line_in, params_in, runs_in, name_in, text_in, routine_in, global_in, code_in}
+use Rattle.alma_object.specs.View.{no_line}
 use Rattle.alma_object.specs.Walk.{start_of, routine_field, params_end, runs_end, code_end, text_end, name_end}
 use Rattle.alma_object.proofs.Accepted.{header_for, header_is}
-use Rattle.alma_object.proofs.Clean.{no_param, no_run, no_range, no_line, RoutineStands, routine_stands, global_stands, param_stands, run_stands, range_stands, text_end_is, line_stands, instr_stands, names_length, name_of_routine, name_of_global, name_in_pool, name_end_at, params_length, runs_length, runs_start}
+use Rattle.alma_object.proofs.Clean.{no_param, no_run, no_range, RoutineStands, routine_stands, global_stands, param_stands, run_stands, range_stands, text_end_is, line_stands, instr_stands, names_length, name_of_routine, name_of_global, name_in_pool, name_end_at, params_length, runs_length, runs_start}
 use Rattle.alma_object.proofs.Ends.{end_more, end_within, start_is, stands_part, flat_at}
 use Rattle.alma_object.proofs.Places.{SectionsStand, sections_stand, names_of}
 use Rattle.alma_object.proofs.Stands.{Stands, stands_as, stands_slice, eq_test, ne_test}

@@ -31,11 +31,13 @@ use Rattle.alma_object.specs.Fields.{FitsFields, FitsRoutine, FitsGlobal, FitsRu
 use Rattle.alma_object.specs.Header.{header_of, routines_at, globals_at, params_at, runs_at, ranges_at, texts_at, name_pool_at, text_pool_at, instrs_at, lines_at, end_at as end_offset}
 use Rattle.alma_object.specs.Instrs.{instr_bytes, is_instr, instr_at}
 use Rattle.alma_object.specs.Object.{IsObject, end_of, no_global, param_number, slot_number, slot_size, routine_bytes, global_bytes, text_end_bytes, param_bytes, run_bytes, range_bytes, line_bytes, object_bytes}
+use Rattle.alma_object.specs.View.{no_line}
 use Rattle.alma_object.specs.Walk.{start_of, is_end, is_name_end, routine_field, params_end, runs_end, code_end, text_end, name_end, name_count as names_count, routine_fault, global_fault, param_fault, run_fault, routine_runs_fault, range_fault, text_fault, name_fault, pools_fault, instr_fault, line_fault, end_fault, sections_fault, object_fault, can_stand}
 use Rattle.alma_object.proofs.Accepted.{header_for, header_is, header_clean, or_clean}
 use Rattle.alma_object.proofs.Ends.{both, end_more, end_within, start_is, is_end_good, end_good, name_end_good, sum_map, end_first, end_second, section_nth, stands_part, flat_at, byte_stands, all_flat, all_at, name_stands, name_some}
 use Rattle.alma_object.proofs.Fields.{IsRead, field, instr_read}
-use Rattle.alma_object.proofs.Kept.{and_parts, le_fact, lt_fact}
+use Rattle.alma_object.proofs.Kept.{and_parts}
+use Rattle.alma_object.proofs.LineOrder.{below_from, next_line}
 use Rattle.alma_object.proofs.Places.{object_length, SectionsStand, sections_stand, names_of, instr_length, routine_length, global_length, text_length, param_length, run_length, range_length, line_length}
 use Rattle.alma_object.proofs.Sections.{name_end_routine, name_end_global}
 use Rattle.alma_object.proofs.Stands.{Stands, AreWords, no_words, more_words, stands_first, stands_second, stands_as, stands_within, stands_nth, stands_slice, i64_stands, i64_length, words_length, first_clean, unless_true, whole_true, le_test, lt_test, eq_test, ne_test}
@@ -48,9 +50,6 @@ no_run = record { kind = slot.Number; end = 0 }
 
 abbrev pub no_range : Range
 no_range = record { low = pos 0; high = pos 0 }
-
-abbrev pub no_line : Line
-no_line = record { at = 0; line = 0 }
 
 -- ---- what stands at the offsets of an object
 
@@ -222,23 +221,8 @@ module _ (code : PlainCode) (bytes : List ℕ) (object : IsObject code bytes) (f
       (omega (arith, stands_within bytes at (text_end_bytes code t) s, text_length code t), ap (u32_at bytes) (sym z) ∙ field bytes at 0 ns fit s (omega arith))
 
   -- the address and the line of a line
-  below_from : (low count : ℕ) (lines : List Line) → lines_rise low count lines ≡ true → (k : ℕ) → k < length lines → (low ≤ (get_or lines k no_line).at) × ((get_or lines k no_line).at < count)
-  below_from low count [] e k lt = absurd (omega arith)
-  below_from low count (x ∷ rest) e zero lt = (let a = and_parts (nat_le low x.at && nat_lt x.at count) (lines_rise (suc x.at) count rest) e in let b = and_parts (nat_le low x.at) (nat_lt x.at count) a.0 in (le_fact _ _ b.0, lt_fact _ _ b.1))
-  below_from low count (x ∷ rest) e (suc k) lt =
-      let a = and_parts (nat_le low x.at && nat_lt x.at count) (lines_rise (suc x.at) count rest) e in
-      let b = and_parts (nat_le low x.at) (nat_lt x.at count) a.0 in
-      let r = below_from (suc x.at) count rest a.1 k (omega arith) in
-      let l = le_fact _ _ b.0 in
-      (omega (arith, r.0), r.1)
-
   pub line_below : (k : ℕ) → k < length code.lines → (get_or code.lines k no_line).at < length code.instrs
   line_below k lt = (below_from 0 (length code.instrs) code.lines object.records.lines k lt).1
-
-  next_line : (low count : ℕ) (lines : List Line) → lines_rise low count lines ≡ true → (k : ℕ) → suc k < length lines → (get_or lines k no_line).at < (get_or lines (suc k) no_line).at
-  next_line low count [] e k lt = absurd (omega arith)
-  next_line low count (x ∷ rest) e zero lt = (let a = and_parts (nat_le low x.at && nat_lt x.at count) (lines_rise (suc x.at) count rest) e in (below_from (suc x.at) count rest a.1 0 (omega arith)).0)
-  next_line low count (x ∷ rest) e (suc k) lt = (let a = and_parts (nat_le low x.at && nat_lt x.at count) (lines_rise (suc x.at) count rest) e in next_line (suc x.at) count rest a.1 k (omega arith))
 
   pub record LineStands (k : ℕ) : Type 0 where
     pub is_whole : lines_at (header_for code) + 8 * k + 8 ≤ length bytes

@@ -9,6 +9,7 @@ pub mod Fields
 pub mod Forms
 pub mod Items
 pub mod Kept
+pub mod LineOrder
 pub mod Places
 pub mod Records
 pub mod Rows
