@@ -1,5 +1,5 @@
 -- The code that is read from an object is the code that was written.
-use Rattle.std.proofs.Common.{◌≡◌, ℕ, zero, suc, ◌+◌, ◌-◌, ◌*◌, ◌^◌, ◌<◌, ◌≤◌, ℤ, Bool, true, false, List, [], ◌∷◌, ◌++◌, length, get_or, take, drop, map, refl, sym, ap, subst, ◌∙◌, arith}
+use Rattle.std.proofs.Common.{◌≡◌, None, ℕ, zero, suc, ◌+◌, ◌-◌, ◌*◌, ◌^◌, ◌<◌, ◌≤◌, ℤ, Bool, true, false, List, [], ◌∷◌, ◌++◌, length, get_or, take, drop, map, refl, sym, ap, subst, ◌∙◌, arith}
 use Rattle.std.specs.Prelude.{nat_eq, if◌then◌else◌, sum_by, slice_range}
 use Rattle.std.specs.List.{flat_map, range_with_len}
 use Rattle.std.proofs.lemmas.List.FromFn.{get_or-map-range_with_len, length-map-range_with_len}
@@ -18,17 +18,18 @@ use Rattle.alma_code.specs.Plain.{PlainCode, PlainRoutine, PlainGlobal, routine_
 use Rattle.alma_code.specs.Records.{param_count, run_count}
 use Rattle.alma_object.specs.declared.header.Header.{Header}
 use Rattle.alma_object.specs.Bytes.{u32_at, i64_at}
-use Rattle.alma_object.specs.Fields.{FitsFields}
+use Rattle.alma_object.specs.Fields.{FitsFields, KeepsFormat}
 use Rattle.alma_object.specs.Header.{header_of, routines_at, globals_at, params_at, runs_at, ranges_at, texts_at, name_pool_at, text_pool_at, instrs_at, lines_at}
 use Rattle.alma_object.specs.Instrs.{instr_at}
-use Rattle.alma_object.specs.Object.{IsObject, end_of, no_global, param_number, slot_number, slot_size}
+use Rattle.alma_object.specs.Object.{IsObject, object_bytes, end_of, no_global, param_number, slot_number, slot_size}
 use Rattle.alma_object.specs.Reading.{items, param_kind, slot_kind, param_in, run_in, range_in, line_in, params_in, runs_in, name_in, text_in, routine_in, global_in, code_in}
 use Rattle.alma_object.specs.View.{no_line}
-use Rattle.alma_object.specs.Walk.{start_of, routine_field, params_end, runs_end, code_end, text_end, name_end}
+use Rattle.alma_object.specs.Walk.{object_fault, start_of, routine_field, params_end, runs_end, code_end, text_end, name_end}
 use Rattle.alma_object.proofs.Accepted.{header_for, header_is}
-use Rattle.alma_object.proofs.Clean.{no_param, no_run, no_range, RoutineStands, routine_stands, global_stands, param_stands, run_stands, range_stands, text_end_is, line_stands, instr_stands, names_length, name_of_routine, name_of_global, name_in_pool, name_end_at, params_length, runs_length, runs_start}
+use Rattle.alma_object.proofs.Clean.{object_clean, no_param, no_run, no_range, RoutineStands, routine_stands, global_stands, param_stands, run_stands, range_stands, text_end_is, line_stands, instr_stands, names_length, name_of_routine, name_of_global, name_in_pool, name_end_at, params_length, runs_length, runs_start}
 use Rattle.alma_object.proofs.Ends.{end_more, end_within, start_is, stands_part, flat_at}
 use Rattle.alma_object.proofs.Places.{SectionsStand, sections_stand, names_of}
+use Rattle.alma_object.proofs.Whole.{code_same}
 use Rattle.alma_object.proofs.Stands.{Stands, stands_as, stands_slice, eq_test, ne_test}
 
 -- a list is the list of its items
@@ -84,13 +85,6 @@ same_head x s d ps rs b es ed ep er eb =
 
 same_routine : (x : PlainRoutine) (n : List ℕ) (h : PlainHead) (e : ℕ) → n ≡ x.name → h ≡ x.head → e ≡ x.code_end → record { name = n; head = h; code_end = e } ≡ x
 same_routine x n h e en eh ee = let same : record { name = n; head = h; code_end = e } ≡ record { name = x.name; head = x.head; code_end = x.code_end } = cc in same
-
-same_code : (x : PlainCode) (rs : List PlainRoutine) (gs : List PlainGlobal) (ts : List Range) (xs : List (List ℕ)) (is : List Instr) (ls : List Line) →
-    rs ≡ x.routines → gs ≡ x.globals → ts ≡ x.ranges → xs ≡ x.texts → is ≡ x.instrs → ls ≡ x.lines →
-    record { version = x.version; routines = rs; globals = gs; ranges = ts; texts = xs; instrs = is; lines = ls } ≡ x
-same_code x rs gs ts xs is ls er eg et ex ei el =
-    let same : record { version = x.version; routines = rs; globals = gs; ranges = ts; texts = xs; instrs = is; lines = ls }
-        ≡ record { version = x.version; routines = x.routines; globals = x.globals; ranges = x.ranges; texts = x.texts; instrs = x.instrs; lines = x.lines } = cc in same
 
 module _ (code : PlainCode) (bytes : List ℕ) (object : IsObject code bytes) (fits : FitsFields code) where
   param_again : (p : ℕ) → p < length (flat_map (λ (r : PlainRoutine). r.head.params) code.routines) → param_in bytes (params_at (header_for code) + 8 * p) ≡ get_or (flat_map (λ r. r.head.params) code.routines) p no_param
@@ -196,10 +190,19 @@ module _ (code : PlainCode) (bytes : List ℕ) (object : IsObject code bytes) (f
       let texts = items_again (text_in bytes h) code.texts [] text_again in
       let instrs = items_again (λ k. instr_at bytes (instrs_at h + 17 * k)) code.instrs I.Fail (λ k lt. (instr_stands code bytes object fits k lt).1.again) in
       let lines = items_again (λ k. line_in bytes (lines_at h + 8 * k)) code.lines no_line line_again in
-      same_code code _ _ _ _ _ _ routines globals ranges texts instrs lines
+      code_same code _ _ _ _ _ _ routines globals ranges texts instrs lines
 
 pub code_again : (code : PlainCode) (bytes : List ℕ) → IsObject code bytes → FitsFields code → code_in bytes (header_of bytes) ≡ code
 code_again code bytes object fits = ap (code_in bytes) (header_is code bytes object) ∙ all_again code bytes object fits
 
 pub one_code : (first second : PlainCode) (bytes : List ℕ) → IsObject first bytes → IsObject second bytes → FitsFields first → FitsFields second → first ≡ second
 one_code first second bytes a b f g = sym (code_again first bytes a f) ∙ code_again second bytes b g
+
+encoded_object : (code : PlainCode) → KeepsFormat code → IsObject code (object_bytes code)
+encoded_object code keeps = record { version = keeps.version; counts = keeps.counts; records = keeps.records; table = keeps.table; spelled = refl }
+
+pub encoded_clean : (code : PlainCode) → KeepsFormat code → object_fault (object_bytes code) ≡ None
+encoded_clean code keeps = object_clean code (object_bytes code) (encoded_object code keeps) keeps.fields
+
+pub encoded_again : (code : PlainCode) → KeepsFormat code → code_in (object_bytes code) (header_of (object_bytes code)) ≡ code
+encoded_again code keeps = code_again code (object_bytes code) (encoded_object code keeps) keeps.fields

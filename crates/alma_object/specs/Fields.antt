@@ -8,6 +8,8 @@ use Rattle.alma_code.specs.declared.head.Run.{Run}
 use Rattle.alma_code.specs.declared.instr.Instr.{Instr}
 use Rattle.alma_code.specs.declared.instr.Instr.TheVariants as I
 use Rattle.alma_code.specs.Plain.{PlainCode, PlainRoutine, PlainGlobal}
+use Rattle.alma_code.specs.Records.{KeepsVersion, KeepsCounts, KeepsRecords}
+use Rattle.alma_code.specs.Rules.{IsTable}
 use Rattle.alma_object.specs.Object.{slot_size}
 
 -- the words of an instruction
@@ -104,3 +106,11 @@ pub record FitsFields (code : PlainCode) : Type 0 where
   pub ranges : All FitsRange code.ranges
   pub instrs : All FitsInstr code.instrs
   pub lines : All (λ line. line.line < 2 ^ 32) code.lines
+
+-- a code that the format allows: its version, counts, records and tables are as they must be, and its numbers fit their fields
+pub record KeepsFormat (code : PlainCode) : Type 0 where
+  pub version : KeepsVersion code
+  pub counts : KeepsCounts code
+  pub records : KeepsRecords code
+  pub table : IsTable code
+  pub fields : FitsFields code

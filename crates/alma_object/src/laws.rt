@@ -1,9 +1,9 @@
 //! The laws of objects, each as the contract of a function that does nothing.
 ghost use Rattle.std.specs.Prelude.{◌≡◌, List, ℕ, None};
 ghost use Rattle.alma_code.specs.Plain.{PlainCode};
-ghost use Rattle.alma_object.specs.Fields.{FitsFields};
+ghost use Rattle.alma_object.specs.Fields.{FitsFields, KeepsFormat};
 ghost use Rattle.alma_object.specs.Header.{header_of};
-ghost use Rattle.alma_object.specs.Object.{IsObject};
+ghost use Rattle.alma_object.specs.Object.{IsObject, object_bytes};
 ghost use Rattle.alma_object.specs.Reading.{code_in};
 ghost use Rattle.alma_object.specs.Walk.{object_fault};
 
@@ -23,4 +23,11 @@ pub fn object_reads_back()
 #[tactic(auto, using(crate::proofs::Again::one_code))]
 pub fn object_spells_one_code()
     ensures { (first second : PlainCode) (bytes : List ℕ) → IsObject first bytes → IsObject second bytes → FitsFields first → FitsFields second → first ≡ second }
+{}
+
+/// The object of a code that the format allows has no fault, and is read as that code.
+#[tactic(auto, using(crate::proofs::Again::encoded_clean, crate::proofs::Again::encoded_again))]
+pub fn encoded_code_reads_back()
+    ensures fault { (code : PlainCode) → KeepsFormat code → object_fault (object_bytes code) ≡ None }
+    ensures code { (code : PlainCode) → KeepsFormat code → code_in (object_bytes code) (header_of (object_bytes code)) ≡ code }
 {}
