@@ -37,7 +37,10 @@ pub fn words_of(instr: Instr) -> [Word; 4]
 {
     match instr {
         Instr::Const { to, value: _ } => one(Word::Number(to)),
-        Instr::Move { to, from } | Instr::Neg { to, from } | Instr::Flip { to, from } => two(Word::Number(to), Word::Number(from)),
+        Instr::Move { to, from } | Instr::Neg { to, from } | Instr::Flip { to, from } => two(
+            Word::Number(to),
+            Word::Number(from),
+        ),
         Instr::Add { to, left, right }
         | Instr::Sub { to, left, right }
         | Instr::Mul { to, left, right }
@@ -65,8 +68,16 @@ pub fn words_of(instr: Instr) -> [Word; 4]
             from,
             index,
             range,
-        } => [Word::Place(to), Word::Place(from), Word::Number(index), Word::Range(range)],
-        Instr::Load { to, from } | Instr::Known { to, of: from } => two(Word::Number(to), Word::Place(from)),
+        } => [
+            Word::Place(to),
+            Word::Place(from),
+            Word::Number(index),
+            Word::Range(range),
+        ],
+        Instr::Load { to, from } | Instr::Known { to, of: from } => two(
+            Word::Number(to),
+            Word::Place(from),
+        ),
         Instr::Store { to, from } => two(Word::Place(to), Word::Number(from)),
         Instr::Bind {
             place,
@@ -78,7 +89,12 @@ pub fn words_of(instr: Instr) -> [Word; 4]
             left_range,
             right,
             right_range,
-        } => [Word::Place(left), Word::Range(left_range), Word::Place(right), Word::Range(right_range)],
+        } => [
+            Word::Place(left),
+            Word::Range(left_range),
+            Word::Place(right),
+            Word::Range(right_range),
+        ],
         Instr::Jump { to } | Instr::Choose { resume: to } => one(Word::Address(to)),
         Instr::JumpZero { value, to } => two(Word::Number(value), Word::Address(to)),
         Instr::Check { value }
@@ -86,19 +102,35 @@ pub fn words_of(instr: Instr) -> [Word; 4]
         | Instr::WriteInt { value }
         | Instr::WriteChar { value }
         | Instr::WriteBool { value } => one(Word::Number(value)),
-        Instr::Mark { to: mark } | Instr::Cut { mark } | Instr::Keep { mark } => one(Word::Mark(mark)),
-        Instr::Forall { mark, resume } | Instr::Overlay { mark, resume } => two(Word::Mark(mark), Word::Address(resume)),
-        Instr::ReadInt { place, range } | Instr::ReadChar { place, range } => two(Word::Place(place), Word::Range(range)),
+        Instr::Mark { to: mark } | Instr::Cut { mark } | Instr::Keep { mark } => one(Word::Mark(
+            mark,
+        )),
+        Instr::Forall { mark, resume } | Instr::Overlay { mark, resume } => two(
+            Word::Mark(mark),
+            Word::Address(resume),
+        ),
+        Instr::ReadInt { place, range } | Instr::ReadChar { place, range } => two(
+            Word::Place(place),
+            Word::Range(range),
+        ),
         Instr::WriteText { text } => one(Word::Text(text)),
         Instr::Step {
             counter,
             limit,
             by,
             out,
-        } => [Word::Number(counter), Word::Number(limit), Word::Number(by), Word::Address(out)],
+        } => [
+            Word::Number(counter),
+            Word::Number(limit),
+            Word::Number(by),
+            Word::Address(out),
+        ],
         Instr::Own { to } => one(Word::Link(to)),
         Instr::Chain { to, link, slot: _ } => two(Word::Link(to), Word::Link(link)),
-        Instr::Outer { to, link, first: _ } | Instr::OuterSame { to, link, slot: _ } => two(Word::Place(to), Word::Link(link)),
+        Instr::Outer { to, link, first: _ } | Instr::OuterSame { to, link, slot: _ } => two(
+            Word::Place(to),
+            Word::Link(link),
+        ),
         Instr::Fail
         | Instr::Finish
         | Instr::Call { .. }
