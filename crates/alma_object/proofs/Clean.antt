@@ -88,9 +88,9 @@ module _ (code : PlainCode) (bytes : List ℕ) (object : IsObject code bytes) (f
       let runs = end_within (λ (x : PlainRoutine). length x.head.runs) code.routines r in
       let last = end_inside code object.table r lt in
       let ns = end_of (λ (x : PlainRoutine). length x.name) code.routines r ∷ end_of (λ (x : PlainRoutine). length x.head.params) code.routines r ∷ end_of (λ (x : PlainRoutine). length x.head.runs) code.routines r
-          ∷ x.code_end ∷ x.head.slots ∷ x.head.declared ∷ (if x.head.has_result then 1 else 0) ∷ [] in
+      ∷ x.code_end ∷ x.head.slots ∷ x.head.declared ∷ (if x.head.has_result then 1 else 0) ∷ [] in
       let fit : AreWords ns = more_words _ _ (omega (arith, c.names)) (more_words _ _ (omega (arith, c.params)) (more_words _ _ (omega (arith, c.runs)) (more_words _ _ (omega (arith, c.instrs))
-          (more_words _ _ one.slots (more_words _ _ one.declared (more_words _ _ (small_result x.head.has_result) no_words)))))) in
+      (more_words _ _ one.slots (more_words _ _ one.declared (more_words _ _ (small_result x.head.has_result) no_words)))))) in
       record {
         is_whole = omega (arith, stands_within bytes (routines_at h + 28 * r) (routine_bytes code r) s, routine_length code r);
         name = field bytes (routines_at h + 28 * r) 0 ns fit s (omega arith);
@@ -524,7 +524,7 @@ module _ (code : PlainCode) (bytes : List ℕ) (object : IsObject code bytes) (f
       let e0 = ap (u32_at bytes) q ∙ before.end ∙ ap (λ (x : Run). x.end) a in
       let differ = numbers_differ (get_or (head_at code r).runs i no_run).kind (get_or (head_at code r).runs (suc i) no_run).kind (differ_at (head_at code r).runs (and_parts (list_all (λ p. has_cells p.kind p.cells) (head_at code r).params) _ (and_parts (is_name (routine_at code r).name) _ (routine_kept r lt)).1).1 i low) in
       let same : (nat_eq (u32_at bytes (runs_at h + 12 * (start + suc i) - 12)) (u32_at bytes (runs_at h + 12 * (start + suc i))) && nat_eq (u32_at bytes (runs_at h + 12 * (start + suc i) - 8)) (u32_at bytes (runs_at h + 12 * (start + suc i) + 4)))
-          ≡ (nat_eq (slot_number (get_or (head_at code r).runs i no_run).kind) (slot_number (get_or (head_at code r).runs (suc i) no_run).kind) && nat_eq (slot_size (get_or (head_at code r).runs i no_run).kind) (slot_size (get_or (head_at code r).runs (suc i) no_run).kind)) = cc in
+      ≡ (nat_eq (slot_number (get_or (head_at code r).runs i no_run).kind) (slot_number (get_or (head_at code r).runs (suc i) no_run).kind) && nat_eq (slot_size (get_or (head_at code r).runs i no_run).kind) (slot_size (get_or (head_at code r).runs (suc i) no_run).kind)) = cc in
       ap (λ b. run_fault bytes h b (start + suc i)) t
       ∙ run_good false (start + suc i) (get_or (head_at code r).runs (suc i) no_run) here b inside (ap not same ∙ differ)
       (omega (arith, e0, rise_at 0 (head_at code r).runs _ (object.table.runs r lt) i low))

@@ -49,7 +49,7 @@ read_with : (bytes : List ℕ) (at : ℕ) (i : Instr) (op a b c d : ℕ) → (v 
 unfolding instr_at
 read_with bytes at i op a b c d v eo ea eb ec ed ev e =
     let o : get_or (I.Fail ∷ instrs_with (u32_at bytes (at + 1)) (u32_at bytes (at + 5)) (u32_at bytes (at + 9)) (u32_at bytes (at + 13)) (i64_at bytes (at + 5))) (slice_index bytes at) I.Fail
-        ≡ get_or (I.Fail ∷ instrs_with a b c d v) op I.Fail = rw (eo, ea, eb, ec, ed, ev) refl in
+    ≡ get_or (I.Fail ∷ instrs_with a b c d v) op I.Fail = rw (eo, ea, eb, ec, ed, ev) refl in
     o ∙ e
 
 good_with : (version : ℕ) (bytes : List ℕ) (at : ℕ) (op a b c d : ℕ) → slice_index bytes at ≡ op → u32_at bytes (at + 1) ≡ a → u32_at bytes (at + 5) ≡ b → u32_at bytes (at + 9) ≡ c → u32_at bytes (at + 13) ≡ d →

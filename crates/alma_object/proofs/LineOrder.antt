@@ -20,12 +20,10 @@ below_from low count (x ∷ rest) e (suc k) lt =
     let l = le_fact _ _ b.0 in
     (omega (arith, r.0), r.1)
 
-
 pub next_line : (low count : ℕ) (lines : List Line) → lines_rise low count lines ≡ true → (k : ℕ) → suc k < length lines → (get_or lines k no_line).at < (get_or lines (suc k) no_line).at
 next_line low count [] e k lt = absurd (omega arith)
 next_line low count (x ∷ rest) e zero lt = (let a = and_parts (nat_le low x.at && nat_lt x.at count) (lines_rise (suc x.at) count rest) e in (below_from (suc x.at) count rest a.1 0 (omega arith)).0)
 next_line low count (x ∷ rest) e (suc k) lt = (let a = and_parts (nat_le low x.at && nat_lt x.at count) (lines_rise (suc x.at) count rest) e in next_line (suc x.at) count rest a.1 k (omega arith))
-
 
 gt_test : (m n : ℕ) → n < m → nat_le m n ≡ false
 gt_test m n lt = grind (arith, nat_tests)
