@@ -2,6 +2,7 @@
 -- A read looks at what the slot holds, a write at the kind of the slot, and a place is looked at when one of its cells is used.
 use Rattle.std.specs.Prelude.{ℕ, zero, suc, ◌+◌, ◌-◌, ◌*◌, Bool, true, false, not, ◌&&◌, nat_eq, nat_lt, nat_le, ℤ, pos, ◌+ℤ◌, ◌-ℤ◌, ◌*ℤ◌, neg_ℤ, int_lt, int_le, nat_abs, List, [], ◌∷◌, ◌++◌, length, get_or, take, Option, Some, None, slice_get}
 use Rattle.std.specs.Int.{int_rem_euclid}
+use Rattle.alma_base.specs.Limits.{cell_limit, frame_limit}
 use Rattle.alma_base.specs.declared.fault.RunFault.{RunFault}
 use Rattle.alma_base.specs.declared.fault.RunFault.TheVariants as fault
 use Rattle.alma_base.specs.declared.number.Range.{Range}
@@ -393,8 +394,8 @@ arguments (p ∷ ps) s n k = as_argument p.kind p.cells (slot_of s n) s (λ c. a
 -- enters a routine: DepthFull comes before CellsFull, and only then are the cells of arguments copied
 abbrev pub entered : State → ℕ → ℕ → PlainHead → List Cell → Stepped
 entered s r start h args =
-    if_true (nat_lt (length s.now) 10000)
-    (λ _. if_true (nat_le (live_cells s.now + h.declared) 1048576)
+    if_true (nat_lt (length s.now) frame_limit)
+    (λ _. if_true (nat_le (live_cells s.now + h.declared) cell_limit)
     (λ _. answered (answer.Called r (length s.now + 1)) (record s { at = start; now = s.now ++ entered_frame s.now h r s.at args ∷ [] }))
     (λ _. faulted fault.CellsFull s))
     (λ _. faulted fault.DepthFull s)

@@ -1,5 +1,6 @@
 // The top call: from the words to the status.
 ghost use Rattle.std.specs.Prelude.{◌≡◌, ◌≤◌, length};
+ghost use Rattle.alma_base.specs.Limits.{source_limit};
 ghost use Rattle.alma_code.specs.Plain.{code_of};
 ghost use Rattle.alma_code.specs.Rules.{IsSound};
 ghost use Rattle.alma_front.specs.Source.{IsSource};
@@ -10,7 +11,7 @@ ghost use Rattle.alma_machine.specs.Built.{HasOnlyBuilt};
 ghost use Rattle.alma_driver.specs.Words.{Run, texts, asked, greatest_steps, IsWithinSteps};
 ghost use Rattle.alma_driver.specs.Outside.{sink_side, source_side, files_side, outside_of};
 ghost use Rattle.alma_driver.specs.Refusal.{IsParsed};
-ghost use Rattle.alma_driver.specs.Outcome.{code_due, ProgramOutcome, SourceOutcome, RequestOutcome, Outcome, source_limit};
+ghost use Rattle.alma_driver.specs.Outcome.{code_due, ProgramOutcome, SourceOutcome, RequestOutcome, Outcome};
 ghost use Rattle.alma_driver.specs.Course.{Goes, Performs, Answers};
 ghost use Rattle.alma_driver.specs.Causes.{Causes};
 
@@ -18,7 +19,7 @@ use crate::check::{SourceStop, check_source};
 use crate::end::{End, end_of, line_of};
 use crate::report::report;
 use crate::words::{Request, file_word, read_words};
-use alma_base::{NoMemory, Status};
+use alma_base::{NoMemory, SOURCE_LIMIT, Status};
 use alma_code::Code;
 use alma_front::read_source;
 use alma_io::{Files, Sink, Source};
@@ -27,9 +28,6 @@ use alma_lower::lower;
 use alma_machine::Machine;
 use alma_scan::place;
 use std::alloc::Global;
-
-/// The greatest length of a source, in bytes.
-const SOURCE_LIMIT: usize = 1_048_576;
 
 // Runs code for at most so many steps, without input.
 fn run_code<O: Sink>(alloc: Global, code: &Code, steps: u64, out: &mut O) -> End

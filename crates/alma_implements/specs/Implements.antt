@@ -1,6 +1,7 @@
 -- What it is that code implements a program: the machine on the code does what the meaning says, at least one visit
 -- for each 32 steps.
 use Rattle.std.specs.Prelude.{◌≡◌, ◌≤◌, ℕ, suc, ◌+◌, ◌*◌, ◌/◌, List, [], ◌++◌, length}
+use Rattle.alma_base.specs.Limits.{input_limit}
 use Rattle.alma_code.specs.declared.step.End.{End}
 use Rattle.alma_code.specs.declared.step.End.TheVariants as end
 use Rattle.alma_code.specs.Plain.{PlainCode}
@@ -10,10 +11,6 @@ use Rattle.alma_ir.specs.Tree.{Program}
 use Rattle.alma_mean.specs.Events as events
 use Rattle.alma_mean.specs.Events.{Events, NoYield, Visit, Print, Alt, Flow, first, end_of, visit_count, CutOff}
 use Rattle.alma_mean.specs.Meaning.{ev_program, result}
-
--- the greatest length of an input
-abbrev pub input_limit : ℕ
-input_limit = 16777216
 
 -- the state of the machine after n steps from the start, and what these steps print
 abbrev pub state_after : PlainCode → (input : List ℕ) → ℕ → State

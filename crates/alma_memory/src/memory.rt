@@ -1,5 +1,6 @@
 // The memory of the machine, and its calls.
 ghost use Rattle.std.specs.Prelude.{◌≡◌, ◌≢◌, ◌+◌, ◌-◌, ◌<◌, ◌≤◌, [], ◌∷◌, ◌++◌, length, take, is_ok, is_some, slice_index_or, slice_get, Some, IfOk, OnOk, OnErr, IsOk, IsSome, IsNone, IfSome, IfNone, MatchResult, if◌then◌else◌, ◌↔◌};
+ghost use Rattle.alma_base.specs.Limits.{cell_limit};
 ghost use Rattle.alma_code.specs.Picture.{no_frame, written, cell_at, kind_at, last_frame, without_last, live_cells, popped, top_of, entry_at};
 ghost use Rattle.alma_code.specs.Carries.{IsLive, IsForallAt, IsTop, kept, overlaid};
 ghost use Rattle.alma_code.specs.Layout.{IsHead, FitsParams, start_frame, entered_frame};
@@ -9,14 +10,14 @@ ghost use Rattle.alma_memory.specs.Picture.{KeepsRooms};
 ghost use Rattle.alma_memory.specs.Refusals.{HasFrameRoom, RefusesFor};
 
 use crate::carry::{Carry, SlotPlace};
-use crate::frames::{Frames, MAX_CELLS, MAX_FRAMES};
+use crate::frames::Frames;
 use crate::keep::keep_top;
 use crate::lay::{lay, lay_last};
 use crate::layout::{frame_from, start_from};
 use crate::trail::{
     Entry, Note, cut_to, enter_noted, fail_to, leave_noted, room_for_notes, write_noted,
 };
-use alma_base::NoMemory;
+use alma_base::{CELL_LIMIT, FRAME_LIMIT, NoMemory};
 use alma_code::{Cell, ChoiceKind, Head, SlotKind};
 use std::alloc::Global;
 use std::marker::Model;
@@ -73,7 +74,7 @@ impl Memory {
     pub fn new<H: Head>(alloc: Global, head: &H) -> Result<Memory, NoMemory>
         requires head { IsHead (H.head head.now) }
         requires some { 1 ≤ (H.head head.now).slots }
-        requires few { (H.head head.now).declared ≤ 1048576 }
+        requires few { (H.head head.now).declared ≤ cell_limit }
         ensures now { IfOk result (λ memory. memory.now ≡ start_frame (H.head head.now) ∷ []) }
         ensures held { IfOk result (λ memory. memory.held ≡ []) }
     {
@@ -204,10 +205,10 @@ impl Memory {
             (if is_ok result then Enter (entered_frame self.old.now (H.head head.now) routine ret args.now) else Nothing)
             self.old self.new }
     {
-        if self.frames.len() >= MAX_FRAMES {
+        if self.frames.len() >= FRAME_LIMIT {
             return Err(EnterError::DepthFull);
         }
-        if head.declared() > MAX_CELLS - self.frames.declared() {
+        if head.declared() > CELL_LIMIT - self.frames.declared() {
             return Err(EnterError::CellsFull);
         }
         let Ok(frame) = frame_from(self.alloc, &self.frames, head, routine, ret, args) else {

@@ -1,5 +1,6 @@
 // The trail: notes of what changed since each entry was pushed, and how they are undone.
 ghost use Rattle.std.specs.Prelude.{◌≡◌, ◌+◌, ◌-◌, ◌<◌, ◌≤◌, [], ◌∷◌, ◌++◌, length, take, drop, slice_index_or, OnOk, IsOk, IsSome, IsNone, MatchOption, MatchResult, vec_len, vec_capacity};
+ghost use Rattle.alma_base.specs.Limits.{cell_limit, frame_limit};
 ghost use Rattle.alma_code.specs.Picture.{no_frame, written, last_frame, without_last, live_cells, popped, top_of};
 ghost use Rattle.alma_memory.specs.Frames.{AreLive, IsWhole};
 ghost use Rattle.alma_memory.specs.Held.{Fits, HasNoteRoom, IsTrailed, Keeps, Undoes, stays};
@@ -99,8 +100,8 @@ pub fn write_noted(
 pub fn enter_noted(entries: &[Entry], frames: &mut Frames, trail: &mut Vec<Note>, frame: Frame)
     requires trailed { IsTrailed entries.now trail.old.items frames.old }
     requires room { HasNoteRoom entries.now 1 (vec_len trail.old) (vec_capacity trail.old) }
-    requires depth { length frames.old < 10000 }
-    requires cells { live_cells frames.old + frame.declared ≤ 1048576 }
+    requires depth { length frames.old < frame_limit }
+    requires cells { live_cells frames.old + frame.declared ≤ cell_limit }
     requires whole { IsWhole frame }
     ensures frames { frames.new ≡ frames.old ++ frame ∷ [] }
     ensures keeps { Keeps entries.now trail.old.items trail.new.items frames.old frames.new }

@@ -10,10 +10,10 @@ use crate::{
     AddLink, Args, Arm, Compared, Desig, Elsif, Expr, Exprs, Factor, Kind, Label, MulLink, Primary,
     Selector, Simple, Stmt, Stmts, Term,
 };
-use std::alloc::AllocError;
+use alma_base::NoMemory;
 
 #[cycle(spell)]
-pub fn push_stmts(tree: &Stmts, out: &mut Vec<Kind>) -> Result<(), AllocError>
+pub fn push_stmts(tree: &Stmts, out: &mut Vec<Kind>) -> Result<(), NoMemory>
     ensures pushed { OnOk result (Pushes out.old.items out.new.items (spell_stmts (view_stmts tree.now))) }
 {
     push_stmt(&tree.first, out)?;
@@ -21,7 +21,7 @@ pub fn push_stmts(tree: &Stmts, out: &mut Vec<Kind>) -> Result<(), AllocError>
 }
 
 #[cycle(spell)]
-fn push_stmt_tail(trees: &[Stmt], out: &mut Vec<Kind>) -> Result<(), AllocError>
+fn push_stmt_tail(trees: &[Stmt], out: &mut Vec<Kind>) -> Result<(), NoMemory>
     ensures pushed { OnOk result (Pushes out.old.items out.new.items (spell_stmt_tail (stmts_of trees.now))) }
 {
     for tree in trees {
@@ -32,7 +32,7 @@ fn push_stmt_tail(trees: &[Stmt], out: &mut Vec<Kind>) -> Result<(), AllocError>
 }
 
 #[cycle(spell)]
-fn push_stmt(tree: &Stmt, out: &mut Vec<Kind>) -> Result<(), AllocError>
+fn push_stmt(tree: &Stmt, out: &mut Vec<Kind>) -> Result<(), NoMemory>
     ensures pushed { OnOk result (Pushes out.old.items out.new.items (spell_stmt (view_stmt tree.now))) }
 {
     match tree {
@@ -74,7 +74,7 @@ fn push_stmt(tree: &Stmt, out: &mut Vec<Kind>) -> Result<(), AllocError>
 }
 
 #[cycle(spell)]
-fn push_assign(target: &Desig, value: &Expr, out: &mut Vec<Kind>) -> Result<(), AllocError>
+fn push_assign(target: &Desig, value: &Expr, out: &mut Vec<Kind>) -> Result<(), NoMemory>
     ensures pushed { OnOk result (Pushes out.old.items out.new.items (spell_stmt (assign (view_desig target.now) (view_expr value.now)))) }
 {
     push_desig(target, out)?;
@@ -89,7 +89,7 @@ fn push_if(
     elsifs: &[Elsif],
     otherwise: &Option<Stmts>,
     out: &mut Vec<Kind>,
-) -> Result<(), AllocError>
+) -> Result<(), NoMemory>
     ensures pushed { OnOk result (Pushes out.old.items out.new.items (spell_stmt (if_stmt (view_expr test.now) (view_stmts then.now) (elsifs_of elsifs.now) (else_of otherwise.now)))) }
 {
     push(Kind::If, out)?;
@@ -102,7 +102,7 @@ fn push_if(
 }
 
 #[cycle(spell)]
-fn push_while(test: &Expr, body: &Stmts, out: &mut Vec<Kind>) -> Result<(), AllocError>
+fn push_while(test: &Expr, body: &Stmts, out: &mut Vec<Kind>) -> Result<(), NoMemory>
     ensures pushed { OnOk result (Pushes out.old.items out.new.items (spell_stmt (while_stmt (view_expr test.now) (view_stmts body.now)))) }
 {
     push(Kind::While, out)?;
@@ -113,7 +113,7 @@ fn push_while(test: &Expr, body: &Stmts, out: &mut Vec<Kind>) -> Result<(), Allo
 }
 
 #[cycle(spell)]
-fn push_repeat(body: &Stmts, test: &Expr, out: &mut Vec<Kind>) -> Result<(), AllocError>
+fn push_repeat(body: &Stmts, test: &Expr, out: &mut Vec<Kind>) -> Result<(), NoMemory>
     ensures pushed { OnOk result (Pushes out.old.items out.new.items (spell_stmt (repeat_stmt (view_stmts body.now) (view_expr test.now)))) }
 {
     push(Kind::Repeat, out)?;
@@ -129,7 +129,7 @@ fn push_for(
     by: &Option<Expr>,
     body: &Stmts,
     out: &mut Vec<Kind>,
-) -> Result<(), AllocError>
+) -> Result<(), NoMemory>
     ensures pushed { OnOk result (Pushes out.old.items out.new.items (spell_stmt (for_stmt (view_expr from.now) (view_expr to.now) (by_of by.now) (view_stmts body.now)))) }
 {
     push(Kind::For, out)?;
@@ -145,7 +145,7 @@ fn push_for(
 }
 
 #[cycle(spell)]
-fn push_some(from: &Expr, to: &Expr, body: &Stmts, out: &mut Vec<Kind>) -> Result<(), AllocError>
+fn push_some(from: &Expr, to: &Expr, body: &Stmts, out: &mut Vec<Kind>) -> Result<(), NoMemory>
     ensures pushed { OnOk result (Pushes out.old.items out.new.items (spell_stmt (some_stmt (view_expr from.now) (view_expr to.now) (view_stmts body.now)))) }
 {
     push(Kind::Some, out)?;
@@ -166,7 +166,7 @@ fn push_case(
     more: &[Arm],
     otherwise: &Option<Stmts>,
     out: &mut Vec<Kind>,
-) -> Result<(), AllocError>
+) -> Result<(), NoMemory>
     ensures pushed { OnOk result (Pushes out.old.items out.new.items (spell_stmt (case_stmt (view_expr value.now) (view_arm first.now) (arms_of more.now) (else_of otherwise.now)))) }
 {
     push(Kind::Case, out)?;
@@ -179,7 +179,7 @@ fn push_case(
 }
 
 #[cycle(spell)]
-fn push_either(first: &Stmts, more: &[Stmts], out: &mut Vec<Kind>) -> Result<(), AllocError>
+fn push_either(first: &Stmts, more: &[Stmts], out: &mut Vec<Kind>) -> Result<(), NoMemory>
     ensures pushed { OnOk result (Pushes out.old.items out.new.items (spell_stmt (either_stmt (view_stmts first.now) (orelses_of more.now)))) }
 {
     push(Kind::Either, out)?;
@@ -189,7 +189,7 @@ fn push_either(first: &Stmts, more: &[Stmts], out: &mut Vec<Kind>) -> Result<(),
 }
 
 #[cycle(spell)]
-fn push_forall(choice: &Stmts, body: &Stmts, out: &mut Vec<Kind>) -> Result<(), AllocError>
+fn push_forall(choice: &Stmts, body: &Stmts, out: &mut Vec<Kind>) -> Result<(), NoMemory>
     ensures pushed { OnOk result (Pushes out.old.items out.new.items (spell_stmt (forall_stmt (view_stmts choice.now) (view_stmts body.now)))) }
 {
     push(Kind::Forall, out)?;
@@ -200,7 +200,7 @@ fn push_forall(choice: &Stmts, body: &Stmts, out: &mut Vec<Kind>) -> Result<(), 
 }
 
 #[cycle(spell)]
-fn push_commit(body: &Stmts, out: &mut Vec<Kind>) -> Result<(), AllocError>
+fn push_commit(body: &Stmts, out: &mut Vec<Kind>) -> Result<(), NoMemory>
     ensures pushed { OnOk result (Pushes out.old.items out.new.items (spell_stmt (commit_stmt (view_stmts body.now)))) }
 {
     push(Kind::Commit, out)?;
@@ -209,7 +209,7 @@ fn push_commit(body: &Stmts, out: &mut Vec<Kind>) -> Result<(), AllocError>
 }
 
 #[cycle(spell)]
-fn push_return(value: &Option<Expr>, out: &mut Vec<Kind>) -> Result<(), AllocError>
+fn push_return(value: &Option<Expr>, out: &mut Vec<Kind>) -> Result<(), NoMemory>
     ensures pushed { OnOk result (Pushes out.old.items out.new.items (spell_stmt (return_stmt (returned_of value.now)))) }
 {
     push(Kind::Return, out)?;
@@ -217,7 +217,7 @@ fn push_return(value: &Option<Expr>, out: &mut Vec<Kind>) -> Result<(), AllocErr
 }
 
 #[cycle(spell)]
-fn push_read(first: &Desig, more: &[Desig], out: &mut Vec<Kind>) -> Result<(), AllocError>
+fn push_read(first: &Desig, more: &[Desig], out: &mut Vec<Kind>) -> Result<(), NoMemory>
     ensures pushed { OnOk result (Pushes out.old.items out.new.items (spell_stmt (read_stmt (view_desig first.now) (desigs_of more.now)))) }
 {
     push(Kind::Read, out)?;
@@ -228,7 +228,7 @@ fn push_read(first: &Desig, more: &[Desig], out: &mut Vec<Kind>) -> Result<(), A
 }
 
 #[cycle(spell)]
-fn push_write(items: &Exprs, out: &mut Vec<Kind>) -> Result<(), AllocError>
+fn push_write(items: &Exprs, out: &mut Vec<Kind>) -> Result<(), NoMemory>
     ensures pushed { OnOk result (Pushes out.old.items out.new.items (spell_stmt (write_stmt (view_exprs items.now)))) }
 {
     push(Kind::Write, out)?;
@@ -238,7 +238,7 @@ fn push_write(items: &Exprs, out: &mut Vec<Kind>) -> Result<(), AllocError>
 }
 
 #[cycle(spell)]
-fn push_writeln(items: &Option<Args>, out: &mut Vec<Kind>) -> Result<(), AllocError>
+fn push_writeln(items: &Option<Args>, out: &mut Vec<Kind>) -> Result<(), NoMemory>
     ensures pushed { OnOk result (Pushes out.old.items out.new.items (spell_stmt (writeln_stmt (args_of items.now)))) }
 {
     push(Kind::Writeln, out)?;
@@ -246,7 +246,7 @@ fn push_writeln(items: &Option<Args>, out: &mut Vec<Kind>) -> Result<(), AllocEr
 }
 
 #[cycle(spell)]
-fn push_elsif_tail(trees: &[Elsif], out: &mut Vec<Kind>) -> Result<(), AllocError>
+fn push_elsif_tail(trees: &[Elsif], out: &mut Vec<Kind>) -> Result<(), NoMemory>
     ensures pushed { OnOk result (Pushes out.old.items out.new.items (spell_elsif_tail (elsifs_of trees.now))) }
 {
     for tree in trees {
@@ -259,7 +259,7 @@ fn push_elsif_tail(trees: &[Elsif], out: &mut Vec<Kind>) -> Result<(), AllocErro
 }
 
 #[cycle(spell)]
-fn push_else(tree: &Option<Stmts>, out: &mut Vec<Kind>) -> Result<(), AllocError>
+fn push_else(tree: &Option<Stmts>, out: &mut Vec<Kind>) -> Result<(), NoMemory>
     ensures pushed { OnOk result (Pushes out.old.items out.new.items (spell_else (else_of tree.now))) }
 {
     match tree {
@@ -272,7 +272,7 @@ fn push_else(tree: &Option<Stmts>, out: &mut Vec<Kind>) -> Result<(), AllocError
 }
 
 #[cycle(spell)]
-fn push_by(tree: &Option<Expr>, out: &mut Vec<Kind>) -> Result<(), AllocError>
+fn push_by(tree: &Option<Expr>, out: &mut Vec<Kind>) -> Result<(), NoMemory>
     ensures pushed { OnOk result (Pushes out.old.items out.new.items (spell_by (by_of tree.now))) }
 {
     match tree {
@@ -285,7 +285,7 @@ fn push_by(tree: &Option<Expr>, out: &mut Vec<Kind>) -> Result<(), AllocError>
 }
 
 #[cycle(spell)]
-fn push_orelse_tail(trees: &[Stmts], out: &mut Vec<Kind>) -> Result<(), AllocError>
+fn push_orelse_tail(trees: &[Stmts], out: &mut Vec<Kind>) -> Result<(), NoMemory>
     ensures pushed { OnOk result (Pushes out.old.items out.new.items (spell_orelse_tail (orelses_of trees.now))) }
 {
     for tree in trees {
@@ -296,7 +296,7 @@ fn push_orelse_tail(trees: &[Stmts], out: &mut Vec<Kind>) -> Result<(), AllocErr
 }
 
 #[cycle(spell)]
-fn push_returned(tree: &Option<Expr>, out: &mut Vec<Kind>) -> Result<(), AllocError>
+fn push_returned(tree: &Option<Expr>, out: &mut Vec<Kind>) -> Result<(), NoMemory>
     ensures pushed { OnOk result (Pushes out.old.items out.new.items (spell_returned (returned_of tree.now))) }
 {
     match tree {
@@ -306,7 +306,7 @@ fn push_returned(tree: &Option<Expr>, out: &mut Vec<Kind>) -> Result<(), AllocEr
 }
 
 #[cycle(spell)]
-fn push_desig_tail(trees: &[Desig], out: &mut Vec<Kind>) -> Result<(), AllocError>
+fn push_desig_tail(trees: &[Desig], out: &mut Vec<Kind>) -> Result<(), NoMemory>
     ensures pushed { OnOk result (Pushes out.old.items out.new.items (spell_desig_tail (desigs_of trees.now))) }
 {
     for tree in trees {
@@ -317,7 +317,7 @@ fn push_desig_tail(trees: &[Desig], out: &mut Vec<Kind>) -> Result<(), AllocErro
 }
 
 #[cycle(spell)]
-fn push_arm(tree: &Arm, out: &mut Vec<Kind>) -> Result<(), AllocError>
+fn push_arm(tree: &Arm, out: &mut Vec<Kind>) -> Result<(), NoMemory>
     ensures pushed { OnOk result (Pushes out.old.items out.new.items (spell_arm (view_arm tree.now))) }
 {
     match tree {
@@ -337,7 +337,7 @@ fn push_arm(tree: &Arm, out: &mut Vec<Kind>) -> Result<(), AllocError>
 }
 
 #[cycle(spell)]
-fn push_arm_tail(trees: &[Arm], out: &mut Vec<Kind>) -> Result<(), AllocError>
+fn push_arm_tail(trees: &[Arm], out: &mut Vec<Kind>) -> Result<(), NoMemory>
     ensures pushed { OnOk result (Pushes out.old.items out.new.items (spell_arm_tail (arms_of trees.now))) }
 {
     for tree in trees {
@@ -348,7 +348,7 @@ fn push_arm_tail(trees: &[Arm], out: &mut Vec<Kind>) -> Result<(), AllocError>
 }
 
 #[cycle(spell)]
-fn push_label(tree: &Label, out: &mut Vec<Kind>) -> Result<(), AllocError>
+fn push_label(tree: &Label, out: &mut Vec<Kind>) -> Result<(), NoMemory>
     ensures pushed { OnOk result (Pushes out.old.items out.new.items (spell_label (view_label tree.now))) }
 {
     push_expr(&tree.low, out)?;
@@ -356,7 +356,7 @@ fn push_label(tree: &Label, out: &mut Vec<Kind>) -> Result<(), AllocError>
 }
 
 #[cycle(spell)]
-fn push_high(tree: &Option<Expr>, out: &mut Vec<Kind>) -> Result<(), AllocError>
+fn push_high(tree: &Option<Expr>, out: &mut Vec<Kind>) -> Result<(), NoMemory>
     ensures pushed { OnOk result (Pushes out.old.items out.new.items (spell_high (high_of tree.now))) }
 {
     match tree {
@@ -369,7 +369,7 @@ fn push_high(tree: &Option<Expr>, out: &mut Vec<Kind>) -> Result<(), AllocError>
 }
 
 #[cycle(spell)]
-fn push_label_tail(trees: &[Label], out: &mut Vec<Kind>) -> Result<(), AllocError>
+fn push_label_tail(trees: &[Label], out: &mut Vec<Kind>) -> Result<(), NoMemory>
     ensures pushed { OnOk result (Pushes out.old.items out.new.items (spell_label_tail (labels_of trees.now))) }
 {
     for tree in trees {
@@ -380,7 +380,7 @@ fn push_label_tail(trees: &[Label], out: &mut Vec<Kind>) -> Result<(), AllocErro
 }
 
 #[cycle(spell)]
-pub fn push_expr(tree: &Expr, out: &mut Vec<Kind>) -> Result<(), AllocError>
+pub fn push_expr(tree: &Expr, out: &mut Vec<Kind>) -> Result<(), NoMemory>
     ensures pushed { OnOk result (Pushes out.old.items out.new.items (spell_expr (view_expr tree.now))) }
 {
     push_simple(&tree.left, out)?;
@@ -388,7 +388,7 @@ pub fn push_expr(tree: &Expr, out: &mut Vec<Kind>) -> Result<(), AllocError>
 }
 
 #[cycle(spell)]
-fn push_compared(tree: &Option<Box<Compared>>, out: &mut Vec<Kind>) -> Result<(), AllocError>
+fn push_compared(tree: &Option<Box<Compared>>, out: &mut Vec<Kind>) -> Result<(), NoMemory>
     ensures pushed { OnOk result (Pushes out.old.items out.new.items (spell_compared (compared_of tree.now))) }
 {
     match tree {
@@ -401,7 +401,7 @@ fn push_compared(tree: &Option<Box<Compared>>, out: &mut Vec<Kind>) -> Result<()
 }
 
 #[cycle(spell)]
-fn push_simple(tree: &Simple, out: &mut Vec<Kind>) -> Result<(), AllocError>
+fn push_simple(tree: &Simple, out: &mut Vec<Kind>) -> Result<(), NoMemory>
     ensures pushed { OnOk result (Pushes out.old.items out.new.items (spell_simple (view_simple tree.now))) }
 {
     push_sign(tree.sign, out)?;
@@ -410,7 +410,7 @@ fn push_simple(tree: &Simple, out: &mut Vec<Kind>) -> Result<(), AllocError>
 }
 
 #[cycle(spell)]
-fn push_term_tail(trees: &[AddLink], out: &mut Vec<Kind>) -> Result<(), AllocError>
+fn push_term_tail(trees: &[AddLink], out: &mut Vec<Kind>) -> Result<(), NoMemory>
     ensures pushed { OnOk result (Pushes out.old.items out.new.items (spell_term_tail (terms_of trees.now))) }
 {
     for tree in trees {
@@ -421,7 +421,7 @@ fn push_term_tail(trees: &[AddLink], out: &mut Vec<Kind>) -> Result<(), AllocErr
 }
 
 #[cycle(spell)]
-fn push_term(tree: &Term, out: &mut Vec<Kind>) -> Result<(), AllocError>
+fn push_term(tree: &Term, out: &mut Vec<Kind>) -> Result<(), NoMemory>
     ensures pushed { OnOk result (Pushes out.old.items out.new.items (spell_term (view_term tree.now))) }
 {
     push_factor(&tree.first, out)?;
@@ -429,7 +429,7 @@ fn push_term(tree: &Term, out: &mut Vec<Kind>) -> Result<(), AllocError>
 }
 
 #[cycle(spell)]
-fn push_factor_tail(trees: &[MulLink], out: &mut Vec<Kind>) -> Result<(), AllocError>
+fn push_factor_tail(trees: &[MulLink], out: &mut Vec<Kind>) -> Result<(), NoMemory>
     ensures pushed { OnOk result (Pushes out.old.items out.new.items (spell_factor_tail (factors_of trees.now))) }
 {
     for tree in trees {
@@ -440,7 +440,7 @@ fn push_factor_tail(trees: &[MulLink], out: &mut Vec<Kind>) -> Result<(), AllocE
 }
 
 #[cycle(spell)]
-fn push_factor(tree: &Factor, out: &mut Vec<Kind>) -> Result<(), AllocError>
+fn push_factor(tree: &Factor, out: &mut Vec<Kind>) -> Result<(), NoMemory>
     ensures pushed { OnOk result (Pushes out.old.items out.new.items (spell_factor (view_factor tree.now))) }
 {
     match tree {
@@ -453,7 +453,7 @@ fn push_factor(tree: &Factor, out: &mut Vec<Kind>) -> Result<(), AllocError>
 }
 
 #[cycle(spell)]
-fn push_primary(tree: &Primary, out: &mut Vec<Kind>) -> Result<(), AllocError>
+fn push_primary(tree: &Primary, out: &mut Vec<Kind>) -> Result<(), NoMemory>
     ensures pushed { OnOk result (Pushes out.old.items out.new.items (spell_primary (view_primary tree.now))) }
 {
     match tree {
@@ -490,7 +490,7 @@ fn push_primary(tree: &Primary, out: &mut Vec<Kind>) -> Result<(), AllocError>
 }
 
 #[cycle(spell)]
-fn push_args(tree: &Option<Args>, out: &mut Vec<Kind>) -> Result<(), AllocError>
+fn push_args(tree: &Option<Args>, out: &mut Vec<Kind>) -> Result<(), NoMemory>
     ensures pushed { OnOk result (Pushes out.old.items out.new.items (spell_args (args_of tree.now))) }
 {
     let Some(args) = tree else {
@@ -507,7 +507,7 @@ fn push_args(tree: &Option<Args>, out: &mut Vec<Kind>) -> Result<(), AllocError>
 }
 
 #[cycle(spell)]
-fn push_exprs(tree: &Exprs, out: &mut Vec<Kind>) -> Result<(), AllocError>
+fn push_exprs(tree: &Exprs, out: &mut Vec<Kind>) -> Result<(), NoMemory>
     ensures pushed { OnOk result (Pushes out.old.items out.new.items (spell_exprs (view_exprs tree.now))) }
 {
     push_expr(&tree.first, out)?;
@@ -515,7 +515,7 @@ fn push_exprs(tree: &Exprs, out: &mut Vec<Kind>) -> Result<(), AllocError>
 }
 
 #[cycle(spell)]
-fn push_expr_tail(trees: &[Expr], out: &mut Vec<Kind>) -> Result<(), AllocError>
+fn push_expr_tail(trees: &[Expr], out: &mut Vec<Kind>) -> Result<(), NoMemory>
     ensures pushed { OnOk result (Pushes out.old.items out.new.items (spell_expr_tail (exprs_of trees.now))) }
 {
     for tree in trees {
@@ -526,7 +526,7 @@ fn push_expr_tail(trees: &[Expr], out: &mut Vec<Kind>) -> Result<(), AllocError>
 }
 
 #[cycle(spell)]
-fn push_desig(tree: &Desig, out: &mut Vec<Kind>) -> Result<(), AllocError>
+fn push_desig(tree: &Desig, out: &mut Vec<Kind>) -> Result<(), NoMemory>
     ensures pushed { OnOk result (Pushes out.old.items out.new.items (spell_desig (view_desig tree.now))) }
 {
     push(Kind::Name, out)?;
@@ -534,7 +534,7 @@ fn push_desig(tree: &Desig, out: &mut Vec<Kind>) -> Result<(), AllocError>
 }
 
 #[cycle(spell)]
-fn push_selector_tail(trees: &[Selector], out: &mut Vec<Kind>) -> Result<(), AllocError>
+fn push_selector_tail(trees: &[Selector], out: &mut Vec<Kind>) -> Result<(), NoMemory>
     ensures pushed { OnOk result (Pushes out.old.items out.new.items (spell_selector_tail (selectors_of trees.now))) }
 {
     for tree in trees {
@@ -544,7 +544,7 @@ fn push_selector_tail(trees: &[Selector], out: &mut Vec<Kind>) -> Result<(), All
 }
 
 #[cycle(spell)]
-fn push_selector(tree: &Selector, out: &mut Vec<Kind>) -> Result<(), AllocError>
+fn push_selector(tree: &Selector, out: &mut Vec<Kind>) -> Result<(), NoMemory>
     ensures pushed { OnOk result (Pushes out.old.items out.new.items (spell_selector (view_selector tree.now))) }
 {
     match tree {

@@ -1,11 +1,12 @@
 // Spellings of trees made by hand, and depths.
 use super::*;
-use std::alloc::{AllocError, Global};
+use alma_base::NoMemory;
+use std::alloc::Global;
 use std::test::Fail;
 
 const NAME: Name = Name { node: 0, token: 0 };
 
-fn expr_of(alloc: Global, primary: Primary) -> Result<Expr, AllocError> {
+fn expr_of(alloc: Global, primary: Primary) -> Result<Expr, NoMemory> {
     let first = Factor::Plain { node: 0, primary };
     let term = Term {
         node: 0,
@@ -25,7 +26,7 @@ fn expr_of(alloc: Global, primary: Primary) -> Result<Expr, AllocError> {
     })
 }
 
-fn stmts_of(alloc: Global, first: Stmt) -> Result<Stmts, AllocError> {
+fn stmts_of(alloc: Global, first: Stmt) -> Result<Stmts, NoMemory> {
     Ok(Stmts {
         node: 0,
         first: Box::new(alloc, first)?,
