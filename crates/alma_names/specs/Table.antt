@@ -2,6 +2,7 @@
 use Rattle.std.specs.Prelude.{◌≡◌, ℕ, ◌≤◌, List, length, All, Some, ◌<◌, Option, MatchOption, slice_get}
 use Rattle.alma_names.specs.Shapes.{PlainShape, limit, cell_counts, IsShapeAt}
 
+-- a number of cells that a shape may have
 abbrev pub IsSmall : ℕ → Type 0
 IsSmall n = n ≤ limit
 
