@@ -1,7 +1,7 @@
 // A source that is read to its end.
-ghost use Rattle.std.specs.Prelude.{◌≡◌, ◌≤◌, ◌<◌, ◌^◌, length, vec_len, IfOk, OnErr, IsErrOf};
+ghost use Rattle.std.specs.Prelude.{◌≡◌, ◌≤◌, ◌<◌, ◌+◌, ◌^◌, length, vec_len, IfOk, OnErr, IsErrOf};
 ghost use Rattle.std.specs.Io.KnownBytes.{Consumes, IsAtEnd};
-ghost use Rattle.alma_io.specs.Whole.{LosesFront, MayHaveMore, HasReadCause};
+ghost use Rattle.alma_io.specs.Whole.{LosesAtMost, LosesBytes, MayHaveMore, HasReadCause};
 
 use crate::{Failed, Source};
 use alma_base::NoMemory;
@@ -32,7 +32,8 @@ pub fn read_all<S: Source>(alloc: Global, source: &mut S, limit: usize) -> Resul
     ensures all { IfOk result (λ bytes. Consumes (S.left source.old) (S.left source.new) bytes.items × IsAtEnd (S.left source.new)) }
     ensures within { IfOk result (λ bytes. length bytes.items ≤ limit) }
     ensures too_long { IsErrOf result ReadAll.TooLong → MayHaveMore (S.left source.old) limit }
-    ensures front { OnErr result (LosesFront (S.left source.old) (S.left source.new)) }
+    ensures one_past { IsErrOf result ReadAll.TooLong → LosesBytes (S.left source.old) (S.left source.new) (limit + 1) }
+    ensures prefix { OnErr result (LosesAtMost (S.left source.old) (S.left source.new) (limit + 1)) }
     ensures cause { HasReadCause (S.faults source.old) (S.faults source.new) result }
 {
     let mut bytes = Vec::new(alloc);
@@ -40,13 +41,15 @@ pub fn read_all<S: Source>(alloc: Global, source: &mut S, limit: usize) -> Resul
         return Err(ReadAll::Memory);
     };
     loop {
-        let Ok(count) = source.read(&mut chunk) else {
+        // One byte more than may be kept tells that the source has too many.
+        let room = limit - bytes.len();
+        let Ok(count) = source.read(&mut chunk[..CHUNK.min(room + 1)]) else {
             return Err(ReadAll::Fault);
         };
         if count == 0 {
             return Ok(bytes);
         }
-        if count > limit - bytes.len() {
+        if count > room {
             return Err(ReadAll::TooLong);
         }
         if bytes.extend_from_slice(&chunk[..count]).is_err() {
