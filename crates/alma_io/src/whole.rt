@@ -43,7 +43,7 @@ pub fn read_all<S: Source>(alloc: Global, source: &mut S, limit: usize) -> Resul
     loop {
         // One byte more than may be kept tells that the source has too many.
         let room = limit - bytes.len();
-        let Ok(count) = source.read(&mut chunk[..CHUNK.min(room + 1)]) else {
+        let Ok(count) = source.read(&mut chunk[..chunk.len().min(room + 1)]) else {
             return Err(ReadAll::Fault);
         };
         if count == 0 {
