@@ -43,7 +43,9 @@ pub fn read_all<S: Source>(alloc: Global, source: &mut S, limit: usize) -> Resul
     loop {
         // One byte more than may be kept tells that the source has too many.
         let room = limit - bytes.len();
-        let Ok(count) = source.read(&mut chunk[..chunk.len().min(room + 1)]) else {
+        let most = chunk.len().min(room + 1);
+        let piece = &mut chunk[..most];
+        let Ok(count) = source.read(piece) else {
             return Err(ReadAll::Fault);
         };
         if count == 0 {
@@ -52,7 +54,7 @@ pub fn read_all<S: Source>(alloc: Global, source: &mut S, limit: usize) -> Resul
         if count > room {
             return Err(ReadAll::TooLong);
         }
-        if bytes.extend_from_slice(&chunk[..count]).is_err() {
+        if bytes.extend_from_slice(&piece[..count]).is_err() {
             return Err(ReadAll::Memory);
         }
     }
