@@ -11,14 +11,14 @@ pub data End : Type 0 where
   too_deep : (rest : List Kind) → End
 
 -- a depth behind a token that opens a bracket, closes one or does neither
-abbrev pub moved : (opening closing : Bool) → ℕ → ℕ
-moved true _ d = suc d
-moved false true d = pred d
-moved false false d = d
+abbrev pub next_depth : (opening closing : Bool) → ℕ → ℕ
+next_depth true _ d = suc d
+next_depth false true d = pred d
+next_depth false false d = d
 
 -- the depth behind a token
 abbrev pub level : ℕ → Kind → ℕ
-level d k = moved (opens k) (closes k) d
+level d k = next_depth (opens k) (closes k) d
 
 -- how reading ends where no token is left: well, if the program may end here
 abbrev pub at_end : Bool → End
