@@ -1,6 +1,7 @@
 -- What the format of objects asks of the tables of a code, beside their order: no count is too large, and each record is as it must be.
 use Rattle.std.specs.Prelude.{◌≡◌, ◌⊎◌, ◌+◌, ◌≤◌, ℕ, Bool, true, false, not, ◌&&◌, ◌||◌, nat_eq, nat_le, int_le, List, [], ◌∷◌, sum_by, length}
 use Rattle.std.specs.List.{list_all}
+use Rattle.alma_base.specs.Limits.{instr_limit, slot_limit, record_limit, pool_limit}
 use Rattle.alma_base.specs.Reading.{is_digit}
 use Rattle.alma_code.specs.declared.cell.SlotKind.{SlotKind}
 use Rattle.alma_code.specs.declared.cell.SlotKind.TheVariants as slot
@@ -33,15 +34,15 @@ text_count code = sum_by length code.texts
 -- no count is past its greatest value
 pub record KeepsCounts (code : PlainCode) : Type 0 where
   pub routines : length code.routines ≤ 262144
-  pub globals : length code.globals ≤ 1048576
-  pub params : param_count code ≤ 1048576
-  pub runs : run_count code ≤ 8388608
-  pub ranges : length code.ranges ≤ 1048576
-  pub texts : length code.texts ≤ 1048576
-  pub names : name_count code ≤ 16777216
-  pub text_bytes : text_count code ≤ 16777216
-  pub instrs : length code.instrs ≤ 4194304
-  pub lines : length code.lines ≤ 1048576
+  pub globals : length code.globals ≤ record_limit
+  pub params : param_count code ≤ record_limit
+  pub runs : run_count code ≤ slot_limit
+  pub ranges : length code.ranges ≤ record_limit
+  pub texts : length code.texts ≤ record_limit
+  pub names : name_count code ≤ pool_limit
+  pub text_bytes : text_count code ≤ pool_limit
+  pub instrs : length code.instrs ≤ instr_limit
+  pub lines : length code.lines ≤ record_limit
 
 -- ---- records
 

@@ -2,6 +2,7 @@
 -- Rules 1 to 3 are of a head, rules 4 to 12 of an instruction; "the routine" is the routine r in whose code it stands.
 use Rattle.std.specs.Prelude.{◌≡◌, ℕ, zero, suc, ◌+◌, ◌-◌, ◌*◌, ◌<◌, ◌≤◌, Bool, true, false, not, ◌&&◌, ◌||◌, nat_eq, nat_lt, nat_le, List, [], ◌∷◌, length, get_or, Option, Some, None, slice_get}
 use Rattle.std.specs.List.{list_all}
+use Rattle.alma_base.specs.Limits.{cell_limit, slot_limit}
 use Rattle.alma_base.specs.Numbers.{range_size}
 use Rattle.alma_base.specs.declared.number.Range.{Range}
 use Rattle.alma_code.specs.declared.cell.SlotKind.{SlotKind}
@@ -124,8 +125,8 @@ module _ (code : PlainCode) where
   abbrev pub rule_2 : ℕ → Bool
   rule_2 r =
       (nat_eq (last_end 0 (head_at code r).runs) (head_at code r).slots
-      && (nat_le (head_at code r).slots 8388608 && list_all (λ run. names_routine run.kind) (head_at code r).runs))
-      && (nat_le (head_at code r).declared (head_at code r).slots && nat_le (head_at code r).declared 1048576)
+      && (nat_le (head_at code r).slots slot_limit && list_all (λ run. names_routine run.kind) (head_at code r).runs))
+      && (nat_le (head_at code r).declared (head_at code r).slots && nat_le (head_at code r).declared cell_limit)
 
   -- slot 0 of routine 0 is a number slot
   abbrev pub has_position : ℕ → Bool

@@ -1,5 +1,6 @@
 // The top call: from the words to the status.
 ghost use Rattle.std.specs.Prelude.{◌≡◌, ◌≤◌, length};
+ghost use Rattle.alma_base.specs.Limits.{source_limit};
 ghost use Rattle.alma_code.specs.Plain.{code_of};
 ghost use Rattle.alma_code.specs.Rules.{IsSound};
 ghost use Rattle.alma_front.specs.Source.{IsSource};
@@ -10,7 +11,7 @@ ghost use Rattle.alma_machine.specs.Built.{HasOnlyBuilt};
 ghost use Rattle.alma_driver.specs.Words.{Run, texts, asked, greatest_steps, IsWithinSteps};
 ghost use Rattle.alma_driver.specs.Outside.{sink_side, source_side, files_side, outside_of};
 ghost use Rattle.alma_driver.specs.Refusal.{IsParsed};
-ghost use Rattle.alma_driver.specs.Outcome.{code_due, ProgramOutcome, SourceOutcome, RequestOutcome, Outcome, source_limit};
+ghost use Rattle.alma_driver.specs.Outcome.{code_due, ProgramOutcome, SourceOutcome, RequestOutcome, Outcome};
 ghost use Rattle.alma_driver.specs.Course.{Goes, Performs, Answers};
 ghost use Rattle.alma_driver.specs.Causes.{Causes};
 

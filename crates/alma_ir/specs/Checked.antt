@@ -1,6 +1,7 @@
 -- What the checker's programs keep, and what a program must keep to be compiled: each condition by itself, and all.
 use Rattle.std.specs.Prelude.{◌≡◌, ◌⊎◌, ℕ, zero, suc, ◌+◌, ◌*◌, ◌<◌, ◌≤◌, IsTrue, pos, ◌≤ℤ◌, List, [], ◌∷◌, ◌++◌, length, sum_by, Some, IsSome, IsNone}
 use Rattle.std.specs.List.{AllByRecursion}
+use Rattle.alma_base.specs.Limits.{cell_limit, routine_slot_limit, record_limit, pool_limit}
 use Rattle.alma_base.specs.Bytes.{is_letter, is_word_byte}
 use Rattle.alma_base.specs.Numbers.{range_size}
 use Rattle.alma_base.specs.declared.number.Range.{Range}
@@ -359,15 +360,15 @@ pub record HasLines (routine : Routine) : Type 0 where
 
 -- how much the whole program may hold, with a parameter more for each link
 pub record KeepsLimits (p : Program) : Type 0 where
-  pub globals : length p.globals ≤ 1048576
-  pub params : sum_by (λ r. length r.params + link_slots r.level) p.routines ≤ 1048576
-  pub names : sum_by (λ r. length r.name) p.routines + sum_by (λ g. length g.name) p.globals ≤ 16777216
-  pub texts : sum_by (λ r. sum_by text_bytes (stmts_phrases r.body)) p.routines ≤ 16777216
+  pub globals : length p.globals ≤ record_limit
+  pub params : sum_by (λ r. length r.params + link_slots r.level) p.routines ≤ record_limit
+  pub names : sum_by (λ r. length r.name) p.routines + sum_by (λ g. length g.name) p.globals ≤ pool_limit
+  pub texts : sum_by (λ r. sum_by text_bytes (stmts_phrases r.body)) p.routines ≤ pool_limit
 
 -- how much a routine may hold, with a slot more for its link
 pub record RoutineKeepsLimits (routine : Routine) : Type 0 where
-  pub declared : routine.declared ≤ 1048576
-  pub slots : routine.slots + link_slots routine.level ≤ 4194304
+  pub declared : routine.declared ≤ cell_limit
+  pub slots : routine.slots + link_slots routine.level ≤ routine_slot_limit
 
 -- ---- all conditions
 

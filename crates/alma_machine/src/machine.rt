@@ -1,5 +1,6 @@
 // The machine.
 ghost use Rattle.std.specs.Prelude.{◌≡◌, ◌+◌, ◌^◌, ◌<◌, ◌≤◌, List, ℕ, [], true, length, IfOk, OnOk, OnErr, IsTrue};
+ghost use Rattle.alma_base.specs.Limits.{input_limit};
 ghost use Rattle.alma_code.specs.Machine.{Going, step, start, after, prints};
 ghost use Rattle.alma_code.specs.Plain.{code_of};
 ghost use Rattle.alma_code.specs.Rules.{IsSound};
@@ -134,7 +135,7 @@ impl<'b, 'i> Machine<'b, 'i> {
     pub fn new(alloc: Global, code: &'b Code, input: &'i [u8]) -> Result<Machine<'b, 'i>, NoMemory>
         requires sound { IsSound (code_of code.now) }
         requires built { HasOnlyBuilt (code_of code.now) }
-        requires lawful { length input.now ≤ 16777216 }
+        requires lawful { length input.now ≤ input_limit }
         ensures { IfOk result (λ machine. machine ≡ record {
           code = code_of code.now;
           input = input.now;

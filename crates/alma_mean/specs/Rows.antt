@@ -1,5 +1,6 @@
 -- The rows of the meaning, each given the events of its parts. `Meaning` says what these parts are.
 use Rattle.std.specs.Prelude.{ℕ, zero, suc, ◌+◌, ◌*◌, Bool, true, false, nat_lt, nat_le, ℤ, pos, ◌+ℤ◌, ◌-ℤ◌, nat_abs, List, [], ◌∷◌, ◌++◌, length, replicate, drop, set, Option, Some, None, sum_by}
+use Rattle.alma_base.specs.Limits.{cell_limit, frame_limit}
 use Rattle.alma_base.specs.Choice.{if_true}
 use Rattle.alma_base.specs.Numbers.{within, int_eq, is_beyond}
 use Rattle.alma_base.specs.Carry.{Carry, with_changes}
@@ -236,8 +237,8 @@ frame_of s r links routine args = record {
 -- cells. Both are asked after all arguments
 abbrev pub enter : Program → (body : Store → Events NoYield) → (r links : ℕ) → Store → List ArgValue → Events NoYield
 enter p body r links s args =
-    fault_unless fault.DepthFull (nat_lt (length s) 10000) (λ _.
-    fault_unless fault.CellsFull (nat_le (declared_cells p s + (routine_at p r).declared) 1048576) (λ _.
+    fault_unless fault.DepthFull (nat_lt (length s) frame_limit) (λ _.
+    fault_unless fault.CellsFull (nat_le (declared_cells p s + (routine_at p r).declared) cell_limit) (λ _.
     body (s ++ frame_of s r links (routine_at p r) args ∷ [])))
 
 -- a call as a test: each alternative of the body, with the top frame dropped, goes on

@@ -1,5 +1,6 @@
 // The live frames, and how many cells they declare.
 ghost use Rattle.std.specs.Prelude.{◌≡◌, ℕ, ◌+◌, ◌<◌, ◌≤◌, [], ◌∷◌, ◌++◌, length, slice_index_or, IfOk};
+ghost use Rattle.alma_base.specs.Limits.{cell_limit, frame_limit};
 ghost use Rattle.alma_code.specs.Picture.{no_frame, written, cell_at, last_frame, without_last, live_cells};
 ghost use Rattle.alma_code.specs.Carries.{number_at};
 ghost use Rattle.alma_memory.specs.Frames.{AreWhole};
@@ -42,7 +43,7 @@ impl Model for Frames {
 impl Frames {
     // One frame, and room for all that may be live.
     pub fn start(alloc: Global, frame: Frame) -> Result<Frames, NoMemory>
-        requires { frame.declared ≤ 1048576 }
+        requires { frame.declared ≤ cell_limit }
         ensures { IfOk result (λ frames. frames ≡ frame ∷ []) }
     {
         let declared = frame.declared();
@@ -59,7 +60,7 @@ impl Frames {
 
     pub fn declared(&self) -> u32
         ensures value { result ≡ live_cells self.now }
-        ensures limit { result ≤ 1048576 }
+        ensures limit { result ≤ cell_limit }
     {
         self.declared
     }
@@ -116,8 +117,8 @@ impl Frames {
     }
 
     pub fn push(&mut self, frame: Frame)
-        requires depth { length self.old < 10000 }
-        requires cells { live_cells self.old + frame.declared ≤ 1048576 }
+        requires depth { length self.old < frame_limit }
+        requires cells { live_cells self.old + frame.declared ≤ cell_limit }
         ensures { self.new ≡ self.old ++ frame ∷ [] }
     {
         self.declared += frame.declared();

@@ -1,5 +1,6 @@
 // The frames from before some notes, known by what of the frames of now was other then.
 ghost use Rattle.std.specs.Prelude.{◌≡◌, ◌+◌, ◌<◌, ◌≤◌, ◌∷◌, [], ◌++◌, length, drop, true, IfOk, slice_index_or};
+ghost use Rattle.alma_base.specs.Limits.{frame_limit};
 ghost use Rattle.alma_code.specs.Picture.{no_frame, written, without_last};
 ghost use Rattle.alma_code.specs.Carries.{diffs, diff_at, slot_diffs, same_cell};
 ghost use Rattle.alma_memory.specs.Carries.{listed};
@@ -175,7 +176,7 @@ impl<'a> Past<'a> {
         requires before { AreWhole self.now.before }
         requires now { AreWhole self.now.now }
         requires live { low + count ≤ length self.now.now }
-        requires few { length self.now.now ≤ 10000 }
+        requires few { length self.now.now ≤ frame_limit }
         ensures { IfOk result (λ _. listed found.new.items ≡ listed found.old.items ++ diffs_between self.now.before self.now.now low count) }
     {
         for at in 0..count {

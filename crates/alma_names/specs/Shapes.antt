@@ -1,5 +1,6 @@
 -- A table of shapes as a list of plain shapes, in which a shape's number is its place, and what each shape holds.
 use Rattle.std.specs.Prelude.{◌≢◌, ℕ, ◌+◌, ◌-◌, ◌*◌, ◌<◌, ◌≤◌, pos, ◌-ℤ◌, ◌≤ℤ◌, nat_lt, Bool, true, false, ◌||◌, IsTrue, IsFalse, List, [], ◌∷◌, ◌++◌, map, get_or, slice_get, AllPairs, bytes_eq, Option, None, Some, IsSomeAnd, option_map, option_and_then, unwrap_or, Result, Ok, Err, if◌then◌else◌}
+use Rattle.alma_base.specs.Limits.{cell_limit}
 use Rattle.alma_base.specs.Numbers.{range_size, whole_range}
 use Rattle.alma_base.specs.declared.number.Range.{Range}
 use Rattle.alma_names.specs.declared.shapes.FieldOf.{FieldOf}
@@ -49,10 +50,6 @@ table_of (s ∷ ss) = plain_of s ∷ table_of ss
 -- the table that each begins with
 abbrev pub first_shapes : List PlainShape
 first_shapes = integer ∷ char ∷ boolean ∷ []
-
--- the most cells of one shape, and the most elements of one row
-abbrev pub limit : ℕ
-limit = 1048576
 
 -- the numbers of the values of a simple shape; rows and records have none
 abbrev pub range_of : PlainShape → Option Range
@@ -111,7 +108,7 @@ elements t s = 0
 
 -- the shape has too many cells or, a row, too many elements
 abbrev pub is_too_large : List PlainShape → PlainShape → Bool
-is_too_large t s = nat_lt limit (elements t s) || nat_lt limit (cells_in t (cell_counts t) s)
+is_too_large t s = nat_lt cell_limit (elements t s) || nat_lt cell_limit (cells_in t (cell_counts t) s)
 
 -- the shape names only shapes before number n
 abbrev pub AllBelow : ℕ → List PlainField → Type 0

@@ -3,7 +3,8 @@
 
 ghost use Rattle.std.specs.Prelude.{◌≡◌, ◌+◌, ◌*◌, ◌^◌, ◌<◌, ◌≤◌, ◌⊎◌, ◌≤ℤ◌, List, [], ◌∷◌, ◌++◌, Option, None, Some, IsTrue, IsFalse, length, slice_get, option_map, MatchOption, IfSome, IfOk, OnOk, OnErr};
 ghost use Rattle.alma_base.specs.Numbers.{range_size};
-ghost use Rattle.alma_names.specs.Shapes.{PlainShape, plain_of, fields_of, table_of, first_shapes, limit, range_at, base_at, IsBaseFor, values_at, cells_in, cell_counts, cells_at, is_too_large, sum_of_cells, NamesOnlyBelow, HasIndex, HasCount, HasBase, HasDistinctNames, AllBelow, IsShapeAt, placed, placed_shape, field_at, field_named, Refuses};
+ghost use Rattle.alma_base.specs.Limits.{cell_limit};
+ghost use Rattle.alma_names.specs.Shapes.{PlainShape, plain_of, fields_of, table_of, first_shapes, range_at, base_at, IsBaseFor, values_at, cells_in, cell_counts, cells_at, is_too_large, sum_of_cells, NamesOnlyBelow, HasIndex, HasCount, HasBase, HasDistinctNames, AllBelow, IsShapeAt, placed, placed_shape, field_at, field_named, Refuses};
 ghost use Rattle.alma_names.specs.Table.{IsTable, CountsUpToLimit};
 
 use alma_base::{NoMemory, Range};
@@ -134,7 +135,7 @@ impl Shapes {
     pub fn cells(&self, id: ShapeId) -> u32
         requires { id.0 < length self.now }
         ensures cells { result ≡ cells_at self.now id.0 }
-        ensures small { result ≤ limit }
+        ensures small { result ≤ cell_limit }
     {
         self.cells[id.0 as usize]
     }
@@ -201,7 +202,7 @@ impl Shapes {
         requires { NamesOnlyBelow (length self.now) (plain_of shape.now) }
         ensures { MatchOption result
             (IsTrue (is_too_large self.now (plain_of shape.now)))
-            (λ n. (n ≡ cells_in self.now (cell_counts self.now) (plain_of shape.now)) × (n ≤ limit) × IsFalse (is_too_large self.now (plain_of shape.now))) }
+            (λ n. (n ≡ cells_in self.now (cell_counts self.now) (plain_of shape.now)) × (n ≤ cell_limit) × IsFalse (is_too_large self.now (plain_of shape.now))) }
     {
         match shape {
             Shape::Row { index, element } => self.row_size(*index, *element),
@@ -216,8 +217,8 @@ impl Shapes {
         requires index { index.0 < length self.now }
         requires element { element.0 < length self.now }
         ensures { MatchOption result
-            ((limit < values_at self.now index.0) ⊎ (limit < values_at self.now index.0 * cells_at self.now element.0))
-            (λ n. (n ≡ values_at self.now index.0 * cells_at self.now element.0) × (n ≤ limit) × (values_at self.now index.0 ≤ limit)) }
+            ((cell_limit < values_at self.now index.0) ⊎ (cell_limit < values_at self.now index.0 * cells_at self.now element.0))
+            (λ n. (n ≡ values_at self.now index.0 * cells_at self.now element.0) × (n ≤ cell_limit) × (values_at self.now index.0 ≤ cell_limit)) }
     {
         match self.values(index) {
             None => None,
@@ -249,7 +250,7 @@ impl Shapes {
     // Puts each field behind the cells of those before it.
     fn place(&self, fields: &mut [FieldOf])
         requires below { AllBelow (length self.now) (fields_of fields.old) }
-        requires small { sum_of_cells (cell_counts self.now) (fields_of fields.old) ≤ limit }
+        requires small { sum_of_cells (cell_counts self.now) (fields_of fields.old) ≤ cell_limit }
         ensures { fields_of fields.new ≡ placed (cell_counts self.now) 0 (fields_of fields.old) }
     {
         let mut offset: u32 = 0;
@@ -263,7 +264,7 @@ impl Shapes {
     // The shape, with the offsets of its fields.
     fn placed(&self, shape: Shape) -> Shape
         requires names { NamesOnlyBelow (length self.now) (plain_of shape) }
-        requires small { cells_in self.now (cell_counts self.now) (plain_of shape) ≤ limit }
+        requires small { cells_in self.now (cell_counts self.now) (plain_of shape) ≤ cell_limit }
         ensures { plain_of result ≡ placed_shape (cell_counts self.now) (plain_of shape) }
     {
         match shape {
