@@ -1,0 +1,5 @@
+//! What the public calls of the other crates answer, and what is printed. It has tests alone.
+#![tactic(auto)]
+
+#[cfg(test)]
+mod base;
