@@ -3,3 +3,5 @@
 
 #[cfg(test)]
 mod base;
+#[cfg(test)]
+mod io;
