@@ -5,3 +5,5 @@
 mod base;
 #[cfg(test)]
 mod io;
+#[cfg(test)]
+mod tree;

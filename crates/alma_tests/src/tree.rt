@@ -1,5 +1,7 @@
 // Spellings of trees made by hand, and depths.
-use super::*;
+use alma_tree::{
+    Block, Expr, Factor, Kind, Leaf, Module, Name, Primary, Simple, Stmt, Stmts, Term, depth, spell,
+};
 use std::alloc::{AllocError, Global};
 use std::test::Fail;
 
