@@ -6,4 +6,6 @@ mod base;
 #[cfg(test)]
 mod io;
 #[cfg(test)]
+mod scan;
+#[cfg(test)]
 mod tree;

@@ -1,7 +1,6 @@
 // What the scanner makes of sources: tokens with their offsets, faults, places.
-
-use super::*;
-use alma_base::{LexFault, Place};
+use alma_base::LexFault;
+use alma_scan::{LexStop, ScanError, Scanner, place, scan};
 use alma_tree::Kind;
 use std::alloc::Global;
 use std::test::Fail;
