@@ -1,7 +1,6 @@
 // What the parser makes of sources: a tree, or the first token at which no program goes on.
-
-use super::*;
 use alma_base::SyntaxFault;
+use alma_parse::{ParseError, parse};
 use alma_scan::{Token, scan};
 use std::alloc::Global;
 use std::test::Fail;
