@@ -6,6 +6,8 @@ mod base;
 #[cfg(test)]
 mod io;
 #[cfg(test)]
+mod names;
+#[cfg(test)]
 mod parse;
 #[cfg(test)]
 mod scan;

@@ -2,8 +2,10 @@
 ghost use Rattle.std.specs.Prelude.{◌≡◌, ◌+◌, ◌^◌, ◌<◌, ◌≤◌, ◌≤ℤ◌, pos, Some, slice_get, length, IfOk};
 ghost use Rattle.alma_names.specs.Shapes.{integer};
 
-use crate::{Access, DeclareError, Entry, FieldOf, Id, Scopes, Shape, ShapeError, ShapeId, Shapes};
 use alma_base::Range;
+use alma_names::{
+    Access, DeclareError, Entry, FieldOf, Scopes, Shape, ShapeError, ShapeId, Shapes,
+};
 use std::alloc::{AllocError, Global};
 use std::test::Fail;
 
