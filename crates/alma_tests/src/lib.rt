@@ -6,6 +6,8 @@ mod base;
 #[cfg(test)]
 mod io;
 #[cfg(test)]
+mod ir;
+#[cfg(test)]
 mod names;
 #[cfg(test)]
 mod parse;
