@@ -4,6 +4,8 @@
 #[cfg(test)]
 mod base;
 #[cfg(test)]
+mod code;
+#[cfg(test)]
 mod io;
 #[cfg(test)]
 mod ir;
