@@ -7,5 +7,4 @@ pub mod Held
 pub mod Past
 pub mod Picture
 pub mod Refusals
-pub mod Slots
 pub mod Trail

@@ -1,5 +1,5 @@
-use Rattle.alma_memory.proofs.Slots.{popped-slots}
-use Rattle.alma_memory.proofs.tests.fail_often.Goals as goal
+use Rattle.alma_tests.proofs.Slots.{popped-slots}
+use Rattle.alma_tests.proofs.memory.fail_often.Goals as goal
 
 pub loop-preserved : goal.loop-preserved
 loop-preserved c = λ slots h.
