@@ -10,6 +10,8 @@ mod io;
 #[cfg(test)]
 mod ir;
 #[cfg(test)]
+mod lower;
+#[cfg(test)]
 mod memory;
 #[cfg(test)]
 mod names;

@@ -2,9 +2,9 @@ use Rattle.std.proofs.Common.{◌≡◌, ◌∙◌, ap, sym, subst}
 use Rattle.alma_ir.specs.View.{stmts_list}
 use Rattle.alma_ir.specs.Checked.{IsChecked}
 use Rattle.alma_implements.specs.Built.{IsBuilt}
-use Rattle.alma_lower.proofs.Examples.{module_of, case_lines, case_body, case_built, case_checked}
-use Rattle.alma_lower.proofs.ExampleViews.{if_ok_map, one_pushed, two_pushed, wrote, case_made}
-use Rattle.alma_lower.proofs.tests.case_program.Goals as goal
+use Rattle.alma_tests.proofs.Examples.{module_of, case_lines, case_body, case_built, case_checked}
+use Rattle.alma_tests.proofs.ExampleViews.{if_ok_map, one_pushed, two_pushed, wrote, case_made}
+use Rattle.alma_tests.proofs.lower.case_program.Goals as goal
 
 pub returns-clause-built : goal.returns-clause-built
 returns-clause-built c =

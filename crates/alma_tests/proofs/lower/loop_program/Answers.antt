@@ -3,9 +3,9 @@ use Rattle.alma_ir.specs.declared.phrase.Stmt as S
 use Rattle.alma_ir.specs.View.{stmts_list}
 use Rattle.alma_ir.specs.Checked.{IsChecked}
 use Rattle.alma_implements.specs.Built.{IsBuilt}
-use Rattle.alma_lower.proofs.Examples.{module_of, loop_lines, loop_body, loop_built, loop_checked}
-use Rattle.alma_lower.proofs.ExampleViews.{if_ok_map, loop_made}
-use Rattle.alma_lower.proofs.tests.loop_program.Goals as goal
+use Rattle.alma_tests.proofs.Examples.{module_of, loop_lines, loop_body, loop_built, loop_checked}
+use Rattle.alma_tests.proofs.ExampleViews.{if_ok_map, loop_made}
+use Rattle.alma_tests.proofs.lower.loop_program.Goals as goal
 
 pub returns-clause-built : goal.returns-clause-built
 returns-clause-built c =

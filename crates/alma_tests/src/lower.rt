@@ -1,19 +1,20 @@
-// Three programs built by hand, and their code.
+// Four programs built by hand, and their code.
 ghost use Rattle.std.specs.Prelude.{◌≡◌, [], ◌∷◌, None, IfOk};
 ghost use Rattle.alma_ir.specs.declared.phrase.Root.TheVariants as root;
-ghost use Rattle.alma_ir.specs.View.{program_of, desig_of, expr_of, test_of, stmts_list};
+ghost use Rattle.alma_ir.specs.View.{program_of, desig_of, expr_of, loop_of, test_of, stmts_list};
 ghost use Rattle.alma_ir.specs.Tree as tree;
 ghost use Rattle.alma_ir.specs.Checked.{IsChecked};
+ghost use Rattle.alma_base.specs.Numbers.{whole_range};
 ghost use Rattle.alma_implements.specs.Built.{IsBuilt};
 
-use crate::lower;
 use alma_base::{NoMemory, Range};
 use alma_code::{Instr, Line};
-use alma_ir::{Arm, CaseArm, Cmp, Desig, Expr, Program, Root, Routine, Stmt, Test, WriteAs};
+use alma_ir::{Arm, CaseArm, Cmp, Desig, Expr, Loop, Program, Root, Routine, Stmt, Test, WriteAs};
+use alma_lower::lower;
 use std::alloc::Global;
 use std::test::Fail;
 
-pub(crate) fn variable(alloc: Global) -> Desig
+fn variable(alloc: Global) -> Desig
     ensures { desig_of result ≡ tree.a_desig (root.Local 1) 1 tree.no_sels }
 {
     Desig {
@@ -24,15 +25,15 @@ pub(crate) fn variable(alloc: Global) -> Desig
 }
 
 #[tactic(auto, using(alma_ir::proofs::Views::load_view))]
-pub(crate) fn load(alloc: Global) -> Expr
+fn load(alloc: Global) -> Expr
     ensures { expr_of result ≡ tree.Load (tree.a_desig (root.Local 1) 1 tree.no_sels) }
 {
     Expr::Load(variable(alloc))
 }
 
-// A module of one variable.
-fn module_of(alloc: Global, lines: &[u32], body: Vec<Stmt>) -> Result<Program, NoMemory>
-    ensures { IfOk result (λ p. program_of p ≡ record { name = []; globals = []; routines = record { name = 65 ∷ []; params = []; result = None; declared = 1; slots = 2; body = stmts_list body.items; level = 0; outer = 0; line = 1; lines = lines.now } ∷ [] }) }
+// A module of one variable, with so many slots.
+fn module_of(alloc: Global, slots: u32, lines: &[u32], body: Vec<Stmt>) -> Result<Program, NoMemory>
+    ensures { IfOk result (λ p. program_of p ≡ record { name = []; globals = []; routines = record { name = 65 ∷ []; params = []; result = None; declared = 1; slots = slots; body = stmts_list body.items; level = 0; outer = 0; line = 1; lines = lines.now } ∷ [] }) }
 {
     let mut name = Vec::new(alloc);
     name.push(65)?;
@@ -42,7 +43,7 @@ fn module_of(alloc: Global, lines: &[u32], body: Vec<Stmt>) -> Result<Program, N
         params: Vec::new(alloc),
         result: None,
         declared: 1,
-        slots: 2,
+        slots,
         body,
         level: 0,
         outer: 0,
@@ -78,7 +79,7 @@ fn written(alloc: Global, value: Expr, how: WriteAs) -> Result<Vec<Stmt>, NoMemo
 
 // A number.
 #[tactic(auto, using(alma_ir::proofs::Views::const_view))]
-pub(crate) fn number(value: i64) -> Expr
+fn number(value: i64) -> Expr
     ensures { expr_of result ≡ tree.Const value }
 {
     Expr::Const(value)
@@ -94,7 +95,7 @@ fn loop_program(alloc: Global) -> Result<Program, NoMemory>
     let mut body = Vec::new(alloc);
     body.push(Stmt::Assign(variable(alloc), number(3), Range::integer()))?;
     body.push(Stmt::While(test, inside))?;
-    module_of(alloc, &[2, 3, 4], body)
+    module_of(alloc, 2, &[2, 3, 4], body)
 }
 
 // IF x = 1 THEN WRITE(x) ELSIF x THEN WRITE(1 as a truth) END
@@ -113,7 +114,7 @@ fn if_program(alloc: Global) -> Result<Program, NoMemory>
     })?;
     let mut body = Vec::new(alloc);
     body.push(Stmt::If(arms, Vec::new(alloc)))?;
-    module_of(alloc, &[2, 3, 5], body)
+    module_of(alloc, 2, &[2, 3, 5], body)
 }
 
 // CASE x OF 1, 3..4: WRITE(x) END, with an arm without labels before; CASE x OF 7: ELSE WRITE(1 as a truth) END
@@ -144,7 +145,7 @@ fn case_program(alloc: Global) -> Result<Program, NoMemory>
     let mut body = Vec::new(alloc);
     body.push(Stmt::Case(load(alloc), arms, None))?;
     body.push(Stmt::Case(load(alloc), others, Some(last)))?;
-    module_of(alloc, &[2, 3, 4, 5, 6], body)
+    module_of(alloc, 2, &[2, 3, 4, 5, 6], body)
 }
 
 #[test]
@@ -298,5 +299,95 @@ fn each_label_leads_to_its_arm_or_behind_it(rt: HostRuntime) -> Result<(), Fail>
         Line { at: 39, line: 1 },
     ];
     assert_eq!(rt; code.lines.as_slice(), lines.as_slice());
+    Ok(())
+}
+
+// A loop over the variable, with counter and limit in the slots behind it.
+fn counting(alloc: Global, from: i64, to: i64, by: i64, body: Vec<Stmt>) -> Loop
+    ensures { loop_of result ≡ tree.a_loop (tree.a_desig (root.Local 1) 1 tree.no_sels) whole_range 2 3 (tree.Const from) (tree.Const to) by (stmts_list body.items) }
+{
+    Loop {
+        var: variable(alloc),
+        range: Range {
+            low: i64::MIN,
+            high: i64::MAX,
+        },
+        counter: 2,
+        limit: 3,
+        from: number(from),
+        to: number(to),
+        by,
+        body,
+    }
+}
+
+// FOR x := 1 TO 3 DO WRITE(x as a character) END; FOR x := 3 TO 1 BY -2 DO WRITELN END
+fn for_program(alloc: Global) -> Result<Program, NoMemory>
+    ensures built { IfOk result (λ p. IsBuilt (program_of p)) }
+    ensures checked { IfOk result (λ p. IsChecked (program_of p)) }
+{
+    let mut first = Vec::new(alloc);
+    first.push(Stmt::WriteExpr(load(alloc), WriteAs::Char))?;
+    let mut second = Vec::new(alloc);
+    second.push(Stmt::WriteLine)?;
+    let mut body = Vec::new(alloc);
+    body.push(Stmt::ForTo(counting(alloc, 1, 3, 1, first)))?;
+    body.push(Stmt::ForTo(counting(alloc, 3, 1, -2, second)))?;
+    module_of(alloc, 4, &[2, 3, 4, 5], body)
+}
+
+#[test]
+fn a_count_goes_up_or_down(rt: HostRuntime) -> Result<(), Fail> {
+    let alloc = rt.alloc();
+    let code = lower(alloc, &for_program(alloc)?)?;
+    let expected = [
+        Instr::Const { to: 4, value: 1 },
+        Instr::Const { to: 5, value: 1 },
+        Instr::Const { to: 6, value: 3 },
+        Instr::Move { to: 2, from: 5 },
+        Instr::Move { to: 3, from: 6 },
+        Instr::LessEq {
+            to: 5,
+            left: 5,
+            right: 6,
+        },
+        Instr::JumpZero { value: 5, to: 14 },
+        Instr::Local { to: 7, first: 1 },
+        Instr::Store { to: 7, from: 2 },
+        Instr::Local { to: 9, first: 1 },
+        Instr::Load { to: 8, from: 9 },
+        Instr::WriteChar { value: 8 },
+        Instr::Step {
+            counter: 2,
+            limit: 3,
+            by: 4,
+            out: 14,
+        },
+        Instr::Jump { to: 7 },
+        Instr::Const { to: 10, value: -2 },
+        Instr::Const { to: 11, value: 3 },
+        Instr::Const { to: 12, value: 1 },
+        Instr::Move { to: 2, from: 11 },
+        Instr::Move { to: 3, from: 12 },
+        Instr::LessEq {
+            to: 11,
+            left: 12,
+            right: 11,
+        },
+        Instr::JumpZero { value: 11, to: 26 },
+        Instr::Local { to: 13, first: 1 },
+        Instr::Store { to: 13, from: 2 },
+        Instr::WriteLine,
+        Instr::Step {
+            counter: 2,
+            limit: 3,
+            by: 10,
+            out: 26,
+        },
+        Instr::Jump { to: 21 },
+        Instr::Return,
+    ];
+    assert_eq!(rt; code.code.as_slice(), expected.as_slice());
+    assert_eq!(rt; code.routines[0].slots, 14);
     Ok(())
 }

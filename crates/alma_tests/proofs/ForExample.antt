@@ -12,7 +12,7 @@ use Rattle.alma_ir.specs.View.{expr_of, loop_of, stmt_of, stmts_list}
 use Rattle.alma_ir.proofs.Views
 use Rattle.alma_base.specs.Numbers.{whole_range}
 use Rattle.alma_implements.specs.Built.{IsBuilt}
-use Rattle.alma_lower.proofs.Examples.{variable, routine_with, module_with, each, IsPlainWith, plain_checked_with}
+use Rattle.alma_tests.proofs.Examples.{variable, routine_with, module_with, each, IsPlainWith, plain_checked_with}
 
 -- a loop over the variable
 abbrev pub counting : (from to by : ℤ) → Stmts → Loop

@@ -16,7 +16,7 @@ use Rattle.alma_ir.specs.declared.phrase.WriteAs.TheVariants as write_as
 use Rattle.alma_ir.specs.Tree.{Expr, CaseArms, Else, no_stmts, more_stmts, Assign, If, While, Case, WriteExpr, no_arms, more_arms, no_cases, more_cases, no_else, else_part, Value, Const, Load, Compare}
 use Rattle.alma_ir.specs.View.{desig_of, expr_of, test_of, stmt_of, stmts_list, arms_list, cases_list, else_option}
 use Rattle.alma_ir.proofs.Views
-use Rattle.alma_lower.proofs.Examples.{variable, label, write_variable, write_true, loop_body, if_body, case_body}
+use Rattle.alma_tests.proofs.Examples.{variable, label, write_variable, write_true, loop_body, if_body, case_body}
 
 -- a clause on a value that follows from another
 pub if_ok_map : {A E : Type 0} {P Q : A → Type 0} (r : Result A E) → ((x : A) → P x → Q x) → IfOk r P → IfOk r Q

@@ -2,10 +2,10 @@ use Rattle.std.proofs.Common.{◌≡◌, ◌∙◌, ap, sym, subst}
 use Rattle.alma_ir.specs.View.{stmts_list}
 use Rattle.alma_ir.specs.Checked.{IsChecked}
 use Rattle.alma_implements.specs.Built.{IsBuilt}
-use Rattle.alma_lower.proofs.Examples.{module_with}
-use Rattle.alma_lower.proofs.ExampleViews.{if_ok_map}
-use Rattle.alma_lower.proofs.ForExample.{for_lines, for_body, for_built, for_checked, for_made}
-use Rattle.alma_lower.proofs.for_tests.for_program.Goals as goal
+use Rattle.alma_tests.proofs.Examples.{module_with}
+use Rattle.alma_tests.proofs.ExampleViews.{if_ok_map}
+use Rattle.alma_tests.proofs.ForExample.{for_lines, for_body, for_built, for_checked, for_made}
+use Rattle.alma_tests.proofs.lower.for_program.Goals as goal
 
 pub returns-clause-built : goal.returns-clause-built
 returns-clause-built c =
