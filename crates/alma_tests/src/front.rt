@@ -1,5 +1,5 @@
 // Sources that are programs of the small language, and sources that are not.
-use crate::{ReadError, read_source};
+use alma_front::{ReadError, read_source};
 use alma_ir::size;
 use std::alloc::Global;
 use std::process::Abort;
