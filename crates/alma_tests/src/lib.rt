@@ -14,6 +14,8 @@ mod ir;
 #[cfg(test)]
 mod lower;
 #[cfg(test)]
+mod machine;
+#[cfg(test)]
 mod memory;
 #[cfg(test)]
 mod names;

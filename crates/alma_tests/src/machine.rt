@@ -3,12 +3,12 @@ ghost use Rattle.std.specs.Prelude.{◌≡◌, ◌<◌, ◌^◌, length, IfOk};
 ghost use Rattle.alma_code.specs.Plain.{code_of};
 ghost use Rattle.alma_code.specs.Rules.{IsSound};
 ghost use Rattle.alma_machine.specs.Built.{HasOnlyBuilt};
-ghost use Rattle.alma_machine.specs.Small.{small_code};
+ghost use Rattle.alma_tests.specs.Small.{small_code};
 
-use crate::{Machine, RunEnd, Step};
 use alma_base::{NoMemory, Range, RunFault};
 use alma_code::{Code, Instr, RoutineHead, Run, SlotKind};
 use alma_io::MemSink;
+use alma_machine::{Machine, RunEnd, Step};
 use std::alloc::Global;
 use std::test::Fail;
 

@@ -1,5 +1,5 @@
-use Rattle.alma_machine.proofs.Small.{too_large_sound, too_large_built, by_zero_sound, by_zero_built, not_known_sound, not_known_built, check_fails_sound, check_fails_built, fails_sound, fails_built, not_in_range_sound, not_in_range_built, no_part_sound, no_part_built, counts_down_sound, counts_down_built}
-use Rattle.alma_machine.proofs.tests.a_run_ends_as_its_code_says.Goals as goal
+use Rattle.alma_tests.proofs.Small.{too_large_sound, too_large_built, by_zero_sound, by_zero_built, not_known_sound, not_known_built, check_fails_sound, check_fails_built, fails_sound, fails_built, not_in_range_sound, not_in_range_built, no_part_sound, no_part_built, counts_down_sound, counts_down_built}
+use Rattle.alma_tests.proofs.machine.a_run_ends_as_its_code_says.Goals as goal
 
 pub outcome-requires-clause-sound : goal.outcome-requires-clause-sound
 outcome-requires-clause-sound g c = too_large_sound

@@ -1,5 +1,5 @@
-use Rattle.alma_machine.proofs.Small.{count_sound, count_built}
-use Rattle.alma_machine.proofs.tests.steps_run_out_at_each_budget_below_the_whole.Goals as goal
+use Rattle.alma_tests.proofs.Small.{count_sound, count_built}
+use Rattle.alma_tests.proofs.machine.a_write_fault_stops_the_machine.Goals as goal
 
 pub body-requires-clause-sound : goal.body-requires-clause-sound
 body-requires-clause-sound g c = count_sound

@@ -11,7 +11,7 @@ use Rattle.alma_code.specs.Rules.{IsTable, IsSound, last_end, code_fault, instr_
 use Rattle.alma_code.specs.Words.{words}
 use Rattle.alma_code.proofs.Verdicts.{sound_from}
 use Rattle.alma_machine.specs.Built.{is_built, HasOnlyBuilt}
-use Rattle.alma_machine.specs.Small.{small_code}
+use Rattle.alma_tests.specs.Small.{small_code}
 
 -- the tables of a small code are in order
 small_table : (instrs : List Instr) → IsTable (small_code instrs)

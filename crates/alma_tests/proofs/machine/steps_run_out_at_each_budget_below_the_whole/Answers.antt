@@ -1,5 +1,5 @@
-use Rattle.alma_machine.proofs.Small.{count_sound, count_built}
-use Rattle.alma_machine.proofs.tests.the_print_of_the_last_step_is_there.Goals as goal
+use Rattle.alma_tests.proofs.Small.{count_sound, count_built}
+use Rattle.alma_tests.proofs.machine.steps_run_out_at_each_budget_below_the_whole.Goals as goal
 
 pub body-requires-clause-sound : goal.body-requires-clause-sound
 body-requires-clause-sound g c = count_sound

@@ -1,5 +1,5 @@
-use Rattle.alma_machine.proofs.Small.{count_sound, count_built}
-use Rattle.alma_machine.proofs.tests.a_write_fault_stops_the_machine.Goals as goal
+use Rattle.alma_tests.proofs.Small.{count_sound, count_built}
+use Rattle.alma_tests.proofs.machine.the_print_of_the_last_step_is_there.Goals as goal
 
 pub body-requires-clause-sound : goal.body-requires-clause-sound
 body-requires-clause-sound g c = count_sound
