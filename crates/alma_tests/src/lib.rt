@@ -6,6 +6,8 @@ mod base;
 #[cfg(test)]
 mod code;
 #[cfg(test)]
+mod driver;
+#[cfg(test)]
 mod front;
 #[cfg(test)]
 mod io;

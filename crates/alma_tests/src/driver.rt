@@ -1,6 +1,6 @@
 // What the program does, over the fakes in memory.
-use crate::alma;
 use alma_base::Status;
+use alma_driver::alma;
 use alma_io::{MemFiles, MemSink, MemSource};
 use std::alloc::Global;
 use std::process::Abort;
