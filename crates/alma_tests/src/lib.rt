@@ -22,6 +22,8 @@ mod memory;
 #[cfg(test)]
 mod names;
 #[cfg(test)]
+mod object;
+#[cfg(test)]
 mod parse;
 #[cfg(test)]
 mod scan;

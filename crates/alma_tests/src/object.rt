@@ -1,11 +1,12 @@
+// The bytes of two small objects: what is read of them, and what is refused.
 ghost use Rattle.std.specs.Prelude.{◌<◌};
 
-use super::*;
 use alma_code::{Head, Instr, Run, SlotKind};
-use std::test::*;
+use alma_object::{ObjectFault, ObjectView, encode};
+use std::test::Fail;
 
 // An object of version 1 with one routine, `A`, whose code is Return.
-const FIRST: [u8; 104] = [
+pub(crate) const FIRST: [u8; 104] = [
     0x41, 0x4c, 0x4d, 0x41, 0x30, 0x4f, 0x42, 0x4a, 1, 0, 1, 0, 0, 0, 0, 0, 0, 0, 0, 0, 0, 0, 1, 0,
     0, 0, 0, 0, 0, 0, 0, 0, 0, 0, 1, 0, 0, 0, 0, 0, 0, 0, 1, 0, 0, 0, 1, 0, 0, 0, 0, 0, 0, 0, 1, 0,
     0, 0, 1, 0, 0, 0, 1, 0, 0, 0, 0, 0, 0, 0, 0, 0, 0, 0, 0, 0, 0, 0, 0, 0, 0, 0, 1, 0, 0, 0, 0x41,
@@ -13,7 +14,7 @@ const FIRST: [u8; 104] = [
 ];
 
 // The same of version 2: the tenth count stands at 46.
-const SECOND: [u8; 108] = [
+pub(crate) const SECOND: [u8; 108] = [
     0x41, 0x4c, 0x4d, 0x41, 0x30, 0x4f, 0x42, 0x4a, 2, 0, 1, 0, 0, 0, 0, 0, 0, 0, 0, 0, 0, 0, 1, 0,
     0, 0, 0, 0, 0, 0, 0, 0, 0, 0, 1, 0, 0, 0, 0, 0, 0, 0, 1, 0, 0, 0, 0, 0, 0, 0, 1, 0, 0, 0, 0, 0,
     0, 0, 1, 0, 0, 0, 1, 0, 0, 0, 1, 0, 0, 0, 0, 0, 0, 0, 0, 0, 0, 0, 0, 0, 0, 0, 0, 0, 0, 0, 1, 0,
