@@ -29,3 +29,5 @@ mod parse;
 mod scan;
 #[cfg(test)]
 mod tree;
+#[cfg(test)]
+mod verify;

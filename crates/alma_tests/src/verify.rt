@@ -1,24 +1,10 @@
+// The same objects, and which rule they break with one byte altered.
 ghost use Rattle.std.specs.Prelude.{◌<◌};
 
-use super::*;
+use crate::object::{FIRST, SECOND};
 use alma_object::ObjectView;
-use std::test::*;
-
-// An object of version 1 with one routine, `A`, whose code is Return.
-const FIRST: [u8; 104] = [
-    0x41, 0x4c, 0x4d, 0x41, 0x30, 0x4f, 0x42, 0x4a, 1, 0, 1, 0, 0, 0, 0, 0, 0, 0, 0, 0, 0, 0, 1, 0,
-    0, 0, 0, 0, 0, 0, 0, 0, 0, 0, 1, 0, 0, 0, 0, 0, 0, 0, 1, 0, 0, 0, 1, 0, 0, 0, 0, 0, 0, 0, 1, 0,
-    0, 0, 1, 0, 0, 0, 1, 0, 0, 0, 0, 0, 0, 0, 0, 0, 0, 0, 0, 0, 0, 0, 0, 0, 0, 0, 1, 0, 0, 0, 0x41,
-    0x26, 0, 0, 0, 0, 0, 0, 0, 0, 0, 0, 0, 0, 0, 0, 0, 0,
-];
-
-// The same of version 2: the tenth count stands at 46.
-const SECOND: [u8; 108] = [
-    0x41, 0x4c, 0x4d, 0x41, 0x30, 0x4f, 0x42, 0x4a, 2, 0, 1, 0, 0, 0, 0, 0, 0, 0, 0, 0, 0, 0, 1, 0,
-    0, 0, 0, 0, 0, 0, 0, 0, 0, 0, 1, 0, 0, 0, 0, 0, 0, 0, 1, 0, 0, 0, 0, 0, 0, 0, 1, 0, 0, 0, 0, 0,
-    0, 0, 1, 0, 0, 0, 1, 0, 0, 0, 1, 0, 0, 0, 0, 0, 0, 0, 0, 0, 0, 0, 0, 0, 0, 0, 0, 0, 0, 0, 1, 0,
-    0, 0, 0x41, 0x26, 0, 0, 0, 0, 0, 0, 0, 0, 0, 0, 0, 0, 0, 0, 0, 0,
-];
+use alma_verify::{VerifyFault, verify};
+use std::test::Fail;
 
 // What the verifier says of an object, where the bytes are one.
 fn verdict(bytes: &[u8]) -> Option<Result<(), VerifyFault>> {
