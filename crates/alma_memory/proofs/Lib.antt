@@ -8,5 +8,6 @@ pub mod Keeping
 pub mod Lays
 pub mod Pasts
 pub mod Rising
+pub mod Slots
 pub mod Stores
 pub mod Trails

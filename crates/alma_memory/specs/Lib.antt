@@ -7,4 +7,5 @@ pub mod Held
 pub mod Past
 pub mod Picture
 pub mod Refusals
+pub mod Slots
 pub mod Trail

@@ -1,5 +1,4 @@
 pub mod ExampleViews
 pub mod Examples
 pub mod ForExample
-pub mod Slots
 pub mod Small

@@ -1,6 +1,6 @@
 // Rows on calls alone.
 ghost use Rattle.std.specs.Prelude.{ℕ, ◌≤◌, ◌∷◌, [], false, IfOk, OnOk};
-ghost use Rattle.alma_tests.specs.Slots.{KeepsSlots};
+ghost use Rattle.alma_memory.specs.Slots.{KeepsSlots};
 ghost use Rattle.alma_code.specs.declared.cell.SlotKind.TheVariants as slot;
 ghost use Rattle.alma_code.specs.declared.head.ParamKind.TheVariants as param;
 

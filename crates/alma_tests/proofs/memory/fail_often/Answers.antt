@@ -1,4 +1,4 @@
-use Rattle.alma_tests.proofs.Slots.{popped-slots}
+use Rattle.alma_memory.proofs.Slots.{popped-slots}
 use Rattle.alma_tests.proofs.memory.fail_often.Goals as goal
 
 pub loop-preserved : goal.loop-preserved

@@ -1,5 +1,5 @@
 use Rattle.std.proofs.Common.{ℕ}
-use Rattle.alma_tests.specs.Slots.{KeepsSlots}
+use Rattle.alma_memory.specs.Slots.{KeepsSlots}
 use Rattle.alma_tests.proofs.memory.fail_often.Given as goal
 
 abbrev pub invariant-loop : goal.invariant-loop

@@ -9,7 +9,7 @@ use Rattle.alma_code.specs.declared.cell.ChoiceKind.TheVariants.{Branch, Forall,
 use Rattle.alma_code.specs.Picture.{PlainEntry, no_entry, top_of, left_of, left_as}
 use Rattle.alma_memory.specs.Calls.{Fail, Nothing, Makes}
 use Rattle.alma_memory.specs.Picture.{Picture}
-use Rattle.alma_tests.specs.Slots.{HasSlots, KeepsSlots}
+use Rattle.alma_memory.specs.Slots.{HasSlots, KeepsSlots}
 
 -- the copy of an entry has so many slots
 abbrev CopyHasSlots : ℕ → PlainEntry → Type 0
