@@ -104,33 +104,3 @@ pub fn mod_down(a: i64, b: i64) -> i64
         a.wrapping_rem(b)
     }
 }
-
-#[cfg(test)]
-mod tests {
-    use super::*;
-
-    const QUOTIENTS: [(i64, i64, i64, i64); 10] = [
-        (7, 2, 3, 1),
-        (-7, 2, -4, 1),
-        (7, -2, -4, -1),
-        (-7, -2, 3, -1),
-        (6, -2, -3, 0),
-        (-6, 2, -3, 0),
-        (0, -5, 0, 0),
-        (i64::MIN, 1, i64::MIN, 0),
-        (i64::MIN, 3, -3074457345618258603, 1),
-        (i64::MAX, -1, -9223372036854775807, 0),
-    ];
-
-    #[test]
-    fn division_rounds_down(rt: HostRuntime) {
-        for (a, b, quotient, rest) in QUOTIENTS {
-            if b != 0 {
-                assert_eq!(rt; div_down(a, b), Some(quotient), "{a} DIV {b}");
-                assert_eq!(rt; mod_down(a, b), rest, "{a} MOD {b}");
-            }
-        }
-        assert_eq!(rt; div_down(i64::MIN, -1), None);
-        assert_eq!(rt; mod_down(i64::MIN, -1), 0);
-    }
-}

@@ -8,7 +8,7 @@ use alma_base::NoMemory;
 use std::alloc::Global;
 
 // How much of a source one call reads.
-pub(crate) const CHUNK: usize = 65_536;
+const CHUNK: usize = 65_536;
 
 /// Why not all bytes of a source were read: it failed, more than the limit were left, or memory was wanting.
 #[derive(Clone, Copy, Debug, PartialEq, Eq)]
@@ -19,7 +19,7 @@ pub enum ReadAll {
 }
 
 /// A buffer of this length on the heap.
-pub(crate) fn make_buffer(alloc: Global, len: usize) -> Result<Vec<u8>, NoMemory>
+fn make_buffer(alloc: Global, len: usize) -> Result<Vec<u8>, NoMemory>
     ensures { IfOk result (λ v. vec_len v ≡ len) }
 {
     Ok(Vec::from_elem(alloc, 0, len)?)
@@ -57,75 +57,5 @@ pub fn read_all<S: Source>(alloc: Global, source: &mut S, limit: usize) -> Resul
         if bytes.extend_from_slice(&piece[..count]).is_err() {
             return Err(ReadAll::Memory);
         }
-    }
-}
-
-#[cfg(test)]
-mod tests {
-    use super::*;
-    use crate::MemSource;
-    use std::test::Fail;
-
-    struct Row {
-        piece: usize,
-        fails: &'static [u64],
-        limit: usize,
-        // What two calls in a row make of "abcdef".
-        outcomes: [Result<&'static [u8], ReadAll>; 2],
-    }
-
-    const ROWS: [Row; 6] = [
-        Row {
-            piece: 6,
-            fails: &[],
-            limit: 6,
-            outcomes: [Ok(b"abcdef"), Ok(b"")],
-        },
-        Row {
-            piece: 1,
-            fails: &[8],
-            limit: 9,
-            outcomes: [Ok(b"abcdef"), Err(ReadAll::Fault)],
-        },
-        Row {
-            piece: 4,
-            fails: &[],
-            limit: 5,
-            outcomes: [Err(ReadAll::TooLong), Ok(b"")],
-        },
-        Row {
-            piece: 2,
-            fails: &[],
-            limit: 3,
-            outcomes: [Err(ReadAll::TooLong), Ok(b"ef")],
-        },
-        Row {
-            piece: 2,
-            fails: &[3],
-            limit: 6,
-            outcomes: [Err(ReadAll::Fault), Ok(b"ef")],
-        },
-        Row {
-            piece: 4,
-            fails: &[3],
-            limit: 6,
-            outcomes: [Err(ReadAll::Fault), Ok(b"")],
-        },
-    ];
-
-    #[test]
-    fn all_is_read_or_the_limit_or_a_fault_is_met(rt: HostRuntime) -> Result<(), Fail> {
-        for row in &ROWS {
-            assert!(rt; row.piece > 0);
-            assert!(rt; row.limit < 10);
-            let mut source = MemSource::new(rt.alloc(), b"abcdef", row.piece, row.fails)?;
-            for outcome in row.outcomes {
-                match (read_all(rt.alloc(), &mut source, row.limit), outcome) {
-                    (Ok(bytes), Ok(want)) => assert_eq!(rt; bytes.as_slice(), want),
-                    (got, want) => assert_eq!(rt; got.err(), want.err()),
-                }
-            }
-        }
-        Ok(())
     }
 }
