@@ -14,4 +14,3 @@ pub mod Laws
 pub mod ListText
 pub mod TraceText
 pub mod Worked
-pub mod WorkedLinks

@@ -4,14 +4,4 @@ pub mod Arithmetic
 pub mod Rows
 pub mod Meaning
 pub mod Laws
-pub mod Build
-pub mod Choices
-pub mod Equations
-pub mod Loops
-pub mod Foralls
-pub mod Calls
-pub mod Nested
-pub mod InOut
-pub mod FaultLines
-pub mod Visits
-pub mod Conditions
+pub mod Worked

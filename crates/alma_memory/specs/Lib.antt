@@ -3,9 +3,5 @@ pub mod Calls
 pub mod Refusals
 pub mod Slots
 pub mod Frames
-pub mod Counted
-pub mod Trail
-pub mod Held
 pub mod Carries
-pub mod Gain
-pub mod Past
+pub mod Inner

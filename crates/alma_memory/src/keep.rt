@@ -2,10 +2,10 @@
 ghost use Rattle.std.specs.Prelude.{◌≡◌, ◌-◌, ◌<◌, ◌≤◌, length, drop, set, is_ok, IfOk, OnOk, slice_index_or, if◌then◌else◌, vec_len, vec_capacity};
 ghost use Rattle.alma_code.specs.Carries.{diffs, kept};
 ghost use Rattle.alma_memory.specs.Carries.{IsRising, listed};
-ghost use Rattle.alma_memory.specs.Gain.{no_saved, entry_with_changes};
-ghost use Rattle.alma_memory.specs.Held.{Fits, IsTrailed};
-ghost use Rattle.alma_memory.specs.Past.{SameGain};
-ghost use Rattle.alma_memory.specs.Trail.{held_of, unwind};
+ghost use Rattle.alma_memory.specs.Inner.Gain.{no_saved, entry_with_changes};
+ghost use Rattle.alma_memory.specs.Inner.Held.{Fits, IsTrailed};
+ghost use Rattle.alma_memory.specs.Inner.Past.{SameGain};
+ghost use Rattle.alma_memory.specs.Inner.Trail.{held_of, unwind};
 
 use crate::carry::SlotPlace;
 use crate::frames::Frames;

@@ -2,8 +2,8 @@
 ghost use Rattle.std.specs.Prelude.{◌≡◌, ◌+◌, ◌≤◌, [], ◌∷◌, ◌++◌, length, vec_len, vec_capacity};
 ghost use Rattle.alma_code.specs.Carries.{laid, frames_with_carry};
 ghost use Rattle.alma_memory.specs.Carries.{change_of};
-ghost use Rattle.alma_memory.specs.Held.{HasNoteRoom, IsTrailed, Keeps};
-ghost use Rattle.alma_memory.specs.Trail.{held_of};
+ghost use Rattle.alma_memory.specs.Inner.Held.{HasNoteRoom, IsTrailed, Keeps};
+ghost use Rattle.alma_memory.specs.Inner.Trail.{held_of};
 
 use crate::carry::{Carry, SlotPlace};
 use crate::frames::Frames;

@@ -56,8 +56,8 @@ impl Model for Memory {
 
     ghost Value = { Picture };
 
-    ghost use Rattle.alma_memory.specs.Trail.{held_of};
-    ghost use Rattle.alma_memory.specs.Held.{IsTrailed};
+    ghost use Rattle.alma_memory.specs.Inner.Trail.{held_of};
+    ghost use Rattle.alma_memory.specs.Inner.Held.{IsTrailed};
 
     ghost view = { λ m. record {
       now = m.frames;

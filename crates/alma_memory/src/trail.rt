@@ -3,8 +3,8 @@ ghost use Rattle.std.specs.Prelude.{◌≡◌, ◌+◌, ◌-◌, ◌<◌, ◌≤
 ghost use Rattle.alma_base.specs.Limits.{cell_limit, frame_limit};
 ghost use Rattle.alma_code.specs.Picture.{no_frame, written, last_frame, without_last, live_cells, stack_after_pop, top_of};
 ghost use Rattle.alma_memory.specs.Frames.{AreLive, IsWhole};
-ghost use Rattle.alma_memory.specs.Held.{Fits, HasNoteRoom, IsTrailed, Keeps, Undoes, stays};
-ghost use Rattle.alma_memory.specs.Trail.{held_of, noted, trail_for_entries, undo, unwind};
+ghost use Rattle.alma_memory.specs.Inner.Held.{Fits, HasNoteRoom, IsTrailed, Keeps, Undoes, stays};
+ghost use Rattle.alma_memory.specs.Inner.Trail.{held_of, noted, trail_for_entries, undo, unwind};
 
 use crate::carry::{Carry, SlotPlace};
 use crate::frame::Frame;

@@ -12,8 +12,8 @@ ghost use Rattle.alma_grammar.specs.Parts.{formal_parts, block_parts};
 ghost use Rattle.alma_grammar.specs.Filling.{spell_inside_params};
 ghost use Rattle.alma_cursor.specs.Forms.{const_entry_parts, type_entry_parts, var_entry_parts, const_decl_parts, type_decl_parts, var_decl_parts};
 ghost use Rattle.alma_cursor.specs.Forms.{procedure_parts, decl_form_parts, formals_parts};
-ghost use Rattle.alma_parse.specs.Entries.{inside_params_of, spell_const_entry, spell_type_entry, spell_var_entry, number_const_entry, number_type_entry};
-ghost use Rattle.alma_parse.specs.Entries.{number_var_entry, number_inside_params};
+ghost use Rattle.alma_parse.specs.Inner.Entries.{inside_params_of, spell_const_entry, spell_type_entry, spell_var_entry, number_const_entry, number_type_entry};
+ghost use Rattle.alma_parse.specs.Inner.Entries.{number_var_entry, number_inside_params};
 ghost use Rattle.alma_cursor.specs.Parsing.{position_of, Reads, Fails};
 
 use crate::names::names;

@@ -8,7 +8,7 @@ ghost use Rattle.alma_tree.specs.Numbers.{number_type, numbers_of_arrays, number
 ghost use Rattle.alma_tree.specs.Numbers.{number_field_list, numbers_of_field_lists};
 ghost use Rattle.alma_grammar.specs.Parts.{array_tail, plain_part, plain_tail, field_list_part, field_list_tail, type_parts};
 ghost use Rattle.alma_cursor.specs.Forms.{dimensions_parts, named_type_parts, listed_parts, subrange_parts, record_parts, fields_parts};
-ghost use Rattle.alma_parse.specs.Entries.{number_dimension};
+ghost use Rattle.alma_parse.specs.Inner.Entries.{number_dimension};
 ghost use Rattle.alma_cursor.specs.Parsing.{position_of, Reads, Fails};
 
 use crate::names::names;

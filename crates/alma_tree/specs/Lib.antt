@@ -7,4 +7,4 @@ pub mod View
 pub mod Numbers
 -- What the contracts of private functions say, and what laws above need.
 pub mod Kinds
-pub mod Pushed
+pub mod Inner

@@ -9,7 +9,7 @@ use Rattle.alma_ir.specs.Tree.{Stmt, Routine, Program, TestStmt, Assign, If, Som
 use Rattle.alma_mean.specs.Store.{no_frame}
 use Rattle.alma_mean.specs.Events.{Succeeded, Failed, Faulted, CutOff, Visit, Fault, Cut}
 use Rattle.alma_mean.specs.Meaning.{level_0, ev_test}
-use Rattle.alma_mean.specs.Build.{stmts, arms, int, range, module_with, procedure, function, param, var, global, through_param, whole, element, number, load, operate, plus, greatest, test, fail, equals, is, let_be, write, write_var, write_known, some, call, call_up, value_of, value_up, digits_of, Gives}
+use Rattle.alma_mean.specs.Worked.Build.{stmts, arms, int, range, module_with, procedure, function, param, var, global, through_param, whole, element, number, load, operate, plus, greatest, test, fail, equals, is, let_be, write, write_var, write_known, some, call, call_up, value_of, value_up, digits_of, Gives}
 
 -- PROCEDURE p(MIX a: INTEGER); BEGIN a = 7 END p;
 abbrev pub mix_is_seven : Routine

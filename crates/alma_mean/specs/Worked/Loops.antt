@@ -7,7 +7,7 @@ use Rattle.alma_ir.specs.Tree.{Stmt, Program, TestStmt, While, Repeat, ForTo, Wr
 use Rattle.alma_mean.specs.Store.{Number, Unknown}
 use Rattle.alma_mean.specs.Events.{Succeeded, Failed, Faulted, CutOff, Go, Visit, Alt, Fail, first}
 use Rattle.alma_mean.specs.Meaning.{level, start}
-use Rattle.alma_mean.specs.Build.{stmts, tests, links, int, range, module_of, module_with, procedure, var, element, number, load, plus, greatest, test, succeed, fail, equals, is, let_be, write, write_var, write_known, either, some, for, call, digits_of, Gives}
+use Rattle.alma_mean.specs.Worked.Build.{stmts, tests, links, int, range, module_of, module_with, procedure, var, element, number, load, plus, greatest, test, succeed, fail, equals, is, let_be, write, write_var, write_known, either, some, for, call, digits_of, Gives}
 
 -- WHILE TRUE DO WRITE(1) END
 abbrev pub write_forever : Program

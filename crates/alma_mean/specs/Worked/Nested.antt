@@ -6,7 +6,7 @@ use Rattle.alma_ir.specs.declared.phrase.Cmp.TheVariants as cmp
 use Rattle.alma_ir.specs.declared.phrase.Op.TheVariants as op
 use Rattle.alma_ir.specs.Tree.{Stmt, Expr, Routine, Program, Assign, If, Load, Return, some_result, Value, Bind, Compare, Known, TestStmt, ByValue, ByPlace, MixValue, MixPlace}
 use Rattle.alma_mean.specs.Events.{Succeeded, Failed}
-use Rattle.alma_mean.specs.Build.{stmts, arms, int, module_with, procedure, function, inside, param, var, global, through_param, outer, through_outer_param, number, load, operate, plus, test, let_be, write, write_bool, write_var, either, call, call_up, value_up, digits_of, Gives}
+use Rattle.alma_mean.specs.Worked.Build.{stmts, arms, int, module_with, procedure, function, inside, param, var, global, through_param, outer, through_outer_param, number, load, operate, plus, test, let_be, write, write_bool, write_var, either, call, call_up, value_up, digits_of, Gives}
 
 -- the value of a variable of a routine so many links up
 abbrev pub load_outer : (links slot : ℕ) → Expr

@@ -4,8 +4,8 @@ use Rattle.alma_ir.specs.declared.program.ArgKind.TheVariants as kind
 use Rattle.alma_ir.specs.declared.phrase.Cmp.TheVariants as cmp
 use Rattle.alma_ir.specs.Tree.{Program, Assign, Commit, Return, no_result, ForTo, a_loop, Compare, Load, ByPlace, TestStmt, Or, no_tests}
 use Rattle.alma_ir.specs.Checked.{IsChecked}
-use Rattle.alma_mean.specs.Nested.{nested_to}
-use Rattle.alma_mean.specs.Build.{stmts, int, module_of, module_at, module_with, inside, outer, global, succeed, call_up, procedure, param, var, through_param, whole, number, load, test, let_be, write, write_var, either, some, for, call, value_of}
+use Rattle.alma_mean.specs.Worked.Nested.{nested_to}
+use Rattle.alma_mean.specs.Worked.Build.{stmts, int, module_of, module_at, module_with, inside, outer, global, succeed, call_up, procedure, param, var, through_param, whole, number, load, test, let_be, write, write_var, either, some, for, call, value_of}
 
 -- PROCEDURE q(VAR a: INTEGER); VAR l: INTEGER; BEGIN SOME l := 1 TO 3 DO a := l END END q;  q(x);
 -- x > 2; WRITE(x)
