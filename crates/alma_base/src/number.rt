@@ -54,7 +54,8 @@ fn div_alike(a: i64, b: i64) -> Option<i64>
     requires nonzero { b ≢ pos 0 }
     requires below { a <ℤ pos 0 → b <ℤ pos 0 }
     requires above { pos 0 <ℤ a → pos 0 <ℤ b }
-    ensures { MatchOption result (is_integer (div_down_of a b) ≡ false) (λ quotient. quotient ≡ div_down_of a b) }
+    ensures { MatchOption result (is_integer (div_down_of a b) ≡ false)
+        (λ quotient. quotient ≡ div_down_of a b) }
 {
     a.checked_div(b)
 }
@@ -62,7 +63,8 @@ fn div_alike(a: i64, b: i64) -> Option<i64>
 /// The quotient rounded down; None for -2^63 by -1 alone, whose quotient is no INTEGER.
 pub fn div_down(a: i64, b: i64) -> Option<i64>
     requires { b ≢ pos 0 }
-    ensures { MatchOption result (is_integer (div_down_of a b) ≡ false) (λ quotient. quotient ≡ div_down_of a b) }
+    ensures { MatchOption result (is_integer (div_down_of a b) ≡ false)
+        (λ quotient. quotient ≡ div_down_of a b) }
 {
     if a < 0 && b > 0 {
         Some(div_below(a, b))

@@ -43,8 +43,10 @@ struct Digits {
 fn read_digits(input: &[u8], start: usize) -> Digits
     requires { start ≤ length input.now }
     ensures within { (start ≤ result.end) × (result.end ≤ length input.now) }
-    ensures digits { (value : ℕ) × (result.magnitude ≡ min value (2 ^ 64 - 1)) × ((negative : Bool) →
-        digits_on false negative 0 start (drop start input.now) ≡ ended (nat_lt start result.end) negative value result.end) }
+    ensures digits { (value : ℕ) × (result.magnitude ≡ min value (2 ^ 64 - 1)) ×
+        ((negative : Bool) →
+        digits_on false negative 0 start (drop start input.now) ≡ ended
+        (nat_lt start result.end) negative value result.end) }
 {
     let mut magnitude: u64 = 0;
     let mut end = start;

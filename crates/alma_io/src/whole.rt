@@ -29,10 +29,12 @@ fn make_buffer(alloc: Global, len: usize) -> Result<Vec<u8>, NoMemory>
 /// an error is lost.
 pub fn read_all<S: Source>(alloc: Global, source: &mut S, limit: usize) -> Result<Vec<u8>, ReadAll>
     requires limit { limit < 2 ^ 62 }
-    ensures all { IfOk result (λ bytes. Consumes (S.left source.old) (S.left source.new) bytes.items × IsAtEnd (S.left source.new)) }
+    ensures all { IfOk result (λ bytes. Consumes (S.left source.old) (S.left source.new) bytes.items
+        × IsAtEnd (S.left source.new)) }
     ensures within { IfOk result (λ bytes. length bytes.items ≤ limit) }
     ensures too_long { IsErrOf result ReadAll.TooLong → MayHaveMore (S.left source.old) limit }
-    ensures one_past { IsErrOf result ReadAll.TooLong → LosesBytes (S.left source.old) (S.left source.new) (limit + 1) }
+    ensures one_past { IsErrOf result ReadAll.TooLong → LosesBytes (S.left source.old)
+        (S.left source.new) (limit + 1) }
     ensures prefix { OnErr result (LosesAtMost (S.left source.old) (S.left source.new) (limit + 1)) }
     ensures cause { HasReadCause (S.faults source.old) (S.faults source.new) result }
 {

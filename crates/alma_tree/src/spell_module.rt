@@ -15,7 +15,8 @@ use alma_base::NoMemory;
 use std::alloc::Global;
 
 fn push_const_tail(trees: &[ConstEntry], out: &mut Vec<Kind>) -> Result<(), NoMemory>
-    ensures pushed { OnOk result (Pushes out.old.items out.new.items (spell_const_tail (consts_of trees.now))) }
+    ensures pushed { OnOk result (Pushes out.old.items out.new.items
+        (spell_const_tail (consts_of trees.now))) }
 {
     for tree in trees {
         push(Kind::Name, out)?;
@@ -27,7 +28,8 @@ fn push_const_tail(trees: &[ConstEntry], out: &mut Vec<Kind>) -> Result<(), NoMe
 }
 
 fn push_type_tail(trees: &[TypeEntry], out: &mut Vec<Kind>) -> Result<(), NoMemory>
-    ensures pushed { OnOk result (Pushes out.old.items out.new.items (spell_type_tail (types_of trees.now))) }
+    ensures pushed { OnOk result (Pushes out.old.items out.new.items
+        (spell_type_tail (types_of trees.now))) }
 {
     for tree in trees {
         push(Kind::Name, out)?;
@@ -39,7 +41,8 @@ fn push_type_tail(trees: &[TypeEntry], out: &mut Vec<Kind>) -> Result<(), NoMemo
 }
 
 fn push_var_tail(trees: &[VarEntry], out: &mut Vec<Kind>) -> Result<(), NoMemory>
-    ensures pushed { OnOk result (Pushes out.old.items out.new.items (spell_var_tail (vars_of trees.now))) }
+    ensures pushed { OnOk result (Pushes out.old.items out.new.items
+        (spell_var_tail (vars_of trees.now))) }
 {
     for tree in trees {
         push_names(&tree.names, out)?;
@@ -61,7 +64,8 @@ fn push_mode(mode: Option<Mode>, out: &mut Vec<Kind>) -> Result<(), NoMemory>
 }
 
 fn push_formal(tree: &Formal, out: &mut Vec<Kind>) -> Result<(), NoMemory>
-    ensures pushed { OnOk result (Pushes out.old.items out.new.items (spell_formal (view_formal tree.now))) }
+    ensures pushed { OnOk result (Pushes out.old.items out.new.items
+        (spell_formal (view_formal tree.now))) }
 {
     push_mode(tree.mode, out)?;
     push_names(&tree.names, out)?;
@@ -70,7 +74,8 @@ fn push_formal(tree: &Formal, out: &mut Vec<Kind>) -> Result<(), NoMemory>
 }
 
 fn push_formal_tail(trees: &[Formal], out: &mut Vec<Kind>) -> Result<(), NoMemory>
-    ensures pushed { OnOk result (Pushes out.old.items out.new.items (spell_formal_tail (formal_tail_of trees.now))) }
+    ensures pushed { OnOk result (Pushes out.old.items out.new.items
+        (spell_formal_tail (formal_tail_of trees.now))) }
 {
     for tree in trees {
         push(Kind::Semicolon, out)?;
@@ -80,14 +85,16 @@ fn push_formal_tail(trees: &[Formal], out: &mut Vec<Kind>) -> Result<(), NoMemor
 }
 
 fn push_formals(tree: &Formals, out: &mut Vec<Kind>) -> Result<(), NoMemory>
-    ensures pushed { OnOk result (Pushes out.old.items out.new.items (spell_formals (view_formals tree.now))) }
+    ensures pushed { OnOk result (Pushes out.old.items out.new.items
+        (spell_formals (view_formals tree.now))) }
 {
     push_formal(&tree.first, out)?;
     push_formal_tail(&tree.more, out)
 }
 
 fn push_params(tree: &Option<Params>, out: &mut Vec<Kind>) -> Result<(), NoMemory>
-    ensures pushed { OnOk result (Pushes out.old.items out.new.items (spell_params (params_of tree.now))) }
+    ensures pushed { OnOk result (Pushes out.old.items out.new.items
+        (spell_params (params_of tree.now))) }
 {
     let Some(params) = tree else {
         return Ok(());
@@ -103,7 +110,8 @@ fn push_params(tree: &Option<Params>, out: &mut Vec<Kind>) -> Result<(), NoMemor
 }
 
 fn push_result(tree: &Option<Name>, out: &mut Vec<Kind>) -> Result<(), NoMemory>
-    ensures pushed { OnOk result (Pushes out.old.items out.new.items (spell_result_name (result_of tree.now))) }
+    ensures pushed { OnOk result (Pushes out.old.items out.new.items
+        (spell_result_name (result_of tree.now))) }
 {
     match tree {
         None => Ok(()),
@@ -115,7 +123,8 @@ fn push_result(tree: &Option<Name>, out: &mut Vec<Kind>) -> Result<(), NoMemory>
 }
 
 fn push_body(tree: &Option<Stmts>, out: &mut Vec<Kind>) -> Result<(), NoMemory>
-    ensures pushed { OnOk result (Pushes out.old.items out.new.items (spell_body (body_of tree.now))) }
+    ensures pushed { OnOk result (Pushes out.old.items out.new.items
+        (spell_body (body_of tree.now))) }
 {
     match tree {
         None => Ok(()),
@@ -128,7 +137,8 @@ fn push_body(tree: &Option<Stmts>, out: &mut Vec<Kind>) -> Result<(), NoMemory>
 
 #[cycle(spell_blocks)]
 fn push_block(tree: &Block, out: &mut Vec<Kind>) -> Result<(), NoMemory>
-    ensures pushed { OnOk result (Pushes out.old.items out.new.items (spell_block (view_block tree.now))) }
+    ensures pushed { OnOk result (Pushes out.old.items out.new.items
+        (spell_block (view_block tree.now))) }
 {
     push_decl_tail(&tree.decls, out)?;
     push_body(&tree.body, out)
@@ -136,7 +146,8 @@ fn push_block(tree: &Block, out: &mut Vec<Kind>) -> Result<(), NoMemory>
 
 #[cycle(spell_blocks)]
 fn push_decl_tail(trees: &[Decl], out: &mut Vec<Kind>) -> Result<(), NoMemory>
-    ensures pushed { OnOk result (Pushes out.old.items out.new.items (spell_decl_tail (decls_of trees.now))) }
+    ensures pushed { OnOk result (Pushes out.old.items out.new.items
+        (spell_decl_tail (decls_of trees.now))) }
 {
     for tree in trees {
         push_decl(tree, out)?;
@@ -146,7 +157,8 @@ fn push_decl_tail(trees: &[Decl], out: &mut Vec<Kind>) -> Result<(), NoMemory>
 
 #[cycle(spell_blocks)]
 fn push_decl(tree: &Decl, out: &mut Vec<Kind>) -> Result<(), NoMemory>
-    ensures pushed { OnOk result (Pushes out.old.items out.new.items (spell_decl (view_decl tree.now))) }
+    ensures pushed { OnOk result (Pushes out.old.items out.new.items
+        (spell_decl (view_decl tree.now))) }
 {
     match tree {
         Decl::Const { entries, .. } => {

@@ -14,7 +14,8 @@ use alma_base::NoMemory;
 
 #[cycle(spell)]
 pub fn push_stmts(tree: &Stmts, out: &mut Vec<Kind>) -> Result<(), NoMemory>
-    ensures pushed { OnOk result (Pushes out.old.items out.new.items (spell_stmts (view_stmts tree.now))) }
+    ensures pushed { OnOk result (Pushes out.old.items out.new.items
+        (spell_stmts (view_stmts tree.now))) }
 {
     push_stmt(&tree.first, out)?;
     push_stmt_tail(&tree.more, out)
@@ -22,7 +23,8 @@ pub fn push_stmts(tree: &Stmts, out: &mut Vec<Kind>) -> Result<(), NoMemory>
 
 #[cycle(spell)]
 fn push_stmt_tail(trees: &[Stmt], out: &mut Vec<Kind>) -> Result<(), NoMemory>
-    ensures pushed { OnOk result (Pushes out.old.items out.new.items (spell_stmt_tail (stmts_of trees.now))) }
+    ensures pushed { OnOk result (Pushes out.old.items out.new.items
+        (spell_stmt_tail (stmts_of trees.now))) }
 {
     for tree in trees {
         push(Kind::Semicolon, out)?;
@@ -33,7 +35,8 @@ fn push_stmt_tail(trees: &[Stmt], out: &mut Vec<Kind>) -> Result<(), NoMemory>
 
 #[cycle(spell)]
 fn push_stmt(tree: &Stmt, out: &mut Vec<Kind>) -> Result<(), NoMemory>
-    ensures pushed { OnOk result (Pushes out.old.items out.new.items (spell_stmt (view_stmt tree.now))) }
+    ensures pushed { OnOk result (Pushes out.old.items out.new.items
+        (spell_stmt (view_stmt tree.now))) }
 {
     match tree {
         Stmt::Nothing { .. } => Ok(()),
@@ -75,7 +78,8 @@ fn push_stmt(tree: &Stmt, out: &mut Vec<Kind>) -> Result<(), NoMemory>
 
 #[cycle(spell)]
 fn push_assign(target: &Desig, value: &Expr, out: &mut Vec<Kind>) -> Result<(), NoMemory>
-    ensures pushed { OnOk result (Pushes out.old.items out.new.items (spell_stmt (assign (view_desig target.now) (view_expr value.now)))) }
+    ensures pushed { OnOk result (Pushes out.old.items out.new.items
+        (spell_stmt (assign (view_desig target.now) (view_expr value.now)))) }
 {
     push_desig(target, out)?;
     push(Kind::Assign, out)?;
@@ -90,7 +94,9 @@ fn push_if(
     otherwise: &Option<Stmts>,
     out: &mut Vec<Kind>,
 ) -> Result<(), NoMemory>
-    ensures pushed { OnOk result (Pushes out.old.items out.new.items (spell_stmt (if_stmt (view_expr test.now) (view_stmts then.now) (elsifs_of elsifs.now) (else_of otherwise.now)))) }
+    ensures pushed { OnOk result (Pushes out.old.items out.new.items
+        (spell_stmt (if_stmt (view_expr test.now) (view_stmts then.now) (elsifs_of elsifs.now)
+        (else_of otherwise.now)))) }
 {
     push(Kind::If, out)?;
     push_expr(test, out)?;
@@ -103,7 +109,8 @@ fn push_if(
 
 #[cycle(spell)]
 fn push_while(test: &Expr, body: &Stmts, out: &mut Vec<Kind>) -> Result<(), NoMemory>
-    ensures pushed { OnOk result (Pushes out.old.items out.new.items (spell_stmt (while_stmt (view_expr test.now) (view_stmts body.now)))) }
+    ensures pushed { OnOk result (Pushes out.old.items out.new.items
+        (spell_stmt (while_stmt (view_expr test.now) (view_stmts body.now)))) }
 {
     push(Kind::While, out)?;
     push_expr(test, out)?;
@@ -114,7 +121,8 @@ fn push_while(test: &Expr, body: &Stmts, out: &mut Vec<Kind>) -> Result<(), NoMe
 
 #[cycle(spell)]
 fn push_repeat(body: &Stmts, test: &Expr, out: &mut Vec<Kind>) -> Result<(), NoMemory>
-    ensures pushed { OnOk result (Pushes out.old.items out.new.items (spell_stmt (repeat_stmt (view_stmts body.now) (view_expr test.now)))) }
+    ensures pushed { OnOk result (Pushes out.old.items out.new.items
+        (spell_stmt (repeat_stmt (view_stmts body.now) (view_expr test.now)))) }
 {
     push(Kind::Repeat, out)?;
     push_stmts(body, out)?;
@@ -130,7 +138,9 @@ fn push_for(
     body: &Stmts,
     out: &mut Vec<Kind>,
 ) -> Result<(), NoMemory>
-    ensures pushed { OnOk result (Pushes out.old.items out.new.items (spell_stmt (for_stmt (view_expr from.now) (view_expr to.now) (by_of by.now) (view_stmts body.now)))) }
+    ensures pushed { OnOk result (Pushes out.old.items out.new.items
+        (spell_stmt (for_stmt (view_expr from.now) (view_expr to.now) (by_of by.now)
+        (view_stmts body.now)))) }
 {
     push(Kind::For, out)?;
     push(Kind::Name, out)?;
@@ -146,7 +156,8 @@ fn push_for(
 
 #[cycle(spell)]
 fn push_some(from: &Expr, to: &Expr, body: &Stmts, out: &mut Vec<Kind>) -> Result<(), NoMemory>
-    ensures pushed { OnOk result (Pushes out.old.items out.new.items (spell_stmt (some_stmt (view_expr from.now) (view_expr to.now) (view_stmts body.now)))) }
+    ensures pushed { OnOk result (Pushes out.old.items out.new.items
+        (spell_stmt (some_stmt (view_expr from.now) (view_expr to.now) (view_stmts body.now)))) }
 {
     push(Kind::Some, out)?;
     push(Kind::Name, out)?;
@@ -167,7 +178,9 @@ fn push_case(
     otherwise: &Option<Stmts>,
     out: &mut Vec<Kind>,
 ) -> Result<(), NoMemory>
-    ensures pushed { OnOk result (Pushes out.old.items out.new.items (spell_stmt (case_stmt (view_expr value.now) (view_arm first.now) (arms_of more.now) (else_of otherwise.now)))) }
+    ensures pushed { OnOk result (Pushes out.old.items out.new.items
+        (spell_stmt (case_stmt (view_expr value.now) (view_arm first.now) (arms_of more.now)
+        (else_of otherwise.now)))) }
 {
     push(Kind::Case, out)?;
     push_expr(value, out)?;
@@ -180,7 +193,8 @@ fn push_case(
 
 #[cycle(spell)]
 fn push_either(first: &Stmts, more: &[Stmts], out: &mut Vec<Kind>) -> Result<(), NoMemory>
-    ensures pushed { OnOk result (Pushes out.old.items out.new.items (spell_stmt (either_stmt (view_stmts first.now) (orelses_of more.now)))) }
+    ensures pushed { OnOk result (Pushes out.old.items out.new.items
+        (spell_stmt (either_stmt (view_stmts first.now) (orelses_of more.now)))) }
 {
     push(Kind::Either, out)?;
     push_stmts(first, out)?;
@@ -190,7 +204,8 @@ fn push_either(first: &Stmts, more: &[Stmts], out: &mut Vec<Kind>) -> Result<(),
 
 #[cycle(spell)]
 fn push_forall(choice: &Stmts, body: &Stmts, out: &mut Vec<Kind>) -> Result<(), NoMemory>
-    ensures pushed { OnOk result (Pushes out.old.items out.new.items (spell_stmt (forall_stmt (view_stmts choice.now) (view_stmts body.now)))) }
+    ensures pushed { OnOk result (Pushes out.old.items out.new.items
+        (spell_stmt (forall_stmt (view_stmts choice.now) (view_stmts body.now)))) }
 {
     push(Kind::Forall, out)?;
     push_stmts(choice, out)?;
@@ -201,7 +216,8 @@ fn push_forall(choice: &Stmts, body: &Stmts, out: &mut Vec<Kind>) -> Result<(), 
 
 #[cycle(spell)]
 fn push_commit(body: &Stmts, out: &mut Vec<Kind>) -> Result<(), NoMemory>
-    ensures pushed { OnOk result (Pushes out.old.items out.new.items (spell_stmt (commit_stmt (view_stmts body.now)))) }
+    ensures pushed { OnOk result (Pushes out.old.items out.new.items
+        (spell_stmt (commit_stmt (view_stmts body.now)))) }
 {
     push(Kind::Commit, out)?;
     push_stmts(body, out)?;
@@ -210,7 +226,8 @@ fn push_commit(body: &Stmts, out: &mut Vec<Kind>) -> Result<(), NoMemory>
 
 #[cycle(spell)]
 fn push_return(value: &Option<Expr>, out: &mut Vec<Kind>) -> Result<(), NoMemory>
-    ensures pushed { OnOk result (Pushes out.old.items out.new.items (spell_stmt (return_stmt (returned_of value.now)))) }
+    ensures pushed { OnOk result (Pushes out.old.items out.new.items
+        (spell_stmt (return_stmt (returned_of value.now)))) }
 {
     push(Kind::Return, out)?;
     push_returned(value, out)
@@ -218,7 +235,8 @@ fn push_return(value: &Option<Expr>, out: &mut Vec<Kind>) -> Result<(), NoMemory
 
 #[cycle(spell)]
 fn push_read(first: &Desig, more: &[Desig], out: &mut Vec<Kind>) -> Result<(), NoMemory>
-    ensures pushed { OnOk result (Pushes out.old.items out.new.items (spell_stmt (read_stmt (view_desig first.now) (desigs_of more.now)))) }
+    ensures pushed { OnOk result (Pushes out.old.items out.new.items
+        (spell_stmt (read_stmt (view_desig first.now) (desigs_of more.now)))) }
 {
     push(Kind::Read, out)?;
     push(Kind::OpenParen, out)?;
@@ -229,7 +247,8 @@ fn push_read(first: &Desig, more: &[Desig], out: &mut Vec<Kind>) -> Result<(), N
 
 #[cycle(spell)]
 fn push_write(items: &Exprs, out: &mut Vec<Kind>) -> Result<(), NoMemory>
-    ensures pushed { OnOk result (Pushes out.old.items out.new.items (spell_stmt (write_stmt (view_exprs items.now)))) }
+    ensures pushed { OnOk result (Pushes out.old.items out.new.items
+        (spell_stmt (write_stmt (view_exprs items.now)))) }
 {
     push(Kind::Write, out)?;
     push(Kind::OpenParen, out)?;
@@ -239,7 +258,8 @@ fn push_write(items: &Exprs, out: &mut Vec<Kind>) -> Result<(), NoMemory>
 
 #[cycle(spell)]
 fn push_writeln(items: &Option<Args>, out: &mut Vec<Kind>) -> Result<(), NoMemory>
-    ensures pushed { OnOk result (Pushes out.old.items out.new.items (spell_stmt (writeln_stmt (args_of items.now)))) }
+    ensures pushed { OnOk result (Pushes out.old.items out.new.items
+        (spell_stmt (writeln_stmt (args_of items.now)))) }
 {
     push(Kind::Writeln, out)?;
     push_args(items, out)
@@ -247,7 +267,8 @@ fn push_writeln(items: &Option<Args>, out: &mut Vec<Kind>) -> Result<(), NoMemor
 
 #[cycle(spell)]
 fn push_elsif_tail(trees: &[Elsif], out: &mut Vec<Kind>) -> Result<(), NoMemory>
-    ensures pushed { OnOk result (Pushes out.old.items out.new.items (spell_elsif_tail (elsifs_of trees.now))) }
+    ensures pushed { OnOk result (Pushes out.old.items out.new.items
+        (spell_elsif_tail (elsifs_of trees.now))) }
 {
     for tree in trees {
         push(Kind::Elsif, out)?;
@@ -260,7 +281,8 @@ fn push_elsif_tail(trees: &[Elsif], out: &mut Vec<Kind>) -> Result<(), NoMemory>
 
 #[cycle(spell)]
 fn push_else(tree: &Option<Stmts>, out: &mut Vec<Kind>) -> Result<(), NoMemory>
-    ensures pushed { OnOk result (Pushes out.old.items out.new.items (spell_else (else_of tree.now))) }
+    ensures pushed { OnOk result (Pushes out.old.items out.new.items
+        (spell_else (else_of tree.now))) }
 {
     match tree {
         None => Ok(()),
@@ -286,7 +308,8 @@ fn push_by(tree: &Option<Expr>, out: &mut Vec<Kind>) -> Result<(), NoMemory>
 
 #[cycle(spell)]
 fn push_orelse_tail(trees: &[Stmts], out: &mut Vec<Kind>) -> Result<(), NoMemory>
-    ensures pushed { OnOk result (Pushes out.old.items out.new.items (spell_orelse_tail (orelses_of trees.now))) }
+    ensures pushed { OnOk result (Pushes out.old.items out.new.items
+        (spell_orelse_tail (orelses_of trees.now))) }
 {
     for tree in trees {
         push(Kind::Orelse, out)?;
@@ -297,7 +320,8 @@ fn push_orelse_tail(trees: &[Stmts], out: &mut Vec<Kind>) -> Result<(), NoMemory
 
 #[cycle(spell)]
 fn push_returned(tree: &Option<Expr>, out: &mut Vec<Kind>) -> Result<(), NoMemory>
-    ensures pushed { OnOk result (Pushes out.old.items out.new.items (spell_returned (returned_of tree.now))) }
+    ensures pushed { OnOk result (Pushes out.old.items out.new.items
+        (spell_returned (returned_of tree.now))) }
 {
     match tree {
         None => Ok(()),
@@ -307,7 +331,8 @@ fn push_returned(tree: &Option<Expr>, out: &mut Vec<Kind>) -> Result<(), NoMemor
 
 #[cycle(spell)]
 fn push_desig_tail(trees: &[Desig], out: &mut Vec<Kind>) -> Result<(), NoMemory>
-    ensures pushed { OnOk result (Pushes out.old.items out.new.items (spell_desig_tail (desigs_of trees.now))) }
+    ensures pushed { OnOk result (Pushes out.old.items out.new.items
+        (spell_desig_tail (desigs_of trees.now))) }
 {
     for tree in trees {
         push(Kind::Comma, out)?;
@@ -318,7 +343,8 @@ fn push_desig_tail(trees: &[Desig], out: &mut Vec<Kind>) -> Result<(), NoMemory>
 
 #[cycle(spell)]
 fn push_arm(tree: &Arm, out: &mut Vec<Kind>) -> Result<(), NoMemory>
-    ensures pushed { OnOk result (Pushes out.old.items out.new.items (spell_arm (view_arm tree.now))) }
+    ensures pushed { OnOk result (Pushes out.old.items out.new.items
+        (spell_arm (view_arm tree.now))) }
 {
     match tree {
         Arm::Empty { .. } => Ok(()),
@@ -338,7 +364,8 @@ fn push_arm(tree: &Arm, out: &mut Vec<Kind>) -> Result<(), NoMemory>
 
 #[cycle(spell)]
 fn push_arm_tail(trees: &[Arm], out: &mut Vec<Kind>) -> Result<(), NoMemory>
-    ensures pushed { OnOk result (Pushes out.old.items out.new.items (spell_arm_tail (arms_of trees.now))) }
+    ensures pushed { OnOk result (Pushes out.old.items out.new.items
+        (spell_arm_tail (arms_of trees.now))) }
 {
     for tree in trees {
         push(Kind::Bar, out)?;
@@ -349,7 +376,8 @@ fn push_arm_tail(trees: &[Arm], out: &mut Vec<Kind>) -> Result<(), NoMemory>
 
 #[cycle(spell)]
 fn push_label(tree: &Label, out: &mut Vec<Kind>) -> Result<(), NoMemory>
-    ensures pushed { OnOk result (Pushes out.old.items out.new.items (spell_label (view_label tree.now))) }
+    ensures pushed { OnOk result (Pushes out.old.items out.new.items
+        (spell_label (view_label tree.now))) }
 {
     push_expr(&tree.low, out)?;
     push_high(&tree.high, out)
@@ -357,7 +385,8 @@ fn push_label(tree: &Label, out: &mut Vec<Kind>) -> Result<(), NoMemory>
 
 #[cycle(spell)]
 fn push_high(tree: &Option<Expr>, out: &mut Vec<Kind>) -> Result<(), NoMemory>
-    ensures pushed { OnOk result (Pushes out.old.items out.new.items (spell_high (high_of tree.now))) }
+    ensures pushed { OnOk result (Pushes out.old.items out.new.items
+        (spell_high (high_of tree.now))) }
 {
     match tree {
         None => Ok(()),
@@ -370,7 +399,8 @@ fn push_high(tree: &Option<Expr>, out: &mut Vec<Kind>) -> Result<(), NoMemory>
 
 #[cycle(spell)]
 fn push_label_tail(trees: &[Label], out: &mut Vec<Kind>) -> Result<(), NoMemory>
-    ensures pushed { OnOk result (Pushes out.old.items out.new.items (spell_label_tail (labels_of trees.now))) }
+    ensures pushed { OnOk result (Pushes out.old.items out.new.items
+        (spell_label_tail (labels_of trees.now))) }
 {
     for tree in trees {
         push(Kind::Comma, out)?;
@@ -381,7 +411,8 @@ fn push_label_tail(trees: &[Label], out: &mut Vec<Kind>) -> Result<(), NoMemory>
 
 #[cycle(spell)]
 pub fn push_expr(tree: &Expr, out: &mut Vec<Kind>) -> Result<(), NoMemory>
-    ensures pushed { OnOk result (Pushes out.old.items out.new.items (spell_expr (view_expr tree.now))) }
+    ensures pushed { OnOk result (Pushes out.old.items out.new.items
+        (spell_expr (view_expr tree.now))) }
 {
     push_simple(&tree.left, out)?;
     push_compared(&tree.right, out)
@@ -389,7 +420,8 @@ pub fn push_expr(tree: &Expr, out: &mut Vec<Kind>) -> Result<(), NoMemory>
 
 #[cycle(spell)]
 fn push_compared(tree: &Option<Box<Compared>>, out: &mut Vec<Kind>) -> Result<(), NoMemory>
-    ensures pushed { OnOk result (Pushes out.old.items out.new.items (spell_compared (compared_of tree.now))) }
+    ensures pushed { OnOk result (Pushes out.old.items out.new.items
+        (spell_compared (compared_of tree.now))) }
 {
     match tree {
         None => Ok(()),
@@ -402,7 +434,8 @@ fn push_compared(tree: &Option<Box<Compared>>, out: &mut Vec<Kind>) -> Result<()
 
 #[cycle(spell)]
 fn push_simple(tree: &Simple, out: &mut Vec<Kind>) -> Result<(), NoMemory>
-    ensures pushed { OnOk result (Pushes out.old.items out.new.items (spell_simple (view_simple tree.now))) }
+    ensures pushed { OnOk result (Pushes out.old.items out.new.items
+        (spell_simple (view_simple tree.now))) }
 {
     push_sign(tree.sign, out)?;
     push_term(&tree.first, out)?;
@@ -411,7 +444,8 @@ fn push_simple(tree: &Simple, out: &mut Vec<Kind>) -> Result<(), NoMemory>
 
 #[cycle(spell)]
 fn push_term_tail(trees: &[AddLink], out: &mut Vec<Kind>) -> Result<(), NoMemory>
-    ensures pushed { OnOk result (Pushes out.old.items out.new.items (spell_term_tail (terms_of trees.now))) }
+    ensures pushed { OnOk result (Pushes out.old.items out.new.items
+        (spell_term_tail (terms_of trees.now))) }
 {
     for tree in trees {
         push(add_kind(tree.operator), out)?;
@@ -422,7 +456,8 @@ fn push_term_tail(trees: &[AddLink], out: &mut Vec<Kind>) -> Result<(), NoMemory
 
 #[cycle(spell)]
 fn push_term(tree: &Term, out: &mut Vec<Kind>) -> Result<(), NoMemory>
-    ensures pushed { OnOk result (Pushes out.old.items out.new.items (spell_term (view_term tree.now))) }
+    ensures pushed { OnOk result (Pushes out.old.items out.new.items
+        (spell_term (view_term tree.now))) }
 {
     push_factor(&tree.first, out)?;
     push_factor_tail(&tree.more, out)
@@ -430,7 +465,8 @@ fn push_term(tree: &Term, out: &mut Vec<Kind>) -> Result<(), NoMemory>
 
 #[cycle(spell)]
 fn push_factor_tail(trees: &[MulLink], out: &mut Vec<Kind>) -> Result<(), NoMemory>
-    ensures pushed { OnOk result (Pushes out.old.items out.new.items (spell_factor_tail (factors_of trees.now))) }
+    ensures pushed { OnOk result (Pushes out.old.items out.new.items
+        (spell_factor_tail (factors_of trees.now))) }
 {
     for tree in trees {
         push(mul_kind(tree.operator), out)?;
@@ -441,7 +477,8 @@ fn push_factor_tail(trees: &[MulLink], out: &mut Vec<Kind>) -> Result<(), NoMemo
 
 #[cycle(spell)]
 fn push_factor(tree: &Factor, out: &mut Vec<Kind>) -> Result<(), NoMemory>
-    ensures pushed { OnOk result (Pushes out.old.items out.new.items (spell_factor (view_factor tree.now))) }
+    ensures pushed { OnOk result (Pushes out.old.items out.new.items
+        (spell_factor (view_factor tree.now))) }
 {
     match tree {
         Factor::Not { primary, .. } => {
@@ -454,7 +491,8 @@ fn push_factor(tree: &Factor, out: &mut Vec<Kind>) -> Result<(), NoMemory>
 
 #[cycle(spell)]
 fn push_primary(tree: &Primary, out: &mut Vec<Kind>) -> Result<(), NoMemory>
-    ensures pushed { OnOk result (Pushes out.old.items out.new.items (spell_primary (view_primary tree.now))) }
+    ensures pushed { OnOk result (Pushes out.old.items out.new.items
+        (spell_primary (view_primary tree.now))) }
 {
     match tree {
         Primary::Number { .. } => push(Kind::Number, out),
@@ -491,7 +529,8 @@ fn push_primary(tree: &Primary, out: &mut Vec<Kind>) -> Result<(), NoMemory>
 
 #[cycle(spell)]
 fn push_args(tree: &Option<Args>, out: &mut Vec<Kind>) -> Result<(), NoMemory>
-    ensures pushed { OnOk result (Pushes out.old.items out.new.items (spell_args (args_of tree.now))) }
+    ensures pushed { OnOk result (Pushes out.old.items out.new.items
+        (spell_args (args_of tree.now))) }
 {
     let Some(args) = tree else {
         return Ok(());
@@ -508,7 +547,8 @@ fn push_args(tree: &Option<Args>, out: &mut Vec<Kind>) -> Result<(), NoMemory>
 
 #[cycle(spell)]
 fn push_exprs(tree: &Exprs, out: &mut Vec<Kind>) -> Result<(), NoMemory>
-    ensures pushed { OnOk result (Pushes out.old.items out.new.items (spell_exprs (view_exprs tree.now))) }
+    ensures pushed { OnOk result (Pushes out.old.items out.new.items
+        (spell_exprs (view_exprs tree.now))) }
 {
     push_expr(&tree.first, out)?;
     push_expr_tail(&tree.more, out)
@@ -516,7 +556,8 @@ fn push_exprs(tree: &Exprs, out: &mut Vec<Kind>) -> Result<(), NoMemory>
 
 #[cycle(spell)]
 fn push_expr_tail(trees: &[Expr], out: &mut Vec<Kind>) -> Result<(), NoMemory>
-    ensures pushed { OnOk result (Pushes out.old.items out.new.items (spell_expr_tail (exprs_of trees.now))) }
+    ensures pushed { OnOk result (Pushes out.old.items out.new.items
+        (spell_expr_tail (exprs_of trees.now))) }
 {
     for tree in trees {
         push(Kind::Comma, out)?;
@@ -527,7 +568,8 @@ fn push_expr_tail(trees: &[Expr], out: &mut Vec<Kind>) -> Result<(), NoMemory>
 
 #[cycle(spell)]
 fn push_desig(tree: &Desig, out: &mut Vec<Kind>) -> Result<(), NoMemory>
-    ensures pushed { OnOk result (Pushes out.old.items out.new.items (spell_desig (view_desig tree.now))) }
+    ensures pushed { OnOk result (Pushes out.old.items out.new.items
+        (spell_desig (view_desig tree.now))) }
 {
     push(Kind::Name, out)?;
     push_selector_tail(&tree.more, out)
@@ -535,7 +577,8 @@ fn push_desig(tree: &Desig, out: &mut Vec<Kind>) -> Result<(), NoMemory>
 
 #[cycle(spell)]
 fn push_selector_tail(trees: &[Selector], out: &mut Vec<Kind>) -> Result<(), NoMemory>
-    ensures pushed { OnOk result (Pushes out.old.items out.new.items (spell_selector_tail (selectors_of trees.now))) }
+    ensures pushed { OnOk result (Pushes out.old.items out.new.items
+        (spell_selector_tail (selectors_of trees.now))) }
 {
     for tree in trees {
         push_selector(tree, out)?;
@@ -545,7 +588,8 @@ fn push_selector_tail(trees: &[Selector], out: &mut Vec<Kind>) -> Result<(), NoM
 
 #[cycle(spell)]
 fn push_selector(tree: &Selector, out: &mut Vec<Kind>) -> Result<(), NoMemory>
-    ensures pushed { OnOk result (Pushes out.old.items out.new.items (spell_selector (view_selector tree.now))) }
+    ensures pushed { OnOk result (Pushes out.old.items out.new.items
+        (spell_selector (view_selector tree.now))) }
 {
     match tree {
         Selector::Field { .. } => {

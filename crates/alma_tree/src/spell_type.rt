@@ -10,7 +10,8 @@ use crate::{Arrays, Dimensions, FieldList, Kind, Name, Names, PlainType, TypeNod
 use alma_base::NoMemory;
 
 fn push_name_tail(trees: &[Name], out: &mut Vec<Kind>) -> Result<(), NoMemory>
-    ensures pushed { OnOk result (Pushes out.old.items out.new.items (spell_name_tail (name_tail_of trees.now))) }
+    ensures pushed { OnOk result (Pushes out.old.items out.new.items
+        (spell_name_tail (name_tail_of trees.now))) }
 {
     for _name in trees {
         push(Kind::Comma, out)?;
@@ -20,7 +21,8 @@ fn push_name_tail(trees: &[Name], out: &mut Vec<Kind>) -> Result<(), NoMemory>
 }
 
 pub fn push_names(tree: &Names, out: &mut Vec<Kind>) -> Result<(), NoMemory>
-    ensures pushed { OnOk result (Pushes out.old.items out.new.items (spell_names (view_names tree.now))) }
+    ensures pushed { OnOk result (Pushes out.old.items out.new.items
+        (spell_names (view_names tree.now))) }
 {
     push(Kind::Name, out)?;
     push_name_tail(&tree.more, out)
@@ -28,7 +30,8 @@ pub fn push_names(tree: &Names, out: &mut Vec<Kind>) -> Result<(), NoMemory>
 
 #[cycle(spell_types)]
 pub fn push_type_node(tree: &TypeNode, out: &mut Vec<Kind>) -> Result<(), NoMemory>
-    ensures pushed { OnOk result (Pushes out.old.items out.new.items (spell_type_node (view_type_node tree.now))) }
+    ensures pushed { OnOk result (Pushes out.old.items out.new.items
+        (spell_type_node (view_type_node tree.now))) }
 {
     push_arrays(&tree.arrays, out)?;
     push_plain_type(&tree.element, out)
@@ -36,7 +39,8 @@ pub fn push_type_node(tree: &TypeNode, out: &mut Vec<Kind>) -> Result<(), NoMemo
 
 #[cycle(spell_types)]
 fn push_arrays(tree: &Option<Arrays>, out: &mut Vec<Kind>) -> Result<(), NoMemory>
-    ensures pushed { OnOk result (Pushes out.old.items out.new.items (spell_array_tail (arrays_of tree.now))) }
+    ensures pushed { OnOk result (Pushes out.old.items out.new.items
+        (spell_array_tail (arrays_of tree.now))) }
 {
     match tree {
         None => Ok(()),
@@ -49,7 +53,8 @@ fn push_arrays(tree: &Option<Arrays>, out: &mut Vec<Kind>) -> Result<(), NoMemor
 
 #[cycle(spell_types)]
 fn push_dimension_tail(trees: &[Dimensions], out: &mut Vec<Kind>) -> Result<(), NoMemory>
-    ensures pushed { OnOk result (Pushes out.old.items out.new.items (spell_array_tail (dimensions_of trees.now))) }
+    ensures pushed { OnOk result (Pushes out.old.items out.new.items
+        (spell_array_tail (dimensions_of trees.now))) }
 {
     for tree in trees {
         push_dimension(tree, out)?;
@@ -59,7 +64,8 @@ fn push_dimension_tail(trees: &[Dimensions], out: &mut Vec<Kind>) -> Result<(), 
 
 #[cycle(spell_types)]
 fn push_dimension(tree: &Dimensions, out: &mut Vec<Kind>) -> Result<(), NoMemory>
-    ensures pushed { OnOk result (Pushes out.old.items out.new.items (spell_dimensions (view_dimension tree.now))) }
+    ensures pushed { OnOk result (Pushes out.old.items out.new.items
+        (spell_dimensions (view_dimension tree.now))) }
 {
     push(Kind::Array, out)?;
     push_plain_type(&tree.first, out)?;
@@ -69,7 +75,8 @@ fn push_dimension(tree: &Dimensions, out: &mut Vec<Kind>) -> Result<(), NoMemory
 
 #[cycle(spell_types)]
 fn push_plain_tail(trees: &[PlainType], out: &mut Vec<Kind>) -> Result<(), NoMemory>
-    ensures pushed { OnOk result (Pushes out.old.items out.new.items (spell_plain_tail (plains_of trees.now))) }
+    ensures pushed { OnOk result (Pushes out.old.items out.new.items
+        (spell_plain_tail (plains_of trees.now))) }
 {
     for tree in trees {
         push(Kind::Comma, out)?;
@@ -80,7 +87,8 @@ fn push_plain_tail(trees: &[PlainType], out: &mut Vec<Kind>) -> Result<(), NoMem
 
 #[cycle(spell_types)]
 fn push_plain_type(tree: &PlainType, out: &mut Vec<Kind>) -> Result<(), NoMemory>
-    ensures pushed { OnOk result (Pushes out.old.items out.new.items (spell_plain_type (view_plain_type tree.now))) }
+    ensures pushed { OnOk result (Pushes out.old.items out.new.items
+        (spell_plain_type (view_plain_type tree.now))) }
 {
     match tree {
         PlainType::Named { .. } => push(Kind::Name, out),
@@ -107,7 +115,8 @@ fn push_plain_type(tree: &PlainType, out: &mut Vec<Kind>) -> Result<(), NoMemory
 
 #[cycle(spell_types)]
 fn push_field_list(tree: &FieldList, out: &mut Vec<Kind>) -> Result<(), NoMemory>
-    ensures pushed { OnOk result (Pushes out.old.items out.new.items (spell_field_list (view_field_list tree.now))) }
+    ensures pushed { OnOk result (Pushes out.old.items out.new.items
+        (spell_field_list (view_field_list tree.now))) }
 {
     match tree {
         FieldList::Empty { .. } => Ok(()),
@@ -125,7 +134,8 @@ fn push_field_list(tree: &FieldList, out: &mut Vec<Kind>) -> Result<(), NoMemory
 
 #[cycle(spell_types)]
 fn push_field_list_tail(trees: &[FieldList], out: &mut Vec<Kind>) -> Result<(), NoMemory>
-    ensures pushed { OnOk result (Pushes out.old.items out.new.items (spell_field_list_tail (field_lists_of trees.now))) }
+    ensures pushed { OnOk result (Pushes out.old.items out.new.items
+        (spell_field_list_tail (field_lists_of trees.now))) }
 {
     for tree in trees {
         push(Kind::Semicolon, out)?;

@@ -20,7 +20,8 @@ fn set_file(
     name: &str,
     bytes: &[u8],
 ) -> Result<(), NoMemory>
-    ensures ok { OnOk result (named_bytes files.new ≡ map.insert (named_bytes files.old) name.now bytes.now) }
+    ensures ok { OnOk result (named_bytes files.new ≡ map.insert
+        (named_bytes files.old) name.now bytes.now) }
     ensures err { OnErr result (named_bytes files.new ≡ named_bytes files.old) }
 {
     let key = String::from_str(alloc, name)?;
@@ -80,7 +81,8 @@ impl MemFiles {
 
     /// Sets a file, and counts no call.
     pub fn put(&mut self, alloc: Global, name: &str, bytes: &[u8]) -> Result<(), NoMemory>
-        ensures ok { OnOk result (self.new ≡ record self.old { files = map.insert self.old.files name.now bytes.now }) }
+        ensures ok { OnOk result (self.new ≡ record self.old
+            { files = map.insert self.old.files name.now bytes.now }) }
         ensures err { OnErr result (self.new ≡ self.old) }
     {
         set_file(alloc, &mut self.files, name, bytes)
@@ -104,8 +106,10 @@ impl Files for MemFiles {
 
     fn fetch(&mut self, alloc: Global, name: &str, limit: usize) -> Result<Vec<u8>, Fetch>
         requires { limit < 2 ^ 62 }
-        ensures same { (other : List ℕ) → told_by (map.get self.new.files other) ≡ told_by (map.get self.old.files other) }
-        ensures answer { IsFetched (told_by (map.get self.old.files name.now)) limit self.old.fetch_faults self.new.fetch_faults result }
+        ensures same { (other : List ℕ) → told_by (map.get self.new.files other) ≡ told_by
+            (map.get self.old.files other) }
+        ensures answer { IsFetched (told_by (map.get self.old.files name.now)) limit
+            self.old.fetch_faults self.new.fetch_faults result }
         ensures store_count { self.new.store_faults ≡ self.old.store_faults }
 
         // Which calls fail, and what stays.
@@ -136,7 +140,8 @@ impl Files for MemFiles {
         ensures others { (other : List ℕ) → other ≢ name.now →
             told_by (map.get self.new.files other) ≡ told_by (map.get self.old.files other) }
         ensures fetch_count { self.new.fetch_faults ≡ self.old.fetch_faults }
-        ensures answer { IsStored (told_by (map.get self.old.files name.now)) (told_by (map.get self.new.files name.now))
+        ensures answer { IsStored (told_by (map.get self.old.files name.now))
+            (told_by (map.get self.new.files name.now))
             bytes.now self.old.store_faults self.new.store_faults result }
 
         // Which calls fail, and what the files are then. A store that fails changes no file.

@@ -70,7 +70,8 @@ impl Source for MemSource {
 
         // Which calls fail, how many bytes the others move, and what is left.
         ensures fails { IsErr result ↔ FailsNext self.old.schedule }
-        ensures count { IfOk result (λ n. n ≡ min self.old.piece (min (length buf.new) (length self.old.left))) }
+        ensures count { IfOk result (λ n. n ≡ min self.old.piece
+            (min (length buf.new) (length self.old.left))) }
         ensures after { self.new ≡ after_read self.old result }
 
         // The buffer behind those bytes stays as it was.

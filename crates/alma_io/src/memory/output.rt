@@ -69,13 +69,15 @@ impl Sink for MemSink {
     fn write(&mut self, piece: &[u8]) -> Result<usize, Failed>
         ensures bound { WritesAtMost result piece.now }
         ensures some { IfOk result (λ count. 0 < length piece.now → 0 < count) }
-        ensures bytes { WriteAppends (Some self.old.written) (Some self.new.written) result piece.now }
+        ensures bytes { WriteAppends (Some self.old.written)
+            (Some self.new.written) result piece.now }
         ensures cause { HasCause self.old.faults self.new.faults result }
 
         // Which calls fail, how many bytes the others move, and what is written then.
         ensures fails { IsErr result ↔ (FailsNext self.old.schedule
             ⊎ ((0 < length piece.now) × (self.old.room ≤ length self.old.written))) }
-        ensures count { IfOk result (λ n. n ≡ min self.old.piece (min (self.old.room - length self.old.written) (length piece.now))) }
+        ensures count { IfOk result (λ n. n ≡ min self.old.piece
+            (min (self.old.room - length self.old.written) (length piece.now))) }
         ensures after { self.new ≡ after_write self.old piece.now result }
     {
         let free = self.room - self.bytes.len();
