@@ -16,6 +16,3 @@ pub use fault::ObjectFault;
 pub use routine::RoutineView;
 pub use view::{GlobalView, ObjectView};
 pub use writing::encode;
-
-#[cfg(test)]
-mod tests;

@@ -12,7 +12,7 @@ ghost use Rattle.alma_grammar.specs.Parts.{one, stmt_part, stmt_tail, elsif_tail
 ghost use Rattle.alma_grammar.specs.Parts.{arm_tail, high_part, label_tail, expr_parts, stmts_parts, label_parts};
 ghost use Rattle.alma_cursor.specs.Forms.{if_parts, while_parts, repeat_parts, for_parts, some_parts, case_parts, either_parts, forall_parts};
 ghost use Rattle.alma_cursor.specs.Forms.{commit_parts, return_parts, read_parts, write_parts, writeln_parts, desig_stmt_parts, labelled_parts};
-ghost use Rattle.alma_cursor.specs.Parsing.{seen, Reads, Extends, Fails};
+ghost use Rattle.alma_cursor.specs.Parsing.{position_of, Reads, Extends, Fails};
 
 use crate::expression::{args, desig, desig_value, expr, exprs};
 use alma_cursor::{Cursor, Fault, StmtForm};
@@ -25,8 +25,8 @@ pub fn stmts<'t, 's>(
     at: Cursor<'t, 's>,
     depth: u32,
 ) -> Result<(Stmts, Cursor<'t, 's>), Fault<'t, 's>>
-    ensures read { MatchResult result (λ t. Reads (spell_stmts (view_stmts t.0)) (number_stmts t.0) stmts_parts depth depth (seen at.entry) (seen t.1))
-        (λ e. Fails e stmts_parts depth (seen at.entry)) }
+    ensures read { MatchResult result (λ t. Reads (spell_stmts (view_stmts t.0)) (number_stmts t.0) stmts_parts depth depth (position_of at.entry) (position_of t.1))
+        (λ e. Fails e stmts_parts depth (position_of at.entry)) }
 {
     let (first, at) = stmt(alloc, at, depth)?;
     let (more, at) = stmt_list(alloc, at, depth)?;
@@ -42,8 +42,8 @@ fn stmt_list<'t, 's>(
     depth: u32,
 ) -> Result<(Vec<Stmt>, Cursor<'t, 's>), Fault<'t, 's>>
     ensures read { MatchResult result
-        (λ t. Reads (spell_stmt_tail (stmts_of t.0.items)) (numbers_of_stmts t.0.items) (λ o. stmt_tail ∷ o) depth depth (seen at.entry) (seen t.1))
-        (λ e. Fails e (λ o. stmt_tail ∷ o) depth (seen at.entry)) }
+        (λ t. Reads (spell_stmt_tail (stmts_of t.0.items)) (numbers_of_stmts t.0.items) (λ o. stmt_tail ∷ o) depth depth (position_of at.entry) (position_of t.1))
+        (λ e. Fails e (λ o. stmt_tail ∷ o) depth (position_of at.entry)) }
 {
     let mut more = Vec::new(alloc);
     while let Some(after) = at.skip(Kind::Semicolon) {
@@ -60,8 +60,8 @@ fn stmt<'t, 's>(
     at: Cursor<'t, 's>,
     depth: u32,
 ) -> Result<(Stmt, Cursor<'t, 's>), Fault<'t, 's>>
-    ensures read { MatchResult result (λ t. Reads (spell_stmt (view_stmt t.0)) (number_stmt t.0) (λ o. stmt_part ∷ o) depth depth (seen at.entry) (seen t.1))
-        (λ e. Fails e (λ o. stmt_part ∷ o) depth (seen at.entry)) }
+    ensures read { MatchResult result (λ t. Reads (spell_stmt (view_stmt t.0)) (number_stmt t.0) (λ o. stmt_part ∷ o) depth depth (position_of at.entry) (position_of t.1))
+        (λ e. Fails e (λ o. stmt_part ∷ o) depth (position_of at.entry)) }
 {
     match at.stmt_form() {
         StmtForm::Nothing => nothing(at),
@@ -85,8 +85,8 @@ fn stmt<'t, 's>(
 
 fn nothing<'t, 's>(at: Cursor<'t, 's>) -> Result<(Stmt, Cursor<'t, 's>), Fault<'t, 's>>
     ensures read { MatchResult result
-        (λ t. (d : ℕ) → Reads (spell_stmt (view_stmt t.0)) (number_stmt t.0) (λ o. o) d d (seen at.entry) (seen t.1))
-        (λ e. (d : ℕ) → Fails e (λ o. o) d (seen at.entry)) }
+        (λ t. (d : ℕ) → Reads (spell_stmt (view_stmt t.0)) (number_stmt t.0) (λ o. o) d d (position_of at.entry) (position_of t.1))
+        (λ e. (d : ℕ) → Fails e (λ o. o) d (position_of at.entry)) }
 {
     let (node, at) = at.count()?;
     Ok((Stmt::Nothing { node }, at))
@@ -99,8 +99,8 @@ fn desig_stmt<'t, 's>(
     at: Cursor<'t, 's>,
     depth: u32,
 ) -> Result<(Stmt, Cursor<'t, 's>), Fault<'t, 's>>
-    ensures read { MatchResult result (λ t. Reads (spell_stmt (view_stmt t.0)) (number_stmt t.0) desig_stmt_parts depth depth (seen at.entry) (seen t.1))
-        (λ e. Fails e desig_stmt_parts depth (seen at.entry)) }
+    ensures read { MatchResult result (λ t. Reads (spell_stmt (view_stmt t.0)) (number_stmt t.0) desig_stmt_parts depth depth (position_of at.entry) (position_of t.1))
+        (λ e. Fails e desig_stmt_parts depth (position_of at.entry)) }
 {
     let (desig, at) = desig(alloc, at, depth)?;
     if at.is_at(Kind::Assign) {
@@ -121,8 +121,8 @@ fn assign<'t, 's>(
 ) -> Result<(Stmt, Cursor<'t, 's>), Fault<'t, 's>>
     ensures read { MatchResult result
         (λ t. Extends (spell_desig (view_desig target)) (number_desig target) (λ o. one kinds.Assign ∷ expr_parts o)
-        (spell_stmt (view_stmt t.0)) (number_stmt t.0) depth (seen at.entry) (seen t.1))
-        (λ e. Fails e (λ o. one kinds.Assign ∷ expr_parts o) depth (seen at.entry)) }
+        (spell_stmt (view_stmt t.0)) (number_stmt t.0) depth (position_of at.entry) (position_of t.1))
+        (λ e. Fails e (λ o. one kinds.Assign ∷ expr_parts o) depth (position_of at.entry)) }
 {
     let at = at.expect(Kind::Assign)?;
     let (value, at) = expr(alloc, at, depth)?;
@@ -143,8 +143,8 @@ fn value_stmt<'t, 's>(
     at: Cursor<'t, 's>,
     depth: u32,
 ) -> Result<(Stmt, Cursor<'t, 's>), Fault<'t, 's>>
-    ensures read { MatchResult result (λ t. Reads (spell_stmt (view_stmt t.0)) (number_stmt t.0) expr_parts depth depth (seen at.entry) (seen t.1))
-        (λ e. Fails e expr_parts depth (seen at.entry)) }
+    ensures read { MatchResult result (λ t. Reads (spell_stmt (view_stmt t.0)) (number_stmt t.0) expr_parts depth depth (position_of at.entry) (position_of t.1))
+        (λ e. Fails e expr_parts depth (position_of at.entry)) }
 {
     let (value, at) = expr(alloc, at, depth)?;
     let (node, at) = at.count()?;
@@ -157,8 +157,8 @@ fn if_stmt<'t, 's>(
     at: Cursor<'t, 's>,
     depth: u32,
 ) -> Result<(Stmt, Cursor<'t, 's>), Fault<'t, 's>>
-    ensures read { MatchResult result (λ t. Reads (spell_stmt (view_stmt t.0)) (number_stmt t.0) if_parts depth depth (seen at.entry) (seen t.1))
-        (λ e. Fails e if_parts depth (seen at.entry)) }
+    ensures read { MatchResult result (λ t. Reads (spell_stmt (view_stmt t.0)) (number_stmt t.0) if_parts depth depth (position_of at.entry) (position_of t.1))
+        (λ e. Fails e if_parts depth (position_of at.entry)) }
 {
     let (at, inner) = at.open(Kind::If, depth)?;
     let (test, at) = expr(alloc, at, inner)?;
@@ -187,8 +187,8 @@ fn elsif_list<'t, 's>(
     depth: u32,
 ) -> Result<(Vec<Elsif>, Cursor<'t, 's>), Fault<'t, 's>>
     ensures read { MatchResult result
-        (λ t. Reads (spell_elsif_tail (elsifs_of t.0.items)) (numbers_of_elsifs t.0.items) (λ o. elsif_tail ∷ o) depth depth (seen at.entry) (seen t.1))
-        (λ e. Fails e (λ o. elsif_tail ∷ o) depth (seen at.entry)) }
+        (λ t. Reads (spell_elsif_tail (elsifs_of t.0.items)) (numbers_of_elsifs t.0.items) (λ o. elsif_tail ∷ o) depth depth (position_of at.entry) (position_of t.1))
+        (λ e. Fails e (λ o. elsif_tail ∷ o) depth (position_of at.entry)) }
 {
     let mut more = Vec::new(alloc);
     while let Some(after) = at.skip(Kind::Elsif) {
@@ -207,8 +207,8 @@ fn otherwise<'t, 's>(
     at: Cursor<'t, 's>,
     depth: u32,
 ) -> Result<(Option<Stmts>, Cursor<'t, 's>), Fault<'t, 's>>
-    ensures read { MatchResult result (λ t. Reads (spell_else (else_of t.0)) (numbers_of_else t.0) (λ o. else_part ∷ o) depth depth (seen at.entry) (seen t.1))
-        (λ e. Fails e (λ o. else_part ∷ o) depth (seen at.entry)) }
+    ensures read { MatchResult result (λ t. Reads (spell_else (else_of t.0)) (numbers_of_else t.0) (λ o. else_part ∷ o) depth depth (position_of at.entry) (position_of t.1))
+        (λ e. Fails e (λ o. else_part ∷ o) depth (position_of at.entry)) }
 {
     let Some(at) = at.skip(Kind::Else) else {
         return Ok((None, at));
@@ -223,8 +223,8 @@ fn while_stmt<'t, 's>(
     at: Cursor<'t, 's>,
     depth: u32,
 ) -> Result<(Stmt, Cursor<'t, 's>), Fault<'t, 's>>
-    ensures read { MatchResult result (λ t. Reads (spell_stmt (view_stmt t.0)) (number_stmt t.0) while_parts depth depth (seen at.entry) (seen t.1))
-        (λ e. Fails e while_parts depth (seen at.entry)) }
+    ensures read { MatchResult result (λ t. Reads (spell_stmt (view_stmt t.0)) (number_stmt t.0) while_parts depth depth (position_of at.entry) (position_of t.1))
+        (λ e. Fails e while_parts depth (position_of at.entry)) }
 {
     let (at, inner) = at.open(Kind::While, depth)?;
     let (test, at) = expr(alloc, at, inner)?;
@@ -241,8 +241,8 @@ fn repeat_stmt<'t, 's>(
     at: Cursor<'t, 's>,
     depth: u32,
 ) -> Result<(Stmt, Cursor<'t, 's>), Fault<'t, 's>>
-    ensures read { MatchResult result (λ t. Reads (spell_stmt (view_stmt t.0)) (number_stmt t.0) repeat_parts depth depth (seen at.entry) (seen t.1))
-        (λ e. Fails e repeat_parts depth (seen at.entry)) }
+    ensures read { MatchResult result (λ t. Reads (spell_stmt (view_stmt t.0)) (number_stmt t.0) repeat_parts depth depth (position_of at.entry) (position_of t.1))
+        (λ e. Fails e repeat_parts depth (position_of at.entry)) }
 {
     let (at, inner) = at.open(Kind::Repeat, depth)?;
     let (body, at) = stmts(alloc, at, inner)?;
@@ -258,8 +258,8 @@ fn for_stmt<'t, 's>(
     at: Cursor<'t, 's>,
     depth: u32,
 ) -> Result<(Stmt, Cursor<'t, 's>), Fault<'t, 's>>
-    ensures read { MatchResult result (λ t. Reads (spell_stmt (view_stmt t.0)) (number_stmt t.0) for_parts depth depth (seen at.entry) (seen t.1))
-        (λ e. Fails e for_parts depth (seen at.entry)) }
+    ensures read { MatchResult result (λ t. Reads (spell_stmt (view_stmt t.0)) (number_stmt t.0) for_parts depth depth (position_of at.entry) (position_of t.1))
+        (λ e. Fails e for_parts depth (position_of at.entry)) }
 {
     let (at, inner) = at.open(Kind::For, depth)?;
     let (variable, at) = at.name()?;
@@ -292,8 +292,8 @@ fn step<'t, 's>(
     at: Cursor<'t, 's>,
     depth: u32,
 ) -> Result<(Option<Expr>, Cursor<'t, 's>), Fault<'t, 's>>
-    ensures read { MatchResult result (λ t. Reads (spell_by (by_of t.0)) (numbers_of_by t.0) (λ o. by_part ∷ o) depth depth (seen at.entry) (seen t.1))
-        (λ e. Fails e (λ o. by_part ∷ o) depth (seen at.entry)) }
+    ensures read { MatchResult result (λ t. Reads (spell_by (by_of t.0)) (numbers_of_by t.0) (λ o. by_part ∷ o) depth depth (position_of at.entry) (position_of t.1))
+        (λ e. Fails e (λ o. by_part ∷ o) depth (position_of at.entry)) }
 {
     let Some(at) = at.skip(Kind::By) else {
         return Ok((None, at));
@@ -308,8 +308,8 @@ fn some_stmt<'t, 's>(
     at: Cursor<'t, 's>,
     depth: u32,
 ) -> Result<(Stmt, Cursor<'t, 's>), Fault<'t, 's>>
-    ensures read { MatchResult result (λ t. Reads (spell_stmt (view_stmt t.0)) (number_stmt t.0) some_parts depth depth (seen at.entry) (seen t.1))
-        (λ e. Fails e some_parts depth (seen at.entry)) }
+    ensures read { MatchResult result (λ t. Reads (spell_stmt (view_stmt t.0)) (number_stmt t.0) some_parts depth depth (position_of at.entry) (position_of t.1))
+        (λ e. Fails e some_parts depth (position_of at.entry)) }
 {
     let (at, inner) = at.open(Kind::Some, depth)?;
     let (variable, at) = at.name()?;
@@ -339,8 +339,8 @@ fn case_stmt<'t, 's>(
     at: Cursor<'t, 's>,
     depth: u32,
 ) -> Result<(Stmt, Cursor<'t, 's>), Fault<'t, 's>>
-    ensures read { MatchResult result (λ t. Reads (spell_stmt (view_stmt t.0)) (number_stmt t.0) case_parts depth depth (seen at.entry) (seen t.1))
-        (λ e. Fails e case_parts depth (seen at.entry)) }
+    ensures read { MatchResult result (λ t. Reads (spell_stmt (view_stmt t.0)) (number_stmt t.0) case_parts depth depth (position_of at.entry) (position_of t.1))
+        (λ e. Fails e case_parts depth (position_of at.entry)) }
 {
     let (at, inner) = at.open(Kind::Case, depth)?;
     let (value, at) = expr(alloc, at, inner)?;
@@ -369,8 +369,8 @@ fn arm<'t, 's>(
     at: Cursor<'t, 's>,
     depth: u32,
 ) -> Result<(Arm, Cursor<'t, 's>), Fault<'t, 's>>
-    ensures read { MatchResult result (λ t. Reads (spell_arm (view_arm t.0)) (number_arm t.0) (λ o. arm_part ∷ o) depth depth (seen at.entry) (seen t.1))
-        (λ e. Fails e (λ o. arm_part ∷ o) depth (seen at.entry)) }
+    ensures read { MatchResult result (λ t. Reads (spell_arm (view_arm t.0)) (number_arm t.0) (λ o. arm_part ∷ o) depth depth (position_of at.entry) (position_of t.1))
+        (λ e. Fails e (λ o. arm_part ∷ o) depth (position_of at.entry)) }
 {
     if at.begins_expr() {
         return labelled_arm(alloc, at, depth);
@@ -385,8 +385,8 @@ fn labelled_arm<'t, 's>(
     at: Cursor<'t, 's>,
     depth: u32,
 ) -> Result<(Arm, Cursor<'t, 's>), Fault<'t, 's>>
-    ensures read { MatchResult result (λ t. Reads (spell_arm (view_arm t.0)) (number_arm t.0) labelled_parts depth depth (seen at.entry) (seen t.1))
-        (λ e. Fails e labelled_parts depth (seen at.entry)) }
+    ensures read { MatchResult result (λ t. Reads (spell_arm (view_arm t.0)) (number_arm t.0) labelled_parts depth depth (position_of at.entry) (position_of t.1))
+        (λ e. Fails e labelled_parts depth (position_of at.entry)) }
 {
     let (first, at) = label(alloc, at, depth)?;
     let (more, at) = label_list(alloc, at, depth)?;
@@ -411,8 +411,8 @@ fn arm_list<'t, 's>(
     depth: u32,
 ) -> Result<(Vec<Arm>, Cursor<'t, 's>), Fault<'t, 's>>
     ensures read { MatchResult result (λ t. Reads (spell_arm_tail (arms_of t.0.items)) (numbers_of_arms t.0.items)
-        (λ o. arm_tail ∷ o) depth depth (seen at.entry) (seen t.1))
-        (λ e. Fails e (λ o. arm_tail ∷ o) depth (seen at.entry)) }
+        (λ o. arm_tail ∷ o) depth depth (position_of at.entry) (position_of t.1))
+        (λ e. Fails e (λ o. arm_tail ∷ o) depth (position_of at.entry)) }
 {
     let mut more = Vec::new(alloc);
     while let Some(after) = at.skip(Kind::Bar) {
@@ -429,8 +429,8 @@ fn label<'t, 's>(
     at: Cursor<'t, 's>,
     depth: u32,
 ) -> Result<(Label, Cursor<'t, 's>), Fault<'t, 's>>
-    ensures read { MatchResult result (λ t. Reads (spell_label (view_label t.0)) (number_label t.0) label_parts depth depth (seen at.entry) (seen t.1))
-        (λ e. Fails e label_parts depth (seen at.entry)) }
+    ensures read { MatchResult result (λ t. Reads (spell_label (view_label t.0)) (number_label t.0) label_parts depth depth (position_of at.entry) (position_of t.1))
+        (λ e. Fails e label_parts depth (position_of at.entry)) }
 {
     let (low, at) = expr(alloc, at, depth)?;
     let (high, at) = high(alloc, at, depth)?;
@@ -444,8 +444,8 @@ fn high<'t, 's>(
     at: Cursor<'t, 's>,
     depth: u32,
 ) -> Result<(Option<Expr>, Cursor<'t, 's>), Fault<'t, 's>>
-    ensures read { MatchResult result (λ t. Reads (spell_high (high_of t.0)) (numbers_of_high t.0) (λ o. high_part ∷ o) depth depth (seen at.entry) (seen t.1))
-        (λ e. Fails e (λ o. high_part ∷ o) depth (seen at.entry)) }
+    ensures read { MatchResult result (λ t. Reads (spell_high (high_of t.0)) (numbers_of_high t.0) (λ o. high_part ∷ o) depth depth (position_of at.entry) (position_of t.1))
+        (λ e. Fails e (λ o. high_part ∷ o) depth (position_of at.entry)) }
 {
     let Some(at) = at.skip(Kind::DotDot) else {
         return Ok((None, at));
@@ -461,8 +461,8 @@ fn label_list<'t, 's>(
     depth: u32,
 ) -> Result<(Vec<Label>, Cursor<'t, 's>), Fault<'t, 's>>
     ensures read { MatchResult result
-        (λ t. Reads (spell_label_tail (labels_of t.0.items)) (numbers_of_labels t.0.items) (λ o. label_tail ∷ o) depth depth (seen at.entry) (seen t.1))
-        (λ e. Fails e (λ o. label_tail ∷ o) depth (seen at.entry)) }
+        (λ t. Reads (spell_label_tail (labels_of t.0.items)) (numbers_of_labels t.0.items) (λ o. label_tail ∷ o) depth depth (position_of at.entry) (position_of t.1))
+        (λ e. Fails e (λ o. label_tail ∷ o) depth (position_of at.entry)) }
 {
     let mut more = Vec::new(alloc);
     while let Some(after) = at.skip(Kind::Comma) {
@@ -479,8 +479,8 @@ fn either_stmt<'t, 's>(
     at: Cursor<'t, 's>,
     depth: u32,
 ) -> Result<(Stmt, Cursor<'t, 's>), Fault<'t, 's>>
-    ensures read { MatchResult result (λ t. Reads (spell_stmt (view_stmt t.0)) (number_stmt t.0) either_parts depth depth (seen at.entry) (seen t.1))
-        (λ e. Fails e either_parts depth (seen at.entry)) }
+    ensures read { MatchResult result (λ t. Reads (spell_stmt (view_stmt t.0)) (number_stmt t.0) either_parts depth depth (position_of at.entry) (position_of t.1))
+        (λ e. Fails e either_parts depth (position_of at.entry)) }
 {
     let (at, inner) = at.open(Kind::Either, depth)?;
     let (first, at) = stmts(alloc, at, inner)?;
@@ -497,8 +497,8 @@ fn orelse_list<'t, 's>(
     depth: u32,
 ) -> Result<(Vec<Stmts>, Cursor<'t, 's>), Fault<'t, 's>>
     ensures read { MatchResult result
-        (λ t. Reads (spell_orelse_tail (orelses_of t.0.items)) (numbers_of_orelses t.0.items) (λ o. orelse_tail ∷ o) depth depth (seen at.entry) (seen t.1))
-        (λ e. Fails e (λ o. orelse_tail ∷ o) depth (seen at.entry)) }
+        (λ t. Reads (spell_orelse_tail (orelses_of t.0.items)) (numbers_of_orelses t.0.items) (λ o. orelse_tail ∷ o) depth depth (position_of at.entry) (position_of t.1))
+        (λ e. Fails e (λ o. orelse_tail ∷ o) depth (position_of at.entry)) }
 {
     let mut more = Vec::new(alloc);
     while let Some(after) = at.skip(Kind::Orelse) {
@@ -515,8 +515,8 @@ fn forall_stmt<'t, 's>(
     at: Cursor<'t, 's>,
     depth: u32,
 ) -> Result<(Stmt, Cursor<'t, 's>), Fault<'t, 's>>
-    ensures read { MatchResult result (λ t. Reads (spell_stmt (view_stmt t.0)) (number_stmt t.0) forall_parts depth depth (seen at.entry) (seen t.1))
-        (λ e. Fails e forall_parts depth (seen at.entry)) }
+    ensures read { MatchResult result (λ t. Reads (spell_stmt (view_stmt t.0)) (number_stmt t.0) forall_parts depth depth (position_of at.entry) (position_of t.1))
+        (λ e. Fails e forall_parts depth (position_of at.entry)) }
 {
     let (at, inner) = at.open(Kind::Forall, depth)?;
     let (choice, at) = stmts(alloc, at, inner)?;
@@ -533,8 +533,8 @@ fn commit_stmt<'t, 's>(
     at: Cursor<'t, 's>,
     depth: u32,
 ) -> Result<(Stmt, Cursor<'t, 's>), Fault<'t, 's>>
-    ensures read { MatchResult result (λ t. Reads (spell_stmt (view_stmt t.0)) (number_stmt t.0) commit_parts depth depth (seen at.entry) (seen t.1))
-        (λ e. Fails e commit_parts depth (seen at.entry)) }
+    ensures read { MatchResult result (λ t. Reads (spell_stmt (view_stmt t.0)) (number_stmt t.0) commit_parts depth depth (position_of at.entry) (position_of t.1))
+        (λ e. Fails e commit_parts depth (position_of at.entry)) }
 {
     let (at, inner) = at.open(Kind::Commit, depth)?;
     let (body, at) = stmts(alloc, at, inner)?;
@@ -549,8 +549,8 @@ fn return_stmt<'t, 's>(
     at: Cursor<'t, 's>,
     depth: u32,
 ) -> Result<(Stmt, Cursor<'t, 's>), Fault<'t, 's>>
-    ensures read { MatchResult result (λ t. Reads (spell_stmt (view_stmt t.0)) (number_stmt t.0) return_parts depth depth (seen at.entry) (seen t.1))
-        (λ e. Fails e return_parts depth (seen at.entry)) }
+    ensures read { MatchResult result (λ t. Reads (spell_stmt (view_stmt t.0)) (number_stmt t.0) return_parts depth depth (position_of at.entry) (position_of t.1))
+        (λ e. Fails e return_parts depth (position_of at.entry)) }
 {
     let at = at.expect(Kind::Return)?;
     let (value, at) = returned(alloc, at, depth)?;
@@ -565,8 +565,8 @@ fn returned<'t, 's>(
     depth: u32,
 ) -> Result<(Option<Expr>, Cursor<'t, 's>), Fault<'t, 's>>
     ensures read { MatchResult result
-        (λ t. Reads (spell_returned (returned_of t.0)) (numbers_of_returned t.0) (λ o. returned_part ∷ o) depth depth (seen at.entry) (seen t.1))
-        (λ e. Fails e (λ o. returned_part ∷ o) depth (seen at.entry)) }
+        (λ t. Reads (spell_returned (returned_of t.0)) (numbers_of_returned t.0) (λ o. returned_part ∷ o) depth depth (position_of at.entry) (position_of t.1))
+        (λ e. Fails e (λ o. returned_part ∷ o) depth (position_of at.entry)) }
 {
     if at.begins_expr() {
         let (value, at) = expr(alloc, at, depth)?;
@@ -581,8 +581,8 @@ fn read_stmt<'t, 's>(
     at: Cursor<'t, 's>,
     depth: u32,
 ) -> Result<(Stmt, Cursor<'t, 's>), Fault<'t, 's>>
-    ensures read { MatchResult result (λ t. Reads (spell_stmt (view_stmt t.0)) (number_stmt t.0) read_parts depth depth (seen at.entry) (seen t.1))
-        (λ e. Fails e read_parts depth (seen at.entry)) }
+    ensures read { MatchResult result (λ t. Reads (spell_stmt (view_stmt t.0)) (number_stmt t.0) read_parts depth depth (position_of at.entry) (position_of t.1))
+        (λ e. Fails e read_parts depth (position_of at.entry)) }
 {
     let at = at.expect(Kind::Read)?;
     let (at, inner) = at.open(Kind::OpenParen, depth)?;
@@ -600,8 +600,8 @@ fn desig_list<'t, 's>(
     depth: u32,
 ) -> Result<(Vec<Desig>, Cursor<'t, 's>), Fault<'t, 's>>
     ensures read { MatchResult result
-        (λ t. Reads (spell_desig_tail (desigs_of t.0.items)) (numbers_of_desigs t.0.items) (λ o. desig_tail ∷ o) depth depth (seen at.entry) (seen t.1))
-        (λ e. Fails e (λ o. desig_tail ∷ o) depth (seen at.entry)) }
+        (λ t. Reads (spell_desig_tail (desigs_of t.0.items)) (numbers_of_desigs t.0.items) (λ o. desig_tail ∷ o) depth depth (position_of at.entry) (position_of t.1))
+        (λ e. Fails e (λ o. desig_tail ∷ o) depth (position_of at.entry)) }
 {
     let mut more = Vec::new(alloc);
     while let Some(after) = at.skip(Kind::Comma) {
@@ -618,8 +618,8 @@ fn write_stmt<'t, 's>(
     at: Cursor<'t, 's>,
     depth: u32,
 ) -> Result<(Stmt, Cursor<'t, 's>), Fault<'t, 's>>
-    ensures read { MatchResult result (λ t. Reads (spell_stmt (view_stmt t.0)) (number_stmt t.0) write_parts depth depth (seen at.entry) (seen t.1))
-        (λ e. Fails e write_parts depth (seen at.entry)) }
+    ensures read { MatchResult result (λ t. Reads (spell_stmt (view_stmt t.0)) (number_stmt t.0) write_parts depth depth (position_of at.entry) (position_of t.1))
+        (λ e. Fails e write_parts depth (position_of at.entry)) }
 {
     let at = at.expect(Kind::Write)?;
     let (at, inner) = at.open(Kind::OpenParen, depth)?;
@@ -635,8 +635,8 @@ fn writeln_stmt<'t, 's>(
     at: Cursor<'t, 's>,
     depth: u32,
 ) -> Result<(Stmt, Cursor<'t, 's>), Fault<'t, 's>>
-    ensures read { MatchResult result (λ t. Reads (spell_stmt (view_stmt t.0)) (number_stmt t.0) writeln_parts depth depth (seen at.entry) (seen t.1))
-        (λ e. Fails e writeln_parts depth (seen at.entry)) }
+    ensures read { MatchResult result (λ t. Reads (spell_stmt (view_stmt t.0)) (number_stmt t.0) writeln_parts depth depth (position_of at.entry) (position_of t.1))
+        (λ e. Fails e writeln_parts depth (position_of at.entry)) }
 {
     let at = at.expect(Kind::Writeln)?;
     let (items, at) = args(alloc, at, depth)?;

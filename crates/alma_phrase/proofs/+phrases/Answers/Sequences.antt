@@ -56,7 +56,7 @@ use Rattle.alma_grammar.specs.Parts.{
 }
 use Rattle.alma_grammar.specs.Parts.{high_part, label_tail, term_parts, simple_parts, expr_parts, exprs_parts, desig_parts, stmts_parts, label_parts}
 use Rattle.alma_cursor.specs.Forms as forms
-use Rattle.alma_cursor.specs.Parsing.{seen, Becomes}
+use Rattle.alma_cursor.specs.Parsing.{position_of, Becomes}
 use Rattle.alma_phrase.proofs.Heads as heads
 use Rattle.alma_phrase.proofs.Lists as lists
 use Rattle.alma_cursor.proofs.Loops as loops
