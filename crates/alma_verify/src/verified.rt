@@ -29,6 +29,13 @@ pub fn verify<'b>(view: ObjectView<'b>) -> Result<Verified<'b>, VerifyFault>
 }
 
 impl<'b> Verified<'b> {
+    /// What each verified view keeps: its code is sound.
+    pub fn keeps_sound(&self)
+        ensures { IsSound (code_of_view self.now.view) }
+    {
+        self.view.keeps_object();
+    }
+
     /// The view. Its code is sound.
     pub fn view(&self) -> &ObjectView<'b>
         ensures view { result.now ≡ self.now.view }

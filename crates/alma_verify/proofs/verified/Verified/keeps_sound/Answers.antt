@@ -1,0 +1,6 @@
+use Rattle.alma_code.proofs.Verdicts.{sound_from}
+use Rattle.alma_object.specs.View.{code_of_view}
+use Rattle.alma_verify.proofs.verified.Verified.keeps_sound.Goals as goal
+
+pub returns : goal.returns
+returns c = sound_from (code_of_view c.args.self.now.view) c.keeps_object.ensures.table c.args.self.now.clean
