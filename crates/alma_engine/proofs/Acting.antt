@@ -1,7 +1,7 @@
 -- The rows of instructions that name a range of the code.
-use Rattle.std.proofs.Common.{◌≡◌, ◌<◌, ℕ, List, length, ap, sym, ◌∙◌, Some}
-use Rattle.std.specs.Prelude.{◌+◌, ◌*◌, ◌-ℤ◌, nat_abs, map, get_or, option_map, ℤ, Option, None, slice_get, Result, Ok, Err, IfOk}
-use Rattle.std.proofs.lemmas.Option.{slice_get-get_or, slice_get-map, get_or_from_slice_get}
+use Rattle.std.proofs.Common.{◌≡◌, ℕ, List, ap, sym, ◌∙◌, Some}
+use Rattle.std.specs.Prelude.{◌+◌, ◌*◌, ◌-ℤ◌, nat_abs, map, option_map, Option, None, slice_get}
+use Rattle.std.proofs.lemmas.Option.{slice_get-map, get_or_from_slice_get}
 use Rattle.std.proofs.Math.ListN.{get_or-map}
 use Rattle.alma_base.specs.Reading.{number_from}
 use Rattle.alma_code.specs.Head.{PlainHead}

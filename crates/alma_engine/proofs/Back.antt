@@ -1,5 +1,5 @@
 -- What a return with a number gives.
-use Rattle.std.proofs.Common.{◌≡◌, ℕ, suc, ◌+◌, ◌-◌, ◌<◌, ◌≤◌, List, length, get_or, take, refl, sym, ap, ◌∙◌, subst, arith, Some, length-set}
+use Rattle.std.proofs.Common.{◌≡◌, ℕ, ◌-◌, ◌<◌, ◌≤◌, List, length, get_or, ap, ◌∙◌, arith, Some, length-set}
 use Rattle.std.specs.Prelude.{ℤ, slice_get, Option, Result, Ok, Err}
 use Rattle.std.proofs.lemmas.List.{length-take-le}
 use Rattle.std.proofs.lemmas.Option.{slice_get_within}
@@ -7,7 +7,7 @@ use Rattle.alma_code.specs.declared.cell.Cell.{Cell}
 use Rattle.alma_code.specs.declared.cell.Cell.TheVariants as cell
 use Rattle.alma_code.specs.declared.instr.Instr.{Instr}
 use Rattle.alma_code.specs.declared.instr.Instr.TheVariants as I
-use Rattle.alma_code.specs.Machine.{State, Stepped, result_to, to_number, kind_of, returned, left, with_slot}
+use Rattle.alma_code.specs.Machine.{State, Stepped, result_to, to_number, returned, left, with_slot}
 use Rattle.alma_code.specs.Picture.{PlainFrame, last_frame, without_last, written, frame_with, no_frame}
 use Rattle.alma_code.specs.Plain.{PlainCode}
 use Rattle.alma_engine.specs.Rows.{HasNumber, Gives}

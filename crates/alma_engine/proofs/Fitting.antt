@@ -1,31 +1,25 @@
 -- What a state that fits a sound code gives to the instruction at its address.
-use Rattle.std.proofs.Common.{inl, inr, ◌⊎◌, ◌≡◌, ℕ, zero, suc, ◌+◌, ◌-◌, ◌^◌, ◌<◌, ◌≤◌, List, [], ◌∷◌, length, get_or, refl, sym, ap, ◌∙◌, subst, arith, Some}
-use Rattle.std.specs.Prelude.{slice_get, Option, None, Bool, true, false, ◌&&◌, ◌||◌, nat_eq, nat_le, nat_lt}
-use Rattle.std.specs.List.{list_all}
-use Rattle.std.proofs.lemmas.Bool.{and_parts, and_from, eqb-true, leb-true, ltb-true, false≢true, cases_eq}
-use Rattle.std.proofs.lemmas.Option.{slice_get-get_or, slice_get_within, get_or_from_slice_get}
-use Rattle.std.proofs.Math.ListN.{get_or-map}
+use Rattle.std.proofs.Common.{◌≡◌, ℕ, ◌+◌, ◌-◌, ◌<◌, length, get_or, refl, sym, ap, ◌∙◌, subst, arith, Some}
+use Rattle.std.specs.Prelude.{slice_get, true, nat_eq}
+use Rattle.std.proofs.lemmas.Bool.{eqb-true}
+use Rattle.std.proofs.lemmas.Option.{slice_get_within, get_or_from_slice_get}
 use Rattle.alma_code.specs.declared.cell.Cell.{Cell}
 use Rattle.alma_code.specs.declared.cell.Cell.TheVariants as cell
 use Rattle.alma_code.specs.declared.cell.CellPlace.{CellPlace}
-use Rattle.alma_code.specs.declared.cell.SlotKind.{SlotKind}
 use Rattle.alma_code.specs.declared.cell.SlotKind.TheVariants as slot
-use Rattle.alma_code.specs.declared.instr.Instr.{Instr}
-use Rattle.alma_code.specs.declared.instr.Instr.TheVariants as I
 use Rattle.alma_code.specs.declared.instr.Word.TheVariants as W
-use Rattle.alma_code.specs.Fits.{routines_of, IsContent, IsCell, IsPlace, IsLink, FitsSlot, FitsFrame, FitsFrames}
-use Rattle.alma_code.specs.Kinds.{is_place, is_link, is_link_of, is_mark}
-use Rattle.alma_code.specs.Layout.{IsHead}
-use Rattle.alma_code.specs.Machine.{State, top, slot_of, kind_of}
-use Rattle.alma_code.specs.Picture.{PlainFrame, no_frame, last_frame, cell_at}
-use Rattle.alma_code.specs.Plain.{PlainCode, head_at, kinds_at}
-use Rattle.alma_code.specs.Rules.{IsSound, last_end, names_routine, kind_in, length_in, link_in, place_length, names_slot, rule_5}
+use Rattle.alma_code.specs.Fits.{routines_of, IsContent, IsCell, IsPlace, FitsSlot}
+use Rattle.alma_code.specs.Kinds.{is_place, is_link}
+use Rattle.alma_code.specs.Machine.{State, top, slot_of}
+use Rattle.alma_code.specs.Picture.{no_frame, last_frame, cell_at}
+use Rattle.alma_code.specs.Plain.{PlainCode, kinds_at}
+use Rattle.alma_code.specs.Rules.{IsSound, kind_in, length_in, link_in, place_length, names_slot}
 use Rattle.alma_code.proofs.Ready.{Ready, has_slot, number_slot, number_there, content_is, mark_is}
 use Rattle.alma_code.proofs.Acts.{number_word, place_word, mark_word, frame_live}
 use Rattle.alma_code.proofs.Links.{link_word}
-use Rattle.alma_code.proofs.Heads.{number_is, link_of_is}
+use Rattle.alma_code.proofs.Heads.{number_is}
 use Rattle.alma_engine.specs.Inputs.{HasPosition}
-use Rattle.alma_engine.specs.Rows.{HasNumber, HasNumberIn, HasCells, HasOneCell, HasPlace, HasPlaceIn, HasMark, HasLink, HasLinkTo, LeadsTo, HoldsCells, HoldsMark, HoldsPlace, IsCells, width}
+use Rattle.alma_engine.specs.Rows.{HasNumber, HasNumberIn, HasCells, HasOneCell, HasPlace, HasMark, HasLink, HasLinkTo, HoldsCells, HoldsMark, HoldsPlace, IsCells, width}
 use Rattle.alma_engine.proofs.Counting.{few_kinds}
 
 module _ (code : PlainCode) (sound : IsSound code) (r : ℕ) (s : State) (h : Ready code r s) where

@@ -1,8 +1,8 @@
 -- What the reading of arguments, and calls and returns, give.
 use Rattle.std.proofs.Common.{inl, inr, ◌≡◌, ℕ, zero, suc, ◌+◌, ◌-◌, ◌<◌, ◌≤◌, List, [], ◌∷◌, ◌++◌, length, get_or, refl, sym, ap, ◌∙◌, subst, arith, Some}
-use Rattle.std.specs.Prelude.{ℤ, slice_get, Bool, true, false, ◌&&◌, nat_eq, nat_lt, nat_le, Option, None}
+use Rattle.std.specs.Prelude.{ℤ, slice_get, Bool, nat_eq, nat_le, None}
 use Rattle.std.proofs.lemmas.Bool.{eq-eqb, ne_eqb, and_from, lt-ltb, le-ltb, le-leb, lt-leb, cases_lt}
-use Rattle.std.proofs.lemmas.Option.{slice_get-get_or, get_or_from_slice_get}
+use Rattle.std.proofs.lemmas.Option.{get_or_from_slice_get}
 use Rattle.std.proofs.lemmas.List.{length-append, get_or-append_right}
 use Rattle.std.proofs.Math.ListN.{get_or-append}
 use Rattle.alma_base.specs.Choice.{if_true}
@@ -18,11 +18,11 @@ use Rattle.alma_code.specs.declared.step.End.TheVariants as end
 use Rattle.alma_code.specs.declared.step.Step.TheVariants as answer
 use Rattle.alma_code.specs.Carries.{IsLive}
 use Rattle.alma_code.specs.Head.{PlainHead}
-use Rattle.alma_code.specs.Layout.{FitsParam, FitsParams, no_param, frame_of_call}
+use Rattle.alma_code.specs.Layout.{FitsParam, no_param, frame_of_call}
 use Rattle.alma_code.specs.Machine.{State, Stepped, slot_of, as_argument, arguments, numbers_at, ends_in_fault, entered, answered, ended, returned, left, stuck}
 use Rattle.alma_code.specs.Picture.{PlainFrame, last_frame, live_cells}
-use Rattle.alma_memory.specs.Refusals.{HasFrameRoom, RefusesFor}
-use Rattle.alma_engine.specs.Calls.{IsSpot, HoldsArgument, HasArgument, HasArguments, IsArgument, GivesArguments}
+use Rattle.alma_memory.specs.Refusals.{HasFrameRoom}
+use Rattle.alma_engine.specs.Calls.{HoldsArgument, HasArgument, HasArguments, IsArgument, GivesArguments}
 
 -- ---- one argument
 
@@ -41,10 +41,12 @@ given_place : (now : List PlainFrame) (kind : ParamKind) (n : ℕ) (p : CellPlac
 given_place now param.Value n p h = absurd h
 given_place now param.Mix n p h = ((h.len, h.live), λ s k same. ap (λ b. if_true b (λ _. k (cell.Place p)) (λ _. stuck s)) (eq-eqb p.len 1 h.len))
 given_place now param.Place n p h = ((h.len, h.live), λ s k same. ap (λ b. if_true b (λ _. k (cell.Place p)) (λ _. stuck s)) (eq-eqb p.len n h.len))
-given_place now param.Cells n p h =
-    ((h.len, h.live), λ s k same.
-    ap (λ b. if_true b (λ _. k (cell.Place p)) (λ _. stuck s))
-    (and_from (nat_eq p.len n) (numbers_at n s.now p.frame p.slot) (eq-eqb p.len n h.len) (ap (λ fs. numbers_at n fs p.frame p.slot) same ∙ h.numbers)))
+given_place now param.Cells n p h = (
+  (h.len, h.live),
+  λ s k same.
+      ap (λ b. if_true b (λ _. k (cell.Place p)) (λ _. stuck s))
+      (and_from (nat_eq p.len n) (numbers_at n s.now p.frame p.slot) (eq-eqb p.len n h.len) (ap (λ fs. numbers_at n fs p.frame p.slot) same ∙ h.numbers)),
+)
 given_place now param.Link n p h =
     (h, λ s k same. ap (λ b. if_true b (λ _. k (cell.Place p)) (λ _. stuck s)) (and_from (nat_eq p.slot 0) (nat_eq p.len 0) (eq-eqb p.slot 0 h.0) (eq-eqb p.len 0 h.1)))
 
@@ -161,9 +163,10 @@ reads_more now ps first i p c args is h one = record {
 
 -- all are read
 pub all_done : (now : List PlainFrame) (ps : List CodeParam) (first : ℕ) (args : List Cell) → ReadSo now ps first (length ps) args → GivesArguments now ps first None args
-all_done now ps first args h =
-    (record { count = h.count; each = λ k lt. (h.each k lt).fits },
-    λ s k same. all_read now ps first args s k same h.count h.each)
+all_done now ps first args h = (
+  record { count = h.count; each = λ k lt. (h.each k lt).fits },
+  λ s k same. all_read now ps first args s k same h.count h.each,
+)
 
 -- one is not known
 pub fails_at : (now : List PlainFrame) (ps : List CodeParam) (first i : ℕ) (p : CodeParam) (args rest : List Cell) (f : RunFault) → i < length ps → slice_get ps i ≡ Some p → ReadSo now ps first i args

@@ -17,14 +17,12 @@ use Rattle.alma_base.specs.Choice.{if_true}
 use Rattle.alma_code.specs.declared.cell.Cell.{Cell}
 use Rattle.alma_code.specs.declared.cell.Cell.TheVariants as cell
 use Rattle.alma_code.specs.declared.cell.CellPlace.{CellPlace}
-use Rattle.alma_code.specs.declared.cell.SlotKind.TheVariants as slot
 use Rattle.alma_code.specs.declared.step.End.TheVariants as end
 use Rattle.alma_code.specs.Machine.{State, Stepped, Going, as_place, as_mark, slot_in, link, mark, ends_in_fault, put_link, put_mark, to_link, to_mark, link_to, quiet_step, answer_of_fall, with_slot, cut_to, pop, pop_or_end, ended, answered}
 use Rattle.alma_code.specs.declared.step.Step.TheVariants as answer
 use Rattle.alma_code.specs.Picture.{PlainFrame, PlainEntry, no_frame, last_frame, cell_at, top_of, stack_after_pop}
-use Rattle.alma_code.specs.Rules.{link_routine}
 use Rattle.alma_code.proofs.Ready.{link_is}
-use Rattle.alma_engine.specs.Rows.{HasSlot, HasPlaceIn, HasLinkTo, HasMark, HoldsPlace, HoldsMark, LeadsTo}
+use Rattle.alma_engine.specs.Rows.{HasSlot, HasPlaceIn, HasLinkTo, HasMark, HoldsPlace, HoldsMark}
 
 -- ---- places and links of any frame
 

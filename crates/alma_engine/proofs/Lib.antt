@@ -1,6 +1,7 @@
 pub mod Acting
 pub mod Back
 pub mod Budget
+pub mod Copying
 pub mod Counting
 pub mod Fitting
 pub mod Given

@@ -1,9 +1,9 @@
 -- What a sound code gives to each instruction.
-use Rattle.std.proofs.Common.{inl, inr, ◌⊎◌, ◌≡◌, ℕ, zero, suc, ◌+◌, ◌-◌, ◌^◌, ◌<◌, ◌≤◌, List, [], ◌∷◌, length, get_or, refl, sym, ap, ◌∙◌, subst, arith, Some}
-use Rattle.std.specs.Prelude.{slice_get, Option, None, Bool, true, false, not, ◌&&◌, ◌||◌, nat_eq, nat_le, nat_lt}
+use Rattle.std.proofs.Common.{inl, inr, ◌≡◌, ℕ, zero, suc, ◌+◌, ◌-◌, ◌<◌, ◌≤◌, List, [], ◌∷◌, length, get_or, refl, sym, ap, ◌∙◌, subst, arith, Some}
+use Rattle.std.specs.Prelude.{slice_get, None, true, false, not, ◌&&◌, nat_eq, nat_le, nat_lt}
 use Rattle.std.specs.List.{list_all}
 use Rattle.std.proofs.lemmas.Bool.{and_parts, and_from, or_cases, not-true, eqb-true, leb-true, ltb-true, false≢true, cases_eq}
-use Rattle.std.proofs.lemmas.Option.{slice_get-get_or, slice_get_within, get_or_from_slice_get}
+use Rattle.std.proofs.lemmas.Option.{slice_get_within, get_or_from_slice_get}
 use Rattle.std.proofs.Math.ListN.{get_or-map}
 use Rattle.alma_code.specs.declared.cell.Cell.{Cell}
 use Rattle.alma_code.specs.declared.cell.Cell.TheVariants as cell
@@ -16,13 +16,12 @@ use Rattle.alma_code.specs.declared.head.ParamKind.TheVariants as param
 use Rattle.alma_code.specs.declared.instr.Instr.{Instr}
 use Rattle.alma_code.specs.declared.instr.Instr.TheVariants as I
 use Rattle.alma_code.specs.declared.instr.Word.TheVariants as W
-use Rattle.alma_code.specs.Carries.{IsLive}
 use Rattle.alma_code.specs.Fits.{Fits, FitsMode, routines_of, IsContent, IsCell, IsPlace, IsLink, FitsSlot}
 use Rattle.alma_code.specs.Kinds.{is_number, is_place_of, is_link_of}
 use Rattle.alma_code.specs.Layout.{IsHead, RunsRise, no_param, hold_params}
-use Rattle.alma_code.specs.Machine.{Going, State, top, slot_of, numbers_at, left}
+use Rattle.alma_code.specs.Machine.{Going, State, top, numbers_at, left}
 use Rattle.alma_code.specs.Carries.{number_at}
-use Rattle.alma_code.specs.Picture.{PlainFrame, no_frame, last_frame, cell_at}
+use Rattle.alma_code.specs.Picture.{PlainFrame, no_frame, last_frame}
 use Rattle.alma_code.specs.Plain.{PlainCode, head_at, kinds_at, start_at, end_at}
 use Rattle.alma_code.specs.Rules.{IsSound, is_main, is_global, last_end, names_routine, kind_in, length_in, link_in, names_slot, fit_arguments, fits_argument, is_free, has_position, has_room, can_call, holds_first, holds_result, rule_5, rule_6, rule_7, rule_10, rule_12}
 use Rattle.alma_code.proofs.Acts.{obeys}
@@ -32,12 +31,12 @@ use Rattle.alma_code.specs.Rules.{instr_fault}
 use Rattle.alma_code.specs.Words.{words, four}
 use Rattle.alma_code.specs.declared.instr.Word.{Word}
 use Rattle.alma_code.proofs.Ready.{Ready, has_slot, number_at_is}
-use Rattle.alma_code.proofs.Acts.{left_ready, call_rule, holds_of_call, Obeys, slots, entries, number_word, place_word, frame_live}
+use Rattle.alma_code.proofs.Acts.{left_ready, call_rule, holds_of_call, Obeys, slots, entries, frame_live}
 use Rattle.alma_code.proofs.Links.{link_word}
 use Rattle.alma_code.proofs.Heads.{number_is, link_of_is, place_of_is}
 use Rattle.alma_engine.specs.Calls.{IsSpot, HoldsArgument, HasArgument, HasArguments, CallsBack}
-use Rattle.alma_engine.specs.Needs.{Needs, Computes, is_built}
-use Rattle.alma_engine.specs.Rows.{HasNumber, HasPlace, HasMark, width, HasPlaceIn, HoldsPlace, LeadsTo}
+use Rattle.alma_engine.specs.Needs.{Needs, Computes}
+use Rattle.alma_engine.specs.Rows.{HasNumber, HasPlace, HasMark, width, HoldsPlace, LeadsTo}
 use Rattle.alma_engine.proofs.Counting.{few_kinds}
 use Rattle.alma_engine.proofs.Fitting.{number_has, below_of, cell_of, has_number, width_in, has_cells, has_one_cell, has_place, has_mark, holds_link, has_link, has_link_to, position_there}
 
@@ -55,6 +54,19 @@ mix_holds now n cell.Unknown h = tt
 mix_holds now n cell.Unset h = absurd h
 mix_holds now n (cell.Place p) h = absurd h
 mix_holds now n (cell.Mark m) h = absurd h
+
+-- a routine of a sound code has a head
+pub head_is : (code : PlainCode) → IsSound code → (c : ℕ) → c < length code.routines → IsHead (head_at code c)
+head_is code sound c lt =
+    let hd = head_at code c in
+    let rules = sound.heads c lt in
+    let named = list_all (λ run. names_routine code run.kind) hd.runs in
+    let two = and_parts (nat_eq (last_end 0 hd.runs) hd.slots && (nat_le hd.slots 8388608 && named)) (nat_le hd.declared hd.slots && nat_le hd.declared 1048576) rules.1 in
+    let last = eqb-true (last_end 0 hd.runs) hd.slots (and_parts (nat_eq (last_end 0 hd.runs) hd.slots) (nat_le hd.slots 8388608 && named) two.0).0 in
+    record {
+      rise = subst (λ n. RunsRise 0 hd.runs n) last (sound.table.runs c lt);
+      first = (and_parts (hold_params (kinds_at code c) hd.params 0) (has_position code c) rules.2).0;
+    }
 
 module _ (code : PlainCode) (sound : IsSound code) (r : ℕ) (s : State) (h : Ready code r s) where
   -- ---- arguments
@@ -143,19 +155,6 @@ module _ (code : PlainCode) (sound : IsSound code) (r : ℕ) (s : State) (h : Re
       let x = and_parts (is_free code r first && fits_argument code r p.kind p.cells first) (fit_arguments code r ps (suc first)) e in
       let next : suc first + k ≡ first + suc k = omega arith in
       subst (λ n. HasArgument s.now (get_or ps k no_param) n) next (all_arguments ps (suc first) x.1 k (omega arith))
-
-  -- a routine of a sound code has a head
-  head_is : (c : ℕ) → c < length code.routines → IsHead (head_at code c)
-  head_is c lt =
-      let hd = head_at code c in
-      let rules = sound.heads c lt in
-      let named = list_all (λ run. names_routine code run.kind) hd.runs in
-      let two = and_parts (nat_eq (last_end 0 hd.runs) hd.slots && (nat_le hd.slots 8388608 && named)) (nat_le hd.declared hd.slots && nat_le hd.declared 1048576) rules.1 in
-      let last = eqb-true (last_end 0 hd.runs) hd.slots (and_parts (nat_eq (last_end 0 hd.runs) hd.slots) (nat_le hd.slots 8388608 && named) two.0).0 in
-      record {
-        rise = subst (λ n. RunsRise 0 hd.runs n) last (sound.table.runs c lt);
-        first = (and_parts (hold_params (kinds_at code c) hd.params 0) (has_position code c) rules.2).0;
-      }
 
   -- ---- links
 
@@ -256,111 +255,118 @@ module _ (code : PlainCode) (sound : IsSound code) (r : ℕ) (s : State) (h : Re
   point i at a x y z e o = has_place code sound r s h a (slots code r at i (W.Place a) x y z e o).0
 
   -- an instruction that keeps its rules finds what it needs
-  pub needed : (i : Instr) (at : ℕ) → slice_get (kinds_at code 0) 0 ≡ Some slot.Number → Obeys code r at i → is_built i ≡ true → Needs code s.now i
-  unfolding Needs Computes is_built words rule_5 rule_6 rule_7 rule_10 rule_12
-  needed (I.Const a v) at f o b = one (I.Const a v) at a W.Free refl o
-  needed (I.Move a b) at f o t = two (I.Move a b) at a b refl o
-  needed (I.Add a b c) at f o t = three (I.Add a b c) at a b c refl o
-  needed (I.Sub a b c) at f o t = three (I.Sub a b c) at a b c refl o
-  needed (I.Mul a b c) at f o t = three (I.Mul a b c) at a b c refl o
-  needed (I.Div a b c) at f o t = three (I.Div a b c) at a b c refl o
-  needed (I.Mod a b c) at f o t = three (I.Mod a b c) at a b c refl o
-  needed (I.Neg a b) at f o t = two (I.Neg a b) at a b refl o
-  needed (I.Equal a b c) at f o t = three (I.Equal a b c) at a b c refl o
-  needed (I.Less a b c) at f o t = three (I.Less a b c) at a b c refl o
-  needed (I.LessEq a b c) at f o t = three (I.LessEq a b c) at a b c refl o
-  needed (I.Flip a b) at f o t = two (I.Flip a b) at a b refl o
-  needed (I.InRange a t) at f o b =
+  pub needed : (i : Instr) (at : ℕ) → slice_get (kinds_at code 0) 0 ≡ Some slot.Number → Obeys code r at i → Needs code s.now i
+  unfolding Needs Computes words rule_5 rule_6 rule_7 rule_10 rule_12
+  needed (I.Const a v) at f o = one (I.Const a v) at a W.Free refl o
+  needed (I.Move a b) at f o = two (I.Move a b) at a b refl o
+  needed (I.Add a b c) at f o = three (I.Add a b c) at a b c refl o
+  needed (I.Sub a b c) at f o = three (I.Sub a b c) at a b c refl o
+  needed (I.Mul a b c) at f o = three (I.Mul a b c) at a b c refl o
+  needed (I.Div a b c) at f o = three (I.Div a b c) at a b c refl o
+  needed (I.Mod a b c) at f o = three (I.Mod a b c) at a b c refl o
+  needed (I.Neg a b) at f o = two (I.Neg a b) at a b refl o
+  needed (I.Equal a b c) at f o = three (I.Equal a b c) at a b c refl o
+  needed (I.Less a b c) at f o = three (I.Less a b c) at a b c refl o
+  needed (I.LessEq a b c) at f o = three (I.LessEq a b c) at a b c refl o
+  needed (I.Flip a b) at f o = two (I.Flip a b) at a b refl o
+  needed (I.InRange a t) at f o =
       (one (I.InRange a t) at a (W.Range t) refl o, ltb-true t (length code.ranges) (entries code r at (I.InRange a t) (W.Number a) (W.Range t) W.Free W.Free refl o).1)
-  needed (I.Local a b) at f o t = point (I.Local a b) at a (W.Slot b) W.Free W.Free refl o
-  needed (I.Global a b) at f o t = point (I.Global a b) at a W.Free W.Free W.Free refl o
-  needed (I.Same a b) at f o t =
+  needed (I.Local a b) at f o = point (I.Local a b) at a (W.Slot b) W.Free W.Free refl o
+  needed (I.Global a b) at f o = point (I.Global a b) at a W.Free W.Free W.Free refl o
+  needed (I.Same a b) at f o =
       let w = slots code r at (I.Same a b) (W.Place a) (W.Place b) W.Free W.Free refl o in
       (has_place code sound r s h a w.0, has_cells code sound r s h b w.1)
-  needed (I.Field a b c) at f o t =
+  needed (I.Field a b c) at f o =
       let w = slots code r at (I.Field a b c) (W.Place a) (W.Place b) W.Free W.Free refl o in
       let inside = leb-true (c + length_in code r a) (length_in code r b) o.r5 in
       let same = width_in code sound r s h b w.1 in
       (has_place code sound r s h a w.0, has_cells code sound r s h b w.1, omega arith)
-  needed (I.Index a b c d) at f o t =
+  needed (I.Index a b c d) at f o =
       let w = slots code r at (I.Index a b c d) (W.Place a) (W.Place b) (W.Number c) (W.Range d) refl o in
       let e = entries code r at (I.Index a b c d) (W.Place a) (W.Place b) (W.Number c) (W.Range d) refl o in
       let part = ap (λ l. has_room (slice_get code.ranges d) l (width s.now b)) (width_in code sound r s h a w.0) in
       let all = ap (λ l. has_room (slice_get code.ranges d) (length_in code r a) l) (width_in code sound r s h b w.1) in
       (has_place code sound r s h a w.0, has_cells code sound r s h b w.1, has_number code sound r s h c w.2, ltb-true d (length code.ranges) e.3, part ∙ all ∙ o.r6)
-  needed (I.Load a b) at f o t =
+  needed (I.Load a b) at f o =
       let w = slots code r at (I.Load a b) (W.Number a) (W.Place b) W.Free W.Free refl o in
       (has_number code sound r s h a w.0, has_one_cell code sound r s h b w.1 o.r7)
-  needed (I.Known a b) at f o t =
+  needed (I.Known a b) at f o =
       let w = slots code r at (I.Known a b) (W.Number a) (W.Place b) W.Free W.Free refl o in
       (has_number code sound r s h a w.0, has_one_cell code sound r s h b w.1 o.r7)
-  needed (I.Store a b) at f o t =
+  needed (I.Store a b) at f o =
       let w = slots code r at (I.Store a b) (W.Place a) (W.Number b) W.Free W.Free refl o in
       (has_one_cell code sound r s h a w.0 o.r7, has_number code sound r s h b w.1)
-  needed (I.Bind a b c) at f o t =
+  needed (I.Bind a b c) at f o =
       let w = slots code r at (I.Bind a b c) (W.Place a) (W.Number b) (W.Range c) W.Free refl o in
       let e = entries code r at (I.Bind a b c) (W.Place a) (W.Number b) (W.Range c) W.Free refl o in
       (has_one_cell code sound r s h a w.0 o.r7, has_number code sound r s h b w.1, ltb-true c (length code.ranges) e.2)
-  needed (I.Unify a b c d) at f o t =
+  needed (I.Unify a b c d) at f o =
       let w = slots code r at (I.Unify a b c d) (W.Place a) (W.Range b) (W.Place c) (W.Range d) refl o in
       let e = entries code r at (I.Unify a b c d) (W.Place a) (W.Range b) (W.Place c) (W.Range d) refl o in
       let ones = and_parts (nat_eq (length_in code r a) 1) (nat_eq (length_in code r c) 1) o.r7 in
       (has_one_cell code sound r s h a w.0 ones.0, ltb-true b (length code.ranges) e.1, has_one_cell code sound r s h c w.2 ones.1, ltb-true d (length code.ranges) e.3)
-  needed (I.SameCells a b) at f o t =
-      let w = slots code r at (I.SameCells a b) (W.Place a) (W.Place b) W.Free W.Free refl o in
-      (has_cells code sound r s h a w.0, has_cells code sound r s h b w.1,
-      width_in code sound r s h a w.0 ∙ eqb-true (length_in code r a) (length_in code r b) o.r7 ∙ sym (width_in code sound r s h b w.1))
-  needed (I.Jump a) at f o t = tt
-  needed (I.JumpZero a b) at f o t = one (I.JumpZero a b) at a (W.Address b) refl o
-  needed (I.Check a) at f o t = one (I.Check a) at a W.Free refl o
-  needed I.Fail at f o t = tt
-  needed (I.Mark a) at f o t = mark (I.Mark a) at a W.Free refl o
-  needed (I.Cut a) at f o t = mark (I.Cut a) at a W.Free refl o
-  needed (I.Choose a) at f o t = tt
-  needed (I.Forall a b) at f o t = mark (I.Forall a b) at a (W.Address b) refl o
-  needed (I.Overlay a b) at f o t = mark (I.Overlay a b) at a (W.Address b) refl o
-  needed (I.Keep a) at f o t = mark (I.Keep a) at a W.Free refl o
-  needed I.Finish at f o t = tt
-  needed (I.Call c first to) at f o t =
+  needed (I.SameCells a b) at f o =
+      let w = slots code r at (I.SameCells a b) (W.Place a) (W.Place b) W.Free W.Free refl o in (
+        has_cells code sound r s h a w.0,
+        has_cells code sound r s h b w.1,
+        width_in code sound r s h a w.0 ∙ eqb-true (length_in code r a) (length_in code r b) o.r7 ∙ sym (width_in code sound r s h b w.1),
+      )
+  needed (I.Jump a) at f o = tt
+  needed (I.JumpZero a b) at f o = one (I.JumpZero a b) at a (W.Address b) refl o
+  needed (I.Check a) at f o = one (I.Check a) at a W.Free refl o
+  needed I.Fail at f o = tt
+  needed (I.Mark a) at f o = mark (I.Mark a) at a W.Free refl o
+  needed (I.Cut a) at f o = mark (I.Cut a) at a W.Free refl o
+  needed (I.Choose a) at f o = tt
+  needed (I.Forall a b) at f o = mark (I.Forall a b) at a (W.Address b) refl o
+  needed (I.Overlay a b) at f o = mark (I.Overlay a b) at a (W.Address b) refl o
+  needed (I.Keep a) at f o = mark (I.Keep a) at a W.Free refl o
+  needed I.Finish at f o = tt
+  needed (I.Call c first to) at f o =
       let x = and_parts (nat_lt 0 c && nat_lt c (length code.routines)) (can_call code r at (head_at code c) first to) o.r10 in
       let lt = ltb-true c (length code.routines) (and_parts (nat_lt 0 c) (nat_lt c (length code.routines)) x.0).1 in
       let hd = head_at code c in
       let y = (and_parts (fit_arguments code r hd.params first && holds_first hd.params first) (holds_result code r hd.has_result to && nat_lt (suc at) (end_at code r)) x.1).0 in
-      (lt, head_is c lt, all_arguments hd.params first (and_parts (fit_arguments code r hd.params first) (holds_first hd.params first) y).0)
-  needed I.Return at f o t = h.frames.some
-  needed (I.ReadInt a t) at f o b =
+      (lt, head_is code sound c lt, all_arguments hd.params first (and_parts (fit_arguments code r hd.params first) (holds_first hd.params first) y).0)
+  needed I.Return at f o = h.frames.some
+  needed (I.ReadInt a t) at f o =
       let w = slots code r at (I.ReadInt a t) (W.Place a) (W.Range t) W.Free W.Free refl o in
       let e = entries code r at (I.ReadInt a t) (W.Place a) (W.Range t) W.Free W.Free refl o in
       (has_one_cell code sound r s h a w.0 o.r7, ltb-true t (length code.ranges) e.1, position_there code sound r s h f)
-  needed (I.ReadChar a t) at f o b =
+  needed (I.ReadChar a t) at f o =
       let w = slots code r at (I.ReadChar a t) (W.Place a) (W.Range t) W.Free W.Free refl o in
       let e = entries code r at (I.ReadChar a t) (W.Place a) (W.Range t) W.Free W.Free refl o in
       (has_one_cell code sound r s h a w.0 o.r7, ltb-true t (length code.ranges) e.1, position_there code sound r s h f)
-  needed (I.WriteInt a) at f o t = one (I.WriteInt a) at a W.Free refl o
-  needed (I.WriteChar a) at f o t = one (I.WriteChar a) at a W.Free refl o
-  needed (I.WriteBool a) at f o t = one (I.WriteBool a) at a W.Free refl o
-  needed (I.WriteText t) at f o b = ltb-true t (length code.texts) (entries code r at (I.WriteText t) (W.Text t) W.Free W.Free W.Free refl o).0
-  needed I.WriteLine at f o t = tt
-  needed (I.Fault n) at f o t = o.r12
-  needed (I.Step a b c d) at f o t =
+  needed (I.WriteInt a) at f o = one (I.WriteInt a) at a W.Free refl o
+  needed (I.WriteChar a) at f o = one (I.WriteChar a) at a W.Free refl o
+  needed (I.WriteBool a) at f o = one (I.WriteBool a) at a W.Free refl o
+  needed (I.WriteText t) at f o = ltb-true t (length code.texts) (entries code r at (I.WriteText t) (W.Text t) W.Free W.Free W.Free refl o).0
+  needed I.WriteLine at f o = tt
+  needed (I.Fault n) at f o = o.r12
+  needed (I.Step a b c d) at f o =
       let w = slots code r at (I.Step a b c d) (W.Number a) (W.Number b) (W.Number c) (W.Address d) refl o in
       (has_number code sound r s h a w.0, has_number code sound r s h b w.1, has_number code sound r s h c w.2)
-  needed (I.Own a) at f o t = has_link_to code sound r s h a (slots code r at (I.Own a) (W.Link a) W.Free W.Free W.Free refl o).0
-  needed (I.Chain a b c) at f o t =
+  needed (I.Own a) at f o = has_link_to code sound r s h a (slots code r at (I.Own a) (W.Link a) W.Free W.Free W.Free refl o).0
+  needed (I.Chain a b c) at f o =
       let w = slots code r at (I.Chain a b c) (W.Link a) (W.Link b) W.Free W.Free refl o in
       (has_link_to code sound r s h a w.0, has_link code sound r s h b w.1, leads_link a b c w.1 o.r5)
-  needed (I.Outer a b c) at f o t =
+  needed (I.Outer a b c) at f o =
       let w = slots code r at (I.Outer a b c) (W.Place a) (W.Link b) W.Free W.Free refl o in
       (has_place code sound r s h a w.0, has_link code sound r s h b w.1)
-  needed (I.OuterSame a b c) at f o t =
+  needed (I.OuterSame a b c) at f o =
       let w = slots code r at (I.OuterSame a b c) (W.Place a) (W.Link b) W.Free W.Free refl o in
       (has_place code sound r s h a w.0, has_link code sound r s h b w.1, leads_place a b c w.1 o.r5)
-  needed (I.ReturnValue a) at f o t = (one (I.ReturnValue a) at a W.Free refl o, calls_back o.r12)
-  needed (I.CopyCells a b) at f o t = absurd (false≢true t)
+  needed (I.ReturnValue a) at f o = (one (I.ReturnValue a) at a W.Free refl o, calls_back o.r12)
+  needed (I.CopyCells a b) at f o =
+      let w = slots code r at (I.CopyCells a b) (W.Place a) (W.Place b) W.Free W.Free refl o in (
+        has_cells code sound r s h a w.0,
+        has_cells code sound r s h b w.1,
+        width_in code sound r s h a w.0 ∙ eqb-true (length_in code r a) (length_in code r b) o.r7 ∙ sym (width_in code sound r s h b w.1),
+      )
 
 -- the same at the address of a state that fits
-pub needs_at : (code : PlainCode) (s : State) (t : State) (i : Instr) → IsSound code → Fits code s → s.mode ≡ Going → is_built i ≡ true → slice_get code.instrs s.at ≡ Some i → t.now ≡ s.now → Needs code t.now i
-needs_at code s t i sound fits going built is same =
+pub needs_at : (code : PlainCode) (s : State) (t : State) (i : Instr) → IsSound code → Fits code s → s.mode ≡ Going → slice_get code.instrs s.at ≡ Some i → t.now ≡ s.now → Needs code t.now i
+needs_at code s t i sound fits going is same =
     let r = (last_frame s.now).routine in
     let ff = fits.frames.each (length s.now - 1) (omega (arith, fits.frames.some)) in
     let ready : Ready code r s = record { frames = fits.frames; held = fits.held; routine = refl; going = going } in
@@ -370,7 +376,7 @@ needs_at code s t i sound fits going built is same =
     let high = ltb-true s.at (end_at code r) parts.1 in
     let got : get_or code.instrs s.at I.Fail ≡ i = get_or_from_slice_get code.instrs s.at i I.Fail is in
     let o : Obeys code r s.at i = obeys code r s.at i (subst (λ j. instr_fault code r s.at j ≡ None) got (sound.instrs r s.at ff.routine low high)) in
-    subst (λ fs. Needs code fs i) (sym same) (needed code sound r s ready i s.at (first_number code sound) o built)
+    subst (λ fs. Needs code fs i) (sym same) (needed code sound r s ready i s.at (first_number code sound) o)
 
 -- a machine that goes on is at an instruction
 pub in_code : (code : PlainCode) (s : State) → IsSound code → Fits code s → s.mode ≡ Going → s.at < length code.instrs

@@ -1,6 +1,6 @@
 -- The parts of places.
-use Rattle.std.proofs.Common.{◌≡◌, ℕ, zero, suc, ◌+◌, ◌-◌, ◌*◌, ◌^◌, ◌<◌, ◌≤◌, List, length, get_or, sym, ap, ◌∙◌, arith, Some}
-use Rattle.std.specs.Prelude.{ℤ, slice_get, true, false, ◌&&◌, ◌-ℤ◌, ◌≤ℤ◌, int_le, nat_abs}
+use Rattle.std.proofs.Common.{◌≡◌, ℕ, zero, suc, ◌+◌, ◌*◌, ◌^◌, ◌<◌, ◌≤◌, List, length, get_or, sym, ap, ◌∙◌, arith, Some}
+use Rattle.std.specs.Prelude.{ℤ, slice_get, true, ◌-ℤ◌, ◌≤ℤ◌, int_le, nat_abs}
 use Rattle.std.specs.Int.Signed.{le_z_yes}
 use Rattle.std.proofs.lemmas.Bool.{and_parts, leb-true}
 use Rattle.std.proofs.lemmas.Float.{T_from_true}
@@ -9,7 +9,6 @@ use Rattle.std.proofs.Math.Nat.{mul-le-mul_right}
 use Rattle.alma_base.specs.declared.number.Range.{Range}
 use Rattle.alma_base.specs.Numbers.{within, range_size}
 use Rattle.alma_code.specs.declared.cell.Cell.TheVariants as cell
-use Rattle.alma_code.specs.declared.cell.SlotKind.{SlotKind}
 use Rattle.alma_code.specs.declared.cell.SlotKind.TheVariants as slot
 use Rattle.alma_code.specs.Machine.{State, to_place, put_place, quiet_step, with_slot}
 use Rattle.alma_code.specs.Picture.{PlainFrame, last_frame}

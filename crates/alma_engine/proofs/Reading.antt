@@ -2,7 +2,7 @@
 use Rattle.std.proofs.Common.{◌≡◌, ℕ, suc, ◌+◌, ◌-◌, ◌*◌, ◌<◌, ◌≤◌, List, [], ◌∷◌, length, get_or, drop, refl, sym, ap, ◌∙◌, subst, arith, Some}
 use Rattle.std.specs.Prelude.{ℤ, pos, negsuc, slice_get, Option, Bool, true, false, nat_eq, nat_abs}
 use Rattle.std.proofs.lemmas.List.{drop_all, length-drop}
-use Rattle.std.proofs.lemmas.Option.{slice_get-get_or, get_or_from_slice_get}
+use Rattle.std.proofs.lemmas.Option.{slice_get-get_or}
 use Rattle.alma_base.specs.Choice.{if_true}
 use Rattle.alma_base.specs.Numbers.{is_integer, within}
 use Rattle.alma_base.specs.declared.number.Range.{Range}
@@ -14,7 +14,7 @@ use Rattle.alma_code.specs.declared.cell.Cell.{Cell}
 use Rattle.alma_code.specs.declared.cell.Cell.TheVariants as cell
 use Rattle.alma_code.specs.declared.cell.CellPlace.{CellPlace}
 use Rattle.alma_code.specs.Fits.{IsPosition}
-use Rattle.alma_code.specs.Machine.{State, Stepped, position, as_position, byte_or_failure, found, take_input, range_check, ends_in_fault, store, quiet_step, with_cell}
+use Rattle.alma_code.specs.Machine.{State, Stepped, position, as_position, byte_or_failure, found, take_input, ends_in_fault, store, quiet_step, with_cell}
 use Rattle.alma_code.specs.Picture.{PlainFrame, no_frame, cell_at}
 use Rattle.alma_engine.specs.Inputs.{HasPosition, IsBelow}
 use Rattle.alma_engine.specs.Rows.{HasNumberIn}
@@ -81,10 +81,10 @@ pub ruleset finds = (read_below, none_behind)
 -- a position is read
 position_read : (c : Cell) (v : ℤ) (s : State) (k : ℕ → Stepped) → IsPosition c → c ≡ cell.Int v → as_position (Some c) s k ≡ k (nat_abs v)
 position_read (cell.Int (pos n)) v s k h is = ap (λ (c : Cell). as_position (Some c) s k) is ∙ at v (subst IsPosition is h)
-    where
-      at : (v : ℤ) → IsPosition (cell.Int v) → as_position (Some (cell.Int v)) s k ≡ k (nat_abs v)
-      at (pos n) h = refl
-      at (negsuc n) h = absurd h
+  where
+    at : (v : ℤ) → IsPosition (cell.Int v) → as_position (Some (cell.Int v)) s k ≡ k (nat_abs v)
+    at (pos n) h = refl
+    at (negsuc n) h = absurd h
 position_read (cell.Int (negsuc n)) v s k h is = absurd h
 position_read cell.Unknown v s k h is = absurd h
 position_read cell.Unset v s k h is = absurd h

@@ -1,9 +1,7 @@
 -- What a step gives.
-use Rattle.std.proofs.Common.{◌≡◌, ℕ, ◌+◌, ◌<◌, ◌≤◌, List, [], ◌∷◌, length, get_or, refl, sym, ap, ◌∙◌, subst, arith, Some}
+use Rattle.std.proofs.Common.{◌≡◌, ℕ, ◌+◌, ◌<◌, ◌≤◌, List, [], ◌∷◌, length, refl, sym, ap, ◌∙◌, subst, arith, Some}
 use Rattle.std.specs.Prelude.{Result, Ok, Err, IfOk, OnOk, slice_get, true}
-use Rattle.std.proofs.lemmas.Option.{get_or_from_slice_get}
 use Rattle.alma_code.specs.declared.instr.Instr.{Instr}
-use Rattle.alma_code.specs.declared.instr.Instr.TheVariants as I
 use Rattle.alma_code.specs.declared.step.Step.{Step}
 use Rattle.alma_code.specs.declared.step.Step.TheVariants as answer
 use Rattle.alma_code.specs.Fits.{Fits}
@@ -13,7 +11,7 @@ use Rattle.alma_code.specs.Rules.{IsSound}
 use Rattle.alma_code.proofs.Runs.{start_fits, stays_fit}
 use Rattle.alma_code.specs.Machine.{Mode, State, start, Going, Failing, step, step_in, act, fetched, with_step_counted, pop}
 use Rattle.alma_code.specs.Plain.{PlainCode, head_at}
-use Rattle.alma_engine.specs.Needs.{Needs, HasOnlyBuilt, is_built}
+use Rattle.alma_engine.specs.Needs.{Needs}
 use Rattle.alma_engine.specs.Stands.{Stands}
 use Rattle.alma_engine.specs.View.{IsLive, ModeAfter, goes_on, runs_after, stepped}
 use Rattle.alma_engine.proofs.Needing.{needs_at, in_code}
@@ -25,8 +23,7 @@ inside code s keeps going = in_code code s keeps.sound keeps.fits going
 -- which finds what it needs
 pub finds : (code : PlainCode) (s : State) (i : Instr) → Stands code s → s.mode ≡ Going → slice_get code.instrs s.at ≡ Some i → Needs code s.now i
 finds code s i keeps going is =
-    needs_at code s s i keeps.sound keeps.fits going
-    (subst (λ j. is_built j ≡ true) (get_or_from_slice_get code.instrs s.at i I.Fail is) (keeps.built s.at (inside code s keeps going))) is refl
+    needs_at code s s i keeps.sound keeps.fits going is refl
 
 -- a step of a machine that goes on is what its instruction does
 pub step_fetched : (code : PlainCode) (input : List ℕ) (s : State) (i : Instr) → s.mode ≡ Going → slice_get code.instrs s.at ≡ Some i
@@ -67,7 +64,6 @@ pub stands_after : {E : Type 0} (result : Result Step E) (code : PlainCode) (inp
     → runs_after result ≡ true → Stands code new
 stands_after (Ok answer) code input old new bytes h done mode steps choices fails on = record {
   sound = h.sound;
-  built = h.built;
   fits = subst (λ s. Fits code s) (sym (ap (λ x. x.state) done)) (stays_fit code input h.sound old h.fits);
   live = live_after answer new.mode on mode;
   choices = omega (arith, steps, choices, h.choices);
@@ -84,10 +80,9 @@ pub first_is : (code : PlainCode) (now : List PlainFrame) (held : List PlainEntr
 first_is code now held a b = ap (λ x. first_state x held) a ∙ ap (λ y. first_state (start_frame (head_at code 0) ∷ []) y) b
 
 -- and keeps what it must
-pub stands_first : (code : PlainCode) (now : List PlainFrame) (held : List PlainEntry) → IsSound code → HasOnlyBuilt code → now ≡ start_frame (head_at code 0) ∷ [] → held ≡ [] → Stands code (first_state now held)
-stands_first code now held sound built a b = record {
+pub stands_first : (code : PlainCode) (now : List PlainFrame) (held : List PlainEntry) → IsSound code → now ≡ start_frame (head_at code 0) ∷ [] → held ≡ [] → Stands code (first_state now held)
+stands_first code now held sound a b = record {
   sound = sound;
-  built = built;
   fits = subst (λ s. Fits code s) (sym (first_is code now held a b)) (start_fits code sound);
   live = tt;
   choices = omega arith;

@@ -1,6 +1,6 @@
 -- What the reading of slots gives.
-use Rattle.std.proofs.Common.{inl, inr, [], ◌≡◌, ℕ, ◌+◌, ◌-◌, ◌<◌, List, length, get_or, refl, sym, ap, ◌∙◌, subst, arith, Some}
-use Rattle.std.specs.Prelude.{ℤ, pos, negsuc, zero, suc, slice_get, Bool, true, false, ◌&&◌, ◌-ℤ◌, ◌≤ℤ◌, ◌<ℤ◌, int_le, nat_abs, Option, None, Result, Ok, Err, IfOk}
+use Rattle.std.proofs.Common.{inl, inr, [], ◌≡◌, ℕ, ◌+◌, List, get_or, refl, sym, ap, ◌∙◌, subst, arith, Some}
+use Rattle.std.specs.Prelude.{ℤ, pos, negsuc, zero, suc, slice_get, Bool, true, false, ◌&&◌, ◌≤ℤ◌, ◌<ℤ◌, int_le, Option, None, Result, Ok, Err, IfOk}
 use Rattle.std.proofs.lemmas.Bool.{eq-eqb, and_from}
 use Rattle.std.proofs.lemmas.Int.{ints}
 use Rattle.std.proofs.lemmas.Bool.Decides.{eqb_tells}
@@ -15,7 +15,6 @@ use Rattle.alma_base.specs.declared.fault.RunFault.TheVariants as fault
 use Rattle.alma_code.specs.declared.cell.Cell.{Cell}
 use Rattle.alma_code.specs.declared.cell.Cell.TheVariants as cell
 use Rattle.alma_code.specs.declared.cell.CellPlace.{CellPlace}
-use Rattle.alma_code.specs.declared.cell.SlotKind.TheVariants as slot
 use Rattle.alma_code.specs.declared.step.Step.{Step}
 use Rattle.alma_code.specs.Fits.{IsContent}
 use Rattle.alma_code.specs.Machine.{State, Stepped, number, place, content, as_content, as_number, as_place, ends_in_fault, put_number, to_number, quiet_step, stuck, store, with_slot, with_cell}

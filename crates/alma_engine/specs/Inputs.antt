@@ -1,5 +1,5 @@
 -- What READ needs.
-use Rattle.std.specs.Prelude.{ℕ, ◌≤◌, List}
+use Rattle.std.specs.Prelude.{◌≤◌, List}
 use Rattle.alma_base.specs.declared.number.ReadInt.{ReadInt}
 use Rattle.alma_base.specs.declared.number.ReadInt.TheVariants.{Number, NoNumber, TooLarge}
 use Rattle.alma_code.specs.declared.cell.Cell.TheVariants as cell

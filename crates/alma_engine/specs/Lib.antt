@@ -1,4 +1,5 @@
 pub mod Calls
+pub mod Copies
 pub mod Inputs
 pub mod Meets
 pub mod Needs

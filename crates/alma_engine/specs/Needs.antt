@@ -1,5 +1,5 @@
 -- What an instruction needs of the top frame and of the code.
-use Rattle.std.specs.Prelude.{◌≡◌, ◌<◌, ◌≤◌, ℕ, Bool, true, false, List, length, get_or, slice_get}
+use Rattle.std.specs.Prelude.{◌≡◌, ◌<◌, ◌≤◌, Bool, true, false, List, length, slice_get}
 use Rattle.alma_code.specs.declared.instr.Instr.{Instr}
 use Rattle.alma_code.specs.declared.instr.Instr.TheVariants as I
 use Rattle.alma_code.specs.Layout.{IsHead}
@@ -68,7 +68,7 @@ Needs code f (I.Own to) = HasLinkTo f to
 Needs code f (I.Chain to link slot) = HasLinkTo f to × HasLink f link × LeadsTo f link slot
 Needs code f (I.Outer to link first) = HasPlace f to × HasLink f link
 Needs code f (I.OuterSame to link slot) = HasPlace f to × HasLink f link × LeadsTo f link slot
-Needs code f (I.CopyCells to from) = ⊥
+Needs code f (I.CopyCells to from) = HasCells f to × HasCells f from × (width f to ≡ width f from)
 Needs code f i = Computes f i
 
 -- the instruction prints
@@ -80,11 +80,63 @@ prints (I.WriteText text) = true
 prints I.WriteLine = true
 prints _ = false
 
--- the machine runs the form
-unfoldable pub is_built : Instr → Bool
-is_built (I.CopyCells to from) = false
-is_built _ = true
+-- an instruction of the room of jumps, tests and counted loops
+unfoldable pub is_control_form : Instr → Bool
+is_control_form (I.InRange value range) = true
+is_control_form (I.Jump to) = true
+is_control_form (I.JumpZero value to) = true
+is_control_form (I.Check value) = true
+is_control_form I.Fail = true
+is_control_form (I.Fault number) = true
+is_control_form (I.Step counter limit by out) = true
+is_control_form _ = false
 
--- each instruction of the code is of such a form
-abbrev pub HasOnlyBuilt : PlainCode → Type 0
-HasOnlyBuilt code = (at : ℕ) → at < length code.instrs → is_built (get_or code.instrs at I.Fail) ≡ true
+-- an instruction of the room of places
+unfoldable pub is_place_form : Instr → Bool
+is_place_form (I.Local to first) = true
+is_place_form (I.Global to first) = true
+is_place_form (I.Same to from) = true
+is_place_form (I.Field to from offset) = true
+is_place_form (I.Index to from index range) = true
+is_place_form _ = false
+
+-- an instruction of the room of cells at places: stores, bindings, equations and copies
+unfoldable pub is_cell_form : Instr → Bool
+is_cell_form (I.Store to from) = true
+is_cell_form (I.Bind to value range) = true
+is_cell_form (I.Unify left first right second) = true
+is_cell_form (I.CopyCells to from) = true
+is_cell_form (I.SameCells left right) = true
+is_cell_form _ = false
+
+-- an instruction of the room of choice entries
+unfoldable pub is_choice_form : Instr → Bool
+is_choice_form (I.Mark to) = true
+is_choice_form (I.Cut mark) = true
+is_choice_form (I.Choose resume) = true
+is_choice_form (I.Forall mark resume) = true
+is_choice_form (I.Overlay mark resume) = true
+is_choice_form (I.Keep mark) = true
+is_choice_form I.Finish = true
+is_choice_form _ = false
+
+-- an instruction of the room of calls and returns
+unfoldable pub is_call_form : Instr → Bool
+is_call_form (I.Call routine first to) = true
+is_call_form I.Return = true
+is_call_form (I.ReturnValue value) = true
+is_call_form _ = false
+
+-- an instruction of the room of reads of the input
+unfoldable pub is_read_form : Instr → Bool
+is_read_form (I.ReadInt place range) = true
+is_read_form (I.ReadChar place range) = true
+is_read_form _ = false
+
+-- an instruction of the room of links
+unfoldable pub is_link_form : Instr → Bool
+is_link_form (I.Own to) = true
+is_link_form (I.Chain to link slot) = true
+is_link_form (I.Outer to link first) = true
+is_link_form (I.OuterSame to link slot) = true
+is_link_form _ = false

@@ -4,13 +4,11 @@ use Rattle.alma_code.specs.Fits.{Fits}
 use Rattle.alma_code.specs.Machine.{State}
 use Rattle.alma_code.specs.Plain.{PlainCode}
 use Rattle.alma_code.specs.Rules.{IsSound}
-use Rattle.alma_engine.specs.Needs.{HasOnlyBuilt}
 use Rattle.alma_engine.specs.View.{IsLive}
 
--- its code is sound and of built forms, its state fits, it has not ended, and no more entries were pushed or popped than steps made
+-- its code is sound, its state fits, it has not ended, and no more entries were pushed or popped than steps made
 pub record Stands (code : PlainCode) (state : State) : Type 0 where
   pub sound : IsSound code
-  pub built : HasOnlyBuilt code
   pub fits : Fits code state
   pub live : IsLive state.mode
   pub choices : state.choices ≤ state.steps

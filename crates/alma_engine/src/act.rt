@@ -3,7 +3,7 @@ ghost use Rattle.std.specs.Prelude.{false, ◌≡◌, ◌+◌, ◌^◌, ◌<◌,
 ghost use Rattle.alma_base.specs.Limits.{input_limit};
 ghost use Rattle.alma_code.specs.Machine.{State, act};
 ghost use Rattle.alma_code.specs.Plain.{PlainCode};
-ghost use Rattle.alma_engine.specs.Needs.{Computes, Needs, prints};
+ghost use Rattle.alma_engine.specs.Needs.{Computes, Needs, prints, is_control_form, is_place_form, is_cell_form, is_choice_form, is_call_form, is_read_form, is_link_form};
 ghost use Rattle.alma_engine.specs.Rows.{state_of, HasNumber, KeepsOn, put_or_fault};
 ghost use Rattle.alma_engine.specs.View.{stepped, PrintsOnly};
 
@@ -19,7 +19,8 @@ impl Registers {
     fn computed(&self, instr: Instr) -> (u32, Result<i64, RunFault>)
         requires { Computes self.now.memory.now instr }
         ensures slot { HasNumber self.now.memory.now result.0 }
-        ensures number { (code : PlainCode) (input : List ℕ) (s : State) → s.now ≡ self.now.memory.now
+        ensures number { (code : PlainCode) (input : List ℕ) (s : State) → s.now
+            ≡ self.now.memory.now
             → act code input instr s ≡ put_or_fault s result.0 result.1 }
     {
         match instr {
@@ -54,10 +55,13 @@ impl Registers {
         requires few { self.old.choices + 1 < 2 ^ 63 }
         requires lawful { length input.now ≤ input_limit }
         requires empty { bytes.old.items ≡ [] }
-        ensures ok { IfOk result (λ answer. stepped answer bytes.new.items (state_of self.new) ≡ act (V.code view.now) input.now instr (state_of self.old)) }
-        ensures kept { IfOk result (λ answer. KeepsOn answer (state_of self.old) (state_of self.new)) }
+        ensures ok { IfOk result (λ answer. stepped answer bytes.new.items (state_of self.new)
+            ≡ act (V.code view.now) input.now instr (state_of self.old)) }
+        ensures kept { IfOk result
+            (λ answer. KeepsOn answer (state_of self.old) (state_of self.new)) }
         ensures quiet { IfOk result (λ answer. PrintsOnly answer bytes.new.items) }
-        ensures refused { OnErr result ((state_of self.new ≡ state_of self.old) × (bytes.new.items ≡ [])) }
+        ensures refused { OnErr result ((state_of self.new ≡ state_of self.old) × (bytes.new.items
+            ≡ [])) }
     {
         match instr {
             Instr::WriteInt { value } => self.print_number(value, bytes),
@@ -68,13 +72,13 @@ impl Registers {
                 None => unreachable!(),
             },
             Instr::WriteLine => print_text(b"\n", bytes),
-            _ => self.act_quiet(view, instr, input),
+            _ => self.act_control(view, instr, input),
         }
     }
 
-    // What an instruction does that prints nothing.
-    #[tactic(auto, unfolding(alma_code::specs::Machine::act, crate::specs::Needs::Needs, crate::specs::Needs::prints), using(crate::proofs::Acting::actings))]
-    fn act_quiet<V: CodeView>(
+    // Jumps, tests and counted loops, and else the next room.
+    #[tactic(auto, unfolding(alma_code::specs::Machine::act, crate::specs::Needs::Needs), using(crate::proofs::Acting::actings))]
+    fn act_control<V: CodeView>(
         &mut self,
         view: &V,
         instr: Instr,
@@ -84,8 +88,10 @@ impl Registers {
         requires quiet { prints instr ≡ false }
         requires few { self.old.choices + 1 < 2 ^ 63 }
         requires lawful { length input.now ≤ input_limit }
-        ensures ok { IfOk result (λ answer. stepped answer [] (state_of self.new) ≡ act (V.code view.now) input.now instr (state_of self.old)) }
-        ensures kept { IfOk result (λ answer. KeepsOn answer (state_of self.old) (state_of self.new)) }
+        ensures ok { IfOk result (λ answer. stepped answer [] (state_of self.new)
+            ≡ act (V.code view.now) input.now instr (state_of self.old)) }
+        ensures kept { IfOk result
+            (λ answer. KeepsOn answer (state_of self.old) (state_of self.new)) }
         ensures quiet { IfOk result (λ answer. PrintsOnly answer []) }
         ensures refused { OnErr result (state_of self.new ≡ state_of self.old) }
     {
@@ -94,6 +100,42 @@ impl Registers {
                 Some(range) => Ok(self.in_range(value, &range)),
                 None => unreachable!(),
             },
+            Instr::Jump { to } => Ok(self.jump(to)),
+            Instr::JumpZero { value, to } => Ok(self.jump_zero(value, to)),
+            Instr::Check { value } => Ok(self.check(value)),
+            Instr::Fail => Ok(self.fail()),
+            Instr::Fault { number } => Ok(self.end(End::Fault(numbered(number)))),
+            Instr::Step {
+                counter,
+                limit,
+                by,
+                out,
+            } => self.count(counter, limit, by, out),
+            _ => self.act_places(view, instr, input),
+        }
+    }
+
+    // Places, and else the next room.
+    #[tactic(auto, unfolding(alma_code::specs::Machine::act, crate::specs::Needs::Needs), using(crate::proofs::Acting::actings))]
+    fn act_places<V: CodeView>(
+        &mut self,
+        view: &V,
+        instr: Instr,
+        input: &[u8],
+    ) -> Result<Step, NoMemory>
+        requires needs { Needs (V.code view.now) self.old.memory.now instr }
+        requires quiet { prints instr ≡ false }
+        requires no_control { is_control_form instr ≡ false }
+        requires few { self.old.choices + 1 < 2 ^ 63 }
+        requires lawful { length input.now ≤ input_limit }
+        ensures ok { IfOk result (λ answer. stepped answer [] (state_of self.new)
+            ≡ act (V.code view.now) input.now instr (state_of self.old)) }
+        ensures kept { IfOk result
+            (λ answer. KeepsOn answer (state_of self.old) (state_of self.new)) }
+        ensures quiet { IfOk result (λ answer. PrintsOnly answer []) }
+        ensures refused { OnErr result (state_of self.new ≡ state_of self.old) }
+    {
+        match instr {
             Instr::Local { to, first } => {
                 let frame = self.memory.frames() - 1;
                 self.put_place(to, frame, first)
@@ -119,6 +161,32 @@ impl Registers {
                 }
                 None => unreachable!(),
             },
+            _ => self.act_cells(view, instr, input),
+        }
+    }
+
+    // Cells at places: stores, bindings, equations and copies, and else the next room.
+    #[tactic(auto, unfolding(alma_code::specs::Machine::act, crate::specs::Needs::Needs), using(crate::proofs::Acting::actings))]
+    fn act_cells<V: CodeView>(
+        &mut self,
+        view: &V,
+        instr: Instr,
+        input: &[u8],
+    ) -> Result<Step, NoMemory>
+        requires needs { Needs (V.code view.now) self.old.memory.now instr }
+        requires quiet { prints instr ≡ false }
+        requires no_control { is_control_form instr ≡ false }
+        requires no_place { is_place_form instr ≡ false }
+        requires few { self.old.choices + 1 < 2 ^ 63 }
+        requires lawful { length input.now ≤ input_limit }
+        ensures ok { IfOk result (λ answer. stepped answer [] (state_of self.new)
+            ≡ act (V.code view.now) input.now instr (state_of self.old)) }
+        ensures kept { IfOk result
+            (λ answer. KeepsOn answer (state_of self.old) (state_of self.new)) }
+        ensures quiet { IfOk result (λ answer. PrintsOnly answer []) }
+        ensures refused { OnErr result (state_of self.new ≡ state_of self.old) }
+    {
+        match instr {
             Instr::Store { to, from } => self.store(to, from),
             Instr::Bind {
                 place,
@@ -126,32 +194,6 @@ impl Registers {
                 range,
             } => match view.range(range) {
                 Some(range) => self.bind(place, value, &range),
-                None => unreachable!(),
-            },
-            Instr::SameCells { left, right } => self.same_cells(left, right),
-            Instr::Jump { to } => Ok(self.jump(to)),
-            Instr::JumpZero { value, to } => Ok(self.jump_zero(value, to)),
-            Instr::Check { value } => Ok(self.check(value)),
-            Instr::Fail => Ok(self.fail()),
-            Instr::Mark { to } => self.set_mark(to),
-            Instr::Cut { mark } => Ok(self.cut(mark)),
-            Instr::Choose { resume } => self.choose(ChoiceKind::Branch, resume),
-            Instr::Forall { mark, resume } => self.forall(mark, resume),
-            Instr::Overlay { mark, resume } => self.begin_body(mark, resume),
-            Instr::Keep { mark } => self.keep(mark),
-            Instr::Finish => self.finish(),
-            Instr::Call { routine, first, .. } => match view.routine(routine) {
-                Some(head) => self.call(&head, routine, view.start(routine), first),
-                None => unreachable!(),
-            },
-            Instr::Return => self.leave(),
-            Instr::ReturnValue { value } => self.leave_with(view, value),
-            Instr::ReadInt { place, range } => match view.range(range) {
-                Some(range) => self.read_number(input, place, &range),
-                None => unreachable!(),
-            },
-            Instr::ReadChar { place, range } => match view.range(range) {
-                Some(range) => self.read_char(input, place, &range),
                 None => unreachable!(),
             },
             Instr::Unify {
@@ -163,13 +205,143 @@ impl Registers {
                 (Some(first), Some(second)) => self.unify(left, first, right, second),
                 _ => unreachable!(),
             },
-            Instr::Fault { number } => Ok(self.end(End::Fault(numbered(number)))),
-            Instr::Step {
-                counter,
-                limit,
-                by,
-                out,
-            } => self.count(counter, limit, by, out),
+            Instr::CopyCells { to, from } => self.copy_cells(to, from),
+            Instr::SameCells { left, right } => self.same_cells(left, right),
+            _ => self.act_choices(view, instr, input),
+        }
+    }
+
+    // Choice entries, and else the next room.
+    #[tactic(auto, unfolding(alma_code::specs::Machine::act, crate::specs::Needs::Needs), using(crate::proofs::Acting::actings))]
+    fn act_choices<V: CodeView>(
+        &mut self,
+        view: &V,
+        instr: Instr,
+        input: &[u8],
+    ) -> Result<Step, NoMemory>
+        requires needs { Needs (V.code view.now) self.old.memory.now instr }
+        requires quiet { prints instr ≡ false }
+        requires no_control { is_control_form instr ≡ false }
+        requires no_place { is_place_form instr ≡ false }
+        requires no_cell { is_cell_form instr ≡ false }
+        requires few { self.old.choices + 1 < 2 ^ 63 }
+        requires lawful { length input.now ≤ input_limit }
+        ensures ok { IfOk result (λ answer. stepped answer [] (state_of self.new)
+            ≡ act (V.code view.now) input.now instr (state_of self.old)) }
+        ensures kept { IfOk result
+            (λ answer. KeepsOn answer (state_of self.old) (state_of self.new)) }
+        ensures quiet { IfOk result (λ answer. PrintsOnly answer []) }
+        ensures refused { OnErr result (state_of self.new ≡ state_of self.old) }
+    {
+        match instr {
+            Instr::Mark { to } => self.set_mark(to),
+            Instr::Cut { mark } => Ok(self.cut(mark)),
+            Instr::Choose { resume } => self.choose(ChoiceKind::Branch, resume),
+            Instr::Forall { mark, resume } => self.forall(mark, resume),
+            Instr::Overlay { mark, resume } => self.begin_body(mark, resume),
+            Instr::Keep { mark } => self.keep(mark),
+            Instr::Finish => self.finish(),
+            _ => self.act_calls(view, instr, input),
+        }
+    }
+
+    // Calls and returns, and else the next room.
+    #[tactic(auto, unfolding(alma_code::specs::Machine::act, crate::specs::Needs::Needs), using(crate::proofs::Acting::actings))]
+    fn act_calls<V: CodeView>(
+        &mut self,
+        view: &V,
+        instr: Instr,
+        input: &[u8],
+    ) -> Result<Step, NoMemory>
+        requires needs { Needs (V.code view.now) self.old.memory.now instr }
+        requires quiet { prints instr ≡ false }
+        requires no_control { is_control_form instr ≡ false }
+        requires no_place { is_place_form instr ≡ false }
+        requires no_cell { is_cell_form instr ≡ false }
+        requires no_choice { is_choice_form instr ≡ false }
+        requires few { self.old.choices + 1 < 2 ^ 63 }
+        requires lawful { length input.now ≤ input_limit }
+        ensures ok { IfOk result (λ answer. stepped answer [] (state_of self.new)
+            ≡ act (V.code view.now) input.now instr (state_of self.old)) }
+        ensures kept { IfOk result
+            (λ answer. KeepsOn answer (state_of self.old) (state_of self.new)) }
+        ensures quiet { IfOk result (λ answer. PrintsOnly answer []) }
+        ensures refused { OnErr result (state_of self.new ≡ state_of self.old) }
+    {
+        match instr {
+            Instr::Call { routine, first, .. } => match view.routine(routine) {
+                Some(head) => self.call(&head, routine, view.start(routine), first),
+                None => unreachable!(),
+            },
+            Instr::Return => self.leave(),
+            Instr::ReturnValue { value } => self.leave_with(view, value),
+            _ => self.act_input(view, instr, input),
+        }
+    }
+
+    // Reads of the input, and else the next room.
+    #[tactic(auto, unfolding(alma_code::specs::Machine::act, crate::specs::Needs::Needs), using(crate::proofs::Acting::actings))]
+    fn act_input<V: CodeView>(
+        &mut self,
+        view: &V,
+        instr: Instr,
+        input: &[u8],
+    ) -> Result<Step, NoMemory>
+        requires needs { Needs (V.code view.now) self.old.memory.now instr }
+        requires quiet { prints instr ≡ false }
+        requires no_control { is_control_form instr ≡ false }
+        requires no_place { is_place_form instr ≡ false }
+        requires no_cell { is_cell_form instr ≡ false }
+        requires no_choice { is_choice_form instr ≡ false }
+        requires no_call { is_call_form instr ≡ false }
+        requires few { self.old.choices + 1 < 2 ^ 63 }
+        requires lawful { length input.now ≤ input_limit }
+        ensures ok { IfOk result (λ answer. stepped answer [] (state_of self.new)
+            ≡ act (V.code view.now) input.now instr (state_of self.old)) }
+        ensures kept { IfOk result
+            (λ answer. KeepsOn answer (state_of self.old) (state_of self.new)) }
+        ensures quiet { IfOk result (λ answer. PrintsOnly answer []) }
+        ensures refused { OnErr result (state_of self.new ≡ state_of self.old) }
+    {
+        match instr {
+            Instr::ReadInt { place, range } => match view.range(range) {
+                Some(range) => self.read_number(input, place, &range),
+                None => unreachable!(),
+            },
+            Instr::ReadChar { place, range } => match view.range(range) {
+                Some(range) => self.read_char(input, place, &range),
+                None => unreachable!(),
+            },
+            _ => self.act_links(view, instr, input),
+        }
+    }
+
+    // Links, and else the next room.
+    #[tactic(auto, unfolding(alma_code::specs::Machine::act, crate::specs::Needs::Needs), using(crate::proofs::Acting::actings))]
+    fn act_links<V: CodeView>(
+        &mut self,
+        view: &V,
+        instr: Instr,
+        input: &[u8],
+    ) -> Result<Step, NoMemory>
+        requires needs { Needs (V.code view.now) self.old.memory.now instr }
+        requires quiet { prints instr ≡ false }
+        requires no_control { is_control_form instr ≡ false }
+        requires no_place { is_place_form instr ≡ false }
+        requires no_cell { is_cell_form instr ≡ false }
+        requires no_choice { is_choice_form instr ≡ false }
+        requires no_call { is_call_form instr ≡ false }
+        requires no_read { is_read_form instr ≡ false }
+        requires few { self.old.choices + 1 < 2 ^ 63 }
+        requires lawful { length input.now ≤ input_limit }
+        ensures ok { IfOk result (λ answer. stepped answer [] (state_of self.new)
+            ≡ act (V.code view.now) input.now instr (state_of self.old)) }
+        ensures kept { IfOk result
+            (λ answer. KeepsOn answer (state_of self.old) (state_of self.new)) }
+        ensures quiet { IfOk result (λ answer. PrintsOnly answer []) }
+        ensures refused { OnErr result (state_of self.new ≡ state_of self.old) }
+    {
+        match instr {
             Instr::Own { to } => {
                 let frame = self.memory.frames() - 1;
                 self.put_link(to, Ok(frame))
@@ -186,10 +358,36 @@ impl Registers {
                 let spot = self.outer_whole(link, slot);
                 self.point(to, spot)
             }
-            _ => {
-                let (to, number) = self.computed(instr);
-                self.put(to, number)
-            }
+            _ => self.act_numbers(view, instr, input),
         }
+    }
+
+    // What computes a number for a slot.
+    fn act_numbers<V: CodeView>(
+        &mut self,
+        view: &V,
+        instr: Instr,
+        input: &[u8],
+    ) -> Result<Step, NoMemory>
+        requires needs { Needs (V.code view.now) self.old.memory.now instr }
+        requires quiet { prints instr ≡ false }
+        requires no_control { is_control_form instr ≡ false }
+        requires no_place { is_place_form instr ≡ false }
+        requires no_cell { is_cell_form instr ≡ false }
+        requires no_choice { is_choice_form instr ≡ false }
+        requires no_call { is_call_form instr ≡ false }
+        requires no_read { is_read_form instr ≡ false }
+        requires no_link { is_link_form instr ≡ false }
+        requires few { self.old.choices + 1 < 2 ^ 63 }
+        requires lawful { length input.now ≤ input_limit }
+        ensures ok { IfOk result (λ answer. stepped answer [] (state_of self.new)
+            ≡ act (V.code view.now) input.now instr (state_of self.old)) }
+        ensures kept { IfOk result
+            (λ answer. KeepsOn answer (state_of self.old) (state_of self.new)) }
+        ensures quiet { IfOk result (λ answer. PrintsOnly answer []) }
+        ensures refused { OnErr result (state_of self.new ≡ state_of self.old) }
+    {
+        let (to, number) = self.computed(instr);
+        self.put(to, number)
     }
 }

@@ -41,7 +41,9 @@ impl Registers {
     ) -> Result<Option<RunFault>, NoMemory>
         requires has { HasArguments self.now.memory.now (H.head head.now).params first }
         requires empty { args.old.items ≡ [] }
-        ensures { IfOk result (λ fault. GivesArguments self.now.memory.now (H.head head.now).params first fault args.new.items) }
+        ensures { IfOk result
+            (λ fault. GivesArguments self.now.memory.now (H.head head.now).params first fault
+            args.new.items) }
     {
         for i in 0..head.param_count() {
             match self.argument(head.param(i), first + i) {
@@ -62,9 +64,12 @@ impl Registers {
         args: &[Cell],
     ) -> Result<Step, NoMemory>
         requires head { IsHead (H.head head.now) }
-        requires args { FitsParams (IsLive self.old.memory.now) (λ routine. IsLive self.old.memory.now) (H.head head.now).params args.now }
-        ensures ok { IfOk result (λ answer. stepped answer [] (state_of self.new) ≡ entered (state_of self.old) routine start (H.head head.now) args.now) }
-        ensures kept { IfOk result (λ answer. KeepsOn answer (state_of self.old) (state_of self.new)) }
+        requires args { FitsParams (IsLive self.old.memory.now)
+            (λ routine. IsLive self.old.memory.now) (H.head head.now).params args.now }
+        ensures ok { IfOk result (λ answer. stepped answer [] (state_of self.new)
+            ≡ entered (state_of self.old) routine start (H.head head.now) args.now) }
+        ensures kept { IfOk result
+            (λ answer. KeepsOn answer (state_of self.old) (state_of self.new)) }
         ensures refused { OnErr result (state_of self.new ≡ state_of self.old) }
     {
         match self.memory.enter(head, routine, self.at, args) {
@@ -88,9 +93,12 @@ impl Registers {
     ) -> Result<Step, NoMemory>
         requires head { IsHead (H.head head.now) }
         requires args { HasArguments self.old.memory.now (H.head head.now).params first }
-        ensures ok { let s = state_of self.old in IfOk result (λ answer. stepped answer [] (state_of self.new)
-            ≡ arguments (H.head head.now).params s first (λ args. entered s routine start (H.head head.now) args)) }
-        ensures kept { IfOk result (λ answer. KeepsOn answer (state_of self.old) (state_of self.new)) }
+        ensures ok { let s = state_of self.old in IfOk result
+            (λ answer. stepped answer [] (state_of self.new)
+            ≡ arguments (H.head head.now).params s first
+            (λ args. entered s routine start (H.head head.now) args)) }
+        ensures kept { IfOk result
+            (λ answer. KeepsOn answer (state_of self.old) (state_of self.new)) }
         ensures refused { OnErr result (state_of self.new ≡ state_of self.old) }
     {
         let mut args = Vec::new(self.alloc);
@@ -104,9 +112,12 @@ impl Registers {
     #[tactic(auto, using(crate::proofs::Given::returns))]
     pub(crate) fn leave(&mut self) -> Result<Step, NoMemory>
         requires { 1 ≤ length self.old.memory.now }
-        ensures ok { let s = state_of self.old in IfOk result (λ answer. stepped answer [] (state_of self.new)
-            ≡ if_true (nat_eq (length s.now) 1) (λ _. ended end.Succeeded s) (λ _. returned (left s))) }
-        ensures kept { IfOk result (λ answer. KeepsOn answer (state_of self.old) (state_of self.new)) }
+        ensures ok { let s = state_of self.old in IfOk result
+            (λ answer. stepped answer [] (state_of self.new)
+            ≡ if_true (nat_eq (length s.now) 1) (λ _. ended end.Succeeded s)
+            (λ _. returned (left s))) }
+        ensures kept { IfOk result
+            (λ answer. KeepsOn answer (state_of self.old) (state_of self.new)) }
         ensures refused { OnErr result (state_of self.new ≡ state_of self.old) }
     {
         if self.memory.frames() == 1 {
@@ -120,9 +131,12 @@ impl Registers {
     pub(crate) fn leave_with<V: CodeView>(&mut self, view: &V, value: u32) -> Result<Step, NoMemory>
         requires slot { HasNumber self.old.memory.now value }
         requires back { CallsBack (V.code view.now) self.old.memory.now }
-        ensures ok { let s = state_of self.old in IfOk result (λ answer. stepped answer [] (state_of self.new)
-            ≡ number s value (λ v. result_to (slice_get (V.code view.now).instrs ((last_frame s.now).back - 1)) (left s) v)) }
-        ensures kept { IfOk result (λ answer. KeepsOn answer (state_of self.old) (state_of self.new)) }
+        ensures ok { let s = state_of self.old in IfOk result
+            (λ answer. stepped answer [] (state_of self.new)
+            ≡ number s value (λ v. result_to (slice_get (V.code view.now).instrs ((last_frame
+            s.now).back - 1)) (left s) v)) }
+        ensures kept { IfOk result
+            (λ answer. KeepsOn answer (state_of self.old) (state_of self.new)) }
         ensures refused { OnErr result (state_of self.new ≡ state_of self.old) }
     {
         let number = self.number(value);
@@ -131,11 +145,18 @@ impl Registers {
 
     // Leaves the top frame and puts a number into the slot of the caller, or ends the run in its fault.
     #[tactic(auto, using(crate::proofs::Back::backs))]
-    fn give_back<V: CodeView>(&mut self, view: &V, number: Result<i64, RunFault>) -> Result<Step, NoMemory>
+    fn give_back<V: CodeView>(
+        &mut self,
+        view: &V,
+        number: Result<i64, RunFault>,
+    ) -> Result<Step, NoMemory>
         requires { CallsBack (V.code view.now) self.old.memory.now }
-        ensures ok { let s = state_of self.old in IfOk result (λ answer. stepped answer [] (state_of self.new)
-            ≡ back_or_fault (slice_get (V.code view.now).instrs ((last_frame s.now).back - 1)) s number) }
-        ensures kept { IfOk result (λ answer. KeepsOn answer (state_of self.old) (state_of self.new)) }
+        ensures ok { let s = state_of self.old in IfOk result
+            (λ answer. stepped answer [] (state_of self.new)
+            ≡ back_or_fault (slice_get (V.code view.now).instrs ((last_frame s.now).back - 1)) s
+            number) }
+        ensures kept { IfOk result
+            (λ answer. KeepsOn answer (state_of self.old) (state_of self.new)) }
         ensures refused { OnErr result (state_of self.new ≡ state_of self.old) }
     {
         let number = match number {

@@ -14,8 +14,10 @@ impl Registers {
     #[tactic(auto, using(crate::proofs::Words::store_is))]
     pub(crate) fn set(&mut self, frame: u32, slot: u32, number: i64) -> Result<Step, NoMemory>
         requires { HasNumberIn self.old.memory.now frame slot }
-        ensures ok { IfOk result (λ answer. stepped answer [] (state_of self.new) ≡ store (state_of self.old) frame slot number quiet_step) }
-        ensures kept { IfOk result (λ answer. KeepsOn answer (state_of self.old) (state_of self.new)) }
+        ensures ok { IfOk result (λ answer. stepped answer [] (state_of self.new)
+            ≡ store (state_of self.old) frame slot number quiet_step) }
+        ensures kept { IfOk result
+            (λ answer. KeepsOn answer (state_of self.old) (state_of self.new)) }
         ensures refused { OnErr result (state_of self.new ≡ state_of self.old) }
     {
         self.memory.write(frame, slot, Cell::Int(number))?;
@@ -28,8 +30,10 @@ impl Registers {
         requires to { HasOneCell self.old.memory.now to }
         requires from { HasNumber self.old.memory.now from }
         ensures ok { let s = state_of self.old in
-            IfOk result (λ answer. stepped answer [] (state_of self.new) ≡ place s to (λ p. number s from (λ v. store s p.frame p.slot v quiet_step))) }
-        ensures kept { IfOk result (λ answer. KeepsOn answer (state_of self.old) (state_of self.new)) }
+            IfOk result (λ answer. stepped answer [] (state_of self.new) ≡ place s to
+            (λ p. number s from (λ v. store s p.frame p.slot v quiet_step))) }
+        ensures kept { IfOk result
+            (λ answer. KeepsOn answer (state_of self.old) (state_of self.new)) }
         ensures refused { OnErr result (state_of self.new ≡ state_of self.old) }
     {
         let place = match self.place(to) {
@@ -46,20 +50,31 @@ impl Registers {
     #[tactic(auto, using(crate::proofs::Words::one_slot, std::proofs::lemmas::Grind::common_steps))]
     pub(crate) fn knows(&self, of: u32) -> Result<i64, RunFault>
         requires { HasOneCell self.now.memory.now of }
-        ensures { Gives self.now.memory.now (λ s k. place s of (λ p. content s p.frame p.slot (λ c. k (bit (is_known c))))) result }
+        ensures { Gives self.now.memory.now (λ s k. place s of (λ p. content s p.frame p.slot
+            (λ c. k (bit (is_known c))))) result }
     {
         let place = self.place(of)?;
-        Ok(if self.content(place.frame, place.slot).is_some() { 1 } else { 0 })
+        Ok(if self.content(place.frame, place.slot).is_some() {
+            1
+        } else {
+            0
+        })
     }
 
     /// The equation of the cell at a place and a number.
     #[tactic(auto, using(crate::proofs::Words::one_slot, crate::proofs::Words::tests, crate::proofs::Words::ranges, std::proofs::lemmas::Int::ints, std::proofs::lemmas::Grind::common_steps))]
-    pub(crate) fn bind_to(&mut self, place: CellPlace, range: &Range, number: i64) -> Result<Step, NoMemory>
+    pub(crate) fn bind_to(
+        &mut self,
+        place: CellPlace,
+        range: &Range,
+        number: i64,
+    ) -> Result<Step, NoMemory>
         requires { HasNumberIn self.old.memory.now place.frame place.slot }
         ensures ok { let s = state_of self.old in
             IfOk result (λ answer. stepped answer [] (state_of self.new)
             ≡ content s place.frame place.slot (λ u. bound s place range.now number u)) }
-        ensures kept { IfOk result (λ answer. KeepsOn answer (state_of self.old) (state_of self.new)) }
+        ensures kept { IfOk result
+            (λ answer. KeepsOn answer (state_of self.old) (state_of self.new)) }
         ensures refused { OnErr result (state_of self.new ≡ state_of self.old) }
     {
         match self.content(place.frame, place.slot) {
@@ -85,8 +100,10 @@ impl Registers {
         requires value { HasNumber self.old.memory.now value }
         ensures ok { let s = state_of self.old in
             IfOk result (λ answer. stepped answer [] (state_of self.new)
-            ≡ place s to (λ p. number s value (λ v. content s p.frame p.slot (λ u. bound s p range.now v u)))) }
-        ensures kept { IfOk result (λ answer. KeepsOn answer (state_of self.old) (state_of self.new)) }
+            ≡ place s to (λ p. number s value (λ v. content s p.frame p.slot
+            (λ u. bound s p range.now v u)))) }
+        ensures kept { IfOk result
+            (λ answer. KeepsOn answer (state_of self.old) (state_of self.new)) }
         ensures refused { OnErr result (state_of self.new ≡ state_of self.old) }
     {
         let place = match self.place(to) {

@@ -28,8 +28,10 @@ impl Registers {
     #[tactic(auto, using(crate::proofs::Held::put_marks))]
     pub(crate) fn set_mark(&mut self, to: u32) -> Result<Step, NoMemory>
         requires { HasMark self.old.memory.now to }
-        ensures ok { let s = state_of self.old in IfOk result (λ answer. stepped answer [] (state_of self.new) ≡ put_mark s to (length s.held)) }
-        ensures kept { IfOk result (λ answer. KeepsOn answer (state_of self.old) (state_of self.new)) }
+        ensures ok { let s = state_of self.old in IfOk result
+            (λ answer. stepped answer [] (state_of self.new) ≡ put_mark s to (length s.held)) }
+        ensures kept { IfOk result
+            (λ answer. KeepsOn answer (state_of self.old) (state_of self.new)) }
         ensures refused { OnErr result (state_of self.new ≡ state_of self.old) }
     {
         let height = self.memory.height();
@@ -40,9 +42,11 @@ impl Registers {
     pub(crate) fn choose(&mut self, kind: ChoiceKind, resume: u32) -> Result<Step, NoMemory>
         requires kind { kind ≢ ChoiceKind.Done }
         requires few { self.old.choices + 1 < 2 ^ 63 }
-        ensures ok { IfOk result (λ answer. stepped answer [] (state_of self.new) ≡ answer_of_push (pushed (state_of self.old) kind resume)) }
+        ensures ok { IfOk result (λ answer. stepped answer [] (state_of self.new)
+            ≡ answer_of_push (pushed (state_of self.old) kind resume)) }
         ensures succeeds { 1 ≤ self.old.memory.choice_room → IsOk result }
-        ensures kept { IfOk result (λ answer. KeepsOn answer (state_of self.old) (state_of self.new)) }
+        ensures kept { IfOk result
+            (λ answer. KeepsOn answer (state_of self.old) (state_of self.new)) }
         ensures refused { OnErr result (state_of self.new ≡ state_of self.old) }
     {
         self.memory.choose(kind, resume)?;
@@ -54,7 +58,8 @@ impl Registers {
     #[tactic(auto, using(crate::proofs::Held::cuts))]
     pub(crate) fn cut(&mut self, slot: u32) -> Step
         requires { HasMark self.old.memory.now slot }
-        ensures step { let s = state_of self.old in stepped result [] (state_of self.new) ≡ mark s slot (λ h. cut_to s h) }
+        ensures step { let s = state_of self.old in stepped result [] (state_of self.new)
+            ≡ mark s slot (λ h. cut_to s h) }
         ensures kept { KeepsOn result (state_of self.old) (state_of self.new) }
     {
         match self.mark(slot) {
@@ -94,9 +99,13 @@ impl Registers {
     pub(crate) fn forall(&mut self, slot: u32, resume: u32) -> Result<Step, NoMemory>
         requires mark { HasMark self.old.memory.now slot }
         requires few { self.old.choices + 1 < 2 ^ 63 }
-        ensures ok { let s = state_of self.old in IfOk result (λ answer. stepped answer [] (state_of self.new)
-            ≡ to_mark (kind_of s slot) s (λ _. answer_of_push (with_slot (pushed s choice.Forall resume) slot (cell.Mark (length s.held + 1))))) }
-        ensures kept { IfOk result (λ answer. KeepsOn answer (state_of self.old) (state_of self.new)) }
+        ensures ok { let s = state_of self.old in IfOk result
+            (λ answer. stepped answer [] (state_of self.new)
+            ≡ to_mark (kind_of s slot) s
+            (λ _. answer_of_push (with_slot (pushed s choice.Forall resume) slot (cell.Mark
+            (length s.held + 1))))) }
+        ensures kept { IfOk result
+            (λ answer. KeepsOn answer (state_of self.old) (state_of self.new)) }
         ensures refused { OnErr result (state_of self.new ≡ state_of self.old) }
     {
         self.memory.reserve(1, 1)?;
@@ -143,9 +152,11 @@ impl Registers {
     pub(crate) fn begin_body(&mut self, slot: u32, resume: u32) -> Result<Step, NoMemory>
         requires mark { HasMark self.old.memory.now slot }
         requires few { self.old.choices + 1 < 2 ^ 63 }
-        ensures ok { let s = state_of self.old in IfOk result (λ answer. stepped answer [] (state_of self.new)
+        ensures ok { let s = state_of self.old in IfOk result
+            (λ answer. stepped answer [] (state_of self.new)
             ≡ mark s slot (λ h. answer_of_push (pushed (overlay s h) choice.Body resume))) }
-        ensures kept { IfOk result (λ answer. KeepsOn answer (state_of self.old) (state_of self.new)) }
+        ensures kept { IfOk result
+            (λ answer. KeepsOn answer (state_of self.old) (state_of self.new)) }
         ensures refused { OnErr result (state_of self.new ≡ state_of self.old) }
     {
         match self.mark(slot) {
@@ -163,8 +174,10 @@ impl Registers {
     // Keeps the Body on top in the Forall at a height below it, where they are there.
     #[tactic(auto, using(crate::proofs::Held::keeps))]
     fn keep_at(&mut self, height: usize) -> Result<Step, NoMemory>
-        ensures ok { IfOk result (λ answer. stepped answer [] (state_of self.new) ≡ keep (state_of self.old) height) }
-        ensures kept { IfOk result (λ answer. KeepsOn answer (state_of self.old) (state_of self.new)) }
+        ensures ok { IfOk result (λ answer. stepped answer [] (state_of self.new)
+            ≡ keep (state_of self.old) height) }
+        ensures kept { IfOk result
+            (λ answer. KeepsOn answer (state_of self.old) (state_of self.new)) }
         ensures refused { OnErr result (state_of self.new ≡ state_of self.old) }
     {
         let top = self.memory.height();
@@ -181,8 +194,10 @@ impl Registers {
     /// Keeps the Body on top in the Forall whose height is in a slot.
     pub(crate) fn keep(&mut self, slot: u32) -> Result<Step, NoMemory>
         requires { HasMark self.old.memory.now slot }
-        ensures ok { let s = state_of self.old in IfOk result (λ answer. stepped answer [] (state_of self.new) ≡ mark s slot (λ h. keep s h)) }
-        ensures kept { IfOk result (λ answer. KeepsOn answer (state_of self.old) (state_of self.new)) }
+        ensures ok { let s = state_of self.old in IfOk result
+            (λ answer. stepped answer [] (state_of self.new) ≡ mark s slot (λ h. keep s h)) }
+        ensures kept { IfOk result
+            (λ answer. KeepsOn answer (state_of self.old) (state_of self.new)) }
         ensures refused { OnErr result (state_of self.new ≡ state_of self.old) }
     {
         match self.mark(slot) {
@@ -194,8 +209,10 @@ impl Registers {
     /// Drops the Done on top and lays its carry over the frames, where there is one.
     #[tactic(auto, using(crate::proofs::Held::finishes))]
     pub(crate) fn finish(&mut self) -> Result<Step, NoMemory>
-        ensures ok { IfOk result (λ answer. stepped answer [] (state_of self.new) ≡ finish (state_of self.old)) }
-        ensures kept { IfOk result (λ answer. KeepsOn answer (state_of self.old) (state_of self.new)) }
+        ensures ok { IfOk result (λ answer. stepped answer [] (state_of self.new)
+            ≡ finish (state_of self.old)) }
+        ensures kept { IfOk result
+            (λ answer. KeepsOn answer (state_of self.old) (state_of self.new)) }
         ensures refused { OnErr result (state_of self.new ≡ state_of self.old) }
     {
         if self.memory.kind_at(self.memory.height()) == Some(ChoiceKind::Done) {

@@ -4,6 +4,8 @@ ghost use Rattle.alma_code.specs.Plain.{PlainCode, start_at};
 
 use alma_base::Range;
 use alma_code::{Head, Instr};
+use alma_object::RoutineView;
+use alma_verify::Verified;
 
 /// A code that is read in parts.
 pub trait CodeView {
@@ -26,10 +28,46 @@ pub trait CodeView {
 
     /// The head of a routine.
     fn routine(&self, i: u32) -> Option<Self::Routine>
-        ensures { option_map Self.Routine.head result ≡ slice_get (map (λ r. r.head) (code self.now).routines) i };
+        ensures { option_map Self.Routine.head result ≡ slice_get (map
+            (λ r. r.head) (code self.now).routines) i };
 
     /// The address of the first instruction of a routine.
     fn start(&self, i: u32) -> u32
         requires { i < length (code self.now).routines }
         ensures { result ≡ start_at (code self.now) i };
+}
+
+impl<'b> CodeView for Verified<'b> {
+    ghost use Rattle.alma_verify.specs.Verified.{code_of_verified};
+
+    ghost code = { code_of_verified };
+
+    type Routine = RoutineView<'b>;
+
+    fn code_count(&self) -> u32 {
+        self.view().code_count()
+    }
+
+    fn instr(&self, at: u32) -> Instr {
+        self.view().instr(at)
+    }
+
+    fn range(&self, i: u32) -> Option<Range> {
+        self.view().range(i)
+    }
+
+    fn text(&self, i: u32) -> Option<&[u8]> {
+        self.view().text(i)
+    }
+
+    fn routine(&self, i: u32) -> Option<RoutineView<'b>> {
+        self.view().routine(i)
+    }
+
+    fn start(&self, i: u32) -> u32 {
+        match self.view().routine(i) {
+            Some(routine) => routine.code_start(),
+            None => unreachable!(),
+        }
+    }
 }

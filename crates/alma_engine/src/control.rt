@@ -17,7 +17,8 @@ impl Registers {
     pub(crate) fn jump_zero(&mut self, value: u32, to: u32) -> Step
         requires { HasNumber self.old.memory.now value }
         ensures step { let s = state_of self.old in
-            stepped result [] (state_of self.new) ≡ number s value (λ v. if_true (is_zero v) (λ _. goes_to to s) (λ _. quiet_step s)) }
+            stepped result [] (state_of self.new) ≡ number s value (λ v. if_true (is_zero v)
+            (λ _. goes_to to s) (λ _. quiet_step s)) }
         ensures kept { KeepsOn result (state_of self.old) (state_of self.new) }
     {
         match self.number(value) {
@@ -36,7 +37,8 @@ impl Registers {
     pub(crate) fn check(&mut self, value: u32) -> Step
         requires { HasNumber self.old.memory.now value }
         ensures step { let s = state_of self.old in
-            stepped result [] (state_of self.new) ≡ number s value (λ v. if_true (is_zero v) (λ _. fails_now s) (λ _. quiet_step s)) }
+            stepped result [] (state_of self.new) ≡ number s value (λ v. if_true (is_zero v)
+            (λ _. fails_now s) (λ _. quiet_step s)) }
         ensures kept { KeepsOn result (state_of self.old) (state_of self.new) }
     {
         match self.number(value) {
@@ -55,7 +57,8 @@ impl Registers {
     pub(crate) fn in_range(&mut self, value: u32, range: &Range) -> Step
         requires { HasNumber self.old.memory.now value }
         ensures step { let s = state_of self.old in
-            stepped result [] (state_of self.new) ≡ number s value (λ v. range_check range.now fault.Range s v (λ _. quiet_step s)) }
+            stepped result [] (state_of self.new) ≡ number s value
+            (λ v. range_check range.now fault.Range s v (λ _. quiet_step s)) }
         ensures kept { KeepsOn result (state_of self.old) (state_of self.new) }
     {
         match self.number_within(value, range, RunFault::Range) {
@@ -66,13 +69,21 @@ impl Registers {
 
     /// Counts a counter on, or goes to an address where the next number is beyond the limit.
     #[tactic(auto, using(std::proofs::lemmas::Int::ints, std::proofs::lemmas::Grind::common_steps))]
-    pub(crate) fn count(&mut self, counter: u32, limit: u32, by: u32, out: u32) -> Result<Step, NoMemory>
+    pub(crate) fn count(
+        &mut self,
+        counter: u32,
+        limit: u32,
+        by: u32,
+        out: u32,
+    ) -> Result<Step, NoMemory>
         requires counter { HasNumber self.old.memory.now counter }
         requires limit { HasNumber self.old.memory.now limit }
         requires by { HasNumber self.old.memory.now by }
         ensures ok { let s = state_of self.old in
-            IfOk result (λ answer. stepped answer [] (state_of self.new) ≡ counted s counter limit by (goes_to out s) (put_number s counter)) }
-        ensures kept { IfOk result (λ answer. KeepsOn answer (state_of self.old) (state_of self.new)) }
+            IfOk result (λ answer. stepped answer [] (state_of self.new)
+            ≡ counted s counter limit by (goes_to out s) (put_number s counter)) }
+        ensures kept { IfOk result
+            (λ answer. KeepsOn answer (state_of self.old) (state_of self.new)) }
         ensures refused { OnErr result (state_of self.new ≡ state_of self.old) }
     {
         match self.next(counter, limit, by) {

@@ -25,7 +25,8 @@ impl Registers {
     #[tactic(auto, using(crate::proofs::Words::store_is, crate::proofs::Words::ranges, crate::proofs::Stays::number_stays, std::proofs::lemmas::Int::ints, std::proofs::lemmas::Grind::common_steps))]
     fn give(&mut self, to: Spot, range: Option<Range>, known: Option<i64>) -> Result<Met, NoMemory>
         requires { HasNumberIn self.old.memory.now to.frame to.slot }
-        ensures ok { let s = state_of self.old in IfOk result (λ met. Meets met (λ k. given s to.frame to.slot range known k) (state_of self.new)) }
+        ensures ok { let s = state_of self.old in IfOk result (λ met. Meets met
+            (λ k. given s to.frame to.slot range known k) (state_of self.new)) }
         ensures kept { IfOk result (λ met. MeetsOn met (state_of self.old) (state_of self.new)) }
         ensures refused { OnErr result (state_of self.new ≡ state_of self.old) }
         ensures stays { KeepsNumbers self.old.memory.now self.new.memory.now }
@@ -58,7 +59,9 @@ impl Registers {
         requires left { HasNumberIn self.old.memory.now left.frame left.slot }
         requires right { HasNumberIn self.old.memory.now right.frame right.slot }
         ensures ok { let s = state_of self.old in
-            IfOk result (λ met. Meets met (λ k. equation_of_contents s left.frame left.slot left_range left_known right.frame right.slot right_range right_known k) (state_of self.new)) }
+            IfOk result (λ met. Meets met
+            (λ k. equation_of_contents s left.frame left.slot left_range left_known right.frame
+            right.slot right_range right_known k) (state_of self.new)) }
         ensures kept { IfOk result (λ met. MeetsOn met (state_of self.old) (state_of self.new)) }
         ensures refused { OnErr result (state_of self.new ≡ state_of self.old) }
         ensures stays { KeepsNumbers self.old.memory.now self.new.memory.now }
@@ -89,7 +92,9 @@ impl Registers {
         requires left { HasNumberIn self.old.memory.now left.frame left.slot }
         requires right { HasNumberIn self.old.memory.now right.frame right.slot }
         ensures ok { let s = state_of self.old in
-            IfOk result (λ met. Meets met (λ k. equation s left.frame left.slot left_range right.frame right.slot right_range k) (state_of self.new)) }
+            IfOk result (λ met. Meets met
+            (λ k. equation s left.frame left.slot left_range right.frame right.slot right_range
+            k) (state_of self.new)) }
         ensures kept { IfOk result (λ met. MeetsOn met (state_of self.old) (state_of self.new)) }
         ensures refused { OnErr result (state_of self.new ≡ state_of self.old) }
         ensures stays { KeepsNumbers self.old.memory.now self.new.memory.now }
@@ -98,7 +103,14 @@ impl Registers {
     {
         let left_known = self.content(left.frame, left.slot);
         let right_known = self.content(right.frame, right.slot);
-        self.settle(left, left_range, left_known, right, right_range, right_known)
+        self.settle(
+            left,
+            left_range,
+            left_known,
+            right,
+            right_range,
+            right_known,
+        )
     }
 
     /// The equation of the cells at the places in two slots.
@@ -112,9 +124,13 @@ impl Registers {
     ) -> Result<Step, NoMemory>
         requires left { HasOneCell self.old.memory.now left }
         requires right { HasOneCell self.old.memory.now right }
-        ensures ok { let s = state_of self.old in IfOk result (λ answer. stepped answer [] (state_of self.new)
-            ≡ place s left (λ p. place s right (λ q. equation s p.frame p.slot (Some left_range) q.frame q.slot (Some right_range) quiet_step))) }
-        ensures kept { IfOk result (λ answer. KeepsOn answer (state_of self.old) (state_of self.new)) }
+        ensures ok { let s = state_of self.old in IfOk result
+            (λ answer. stepped answer [] (state_of self.new)
+            ≡ place s left (λ p. place s right
+            (λ q. equation s p.frame p.slot (Some left_range) q.frame q.slot (Some right_range)
+            quiet_step))) }
+        ensures kept { IfOk result
+            (λ answer. KeepsOn answer (state_of self.old) (state_of self.new)) }
         ensures refused { OnErr result (state_of self.new ≡ state_of self.old) }
     {
         let left = match self.place(left) {
@@ -145,7 +161,8 @@ impl Registers {
         requires left { AreNumbers self.old.memory.now left.frame left.slot count }
         requires right { AreNumbers self.old.memory.now right.frame right.slot count }
         requires room { count ≤ self.old.memory.trail_room }
-        ensures step { stepped result [] (state_of self.new) ≡ equations count (state_of self.old) left.frame left.slot right.frame right.slot }
+        ensures step { stepped result [] (state_of self.new)
+            ≡ equations count (state_of self.old) left.frame left.slot right.frame right.slot }
         ensures kept { KeepsOn result (state_of self.old) (state_of self.new) }
     {
         for k in 0..count {
@@ -172,9 +189,12 @@ impl Registers {
         requires left { HasCells self.old.memory.now left }
         requires right { HasCells self.old.memory.now right }
         requires alike { width self.old.memory.now left ≡ width self.old.memory.now right }
-        ensures ok { let s = state_of self.old in IfOk result (λ answer. stepped answer [] (state_of self.new)
-            ≡ place s left (λ p. place s right (λ q. equations p.len s p.frame p.slot q.frame q.slot))) }
-        ensures kept { IfOk result (λ answer. KeepsOn answer (state_of self.old) (state_of self.new)) }
+        ensures ok { let s = state_of self.old in IfOk result
+            (λ answer. stepped answer [] (state_of self.new)
+            ≡ place s left (λ p. place s right
+            (λ q. equations p.len s p.frame p.slot q.frame q.slot))) }
+        ensures kept { IfOk result
+            (λ answer. KeepsOn answer (state_of self.old) (state_of self.new)) }
         ensures refused { OnErr result (state_of self.new ≡ state_of self.old) }
     {
         let left = match self.place(left) {

@@ -28,7 +28,8 @@ fn find_number(input: &[u8], from: usize) -> ReadInt
 #[tactic(auto, using(crate::proofs::Reading::byte_read))]
 fn find_char(input: &[u8], from: usize) -> ReadInt
     requires { length input.now ≤ input_limit }
-    ensures found { (s : State) (r : Range) (p : CellPlace) → byte_or_failure s r p from (slice_get input.now from) ≡ found s r p result }
+    ensures found { (s : State) (r : Range) (p : CellPlace)
+        → byte_or_failure s r p from (slice_get input.now from) ≡ found s r p result }
     ensures below { IsBelow result }
 {
     match input.get(from) {
@@ -42,7 +43,8 @@ impl Registers {
     #[tactic(auto, using(crate::proofs::Reading::positions))]
     fn position(&self) -> usize
         requires { HasPosition self.now.memory.now }
-        ensures { (s : State) (k : ℕ → Stepped) → s.now ≡ self.now.memory.now → position s k ≡ k result }
+        ensures { (s : State) (k : ℕ → Stepped) → s.now ≡ self.now.memory.now → position s k
+            ≡ k result }
     {
         match self.memory.read(0, 0) {
             Cell::Int(place) => place.unsigned_abs() as usize,
@@ -56,8 +58,10 @@ impl Registers {
         requires below { IsBelow read }
         requires position { HasNumberIn self.old.memory.now 0 0 }
         requires place { HasNumberIn self.old.memory.now place.frame place.slot }
-        ensures ok { IfOk result (λ answer. stepped answer [] (state_of self.new) ≡ found (state_of self.old) range.now place read) }
-        ensures kept { IfOk result (λ answer. KeepsOn answer (state_of self.old) (state_of self.new)) }
+        ensures ok { IfOk result (λ answer. stepped answer [] (state_of self.new)
+            ≡ found (state_of self.old) range.now place read) }
+        ensures kept { IfOk result
+            (λ answer. KeepsOn answer (state_of self.old) (state_of self.new)) }
         ensures refused { OnErr result (state_of self.new ≡ state_of self.old) }
     {
         match read {
@@ -72,7 +76,10 @@ impl Registers {
                     Ok(()) => (),
                     Err(_) => unreachable!(),
                 }
-                match self.memory.write(place.frame, place.slot, Cell::Int(number)) {
+                match self
+                    .memory
+                    .write(place.frame, place.slot, Cell::Int(number))
+                {
                     Ok(()) => Ok(Step::Went),
                     Err(_) => unreachable!(),
                 }
@@ -82,13 +89,20 @@ impl Registers {
 
     /// Reads a number into the cell at the place in a slot.
     #[tactic(auto, using(crate::proofs::Words::one_slot, crate::proofs::Reading::position_slot, std::proofs::lemmas::Grind::common_steps))]
-    pub(crate) fn read_number(&mut self, input: &[u8], to: u32, range: &Range) -> Result<Step, NoMemory>
+    pub(crate) fn read_number(
+        &mut self,
+        input: &[u8],
+        to: u32,
+        range: &Range,
+    ) -> Result<Step, NoMemory>
         requires lawful { length input.now ≤ input_limit }
         requires position { HasPosition self.old.memory.now }
         requires to { HasOneCell self.old.memory.now to }
-        ensures ok { let s = state_of self.old in IfOk result (λ answer. stepped answer [] (state_of self.new)
+        ensures ok { let s = state_of self.old in IfOk result
+            (λ answer. stepped answer [] (state_of self.new)
             ≡ place s to (λ p. position s (λ n. found s range.now p (number_from input.now n)))) }
-        ensures kept { IfOk result (λ answer. KeepsOn answer (state_of self.old) (state_of self.new)) }
+        ensures kept { IfOk result
+            (λ answer. KeepsOn answer (state_of self.old) (state_of self.new)) }
         ensures refused { OnErr result (state_of self.new ≡ state_of self.old) }
     {
         match self.place(to) {
@@ -102,13 +116,21 @@ impl Registers {
 
     /// Reads a byte into the cell at the place in a slot.
     #[tactic(auto, using(crate::proofs::Words::one_slot, crate::proofs::Reading::position_slot))]
-    pub(crate) fn read_char(&mut self, input: &[u8], to: u32, range: &Range) -> Result<Step, NoMemory>
+    pub(crate) fn read_char(
+        &mut self,
+        input: &[u8],
+        to: u32,
+        range: &Range,
+    ) -> Result<Step, NoMemory>
         requires lawful { length input.now ≤ input_limit }
         requires position { HasPosition self.old.memory.now }
         requires to { HasOneCell self.old.memory.now to }
-        ensures ok { let s = state_of self.old in IfOk result (λ answer. stepped answer [] (state_of self.new)
-            ≡ place s to (λ p. position s (λ n. byte_or_failure s range.now p n (slice_get input.now n)))) }
-        ensures kept { IfOk result (λ answer. KeepsOn answer (state_of self.old) (state_of self.new)) }
+        ensures ok { let s = state_of self.old in IfOk result
+            (λ answer. stepped answer [] (state_of self.new)
+            ≡ place s to (λ p. position s
+            (λ n. byte_or_failure s range.now p n (slice_get input.now n)))) }
+        ensures kept { IfOk result
+            (λ answer. KeepsOn answer (state_of self.old) (state_of self.new)) }
         ensures refused { OnErr result (state_of self.new ≡ state_of self.old) }
     {
         match self.place(to) {

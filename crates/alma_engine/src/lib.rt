@@ -7,6 +7,7 @@ mod cells;
 mod choices;
 mod codes;
 mod control;
+mod copies;
 mod equations;
 mod input;
 mod links;

@@ -38,10 +38,16 @@ impl Registers {
 
     /// Puts a link to a frame into a slot, or ends the run in its fault.
     #[tactic(auto, using(crate::proofs::Held::put_links))]
-    pub(crate) fn put_link(&mut self, to: u32, frame: Result<u32, RunFault>) -> Result<Step, NoMemory>
+    pub(crate) fn put_link(
+        &mut self,
+        to: u32,
+        frame: Result<u32, RunFault>,
+    ) -> Result<Step, NoMemory>
         requires { HasLinkTo self.old.memory.now to }
-        ensures ok { IfOk result (λ answer. stepped answer [] (state_of self.new) ≡ link_or_fault (state_of self.old) to frame) }
-        ensures kept { IfOk result (λ answer. KeepsOn answer (state_of self.old) (state_of self.new)) }
+        ensures ok { IfOk result (λ answer. stepped answer [] (state_of self.new)
+            ≡ link_or_fault (state_of self.old) to frame) }
+        ensures kept { IfOk result
+            (λ answer. KeepsOn answer (state_of self.old) (state_of self.new)) }
         ensures refused { OnErr result (state_of self.new ≡ state_of self.old) }
     {
         match frame {
@@ -62,7 +68,8 @@ impl Registers {
         requires of { HasLink self.now.memory.now of }
         requires leads { LeadsTo self.now.memory.now of slot }
         ensures { (to : ℕ) (s : State) → s.now ≡ self.now.memory.now
-            → link s of (λ f. as_place (slot_in s f slot) s (λ p. put_link s to p.frame)) ≡ link_or_fault s to result }
+            → link s of (λ f. as_place (slot_in s f slot) s (λ p. put_link s to p.frame))
+            ≡ link_or_fault s to result }
     {
         let frame = self.link(of)?;
         let place = self.held(frame, slot)?;
@@ -84,7 +91,8 @@ impl Registers {
         requires of { HasLink self.now.memory.now of }
         requires leads { LeadsTo self.now.memory.now of slot }
         ensures { (to : ℕ) (s : State) → s.now ≡ self.now.memory.now
-            → link s of (λ f. as_place (slot_in s f slot) s (λ p. put_place s to p.frame (λ _. p.slot))) ≡ point_or_fault s to result }
+            → link s of (λ f. as_place (slot_in s f slot) s (λ p. put_place s to p.frame
+            (λ _. p.slot))) ≡ point_or_fault s to result }
     {
         let frame = self.link(of)?;
         let place = self.held(frame, slot)?;

@@ -3,8 +3,9 @@ ghost use Rattle.std.specs.Prelude.{◌≡◌, ◌+◌, ◌^◌, ◌<◌, ◌≤
 ghost use Rattle.alma_base.specs.Limits.{input_limit};
 ghost use Rattle.alma_code.specs.Layout.{start_frame};
 ghost use Rattle.alma_code.specs.Plain.{head_at};
+ghost use Rattle.alma_object.specs.View.{code_of_view, head_of_view};
+ghost use Rattle.alma_verify.specs.Verified.{code_of_verified};
 ghost use Rattle.alma_code.specs.Rules.{IsSound};
-ghost use Rattle.alma_engine.specs.Needs.{HasOnlyBuilt};
 ghost use Rattle.alma_code.specs.Machine.{Going, step, start, after, prints};
 ghost use Rattle.alma_engine.specs.Rows.{state_of};
 ghost use Rattle.alma_engine.specs.View.{stepped, runs_after, ModeAfter, PrintsOnly};
@@ -20,6 +21,8 @@ use alma_base::{NoMemory, RunFault};
 use alma_code::{End, Step};
 use alma_io::{Sink, write_all};
 use alma_memory::Memory;
+use alma_object::{ObjectView, RoutineView};
+use alma_verify::Verified;
 use std::alloc::Global;
 use std::marker::Model;
 
@@ -60,13 +63,15 @@ fn take<V: CodeView>(
     requires few { registers.old.steps + 1 < 2 ^ 63 }
     requires lawful { length input.now ≤ input_limit }
     requires empty { printed.old.items ≡ [] }
-    ensures step { IfOk result (λ answer. stepped answer printed.new.items (state_of registers.new) ≡ step (V.code view.now) input.now (state_of registers.old)) }
+    ensures step { IfOk result (λ answer. stepped answer printed.new.items (state_of registers.new)
+        ≡ step (V.code view.now) input.now (state_of registers.old)) }
     ensures quiet { IfOk result (λ answer. PrintsOnly answer printed.new.items) }
     ensures counted { OnOk result (registers.new.steps ≡ registers.old.steps + 1) }
     ensures mode { IfOk result (λ answer. ModeAfter answer (state_of registers.new).mode) }
     ensures choices { OnOk result (registers.new.choices ≤ registers.old.choices + 1) }
     ensures fails { OnOk result (registers.new.fails ≤ registers.old.fails + 1) }
-    ensures refused { OnErr result ((state_of registers.new ≡ state_of registers.old) × (printed.new.items ≡ [])) }
+    ensures refused { OnErr result ((state_of registers.new ≡ state_of registers.old)
+        × (printed.new.items ≡ [])) }
 {
     let _count = view.code_count();
     let instr = view.instr(registers.at);
@@ -94,13 +99,15 @@ pub(crate) fn advance<V: CodeView>(
     requires keeps { Stands (V.code view.now) (state_of registers.old) }
     requires few { registers.old.steps + 1 < 2 ^ 63 }
     requires lawful { length input.now ≤ input_limit }
-    ensures step { IfOk result (λ answer. stepped answer printed.new.items (state_of registers.new) ≡ step (V.code view.now) input.now (state_of registers.old)) }
+    ensures step { IfOk result (λ answer. stepped answer printed.new.items (state_of registers.new)
+        ≡ step (V.code view.now) input.now (state_of registers.old)) }
     ensures quiet { IfOk result (λ answer. PrintsOnly answer printed.new.items) }
     ensures counted { OnOk result (registers.new.steps ≡ registers.old.steps + 1) }
     ensures mode { IfOk result (λ answer. ModeAfter answer (state_of registers.new).mode) }
     ensures choices { OnOk result (registers.new.choices ≤ registers.old.choices + 1) }
     ensures fails { OnOk result (registers.new.fails ≤ registers.old.fails + 1) }
-    ensures refused { OnErr result ((state_of registers.new ≡ state_of registers.old) × (printed.new.items ≡ [])) }
+    ensures refused { OnErr result ((state_of registers.new ≡ state_of registers.old)
+        × (printed.new.items ≡ [])) }
 {
     printed.clear();
     match registers.mode {
@@ -123,41 +130,107 @@ fn goes_on(step: &Result<Step, NoMemory>) -> bool
     }
 }
 
-/// A run of a code on an input.
+/// A run of the code of a verified object on an input. It lends both.
 #[derive(Drop)]
-pub struct Machine<'v, 'i, V: CodeView> {
-    view: &'v V,
+pub struct Machine<'b, 'i> {
+    code: Verified<'b>,
     input: &'i [u8],
     registers: Registers,
     running: bool,
     printed: Vec<u8>,
 }
 
-impl<'v, 'i, V: CodeView> Model for Machine<'v, 'i, V> {
+impl<'b, 'i> Model for Machine<'b, 'i> {
     ghost use Rattle.std.specs.Prelude.{◌≡◌, ◌≤◌, true, length};
     ghost use Rattle.alma_engine.specs.View.{MachineView};
 
     ghost Value = { MachineView };
 
+    ghost use Rattle.alma_base.specs.Limits.{input_limit};
     ghost use Rattle.alma_engine.specs.Rows.{state_of};
     ghost use Rattle.alma_engine.specs.Stands.{Stands};
+    ghost use Rattle.alma_verify.specs.Verified.{code_of_verified};
 
-    ghost view = { λ m. record { code = V.code m.view.now; input = m.input.now; state = state_of m.registers; running = m.running; printed = m.printed.items } };
+    ghost view = { λ m. record {
+      code = code_of_verified m.code;
+      input = m.input.now;
+      state = state_of m.registers;
+      running = m.running;
+      printed = m.printed.items;
+    } };
 
-    ghost invariant = { λ m. (length m.input.now ≤ input_limit) × (m.running ≡ true → Stands (V.code m.view.now) (state_of m.registers)) };
+    ghost invariant = { λ m. (length m.input.now ≤ input_limit)
+        × (m.running ≡ true → Stands (code_of_verified m.code) (state_of m.registers)) };
 }
 
-impl<'v, 'i, V: CodeView> Machine<'v, 'i, V> {
-    /// A machine at the start of a code, over a memory with the frame of its module body alone. The input has at most 16,777,216 bytes.
+// The head of the module body.
+fn main_head<'b>(code: &Verified<'b>) -> RoutineView<'b>
+    ensures { head_of_view result ≡ head_at (code_of_verified code.now) 0 }
+{
+    code.keeps_sound();
+    match code.routine(0) {
+        Some(head) => head,
+        None => unreachable!(),
+    }
+}
+
+// A memory with the frame of the module body alone.
+fn first_memory<'b>(
+    alloc: Global,
+    code: &Verified<'b>,
+    head: &RoutineView<'b>,
+) -> Result<Memory, NoMemory>
+    requires { head_of_view head.now ≡ head_at (code_of_verified code.now) 0 }
+    ensures now { IfOk result (λ memory.
+        memory.now ≡ start_frame (head_at (code_of_verified code.now) 0) ∷ []) }
+    ensures held { IfOk result (λ memory. memory.held ≡ []) }
+{
+    code.keeps_sound();
+    Memory::new(alloc, head)
+}
+
+impl<'b, 'i> Machine<'b, 'i> {
+    /// A machine at the start of a code. The input has at most 16,777,216 bytes.
+    pub fn new(
+        alloc: Global,
+        code: Verified<'b>,
+        input: &'i [u8],
+    ) -> Result<Machine<'b, 'i>, NoMemory>
+        requires lawful { length input.now ≤ input_limit }
+        ensures { IfOk result (λ machine. machine ≡ record {
+          code = code_of_verified code.entry;
+          input = input.now;
+          state = start (code_of_verified code.entry);
+          running = true;
+          printed = [];
+        }) }
+    {
+        let head = main_head(&code);
+        let memory = first_memory(alloc, &code, &head)?;
+        Ok(Machine::over(alloc, code, input, memory))
+    }
+
+    /// A machine at the start of a code, over a memory with the frame of its module body alone.
+    /// The input has at most 16,777,216 bytes.
     #[tactic(auto, using(crate::proofs::Stepping::firsts))]
-    pub fn over(alloc: Global, view: &'v V, memory: Memory, input: &'i [u8]) -> Machine<'v, 'i, V>
-        requires sound { IsSound (V.code view.now) }
-        requires built { HasOnlyBuilt (V.code view.now) }
-        requires now { memory.now ≡ start_frame (head_at (V.code view.now) 0) ∷ [] }
+    pub fn over(
+        alloc: Global,
+        code: Verified<'b>,
+        input: &'i [u8],
+        memory: Memory,
+    ) -> Machine<'b, 'i>
+        requires now { memory.now ≡ start_frame (head_at (code_of_verified code) 0) ∷ [] }
         requires held { memory.held ≡ [] }
         requires lawful { length input.now ≤ input_limit }
-        ensures { result ≡ record { code = V.code view.now; input = input.now; state = start (V.code view.now); running = true; printed = [] } }
+        ensures { result ≡ record {
+          code = code_of_verified code.entry;
+          input = input.now;
+          state = start (code_of_verified code.entry);
+          running = true;
+          printed = [];
+        } }
     {
+        code.keeps_sound();
         let registers = Registers {
             alloc,
             at: 0,
@@ -169,7 +242,7 @@ impl<'v, 'i, V: CodeView> Machine<'v, 'i, V> {
             fails: 0,
         };
         Machine {
-            view,
+            code,
             input,
             registers,
             running: true,
@@ -189,15 +262,22 @@ impl<'v, 'i, V: CodeView> Machine<'v, 'i, V> {
     pub fn step(&mut self) -> Result<Step, NoMemory>
         requires running { IsTrue self.old.running }
         requires few { self.old.state.steps + 1 < 2 ^ 63 }
-        ensures step { IfOk result (λ answer. stepped answer self.new.printed self.new.state ≡ step self.old.code self.old.input self.old.state) }
+        ensures step { IfOk result (λ answer. stepped answer self.new.printed self.new.state
+            ≡ step self.old.code self.old.input self.old.state) }
         ensures quiet { IfOk result (λ answer. PrintsOnly answer self.new.printed) }
         ensures mode { IfOk result (λ answer. ModeAfter answer self.new.state.mode) }
         ensures counted { OnOk result (self.new.state.steps ≡ self.old.state.steps + 1) }
-        ensures refused { OnErr result ((self.new.state ≡ self.old.state) × (self.new.printed ≡ [])) }
+        ensures refused { OnErr result ((self.new.state ≡ self.old.state) × (self.new.printed
+            ≡ [])) }
         ensures running { self.new.running ≡ runs_after result }
         ensures same { (self.new.code ≡ self.old.code) × (self.new.input ≡ self.old.input) }
     {
-        let step = advance(self.view, self.input, &mut self.registers, &mut self.printed);
+        let step = advance(
+            &self.code,
+            self.input,
+            &mut self.registers,
+            &mut self.printed,
+        );
         self.running = goes_on(&step);
         step
     }
@@ -207,6 +287,21 @@ impl<'v, 'i, V: CodeView> Machine<'v, 'i, V> {
         ensures { result.now ≡ self.now.printed }
     {
         &self.printed
+    }
+
+    /// The memory: the live frames and the choice entries.
+    pub fn memory(&self) -> &Memory
+        ensures now { result.now.now ≡ self.now.state.now }
+        ensures held { result.now.held ≡ self.now.state.held }
+    {
+        &self.registers.memory
+    }
+
+    /// The object whose code runs.
+    pub fn view(&self) -> &ObjectView<'b>
+        ensures { code_of_view result.now ≡ self.now.code }
+    {
+        self.code.view()
     }
 
     /// The address of the last instruction taken.
@@ -243,19 +338,25 @@ impl<'v, 'i, V: CodeView> Machine<'v, 'i, V> {
         requires few { self.old.state.steps + budget < 2 ^ 63 }
 
         // Without a fault of the sink and a want of memory: what the copying code machine does in so many steps.
-        ensures answer { OnWhole result (result ≡ run_end_of (after self.old.code self.old.input budget self.old.state).mode) }
-        ensures state { OnWhole result (self.new.state ≡ after self.old.code self.old.input budget self.old.state) }
+        ensures answer { OnWhole result (result
+            ≡ run_end_of (after self.old.code self.old.input budget self.old.state).mode) }
+        ensures state { OnWhole result (self.new.state
+            ≡ after self.old.code self.old.input budget self.old.state) }
         ensures out { OnWhole result
-            (Appends (K.written out.old) (K.written out.new) (prints self.old.code self.old.input budget self.old.state)) }
+            (Appends (K.written out.old) (K.written out.new) (prints self.old.code self.old.input
+            budget self.old.state)) }
 
         // In each case: what it does in the steps that were made.
         ensures few { self.new.state.steps ≤ self.old.state.steps + budget }
-        ensures made { self.new.state ≡ after self.old.code self.old.input (made self.old self.new) self.old.state }
+        ensures made { self.new.state
+            ≡ after self.old.code self.old.input (made self.old self.new) self.old.state }
         ensures steps_out { OnStepsOut result (made self.old self.new ≡ budget) }
         ensures memory { OnMemory result
-            (Appends (K.written out.old) (K.written out.new) (prints self.old.code self.old.input (made self.old self.new) self.old.state)) }
+            (Appends (K.written out.old) (K.written out.new) (prints self.old.code self.old.input
+            (made self.old self.new) self.old.state)) }
         ensures write_fault { OnWriteFault result
-            (AppendsFront (K.written out.old) (K.written out.new) (prints self.old.code self.old.input (made self.old self.new) self.old.state)) }
+            (AppendsFront (K.written out.old) (K.written out.new) (prints self.old.code
+            self.old.input (made self.old self.new) self.old.state)) }
         ensures cause { HasCause (K.faults out.old) (K.faults out.new) (all_written result) }
         ensures running { self.new.running ≡ is_steps_out result }
         ensures same { (self.new.code ≡ self.old.code) × (self.new.input ≡ self.old.input) }

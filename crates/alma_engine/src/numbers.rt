@@ -13,7 +13,8 @@ use alma_code::{Cell, CellPlace};
 // The sum of a counter and its step, or none where that is beyond the limit.
 #[tactic(auto, using(crate::proofs::Words::limits, std::proofs::lemmas::Int::ints, std::proofs::lemmas::Grind::common_steps))]
 fn next_within(counter: i64, limit: i64, by: i64) -> Option<i64>
-    ensures { MatchOption result (is_beyond (counter +ℤ by) limit by ≡ true) (λ next. (next ≡ counter +ℤ by) × (is_beyond (counter +ℤ by) limit by ≡ false)) }
+    ensures { MatchOption result (is_beyond (counter +ℤ by) limit by ≡ true) (λ next. (next
+        ≡ counter +ℤ by) × (is_beyond (counter +ℤ by) limit by ≡ false)) }
 {
     let next = counter.checked_add(by)?;
     let is_beyond = if by < 0 { next < limit } else { limit < next };
@@ -52,7 +53,8 @@ impl Registers {
     pub(crate) fn sum(&self, left: u32, right: u32) -> Result<i64, RunFault>
         requires left { HasNumber self.now.memory.now left }
         requires right { HasNumber self.now.memory.now right }
-        ensures { Gives self.now.memory.now (λ s k. number s left (λ x. number s right (λ y. integer_result s (x +ℤ y) k))) result }
+        ensures { Gives self.now.memory.now (λ s k. number s left (λ x. number s right
+            (λ y. integer_result s (x +ℤ y) k))) result }
     {
         let x = self.number(left)?;
         let y = self.number(right)?;
@@ -64,7 +66,8 @@ impl Registers {
     pub(crate) fn difference(&self, left: u32, right: u32) -> Result<i64, RunFault>
         requires left { HasNumber self.now.memory.now left }
         requires right { HasNumber self.now.memory.now right }
-        ensures { Gives self.now.memory.now (λ s k. number s left (λ x. number s right (λ y. integer_result s (x -ℤ y) k))) result }
+        ensures { Gives self.now.memory.now (λ s k. number s left (λ x. number s right
+            (λ y. integer_result s (x -ℤ y) k))) result }
     {
         let x = self.number(left)?;
         let y = self.number(right)?;
@@ -76,7 +79,8 @@ impl Registers {
     pub(crate) fn product(&self, left: u32, right: u32) -> Result<i64, RunFault>
         requires left { HasNumber self.now.memory.now left }
         requires right { HasNumber self.now.memory.now right }
-        ensures { Gives self.now.memory.now (λ s k. number s left (λ x. number s right (λ y. integer_result s (x *ℤ y) k))) result }
+        ensures { Gives self.now.memory.now (λ s k. number s left (λ x. number s right
+            (λ y. integer_result s (x *ℤ y) k))) result }
     {
         let x = self.number(left)?;
         let y = self.number(right)?;
@@ -88,7 +92,9 @@ impl Registers {
     pub(crate) fn quotient(&self, left: u32, right: u32) -> Result<i64, RunFault>
         requires left { HasNumber self.now.memory.now left }
         requires right { HasNumber self.now.memory.now right }
-        ensures { Gives self.now.memory.now (λ s k. number s left (λ x. number s right (λ y. if_true (is_zero y) (λ _. ends_in_fault fault.ZeroDivide s) (λ _. integer_result s (div_down_of x y) k)))) result }
+        ensures { Gives self.now.memory.now (λ s k. number s left (λ x. number s right
+            (λ y. if_true (is_zero y) (λ _. ends_in_fault fault.ZeroDivide s)
+            (λ _. integer_result s (div_down_of x y) k)))) result }
     {
         let x = self.number(left)?;
         let y = self.number(right)?;
@@ -103,7 +109,9 @@ impl Registers {
     pub(crate) fn rest(&self, left: u32, right: u32) -> Result<i64, RunFault>
         requires left { HasNumber self.now.memory.now left }
         requires right { HasNumber self.now.memory.now right }
-        ensures { Gives self.now.memory.now (λ s k. number s left (λ x. number s right (λ y. if_true (is_zero y) (λ _. ends_in_fault fault.ZeroDivide s) (λ _. integer_result s (mod_down_of x y) k)))) result }
+        ensures { Gives self.now.memory.now (λ s k. number s left (λ x. number s right
+            (λ y. if_true (is_zero y) (λ _. ends_in_fault fault.ZeroDivide s)
+            (λ _. integer_result s (mod_down_of x y) k)))) result }
     {
         let x = self.number(left)?;
         let y = self.number(right)?;
@@ -117,7 +125,8 @@ impl Registers {
     #[tactic(auto, using(std::proofs::lemmas::Int::ints, std::proofs::lemmas::Grind::common_steps))]
     pub(crate) fn negated(&self, from: u32) -> Result<i64, RunFault>
         requires { HasNumber self.now.memory.now from }
-        ensures { Gives self.now.memory.now (λ s k. number s from (λ x. integer_result s (neg_ℤ x) k)) result }
+        ensures { Gives self.now.memory.now (λ s k. number s from
+            (λ x. integer_result s (neg_ℤ x) k)) result }
     {
         let x = self.number(from)?;
         x.checked_neg().ok_or(RunFault::Overflow)
@@ -127,7 +136,8 @@ impl Registers {
     #[tactic(auto, using(crate::proofs::Words::tests, std::proofs::lemmas::Int::ints, std::proofs::lemmas::Grind::common_steps))]
     pub(crate) fn flipped(&self, from: u32) -> Result<i64, RunFault>
         requires { HasNumber self.now.memory.now from }
-        ensures { Gives self.now.memory.now (λ s k. number s from (λ x. k (bit (is_zero x)))) result }
+        ensures { Gives self.now.memory.now (λ s k. number s from
+            (λ x. k (bit (is_zero x)))) result }
     {
         let x = self.number(from)?;
         Ok(if x == 0 { 1 } else { 0 })
@@ -138,7 +148,8 @@ impl Registers {
     pub(crate) fn equal(&self, left: u32, right: u32) -> Result<i64, RunFault>
         requires left { HasNumber self.now.memory.now left }
         requires right { HasNumber self.now.memory.now right }
-        ensures { Gives self.now.memory.now (λ s k. number s left (λ x. number s right (λ y. k (bit (int_eq x y))))) result }
+        ensures { Gives self.now.memory.now (λ s k. number s left (λ x. number s right
+            (λ y. k (bit (int_eq x y))))) result }
     {
         let x = self.number(left)?;
         let y = self.number(right)?;
@@ -150,7 +161,8 @@ impl Registers {
     pub(crate) fn less(&self, left: u32, right: u32) -> Result<i64, RunFault>
         requires left { HasNumber self.now.memory.now left }
         requires right { HasNumber self.now.memory.now right }
-        ensures { Gives self.now.memory.now (λ s k. number s left (λ x. number s right (λ y. k (bit (int_lt x y))))) result }
+        ensures { Gives self.now.memory.now (λ s k. number s left (λ x. number s right
+            (λ y. k (bit (int_lt x y))))) result }
     {
         let x = self.number(left)?;
         let y = self.number(right)?;
@@ -162,7 +174,8 @@ impl Registers {
     pub(crate) fn at_most(&self, left: u32, right: u32) -> Result<i64, RunFault>
         requires left { HasNumber self.now.memory.now left }
         requires right { HasNumber self.now.memory.now right }
-        ensures { Gives self.now.memory.now (λ s k. number s left (λ x. number s right (λ y. k (bit (int_le x y))))) result }
+        ensures { Gives self.now.memory.now (λ s k. number s left (λ x. number s right
+            (λ y. k (bit (int_le x y))))) result }
     {
         let x = self.number(left)?;
         let y = self.number(right)?;
@@ -186,10 +199,12 @@ impl Registers {
     #[tactic(auto, using(crate::proofs::Words::one_slot, std::proofs::lemmas::Grind::common_steps))]
     pub(crate) fn number_at(&self, from: u32) -> Result<i64, RunFault>
         requires { HasOneCell self.now.memory.now from }
-        ensures { Gives self.now.memory.now (λ s k. place s from (λ p. content s p.frame p.slot (λ c. known s c k))) result }
+        ensures { Gives self.now.memory.now (λ s k. place s from (λ p. content s p.frame p.slot
+            (λ c. known s c k))) result }
     {
         let place = self.place(from)?;
-        self.content(place.frame, place.slot).ok_or(RunFault::Unknown)
+        self.content(place.frame, place.slot)
+            .ok_or(RunFault::Unknown)
     }
 
     /// The number in a slot, which must be in a range.
@@ -201,7 +216,8 @@ impl Registers {
         fault: RunFault,
     ) -> Result<i64, RunFault>
         requires { HasNumber self.now.memory.now slot }
-        ensures number { Gives self.now.memory.now (λ s k. number s slot (λ v. range_check range.now fault s v (λ _. k v))) result }
+        ensures number { Gives self.now.memory.now (λ s k. number s slot
+            (λ v. range_check range.now fault s v (λ _. k v))) result }
         ensures within { IfOk result (λ v. within range.now v ≡ true) }
     {
         let number = self.number(slot)?;

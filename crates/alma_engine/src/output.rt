@@ -41,10 +41,13 @@ impl Registers {
         requires slot { HasNumber self.old.memory.now value }
         requires empty { bytes.old.items ≡ [] }
         ensures ok { let s = state_of self.old in
-            IfOk result (λ answer. stepped answer bytes.new.items (state_of self.new) ≡ number s value (λ v. printed (value_text (kind.Int v)) s)) }
-        ensures kept { IfOk result (λ answer. KeepsOn answer (state_of self.old) (state_of self.new)) }
+            IfOk result (λ answer. stepped answer bytes.new.items (state_of self.new)
+            ≡ number s value (λ v. printed (value_text (kind.Int v)) s)) }
+        ensures kept { IfOk result
+            (λ answer. KeepsOn answer (state_of self.old) (state_of self.new)) }
         ensures quiet { IfOk result (λ answer. PrintsOnly answer bytes.new.items) }
-        ensures refused { OnErr result ((state_of self.new ≡ state_of self.old) × (bytes.new.items ≡ [])) }
+        ensures refused { OnErr result ((state_of self.new ≡ state_of self.old) × (bytes.new.items
+            ≡ [])) }
     {
         match self.number(value) {
             Ok(number) => {
@@ -61,10 +64,13 @@ impl Registers {
         requires slot { HasNumber self.old.memory.now value }
         requires empty { bytes.old.items ≡ [] }
         ensures ok { let s = state_of self.old in
-            IfOk result (λ answer. stepped answer bytes.new.items (state_of self.new) ≡ number s value (λ v. printed (value_text (kind.Bool (not (is_zero v)))) s)) }
-        ensures kept { IfOk result (λ answer. KeepsOn answer (state_of self.old) (state_of self.new)) }
+            IfOk result (λ answer. stepped answer bytes.new.items (state_of self.new)
+            ≡ number s value (λ v. printed (value_text (kind.Bool (not (is_zero v)))) s)) }
+        ensures kept { IfOk result
+            (λ answer. KeepsOn answer (state_of self.old) (state_of self.new)) }
         ensures quiet { IfOk result (λ answer. PrintsOnly answer bytes.new.items) }
-        ensures refused { OnErr result ((state_of self.new ≡ state_of self.old) × (bytes.new.items ≡ [])) }
+        ensures refused { OnErr result ((state_of self.new ≡ state_of self.old) × (bytes.new.items
+            ≡ [])) }
     {
         match self.number(value) {
             Ok(number) => {
@@ -77,15 +83,22 @@ impl Registers {
 
     /// Prints the character whose number is the number in a slot modulo 256.
     #[tactic(auto, using(std::proofs::lemmas::Int::ints, std::proofs::lemmas::Grind::common_steps))]
-    pub(crate) fn print_character(&mut self, value: u32, bytes: &mut Vec<u8>) -> Result<Step, NoMemory>
+    pub(crate) fn print_character(
+        &mut self,
+        value: u32,
+        bytes: &mut Vec<u8>,
+    ) -> Result<Step, NoMemory>
         requires slot { HasNumber self.old.memory.now value }
         requires empty { bytes.old.items ≡ [] }
         ensures ok { let s = state_of self.old in
             IfOk result (λ answer. stepped answer bytes.new.items (state_of self.new)
-            ≡ number s value (λ v. printed (value_text (kind.Char (nat_abs (int_rem_euclid v (pos 256))))) s)) }
-        ensures kept { IfOk result (λ answer. KeepsOn answer (state_of self.old) (state_of self.new)) }
+            ≡ number s value (λ v. printed (value_text (kind.Char (nat_abs (int_rem_euclid v (pos
+            256))))) s)) }
+        ensures kept { IfOk result
+            (λ answer. KeepsOn answer (state_of self.old) (state_of self.new)) }
         ensures quiet { IfOk result (λ answer. PrintsOnly answer bytes.new.items) }
-        ensures refused { OnErr result ((state_of self.new ≡ state_of self.old) × (bytes.new.items ≡ [])) }
+        ensures refused { OnErr result ((state_of self.new ≡ state_of self.old) × (bytes.new.items
+            ≡ [])) }
     {
         match self.number(value) {
             Ok(number) => {

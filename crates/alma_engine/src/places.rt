@@ -34,7 +34,8 @@ impl Registers {
     #[tactic(auto, using(crate::proofs::Parts::place_there))]
     fn place_length(&self, slot: u32) -> u32
         requires { HasPlace self.now.memory.now slot }
-        ensures { slice_get (last_frame self.now.memory.now).kinds slot ≡ Some (SlotKind.Place result) }
+        ensures { slice_get (last_frame self.now.memory.now).kinds slot
+            ≡ Some (SlotKind.Place result) }
     {
         match self.memory.top_kind(slot) {
             SlotKind::Place(length) => length,
@@ -46,8 +47,10 @@ impl Registers {
     #[tactic(auto, using(crate::proofs::Parts::put_place_is, crate::proofs::Parts::place_is_slot))]
     pub(crate) fn put_place(&mut self, to: u32, frame: u32, first: u32) -> Result<Step, NoMemory>
         requires { HasPlace self.old.memory.now to }
-        ensures ok { IfOk result (λ answer. stepped answer [] (state_of self.new) ≡ put_place (state_of self.old) to frame (λ _. first)) }
-        ensures kept { IfOk result (λ answer. KeepsOn answer (state_of self.old) (state_of self.new)) }
+        ensures ok { IfOk result (λ answer. stepped answer [] (state_of self.new)
+            ≡ put_place (state_of self.old) to frame (λ _. first)) }
+        ensures kept { IfOk result
+            (λ answer. KeepsOn answer (state_of self.old) (state_of self.new)) }
         ensures refused { OnErr result (state_of self.new ≡ state_of self.old) }
     {
         let len = self.place_length(to);
@@ -62,8 +65,10 @@ impl Registers {
     /// Puts the place that begins at a spot into a place slot, or ends the run in its fault.
     pub(crate) fn point(&mut self, to: u32, spot: Result<Spot, RunFault>) -> Result<Step, NoMemory>
         requires { HasPlace self.old.memory.now to }
-        ensures ok { IfOk result (λ answer. stepped answer [] (state_of self.new) ≡ point_or_fault (state_of self.old) to spot) }
-        ensures kept { IfOk result (λ answer. KeepsOn answer (state_of self.old) (state_of self.new)) }
+        ensures ok { IfOk result (λ answer. stepped answer [] (state_of self.new)
+            ≡ point_or_fault (state_of self.old) to spot) }
+        ensures kept { IfOk result
+            (λ answer. KeepsOn answer (state_of self.old) (state_of self.new)) }
         ensures refused { OnErr result (state_of self.new ≡ state_of self.old) }
     {
         match spot {
@@ -76,7 +81,8 @@ impl Registers {
     pub(crate) fn whole(&self, from: u32) -> Result<Spot, RunFault>
         requires { HasCells self.now.memory.now from }
         ensures { (to : ℕ) (s : State) → s.now ≡ self.now.memory.now
-            → place s from (λ p. put_place s to p.frame (λ _. p.slot)) ≡ point_or_fault s to result }
+            → place s from (λ p. put_place s to p.frame (λ _. p.slot))
+            ≡ point_or_fault s to result }
     {
         let place = self.place(from)?;
         Ok(Spot {
@@ -91,7 +97,8 @@ impl Registers {
         requires from { HasCells self.now.memory.now from }
         requires inside { offset ≤ width self.now.memory.now from }
         ensures { (to : ℕ) (s : State) → s.now ≡ self.now.memory.now
-            → place s from (λ p. put_place s to p.frame (λ _. p.slot + offset)) ≡ point_or_fault s to result }
+            → place s from (λ p. put_place s to p.frame (λ _. p.slot + offset))
+            ≡ point_or_fault s to result }
     {
         let place = self.place(from)?;
         Ok(Spot {
@@ -112,9 +119,11 @@ impl Registers {
         requires to { HasPlace self.now.memory.now to }
         requires from { HasCells self.now.memory.now from }
         requires index { HasNumber self.now.memory.now index }
-        requires room { range_size range.now * width self.now.memory.now to ≤ width self.now.memory.now from }
+        requires room { range_size range.now * width self.now.memory.now to ≤ width
+            self.now.memory.now from }
         ensures { (s : State) → s.now ≡ self.now.memory.now
-            → place s from (λ p. number s index (λ v. range_check range.now fault.Index s v (λ _. put_place s to p.frame (λ l. p.slot + nat_abs (v -ℤ range.now.low) * l))))
+            → place s from (λ p. number s index (λ v. range_check range.now fault.Index s v
+            (λ _. put_place s to p.frame (λ l. p.slot + nat_abs (v -ℤ range.now.low) * l))))
             ≡ point_or_fault s to result }
     {
         let place = self.place(from)?;

@@ -63,8 +63,10 @@ impl Registers {
     /// Puts a cell into a slot of the top frame.
     pub(crate) fn write(&mut self, to: u32, cell: Cell) -> Result<Step, NoMemory>
         requires { HasSlot self.old.memory.now to }
-        ensures ok { IfOk result (λ answer. stepped answer [] (state_of self.new) ≡ quiet_step (with_slot (state_of self.old) to cell)) }
-        ensures kept { IfOk result (λ answer. KeepsOn answer (state_of self.old) (state_of self.new)) }
+        ensures ok { IfOk result (λ answer. stepped answer [] (state_of self.new)
+            ≡ quiet_step (with_slot (state_of self.old) to cell)) }
+        ensures kept { IfOk result
+            (λ answer. KeepsOn answer (state_of self.old) (state_of self.new)) }
         ensures refused { OnErr result (state_of self.new ≡ state_of self.old) }
     {
         let frame = self.memory.frames() - 1;
@@ -76,8 +78,10 @@ impl Registers {
     #[tactic(auto, using(crate::proofs::Words::puts))]
     pub(crate) fn put(&mut self, to: u32, number: Result<i64, RunFault>) -> Result<Step, NoMemory>
         requires { HasNumber self.old.memory.now to }
-        ensures ok { IfOk result (λ answer. stepped answer [] (state_of self.new) ≡ put_or_fault (state_of self.old) to number) }
-        ensures kept { IfOk result (λ answer. KeepsOn answer (state_of self.old) (state_of self.new)) }
+        ensures ok { IfOk result (λ answer. stepped answer [] (state_of self.new)
+            ≡ put_or_fault (state_of self.old) to number) }
+        ensures kept { IfOk result
+            (λ answer. KeepsOn answer (state_of self.old) (state_of self.new)) }
         ensures refused { OnErr result (state_of self.new ≡ state_of self.old) }
     {
         match number {

@@ -7,6 +7,7 @@ use Rattle.alma_engine.specs.Rows.{state_of}
 use Rattle.alma_engine.specs.Runs.{run_end_of, made}
 use Rattle.alma_engine.specs.View.{MachineView}
 use Rattle.alma_engine.proofs.Budget.{progress_more, progress_stopped, prints_then, made_is, on_whole, finished, goes_unless, out_more, out_front, on_ok, on_err}
+use Rattle.alma_verify.specs.Verified.{code_of_verified}
 use Rattle.alma_engine.proofs.machine.Machine.run.Goals as goal
 
 pub returns-in-Done-clause-answer : goal.returns-in-Done-clause-answer
@@ -46,7 +47,7 @@ returns-then-is_err-clause-made g c =
     let old = c.args.self.now in
     let m = c.loop-made.made in
     let inside = c.self.inside in
-    let stopped : MachineView = record { code = g.V.CodeView.code inside.view.now; input = inside.input.now; state = state_of inside.registers; running = false; printed = inside.printed.items } in
+    let stopped : MachineView = record { code = code_of_verified inside.code; input = inside.input.now; state = state_of inside.registers; running = false; printed = inside.printed.items } in
     let p = progress_more old c.loop-made.self c.step.new.self m c.in-Ok.step c.loop-made.invariant.progress c.in-Ok.ensures.step c.in-Ok.ensures.counted c.in-Ok.ensures.same in
     let q = progress_stopped old c.step.new.self stopped (m + 1) (ap (λ x. x.state) c.self.view_is) (ap (λ x. x.code) c.self.view_is) (ap (λ x. x.input) c.self.view_is) p in
     q.state ∙ ap (λ k. after old.code old.input k old.state) (sym (made_is old stopped (m + 1) q))
@@ -56,7 +57,7 @@ returns-then-is_err-clause-write_fault g c =
     let old = c.args.self.now in
     let m = c.loop-made.made in
     let inside = c.self.inside in
-    let stopped : MachineView = record { code = g.V.CodeView.code inside.view.now; input = inside.input.now; state = state_of inside.registers; running = false; printed = inside.printed.items } in
+    let stopped : MachineView = record { code = code_of_verified inside.code; input = inside.input.now; state = state_of inside.registers; running = false; printed = inside.printed.items } in
     let p = progress_more old c.loop-made.self c.step.new.self m c.in-Ok.step c.loop-made.invariant.progress c.in-Ok.ensures.step c.in-Ok.ensures.counted c.in-Ok.ensures.same in
     let q = progress_stopped old c.step.new.self stopped (m + 1) (ap (λ x. x.state) c.self.view_is) (ap (λ x. x.code) c.self.view_is) (ap (λ x. x.input) c.self.view_is) p in
     let failed : is_err c.write_all.result ≡ true = search rules in

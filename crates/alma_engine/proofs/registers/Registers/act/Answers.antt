@@ -1,8 +1,8 @@
 use Rattle.alma_engine.proofs.Others.{quiet_else}
 use Rattle.alma_engine.proofs.registers.Registers.act.Goals as goal
 
-pub act_quiet-requires : goal.act_quiet-requires
-act_quiet-requires g c =
+pub act_control-requires : goal.act_control-requires
+act_control-requires g c =
     let d = c.in_default in
     record {
       needs = c.requires.needs;

@@ -1,5 +1,5 @@
 use Rattle.std.proofs.Common.{◌-◌, [], refl, sym}
-use Rattle.std.specs.Prelude.{ℤ, slice_get}
+use Rattle.std.specs.Prelude.{slice_get}
 use Rattle.alma_code.specs.Machine.{number, result_to, left}
 use Rattle.alma_code.specs.Picture.{last_frame}
 use Rattle.alma_engine.specs.Calls.{back_or_fault}

@@ -1,6 +1,6 @@
 use Rattle.std.proofs.Common.{◌∙◌, [], refl, sym}
 use Rattle.std.specs.Prelude.{slice_get}
-use Rattle.alma_code.specs.Machine.{place, position, byte_or_failure, found}
+use Rattle.alma_code.specs.Machine.{position, byte_or_failure, found}
 use Rattle.alma_engine.specs.Rows.{state_of}
 use Rattle.alma_engine.proofs.Words.{ok_is}
 use Rattle.alma_engine.proofs.registers.Registers.read_char.Goals as goal

@@ -1,6 +1,6 @@
 use Rattle.std.proofs.Common.{◌∙◌, refl, sym}
 use Rattle.alma_base.specs.Reading.{number_from}
-use Rattle.alma_code.specs.Machine.{place, position, found}
+use Rattle.alma_code.specs.Machine.{position, found}
 use Rattle.alma_engine.specs.Rows.{state_of}
 use Rattle.alma_engine.proofs.registers.Registers.read_number.Goals as goal
 

@@ -1,0 +1,19 @@
+-- What copies of cells give.
+use Rattle.std.specs.Prelude.{ℕ, suc, ◌+◌, List, [], ◌∷◌, map}
+use Rattle.std.specs.List.{range_with_len}
+use Rattle.alma_base.specs.Choice.{if_true}
+use Rattle.alma_code.specs.declared.cell.Cell.{Cell}
+use Rattle.alma_code.specs.declared.cell.Cell.TheVariants as cell
+use Rattle.alma_code.specs.Carries.{number_at}
+use Rattle.alma_code.specs.Machine.{State, Stepped, quiet_step, stuck, with_cell}
+use Rattle.alma_code.specs.Picture.{PlainFrame, cell_at}
+
+-- so many cells of a frame, from one on
+abbrev pub cells_from : List PlainFrame → (frame first count : ℕ) → List Cell
+cells_from now frame first count = map (λ k. cell_at now frame (first + k) cell.Unknown) (range_with_len 0 count)
+
+-- the cells of a frame from one on := a list of cells
+abbrev pub laid : List Cell → State → (frame slot : ℕ) → Stepped
+laid [] s frame slot = quiet_step s
+laid (c ∷ cells) s frame slot =
+    if_true (number_at s.now frame slot) (λ _. laid cells (with_cell s frame slot c) frame (suc slot)) (λ _. stuck s)
