@@ -1,4 +1,5 @@
--- What the format of objects asks of the tables of a code, beside their order: no count is too large, and each record is as it must be.
+-- What the format of objects asks of the tables of a code, beside their order: no count is too
+-- large, and each record is as it must be.
 use Rattle.std.specs.Prelude.{◌≡◌, ◌⊎◌, ◌+◌, ◌≤◌, ℕ, Bool, true, false, not, ◌&&◌, ◌||◌, nat_eq, nat_le, int_le, List, [], ◌∷◌, sum_by, length}
 use Rattle.std.specs.List.{list_all}
 use Rattle.alma_base.specs.Limits.{instr_limit, slot_limit, record_limit, pool_limit}
@@ -102,6 +103,7 @@ is_first_form (I.Outer a b c) = false
 is_first_form (I.OuterSame a b c) = false
 is_first_form _ = true
 
+-- a routine of version 1: no link among the kinds of its slots, nor among its parameters
 abbrev pub is_first_routine : PlainRoutine → Bool
 is_first_routine r = list_all (λ run. is_first_kind run.kind) r.head.runs && list_all (λ p. is_first_param p.kind) r.head.params
 

@@ -13,7 +13,8 @@ pub fn sources_are_built()
 
 /// The program of a source of at most 1,048,576 bytes keeps all conditions on programs.
 pub fn sources_are_checked()
-    ensures { (source : List ℕ) (p : Program) → length source ≤ source_limit → IsSource source p → IsChecked p }
+    ensures { (source : List ℕ) (p : Program) → length source ≤ source_limit → IsSource source p
+        → IsChecked p }
 {}
 
 /// A source is at most one program.

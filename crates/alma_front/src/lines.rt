@@ -102,7 +102,8 @@ fn statement_lines(
 ) -> Result<Vec<u32>, NoMemory>
     requires size { length source.now ≤ source_limit }
     requires slices { All (IsSlice source.now) (lexemes tokens.now) }
-    ensures { IfOk result (λ lines. lines.items ≡ spec.lines_from source.now true heading (lexemes tokens.now)) }
+    ensures { IfOk result (λ lines. lines.items ≡ spec.lines_from source.now true heading
+        (lexemes tokens.now)) }
 {
     let mut lines = Vec::new(alloc);
     let mut may_begin = true;
@@ -127,7 +128,8 @@ fn statement_lines(
 pub fn module_lines(alloc: Global, source: &[u8], tokens: &[Token<'_>]) -> Result<Lines, NoMemory>
     requires size { length source.now ≤ source_limit }
     requires slices { All (IsSlice source.now) (lexemes tokens.now) }
-    ensures { IfOk result (λ lines. lines_of lines ≡ spec.module_lines source.now (lexemes tokens.now)) }
+    ensures { IfOk result (λ lines. lines_of lines ≡ spec.module_lines source.now
+        (lexemes tokens.now)) }
 {
     let heading = match tokens.split_first() {
         Some((first, _)) => place(source, first.start).line,

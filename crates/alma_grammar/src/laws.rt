@@ -1,5 +1,5 @@
 // Laws of the grammar, as contracts of functions without work.
-ghost use Rattle.alma_grammar.specs.Examples.{ExamplesAreReadSo};
+ghost use Rattle.alma_grammar.specs.Worked.Examples.{ExamplesAreReadSo};
 ghost use Rattle.alma_grammar.specs.Laws.{EachPrefixIsFinished, EachProgramIsRead, EachTreeIsRead, ExactDepth, ExactEnds, ExactPlace, OneSpelling};
 
 /// Each tree's spelling is read to its end, however deep.

@@ -18,15 +18,12 @@ use crate::emit::Emit;
 use crate::emit_body::emit_stmts;
 use crate::emit_tables::{globals_of, instrs_of, runs_of};
 use crate::lines::Lines;
-use alma_base::NoMemory;
+use alma_base::{NoMemory, SIZE_LIMIT};
 use alma_code::{Code, Instr, RoutineHead};
 use alma_implements::lines_of;
 use alma_ir::{Program, Routine, size};
 use std::alloc::Global;
 use thiserror::Error;
-
-// The greatest size of a program that is compiled.
-const GREATEST_SIZE: u64 = 4_194_304;
 
 /// Why a program has no code.
 #[derive(Clone, Copy, Debug, PartialEq, Eq, Error)]
@@ -51,7 +48,7 @@ pub fn lower(alloc: Global, program: &Program) -> Result<Code, LowerError>
     ensures within { let size = saturate (16 * nodes (program_of program.now)) in size ≤ size_limit → (n : ℕ) → result ≡ Err (LowerError.TooMuchCode n) → ⊥ }
 {
     let size = size(program);
-    if size > GREATEST_SIZE {
+    if size > SIZE_LIMIT {
         return Err(LowerError::TooMuchCode(size));
     }
     match compiled(alloc, program) {

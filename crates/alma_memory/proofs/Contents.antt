@@ -10,7 +10,7 @@ use Rattle.alma_code.specs.Kinds.{is_number}
 use Rattle.alma_code.specs.Picture.{PlainFrame, no_frame, frame_with, written, cell_at}
 use Rattle.alma_code.specs.Carries.{number_at, same_cell, diff_at}
 use Rattle.alma_memory.specs.Frames.{IsWhole, AreWhole}
-use Rattle.alma_memory.specs.Past.{frames_with_old_cells, number_in, number_of, over, changed}
+use Rattle.alma_memory.specs.Inner.Past.{frames_with_old_cells, number_in, number_of, over, changed}
 use Rattle.alma_memory.proofs.Stores.{whole-set, whole-with, whole-at, number-slot}
 use Rattle.alma_memory.proofs.Carrying.{same-place-is}
 use Rattle.alma_memory.proofs.Rising.{if-keeps, same-itself}

@@ -12,7 +12,7 @@ use Rattle.alma_code.specs.Picture.{PlainFrame, no_frame, cell_at}
 use Rattle.alma_code.specs.Carries.{number_at, differs, diff_at, slot_diffs, frame_diffs, diffs}
 use Rattle.alma_code.proofs.Cells.{same_itself}
 use Rattle.alma_memory.specs.Frames.{AreWhole}
-use Rattle.alma_memory.specs.Past.{frames_with_old_cells, number_of, over, changed, diffs_at, diffs_between, SameGain}
+use Rattle.alma_memory.specs.Inner.Past.{frames_with_old_cells, number_of, over, changed, diffs_at, diffs_between, SameGain}
 use Rattle.alma_memory.proofs.Carrying.{same-place-is}
 use Rattle.alma_memory.proofs.Rising.{same-itself, carried-with, rising-all, same-carry}
 use Rattle.alma_memory.proofs.Stores.{number-cell, number-frame}

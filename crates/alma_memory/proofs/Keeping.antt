@@ -7,11 +7,11 @@ use Rattle.alma_code.specs.Picture.{PlainFrame, PlainEntry, no_entry, top_of, en
 use Rattle.alma_code.specs.Carries.{diffs, with_carry, kept}
 use Rattle.alma_memory.specs.declared.trail.Note.{Note}
 use Rattle.alma_memory.specs.declared.trail.Entry.{Entry}
-use Rattle.alma_memory.specs.Trail.{unwind, entry_of, held_of}
-use Rattle.alma_memory.specs.Held.{Rises, IsTrailed}
+use Rattle.alma_memory.specs.Inner.Trail.{unwind, entry_of, held_of}
+use Rattle.alma_memory.specs.Inner.Held.{Rises, IsTrailed}
 use Rattle.alma_memory.specs.Carries.{IsRising}
-use Rattle.alma_memory.specs.Gain.{no_saved, entry_with_changes}
-use Rattle.alma_memory.specs.Past.{SameGain}
+use Rattle.alma_memory.specs.Inner.Gain.{no_saved, entry_with_changes}
+use Rattle.alma_memory.specs.Inner.Past.{SameGain}
 use Rattle.alma_memory.proofs.Trails.{rises-take}
 
 -- a mark that stays leaves the marks rising

@@ -8,8 +8,8 @@ use Rattle.alma_memory.specs.declared.carry.SlotPlace.{SlotPlace}
 use Rattle.alma_memory.specs.declared.trail.Note.{Note}
 use Rattle.alma_memory.specs.declared.trail.Entry.{Entry}
 use Rattle.alma_memory.specs.Carries.{change_of, listed}
-use Rattle.alma_memory.specs.Trail.{trail_for_entries}
-use Rattle.alma_memory.specs.Held.{Keeps, IsTrailed, HasNoteRoom, Rises}
+use Rattle.alma_memory.specs.Inner.Trail.{trail_for_entries}
+use Rattle.alma_memory.specs.Inner.Held.{Keeps, IsTrailed, HasNoteRoom, Rises}
 use Rattle.alma_memory.proofs.Trails.{rises-pop, rises-more, trail_for_entries-keeps}
 
 -- what two changes one after another keep

@@ -5,7 +5,7 @@ use Rattle.alma_base.specs.Carry.{Change, Carry, is_before, is_same_place, with_
 use Rattle.alma_base.specs.Choice.{if_true}
 use Rattle.alma_code.specs.declared.cell.Cell.{Cell}
 use Rattle.alma_code.specs.Picture.{PlainFrame, no_frame, frame_with, written, without_last}
-use Rattle.alma_memory.specs.Past.{frames_with_old_cells}
+use Rattle.alma_memory.specs.Inner.Past.{frames_with_old_cells}
 use Rattle.alma_memory.proofs.Carrying.{same-place-is}
 use Rattle.alma_memory.proofs.Rising.{if-keeps, same-itself}
 

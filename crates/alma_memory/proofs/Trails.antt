@@ -12,8 +12,8 @@ use Rattle.alma_memory.specs.declared.trail.Note.{Note}
 use Rattle.alma_memory.specs.declared.trail.Note.TheVariants.{Wrote, Entered, Left}
 use Rattle.alma_memory.specs.declared.trail.Entry.{Entry}
 use Rattle.alma_memory.specs.Frames.{IsWhole, AreLive}
-use Rattle.alma_memory.specs.Trail.{undo, unwind, entry_of, held_of, noted, trail_for_entries}
-use Rattle.alma_memory.specs.Held.{Undoes, Fits, Rises, IsTrailed, Keeps, stays, stays_as}
+use Rattle.alma_memory.specs.Inner.Trail.{undo, unwind, entry_of, held_of, noted, trail_for_entries}
+use Rattle.alma_memory.specs.Inner.Held.{Undoes, Fits, Rises, IsTrailed, Keeps, stays, stays_as}
 use Rattle.alma_memory.proofs.Stores.{live-push, live-after-write, undo-written, without-push, last-and-rest, whole-push, whole-take}
 
 -- ---- notes

@@ -3,7 +3,7 @@ ghost use Rattle.std.specs.Prelude.{◌≡◌, ◌<◌, length, slice_get, slice
 ghost use Rattle.alma_code.specs.Picture.{frame_with};
 ghost use Rattle.alma_code.specs.Kinds.{is_number};
 ghost use Rattle.alma_memory.specs.Frames.{IsWhole};
-ghost use Rattle.alma_memory.specs.Past.{number_in};
+ghost use Rattle.alma_memory.specs.Inner.Past.{number_in};
 ghost use Rattle.alma_code.specs.declared.cell.Cell.TheVariants as cell;
 
 use alma_base::NoMemory;
@@ -36,7 +36,13 @@ impl Frame {
         kinds: Vec<SlotKind>,
         cells: Vec<Cell>,
     ) -> Frame
-        ensures { result ≡ record { routine = routine; back = back; declared = declared; kinds = kinds.items; cells = cells.items } }
+        ensures { result ≡ record {
+          routine = routine;
+          back = back;
+          declared = declared;
+          kinds = kinds.items;
+          cells = cells.items;
+        } }
     {
         Frame {
             routine,

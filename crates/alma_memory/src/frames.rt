@@ -4,21 +4,15 @@ ghost use Rattle.alma_base.specs.Limits.{cell_limit, frame_limit};
 ghost use Rattle.alma_code.specs.Picture.{no_frame, written, cell_at, last_frame, without_last, live_cells};
 ghost use Rattle.alma_code.specs.Carries.{number_at};
 ghost use Rattle.alma_memory.specs.Frames.{AreWhole};
-ghost use Rattle.alma_memory.specs.Past.{number_of};
+ghost use Rattle.alma_memory.specs.Inner.Past.{number_of};
 ghost use Rattle.alma_code.specs.declared.cell.Cell.TheVariants as cell;
 
 use crate::carry::SlotPlace;
 use crate::frame::Frame;
-use alma_base::NoMemory;
+use alma_base::{FRAME_LIMIT, NoMemory};
 use alma_code::Cell;
 use std::alloc::Global;
 use std::marker::Model;
-
-/// How many frames may be live together.
-pub const MAX_FRAMES: u32 = 10000;
-
-/// How many cells the live frames may declare together.
-pub const MAX_CELLS: u32 = 1048576;
 
 // There is always room to put a frame back.
 #[derive(Drop)]
@@ -33,7 +27,7 @@ impl Model for Frames {
 
     ghost Value = { List PlainFrame };
 
-    ghost use Rattle.alma_memory.specs.Counted.{IsCounted};
+    ghost use Rattle.alma_memory.specs.Inner.Counted.{IsCounted};
 
     ghost view = { λ f. f.list.items };
 
@@ -47,7 +41,7 @@ impl Frames {
         ensures { IfOk result (λ frames. frames ≡ frame ∷ []) }
     {
         let declared = frame.declared();
-        let mut list = Vec::with_capacity(alloc, MAX_FRAMES as usize)?;
+        let mut list = Vec::with_capacity(alloc, FRAME_LIMIT as usize)?;
         list.push(frame)?;
         Ok(Frames { list, declared })
     }

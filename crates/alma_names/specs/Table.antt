@@ -3,6 +3,7 @@ use Rattle.std.specs.Prelude.{◌≡◌, ℕ, ◌≤◌, List, length, All, Some
 use Rattle.alma_base.specs.Limits.{cell_limit}
 use Rattle.alma_names.specs.Shapes.{PlainShape, cell_counts, IsShapeAt}
 
+-- a number of cells that a shape may have
 abbrev pub IsSmall : ℕ → Type 0
 IsSmall n = n ≤ cell_limit
 

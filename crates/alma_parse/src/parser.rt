@@ -21,7 +21,8 @@ use std::alloc::Global;
 pub fn parse(alloc: Global, tokens: &[Token<'_>]) -> Result<Module, ParseError>
     requires few { length tokens.now ≤ source_limit }
     ensures found { IfOk result
-        (λ m. (kinds_of tokens.now ≡ spelling (view_module m)) × IsNumbered m (length tokens.now) × (depth (kinds_of tokens.now) ≤ 100)) }
+        (λ m. (kinds_of tokens.now ≡ spelling (view_module m)) × IsNumbered m (length tokens.now) ×
+        (depth (kinds_of tokens.now) ≤ 100)) }
     ensures refused { IfErr result (λ e. Refuses e (kinds_of tokens.now)) }
 {
     match module(alloc, tokens) {

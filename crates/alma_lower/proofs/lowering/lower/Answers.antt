@@ -11,10 +11,10 @@ returns-in-Ok-clause-implements c = code_implements _ _ c.requires.checked c.req
 
 pub returns-in-Ok-clause-sound : goal.returns-in-Ok-clause-sound
 returns-in-Ok-clause-sound c =
-    let few : 16 * nodes (program_of c.args.program.now) ≤ 4194304 = omega (arith, c.if-size-gt-GREATEST_SIZE.false, c.size-size.ensures) in
+    let few : 16 * nodes (program_of c.args.program.now) ≤ 4194304 = omega (arith, c.if-size-gt-SIZE_LIMIT.false, c.size-size.ensures) in
     is_sound _ _ c.requires.checked c.requires.built c.in-Ok.ensures.code few
 
 pub returns-in-Ok-clause-forms : goal.returns-in-Ok-clause-forms
 returns-in-Ok-clause-forms c =
-    let few : 16 * nodes (program_of c.args.program.now) ≤ 4194304 = omega (arith, c.if-size-gt-GREATEST_SIZE.false, c.size-size.ensures) in
+    let few : 16 * nodes (program_of c.args.program.now) ≤ 4194304 = omega (arith, c.if-size-gt-SIZE_LIMIT.false, c.size-size.ensures) in
     has_only_made _ _ c.requires.checked c.requires.built c.in-Ok.ensures.code few

@@ -1,5 +1,5 @@
 use Rattle.std.proofs.Common.{◌∙◌, ap}
-use Rattle.alma_memory.specs.Trail.{trail_for_entries}
+use Rattle.alma_memory.specs.Inner.Trail.{trail_for_entries}
 use Rattle.alma_memory.proofs.Trails.{Cuts, cut-keeps}
 use Rattle.alma_memory.proofs.trail.cut_to.Goals as goal
 

@@ -1,5 +1,5 @@
 use Rattle.std.proofs.Common.{◌∙◌, ap, length}
-use Rattle.alma_memory.specs.Trail.{trail_for_entries}
+use Rattle.alma_memory.specs.Inner.Trail.{trail_for_entries}
 use Rattle.alma_memory.proofs.Trails.{Fails, fail-keeps, rises-pop}
 use Rattle.alma_memory.proofs.trail.fail_to.Goals as goal
 
