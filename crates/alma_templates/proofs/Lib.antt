@@ -32,3 +32,4 @@ pub mod CaseForms
 pub mod Starting
 pub mod ForForms
 pub mod ForStatement
+pub mod SomeForms
