@@ -33,3 +33,5 @@ pub mod Starting
 pub mod ForForms
 pub mod ForStatement
 pub mod SomeForms
+pub mod CellsMoved
+pub mod CellRuns
