@@ -1,5 +1,5 @@
 -- Several cells at once, from template to run: CopyCells and SameCells, each one step of the machine.
-use Rattle.std.proofs.Common.{◌≡◌, ℕ, zero, suc, ◌+◌, ◌<◌, ◌≤◌, Bool, true, false, ◌&&◌, List, [], ◌∷◌, ◌++◌, length, get_or, Option, Some, None, refl, sym, ap, ◌∙◌, subst, arith, ℤ}
+use Rattle.std.proofs.Common.{◌≡◌, ℕ, zero, suc, ◌+◌, ◌<◌, ◌≤◌, Bool, true, false, ◌&&◌, List, [], ◌∷◌, ◌++◌, length, get_or, Option, Some, None, refl, sym, ap, ◌∙◌, subst, arith, ℤ, append-nil}
 use Rattle.std.proofs.lemmas.List.{length-append, get_or_default}
 use Rattle.alma_base.specs.Choice.{if_true}
 use Rattle.alma_base.specs.declared.fault.RunFault.TheVariants as fault
@@ -8,7 +8,9 @@ use Rattle.alma_code.specs.declared.cell.Cell.{Cell}
 use Rattle.alma_code.specs.declared.cell.Cell.TheVariants as cell
 use Rattle.alma_code.specs.declared.cell.CellPlace.{CellPlace}
 use Rattle.alma_code.specs.declared.cell.SlotKind.TheVariants as slot
+use Rattle.alma_code.specs.declared.instr.Instr.{Instr}
 use Rattle.alma_code.specs.declared.instr.Instr.TheVariants as I
+use Rattle.alma_code.specs.Lines.{line_at}
 use Rattle.alma_code.specs.Carries.{number_at}
 use Rattle.alma_code.specs.Picture.{PlainFrame, PlainEntry, cell_at, written}
 use Rattle.alma_code.specs.Picture as picture
@@ -18,19 +20,20 @@ use Rattle.alma_ir.specs.Tree.{Program, Desig, CopyCells, SameCells}
 use Rattle.alma_ir.specs.Checked.{desig_cells}
 use Rattle.alma_mean.specs.Store.{Store, Place, Unknown, Number, put, put_all, cells_from, cell_of, put_at, part}
 use Rattle.alma_mean.specs.Store as store_of
-use Rattle.alma_mean.specs.Events.{Events, NoYield, Fail, Fault, one, join, bind}
+use Rattle.alma_mean.specs.Events.{Events, NoYield, Fail, Fault, one, join, bind, node}
 use Rattle.alma_mean.specs.Rows.{match_cell, match_cells, copy_cells, succeed_if}
 use Rattle.alma_mean.specs.Meaning.{Level, ev_test, ev_expr, ev_desig}
+use Rattle.alma_implements.specs.Implements.{line_in}
 use Rattle.alma_implements.proofs.Frames.{shift_in, own_end, IsAt, AreNumbers, SamePlace, SameContent}
 use Rattle.alma_implements.proofs.FrameLemmas.{content_there, numbers_kept, place_kept}
 use Rattle.alma_implements.proofs.Carrying.{kind_in, number_content}
 use Rattle.alma_implements.proofs.Steps.{Holds, InstrAt, passed, does, went_on, place_is, faults_now, here_too}
-use Rattle.alma_templates.specs.Lined.{Lined, own}
+use Rattle.alma_templates.specs.Lined.{Lined, own, in_row}
 use Rattle.alma_templates.specs.Tables.{Tables}
 use Rattle.alma_templates.specs.Slots.{behind_desig}
 use Rattle.alma_templates.specs.Templates.{desig_code, place_at}
 use Rattle.alma_templates.proofs.Stands.{stands_front, stands_back}
-use Rattle.alma_templates.proofs.Parts.{Begins, begins, Left, left_self, left_on, place_after, IsPlace, PlaceIn, Nothing, NodeRuns, From, leaving, from_more, node_runs, then_from, step_from, faults_here, fails_here, ends_here}
+use Rattle.alma_templates.proofs.Parts.{Begins, begins, Left, left_self, left_on, place_after, IsPlace, PlaceIn, Nothing, NodeRuns, NodeFor, From, leaving, from_more, node_runs, then_from, step_from, faults_here, fails_here, ends_here}
 use Rattle.alma_templates.proofs.CellEnds.{CellIs, is_number, is_unknown, cell_there}
 use Rattle.alma_templates.proofs.CellsMoved.{left_cell}
 use Rattle.alma_templates.proofs.Targets.{place_within, left_put}
@@ -192,3 +195,122 @@ module _ (p : Program) (code : PlainCode) (input : List ℕ) where
       by (is_unknown e live is) (is_unknown e' live' is') later =
           subst (λ c. Goal c (cell_of v (cells g j (suc n)))) (sym e) (subst (λ c. Goal Unknown c) (sym e')
           (faults (λ z at_now. (now, runs z cell.Unknown cell.Unknown at_now live is live' is' ∙ ap (λ y. faulted fault.Unknown (record z { now = y })) at_now))))
+
+module _ (p : Program) (tables : Tables) (code : PlainCode) (input : List ℕ) (below : Level) (r line q : ℕ) where
+  -- ---- steps at two places
+
+  abbrev Ends : (at lo : ℕ) → Store → List PlainFrame → Events NoYield → Type 0
+  Ends at lo v now e = From p code input line 8 at (at + 1) now (leaving p code input lo r now (Nothing p code input)) e q
+
+  passes_with : (at lo : ℕ) (v w : Store) (now t : List PlainFrame) → own_end p r ≤ lo → Begins p code input r v now → Left p code input lo r now w t → ((held : List PlainEntry) (s : State) → IsAt at now held s → step code input s ≡ went (record (passed code input s) { now = t })) → Ends at lo v now (one w tt)
+  passes_with at lo v w now t behind b left steps =
+      step_from p code input line 7 at (at + 1) (at + 1) lo r w now t (Nothing p code input) (one w tt) q behind
+      (λ held s is. record { to = record (passed code input s) { now = t }; silently = went_on code input s (record (passed code input s) { now = t }) (steps held s is); is = record { mode = is.mode; here = ap (λ n. n + 1) is.here; frames = refl; entries = is.entries } }) left
+      (ends_here p code input line 7 (at + 1) lo r w t (Nothing p code input) tt q (begins p code input lo r now w t left) tt)
+
+  outcome_ends : (at lo : ℕ) (v : Store) (now : List PlainFrame) (run : State → Stepped) (e : Events NoYield) → own_end p r ≤ lo → Begins p code input r v now → line_at code at ≡ line → ((held : List PlainEntry) (s : State) → IsAt at now held s → step code input s ≡ run (passed code input s))
+      → Outcome p code input lo r now now run e → Ends at lo v now e
+  outcome_ends at lo v now run e behind b there steps (passes w t goes left) = passes_with at lo v w now t behind b left (λ held s is. steps held s is ∙ goes (passed code input s) is.frames)
+  outcome_ends at lo v now run e behind b there steps (fails goes) =
+      fails_here p code input line 7 at (at + 1) now (leaving p code input lo r now (Nothing p code input)) q
+      (λ held s is.
+      let z = goes (passed code input s) is.frames in
+      let to : State = record (passed code input s) { now = z.0; mode = Failing } in
+      (to, went_on code input s to (steps held s is ∙ z.1), record { mode = refl; entries = is.entries }))
+  outcome_ends at lo v now run e behind b there steps (faults goes) =
+      faults_here p code input line 7 at (at + 1) now (leaving p code input lo r now (Nothing p code input)) fault.Unknown q
+      (λ held s is.
+      let z = goes (passed code input s) is.frames in
+      let e2 : step code input s ≡ faulted fault.Unknown (record (passed code input s) { now = z.0 }) = steps held s is ∙ z.1 in
+      record {
+        to = (step code input s).state;
+        silently = record { steps = refl; silent = append-nil (step code input s).printed ∙ ap (λ x. x.printed) e2 };
+        is = ap (λ x. x.state.mode) e2;
+        on_line = ap (λ x. line_in code x.state) e2 ∙ here_too code input line at now held s is there;
+      })
+
+  -- cells of two places of equal size
+  both_long : (a b size : ℕ) (v : Store) (now : List PlainFrame) (m k : Place) → IsPlace p code input a size v m now → IsPlace p code input b size v k now → m.size ≡ k.size
+  both_long a b size v now m k h h2 = h.sized ∙ sym h2.sized
+
+  copy_ends : (at lo a b size : ℕ) (v : Store) (now : List PlainFrame) (m k : Place) → own_end p r ≤ lo → Begins p code input r v now → IsPlace p code input a size v m now → IsPlace p code input b size v k now → InstrAt code input line at (I.CopyCells a b) → Ends at lo v now (one (copy_cells v m k) tt)
+  unfolding act
+  copy_ends at lo a b size v now m k behind begun h h2 i =
+      let to : AreNumbers p code v now (cells p code input m.frame m.slot k.size) = subst (λ n. AreNumbers p code v now (cells p code input m.frame m.slot n)) (both_long a b size v now m k h h2) h.numbers in
+      let goes = copied_goes p code input k.size lo r m.frame m.slot k.frame k.slot h.place.slot h2.place.slot v now v now behind begun (left_self p code input lo r v now begun) to h2.numbers h.same.slot h2.same.slot in
+      let long : h.place.len ≡ k.size = sym h.same.size ∙ both_long a b size v now m k h h2 in
+      passes_with at lo v (copy_cells v m k) now goes.0 behind begun goes.2
+      (λ held s is.
+      let here : State = passed code input s in
+      does code input line at now held s (I.CopyCells a b) is i
+      ∙ place_is code input now here a h.place (λ c. place here b (λ d. copied c.len here.now here c.frame c.slot d.frame d.slot)) is.frames h.holds
+      ∙ place_is code input now here b h2.place (λ d. copied h.place.len here.now here h.place.frame h.place.slot d.frame d.slot) is.frames h2.holds
+      ∙ ap (λ z. copied h.place.len z here h.place.frame h.place.slot h2.place.frame h2.place.slot) is.frames
+      ∙ ap (λ n. copied n now here h.place.frame h.place.slot h2.place.frame h2.place.slot) long
+      ∙ ap (λ f. copied k.size now here f h.place.slot h2.place.frame h2.place.slot) (sym h.same.frame)
+      ∙ ap (λ f. copied k.size now here m.frame h.place.slot f h2.place.slot) (sym h2.same.frame) ∙ goes.1 here is.frames)
+
+  match_ends : (at lo a b size : ℕ) (v : Store) (now : List PlainFrame) (m k : Place) → own_end p r ≤ lo → Begins p code input r v now → IsPlace p code input a size v m now → IsPlace p code input b size v k now → InstrAt code input line at (I.SameCells a b) → Ends at lo v now (match_cells m.size v m k)
+  unfolding act
+  match_ends at lo a b size v now m k behind begun h h2 i =
+      let from : AreNumbers p code v now (cells p code input k.frame k.slot m.size) = subst (λ n. AreNumbers p code v now (cells p code input k.frame k.slot n)) (sym (both_long a b size v now m k h h2)) h2.numbers in
+      let same : record { frame = k.frame; slot = k.slot; size = m.size } ≡ k = ap (λ n. record { frame = k.frame; slot = k.slot; size = n }) (both_long a b size v now m k h h2) in
+      subst (λ z. Ends at lo v now (match_cells m.size v m z)) same
+      (outcome_ends at lo v now (λ x. equations m.size x m.frame h.place.slot k.frame h2.place.slot) (match_cells m.size v m (cells p code input k.frame k.slot m.size)) behind begun i.on_line
+      (λ held s is.
+      let here : State = passed code input s in
+      does code input line at now held s (I.SameCells a b) is i
+      ∙ place_is code input now here a h.place (λ c. place here b (λ d. equations c.len here c.frame c.slot d.frame d.slot)) is.frames h.holds
+      ∙ place_is code input now here b h2.place (λ d. equations h.place.len here h.place.frame h.place.slot d.frame d.slot) is.frames h2.holds
+      ∙ ap (λ n. equations n here h.place.frame h.place.slot h2.place.frame h2.place.slot) (sym h.same.size)
+      ∙ ap (λ f. equations m.size here f h.place.slot h2.place.frame h2.place.slot) (sym h.same.frame)
+      ∙ ap (λ f. equations m.size here m.frame h.place.slot f h2.place.slot) (sym h2.same.frame))
+      (matched_goes p code input m.size lo r m.frame m.slot k.frame k.slot h.place.slot h2.place.slot v now behind begun h.numbers from h.same.slot h2.same.slot))
+
+  -- ---- two designators, and an instruction
+
+  pair_runs : (at lo : ℕ) (d e : Desig) (i : Instr) (last : Store → Place → Place → Events NoYield) → own_end p r ≤ lo → DesigRuns p tables code input below r line q at lo d → ((next : ℕ) → DesigRuns p tables code input below r line q next (behind_desig p r lo d) e)
+      → ((m : ℕ) (u : Store) (t : List PlainFrame) (k l : Place) → Begins p code input r u t → IsPlace p code input (place_at p tables r lo d) (desig_cells d) u k t → IsPlace p code input (place_at p tables r (behind_desig p r lo d) e) (desig_cells e) u l t → InstrAt code input line m i → Ends m lo u t (last u k l))
+      → NodeFor p code input r line at lo (in_row at (desig_code p tables r line at lo d) (λ next. desig_code p tables r line next (behind_desig p r lo d) e) ++ own line (i ∷ []))
+      (λ v. node (bind (ev_desig p input below d v) (λ t k. bind (ev_desig p input below e t) (λ u l. last u k l)))) (Nothing p code input) q
+  pair_runs at lo d e i last behind runs others ends stands v now b =
+      let a : ℕ = place_at p tables r lo d in
+      let la : ℕ = behind_desig p r lo d in
+      let c : ℕ = place_at p tables r la e in
+      let inside = place_within p tables code input below r line q lo d in
+      let first : List Lined = desig_code p tables r line at lo d in
+      let m : ℕ = at + length first in
+      let second : List Lined = desig_code p tables r line m la e in
+      let front = stands_front code at (first ++ second) (own line (i ∷ [])) stands in
+      let back = stands_back code at (first ++ second) (own line (i ∷ [])) stands in
+      let both : length (first ++ second) ≡ length first + length second = length-append first second in
+      let whole : length ((first ++ second) ++ own line (i ∷ [])) ≡ length (first ++ second) + 1 = length-append (first ++ second) (own line (i ∷ [])) in
+      let m2 : ℕ = m + length second in
+      let here : at + length (first ++ second) ≡ m2 = omega (arith, both) in
+      let there : InstrAt code input line m2 i = subst (λ n. InstrAt code input line n i) here (record { instr = back.0; on_line = back.1 }) in
+      let end : m2 + 1 ≡ at + length ((first ++ second) ++ own line (i ∷ [])) = omega (arith, both, whole) in
+      let w = leaving p code input lo r now (Nothing p code input) in
+      let whole_events : Events NoYield = bind (ev_desig p input below d v) (λ t k. bind (ev_desig p input below e t) (λ u l. last u k l)) in
+      subst (λ n. NodeRuns p code input line at n now w (node whole_events) q) end
+      (node_runs p code input line 0 at (m2 + 1) now w whole_events q (omega arith)
+      (then_from p code input line at m (m2 + 1) lo lo r now (PlaceIn p code input a (desig_cells d)) (Nothing p code input) (ev_desig p input below d v) (λ t k. bind (ev_desig p input below e t) (λ u l. last u k l)) q (omega arith) behind
+      (runs (stands_front code at first second front) v now b)
+      (λ u k t left place.
+      let b1 = begins p code input lo r now u t left in
+      from_more p code input line 0 8 m (m2 + 1) t (leaving p code input lo r t (Nothing p code input)) (bind (ev_desig p input below e u) (λ u2 l. last u2 k l)) q (omega arith)
+      (then_from p code input line m m2 (m2 + 1) lo la r t (PlaceIn p code input c (desig_cells e)) (Nothing p code input) (ev_desig p input below e u) (λ u2 l. last u2 k l) q (omega arith) behind
+      (others m (stands_back code at first second front) u t b1)
+      (λ u2 l t2 left2 place2.
+      ends m2 u2 t2 k l (begins p code input la r t u2 t2 left2) (place_after p code input la r a (desig_cells d) k u u2 t t2 b1 (omega (arith, behind, inside.0)) inside.1 left2 place) place2 there)))))
+
+  pub copy_runs : (at lo : ℕ) (d e : Desig) → own_end p r ≤ lo → desig_cells d ≡ desig_cells e → DesigRuns p tables code input below r line q at lo d → ((next : ℕ) → DesigRuns p tables code input below r line q next (behind_desig p r lo d) e) → StmtRuns p tables code input below r line q at lo (CopyCells d e)
+  unfolding ev_expr
+  copy_runs at lo d e behind long runs others =
+      pair_runs at lo d e (I.CopyCells (place_at p tables r lo d) (place_at p tables r (behind_desig p r lo d) e)) (λ u k l. one (copy_cells u k l) tt) behind runs others
+      (λ m u t k l b h h2 i. copy_ends m lo (place_at p tables r lo d) (place_at p tables r (behind_desig p r lo d) e) (desig_cells e) u t k l behind b (subst (λ n. IsPlace p code input (place_at p tables r lo d) n u k t) long h) h2 i)
+
+  pub match_runs : (at lo : ℕ) (d e : Desig) → own_end p r ≤ lo → desig_cells d ≡ desig_cells e → DesigRuns p tables code input below r line q at lo d → ((next : ℕ) → DesigRuns p tables code input below r line q next (behind_desig p r lo d) e) → TestRuns p tables code input below r line q at lo (SameCells d e)
+  unfolding ev_expr
+  match_runs at lo d e behind long runs others =
+      pair_runs at lo d e (I.SameCells (place_at p tables r lo d) (place_at p tables r (behind_desig p r lo d) e)) (λ u k l. match_cells k.size u k l) behind runs others
+      (λ m u t k l b h h2 i. match_ends m lo (place_at p tables r lo d) (place_at p tables r (behind_desig p r lo d) e) (desig_cells e) u t k l behind b (subst (λ n. IsPlace p code input (place_at p tables r lo d) n u k t) long h) h2 i)
