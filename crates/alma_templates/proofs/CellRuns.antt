@@ -53,6 +53,7 @@ module _ (p : Program) (code : PlainCode) (input : List ℕ) where
     frame = h.frame;
     cells = λ k lt. omega (arith, h.cells (suc k) (omega (arith, lt)), e);
     kinds = λ k lt. (let same : j + k ≡ i + suc k = omega (arith, e) in ap (λ x. get_or (get_or now f picture.no_frame).kinds (shift_in p v f + x) slot.Mark) same ∙ h.kinds (suc k) (omega (arith, lt)));
+    free = λ at_zero. omega (arith, h.free at_zero, e);
   }
 
   first_kind_is : (f i n : ℕ) (v : Store) (now : List PlainFrame) → AreNumbers p code v now (cells f i (suc n)) → kind_in p code v now f i ≡ slot.Number
