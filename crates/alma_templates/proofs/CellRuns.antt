@@ -83,7 +83,7 @@ module _ (p : Program) (code : PlainCode) (input : List ℕ) where
       let same_w = place_kept p code lo (cells f i (suc n)) (slots f m (suc n)) v w before now to.frame b.stand left.fits (same_at f i m (suc n) v at_to) in
       let there_w = content_there p code w now (cells f i (suc n)) (slots f m (suc n)) left.fits.stand to_w (omega arith) same_w in
       let bw = begins p code input lo r before w now left in
-      let made = left_cell p code input lo r f i a c w now bw to_w.frame (first_within f i n w now to_w) (first_kind_is f i n w now to_w) (number_content p code v w a c content) in
+      let made = left_cell p code input lo r f i a c w now bw to_w.frame (first_within f i n w now to_w) (first_kind_is f i n w now to_w) (number_content p code v w a c content) to_w.free in
       let w1 : Store = put w f i a in
       let t1 : List PlainFrame = written now f m c in
       let left1 : Left p code input lo r now w1 t1 = subst (λ x. Left p code input lo r now w1 (written now f x c)) same_w.slot made in
@@ -169,7 +169,7 @@ module _ (p : Program) (code : PlainCode) (input : List ℕ) where
       put_left : (h k l : ℕ) (x : ℤ) → AreNumbers p code v now (cells h k (suc n)) → shift_in p v h + k ≡ l → is_integer x ≡ true → Left p code input lo r now (put v h k (Number x)) (written now h l (cell.Int x))
       put_left h k l x numbers e integer =
           subst (λ z. Left p code input lo r now (put v h k (Number x)) (written now h z (cell.Int x))) e
-          (left_put p code input lo r h k x v now numbers.frame (first_within h k n v now numbers) (first_kind_is h k n v now numbers) integer b)
+          (left_put p code input lo r h k x v now numbers.frame (first_within h k n v now numbers) (first_kind_is h k n v now numbers) integer numbers.free b)
 
       decided : (t : Bool) (x y : ℤ) → int_eq x y ≡ t → ((z : State) → z.now ≡ now → equations (suc n) z f m g s ≡ if_true (int_eq x y) (λ _. rest z) (λ _. fails_now z)) → Outcome lo r now now rest (next v)
           → Outcome lo r now now (λ z. equations (suc n) z f m g s) (bind (succeed_if v t) (λ u _. next u))

@@ -16,7 +16,7 @@ use Rattle.alma_implements.proofs.Frames.{shift_in, own_end, SameContent, StandF
 use Rattle.alma_implements.proofs.CarryMaps.{same_place_is, same_itself}
 use Rattle.alma_implements.proofs.Carrying.{Alike, SameOption, kind_in, kind_number, laid_fits}
 use Rattle.alma_implements.proofs.StmtRows.{put_routine}
-use Rattle.alma_templates.proofs.Parts.{Begins, Left, sound_of}
+use Rattle.alma_templates.proofs.Parts.{Begins, Left, put_position, sound_of}
 
 -- two places that differ
 not_same : (f i g j : ℕ) → (f ≡ g → i ≡ j → ⊥) → is_same_place f i g j ≡ false
@@ -72,8 +72,8 @@ module _ (p : Program) (code : PlainCode) (input : List ℕ) where
         subst (λ t. Fits p code lo now (put v f i a) (if t then written now f (shift_in p v f + i) b else now)) is (laid_fits p code lo v now frame_carry store_carry stand one_alike lo (omega arith))
 
   -- the same in words of a phrase
-  pub left_cell : (lo r f i : ℕ) (a : store.Cell) (b : Cell) (v : Store) (now : List PlainFrame) → Begins p code input r v now → f < length v → i < length (get_or v f store.no_frame).cells → kind_in p code v now f i ≡ slot.Number → SameContent p v slot.Number a b
+  pub left_cell : (lo r f i : ℕ) (a : store.Cell) (b : Cell) (v : Store) (now : List PlainFrame) → Begins p code input r v now → f < length v → i < length (get_or v f store.no_frame).cells → kind_in p code v now f i ≡ slot.Number → SameContent p v slot.Number a b → (f ≡ 0 → 0 < i)
       → Left p code input lo r now (put v f i a) (written now f (shift_in p v f + i) b)
-  left_cell lo r f i a b v now begun live there kind content =
+  left_cell lo r f i a b v now begun live there kind content free =
       let fit = cell_fits lo f i a b v now begun.stand live there kind content in
-      record { fits = fit; routine = put_routine v f i a live ∙ begun.routine; sound = sound_of p code input (put v f i a) (written now f (shift_in p v f + i) b) fit.stand }
+      record { fits = fit; routine = put_routine v f i a live ∙ begun.routine; sound = sound_of p code input (put v f i a) (written now f (shift_in p v f + i) b) fit.stand (put_position p code input v f i a free begun.sound.position) }

@@ -38,10 +38,10 @@ use Rattle.alma_templates.specs.Pieces.{unless_whole, fit_code, turn_code}
 use Rattle.alma_templates.specs.Templates.{stmts_code, desig_code, place_at, set_by, count_at, count_code}
 use Rattle.alma_templates.specs.Stands.{Stands}
 use Rattle.alma_templates.proofs.Stands.{stands_front, stands_back}
-use Rattle.alma_templates.proofs.Parts.{Takes, RunsFor, alone_from, Begins, begins, Left, left_self, left_less, left_on, left_temp, has_kind, holds_temp, sound_after, holds_after, value_after, IsValue, PlaceIn, NodeRuns, From, leaving, ending, from_more, from_ending, on_later, then_ending, faults_here}
+use Rattle.alma_templates.proofs.Parts.{Takes, RunsFor, alone_from, Begins, begins, Left, left_self, left_less, left_on, left_temp, has_kind, holds_temp, put_position, sound_after, holds_after, value_after, IsValue, PlaceIn, NodeRuns, From, leaving, ending, from_more, from_ending, on_later, then_ending, faults_here}
 use Rattle.alma_templates.proofs.AtOnce.{BareFits, bare_place}
 use Rattle.alma_templates.proofs.RangeChecks.{whole_within, check_from}
-use Rattle.alma_templates.proofs.Targets.{IsTarget, put_places, left_put}
+use Rattle.alma_templates.proofs.Targets.{IsTarget, put_places, left_put, top_free}
 use Rattle.alma_templates.proofs.FormRuns.{DesigRuns, FitsRange}
 
 module _ (p : Program) (tables : Tables) (code : PlainCode) (input : List ℕ) (below : Level) (r line q : ℕ) (may : Bool) where
@@ -93,7 +93,7 @@ module _ (p : Program) (tables : Tables) (code : PlainCode) (input : List ℕ) (
           let live : top v < length v = omega (arith, b.stand.some) in
           let there = slot_within p code input r counter of_counter v now b.stand b.routine in
           let fit : Fits p code (lo + 1) now v2 t = fits_top p code input r counter of_counter v now b.stand b.routine (lo + 1) y integer in
-          let left : Left p code input (lo + 1) r now v2 t = record { fits = fit; routine = put_routine v (top v) counter (Number y) live ∙ b.routine; sound = sound_after p code input (lo + 1) v v2 now t b.stand fit (put_places p code input v (top v) counter y live there) b.sound } in
+          let left : Left p code input (lo + 1) r now v2 t = record { fits = fit; routine = put_routine v (top v) counter (Number y) live ∙ b.routine; sound = sound_after p code input (lo + 1) v v2 now t b.stand fit (put_places p code input v (top v) counter y live there) (put_position p code input v (top v) counter (Number y) (top_free p code input counter r v now of_counter b)) b.sound } in
           let m = next_count code input line at now held s is (shift p r + counter) (shift p r + limit) lo exit i x hx l by hl step within_limit (slot_has_kind p code input r counter of_counter v now b.stand b.routine) in
           let g = jumps code input line (at + 1) top_at t held m.to m.is j in
           weaker code input line 0 24 (Leaves exit (ending p code input may (lo + 1) r now)) held (again v2) s 7 0 q q (omega arith) (omega arith)
@@ -158,13 +158,13 @@ module _ (p : Program) (tables : Tables) (code : PlainCode) (input : List ℕ) (
         (λ held s is.
             let w = store_step code input line at now held s is (place_at p tables r la d) value h.place x i h.holds hx.holds live.0 in
             record { to = w.to; silently = w.silently; is = record { mode = w.is.mode; here = w.is.here; frames = w.is.frames ∙ here; entries = w.is.entries } }),
-        left_put p code input lo r a.frame a.slot x v now h.numbers.frame there kind hx.integer b,
+        left_put p code input lo r a.frame a.slot x v now h.numbers.frame there kind hx.integer h.numbers.free b,
       )
   set_step (Some from) at lo la value d v now a x fits cells behind b h hx i =
       let t : List PlainFrame = top_written now (shift p r + from) (cell.Int x) in
       let live : top v < length v = omega (arith, b.stand.some) in
       let fit : Fits p code lo now (put_top v from (Number x)) t = fits_top p code input r from fits v now b.stand b.routine lo x hx.integer in
-      let left : Left p code input lo r now (put_top v from (Number x)) t = record { fits = fit; routine = put_routine v (top v) from (Number x) live ∙ b.routine; sound = sound_after p code input lo v (put_top v from (Number x)) now t b.stand fit (put_places p code input v (top v) from x live (slot_within p code input r from fits v now b.stand b.routine)) b.sound } in (
+      let left : Left p code input lo r now (put_top v from (Number x)) t = record { fits = fit; routine = put_routine v (top v) from (Number x) live ∙ b.routine; sound = sound_after p code input lo v (put_top v from (Number x)) now t b.stand fit (put_places p code input v (top v) from x live (slot_within p code input r from fits v now b.stand b.routine)) (put_position p code input v (top v) from (Number x) (top_free p code input from r v now fits b)) b.sound } in (
         t,
         (λ held s is. let w = move_step code input line at now held s is (shift p r + from) value x i (slot_has_kind p code input r from fits v now b.stand b.routine) hx.holds in record { to = w.to; silently = w.silently; is = w.is }),
         subst (λ f. Left p code input lo r now (put v f a.slot (Number x)) t) (sym h.0) (subst (λ n. Left p code input lo r now (put v (top v) n (Number x)) t) (sym h.1) left),

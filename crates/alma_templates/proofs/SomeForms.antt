@@ -39,8 +39,8 @@ use Rattle.alma_templates.proofs.ExprForms.{some_slots as some_of}
 use Rattle.alma_templates.proofs.FormRuns.{DesigRuns, ExprRuns, StatementRuns, FitsRange}
 use Rattle.alma_templates.proofs.ForForms.{variable_from}
 use Rattle.alma_templates.proofs.ForStatement.{for_front, front_from, bounds_from}
-use Rattle.alma_templates.proofs.Parts.{RunsFor, Begins, begins, Left, left_self, left_on, left_temp, sound_after, has_kind, holds_temp, holds_after, From, ending, from_more, from_ending, on_later, fails_here, as_runs, node_runs}
-use Rattle.alma_templates.proofs.Targets.{put_places}
+use Rattle.alma_templates.proofs.Parts.{RunsFor, Begins, begins, Left, left_self, left_on, left_temp, put_position, sound_after, has_kind, holds_temp, holds_after, From, ending, from_more, from_ending, on_later, fails_here, as_runs, node_runs}
+use Rattle.alma_templates.proofs.Targets.{put_places, top_free}
 
 module _ (p : Program) (tables : Tables) (code : PlainCode) (input : List ℕ) (below : Level) (r line q : ℕ) (may : Bool) where
   -- ---- a turn
@@ -128,7 +128,7 @@ module _ (p : Program) (tables : Tables) (code : PlainCode) (input : List ℕ) (
       let live : top v < length v = omega (arith, b.stand.some) in
       let there = slot_within p code input r counter of_counter v t1 b1.stand b1.routine in
       let fit : Fits p code (lo + 1) t1 v2 t2 = fits_top p code input r counter of_counter v t1 b1.stand b1.routine (lo + 1) y integer in
-      let left2 : Left p code input (lo + 1) r t1 v2 t2 = record { fits = fit; routine = put_routine v (top v) counter (Number y) live ∙ b.routine; sound = sound_after p code input (lo + 1) v v2 t1 t2 b1.stand fit (put_places p code input v (top v) counter y live there) b1.sound } in
+      let left2 : Left p code input (lo + 1) r t1 v2 t2 = record { fits = fit; routine = put_routine v (top v) counter (Number y) live ∙ b.routine; sound = sound_after p code input (lo + 1) v v2 t1 t2 b1.stand fit (put_places p code input v (top v) counter y live there) (put_position p code input v (top v) counter (Number y) (top_free p code input counter r v t1 of_counter b1)) b1.sound } in
       let whole : Left p code input (lo + 1) r now v2 t2 = left_on p code input (lo + 1) (lo + 1) r now v v2 t1 t2 (omega arith) left1 left2 in
       on_later p code input may line start exit (lo + 1) (lo + 1) r v2 now t2 (again v2) u (omega arith) (omega (arith, behind)) whole
       (turns v2 t2 y l (begins p code input (lo + 1) r t1 v2 t2 left2) (top_put v counter (Number y) b.stand.some there)
