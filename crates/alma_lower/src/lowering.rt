@@ -47,9 +47,12 @@ pub fn lower(alloc: Global, program: &Program) -> Result<Code, LowerError>
     ensures counts { IfOk result (λ code. KeepsCounts (code_of code)) }
     ensures records { IfOk result (λ code. KeepsRecords (code_of code)) }
     ensures forms { IfOk result (λ code. HasOnlyMade (code_of code)) }
-    ensures few { IfOk result (λ code. length (code_of code).instrs ≤ 16 * nodes (program_of program.now)) }
-    ensures too_much { let size = saturate (16 * nodes (program_of program.now)) in size_limit < size → result ≡ Err (LowerError.TooMuchCode size) }
-    ensures within { let size = saturate (16 * nodes (program_of program.now)) in size ≤ size_limit → (n : ℕ) → result ≡ Err (LowerError.TooMuchCode n) → ⊥ }
+    ensures few { IfOk result (λ code. length (code_of code).instrs ≤ 16 * nodes
+        (program_of program.now)) }
+    ensures too_much { let size = saturate (16 * nodes (program_of program.now)) in size_limit
+        < size → result ≡ Err (LowerError.TooMuchCode size) }
+    ensures within { let size = saturate (16 * nodes (program_of program.now)) in size ≤ size_limit
+        → (n : ℕ) → result ≡ Err (LowerError.TooMuchCode n) → ⊥ }
 {
     let size = size(program);
     if size > SIZE_LIMIT {
@@ -67,7 +70,8 @@ fn compiled(alloc: Global, program: &Program) -> Result<Code, NoMemory>
     requires checked { IsChecked (program_of program.now) }
     requires size { 16 * nodes (program_of program.now) ≤ size_limit }
     ensures code { IfOk result (λ code. IsCodeOf (program_of program.now) (code_of code)) }
-    ensures few { IfOk result (λ code. length (code_of code).instrs ≤ 16 * nodes (program_of program.now)) }
+    ensures few { IfOk result (λ code. length (code_of code).instrs ≤ 16 * nodes
+        (program_of program.now)) }
 {
     let body = &program.routines[0];
     let emit = emitted(alloc, body)?;
@@ -100,9 +104,11 @@ fn emitted(alloc: Global, body: &Routine) -> Result<Emit, NoMemory>
     requires slots { body.now.slots ≤ routine_slot_limit }
     requires size { 16 + 16 * stmts_nodes (stmts_list body.now.body.items) ≤ size_limit }
     ensures code { IfOk result (λ emit. emit.code.items ≡ body_code (routine_of body.now)) }
-    ensures kinds { IfOk result (λ emit. emit.kinds.items ≡ stmts_slots (body_with_lines (routine_of body.now))) }
+    ensures kinds { IfOk result (λ emit. emit.kinds.items ≡ stmts_slots
+        (body_with_lines (routine_of body.now))) }
     ensures base { IfOk result (λ emit. emit.base ≡ body.now.slots) }
-    ensures few { IfOk result (λ emit. length emit.code.items ≤ 16 + 16 * stmts_nodes (stmts_list body.now.body.items)) }
+    ensures few { IfOk result (λ emit. length emit.code.items ≤ 16 + 16 * stmts_nodes
+        (stmts_list body.now.body.items)) }
     ensures room { IfOk result (λ emit. emit.base + length emit.kinds.items ≤ slot_limit) }
     ensures full { IfOk result (λ emit. emitted_count emit ≤ slot_limit) }
 {
