@@ -20,7 +20,7 @@ returns-in-Ok-clause-version c = keeps_version _ _ c.requires.checked c.in-Ok.en
 
 pub returns-in-Ok-clause-counts : goal.returns-in-Ok-clause-counts
 returns-in-Ok-clause-counts c =
-    let small : 16 * nodes (program_of c.args.program.now) ≤ 4194304 = omega (arith, c.if-size-gt-GREATEST_SIZE.false, c.size-size.ensures) in
+    let small : 16 * nodes (program_of c.args.program.now) ≤ 4194304 = omega (arith, c.if-size-gt-SIZE_LIMIT.false, c.size-size.ensures) in
     let sound = is_sound _ _ c.requires.checked c.requires.built c.in-Ok.ensures.code small in
     keeps_counts _ _ c.requires.checked c.in-Ok.ensures.code c.requires.built sound small c.in-Ok.ensures.few
 
