@@ -6,7 +6,7 @@ use Rattle.std.proofs.lemmas.Slice.Eq.{bytes_eq-Decides}
 use Rattle.std.proofs.lemmas.Bool.{cases_lt}
 use Rattle.alma_base.specs.Limits.{size_limit}
 use Rattle.alma_io.specs.Causes.{Rose}
-use Rattle.alma_io.specs.Files.{ MayHave, NowHas, IsFetched, IsStored}
+use Rattle.alma_io.specs.Files.{MayHave, NowHas, IsFetched, IsStored}
 use Rattle.alma_io.specs.declared.files.Fetch.{Fetch}
 use Rattle.alma_io.specs.declared.files.Fetch.TheVariants as fetch
 use Rattle.alma_io.specs.declared.files.StoreFault.{StoreFault}
@@ -250,8 +250,11 @@ works_compiled p code object f f' a end sound implements version counts records 
 pub works_refused : (p : Program) (object : List ℕ) (error : LowerError) (f : FilesSide) (a : SinkSide) → IsUnlowered p error
     → Works (CompileOutcome p object) f f a a (lower_end error)
 works_refused p object error f a (large past e) =
-    inl (files_same f, subst (Goes (Keeps (CompileOutcome p object)) a a) (sym e)
-    (silent (TooMuchCode (size_of p)), refl, (past_size past refl, refl), gains_none a))
+    inl (
+      files_same f,
+      subst (Goes (Keeps (CompileOutcome p object)) a a) (sym e)
+          (silent (TooMuchCode (size_of p)), refl, (past_size past refl, refl), gains_none a),
+    )
 works_refused p object error f a (starved e) =
     inl (files_same f, subst (Goes (Keeps (CompileOutcome p object)) a a) (sym e) (goes_starved (Keeps (CompileOutcome p object)) a))
 

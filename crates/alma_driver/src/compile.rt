@@ -52,12 +52,7 @@ fn store_code<F: Files>(alloc: Global, code: &Code, object: &str, files: &mut F)
 }
 
 // Compiles a program, and stores its object.
-fn compile_program<F: Files>(
-    alloc: Global,
-    program: &Program,
-    object: &str,
-    files: &mut F,
-) -> End
+fn compile_program<F: Files>(alloc: Global, program: &Program, object: &str, files: &mut F) -> End
     requires checked { IsChecked (program_of program.now) }
     requires built { IsBuilt (program_of program.now) }
     ensures fetch_count { F.fetch_faults files.new ≡ F.fetch_faults files.old }
@@ -73,12 +68,7 @@ fn compile_program<F: Files>(
 }
 
 /// Compiles a source, and stores its object under a name. Nothing is printed.
-pub fn compile_source<F: Files>(
-    alloc: Global,
-    source: &[u8],
-    object: &str,
-    files: &mut F,
-) -> End
+pub fn compile_source<F: Files>(alloc: Global, source: &[u8], object: &str, files: &mut F) -> End
     requires short { length source.now ≤ source_limit }
     ensures fetch_count { F.fetch_faults files.new ≡ F.fetch_faults files.old }
     ensures course { (out : SinkSide) → Works (SourceOutcome source.now

@@ -117,7 +117,11 @@ fn split_name(words: &[String]) -> Option<(&str, &[String])>
 {
     match split_word(words) {
         Some((name, rest)) => {
-            if is_file_name(name) { Some((name, rest)) } else { None }
+            if is_file_name(name) {
+                Some((name, rest))
+            } else {
+                None
+            }
         }
         None => None,
     }

@@ -11,5 +11,7 @@ returns-in-Ok-clause-course g c = λ out. rw (c.deref.ensures.value, c.in-Ok.ens
 
 pub returns-in-Err-clause-course : goal.returns-in-Err-clause-course
 returns-in-Err-clause-course g c = λ out.
-    inl (files_same (files_side (g.F.Files.told c.args.files.now) (g.F.Files.fetch_faults c.args.files.now) (g.F.Files.store_faults c.args.files.now)),
-    goes_starved (Keeps (IsStoring c.args.object.now (object_bytes (code_of c.args.code.now)))) out)
+    inl (
+      files_same (files_side (g.F.Files.told c.args.files.now) (g.F.Files.fetch_faults c.args.files.now) (g.F.Files.store_faults c.args.files.now)),
+      goes_starved (Keeps (IsStoring c.args.object.now (object_bytes (code_of c.args.code.now)))) out,
+    )
