@@ -146,7 +146,7 @@ pub compiled_within : (p : Program) (code : Code) → (size_limit < size_of p �
 compiled_within p code too_much = by (cases_lt size_limit (size_of p))
   where
     by : (size_limit < size_of p) ⊎ (size_of p ≤ size_limit) → size_of p ≤ size_limit
-    by (inl large) = cc (too_much large)
+    by (inl past) = cc (too_much past)
     by (inr small) = small
 
 -- a program that was compiled and run
@@ -220,7 +220,7 @@ told_stays f f' name others same other = by (bytes_eq other name) refl
 pub works_unstored : (f f' : FilesSide) (name bytes : List ℕ) (fault : StoreFault) (a : SinkSide) → OthersStay f f' name
     → IsStored (f.told name) (f'.told name) bytes f.store_faults f'.store_faults (Err fault) → Works (IsStoring name bytes) f f' a a (store_end fault)
 works_unstored f f' name bytes store.Failed a others h =
-    inr (failed (storing name bytes) (stored_as name bytes) refl refl (gains_none a) (others, h.0, h.1) refl)
+    inr (failed (storing name bytes) (stored_as name bytes) refl refl (gains_none a) (others, (h.0, h.1)) refl)
 works_unstored f f' name bytes store.Memory a others h =
     inl ((told_stays f f' name others h.0, h.1), goes_starved (Keeps (IsStoring name bytes)) a)
 
@@ -236,7 +236,7 @@ works_after P f m f' a b end s (inl w) = inl ((λ name. w.0.0 name ∙ s.0 name,
 works_after P f m f' a b end s (inr (done due stored o is gains has e)) =
     inr (done due stored o is gains (λ other ne. has.0 other ne ∙ s.0 other, subst (λ t. NowHas t (f'.told stored.name) stored.bytes) (s.0 stored.name) has.1, has.2 ∙ s.1) e)
 works_after P f m f' a b end s (inr (failed due stored o is gains fails e)) =
-    inr (failed due stored o is gains (λ other ne. fails.0 other ne ∙ s.0 other, subst (λ (n : ℕ). n ≤ f'.store_faults) s.1 fails.1.0, subst (λ (n : ℕ). Rose n f'.store_faults) s.1 fails.1.1) e)
+    inr (failed due stored o is gains (λ other ne. fails.0 other ne ∙ s.0 other, (subst (λ (n : ℕ). n ≤ f'.store_faults) s.1 fails.1.0, subst (λ (n : ℕ). Rose n f'.store_faults) s.1 fails.1.1)) e)
 
 -- a program that was compiled and stored
 pub works_compiled : (p : Program) (code : PlainCode) (object : List ℕ) (f f' : FilesSide) (a : SinkSide) (end : End) → IsSound code → Implements code p
@@ -277,11 +277,11 @@ program_keeps : (p : Program) (steps : ℕ) (due : Due) → ProgramOutcome p ste
 program_keeps p steps due (ran code size sound implements e) = ap (λ (d : Due). d.stored) e
 program_keeps p steps due (too_much_code size e) = ap (λ (d : Due). d.stored) e
 
-run_keeps : (source : List ℕ) (steps : ℕ) (due : Due) → SourceOutcome source (λ p. ProgramOutcome p steps) due → due.stored ≡ None
+pub run_keeps : (source : List ℕ) (steps : ℕ) (due : Due) → SourceOutcome source (λ p. ProgramOutcome p steps) due → due.stored ≡ None
 run_keeps source steps due (stopped end h e) = ap (λ (d : Due). d.stored) e
 run_keeps source steps due (compiled p parsed is o) = program_keeps p steps due o
 
-list_keeps : (bytes : List ℕ) (due : Due) → ListOutcome bytes due → due.stored ≡ None
+pub list_keeps : (bytes : List ℕ) (due : Due) → ListOutcome bytes due → due.stored ≡ None
 list_keeps bytes due (listed clean is e) = ap (λ (d : Due). d.stored) e
 list_keeps bytes due (no_object fault is e) = ap (λ (d : Due). d.stored) e
 

@@ -27,7 +27,7 @@ pub enum Request<'w> {
 impl<'w> Request<'w> {
     /// The name of the file that is read.
     pub fn file(self) -> &'w str
-        ensures { result.now ≡ read_by (asked self) }
+        ensures { result.now ≡ read_by (asked self.entry) }
     {
         match self {
             Request::Run(file, _) => file,
@@ -38,7 +38,7 @@ impl<'w> Request<'w> {
 
     /// The greatest number of bytes of that file.
     pub fn limit(self) -> usize
-        ensures { result ≡ limit_of (asked self) }
+        ensures { result ≡ limit_of (asked self.entry) }
     {
         match self {
             Request::Run(_, _) | Request::Compile(_, _) => SOURCE_LIMIT,

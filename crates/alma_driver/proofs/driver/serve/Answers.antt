@@ -13,7 +13,7 @@ pub returns-in-Ok : goal.returns-in-Ok
 returns-in-Ok g c =
     let got = rw (c.file.ensures, c.limit.ensures) at c.in-Ok.ensures.answer in
     performs_fetched (files_side (g.F.Files.told c.args.files.now) (g.F.Files.fetch_faults c.args.files.now) (g.F.Files.store_faults c.args.files.now))
-    (files_side (g.F.Files.told c.fetch.new.files) (g.F.Files.fetch_faults c.fetch.new.files) (g.F.Files.store_faults c.fetch.new.files))
+    (files_side (g.F.Files.told c.fetch.new.self) (g.F.Files.fetch_faults c.fetch.new.self) (g.F.Files.store_faults c.fetch.new.self))
     (files_side (g.F.Files.told c.serve_file.new.files) (g.F.Files.fetch_faults c.serve_file.new.files) (g.F.Files.store_faults c.serve_file.new.files))
     (asked c.args.request) c.in-Ok.bytes.items (sink_side (g.O.Sink.written c.args.out.now) (g.O.Sink.faults c.args.out.now))
     (sink_side (g.O.Sink.written c.serve_file.new.out) (g.O.Sink.faults c.serve_file.new.out)) c.serve_file.result
@@ -23,6 +23,6 @@ returns-in-Ok g c =
 pub returns-in-Err : goal.returns-in-Err
 returns-in-Err g c =
     rw c.from.ensures (performs_unfetched (files_side (g.F.Files.told c.args.files.now) (g.F.Files.fetch_faults c.args.files.now) (g.F.Files.store_faults c.args.files.now))
-    (files_side (g.F.Files.told c.fetch.new.files) (g.F.Files.fetch_faults c.fetch.new.files) (g.F.Files.store_faults c.fetch.new.files))
+    (files_side (g.F.Files.told c.fetch.new.self) (g.F.Files.fetch_faults c.fetch.new.self) (g.F.Files.store_faults c.fetch.new.self))
     (asked c.args.request) c.in-Err.fault (sink_side (g.O.Sink.written c.args.out.now) (g.O.Sink.faults c.args.out.now))
     (c.in-Err.ensures.same, c.in-Err.ensures.store_count) (rw (c.file.ensures, c.limit.ensures) at c.in-Err.ensures.answer))
