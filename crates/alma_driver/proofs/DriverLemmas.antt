@@ -6,7 +6,7 @@ use Rattle.std.proofs.lemmas.Slice.Eq.{bytes_eq-Decides}
 use Rattle.std.proofs.lemmas.Bool.{cases_lt}
 use Rattle.alma_base.specs.Limits.{size_limit}
 use Rattle.alma_io.specs.Causes.{Rose}
-use Rattle.alma_io.specs.Files.{MayHave, NowHas, IsFetched, IsStored}
+use Rattle.alma_io.specs.Files.{Told, MayHave, NowHas, IsFetched, IsStored}
 use Rattle.alma_io.specs.declared.files.Fetch.{Fetch}
 use Rattle.alma_io.specs.declared.files.Fetch.TheVariants as fetch
 use Rattle.alma_io.specs.declared.files.StoreFault.{StoreFault}
@@ -313,6 +313,13 @@ pub limit_small : (r : Request) → limit_of r < 2 ^ 62
 limit_small (Run name steps) = omega arith
 limit_small (Compile name object) = omega arith
 limit_small (Listing object) = omega arith
+
+-- a fetch of this name with this limit is that of the request
+pub fetch_of : (told : List ℕ → Told) (name : List ℕ) (limit : ℕ) (r : Request) (before now : ℕ) (fault : Fetch) → name ≡ read_by r → limit ≡ limit_of r
+    → IsFetched (told name) limit before now (Err fault) → IsFetched (told (read_by r)) (limit_of r) before now (Err fault)
+fetch_of told name limit r before now fault e l h =
+    subst (λ (n : List ℕ). IsFetched (told n) (limit_of r) before now (Err fault)) e
+    (subst (λ (k : ℕ). IsFetched (told name) k before now (Err fault)) l h)
 
 -- a file that was not fetched
 pub performs_unfetched : (f f' : FilesSide) (r : Request) (fault : Fetch) (a : SinkSide) → FilesStay f f'

@@ -1,6 +1,6 @@
 use Rattle.alma_driver.specs.Words.{asked}
 use Rattle.alma_driver.specs.Outside.{files_side, sink_side}
-use Rattle.alma_driver.proofs.DriverLemmas.{limit_small, performs_fetched, performs_unfetched}
+use Rattle.alma_driver.proofs.DriverLemmas.{limit_small, fetch_of, performs_fetched, performs_unfetched}
 use Rattle.alma_driver.proofs.driver.serve.Goals as goal
 
 pub fetch-requires : goal.fetch-requires
@@ -25,4 +25,5 @@ returns-in-Err g c =
     rw c.from.ensures (performs_unfetched (files_side (g.F.Files.told c.args.files.now) (g.F.Files.fetch_faults c.args.files.now) (g.F.Files.store_faults c.args.files.now))
     (files_side (g.F.Files.told c.fetch.new.self) (g.F.Files.fetch_faults c.fetch.new.self) (g.F.Files.store_faults c.fetch.new.self))
     (asked c.args.request) c.in-Err.fault (sink_side (g.O.Sink.written c.args.out.now) (g.O.Sink.faults c.args.out.now))
-    (c.in-Err.ensures.same, c.in-Err.ensures.store_count) (rw (c.file.ensures, c.limit.ensures) at c.in-Err.ensures.answer))
+    (c.in-Err.ensures.same, c.in-Err.ensures.store_count) (fetch_of (g.F.Files.told c.args.files.now) c.file.result.now c.limit.result (asked c.args.request) (g.F.Files.fetch_faults c.args.files.now)
+    (g.F.Files.fetch_faults c.fetch.new.self) c.in-Err.fault c.file.ensures c.limit.ensures c.in-Err.ensures.answer))

@@ -8,9 +8,6 @@ run_source-requires-clause-short g c = rw c.in-Run.is at c.requires.short
 pub run_source-requires-clause-few : goal.run_source-requires-clause-few
 run_source-requires-clause-few g c = rw c.in-Run.is at c.requires.steps
 
-pub compile_source-requires-clause-short : goal.compile_source-requires-clause-short
-compile_source-requires-clause-short g c = rw c.in-Compile.is at c.requires.short
-
 pub returns-in-Run-clause-course : goal.returns-in-Run-clause-course
 returns-in-Run-clause-course g c =
     rw c.in-Run.is (works_run c.args.bytes.now c.in-Run.steps

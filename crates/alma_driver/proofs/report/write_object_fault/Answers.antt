@@ -13,9 +13,9 @@ returns-in-None-clause-ok g c =
 pub returns-in-Some-clause-ok : goal.returns-in-Some-clause-ok
 returns-in-Some-clause-ok g c =
     let same = numbered_parts c.args.fault c.in-Some.number _ _ _ _ _ (sym c.object_fault_number.ensures ∙ c.in-Some.is) c.as_slice-front.ensures c.object_fault_name-name.ensures c.as_slice.ensures (c.as_bytes-number.ensures.value ∙ c.format.ensures.text) c.as_slice-end.ensures in
-    subst (λ (bytes : List ℕ). OnOk c.write_parts-2.result (Appends (g.E.Sink.written c.args.err.now) (g.E.Sink.written c.write_parts-2.new.err) bytes)) same c.write_parts-2.ensures.ok
+    subst (λ (bytes : List ℕ). OnOk c.write_parts-in-Some.result (Appends (g.E.Sink.written c.args.err.now) (g.E.Sink.written c.write_parts-in-Some.new.err) bytes)) same c.write_parts-in-Some.ensures.ok
 
 pub returns-in-Some-clause-front : goal.returns-in-Some-clause-front
 returns-in-Some-clause-front g c =
     let same = numbered_parts c.args.fault c.in-Some.number _ _ _ _ _ (sym c.object_fault_number.ensures ∙ c.in-Some.is) c.as_slice-front.ensures c.object_fault_name-name.ensures c.as_slice.ensures (c.as_bytes-number.ensures.value ∙ c.format.ensures.text) c.as_slice-end.ensures in
-    subst (λ (bytes : List ℕ). OnErr c.write_parts-2.result (AppendsFront (g.E.Sink.written c.args.err.now) (g.E.Sink.written c.write_parts-2.new.err) bytes)) same c.write_parts-2.ensures.front
+    subst (λ (bytes : List ℕ). OnErr c.write_parts-in-Some.result (AppendsFront (g.E.Sink.written c.args.err.now) (g.E.Sink.written c.write_parts-in-Some.new.err) bytes)) same c.write_parts-in-Some.ensures.front
