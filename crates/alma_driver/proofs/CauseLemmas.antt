@@ -8,13 +8,13 @@ use Rattle.alma_io.specs.Causes.{Rose}
 use Rattle.alma_io.specs.Files.{Told, Missing, MayHave, MayPass}
 use Rattle.alma_ir.specs.Tree.{Program}
 use Rattle.alma_code.specs.Machine.{Mode, Going, Failing, Ended, Stuck}
-use Rattle.alma_implements.specs.Implements.{state_after, printed_by, line_in}
+use Rattle.alma_implements.specs.Implements.{state_after, line_in}
 use Rattle.alma_code.specs.declared.step.End.TheVariants as code_end
 use Rattle.alma_driver.specs.Words.{Request, Run, Compile, Listing, Asks, file_of, read_by, limit_of}
 use Rattle.alma_driver.specs.Outside.{SinkSide, FilesSide, FilesStay, Outside}
 use Rattle.alma_driver.specs.Ends.{mode_end, status_of, text_of}
-use Rattle.alma_driver.specs.Outcome.{Due, Stored, size_of, ProgramOutcome, ran, too_much_code, CompileOutcome, made, past_size, IsSourceEnd, refused, not_yet, SourceOutcome, stopped, compiled, ListOutcome, listed, no_object, FileOutcome, RequestOutcome, absent, too_long, fetched, Outcome, bad_word, asks, Lacks}
-use Rattle.alma_driver.specs.Course.{Gains, FailsWithin, GainsPrefix, Goes, OthersStay, HasStored, FailsToStore, Keeps, Stores, done, failed, Works, FailsToFetch, Performs, Reports, Answers}
+use Rattle.alma_driver.specs.Outcome.{Due, Stored, ProgramOutcome, ran, too_much_code, CompileOutcome, made, past_size, IsSourceEnd, refused, not_yet, SourceOutcome, stopped, compiled, ListOutcome, listed, no_object, FileOutcome, RequestOutcome, absent, too_long, fetched, Outcome, bad_word, asks, Lacks}
+use Rattle.alma_driver.specs.Course.{Gains, FailsWithin, GainsPrefix, Goes, OthersStay, FailsToStore, Keeps, Stores, done, failed, Works, FailsToFetch, Performs, Reports, Answers}
 use Rattle.alma_driver.specs.Causes.{Causes, WriteFailed, WritesGrew, Become, IsStoredName}
 use Rattle.alma_driver.specs.declared.end.End.{End}
 use Rattle.alma_driver.specs.declared.end.End.TheVariants.{Succeeded, Failed, BadWord, Refused, Faulted, StepsOut, ReadFault, WriteFault, Memory, BadObject, TooLong, TooMuchCode, NotYet}

@@ -1,5 +1,5 @@
 -- From what the parts of a call ensure to how the call may go.
-use Rattle.std.proofs.Common.{◌≡◌, ◌≢◌, ◌≤◌, ◌<◌, ◌^◌, ◌∙◌, ℕ, List, [], length, ap, sym, subst, refl, inl, inr, arith}
+use Rattle.std.proofs.Common.{◌≡◌, ◌≤◌, ◌<◌, ◌^◌, ◌∙◌, ℕ, List, [], length, ap, sym, subst, refl, inl, inr, arith}
 use Rattle.std.specs.Prelude.{◌⊎◌, Bool, true, false, Result, Ok, Err, None, Some}
 use Rattle.std.specs.Str.{bytes_eq}
 use Rattle.std.proofs.lemmas.Slice.Eq.{bytes_eq-Decides}
@@ -39,7 +39,7 @@ use Rattle.alma_driver.specs.Refusal.{IsRefused, IsParsed, place_of}
 use Rattle.alma_driver.specs.declared.fault.SourceFault.{SourceFault}
 use Rattle.alma_driver.specs.Ends.{lower_end, read_end, words_end, fetch_end, store_end}
 use Rattle.alma_driver.specs.Outcome.{Due, Stored, due_of, silent, storing, size_of, ProgramOutcome, ran, too_much_code, CompileOutcome, made, past_size, IsSourceEnd, refused, not_yet, IsStop, SourceOutcome, stopped, compiled, object_code, ListOutcome, listed, no_object, FileOutcome, RequestOutcome, absent, too_long, fetched, Outcome, bad_word, asks}
-use Rattle.alma_driver.specs.Course.{Gains, GainsPrefix, Goes, OthersStay, HasStored, Keeps, Stores, done, failed, Works, Performs}
+use Rattle.alma_driver.specs.Course.{Gains, GainsPrefix, Goes, OthersStay, Keeps, done, failed, Works, Performs}
 use Rattle.alma_driver.specs.declared.words.WordsError.{WordsError}
 use Rattle.alma_driver.specs.declared.words.WordsError.TheVariants as words
 use Rattle.alma_driver.specs.declared.end.End.{End}

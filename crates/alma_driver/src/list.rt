@@ -1,5 +1,5 @@
 // The command `list`.
-ghost use Rattle.std.specs.Prelude.{◌≡◌, None};
+ghost use Rattle.std.specs.Prelude.{◌≡◌};
 ghost use Rattle.alma_code.specs.ListText.{list_text as list_text_of};
 ghost use Rattle.alma_code.specs.Plain.{code_of};
 ghost use Rattle.alma_object.specs.View.{code_of_view};

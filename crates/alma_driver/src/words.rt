@@ -1,5 +1,5 @@
 // The words of a call.
-ghost use Rattle.std.specs.Prelude.{◌≡◌, ◌∷◌, ℕ, [], ◌++◌, ◌↔◌, codes, IsTrue, MatchOption};
+ghost use Rattle.std.specs.Prelude.{◌≡◌, ◌∷◌, ℕ, [], ◌↔◌, codes, IsTrue, MatchOption};
 ghost use Rattle.alma_driver.specs.Words.{Reads, texts, asked, file_of, read_by, limit_of, IsFileName, LacksName, IsStepsOption, NamesSteps};
 
 use alma_base::{OBJECT_LIMIT, SOURCE_LIMIT};

@@ -1,4 +1,3 @@
-use Rattle.std.specs.Prelude.{List, ℕ}
 use Rattle.std.proofs.Common.{refl}
 use Rattle.alma_driver.specs.Outcome.{due_of}
 use Rattle.alma_driver.specs.declared.end.End.TheVariants.{Succeeded}
