@@ -59,7 +59,7 @@ put_count [] f n c = refl
 put_count (g ∷ v) zero n c = refl
 put_count (g ∷ v) (suc f) n c = ap suc (put_count v f n c)
 
-put_here : (v : Store) (f n : ℕ) (c : store.Cell) → f < length v → n < length (get_or v f store.no_frame).cells → store.cell_at (put v f n c) f n ≡ c
+pub put_here : (v : Store) (f n : ℕ) (c : store.Cell) → f < length v → n < length (get_or v f store.no_frame).cells → store.cell_at (put v f n c) f n ≡ c
 put_here v f n c lt there =
     ap (λ z. get_or (get_or z f store.no_frame).cells n Unknown) (put_is v f n c lt) ∙ ap (λ g. get_or g.cells n Unknown) (get_or-set_same v f (store.with_cell (get_or v f store.no_frame) n c) store.no_frame lt)
     ∙ get_or-set_same (get_or v f store.no_frame).cells n c Unknown there

@@ -203,7 +203,7 @@ module _ (p : Program) (tables : Tables) (code : PlainCode) (input : List ℕ) (
   abbrev Ends : (at lo : ℕ) → Store → List PlainFrame → Events NoYield → Type 0
   Ends at lo v now e = From p code input line 8 at (at + 1) now (leaving p code input lo r now (Nothing p code input)) e q
 
-  passes_with : (at lo : ℕ) (v w : Store) (now t : List PlainFrame) → own_end p r ≤ lo → Begins p code input r v now → Left p code input lo r now w t → ((held : List PlainEntry) (s : State) → IsAt at now held s → step code input s ≡ went (record (passed code input s) { now = t })) → Ends at lo v now (one w tt)
+  pub passes_with : (at lo : ℕ) (v w : Store) (now t : List PlainFrame) → own_end p r ≤ lo → Begins p code input r v now → Left p code input lo r now w t → ((held : List PlainEntry) (s : State) → IsAt at now held s → step code input s ≡ went (record (passed code input s) { now = t })) → Ends at lo v now (one w tt)
   passes_with at lo v w now t behind b left steps =
       step_from p code input line 7 at (at + 1) (at + 1) lo r w now t (Nothing p code input) (one w tt) q behind
       (λ held s is. record { to = record (passed code input s) { now = t }; silently = went_on code input s (record (passed code input s) { now = t }) (steps held s is); is = record { mode = is.mode; here = ap (λ n. n + 1) is.here; frames = refl; entries = is.entries } }) left

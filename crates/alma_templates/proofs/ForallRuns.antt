@@ -75,7 +75,7 @@ CarriesPosition carry = (a : store.Cell) → carried_at 0 0 carry ≡ Some a →
 
 module _ (p : Program) (code : PlainCode) (input : List ℕ) where
   -- there is such a cell
-  position_there : (v : Store) → Positioned p code input v → 0 < length (get_or v 0 store.no_frame).cells
+  pub position_there : (v : Store) → Positioned p code input v → 0 < length (get_or v 0 store.no_frame).cells
   position_there v h = elim (cases_lt 0 (length (get_or v 0 store.no_frame).cells)) [
     | inl there ↦ there
     | inr past ↦ let bad : Unknown ≡ Number (pos h.at) = sym (get_or_past (get_or v 0 store.no_frame).cells 0 Unknown past) ∙ h.is in absurd (cc)

@@ -35,3 +35,4 @@ pub mod ForStatement
 pub mod SomeForms
 pub mod CellsMoved
 pub mod CellRuns
+pub mod ReadForms
