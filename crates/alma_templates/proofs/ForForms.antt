@@ -96,10 +96,10 @@ module _ (p : Program) (tables : Tables) (code : PlainCode) (input : List ℕ) (
           let left : Left p code input (lo + 1) r now v2 t = record { fits = fit; routine = put_routine v (top v) counter (Number y) live ∙ b.routine; sound = sound_after p code input (lo + 1) v v2 now t b.stand fit (put_places p code input v (top v) counter y live there) (put_position p code input v (top v) counter (Number y) (top_free p code input counter r v now of_counter b)) b.sound } in
           let m = next_count code input line at now held s is (shift p r + counter) (shift p r + limit) lo exit i x hx l by hl step within_limit (slot_has_kind p code input r counter of_counter v now b.stand b.routine) in
           let g = jumps code input line (at + 1) top_at t held m.to m.is j in
-          weaker code input line 0 24 (Leaves exit (ending p code input may (lo + 1) r now)) held (again v2) s 7 0 q q (omega arith) (omega arith)
+          before code input line 0 24 (Leaves exit (ending p code input may (lo + 1) r now)) held (again v2) s m.to 1 7 0 q (q - 1) m.silently (omega arith) (omega arith)
           (on_later p code input may line top_at exit (lo + 1) (lo + 1) r v2 now t (again v2) u (omega arith) (omega (arith, behind)) left
           (turns v2 t y (begins p code input (lo + 1) r now v2 t left) (top_put v counter (Number y) b.stand.some there) (holds_after p code input (lo + 1) r lo (cell.Int by) v v2 now t b behind (omega arith) left step))
-          2 q (omega arith) (omega (arith, owes)) held s g.to (and_then code input m.silently g.silently) g.is)
+          1 (q - 1) (omega arith) (omega (arith, owes)) held m.to g.to g.silently g.is)
 
       by_limit : (x : ℤ) → top_cell v counter ≡ Number x → is_integer x ≡ true → Holds now (shift p r + counter) (cell.Int x) → SlotThere p code input v now limit (shift p r + limit)
           → Goal (read_cell (top_cell v limit) (λ l. if_true (is_beyond (x +ℤ by) l by) (λ _. one v tt) (λ _. again (put_top v counter (Number (x +ℤ by))))))

@@ -235,7 +235,7 @@ module _ (p : Program) (tables : Tables) (code : PlainCode) (input : List ℕ) (
       let next : ℕ = at + length front in
       stands_front code at front (some_turns line next (shift p r + counter) (shift p r + limit) lo (lo + 1) (behind_expr p r (lo + 1) from) more (turn_made (bare_desig d) (next + 7) (more + 1) d range counter body)) stands
 
-  pub some_runs : (at lo u : ℕ) (d : Desig) (range : Range) (counter limit : ℕ) (from to : Expr) (by : ℤ) (body : Stmts) → desig_cells d ≡ 1 → q ≤ 4 + u → counter ≢ limit
+  pub some_runs : (at lo u : ℕ) (d : Desig) (range : Range) (counter limit : ℕ) (from to : Expr) (by : ℤ) (body : Stmts) → desig_cells d ≡ 1 → q ≤ u → counter ≢ limit
       → HasSlots p code r lo (some_slots p r (a_loop d range counter limit from to by body)) → AreVariables p code input r counter 1 → AreVariables p code input r limit 1
       → ExprRuns p tables code input below r line q (at + 1) (lo + 1) from → ((next : ℕ) → ExprRuns p tables code input below r line q next (behind_expr p r (lo + 1) from) to)
       → TurnsOn (some_top at lo from to) (some_exit at lo (a_loop d range counter limit from to by body)) lo counter limit (turn_some p input below (a_loop d range counter limit from to by body)) u
