@@ -253,7 +253,7 @@ module _ (p : Program) (tables : Tables) (code : PlainCode) (input : List ℕ) (
 
     pub front_from : {A : Type 0} (args : Args) (lo la at exit : ℕ) (yields : Store → A → List PlainFrame → Type 0) (k : Store → List ArgValue → Events A) (v : Store) (now : List PlainFrame)
         → ArgsFit (routine_at p called).params args → own_end p r ≤ lo → lo ≤ la → HasSlots p code r la (call_links p r called up ++ (handed_slots args ++ args_slots p r args))
-        → ((m first : ℕ) → ArgParts p tables code input below r line q m first (first + length (handed_slots args)) args)
+        → ((m first : ℕ) → HasSlots p code r (first + length (handed_slots args)) (args_slots p r args) → ArgParts p tables code input below r line q m first (first + length (handed_slots args)) args)
         → let first : ℕ = la + length (call_links p r called up) in
         let link : List Lined = own line (link_if p tables r (shift_of p called) up la) in
         let given : List Lined = args_code p tables r line (at + length link) first (first + length (handed_slots args)) args in
@@ -276,7 +276,7 @@ module _ (p : Program) (tables : Tables) (code : PlainCode) (input : List ℕ) (
         let both : m + length given ≡ at + length (link ++ given) = omega (arith, length-append link given) in
         before code input line 0 24 (Leaves exit w) held (bind (ev_args p input below args v) k) s z.to z.steps 24 8 q q z.silently (omega (arith, z.few)) (omega arith)
         (bind_goes code input line 8 0 24 (Leaves (m + length given) wa) (Leaves exit w) held (ev_args p input below args v) k z.to 8 q 8 (omega arith) (omega arith)
-        (args_run p tables code input below r line q args (routine_at p called).params m first (first + length (handed_slots args)) fits callee.first.cells (slots_first p code input r first (handed_slots args) (args_slots p r args) behind) (omega arith) (parts m first) (stands_back code at link given stands) v z.frames b1 8 (omega arith) held z.to z.is)
+        (args_run p tables code input below r line q args (routine_at p called).params m first (first + length (handed_slots args)) fits callee.first.cells (slots_first p code input r first (handed_slots args) (args_slots p r args) behind) (omega arith) (parts m first (slots_behind p code input r first (handed_slots args) (args_slots p r args) behind)) (stands_back code at link given stands) v z.frames b1 8 (omega arith) held z.to z.is)
         (λ u taken t base going left.
         let done = left.1.1 in
         let whole : Left p code input la r now u t.now = left_on p code input la first r now v u z.frames t.now (omega arith) z.left left.1.0 in
@@ -389,7 +389,7 @@ module _ (p : Program) (tables : Tables) (code : PlainCode) (input : List ℕ) (
 
     module _ (none : (routine_at p called).result ≡ None) where
       pub call_test_runs : (args : Args) (lo at : ℕ) → ArgsFit (routine_at p called).params args → HasSlots p code r lo (test_slots p r (CallTest called args up))
-          → ((m first : ℕ) → ArgParts p tables code input below r line (suc q) m first (first + length (handed_slots args)) args)
+          → ((m first : ℕ) → HasSlots p code r (first + length (handed_slots args)) (args_slots p r args) → ArgParts p tables code input below r line (suc q) m first (first + length (handed_slots args)) args)
           → NodeFor p code input r line at lo (test_code p tables r line at lo (CallTest called args up)) (ev_test p input below (CallTest called args up)) (Nothing p code input) (suc q)
       unfolding ev_stmts
       call_test_runs args lo at fits slots parts stands v now b =
@@ -486,7 +486,7 @@ module _ (p : Program) (tables : Tables) (code : PlainCode) (input : List ℕ) (
               }
 
       pub call_expr_runs : (args : Args) (lo at : ℕ) → ArgsFit (routine_at p called).params args → HasSlots p code r lo (expr_slots p r (CallExpr called args up))
-          → ((m first : ℕ) → ArgParts p tables code input below r line (suc q) m first (first + length (handed_slots args)) args)
+          → ((m first : ℕ) → HasSlots p code r (first + length (handed_slots args)) (args_slots p r args) → ArgParts p tables code input below r line (suc q) m first (first + length (handed_slots args)) args)
           → NodeFor p code input r line at lo (expr_code p tables r line at lo (CallExpr called args up)) (ev_expr p input below (CallExpr called args up)) (ValueIn p code input lo) (suc q)
       unfolding ev_stmts
       call_expr_runs args lo at fits slots parts stands v now b =

@@ -36,3 +36,4 @@ pub mod SomeForms
 pub mod CellsMoved
 pub mod CellRuns
 pub mod ReadForms
+pub mod Asked
