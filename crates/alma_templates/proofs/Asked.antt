@@ -50,7 +50,7 @@ first_positive (l ∷ ls) h le = omega (arith, h.0)
 
 -- ---- phrases with lines have the cells of those without
 
-sel_cells_with : (x : Sel) (ls : List ℕ) → sel_cells (sel_with x ls) ≡ sel_cells x
+pub sel_cells_with : (x : Sel) (ls : List ℕ) → sel_cells (sel_with x ls) ≡ sel_cells x
 unfolding sel_with
 sel_cells_with (Field offset cells) ls = refl
 sel_cells_with (Index e range cells) ls = refl
@@ -136,6 +136,16 @@ module _ (p : Program) (tables : Tables) (code : PlainCode) (input : List ℕ) w
   fine_back r xs ys ls h = record {
     asked = each_of_back (Asked r) xs ys h.asked;
     lines = record { positive = each_drop (λ l. 0 < l) (stmt_count xs) ls h.lines.positive; enough = omega (arith, h.lines.enough, count_sum xs ys, drop_long (stmt_count xs) ls) };
+  }
+
+  -- where the lines of the second list come first
+  pub swapped_first : (r : ℕ) (xs ys : List Phrase) (ls : List ℕ) → Fine r (xs ++ ys) ls → Fine r ys ls
+  swapped_first r xs ys ls h = record { asked = each_of_back (Asked r) xs ys h.asked; lines = record { positive = h.lines.positive; enough = omega (arith, h.lines.enough, count_sum xs ys) } }
+
+  pub swapped_second : (r : ℕ) (xs ys : List Phrase) (ls : List ℕ) → Fine r (xs ++ ys) ls → Fine r xs (behind ys ls)
+  swapped_second r xs ys ls h = record {
+    asked = each_of_front (Asked r) xs ys h.asked;
+    lines = record { positive = each_drop (λ l. 0 < l) (stmt_count ys) ls h.lines.positive; enough = omega (arith, h.lines.enough, count_sum xs ys, drop_long (stmt_count ys) ls) };
   }
 
   -- of three lists, and of four

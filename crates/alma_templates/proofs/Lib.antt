@@ -37,3 +37,4 @@ pub mod CellsMoved
 pub mod CellRuns
 pub mod ReadForms
 pub mod Asked
+pub mod Induction
