@@ -37,4 +37,5 @@ pub mod CellsMoved
 pub mod CellRuns
 pub mod ReadForms
 pub mod Asked
+pub mod Levels
 pub mod Induction
