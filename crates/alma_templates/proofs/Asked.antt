@@ -8,10 +8,10 @@ use Rattle.alma_base.specs.declared.number.Range.{Range}
 use Rattle.alma_code.specs.declared.cell.SlotKind.{SlotKind}
 use Rattle.alma_code.specs.declared.cell.SlotKind.TheVariants as slot
 use Rattle.alma_code.specs.Plain.{PlainCode}
-use Rattle.alma_ir.specs.Tree.{Program, Stmts, Stmt, Test, Expr, Arg, Args, Desig, Sels, Sel, Loop, routine_at, Assign, ForTo, SomeOf, Read, WriteText, Bind, Unify, Value, Const, Chr, ByValue, MixValue, Index, a_loop, a_desig, no_sels, more_sels, Field, no_args, more_args, ByCells, ByPlace, MixPlace}
+use Rattle.alma_ir.specs.Tree.{Program, Stmts, Stmt, Test, Expr, Arg, Args, Desig, Sels, Sel, Loop, routine_at, TestStmt, Assign, CopyCells, If, While, Repeat, ForTo, SomeOf, Case, Either, Forall, Commit, Return, Read, WriteExpr, WriteText, WriteLine, Bind, Unify, Value, Const, Chr, ByValue, MixValue, Index, a_loop, a_desig, no_sels, more_sels, Field, no_args, more_args, ByCells, ByPlace, MixPlace}
 use Rattle.alma_ir.specs.declared.program.Param.{Param}
 use Rattle.alma_ir.specs.Lines.{stmt_count, behind, desig_with, sels_with, sel_with, args_with, arg_with, expr_with}
-use Rattle.alma_ir.specs.Phrases.{Phrase, StmtPhrase, TestPhrase, ExprPhrase, ArgPhrase, DesigPhrase, SelPhrase, arg_phrases, sel_phrases}
+use Rattle.alma_ir.specs.Phrases.{Phrase, StmtPhrase, TestPhrase, ExprPhrase, ArgPhrase, DesigPhrase, SelPhrase, stmt_phrases, arg_phrases, sel_phrases}
 use Rattle.alma_ir.specs.Checked.{RootExists, PartsExist, CellsAgree, LoopIsApart, loops_of, CalleeExists, CallLeads, CallFits, ResultAgrees, HasChoice, ReturnAgrees, ReturnsStay, IsNoReturn, ArgsFit, ArgFits, ArePartsOf, IsPart, sel_cells, cells_after, desig_cells}
 use Rattle.alma_ir.proofs.Each.{each_of_front, each_of_back}
 use Rattle.alma_ir.proofs.LinesBack.{count_sum, behind_two}
@@ -47,6 +47,27 @@ drop_long (suc n) (l ∷ ls) = omega (arith, drop_long n ls)
 first_positive : (ls : List ℕ) → AllByRecursion (λ l. 0 < l) ls → 1 ≤ length ls → 1 ≤ get_or ls 0 0
 first_positive [] h le = absurd (omega (arith, le))
 first_positive (l ∷ ls) h le = omega (arith, h.0)
+
+-- a statement is the first of its phrases
+some_stmt : (x : Stmt) → 1 ≤ stmt_count (stmt_phrases x)
+unfolding stmt_phrases
+some_stmt (TestStmt t) = omega arith
+some_stmt (Assign d e range) = omega arith
+some_stmt (CopyCells d e) = omega arith
+some_stmt (If arms rest) = omega arith
+some_stmt (While t body) = omega arith
+some_stmt (Repeat body t) = omega arith
+some_stmt (ForTo l) = omega arith
+some_stmt (SomeOf l) = omega arith
+some_stmt (Case e arms rest) = omega arith
+some_stmt (Either branches) = omega arith
+some_stmt (Forall x y) = omega arith
+some_stmt (Commit x) = omega arith
+some_stmt (Return e) = omega arith
+some_stmt (Read d how range) = omega arith
+some_stmt (WriteExpr e how) = omega arith
+some_stmt (WriteText text) = omega arith
+some_stmt WriteLine = omega arith
 
 -- ---- phrases with lines have the cells of those without
 
@@ -180,8 +201,8 @@ module _ (p : Program) (tables : Tables) (code : PlainCode) (input : List ℕ) w
   pub fine_stmt : (r : ℕ) (x : Stmt) (rest : List Phrase) (ls : List ℕ) → Fine r (StmtPhrase x ∷ rest) ls → Fine r rest (drop 1 ls)
   fine_stmt r x rest ls h = record { asked = h.asked.1; lines = record { positive = each_drop (λ l. 0 < l) 1 ls h.lines.positive; enough = omega (arith, h.lines.enough, drop_long 1 ls) } }
 
-  pub has_line : (r : ℕ) (x : Stmt) (rest : List Phrase) (ls : List ℕ) → Fine r (StmtPhrase x ∷ rest) ls → 1 ≤ get_or ls 0 0
-  has_line r x rest ls h = first_positive ls h.lines.positive (omega (arith, h.lines.enough))
+  pub has_line : (r : ℕ) (x : Stmt) (ls : List ℕ) → Fine r (stmt_phrases x) ls → 1 ≤ get_or ls 0 0
+  has_line r x ls h = first_positive ls h.lines.positive (omega (arith, h.lines.enough, some_stmt x))
 
   -- no RETURN where none may stand
   abbrev pub Stays : (may : Bool) → List Phrase → Type 0

@@ -1,6 +1,6 @@
 -- How each phrase of a routine runs, by induction over the phrases: one call of its form for each.
-use Rattle.std.proofs.Common.{◌≡◌, ℕ, zero, suc, ◌+◌, ◌-◌, ◌<◌, ◌≤◌, Bool, true, false, List, [], ◌∷◌, ◌++◌, length, get_or, drop, Some, None, Option, refl, sym, ap, ◌∙◌, subst, arith, ℤ}
-use Rattle.std.specs.Prelude.{slice_get}
+use Rattle.std.proofs.Common.{◌≡◌, ℕ, zero, suc, ◌+◌, ◌-◌, ◌<◌, ◌≤◌, Bool, true, false, List, [], ◌∷◌, ◌++◌, length, get_or, drop, Some, None, Option, inl, inr, refl, sym, ap, ◌∙◌, subst, arith, append_assoc, ℤ}
+use Rattle.std.specs.Prelude.{slice_get, IsNone, IsSome}
 use Rattle.std.specs.List.{AllByRecursion}
 use Rattle.std.proofs.lemmas.List.{length-append}
 use Rattle.alma_base.specs.declared.number.Range.{Range}
@@ -12,35 +12,47 @@ use Rattle.alma_code.specs.Plain.{PlainCode, kinds_at}
 use Rattle.alma_ir.specs.declared.phrase.Root.{Root}
 use Rattle.alma_ir.specs.declared.phrase.Root.TheVariants as root
 use Rattle.alma_ir.specs.Tree.{Stmts, Stmt, Arms, CaseArms, Else, Branches, Loop, ReturnExpr, Test, Tests, Expr, Links, Args, Arg, Desig, Sels, Sel, Program, routine_at, no_stmts, more_stmts, TestStmt, Assign, CopyCells, If, While, Repeat, ForTo, SomeOf, Case, Either, Forall, Commit, Return, Read, WriteExpr, WriteText, WriteLine, no_arms, more_arms, no_cases, more_cases, no_else, else_part, no_branches, more_branches, a_loop, no_result, some_result, Value, Bind, Unify, SameCells, Seq, And, Or, Not, CallTest, no_tests, more_tests, Const, Load, Chain, Compare, Truth, Known, Chr, CallExpr, no_links, more_links, no_args, more_args, ByValue, ByCells, ByPlace, MixValue, MixPlace, a_desig, no_sels, more_sels, Field, Index}
-use Rattle.alma_ir.specs.Checked.{IsChecked, RootExists, AreNumbers, LeavesPosition, HoldPlace, ArePartsOf, IsPart, desig_cells, outer_at}
+use Rattle.alma_ir.specs.Checked.{IsChecked, IsHiddenSlot, IsOutside, param_slots, slots_of_kind, HoldsPlace, HasChoice, RootExists, AreNumbers, LeavesPosition, HoldPlace, ArePartsOf, IsPart, desig_cells, outer_at}
 use Rattle.alma_ir.specs.Checked as checked_of
+use Rattle.alma_ir.specs.declared.program.ArgKind.{ArgKind}
+use Rattle.alma_ir.specs.declared.program.ArgKind.TheVariants as kind
+use Rattle.alma_ir.specs.declared.program.Param.{Param}
+use Rattle.alma_ir.proofs.Each.{each_follows}
 use Rattle.alma_ir.specs.Lines.{behind, stmts_with, stmt_with, arms_with, cases_with, else_with, branches_with, loop_with, return_with, test_with, tests_with, expr_with, links_with, args_with, arg_with, desig_with, sels_with, sel_with}
 use Rattle.alma_ir.specs.Phrases.{Phrase, StmtPhrase, TestPhrase, ExprPhrase, ArgPhrase, DesigPhrase, SelPhrase, stmts_phrases, stmt_phrases, arms_phrases, cases_phrases, else_phrases, branches_phrases, loop_phrases, return_phrases, test_phrases, tests_phrases, expr_phrases, links_phrases, args_phrases, arg_phrases, desig_phrases, sels_phrases, sel_phrases}
-use Rattle.alma_mean.specs.Meaning.{Level, level, ev_desig}
+use Rattle.alma_mean.specs.Meaning.{Level, level, ev_desig, ev_stmt}
 use Rattle.alma_implements.specs.Implements.{input_limit}
 use Rattle.alma_implements.proofs.Frames.{shift, own_end, HasSlots}
 use Rattle.alma_implements.proofs.ExprRows.{AreVariables, first_kind, slots_first, slots_behind}
 use Rattle.alma_templates.specs.Tables.{Tables}
-use Rattle.alma_templates.specs.Slots.{routine_kinds, bare, bare_desig, unless_bare, is_simple, mark_slots, call_links, handed_slots, root_slots, stmts_slots, stmt_slots, test_slots, and_slots, or_slots, expr_slots, links_slots, args_slots, arg_slots, desig_slots, sels_slots, sel_slots, behind_expr, behind_value, behind_desig, behind_test}
+use Rattle.alma_templates.specs.Slots.{routine_kinds, bare, bare_desig, unless_bare, is_simple, mark_slots, call_links, handed_slots, root_slots, stmts_slots, stmt_slots, test_slots, and_slots, or_slots, expr_slots, links_slots, args_slots, arg_slots, desig_slots, sels_slots, sel_slots, behind_expr, behind_value, behind_desig, behind_test, behind_stmts, behind_stmt, behind_condition, behind_variable, arms_slots, cases_slots, else_slots}
 use Rattle.alma_templates.specs.Compiled.{program_code}
-use Rattle.alma_templates.specs.Templates.{part_slot, behind_root, arg_code, desig_code, place_at}
+use Rattle.alma_templates.specs.Templates.{part_slot, behind_root, arg_code, desig_code, place_at, stmts_code, stmt_code}
 use Rattle.alma_templates.proofs.AtOnce.{BareFits}
 use Rattle.alma_templates.proofs.Args.{ArgPart, ArgParts, same_cells}
-use Rattle.alma_templates.proofs.Asked.{Asked, Fine, fine_front, fine_back, fine_first, fine_second, fine_third, fine_fourth, fine_test, fine_expr, fine_arg, fine_desig, fine_sel, fine_stmt, has_line, swapped_first, swapped_second, cells_with, args_with_fit, DesigGoes, ExprGoes, TestGoes, once, target, variable, decides, Stays, stays_front, stays_back, sel_cells_with}
-use Rattle.alma_templates.proofs.BarrierForms.{AndRun, no_and_run, more_and_run, and_runs, seq_runs, not_runs, commit_runs}
+use Rattle.alma_templates.proofs.Asked.{HasUnlessWhole, Asked, Fine, fine_front, fine_back, fine_first, fine_second, fine_third, fine_fourth, fine_test, fine_expr, fine_arg, fine_desig, fine_sel, fine_stmt, has_line, swapped_first, swapped_second, cells_with, args_with_fit, DesigGoes, ExprGoes, TestGoes, once, target, variable, decides, Stays, stays_front, stays_back, sel_cells_with}
+use Rattle.alma_templates.proofs.BarrierForms.{no_stmts_run, more_stmts_run, AndRun, no_and_run, more_and_run, and_runs, seq_runs, not_runs, commit_runs}
 use Rattle.alma_templates.proofs.Calls.{RoutineRuns}
 use Rattle.alma_templates.proofs.CallForms.{test_call_runs, expr_call_runs}
-use Rattle.alma_templates.proofs.CellRuns.{match_runs}
+use Rattle.alma_templates.proofs.CaseForms.{CasesRun, FirstRun, unlabelled_run, labelled_run, no_else_run, else_run, no_first_run, unlabelled_first_run, labelled_first_run, case_runs}
+use Rattle.alma_templates.proofs.ForStatement.{for_runs, for_counts}
+use Rattle.alma_templates.proofs.SomeForms.{some_runs, some_counts}
+use Rattle.alma_templates.proofs.CellRuns.{copy_runs, match_runs}
 use Rattle.alma_templates.proofs.CellTests.{bind_runs, bind_value_runs, unify_runs}
-use Rattle.alma_templates.proofs.ChoiceForms.{OperandsRun, last_operand_run, more_operands_run, one_or_runs, or_runs}
+use Rattle.alma_templates.proofs.ChoiceForms.{EachRuns, either_form, OperandsRun, last_operand_run, more_operands_run, one_or_runs, or_runs}
 use Rattle.alma_templates.proofs.DesigForms.{SelRuns, SelsRun, field_runs, index_runs, no_sels_run, more_sels_run, desig_runs}
 use Rattle.alma_templates.proofs.ExprForms.{LinksRun, const_runs, load_runs, no_links_run, more_links_run, chain_runs, compare_runs, known_runs, first_slot, some_slots}
-use Rattle.alma_templates.proofs.FormRuns.{TestRuns, ListRuns}
-use Rattle.alma_templates.proofs.Parts.{NodeFor, PlaceIn}
-use Rattle.alma_templates.proofs.LoopForms.{truth_runs}
+use Rattle.alma_templates.proofs.FormRuns.{TestRuns, ListRuns, StmtRuns, StatementRuns}
+use Rattle.alma_templates.proofs.ForallRuns.{forall_runs}
+use Rattle.alma_templates.proofs.GuardedForms.{Decided, ArmsRun, no_arms_run, more_arms_run, no_arms_if, if_runs}
+use Rattle.alma_templates.proofs.Levels.{Below, owes_less}
+use Rattle.alma_templates.proofs.ReadForms.{read_runs}
+use Rattle.alma_templates.proofs.Returning.{return_runs, return_value_runs}
+use Rattle.alma_templates.proofs.Parts.{NodeFor, RunsFor, PlaceIn, as_statement}
+use Rattle.alma_templates.proofs.LoopForms.{truth_runs, while_runs, repeat_runs}
 use Rattle.alma_templates.proofs.RangeChecks.{chr_runs}
 use Rattle.alma_templates.proofs.RootForms.{RootFits, IsParam}
-use Rattle.alma_templates.proofs.StmtForms.{value_runs}
+use Rattle.alma_templates.proofs.StmtForms.{value_runs, test_stmt_runs, assign_runs, write_runs, text_runs, line_runs}
 
 -- the slots of a selector end behind the place of its part
 part_end : (p : Program) (tables : Tables) (r lo : ℕ) (x : Sel) → lo + length (sel_slots p r x) ≡ part_slot p tables r lo x + 1
@@ -55,7 +67,8 @@ same_value : (a b : Expr) → Value a ≡ Value b → a ≡ b
 same_value a b e = cc
 
 module _ (p : Program) (tables : Tables) (code : PlainCode) (all : List (List Run)) (is : code ≡ program_code p tables all) (count : length all ≡ length p.routines) (names : (r : ℕ) → r < length p.routines → kinds_of 0 (get_or all r []) ≡ routine_kinds p r) (checked : IsChecked p)
-    (input : List ℕ) (flat : shift p 0 ≡ 0)
+    (input : List ℕ) (lawful : length input ≤ input_limit) (flat : shift p 0 ≡ 0) (position_kind : slice_get (kinds_at code 0) 0 ≡ Some slot.Number)
+    (results : (r : ℕ) (range : Range) → r < length p.routines → (routine_at p r).result ≡ Some range → HasUnlessWhole p tables code input range)
     -- what the tables of slots say of the variables and parameters of a routine
     (variables : (r from cells : ℕ) → r < length p.routines → AreNumbers (routine_at p r) from cells → LeavesPosition r from → AreVariables p code input r from cells)
     (params : (r from cells : ℕ) → r < length p.routines → HoldPlace (routine_at p r).params from cells → IsParam p code input r from cells) where
@@ -102,9 +115,22 @@ module _ (p : Program) (tables : Tables) (code : PlainCode) (all : List (List Ru
   bare_fits below line q r cells sels sels2 (root.Outer links from) lt h e = tt
   bare_fits below line q r cells sels sels2 (root.OuterParam links from) lt h e = tt
 
-  module _ (below : Level) (n : ℕ) (routines : (r : ℕ) → r < length p.routines → RoutineRuns p tables code input below r n)
-      -- lists of statements inside of tests
-      (lists : (r line : ℕ) → r < length p.routines → (x : Stmts) (ls : List ℕ) → Fine p tables code input r (stmts_phrases x) ls → Stays p tables code input false (stmts_phrases x) → (at lo : ℕ) → HasSlots p code r lo (stmts_slots p r (stmts_with x ls)) → ListRuns p tables code input below r line (suc n) false at lo (stmts_with x ls)) where
+  -- counter and limit of a loop are variables of the routine
+  hidden_variable : (r n : ℕ) → r < length p.routines → IsHiddenSlot p r n → AreVariables p code input r n 1
+  hidden_variable r n lt h = variables r n 1 lt (record { exist = omega (arith, h.exists); kinds = each_follows (λ x. IsOutside x.slot (param_slots x) n) (λ x. HoldsPlace x.kind → IsOutside n 1 x.slot) outside (routine_at p r).params h.params }) h.position
+    where
+      outside : (x : Param) → IsOutside x.slot (param_slots x) n → HoldsPlace x.kind → IsOutside n 1 x.slot
+      outside x away holds = by x.kind away holds
+        where
+          by : (k : ArgKind) → IsOutside x.slot (slots_of_kind k x.cells) n → HoldsPlace k → IsOutside n 1 x.slot
+          by kind.Place (inl early) holds = inr (omega (arith, early))
+          by kind.Place (inr late) holds = inl (omega (arith, late))
+          by kind.Mix (inl early) holds = inr (omega (arith, early))
+          by kind.Mix (inr late) holds = inl (omega (arith, late))
+          by kind.Value away holds = absurd holds
+          by kind.Cells away holds = absurd holds
+
+  module _ (below : Level) (n : ℕ) (routines : (r : ℕ) → r < length p.routines → RoutineRuns p tables code input below r n) (know : Below p tables code input below n) where
     abbrev GoodDesig : (r line : ℕ) → Desig → Type 0
     GoodDesig r line d = DesigGoes p tables code input below r line (suc n) d
 
@@ -139,6 +165,85 @@ module _ (p : Program) (tables : Tables) (code : PlainCode) (all : List (List Ru
         let inside = slots_behind p code input r lo (slot.Mark ∷ []) (test_slots p r t ++ or_slots p r (more_tests t2 rest)) slots in
         more_operands_run p tables code input below r line (suc n) jump at lo t t2 rest slots (g.runs (at + 2) (lo + 1) (slots_first p code input r (lo + 1) (test_slots p r t) (or_slots p r (more_tests t2 rest)) inside))
         (λ next. others (λ bad. absurd (cc)) jump next (behind_test p r (lo + 1) t) (slots_behind p code input r (lo + 1) (test_slots p r t) (or_slots p r (more_tests t2 rest)) inside))
+
+    -- ---- statements that have no RETURN, and RETURN
+
+    plain : (may : Bool) (r line at lo : ℕ) (x : Stmt) → StmtRuns p tables code input below r line (suc n) at lo x → StatementRuns p tables code input below r line (suc n) may at lo x
+    plain may r line at lo x runs stands v now b = as_statement p code input may line at (at + length (stmt_code p tables r line at lo x)) lo r now (ev_stmt p input below x v) (suc n) (runs stands v now b)
+
+    may_return : (may : Bool) (r line at lo : ℕ) (x : Stmt) → (may ≡ false → ⊥) → StatementRuns p tables code input below r line (suc n) true at lo x → StatementRuns p tables code input below r line (suc n) may at lo x
+    may_return true r line at lo x allowed h = h
+    may_return false r line at lo x allowed h = absurd (allowed refl)
+
+    less_one : n ≡ suc n - 1
+    less_one = omega arith
+
+    less_two : n - 1 ≡ suc n - 1 - 1
+    less_two = omega arith
+
+    -- the list of a turn, which the level below runs
+    turn_list : (may : Bool) (r line : ℕ) → r < length p.routines → (x : Stmts) (ls : List ℕ) → FineIn r (stmts_phrases x) ls → Stays p tables code input may (stmts_phrases x) → (at lo : ℕ) → HasSlots p code r lo (stmts_slots p r (stmts_with x ls))
+        → RunsFor p code input may r line at lo (stmts_code p tables r at lo (stmts_with x ls)) (below.stmts (stmts_with x ls)) (suc n - 1)
+    turn_list may r line lt x ls fine stays at lo slots =
+        subst (λ k. RunsFor p code input may r line at lo (stmts_code p tables r at lo (stmts_with x ls)) (below.stmts (stmts_with x ls)) k) less_one (know.lists may r line lt x ls fine stays at lo slots)
+
+    -- an ELSE list, wherever it stands
+    abbrev ElseRuns : (may : Bool) (r : ℕ) → Stmts → Type 0
+    ElseRuns may r els = (line at lo : ℕ) → HasSlots p code r lo (stmts_slots p r els) → ListRuns p tables code input below r line (suc n) may at lo els
+
+    -- ---- slots
+
+    condition_slots : (r lo : ℕ) (z : Bool) (xs ys : List SlotKind) → HasSlots p code r lo (mark_slots z ++ (xs ++ ys)) → HasSlots p code r lo (mark_slots z ++ xs) × HasSlots p code r (lo + length (mark_slots z) + length xs) ys
+    condition_slots r lo z xs ys h =
+        let behind_mark = slots_behind p code input r lo (mark_slots z) (xs ++ ys) h in (
+          slots_first p code input r lo (mark_slots z ++ xs) ys (subst (HasSlots p code r lo) (sym (append_assoc (mark_slots z) xs ys)) h),
+          slots_behind p code input r (lo + length (mark_slots z)) xs ys behind_mark,
+        )
+
+    arm_slots : (r lo : ℕ) (a b c d e : List SlotKind) → HasSlots p code r lo ((a ++ (b ++ (c ++ d))) ++ e) → HasSlots p code r lo (a ++ b) × HasSlots p code r (lo + length a + length b) c × HasSlots p code r (lo + length a + length b + length c) (d ++ e)
+    arm_slots r lo a b c d e h =
+        let flat_slots : HasSlots p code r lo (a ++ (b ++ (c ++ (d ++ e)))) =
+        subst (HasSlots p code r lo) (append_assoc a (b ++ (c ++ d)) e ∙ ap (λ x. a ++ x) (append_assoc b (c ++ d) e ∙ ap (λ x. b ++ x) (append_assoc c d e))) h in
+        let behind_a = slots_behind p code input r lo a (b ++ (c ++ (d ++ e))) flat_slots in
+        let behind_b = slots_behind p code input r (lo + length a) b (c ++ (d ++ e)) behind_a in (
+          slots_first p code input r lo (a ++ b) (c ++ (d ++ e)) (subst (HasSlots p code r lo) (sym (append_assoc a b (c ++ (d ++ e)))) flat_slots),
+          slots_first p code input r (lo + length a + length b) c (d ++ e) behind_b,
+          slots_behind p code input r (lo + length a + length b) c (d ++ e) behind_b,
+        )
+
+    -- the slots of the value of CASE and of its labels
+    record CaseSlots (r lo bound : ℕ) : Type 0 where
+      apart : lo < bound
+      behind : own_end p r ≤ lo
+      kind : slice_get (kinds_at code r) bound ≡ Some slot.Number
+      kind2 : slice_get (kinds_at code r) (bound + 1) ≡ Some slot.Number
+
+    abbrev ElseCases : (may : Bool) (r line lo bound : ℕ) → CaseSlots r lo bound → Else → Type 0
+    ElseCases may r line lo bound c els =
+        (jump at la : ℕ) → lo ≤ la → HasSlots p code r la (else_slots p r els) → CasesRun p tables code input below r line (suc n) may lo bound c.apart c.behind c.kind c.kind2 els jump at la no_cases
+
+    case_slots : (r lo : ℕ) (a b c : List SlotKind) → HasSlots p code r lo ((a ++ b) ++ c) → HasSlots p code r lo a × HasSlots p code r (lo + length a) (b ++ c)
+    case_slots r lo a b c h =
+        let flat_slots : HasSlots p code r lo (a ++ (b ++ c)) = subst (HasSlots p code r lo) (append_assoc a b c) h in
+        (slots_first p code input r lo a (b ++ c) flat_slots, slots_behind p code input r lo a (b ++ c) flat_slots)
+
+    stays_second : (may : Bool) (xs ys zs : List Phrase) → Stays p tables code input may ((xs ++ ys) ++ zs) → Stays p tables code input may ys
+    stays_second may xs ys zs h = stays_back p tables code input may xs ys (stays_front p tables code input may (xs ++ ys) zs h)
+
+    -- ---- what is asked, in other words
+
+    has_branch : (x : Branches) (ls : List ℕ) → HasChoice (StmtPhrase (Either x)) → branches_with x ls ≡ no_branches → ⊥
+    unfolding stmts_with
+    has_branch no_branches ls h e = h
+    has_branch (more_branches body rest) ls h e = absurd (cc)
+
+    no_result_is : (o : Option Range) → IsNone o → o ≡ None
+    no_result_is None h = refl
+    no_result_is (Some range) h = absurd (cc)
+
+    result_is : (o : Option Range) → IsSome o → (range : Range) × (o ≡ Some range)
+    result_is None h = absurd (cc)
+    result_is (Some range) h = (range, refl)
 
     -- ---- expressions
 
@@ -371,7 +476,7 @@ module _ (p : Program) (tables : Tables) (code : PlainCode) (all : List (List Ru
       test_go r line lt (Seq x) ls h =
           let inner = fine_test p tables code input r (Seq x) (stmts_phrases x) ls h in
           let stay = h.asked.0.stay in
-          record { runs = λ at lo slots. seq_runs p tables code input below r line (suc n) at lo (stmts_with x ls) (lists r line lt x ls inner (λ e. stay) at lo slots); value = λ y same. absurd (cc) }
+          record { runs = λ at lo slots. seq_runs p tables code input below r line (suc n) at lo (stmts_with x ls) (stmts_go false r lt x ls inner (λ e. stay) line at lo slots); value = λ y same. absurd (cc) }
 
       and_go : (r line : ℕ) → r < length p.routines → (ts : Tests) (ls : List ℕ) → FineIn r (tests_phrases ts) ls → (at lo : ℕ) → HasSlots p code r lo (and_slots p r (tests_with ts ls)) → AndRun p tables code input below r line (suc n) at lo (tests_with ts ls)
       and_go r line lt no_tests ls h at lo slots = no_and_run p tables code input below r line (suc n) at lo
@@ -390,3 +495,300 @@ module _ (p : Program) (tables : Tables) (code : PlainCode) (all : List (List Ru
           let g = test_go r line lt t ls (fine_front p tables code input r (test_phrases t) (tests_phrases rest) ls h) in
           or_next r line jump at lo (test_with t ls) (tests_with rest ls2) g
           (λ more jump next low low_slots. or_go r line lt rest ls2 (fine_back p tables code input r (test_phrases t) (tests_phrases rest) ls h) more jump next low low_slots) slots
+
+      -- ---- statements
+
+      stmts_go : (may : Bool) (r : ℕ) → r < length p.routines → (x : Stmts) (ls : List ℕ) → FineIn r (stmts_phrases x) ls → Stays p tables code input may (stmts_phrases x) → (line at lo : ℕ) → HasSlots p code r lo (stmts_slots p r (stmts_with x ls)) → ListRuns p tables code input below r line (suc n) may at lo (stmts_with x ls)
+      stmts_go may r lt no_stmts ls h stays line at lo slots = no_stmts_run p tables code input below r line (suc n) may at lo
+      stmts_go may r lt (more_stmts given x rest) ls h stays line at lo slots =
+          let own_line : ℕ = get_or ls 0 0 in
+          let y : Stmt = stmt_with x (drop 1 ls) in
+          let ls2 = behind (stmt_phrases x) ls in
+          let first = fine_front p tables code input r (stmt_phrases x) (stmts_phrases rest) ls h in
+          more_stmts_run p tables code input below r line (suc n) may own_line at lo y (stmts_with rest ls2) (has_line p tables code input r x ls first) slots.behind
+          (stmt_go may r lt x ls first (stays_front p tables code input may (stmt_phrases x) (stmts_phrases rest) stays) own_line at lo (slots_first p code input r lo (stmt_slots p r y) (stmts_slots p r (stmts_with rest ls2)) slots))
+          (λ next. stmts_go may r lt rest ls2 (fine_back p tables code input r (stmt_phrases x) (stmts_phrases rest) ls h) (stays_back p tables code input may (stmt_phrases x) (stmts_phrases rest) stays) line next (behind_stmt p r lo y) (slots_behind p code input r lo (stmt_slots p r y) (stmts_slots p r (stmts_with rest ls2)) slots))
+
+      stmt_go : (may : Bool) (r : ℕ) → r < length p.routines → (x : Stmt) (ls : List ℕ) → FineIn r (stmt_phrases x) ls → Stays p tables code input may (stmt_phrases x) → (line at lo : ℕ) → HasSlots p code r lo (stmt_slots p r (stmt_with x (drop 1 ls))) → StatementRuns p tables code input below r line (suc n) may at lo (stmt_with x (drop 1 ls))
+      stmt_go may r lt (TestStmt t) ls0 h stays line at lo slots =
+          let ls = drop 1 ls0 in
+          let g = test_go r line lt t ls (fine_stmt p tables code input r (TestStmt t) (test_phrases t) ls0 h) in
+          plain may r line at lo (TestStmt (test_with t ls)) (test_stmt_runs p tables code input below r line (suc n) at lo (test_with t ls) (g.runs at lo slots))
+      stmt_go may r lt (Assign d e range) ls0 h stays line at lo slots =
+          let ls = drop 1 ls0 in
+          let inner = fine_stmt p tables code input r (Assign d e range) (desig_phrases d ++ expr_phrases e) ls0 h in
+          let ls2 = behind (desig_phrases d) ls in
+          let y : Desig = desig_with d ls in
+          let x : Expr = expr_with e ls2 in
+          let g = desig_go r line lt d ls (fine_front p tables code input r (desig_phrases d) (expr_phrases e) ls inner) in
+          let g2 = expr_go r line lt e ls2 (fine_back p tables code input r (desig_phrases d) (expr_phrases e) ls inner) in
+          let one_cell : desig_cells y ≡ 1 = cells_with d ls ∙ h.asked.0.cells in
+          let place : List SlotKind = unless_bare (bare_desig y) (desig_slots p r y) in
+          let value : List SlotKind = unless_bare (bare x) (expr_slots p r x) in
+          plain may r line at lo (Assign y x range) (assign_runs p tables code input below r line (suc n) at lo y x range (g.fits one_cell) one_cell slots.behind h.asked.0.coded
+          (target p tables code input below r line (suc n) y g at lo (slots_first p code input r lo place value slots))
+          (λ next. once p tables code input below r line (suc n) x g2 next (lo + length place) (slots_behind p code input r lo place value slots)))
+      stmt_go may r lt (CopyCells d e) ls0 h stays line at lo slots =
+          let ls = drop 1 ls0 in
+          let inner = fine_stmt p tables code input r (CopyCells d e) (desig_phrases d ++ desig_phrases e) ls0 h in
+          let ls2 = behind (desig_phrases d) ls in
+          let y : Desig = desig_with d ls in
+          let z : Desig = desig_with e ls2 in
+          let g = desig_go r line lt d ls (fine_front p tables code input r (desig_phrases d) (desig_phrases e) ls inner) in
+          let g2 = desig_go r line lt e ls2 (fine_back p tables code input r (desig_phrases d) (desig_phrases e) ls inner) in
+          plain may r line at lo (CopyCells y z) (copy_runs p tables code input below r line (suc n) at lo y z slots.behind (cells_with d ls ∙ h.asked.0.cells ∙ sym (cells_with e ls2)) (g.runs at lo (slots_first p code input r lo (desig_slots p r y) (desig_slots p r z) slots))
+          (λ next. g2.runs next (behind_desig p r lo y) (slots_behind p code input r lo (desig_slots p r y) (desig_slots p r z) slots)))
+      stmt_go may r lt (If arms rest) ls0 h stays line at lo slots =
+          let ls = drop 1 ls0 in
+          let inner = fine_stmt p tables code input r (If arms rest) (arms_phrases arms ++ stmts_phrases rest) ls0 h in
+          let inner_stays = λ (e : may ≡ false). (stays e).1 in
+          let ls2 = behind (arms_phrases arms) ls in
+          if_go may r lt arms ls (fine_front p tables code input r (arms_phrases arms) (stmts_phrases rest) ls inner) (stays_front p tables code input may (arms_phrases arms) (stmts_phrases rest) inner_stays) (stmts_with rest ls2)
+          (λ other next low low_slots. stmts_go may r lt rest ls2 (fine_back p tables code input r (arms_phrases arms) (stmts_phrases rest) ls inner) (stays_back p tables code input may (arms_phrases arms) (stmts_phrases rest) inner_stays) other next low low_slots) line at lo slots
+      stmt_go may r lt (While t body) ls0 h stays line at lo slots =
+          let ls = drop 1 ls0 in
+          let inner = fine_stmt p tables code input r (While t body) (test_phrases t ++ stmts_phrases body) ls0 h in
+          let inner_stays = λ (e : may ≡ false). (stays e).1 in
+          let ls2 = behind (test_phrases t) ls in
+          let u : Test = test_with t ls in
+          let x : Stmts = stmts_with body ls2 in
+          let condition = condition_slots r lo (is_simple u) (test_slots p r u) (stmts_slots p r x) slots in
+          λ stands v now b.
+          while_runs p tables code input below r line (suc n) may at lo u x slots.behind (n - 1) (omega arith)
+          (λ none. subst (λ k. Decided p tables code input below r line (suc n) (at + 1) lo none u (below.test u) k) less_one (know.tests r line lt t ls (fine_front p tables code input r (test_phrases t) (stmts_phrases body) ls inner) (at + 1) lo none condition.0))
+          (λ next. subst (λ k. RunsFor p code input may r line next (behind_condition p r lo u) (stmts_code p tables r next (behind_condition p r lo u) x) (below.stmts x) k) less_two
+          (owes_less p tables code input may r line next (behind_condition p r lo u) (stmts_code p tables r next (behind_condition p r lo u) x) (below.stmts x) n (n - 1) (omega arith)
+          (know.lists may r line lt body ls2 (fine_back p tables code input r (test_phrases t) (stmts_phrases body) ls inner) (stays_back p tables code input may (test_phrases t) (stmts_phrases body) inner_stays) next (behind_condition p r lo u) condition.1)))
+          (know.whiles may r line lt t body ls inner inner_stays at lo slots stands) stands v now b
+      stmt_go may r lt (Repeat body t) ls0 h stays line at lo slots =
+          let ls = drop 1 ls0 in
+          let inner = fine_stmt p tables code input r (Repeat body t) (stmts_phrases body ++ test_phrases t) ls0 h in
+          let inner_stays = λ (e : may ≡ false). (stays e).1 in
+          let ls2 = behind (stmts_phrases body) ls in
+          let x : Stmts = stmts_with body ls in
+          let u : Test = test_with t ls2 in
+          let g = test_go r line lt t ls2 (fine_back p tables code input r (stmts_phrases body) (test_phrases t) ls inner) in
+          λ stands v now b.
+          repeat_runs p tables code input below r line (suc n) may at lo x u slots.behind n (omega arith)
+          (stmts_go may r lt body ls (fine_front p tables code input r (stmts_phrases body) (test_phrases t) ls inner) (stays_front p tables code input may (stmts_phrases body) (test_phrases t) inner_stays) line at lo (slots_first p code input r lo (stmts_slots p r x) (mark_slots (is_simple u) ++ test_slots p r u) slots))
+          (λ next. decides p tables code input below r line (suc n) u g next (behind_stmts p r lo x) at (slots_behind p code input r lo (stmts_slots p r x) (mark_slots (is_simple u) ++ test_slots p r u) slots))
+          (know.repeats may r line lt body t ls inner inner_stays at lo slots stands) stands v now b
+      stmt_go may r lt (ForTo (a_loop d range counter limit from to by body)) ls0 h stays line at lo slots =
+          let ls = drop 1 ls0 in
+          let l : Loop = a_loop d range counter limit from to by body in
+          let inner = fine_stmt p tables code input r (ForTo l) (loop_phrases l) ls0 h in
+          let inner_stays = λ (e : may ≡ false). (stays e).1 in
+          let bounds = (desig_phrases d ++ expr_phrases from) ++ expr_phrases to in
+          let ls2 = behind (desig_phrases d) ls in
+          let ls3 = behind (expr_phrases from) ls2 in
+          let ls4 = behind (expr_phrases to) ls3 in
+          let y : Desig = desig_with d ls in
+          let x1 : Expr = expr_with from ls2 in
+          let x2 : Expr = expr_with to ls3 in
+          let x : Stmts = stmts_with body ls4 in
+          let before_body = fine_front p tables code input r bounds (stmts_phrases body) ls inner in
+          let g = desig_go r line lt d ls (fine_first p tables code input r (desig_phrases d) (expr_phrases from) (expr_phrases to) ls before_body) in
+          let g1 = expr_go r line lt from ls2 (fine_second p tables code input r (desig_phrases d) (expr_phrases from) (expr_phrases to) ls before_body) in
+          let g2 = expr_go r line lt to ls3 (fine_third p tables code input r (desig_phrases d) (expr_phrases from) (expr_phrases to) ls before_body) in
+          let fine_body = fine_fourth p tables code input r (desig_phrases d) (expr_phrases from) (expr_phrases to) (stmts_phrases body) ls inner in
+          let body_stays = stays_back p tables code input may bounds (stmts_phrases body) inner_stays in
+          let apart = h.asked.0.loops.0 in
+          let one_cell : desig_cells y ≡ 1 = cells_with d ls ∙ h.asked.0.cells in
+          let of_counter = hidden_variable r counter lt apart.of_counter in
+          let of_limit = hidden_variable r limit lt apart.of_limit in
+          let var : List SlotKind = unless_bare (bare_desig y) (slot.Number ∷ desig_slots p r y) in
+          let rest : List SlotKind = var ++ stmts_slots p r x in
+          let last : ℕ = behind_expr p r (lo + 1) x1 in
+          let place : ℕ = behind_expr p r last x2 in
+          let s1 = slots_behind p code input r lo (slot.Number ∷ []) (expr_slots p r x1 ++ (expr_slots p r x2 ++ rest)) slots in
+          let s2 = slots_behind p code input r (lo + 1) (expr_slots p r x1) (expr_slots p r x2 ++ rest) s1 in
+          let s3 = slots_behind p code input r last (expr_slots p r x2) rest s2 in
+          λ stands v now b.
+          for_runs p tables code input below r line (suc n) may at lo (suc n) y range counter limit x1 x2 by x one_cell (omega arith) apart.two slots of_counter of_limit
+          (g1.runs (at + 1) (lo + 1) (slots_first p code input r (lo + 1) (expr_slots p r x1) (expr_slots p r x2 ++ rest) s1)) (λ next. g2.runs next last (slots_first p code input r last (expr_slots p r x2) rest s2))
+          (for_counts p tables code input below r line (suc n) may at lo n y range counter limit x1 x2 by x (g.fits one_cell) one_cell (omega arith) h.asked.0.coded slots of_counter of_limit
+          (λ none next. variable p tables code input below r line (suc n) y g next place (slots_first p code input r place var (stmts_slots p r x) s3) none)
+          (λ next. turn_list may r line lt body ls4 fine_body body_stays next (behind_variable p r place y) (slots_behind p code input r place var (stmts_slots p r x) s3))
+          (know.fors may r line lt l ls h.asked.0 inner inner_stays at lo slots stands) stands) stands v now b
+      stmt_go may r lt (SomeOf (a_loop d range counter limit from to by body)) ls0 h stays line at lo slots =
+          let ls = drop 1 ls0 in
+          let l : Loop = a_loop d range counter limit from to by body in
+          let inner = fine_stmt p tables code input r (SomeOf l) (loop_phrases l) ls0 h in
+          let inner_stays = λ (e : may ≡ false). (stays e).1 in
+          let bounds = (desig_phrases d ++ expr_phrases from) ++ expr_phrases to in
+          let ls2 = behind (desig_phrases d) ls in
+          let ls3 = behind (expr_phrases from) ls2 in
+          let ls4 = behind (expr_phrases to) ls3 in
+          let y : Desig = desig_with d ls in
+          let x1 : Expr = expr_with from ls2 in
+          let x2 : Expr = expr_with to ls3 in
+          let x : Stmts = stmts_with body ls4 in
+          let before_body = fine_front p tables code input r bounds (stmts_phrases body) ls inner in
+          let g = desig_go r line lt d ls (fine_first p tables code input r (desig_phrases d) (expr_phrases from) (expr_phrases to) ls before_body) in
+          let g1 = expr_go r line lt from ls2 (fine_second p tables code input r (desig_phrases d) (expr_phrases from) (expr_phrases to) ls before_body) in
+          let g2 = expr_go r line lt to ls3 (fine_third p tables code input r (desig_phrases d) (expr_phrases from) (expr_phrases to) ls before_body) in
+          let fine_body = fine_fourth p tables code input r (desig_phrases d) (expr_phrases from) (expr_phrases to) (stmts_phrases body) ls inner in
+          let body_stays = stays_back p tables code input may bounds (stmts_phrases body) inner_stays in
+          let apart = h.asked.0.loops.0 in
+          let one_cell : desig_cells y ≡ 1 = cells_with d ls ∙ h.asked.0.cells in
+          let of_counter = hidden_variable r counter lt apart.of_counter in
+          let of_limit = hidden_variable r limit lt apart.of_limit in
+          let var : List SlotKind = unless_bare (bare_desig y) (slot.Number ∷ desig_slots p r y) in
+          let rest : List SlotKind = slot.Number ∷ (var ++ stmts_slots p r x) in
+          let last : ℕ = behind_expr p r (lo + 1) x1 in
+          let more : ℕ = behind_expr p r last x2 in
+          let s1 = slots_behind p code input r lo (slot.Number ∷ []) (expr_slots p r x1 ++ (expr_slots p r x2 ++ rest)) slots in
+          let s2 = slots_behind p code input r (lo + 1) (expr_slots p r x1) (expr_slots p r x2 ++ rest) s1 in
+          let s3 = slots_behind p code input r more (slot.Number ∷ []) (var ++ stmts_slots p r x) (slots_behind p code input r last (expr_slots p r x2) rest s2) in
+          λ stands v now b.
+          some_runs p tables code input below r line (suc n) may at lo (suc n) y range counter limit x1 x2 by x one_cell (omega arith) apart.two slots of_counter of_limit
+          (g1.runs (at + 1) (lo + 1) (slots_first p code input r (lo + 1) (expr_slots p r x1) (expr_slots p r x2 ++ rest) s1)) (λ next. g2.runs next last (slots_first p code input r last (expr_slots p r x2) rest s2))
+          (some_counts p tables code input below r line (suc n) may at lo n y range counter limit x1 x2 by x (g.fits one_cell) one_cell (omega arith) apart.two h.asked.0.coded slots of_counter of_limit
+          (λ none next. variable p tables code input below r line (suc n) y g next (more + 1) (slots_first p code input r (more + 1) var (stmts_slots p r x) s3) none)
+          (λ next. turn_list may r line lt body ls4 fine_body body_stays next (behind_variable p r (more + 1) y) (slots_behind p code input r (more + 1) var (stmts_slots p r x) s3))
+          (know.somes may r line lt l ls h.asked.0 inner inner_stays at lo slots stands) stands) stands v now b
+      stmt_go may r lt (Case e arms rest) ls0 h stays line at lo slots =
+          let ls = drop 1 ls0 in
+          let parts = expr_phrases e ++ cases_phrases arms in
+          let inner = fine_stmt p tables code input r (Case e arms rest) (parts ++ else_phrases rest) ls0 h in
+          let inner_stays = λ (e : may ≡ false). (stays e).1 in
+          let ls2 = behind (expr_phrases e) ls in
+          let ls3 = behind (cases_phrases arms) ls2 in
+          let x : Expr = expr_with e ls in
+          let els : Else = else_with rest ls3 in
+          let g = expr_go r line lt e ls (fine_first p tables code input r (expr_phrases e) (cases_phrases arms) (else_phrases rest) ls inner) in
+          let bound : ℕ = behind_expr p r lo x in
+          let others : List SlotKind = cases_slots p r (cases_with arms ls2) ++ else_slots p r els in
+          let first = slots_first p code input r lo (expr_slots p r x) (slot.Number ∷ slot.Number ∷ others) slots in
+          let s1 = slots_behind p code input r lo (expr_slots p r x) (slot.Number ∷ slot.Number ∷ others) slots in
+          let c : CaseSlots r lo bound = record {
+            apart = omega (arith, some_slots p code input r x);
+            behind = slots.behind;
+            kind = first_kind p code input r bound slot.Number (slot.Number ∷ others) s1;
+            kind2 = first_kind p code input r (bound + 1) slot.Number others (slots_behind p code input r bound (slot.Number ∷ []) (slot.Number ∷ others) s1);
+          } in
+          case_runs p tables code input below r line (suc n) may lo bound c.apart c.behind c.kind c.kind2 els at (bound + 2) x (cases_with arms ls2) refl refl (g.runs at lo first)
+          (λ next. first_go may r lt arms ls2 (fine_second p tables code input r (expr_phrases e) (cases_phrases arms) (else_phrases rest) ls inner) (stays_second may (expr_phrases e) (cases_phrases arms) (else_phrases rest) inner_stays) els line lo bound c
+          (λ jump there la le else_there. else_go may r lt rest ls3 (fine_third p tables code input r (expr_phrases e) (cases_phrases arms) (else_phrases rest) ls inner) (stays_back p tables code input may parts (else_phrases rest) inner_stays) line lo bound c jump there la le else_there)
+          next (bound + 2) (omega arith) (slots_behind p code input r bound (slot.Number ∷ slot.Number ∷ []) others s1))
+      stmt_go may r lt (Either branches) ls0 h stays line at lo slots =
+          let ls = drop 1 ls0 in
+          let inner = fine_stmt p tables code input r (Either branches) (branches_phrases branches) ls0 h in
+          either_form p tables code input below r line (suc n) may at lo (branches_with branches ls) slots (has_branch branches ls h.asked.0.choice) (branches_go may r lt branches ls inner (λ e. (stays e).1) line)
+      stmt_go may r lt (Forall x y) ls0 h stays line at lo slots =
+          let ls = drop 1 ls0 in
+          let inner = fine_stmt p tables code input r (Forall x y) (stmts_phrases x ++ stmts_phrases y) ls0 h in
+          let stay = h.asked.0.stay in
+          let ls2 = behind (stmts_phrases x) ls in
+          let first : Stmts = stmts_with x ls in
+          let second : Stmts = stmts_with y ls2 in
+          let xs : List SlotKind = stmts_slots p r first in
+          let ys : List SlotKind = stmts_slots p r second in
+          let behind_mark = slots_behind p code input r lo (slot.Mark ∷ []) (xs ++ (slot.Mark ∷ ys)) slots in
+          let behind_first = slots_behind p code input r (lo + 1) xs (slot.Mark ∷ ys) behind_mark in
+          plain may r line at lo (Forall first second) (forall_runs p tables code input below r line (suc n) first second at lo slots
+          (stmts_go false r lt x ls (fine_front p tables code input r (stmts_phrases x) (stmts_phrases y) ls inner) (λ e. stay.0) line (at + 1) (lo + 1) (slots_first p code input r (lo + 1) xs (slot.Mark ∷ ys) behind_mark))
+          (stmts_go false r lt y ls2 (fine_back p tables code input r (stmts_phrases x) (stmts_phrases y) ls inner) (λ e. stay.1) line (at + 1 + length (stmts_code p tables r (at + 1) (lo + 1) first) + 2) (behind_stmts p r (lo + 1) first + 1)
+          (slots_behind p code input r (lo + 1 + length xs) (slot.Mark ∷ []) ys behind_first)))
+      stmt_go may r lt (Commit x) ls0 h stays line at lo slots =
+          let ls = drop 1 ls0 in
+          let inner = fine_stmt p tables code input r (Commit x) (stmts_phrases x) ls0 h in
+          let stay = h.asked.0.stay in
+          let first : Stmts = stmts_with x ls in
+          plain may r line at lo (Commit first) (commit_runs p tables code input below r line (suc n) at lo first slots (stmts_go false r lt x ls inner (λ e. stay) line (at + 1) (lo + 1) (slots_behind p code input r lo (slot.Mark ∷ []) (stmts_slots p r first) slots)))
+      stmt_go may r lt (Return no_result) ls0 h stays line at lo slots =
+          may_return may r line at lo (Return no_result) (λ e. (stays e).0) (return_runs p tables code input below r line (suc n) lo at (no_result_is (routine_at p r).result h.asked.0.return) slots.behind)
+      stmt_go may r lt (Return (some_result e)) ls0 h stays line at lo slots =
+          let ls = drop 1 ls0 in
+          let x : Expr = expr_with e ls in
+          let g = expr_go r line lt e ls (fine_stmt p tables code input r (Return (some_result e)) (expr_phrases e) ls0 h) in
+          let result = result_is (routine_at p r).result h.asked.0.return in
+          may_return may r line at lo (Return (some_result x)) (λ no. (stays no).0)
+          (return_value_runs p tables code input below r line (suc n) x result.0 lo at result.1 slots.behind (results r result.0 lt result.1) (once p tables code input below r line (suc n) x g at lo slots))
+      stmt_go may r lt (Read d how range) ls0 h stays line at lo slots =
+          let ls = drop 1 ls0 in
+          let y : Desig = desig_with d ls in
+          let g = desig_go r line lt d ls (fine_stmt p tables code input r (Read d how range) (desig_phrases d) ls0 h) in
+          let asked = h.asked.0 in
+          plain may r line at lo (Read y how range) (read_runs p tables code input below r line (suc n) flat position_kind lawful at lo y how range slots.behind (cells_with d ls ∙ asked.cells) asked.coded.0 asked.coded.1 (g.runs at lo slots))
+      stmt_go may r lt (WriteExpr e how) ls0 h stays line at lo slots =
+          let ls = drop 1 ls0 in
+          let x : Expr = expr_with e ls in
+          let g = expr_go r line lt e ls (fine_stmt p tables code input r (WriteExpr e how) (expr_phrases e) ls0 h) in
+          plain may r line at lo (WriteExpr x how) (write_runs p tables code input below r line (suc n) at lo x how slots.behind (once p tables code input below r line (suc n) x g at lo slots))
+      stmt_go may r lt (WriteText text) ls0 h stays line at lo slots = plain may r line at lo (WriteText text) (text_runs p tables code input below r line (suc n) at lo text h.asked.0.coded)
+      stmt_go may r lt WriteLine ls0 h stays line at lo slots = plain may r line at lo WriteLine (line_runs p tables code input below r line (suc n) at lo)
+
+      branches_go : (may : Bool) (r : ℕ) → r < length p.routines → (x : Branches) (ls : List ℕ) → FineIn r (branches_phrases x) ls → Stays p tables code input may (branches_phrases x) → (line : ℕ) → EachRuns p tables code input below r line (suc n) may (branches_with x ls)
+      branches_go may r lt no_branches ls h stays line = tt
+      branches_go may r lt (more_branches body rest) ls h stays line = (
+        λ at lo slots. stmts_go may r lt body ls (fine_front p tables code input r (stmts_phrases body) (branches_phrases rest) ls h) (stays_front p tables code input may (stmts_phrases body) (branches_phrases rest) stays) line at lo slots,
+        branches_go may r lt rest (behind (stmts_phrases body) ls) (fine_back p tables code input r (stmts_phrases body) (branches_phrases rest) ls h) (stays_back p tables code input may (stmts_phrases body) (branches_phrases rest) stays) line,
+      )
+
+      -- the arms of IF, given its ELSE list
+      if_go : (may : Bool) (r : ℕ) → r < length p.routines → (arms : Arms) (ls : List ℕ) → FineIn r (arms_phrases arms) ls → Stays p tables code input may (arms_phrases arms) → (els : Stmts) → ElseRuns may r els → (line at lo : ℕ) → HasSlots p code r lo (arms_slots p r (arms_with arms ls) ++ stmts_slots p r els)
+          → StatementRuns p tables code input below r line (suc n) may at lo (If (arms_with arms ls) els)
+      if_go may r lt no_arms ls h stays els others line at lo slots = no_arms_if p tables code input below r line (suc n) may at lo els (others line at lo slots)
+      if_go may r lt (more_arms t body rest) ls h stays els others line at lo slots =
+          let ls2 = behind (test_phrases t) ls in
+          let ls3 = behind (stmts_phrases body) ls2 in
+          let u : Test = test_with t ls in
+          let x : Stmts = stmts_with body ls2 in
+          let parts = arm_slots r lo (mark_slots (is_simple u)) (test_slots p r u) (stmts_slots p r x) (arms_slots p r (arms_with rest ls3)) (stmts_slots p r els) slots in
+          let g = test_go r line lt t ls (fine_first p tables code input r (test_phrases t) (stmts_phrases body) (arms_phrases rest) ls h) in
+          if_runs p tables code input below r line (suc n) may at lo u x (arms_with rest ls3) els slots.behind (λ none. decides p tables code input below r line (suc n) u g at lo none parts.0)
+          (λ next. stmts_go may r lt body ls2 (fine_second p tables code input r (test_phrases t) (stmts_phrases body) (arms_phrases rest) ls h) (stays_second may (test_phrases t) (stmts_phrases body) (arms_phrases rest) stays) line next (behind_condition p r lo u) parts.1)
+          (λ jump next. arms_go may r lt rest ls3 (fine_third p tables code input r (test_phrases t) (stmts_phrases body) (arms_phrases rest) ls h) (stays_back p tables code input may (test_phrases t ++ stmts_phrases body) (arms_phrases rest) stays) els others line jump next (behind_stmts p r (behind_condition p r lo u) x) parts.2)
+
+      arms_go : (may : Bool) (r : ℕ) → r < length p.routines → (arms : Arms) (ls : List ℕ) → FineIn r (arms_phrases arms) ls → Stays p tables code input may (arms_phrases arms) → (els : Stmts) → ElseRuns may r els → (line jump at lo : ℕ) → HasSlots p code r lo (arms_slots p r (arms_with arms ls) ++ stmts_slots p r els)
+          → ArmsRun p tables code input below r line (suc n) may jump at lo (arms_with arms ls) els
+      arms_go may r lt no_arms ls h stays els others line jump at lo slots = no_arms_run p tables code input below r line (suc n) may jump at lo els (others line at lo slots)
+      arms_go may r lt (more_arms t body rest) ls h stays els others line jump at lo slots =
+          let ls2 = behind (test_phrases t) ls in
+          let ls3 = behind (stmts_phrases body) ls2 in
+          let u : Test = test_with t ls in
+          let x : Stmts = stmts_with body ls2 in
+          let parts = arm_slots r lo (mark_slots (is_simple u)) (test_slots p r u) (stmts_slots p r x) (arms_slots p r (arms_with rest ls3)) (stmts_slots p r els) slots in
+          let g = test_go r line lt t ls (fine_first p tables code input r (test_phrases t) (stmts_phrases body) (arms_phrases rest) ls h) in
+          more_arms_run p tables code input below r line (suc n) may jump at lo u x (arms_with rest ls3) els slots.behind (λ none. decides p tables code input below r line (suc n) u g at lo none parts.0)
+          (λ next. stmts_go may r lt body ls2 (fine_second p tables code input r (test_phrases t) (stmts_phrases body) (arms_phrases rest) ls h) (stays_second may (test_phrases t) (stmts_phrases body) (arms_phrases rest) stays) line next (behind_condition p r lo u) parts.1)
+          (λ next. arms_go may r lt rest ls3 (fine_third p tables code input r (test_phrases t) (stmts_phrases body) (arms_phrases rest) ls h) (stays_back p tables code input may (test_phrases t ++ stmts_phrases body) (arms_phrases rest) stays) els others line jump next (behind_stmts p r (behind_condition p r lo u) x) parts.2)
+
+      -- the arms of CASE, given its ELSE part
+      first_go : (may : Bool) (r : ℕ) → r < length p.routines → (arms : CaseArms) (ls : List ℕ) → FineIn r (cases_phrases arms) ls → Stays p tables code input may (cases_phrases arms) → (els : Else) (line lo bound : ℕ) (c : CaseSlots r lo bound) → ElseCases may r line lo bound c els
+          → (at la : ℕ) → lo ≤ la → HasSlots p code r la (cases_slots p r (cases_with arms ls) ++ else_slots p r els) → FirstRun p tables code input below r line (suc n) may lo bound c.apart c.behind c.kind c.kind2 els at la (cases_with arms ls)
+      first_go may r lt no_cases ls h stays els line lo bound c others at la le slots =
+          no_first_run p tables code input below r line (suc n) may lo bound c.apart c.behind c.kind c.kind2 els at la (λ jump. others jump at la le slots)
+      first_go may r lt (more_cases [] body rest) ls h stays els line lo bound c others at la le slots =
+          let ls2 = behind (stmts_phrases body) ls in
+          unlabelled_first_run p tables code input below r line (suc n) may lo bound c.apart c.behind c.kind c.kind2 els at la (stmts_with body ls) (cases_with rest ls2)
+          (first_go may r lt rest ls2 (fine_back p tables code input r (stmts_phrases body) (cases_phrases rest) ls h) (stays_back p tables code input may (stmts_phrases body) (cases_phrases rest) stays) els line lo bound c others at la le slots)
+      first_go may r lt (more_cases (label ∷ labels) body rest) ls h stays els line lo bound c others at la le slots =
+          let ls2 = behind (stmts_phrases body) ls in
+          let x : Stmts = stmts_with body ls in
+          let split = case_slots r la (stmts_slots p r x) (cases_slots p r (cases_with rest ls2)) (else_slots p r els) slots in
+          labelled_first_run p tables code input below r line (suc n) may lo bound c.apart c.behind c.kind c.kind2 els at la label labels x (cases_with rest ls2) le
+          (λ next. stmts_go may r lt body ls (fine_front p tables code input r (stmts_phrases body) (cases_phrases rest) ls h) (stays_front p tables code input may (stmts_phrases body) (cases_phrases rest) stays) line next la split.0)
+          (λ jump next. cases_go may r lt rest ls2 (fine_back p tables code input r (stmts_phrases body) (cases_phrases rest) ls h) (stays_back p tables code input may (stmts_phrases body) (cases_phrases rest) stays) els line lo bound c others jump next (behind_stmts p r la x) (omega (arith, le)) split.1)
+
+      cases_go : (may : Bool) (r : ℕ) → r < length p.routines → (arms : CaseArms) (ls : List ℕ) → FineIn r (cases_phrases arms) ls → Stays p tables code input may (cases_phrases arms) → (els : Else) (line lo bound : ℕ) (c : CaseSlots r lo bound) → ElseCases may r line lo bound c els
+          → (jump at la : ℕ) → lo ≤ la → HasSlots p code r la (cases_slots p r (cases_with arms ls) ++ else_slots p r els) → CasesRun p tables code input below r line (suc n) may lo bound c.apart c.behind c.kind c.kind2 els jump at la (cases_with arms ls)
+      cases_go may r lt no_cases ls h stays els line lo bound c others jump at la le slots = others jump at la le slots
+      cases_go may r lt (more_cases [] body rest) ls h stays els line lo bound c others jump at la le slots =
+          let ls2 = behind (stmts_phrases body) ls in
+          unlabelled_run p tables code input below r line (suc n) may lo bound c.apart c.behind c.kind c.kind2 els jump at la (stmts_with body ls) (cases_with rest ls2)
+          (cases_go may r lt rest ls2 (fine_back p tables code input r (stmts_phrases body) (cases_phrases rest) ls h) (stays_back p tables code input may (stmts_phrases body) (cases_phrases rest) stays) els line lo bound c others jump at la le slots)
+      cases_go may r lt (more_cases (label ∷ labels) body rest) ls h stays els line lo bound c others jump at la le slots =
+          let ls2 = behind (stmts_phrases body) ls in
+          let x : Stmts = stmts_with body ls in
+          let split = case_slots r la (stmts_slots p r x) (cases_slots p r (cases_with rest ls2)) (else_slots p r els) slots in
+          labelled_run p tables code input below r line (suc n) may lo bound c.apart c.behind c.kind c.kind2 els jump at la label labels x (cases_with rest ls2) le
+          (λ next. stmts_go may r lt body ls (fine_front p tables code input r (stmts_phrases body) (cases_phrases rest) ls h) (stays_front p tables code input may (stmts_phrases body) (cases_phrases rest) stays) line next la split.0)
+          (λ next. cases_go may r lt rest ls2 (fine_back p tables code input r (stmts_phrases body) (cases_phrases rest) ls h) (stays_back p tables code input may (stmts_phrases body) (cases_phrases rest) stays) els line lo bound c others jump next (behind_stmts p r la x) (omega (arith, le)) split.1)
+
+      else_go : (may : Bool) (r : ℕ) → r < length p.routines → (rest : Else) (ls : List ℕ) → FineIn r (else_phrases rest) ls → Stays p tables code input may (else_phrases rest) → (line lo bound : ℕ) (c : CaseSlots r lo bound) (jump at la : ℕ) → lo ≤ la → HasSlots p code r la (else_slots p r (else_with rest ls))
+          → CasesRun p tables code input below r line (suc n) may lo bound c.apart c.behind c.kind c.kind2 (else_with rest ls) jump at la no_cases
+      else_go may r lt no_else ls h stays line lo bound c jump at la le slots = no_else_run p tables code input below r line (suc n) may lo bound jump at la c.apart c.behind c.kind c.kind2
+      else_go may r lt (else_part body) ls h stays line lo bound c jump at la le slots =
+          else_run p tables code input below r line (suc n) may lo bound jump at la c.apart c.behind c.kind c.kind2 (stmts_with body ls) le (stmts_go may r lt body ls h stays line at la slots)
