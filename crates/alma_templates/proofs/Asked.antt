@@ -145,6 +145,14 @@ module _ (p : Program) (tables : Tables) (code : PlainCode) (input : List ℕ) w
     pub stay : ReturnsStay x
     pub coded : Coded x
 
+  pub asked_all : (r : ℕ) (xs : List Phrase) → AllByRecursion (RootExists p r (routine_at p r)) xs → AllByRecursion PartsExist xs → AllByRecursion CellsAgree xs → AllByRecursion (λ x. AllByRecursion (LoopIsApart p r) (loops_of x)) xs → AllByRecursion (CalleeExists p) xs → AllByRecursion (ResultAgrees p) xs
+      → AllByRecursion (CallLeads p r (routine_at p r)) xs → AllByRecursion (CallFits p) xs → AllByRecursion HasChoice xs → AllByRecursion (ReturnAgrees (routine_at p r)) xs → AllByRecursion ReturnsStay xs → AllByRecursion Coded xs → AllByRecursion (Asked r) xs
+  asked_all r [] a b c d e f g h i j k l = tt
+  asked_all r (x ∷ xs) a b c d e f g h i j k l = (
+    record { root = a.0; parts = b.0; cells = c.0; loops = d.0; callee = e.0; result = f.0; leads = g.0; fits = h.0; choice = i.0; return = j.0; stay = k.0; coded = l.0 },
+    asked_all r xs a.1 b.1 c.1 d.1 e.1 f.1 g.1 h.1 i.1 j.1 k.1 l.1,
+  )
+
   -- phrases of the routine, and the lines for them
   pub record Fine (r : ℕ) (xs : List Phrase) (ls : List ℕ) : Type 0 where
     pub asked : AllByRecursion (Asked r) xs

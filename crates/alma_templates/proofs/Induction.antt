@@ -20,7 +20,11 @@ use Rattle.alma_ir.specs.declared.program.Param.{Param}
 use Rattle.alma_ir.proofs.Each.{each_follows}
 use Rattle.alma_ir.specs.Lines.{behind, stmts_with, stmt_with, arms_with, cases_with, else_with, branches_with, loop_with, return_with, test_with, tests_with, expr_with, links_with, args_with, arg_with, desig_with, sels_with, sel_with}
 use Rattle.alma_ir.specs.Phrases.{Phrase, StmtPhrase, TestPhrase, ExprPhrase, ArgPhrase, DesigPhrase, SelPhrase, stmts_phrases, stmt_phrases, arms_phrases, cases_phrases, else_phrases, branches_phrases, loop_phrases, return_phrases, test_phrases, tests_phrases, expr_phrases, links_phrases, args_phrases, arg_phrases, desig_phrases, sels_phrases, sel_phrases}
-use Rattle.alma_mean.specs.Meaning.{Level, level, ev_desig, ev_stmt}
+use Rattle.alma_mean.specs.Meaning.{Level, level, level_above, ev_desig, ev_stmt, ev_stmts, ev_test}
+use Rattle.alma_mean.specs.Events.{Events, NoYield, Visit, one, bind, on_first}
+use Rattle.alma_mean.specs.Rows.{while_turn, repeat_turn}
+use Rattle.alma_implements.proofs.Ways.{Later, visited_later}
+use Rattle.alma_templates.specs.Stands.{Stands}
 use Rattle.alma_implements.specs.Implements.{input_limit}
 use Rattle.alma_implements.proofs.Frames.{shift, own_end, HasSlots}
 use Rattle.alma_implements.proofs.ExprRows.{AreVariables, first_kind, slots_first, slots_behind}
@@ -45,11 +49,11 @@ use Rattle.alma_templates.proofs.ExprForms.{LinksRun, const_runs, load_runs, no_
 use Rattle.alma_templates.proofs.FormRuns.{TestRuns, ListRuns, StmtRuns, StatementRuns}
 use Rattle.alma_templates.proofs.ForallRuns.{forall_runs}
 use Rattle.alma_templates.proofs.GuardedForms.{Decided, ArmsRun, no_arms_run, more_arms_run, no_arms_if, if_runs}
-use Rattle.alma_templates.proofs.Levels.{Below, owes_less}
+use Rattle.alma_templates.proofs.Levels.{Below, ForTurns, SomeTurns, owes_less}
 use Rattle.alma_templates.proofs.ReadForms.{read_runs}
 use Rattle.alma_templates.proofs.Returning.{return_runs, return_value_runs}
-use Rattle.alma_templates.proofs.Parts.{NodeFor, RunsFor, PlaceIn, as_statement}
-use Rattle.alma_templates.proofs.LoopForms.{truth_runs, while_runs, repeat_runs}
+use Rattle.alma_templates.proofs.Parts.{NodeFor, RunsFor, PlaceIn, ending, as_statement}
+use Rattle.alma_templates.proofs.LoopForms.{truth_runs, TurnsRun, while_exit, repeat_exit, while_turn_runs, while_runs, repeat_turn_runs, repeat_runs}
 use Rattle.alma_templates.proofs.RangeChecks.{chr_runs}
 use Rattle.alma_templates.proofs.RootForms.{RootFits, IsParam}
 use Rattle.alma_templates.proofs.StmtForms.{value_runs, test_stmt_runs, assign_runs, write_runs, text_runs, line_runs}
@@ -498,7 +502,7 @@ module _ (p : Program) (tables : Tables) (code : PlainCode) (all : List (List Ru
 
       -- ---- statements
 
-      stmts_go : (may : Bool) (r : ℕ) → r < length p.routines → (x : Stmts) (ls : List ℕ) → FineIn r (stmts_phrases x) ls → Stays p tables code input may (stmts_phrases x) → (line at lo : ℕ) → HasSlots p code r lo (stmts_slots p r (stmts_with x ls)) → ListRuns p tables code input below r line (suc n) may at lo (stmts_with x ls)
+      pub stmts_go : (may : Bool) (r : ℕ) → r < length p.routines → (x : Stmts) (ls : List ℕ) → FineIn r (stmts_phrases x) ls → Stays p tables code input may (stmts_phrases x) → (line at lo : ℕ) → HasSlots p code r lo (stmts_slots p r (stmts_with x ls)) → ListRuns p tables code input below r line (suc n) may at lo (stmts_with x ls)
       stmts_go may r lt no_stmts ls h stays line at lo slots = no_stmts_run p tables code input below r line (suc n) may at lo
       stmts_go may r lt (more_stmts given x rest) ls h stays line at lo slots =
           let own_line : ℕ = get_or ls 0 0 in
@@ -792,3 +796,115 @@ module _ (p : Program) (tables : Tables) (code : PlainCode) (all : List (List Ru
       else_go may r lt no_else ls h stays line lo bound c jump at la le slots = no_else_run p tables code input below r line (suc n) may lo bound jump at la c.apart c.behind c.kind c.kind2
       else_go may r lt (else_part body) ls h stays line lo bound c jump at la le slots =
           else_run p tables code input below r line (suc n) may lo bound jump at la c.apart c.behind c.kind c.kind2 (stmts_with body ls) le (stmts_go may r lt body ls h stays line at la slots)
+
+    -- ---- the turns at this level
+
+    for_go : (may : Bool) (r line : ℕ) → r < length p.routines → (l : Loop) (ls : List ℕ) → Asked p tables code input r (StmtPhrase (ForTo l)) → FineIn r (loop_phrases l) ls → Stays p tables code input may (loop_phrases l) → (at lo : ℕ) → HasSlots p code r lo (stmt_slots p r (ForTo (loop_with l ls)))
+        → Stands code at (stmt_code p tables r line at lo (ForTo (loop_with l ls))) → ForTurns p tables code input (level_above p input below) may r line at lo (loop_with l ls) (suc n)
+    unfolding stmts_phrases stmts_with
+    for_go may r line lt (a_loop d range counter limit from to by body) ls asked inner inner_stays at lo slots stands =
+        let l : Loop = a_loop d range counter limit from to by body in
+        let bounds = (desig_phrases d ++ expr_phrases from) ++ expr_phrases to in
+        let ls2 = behind (desig_phrases d) ls in
+        let ls3 = behind (expr_phrases from) ls2 in
+        let ls4 = behind (expr_phrases to) ls3 in
+        let y : Desig = desig_with d ls in
+        let x1 : Expr = expr_with from ls2 in
+        let x2 : Expr = expr_with to ls3 in
+        let x : Stmts = stmts_with body ls4 in
+        let before_body = fine_front p tables code input r bounds (stmts_phrases body) ls inner in
+        let g = desig_go r line lt d ls (fine_first p tables code input r (desig_phrases d) (expr_phrases from) (expr_phrases to) ls before_body) in
+        let fine_body = fine_fourth p tables code input r (desig_phrases d) (expr_phrases from) (expr_phrases to) (stmts_phrases body) ls inner in
+        let body_stays = stays_back p tables code input may bounds (stmts_phrases body) inner_stays in
+        let apart = asked.loops.0 in
+        let one_cell : desig_cells y ≡ 1 = cells_with d ls ∙ asked.cells in
+        let var : List SlotKind = unless_bare (bare_desig y) (slot.Number ∷ desig_slots p r y) in
+        let rest : List SlotKind = var ++ stmts_slots p r x in
+        let last : ℕ = behind_expr p r (lo + 1) x1 in
+        let place : ℕ = behind_expr p r last x2 in
+        let s1 = slots_behind p code input r lo (slot.Number ∷ []) (expr_slots p r x1 ++ (expr_slots p r x2 ++ rest)) slots in
+        let s3 = slots_behind p code input r last (expr_slots p r x2) rest (slots_behind p code input r (lo + 1) (expr_slots p r x1) (expr_slots p r x2 ++ rest) s1) in
+        for_counts p tables code input below r line (suc n) may at lo n y range counter limit x1 x2 by x (g.fits one_cell) one_cell (omega arith) asked.coded slots (hidden_variable r counter lt apart.of_counter) (hidden_variable r limit lt apart.of_limit)
+        (λ none next. variable p tables code input below r line (suc n) y g next place (slots_first p code input r place var (stmts_slots p r x) s3) none)
+        (λ next. turn_list may r line lt body ls4 fine_body body_stays next (behind_variable p r place y) (slots_behind p code input r place var (stmts_slots p r x) s3))
+        (know.fors may r line lt l ls asked inner inner_stays at lo slots stands) stands
+
+    some_go : (may : Bool) (r line : ℕ) → r < length p.routines → (l : Loop) (ls : List ℕ) → Asked p tables code input r (StmtPhrase (SomeOf l)) → FineIn r (loop_phrases l) ls → Stays p tables code input may (loop_phrases l) → (at lo : ℕ) → HasSlots p code r lo (stmt_slots p r (SomeOf (loop_with l ls)))
+        → Stands code at (stmt_code p tables r line at lo (SomeOf (loop_with l ls))) → SomeTurns p tables code input (level_above p input below) may r line at lo (loop_with l ls) (suc n)
+    unfolding stmts_phrases stmts_with
+    some_go may r line lt (a_loop d range counter limit from to by body) ls asked inner inner_stays at lo slots stands =
+        let l : Loop = a_loop d range counter limit from to by body in
+        let bounds = (desig_phrases d ++ expr_phrases from) ++ expr_phrases to in
+        let ls2 = behind (desig_phrases d) ls in
+        let ls3 = behind (expr_phrases from) ls2 in
+        let ls4 = behind (expr_phrases to) ls3 in
+        let y : Desig = desig_with d ls in
+        let x1 : Expr = expr_with from ls2 in
+        let x2 : Expr = expr_with to ls3 in
+        let x : Stmts = stmts_with body ls4 in
+        let before_body = fine_front p tables code input r bounds (stmts_phrases body) ls inner in
+        let g = desig_go r line lt d ls (fine_first p tables code input r (desig_phrases d) (expr_phrases from) (expr_phrases to) ls before_body) in
+        let fine_body = fine_fourth p tables code input r (desig_phrases d) (expr_phrases from) (expr_phrases to) (stmts_phrases body) ls inner in
+        let body_stays = stays_back p tables code input may bounds (stmts_phrases body) inner_stays in
+        let apart = asked.loops.0 in
+        let one_cell : desig_cells y ≡ 1 = cells_with d ls ∙ asked.cells in
+        let var : List SlotKind = unless_bare (bare_desig y) (slot.Number ∷ desig_slots p r y) in
+        let rest : List SlotKind = slot.Number ∷ (var ++ stmts_slots p r x) in
+        let last : ℕ = behind_expr p r (lo + 1) x1 in
+        let more : ℕ = behind_expr p r last x2 in
+        let s1 = slots_behind p code input r lo (slot.Number ∷ []) (expr_slots p r x1 ++ (expr_slots p r x2 ++ rest)) slots in
+        let s2 = slots_behind p code input r (lo + 1) (expr_slots p r x1) (expr_slots p r x2 ++ rest) s1 in
+        let s3 = slots_behind p code input r more (slot.Number ∷ []) (var ++ stmts_slots p r x) (slots_behind p code input r last (expr_slots p r x2) rest s2) in
+        some_counts p tables code input below r line (suc n) may at lo n y range counter limit x1 x2 by x (g.fits one_cell) one_cell (omega arith) apart.two asked.coded slots (hidden_variable r counter lt apart.of_counter) (hidden_variable r limit lt apart.of_limit)
+        (λ none next. variable p tables code input below r line (suc n) y g next (more + 1) (slots_first p code input r (more + 1) var (stmts_slots p r x) s3) none)
+        (λ next. turn_list may r line lt body ls4 fine_body body_stays next (behind_variable p r (more + 1) y) (slots_behind p code input r (more + 1) var (stmts_slots p r x) s3))
+        (know.somes may r line lt l ls asked inner inner_stays at lo slots stands) stands
+
+    while_go : (may : Bool) (r line : ℕ) → r < length p.routines → (t : Test) (body : Stmts) (ls : List ℕ) → FineIn r (test_phrases t ++ stmts_phrases body) ls → Stays p tables code input may (test_phrases t ++ stmts_phrases body)
+        → (at lo : ℕ) → HasSlots p code r lo (stmt_slots p r (While (test_with t ls) (stmts_with body (behind (test_phrases t) ls)))) → Stands code at (stmt_code p tables r line at lo (While (test_with t ls) (stmts_with body (behind (test_phrases t) ls))))
+        → TurnsRun p tables code input below r line (suc n) may (at + 1) (while_exit p tables code input below r line (suc n) at lo (test_with t ls) (stmts_with body (behind (test_phrases t) ls))) lo
+        (while_turn (below.test (test_with t ls)) (below.stmts (stmts_with body (behind (test_phrases t) ls))) (below.while (test_with t ls) (stmts_with body (behind (test_phrases t) ls)))) (suc n - 1)
+    while_go may r line lt t body ls inner inner_stays at lo slots stands v now b =
+        let ls2 = behind (test_phrases t) ls in
+        let u : Test = test_with t ls in
+        let x : Stmts = stmts_with body ls2 in
+        let exit : ℕ = while_exit p tables code input below r line (suc n) at lo u x in
+        let w = ending p code input may lo r now in
+        let e : Events NoYield = on_first (below.test u v) (λ a _. bind (below.stmts x a) (λ y _. below.while u x y)) (λ _. one v tt) in
+        let condition = condition_slots r lo (is_simple u) (test_slots p r u) (stmts_slots p r x) slots in
+        subst (λ k. Later code input line (at + 1) exit now w (Visit e) k) less_one
+        (visited_later code input line (at + 1) exit now w e n
+        (while_turn_runs p tables code input below r line (suc n) may at lo u x (below.test u) (below.stmts x) (below.while u x) n (n - 1) slots.behind (omega arith)
+        (λ none. know.tests r line lt t ls (fine_front p tables code input r (test_phrases t) (stmts_phrases body) ls inner) (at + 1) lo none condition.0)
+        (λ next. owes_less p tables code input may r line next (behind_condition p r lo u) (stmts_code p tables r next (behind_condition p r lo u) x) (below.stmts x) n (n - 1) (omega arith)
+        (know.lists may r line lt body ls2 (fine_back p tables code input r (test_phrases t) (stmts_phrases body) ls inner) (stays_back p tables code input may (test_phrases t) (stmts_phrases body) inner_stays) next (behind_condition p r lo u) condition.1))
+        (know.whiles may r line lt t body ls inner inner_stays at lo slots stands) stands v now b))
+
+    repeat_go : (may : Bool) (r line : ℕ) → r < length p.routines → (body : Stmts) (t : Test) (ls : List ℕ) → FineIn r (stmts_phrases body ++ test_phrases t) ls → Stays p tables code input may (stmts_phrases body ++ test_phrases t)
+        → (at lo : ℕ) → HasSlots p code r lo (stmt_slots p r (Repeat (stmts_with body ls) (test_with t (behind (stmts_phrases body) ls)))) → Stands code at (stmt_code p tables r line at lo (Repeat (stmts_with body ls) (test_with t (behind (stmts_phrases body) ls))))
+        → TurnsRun p tables code input below r line (suc n) may at (repeat_exit p tables code input below r line (suc n) at lo (stmts_with body ls) (test_with t (behind (stmts_phrases body) ls))) lo
+        (repeat_turn (ev_stmts p input below (stmts_with body ls)) (ev_test p input below (test_with t (behind (stmts_phrases body) ls))) (below.repeat (stmts_with body ls) (test_with t (behind (stmts_phrases body) ls)))) (suc n)
+    repeat_go may r line lt body t ls inner inner_stays at lo slots stands v now b =
+        let ls2 = behind (stmts_phrases body) ls in
+        let x : Stmts = stmts_with body ls in
+        let u : Test = test_with t ls2 in
+        let exit : ℕ = repeat_exit p tables code input below r line (suc n) at lo x u in
+        let w = ending p code input may lo r now in
+        let g = test_go r line lt t ls2 (fine_back p tables code input r (stmts_phrases body) (test_phrases t) ls inner) in
+        let e : Events NoYield = bind (ev_stmts p input below x v) (λ a _. on_first (ev_test p input below u a) (λ y _. one y tt) (λ _. below.repeat x u a)) in
+        visited_later code input line at exit now w e (suc n)
+        (repeat_turn_runs p tables code input below r line (suc n) may at lo x u (ev_stmts p input below x) (ev_test p input below u) (below.repeat x u) n slots.behind (omega arith)
+        (stmts_go may r lt body ls (fine_front p tables code input r (stmts_phrases body) (test_phrases t) ls inner) (stays_front p tables code input may (stmts_phrases body) (test_phrases t) inner_stays) line at lo (slots_first p code input r lo (stmts_slots p r x) (mark_slots (is_simple u) ++ test_slots p r u) slots))
+        (λ next. decides p tables code input below r line (suc n) u g next (behind_stmts p r lo x) at (slots_behind p code input r lo (stmts_slots p r x) (mark_slots (is_simple u) ++ test_slots p r u) slots))
+        (know.repeats may r line lt body t ls inner inner_stays at lo slots stands) stands v now b)
+
+    -- what is known at this level
+    pub level_known : Below p tables code input (level_above p input below) (suc n)
+    level_known = record {
+      lists = λ may r line lt x ls fine stays at lo slots. stmts_go may r lt x ls fine stays line at lo slots;
+      tests = λ r line lt t ls fine at lo none slots. decides p tables code input below r line (suc n) (test_with t ls) (test_go r line lt t ls fine) at lo none slots;
+      whiles = λ may r line lt t x ls fine stays at lo slots stands v now b. while_go may r line lt t x ls fine stays at lo slots stands v now b;
+      repeats = λ may r line lt x t ls fine stays at lo slots stands v now b. repeat_go may r line lt x t ls fine stays at lo slots stands v now b;
+      fors = λ may r line lt l ls asked fine stays at lo slots stands. for_go may r line lt l ls asked fine stays at lo slots stands;
+      somes = λ may r line lt l ls asked fine stays at lo slots stands. some_go may r line lt l ls asked fine stays at lo slots stands;
+    }

@@ -39,3 +39,4 @@ pub mod ReadForms
 pub mod Asked
 pub mod Levels
 pub mod Induction
+pub mod Premises
