@@ -40,3 +40,4 @@ pub mod Asked
 pub mod Levels
 pub mod Induction
 pub mod Premises
+pub mod Law

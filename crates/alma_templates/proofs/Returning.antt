@@ -196,14 +196,14 @@ module _ (p : Program) (tables : Tables) (code : PlainCode) (input : List ℕ) w
         first.fit,
       )
 
-  abbrev body_slot : (r : ℕ) → ℕ
+  abbrev pub body_slot : (r : ℕ) → ℕ
   body_slot r = length (own_kinds (routine_at p r))
 
-  abbrev body_code_of : (r : ℕ) → List Lined
+  abbrev pub body_code_of : (r : ℕ) → List Lined
   body_code_of r = stmts_code p tables r (start_at code r) (body_slot r) (body_with_lines (routine_at p r))
 
   -- what stands at its end
-  routine_ends : (below : Level) (r : ℕ) → Stands code (start_at code r) (routine_code p tables r (start_at code r)) → EndsAt p tables code input below r (start_at code r + length (body_code_of r)) (routine_at p r).result
+  pub routine_ends : (below : Level) (r : ℕ) → Stands code (start_at code r) (routine_code p tables r (start_at code r)) → EndsAt p tables code input below r (start_at code r + length (body_code_of r)) (routine_at p r).result
   routine_ends below r stands = ends_at (routine_at p r).result (stands_back code (start_at code r) (body_code_of r) (own (routine_at p r).line (end_code p tables r (routine_at p r).result ∷ [])) stands)
     where
       ends_at : (result : Option Range) → Stands code (start_at code r + length (body_code_of r)) (own (routine_at p r).line (end_code p tables r result ∷ [])) → EndsAt p tables code input below r (start_at code r + length (body_code_of r)) result
