@@ -209,8 +209,7 @@ module _ (p : Program) (tables : Tables) (code : PlainCode) (input : List ℕ) (
               mark = holds_after p code input (inner + 1) r inner (cell.Mark height) u t marked now2 bm (omega (arith, own_lo, above)) (omega arith) after (holds_temp p code input r inner u laid (cell.Mark height) slot.Mark second_kind_is bl);
               outer_mark = holds_after p code input inner r lo (cell.Mark h) u t laid now2 bl own_lo above whole (laid_holds v now left c carry alike);
               gained = λ other alike2.
-                  let here : Alike p code inner v now c other = alike_here v now left c other alike2 in
-                  (
+                  let here : Alike p code inner v now c other = alike_here v now left c other alike2 in (
                     alike_moved p code inner v s0 now now0 (with_changes (diffs laid now2) c) (with_changes (changes (over v other) t) other) (sym (long v now left)) (front_back p code s0 v now0 now (long v now left) (front v now left))
                         (gains p code inner v now c other left.fits.stand here t now2 whole.fits),
                     gained_position p code input (over v other) t other (begins_laid v now left c other alike2).stand.some (begins_laid v now left c other alike2).sound.position whole.fits.stand.some whole.sound.position alike2.1,

@@ -1,6 +1,5 @@
 pub mod Stands
 pub mod EitherRuns
-pub mod Statements
 pub mod Parts
 pub mod PlaceSteps
 pub mod AtOnce
@@ -41,3 +40,4 @@ pub mod Levels
 pub mod Induction
 pub mod Premises
 pub mod Law
+pub mod Exists

@@ -18,3 +18,9 @@ pub fn code_has_its_lines()
 pub fn code_of_a_checked_program_implements_it()
     ensures { (p : Program) (code : PlainCode) → IsChecked p → IsOfIntegers p → IsCodeOf p code → Implements code p }
 {}
+
+/// Each program has such a code.
+#[tactic(auto, using(crate::proofs::Exists::has_code))]
+pub fn each_program_has_a_code()
+    ensures { (p : Program) → (code : PlainCode) × IsCodeOf p code }
+{}
