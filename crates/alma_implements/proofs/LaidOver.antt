@@ -1,15 +1,13 @@
 -- What a carry makes of a store and of the frames of the machine, cell by cell.
-use Rattle.std.proofs.Common.{◌≡◌, ℕ, zero, suc, ◌+◌, ◌-◌, ◌<◌, ◌≤◌, ◌⊎◌, inl, inr, Bool, true, false, List, [], ◌∷◌, length, get_or, set, Option, Some, None, refl, sym, ap, ◌∙◌, subst, arith}
+use Rattle.std.proofs.Common.{◌≡◌, ℕ, zero, suc, ◌<◌, ◌≤◌, inl, inr, Bool, true, false, List, [], ◌∷◌, length, get_or, set, Option, Some, None, refl, sym, ap, ◌∙◌, subst, arith}
 use Rattle.std.specs.Prelude.{slice_get, if◌then◌else◌}
 use Rattle.std.proofs.lemmas.Bool.{cases_eq, cases_lt}
 use Rattle.std.proofs.lemmas.List.{get_or-set_same, get_or-set_other, get_or_past, length-set}
-use Rattle.std.proofs.lemmas.Option.{slice_get-get_or, slice_get_within}
 use Rattle.alma_base.specs.Carry.{Change, Carry, is_same_place, carried_at}
 use Rattle.alma_base.specs.Choice.{if_true}
 use Rattle.alma_code.specs.declared.cell.Cell.{Cell}
 use Rattle.alma_code.specs.declared.cell.Cell.TheVariants as cell
 use Rattle.alma_code.specs.declared.cell.SlotKind.{SlotKind}
-use Rattle.alma_code.specs.declared.cell.SlotKind.TheVariants as slot
 use Rattle.alma_code.specs.Carries.{number_at, laid, overlaid}
 use Rattle.alma_code.specs.Kinds.{is_number}
 use Rattle.alma_code.specs.Picture.{PlainFrame, frame_with, written, cell_at}
@@ -17,7 +15,7 @@ use Rattle.alma_code.specs.Picture as picture
 use Rattle.alma_mean.specs.Store.{Store, Unknown, put, over}
 use Rattle.alma_mean.specs.Store as store
 use Rattle.alma_implements.proofs.FrameLemmas.{put_is}
-use Rattle.alma_implements.proofs.CarryMaps.{same_place_is, same_itself, IsAbove, IsRising, absent_below, if_so, if_not}
+use Rattle.alma_implements.proofs.CarryMaps.{same_place_is, same_itself, IsRising, absent_below}
 
 -- what is carried, or else what was there
 abbrev pub or_else : {A : Type 0} → Option A → A → A

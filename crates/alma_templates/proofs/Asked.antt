@@ -1,6 +1,6 @@
 -- What the induction over the phrases of a routine is given: what a checked program keeps and what its tables hold, phrase by
 -- phrase, and the lines that are still to be handed out.
-use Rattle.std.proofs.Common.{◌≡◌, ℕ, zero, suc, ◌+◌, ◌<◌, ◌≤◌, Bool, true, false, List, [], ◌∷◌, ◌++◌, length, get_or, drop, Some, None, Option, refl, sym, ap, ◌∙◌, subst, arith, ℤ}
+use Rattle.std.proofs.Common.{◌≡◌, ℕ, zero, suc, ◌+◌, ◌<◌, ◌≤◌, Bool, true, false, List, [], ◌∷◌, ◌++◌, length, get_or, drop, Some, None, refl, ap, ◌∙◌, subst, arith, ℤ}
 use Rattle.std.specs.Prelude.{slice_get}
 use Rattle.std.specs.List.{AllByRecursion}
 use Rattle.alma_base.specs.Numbers.{within, is_integer}
@@ -8,21 +8,20 @@ use Rattle.alma_base.specs.declared.number.Range.{Range}
 use Rattle.alma_code.specs.declared.cell.SlotKind.{SlotKind}
 use Rattle.alma_code.specs.declared.cell.SlotKind.TheVariants as slot
 use Rattle.alma_code.specs.Plain.{PlainCode}
-use Rattle.alma_ir.specs.Tree.{Program, Stmts, Stmt, Test, Expr, Arg, Args, Desig, Sels, Sel, Loop, routine_at, TestStmt, Assign, CopyCells, If, While, Repeat, ForTo, SomeOf, Case, Either, Forall, Commit, Return, Read, WriteExpr, WriteText, WriteLine, Bind, Unify, Value, Const, Chr, ByValue, MixValue, Index, a_loop, a_desig, no_sels, more_sels, Field, no_args, more_args, ByCells, ByPlace, MixPlace}
+use Rattle.alma_ir.specs.Tree.{Program, Stmt, Test, Expr, Arg, Args, Desig, Sels, Sel, routine_at, TestStmt, Assign, CopyCells, If, While, Repeat, ForTo, SomeOf, Case, Either, Forall, Commit, Return, Read, WriteExpr, WriteText, WriteLine, Bind, Unify, Value, Const, Chr, ByValue, MixValue, Index, a_loop, a_desig, no_sels, more_sels, Field, no_args, more_args, ByCells, ByPlace, MixPlace}
 use Rattle.alma_ir.specs.declared.program.Param.{Param}
-use Rattle.alma_ir.specs.Lines.{stmt_count, behind, desig_with, sels_with, sel_with, args_with, arg_with, expr_with}
+use Rattle.alma_ir.specs.Lines.{stmt_count, behind, desig_with, sels_with, sel_with, args_with, arg_with}
 use Rattle.alma_ir.specs.Phrases.{Phrase, StmtPhrase, TestPhrase, ExprPhrase, ArgPhrase, DesigPhrase, SelPhrase, stmt_phrases, arg_phrases, sel_phrases}
-use Rattle.alma_ir.specs.Checked.{RootExists, PartsExist, CellsAgree, LoopIsApart, loops_of, CalleeExists, CallLeads, CallFits, ResultAgrees, HasChoice, ReturnAgrees, ReturnsStay, IsNoReturn, ArgsFit, ArgFits, ArePartsOf, IsPart, sel_cells, cells_after, desig_cells}
+use Rattle.alma_ir.specs.Checked.{RootExists, PartsExist, CellsAgree, LoopIsApart, loops_of, CalleeExists, CallLeads, CallFits, ResultAgrees, HasChoice, ReturnAgrees, ReturnsStay, IsNoReturn, ArgsFit, ArgFits, sel_cells, cells_after, desig_cells}
 use Rattle.alma_ir.proofs.Each.{each_of_front, each_of_back}
 use Rattle.alma_ir.proofs.LinesBack.{count_sum, behind_two}
 use Rattle.alma_mean.specs.Meaning.{Level}
 use Rattle.alma_implements.proofs.Frames.{HasSlots}
-use Rattle.alma_implements.proofs.ExprRows.{slots_first, slots_behind}
+use Rattle.alma_implements.proofs.ExprRows.{slots_behind}
 use Rattle.alma_templates.specs.Tables.{Tables, range_number, text_number, is_whole}
 use Rattle.alma_templates.specs.Slots.{bare, bare_desig, unless_bare, is_simple, is_simple_expr, mark_slots, expr_slots, desig_slots, test_slots}
 use Rattle.alma_templates.specs.Templates.{char_range}
 use Rattle.alma_templates.proofs.AtOnce.{BareFits, AtOnce}
-use Rattle.alma_templates.proofs.Conditions.{TestKnown}
 use Rattle.alma_templates.proofs.FormRuns.{ExprRuns, DesigRuns, TestRuns}
 use Rattle.alma_templates.proofs.GuardedForms.{Decided, decided}
 use Rattle.alma_mean.specs.Meaning.{ev_test}

@@ -1,7 +1,6 @@
 -- Calls, from template to run: the link, the arguments, and the body of the routine at the level below.
-use Rattle.std.proofs.Common.{◌≡◌, ℕ, zero, suc, ◌+◌, ◌-◌, ◌<◌, ◌≤◌, ◌⊎◌, inl, inr, Bool, true, false, List, [], ◌∷◌, ◌++◌, length, get_or, Some, None, Option, refl, sym, ap, ◌∙◌, subst, arith, ℤ, length-append}
+use Rattle.std.proofs.Common.{◌≡◌, ℕ, zero, suc, ◌+◌, ◌-◌, ◌<◌, ◌≤◌, inl, inr, true, List, [], ◌∷◌, ◌++◌, length, get_or, Some, None, Option, refl, sym, ap, ◌∙◌, subst, arith, ℤ, length-append}
 use Rattle.std.specs.Prelude.{slice_get}
-use Rattle.std.specs.List.{AllByRecursion}
 use Rattle.std.proofs.lemmas.Bool.{cases_eq, cases_lt}
 use Rattle.std.proofs.lemmas.List.{get_or_append_left, get_or-take}
 use Rattle.std.proofs.Math.Seq.{get_or-append_seam}
@@ -19,21 +18,21 @@ use Rattle.alma_code.specs.Picture as picture
 use Rattle.alma_code.specs.Plain.{PlainCode, PlainRoutine, kinds_at, start_at}
 use Rattle.alma_code.specs.Machine.{State, link_to}
 use Rattle.alma_ir.specs.Tree.{Program, Args, no_args, more_args, CallTest, CallExpr, routine_at}
-use Rattle.alma_ir.specs.Checked.{IsNested, LinksAgree, ParamsFirst, ArgsFit, HasOneCellAs, link_slots, outer_at, EachRoutine}
+use Rattle.alma_ir.specs.Checked.{IsNested, LinksAgree, ParamsFirst, ArgsFit, link_slots, outer_at, EachRoutine}
 use Rattle.alma_mean.specs.Store.{Store, Unknown, top, top_frame, up, up_from, without_top}
 use Rattle.alma_mean.specs.Store as store
-use Rattle.alma_mean.specs.Events.{Events, NoYield, Flow, Go, Return, bind, node}
+use Rattle.alma_mean.specs.Events.{Events, NoYield, Flow, Go, Return, bind}
 use Rattle.alma_mean.specs.Rows.{ArgValue, enter, as_test, as_value, frame_of}
 use Rattle.alma_mean.specs.Meaning.{Level, ev_stmts, ev_args, ev_test, ev_expr}
-use Rattle.alma_implements.proofs.Goes.{Silently, Goes, no_step, and_then, before, bind_goes}
+use Rattle.alma_implements.proofs.Goes.{Silently, Goes, no_step, before, bind_goes}
 use Rattle.alma_implements.proofs.Address.{at_address}
 use Rattle.alma_implements.proofs.Frames.{shift, shift_in, own_end, HasLink, StandFor, KeptBelow, Fits, HasSlots, IsAt}
-use Rattle.alma_implements.proofs.FrameLemmas.{top_same, fits_self, fits_on, fits_less, holds_other}
+use Rattle.alma_implements.proofs.FrameLemmas.{top_same, holds_other}
 use Rattle.alma_implements.proofs.ExprRows.{first_kind, slots_first, slots_behind}
 use Rattle.alma_implements.proofs.LinkRows.{LinkedUp, linked_up, ChainsAt, AreLinks, link_goes}
 use Rattle.alma_implements.proofs.Leaving.{leave_fits}
 use Rattle.alma_implements.proofs.CallRow.{Returns, call_row}
-use Rattle.alma_implements.proofs.FunctionRow.{GivesNumber, LeavesFunction, function_call_row}
+use Rattle.alma_implements.proofs.FunctionRow.{LeavesFunction, function_call_row}
 use Rattle.alma_implements.proofs.ChoiceSteps.{mark_step}
 use Rattle.alma_implements.proofs.Steps.{Holds, InstrAt, top_written}
 use Rattle.alma_implements.proofs.Ways.{Ways, Leaves, Runs}
@@ -44,7 +43,7 @@ use Rattle.alma_templates.specs.Slots.{shift_of, chain_slots, links_if, call_lin
 use Rattle.alma_templates.specs.Templates.{link_if, call_link_code, call_code, arguments_from, handed_from, args_code, test_code, expr_code}
 use Rattle.alma_templates.specs.Stands.{Stands}
 use Rattle.alma_templates.proofs.Stands.{stands_front, stands_back}
-use Rattle.alma_templates.proofs.Parts.{Begins, Left, Sound, sound_of, begins, left_self, left_on, left_less, on_from, holds_after, Nothing, ValueIn, NodeFor, node_runs, From, leaving, ending, left_temp, holds_temp, has_kind, ReturnsAt, ReturnsFrom, ResultIs}
+use Rattle.alma_templates.proofs.Parts.{Begins, Left, sound_of, begins, left_self, left_on, left_less, on_from, holds_after, Nothing, ValueIn, NodeFor, node_runs, From, leaving, ending, left_temp, holds_temp, has_kind, ResultIs}
 use Rattle.alma_templates.proofs.NewFrame.{AllHanded, with_link, handed_all, IsCompiled, enter_stands}
 use Rattle.alma_templates.proofs.Handing.{HeldFrom, counts_alike, holds_arguments}
 use Rattle.alma_templates.proofs.Args.{ArgsIn, ArgParts, args_run, handed_after}

@@ -22,12 +22,12 @@ use Rattle.alma_mean.specs.Store.{Store, Place, Unknown, Number, put, put_all, c
 use Rattle.alma_mean.specs.Store as store_of
 use Rattle.alma_mean.specs.Events.{Events, NoYield, Fail, Fault, one, join, bind, node}
 use Rattle.alma_mean.specs.Rows.{match_cell, match_cells, copy_cells, succeed_if}
-use Rattle.alma_mean.specs.Meaning.{Level, ev_test, ev_expr, ev_desig}
+use Rattle.alma_mean.specs.Meaning.{Level, ev_expr, ev_desig}
 use Rattle.alma_implements.specs.Implements.{line_in}
 use Rattle.alma_implements.proofs.Frames.{shift_in, own_end, IsAt, AreNumbers, SamePlace, SameContent}
 use Rattle.alma_implements.proofs.FrameLemmas.{content_there, numbers_kept, place_kept}
 use Rattle.alma_implements.proofs.Carrying.{kind_in, number_content}
-use Rattle.alma_implements.proofs.Steps.{Holds, InstrAt, passed, does, went_on, place_is, faults_now, here_too}
+use Rattle.alma_implements.proofs.Steps.{InstrAt, passed, does, went_on, place_is, here_too}
 use Rattle.alma_templates.specs.Lined.{Lined, own, in_row}
 use Rattle.alma_templates.specs.Tables.{Tables}
 use Rattle.alma_templates.specs.Slots.{behind_desig}

@@ -1,5 +1,5 @@
 -- Each program has a code: its tables hold what its phrases name, and each slot has a run of its own.
-use Rattle.std.proofs.Common.{◌≡◌, ◌⊎◌, inl, inr, ℕ, zero, suc, ◌+◌, ◌-◌, ◌<◌, ◌≤◌, Bool, true, false, ◌&&◌, List, [], ◌∷◌, ◌++◌, length, map, get_or, replicate, Some, None, Option, ℤ, pos, negsuc, refl, sym, ap, ◌∙◌, subst, arith}
+use Rattle.std.proofs.Common.{◌≡◌, ◌⊎◌, inl, inr, ℕ, zero, suc, ◌+◌, ◌-◌, ◌<◌, Bool, true, false, List, [], ◌∷◌, ◌++◌, length, get_or, replicate, Some, None, Option, ℤ, pos, negsuc, refl, sym, ap, ◌∙◌, subst, arith}
 use Rattle.std.specs.Prelude.{slice_get, nat_eq}
 use Rattle.std.specs.List.{AllByRecursion}
 use Rattle.std.proofs.lemmas.Bool.{and_parts, and_from, eqb-true, eq-eqb}
@@ -16,7 +16,7 @@ use Rattle.alma_templates.specs.Tables.{Tables, same_range, same_text, counted, 
 use Rattle.alma_templates.specs.Slots.{routine_kinds}
 use Rattle.alma_templates.specs.Templates.{char_range}
 use Rattle.alma_templates.specs.Compiled.{program_code}
-use Rattle.alma_templates.specs.CodeOf.{HoldsRange, HoldsChecked, InTables, HoldsAllOf, IsCodeOf}
+use Rattle.alma_templates.specs.CodeOf.{HoldsRange, InTables, HoldsAllOf, IsCodeOf}
 
 -- ---- members of lists
 

@@ -1,5 +1,5 @@
 -- The code of a checked program implements it.
-use Rattle.std.proofs.Common.{◌≡◌, ℕ, zero, suc, ◌+◌, ◌<◌, ◌≤◌, ℤ, pos, Bool, true, false, ◌&&◌, List, [], ◌∷◌, length, get_or, Some, None, Option, refl, sym, ap, ◌∙◌, subst, arith}
+use Rattle.std.proofs.Common.{◌≡◌, ℕ, zero, suc, ◌+◌, ◌<◌, ◌≤◌, ℤ, Bool, true, false, List, [], ◌∷◌, length, get_or, Some, None, Option, refl, sym, ap, ◌∙◌, subst, arith}
 use Rattle.std.specs.Prelude.{slice_get, int_le, IsNone}
 use Rattle.std.specs.List.{AllByRecursion}
 use Rattle.std.proofs.lemmas.Bool.{and_parts, and_from}
@@ -17,18 +17,16 @@ use Rattle.alma_code.specs.Machine.{Mode, Going, Failing, Ended, Stuck, State, s
 use Rattle.alma_code.specs.declared.step.End.TheVariants as end
 use Rattle.alma_ir.specs.Tree.{Program, routine_at, TestStmt, Assign, CopyCells, If, While, Repeat, ForTo, SomeOf, Case, Either, Forall, Commit, Return, Read, WriteExpr, WriteText, WriteLine, a_loop, Value, Bind, Unify, SameCells, Seq, And, Or, Not, CallTest, Const, Load, Chain, Compare, Truth, Known, Chr, CallExpr, ByValue, ByCells, ByPlace, MixValue, MixPlace, Field, Index}
 use Rattle.alma_ir.specs.Phrases.{Phrase, StmtPhrase, TestPhrase, ExprPhrase, ArgPhrase, DesigPhrase, SelPhrase, stmts_phrases}
-use Rattle.alma_ir.specs.Lines.{body_with_lines}
 use Rattle.alma_ir.specs.Checked.{IsChecked}
-use Rattle.alma_mean.specs.Store.{Store}
 use Rattle.alma_mean.specs.Events.{Events, NoYield, Flow, Go, first, node, prints, end_of}
 use Rattle.alma_mean.specs.Events as events
 use Rattle.alma_mean.specs.Meaning as meaning
 use Rattle.alma_mean.specs.Meaning.{Level, level, level_0, ev_program, ev_stmts}
 use Rattle.alma_implements.specs.Implements.{ComesTo, Implements, input_limit, line_in, state_after, printed_by}
 use Rattle.alma_implements.proofs.Follows.{AgreesFrom, EndsWell, follows}
-use Rattle.alma_implements.proofs.Frames.{own_end, IsAt}
+use Rattle.alma_implements.proofs.Frames.{own_end}
 use Rattle.alma_implements.proofs.Goes.{IsGoing, weaker, node_goes}
-use Rattle.alma_implements.proofs.Steps.{InstrAt, return_ends}
+use Rattle.alma_implements.proofs.Steps.{return_ends}
 use Rattle.alma_implements.proofs.Ways.{Ways, Leaves}
 use Rattle.alma_templates.specs.Tables.{Tables}
 use Rattle.alma_templates.specs.Slots.{routine_kinds, own_kinds}
@@ -36,11 +34,11 @@ use Rattle.alma_templates.specs.Compiled.{program_code}
 use Rattle.alma_templates.specs.Stands.{Stands}
 use Rattle.alma_templates.specs.Templates.{routine_code}
 use Rattle.alma_templates.specs.CodeOf.{HoldsAllOf, InTables, HasIntegers, IsOfIntegers, IsCodeOf}
-use Rattle.alma_templates.proofs.Asked.{Coded, Asked, asked_all, Fine, IsInside}
+use Rattle.alma_templates.proofs.Asked.{Coded, asked_all, Fine}
 use Rattle.alma_templates.proofs.Calls.{RoutineRuns, EndsAt}
 use Rattle.alma_templates.proofs.Induction.{stmts_go, level_known}
 use Rattle.alma_templates.proofs.Levels.{Below, below_none}
-use Rattle.alma_templates.proofs.Parts.{Begins, ending, ReturnsFrom, ReturnsAt, ResultIs}
+use Rattle.alma_templates.proofs.Parts.{ending, ResultIs}
 use Rattle.alma_templates.proofs.Premises.{variables_are, params_are, body_slots, flat_body, position_kind}
 use Rattle.alma_templates.proofs.Returning.{routine_runs, routine_cut, routine_ends, body_code_of}
 use Rattle.alma_templates.proofs.Starting.{start_begins}

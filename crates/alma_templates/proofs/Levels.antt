@@ -1,20 +1,18 @@
 -- What is known of the level below: lists, conditions and turns, wherever they stand.
-use Rattle.std.proofs.Common.{◌≡◌, ℕ, zero, suc, ◌+◌, ◌-◌, ◌<◌, ◌≤◌, Bool, true, false, List, [], ◌∷◌, ◌++◌, length, refl, sym, ap, ◌∙◌, subst, arith, ℤ, pos}
-use Rattle.alma_base.specs.declared.number.Range.{Range}
-use Rattle.alma_code.specs.declared.step.End.{End}
+use Rattle.std.proofs.Common.{◌≡◌, ℕ, zero, suc, ◌+◌, ◌-◌, ◌<◌, ◌≤◌, Bool, List, ◌++◌, length, refl, sym, ap, ◌∙◌, subst, arith}
 use Rattle.alma_code.specs.Picture.{PlainFrame, PlainEntry}
 use Rattle.alma_code.specs.Plain.{PlainCode}
 use Rattle.alma_code.specs.Machine.{State, Mode, Going, Failing, Ended, Stuck, after, step}
 use Rattle.alma_code.specs.Machine as machine
-use Rattle.alma_ir.specs.Tree.{Program, Stmts, Test, Loop, Expr, Desig, While, Repeat, ForTo, SomeOf, a_loop}
+use Rattle.alma_ir.specs.Tree.{Program, Stmts, Test, Loop, While, Repeat, ForTo, SomeOf, a_loop}
 use Rattle.alma_ir.specs.Lines.{behind, stmts_with, test_with, loop_with}
-use Rattle.alma_ir.specs.Phrases.{Phrase, StmtPhrase, stmts_phrases, test_phrases, loop_phrases}
+use Rattle.alma_ir.specs.Phrases.{StmtPhrase, stmts_phrases, test_phrases, loop_phrases}
 use Rattle.alma_mean.specs.Store.{Store}
-use Rattle.alma_mean.specs.Events.{Events, NoYield, Flow, Cut}
-use Rattle.alma_mean.specs.Meaning.{Level, level, level_0}
-use Rattle.alma_implements.proofs.Goes.{IsOn, Silently, Goes, no_step, weaker}
+use Rattle.alma_mean.specs.Events.{Events, NoYield}
+use Rattle.alma_mean.specs.Meaning.{Level, level_0}
+use Rattle.alma_implements.proofs.Goes.{IsOn, Silently, no_step, weaker}
 use Rattle.alma_implements.proofs.Frames.{HasSlots, IsAt}
-use Rattle.alma_implements.proofs.Ways.{Ways, Leaves, Later}
+use Rattle.alma_implements.proofs.Ways.{Leaves}
 use Rattle.alma_templates.specs.Lined.{Lined}
 use Rattle.alma_templates.specs.Tables.{Tables}
 use Rattle.alma_templates.specs.Slots.{is_simple, mark_slots, test_slots, stmts_slots, stmt_slots}
@@ -25,7 +23,7 @@ use Rattle.alma_templates.proofs.ForForms.{CountsOn}
 use Rattle.alma_templates.proofs.ForStatement.{for_top}
 use Rattle.alma_templates.proofs.GuardedForms.{Decided}
 use Rattle.alma_templates.proofs.LoopForms.{TurnsRun, while_exit, repeat_exit}
-use Rattle.alma_templates.proofs.Parts.{Begins, RunsFor, ending}
+use Rattle.alma_templates.proofs.Parts.{RunsFor, ending}
 use Rattle.alma_templates.proofs.SomeForms.{TurnsOn, some_top, some_exit}
 
 module _ (p : Program) (tables : Tables) (code : PlainCode) (input : List ℕ) where

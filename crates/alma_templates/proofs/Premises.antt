@@ -15,8 +15,8 @@ use Rattle.alma_ir.specs.declared.program.ArgKind.TheVariants as kind
 use Rattle.alma_ir.specs.declared.program.Param.{Param}
 use Rattle.alma_ir.specs.Tree.{Program, Routine, routine_at}
 use Rattle.alma_ir.specs.Lines.{body_with_lines}
-use Rattle.alma_ir.specs.Checked.{IsChecked, ParamsFirst, AreLaidOut, HasOneCellAs, HoldsPlace, HoldPlace, AreNumbers, IsOutside, LeavesPosition, slots_of_kind, param_slots, link_slots}
-use Rattle.alma_implements.proofs.Frames.{shift, own_end, HasSlots}
+use Rattle.alma_ir.specs.Checked.{IsChecked, AreLaidOut, HasOneCellAs, HoldsPlace, HoldPlace, AreNumbers, IsOutside, LeavesPosition, slots_of_kind, param_slots, link_slots}
+use Rattle.alma_implements.proofs.Frames.{shift, HasSlots}
 use Rattle.alma_implements.proofs.ExprRows.{AreVariables}
 use Rattle.alma_templates.specs.Tables.{Tables}
 use Rattle.alma_templates.specs.Slots.{routine_kinds, own_kinds, link_kinds, param_kinds, params_kinds, stmts_slots}

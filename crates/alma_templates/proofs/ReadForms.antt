@@ -1,6 +1,6 @@
 -- READ, from template to run: two writes in one step, at the input position and at the place.
-use Rattle.std.proofs.Common.{◌≡◌, ◌⊎◌, inl, inr, ℕ, zero, suc, ◌+◌, ◌-◌, ◌*◌, ◌<◌, ◌≤◌, Bool, true, false, List, [], ◌∷◌, ◌++◌, length, get_or, drop, Option, Some, None, refl, sym, ap, ◌∙◌, subst, arith, ℤ, pos}
-use Rattle.std.specs.Prelude.{slice_get, nat_eq, int_le}
+use Rattle.std.proofs.Common.{◌≡◌, ◌⊎◌, inl, inr, ℕ, zero, suc, ◌+◌, ◌-◌, ◌*◌, ◌<◌, ◌≤◌, Bool, true, false, List, [], ◌∷◌, ◌++◌, length, get_or, drop, Some, None, refl, sym, ap, ◌∙◌, subst, arith, ℤ, pos}
+use Rattle.std.specs.Prelude.{slice_get, nat_eq}
 use Rattle.std.proofs.lemmas.Bool.Decides.{nat_tests}
 use Rattle.std.proofs.lemmas.Int.{ints}
 use Rattle.std.proofs.lemmas.List.{length-append}
@@ -8,7 +8,6 @@ use Rattle.std.proofs.lemmas.Option.{slice_get-get_or, get_or_from_slice_get}
 use Rattle.alma_base.specs.Choice.{if_true}
 use Rattle.alma_base.specs.Numbers.{within, is_integer}
 use Rattle.alma_base.specs.Reading.{is_blank, is_digit, signed_value, sized, ended, digits_on, sign_on, number_on, number_from}
-use Rattle.alma_base.specs.declared.fault.RunFault.{RunFault}
 use Rattle.alma_base.specs.declared.fault.RunFault.TheVariants as fault
 use Rattle.alma_base.specs.declared.number.Range.{Range}
 use Rattle.alma_base.specs.declared.number.ReadInt.{ReadInt}
@@ -17,7 +16,6 @@ use Rattle.alma_code.specs.declared.cell.Cell.{Cell}
 use Rattle.alma_code.specs.declared.cell.Cell.TheVariants as cell
 use Rattle.alma_code.specs.declared.cell.CellPlace.{CellPlace}
 use Rattle.alma_code.specs.declared.cell.SlotKind.TheVariants as slot
-use Rattle.alma_code.specs.declared.instr.Instr.{Instr}
 use Rattle.alma_code.specs.declared.instr.Instr.TheVariants as I
 use Rattle.alma_code.specs.Carries.{number_at}
 use Rattle.alma_code.specs.Kinds.{is_number}
@@ -32,7 +30,7 @@ use Rattle.alma_ir.specs.Tree.{Program, Desig, Read}
 use Rattle.alma_ir.specs.Checked.{desig_cells}
 use Rattle.alma_mean.specs.Store.{Store, Place, Number, Unknown, put, put_at}
 use Rattle.alma_mean.specs.Store as store
-use Rattle.alma_mean.specs.Events.{Events, NoYield, Fail, Fault, one, bind}
+use Rattle.alma_mean.specs.Events.{Events, NoYield, Fail, one, bind}
 use Rattle.alma_mean.specs.Arithmetic.{check_range, fault_unless}
 use Rattle.alma_mean.specs.Rows.{nat_in, set_position, store_number, store_byte, read_row}
 use Rattle.alma_mean.specs.Meaning.{Level, ev_stmt, ev_expr, ev_desig}

@@ -1,5 +1,5 @@
 -- SOME, from template to run: the step and both bounds, and the turns, each with a choice entry but the last.
-use Rattle.std.proofs.Common.{◌≡◌, ◌≢◌, ℕ, suc, ◌+◌, ◌-◌, ◌<◌, ◌≤◌, Bool, true, false, not, List, [], ◌∷◌, ◌++◌, length, Some, None, Option, refl, sym, ap, ◌∙◌, subst, arith, ℤ, pos, ◌+ℤ◌}
+use Rattle.std.proofs.Common.{◌≡◌, ◌≢◌, ℕ, suc, ◌+◌, ◌-◌, ◌<◌, ◌≤◌, Bool, true, not, List, [], ◌∷◌, ◌++◌, length, Some, None, Option, refl, sym, ap, ◌∙◌, subst, arith, ℤ, pos, ◌+ℤ◌}
 use Rattle.std.specs.Prelude.{slice_get, int_lt}
 use Rattle.std.proofs.lemmas.List.{length-append}
 use Rattle.alma_base.specs.declared.number.Range.{Range}
@@ -9,17 +9,16 @@ use Rattle.alma_code.specs.declared.cell.SlotKind.{SlotKind}
 use Rattle.alma_code.specs.declared.cell.SlotKind.TheVariants as slot
 use Rattle.alma_code.specs.declared.instr.Instr.{Instr}
 use Rattle.alma_code.specs.declared.instr.Instr.TheVariants as I
-use Rattle.alma_code.specs.Picture.{PlainFrame, PlainEntry}
+use Rattle.alma_code.specs.Picture.{PlainFrame}
 use Rattle.alma_code.specs.Plain.{PlainCode, kinds_at}
-use Rattle.alma_code.specs.Machine.{State}
 use Rattle.alma_ir.specs.Tree.{Program, Desig, Expr, Stmts, Loop, SomeOf, a_loop}
 use Rattle.alma_ir.specs.Checked.{desig_cells}
 use Rattle.alma_mean.specs.Store.{Store, Number, put_top, top, top_cell}
 use Rattle.alma_mean.specs.Events.{Events, NoYield, Fail, join, bind, node}
 use Rattle.alma_mean.specs.Rows.{begin_loop, read_cell, set_variable, next_turn, some_turn}
 use Rattle.alma_mean.specs.Meaning.{Level, ev_stmts, ev_expr, ev_desig, turn_some}
-use Rattle.alma_implements.proofs.Goes.{Goes, credited}
-use Rattle.alma_implements.proofs.Frames.{shift, own_end, HasSlots, Fits, IsAt}
+use Rattle.alma_implements.proofs.Goes.{credited}
+use Rattle.alma_implements.proofs.Frames.{shift, own_end, HasSlots, Fits}
 use Rattle.alma_implements.proofs.ExprRows.{AreVariables, first_kind, slots_first, slots_behind}
 use Rattle.alma_implements.proofs.ForSteps.{slot_within, slot_has_kind, number_there, fits_top, count_integer, top_put, top_put_other}
 use Rattle.alma_implements.proofs.SomeRow.{HoldsTurn, some_row, beyond_by_one}

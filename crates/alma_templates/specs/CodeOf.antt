@@ -1,13 +1,12 @@
 -- When a code is that of a program, and which programs have one.
 use Rattle.std.specs.Prelude.{◌≡◌, ◌<◌, ℕ, true, false, List, [], length, get_or, Some, slice_get}
-use Rattle.std.specs.List.{AllByRecursion}
 use Rattle.alma_base.specs.Numbers.{is_integer}
 use Rattle.alma_base.specs.declared.number.Range.{Range}
 use Rattle.alma_code.specs.declared.head.Run.{Run}
 use Rattle.alma_code.specs.Layout.{kinds_of}
 use Rattle.alma_code.specs.Plain.{PlainCode}
 use Rattle.alma_ir.specs.Tree.{Program, routine_at, Assign, ForTo, SomeOf, Read, WriteText, a_loop, Bind, Unify, Const, Chr, ByValue, MixValue, Index}
-use Rattle.alma_ir.specs.Phrases.{Phrase, StmtPhrase, TestPhrase, ExprPhrase, ArgPhrase, SelPhrase, stmts_phrases}
+use Rattle.alma_ir.specs.Phrases.{Phrase, StmtPhrase, TestPhrase, ExprPhrase, ArgPhrase, SelPhrase}
 use Rattle.alma_ir.specs.Checked.{EachPhrase}
 use Rattle.alma_templates.specs.Tables.{Tables, range_number, text_number, is_whole}
 use Rattle.alma_templates.specs.Slots.{routine_kinds}
