@@ -41,3 +41,4 @@ pub mod Induction
 pub mod Premises
 pub mod Law
 pub mod Exists
+pub mod FewSlots
