@@ -18,7 +18,7 @@ use Rattle.alma_base.specs.Carry.{Change, Carry, is_before, is_same_place, with_
 use Rattle.alma_base.specs.declared.number.ReadInt.{ReadInt}
 use Rattle.alma_base.specs.declared.number.ReadInt.TheVariants.{Number, NoNumber, TooLarge}
 use Rattle.alma_code.specs.Picture.{entry_at}
-use Rattle.alma_code.specs.Carries.{number_at, laid, overlaid, same_cell, differs, diff_at, slot_diffs, frame_diffs, diffs, with_carry, kept}
+use Rattle.alma_code.specs.Carries.{number_at, laid, frames_with_carry, same_cell, differs, diff_at, slot_diffs, frame_diffs, diffs, with_carry, kept}
 use Rattle.std.proofs.lemmas.List.{take-map, get_or_past, length-map, length-take-le, get_or-take, length-append}
 use Rattle.std.proofs.Math.Seq.{get_or-append_seam}
 use Rattle.std.proofs.Math.ListN.{get_or-append}
@@ -36,7 +36,7 @@ use Rattle.alma_code.specs.Kinds.{is_number, is_place, is_mark, numbers_from}
 use Rattle.alma_code.specs.Rules.{kind_in, length_in, is_free, is_address, names_slot, names_entry, names_address, rule_4, rule_5, rule_6, rule_7, rule_8, rule_9, rule_10, rule_11, rule_12, unless, instr_fault, IsSound, is_main, is_global, fit_arguments, holds_first, holds_result, can_call, cells_in}
 use Rattle.alma_base.specs.Choice.{if_true}
 use Rattle.alma_code.specs.Picture.{kind_at}
-use Rattle.alma_code.specs.Machine.{State, Stepped, went, goes_to, fails_now, top, bound, number, place, put_number, put_place, store, with_cell, with_slot, stuck, pushed, cut_to, equations, copied, to_number, left, returned, result_to, as_position, position, took, found, char_found, is_kind, is_forall_at, laid_over, overlay, finish, keep}
+use Rattle.alma_code.specs.Machine.{State, Stepped, quiet_step, goes_to, fails_now, top, bound, number, place, put_number, put_place, store, with_cell, with_slot, stuck, pushed, cut_to, equations, copied, to_number, left, returned, result_to, as_position, position, take_input, found, byte_or_failure, is_kind, is_forall_at, laid_over, overlay, finish, keep}
 use Rattle.alma_code.specs.Fits.{routines_of, IsPosition, IsReturn, FitsFrame, FitsCarried, IsContent, IsCell, IsPlace, FitsSlot, FitsEntry, FitsHeld, AllFit}
 use Rattle.alma_code.proofs.Heads.{number_is}
 use Rattle.alma_code.proofs.Ready.{Ready, last-routine, Good, place_is, if_true_keeps, went_good, fails_good, fault_good, number_good, place_good, put_number_good, put_place_good, store_good, ranged_good, equation_good, cell_ready, slot_ready, has_slot, number_there, number_at_is, content_any}
@@ -215,10 +215,10 @@ module _ (code : PlainCode) where
   -- a cell has a number, or gets it
   pub bound_good : (r at : ℕ) (s : State) (p : CellPlace) (t : Range) (v : ℤ) (u : Option ℤ) → Here r at s → p.frame < length s.now → IsCell code (routines_of s.now) p.frame p.slot →
       is_address code r s.at ≡ true → Good code (bound s p t v u)
-  bound_good r at s p t v (Some u) h lf c e = if_true_keeps (Good code) (int_eq u v) (λ _. went s) (λ _. fails_now s) (λ _. went_good code r s h.ready e) (λ _. fails_good code r s h.ready)
+  bound_good r at s p t v (Some u) h lf c e = if_true_keeps (Good code) (int_eq u v) (λ _. quiet_step s) (λ _. fails_now s) (λ _. went_good code r s h.ready e) (λ _. fails_good code r s h.ready)
   bound_good r at s p t v None h lf c e =
-      ranged_good code r s t fault.Range v (λ _. store s p.frame p.slot v went) h.ready
-      (λ _. store_good code r s p.frame p.slot v went h.ready lf c (λ h'. went_good code r (with_cell s p.frame p.slot (cell.Int v)) h' e))
+      ranged_good code r s t fault.Range v (λ _. store s p.frame p.slot v quiet_step) h.ready
+      (λ _. store_good code r s p.frame p.slot v quiet_step h.ready lf c (λ h'. went_good code r (with_cell s p.frame p.slot (cell.Int v)) h' e))
 
   -- as many frames as routines
   pub same_length : (fs gs : List PlainFrame) → routines_of fs ≡ routines_of gs → length fs ≡ length gs
@@ -369,7 +369,7 @@ module _ (code : PlainCode) where
 
   -- a number that was read goes to its place
   pub took_good : (r at : ℕ) (s : State) (t : Range) (p : CellPlace) (v : ℤ) (n : ℕ) → Here r at s → p.frame < length s.now → IsCell code (routines_of s.now) p.frame p.slot →
-      slice_get (get_or s.now 0 no_frame).cells 0 ≡ Some (get_or (get_or s.now 0 no_frame).cells 0 cell.Unset) → 0 < length s.now → is_address code r s.at ≡ true → Good code (took s t p v n)
+      slice_get (get_or s.now 0 no_frame).cells 0 ≡ Some (get_or (get_or s.now 0 no_frame).cells 0 cell.Unset) → 0 < length s.now → is_address code r s.at ≡ true → Good code (take_input s t p v n)
   took_good r at s t p v n h lf cf is ll e =
       let u = with_cell s 0 0 (cell.Int (pos n)) in
       let z : number_at s.now 0 0 ≡ true = main_number r at s h in
@@ -377,8 +377,8 @@ module _ (code : PlainCode) where
       let same = written-routines s.now 0 0 (cell.Int (pos n)) in
       let len = same_length u.now s.now same in
       ranged_good code r s t fault.Range v _ h.ready (λ _.
-      subst (λ b. Good code (if_true b (λ _. store u p.frame p.slot v went) (λ _. stuck s))) (sym z)
-      (store_good code r u p.frame p.slot v went hu (omega arith) (subst (λ rs. IsCell code rs p.frame p.slot) (sym same) cf)
+      subst (λ b. Good code (if_true b (λ _. store u p.frame p.slot v quiet_step) (λ _. stuck s))) (sym z)
+      (store_good code r u p.frame p.slot v quiet_step hu (omega arith) (subst (λ rs. IsCell code rs p.frame p.slot) (sym same) cf)
       (λ h'. went_good code r (with_cell u p.frame p.slot (cell.Int v)) h' e)))
 
   -- what was found where a number is read
@@ -390,7 +390,7 @@ module _ (code : PlainCode) where
 
   -- what was found where a byte is read
   pub char_good : (r at : ℕ) (s : State) (t : Range) (p : CellPlace) (n : ℕ) (f : Option ℕ) → Here r at s → p.frame < length s.now → IsCell code (routines_of s.now) p.frame p.slot →
-      slice_get (get_or s.now 0 no_frame).cells 0 ≡ Some (get_or (get_or s.now 0 no_frame).cells 0 cell.Unset) → 0 < length s.now → is_address code r s.at ≡ true → Good code (char_found s t p n f)
+      slice_get (get_or s.now 0 no_frame).cells 0 ≡ Some (get_or (get_or s.now 0 no_frame).cells 0 cell.Unset) → 0 < length s.now → is_address code r s.at ≡ true → Good code (byte_or_failure s t p n f)
   char_good r at s t p n None h lf cf is ll e = fails_good code r s h.ready
   char_good r at s t p n (Some b) h lf cf is ll e = took_good r at s t p (pos b) (n + 1) h lf cf is ll e
 
@@ -410,7 +410,7 @@ module _ (code : PlainCode) where
       ready (number_at s.now c.frame c.slot) refl
 
   -- a carry is laid over the frames
-  pub overlaid_ready : (r : ℕ) (s : State) (cs : Carry Cell) → Ready code r s → AllFit code cs → Ready code r (record s { now = overlaid s.now cs })
+  pub overlaid_ready : (r : ℕ) (s : State) (cs : Carry Cell) → Ready code r s → AllFit code cs → Ready code r (record s { now = frames_with_carry s.now cs })
   overlaid_ready r s [] h f = record { frames = h.frames; held = h.held; routine = h.routine; going = h.going }
   overlaid_ready r s (c ∷ cs) h f = overlaid_ready r (record s { now = laid s.now c }) cs (laid_fits r s c h f.0) f.1
 

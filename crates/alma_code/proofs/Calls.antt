@@ -7,7 +7,7 @@ use Rattle.alma_code.specs.declared.cell.Cell.TheVariants as cell
 use Rattle.alma_code.specs.declared.head.ParamKind.{ParamKind}
 use Rattle.alma_code.specs.declared.head.ParamKind.TheVariants as param
 use Rattle.alma_code.specs.declared.head.CodeParam.{CodeParam}
-use Rattle.alma_code.specs.Layout.{no_param, FitsParam, FitsParams, arg_cells, args_cells, cells_at, blank_of, entered_frame}
+use Rattle.alma_code.specs.Layout.{no_param, FitsParam, FitsParams, arg_cells, args_cells, cells_at, blank_of, frame_of_call}
 use Rattle.alma_code.specs.declared.cell.CellPlace.{CellPlace}
 use Rattle.alma_code.specs.declared.cell.SlotKind.{SlotKind}
 use Rattle.alma_code.specs.declared.cell.SlotKind.TheVariants as slot
@@ -383,7 +383,7 @@ module _ (code : PlainCode) where
     -- the whole frame
     new_fits : (at back first to : ℕ) (args : List Cell) → 0 < c → c < length code.routines → hold_params (kinds_at code c) (head_at code c).params 0 ≡ true →
         FitsParams (IsPlace code (routines_of s.now) (top s)) (IsLink code (routines_of s.now) (top s)) (head_at code c).params args → back ≡ suc at → slice_get code.instrs at ≡ Some (I.Call c first to) → start_at code r ≤ at → suc at < end_at code r →
-        FitsFrame code rs me (entered_frame s.now (head_at code c) c back args)
+        FitsFrame code rs me (frame_of_call s.now (head_at code c) c back args)
     new_fits at back first to args pos_c lc e f eb is low high =
         let ps = (head_at code c).params in
         let b = begun ps args (length ps) (omega arith) e f in
@@ -421,7 +421,7 @@ module _ (code : PlainCode) where
         FitsParams (IsPlace code (routines_of s.now) (top s)) (IsLink code (routines_of s.now) (top s)) (head_at code c).params args → s.at ≡ suc at → slice_get code.instrs at ≡ Some (I.Call c first to) → start_at code r ≤ at → suc at < end_at code r →
         Good code (entered s c (start_at code c) (head_at code c) args)
     entered_good at first to args pos_c lc le e f eb is low high =
-        let nf = entered_frame s.now (head_at code c) c s.at args in
+        let nf = frame_of_call s.now (head_at code c) c s.at args in
         let fits = new_fits at s.at first to args pos_c lc e f eb is low high in
         let len = length-append s.now (nf ∷ []) in
         let same : routines_of (s.now ++ nf ∷ []) ≡ rs = map-append (λ f. f.routine) s.now (nf ∷ []) in

@@ -17,7 +17,7 @@ use Rattle.alma_code.specs.Plain.{PlainCode, head_at, kinds_at}
 use Rattle.alma_code.specs.Layout.{kinds_of}
 use Rattle.alma_code.specs.Kinds.{is_link, numbers_from}
 use Rattle.alma_code.specs.Rules.{kind_in, link_in, is_free, is_address, names_slot, names_routine, last_end, rule_2}
-use Rattle.alma_code.specs.Machine.{State, Stepped, went, top, slot_in, as_place, link, link_to, to_link, put_link, with_slot}
+use Rattle.alma_code.specs.Machine.{State, Stepped, quiet_step, top, slot_in, as_place, link, link_to, to_link, put_link, with_slot}
 use Rattle.alma_code.specs.Fits.{routines_of, IsCell, IsPlace, IsLink, FitsSlot}
 use Rattle.alma_code.proofs.Ready.{Ready, Good, link_is, went_good, slot_ready, has_slot}
 use Rattle.alma_code.proofs.Acts.{first_is, head_slots, numbers_from_at}
@@ -128,7 +128,7 @@ module _ (code : PlainCode) where
   put_link_good r s n q f h e free le is at =
       let has = has_slot code r s n (slot.Link q) h e in
       let fits : IsLink code (routines_of s.now) (top s) q (link_to f) = record { frame = le; routine = is; slot = refl; len = refl } in
-      subst (λ o. Good code (to_link o s (λ _. went (with_slot s n (cell.Place (link_to f)))))) (sym has.kind_is)
+      subst (λ o. Good code (to_link o s (λ _. quiet_step (with_slot s n (cell.Place (link_to f)))))) (sym has.kind_is)
       (went_good code r (with_slot s n (cell.Place (link_to f))) (slot_ready code r s n (slot.Link q) (cell.Place (link_to f)) h e free fits) at)
 
   -- number slots of a frame to which a link leads

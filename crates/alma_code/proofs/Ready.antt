@@ -22,7 +22,7 @@ use Rattle.alma_code.specs.Plain.{PlainCode, kinds_at}
 use Rattle.alma_base.specs.Numbers.{within, is_integer, int_eq}
 use Rattle.alma_code.specs.Kinds.{is_number, is_place, is_mark, is_link}
 use Rattle.alma_code.specs.Rules.{place_length, link_routine, kind_in, is_free, is_address}
-use Rattle.alma_code.specs.Machine.{Mode, Going, Failing, Ended, State, Stepped, went, ended, faulted, fails_now, answered, top, slot_of, kind_of, as_number, as_place, as_mark, number, place, mark, with_cell, with_slot, to_number, to_place, to_mark, put_number, put_place, put_mark, fitted, as_content, content, store, known, as_range, ranged, ranged_if, equated, equation}
+use Rattle.alma_code.specs.Machine.{Mode, Going, Failing, Ended, State, Stepped, quiet_step, ended, ends_in_fault, fails_now, answered, top, slot_of, kind_of, as_number, as_place, as_mark, number, place, mark, with_cell, with_slot, to_number, to_place, to_mark, put_number, put_place, put_mark, integer_result, as_content, content, store, known, as_range, range_check, optional_range_check, equation_of_contents, equation}
 use Rattle.alma_code.specs.Fits.{routines_of, IsContent, IsPosition, IsCell, IsPlace, FitsSlot, FitsFrame, FitsFrames, FitsHeld, FitsMode, Fits}
 use Rattle.alma_code.proofs.Heads.{number_is}
 use Rattle.alma_code.proofs.Writes.{written-routines, frames-written}
@@ -73,7 +73,7 @@ module _ (code : PlainCode) where
   Good x = Fits code x.state
 
   -- the machine goes on at an address of the routine
-  pub went_good : (r : ℕ) (s : State) → Ready r s → is_address code r s.at ≡ true → Good (went s)
+  pub went_good : (r : ℕ) (s : State) → Ready r s → is_address code r s.at ≡ true → Good (quiet_step s)
   went_good r s h at = record {
     frames = h.frames;
     held = h.held;
@@ -93,7 +93,7 @@ module _ (code : PlainCode) where
   fails_good r s h = record { frames = h.frames; held = h.held; mode = tt }
 
   -- the machine ends in a fault
-  pub fault_good : (r : ℕ) (s : State) (f : RunFault) → Ready r s → Good (faulted f s)
+  pub fault_good : (r : ℕ) (s : State) (f : RunFault) → Ready r s → Good (ends_in_fault f s)
   fault_good r s f h = record { frames = h.frames; held = h.held; mode = tt }
 
   -- a slot of the top frame
@@ -209,7 +209,7 @@ module _ (code : PlainCode) where
   put_number_good r s n v h e free at =
       let k = number_is (kind_in code r n) e in
       let has = has_slot r s n slot.Number h k in
-      subst (λ o. Good (to_number o s (λ _. went (with_slot s n (cell.Int v))))) (sym has.kind_is)
+      subst (λ o. Good (to_number o s (λ _. quiet_step (with_slot s n (cell.Int v))))) (sym has.kind_is)
       (went_good r (with_slot s n (cell.Int v)) (slot_ready r s n slot.Number (cell.Int v) h k free tt) at)
 
   -- a mark slot is written
@@ -217,7 +217,7 @@ module _ (code : PlainCode) where
   put_mark_good r s n m h e free at =
       let k = mark_is (kind_in code r n) e in
       let has = has_slot r s n slot.Mark h k in
-      subst (λ o. Good (to_mark o s (λ _. went (with_slot s n (cell.Mark m))))) (sym has.kind_is)
+      subst (λ o. Good (to_mark o s (λ _. quiet_step (with_slot s n (cell.Mark m))))) (sym has.kind_is)
       (went_good r (with_slot s n (cell.Mark m)) (slot_ready r s n slot.Mark (cell.Mark m) h k free tt) at)
 
   -- a place slot is written
@@ -226,12 +226,12 @@ module _ (code : PlainCode) where
   put_place_good r s n l frame first h e free fits at =
       let has = has_slot r s n (slot.Place l) h e in
       let p : CellPlace = record { frame = frame; slot = first l; len = l } in
-      subst (λ o. Good (to_place o s (λ m. went (with_slot s n (cell.Place (record { frame = frame; slot = first m; len = m })))))) (sym has.kind_is)
+      subst (λ o. Good (to_place o s (λ m. quiet_step (with_slot s n (cell.Place (record { frame = frame; slot = first m; len = m })))))) (sym has.kind_is)
       (went_good r (with_slot s n (cell.Place p)) (slot_ready r s n (slot.Place l) (cell.Place p) h e free (refl, fits)) at)
 
   -- a result that may be outside INTEGER
-  pub fitted_good : (r : ℕ) (s : State) (v : ℤ) (k : ℤ → Stepped) → Ready r s → Good (k v) → Good (fitted s v k)
-  fitted_good r s v k h good = if_true_keeps Good (is_integer v) (λ _. k v) (λ _. faulted fault.Overflow s) (λ _. good) (λ _. record { frames = h.frames; held = h.held; mode = tt })
+  pub fitted_good : (r : ℕ) (s : State) (v : ℤ) (k : ℤ → Stepped) → Ready r s → Good (k v) → Good (integer_result s v k)
+  fitted_good r s v k h good = if_true_keeps Good (is_integer v) (λ _. k v) (λ _. ends_in_fault fault.Overflow s) (λ _. good) (λ _. record { frames = h.frames; held = h.held; mode = tt })
 
   -- ---- cells at places
 
@@ -288,7 +288,7 @@ module _ (code : PlainCode) where
   store_good r s f i v k h lf c good =
       let there = number_there r s f i h lf c in
       let free : 0 < f + i = c.free in
-      subst (λ b. Good (if_true b (λ _. k (with_cell s f i (cell.Int v))) (λ _. went (record s { mode = Machine.Stuck })))) (sym (number_at_is r s f i h lf c))
+      subst (λ b. Good (if_true b (λ _. k (with_cell s f i (cell.Int v))) (λ _. quiet_step (record s { mode = Machine.Stuck })))) (sym (number_at_is r s f i h lf c))
       (good (cell_ready r s f i (cell.Int v) h lf there.0 (subst (λ q. FitsSlot code (routines_of s.now) f q (cell.Int v)) (sym there.1) tt) (λ z. absurd (omega arith))))
 
   -- a content that may be unknown
@@ -297,18 +297,18 @@ module _ (code : PlainCode) where
   known_good r s None k h good = record { frames = h.frames; held = h.held; mode = tt }
 
   -- a number that may be out of range
-  pub ranged_good : (r : ℕ) (s : State) (t : Range) (f : RunFault) (v : ℤ) (k : Unit {0} → Stepped) → Ready r s → (within t v ≡ true → Good (k tt)) → Good (ranged t f s v k)
-  ranged_good r s t f v k h good = if_true_keeps Good (within t v) k (λ _. faulted f s) good (λ _. record { frames = h.frames; held = h.held; mode = tt })
+  pub ranged_good : (r : ℕ) (s : State) (t : Range) (f : RunFault) (v : ℤ) (k : Unit {0} → Stepped) → Ready r s → (within t v ≡ true → Good (k tt)) → Good (range_check t f s v k)
+  ranged_good r s t f v k h good = if_true_keeps Good (within t v) k (λ _. ends_in_fault f s) good (λ _. record { frames = h.frames; held = h.held; mode = tt })
 
   -- a number that may be out of range, where there is a range
-  pub ranged_if_good : (r : ℕ) (s : State) (o : Option Range) (v : ℤ) (k : Unit {0} → Stepped) → Ready r s → Good (k tt) → Good (ranged_if o s v k)
+  pub ranged_if_good : (r : ℕ) (s : State) (o : Option Range) (v : ℤ) (k : Unit {0} → Stepped) → Ready r s → Good (k tt) → Good (optional_range_check o s v k)
   ranged_if_good r s (Some t) v k h good = ranged_good r s t fault.Range v k h (λ _. good)
   ranged_if_good r s None v k h good = good
 
   -- two contents are equated
   equated_good : (r : ℕ) (s : State) (f i : ℕ) (a : Option Range) (u : Option ℤ) (g j : ℕ) (b : Option Range) (v : Option ℤ) (k : State → Stepped) → Ready r s →
       f < length s.now → IsCell code (routines_of s.now) f i → g < length s.now → IsCell code (routines_of s.now) g j →
-      ((t : State) → Ready r t → routines_of t.now ≡ routines_of s.now → t.at ≡ s.at → Good (k t)) → Good (equated s f i a u g j b v k)
+      ((t : State) → Ready r t → routines_of t.now ≡ routines_of s.now → t.at ≡ s.at → Good (k t)) → Good (equation_of_contents s f i a u g j b v k)
   equated_good r s f i a None g j b None k h lf ci lg cj good = record { frames = h.frames; held = h.held; mode = tt }
   equated_good r s f i a None g j b (Some v) k h lf ci lg cj good =
       ranged_if_good r s a v (λ _. store s f i v k) h (store_good r s f i v k h lf ci (λ h'. good (with_cell s f i (cell.Int v)) h' (written-routines s.now f i (cell.Int v)) refl))
@@ -322,8 +322,8 @@ module _ (code : PlainCode) where
       f < length s.now → IsCell code (routines_of s.now) f i → g < length s.now → IsCell code (routines_of s.now) g j →
       ((t : State) → Ready r t → routines_of t.now ≡ routines_of s.now → t.at ≡ s.at → Good (k t)) → Good (equation s f i a g j b k)
   equation_good r s f i a g j b k h lf ci lg cj good =
-      content_good r s f i (λ u. content s g j (λ v. equated s f i a u g j b v k)) h lf ci
-      (λ u. content_good r s g j (λ v. equated s f i a u g j b v k) h lg cj
+      content_good r s f i (λ u. content s g j (λ v. equation_of_contents s f i a u g j b v k)) h lf ci
+      (λ u. content_good r s g j (λ v. equation_of_contents s f i a u g j b v k) h lg cj
       (λ v. equated_good r s f i a u g j b v k h lf ci lg cj good))
 
   -- a range that is there

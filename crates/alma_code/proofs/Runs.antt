@@ -11,12 +11,12 @@ use Rattle.alma_code.specs.declared.cell.SlotKind.TheVariants as slot
 use Rattle.alma_code.specs.declared.cell.ChoiceKind.{ChoiceKind}
 use Rattle.alma_code.specs.declared.cell.ChoiceKind.TheVariants as choice
 use Rattle.alma_code.specs.declared.instr.Instr.TheVariants as I
-use Rattle.alma_code.specs.Picture.{PlainFrame, PlainEntry, no_frame, no_entry, last_frame, top_of, popped, left_of, left_as}
+use Rattle.alma_code.specs.Picture.{PlainFrame, PlainEntry, no_frame, no_entry, last_frame, top_of, stack_after_pop, entry_after_pop, entry_of_kind_after_pop}
 use Rattle.alma_code.specs.Layout.{blank_of, blank_cells}
 use Rattle.alma_code.specs.Plain.{PlainCode, head_at, kinds_at, start_at, end_at}
 use Rattle.alma_code.specs.Layout.{hold_params}
 use Rattle.alma_code.specs.Rules.{IsSound, is_main, kind_in, has_position}
-use Rattle.alma_code.specs.Machine.{Mode, Going, Failing, Ended, Stuck, State, step_in, fetched, ticked, step, after, start, popped_to}
+use Rattle.alma_code.specs.Machine.{Mode, Going, Failing, Ended, Stuck, State, step_in, fetched, with_step_counted, step, after, start, pop_or_end}
 use Rattle.alma_code.specs.Fits.{routines_of, FitsSlot, FitsFrame, FitsFrames, FitsEntry, FitsHeld, FitsMode, Fits, IsPosition}
 use Rattle.alma_code.specs.Laws.{NeverStuck, StaysFit}
 use Rattle.alma_code.proofs.Tables.{end_inside}
@@ -34,7 +34,7 @@ module _ (code : PlainCode) (sound : IsSound code) where
       number_is (kind_in code 0 0) (and_parts (hold_params (kinds_at code 0) (head_at code 0).params 0) (has_position code 0) rules.2).1
 
   -- what a pop leaves of an entry fits
-  left_fits : (kind : ChoiceKind) (e : PlainEntry) → FitsEntry code e → FitsHeld code (left_as kind e)
+  left_fits : (kind : ChoiceKind) (e : PlainEntry) → FitsEntry code e → FitsHeld code (entry_of_kind_after_pop kind e)
   left_fits choice.Forall e h zero lt = record { frames = h.frames; resume = h.resume; carry = h.carry }
   left_fits choice.Forall e h (suc k) lt = absurd (omega arith)
   left_fits choice.Branch e h k lt = absurd (omega arith)
@@ -42,11 +42,11 @@ module _ (code : PlainCode) (sound : IsSound code) where
   left_fits choice.Done e h k lt = absurd (omega arith)
 
   -- the stack after a pop fits
-  popped_fits : (held : List PlainEntry) → 1 ≤ length held → FitsHeld code held → FitsHeld code (popped held)
+  popped_fits : (held : List PlainEntry) → 1 ≤ length held → FitsHeld code held → FitsHeld code (stack_after_pop held)
   popped_fits held some h k lk =
       let n = length held - 1 in
       let rest = take n held in
-      let left = left_of (top_of held) in
+      let left = entry_after_pop (top_of held) in
       let len : length rest ≡ n = length-take-le n held (omega arith) in
       let all = length-append rest left in
       elim (cases_lt k n) [
@@ -59,7 +59,7 @@ module _ (code : PlainCode) (sound : IsSound code) where
       ]
 
   -- a pop, where the entries are these
-  pop_good : (held : List PlainEntry) (s : State) → s.held ≡ held → FitsFrames code s.now → FitsHeld code s.held → Good code (popped_to s held)
+  pop_good : (held : List PlainEntry) (s : State) → s.held ≡ held → FitsFrames code s.now → FitsHeld code s.held → Good code (pop_or_end s held)
   pop_good [] s e f h = record { frames = f; held = h; mode = tt }
   pop_good (x ∷ xs) s e f h =
       let some : 1 ≤ length s.held = omega (arith, ap length e) in
@@ -78,13 +78,13 @@ module _ (code : PlainCode) (sound : IsSound code) where
         let inside = end_inside code sound.table r fits.routine in
         let i = get_or code.instrs s.at I.Fail in
         let is : slice_get code.instrs s.at ≡ Some i = slice_get-get_or code.instrs s.at I.Fail (omega arith) in
-        let t : State = record (ticked code input s) { at = s.at + 1; last = s.at } in
+        let t : State = record (with_step_counted code input s) { at = s.at + 1; last = s.at } in
         let ready : Ready code r t = record { frames = f; held = h; routine = refl; going = going } in
         let next : s.at + 1 ≡ suc s.at = omega arith in
         subst (λ o. Good code (fetched code input o s)) (sym is)
         (act_good code input sound i r s.at t (record { ready = ready; at_is = next; low = low; first = first_number })
         (obeys code r s.at i (sound.instrs r s.at fits.routine low high)) is fits.routine)
-    step_in_good Failing s going f h at = pop_good s.held (ticked code input s) refl f h
+    step_in_good Failing s going f h at = pop_good s.held (with_step_counted code input s) refl f h
     step_in_good (Ended e) s going f h at = record { frames = f; held = h; mode = subst (λ m. FitsMode code m s) (sym going) tt }
     step_in_good Stuck s going f h at = absurd at
 

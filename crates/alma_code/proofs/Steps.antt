@@ -17,7 +17,7 @@ use Rattle.alma_code.specs.Plain.{PlainCode}
 use Rattle.alma_base.specs.Numbers.{is_zero, div_down_of, mod_down_of, range_size, is_beyond}
 use Rattle.alma_code.specs.Words.{words}
 use Rattle.alma_code.specs.Rules.{kind_in, length_in, link_in, is_address, rule_5, rule_6, rule_7, rule_11, rule_12, has_room, IsSound}
-use Rattle.alma_code.specs.Machine.{State, went, top, act, put_number, with_cell, with_slot, to_mark, chose, pushed, as_text, as_fault, run_faults, left, found, char_found, overlay}
+use Rattle.alma_code.specs.Machine.{State, quiet_step, top, act, put_number, with_cell, with_slot, to_mark, answer_of_push, pushed, as_text, as_fault, run_faults, left, found, byte_or_failure, overlay}
 use Rattle.alma_code.specs.Fits.{routines_of, IsCell}
 use Rattle.alma_code.proofs.Ready.{Good, mark_is, if_true_keeps, went_good, ended_good, fails_good, fault_good, number_good, place_good, mark_good, put_mark_good, fitted_good, content_good, store_good, known_good, ranged_good, as_range_good, equation_good, slot_ready, has_slot}
 use Rattle.alma_code.proofs.Acts.{Here, Obeys, addresses, bound_good, cells_of, char_good, copied_good, cut_good, entries, equations_good, finish_good, first_is, found_good, frame_live, goes_good, keep_good, left_ready, mark_word, next, number_word, one_good, overlay_ready, place_word, position_good, pushed_ready, put_good, put_place_at, result_good, slots, top_is, top_main, two_good}
@@ -94,7 +94,7 @@ module _ (code : PlainCode) (input : List ℕ) (sound : IsSound code) where
   act_good (I.Store a b) r at s h o is lr =
       let w = slots code r at (I.Store a b) (W.Place a) (W.Number b) W.Free W.Free refl o in
       one_good code r at s a _ h w.0 o.r7 (λ p lf c. number_good code r s b _ h.ready (number_word code r b w.1).1
-      (λ v. store_good code r s p.frame p.slot v went h.ready lf c (λ h'. went_good code r (with_cell s p.frame p.slot (cell.Int v)) h' (next code r at s h o.r11))))
+      (λ v. store_good code r s p.frame p.slot v quiet_step h.ready lf c (λ h'. went_good code r (with_cell s p.frame p.slot (cell.Int v)) h' (next code r at s h o.r11))))
   act_good (I.Known a b) r at s h o is lr =
       let w = slots code r at (I.Known a b) (W.Number a) (W.Place b) W.Free W.Free refl o in
       one_good code r at s b _ h w.1 o.r7 (λ p lf c. content_good code r s p.frame p.slot _ h.ready lf c (λ v. put_good code r at s a _ h w.0 o.r11))
@@ -170,7 +170,7 @@ module _ (code : PlainCode) (input : List ℕ) (sound : IsSound code) where
       let k = mark_is (kind_in code r a) (mark_word code r a w.0).1 in
       let has = has_slot code r s a slot.Mark h.ready k in
       let t = pushed s choice.Forall b in
-      subst (λ x. Good code (to_mark x s (λ _. chose (with_slot t a (cell.Mark (length s.held + 1)))))) (sym has.kind_is)
+      subst (λ x. Good code (to_mark x s (λ _. answer_of_push (with_slot t a (cell.Mark (length s.held + 1)))))) (sym has.kind_is)
       (went_good code r (with_slot t a (cell.Mark (length s.held + 1)))
       (slot_ready code r t a slot.Mark (cell.Mark (length s.held + 1)) (pushed_ready code r s choice.Forall b h.ready e.1) k (mark_word code r a w.0).0 tt)
       (next code r at s h o.r11))
@@ -205,7 +205,7 @@ module _ (code : PlainCode) (input : List ℕ) (sound : IsSound code) where
   act_good (I.ReadChar a t) r at s h o is lr =
       let w = slots code r at (I.ReadChar a t) (W.Place a) (W.Range t) W.Free W.Free refl o in
       let e = entries code r at (I.ReadChar a t) (W.Place a) (W.Range t) W.Free W.Free refl o in
-      one_good code r at s a _ h w.0 o.r7 (λ p lf cf. as_range_good code s t _ e.1 (λ q _. position_good code r s (λ n. char_found s q p n (slice_get input n)) h.ready
+      one_good code r at s a _ h w.0 o.r7 (λ p lf cf. as_range_good code s t _ e.1 (λ q _. position_good code r s (λ n. byte_or_failure s q p n (slice_get input n)) h.ready
       (λ n ls ll. char_good code r at s q p n (slice_get input n) h lf cf ls ll (next code r at s h o.r11))))
   act_good (I.Overlay a b) r at s h o is lr =
       let w = slots code r at (I.Overlay a b) (W.Mark a) (W.Address b) W.Free W.Free refl o in

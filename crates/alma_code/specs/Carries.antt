@@ -27,9 +27,9 @@ abbrev pub laid : List PlainFrame → Change Cell → List PlainFrame
 laid frames x = if number_at frames x.frame x.slot then written frames x.frame x.slot x.cell else frames
 
 -- the frames after a carry is laid over them
-abbrev pub overlaid : List PlainFrame → Carry Cell → List PlainFrame
-overlaid frames [] = frames
-overlaid frames (x ∷ rest) = overlaid (laid frames x) rest
+abbrev pub frames_with_carry : List PlainFrame → Carry Cell → List PlainFrame
+frames_with_carry frames [] = frames
+frames_with_carry frames (x ∷ rest) = frames_with_carry (laid frames x) rest
 
 -- ---- what a body changed
 

@@ -90,19 +90,19 @@ mix_cells me at cell.Unset = []
 mix_cells me at (cell.Mark h) = []
 
 -- the cells at the place that an argument is
-abbrev pub copied_cells : List PlainFrame → Cell → List Cell
-copied_cells frames (cell.Place p) = cells_at frames p
-copied_cells frames (cell.Int v) = []
-copied_cells frames cell.Unknown = []
-copied_cells frames cell.Unset = []
-copied_cells frames (cell.Mark h) = []
+abbrev pub cells_behind_argument : List PlainFrame → Cell → List Cell
+cells_behind_argument frames (cell.Place p) = cells_at frames p
+cells_behind_argument frames (cell.Int v) = []
+cells_behind_argument frames cell.Unknown = []
+cells_behind_argument frames cell.Unset = []
+cells_behind_argument frames (cell.Mark h) = []
 
 -- what an argument puts into the slots of its parameter, of which the first is the slot at of the frame me
 abbrev pub arg_cells : List PlainFrame → (me at : ℕ) → ParamKind → Cell → List Cell
 arg_cells frames me at param.Value c = c ∷ []
 arg_cells frames me at param.Place c = c ∷ []
 arg_cells frames me at param.Mix c = mix_cells me at c
-arg_cells frames me at param.Cells c = copied_cells frames c
+arg_cells frames me at param.Cells c = cells_behind_argument frames c
 arg_cells frames me at param.Link c = c ∷ []
 
 -- what the first n arguments put into the slots of their parameters
@@ -113,14 +113,14 @@ args_cells frames ps args (suc n) =
     ++ arg_cells frames (length frames) (length (args_cells frames ps args n)) (get_or ps n no_param).kind (get_or args n cell.Unknown)
 
 -- what the slots of a frame hold that was entered with these arguments
-abbrev pub entered_cells : List PlainFrame → PlainHead → List Cell → List Cell
-entered_cells frames h args =
+abbrev pub cells_of_call : List PlainFrame → PlainHead → List Cell → List Cell
+cells_of_call frames h args =
     args_cells frames h.params args (length h.params) ++ drop (length (args_cells frames h.params args (length h.params))) (blank_cells h)
 
 -- the frame that a call enters
-abbrev pub entered_frame : List PlainFrame → PlainHead → (routine back : ℕ) → List Cell → PlainFrame
-entered_frame frames h routine back args =
-    record { routine = routine; back = back; declared = h.declared; kinds = kinds_of 0 h.runs; cells = entered_cells frames h args }
+abbrev pub frame_of_call : List PlainFrame → PlainHead → (routine back : ℕ) → List Cell → PlainFrame
+frame_of_call frames h routine back args =
+    record { routine = routine; back = back; declared = h.declared; kinds = kinds_of 0 h.runs; cells = cells_of_call frames h args }
 
 -- ---- arguments that fit
 

@@ -14,4 +14,3 @@ pub mod Rules
 pub mod TraceText
 pub mod Words
 pub mod Worked
-pub mod WorkedLinks

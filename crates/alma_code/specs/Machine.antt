@@ -29,9 +29,9 @@ use Rattle.alma_code.specs.declared.step.Step.TheVariants as answer
 use Rattle.alma_code.specs.declared.step.End.{End}
 use Rattle.alma_code.specs.declared.step.End.TheVariants as end
 use Rattle.alma_code.specs.Head.{PlainHead}
-use Rattle.alma_code.specs.Picture.{PlainFrame, PlainEntry, no_frame, written, cell_at, last_frame, without_last, live_cells, top_of, entry_at, kind_at, popped}
-use Rattle.alma_code.specs.Layout.{start_frame, entered_frame}
-use Rattle.alma_code.specs.Carries.{number_at, overlaid, kept}
+use Rattle.alma_code.specs.Picture.{PlainFrame, PlainEntry, no_frame, written, cell_at, last_frame, without_last, live_cells, top_of, entry_at, kind_at, stack_after_pop}
+use Rattle.alma_code.specs.Layout.{start_frame, frame_of_call}
+use Rattle.alma_code.specs.Carries.{number_at, frames_with_carry, kept}
 use Rattle.alma_code.specs.Plain.{PlainCode, PlainRoutine, head_at, start_at}
 
 -- ---- the state
@@ -67,8 +67,8 @@ abbrev pub answered : Step → State → Stepped
 answered a s = record { answer = a; printed = []; state = s }
 
 -- with nothing to tell
-abbrev pub went : State → Stepped
-went s = answered answer.Went s
+abbrev pub quiet_step : State → Stepped
+quiet_step s = answered answer.Went s
 
 -- with a print, which may be of no bytes
 abbrev pub printed : List ℕ → State → Stepped
@@ -76,23 +76,23 @@ printed bytes s = record { answer = answer.Printed; printed = bytes; state = s }
 
 -- at what a sound code never comes to
 abbrev pub stuck : State → Stepped
-stuck s = went (record s { mode = Stuck })
+stuck s = quiet_step (record s { mode = Stuck })
 
 -- with the end of the run; the next address stays behind the instruction that ended it
 abbrev pub ended : End → State → Stepped
 ended e s = answered (answer.Done e) (record s { mode = Ended e })
 
 -- with a fault; what was written before it in the same step stays written
-abbrev pub faulted : RunFault → State → Stepped
-faulted f s = ended (end.Fault f) s
+abbrev pub ends_in_fault : RunFault → State → Stepped
+ends_in_fault f s = ended (end.Fault f) s
 
 -- with a failure: the next step is a pop
 abbrev pub fails_now : State → Stepped
-fails_now s = went (record s { mode = Failing })
+fails_now s = quiet_step (record s { mode = Failing })
 
 -- with a jump
 abbrev pub goes_to : ℕ → State → Stepped
-goes_to at s = went (record s { at = at })
+goes_to at s = quiet_step (record s { at = at })
 
 -- ---- slots of the top frame
 
@@ -111,7 +111,7 @@ kind_of s n = slice_get (last_frame s.now).kinds n
 -- a cell that is read as a number
 abbrev pub as_number : Option Cell → State → (ℤ → Stepped) → Stepped
 as_number (Some (cell.Int v)) s k = k v
-as_number (Some cell.Unknown) s k = faulted fault.Unknown s
+as_number (Some cell.Unknown) s k = ends_in_fault fault.Unknown s
 as_number (Some cell.Unset) s k = stuck s
 as_number (Some (cell.Place p)) s k = stuck s
 as_number (Some (cell.Mark h)) s k = stuck s
@@ -120,7 +120,7 @@ as_number None s k = stuck s
 -- a cell that is read as a place
 abbrev pub as_place : Option Cell → State → (CellPlace → Stepped) → Stepped
 as_place (Some (cell.Place p)) s k = k p
-as_place (Some cell.Unset) s k = faulted fault.Unknown s
+as_place (Some cell.Unset) s k = ends_in_fault fault.Unknown s
 as_place (Some cell.Unknown) s k = stuck s
 as_place (Some (cell.Int v)) s k = stuck s
 as_place (Some (cell.Mark h)) s k = stuck s
@@ -133,7 +133,7 @@ slot_in s frame n = slice_get (get_or s.now frame no_frame).cells n
 -- a cell that is read as a mark
 abbrev pub as_mark : Option Cell → State → (ℕ → Stepped) → Stepped
 as_mark (Some (cell.Mark h)) s k = k h
-as_mark (Some cell.Unset) s k = faulted fault.Unknown s
+as_mark (Some cell.Unset) s k = ends_in_fault fault.Unknown s
 as_mark (Some cell.Unknown) s k = stuck s
 as_mark (Some (cell.Int v)) s k = stuck s
 as_mark (Some (cell.Place p)) s k = stuck s
@@ -197,15 +197,15 @@ to_link None s k = stuck s
 
 -- slot n := the number
 abbrev pub put_number : State → ℕ → ℤ → Stepped
-put_number s n v = to_number (kind_of s n) s (λ _. went (with_slot s n (cell.Int v)))
+put_number s n v = to_number (kind_of s n) s (λ _. quiet_step (with_slot s n (cell.Int v)))
 
 -- slot n := the place in a frame, of as many cells as the slot's places have; the first cell may depend on that length
 abbrev pub put_place : State → ℕ → ℕ → (ℕ → ℕ) → Stepped
-put_place s n frame first = to_place (kind_of s n) s (λ l. went (with_slot s n (cell.Place (record { frame = frame; slot = first l; len = l }))))
+put_place s n frame first = to_place (kind_of s n) s (λ l. quiet_step (with_slot s n (cell.Place (record { frame = frame; slot = first l; len = l }))))
 
 -- slot n := the mark
 abbrev pub put_mark : State → ℕ → ℕ → Stepped
-put_mark s n h = to_mark (kind_of s n) s (λ _. went (with_slot s n (cell.Mark h)))
+put_mark s n h = to_mark (kind_of s n) s (λ _. quiet_step (with_slot s n (cell.Mark h)))
 
 -- a link to a frame
 abbrev pub link_to : (frame : ℕ) → CellPlace
@@ -213,11 +213,11 @@ link_to frame = record { frame = frame; slot = 0; len = 0 }
 
 -- slot n := the link to a frame
 abbrev pub put_link : State → ℕ → (frame : ℕ) → Stepped
-put_link s n frame = to_link (kind_of s n) s (λ _. went (with_slot s n (cell.Place (link_to frame))))
+put_link s n frame = to_link (kind_of s n) s (λ _. quiet_step (with_slot s n (cell.Place (link_to frame))))
 
 -- goes on with a result that is in INTEGER
-abbrev pub fitted : State → ℤ → (ℤ → Stepped) → Stepped
-fitted s v k = if_true (is_integer v) (λ _. k v) (λ _. faulted fault.Overflow s)
+abbrev pub integer_result : State → ℤ → (ℤ → Stepped) → Stepped
+integer_result s v k = if_true (is_integer v) (λ _. k v) (λ _. ends_in_fault fault.Overflow s)
 
 -- ---- cells at places
 
@@ -241,7 +241,7 @@ store s frame n v k = if_true (number_at s.now frame n) (λ _. k (with_cell s fr
 -- goes on with a content that is known
 abbrev pub known : State → Option ℤ → (ℤ → Stepped) → Stepped
 known s (Some v) k = k v
-known s None k = faulted fault.Unknown s
+known s None k = ends_in_fault fault.Unknown s
 
 -- the content is known
 abbrev pub is_known : Option ℤ → Bool
@@ -256,40 +256,40 @@ as_range (Some r) s k = k r
 as_range None s k = stuck s
 
 -- goes on where the number is in the range
-abbrev pub ranged : Range → RunFault → State → ℤ → (Unit {0} → Stepped) → Stepped
-ranged r f s v k = if_true (within r v) k (λ _. faulted f s)
+abbrev pub range_check : Range → RunFault → State → ℤ → (Unit {0} → Stepped) → Stepped
+range_check r f s v k = if_true (within r v) k (λ _. ends_in_fault f s)
 
 -- the same where there is a range; with none any number will do
-abbrev pub ranged_if : Option Range → State → ℤ → (Unit {0} → Stepped) → Stepped
-ranged_if (Some r) s v k = ranged r fault.Range s v k
-ranged_if None s v k = k tt
+abbrev pub optional_range_check : Option Range → State → ℤ → (Unit {0} → Stepped) → Stepped
+optional_range_check (Some r) s v k = range_check r fault.Range s v k
+optional_range_check None s v k = k tt
 
 -- a cell with this content has the number, or gets it
 abbrev pub bound : State → CellPlace → Range → ℤ → Option ℤ → Stepped
-bound s p r v (Some u) = if_true (int_eq u v) (λ _. went s) (λ _. fails_now s)
-bound s p r v None = ranged r fault.Range s v (λ _. store s p.frame p.slot v went)
+bound s p r v (Some u) = if_true (int_eq u v) (λ _. quiet_step s) (λ _. fails_now s)
+bound s p r v None = range_check r fault.Range s v (λ _. store s p.frame p.slot v quiet_step)
 
 -- ---- equations
 
 -- the equation of two cells by their contents: an unknown one gets the other's number
-abbrev pub equated : State → (f i : ℕ) → Option Range → Option ℤ → (g j : ℕ) → Option Range → Option ℤ → (State → Stepped) → Stepped
-equated s f i r None g j t None k = faulted fault.Unknown s
-equated s f i r None g j t (Some v) k = ranged_if r s v (λ _. store s f i v k)
-equated s f i r (Some u) g j t None k = ranged_if t s u (λ _. store s g j u k)
-equated s f i r (Some u) g j t (Some v) k = if_true (int_eq u v) (λ _. k s) (λ _. fails_now s)
+abbrev pub equation_of_contents : State → (f i : ℕ) → Option Range → Option ℤ → (g j : ℕ) → Option Range → Option ℤ → (State → Stepped) → Stepped
+equation_of_contents s f i r None g j t None k = ends_in_fault fault.Unknown s
+equation_of_contents s f i r None g j t (Some v) k = optional_range_check r s v (λ _. store s f i v k)
+equation_of_contents s f i r (Some u) g j t None k = optional_range_check t s u (λ _. store s g j u k)
+equation_of_contents s f i r (Some u) g j t (Some v) k = if_true (int_eq u v) (λ _. k s) (λ _. fails_now s)
 
 -- the equation of two cells
 abbrev pub equation : State → (f i : ℕ) → Option Range → (g j : ℕ) → Option Range → (State → Stepped) → Stepped
-equation s f i r g j t k = content s f i (λ u. content s g j (λ v. equated s f i r u g j t v k))
+equation s f i r g j t k = content s f i (λ u. content s g j (λ v. equation_of_contents s f i r u g j t v k))
 
 -- the equations of n cells, one after another: each sees what the one before wrote
 abbrev pub equations : ℕ → State → (f i g j : ℕ) → Stepped
-equations zero s f i g j = went s
+equations zero s f i g j = quiet_step s
 equations (suc n) s f i g j = equation s f i None g j None (λ t. equations n t f (suc i) g (suc j))
 
 -- n cells := cells of these frames, which are the frames as they were before
 abbrev pub copied : ℕ → (before : List PlainFrame) → State → (f i g j : ℕ) → Stepped
-copied zero before s f i g j = went s
+copied zero before s f i g j = quiet_step s
 copied (suc n) before s f i g j =
     if_true (number_at s.now f i && number_at before g j)
     (λ _. copied n before (with_cell s f i (cell_at before g j cell.Unknown)) f (suc i) g (suc j))
@@ -315,20 +315,20 @@ pushed s kind resume =
     record s { held = s.held ++ record { kind = kind; resume = resume; frames = s.now; carry = [] } ∷ []; choices = s.choices + 1 }
 
 -- answers the new height
-abbrev pub chose : State → Stepped
-chose s = answered (answer.Chose (length s.held)) s
+abbrev pub answer_of_push : State → Stepped
+answer_of_push s = answered (answer.Chose (length s.held)) s
 
 -- answers the height after entries fell
-abbrev pub fell : State → Stepped
-fell s = answered (answer.Cut (length s.held)) s
+abbrev pub answer_of_fall : State → Stepped
+answer_of_fall s = answered (answer.Cut (length s.held)) s
 
 -- drops the entries above a height, where there are any
 abbrev pub cut_to : State → ℕ → Stepped
-cut_to s h = if_true (nat_lt h (length s.held)) (λ _. fell (record s { held = take h s.held })) (λ _. went s)
+cut_to s h = if_true (nat_lt h (length s.held)) (λ _. answer_of_fall (record s { held = take h s.held })) (λ _. quiet_step s)
 
 -- the state after the carry of an entry is laid over the frames
 abbrev pub laid_over : State → ℕ → State
-laid_over s h = record s { now = overlaid s.now (entry_at s.held h).carry }
+laid_over s h = record s { now = frames_with_carry s.now (entry_at s.held h).carry }
 
 -- lays the carry of a Forall over; where there is none at the height, nothing is laid over
 abbrev pub overlay : State → ℕ → State
@@ -338,26 +338,26 @@ overlay s h = if_true (is_forall_at s.held h) (λ _. laid_over s h) (λ _. s)
 abbrev pub keep : State → ℕ → Stepped
 keep s h =
     if_true (is_forall_at s.held h && (nat_lt h (length s.held) && is_kind choice.Body (kind_at s.held (length s.held))))
-    (λ _. fell (record s { held = kept s.held h s.now }))
-    (λ _. went s)
+    (λ _. answer_of_fall (record s { held = kept s.held h s.now }))
+    (λ _. quiet_step s)
 
 -- lays the carry of the Done on top over and drops that entry; else does nothing
 abbrev pub finish : State → Stepped
 finish s =
     if_true (is_kind choice.Done (kind_at s.held (length s.held)))
-    (λ _. fell (record (laid_over s (length s.held)) { held = take (length s.held - 1) s.held }))
-    (λ _. went s)
+    (λ _. answer_of_fall (record (laid_over s (length s.held)) { held = take (length s.held - 1) s.held }))
+    (λ _. quiet_step s)
 
 -- a pop of the entries that are left: with none the run ends, and no pop is counted
-abbrev pub popped_to : State → List PlainEntry → Stepped
-popped_to s [] = ended end.Failed s
-popped_to s (e ∷ rest) =
+abbrev pub pop_or_end : State → List PlainEntry → Stepped
+pop_or_end s [] = ended end.Failed s
+pop_or_end s (e ∷ rest) =
     answered (answer.Popped (length s.held))
-    (record s { mode = Going; at = (top_of s.held).resume; now = (top_of s.held).frames; held = popped s.held; fails = s.fails + 1 })
+    (record s { mode = Going; at = (top_of s.held).resume; now = (top_of s.held).frames; held = stack_after_pop s.held; fails = s.fails + 1 })
 
 -- what a failing machine does: it takes the top copy; a Forall that becomes a Done is a pop too
 abbrev pub pop : State → Stepped
-pop s = popped_to s s.held
+pop s = pop_or_end s s.held
 
 -- ---- calls
 
@@ -369,8 +369,8 @@ numbers_at (suc n) frames f i = number_at frames f i && numbers_at n frames f (s
 -- a cell that is read as the argument of a parameter
 abbrev pub as_argument : ParamKind → ℕ → Option Cell → State → (Cell → Stepped) → Stepped
 as_argument kind n None s k = stuck s
-as_argument kind n (Some cell.Unknown) s k = faulted fault.Unknown s
-as_argument kind n (Some cell.Unset) s k = faulted fault.Unknown s
+as_argument kind n (Some cell.Unknown) s k = ends_in_fault fault.Unknown s
+as_argument kind n (Some cell.Unset) s k = ends_in_fault fault.Unknown s
 as_argument kind n (Some (cell.Mark h)) s k = stuck s
 as_argument param.Value n (Some (cell.Int v)) s k = k (cell.Int v)
 as_argument param.Mix n (Some (cell.Int v)) s k = k (cell.Int v)
@@ -395,9 +395,9 @@ abbrev pub entered : State → ℕ → ℕ → PlainHead → List Cell → Stepp
 entered s r start h args =
     if_true (nat_lt (length s.now) 10000)
     (λ _. if_true (nat_le (live_cells s.now + h.declared) 1048576)
-    (λ _. answered (answer.Called r (length s.now + 1)) (record s { at = start; now = s.now ++ entered_frame s.now h r s.at args ∷ [] }))
-    (λ _. faulted fault.CellsFull s))
-    (λ _. faulted fault.DepthFull s)
+    (λ _. answered (answer.Called r (length s.now + 1)) (record s { at = start; now = s.now ++ frame_of_call s.now h r s.at args ∷ [] }))
+    (λ _. ends_in_fault fault.CellsFull s))
+    (λ _. ends_in_fault fault.DepthFull s)
 
 -- goes on with the head of a routine that is there
 abbrev pub as_routine : Option PlainRoutine → State → (PlainHead → Stepped) → Stepped
@@ -430,19 +430,19 @@ abbrev pub position : State → (ℕ → Stepped) → Stepped
 position s k = as_position (slice_get (get_or s.now 0 no_frame).cells 0) s k
 
 -- the number goes to the place and the position behind it; with fault Range neither moves
-abbrev pub took : State → Range → CellPlace → ℤ → ℕ → Stepped
-took s r p v behind = ranged r fault.Range s v (λ _. store s 0 0 (pos behind) (λ t. store t p.frame p.slot v went))
+abbrev pub take_input : State → Range → CellPlace → ℤ → ℕ → Stepped
+take_input s r p v behind = range_check r fault.Range s v (λ _. store s 0 0 (pos behind) (λ t. store t p.frame p.slot v quiet_step))
 
 -- what was found where a number is read
 abbrev pub found : State → Range → CellPlace → ReadInt → Stepped
 found s r p NoNumber = fails_now s
-found s r p TooLarge = faulted fault.ReadRange s
-found s r p (Number v behind) = took s r p v behind
+found s r p TooLarge = ends_in_fault fault.ReadRange s
+found s r p (Number v behind) = take_input s r p v behind
 
 -- what was found where a byte is read
-abbrev pub char_found : State → Range → CellPlace → ℕ → Option ℕ → Stepped
-char_found s r p at None = fails_now s
-char_found s r p at (Some byte) = took s r p (pos byte) (at + 1)
+abbrev pub byte_or_failure : State → Range → CellPlace → ℕ → Option ℕ → Stepped
+byte_or_failure s r p at None = fails_now s
+byte_or_failure s r p at (Some byte) = take_input s r p (pos byte) (at + 1)
 
 -- ---- texts and faults by their numbers
 
@@ -459,7 +459,7 @@ run_faults =
 
 -- ends in a fault that is there
 abbrev pub as_fault : Option RunFault → State → Stepped
-as_fault (Some f) s = faulted f s
+as_fault (Some f) s = ends_in_fault f s
 as_fault None s = stuck s
 
 -- ---- the instructions, in the order of their opcodes
@@ -473,47 +473,47 @@ module _ (code : PlainCode) (input : List ℕ) where
   unfoldable pub act : Instr → State → Stepped
   act (I.Const a v) s = put_number s a v
   act (I.Move a b) s = number s b (λ v. put_number s a v)
-  act (I.Add a b c) s = number s b (λ x. number s c (λ y. fitted s (x +ℤ y) (λ v. put_number s a v)))
-  act (I.Sub a b c) s = number s b (λ x. number s c (λ y. fitted s (x -ℤ y) (λ v. put_number s a v)))
-  act (I.Mul a b c) s = number s b (λ x. number s c (λ y. fitted s (x *ℤ y) (λ v. put_number s a v)))
+  act (I.Add a b c) s = number s b (λ x. number s c (λ y. integer_result s (x +ℤ y) (λ v. put_number s a v)))
+  act (I.Sub a b c) s = number s b (λ x. number s c (λ y. integer_result s (x -ℤ y) (λ v. put_number s a v)))
+  act (I.Mul a b c) s = number s b (λ x. number s c (λ y. integer_result s (x *ℤ y) (λ v. put_number s a v)))
   act (I.Div a b c) s =
-      number s b (λ x. number s c (λ y. if_true (is_zero y) (λ _. faulted fault.ZeroDivide s) (λ _. fitted s (div_down_of x y) (λ v. put_number s a v))))
+      number s b (λ x. number s c (λ y. if_true (is_zero y) (λ _. ends_in_fault fault.ZeroDivide s) (λ _. integer_result s (div_down_of x y) (λ v. put_number s a v))))
   act (I.Mod a b c) s =
-      number s b (λ x. number s c (λ y. if_true (is_zero y) (λ _. faulted fault.ZeroDivide s) (λ _. fitted s (mod_down_of x y) (λ v. put_number s a v))))
-  act (I.Neg a b) s = number s b (λ x. fitted s (neg_ℤ x) (λ v. put_number s a v))
+      number s b (λ x. number s c (λ y. if_true (is_zero y) (λ _. ends_in_fault fault.ZeroDivide s) (λ _. integer_result s (mod_down_of x y) (λ v. put_number s a v))))
+  act (I.Neg a b) s = number s b (λ x. integer_result s (neg_ℤ x) (λ v. put_number s a v))
   act (I.Equal a b c) s = number s b (λ x. number s c (λ y. put_number s a (bit (int_eq x y))))
   act (I.Less a b c) s = number s b (λ x. number s c (λ y. put_number s a (bit (int_lt x y))))
   act (I.LessEq a b c) s = number s b (λ x. number s c (λ y. put_number s a (bit (int_le x y))))
   act (I.Flip a b) s = number s b (λ x. put_number s a (bit (is_zero x)))
-  act (I.InRange a r) s = number s a (λ v. range_at s r (λ t. ranged t fault.Range s v (λ _. went s)))
+  act (I.InRange a r) s = number s a (λ v. range_at s r (λ t. range_check t fault.Range s v (λ _. quiet_step s)))
   act (I.Local a b) s = put_place s a (top s) (λ _. b)
   act (I.Global a b) s = put_place s a 0 (λ _. b)
   -- the place has the length of the slot that it goes into: in a sound code that of the slot it comes from
   act (I.Same a b) s = place s b (λ p. put_place s a p.frame (λ _. p.slot))
   act (I.Field a b c) s = place s b (λ p. put_place s a p.frame (λ _. p.slot + c))
   act (I.Index a b c d) s =
-      place s b (λ p. number s c (λ v. range_at s d (λ t. ranged t fault.Index s v (λ _. put_place s a p.frame (λ l. p.slot + nat_abs (v -ℤ t.low) * l)))))
+      place s b (λ p. number s c (λ v. range_at s d (λ t. range_check t fault.Index s v (λ _. put_place s a p.frame (λ l. p.slot + nat_abs (v -ℤ t.low) * l)))))
   act (I.Load a b) s = place s b (λ p. content s p.frame p.slot (λ c. known s c (λ v. put_number s a v)))
-  act (I.Store a b) s = place s a (λ p. number s b (λ v. store s p.frame p.slot v went))
+  act (I.Store a b) s = place s a (λ p. number s b (λ v. store s p.frame p.slot v quiet_step))
   act (I.Known a b) s = place s b (λ p. content s p.frame p.slot (λ c. put_number s a (bit (is_known c))))
   act (I.Bind a b c) s =
       place s a (λ p. number s b (λ v. range_at s c (λ t. content s p.frame p.slot (λ u. bound s p t v u))))
   act (I.Unify a b c d) s =
-      place s a (λ p. range_at s b (λ r. place s c (λ q. range_at s d (λ t. equation s p.frame p.slot (Some r) q.frame q.slot (Some t) went))))
+      place s a (λ p. range_at s b (λ r. place s c (λ q. range_at s d (λ t. equation s p.frame p.slot (Some r) q.frame q.slot (Some t) quiet_step))))
   act (I.CopyCells a b) s = place s a (λ p. place s b (λ q. copied p.len s.now s p.frame p.slot q.frame q.slot))
   act (I.SameCells a b) s = place s a (λ p. place s b (λ q. equations p.len s p.frame p.slot q.frame q.slot))
   act (I.Jump a) s = goes_to a s
-  act (I.JumpZero a b) s = number s a (λ v. if_true (is_zero v) (λ _. goes_to b s) (λ _. went s))
-  act (I.Check a) s = number s a (λ v. if_true (is_zero v) (λ _. fails_now s) (λ _. went s))
+  act (I.JumpZero a b) s = number s a (λ v. if_true (is_zero v) (λ _. goes_to b s) (λ _. quiet_step s))
+  act (I.Check a) s = number s a (λ v. if_true (is_zero v) (λ _. fails_now s) (λ _. quiet_step s))
   act I.Fail s = fails_now s
   act (I.Mark a) s = put_mark s a (length s.held)
   act (I.Cut a) s = mark s a (λ h. cut_to s h)
-  act (I.Choose a) s = chose (pushed s choice.Branch a)
+  act (I.Choose a) s = answer_of_push (pushed s choice.Branch a)
   -- the copy in the entry has the mark slot as it was before
   act (I.Forall a b) s =
-      to_mark (kind_of s a) s (λ _. chose (with_slot (pushed s choice.Forall b) a (cell.Mark (length s.held + 1))))
+      to_mark (kind_of s a) s (λ _. answer_of_push (with_slot (pushed s choice.Forall b) a (cell.Mark (length s.held + 1))))
   -- the copy in the entry has the cells that were laid over
-  act (I.Overlay a b) s = mark s a (λ h. chose (pushed (overlay s h) choice.Body b))
+  act (I.Overlay a b) s = mark s a (λ h. answer_of_push (pushed (overlay s h) choice.Body b))
   act (I.Keep a) s = mark s a (λ h. keep s h)
   act I.Finish s = finish s
   act (I.Call r b c) s =
@@ -524,7 +524,7 @@ module _ (code : PlainCode) (input : List ℕ) where
   act (I.ReadInt a r) s =
       place s a (λ p. range_at s r (λ t. position s (λ n. found s t p (number_from input n))))
   act (I.ReadChar a r) s =
-      place s a (λ p. range_at s r (λ t. position s (λ n. char_found s t p n (slice_get input n))))
+      place s a (λ p. range_at s r (λ t. position s (λ n. byte_or_failure s t p n (slice_get input n))))
   act (I.WriteInt a) s = number s a (λ v. printed (value_text (value.Int v)) s)
   act (I.WriteChar a) s = number s a (λ v. printed (value_text (value.Char (nat_abs (int_rem_euclid v (pos 256))))) s)
   act (I.WriteBool a) s = number s a (λ v. printed (value_text (value.Bool (not (is_zero v)))) s)
@@ -542,18 +542,18 @@ module _ (code : PlainCode) (input : List ℕ) where
   -- ---- steps
 
   -- the state with one more step counted
-  abbrev pub ticked : State → State
-  ticked s = record s { steps = s.steps + 1 }
+  abbrev pub with_step_counted : State → State
+  with_step_counted s = record s { steps = s.steps + 1 }
 
   -- takes the instruction at the address
   abbrev pub fetched : Option Instr → State → Stepped
-  fetched (Some i) s = act i (record (ticked s) { at = s.at + 1; last = s.at })
+  fetched (Some i) s = act i (record (with_step_counted s) { at = s.at + 1; last = s.at })
   fetched None s = stuck s
 
   -- a step is one instruction, or a pop after one that failed; the pop that ends the run is a step too, and an ended machine does not change
   abbrev pub step_in : Mode → State → Stepped
   step_in Going s = fetched (slice_get code.instrs s.at) s
-  step_in Failing s = pop (ticked s)
+  step_in Failing s = pop (with_step_counted s)
   step_in (Ended e) s = answered (answer.Done e) s
   step_in Stuck s = stuck s
 

@@ -68,16 +68,16 @@ kind_at held zero = None
 kind_at held (suc below) = slice_get (map (λ entry. entry.kind) held) below
 
 -- what a pop leaves of an entry of a kind: a Forall stays as a Done
-abbrev pub left_as : ChoiceKind → PlainEntry → List PlainEntry
-left_as Forall entry = record entry { kind = Done } ∷ []
-left_as Branch entry = []
-left_as Body entry = []
-left_as Done entry = []
+abbrev pub entry_of_kind_after_pop : ChoiceKind → PlainEntry → List PlainEntry
+entry_of_kind_after_pop Forall entry = record entry { kind = Done } ∷ []
+entry_of_kind_after_pop Branch entry = []
+entry_of_kind_after_pop Body entry = []
+entry_of_kind_after_pop Done entry = []
 
 -- what a pop leaves of an entry
-abbrev pub left_of : PlainEntry → List PlainEntry
-left_of entry = left_as entry.kind entry
+abbrev pub entry_after_pop : PlainEntry → List PlainEntry
+entry_after_pop entry = entry_of_kind_after_pop entry.kind entry
 
 -- the stack after a pop
-abbrev pub popped : List PlainEntry → List PlainEntry
-popped held = take (length held - 1) held ++ left_of (top_of held)
+abbrev pub stack_after_pop : List PlainEntry → List PlainEntry
+stack_after_pop held = take (length held - 1) held ++ entry_after_pop (top_of held)

@@ -11,8 +11,8 @@ ghost use Rattle.alma_code.specs.Picture.{cell_at, last_frame, top_of, entry_at}
 ghost use Rattle.alma_code.specs.Machine.{step, start};
 ghost use Rattle.alma_code.specs.Records.{KeepsCounts, KeepsRecords};
 ghost use Rattle.alma_code.specs.Rules.{IsTable, code_fault};
-ghost use Rattle.alma_code.specs.WorkedLinks.{LinksRun, LinksRefused, LinesTell, TextsTell};
-ghost use Rattle.alma_code.specs.Worked.{Ends, Prints, Breaks, state_after, change_of, param_of, numbers_to, places_to, marks_to, routine_to, code_with, main_with, plain_main, least, branch_undone, choices_cut, sum_carried, carry_grows, left_unknown, right_unknown, both_unknown, out_of_range, cells_equated, mix_called, frame_again, function_called, frame_too_large, input_again, read_one, loop_counts, values_print, operation, index_outside, part_named, global_written, array_copied, copy_overlaps, equation_overlaps, equation_stops, jump_if_zero, bound_to, byte_read, small_read, nothing_held, kept_below, unset_argument, loop_by};
+ghost use Rattle.alma_code.specs.Worked.Links.{LinksRun, LinksRefused, LinesTell, TextsTell};
+ghost use Rattle.alma_code.specs.Worked.Codes.{Ends, Prints, Breaks, state_after, change_of, param_of, numbers_to, places_to, marks_to, routine_to, code_with, main_with, plain_main, least, branch_undone, choices_cut, sum_carried, carry_grows, left_unknown, right_unknown, both_unknown, out_of_range, cells_equated, mix_called, frame_again, function_called, frame_too_large, input_again, read_one, loop_counts, values_print, operation, index_outside, part_named, global_written, array_copied, copy_overlaps, equation_overlaps, equation_stops, jump_if_zero, bound_to, byte_read, small_read, nothing_held, kept_below, unset_argument, loop_by};
 
 /// The least code is sound, and its first step ends it in success.
 #[tactic(auto, using(crate::proofs::Computed::least_code_table, crate::proofs::Computed::least_code_counts, crate::proofs::Computed::least_code_records, crate::proofs::Computed::least_code_sound, crate::proofs::Computed::least_code_ends, crate::proofs::Computed::least_code_prints))]
@@ -30,7 +30,7 @@ pub fn least_code()
 pub fn branch_comes_back()
     ensures sound { code_fault branch_undone ≡ None }
     ensures restores { (state_after branch_undone [] 5).now ≡ (start branch_undone).now }
-    ensures popped { (step branch_undone [] (state_after branch_undone [] 4)).answer ≡ answer.Popped 1 }
+    ensures stack_after_pop { (step branch_undone [] (state_after branch_undone [] 4)).answer ≡ answer.Popped 1 }
     ensures ends { Ends branch_undone [] 6 end.Succeeded }
     ensures prints { Prints branch_undone [] 6 (codes "Hi" ∷ []) }
 {}
@@ -319,7 +319,7 @@ pub fn body_kept_below()
 pub fn forall_copies_old_mark()
     ensures copy { cell_at (entry_at (state_after sum_carried [] 2).held 1).frames 0 6 cell.Unknown ≡ cell.Unset }
     ensures now { cell_at (state_after sum_carried [] 2).now 0 6 cell.Unknown ≡ cell.Mark 1 }
-    ensures popped { (step sum_carried [] (state_after sum_carried [] 15)).answer ≡ answer.Popped 1 }
+    ensures stack_after_pop { (step sum_carried [] (state_after sum_carried [] 15)).answer ≡ answer.Popped 1 }
     ensures height { length (state_after sum_carried [] 16).held ≡ 1 }
 {}
 

@@ -5,7 +5,7 @@ use Rattle.alma_tree.specs.Numbers.{Step, token, node, ◌>>◌}
 use Rattle.alma_grammar.specs.Parts.{Part, one}
 use Rattle.alma_cursor.specs.declared.cursor.Cursor as cursors
 use Rattle.alma_cursor.specs.declared.fault.Fault.{Fault}
-use Rattle.alma_cursor.specs.Parsing.{At, seen, Passes, Reads, Fails}
+use Rattle.alma_cursor.specs.Parsing.{At, position_of, Passes, Reads, Fails}
 use Rattle.alma_cursor.specs.Joins.{Followed, Numbered}
 use Rattle.alma_cursor.proofs.Loops.{grouped}
 use Rattle.alma_cursor.proofs.Steps.{then, after, first, same, replaced, counted}
@@ -13,7 +13,7 @@ use Rattle.alma_cursor.proofs.Turns.{want}
 
 -- what a call gave: it read this, with its value, or reading ends in its fault
 abbrev pub Gives : {T : Type 0} → (T → List Kind → List Kind) → (T → Step) → (List Part → List Part) → ℕ → ℕ → At → Result (T × cursors.Cursor) Fault → Type 0
-Gives s n p d e a r = MatchResult r (λ t. Reads (s t.0) (n t.0) p d e a (seen t.1)) (λ f. Fails f p d a)
+Gives s n p d e a r = MatchResult r (λ t. Reads (s t.0) (n t.0) p d e a (position_of t.1)) (λ f. Fails f p d a)
 
 -- what passing this token reads
 abbrev pub Token : Kind → ℕ → ℕ → Type 0
@@ -29,7 +29,7 @@ module _ {T : Type 0} (s : T → List Kind → List Kind) (n : T → Step) {k : 
 
   -- a part and the token behind it, and what was read then
   pub behind : Token k e f → (r : Result (T × cursors.Cursor) Fault) (u : T × cursors.Cursor) → Followed k r (Ok u) → Gives s n p d e a r
-      → {t : List Kind → List Kind} {m : Step} {q : List Part → List Part} {g : ℕ} {b : At} → Reads t m q f g (seen u.1) b
+      → {t : List Kind → List Kind} {m : Step} {q : List Part → List Part} {g : ℕ} {b : At} → Reads t m q f g (position_of u.1) b
       → Reads (λ ks. s u.0 (k ∷ t ks)) (n u.0 >> token >> m) (λ o. p (one k ∷ q o)) d g a b
   behind h (Ok t) u x y z = then (replaced s n x.0 y) (then (h _ _ x.1) z)
   behind h (Err g) u x y z = absurd (cc)

@@ -11,7 +11,7 @@ use Rattle.alma_grammar.specs.Reading.{reading, End}
 use Rattle.alma_cursor.specs.declared.cursor.Cursor as cursors
 use Rattle.alma_cursor.specs.declared.fault.Fault.{Fault}
 use Rattle.alma_cursor.specs.declared.fault.Fault.TheVariants as faults
-use Rattle.alma_cursor.specs.Parsing.{At, seen, Few, Passes, Opens, Counts, Reads, Becomes, Extends, EndsIn, Fails}
+use Rattle.alma_cursor.specs.Parsing.{At, position_of, Few, Passes, Opens, Counts, Reads, Becomes, Extends, EndsIn, Fails}
 
 -- ---- one token
 
@@ -188,15 +188,15 @@ leafed {k = k} {d = d} {a = a} {b = b} h g x = record {
 -- ---- one function's result as another's
 
 pub instead : {T : Type 0} (r : Result (T × cursors.Cursor) Fault) (s : T → List Kind → List Kind) (n : T → Step) (p q : List Part → List Part) (d : ℕ) (a : At)
-    → Becomes p q a.kinds → MatchResult r (λ t. Reads (s t.0) (n t.0) q d d a (seen t.1)) (λ e. Fails e q d a)
-    → MatchResult r (λ t. Reads (s t.0) (n t.0) p d d a (seen t.1)) (λ e. Fails e p d a)
+    → Becomes p q a.kinds → MatchResult r (λ t. Reads (s t.0) (n t.0) q d d a (position_of t.1)) (λ e. Fails e q d a)
+    → MatchResult r (λ t. Reads (s t.0) (n t.0) p d d a (position_of t.1)) (λ e. Fails e p d a)
 instead (Ok t) s n p q d a h x = becoming h x
 instead (Err e) s n p q d a h x = becoming_fails h x
 
 pub extended : {T : Type 0} (r : Result (T × cursors.Cursor) Fault) (s : T → List Kind → List Kind) (n : T → Step) {t : List Kind → List Kind} {m : Step}
     {p : List Part → List Part} (q : List Part → List Part) {d : ℕ} {a b : At} → Reads t m p d d a b
-    → MatchResult r (λ x. Extends t m q (s x.0) (n x.0) d b (seen x.1)) (λ e. Fails e q d b)
-    → MatchResult r (λ x. Reads (s x.0) (n x.0) (λ o. p (q o)) d d a (seen x.1)) (λ e. Fails e (λ o. p (q o)) d a)
+    → MatchResult r (λ x. Extends t m q (s x.0) (n x.0) d b (position_of x.1)) (λ e. Fails e q d b)
+    → MatchResult r (λ x. Reads (s x.0) (n x.0) (λ o. p (q o)) d d a (position_of x.1)) (λ e. Fails e (λ o. p (q o)) d a)
 extended (Ok x) s n q {d = d} {a = a} y z = z.extends a _ d y
 extended (Err e) s n q y z = after y z
 
@@ -204,16 +204,16 @@ extended (Err e) s n q y z = after y z
 pub extended_twice : {T : Type 0} (r : Result (T × cursors.Cursor) Fault) (s : T → List Kind → List Kind) (n : T → Step) {t u : List Kind
     → List Kind} {m l : Step}
     {p : List Part → List Part} (q : List Part → List Part) {d : ℕ} {a b : At} → Extends u l p t m d a b
-    → MatchResult r (λ x. Extends t m q (s x.0) (n x.0) d b (seen x.1)) (λ e. Fails e q d b)
-    → MatchResult r (λ x. Extends u l (λ o. p (q o)) (s x.0) (n x.0) d a (seen x.1)) (λ e. Fails e (λ o. p (q o)) d a)
+    → MatchResult r (λ x. Extends t m q (s x.0) (n x.0) d b (position_of x.1)) (λ e. Fails e q d b)
+    → MatchResult r (λ x. Extends u l (λ o. p (q o)) (s x.0) (n x.0) d a (position_of x.1)) (λ e. Fails e (λ o. p (q o)) d a)
 extended_twice (Ok x) s n q y z = twice y z
 extended_twice (Err e) s n q y z = beyond y z
 
 pub instead_any : {T : Type 0} (r : Result (T × cursors.Cursor) Fault) (s : T → List Kind → List Kind) (n : T → Step) (p q : List Part
     → List Part) (d : ℕ) (a : At)
     → Becomes p q a.kinds
-    → MatchResult r (λ t. (e : ℕ) → Reads (s t.0) (n t.0) q e e a (seen t.1)) (λ e. (f : ℕ) → Fails e q f a)
-    → MatchResult r (λ t. Reads (s t.0) (n t.0) p d d a (seen t.1)) (λ e. Fails e p d a)
+    → MatchResult r (λ t. (e : ℕ) → Reads (s t.0) (n t.0) q e e a (position_of t.1)) (λ e. (f : ℕ) → Fails e q f a)
+    → MatchResult r (λ t. Reads (s t.0) (n t.0) p d d a (position_of t.1)) (λ e. Fails e p d a)
 instead_any (Ok t) s n p q d a h x = becoming h (x d)
 instead_any (Err e) s n p q d a h x = becoming_fails h (x d)
 
@@ -228,8 +228,8 @@ becoming_extends {s = s} {t = t} {n = n} {m = m} {p = p} {q = q} {d = d} {a = a}
 pub instead_extending : {T : Type 0} (r : Result (T × cursors.Cursor) Fault) (s : T → List Kind → List Kind) (n : T → Step) (p q : List Part
     → List Part) (d : ℕ) (a : At)
     (t : List Kind → List Kind) (m : Step) → Becomes p q a.kinds
-    → MatchResult r (λ x. Extends t m q (s x.0) (n x.0) d a (seen x.1)) (λ e. Fails e q d a)
-    → MatchResult r (λ x. Extends t m p (s x.0) (n x.0) d a (seen x.1)) (λ e. Fails e p d a)
+    → MatchResult r (λ x. Extends t m q (s x.0) (n x.0) d a (position_of x.1)) (λ e. Fails e q d a)
+    → MatchResult r (λ x. Extends t m p (s x.0) (n x.0) d a (position_of x.1)) (λ e. Fails e p d a)
 instead_extending (Ok x) s n p q d a t m h y = becoming_extends h y
 instead_extending (Err e) s n p q d a t m h y = becoming_fails h y
 

@@ -19,8 +19,8 @@ pub record At : Type 0 where
   pub kinds : List Kind
   pub place : numbers.Cursor
 
-abbrev pub seen : Cursor → At
-seen c = record { kinds = kinds_of c.rest.now; place = record { token = c.token; node = c.node } }
+abbrev pub position_of : Cursor → At
+position_of c = record { kinds = kinds_of c.rest.now; place = record { token = c.token; node = c.node } }
 
 -- the tokens are so many, and can be counted in 32 bits
 pub record Few (tokens : ℕ) (a : At) : Type 0 where

@@ -20,11 +20,11 @@ impl<'t, 's> Cursor<'t, 's> {
     ghost use Rattle.alma_tree.specs.Numbers.{number_name};
     ghost use Rattle.alma_grammar.specs.Parts.{one};
     ghost use Rattle.alma_cursor.specs.declared.fault.Fault.TheVariants as faults;
-    ghost use Rattle.alma_cursor.specs.Parsing.{seen, kinds_of, starts_with, Passes, Opens, Counts, Reads, Fails};
+    ghost use Rattle.alma_cursor.specs.Parsing.{position_of, kinds_of, starts_with, Passes, Opens, Counts, Reads, Fails};
 
     /// At the first of the tokens.
     pub fn start(tokens: &'t [Token<'s>]) -> Self
-        ensures start { seen result ≡ record { kinds = kinds_of tokens.now; place = record { token = 0; node = 0 } } }
+        ensures start { position_of result ≡ record { kinds = kinds_of tokens.now; place = record { token = 0; node = 0 } } }
     {
         Cursor {
             rest: tokens,
@@ -35,7 +35,7 @@ impl<'t, 's> Cursor<'t, 's> {
 
     /// The kind of the next token, and what stands behind it.
     pub fn next(self) -> Option<(Kind, Self)>
-        ensures passes { MatchOption result ((seen self.entry).kinds ≡ []) (λ t. Passes t.0 (seen self.entry) (seen t.1)) }
+        ensures passes { MatchOption result ((position_of self.entry).kinds ≡ []) (λ t. Passes t.0 (position_of self.entry) (position_of t.1)) }
     {
         let (first, rest) = self.rest.split_first()?;
         Some((
@@ -50,7 +50,7 @@ impl<'t, 's> Cursor<'t, 's> {
 
     /// Whether the next token is of this kind.
     pub fn is_at(self, kind: Kind) -> bool
-        ensures starts { result ≡ starts_with kind (seen self.entry).kinds }
+        ensures starts { result ≡ starts_with kind (position_of self.entry).kinds }
     {
         match self.next() {
             Some((next, _)) => next.is(kind),
@@ -60,7 +60,7 @@ impl<'t, 's> Cursor<'t, 's> {
 
     /// Behind the next token, where it is of this kind.
     pub fn skip(self, kind: Kind) -> Option<Self>
-        ensures passes { MatchOption result (starts_with kind (seen self.entry).kinds ≡ false) (λ after. Passes kind (seen self.entry) (seen after)) }
+        ensures passes { MatchOption result (starts_with kind (position_of self.entry).kinds ≡ false) (λ after. Passes kind (position_of self.entry) (position_of after)) }
     {
         let (next, after) = self.next()?;
         if next.is(kind) { Some(after) } else { None }
@@ -68,8 +68,8 @@ impl<'t, 's> Cursor<'t, 's> {
 
     /// Behind the next token, which has to be of this kind.
     pub fn expect(self, kind: Kind) -> Result<Self, Fault<'t, 's>>
-        ensures passes { MatchResult result (λ after. Passes kind (seen self.entry) (seen after)) (λ e. (d : ℕ) → Fails e
-            (λ o. one kind ∷ o) d (seen self.entry)) }
+        ensures passes { MatchResult result (λ after. Passes kind (position_of self.entry) (position_of after)) (λ e. (d : ℕ) → Fails e
+            (λ o. one kind ∷ o) d (position_of self.entry)) }
     {
         match self.skip(kind) {
             Some(after) => Ok(after),
@@ -80,8 +80,8 @@ impl<'t, 's> Cursor<'t, 's> {
     /// Behind the next token, which has to be this opening one, and the depth there.
     pub fn open(self, kind: Kind, depth: u32) -> Result<(Self, u32), Fault<'t, 's>>
         requires opening { opens kind ≡ true }
-        ensures opened { MatchResult result (λ t. Opens kind depth t.1 (seen self.entry) (seen t.0)) (λ e. Fails e
-            (λ o. one kind ∷ o) depth (seen self.entry)) }
+        ensures opened { MatchResult result (λ t. Opens kind depth t.1 (position_of self.entry) (position_of t.0)) (λ e. Fails e
+            (λ o. one kind ∷ o) depth (position_of self.entry)) }
     {
         let after = self.expect(kind)?;
         if depth < 100 {
@@ -93,7 +93,7 @@ impl<'t, 's> Cursor<'t, 's> {
 
     /// The number of a node that ends here.
     pub fn count(self) -> Result<(u32, Self), Fault<'t, 's>>
-        ensures counted { MatchResult result (λ t. Counts t.0 (seen self.entry) (seen t.1)) (λ e. e ≡ faults.Memory) }
+        ensures counted { MatchResult result (λ t. Counts t.0 (position_of self.entry) (position_of t.1)) (λ e. e ≡ faults.Memory) }
     {
         match self.node.checked_add(1) {
             Some(node) => Ok((
@@ -111,8 +111,8 @@ impl<'t, 's> Cursor<'t, 's> {
     /// The name that has to stand here.
     pub fn name(self) -> Result<(Name, Self), Fault<'t, 's>>
         ensures read { MatchResult result
-            (λ t. (d : ℕ) → Reads (λ r. kinds.Name ∷ r) (number_name t.0) (λ o. one kinds.Name ∷ o) d d (seen self.entry) (seen t.1))
-            (λ e. (d : ℕ) → Fails e (λ o. one kinds.Name ∷ o) d (seen self.entry)) }
+            (λ t. (d : ℕ) → Reads (λ r. kinds.Name ∷ r) (number_name t.0) (λ o. one kinds.Name ∷ o) d d (position_of self.entry) (position_of t.1))
+            (λ e. (d : ℕ) → Fails e (λ o. one kinds.Name ∷ o) d (position_of self.entry)) }
     {
         let after = self.expect(Kind::Name)?;
         let (node, after) = after.count()?;

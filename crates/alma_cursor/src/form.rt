@@ -8,7 +8,7 @@ ghost use Rattle.alma_grammar.specs.Parts.{mode_part, plain_part, decl_tail, exp
 ghost use Rattle.alma_cursor.specs.declared.fault.Fault.TheVariants as faults;
 ghost use Rattle.alma_cursor.specs.Forms.{stmt_form_parts, primary_form_parts, selector_form_parts, labelled_parts};
 ghost use Rattle.alma_cursor.specs.Forms.{plain_form_parts, decl_form_parts};
-ghost use Rattle.alma_cursor.specs.Parsing.{seen, Passes, Becomes, Reads, Fails};
+ghost use Rattle.alma_cursor.specs.Parsing.{position_of, Passes, Becomes, Reads, Fails};
 
 use crate::cursor::Cursor;
 use crate::fault::Fault;
@@ -248,7 +248,7 @@ pub fn mode(kind: Kind) -> Option<Mode>
 impl<'t, 's> Cursor<'t, 's> {
     /// The form of the statement that begins here.
     pub fn stmt_form(self) -> StmtForm
-        ensures becomes { Becomes (λ o. stmt_part ∷ o) (stmt_form_parts result) (seen self.entry).kinds }
+        ensures becomes { Becomes (λ o. stmt_part ∷ o) (stmt_form_parts result) (position_of self.entry).kinds }
     {
         match self.next() {
             Some((kind, _)) => stmt_form(kind),
@@ -258,8 +258,8 @@ impl<'t, 's> Cursor<'t, 's> {
 
     /// The form of the primary that has to begin here.
     pub fn primary_form(self) -> Result<PrimaryForm, Fault<'t, 's>>
-        ensures becomes { MatchResult result (λ form. Becomes (λ o. primary_part ∷ o) (primary_form_parts form) (seen self.entry).kinds)
-            (λ e. (d : ℕ) → Fails e (λ o. primary_part ∷ o) d (seen self.entry)) }
+        ensures becomes { MatchResult result (λ form. Becomes (λ o. primary_part ∷ o) (primary_form_parts form) (position_of self.entry).kinds)
+            (λ e. (d : ℕ) → Fails e (λ o. primary_part ∷ o) d (position_of self.entry)) }
     {
         match self.next() {
             Some((kind, _)) => match primary_form(kind) {
@@ -272,8 +272,8 @@ impl<'t, 's> Cursor<'t, 's> {
 
     /// The form of the selector that begins here.
     pub fn selector_form(self) -> Option<SelectorForm>
-        ensures becomes { MatchOption result (Becomes (λ o. selector_tail ∷ o) (λ o. o) (seen self.entry).kinds)
-            (λ form. Becomes (λ o. selector_tail ∷ o) (λ o. selector_form_parts form (selector_tail ∷ o)) (seen self.entry).kinds) }
+        ensures becomes { MatchOption result (Becomes (λ o. selector_tail ∷ o) (λ o. o) (position_of self.entry).kinds)
+            (λ form. Becomes (λ o. selector_tail ∷ o) (λ o. selector_form_parts form (selector_tail ∷ o)) (position_of self.entry).kinds) }
     {
         match self.next() {
             Some((kind, _)) => selector_form(kind),
@@ -283,8 +283,8 @@ impl<'t, 's> Cursor<'t, 's> {
 
     /// The form of the type that has to begin here and is no array.
     pub fn plain_form(self) -> Result<PlainForm, Fault<'t, 's>>
-        ensures becomes { MatchResult result (λ form. Becomes (λ o. plain_part ∷ o) (plain_form_parts form) (seen self.entry).kinds)
-            (λ e. (d : ℕ) → Fails e (λ o. plain_part ∷ o) d (seen self.entry)) }
+        ensures becomes { MatchResult result (λ form. Becomes (λ o. plain_part ∷ o) (plain_form_parts form) (position_of self.entry).kinds)
+            (λ e. (d : ℕ) → Fails e (λ o. plain_part ∷ o) d (position_of self.entry)) }
     {
         match self.next() {
             Some((kind, _)) => match plain_form(kind) {
@@ -297,8 +297,8 @@ impl<'t, 's> Cursor<'t, 's> {
 
     /// The form of the declaration that begins here.
     pub fn decl_form(self) -> Option<DeclForm>
-        ensures becomes { MatchOption result (Becomes (λ o. decl_tail ∷ o) (λ o. o) (seen self.entry).kinds)
-            (λ form. Becomes (λ o. decl_tail ∷ o) (λ o. decl_form_parts form (decl_tail ∷ o)) (seen self.entry).kinds) }
+        ensures becomes { MatchOption result (Becomes (λ o. decl_tail ∷ o) (λ o. o) (position_of self.entry).kinds)
+            (λ form. Becomes (λ o. decl_tail ∷ o) (λ o. decl_form_parts form (decl_tail ∷ o)) (position_of self.entry).kinds) }
     {
         match self.next() {
             Some((kind, _)) => decl_form(kind),
@@ -308,8 +308,8 @@ impl<'t, 's> Cursor<'t, 's> {
 
     /// Whether an expression begins here.
     pub fn begins_expr(self) -> bool
-        ensures value { Becomes (λ o. returned_part ∷ o) (λ o. if result then expr_parts o else o) (seen self.entry).kinds }
-        ensures arm { Becomes (λ o. arm_part ∷ o) (λ o. if result then labelled_parts o else o) (seen self.entry).kinds }
+        ensures value { Becomes (λ o. returned_part ∷ o) (λ o. if result then expr_parts o else o) (position_of self.entry).kinds }
+        ensures arm { Becomes (λ o. arm_part ∷ o) (λ o. if result then labelled_parts o else o) (position_of self.entry).kinds }
     {
         match self.next() {
             Some((kind, _)) => begins_expr(kind),
@@ -319,8 +319,8 @@ impl<'t, 's> Cursor<'t, 's> {
 
     /// The operator between two terms, and what stands behind it.
     pub fn add_operator(self) -> Option<(AddOperator, Self)>
-        ensures passes { MatchOption result (Becomes (λ o. term_tail ∷ o) (λ o. o) (seen self.entry).kinds)
-            (λ t. Passes (add_kind t.0) (seen self.entry) (seen t.1)) }
+        ensures passes { MatchOption result (Becomes (λ o. term_tail ∷ o) (λ o. o) (position_of self.entry).kinds)
+            (λ t. Passes (add_kind t.0) (position_of self.entry) (position_of t.1)) }
     {
         let (kind, after) = self.next()?;
         let operator = add_operator(kind)?;
@@ -329,8 +329,8 @@ impl<'t, 's> Cursor<'t, 's> {
 
     /// The operator between two factors, and what stands behind it.
     pub fn mul_operator(self) -> Option<(MulOperator, Self)>
-        ensures passes { MatchOption result (Becomes (λ o. factor_tail ∷ o) (λ o. o) (seen self.entry).kinds)
-            (λ t. Passes (mul_kind t.0) (seen self.entry) (seen t.1)) }
+        ensures passes { MatchOption result (Becomes (λ o. factor_tail ∷ o) (λ o. o) (position_of self.entry).kinds)
+            (λ t. Passes (mul_kind t.0) (position_of self.entry) (position_of t.1)) }
     {
         let (kind, after) = self.next()?;
         let operator = mul_operator(kind)?;
@@ -339,8 +339,8 @@ impl<'t, 's> Cursor<'t, 's> {
 
     /// The relation between the two sides of an expression, and what stands behind it.
     pub fn relation(self) -> Option<(Relation, Self)>
-        ensures passes { MatchOption result (Becomes (λ o. compared_part ∷ o) (λ o. o) (seen self.entry).kinds)
-            (λ t. Passes (relation_kind t.0) (seen self.entry) (seen t.1)) }
+        ensures passes { MatchOption result (Becomes (λ o. compared_part ∷ o) (λ o. o) (position_of self.entry).kinds)
+            (λ t. Passes (relation_kind t.0) (position_of self.entry) (position_of t.1)) }
     {
         let (kind, after) = self.next()?;
         let relation = relation(kind)?;
@@ -349,7 +349,7 @@ impl<'t, 's> Cursor<'t, 's> {
 
     /// The sign that stands here, or none, and what stands behind it.
     pub fn sign(self) -> (Option<Sign>, Self)
-        ensures read { (d : ℕ) → Reads (spell_sign result.0) (number_sign result.0) (λ o. sign_part ∷ o) d d (seen self.entry) (seen result.1) }
+        ensures read { (d : ℕ) → Reads (spell_sign result.0) (number_sign result.0) (λ o. sign_part ∷ o) d d (position_of self.entry) (position_of result.1) }
     {
         if let Some((kind, after)) = self.next() {
             if let Some(sign) = sign(kind) {
@@ -361,7 +361,7 @@ impl<'t, 's> Cursor<'t, 's> {
 
     /// The mode that stands here, or none, and what stands behind it.
     pub fn mode(self) -> (Option<Mode>, Self)
-        ensures read { (d : ℕ) → Reads (spell_mode result.0) (number_mode result.0) (λ o. mode_part ∷ o) d d (seen self.entry) (seen result.1) }
+        ensures read { (d : ℕ) → Reads (spell_mode result.0) (number_mode result.0) (λ o. mode_part ∷ o) d d (position_of self.entry) (position_of result.1) }
     {
         if let Some((kind, after)) = self.next() {
             if let Some(mode) = mode(kind) {

@@ -2,7 +2,7 @@
 use Rattle.std.specs.Prelude.{◌≡◌, ◌<◌, ◌≤◌, ◌+◌, ◌*◌, ◌/◌, suc, List, ℕ, [], length}
 use Rattle.alma_io.specs.Files.{Told, Missing, MayHave, MayPass}
 use Rattle.alma_ir.specs.Tree.{Program}
-use Rattle.alma_ir.specs.Count.{capped, nodes}
+use Rattle.alma_ir.specs.Count.{saturate, nodes}
 use Rattle.alma_mean.specs.Events.{first, end_of, visit_count, CutOff}
 use Rattle.alma_mean.specs.Meaning.{ev_program, result}
 use Rattle.alma_code.specs.declared.step.End as code
@@ -27,7 +27,7 @@ size_limit = 4194304
 
 -- the size of a program, by which its code is limited
 abbrev pub size_of : Program → ℕ
-size_of p = capped (16 * nodes p)
+size_of p = saturate (16 * nodes p)
 
 -- what is due from a call: its end, and the bytes that it prints
 pub record Due : Type 0 where

@@ -8,14 +8,14 @@ use Rattle.alma_code.specs.Head.{PlainHead}
 use Rattle.alma_base.specs.declared.number.Range.{Range}
 use Rattle.alma_base.specs.declared.fault.RunFault.TheVariants as fault
 use Rattle.alma_code.specs.declared.instr.Instr.TheVariants as I
-use Rattle.alma_code.specs.Machine.{State, Stepped, act, number, place, content, bound, ranged, as_range, went, put_place, equation, position, found, char_found, arguments, entered, as_routine}
+use Rattle.alma_code.specs.Machine.{State, Stepped, act, number, place, content, bound, range_check, as_range, quiet_step, put_place, equation, position, found, byte_or_failure, arguments, entered, as_routine}
 use Rattle.alma_code.specs.Plain.{PlainCode, PlainRoutine, no_routine, head_at, start_at}
 
 -- a number is looked for in a range of the code
 pub in_range_is : (code : PlainCode) (input : List ℕ) (value range : ℕ) (s : State) (r : Range) → Some r ≡ slice_get code.ranges range
-    → number s value (λ v. ranged r fault.Range s v (λ _. went s)) ≡ act code input (I.InRange value range) s
+    → number s value (λ v. range_check r fault.Range s v (λ _. quiet_step s)) ≡ act code input (I.InRange value range) s
 unfolding act
-in_range_is code input value range s r is = ap (λ o. number s value (λ v. as_range o s (λ t. ranged t fault.Range s v (λ _. went s)))) is
+in_range_is code input value range s r is = ap (λ o. number s value (λ v. as_range o s (λ t. range_check t fault.Range s v (λ _. quiet_step s)))) is
 
 -- a cell is bound in a range of the code
 pub bind_is : (code : PlainCode) (input : List ℕ) (to value range : ℕ) (s : State) (r : Range) → Some r ≡ slice_get code.ranges range
@@ -25,18 +25,18 @@ bind_is code input to value range s r is = ap (λ o. place s to (λ p. number s 
 
 -- a part is looked for in a range of the code
 pub index_is : (code : PlainCode) (input : List ℕ) (to from index range : ℕ) (s : State) (r : Range) → Some r ≡ slice_get code.ranges range
-    → place s from (λ p. number s index (λ v. ranged r fault.Index s v (λ _. put_place s to p.frame (λ l. p.slot + nat_abs (v -ℤ r.low) * l)))) ≡ act code input (I.Index to from index range) s
+    → place s from (λ p. number s index (λ v. range_check r fault.Index s v (λ _. put_place s to p.frame (λ l. p.slot + nat_abs (v -ℤ r.low) * l)))) ≡ act code input (I.Index to from index range) s
 unfolding act
 index_is code input to from index range s r is =
-    ap (λ o. place s from (λ p. number s index (λ v. as_range o s (λ r. ranged r fault.Index s v (λ _. put_place s to p.frame (λ l. p.slot + nat_abs (v -ℤ r.low) * l)))))) is
+    ap (λ o. place s from (λ p. number s index (λ v. as_range o s (λ r. range_check r fault.Index s v (λ _. put_place s to p.frame (λ l. p.slot + nat_abs (v -ℤ r.low) * l)))))) is
 
 -- cells are equated in ranges of the code
 pub unify_is : (code : PlainCode) (input : List ℕ) (left first right second : ℕ) (s : State) (r t : Range) → Some r ≡ slice_get code.ranges first → Some t ≡ slice_get code.ranges second
-    → place s left (λ p. place s right (λ q. equation s p.frame p.slot (Some r) q.frame q.slot (Some t) went)) ≡ act code input (I.Unify left first right second) s
+    → place s left (λ p. place s right (λ q. equation s p.frame p.slot (Some r) q.frame q.slot (Some t) quiet_step)) ≡ act code input (I.Unify left first right second) s
 unfolding act
 unify_is code input left first right second s r t a b =
-    ap (λ o. place s left (λ p. place s right (λ q. as_range o s (λ t. equation s p.frame p.slot (Some r) q.frame q.slot (Some t) went)))) b
-    ∙ ap (λ o. place s left (λ p. as_range o s (λ r. place s right (λ q. as_range (slice_get code.ranges second) s (λ t. equation s p.frame p.slot (Some r) q.frame q.slot (Some t) went))))) a
+    ap (λ o. place s left (λ p. place s right (λ q. as_range o s (λ t. equation s p.frame p.slot (Some r) q.frame q.slot (Some t) quiet_step)))) b
+    ∙ ap (λ o. place s left (λ p. as_range o s (λ r. place s right (λ q. as_range (slice_get code.ranges second) s (λ t. equation s p.frame p.slot (Some r) q.frame q.slot (Some t) quiet_step))))) a
 
 -- a number is read in a range of the code
 pub read_int_is : (code : PlainCode) (input : List ℕ) (to range : ℕ) (s : State) (r : Range) → Some r ≡ slice_get code.ranges range
@@ -46,9 +46,9 @@ read_int_is code input to range s r is = ap (λ o. place s to (λ p. as_range o 
 
 -- a byte is read in a range of the code
 pub read_char_is : (code : PlainCode) (input : List ℕ) (to range : ℕ) (s : State) (r : Range) → Some r ≡ slice_get code.ranges range
-    → place s to (λ p. position s (λ n. char_found s r p n (slice_get input n))) ≡ act code input (I.ReadChar to range) s
+    → place s to (λ p. position s (λ n. byte_or_failure s r p n (slice_get input n))) ≡ act code input (I.ReadChar to range) s
 unfolding act
-read_char_is code input to range s r is = ap (λ o. place s to (λ p. as_range o s (λ t. position s (λ n. char_found s t p n (slice_get input n))))) is
+read_char_is code input to range s r is = ap (λ o. place s to (λ p. as_range o s (λ t. position s (λ n. byte_or_failure s t p n (slice_get input n))))) is
 
 -- what is there, or another
 abbrev get_some : PlainHead → Option PlainHead → PlainHead

@@ -18,8 +18,8 @@ use Rattle.alma_code.specs.declared.step.End.TheVariants as end
 use Rattle.alma_code.specs.declared.step.Step.TheVariants as answer
 use Rattle.alma_code.specs.Carries.{IsLive}
 use Rattle.alma_code.specs.Head.{PlainHead}
-use Rattle.alma_code.specs.Layout.{FitsParam, FitsParams, no_param, entered_frame}
-use Rattle.alma_code.specs.Machine.{State, Stepped, slot_of, as_argument, arguments, numbers_at, faulted, entered, answered, ended, returned, left, stuck}
+use Rattle.alma_code.specs.Layout.{FitsParam, FitsParams, no_param, frame_of_call}
+use Rattle.alma_code.specs.Machine.{State, Stepped, slot_of, as_argument, arguments, numbers_at, ends_in_fault, entered, answered, ended, returned, left, stuck}
 use Rattle.alma_code.specs.Picture.{PlainFrame, last_frame, live_cells}
 use Rattle.alma_memory.specs.Refusals.{HasFrameRoom, RefusesFor}
 use Rattle.alma_engine.specs.Calls.{IsSpot, HoldsArgument, HasArgument, HasArguments, IsArgument, GivesArguments}
@@ -70,12 +70,12 @@ place_given now p n q h is =
 
 -- a number that is not known ends the run
 pub unknown_given : (now : List PlainFrame) (p : CodeParam) (n : ℕ) (s : State) (k : Cell → Stepped) → slice_get (last_frame now).cells n ≡ Some cell.Unknown → s.now ≡ now
-    → as_argument p.kind p.cells (slot_of s n) s k ≡ faulted fault.Unknown s
+    → as_argument p.kind p.cells (slot_of s n) s k ≡ ends_in_fault fault.Unknown s
 unknown_given now p n s k is same = read_slot now p n cell.Unknown s k is same
 
 -- and so does a place that is not there
 pub unset_given : (now : List PlainFrame) (p : CodeParam) (n : ℕ) (s : State) (k : Cell → Stepped) → slice_get (last_frame now).cells n ≡ Some cell.Unset → s.now ≡ now
-    → as_argument p.kind p.cells (slot_of s n) s k ≡ faulted fault.Unknown s
+    → as_argument p.kind p.cells (slot_of s n) s k ≡ ends_in_fault fault.Unknown s
 unset_given now p n s k is same = read_slot now p n cell.Unset s k is same
 
 -- no argument is a mark
@@ -109,8 +109,8 @@ all_read now (p ∷ ps) first (c ∷ args) s k same len each =
 -- where those before one are read and that one ends the run, all do
 pub one_fails : (now : List PlainFrame) (ps : List CodeParam) (first i : ℕ) (args : List Cell) (f : RunFault) (s : State) (k : List Cell → Stepped) → s.now ≡ now → i < length ps
     → ((j : ℕ) → j < i → IsArgument now (get_or ps j no_param) (first + j) (get_or args j cell.Unknown))
-    → ((s : State) (k : Cell → Stepped) → s.now ≡ now → as_argument (get_or ps i no_param).kind (get_or ps i no_param).cells (slot_of s (first + i)) s k ≡ faulted f s)
-    → arguments ps s first k ≡ faulted f s
+    → ((s : State) (k : Cell → Stepped) → s.now ≡ now → as_argument (get_or ps i no_param).kind (get_or ps i no_param).cells (slot_of s (first + i)) s k ≡ ends_in_fault f s)
+    → arguments ps s first k ≡ ends_in_fault f s
 one_fails now [] first i args f s k same lt each ends = absurd (omega arith)
 one_fails now (p ∷ ps) first zero args f s k same lt each ends =
     let here : first ≡ first + 0 = omega arith in
@@ -167,7 +167,7 @@ all_done now ps first args h =
 
 -- one is not known
 pub fails_at : (now : List PlainFrame) (ps : List CodeParam) (first i : ℕ) (p : CodeParam) (args rest : List Cell) (f : RunFault) → i < length ps → slice_get ps i ≡ Some p → ReadSo now ps first i args
-    → ((s : State) (k : Cell → Stepped) → s.now ≡ now → as_argument p.kind p.cells (slot_of s (first + i)) s k ≡ faulted f s) → GivesArguments now ps first (Some f) rest
+    → ((s : State) (k : Cell → Stepped) → s.now ≡ now → as_argument p.kind p.cells (slot_of s (first + i)) s k ≡ ends_in_fault f s) → GivesArguments now ps first (Some f) rest
 fails_at now ps first i p args rest f lt is h ends = λ s k same.
     one_fails now ps first i args f s k same lt h.each
     (λ s k same. ap (λ (q : CodeParam). as_argument q.kind q.cells (slot_of s (first + i)) s k) (get_or_from_slice_get ps i p no_param is) ∙ ends s k same)
@@ -180,24 +180,24 @@ one_frame now f = length-append now (f ∷ [])
 
 -- with room the frame is entered
 pub enters_room : (s : State) (r start : ℕ) (h : PlainHead) (args : List Cell) → HasFrameRoom s.now h.declared
-    → entered s r start h args ≡ answered (answer.Called r (length s.now + 1)) (record s { at = start; now = s.now ++ entered_frame s.now h r s.at args ∷ [] })
+    → entered s r start h args ≡ answered (answer.Called r (length s.now + 1)) (record s { at = start; now = s.now ++ frame_of_call s.now h r s.at args ∷ [] })
 enters_room s r start h args room =
-    let cells = λ (b : Bool). if_true b (λ _. answered (answer.Called r (length s.now + 1)) (record s { at = start; now = s.now ++ entered_frame s.now h r s.at args ∷ [] })) (λ _. faulted fault.CellsFull s) in
-    ap (λ b. if_true b (λ _. cells (nat_le (live_cells s.now + h.declared) 1048576)) (λ _. faulted fault.DepthFull s)) (lt-ltb (length s.now) 10000 room.depth)
+    let cells = λ (b : Bool). if_true b (λ _. answered (answer.Called r (length s.now + 1)) (record s { at = start; now = s.now ++ frame_of_call s.now h r s.at args ∷ [] })) (λ _. ends_in_fault fault.CellsFull s) in
+    ap (λ b. if_true b (λ _. cells (nat_le (live_cells s.now + h.declared) 1048576)) (λ _. ends_in_fault fault.DepthFull s)) (lt-ltb (length s.now) 10000 room.depth)
     ∙ ap cells (le-leb (live_cells s.now + h.declared) 1048576 room.cells)
 
 -- at 10,000 frames it is not
-pub enters_deep : (s : State) (r start : ℕ) (h : PlainHead) (args : List Cell) → 10000 ≤ length s.now → entered s r start h args ≡ faulted fault.DepthFull s
+pub enters_deep : (s : State) (r start : ℕ) (h : PlainHead) (args : List Cell) → 10000 ≤ length s.now → entered s r start h args ≡ ends_in_fault fault.DepthFull s
 enters_deep s r start h args deep =
     ap (λ b. if_true b (λ _. if_true (nat_le (live_cells s.now + h.declared) 1048576)
-    (λ _. answered (answer.Called r (length s.now + 1)) (record s { at = start; now = s.now ++ entered_frame s.now h r s.at args ∷ [] })) (λ _. faulted fault.CellsFull s))
-    (λ _. faulted fault.DepthFull s)) (le-ltb (length s.now) 10000 deep)
+    (λ _. answered (answer.Called r (length s.now + 1)) (record s { at = start; now = s.now ++ frame_of_call s.now h r s.at args ∷ [] })) (λ _. ends_in_fault fault.CellsFull s))
+    (λ _. ends_in_fault fault.DepthFull s)) (le-ltb (length s.now) 10000 deep)
 
 -- nor with too many cells
-pub enters_full : (s : State) (r start : ℕ) (h : PlainHead) (args : List Cell) → (length s.now < 10000) × (1048576 < live_cells s.now + h.declared) → entered s r start h args ≡ faulted fault.CellsFull s
+pub enters_full : (s : State) (r start : ℕ) (h : PlainHead) (args : List Cell) → (length s.now < 10000) × (1048576 < live_cells s.now + h.declared) → entered s r start h args ≡ ends_in_fault fault.CellsFull s
 enters_full s r start h args full =
-    let cells = λ (b : Bool). if_true b (λ _. answered (answer.Called r (length s.now + 1)) (record s { at = start; now = s.now ++ entered_frame s.now h r s.at args ∷ [] })) (λ _. faulted fault.CellsFull s) in
-    ap (λ b. if_true b (λ _. cells (nat_le (live_cells s.now + h.declared) 1048576)) (λ _. faulted fault.DepthFull s)) (lt-ltb (length s.now) 10000 full.0)
+    let cells = λ (b : Bool). if_true b (λ _. answered (answer.Called r (length s.now + 1)) (record s { at = start; now = s.now ++ frame_of_call s.now h r s.at args ∷ [] })) (λ _. ends_in_fault fault.CellsFull s) in
+    ap (λ b. if_true b (λ _. cells (nat_le (live_cells s.now + h.declared) 1048576)) (λ _. ends_in_fault fault.DepthFull s)) (lt-ltb (length s.now) 10000 full.0)
     ∙ ap cells (lt-leb (live_cells s.now + h.declared) 1048576 full.1)
 
 pub ruleset enters = (one_frame, enters_room, enters_deep, enters_full)

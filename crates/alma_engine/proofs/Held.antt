@@ -9,7 +9,7 @@ use Rattle.alma_code.specs.declared.cell.ChoiceKind.{ChoiceKind}
 use Rattle.alma_code.specs.declared.cell.ChoiceKind.TheVariants as choice
 use Rattle.alma_code.specs.Carries.{IsForallAt, IsTop, kept}
 use Rattle.alma_code.specs.Picture.{no_entry, entry_at, kind_at}
-use Rattle.alma_code.specs.Machine.{overlay, laid_over, keep, finish, is_kind, is_forall_at, chose, pushed, kind_of}
+use Rattle.alma_code.specs.Machine.{overlay, laid_over, keep, finish, is_kind, is_forall_at, answer_of_push, pushed, kind_of}
 use Rattle.std.proofs.lemmas.Bool.{false≢true, lt-ltb, le-ltb}
 use Rattle.std.proofs.lemmas.Option.{slice_get-get_or, get_or_from_slice_get}
 use Rattle.alma_base.specs.declared.fault.RunFault.TheVariants as fault
@@ -19,9 +19,9 @@ use Rattle.alma_code.specs.declared.cell.Cell.TheVariants as cell
 use Rattle.alma_code.specs.declared.cell.CellPlace.{CellPlace}
 use Rattle.alma_code.specs.declared.cell.SlotKind.TheVariants as slot
 use Rattle.alma_code.specs.declared.step.End.TheVariants as end
-use Rattle.alma_code.specs.Machine.{State, Stepped, Going, as_place, as_mark, slot_in, link, mark, faulted, put_link, put_mark, to_link, to_mark, link_to, went, fell, with_slot, cut_to, pop, popped_to, ended, answered}
+use Rattle.alma_code.specs.Machine.{State, Stepped, Going, as_place, as_mark, slot_in, link, mark, ends_in_fault, put_link, put_mark, to_link, to_mark, link_to, quiet_step, answer_of_fall, with_slot, cut_to, pop, pop_or_end, ended, answered}
 use Rattle.alma_code.specs.declared.step.Step.TheVariants as answer
-use Rattle.alma_code.specs.Picture.{PlainFrame, PlainEntry, no_frame, last_frame, cell_at, top_of, popped}
+use Rattle.alma_code.specs.Picture.{PlainFrame, PlainEntry, no_frame, last_frame, cell_at, top_of, stack_after_pop}
 use Rattle.alma_code.specs.Rules.{link_routine}
 use Rattle.alma_code.proofs.Ready.{link_is}
 use Rattle.alma_engine.specs.Rows.{HasSlot, HasPlaceIn, HasLinkTo, HasMark, HoldsPlace, HoldsMark, LeadsTo}
@@ -41,7 +41,7 @@ pub held_place : (now : List PlainFrame) (f n : ℕ) (p : CellPlace) (s : State)
 held_place now f n p s k h is same = ap (λ fs. as_place (slice_get (get_or fs f no_frame).cells n) s k) same ∙ ap (λ o. as_place o s k) (held_or now f n (cell.Place p) h is)
 
 -- none yet is read
-pub held_unset : (now : List PlainFrame) (f n : ℕ) (s : State) (k : CellPlace → Stepped) → HasPlaceIn now f n → cell.Unset ≡ cell_at now f n cell.Unknown → s.now ≡ now → as_place (slot_in s f n) s k ≡ faulted fault.Unknown s
+pub held_unset : (now : List PlainFrame) (f n : ℕ) (s : State) (k : CellPlace → Stepped) → HasPlaceIn now f n → cell.Unset ≡ cell_at now f n cell.Unknown → s.now ≡ now → as_place (slot_in s f n) s k ≡ ends_in_fault fault.Unknown s
 held_unset now f n s k h is same = ap (λ fs. as_place (slice_get (get_or fs f no_frame).cells n) s k) same ∙ ap (λ o. as_place o s k) (held_or now f n cell.Unset h is)
 
 pub ruleset helds = (held_content, held_place, held_unset)
@@ -57,16 +57,16 @@ pub link_read : (now : List PlainFrame) (n : ℕ) (p : CellPlace) (s : State) (k
 link_read now n p s k is same = ap (λ fs. as_place (slice_get (last_frame fs).cells n) s (λ p. k p.frame)) same ∙ ap (λ o. as_place o s (λ p. k p.frame)) is
 
 -- no link yet is read
-pub link_unset : (now : List PlainFrame) (n : ℕ) (s : State) (k : ℕ → Stepped) → slice_get (last_frame now).cells n ≡ Some cell.Unset → s.now ≡ now → link s n k ≡ faulted fault.Unknown s
+pub link_unset : (now : List PlainFrame) (n : ℕ) (s : State) (k : ℕ → Stepped) → slice_get (last_frame now).cells n ≡ Some cell.Unset → s.now ≡ now → link s n k ≡ ends_in_fault fault.Unknown s
 link_unset now n s k is same = ap (λ fs. as_place (slice_get (last_frame fs).cells n) s (λ p. k p.frame)) same ∙ ap (λ o. as_place o s (λ p. k p.frame)) is
 
 pub ruleset links = (link_content, link_read, link_unset)
 
 -- a link goes into a link slot
-pub put_link_is : (s : State) (n frame : ℕ) → HasLinkTo s.now n → put_link s n frame ≡ went (with_slot s n (cell.Place (record { frame = frame; slot = 0; len = 0 })))
+pub put_link_is : (s : State) (n frame : ℕ) → HasLinkTo s.now n → put_link s n frame ≡ quiet_step (with_slot s n (cell.Place (record { frame = frame; slot = 0; len = 0 })))
 put_link_is s n frame h =
     let kind = slice_get (last_frame s.now).kinds n in
-    ap (λ o. to_link o s (λ _. went (with_slot s n (cell.Place (link_to frame))))) (link_is kind h.kind)
+    ap (λ o. to_link o s (λ _. quiet_step (with_slot s n (cell.Place (link_to frame))))) (link_is kind h.kind)
 
 -- a link slot is a slot
 pub link_is_slot : (now : List PlainFrame) (n : ℕ) → HasLinkTo now n → HasSlot now n
@@ -85,14 +85,14 @@ pub mark_read : (now : List PlainFrame) (n height : ℕ) (s : State) (k : ℕ �
 mark_read now n height s k is same = ap (λ fs. as_mark (slice_get (last_frame fs).cells n) s k) same ∙ ap (λ o. as_mark o s k) is
 
 -- no mark yet is read
-pub mark_unset : (now : List PlainFrame) (n : ℕ) (s : State) (k : ℕ → Stepped) → slice_get (last_frame now).cells n ≡ Some cell.Unset → s.now ≡ now → mark s n k ≡ faulted fault.Unknown s
+pub mark_unset : (now : List PlainFrame) (n : ℕ) (s : State) (k : ℕ → Stepped) → slice_get (last_frame now).cells n ≡ Some cell.Unset → s.now ≡ now → mark s n k ≡ ends_in_fault fault.Unknown s
 mark_unset now n s k is same = ap (λ fs. as_mark (slice_get (last_frame fs).cells n) s k) same ∙ ap (λ o. as_mark o s k) is
 
 pub ruleset marks = (mark_content, mark_read, mark_unset)
 
 -- a mark goes into a mark slot
-pub put_mark_is : (s : State) (n height : ℕ) → HasMark s.now n → put_mark s n height ≡ went (with_slot s n (cell.Mark height))
-put_mark_is s n height h = ap (λ o. to_mark o s (λ _. went (with_slot s n (cell.Mark height)))) h.kind
+pub put_mark_is : (s : State) (n height : ℕ) → HasMark s.now n → put_mark s n height ≡ quiet_step (with_slot s n (cell.Mark height))
+put_mark_is s n height h = ap (λ o. to_mark o s (λ _. quiet_step (with_slot s n (cell.Mark height)))) h.kind
 
 -- a mark slot is a slot
 pub mark_is_slot : (now : List PlainFrame) (n : ℕ) → HasMark now n → HasSlot now n
@@ -103,27 +103,27 @@ pub ruleset put_marks = (put_mark_is, mark_is_slot)
 -- ---- cuts and pops
 
 -- entries above the height fall
-pub cut_falls : (s : State) (h : ℕ) → h < length s.held → cut_to s h ≡ fell (record s { held = take h s.held })
-cut_falls s h lt = ap (λ b. if_true b (λ _. fell (record s { held = take h s.held })) (λ _. went s)) (lt-ltb h (length s.held) lt)
+pub cut_falls : (s : State) (h : ℕ) → h < length s.held → cut_to s h ≡ answer_of_fall (record s { held = take h s.held })
+cut_falls s h lt = ap (λ b. if_true b (λ _. answer_of_fall (record s { held = take h s.held })) (λ _. quiet_step s)) (lt-ltb h (length s.held) lt)
 
 -- with none above nothing falls
-pub cut_nothing : (s : State) (h : ℕ) → length s.held ≤ h → cut_to s h ≡ went s
-cut_nothing s h le = ap (λ b. if_true b (λ _. fell (record s { held = take h s.held })) (λ _. went s)) (le-ltb h (length s.held) le)
+pub cut_nothing : (s : State) (h : ℕ) → length s.held ≤ h → cut_to s h ≡ quiet_step s
+cut_nothing s h le = ap (λ b. if_true b (λ _. answer_of_fall (record s { held = take h s.held })) (λ _. quiet_step s)) (le-ltb h (length s.held) le)
 
 pub ruleset cuts = (cut_falls, cut_nothing)
 
 -- with no entry the run ends
 pub pop_none : (s : State) → s.held ≡ [] → pop s ≡ ended end.Failed s
-pop_none s none = ap (popped_to s) none
+pop_none s none = ap (pop_or_end s) none
 
 -- the top entry is popped
-pop_to : (s : State) (held : List PlainEntry) → (held ≡ [] → ⊥) → popped_to s held
-    ≡ answered (answer.Popped (length s.held)) (record s { mode = Going; at = (top_of s.held).resume; now = (top_of s.held).frames; held = popped s.held; fails = s.fails + 1 })
+pop_to : (s : State) (held : List PlainEntry) → (held ≡ [] → ⊥) → pop_or_end s held
+    ≡ answered (answer.Popped (length s.held)) (record s { mode = Going; at = (top_of s.held).resume; now = (top_of s.held).frames; held = stack_after_pop s.held; fails = s.fails + 1 })
 pop_to s [] some = absurd (some refl)
 pop_to s (e ∷ rest) some = refl
 
 pub pop_some : (s : State) → (s.held ≡ [] → ⊥) → pop s
-    ≡ answered (answer.Popped (length s.held)) (record s { mode = Going; at = (top_of s.held).resume; now = (top_of s.held).frames; held = popped s.held; fails = s.fails + 1 })
+    ≡ answered (answer.Popped (length s.held)) (record s { mode = Going; at = (top_of s.held).resume; now = (top_of s.held).frames; held = stack_after_pop s.held; fails = s.fails + 1 })
 pop_some s some = pop_to s s.held some
 
 pub ruleset pops = (pop_none, pop_some)
@@ -192,31 +192,31 @@ overlay_no s h e = ap (λ b. if_true b (λ _. laid_over s h) (λ _. s)) e
 pub ruleset overlays = (forall_found, overlay_yes, overlay_no)
 
 -- a Body is kept
-pub keep_is : (s : State) (h : ℕ) → kind_at s.held h ≡ Some choice.Forall → h < length s.held → kind_at s.held (length s.held) ≡ Some choice.Body → keep s h ≡ fell (record s { held = kept s.held h s.now })
+pub keep_is : (s : State) (h : ℕ) → kind_at s.held h ≡ Some choice.Forall → h < length s.held → kind_at s.held (length s.held) ≡ Some choice.Body → keep s h ≡ answer_of_fall (record s { held = kept s.held h s.now })
 keep_is s h e lt f =
     let test : (is_forall_at s.held h && (nat_lt h (length s.held) && is_kind choice.Body (kind_at s.held (length s.held)))) ≡ true =
     and_from (is_forall_at s.held h) (nat_lt h (length s.held) && is_kind choice.Body (kind_at s.held (length s.held))) (ap (is_kind choice.Forall) e)
     (and_from (nat_lt h (length s.held)) (is_kind choice.Body (kind_at s.held (length s.held))) (lt-ltb h (length s.held) lt) (ap (is_kind choice.Body) f)) in
-    ap (λ b. if_true b (λ _. fell (record s { held = kept s.held h s.now })) (λ _. went s)) test
+    ap (λ b. if_true b (λ _. answer_of_fall (record s { held = kept s.held h s.now })) (λ _. quiet_step s)) test
 
 -- a test that fails
-keep_out : (s : State) (h : ℕ) → (is_forall_at s.held h && (nat_lt h (length s.held) && is_kind choice.Body (kind_at s.held (length s.held)))) ≡ false → keep s h ≡ went s
-keep_out s h e = ap (λ b. if_true b (λ _. fell (record s { held = kept s.held h s.now })) (λ _. went s)) e
+keep_out : (s : State) (h : ℕ) → (is_forall_at s.held h && (nat_lt h (length s.held) && is_kind choice.Body (kind_at s.held (length s.held)))) ≡ false → keep s h ≡ quiet_step s
+keep_out s h e = ap (λ b. if_true b (λ _. answer_of_fall (record s { held = kept s.held h s.now })) (λ _. quiet_step s)) e
 
 and_right : (a b : Bool) → b ≡ false → (a && b) ≡ false
 and_right true b e = e
 and_right false b e = refl
 
 -- without a Forall, below a Body on top, nothing is kept
-pub keep_no_forall : (s : State) (h : ℕ) → (kind_at s.held h ≡ Some choice.Forall → ⊥) → keep s h ≡ went s
+pub keep_no_forall : (s : State) (h : ℕ) → (kind_at s.held h ≡ Some choice.Forall → ⊥) → keep s h ≡ quiet_step s
 keep_no_forall s h ne = keep_out s h (ap (λ b. b && (nat_lt h (length s.held) && is_kind choice.Body (kind_at s.held (length s.held)))) (other_kind choice.Forall (kind_at s.held h) ne))
 
-pub keep_not_below : (s : State) (h : ℕ) → length s.held ≤ h → keep s h ≡ went s
+pub keep_not_below : (s : State) (h : ℕ) → length s.held ≤ h → keep s h ≡ quiet_step s
 keep_not_below s h le =
     keep_out s h (and_right (is_forall_at s.held h) (nat_lt h (length s.held) && is_kind choice.Body (kind_at s.held (length s.held)))
     (ap (λ b. b && is_kind choice.Body (kind_at s.held (length s.held))) (le-ltb h (length s.held) le)))
 
-pub keep_no_body : (s : State) (h : ℕ) → (kind_at s.held (length s.held) ≡ Some choice.Body → ⊥) → keep s h ≡ went s
+pub keep_no_body : (s : State) (h : ℕ) → (kind_at s.held (length s.held) ≡ Some choice.Body → ⊥) → keep s h ≡ quiet_step s
 keep_no_body s h ne =
     keep_out s h (and_right (is_forall_at s.held h) (nat_lt h (length s.held) && is_kind choice.Body (kind_at s.held (length s.held)))
     (and_right (nat_lt h (length s.held)) (is_kind choice.Body (kind_at s.held (length s.held))) (other_kind choice.Body (kind_at s.held (length s.held)) ne)))
@@ -224,12 +224,12 @@ keep_no_body s h ne =
 pub ruleset keeps = (forall_there, top_there, keep_is, keep_no_forall, keep_not_below, keep_no_body)
 
 -- a Done is finished
-pub finish_is : (s : State) → kind_at s.held (length s.held) ≡ Some choice.Done → finish s ≡ fell (record (laid_over s (length s.held)) { held = take (length s.held - 1) s.held })
-finish_is s e = ap (λ o. if_true (is_kind choice.Done o) (λ _. fell (record (laid_over s (length s.held)) { held = take (length s.held - 1) s.held })) (λ _. went s)) e
+pub finish_is : (s : State) → kind_at s.held (length s.held) ≡ Some choice.Done → finish s ≡ answer_of_fall (record (laid_over s (length s.held)) { held = take (length s.held - 1) s.held })
+finish_is s e = ap (λ o. if_true (is_kind choice.Done o) (λ _. answer_of_fall (record (laid_over s (length s.held)) { held = take (length s.held - 1) s.held })) (λ _. quiet_step s)) e
 
 -- without one nothing is
-pub finish_none : (s : State) → (kind_at s.held (length s.held) ≡ Some choice.Done → ⊥) → finish s ≡ went s
-finish_none s ne = ap (λ b. if_true b (λ _. fell (record (laid_over s (length s.held)) { held = take (length s.held - 1) s.held })) (λ _. went s)) (other_kind choice.Done (kind_at s.held (length s.held)) ne)
+pub finish_none : (s : State) → (kind_at s.held (length s.held) ≡ Some choice.Done → ⊥) → finish s ≡ quiet_step s
+finish_none s ne = ap (λ b. if_true b (λ _. answer_of_fall (record (laid_over s (length s.held)) { held = take (length s.held - 1) s.held })) (λ _. quiet_step s)) (other_kind choice.Done (kind_at s.held (length s.held)) ne)
 
 pub ruleset finishes = (top_there, finish_is, finish_none)
 
@@ -238,8 +238,8 @@ pub one_more : (held : List PlainEntry) (e : PlainEntry) → length (held ++ e �
 one_more held e = length-append held (e ∷ [])
 
 -- a Forall is pushed
-pub forall_is : (s : State) (n resume : ℕ) → HasMark s.now n → to_mark (kind_of s n) s (λ _. chose (with_slot (pushed s choice.Forall resume) n (cell.Mark (length s.held + 1))))
-    ≡ chose (with_slot (pushed s choice.Forall resume) n (cell.Mark (length s.held + 1)))
-forall_is s n resume h = ap (λ o. to_mark o s (λ _. chose (with_slot (pushed s choice.Forall resume) n (cell.Mark (length s.held + 1))))) h.kind
+pub forall_is : (s : State) (n resume : ℕ) → HasMark s.now n → to_mark (kind_of s n) s (λ _. answer_of_push (with_slot (pushed s choice.Forall resume) n (cell.Mark (length s.held + 1))))
+    ≡ answer_of_push (with_slot (pushed s choice.Forall resume) n (cell.Mark (length s.held + 1)))
+forall_is s n resume h = ap (λ o. to_mark o s (λ _. answer_of_push (with_slot (pushed s choice.Forall resume) n (cell.Mark (length s.held + 1))))) h.kind
 
 pub ruleset foralls = (one_more, forall_is)

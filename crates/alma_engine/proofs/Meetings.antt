@@ -2,7 +2,7 @@
 use Rattle.std.proofs.Common.{◌≡◌, ℕ, suc, ◌+◌, ◌-◌, ◌<◌, ◌≤◌, ◌^◌, List, [], refl, sym, ap, subst, arith, ◌∙◌}
 use Rattle.std.specs.Prelude.{ℤ, Option, Some, None, Result, Ok, Err, IfOk}
 use Rattle.alma_base.specs.declared.number.Range.{Range}
-use Rattle.alma_code.specs.Machine.{State, Stepped, equated, equation, equations}
+use Rattle.alma_code.specs.Machine.{State, Stepped, equation_of_contents, equation, equations}
 use Rattle.alma_engine.specs.declared.equations.Met.{Met}
 use Rattle.alma_engine.specs.declared.equations.Met.TheVariants.{Holds, Ends}
 use Rattle.alma_engine.specs.Meets.{Meets, MeetsOn, AreNumbers, given}
@@ -23,7 +23,7 @@ ok_meets (Ok met) w w' new h e = meets_as met w w' new e h
 ok_meets (Err f) w w' new h e = tt
 
 -- where the first cell knows nothing it is given what the second knows
-pub equated_first : (s : State) (f i : ℕ) (r : Option Range) (g j : ℕ) (t : Option Range) (v : Option ℤ) (k : State → Stepped) → equated s f i r None g j t v k ≡ given s f i r v k
+pub equated_first : (s : State) (f i : ℕ) (r : Option Range) (g j : ℕ) (t : Option Range) (v : Option ℤ) (k : State → Stepped) → equation_of_contents s f i r None g j t v k ≡ given s f i r v k
 equated_first s f i r g j t None k = refl
 equated_first s f i r g j t (Some v) k = refl
 

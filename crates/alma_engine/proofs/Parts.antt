@@ -11,7 +11,7 @@ use Rattle.alma_base.specs.Numbers.{within, range_size}
 use Rattle.alma_code.specs.declared.cell.Cell.TheVariants as cell
 use Rattle.alma_code.specs.declared.cell.SlotKind.{SlotKind}
 use Rattle.alma_code.specs.declared.cell.SlotKind.TheVariants as slot
-use Rattle.alma_code.specs.Machine.{State, to_place, put_place, went, with_slot}
+use Rattle.alma_code.specs.Machine.{State, to_place, put_place, quiet_step, with_slot}
 use Rattle.alma_code.specs.Picture.{PlainFrame, last_frame}
 use Rattle.alma_code.specs.Rules.{place_length, has_room}
 use Rattle.alma_code.proofs.Ranges.{offset_le}
@@ -51,12 +51,12 @@ room_is rs n part all r lt is room =
     leb-true (range_size r * part) all (sym (ap (λ o. has_room o part all) (slice_get-get_or rs n r lt ∙ ap Some (sym is))) ∙ room)
 
 -- a place goes into a place slot of its length
-pub put_place_is : (s : State) (n frame first l : ℕ) → slice_get (last_frame s.now).kinds n ≡ Some (slot.Place l) → put_place s n frame (λ _. first) ≡ went (with_slot s n (cell.Place (record { frame = frame; slot = first; len = l })))
-put_place_is s n frame first l is = ap (λ o. to_place o s (λ l. went (with_slot s n (cell.Place (record { frame = frame; slot = first; len = l }))))) is
+pub put_place_is : (s : State) (n frame first l : ℕ) → slice_get (last_frame s.now).kinds n ≡ Some (slot.Place l) → put_place s n frame (λ _. first) ≡ quiet_step (with_slot s n (cell.Place (record { frame = frame; slot = first; len = l })))
+put_place_is s n frame first l is = ap (λ o. to_place o s (λ l. quiet_step (with_slot s n (cell.Place (record { frame = frame; slot = first; len = l }))))) is
 
 -- a place whose first cell depends on the length of its slot
 pub put_place_at : (now : List PlainFrame) (s : State) (n frame l : ℕ) (first : ℕ → ℕ) → s.now ≡ now → slice_get (last_frame now).kinds n ≡ Some (slot.Place l) → put_place s n frame first ≡ put_place s n frame (λ _. first l)
 put_place_at now s n frame l first same is =
-    let put = λ (g : ℕ → ℕ) (l : ℕ). went (with_slot s n (cell.Place (record { frame = frame; slot = g l; len = l }))) in
+    let put = λ (g : ℕ → ℕ) (l : ℕ). quiet_step (with_slot s n (cell.Place (record { frame = frame; slot = g l; len = l }))) in
     let kind : slice_get (last_frame s.now).kinds n ≡ Some (slot.Place l) = ap (λ fs. slice_get (last_frame fs).kinds n) same ∙ is in
     ap (λ o. to_place o s (put first)) kind ∙ sym (ap (λ o. to_place o s (put (λ _. first l))) kind)

@@ -14,7 +14,7 @@ use Rattle.alma_code.specs.declared.cell.Cell.{Cell}
 use Rattle.alma_code.specs.declared.cell.Cell.TheVariants as cell
 use Rattle.alma_code.specs.declared.cell.CellPlace.{CellPlace}
 use Rattle.alma_code.specs.Fits.{IsPosition}
-use Rattle.alma_code.specs.Machine.{State, Stepped, position, as_position, char_found, found, took, ranged, faulted, store, went, with_cell}
+use Rattle.alma_code.specs.Machine.{State, Stepped, position, as_position, byte_or_failure, found, take_input, range_check, ends_in_fault, store, quiet_step, with_cell}
 use Rattle.alma_code.specs.Picture.{PlainFrame, no_frame, cell_at}
 use Rattle.alma_engine.specs.Inputs.{HasPosition, IsBelow}
 use Rattle.alma_engine.specs.Rows.{HasNumberIn}
@@ -109,22 +109,22 @@ position_slot now h = h.number
 pub ruleset positions = (position_is, position_held, position_slot)
 
 -- a byte is read as a number
-pub byte_read : (o : Option ℕ) (s : State) (r : Range) (p : CellPlace) (at byte : ℕ) → o ≡ Some byte → char_found s r p at o ≡ found s r p (Number (pos byte) (at + 1))
-byte_read o s r p at byte is = ap (char_found s r p at) is
+pub byte_read : (o : Option ℕ) (s : State) (r : Range) (p : CellPlace) (at byte : ℕ) → o ≡ Some byte → byte_or_failure s r p at o ≡ found s r p (Number (pos byte) (at + 1))
+byte_read o s r p at byte is = ap (byte_or_failure s r p at) is
 
 -- ---- what is taken
 
 -- a number in the range goes to its place, and the position behind it
 pub took_is : (s : State) (r : Range) (p : CellPlace) (v : ℤ) (behind : ℕ) → within r v ≡ true → HasNumberIn s.now 0 0 → HasNumberIn s.now p.frame p.slot
-    → took s r p v behind ≡ went (with_cell (with_cell s 0 0 (cell.Int (pos behind))) p.frame p.slot (cell.Int v))
+    → take_input s r p v behind ≡ quiet_step (with_cell (with_cell s 0 0 (cell.Int (pos behind))) p.frame p.slot (cell.Int v))
 took_is s r p v behind inside zero there =
     let t = with_cell s 0 0 (cell.Int (pos behind)) in
-    ap (λ b. if_true b (λ _. store s 0 0 (pos behind) (λ t. store t p.frame p.slot v went)) (λ _. faulted fault.Range s)) inside
-    ∙ store_is s 0 0 (pos behind) (λ t. store t p.frame p.slot v went) zero
-    ∙ store_is t p.frame p.slot v went (number_stays s.now 0 0 (pos behind) p.frame p.slot there)
+    ap (λ b. if_true b (λ _. store s 0 0 (pos behind) (λ t. store t p.frame p.slot v quiet_step)) (λ _. ends_in_fault fault.Range s)) inside
+    ∙ store_is s 0 0 (pos behind) (λ t. store t p.frame p.slot v quiet_step) zero
+    ∙ store_is t p.frame p.slot v quiet_step (number_stays s.now 0 0 (pos behind) p.frame p.slot there)
 
 -- one outside ends the run
-pub took_out : (s : State) (r : Range) (p : CellPlace) (v : ℤ) (behind : ℕ) → within r v ≡ false → took s r p v behind ≡ faulted fault.Range s
-took_out s r p v behind out = ap (λ b. if_true b (λ _. store s 0 0 (pos behind) (λ t. store t p.frame p.slot v went)) (λ _. faulted fault.Range s)) out
+pub took_out : (s : State) (r : Range) (p : CellPlace) (v : ℤ) (behind : ℕ) → within r v ≡ false → take_input s r p v behind ≡ ends_in_fault fault.Range s
+took_out s r p v behind out = ap (λ b. if_true b (λ _. store s 0 0 (pos behind) (λ t. store t p.frame p.slot v quiet_step)) (λ _. ends_in_fault fault.Range s)) out
 
 pub ruleset takes = (took_is, took_out, number_stays)

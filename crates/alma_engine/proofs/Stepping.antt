@@ -11,7 +11,7 @@ use Rattle.alma_code.specs.Layout.{start_frame}
 use Rattle.alma_code.specs.Picture.{PlainFrame, PlainEntry}
 use Rattle.alma_code.specs.Rules.{IsSound}
 use Rattle.alma_code.proofs.Runs.{start_fits, stays_fit}
-use Rattle.alma_code.specs.Machine.{Mode, State, start, Going, Failing, step, step_in, act, fetched, ticked, pop}
+use Rattle.alma_code.specs.Machine.{Mode, State, start, Going, Failing, step, step_in, act, fetched, with_step_counted, pop}
 use Rattle.alma_code.specs.Plain.{PlainCode, head_at}
 use Rattle.alma_engine.specs.Needs.{Needs, HasOnlyBuilt, is_built}
 use Rattle.alma_engine.specs.Stands.{Stands}
@@ -43,7 +43,7 @@ done_is (Err fault) bytes new code input s i going is h = tt
 pub ruleset taken = (inside, finds)
 
 -- a step of a failing machine is a pop
-pub step_failing : (code : PlainCode) (input : List ℕ) (s : State) → s.mode ≡ Failing → step code input s ≡ pop (ticked code input s)
+pub step_failing : (code : PlainCode) (input : List ℕ) (s : State) → s.mode ≡ Failing → step code input s ≡ pop (with_step_counted code input s)
 step_failing code input s failing = ap (λ m. step_in code input m s) failing
 
 pub ruleset steps = (step_failing)

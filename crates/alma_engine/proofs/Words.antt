@@ -18,7 +18,7 @@ use Rattle.alma_code.specs.declared.cell.CellPlace.{CellPlace}
 use Rattle.alma_code.specs.declared.cell.SlotKind.TheVariants as slot
 use Rattle.alma_code.specs.declared.step.Step.{Step}
 use Rattle.alma_code.specs.Fits.{IsContent}
-use Rattle.alma_code.specs.Machine.{State, Stepped, number, place, content, as_content, as_number, as_place, faulted, put_number, to_number, went, stuck, store, with_slot, with_cell}
+use Rattle.alma_code.specs.Machine.{State, Stepped, number, place, content, as_content, as_number, as_place, ends_in_fault, put_number, to_number, quiet_step, stuck, store, with_slot, with_cell}
 use Rattle.alma_code.specs.Picture.{PlainFrame, no_frame, last_frame, cell_at}
 use Rattle.alma_engine.specs.View.{stepped}
 use Rattle.alma_engine.specs.Rows.{HasSlot, HasNumber, HasNumberIn, IsCells, HoldsCells, Gives, put_or_fault}
@@ -36,7 +36,7 @@ pub reads_number : (now : List PlainFrame) (n : ℕ) (v : ℤ) (s : State) (k : 
 reads_number now n v s k is same = ap (λ fs. as_number (slice_get (last_frame fs).cells n) s k) same ∙ ap (λ o. as_number o s k) is
 
 -- an unknown number is read
-pub reads_unknown : (now : List PlainFrame) (n : ℕ) (s : State) (k : ℤ → Stepped) → slice_get (last_frame now).cells n ≡ Some cell.Unknown → s.now ≡ now → number s n k ≡ faulted fault.Unknown s
+pub reads_unknown : (now : List PlainFrame) (n : ℕ) (s : State) (k : ℤ → Stepped) → slice_get (last_frame now).cells n ≡ Some cell.Unknown → s.now ≡ now → number s n k ≡ ends_in_fault fault.Unknown s
 reads_unknown now n s k is same = ap (λ fs. as_number (slice_get (last_frame fs).cells n) s k) same ∙ ap (λ o. as_number o s k) is
 
 -- a place is read
@@ -44,7 +44,7 @@ pub reads_place : (now : List PlainFrame) (n : ℕ) (p : CellPlace) (s : State) 
 reads_place now n p s k is same = ap (λ fs. as_place (slice_get (last_frame fs).cells n) s k) same ∙ ap (λ o. as_place o s k) is
 
 -- a place that is not there is read
-pub reads_unset : (now : List PlainFrame) (n : ℕ) (s : State) (k : CellPlace → Stepped) → slice_get (last_frame now).cells n ≡ Some cell.Unset → s.now ≡ now → place s n k ≡ faulted fault.Unknown s
+pub reads_unset : (now : List PlainFrame) (n : ℕ) (s : State) (k : CellPlace → Stepped) → slice_get (last_frame now).cells n ≡ Some cell.Unset → s.now ≡ now → place s n k ≡ ends_in_fault fault.Unknown s
 reads_unset now n s k is same = ap (λ fs. as_place (slice_get (last_frame fs).cells n) s k) same ∙ ap (λ o. as_place o s k) is
 
 pub ruleset numbers = (content_read, reads_number, reads_unknown)
@@ -170,8 +170,8 @@ store_is s f n v k h = ap (λ o. if_true (is_number o) (λ _. k (with_cell s f n
 -- ---- writes
 
 -- a number goes into a number slot
-pub put_is : (s : State) (n : ℕ) (v : ℤ) → HasNumber s.now n → put_number s n v ≡ went (with_slot s n (cell.Int v))
-put_is s n v h = ap (λ o. to_number o s (λ _. went (with_slot s n (cell.Int v)))) h.kind
+pub put_is : (s : State) (n : ℕ) (v : ℤ) → HasNumber s.now n → put_number s n v ≡ quiet_step (with_slot s n (cell.Int v))
+put_is s n v h = ap (λ o. to_number o s (λ _. quiet_step (with_slot s n (cell.Int v)))) h.kind
 
 -- a number slot is a slot
 pub number_is_slot : (now : List PlainFrame) (n : ℕ) → HasNumber now n → HasSlot now n

@@ -11,7 +11,7 @@ use Rattle.alma_code.specs.declared.instr.Instr.{Instr}
 use Rattle.alma_code.specs.declared.instr.Instr.TheVariants as I
 use Rattle.alma_code.specs.Carries.{IsLive}
 use Rattle.alma_code.specs.Layout.{FitsParam, FitsParams, no_param}
-use Rattle.alma_code.specs.Machine.{State, Stepped, slot_of, as_argument, arguments, numbers_at, faulted, left, result_to}
+use Rattle.alma_code.specs.Machine.{State, Stepped, slot_of, as_argument, arguments, numbers_at, ends_in_fault, left, result_to}
 use Rattle.alma_code.specs.Picture.{PlainFrame, last_frame, without_last}
 use Rattle.alma_code.specs.Plain.{PlainCode}
 use Rattle.alma_engine.specs.Rows.{HasNumber}
@@ -57,13 +57,13 @@ pub record IsArgument (now : List PlainFrame) (p : CodeParam) (n : ℕ) (c : Cel
 abbrev pub GivesArgument : List PlainFrame → CodeParam → ℕ → Result Cell RunFault → Type 0
 GivesArgument now p n result = MatchResult result
     (λ c. IsArgument now p n c)
-    (λ f. (s : State) (k : Cell → Stepped) → s.now ≡ now → as_argument p.kind p.cells (slot_of s n) s k ≡ faulted f s)
+    (λ f. (s : State) (k : Cell → Stepped) → s.now ≡ now → as_argument p.kind p.cells (slot_of s n) s k ≡ ends_in_fault f s)
 
 -- reading all arguments goes on with cells that fit their parameters, or ends in the fault
 abbrev pub GivesArguments : List PlainFrame → List CodeParam → (first : ℕ) → Option RunFault → List Cell → Type 0
 GivesArguments now params first None args =
     FitsParams (IsLive now) (λ _. IsLive now) params args × ((s : State) (k : List Cell → Stepped) → s.now ≡ now → arguments params s first k ≡ k args)
-GivesArguments now params first (Some f) args = (s : State) (k : List Cell → Stepped) → s.now ≡ now → arguments params s first k ≡ faulted f s
+GivesArguments now params first (Some f) args = (s : State) (k : List Cell → Stepped) → s.now ≡ now → arguments params s first k ≡ ends_in_fault f s
 
 -- the top frame can return a number: it was called, and the caller has a slot for it
 pub record CallsBack (code : PlainCode) (now : List PlainFrame) : Type 0 where
@@ -79,4 +79,4 @@ pub record CallsBack (code : PlainCode) (now : List PlainFrame) : Type 0 where
 -- the number goes to the slot that the instruction names, or the run ends in the fault
 abbrev pub back_or_fault : Option Instr → State → Result ℤ RunFault → Stepped
 back_or_fault o s (Ok v) = result_to o (left s) v
-back_or_fault o s (Err f) = faulted f s
+back_or_fault o s (Err f) = ends_in_fault f s

@@ -2,7 +2,7 @@
 use Rattle.std.specs.Prelude.{◌≡◌, ◌+◌, ◌≤◌, ◌<◌, ◌^◌, ℕ, ℤ, List, [], Option, Some, None}
 use Rattle.alma_base.specs.declared.fault.RunFault.TheVariants as fault
 use Rattle.alma_base.specs.declared.number.Range.{Range}
-use Rattle.alma_code.specs.Machine.{State, Stepped, faulted, ranged_if, store}
+use Rattle.alma_code.specs.Machine.{State, Stepped, ends_in_fault, optional_range_check, store}
 use Rattle.alma_code.specs.Picture.{PlainFrame}
 use Rattle.alma_engine.specs.declared.equations.Met.{Met}
 use Rattle.alma_engine.specs.declared.equations.Met.TheVariants.{Holds, Ends}
@@ -16,8 +16,8 @@ Meets (Ends step) word new = (k : State → Stepped) → word k ≡ stepped step
 
 -- a number slot gets a number that is known and in the range
 abbrev pub given : State → (f i : ℕ) → Option Range → Option ℤ → (State → Stepped) → Stepped
-given s f i r None k = faulted fault.Unknown s
-given s f i r (Some v) k = ranged_if r s v (λ _. store s f i v k)
+given s f i r None k = ends_in_fault fault.Unknown s
+given s f i r (Some v) k = optional_range_check r s v (λ _. store s f i v k)
 
 -- it counts no step, and where it goes on the mode and the counts stay
 abbrev pub MeetsOn : Met → State → State → Type 0

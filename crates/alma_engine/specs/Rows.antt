@@ -10,7 +10,7 @@ use Rattle.alma_code.specs.declared.cell.SlotKind.TheVariants as slot
 use Rattle.alma_code.specs.declared.step.Step.{Step}
 use Rattle.alma_code.specs.Fits.{IsContent}
 use Rattle.alma_code.specs.Kinds.{is_place, is_link}
-use Rattle.alma_code.specs.Machine.{Mode, Going, Failing, Ended, State, Stepped, number, place, content, link, mark, slot_in, as_place, put_number, put_place, put_link, went, faulted}
+use Rattle.alma_code.specs.Machine.{Mode, Going, Failing, Ended, State, Stepped, number, place, content, link, mark, slot_in, as_place, put_number, put_place, put_link, quiet_step, ends_in_fault}
 use Rattle.alma_code.specs.Picture.{PlainFrame, no_frame, last_frame}
 use Rattle.alma_code.specs.Rules.{place_length}
 use Rattle.alma_engine.specs.declared.places.Spot.{Spot}
@@ -151,13 +151,13 @@ IsNumbered number = (nat_eq number 5 || nat_eq number 6) ≡ true
 abbrev pub Gives : List PlainFrame → (State → (ℤ → Stepped) → Stepped) → Result ℤ RunFault → Type 0
 Gives now word result = MatchResult result
     (λ v. (s : State) (k : ℤ → Stepped) → s.now ≡ now → word s k ≡ k v)
-    (λ f. (s : State) (k : ℤ → Stepped) → s.now ≡ now → word s k ≡ faulted f s)
+    (λ f. (s : State) (k : ℤ → Stepped) → s.now ≡ now → word s k ≡ ends_in_fault f s)
 
 -- reading a place goes on with a place of live number slots, or ends in the fault
 abbrev pub GivesPlace : List PlainFrame → ℕ → Result CellPlace RunFault → Type 0
 GivesPlace now n result = MatchResult result
     (λ p. IsCells now (width now n) p × ((s : State) (k : CellPlace → Stepped) → s.now ≡ now → place s n k ≡ k p))
-    (λ f. (s : State) (k : CellPlace → Stepped) → s.now ≡ now → place s n k ≡ faulted f s)
+    (λ f. (s : State) (k : CellPlace → Stepped) → s.now ≡ now → place s n k ≡ ends_in_fault f s)
 
 -- a counter is counted on: the run goes out where the next number is beyond the limit
 abbrev pub counted : State → (counter limit by : ℕ) → (out : Stepped) → (ℤ → Stepped) → Stepped
@@ -173,7 +173,7 @@ next_or out k None = out
 abbrev pub GivesNext : List PlainFrame → (counter limit by : ℕ) → Result (Option ℤ) RunFault → Type 0
 GivesNext now counter limit by result = MatchResult result
     (λ next. (s : State) (out : Stepped) (k : ℤ → Stepped) → s.now ≡ now → counted s counter limit by out k ≡ next_or out k next)
-    (λ f. (s : State) (out : Stepped) (k : ℤ → Stepped) → s.now ≡ now → counted s counter limit by out k ≡ faulted f s)
+    (λ f. (s : State) (out : Stepped) (k : ℤ → Stepped) → s.now ≡ now → counted s counter limit by out k ≡ ends_in_fault f s)
 
 -- looking at a number slot of a frame goes on with what it knows
 abbrev pub GivesContent : List PlainFrame → (frame n : ℕ) → Option ℤ → Type 0
@@ -182,35 +182,35 @@ GivesContent now frame n result = (s : State) (k : Option ℤ → Stepped) → s
 -- the number goes into the slot, or the run ends in the fault
 abbrev pub put_or_fault : State → ℕ → Result ℤ RunFault → Stepped
 put_or_fault s n (Ok v) = put_number s n v
-put_or_fault s n (Err f) = faulted f s
+put_or_fault s n (Err f) = ends_in_fault f s
 
 -- reading a slot of a frame for places or links goes on with what it holds, or ends in the fault
 abbrev pub GivesHeld : List PlainFrame → (frame n : ℕ) → Result CellPlace RunFault → Type 0
 GivesHeld now frame n result = MatchResult result
     (λ p. (s : State) (k : CellPlace → Stepped) → s.now ≡ now → as_place (slot_in s frame n) s k ≡ k p)
-    (λ f. (s : State) (k : CellPlace → Stepped) → s.now ≡ now → as_place (slot_in s frame n) s k ≡ faulted f s)
+    (λ f. (s : State) (k : CellPlace → Stepped) → s.now ≡ now → as_place (slot_in s frame n) s k ≡ ends_in_fault f s)
 
 -- reading a link goes on with the frame of what the slot holds, or ends in the fault
 abbrev pub GivesLink : List PlainFrame → ℕ → Result ℕ RunFault → Type 0
 GivesLink now n result = MatchResult result
     (λ f. ((m : ℕ) → LeadsTo now n m → HasPlaceIn now f m) × ((s : State) (k : ℕ → Stepped) → s.now ≡ now → link s n k ≡ k f))
-    (λ f. (s : State) (k : ℕ → Stepped) → s.now ≡ now → link s n k ≡ faulted f s)
+    (λ f. (s : State) (k : ℕ → Stepped) → s.now ≡ now → link s n k ≡ ends_in_fault f s)
 
 -- reading a mark goes on with the height, or ends in the fault
 abbrev pub GivesMark : List PlainFrame → ℕ → Result ℕ RunFault → Type 0
 GivesMark now n result = MatchResult result
     (λ h. (s : State) (k : ℕ → Stepped) → s.now ≡ now → mark s n k ≡ k h)
-    (λ f. (s : State) (k : ℕ → Stepped) → s.now ≡ now → mark s n k ≡ faulted f s)
+    (λ f. (s : State) (k : ℕ → Stepped) → s.now ≡ now → mark s n k ≡ ends_in_fault f s)
 
 -- the place that begins at a spot goes into the slot, or the run ends in the fault
 abbrev pub point_or_fault : State → ℕ → Result Spot RunFault → Stepped
 point_or_fault s n (Ok spot) = put_place s n spot.frame (λ _. spot.slot)
-point_or_fault s n (Err f) = faulted f s
+point_or_fault s n (Err f) = ends_in_fault f s
 
 -- the link goes into the slot, or the run ends in the fault
 abbrev pub link_or_fault : State → ℕ → Result ℕ RunFault → Stepped
 link_or_fault s n (Ok frame) = put_link s n frame
-link_or_fault s n (Err f) = faulted f s
+link_or_fault s n (Err f) = ends_in_fault f s
 
 -- a part of a step counts no step, its answer tells the mode, and it pushes and pops at most one entry
 abbrev pub KeepsOn : Step → State → State → Type 0

@@ -1,6 +1,6 @@
 // The cells at places: read, stored and bound.
 ghost use Rattle.std.specs.Prelude.{◌≡◌, [], IfOk, OnErr};
-ghost use Rattle.alma_code.specs.Machine.{number, place, content, store, bound, known, is_known, went};
+ghost use Rattle.alma_code.specs.Machine.{number, place, content, store, bound, known, is_known, quiet_step};
 ghost use Rattle.alma_base.specs.Numbers.{bit};
 ghost use Rattle.alma_engine.specs.Rows.{state_of, HasNumber, HasNumberIn, HasOneCell, Gives, KeepsOn};
 ghost use Rattle.alma_engine.specs.View.{stepped};
@@ -14,7 +14,7 @@ impl Registers {
     #[tactic(auto, using(crate::proofs::Words::store_is))]
     pub(crate) fn set(&mut self, frame: u32, slot: u32, number: i64) -> Result<Step, NoMemory>
         requires { HasNumberIn self.old.memory.now frame slot }
-        ensures ok { IfOk result (λ answer. stepped answer [] (state_of self.new) ≡ store (state_of self.old) frame slot number went) }
+        ensures ok { IfOk result (λ answer. stepped answer [] (state_of self.new) ≡ store (state_of self.old) frame slot number quiet_step) }
         ensures kept { IfOk result (λ answer. KeepsOn answer (state_of self.old) (state_of self.new)) }
         ensures refused { OnErr result (state_of self.new ≡ state_of self.old) }
     {
@@ -28,7 +28,7 @@ impl Registers {
         requires to { HasOneCell self.old.memory.now to }
         requires from { HasNumber self.old.memory.now from }
         ensures ok { let s = state_of self.old in
-            IfOk result (λ answer. stepped answer [] (state_of self.new) ≡ place s to (λ p. number s from (λ v. store s p.frame p.slot v went))) }
+            IfOk result (λ answer. stepped answer [] (state_of self.new) ≡ place s to (λ p. number s from (λ v. store s p.frame p.slot v quiet_step))) }
         ensures kept { IfOk result (λ answer. KeepsOn answer (state_of self.old) (state_of self.new)) }
         ensures refused { OnErr result (state_of self.new ≡ state_of self.old) }
     {

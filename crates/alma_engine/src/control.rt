@@ -3,7 +3,7 @@ ghost use Rattle.std.specs.Prelude.{◌≡◌, [], IfOk, OnErr};
 ghost use Rattle.alma_base.specs.Choice.{if_true};
 ghost use Rattle.alma_base.specs.declared.fault.RunFault.TheVariants as fault;
 ghost use Rattle.alma_base.specs.Numbers.{is_zero};
-ghost use Rattle.alma_code.specs.Machine.{number, put_number, ranged, went, goes_to, fails_now};
+ghost use Rattle.alma_code.specs.Machine.{number, put_number, range_check, quiet_step, goes_to, fails_now};
 ghost use Rattle.alma_engine.specs.Rows.{state_of, HasNumber, KeepsOn, counted};
 ghost use Rattle.alma_engine.specs.View.{stepped};
 
@@ -17,7 +17,7 @@ impl Registers {
     pub(crate) fn jump_zero(&mut self, value: u32, to: u32) -> Step
         requires { HasNumber self.old.memory.now value }
         ensures step { let s = state_of self.old in
-            stepped result [] (state_of self.new) ≡ number s value (λ v. if_true (is_zero v) (λ _. goes_to to s) (λ _. went s)) }
+            stepped result [] (state_of self.new) ≡ number s value (λ v. if_true (is_zero v) (λ _. goes_to to s) (λ _. quiet_step s)) }
         ensures kept { KeepsOn result (state_of self.old) (state_of self.new) }
     {
         match self.number(value) {
@@ -36,7 +36,7 @@ impl Registers {
     pub(crate) fn check(&mut self, value: u32) -> Step
         requires { HasNumber self.old.memory.now value }
         ensures step { let s = state_of self.old in
-            stepped result [] (state_of self.new) ≡ number s value (λ v. if_true (is_zero v) (λ _. fails_now s) (λ _. went s)) }
+            stepped result [] (state_of self.new) ≡ number s value (λ v. if_true (is_zero v) (λ _. fails_now s) (λ _. quiet_step s)) }
         ensures kept { KeepsOn result (state_of self.old) (state_of self.new) }
     {
         match self.number(value) {
@@ -55,7 +55,7 @@ impl Registers {
     pub(crate) fn in_range(&mut self, value: u32, range: &Range) -> Step
         requires { HasNumber self.old.memory.now value }
         ensures step { let s = state_of self.old in
-            stepped result [] (state_of self.new) ≡ number s value (λ v. ranged range.now fault.Range s v (λ _. went s)) }
+            stepped result [] (state_of self.new) ≡ number s value (λ v. range_check range.now fault.Range s v (λ _. quiet_step s)) }
         ensures kept { KeepsOn result (state_of self.old) (state_of self.new) }
     {
         match self.number_within(value, range, RunFault::Range) {

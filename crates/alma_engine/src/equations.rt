@@ -2,7 +2,7 @@
 ghost use Rattle.std.specs.Prelude.{◌≡◌, ◌+◌, ◌<◌, ◌≤◌, ℕ, [], ◌∷◌, Some, None, length, get_or, IfOk, OnErr, IsOk};
 ghost use Rattle.alma_code.specs.declared.cell.Cell.TheVariants as cell;
 ghost use Rattle.alma_code.specs.Fits.{IsContent};
-ghost use Rattle.alma_code.specs.Machine.{place, equated, equation, equations, copied, went};
+ghost use Rattle.alma_code.specs.Machine.{place, equation_of_contents, equation, equations, copied, quiet_step};
 ghost use Rattle.alma_code.specs.Picture.{cell_at};
 ghost use Rattle.alma_engine.specs.Rows.{state_of, HasCells, HasOneCell, HasNumberIn, IsCells, KeepsOn, KeepsNumbers, width};
 ghost use Rattle.alma_engine.specs.Meets.{Meets, MeetsOn, AreNumbers, given};
@@ -58,7 +58,7 @@ impl Registers {
         requires left { HasNumberIn self.old.memory.now left.frame left.slot }
         requires right { HasNumberIn self.old.memory.now right.frame right.slot }
         ensures ok { let s = state_of self.old in
-            IfOk result (λ met. Meets met (λ k. equated s left.frame left.slot left_range left_known right.frame right.slot right_range right_known k) (state_of self.new)) }
+            IfOk result (λ met. Meets met (λ k. equation_of_contents s left.frame left.slot left_range left_known right.frame right.slot right_range right_known k) (state_of self.new)) }
         ensures kept { IfOk result (λ met. MeetsOn met (state_of self.old) (state_of self.new)) }
         ensures refused { OnErr result (state_of self.new ≡ state_of self.old) }
         ensures stays { KeepsNumbers self.old.memory.now self.new.memory.now }
@@ -113,7 +113,7 @@ impl Registers {
         requires left { HasOneCell self.old.memory.now left }
         requires right { HasOneCell self.old.memory.now right }
         ensures ok { let s = state_of self.old in IfOk result (λ answer. stepped answer [] (state_of self.new)
-            ≡ place s left (λ p. place s right (λ q. equation s p.frame p.slot (Some left_range) q.frame q.slot (Some right_range) went))) }
+            ≡ place s left (λ p. place s right (λ q. equation s p.frame p.slot (Some left_range) q.frame q.slot (Some right_range) quiet_step))) }
         ensures kept { IfOk result (λ answer. KeepsOn answer (state_of self.old) (state_of self.new)) }
         ensures refused { OnErr result (state_of self.new ≡ state_of self.old) }
     {

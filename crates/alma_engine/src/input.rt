@@ -1,7 +1,7 @@
 // READ.
 ghost use Rattle.std.specs.Prelude.{◌≡◌, ◌<◌, ◌≤◌, ◌^◌, ℕ, [], length, slice_get, IfOk, OnErr, MatchOption};
 ghost use Rattle.alma_base.specs.Reading.{number_from};
-ghost use Rattle.alma_code.specs.Machine.{State, Stepped, place, position, found, char_found};
+ghost use Rattle.alma_code.specs.Machine.{State, Stepped, place, position, found, byte_or_failure};
 ghost use Rattle.alma_engine.specs.Rows.{state_of, HasOneCell, HasNumberIn, KeepsOn};
 ghost use Rattle.alma_engine.specs.Inputs.{HasPosition, IsBelow};
 ghost use Rattle.alma_engine.specs.View.{stepped};
@@ -27,7 +27,7 @@ fn find_number(input: &[u8], from: usize) -> ReadInt
 #[tactic(auto, using(crate::proofs::Reading::byte_read))]
 fn find_char(input: &[u8], from: usize) -> ReadInt
     requires { length input.now ≤ 16777216 }
-    ensures found { (s : State) (r : Range) (p : CellPlace) → char_found s r p from (slice_get input.now from) ≡ found s r p result }
+    ensures found { (s : State) (r : Range) (p : CellPlace) → byte_or_failure s r p from (slice_get input.now from) ≡ found s r p result }
     ensures below { IsBelow result }
 {
     match input.get(from) {
@@ -106,7 +106,7 @@ impl Registers {
         requires position { HasPosition self.old.memory.now }
         requires to { HasOneCell self.old.memory.now to }
         ensures ok { let s = state_of self.old in IfOk result (λ answer. stepped answer [] (state_of self.new)
-            ≡ place s to (λ p. position s (λ n. char_found s range.now p n (slice_get input.now n)))) }
+            ≡ place s to (λ p. position s (λ n. byte_or_failure s range.now p n (slice_get input.now n)))) }
         ensures kept { IfOk result (λ answer. KeepsOn answer (state_of self.old) (state_of self.new)) }
         ensures refused { OnErr result (state_of self.new ≡ state_of self.old) }
     {

@@ -3,7 +3,7 @@ ghost use Rattle.std.specs.Prelude.{◌≡◌, true, false, ◌+ℤ◌, ◌-ℤ�
 ghost use Rattle.alma_base.specs.Choice.{if_true};
 ghost use Rattle.alma_base.specs.declared.fault.RunFault.TheVariants as fault;
 ghost use Rattle.alma_base.specs.Numbers.{within, is_zero, int_eq, bit, div_down_of, mod_down_of, is_beyond};
-ghost use Rattle.alma_code.specs.Machine.{number, place, content, known, fitted, ranged, faulted};
+ghost use Rattle.alma_code.specs.Machine.{number, place, content, known, integer_result, range_check, ends_in_fault};
 ghost use Rattle.alma_engine.specs.Rows.{HasNumber, HasCells, HasOneCell, Gives, GivesPlace, GivesNext, GivesContent, HasNumberIn};
 
 use crate::registers::Registers;
@@ -52,7 +52,7 @@ impl Registers {
     pub(crate) fn sum(&self, left: u32, right: u32) -> Result<i64, RunFault>
         requires left { HasNumber self.now.memory.now left }
         requires right { HasNumber self.now.memory.now right }
-        ensures { Gives self.now.memory.now (λ s k. number s left (λ x. number s right (λ y. fitted s (x +ℤ y) k))) result }
+        ensures { Gives self.now.memory.now (λ s k. number s left (λ x. number s right (λ y. integer_result s (x +ℤ y) k))) result }
     {
         let x = self.number(left)?;
         let y = self.number(right)?;
@@ -64,7 +64,7 @@ impl Registers {
     pub(crate) fn difference(&self, left: u32, right: u32) -> Result<i64, RunFault>
         requires left { HasNumber self.now.memory.now left }
         requires right { HasNumber self.now.memory.now right }
-        ensures { Gives self.now.memory.now (λ s k. number s left (λ x. number s right (λ y. fitted s (x -ℤ y) k))) result }
+        ensures { Gives self.now.memory.now (λ s k. number s left (λ x. number s right (λ y. integer_result s (x -ℤ y) k))) result }
     {
         let x = self.number(left)?;
         let y = self.number(right)?;
@@ -76,7 +76,7 @@ impl Registers {
     pub(crate) fn product(&self, left: u32, right: u32) -> Result<i64, RunFault>
         requires left { HasNumber self.now.memory.now left }
         requires right { HasNumber self.now.memory.now right }
-        ensures { Gives self.now.memory.now (λ s k. number s left (λ x. number s right (λ y. fitted s (x *ℤ y) k))) result }
+        ensures { Gives self.now.memory.now (λ s k. number s left (λ x. number s right (λ y. integer_result s (x *ℤ y) k))) result }
     {
         let x = self.number(left)?;
         let y = self.number(right)?;
@@ -88,7 +88,7 @@ impl Registers {
     pub(crate) fn quotient(&self, left: u32, right: u32) -> Result<i64, RunFault>
         requires left { HasNumber self.now.memory.now left }
         requires right { HasNumber self.now.memory.now right }
-        ensures { Gives self.now.memory.now (λ s k. number s left (λ x. number s right (λ y. if_true (is_zero y) (λ _. faulted fault.ZeroDivide s) (λ _. fitted s (div_down_of x y) k)))) result }
+        ensures { Gives self.now.memory.now (λ s k. number s left (λ x. number s right (λ y. if_true (is_zero y) (λ _. ends_in_fault fault.ZeroDivide s) (λ _. integer_result s (div_down_of x y) k)))) result }
     {
         let x = self.number(left)?;
         let y = self.number(right)?;
@@ -103,7 +103,7 @@ impl Registers {
     pub(crate) fn rest(&self, left: u32, right: u32) -> Result<i64, RunFault>
         requires left { HasNumber self.now.memory.now left }
         requires right { HasNumber self.now.memory.now right }
-        ensures { Gives self.now.memory.now (λ s k. number s left (λ x. number s right (λ y. if_true (is_zero y) (λ _. faulted fault.ZeroDivide s) (λ _. fitted s (mod_down_of x y) k)))) result }
+        ensures { Gives self.now.memory.now (λ s k. number s left (λ x. number s right (λ y. if_true (is_zero y) (λ _. ends_in_fault fault.ZeroDivide s) (λ _. integer_result s (mod_down_of x y) k)))) result }
     {
         let x = self.number(left)?;
         let y = self.number(right)?;
@@ -117,7 +117,7 @@ impl Registers {
     #[tactic(auto, using(std::proofs::lemmas::Int::ints, std::proofs::lemmas::Grind::common_steps))]
     pub(crate) fn negated(&self, from: u32) -> Result<i64, RunFault>
         requires { HasNumber self.now.memory.now from }
-        ensures { Gives self.now.memory.now (λ s k. number s from (λ x. fitted s (neg_ℤ x) k)) result }
+        ensures { Gives self.now.memory.now (λ s k. number s from (λ x. integer_result s (neg_ℤ x) k)) result }
     {
         let x = self.number(from)?;
         x.checked_neg().ok_or(RunFault::Overflow)
@@ -201,7 +201,7 @@ impl Registers {
         fault: RunFault,
     ) -> Result<i64, RunFault>
         requires { HasNumber self.now.memory.now slot }
-        ensures number { Gives self.now.memory.now (λ s k. number s slot (λ v. ranged range.now fault s v (λ _. k v))) result }
+        ensures number { Gives self.now.memory.now (λ s k. number s slot (λ v. range_check range.now fault s v (λ _. k v))) result }
         ensures within { IfOk result (λ v. within range.now v ≡ true) }
     {
         let number = self.number(slot)?;

@@ -2,7 +2,7 @@
 ghost use Rattle.std.specs.Prelude.{◌≡◌, ◌+◌, ◌*◌, ◌^◌, ◌<◌, ◌≤◌, ◌-ℤ◌, ℕ, [], true, nat_abs, slice_get, Some, IfOk, OnErr, IsTrue};
 ghost use Rattle.alma_base.specs.declared.fault.RunFault.TheVariants as fault;
 ghost use Rattle.alma_base.specs.Numbers.{within, range_size};
-ghost use Rattle.alma_code.specs.Machine.{State, number, place, ranged, put_place};
+ghost use Rattle.alma_code.specs.Machine.{State, number, place, range_check, put_place};
 ghost use Rattle.alma_code.specs.Picture.{last_frame};
 ghost use Rattle.alma_engine.specs.Rows.{state_of, HasNumber, HasPlace, HasCells, KeepsOn, width, point_or_fault};
 ghost use Rattle.alma_engine.specs.View.{stepped};
@@ -114,7 +114,7 @@ impl Registers {
         requires index { HasNumber self.now.memory.now index }
         requires room { range_size range.now * width self.now.memory.now to ≤ width self.now.memory.now from }
         ensures { (s : State) → s.now ≡ self.now.memory.now
-            → place s from (λ p. number s index (λ v. ranged range.now fault.Index s v (λ _. put_place s to p.frame (λ l. p.slot + nat_abs (v -ℤ range.now.low) * l))))
+            → place s from (λ p. number s index (λ v. range_check range.now fault.Index s v (λ _. put_place s to p.frame (λ l. p.slot + nat_abs (v -ℤ range.now.low) * l))))
             ≡ point_or_fault s to result }
     {
         let place = self.place(from)?;

@@ -1,6 +1,6 @@
 // The state of the machine, and what ends or turns it.
 ghost use Rattle.std.specs.Prelude.{◌≡◌, [], IfOk, OnErr};
-ghost use Rattle.alma_code.specs.Machine.{ended, goes_to, fails_now, went, with_slot};
+ghost use Rattle.alma_code.specs.Machine.{ended, goes_to, fails_now, quiet_step, with_slot};
 ghost use Rattle.alma_engine.specs.Rows.{state_of, HasSlot, HasNumber, KeepsOn, put_or_fault};
 ghost use Rattle.alma_engine.specs.View.{stepped};
 
@@ -63,7 +63,7 @@ impl Registers {
     /// Puts a cell into a slot of the top frame.
     pub(crate) fn write(&mut self, to: u32, cell: Cell) -> Result<Step, NoMemory>
         requires { HasSlot self.old.memory.now to }
-        ensures ok { IfOk result (λ answer. stepped answer [] (state_of self.new) ≡ went (with_slot (state_of self.old) to cell)) }
+        ensures ok { IfOk result (λ answer. stepped answer [] (state_of self.new) ≡ quiet_step (with_slot (state_of self.old) to cell)) }
         ensures kept { IfOk result (λ answer. KeepsOn answer (state_of self.old) (state_of self.new)) }
         ensures refused { OnErr result (state_of self.new ≡ state_of self.old) }
     {

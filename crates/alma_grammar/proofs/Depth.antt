@@ -5,7 +5,7 @@ use Rattle.alma_tree.specs.declared.kind.Kind.{Kind}
 use Rattle.alma_tree.specs.declared.kind.Kind.TheVariants as kinds
 use Rattle.alma_tree.specs.Depth.{opens, closes, one_where, depth_from}
 use Rattle.alma_grammar.specs.Parts.{Part, next, all_skip}
-use Rattle.alma_grammar.specs.Reading.{reading, End, done, unexpected, too_deep, at_end, goes_on, moved, level}
+use Rattle.alma_grammar.specs.Reading.{reading, End, done, unexpected, too_deep, at_end, goes_on, next_depth, level}
 use Rattle.alma_grammar.specs.Filling.{WhereSome}
 use Rattle.alma_grammar.proofs.Nesting.{Behind, Nested, GoesOn, goes_on_nested}
 
@@ -37,7 +37,7 @@ record Moved (o c d : ℕ) (P : ℕ → Type 0) : Type 0 where
   nested : P d
 
 moves : (opening closing : Bool) (o c d : ℕ) (P : ℕ → Type 0) → (opening && closing) ≡ false → c + d ≡ o → d ≤ 100
-    → (opening && nat_lt 99 d) ≡ false → Behind opening closing d P → Moved (o + one_where opening) (c + one_where closing) (moved opening closing d) P
+    → (opening && nat_lt 99 d) ≡ false → Behind opening closing d P → Moved (o + one_where opening) (c + one_where closing) (next_depth opening closing d) P
 moves true false o c d P w e i h n =
     record { counted = omega arith; bounded = let x : d ≤ 99 = grind (arith, nat_tests) in omega arith; nested = n }
 moves true true o c d P w e i h n = absurd cc

@@ -8,7 +8,7 @@ use Rattle.alma_grammar.specs.Parts.{expr_tail, selector_tail, stmt_part, after_
 use Rattle.alma_grammar.specs.Parts.{returned_part, desig_tail, arm_part, arm_tail, high_part, label_tail, name_tail, array_tail, plain_part, plain_tail}
 use Rattle.alma_grammar.specs.Parts.{field_list_part, field_list_tail, const_tail, type_tail, var_tail, mode_part, formal_tail, params_part, params_inside}
 use Rattle.alma_grammar.specs.Parts.{result_part, decl_tail, body_part, next}
-use Rattle.alma_grammar.specs.Parts.{begins, may_skip, taken, next, all_skip, whole}
+use Rattle.alma_grammar.specs.Parts.{begins, may_skip, this_or_later, next, all_skip, whole}
 use Rattle.alma_grammar.specs.Filling.{used, Fill, spell_fill, Fills, spell_fills, shortest_fills, finish, WhereSome, and_then, open_after}
 use Rattle.alma_grammar.proofs.Begun.{Built, begun}
 
@@ -64,7 +64,7 @@ Before parts k later = (f : Fills later) → (g : Fills parts) × (spell_fills p
 
 before_from : (p : Part) (rest : List Part) (k : Kind) (b : Option (List Part)) → WhereSome b (Built p k rest)
     → (m : Bool) → (m ≡ true → Empty p) → (later : Option (List Part)) → WhereSome later (Before rest k)
-    → WhereSome (taken b m rest later) (Before (p ∷ rest) k)
+    → WhereSome (this_or_later b m rest later) (Before (p ∷ rest) k)
 before_from p rest k (Some parts) h m s later ih = λ f. let r = h f in ((r.0, r.1), r.2)
 before_from p rest k None h true s None ih = tt
 before_from p rest k None h true s (Some later) ih = λ f. let r = ih f in (((s refl).0, r.0), (s refl).1 _ ∙ r.1)

@@ -10,7 +10,7 @@ use Rattle.alma_grammar.specs.Parts.{returned_part, desig_tail, arm_part, arm_ta
 use Rattle.alma_grammar.specs.Parts.{field_list_part, field_list_tail, const_tail, type_tail, var_tail, mode_part, formal_tail, params_part, params_inside}
 use Rattle.alma_grammar.specs.Parts.{result_part, decl_tail, body_part, next}
 use Rattle.alma_grammar.specs.Parts.{if_same, begins}
-use Rattle.alma_grammar.specs.Parts.{may_skip, taken, next}
+use Rattle.alma_grammar.specs.Parts.{may_skip, this_or_later, next}
 use Rattle.alma_grammar.specs.Filling.{WhereSome}
 use Rattle.alma_grammar.proofs.SameKind.{same_kind}
 
@@ -387,7 +387,7 @@ GoesOn parts k later = (d : ℕ) → Nested d parts → Behind (opens k) (closes
 
 goes_from : (p : Part) (rest : List Part) (k : Kind) (b : Option (List Part)) → WhereSome b (Goes p k rest)
     → (m : Bool) → (m ≡ true → (d : ℕ) → Nested d (p ∷ rest) → Nested d rest) → (later : Option (List Part)) → WhereSome later (GoesOn rest k)
-    → WhereSome (taken b m rest later) (GoesOn (p ∷ rest) k)
+    → WhereSome (this_or_later b m rest later) (GoesOn (p ∷ rest) k)
 goes_from p rest k (Some parts) h m s later ih = h
 goes_from p rest k None h true s None ih = tt
 goes_from p rest k None h true s (Some later) ih = λ d n. ih d (s refl d n)

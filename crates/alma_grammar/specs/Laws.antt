@@ -13,8 +13,8 @@ abbrev pub EachTreeIsRead : Type 0
 EachTreeIsRead = (t : Module) → reading false (spelling t) 0 whole ≡ done
 
 -- The tokens read so far, followed by the shortest rest of each part that is still open, are the spelling of a tree.
-abbrev pub EachFrontIsFinished : Type 0
-EachFrontIsFinished = (ks : List Kind) → WhereSome (open_after ks whole) (λ parts. (t : Module) × (spelling t ≡ ks ++ finish parts))
+abbrev pub EachPrefixIsFinished : Type 0
+EachPrefixIsFinished = (ks : List Kind) → WhereSome (open_after ks whole) (λ parts. (t : Module) × (spelling t ≡ ks ++ finish parts))
 
 -- no tree's spelling goes on with the next token, or ends where none is left
 abbrev pub Stops : (front rest : List Kind) → Type 0

@@ -1,5 +1,5 @@
-pub mod Examples
 pub mod Filling
 pub mod Laws
 pub mod Parts
 pub mod Reading
+pub mod Worked

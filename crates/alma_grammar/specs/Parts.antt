@@ -369,14 +369,14 @@ may_skip _ = true
 -- ---- what is open after one more token
 
 -- a token goes to the first open part that it can begin; parts before that one are left out, where all of them may be
-abbrev pub taken : Option (List Part) → Bool → List Part → Option (List Part) → Option (List Part)
-taken (Some parts) may rest later = Some (parts ++ rest)
-taken None true rest later = later
-taken None false rest later = None
+abbrev pub this_or_later : Option (List Part) → Bool → List Part → Option (List Part) → Option (List Part)
+this_or_later (Some parts) may rest later = Some (parts ++ rest)
+this_or_later None true rest later = later
+this_or_later None false rest later = None
 
 abbrev pub next : List Part → Kind → Option (List Part)
 next [] k = None
-next (p ∷ rest) k = taken (begins p k) (may_skip p) rest (next rest k)
+next (p ∷ rest) k = this_or_later (begins p k) (may_skip p) rest (next rest k)
 
 abbrev pub all_skip : List Part → Bool
 all_skip [] = true

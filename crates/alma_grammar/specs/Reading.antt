@@ -10,14 +10,14 @@ pub data End : Type 0 where
   unexpected : (rest : List Kind) → End
   too_deep : (rest : List Kind) → End
 
-abbrev pub moved : (opening closing : Bool) → ℕ → ℕ
-moved true _ d = suc d
-moved false true d = pred d
-moved false false d = d
+abbrev pub next_depth : (opening closing : Bool) → ℕ → ℕ
+next_depth true _ d = suc d
+next_depth false true d = pred d
+next_depth false false d = d
 
 -- the depth behind a token
 abbrev pub level : ℕ → Kind → ℕ
-level d k = moved (opens k) (closes k) d
+level d k = next_depth (opens k) (closes k) d
 
 abbrev pub at_end : Bool → End
 at_end true = done

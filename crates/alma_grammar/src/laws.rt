@@ -1,6 +1,6 @@
 // Laws of the grammar, as contracts of functions without work.
-ghost use Rattle.alma_grammar.specs.Examples.{ExamplesAreReadSo};
-ghost use Rattle.alma_grammar.specs.Laws.{EachFrontIsFinished, EachProgramIsRead, EachTreeIsRead, ExactDepth, ExactEnds, ExactPlace, OneSpelling};
+ghost use Rattle.alma_grammar.specs.Worked.Examples.{ExamplesAreReadSo};
+ghost use Rattle.alma_grammar.specs.Laws.{EachPrefixIsFinished, EachProgramIsRead, EachTreeIsRead, ExactDepth, ExactEnds, ExactPlace, OneSpelling};
 
 /// Each tree's spelling is read to its end, however deep.
 pub fn each_tree_is_read()
@@ -9,7 +9,7 @@ pub fn each_tree_is_read()
 
 /// The tokens read so far, followed by the shortest rest of each part that is still open, are the spelling of a tree.
 pub fn each_front_is_finished()
-    ensures finished { EachFrontIsFinished }
+    ensures finished { EachPrefixIsFinished }
 {}
 
 /// Reading comes to the end at the programs and at nothing else.

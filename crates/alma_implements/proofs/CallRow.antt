@@ -6,7 +6,7 @@ use Rattle.alma_base.specs.declared.fault.RunFault.{RunFault}
 use Rattle.alma_base.specs.declared.fault.RunFault.TheVariants as fault
 use Rattle.alma_code.specs.declared.cell.Cell.{Cell}
 use Rattle.alma_code.specs.declared.instr.Instr.TheVariants as I
-use Rattle.alma_code.specs.Layout.{entered_frame}
+use Rattle.alma_code.specs.Layout.{frame_of_call}
 use Rattle.alma_code.specs.Picture.{PlainFrame, PlainEntry, last_frame, without_last, live_cells}
 use Rattle.alma_code.specs.Plain.{PlainCode, PlainRoutine, start_at}
 use Rattle.alma_code.specs.Machine.{State}
@@ -67,7 +67,7 @@ module _ (code : PlainCode) (input : List ℕ) where
   pub enter_goes : {A : Type 0} (F : Events NoYield → Events A) → ((f : RunFault) (l : ℕ) → F (Fault f l) ≡ Fault f l) → (p : Program) (line at r first to : ℕ) (now : List PlainFrame) (v : Store) (callee : PlainRoutine) (args : List Cell) (links : ℕ) (taken : List ArgValue) (body : Store → Events NoYield) (fits : Store → Flow A → State → Type 0) (c q : ℕ)
       → InstrAt code input line at (I.Call r first to) → slice_get code.routines r ≡ Some callee → CountsAlike p v now callee r
       → (held : List PlainEntry) (s : State) → IsAt at now held s → HoldsArguments code input callee first args s
-      → ((t : State) → IsAt (start_at code r) (now ++ entered_frame now callee.head r (at + 1) args ∷ []) held t → Goes code input line 0 24 fits held (F (body (v ++ frame_of v r links (routine_at p r) taken ∷ []))) t c q)
+      → ((t : State) → IsAt (start_at code r) (now ++ frame_of_call now callee.head r (at + 1) args ∷ []) held t → Goes code input line 0 24 fits held (F (body (v ++ frame_of v r links (routine_at p r) taken ∷ []))) t c q)
       → Goes code input line 0 24 fits held (F (enter p body r links v taken)) s (suc c) (suc q)
   enter_goes {A = A} F stays p line at r first to now v callee args links taken body fits c q i there alike held s is reads begins =
       by_depth (nat_lt (length now) 10000) refl (nat_le (live_cells now + callee.head.declared) 1048576) refl
@@ -87,14 +87,14 @@ module _ (code : PlainCode) (input : List ℕ) where
       is_so : (a b : Bool) → nat_lt (length now) 10000 ≡ a → nat_le (live_cells now + callee.head.declared) 1048576 ≡ b → choices a b ≡ F (enter p body r links v taken)
       is_so a b e f = sym (ap (λ x. choices x (nat_le (declared_cells p v + (routine_at p r).declared) 1048576)) (depth ∙ e) ∙ ap (λ y. choices a y) (room ∙ f))
 
-      faulted : (f : RunFault) → Faults code input line s f → Goes code input line 0 24 fits held (F (Fault f 0)) s (suc c) (suc q)
-      faulted f z = subst (λ x. Goes code input line 0 24 fits held x s (suc c) (suc q)) (sym (stays f 0)) (1, z.to, omega arith, z.silently, z.is, z.on_line)
+      ends_in_fault : (f : RunFault) → Faults code input line s f → Goes code input line 0 24 fits held (F (Fault f 0)) s (suc c) (suc q)
+      ends_in_fault f z = subst (λ x. Goes code input line 0 24 fits held x s (suc c) (suc q)) (sym (stays f 0)) (1, z.to, omega arith, z.silently, z.is, z.on_line)
 
       by_depth : (a : Bool) → nat_lt (length now) 10000 ≡ a → (b : Bool) → nat_le (live_cells now + callee.head.declared) 1048576 ≡ b → Goes code input line 0 24 fits held (F (enter p body r links v taken)) s (suc c) (suc q)
       by_depth false e b f =
-          subst (λ x. Goes code input line 0 24 fits held x s (suc c) (suc q)) (is_so false b e f) (faulted fault.DepthFull (depth_full code input line at r first to now held s callee args is i there reads e))
+          subst (λ x. Goes code input line 0 24 fits held x s (suc c) (suc q)) (is_so false b e f) (ends_in_fault fault.DepthFull (depth_full code input line at r first to now held s callee args is i there reads e))
       by_depth true e false f =
-          subst (λ x. Goes code input line 0 24 fits held x s (suc c) (suc q)) (is_so true false e f) (faulted fault.CellsFull (cells_full code input line at r first to now held s callee args is i there reads e f))
+          subst (λ x. Goes code input line 0 24 fits held x s (suc c) (suc q)) (is_so true false e f) (ends_in_fault fault.CellsFull (cells_full code input line at r first to now held s callee args is i there reads e f))
       by_depth true e true f =
           let z = call_step code input line at r first to now held s callee args is i there reads e f in
           subst (λ x. Goes code input line 0 24 fits held x s (suc c) (suc q)) (is_so true true e f)
@@ -104,7 +104,7 @@ module _ (code : PlainCode) (input : List ℕ) where
   pub call_row : (p : Program) (line at r first exit : ℕ) (now : List PlainFrame) (v : Store) (callee : PlainRoutine) (args : List Cell) (links : ℕ) (taken : List ArgValue) (body : Store → Events NoYield) (wb w : Ways NoYield) (q : ℕ)
       → InstrAt code input line at (I.Call r first 0) → slice_get code.routines r ≡ Some callee → CountsAlike p v now callee r
       -- the body at the level below, in the frame that the call pushes
-      → Runs code input line (start_at code r) exit (now ++ entered_frame now callee.head r (at + 1) args ∷ []) wb (body (v ++ frame_of v r links (routine_at p r) taken ∷ [])) q
+      → Runs code input line (start_at code r) exit (now ++ frame_of_call now callee.head r (at + 1) args ∷ []) wb (body (v ++ frame_of v r links (routine_at p r) taken ∷ [])) q
       → ((x : Store) (f : Flow NoYield) (t : State) → Leaves exit wb x f t → Returns (at + 1) w x t)
       → (held : List PlainEntry) (s : State) → IsAt at now held s → HoldsArguments code input callee first args s
       → Goes code input line 0 24 (Leaves (at + 1) w) held (as_test (enter p body r links v taken)) s 8 (suc q)

@@ -8,11 +8,11 @@ use Rattle.alma_code.specs.declared.cell.Cell.{Cell}
 use Rattle.alma_code.specs.declared.instr.Instr.TheVariants as I
 use Rattle.alma_code.specs.declared.step.Step.TheVariants as answer
 use Rattle.alma_code.specs.declared.step.End.TheVariants as end
-use Rattle.alma_code.specs.Layout.{entered_frame}
+use Rattle.alma_code.specs.Layout.{frame_of_call}
 use Rattle.alma_code.specs.Picture.{PlainFrame, PlainEntry, last_frame, without_last, live_cells}
 use Rattle.alma_code.specs.Lines.{line_at}
 use Rattle.alma_code.specs.Plain.{PlainCode, PlainRoutine, start_at}
-use Rattle.alma_code.specs.Machine.{State, Stepped, act, answered, step, arguments, entered, as_routine, returned, left, ended, faulted}
+use Rattle.alma_code.specs.Machine.{State, Stepped, act, answered, step, arguments, entered, as_routine, returned, left, ended, ends_in_fault}
 use Rattle.alma_implements.proofs.Frames.{IsAt}
 use Rattle.alma_implements.proofs.Steps.{InstrAt, does, passed, Faults, faults_now}
 use Rattle.alma_implements.proofs.ChoiceSteps.{GoesOn, answered_silently}
@@ -31,12 +31,12 @@ module _ (code : PlainCode) (input : List ℕ) where
         ∙ ap (λ o. as_routine o (passed code input s) (λ h. arguments h.params (passed code input s) first (λ xs. entered (passed code input s) r (start_at code r) h xs))) there
         ∙ reads (λ xs. entered (passed code input s) r (start_at code r) callee.head xs)
 
-    pub call_step : nat_lt (length now) 10000 ≡ true → nat_le (live_cells now + callee.head.declared) 1048576 ≡ true → GoesOn code input (start_at code r) (now ++ entered_frame now callee.head r (at + 1) args ∷ []) held s
+    pub call_step : nat_lt (length now) 10000 ≡ true → nat_le (live_cells now + callee.head.declared) 1048576 ≡ true → GoesOn code input (start_at code r) (now ++ frame_of_call now callee.head r (at + 1) args ∷ []) held s
     call_step few room =
         let p : State = passed code input s in
-        let t : State = record p { at = start_at code r; now = p.now ++ entered_frame p.now callee.head r p.at args ∷ [] } in
-        let deep : Stepped = faulted fault.DepthFull p in
-        let full : Stepped = faulted fault.CellsFull p in
+        let t : State = record p { at = start_at code r; now = p.now ++ frame_of_call p.now callee.head r p.at args ∷ [] } in
+        let deep : Stepped = ends_in_fault fault.DepthFull p in
+        let full : Stepped = ends_in_fault fault.CellsFull p in
         record {
           to = t;
           silently = answered_silently code input s t (answer.Called r (length p.now + 1))
@@ -46,7 +46,7 @@ module _ (code : PlainCode) (input : List ℕ) where
           is = record {
             mode = is.mode;
             here = refl;
-            frames = ap (λ z. z ++ entered_frame z callee.head r (s.at + 1) args ∷ []) is.frames ∙ ap (λ a. now ++ entered_frame now callee.head r (a + 1) args ∷ []) is.here;
+            frames = ap (λ z. z ++ frame_of_call z callee.head r (s.at + 1) args ∷ []) is.frames ∙ ap (λ a. now ++ frame_of_call now callee.head r (a + 1) args ∷ []) is.here;
             entries = is.entries;
           };
         }
@@ -55,17 +55,17 @@ module _ (code : PlainCode) (input : List ℕ) where
     depth_full many =
         let p : State = passed code input s in
         faults_now code input line s fault.DepthFull (ap (line_at code) is.here ∙ i.on_line)
-        (enters ∙ ap (λ b. if_true b (λ _. if_true (nat_le (live_cells p.now + callee.head.declared) 1048576) (λ _. answered (answer.Called r (length p.now + 1)) (record p { at = start_at code r; now = p.now ++ entered_frame p.now callee.head r p.at args ∷ [] })) (λ _. faulted fault.CellsFull p)) (λ _. faulted fault.DepthFull p))
+        (enters ∙ ap (λ b. if_true b (λ _. if_true (nat_le (live_cells p.now + callee.head.declared) 1048576) (λ _. answered (answer.Called r (length p.now + 1)) (record p { at = start_at code r; now = p.now ++ frame_of_call p.now callee.head r p.at args ∷ [] })) (λ _. ends_in_fault fault.CellsFull p)) (λ _. ends_in_fault fault.DepthFull p))
         (ap (λ z. nat_lt (length z) 10000) is.frames ∙ many))
 
     pub cells_full : nat_lt (length now) 10000 ≡ true → nat_le (live_cells now + callee.head.declared) 1048576 ≡ false → Faults code input line s fault.CellsFull
     cells_full few much =
         let p : State = passed code input s in
-        let t : State = record p { at = start_at code r; now = p.now ++ entered_frame p.now callee.head r p.at args ∷ [] } in
+        let t : State = record p { at = start_at code r; now = p.now ++ frame_of_call p.now callee.head r p.at args ∷ [] } in
         faults_now code input line s fault.CellsFull (ap (line_at code) is.here ∙ i.on_line)
         (enters
-        ∙ ap (λ b. if_true b (λ _. if_true (nat_le (live_cells p.now + callee.head.declared) 1048576) (λ _. answered (answer.Called r (length p.now + 1)) t) (λ _. faulted fault.CellsFull p)) (λ _. faulted fault.DepthFull p)) (ap (λ z. nat_lt (length z) 10000) is.frames ∙ few)
-        ∙ ap (λ b. if_true b (λ _. answered (answer.Called r (length p.now + 1)) t) (λ _. faulted fault.CellsFull p)) (ap (λ z. nat_le (live_cells z + callee.head.declared) 1048576) is.frames ∙ much))
+        ∙ ap (λ b. if_true b (λ _. if_true (nat_le (live_cells p.now + callee.head.declared) 1048576) (λ _. answered (answer.Called r (length p.now + 1)) t) (λ _. ends_in_fault fault.CellsFull p)) (λ _. ends_in_fault fault.DepthFull p)) (ap (λ z. nat_lt (length z) 10000) is.frames ∙ few)
+        ∙ ap (λ b. if_true b (λ _. answered (answer.Called r (length p.now + 1)) t) (λ _. ends_in_fault fault.CellsFull p)) (ap (λ z. nat_le (live_cells z + callee.head.declared) 1048576) is.frames ∙ much))
 
   -- the top frame is left
   pub return_step : (line : ℕ) (at : ℕ) (now : List PlainFrame) (held : List PlainEntry) (s : State) → IsAt at now held s → InstrAt code input line at I.Return → 2 ≤ length now → GoesOn code input (last_frame now).back (without_last now) held s

@@ -9,7 +9,7 @@ use Rattle.alma_code.specs.declared.cell.Cell.{Cell}
 use Rattle.alma_code.specs.declared.cell.Cell.TheVariants as cell
 use Rattle.alma_code.specs.declared.cell.SlotKind.{SlotKind}
 use Rattle.alma_code.specs.declared.cell.SlotKind.TheVariants as slot
-use Rattle.alma_code.specs.Carries.{number_at, overlaid}
+use Rattle.alma_code.specs.Carries.{number_at, frames_with_carry}
 use Rattle.alma_code.specs.Kinds.{is_number}
 use Rattle.alma_code.specs.Picture.{PlainFrame, last_frame, cell_at}
 use Rattle.alma_code.specs.Picture as picture
@@ -104,10 +104,10 @@ module _ (p : Program) (code : PlainCode) where
 
   module _ (least : ℕ) (v : Store) (now : List PlainFrame) (c : Carry Cell) (carry : Carry store.Cell) (stand : StandFor p code v now) (alike : Alike least v now c carry) where
     -- a slot that is not carried
-    laid_kept : (f s : ℕ) → carried_at f s c ≡ None → cell_at (overlaid now c) f s cell.Unset ≡ cell_at now f s cell.Unset
+    laid_kept : (f s : ℕ) → carried_at f s c ≡ None → cell_at (frames_with_carry now c) f s cell.Unset ≡ cell_at now f s cell.Unset
     laid_kept f s none = by (number_at now f s) refl
       where
-        by : (b : Bool) → number_at now f s ≡ b → cell_at (overlaid now c) f s cell.Unset ≡ cell_at now f s cell.Unset
+        by : (b : Bool) → number_at now f s ≡ b → cell_at (frames_with_carry now c) f s cell.Unset ≡ cell_at now f s cell.Unset
         by true e = overlaid_cell now c f s alike.rising (full_frames v now stand) e ∙ ap (λ o. or_else o (cell_at now f s cell.Unset)) none
         by false e = overlaid_other now c f s e
 
@@ -117,26 +117,26 @@ module _ (p : Program) (code : PlainCode) where
         ap is_number (slice_get-get_or (get_or now f picture.no_frame).kinds (shift_in p v f + i) slot.Mark (omega (arith, there, frame.within, frame.full)) ∙ ap Some e)
 
     -- a slot of a routine
-    pub laid_content : (f i : ℕ) (k : SlotKind) → f < length v → i < length (get_or v f store.no_frame).cells → kind_in v now f i ≡ k → SameContent p v k (store.cell_at (over v carry) f i) (cell_at (overlaid now c) f (shift_in p v f + i) cell.Unset)
+    pub laid_content : (f i : ℕ) (k : SlotKind) → f < length v → i < length (get_or v f store.no_frame).cells → kind_in v now f i ≡ k → SameContent p v k (store.cell_at (over v carry) f i) (cell_at (frames_with_carry now c) f (shift_in p v f + i) cell.Unset)
     laid_content f i slot.Number lt there e =
         let was : SameContent p v slot.Number (store.cell_at v f i) (cell_at now f (shift_in p v f + i) cell.Unset) = subst (λ k. SameContent p v k (store.cell_at v f i) (cell_at now f (shift_in p v f + i) cell.Unset)) e ((stand.frames f lt).cells i there) in
         let a = over_cell v carry f i alike.carry_rising lt there in
         let b = overlaid_cell now c f (shift_in p v f + i) alike.rising (full_frames v now stand) (kind_number f i slot.Number lt there e) in
-        subst (λ x. SameContent p v slot.Number x (cell_at (overlaid now c) f (shift_in p v f + i) cell.Unset)) (sym a)
+        subst (λ x. SameContent p v slot.Number x (cell_at (frames_with_carry now c) f (shift_in p v f + i) cell.Unset)) (sym a)
         (subst (SameContent p v slot.Number (or_else (carried_at f i carry) (store.cell_at v f i))) (sym b)
         (chosen_content v (carried_at f i carry) (carried_at f (shift_in p v f + i) c) (store.cell_at v f i) (cell_at now f (shift_in p v f + i) cell.Unset) (alike.numbers f i lt there e) was))
     laid_content f i (slot.Place l) lt there e =
         let was : SameContent p v (slot.Place l) (store.cell_at v f i) (cell_at now f (shift_in p v f + i) cell.Unset) = subst (λ k. SameContent p v k (store.cell_at v f i) (cell_at now f (shift_in p v f + i) cell.Unset)) e ((stand.frames f lt).cells i there) in
         let a = over_cell v carry f i alike.carry_rising lt there ∙ ap (λ o. or_else o (store.cell_at v f i)) (alike.places f i l lt there e) in
         let b = overlaid_other now c f (shift_in p v f + i) (kind_number f i (slot.Place l) lt there e) in
-        subst (λ x. SameContent p v (slot.Place l) x (cell_at (overlaid now c) f (shift_in p v f + i) cell.Unset)) (sym a) (subst (SameContent p v (slot.Place l) (store.cell_at v f i)) (sym b) was)
+        subst (λ x. SameContent p v (slot.Place l) x (cell_at (frames_with_carry now c) f (shift_in p v f + i) cell.Unset)) (sym a) (subst (SameContent p v (slot.Place l) (store.cell_at v f i)) (sym b) was)
     laid_content f i slot.Mark lt there e = absurd (subst (λ k. SameContent p v k (store.cell_at v f i) (cell_at now f (shift_in p v f + i) cell.Unset)) e ((stand.frames f lt).cells i there))
     laid_content f i (slot.Link r) lt there e = absurd (subst (λ k. SameContent p v k (store.cell_at v f i) (cell_at now f (shift_in p v f + i) cell.Unset)) e ((stand.frames f lt).cells i there))
 
     same_shift : (k : ℕ) → shift_in p (over v carry) k ≡ shift_in p v k
     same_shift k = ap (shift p) (over_routine v carry k)
 
-    pub laid_front : FrontAlike p code (length v) v (over v carry) now (overlaid now c)
+    pub laid_front : FrontAlike p code (length v) v (over v carry) now (frames_with_carry now c)
     laid_front = record {
       live = omega (arith, over_count v carry);
       routine = λ k lt. over_routine v carry k;
@@ -144,7 +144,7 @@ module _ (p : Program) (code : PlainCode) where
       kinds = λ k lt. (overlaid_form now c k).kinds;
     }
 
-    laid_same : (k : ℕ) → k < length v → SameFrame p code (over v carry) (get_or (over v carry) k store.no_frame) (get_or (overlaid now c) k picture.no_frame)
+    laid_same : (k : ℕ) → k < length v → SameFrame p code (over v carry) (get_or (over v carry) k store.no_frame) (get_or (frames_with_carry now c) k picture.no_frame)
     laid_same k lt =
         let was = stand.frames k lt in
         let form = overlaid_form now c k in
@@ -158,16 +158,16 @@ module _ (p : Program) (code : PlainCode) where
           cells = λ i there.
               let inside : i < length (get_or v k store.no_frame).cells = omega (arith, there, over_long v carry k) in
               let x = store.cell_at (over v carry) k i in
-              let y = cell_at (overlaid now c) k (shift_in p v k + i) cell.Unset in
+              let y = cell_at (frames_with_carry now c) k (shift_in p v k + i) cell.Unset in
               let content = content_moved p v (over v carry) (kind_in v now k i) x y same_shift (laid_content k i (kind_in v now k i) lt inside refl) in
-              subst (λ n. SameContent p (over v carry) (get_or (get_or (overlaid now c) k picture.no_frame).kinds (n + i) slot.Mark) x (cell_at (overlaid now c) k (n + i) cell.Unset)) (sym sh)
+              subst (λ n. SameContent p (over v carry) (get_or (get_or (frames_with_carry now c) k picture.no_frame).kinds (n + i) slot.Mark) x (cell_at (frames_with_carry now c) k (n + i) cell.Unset)) (sym sh)
               (subst (λ ks. SameContent p (over v carry) (get_or ks (shift_in p v k + i) slot.Mark) x y) (sym form.kinds) content);
           link = λ some.
               let some_v : 1 ≤ shift_in p v k = omega (arith, some, sh) in
               laid_kept k 0 (alike.links k 0 lt (omega (arith, some_v))) ∙ was.link some_v ∙ ap (λ n. cell.Place (link_to n)) (sym (over_link v carry k));
         }
 
-    pub laid_stands : StandFor p code (over v carry) (overlaid now c)
+    pub laid_stands : StandFor p code (over v carry) (frames_with_carry now c)
     laid_stands = record {
       count = overlaid_count now c ∙ stand.count ∙ sym (over_count v carry);
       some = omega (arith, stand.some, over_count v carry);
@@ -181,13 +181,13 @@ module _ (p : Program) (code : PlainCode) where
       declared = λ k lt. (overlaid_form now c k).declared ∙ stand.declared k (omega (arith, lt, over_count v carry)) ∙ ap (λ r. (routine_at p r).declared) (sym (over_routine v carry k));
       places = λ k i q lt e.
           let lv : k < length v = omega (arith, lt, over_count v carry) in
-          held_moved p code (length v) v (over v carry) now (overlaid now c) k i q laid_front lv (stand.places k i q lv (place_was k i q lv e));
+          held_moved p code (length v) v (over v carry) now (frames_with_carry now c) k i q laid_front lv (stand.places k i q lv (place_was k i q lv e));
       routines = λ k lt. omega (arith, stand.routines k (omega (arith, lt, over_count v carry)), over_routine v carry k);
       main = over_routine v carry 0 ∙ stand.main;
     }
       where
         by_kind : (k i : ℕ) (q : Place) (s : SlotKind) → k < length v → i < length (get_or v k store.no_frame).cells → kind_in v now k i ≡ s → store.cell_at (over v carry) k i ≡ At q → store.cell_at v k i ≡ At q
-        by_kind k i q slot.Number lt there is e = absurd (subst (λ x. SameContent p v slot.Number x (cell_at (overlaid now c) k (shift_in p v k + i) cell.Unset)) e (laid_content k i slot.Number lt there is))
+        by_kind k i q slot.Number lt there is e = absurd (subst (λ x. SameContent p v slot.Number x (cell_at (frames_with_carry now c) k (shift_in p v k + i) cell.Unset)) e (laid_content k i slot.Number lt there is))
         by_kind k i q (slot.Place l) lt there is e = sym (over_cell v carry k i alike.carry_rising lt there ∙ ap (λ o. or_else o (store.cell_at v k i)) (alike.places k i l lt there is)) ∙ e
         by_kind k i q slot.Mark lt there is e = absurd (laid_content k i slot.Mark lt there is)
         by_kind k i q (slot.Link r) lt there is e = absurd (laid_content k i (slot.Link r) lt there is)
@@ -198,7 +198,7 @@ module _ (p : Program) (code : PlainCode) where
           | inr past ↦ absurd (subst HoldsPlace (sym e ∙ get_or_past (get_or (over v carry) k store.no_frame).cells i Unknown (omega (arith, past, over_long v carry k))) tt)
         ]
 
-    laid_frame : (k lo : ℕ) → k < length v → (suc k < length v) ⊎ (lo ≤ least) → KeptBelow p code lo (get_or now k picture.no_frame) (get_or (overlaid now c) k picture.no_frame)
+    laid_frame : (k lo : ℕ) → k < length v → (suc k < length v) ⊎ (lo ≤ least) → KeptBelow p code lo (get_or now k picture.no_frame) (get_or (frames_with_carry now c) k picture.no_frame)
     laid_frame k lo lt where_ =
         let form = overlaid_form now c k in
         let was = stand.frames k lt in
@@ -223,12 +223,12 @@ module _ (p : Program) (code : PlainCode) where
         ]
 
     -- the frames over which the carry was laid, where the phrase's own slots begin at `least` or before
-    pub laid_fits : (lo : ℕ) → lo ≤ least → Fits p code lo now (over v carry) (overlaid now c)
+    pub laid_fits : (lo : ℕ) → lo ≤ least → Fits p code lo now (over v carry) (frames_with_carry now c)
     laid_fits lo le = record {
       stand = laid_stands;
       same_count = overlaid_count now c;
       top =
-          let last : length (overlaid now c) - 1 ≡ length now - 1 = ap (λ n. n - 1) (overlaid_count now c) in
-          subst (λ n. KeptBelow p code lo (last_frame now) (get_or (overlaid now c) n picture.no_frame)) (sym last) (laid_frame (length now - 1) lo (omega (arith, stand.count, stand.some)) (inr le));
+          let last : length (frames_with_carry now c) - 1 ≡ length now - 1 = ap (λ n. n - 1) (overlaid_count now c) in
+          subst (λ n. KeptBelow p code lo (last_frame now) (get_or (frames_with_carry now c) n picture.no_frame)) (sym last) (laid_frame (length now - 1) lo (omega (arith, stand.count, stand.some)) (inr le));
       others = λ k lt. laid_frame k (length (get_or now k picture.no_frame).cells) (omega (arith, lt, overlaid_count now c, stand.count)) (inl (omega (arith, lt, overlaid_count now c, stand.count)));
     }

@@ -11,10 +11,10 @@ use Rattle.alma_code.specs.declared.cell.SlotKind.TheVariants as slot
 use Rattle.alma_code.specs.declared.instr.Instr.TheVariants as I
 use Rattle.alma_code.specs.declared.step.Step.{Step}
 use Rattle.alma_code.specs.declared.step.Step.TheVariants as answer
-use Rattle.alma_code.specs.Picture.{PlainFrame, PlainEntry, no_entry, top_of, popped, last_frame}
+use Rattle.alma_code.specs.Picture.{PlainFrame, PlainEntry, no_entry, top_of, stack_after_pop, last_frame}
 use Rattle.alma_code.specs.Picture as picture
 use Rattle.alma_code.specs.Plain.{PlainCode}
-use Rattle.alma_code.specs.Machine.{State, Going, act, answered, step, step_in, popped_to, pushed, ticked, went, with_slot, to_mark, as_mark, cut_to, fell}
+use Rattle.alma_code.specs.Machine.{State, Going, act, answered, step, step_in, pop_or_end, pushed, with_step_counted, quiet_step, with_slot, to_mark, as_mark, cut_to, answer_of_fall}
 use Rattle.alma_implements.proofs.Goes.{Silently, IsFailing}
 use Rattle.alma_implements.proofs.Frames.{IsAt}
 use Rattle.alma_implements.proofs.Steps.{InstrAt, does, passed, top_written, Holds, HasKind, fail_step}
@@ -24,8 +24,8 @@ abbrev pub branch_entry : (resume : ℕ) → List PlainFrame → PlainEntry
 branch_entry resume now = record { kind = choice.Branch; resume = resume; frames = now; carry = [] }
 
 -- a pop of entries of which the last is known
-pub popped_last : (base : List PlainEntry) (e : PlainEntry) (s : State) → popped_to s (base ++ e ∷ []) ≡ answered (answer.Popped (length s.held))
-    (record s { mode = Going; at = (top_of s.held).resume; now = (top_of s.held).frames; held = popped s.held; fails = s.fails + 1 })
+pub popped_last : (base : List PlainEntry) (e : PlainEntry) (s : State) → pop_or_end s (base ++ e ∷ []) ≡ answered (answer.Popped (length s.held))
+    (record s { mode = Going; at = (top_of s.held).resume; now = (top_of s.held).frames; held = stack_after_pop s.held; fails = s.fails + 1 })
 popped_last [] e s = refl
 popped_last (b ∷ base) e s = refl
 
@@ -35,11 +35,11 @@ last_index base e = let n : length (base ++ e ∷ []) ≡ length base + 1 = leng
 pub top_last : (base : List PlainEntry) (e : PlainEntry) → top_of (base ++ e ∷ []) ≡ e
 top_last base e = ap (λ n. get_or (base ++ e ∷ []) n no_entry) (last_index base e) ∙ get_or-append_seam base e [] no_entry
 
-rest_last : (base : List PlainEntry) (resume : ℕ) (now : List PlainFrame) → popped (base ++ branch_entry resume now ∷ []) ≡ base
+rest_last : (base : List PlainEntry) (resume : ℕ) (now : List PlainFrame) → stack_after_pop (base ++ branch_entry resume now ∷ []) ≡ base
 rest_last base resume now =
-    ap (λ n. take n (base ++ branch_entry resume now ∷ []) ++ picture.left_of (top_of (base ++ branch_entry resume now ∷ []))) (last_index base (branch_entry resume now))
-    ∙ ap (λ xs. xs ++ picture.left_of (top_of (base ++ branch_entry resume now ∷ []))) (take-append_seam base (branch_entry resume now ∷ []))
-    ∙ ap (λ x. base ++ picture.left_of x) (top_last base (branch_entry resume now))
+    ap (λ n. take n (base ++ branch_entry resume now ∷ []) ++ picture.entry_after_pop (top_of (base ++ branch_entry resume now ∷ []))) (last_index base (branch_entry resume now))
+    ∙ ap (λ xs. xs ++ picture.entry_after_pop (top_of (base ++ branch_entry resume now ∷ []))) (take-append_seam base (branch_entry resume now ∷ []))
+    ∙ ap (λ x. base ++ picture.entry_after_pop x) (top_last base (branch_entry resume now))
     ∙ append-nil base
 
 module _ (code : PlainCode) (input : List ℕ) where
@@ -76,9 +76,9 @@ module _ (code : PlainCode) (input : List ℕ) where
   pub pop_step : (resume : ℕ) (now : List PlainFrame) (base : List PlainEntry) (u : State) → IsFailing (base ++ branch_entry resume now ∷ []) u → GoesOn resume now base u
   pop_step resume now base u failing =
       let e = branch_entry resume now in
-      let t : State = record (ticked code input u) { mode = Going; at = (top_of u.held).resume; now = (top_of u.held).frames; held = popped u.held; fails = u.fails + 1 } in
+      let t : State = record (with_step_counted code input u) { mode = Going; at = (top_of u.held).resume; now = (top_of u.held).frames; held = stack_after_pop u.held; fails = u.fails + 1 } in
       let is : step code input u ≡ answered (answer.Popped (length u.held)) t =
-      ap (λ m. step_in code input m u) failing.mode ∙ ap (popped_to (ticked code input u)) failing.entries ∙ popped_last base e (ticked code input u) in
+      ap (λ m. step_in code input m u) failing.mode ∙ ap (pop_or_end (with_step_counted code input u)) failing.entries ∙ popped_last base e (with_step_counted code input u) in
       let top : top_of u.held ≡ e = ap top_of failing.entries ∙ top_last base e in
       record {
         to = t;
@@ -87,7 +87,7 @@ module _ (code : PlainCode) (input : List ℕ) where
           mode = refl;
           here = ap (λ x. x.resume) top;
           frames = ap (λ x. x.frames) top;
-          entries = ap popped failing.entries ∙ rest_last base resume now;
+          entries = ap stack_after_pop failing.entries ∙ rest_last base resume now;
         };
       }
 
@@ -99,7 +99,7 @@ module _ (code : PlainCode) (input : List ℕ) where
     to = with_slot (passed code input s) m (cell.Mark (length s.held));
     silently = answered_silently s (with_slot (passed code input s) m (cell.Mark (length s.held))) answer.Went
         (does code input line at now held s (I.Mark m) is i
-        ∙ ap (λ o. to_mark o (passed code input s) (λ _. went (with_slot (passed code input s) m (cell.Mark (length s.held))))) (ap (λ z. slice_get (last_frame z).kinds m) is.frames ∙ kind));
+        ∙ ap (λ o. to_mark o (passed code input s) (λ _. quiet_step (with_slot (passed code input s) m (cell.Mark (length s.held))))) (ap (λ z. slice_get (last_frame z).kinds m) is.frames ∙ kind));
     is = record {
       mode = is.mode;
       here = ap (λ a. a + 1) is.here;
@@ -121,7 +121,7 @@ module _ (code : PlainCode) (input : List ℕ) where
       by true e = record {
         to = record (passed code input s) { held = take (length held) s.held };
         silently = answered_silently s (record (passed code input s) { held = take (length held) s.held }) (answer.Cut (length (take (length held) s.held)))
-            (cuts ∙ ap (λ b. if_true b (λ _. fell (record (passed code input s) { held = take (length held) s.held })) (λ _. went (passed code input s))) e);
+            (cuts ∙ ap (λ b. if_true b (λ _. answer_of_fall (record (passed code input s) { held = take (length held) s.held })) (λ _. quiet_step (passed code input s))) e);
         is = record {
           mode = is.mode;
           here = ap (λ a. a + 1) is.here;
@@ -132,7 +132,7 @@ module _ (code : PlainCode) (input : List ℕ) where
       by false e = record {
         to = passed code input s;
         silently = answered_silently s (passed code input s) answer.Went
-            (cuts ∙ ap (λ b. if_true b (λ _. fell (record (passed code input s) { held = take (length held) s.held })) (λ _. went (passed code input s))) e);
+            (cuts ∙ ap (λ b. if_true b (λ _. answer_of_fall (record (passed code input s) { held = take (length held) s.held })) (λ _. quiet_step (passed code input s))) e);
         is = record {
           mode = is.mode;
           here = ap (λ a. a + 1) is.here;

@@ -9,10 +9,10 @@ use Rattle.alma_mean.specs.Events.{Events, NoYield, first, end_of, visit_count, 
 use Rattle.alma_mean.specs.Meaning.{ev_program}
 use Rattle.alma_mean.specs.Laws.{Extends, on_visit, on_print, on_alt, at_fail, at_fault, at_cut}
 use Rattle.alma_mean.proofs.Results.{further}
-use Rattle.alma_implements.specs.Implements.{HasFront, nothing, a_visit, a_print, ComesTo, Implements, HasEnded, IsEnough, line_in, state_after, printed_by}
+use Rattle.alma_implements.specs.Implements.{HasPrefix, nothing, a_visit, a_print, ComesTo, Implements, HasEnded, IsEnough, line_in, state_after, printed_by}
 
 -- a front has at most as many visits as the whole
-front_within : {A : Type 0} {e : Events A} {printed : List ℕ} {visits : ℕ} → HasFront e printed visits → visits ≤ visit_count e
+front_within : {A : Type 0} {e : Events A} {printed : List ℕ} {visits : ℕ} → HasPrefix e printed visits → visits ≤ visit_count e
 front_within nothing = omega arith
 front_within (a_visit h) = omega (arith, front_within h)
 front_within (a_print h) = front_within h

@@ -9,13 +9,13 @@ use Rattle.alma_code.specs.Machine.{Mode, Going, Failing, Ended, Stuck, State, s
 use Rattle.alma_code.specs.Machine as machine
 use Rattle.alma_mean.specs.Store.{Store}
 use Rattle.alma_mean.specs.Events.{Events, NoYield, Flow, Visit, Print, Alt, Fail, Fault, Cut, first, end_of, prints, line_or, Faulted}
-use Rattle.alma_implements.specs.Implements.{HasFront, nothing, a_visit, a_print, meant_end, line_in}
+use Rattle.alma_implements.specs.Implements.{HasPrefix, nothing, a_visit, a_print, meant_end, line_in}
 use Rattle.alma_implements.proofs.Goes.{IsOn, IsFailing, IsGoing, Silently, Goes, after_sum, prints_sum}
 
 -- a front of the events with at least so many visits, where r steps were paid for before
 pub record CoversFrom {A : Type 0} (r n : ℕ) (e : Events A) (printed : List ℕ) : Type 0 where
   pub visits : ℕ
-  pub front : HasFront e printed visits
+  pub front : HasPrefix e printed visits
   pub paid : n ≤ r + 32 * visits
 
 -- what n steps may have come to
@@ -65,11 +65,11 @@ module _ (code : PlainCode) (input : List ℕ) where
       let ended : t.mode ≡ Ended x = ap (λ z. z.mode) (sym run ∙ (ended_stays j u x is).0) ∙ is in
       absurd (subst IsOn ended on)
   agrees_before r n j e u t printed run on none paid Going line is =
-      record { visits = 0; front = subst (λ b. HasFront e b 0) (sym none) nothing; paid = omega arith }
+      record { visits = 0; front = subst (λ b. HasPrefix e b 0) (sym none) nothing; paid = omega arith }
   agrees_before r n j e u t printed run on none paid Failing line is =
-      record { visits = 0; front = subst (λ b. HasFront e b 0) (sym none) nothing; paid = omega arith }
+      record { visits = 0; front = subst (λ b. HasPrefix e b 0) (sym none) nothing; paid = omega arith }
   agrees_before r n j e u t printed run on none paid Stuck line is =
-      record { visits = 0; front = subst (λ b. HasFront e b 0) (sym none) nothing; paid = omega arith }
+      record { visits = 0; front = subst (λ b. HasPrefix e b 0) (sym none) nothing; paid = omega arith }
 
   -- on the way to a state that has not ended
   on_the_way : {A : Type 0} (k n r : ℕ) (s t : State) (e : Events A) → n ≤ k → k ≤ r → Silently code input k s t → IsOn t.mode
@@ -111,17 +111,17 @@ module _ (code : PlainCode) (input : List ℕ) where
   print_agrees : {A : Type 0} (r n k : ℕ) (bytes : List ℕ) (e : Events A) (m : Mode) (line : ℕ) (printed whole : List ℕ) → k ≤ n → k ≤ r → whole ≡ bytes ++ printed → AgreesFrom (r - k) (n - k) e m line printed → AgreesFrom r n (Print bytes e) m line whole
   print_agrees r n k bytes e (Ended x) line printed whole kn kr is h = (h.0, ap (λ b. bytes ++ b) h.1 ∙ sym is)
   print_agrees r n k bytes e Going line printed whole kn kr is h =
-      record { visits = h.visits; front = subst (λ b. HasFront (Print bytes e) b h.visits) (sym is) (a_print h.front); paid = omega (arith, h.paid) }
+      record { visits = h.visits; front = subst (λ b. HasPrefix (Print bytes e) b h.visits) (sym is) (a_print h.front); paid = omega (arith, h.paid) }
   print_agrees r n k bytes e Failing line printed whole kn kr is h =
-      record { visits = h.visits; front = subst (λ b. HasFront (Print bytes e) b h.visits) (sym is) (a_print h.front); paid = omega (arith, h.paid) }
+      record { visits = h.visits; front = subst (λ b. HasPrefix (Print bytes e) b h.visits) (sym is) (a_print h.front); paid = omega (arith, h.paid) }
   print_agrees r n k bytes e Stuck line printed whole kn kr is h =
-      record { visits = h.visits; front = subst (λ b. HasFront (Print bytes e) b h.visits) (sym is) (a_print h.front); paid = omega (arith, h.paid) }
+      record { visits = h.visits; front = subst (λ b. HasPrefix (Print bytes e) b h.visits) (sym is) (a_print h.front); paid = omega (arith, h.paid) }
 
   -- a failing machine with no entry ends
   no_entry_ends : (t : State) → IsFailing [] t → ((step code input t).state.mode ≡ Ended end.Failed) × ((step code input t).printed ≡ [])
   no_entry_ends t h =
-      let is : step code input t ≡ machine.popped_to (machine.ticked code input t) [] =
-      ap (λ m. machine.step_in code input m t) h.mode ∙ ap (machine.popped_to (machine.ticked code input t)) h.entries in
+      let is : step code input t ≡ machine.pop_or_end (machine.with_step_counted code input t) [] =
+      ap (λ m. machine.step_in code input m t) h.mode ∙ ap (machine.pop_or_end (machine.with_step_counted code input t)) h.entries in
       (ap (λ z. z.state.mode) is, ap (λ z. z.printed) is)
 
   -- one step of a state where an alternative of the whole program leaves off ends in success
@@ -148,9 +148,9 @@ module _ (code : PlainCode) (input : List ℕ) where
           let same : Ended x ≡ Ended (end.Fault f) = sym is ∙ ap (λ z. z.mode) there ∙ h.4 in
           subst (λ m. AgreesFrom {A = NoYield} r n (Fault f own) m (line_in code (after code input n s)) (machine.prints code input n s)) (sym same)
           (ap (Faulted f) (own_line ∙ ap (line_in code) (sym there)), sym none)
-      at_n ge Going is none = record { visits = 0; front = subst (λ b. HasFront {A = NoYield} (Fault f own) b 0) (sym none) nothing; paid = omega (arith, h.2) }
-      at_n ge Failing is none = record { visits = 0; front = subst (λ b. HasFront {A = NoYield} (Fault f own) b 0) (sym none) nothing; paid = omega (arith, h.2) }
-      at_n ge Stuck is none = record { visits = 0; front = subst (λ b. HasFront {A = NoYield} (Fault f own) b 0) (sym none) nothing; paid = omega (arith, h.2) }
+      at_n ge Going is none = record { visits = 0; front = subst (λ b. HasPrefix {A = NoYield} (Fault f own) b 0) (sym none) nothing; paid = omega (arith, h.2) }
+      at_n ge Failing is none = record { visits = 0; front = subst (λ b. HasPrefix {A = NoYield} (Fault f own) b 0) (sym none) nothing; paid = omega (arith, h.2) }
+      at_n ge Stuck is none = record { visits = 0; front = subst (λ b. HasPrefix {A = NoYield} (Fault f own) b 0) (sym none) nothing; paid = omega (arith, h.2) }
 
       by : (h.0 < n) ⊎ (n ≤ h.0) → AgreesFrom {A = NoYield} r n (Fault f own) (after code input n s).mode (line_in code (after code input n s)) (machine.prints code input n s)
       by (inl lt) = let z = still h.1 (end.Fault f) h.4 in

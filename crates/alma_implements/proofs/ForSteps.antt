@@ -15,7 +15,7 @@ use Rattle.alma_code.specs.declared.instr.Instr.TheVariants as I
 use Rattle.alma_code.specs.Picture.{PlainFrame, PlainEntry, last_frame, written}
 use Rattle.alma_code.specs.Picture as picture
 use Rattle.alma_code.specs.Plain.{PlainCode, kinds_at}
-use Rattle.alma_code.specs.Machine.{State, Stepped, step, act, number, as_number, put_number, goes_to, faulted}
+use Rattle.alma_code.specs.Machine.{State, Stepped, step, act, number, as_number, put_number, goes_to, ends_in_fault}
 use Rattle.alma_ir.specs.Tree.{Program, routine_at}
 use Rattle.alma_mean.specs.Store.{Store, Unknown, Number, At, with_cell, put, put_top, top, top_frame, top_cell}
 use Rattle.alma_mean.specs.Store as store
@@ -190,7 +190,7 @@ module _ (code : PlainCode) (input : List ℕ) (line at : ℕ) (now : List Plain
   entry_step (negsuc step) from to x y i kind hx hy = less_eq_step code input line at now held s h from to from y x i kind hy hx
 
   -- a slot of which nothing is known
-  unknown_is : (n : ℕ) (k : ℤ → Stepped) → Holds now n cell.Unknown → number (passed code input s) n k ≡ faulted fault.Unknown (passed code input s)
+  unknown_is : (n : ℕ) (k : ℤ → Stepped) → Holds now n cell.Unknown → number (passed code input s) n k ≡ ends_in_fault fault.Unknown (passed code input s)
   unknown_is n k hn = ap (λ o. as_number o (passed code input s) k) (ap (λ z. slice_get (last_frame z).cells n) h.frames ∙ hn)
 
   module _ (counter limit by exit : ℕ) (i : InstrAt code input line at (I.Step counter limit by exit)) where

@@ -5,7 +5,7 @@ use Rattle.alma_code.specs.declared.cell.Cell as machine_cell
 use Rattle.alma_code.specs.declared.cell.Cell.TheVariants as cell
 use Rattle.alma_code.specs.declared.cell.SlotKind.TheVariants as slot
 use Rattle.alma_code.specs.declared.instr.Instr.TheVariants as I
-use Rattle.alma_code.specs.Carries.{overlaid, diffs}
+use Rattle.alma_code.specs.Carries.{frames_with_carry, diffs}
 use Rattle.alma_code.specs.Picture.{PlainFrame, PlainEntry}
 use Rattle.alma_code.specs.Plain.{PlainCode}
 use Rattle.alma_code.specs.Machine.{State}
@@ -43,16 +43,16 @@ module _ (code : PlainCode) (input : List ℕ) where
     pub first_keeps : KeepsMark code input m h ws
     -- the second part, in the frames over which the carry was laid
     pub wt : (v : Store) (now : List PlainFrame) (c : Carry machine_cell.Cell) (height : ℕ) → Ways NoYield
-    pub kind : (v : Store) (now : List PlainFrame) (c : Carry machine_cell.Cell) → ws.goes v tt now → HasKind (overlaid now c) i slot.Mark
+    pub kind : (v : Store) (now : List PlainFrame) (c : Carry machine_cell.Cell) → ws.goes v tt now → HasKind (frames_with_carry now c) i slot.Mark
     pub runs : (v : Store) (now : List PlainFrame) (c : Carry machine_cell.Cell) (carry : Carry store.Cell) (height : ℕ) → ws.goes v tt now → same c carry
-        → Runs code input line (x + 2) y (top_written (overlaid now c) i (cell.Mark height)) (wt v now c height) (then_do (over v carry)) q
+        → Runs code input line (x + 2) y (top_written (frames_with_carry now c) i (cell.Mark height)) (wt v now c height) (then_do (over v carry)) q
     pub second_keeps : (v : Store) (now : List PlainFrame) (c : Carry machine_cell.Cell) (height : ℕ) → KeepsMark code input i height (wt v now c height)
     pub second_keeps_first : (v : Store) (now : List PlainFrame) (c : Carry machine_cell.Cell) (height : ℕ) → KeepsMark code input m h (wt v now c height)
     -- what the second part changed enters both carries alike
     pub grows : (v t : Store) (now now2 : List PlainFrame) (c : Carry machine_cell.Cell) (carry : Carry store.Cell) (height : ℕ) → same c carry → (wt v now c height).goes t tt now2
-        → same (with_changes (diffs (overlaid now c) now2) c) (with_changes (changes (over v carry) t) carry)
+        → same (with_changes (diffs (frames_with_carry now c) now2) c) (with_changes (changes (over v carry) t) carry)
     -- at the end it is laid over the frames and the store of the beginning
-    pub ends : (c : Carry machine_cell.Cell) (carry : Carry store.Cell) → same c carry → w.goes (over s0 carry) tt (overlaid now0 c)
+    pub ends : (c : Carry machine_cell.Cell) (carry : Carry store.Cell) → same c carry → w.goes (over s0 carry) tt (frames_with_carry now0 c)
 
   module _ (line x y m i : ℕ) (now0 : List PlainFrame) (held : List PlainEntry) (q0 : ℕ) (s0 : Store) (same : Carry machine_cell.Cell → Carry store.Cell → Type 0) (then_do : Store → Events NoYield) (ws w : Ways NoYield)
       (is_code : ForallCode line x y m i) (parts : ForallParts line x y m i now0 (length held + 1) q0 s0 same then_do ws w) where
@@ -77,10 +77,10 @@ module _ (code : PlainCode) (input : List ℕ) where
         → Goes code input line 0 24 (Leaves (y + 4) w) held (forall_row then_do s0 carry (Alt v (Go tt) e)) t 8 q
     body_goes c carry above v e t q owes alike is fit rest =
         let a = overlay_step code input line x m (y + 2) (y + 3) t.now now0 c held above t is is_code.overlay (parts.first_keeps.keeps v tt t.now fit) in
-        let whole : List PlainEntry = (held ++ forall_entry (y + 3) now0 c ∷ above) ++ body_entry (y + 2) (overlaid t.now c) ∷ [] in
+        let whole : List PlainEntry = (held ++ forall_entry (y + 3) now0 c ∷ above) ++ body_entry (y + 2) (frames_with_carry t.now c) ∷ [] in
         let height : ℕ = length whole in
-        let b = mark_step code input line (x + 1) i (overlaid t.now c) whole a.to a.is is_code.mark (parts.kind v t.now c fit) in
-        let marked : List PlainFrame = top_written (overlaid t.now c) i (cell.Mark height) in
+        let b = mark_step code input line (x + 1) i (frames_with_carry t.now c) whole a.to a.is is_code.mark (parts.kind v t.now c fit) in
+        let marked : List PlainFrame = top_written (frames_with_carry t.now c) i (cell.Mark height) in
         before code input line 0 24 (Leaves (y + 4) w) held (forall_row then_do s0 carry (Alt v (Go tt) e)) t b.to 2 8 (4 + 2) q q (and_then code input a.silently b.silently) (omega arith) (omega arith)
         (first_goes code input line 4 0 24 (Leaves y (parts.wt v t.now c height)) (Leaves (y + 4) w) whole held (then_do (over v carry))
         (λ u _. forall_row then_do s0 (with_changes (changes (over v carry) u) carry) e) (λ _. forall_row then_do s0 carry e) 2 b.to 4 q
@@ -88,20 +88,20 @@ module _ (code : PlainCode) (input : List ℕ) where
         (parts.runs v t.now c carry height fit alike 4 (omega arith) whole b.to (at_address (x + 1 + 1) (x + 2) marked whole b.to (omega arith) b.is)))
         done
         (λ u failing.
-        let p = pop_entry code input (held ++ forall_entry (y + 3) now0 c ∷ above) (body_entry (y + 2) (overlaid t.now c)) u failing in
+        let p = pop_entry code input (held ++ forall_entry (y + 3) now0 c ∷ above) (body_entry (y + 2) (frames_with_carry t.now c)) u failing in
         before code input line 0 24 (Leaves (y + 4) w) held (forall_row then_do s0 carry e) u p.to 1 2 1 q q p.silently (omega arith) (omega arith)
-        (fails_on c carry above e (overlaid t.now c) p.to q alike (record { mode = p.is.mode; here = p.is.here; frames = p.is.frames; entries = p.is.entries ∙ append-nil (held ++ forall_entry (y + 3) now0 c ∷ above) }) rest)))
+        (fails_on c carry above e (frames_with_carry t.now c) p.to q alike (record { mode = p.is.mode; here = p.is.here; frames = p.is.frames; entries = p.is.entries ∙ append-nil (held ++ forall_entry (y + 3) now0 c ∷ above) }) rest)))
       where
         whole2 : List PlainEntry
-        whole2 = (held ++ forall_entry (y + 3) now0 c ∷ above) ++ body_entry (y + 2) (overlaid t.now c) ∷ []
+        whole2 = (held ++ forall_entry (y + 3) now0 c ∷ above) ++ body_entry (y + 2) (frames_with_carry t.now c) ∷ []
 
         done : (u : Store) (f : Flow NoYield) (t2 : State) (over_it : List PlainEntry) → IsGoing (whole2 ++ over_it) t2 → Leaves y (parts.wt v t.now c (length whole2)) u f t2
             → Goes code input line 0 24 (Leaves (y + 4) w) held (forall_row then_do s0 (with_changes (changes (over v carry) u) carry) e) t2 (4 + 2) q
         done u (Return k) t2 over_it going left = absurd ((parts.second_keeps v t.now c (length whole2)).stays u k t2.at t2.now left)
         done u (Go z) t2 over_it going left =
-            let c2 : Carry machine_cell.Cell = with_changes (diffs (overlaid t.now c) t2.now) c in
+            let c2 : Carry machine_cell.Cell = with_changes (diffs (frames_with_carry t.now c) t2.now) c in
             let a = cut_step code input line y i t2.now whole2 over_it t2 (record { mode = going.mode; here = left.0; frames = refl; entries = going.entries }) is_code.cut ((parts.second_keeps v t.now c (length whole2)).keeps u z t2.now left.1) in
-            let b = keep_step code input line (y + 1) m (y + 2) (y + 3) t2.now now0 (overlaid t.now c) c held above a.to a.is is_code.keep ((parts.second_keeps_first v t.now c (length whole2)).keeps u z t2.now left.1) in
+            let b = keep_step code input line (y + 1) m (y + 2) (y + 3) t2.now now0 (frames_with_carry t.now c) c held above a.to a.is is_code.keep ((parts.second_keeps_first v t.now c (length whole2)).keeps u z t2.now left.1) in
             let alike2 : same c2 (with_changes (changes (over v carry) u) carry) = parts.grows v u t.now t2.now c carry (length whole2) alike left.1 in
             before code input line 0 24 (Leaves (y + 4) w) held (forall_row then_do s0 (with_changes (changes (over v carry) u) carry) e) t2 b.to 2 (4 + 2) 1 q q (and_then code input a.silently b.silently) (omega arith) (omega arith)
             (fails_on c2 (with_changes (changes (over v carry) u) carry) above e t2.now b.to q alike2

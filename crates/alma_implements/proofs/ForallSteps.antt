@@ -12,10 +12,10 @@ use Rattle.alma_code.specs.declared.cell.ChoiceKind.TheVariants as choice
 use Rattle.alma_code.specs.declared.cell.SlotKind.TheVariants as slot
 use Rattle.alma_code.specs.declared.instr.Instr.TheVariants as I
 use Rattle.alma_code.specs.declared.step.Step.TheVariants as answer
-use Rattle.alma_code.specs.Carries.{overlaid, diffs, kept, with_carry}
-use Rattle.alma_code.specs.Picture.{PlainFrame, PlainEntry, no_entry, top_of, entry_at, kind_at, popped, last_frame, left_of}
+use Rattle.alma_code.specs.Carries.{frames_with_carry, diffs, kept, with_carry}
+use Rattle.alma_code.specs.Picture.{PlainFrame, PlainEntry, no_entry, top_of, entry_at, kind_at, stack_after_pop, last_frame, entry_after_pop}
 use Rattle.alma_code.specs.Plain.{PlainCode}
-use Rattle.alma_code.specs.Machine.{State, Going, act, step_in, popped_to, pushed, chose, ticked, went, with_slot, to_mark, as_mark, overlay, laid_over, keep, fell, is_kind, is_forall_at}
+use Rattle.alma_code.specs.Machine.{State, Going, act, step_in, pop_or_end, pushed, answer_of_push, with_step_counted, quiet_step, with_slot, to_mark, as_mark, overlay, laid_over, keep, answer_of_fall, is_kind, is_forall_at}
 use Rattle.alma_implements.proofs.Goes.{IsFailing}
 use Rattle.alma_implements.proofs.Frames.{IsAt}
 use Rattle.alma_implements.proofs.Steps.{InstrAt, does, passed, top_written, Holds, HasKind}
@@ -46,11 +46,11 @@ entry_there held e above =
     let n : length held + 1 - 1 ≡ length held = omega arith in
     ap (λ m. get_or (held ++ e ∷ above) m no_entry) n ∙ get_or-append_seam held e above no_entry
 
-rest_of_last : (base : List PlainEntry) (e : PlainEntry) → popped (base ++ e ∷ []) ≡ base ++ left_of e
+rest_of_last : (base : List PlainEntry) (e : PlainEntry) → stack_after_pop (base ++ e ∷ []) ≡ base ++ entry_after_pop e
 rest_of_last base e =
-    ap (λ n. take n (base ++ e ∷ []) ++ left_of (top_of (base ++ e ∷ []))) (last_index base e)
-    ∙ ap (λ xs. xs ++ left_of (top_of (base ++ e ∷ []))) (take-append_seam base (e ∷ []))
-    ∙ ap (λ x. base ++ left_of x) (top_last base e)
+    ap (λ n. take n (base ++ e ∷ []) ++ entry_after_pop (top_of (base ++ e ∷ []))) (last_index base e)
+    ∙ ap (λ xs. xs ++ entry_after_pop (top_of (base ++ e ∷ []))) (take-append_seam base (e ∷ []))
+    ∙ ap (λ x. base ++ entry_after_pop x) (top_last base e)
 
 -- the stack after a Body on top is kept
 kept_is : (held above : List PlainEntry) (out next : ℕ) (now0 before now : List PlainFrame) (c : Carry Cell)
@@ -85,7 +85,7 @@ module _ (code : PlainCode) (input : List ℕ) where
         to = t;
         silently = answered_silently code input s t (answer.Chose (length t.held))
             (does code input line at now held s (I.Forall m out) is i
-            ∙ ap (λ o. to_mark o p (λ _. chose t)) (ap (λ z. slice_get (last_frame z).kinds m) is.frames ∙ kind));
+            ∙ ap (λ o. to_mark o p (λ _. answer_of_push t)) (ap (λ z. slice_get (last_frame z).kinds m) is.frames ∙ kind));
         is = record {
           mode = is.mode;
           here = ap (λ a. a + 1) is.here;
@@ -95,7 +95,7 @@ module _ (code : PlainCode) (input : List ℕ) where
       }
 
   pub overlay_step : (line : ℕ) (at m next out : ℕ) (now now0 : List PlainFrame) (c : Carry Cell) (held above : List PlainEntry) (s : State) → IsAt at now (held ++ forall_entry out now0 c ∷ above) s → InstrAt code input line at (I.Overlay m next) → Holds now m (cell.Mark (length held + 1))
-      → GoesOn code input (at + 1) (overlaid now c) ((held ++ forall_entry out now0 c ∷ above) ++ body_entry next (overlaid now c) ∷ []) s
+      → GoesOn code input (at + 1) (frames_with_carry now c) ((held ++ forall_entry out now0 c ∷ above) ++ body_entry next (frames_with_carry now c) ∷ []) s
   unfolding act
   overlay_step line at m next out now now0 c held above s is i mark =
       let p : State = passed code input s in
@@ -103,15 +103,15 @@ module _ (code : PlainCode) (input : List ℕ) where
       let entries : List PlainEntry = held ++ forall_entry out now0 c ∷ above in
       let laid : overlay p h ≡ laid_over p h =
       ap (λ b. if_true b (λ _. laid_over p h) (λ _. p)) (ap (λ x. is_forall_at x h) is.entries ∙ forall_there held out now0 c above) in
-      let frames : (laid_over p h).now ≡ overlaid now c =
-      ap (λ z. overlaid z (entry_at s.held h).carry) is.frames ∙ ap (λ x. overlaid now (entry_at x h).carry) is.entries ∙ ap (λ x. overlaid now x.carry) (entry_there held (forall_entry out now0 c) above) in
+      let frames : (laid_over p h).now ≡ frames_with_carry now c =
+      ap (λ z. frames_with_carry z (entry_at s.held h).carry) is.frames ∙ ap (λ x. frames_with_carry now (entry_at x h).carry) is.entries ∙ ap (λ x. frames_with_carry now x.carry) (entry_there held (forall_entry out now0 c) above) in
       let t : State = pushed (laid_over p h) choice.Body next in
       record {
         to = t;
         silently = answered_silently code input s t (answer.Chose (length t.held))
             (does code input line at now entries s (I.Overlay m next) is i
-            ∙ ap (λ o. as_mark o p (λ n. chose (pushed (overlay p n) choice.Body next))) (ap (λ z. slice_get (last_frame z).cells m) is.frames ∙ mark)
-            ∙ ap (λ x. chose (pushed x choice.Body next)) laid);
+            ∙ ap (λ o. as_mark o p (λ n. answer_of_push (pushed (overlay p n) choice.Body next))) (ap (λ z. slice_get (last_frame z).cells m) is.frames ∙ mark)
+            ∙ ap (λ x. answer_of_push (pushed x choice.Body next)) laid);
         is = record {
           mode = is.mode;
           here = ap (λ a. a + 1) is.here;
@@ -141,7 +141,7 @@ module _ (code : PlainCode) (input : List ℕ) where
         silently = answered_silently code input s t (answer.Cut (length t.held))
             (does code input line at now whole s (I.Keep m) is i
             ∙ ap (λ o. as_mark o p (λ n. keep p n)) (ap (λ z. slice_get (last_frame z).cells m) is.frames ∙ mark)
-            ∙ ap (λ x. if_true x (λ _. fell t) (λ _. went p)) (ap (λ x. is_forall_at x h && (nat_lt h (length x) && is_kind choice.Body (kind_at x (length x)))) is.entries ∙ test));
+            ∙ ap (λ x. if_true x (λ _. answer_of_fall t) (λ _. quiet_step p)) (ap (λ x. is_forall_at x h && (nat_lt h (length x) && is_kind choice.Body (kind_at x (length x)))) is.entries ∙ test));
         is = record {
           mode = is.mode;
           here = ap (λ x. x + 1) is.here;
@@ -151,18 +151,18 @@ module _ (code : PlainCode) (input : List ℕ) where
       }
 
   -- a failing machine with a last entry
-  pub pop_entry : (base : List PlainEntry) (e : PlainEntry) (u : State) → IsFailing (base ++ e ∷ []) u → GoesOn code input e.resume e.frames (base ++ left_of e) u
+  pub pop_entry : (base : List PlainEntry) (e : PlainEntry) (u : State) → IsFailing (base ++ e ∷ []) u → GoesOn code input e.resume e.frames (base ++ entry_after_pop e) u
   pop_entry base e u failing =
-      let t : State = record (ticked code input u) { mode = Going; at = (top_of u.held).resume; now = (top_of u.held).frames; held = popped u.held; fails = u.fails + 1 } in
+      let t : State = record (with_step_counted code input u) { mode = Going; at = (top_of u.held).resume; now = (top_of u.held).frames; held = stack_after_pop u.held; fails = u.fails + 1 } in
       let top : top_of u.held ≡ e = ap top_of failing.entries ∙ top_last base e in
       record {
         to = t;
         silently = answered_silently code input u t (answer.Popped (length u.held))
-            (ap (λ m. step_in code input m u) failing.mode ∙ ap (popped_to (ticked code input u)) failing.entries ∙ popped_last base e (ticked code input u));
-        is = record { mode = refl; here = ap (λ x. x.resume) top; frames = ap (λ x. x.frames) top; entries = ap popped failing.entries ∙ rest_of_last base e };
+            (ap (λ m. step_in code input m u) failing.mode ∙ ap (pop_or_end (with_step_counted code input u)) failing.entries ∙ popped_last base e (with_step_counted code input u));
+        is = record { mode = refl; here = ap (λ x. x.resume) top; frames = ap (λ x. x.frames) top; entries = ap stack_after_pop failing.entries ∙ rest_of_last base e };
       }
 
-  pub finish_step : (line : ℕ) (at out : ℕ) (now now0 : List PlainFrame) (c : Carry Cell) (held : List PlainEntry) (s : State) → IsAt at now (held ++ done_entry out now0 c ∷ []) s → InstrAt code input line at I.Finish → GoesOn code input (at + 1) (overlaid now c) held s
+  pub finish_step : (line : ℕ) (at out : ℕ) (now now0 : List PlainFrame) (c : Carry Cell) (held : List PlainEntry) (s : State) → IsAt at now (held ++ done_entry out now0 c ∷ []) s → InstrAt code input line at I.Finish → GoesOn code input (at + 1) (frames_with_carry now c) held s
   unfolding act
   finish_step line at out now now0 c held s is i =
       let p : State = passed code input s in
@@ -175,12 +175,12 @@ module _ (code : PlainCode) (input : List ℕ) where
         to = t;
         silently = answered_silently code input s t (answer.Cut (length t.held))
             (does code input line at now whole s I.Finish is i
-            ∙ ap (λ x. if_true x (λ _. fell t) (λ _. went p)) (ap (λ x. is_kind choice.Done (kind_at x (length x))) is.entries ∙ test));
+            ∙ ap (λ x. if_true x (λ _. answer_of_fall t) (λ _. quiet_step p)) (ap (λ x. is_kind choice.Done (kind_at x (length x))) is.entries ∙ test));
         is = record {
           mode = is.mode;
           here = ap (λ x. x + 1) is.here;
-          frames = ap (λ z. overlaid z (entry_at s.held (length s.held)).carry) is.frames ∙ ap (λ x. overlaid now (entry_at x (length x)).carry) is.entries
-              ∙ ap (λ n. overlaid now (entry_at whole n).carry) high ∙ ap (λ x. overlaid now x.carry) (entry_there held (done_entry out now0 c) []);
+          frames = ap (λ z. frames_with_carry z (entry_at s.held (length s.held)).carry) is.frames ∙ ap (λ x. frames_with_carry now (entry_at x (length x)).carry) is.entries
+              ∙ ap (λ n. frames_with_carry now (entry_at whole n).carry) high ∙ ap (λ x. frames_with_carry now x.carry) (entry_there held (done_entry out now0 c) []);
           entries = ap (λ x. take (length x - 1) x) is.entries ∙ ap (λ n. take n whole) (last_index held (done_entry out now0 c)) ∙ take-append_seam held (done_entry out now0 c ∷ []);
         };
       }

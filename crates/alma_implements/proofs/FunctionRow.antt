@@ -8,7 +8,7 @@ use Rattle.alma_code.specs.declared.instr.Instr.TheVariants as I
 use Rattle.alma_code.specs.declared.step.Step.TheVariants as answer
 use Rattle.alma_code.specs.Picture.{PlainFrame, PlainEntry, last_frame, without_last}
 use Rattle.alma_code.specs.declared.cell.Cell.{Cell}
-use Rattle.alma_code.specs.Layout.{entered_frame}
+use Rattle.alma_code.specs.Layout.{frame_of_call}
 use Rattle.alma_code.specs.Plain.{PlainCode, PlainRoutine, start_at}
 use Rattle.alma_ir.specs.Tree.{Program, routine_at}
 use Rattle.alma_code.specs.Machine.{State, act, as_number, result_to, returned, left, with_slot, to_number}
@@ -98,7 +98,7 @@ module _ (code : PlainCode) (input : List ℕ) where
   -- a call in an expression, behind its arguments and its Mark
   pub function_call_row : (p : Program) (line function at r first to m exit : ℕ) (now : List PlainFrame) (v : Store) (callee : PlainRoutine) (args : List Cell) (links : ℕ) (taken : List ArgValue) (body : Store → Events NoYield) (w : Ways ℤ) (wb : Ways NoYield) (c q : ℕ) (held : List PlainEntry) (s : State) → 2 ≤ c → c ≤ 8
       → InstrAt code input line at (I.Call r first to) → InstrAt code input line (at + 1) (I.Cut m) → 1 ≤ function → slice_get code.routines r ≡ Some callee → CountsAlike code input p v now callee r
-      → Runs code input line (start_at code r) exit (now ++ entered_frame now callee.head r (at + 1) args ∷ []) wb (body (v ++ frame_of v r links (routine_at p r) taken ∷ [])) q
+      → Runs code input line (start_at code r) exit (now ++ frame_of_call now callee.head r (at + 1) args ∷ []) wb (body (v ++ frame_of v r links (routine_at p r) taken ∷ [])) q
       → ((x : Store) (f : Flow NoYield) (t : State) → Leaves exit wb x f t → LeavesFunction at r first to m (length held) function w x f t)
       → IsAt at now held s → HoldsArguments code input callee first args s
       → Goes code input line 0 24 (Leaves (at + 2) w) held (as_value function (enter p body r links v taken)) s (suc c) (suc q)

@@ -11,7 +11,7 @@ use Rattle.alma_code.specs.declared.cell.Cell.TheVariants as cell
 use Rattle.alma_code.specs.declared.cell.CellPlace.{CellPlace}
 use Rattle.alma_code.specs.declared.cell.SlotKind.{SlotKind}
 use Rattle.alma_code.specs.declared.cell.SlotKind.TheVariants as slot
-use Rattle.alma_code.specs.Carries.{number_at, overlaid, same_cell, differs, diff_at, slot_diffs, frame_diffs, diffs}
+use Rattle.alma_code.specs.Carries.{number_at, frames_with_carry, same_cell, differs, diff_at, slot_diffs, frame_diffs, diffs}
 use Rattle.alma_code.specs.Kinds.{is_number}
 use Rattle.alma_code.specs.Picture.{PlainFrame, last_frame, cell_at}
 use Rattle.alma_code.specs.Picture as picture
@@ -343,12 +343,12 @@ module _ (p : Program) (code : PlainCode) where
   pick_option v false true a y o x e h k = absurd (cc)
 
   -- a part ran in the frames over which the carry was laid, and left what it does not own below `least`
-  module _ (least : ℕ) (x : Store) (t : List PlainFrame) (c : Carry Cell) (carry : Carry store.Cell) (stand : StandFor p code x t) (alike : Alike p code least x t c carry) (w : Store) (n : List PlainFrame) (fit : Fits p code least (overlaid t c) w n) where
+  module _ (least : ℕ) (x : Store) (t : List PlainFrame) (c : Carry Cell) (carry : Carry store.Cell) (stand : StandFor p code x t) (alike : Alike p code least x t c carry) (w : Store) (n : List PlainFrame) (fit : Fits p code least (frames_with_carry t c) w n) where
     abbrev u : Store
     u = over x carry
 
     abbrev before : List PlainFrame
-    before = overlaid t c
+    before = frames_with_carry t c
 
     stand_before : StandFor p code u before
     stand_before = laid_stands p code least x t c carry stand alike

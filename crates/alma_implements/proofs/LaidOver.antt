@@ -10,7 +10,7 @@ use Rattle.alma_code.specs.declared.cell.Cell.{Cell}
 use Rattle.alma_code.specs.declared.cell.Cell.TheVariants as cell
 use Rattle.alma_code.specs.declared.cell.SlotKind.{SlotKind}
 use Rattle.alma_code.specs.declared.cell.SlotKind.TheVariants as slot
-use Rattle.alma_code.specs.Carries.{number_at, laid, overlaid}
+use Rattle.alma_code.specs.Carries.{number_at, laid, frames_with_carry}
 use Rattle.alma_code.specs.Kinds.{is_number}
 use Rattle.alma_code.specs.Picture.{PlainFrame, frame_with, written, cell_at}
 use Rattle.alma_code.specs.Picture as picture
@@ -151,11 +151,11 @@ laid_count now x = by (number_at now x.frame x.slot)
     by true = length-set now x.frame (frame_with (get_or now x.frame picture.no_frame) x.slot x.cell)
     by false = refl
 
-pub overlaid_count : (now : List PlainFrame) (c : Carry Cell) → length (overlaid now c) ≡ length now
+pub overlaid_count : (now : List PlainFrame) (c : Carry Cell) → length (frames_with_carry now c) ≡ length now
 overlaid_count now [] = refl
 overlaid_count now (x ∷ rest) = overlaid_count (laid now x) rest ∙ laid_count now x
 
-pub overlaid_form : (now : List PlainFrame) (c : Carry Cell) (k : ℕ) → SameForm (get_or (overlaid now c) k picture.no_frame) (get_or now k picture.no_frame)
+pub overlaid_form : (now : List PlainFrame) (c : Carry Cell) (k : ℕ) → SameForm (get_or (frames_with_carry now c) k picture.no_frame) (get_or now k picture.no_frame)
 overlaid_form now [] k = form_self (get_or now k picture.no_frame)
 overlaid_form now (x ∷ rest) k =
     let a = overlaid_form (laid now x) rest k in
@@ -186,7 +186,7 @@ number_within now f s full e = (
     kind_within (k ∷ ks) zero h = omega arith
     kind_within (k ∷ ks) (suc n) h = omega (arith, kind_within ks n h)
 
-pub number_overlaid : (now : List PlainFrame) (c : Carry Cell) (f s : ℕ) → number_at (overlaid now c) f s ≡ number_at now f s
+pub number_overlaid : (now : List PlainFrame) (c : Carry Cell) (f s : ℕ) → number_at (frames_with_carry now c) f s ≡ number_at now f s
 number_overlaid now c f s = ap (λ ks. is_number (slice_get ks s)) (overlaid_form now c f).kinds
 
 number_laid : (now : List PlainFrame) (x : Change Cell) (f s : ℕ) → number_at (laid now x) f s ≡ number_at now f s
@@ -213,7 +213,7 @@ laid_apart now x f s apart = by (number_at now x.frame x.slot)
     ]
 
 -- a slot that is not for a number stays as it is
-pub overlaid_other : (now : List PlainFrame) (c : Carry Cell) (f s : ℕ) → number_at now f s ≡ false → cell_at (overlaid now c) f s cell.Unset ≡ cell_at now f s cell.Unset
+pub overlaid_other : (now : List PlainFrame) (c : Carry Cell) (f s : ℕ) → number_at now f s ≡ false → cell_at (frames_with_carry now c) f s cell.Unset ≡ cell_at now f s cell.Unset
 overlaid_other now [] f s none = refl
 overlaid_other now (x ∷ rest) f s none = overlaid_other (laid now x) rest f s (number_laid now x f s ∙ none) ∙ by (is_same_place x.frame x.slot f s) refl
   where
@@ -225,7 +225,7 @@ overlaid_other now (x ∷ rest) f s none = overlaid_other (laid now x) rest f s 
     by false e = laid_apart now x f s (λ a b. let z : true ≡ false = sym (ap (λ n. is_same_place n x.slot f s) a ∙ ap (λ n. is_same_place f n f s) b ∙ same_itself f s) ∙ e in absurd (cc))
 
 -- and one for a number has what is carried
-pub overlaid_cell : (now : List PlainFrame) (c : Carry Cell) (f s : ℕ) → IsRising c → AreFull now → number_at now f s ≡ true → cell_at (overlaid now c) f s cell.Unset ≡ or_else (carried_at f s c) (cell_at now f s cell.Unset)
+pub overlaid_cell : (now : List PlainFrame) (c : Carry Cell) (f s : ℕ) → IsRising c → AreFull now → number_at now f s ≡ true → cell_at (frames_with_carry now c) f s cell.Unset ≡ or_else (carried_at f s c) (cell_at now f s cell.Unset)
 overlaid_cell now [] f s rising full is = refl
 overlaid_cell now (x ∷ rest) f s rising full is =
     overlaid_cell (laid now x) rest f s rising.1 (laid_full now x full) (number_laid now x f s ∙ is) ∙ by (is_same_place x.frame x.slot f s) refl

@@ -13,7 +13,7 @@ use Rattle.alma_code.specs.declared.cell.SlotKind.TheVariants as slot
 use Rattle.alma_code.specs.declared.instr.Instr.TheVariants as I
 use Rattle.alma_code.specs.Picture.{PlainFrame, PlainEntry}
 use Rattle.alma_code.specs.Plain.{PlainCode, kinds_at}
-use Rattle.alma_code.specs.Machine.{State, step, put_number, fitted, faulted}
+use Rattle.alma_code.specs.Machine.{State, step, put_number, integer_result, ends_in_fault}
 use Rattle.alma_ir.specs.declared.phrase.Op.{Op}
 use Rattle.alma_ir.specs.declared.phrase.Op.TheVariants as op
 use Rattle.alma_ir.specs.declared.phrase.Cmp.{Cmp}
@@ -151,7 +151,7 @@ module _ (p : Program) (code : PlainCode) (input : List ℕ) (line : ℕ) where
     Applies e exit = Goes code input line 7 0 (LeavesValue p code input exit lo r b0) held e t 8 q
 
     -- a result that must be one of INTEGER
-    checked_goes : (z : ℤ) → line_at code at ≡ line → step code input t ≡ fitted (passed code input t) z (λ x. put_number (passed code input t) lo x) → Applies (check_integer v z) (at + 1)
+    checked_goes : (z : ℤ) → line_at code at ≡ line → step code input t ≡ integer_result (passed code input t) z (λ x. put_number (passed code input t) lo x) → Applies (check_integer v z) (at + 1)
     checked_goes z on_line e = by (is_integer z) refl
       where
         by : (b : Bool) → is_integer z ≡ b → Applies (fault_unless fault.Overflow b (λ _. one v z)) (at + 1)
@@ -165,13 +165,13 @@ module _ (p : Program) (code : PlainCode) (input : List ℕ) (line : ℕ) where
         by false other = goes other
         by true zero_there =
             let f = faults_now code input line t fault.ZeroDivide (ap (line_at code) left.here ∙ on_line)
-            (does ∙ ap (λ b. if_true b (λ _. faulted fault.ZeroDivide (passed code input t)) (λ _. fitted (passed code input t) z (λ x. put_number (passed code input t) lo x))) zero_there) in
+            (does ∙ ap (λ b. if_true b (λ _. ends_in_fault fault.ZeroDivide (passed code input t)) (λ _. integer_result (passed code input t) z (λ x. put_number (passed code input t) lo x))) zero_there) in
             (1, f.to, omega arith, f.silently, f.is, f.on_line)
 
     -- past the test of the divisor
-    not_zero : (y z : ℤ) → is_zero y ≡ false → step code input t ≡ divided code input line at t.now held t is_at lo y z → step code input t ≡ fitted (passed code input t) z (λ x. put_number (passed code input t) lo x)
+    not_zero : (y z : ℤ) → is_zero y ≡ false → step code input t ≡ divided code input line at t.now held t is_at lo y z → step code input t ≡ integer_result (passed code input t) z (λ x. put_number (passed code input t) lo x)
     not_zero y z other does =
-        does ∙ ap (λ b. if_true b (λ _. faulted fault.ZeroDivide (passed code input t)) (λ _. fitted (passed code input t) z (λ x. put_number (passed code input t) lo x))) other
+        does ∙ ap (λ b. if_true b (λ _. ends_in_fault fault.ZeroDivide (passed code input t)) (λ _. integer_result (passed code input t) z (λ x. put_number (passed code input t) lo x))) other
 
     pub op_goes : (how : Op) → is_integer b ≡ true → InstrAt code input line at (op_code how lo lo2) → Applies (apply_op v how a b) (at + 1)
     op_goes op.Add fits_b i = checked_goes (a +ℤ b) i.on_line (add_does code input line at t.now held t is_at lo lo lo2 a b i has_a has_b)

@@ -21,7 +21,7 @@ use Rattle.alma_code.specs.Carries.{number_at}
 use Rattle.alma_code.specs.Plain.{PlainCode}
 use Rattle.alma_code.specs.Lines.{line_at}
 use Rattle.alma_implements.specs.Implements.{line_in}
-use Rattle.alma_code.specs.Machine.{Failing, Ended, State, Stepped, act, step, step_in, fetched, ticked, went, faulted, fails_now, goes_to, printed, run_faults, as_fault, as_number, number, put_number, to_number, to_place, fitted, with_slot, with_cell, place, as_place, link, link_to, slot_in, to_link, put_link, put_place, content, as_content, known, store, stuck, ended, returned, left}
+use Rattle.alma_code.specs.Machine.{Failing, Ended, State, Stepped, act, step, step_in, fetched, with_step_counted, quiet_step, ends_in_fault, fails_now, goes_to, printed, run_faults, as_fault, as_number, number, put_number, to_number, to_place, integer_result, with_slot, with_cell, place, as_place, link, link_to, slot_in, to_link, put_link, put_place, content, as_content, known, store, stuck, ended, returned, left}
 use Rattle.alma_implements.proofs.Goes.{Silently, Prints, IsOn, IsFailing}
 use Rattle.alma_implements.proofs.Frames.{IsAt}
 
@@ -39,7 +39,7 @@ HasKind now n kind = slice_get (last_frame now).kinds n ≡ Some kind
 module _ (code : PlainCode) (input : List ℕ) where
   -- the state that an instruction finds, its step counted and its address passed
   abbrev pub passed : State → State
-  passed s = record (ticked code input s) { at = s.at + 1; last = s.at }
+  passed s = record (with_step_counted code input s) { at = s.at + 1; last = s.at }
 
   -- the code has this instruction at an address, and this line
   pub record InstrAt (line at : ℕ) (i : Instr) : Type 0 where
@@ -51,7 +51,7 @@ module _ (code : PlainCode) (input : List ℕ) where
       ap (λ m. step_in code input m s) h.mode ∙ ap (λ o. fetched code input o s) (ap (slice_get code.instrs) h.here ∙ e.instr)
 
   -- a step that just goes on
-  pub went_on : (s t : State) → step code input s ≡ went t → Silently code input 1 s t
+  pub went_on : (s t : State) → step code input s ≡ quiet_step t → Silently code input 1 s t
   went_on s t e = record { steps = ap (λ x. x.state) e; silent = append-nil (step code input s).printed ∙ ap (λ x. x.printed) e }
 
   -- ---- words of the machine
@@ -62,8 +62,8 @@ module _ (code : PlainCode) (input : List ℕ) where
   pub place_is : (now : List PlainFrame) (s : State) (n : ℕ) (p : CellPlace) (k : CellPlace → Stepped) → s.now ≡ now → Holds now n (cell.Place p) → place s n k ≡ k p
   place_is now s n p k frames h = ap (λ o. as_place o s k) (ap (λ z. slice_get (last_frame z).cells n) frames ∙ h)
 
-  pub number_put : (now : List PlainFrame) (s : State) (n : ℕ) (x : ℤ) → s.now ≡ now → HasKind now n slot.Number → put_number s n x ≡ went (with_slot s n (cell.Int x))
-  number_put now s n x frames h = ap (λ o. to_number o s (λ _. went (with_slot s n (cell.Int x)))) (ap (λ z. slice_get (last_frame z).kinds n) frames ∙ h)
+  pub number_put : (now : List PlainFrame) (s : State) (n : ℕ) (x : ℤ) → s.now ≡ now → HasKind now n slot.Number → put_number s n x ≡ quiet_step (with_slot s n (cell.Int x))
+  number_put now s n x frames h = ap (λ o. to_number o s (λ _. quiet_step (with_slot s n (cell.Int x)))) (ap (λ z. slice_get (last_frame z).kinds n) frames ∙ h)
 
   -- ---- a step that writes a number into a slot
 
@@ -72,7 +72,7 @@ module _ (code : PlainCode) (input : List ℕ) where
     pub silently : Silently code input 1 s to
     pub is : IsAt (at + 1) (top_written now n c) held to
 
-  pub written_from : (at : ℕ) (now : List PlainFrame) (held : List PlainEntry) (s : State) (n : ℕ) (c : Cell) → IsAt at now held s → step code input s ≡ went (with_slot (passed s) n c) → Writes at now held s n c
+  pub written_from : (at : ℕ) (now : List PlainFrame) (held : List PlainEntry) (s : State) (n : ℕ) (c : Cell) → IsAt at now held s → step code input s ≡ quiet_step (with_slot (passed s) n c) → Writes at now held s n c
   written_from at now held s n c h e = record {
     to = with_slot (passed s) n c;
     silently = went_on s (with_slot (passed s) n c) e;
@@ -90,7 +90,7 @@ module _ (code : PlainCode) (input : List ℕ) where
     pub is : to.mode ≡ Ended (end.Fault f)
     pub on_line : line_in code to ≡ line
 
-  pub faults_now : (line : ℕ) (s : State) (f : RunFault) → line_at code s.at ≡ line → step code input s ≡ faulted f (passed s) → Faults line s f
+  pub faults_now : (line : ℕ) (s : State) (f : RunFault) → line_at code s.at ≡ line → step code input s ≡ ends_in_fault f (passed s) → Faults line s f
   faults_now line s f there e = record {
     to = (step code input s).state;
     silently = record { steps = refl; silent = append-nil (step code input s).printed ∙ ap (λ x. x.printed) e };
@@ -139,36 +139,36 @@ module _ (code : PlainCode) (input : List ℕ) where
         (does line at now held s (I.LessEq a b c) h i ∙ two b c x y (λ u v. put_number (passed s) a (bit (int_le u v))) hb hc)
 
     -- a result that is in INTEGER is written, any other is a fault
-    pub fits_step : (a : ℕ) (z : ℤ) → HasKind now a slot.Number → is_integer z ≡ true → step code input s ≡ fitted (passed s) z (λ v. put_number (passed s) a v) → Writes at now held s a (cell.Int z)
+    pub fits_step : (a : ℕ) (z : ℤ) → HasKind now a slot.Number → is_integer z ≡ true → step code input s ≡ integer_result (passed s) z (λ v. put_number (passed s) a v) → Writes at now held s a (cell.Int z)
     fits_step a z kind fits e =
         puts at now held s a z h kind
-        (e ∙ ap (λ b. if_true b (λ _. put_number (passed s) a z) (λ _. faulted fault.Overflow (passed s))) fits)
+        (e ∙ ap (λ b. if_true b (λ _. put_number (passed s) a z) (λ _. ends_in_fault fault.Overflow (passed s))) fits)
 
-    pub overflow_step : (a : ℕ) (z : ℤ) → line_at code at ≡ line → is_integer z ≡ false → step code input s ≡ fitted (passed s) z (λ v. put_number (passed s) a v) → Faults line s fault.Overflow
+    pub overflow_step : (a : ℕ) (z : ℤ) → line_at code at ≡ line → is_integer z ≡ false → step code input s ≡ integer_result (passed s) z (λ v. put_number (passed s) a v) → Faults line s fault.Overflow
     overflow_step a z there fits e =
         faults_now line s fault.Overflow (here_too there)
-        (e ∙ ap (λ b. if_true b (λ _. put_number (passed s) a z) (λ _. faulted fault.Overflow (passed s))) fits)
+        (e ∙ ap (λ b. if_true b (λ _. put_number (passed s) a z) (λ _. ends_in_fault fault.Overflow (passed s))) fits)
 
-    pub neg_does : (a b : ℕ) (x : ℤ) → InstrAt line at (I.Neg a b) → Holds now b (cell.Int x) → step code input s ≡ fitted (passed s) (neg_ℤ x) (λ v. put_number (passed s) a v)
+    pub neg_does : (a b : ℕ) (x : ℤ) → InstrAt line at (I.Neg a b) → Holds now b (cell.Int x) → step code input s ≡ integer_result (passed s) (neg_ℤ x) (λ v. put_number (passed s) a v)
     unfolding act
     neg_does a b x i hb =
-        does line at now held s (I.Neg a b) h i ∙ number_is now (passed s) b x (λ u. fitted (passed s) (neg_ℤ u) (λ v. put_number (passed s) a v)) h.frames hb
+        does line at now held s (I.Neg a b) h i ∙ number_is now (passed s) b x (λ u. integer_result (passed s) (neg_ℤ u) (λ v. put_number (passed s) a v)) h.frames hb
 
-    pub add_does : (a b c : ℕ) (x y : ℤ) → InstrAt line at (I.Add a b c) → Holds now b (cell.Int x) → Holds now c (cell.Int y) → step code input s ≡ fitted (passed s) (x +ℤ y) (λ v. put_number (passed s) a v)
+    pub add_does : (a b c : ℕ) (x y : ℤ) → InstrAt line at (I.Add a b c) → Holds now b (cell.Int x) → Holds now c (cell.Int y) → step code input s ≡ integer_result (passed s) (x +ℤ y) (λ v. put_number (passed s) a v)
     unfolding act
-    add_does a b c x y i hb hc = does line at now held s (I.Add a b c) h i ∙ two b c x y (λ u v. fitted (passed s) (u +ℤ v) (λ z. put_number (passed s) a z)) hb hc
+    add_does a b c x y i hb hc = does line at now held s (I.Add a b c) h i ∙ two b c x y (λ u v. integer_result (passed s) (u +ℤ v) (λ z. put_number (passed s) a z)) hb hc
 
-    pub sub_does : (a b c : ℕ) (x y : ℤ) → InstrAt line at (I.Sub a b c) → Holds now b (cell.Int x) → Holds now c (cell.Int y) → step code input s ≡ fitted (passed s) (x -ℤ y) (λ v. put_number (passed s) a v)
+    pub sub_does : (a b c : ℕ) (x y : ℤ) → InstrAt line at (I.Sub a b c) → Holds now b (cell.Int x) → Holds now c (cell.Int y) → step code input s ≡ integer_result (passed s) (x -ℤ y) (λ v. put_number (passed s) a v)
     unfolding act
-    sub_does a b c x y i hb hc = does line at now held s (I.Sub a b c) h i ∙ two b c x y (λ u v. fitted (passed s) (u -ℤ v) (λ z. put_number (passed s) a z)) hb hc
+    sub_does a b c x y i hb hc = does line at now held s (I.Sub a b c) h i ∙ two b c x y (λ u v. integer_result (passed s) (u -ℤ v) (λ z. put_number (passed s) a z)) hb hc
 
-    pub mul_does : (a b c : ℕ) (x y : ℤ) → InstrAt line at (I.Mul a b c) → Holds now b (cell.Int x) → Holds now c (cell.Int y) → step code input s ≡ fitted (passed s) (x *ℤ y) (λ v. put_number (passed s) a v)
+    pub mul_does : (a b c : ℕ) (x y : ℤ) → InstrAt line at (I.Mul a b c) → Holds now b (cell.Int x) → Holds now c (cell.Int y) → step code input s ≡ integer_result (passed s) (x *ℤ y) (λ v. put_number (passed s) a v)
     unfolding act
-    mul_does a b c x y i hb hc = does line at now held s (I.Mul a b c) h i ∙ two b c x y (λ u v. fitted (passed s) (u *ℤ v) (λ z. put_number (passed s) a z)) hb hc
+    mul_does a b c x y i hb hc = does line at now held s (I.Mul a b c) h i ∙ two b c x y (λ u v. integer_result (passed s) (u *ℤ v) (λ z. put_number (passed s) a z)) hb hc
 
     -- a divisor of 0 is a fault, and any other divides
     abbrev pub divided : ℕ → ℤ → ℤ → Stepped
-    divided a y z = if_true (is_zero y) (λ _. faulted fault.ZeroDivide (passed s)) (λ _. fitted (passed s) z (λ v. put_number (passed s) a v))
+    divided a y z = if_true (is_zero y) (λ _. ends_in_fault fault.ZeroDivide (passed s)) (λ _. integer_result (passed s) z (λ v. put_number (passed s) a v))
 
     pub div_does : (a b c : ℕ) (x y : ℤ) → InstrAt line at (I.Div a b c) → Holds now b (cell.Int x) → Holds now c (cell.Int y) → step code input s ≡ divided a y (div_down_of x y)
     unfolding act
@@ -185,8 +185,8 @@ module _ (code : PlainCode) (input : List ℕ) where
     local_step a b l i kind =
         written_from at now held s a (cell.Place (record { frame = length now - 1; slot = b; len = l })) h
         (does line at now held s (I.Local a b) h i
-        ∙ ap (λ o. to_place o (passed s) (λ m. went (with_slot (passed s) a (cell.Place (record { frame = length s.now - 1; slot = b; len = m }))))) (ap (λ z. slice_get (last_frame z).kinds a) h.frames ∙ kind)
-        ∙ ap (λ z. went (with_slot (passed s) a (cell.Place (record { frame = length z - 1; slot = b; len = l })))) h.frames)
+        ∙ ap (λ o. to_place o (passed s) (λ m. quiet_step (with_slot (passed s) a (cell.Place (record { frame = length s.now - 1; slot = b; len = m }))))) (ap (λ z. slice_get (last_frame z).kinds a) h.frames ∙ kind)
+        ∙ ap (λ z. quiet_step (with_slot (passed s) a (cell.Place (record { frame = length z - 1; slot = b; len = l })))) h.frames)
 
     -- a slot of a frame holds this cell
     abbrev pub HoldsIn : (frame n : ℕ) → Cell → Type 0
@@ -198,20 +198,20 @@ module _ (code : PlainCode) (input : List ℕ) where
     held_is : (f n : ℕ) (q : CellPlace) (k : CellPlace → Stepped) → HoldsIn f n (cell.Place q) → as_place (slot_in (passed s) f n) (passed s) k ≡ k q
     held_is f n q k hn = ap (λ o. as_place o (passed s) k) (ap (λ z. slice_get (get_or z f no_frame).cells n) h.frames ∙ hn)
 
-    link_put : (a q f : ℕ) → HasKind now a (slot.Link q) → put_link (passed s) a f ≡ went (with_slot (passed s) a (cell.Place (link_to f)))
+    link_put : (a q f : ℕ) → HasKind now a (slot.Link q) → put_link (passed s) a f ≡ quiet_step (with_slot (passed s) a (cell.Place (link_to f)))
     link_put a q f kind =
-        ap (λ o. to_link o (passed s) (λ _. went (with_slot (passed s) a (cell.Place (link_to f))))) (ap (λ z. slice_get (last_frame z).kinds a) h.frames ∙ kind)
+        ap (λ o. to_link o (passed s) (λ _. quiet_step (with_slot (passed s) a (cell.Place (link_to f))))) (ap (λ z. slice_get (last_frame z).kinds a) h.frames ∙ kind)
 
-    pub place_put : (a l frame : ℕ) (first : ℕ → ℕ) → HasKind now a (slot.Place l) → put_place (passed s) a frame first ≡ went (with_slot (passed s) a (cell.Place (record { frame = frame; slot = first l; len = l })))
+    pub place_put : (a l frame : ℕ) (first : ℕ → ℕ) → HasKind now a (slot.Place l) → put_place (passed s) a frame first ≡ quiet_step (with_slot (passed s) a (cell.Place (record { frame = frame; slot = first l; len = l })))
     place_put a l frame first kind =
-        ap (λ o. to_place o (passed s) (λ m. went (with_slot (passed s) a (cell.Place (record { frame = frame; slot = first m; len = m }))))) (ap (λ z. slice_get (last_frame z).kinds a) h.frames ∙ kind)
+        ap (λ o. to_place o (passed s) (λ m. quiet_step (with_slot (passed s) a (cell.Place (record { frame = frame; slot = first m; len = m }))))) (ap (λ z. slice_get (last_frame z).kinds a) h.frames ∙ kind)
 
     -- a link to the frame itself, the link of another frame, its slots, and a place that it holds
     pub own_step : (a q : ℕ) → InstrAt line at (I.Own a) → HasKind now a (slot.Link q) → Writes at now held s a (cell.Place (link_to (length now - 1)))
     unfolding act
     own_step a q i kind =
         written_from at now held s a (cell.Place (link_to (length now - 1))) h
-        (does line at now held s (I.Own a) h i ∙ link_put a q (length s.now - 1) kind ∙ ap (λ z. went (with_slot (passed s) a (cell.Place (link_to (length z - 1))))) h.frames)
+        (does line at now held s (I.Own a) h i ∙ link_put a q (length s.now - 1) kind ∙ ap (λ z. quiet_step (with_slot (passed s) a (cell.Place (link_to (length z - 1))))) h.frames)
 
     pub chain_step : (a b c f g q : ℕ) → InstrAt line at (I.Chain a b c) → HasKind now a (slot.Link q) → Holds now b (cell.Place (link_to f)) → HoldsIn f c (cell.Place (link_to g)) → Writes at now held s a (cell.Place (link_to g))
     unfolding act
@@ -264,12 +264,12 @@ module _ (code : PlainCode) (input : List ℕ) where
     pub store_step : (a b : ℕ) (q : CellPlace) (x : ℤ) → InstrAt line at (I.Store a b) → Holds now a (cell.Place q) → Holds now b (cell.Int x) → number_at now q.frame q.slot ≡ true → Stores q x
     unfolding act
     store_step a b q x i ha hb live =
-        let e : step code input s ≡ went (with_cell (passed s) q.frame q.slot (cell.Int x)) =
+        let e : step code input s ≡ quiet_step (with_cell (passed s) q.frame q.slot (cell.Int x)) =
         does line at now held s (I.Store a b) h i
-        ∙ place_is now (passed s) a q (λ p. number (passed s) b (λ v. store (passed s) p.frame p.slot v went)) h.frames ha
-        ∙ number_is now (passed s) b x (λ v. store (passed s) q.frame q.slot v went) h.frames hb
-        ∙ ap (λ z. if_true (number_at z q.frame q.slot) (λ _. went (with_cell (passed s) q.frame q.slot (cell.Int x))) (λ _. stuck (passed s))) h.frames
-        ∙ ap (λ t. if_true t (λ _. went (with_cell (passed s) q.frame q.slot (cell.Int x))) (λ _. stuck (passed s))) live in
+        ∙ place_is now (passed s) a q (λ p. number (passed s) b (λ v. store (passed s) p.frame p.slot v quiet_step)) h.frames ha
+        ∙ number_is now (passed s) b x (λ v. store (passed s) q.frame q.slot v quiet_step) h.frames hb
+        ∙ ap (λ z. if_true (number_at z q.frame q.slot) (λ _. quiet_step (with_cell (passed s) q.frame q.slot (cell.Int x))) (λ _. stuck (passed s))) h.frames
+        ∙ ap (λ t. if_true t (λ _. quiet_step (with_cell (passed s) q.frame q.slot (cell.Int x))) (λ _. stuck (passed s))) live in
         record {
           to = with_cell (passed s) q.frame q.slot (cell.Int x);
           silently = went_on s (with_cell (passed s) q.frame q.slot (cell.Int x)) e;
@@ -283,7 +283,7 @@ module _ (code : PlainCode) (input : List ℕ) where
       pub silently : Silently code input 1 s to
       pub is : IsAt to_at now held to
 
-    pub moved_to : (to_at : ℕ) → step code input s ≡ went (record (passed s) { at = to_at }) → Moves to_at
+    pub moved_to : (to_at : ℕ) → step code input s ≡ quiet_step (record (passed s) { at = to_at }) → Moves to_at
     moved_to to_at e = record {
       to = record (passed s) { at = to_at };
       silently = went_on s (record (passed s) { at = to_at }) e;
@@ -300,16 +300,16 @@ module _ (code : PlainCode) (input : List ℕ) where
     zero_jumps a l x i ha zero_there =
         moved_to l
         (does line at now held s (I.JumpZero a l) h i
-        ∙ number_is now (passed s) a x (λ v. if_true (is_zero v) (λ _. goes_to l (passed s)) (λ _. went (passed s))) h.frames ha
-        ∙ ap (λ t. if_true t (λ _. goes_to l (passed s)) (λ _. went (passed s))) zero_there)
+        ∙ number_is now (passed s) a x (λ v. if_true (is_zero v) (λ _. goes_to l (passed s)) (λ _. quiet_step (passed s))) h.frames ha
+        ∙ ap (λ t. if_true t (λ _. goes_to l (passed s)) (λ _. quiet_step (passed s))) zero_there)
 
     pub other_goes_on : (a l : ℕ) (x : ℤ) → InstrAt line at (I.JumpZero a l) → Holds now a (cell.Int x) → is_zero x ≡ false → Moves (at + 1)
     unfolding act
     other_goes_on a l x i ha other =
-        let e : step code input s ≡ went (passed s) =
+        let e : step code input s ≡ quiet_step (passed s) =
         does line at now held s (I.JumpZero a l) h i
-        ∙ number_is now (passed s) a x (λ v. if_true (is_zero v) (λ _. goes_to l (passed s)) (λ _. went (passed s))) h.frames ha
-        ∙ ap (λ t. if_true t (λ _. goes_to l (passed s)) (λ _. went (passed s))) other in
+        ∙ number_is now (passed s) a x (λ v. if_true (is_zero v) (λ _. goes_to l (passed s)) (λ _. quiet_step (passed s))) h.frames ha
+        ∙ ap (λ t. if_true t (λ _. goes_to l (passed s)) (λ _. quiet_step (passed s))) other in
         record { to = passed s; silently = went_on s (passed s) e; is = record { mode = h.mode; here = ap (λ n. n + 1) h.here; frames = h.frames; entries = h.entries } }
 
     pub record FailsNow : Type 0 where
@@ -329,16 +329,16 @@ module _ (code : PlainCode) (input : List ℕ) where
     check_fails a x i ha zero_there =
         fails_from
         (does line at now held s (I.Check a) h i
-        ∙ number_is now (passed s) a x (λ v. if_true (is_zero v) (λ _. fails_now (passed s)) (λ _. went (passed s))) h.frames ha
-        ∙ ap (λ t. if_true t (λ _. fails_now (passed s)) (λ _. went (passed s))) zero_there)
+        ∙ number_is now (passed s) a x (λ v. if_true (is_zero v) (λ _. fails_now (passed s)) (λ _. quiet_step (passed s))) h.frames ha
+        ∙ ap (λ t. if_true t (λ _. fails_now (passed s)) (λ _. quiet_step (passed s))) zero_there)
 
     pub check_passes : (a : ℕ) (x : ℤ) → InstrAt line at (I.Check a) → Holds now a (cell.Int x) → is_zero x ≡ false → Moves (at + 1)
     unfolding act
     check_passes a x i ha other =
-        let e : step code input s ≡ went (passed s) =
+        let e : step code input s ≡ quiet_step (passed s) =
         does line at now held s (I.Check a) h i
-        ∙ number_is now (passed s) a x (λ v. if_true (is_zero v) (λ _. fails_now (passed s)) (λ _. went (passed s))) h.frames ha
-        ∙ ap (λ t. if_true t (λ _. fails_now (passed s)) (λ _. went (passed s))) other in
+        ∙ number_is now (passed s) a x (λ v. if_true (is_zero v) (λ _. fails_now (passed s)) (λ _. quiet_step (passed s))) h.frames ha
+        ∙ ap (λ t. if_true t (λ _. fails_now (passed s)) (λ _. quiet_step (passed s))) other in
         record { to = passed s; silently = went_on s (passed s) e; is = record { mode = h.mode; here = ap (λ n. n + 1) h.here; frames = h.frames; entries = h.entries } }
 
     pub fail_step : InstrAt line at I.Fail → FailsNow

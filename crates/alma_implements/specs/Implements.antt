@@ -33,15 +33,15 @@ abbrev pub line_in : PlainCode → State → ℕ
 line_in code s = line_at code s.last
 
 -- A front of the event list prints these bytes and has so many visits.
-pub data HasFront {A : Type 0} : Events A → (printed : List ℕ) → (visits : ℕ) → Type 0 where
-  nothing : {e : Events A} → HasFront e [] 0
-  a_visit : {e : Events A} {printed : List ℕ} {visits : ℕ} → HasFront e printed visits → HasFront (Visit e) printed (suc visits)
-  a_print : {e : Events A} {bytes printed : List ℕ} {visits : ℕ} → HasFront e printed visits → HasFront (Print bytes e) (bytes ++ printed) visits
+pub data HasPrefix {A : Type 0} : Events A → (printed : List ℕ) → (visits : ℕ) → Type 0 where
+  nothing : {e : Events A} → HasPrefix e [] 0
+  a_visit : {e : Events A} {printed : List ℕ} {visits : ℕ} → HasPrefix e printed visits → HasPrefix (Visit e) printed (suc visits)
+  a_print : {e : Events A} {bytes printed : List ℕ} {visits : ℕ} → HasPrefix e printed visits → HasPrefix (Print bytes e) (bytes ++ printed) visits
 
 -- The bytes are the prints of a front of the event list, and this front has at least so many visits.
 pub record Covers {A : Type 0} (e : Events A) (printed : List ℕ) (least : ℕ) : Type 0 where
   pub visits : ℕ
-  pub front : HasFront e printed visits
+  pub front : HasPrefix e printed visits
   pub enough : least ≤ visits
 
 -- What n steps may have come to: where the machine has ended, the result of the meaning with one unfolding more than

@@ -112,5 +112,5 @@ abbrev pub nodes : Program → ℕ
 nodes p = routines_nodes p.routines
 
 -- the smaller of n and 2^64-1
-abbrev pub capped : ℕ → ℕ
-capped n = min n (2 ^ 64 - 1)
+abbrev pub saturate : ℕ → ℕ
+saturate n = min n (2 ^ 64 - 1)

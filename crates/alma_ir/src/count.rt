@@ -3,13 +3,13 @@
 
 ghost use Rattle.std.specs.Prelude.{◌≡◌, ◌*◌};
 ghost use Rattle.alma_ir.specs.View.{program_of, stmts_list, stmt_of, arms_list, cases_list, branches_list, loop_of, tests_list, test_of, expr_of, links_list, args_list, arg_of, desig_of, sel_of};
-ghost use Rattle.alma_ir.specs.Count.{capped, nodes, stmts_nodes, stmt_nodes, arms_nodes, cases_nodes, branches_nodes, loop_nodes, tests_nodes, test_nodes, expr_nodes, links_nodes, args_nodes, arg_nodes, desig_nodes, sel_nodes};
+ghost use Rattle.alma_ir.specs.Count.{saturate, nodes, stmts_nodes, stmt_nodes, arms_nodes, cases_nodes, branches_nodes, loop_nodes, tests_nodes, test_nodes, expr_nodes, links_nodes, args_nodes, arg_nodes, desig_nodes, sel_nodes};
 
 use crate::{Arg, Arm, Branch, CaseArm, Desig, Expr, Link, Loop, Program, Sel, Stmt, Test};
 
 /// 16 times the number of nodes, or 2^64-1 where that is smaller.
 pub fn size(program: &Program) -> u64
-    ensures { result ≡ capped (16 * nodes (program_of program.now)) }
+    ensures { result ≡ saturate (16 * nodes (program_of program.now)) }
 {
     let mut total: u64 = 0;
     for routine in &program.routines {
@@ -22,7 +22,7 @@ pub fn size(program: &Program) -> u64
 
 #[cycle(count)]
 fn count_stmts(body: &[Stmt]) -> u64
-    ensures { result ≡ capped (stmts_nodes (stmts_list body.now)) }
+    ensures { result ≡ saturate (stmts_nodes (stmts_list body.now)) }
 {
     let mut total: u64 = 0;
     for stmt in body {
@@ -33,7 +33,7 @@ fn count_stmts(body: &[Stmt]) -> u64
 
 #[cycle(count)]
 fn count_stmt(stmt: &Stmt) -> u64
-    ensures { result ≡ capped (stmt_nodes (stmt_of stmt.now)) }
+    ensures { result ≡ saturate (stmt_nodes (stmt_of stmt.now)) }
 {
     match stmt {
         Stmt::Test(test) => count_test(test).saturating_add(1),
@@ -80,7 +80,7 @@ fn count_stmt(stmt: &Stmt) -> u64
 
 #[cycle(count)]
 fn count_arms(arms: &[Arm]) -> u64
-    ensures { result ≡ capped (arms_nodes (arms_list arms.now)) }
+    ensures { result ≡ saturate (arms_nodes (arms_list arms.now)) }
 {
     let mut total: u64 = 0;
     for arm in arms {
@@ -94,7 +94,7 @@ fn count_arms(arms: &[Arm]) -> u64
 
 #[cycle(count)]
 fn count_cases(arms: &[CaseArm]) -> u64
-    ensures { result ≡ capped (cases_nodes (cases_list arms.now)) }
+    ensures { result ≡ saturate (cases_nodes (cases_list arms.now)) }
 {
     let mut total: u64 = 0;
     for arm in arms {
@@ -108,7 +108,7 @@ fn count_cases(arms: &[CaseArm]) -> u64
 
 #[cycle(count)]
 fn count_branches(branches: &[Branch]) -> u64
-    ensures { result ≡ capped (branches_nodes (branches_list branches.now)) }
+    ensures { result ≡ saturate (branches_nodes (branches_list branches.now)) }
 {
     let mut total: u64 = 0;
     for branch in branches {
@@ -121,7 +121,7 @@ fn count_branches(branches: &[Branch]) -> u64
 
 #[cycle(count)]
 fn count_loop(each: &Loop) -> u64
-    ensures { result ≡ capped (loop_nodes (loop_of each.now)) }
+    ensures { result ≡ saturate (loop_nodes (loop_of each.now)) }
 {
     count_desig(&each.var)
         .saturating_add(count_expr(&each.from))
@@ -131,7 +131,7 @@ fn count_loop(each: &Loop) -> u64
 
 #[cycle(count)]
 fn count_tests(tests: &[Test]) -> u64
-    ensures { result ≡ capped (tests_nodes (tests_list tests.now)) }
+    ensures { result ≡ saturate (tests_nodes (tests_list tests.now)) }
 {
     let mut total: u64 = 0;
     for test in tests {
@@ -142,7 +142,7 @@ fn count_tests(tests: &[Test]) -> u64
 
 #[cycle(count)]
 fn count_test(test: &Test) -> u64
-    ensures { result ≡ capped (test_nodes (test_of test.now)) }
+    ensures { result ≡ saturate (test_nodes (test_of test.now)) }
 {
     match test {
         Test::Value(value) => count_expr(value).saturating_add(1),
@@ -165,7 +165,7 @@ fn count_test(test: &Test) -> u64
 
 #[cycle(count)]
 fn count_expr(expr: &Expr) -> u64
-    ensures { result ≡ capped (expr_nodes (expr_of expr.now)) }
+    ensures { result ≡ saturate (expr_nodes (expr_of expr.now)) }
 {
     match expr {
         Expr::Const(_) => 1,
@@ -185,7 +185,7 @@ fn count_expr(expr: &Expr) -> u64
 
 #[cycle(count)]
 fn count_links(links: &[Link]) -> u64
-    ensures { result ≡ capped (links_nodes (links_list links.now)) }
+    ensures { result ≡ saturate (links_nodes (links_list links.now)) }
 {
     let mut total: u64 = 0;
     for link in links {
@@ -196,7 +196,7 @@ fn count_links(links: &[Link]) -> u64
 
 #[cycle(count)]
 fn count_args(args: &[Arg]) -> u64
-    ensures { result ≡ capped (args_nodes (args_list args.now)) }
+    ensures { result ≡ saturate (args_nodes (args_list args.now)) }
 {
     let mut total: u64 = 0;
     for arg in args {
@@ -207,7 +207,7 @@ fn count_args(args: &[Arg]) -> u64
 
 #[cycle(count)]
 fn count_arg(arg: &Arg) -> u64
-    ensures { result ≡ capped (arg_nodes (arg_of arg.now)) }
+    ensures { result ≡ saturate (arg_nodes (arg_of arg.now)) }
 {
     match arg {
         Arg::Value(value, _) => count_expr(value).saturating_add(1),
@@ -220,7 +220,7 @@ fn count_arg(arg: &Arg) -> u64
 
 #[cycle(count)]
 fn count_desig(desig: &Desig) -> u64
-    ensures { result ≡ capped (desig_nodes (desig_of desig.now)) }
+    ensures { result ≡ saturate (desig_nodes (desig_of desig.now)) }
 {
     let mut total: u64 = 1;
     for sel in &desig.sels {
@@ -231,7 +231,7 @@ fn count_desig(desig: &Desig) -> u64
 
 #[cycle(count)]
 fn count_sel(sel: &Sel) -> u64
-    ensures { result ≡ capped (sel_nodes (sel_of sel.now)) }
+    ensures { result ≡ saturate (sel_nodes (sel_of sel.now)) }
 {
     match sel {
         Sel::Field(_, _) => 1,

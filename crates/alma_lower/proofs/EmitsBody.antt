@@ -8,7 +8,7 @@ use Rattle.alma_code.specs.declared.instr.Instr.TheVariants as I
 use Rattle.alma_ir.specs.Tree.{Stmts, Stmt, Arms, Test, If, no_stmts, more_stmts, no_arms, more_arms}
 use Rattle.alma_lower.specs.declared.emit.Emit.{Emit}
 use Rattle.alma_implements.specs.Templates.{Placed, condition_code, test_slots, guarded_code, stmts_code, stmts_slots, arms_code, arms_slots}
-use Rattle.alma_lower.specs.Emitted.{next_slot, aimed, Appends, Puts, PutsGuarded, PutsStmts, PutsStmt, PutsArms}
+use Rattle.alma_lower.specs.Emitted.{next_slot, with_target, Appends, Puts, PutsGuarded, PutsStmts, PutsStmt, PutsArms}
 use Rattle.alma_lower.proofs.Emits.{on_ok_map, nothing, append_then, append_as, slot_after, address_after}
 
 -- the code of a statement that is equal
@@ -34,7 +34,7 @@ pub guarded_put : (a b c d e : Emit) (line : ℕ) (t : Test) (body : Stmts) (bac
     → jump + 1 ≡ length b.code.items
     → PutsStmts b c body
     → Puts c d line (I.Jump back)
-    → ((before after : List Placed) (i : Instr) (l : ℕ) → d.code.items ≡ before ++ (i, l) ∷ after → length before ≡ jump → e.code.items ≡ before ++ (aimed i (length d.code.items), l) ∷ after)
+    → ((before after : List Placed) (i : Instr) (l : ℕ) → d.code.items ≡ before ++ (i, l) ∷ after → length before ≡ jump → e.code.items ≡ before ++ (with_target i (length d.code.items), l) ∷ after)
     → e.kinds.items ≡ d.kinds.items
     → e.base ≡ d.base
     → PutsGuarded a e line t body back
@@ -80,7 +80,7 @@ pub if_put : (a b c d e f : Emit) (line : ℕ) (arms : Arms) (rest : Stmts) (sta
     → Puts b c line (I.Jump 0)
     → PutsArms c d line exit arms
     → PutsStmts d e rest
-    → ((before after : List Placed) (i : Instr) (l : ℕ) → e.code.items ≡ before ++ (i, l) ∷ after → length before ≡ exit → f.code.items ≡ before ++ (aimed i (length e.code.items), l) ∷ after)
+    → ((before after : List Placed) (i : Instr) (l : ℕ) → e.code.items ≡ before ++ (i, l) ∷ after → length before ≡ exit → f.code.items ≡ before ++ (with_target i (length e.code.items), l) ∷ after)
     → f.kinds.items ≡ e.kinds.items
     → f.base ≡ e.base
     → PutsStmt a f line (If arms rest)

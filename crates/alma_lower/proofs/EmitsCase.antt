@@ -10,7 +10,7 @@ use Rattle.alma_code.specs.declared.instr.Instr.TheVariants as I
 use Rattle.alma_ir.specs.Tree.{Stmts, CaseArms, Else, Expr, Case, no_cases, more_cases, no_else, else_part}
 use Rattle.alma_lower.specs.declared.emit.Emit.{Emit}
 use Rattle.alma_implements.specs.Templates.{Placed, expr_code, expr_slots, label_code, labels_code, stmts_code, stmts_slots, cases_code, cases_slots, else_code, else_slots}
-use Rattle.alma_lower.specs.Emitted.{next_slot, aimed, Appends, Puts, PutsExpr, PutsStmts, PutsStmt, PutsCaseHead, PutsLabels, PutsCaseArm, PutsCases, PutsElse}
+use Rattle.alma_lower.specs.Emitted.{next_slot, with_target, Appends, Puts, PutsExpr, PutsStmts, PutsStmt, PutsCaseHead, PutsLabels, PutsCaseArm, PutsCases, PutsElse}
 use Rattle.alma_implements.proofs.StmtRuns.{labels_long}
 use Rattle.alma_lower.proofs.Emits.{nothing, append_then, append_as, slot_after, address_after}
 
@@ -61,7 +61,7 @@ pub case_arm_put : (a b c d e f : Emit) (line : ℕ) (value bound exit hit over 
     → Puts b c line (I.Jump 0)
     → PutsStmts c d body
     → Puts d e line (I.Jump exit)
-    → ((before after : List Placed) (i : Instr) (l : ℕ) → e.code.items ≡ before ++ (i, l) ∷ after → length before ≡ over → f.code.items ≡ before ++ (aimed i (length e.code.items), l) ∷ after)
+    → ((before after : List Placed) (i : Instr) (l : ℕ) → e.code.items ≡ before ++ (i, l) ∷ after → length before ≡ over → f.code.items ≡ before ++ (with_target i (length e.code.items), l) ∷ after)
     → f.kinds.items ≡ e.kinds.items
     → f.base ≡ e.base
     → PutsCaseArm a f line value bound exit labels body
@@ -127,7 +127,7 @@ pub case_put : (a b c d e : Emit) (line : ℕ) (x : Expr) (arms : CaseArms) (res
     → PutsCaseHead a b line x
     → PutsCases b c line value bound exit arms
     → PutsElse c d line rest
-    → ((before after : List Placed) (i : Instr) (l : ℕ) → d.code.items ≡ before ++ (i, l) ∷ after → length before ≡ exit → e.code.items ≡ before ++ (aimed i (length d.code.items), l) ∷ after)
+    → ((before after : List Placed) (i : Instr) (l : ℕ) → d.code.items ≡ before ++ (i, l) ∷ after → length before ≡ exit → e.code.items ≡ before ++ (with_target i (length d.code.items), l) ∷ after)
     → e.kinds.items ≡ d.kinds.items
     → e.base ≡ d.base
     → PutsStmt a e line (Case x arms rest)

@@ -9,7 +9,7 @@ use Rattle.alma_ir.specs.Tree.{Stmts, Expr, Desig, Const, ForTo, a_loop}
 use Rattle.alma_lower.specs.declared.emit.Emit.{Emit}
 use Rattle.alma_implements.specs.Templates.{Placed, desig_code, desig_slots, expr_code, expr_slots, stmts_code, stmts_slots, bounds_code, begin_code, turns_code}
 use Rattle.alma_implements.specs.Operators.{entry_code}
-use Rattle.alma_lower.specs.Emitted.{next_slot, aimed, Puts, PutsDesig, PutsExpr, PutsStmts, PutsStmt, PutsBounds, PutsTurns}
+use Rattle.alma_lower.specs.Emitted.{next_slot, with_target, Puts, PutsDesig, PutsExpr, PutsStmts, PutsStmt, PutsBounds, PutsTurns}
 use Rattle.alma_lower.proofs.Emits.{append_then, append_as, slot_after, address_after}
 
 -- the two bounds, counter and limit, whether there is a turn, and the jump over the turns
@@ -64,7 +64,7 @@ pub for_put : (a b c d e : Emit) (line : ℕ) (step jump counter limit : ℕ) (b
     → PutsBounds b c line by counter limit from to
     → jump + 1 ≡ length c.code.items
     → PutsTurns c d line counter limit step var body
-    → ((before after : List Placed) (i : Instr) (l : ℕ) → d.code.items ≡ before ++ (i, l) ∷ after → length before ≡ jump → e.code.items ≡ before ++ (aimed i (length d.code.items), l) ∷ after)
+    → ((before after : List Placed) (i : Instr) (l : ℕ) → d.code.items ≡ before ++ (i, l) ∷ after → length before ≡ jump → e.code.items ≡ before ++ (with_target i (length d.code.items), l) ∷ after)
     → e.kinds.items ≡ d.kinds.items
     → e.base ≡ d.base
     → PutsStmt a e line (ForTo (a_loop var range counter limit from to by body))

@@ -17,8 +17,8 @@ abbrev pub next_slot : Emit → ℕ
 next_slot e = e.base + length e.kinds.items
 
 -- how many slots and instructions there are
-unfoldable pub filled : Emit → ℕ
-filled e = e.base + length e.kinds.items + length e.code.items
+unfoldable pub emitted_count : Emit → ℕ
+emitted_count e = e.base + length e.kinds.items + length e.code.items
 
 -- the lines that are still to be handed out
 abbrev pub left : Lines → List ℕ
@@ -29,10 +29,10 @@ abbrev pub inside : Stmt → List Phrase
 inside x = drop 1 (stmt_phrases x)
 
 -- the same jump to another address
-abbrev pub aimed : Instr → (to : ℕ) → Instr
-aimed (I.Jump _) to = I.Jump to
-aimed (I.JumpZero value _) to = I.JumpZero value to
-aimed i to = i
+abbrev pub with_target : Instr → (to : ℕ) → Instr
+with_target (I.Jump _) to = I.Jump to
+with_target (I.JumpZero value _) to = I.JumpZero value to
+with_target i to = i
 
 pub record Appends (a b : Emit) (code : (at lo : ℕ) → List Placed) (slots : List SlotKind) : Type 0 where
   pub instrs : b.code.items ≡ a.code.items ++ code (length a.code.items) (next_slot a)

@@ -7,7 +7,7 @@ ghost use Rattle.alma_ir.specs.Tree as tree;
 ghost use Rattle.alma_implements.specs.Built.{BuiltDesig, BuiltExpr, BuiltLinks};
 ghost use Rattle.alma_implements.specs.Operators.{op_code};
 ghost use Rattle.alma_implements.specs.Templates.{Placed, cmp_code, neg_code};
-ghost use Rattle.alma_lower.specs.Emitted.{next_slot, filled, aimed, Appends, Puts, PutsDesig, PutsExpr, PutsLinks};
+ghost use Rattle.alma_lower.specs.Emitted.{next_slot, emitted_count, with_target, Appends, Puts, PutsDesig, PutsExpr, PutsLinks};
 
 use alma_base::NoMemory;
 use alma_code::{Instr, SlotKind};
@@ -26,12 +26,12 @@ pub(crate) struct Emit {
 
 impl Emit {
     // No code yet.
-    #[tactic(auto, unfolding(crate::specs::Emitted::filled))]
+    #[tactic(auto, unfolding(crate::specs::Emitted::emitted_count))]
     pub(crate) fn new(alloc: Global, base: u32) -> Emit
         ensures code { result.code.items ≡ [] }
         ensures kinds { result.kinds.items ≡ [] }
         ensures base { result.base ≡ base }
-        ensures empty { filled result ≡ base }
+        ensures empty { emitted_count result ≡ base }
     {
         Emit {
             alloc,
@@ -42,22 +42,22 @@ impl Emit {
     }
 
     // One more instruction, at a line.
-    #[tactic(auto, unfolding(crate::specs::Emitted::filled))]
+    #[tactic(auto, unfolding(crate::specs::Emitted::emitted_count))]
     pub(crate) fn put(&mut self, line: u32, instr: Instr) -> Result<(), NoMemory>
         ensures puts { OnOk result (Puts self.old self.new line instr) }
-        ensures few { OnOk result (filled self.new ≡ filled self.old + 1) }
+        ensures few { OnOk result (emitted_count self.new ≡ emitted_count self.old + 1) }
     {
         self.code.push((instr, line))?;
         Ok(())
     }
 
     // One more slot, and its number.
-    #[tactic(auto, unfolding(crate::specs::Emitted::filled))]
+    #[tactic(auto, unfolding(crate::specs::Emitted::emitted_count))]
     pub(crate) fn slot(&mut self, kind: SlotKind) -> Result<u32, NoMemory>
-        requires room { filled self.old < 8388608 }
+        requires room { emitted_count self.old < 8388608 }
         ensures slot { IfOk result (λ slot. slot ≡ next_slot self.old) }
         ensures puts { OnOk result (Appends self.old self.new (λ at lo. []) (kind ∷ [])) }
-        ensures few { OnOk result (filled self.new ≡ filled self.old + 1) }
+        ensures few { OnOk result (emitted_count self.new ≡ emitted_count self.old + 1) }
     {
         let slot = self.base + self.kinds.len() as u32;
         self.kinds.push(kind)?;
@@ -65,24 +65,24 @@ impl Emit {
     }
 
     // The address of the next instruction.
-    #[tactic(auto, unfolding(crate::specs::Emitted::filled))]
+    #[tactic(auto, unfolding(crate::specs::Emitted::emitted_count))]
     pub(crate) fn here(&self) -> u32
-        requires room { filled self.now ≤ 8388608 }
+        requires room { emitted_count self.now ≤ 8388608 }
         ensures address { result ≡ length self.now.code.items }
-        ensures small { result ≤ filled self.now }
+        ensures small { result ≤ emitted_count self.now }
     {
         self.code.len() as u32
     }
 
     // Sets the target of the jump at this address to the address of the next instruction.
-    #[tactic(auto, unfolding(crate::specs::Emitted::filled))]
+    #[tactic(auto, unfolding(crate::specs::Emitted::emitted_count))]
     pub(crate) fn aim(&mut self, at: u32)
         requires jump { at < length self.old.code.items }
-        requires room { filled self.old ≤ 8388608 }
-        ensures code { (before after : List Placed) (jump : Instr) (line : ℕ) → self.old.code.items ≡ before ++ (jump, line) ∷ after → length before ≡ at → self.new.code.items ≡ before ++ (aimed jump (length self.old.code.items), line) ∷ after }
+        requires room { emitted_count self.old ≤ 8388608 }
+        ensures code { (before after : List Placed) (jump : Instr) (line : ℕ) → self.old.code.items ≡ before ++ (jump, line) ∷ after → length before ≡ at → self.new.code.items ≡ before ++ (with_target jump (length self.old.code.items), line) ∷ after }
         ensures kinds { self.new.kinds.items ≡ self.old.kinds.items }
         ensures base { self.new.base ≡ self.old.base }
-        ensures few { filled self.new ≡ filled self.old }
+        ensures few { emitted_count self.new ≡ emitted_count self.old }
     {
         let to = self.here();
         let (jump, line) = self.code[at as usize];
@@ -92,7 +92,7 @@ impl Emit {
 
 // The same jump to another address.
 fn aimed_at(jump: Instr, to: u32) -> Instr
-    ensures { result ≡ aimed jump to }
+    ensures { result ≡ with_target jump to }
 {
     match jump {
         Instr::Jump { .. } => Instr::Jump { to },
@@ -104,10 +104,10 @@ fn aimed_at(jump: Instr, to: u32) -> Instr
 // The place of a variable, and its slot.
 pub(crate) fn emit_desig(emit: &mut Emit, line: u32, desig: &Desig) -> Result<u32, NoMemory>
     requires built { BuiltDesig (desig_of desig.now) }
-    requires room { filled emit.old + 16 * desig_nodes (desig_of desig.now) ≤ 8388608 }
+    requires room { emitted_count emit.old + 16 * desig_nodes (desig_of desig.now) ≤ 8388608 }
     ensures slot { IfOk result (λ slot. slot ≡ next_slot emit.old) }
     ensures puts { OnOk result (PutsDesig emit.old emit.new line (desig_of desig.now)) }
-    ensures few { OnOk result (filled emit.new ≤ filled emit.old + 16 * desig_nodes (desig_of desig.now)) }
+    ensures few { OnOk result (emitted_count emit.new ≤ emitted_count emit.old + 16 * desig_nodes (desig_of desig.now)) }
 {
     match desig.root {
         Root::Local(first) => {
@@ -123,10 +123,10 @@ pub(crate) fn emit_desig(emit: &mut Emit, line: u32, desig: &Desig) -> Result<u3
 
 // A number.
 pub(crate) fn emit_const(emit: &mut Emit, line: u32, value: i64) -> Result<u32, NoMemory>
-    requires room { filled emit.old < 8388608 }
+    requires room { emitted_count emit.old < 8388608 }
     ensures slot { IfOk result (λ slot. slot ≡ next_slot emit.old) }
     ensures puts { OnOk result (PutsExpr emit.old emit.new line (tree.Const value)) }
-    ensures few { OnOk result (filled emit.new ≤ filled emit.old + 2) }
+    ensures few { OnOk result (emitted_count emit.new ≤ emitted_count emit.old + 2) }
 {
     let to = emit.slot(SlotKind::Number)?;
     emit.put(line, Instr::Const { to, value })?;
@@ -136,10 +136,10 @@ pub(crate) fn emit_const(emit: &mut Emit, line: u32, value: i64) -> Result<u32, 
 // The number of a variable.
 fn emit_load(emit: &mut Emit, line: u32, desig: &Desig) -> Result<u32, NoMemory>
     requires built { BuiltDesig (desig_of desig.now) }
-    requires room { filled emit.old + 16 + 16 * desig_nodes (desig_of desig.now) ≤ 8388608 }
+    requires room { emitted_count emit.old + 16 + 16 * desig_nodes (desig_of desig.now) ≤ 8388608 }
     ensures slot { IfOk result (λ slot. slot ≡ next_slot emit.old) }
     ensures puts { OnOk result (PutsExpr emit.old emit.new line (tree.Load (desig_of desig.now))) }
-    ensures few { OnOk result (filled emit.new ≤ filled emit.old + 2 + 16 * desig_nodes (desig_of desig.now)) }
+    ensures few { OnOk result (emitted_count emit.new ≤ emitted_count emit.old + 2 + 16 * desig_nodes (desig_of desig.now)) }
 {
     let to = emit.slot(SlotKind::Number)?;
     let from = emit_desig(emit, line, desig)?;
@@ -164,7 +164,7 @@ fn op_instr(op: Op, to: u32, right: u32) -> Instr
 // A comparison of the numbers in two slots.
 fn emit_cmp(emit: &mut Emit, line: u32, cmp: Cmp, to: u32, other: u32) -> Result<(), NoMemory>
     ensures puts { OnOk result (Appends emit.old emit.new (λ at lo. cmp_code line cmp to other) []) }
-    ensures few { OnOk result (filled emit.new ≤ filled emit.old + 2) }
+    ensures few { OnOk result (emitted_count emit.new ≤ emitted_count emit.old + 2) }
 {
     match cmp {
         Cmp::Equal => emit.put(
@@ -224,7 +224,7 @@ fn emit_cmp(emit: &mut Emit, line: u32, cmp: Cmp, to: u32, other: u32) -> Result
 // The sign of a first operand.
 fn emit_neg(emit: &mut Emit, line: u32, negated: bool, to: u32) -> Result<(), NoMemory>
     ensures puts { OnOk result (Appends emit.old emit.new (λ at lo. neg_code line negated to) []) }
-    ensures few { OnOk result (filled emit.new ≤ filled emit.old + 1) }
+    ensures few { OnOk result (emitted_count emit.new ≤ emitted_count emit.old + 1) }
 {
     if negated {
         emit.put(line, Instr::Neg { to, from: to })?;
@@ -236,9 +236,9 @@ fn emit_neg(emit: &mut Emit, line: u32, negated: bool, to: u32) -> Result<(), No
 #[cycle(exprs)]
 fn emit_links(emit: &mut Emit, line: u32, to: u32, links: &[Link]) -> Result<(), NoMemory>
     requires built { BuiltLinks (links_list links.now) }
-    requires room { filled emit.old + 16 * links_nodes (links_list links.now) ≤ 8388608 }
+    requires room { emitted_count emit.old + 16 * links_nodes (links_list links.now) ≤ 8388608 }
     ensures puts { OnOk result (PutsLinks emit.old emit.new line to (links_list links.now)) }
-    ensures few { OnOk result (filled emit.new ≤ filled emit.old + 16 * links_nodes (links_list links.now)) }
+    ensures few { OnOk result (emitted_count emit.new ≤ emitted_count emit.old + 16 * links_nodes (links_list links.now)) }
 {
     for link in links {
         let operand = emit_expr(emit, line, &link.operand)?;
@@ -252,10 +252,10 @@ fn emit_links(emit: &mut Emit, line: u32, to: u32, links: &[Link]) -> Result<(),
 #[cycle(exprs)]
 pub(crate) fn emit_expr(emit: &mut Emit, line: u32, expr: &Expr) -> Result<u32, NoMemory>
     requires built { BuiltExpr (expr_of expr.now) }
-    requires room { filled emit.old + 16 * expr_nodes (expr_of expr.now) ≤ 8388608 }
+    requires room { emitted_count emit.old + 16 * expr_nodes (expr_of expr.now) ≤ 8388608 }
     ensures slot { IfOk result (λ slot. slot ≡ next_slot emit.old) }
     ensures puts { OnOk result (PutsExpr emit.old emit.new line (expr_of expr.now)) }
-    ensures few { OnOk result (filled emit.new + 1 ≤ filled emit.old + 16 * expr_nodes (expr_of expr.now)) }
+    ensures few { OnOk result (emitted_count emit.new + 1 ≤ emitted_count emit.old + 16 * expr_nodes (expr_of expr.now)) }
 {
     match expr {
         Expr::Const(value) => emit_const(emit, line, *value),

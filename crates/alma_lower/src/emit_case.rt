@@ -4,7 +4,7 @@ ghost use Rattle.alma_ir.specs.View.{expr_of};
 ghost use Rattle.alma_ir.specs.Count.{expr_nodes};
 ghost use Rattle.alma_implements.specs.Built.{BuiltExpr};
 ghost use Rattle.alma_implements.specs.Templates.{expr_slots, label_code};
-ghost use Rattle.alma_lower.specs.Emitted.{next_slot, filled, Appends, PutsCaseHead, PutsLabels};
+ghost use Rattle.alma_lower.specs.Emitted.{next_slot, emitted_count, Appends, PutsCaseHead, PutsLabels};
 
 use crate::emit::{Emit, emit_expr};
 use alma_base::{NoMemory, Range};
@@ -22,16 +22,16 @@ pub(crate) struct CaseHead {
 
 // The value of CASE, the slots for its labels, and the jump over the jump by which the arms leave, which is still to be
 // aimed.
-#[tactic(auto, unfolding(crate::specs::Emitted::filled))]
+#[tactic(auto, unfolding(crate::specs::Emitted::emitted_count))]
 pub(crate) fn emit_case_head(emit: &mut Emit, line: u32, value: &Expr) -> Result<CaseHead, NoMemory>
     requires built { BuiltExpr (expr_of value.now) }
-    requires room { filled emit.old + 16 + 16 * expr_nodes (expr_of value.now) ≤ 8388608 }
+    requires room { emitted_count emit.old + 16 + 16 * expr_nodes (expr_of value.now) ≤ 8388608 }
     ensures value { IfOk result (λ head. head.value ≡ next_slot emit.old) }
     ensures bound { IfOk result (λ head. head.bound ≡ next_slot emit.old + length (expr_slots (expr_of value.now))) }
     ensures exit { IfOk result (λ head. head.exit + 1 ≡ length emit.new.code.items) }
     ensures small { IfOk result (λ head. head.bound < 8388608) }
     ensures puts { OnOk result (PutsCaseHead emit.old emit.new line (expr_of value.now)) }
-    ensures few { OnOk result (filled emit.new ≤ filled emit.old + 3 + 16 * expr_nodes (expr_of value.now)) }
+    ensures few { OnOk result (emitted_count emit.new ≤ emitted_count emit.old + 3 + 16 * expr_nodes (expr_of value.now)) }
 {
     let value = emit_expr(emit, line, value)?;
     let bound = emit.slot(SlotKind::Number)?;
@@ -52,9 +52,9 @@ fn emit_label(
     label: &Range,
 ) -> Result<(), NoMemory>
     requires bound { head.bound < 8388608 }
-    requires room { filled emit.old + 7 ≤ 8388608 }
+    requires room { emitted_count emit.old + 7 ≤ 8388608 }
     ensures puts { OnOk result (Appends emit.old emit.new (λ at lo. label_code line head.value head.bound at hit label.now) []) }
-    ensures few { OnOk result (filled emit.new ≤ filled emit.old + 7) }
+    ensures few { OnOk result (emitted_count emit.new ≤ emitted_count emit.old + 7) }
 {
     let CaseHead { value, bound, .. } = head;
     let truth = bound + 1;
@@ -115,9 +115,9 @@ pub(crate) fn emit_labels(
     labels: &[Range],
 ) -> Result<(), NoMemory>
     requires bound { head.bound < 8388608 }
-    requires room { filled emit.old + 7 * length labels.now ≤ 8388608 }
+    requires room { emitted_count emit.old + 7 * length labels.now ≤ 8388608 }
     ensures puts { OnOk result (PutsLabels emit.old emit.new line head.value head.bound hit labels.now) }
-    ensures few { OnOk result (filled emit.new ≤ filled emit.old + 7 * length labels.now) }
+    ensures few { OnOk result (emitted_count emit.new ≤ emitted_count emit.old + 7 * length labels.now) }
 {
     for label in labels {
         emit_label(emit, line, head, hit, label)?;

@@ -3,13 +3,13 @@ ghost use Rattle.std.specs.Prelude.{◌≡◌, ◌+◌, ◌*◌, ◌<◌, ◌≤
 ghost use Rattle.alma_code.specs.declared.instr.Instr.TheVariants as instr;
 ghost use Rattle.alma_code.specs.Plain.{code_of};
 ghost use Rattle.alma_ir.specs.View.{program_of, routine_of, stmts_list};
-ghost use Rattle.alma_ir.specs.Count.{capped, nodes, stmts_nodes};
+ghost use Rattle.alma_ir.specs.Count.{saturate, nodes, stmts_nodes};
 ghost use Rattle.alma_ir.specs.Checked.{IsChecked};
 ghost use Rattle.alma_ir.specs.Lines.{body_with_lines};
 ghost use Rattle.alma_code.specs.Rules.{IsSound};
 ghost use Rattle.alma_implements.specs.Built.{IsBuilt, BuiltStmts};
 ghost use Rattle.alma_implements.specs.Implements.{Implements};
-ghost use Rattle.alma_lower.specs.Emitted.{filled};
+ghost use Rattle.alma_lower.specs.Emitted.{emitted_count};
 ghost use Rattle.alma_lower.specs.Forms.{HasOnlyMade};
 ghost use Rattle.alma_implements.specs.Templates.{IsCodeOf, body_code, stmts_slots};
 
@@ -46,8 +46,8 @@ pub fn lower(alloc: Global, program: &Program) -> Result<Code, LowerError>
     ensures sound { IfOk result (λ code. IsSound (code_of code)) }
     ensures forms { IfOk result (λ code. HasOnlyMade (code_of code)) }
     ensures few { IfOk result (λ code. length (code_of code).instrs ≤ 16 * nodes (program_of program.now)) }
-    ensures too_much { let size = capped (16 * nodes (program_of program.now)) in 4194304 < size → result ≡ Err (LowerError.TooMuchCode size) }
-    ensures within { let size = capped (16 * nodes (program_of program.now)) in size ≤ 4194304 → (n : ℕ) → result ≡ Err (LowerError.TooMuchCode n) → ⊥ }
+    ensures too_much { let size = saturate (16 * nodes (program_of program.now)) in 4194304 < size → result ≡ Err (LowerError.TooMuchCode size) }
+    ensures within { let size = saturate (16 * nodes (program_of program.now)) in size ≤ 4194304 → (n : ℕ) → result ≡ Err (LowerError.TooMuchCode n) → ⊥ }
 {
     let size = size(program);
     if size > GREATEST_SIZE {
@@ -92,7 +92,7 @@ fn compiled(alloc: Global, program: &Program) -> Result<Code, NoMemory>
 }
 
 // The instructions and slots of the body of the module.
-#[tactic(auto, unfolding(crate::specs::Emitted::filled))]
+#[tactic(auto, unfolding(crate::specs::Emitted::emitted_count))]
 fn emitted(alloc: Global, body: &Routine) -> Result<Emit, NoMemory>
     requires built { BuiltStmts (stmts_list body.now.body.items) }
     requires slots { body.now.slots ≤ 4194304 }
@@ -102,7 +102,7 @@ fn emitted(alloc: Global, body: &Routine) -> Result<Emit, NoMemory>
     ensures base { IfOk result (λ emit. emit.base ≡ body.now.slots) }
     ensures few { IfOk result (λ emit. length emit.code.items ≤ 16 + 16 * stmts_nodes (stmts_list body.now.body.items)) }
     ensures room { IfOk result (λ emit. emit.base + length emit.kinds.items ≤ 8388608) }
-    ensures full { IfOk result (λ emit. filled emit ≤ 8388608) }
+    ensures full { IfOk result (λ emit. emitted_count emit ≤ 8388608) }
 {
     let mut emit = Emit::new(alloc, body.slots);
     let mut lines = Lines::new(Vec::from_slice(alloc, &body.lines)?);

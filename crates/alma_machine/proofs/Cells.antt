@@ -18,7 +18,7 @@ use Rattle.alma_code.specs.declared.cell.CellPlace.{CellPlace}
 use Rattle.alma_code.specs.declared.cell.SlotKind.TheVariants as slot
 use Rattle.alma_code.specs.Carries.{number_at}
 use Rattle.alma_code.specs.Kinds.{is_number}
-use Rattle.alma_code.specs.Machine.{State, copied, with_cell, to_place, put_place, stuck, went}
+use Rattle.alma_code.specs.Machine.{State, copied, with_cell, to_place, put_place, stuck, quiet_step}
 use Rattle.alma_code.specs.Picture.{PlainFrame, last_frame, frame_with, written}
 use Rattle.alma_code.specs.Rules.{place_length, has_room}
 use Rattle.alma_code.proofs.Ranges.{offset_le}
@@ -52,7 +52,7 @@ room_is rs n part all r lt is room =
 -- a place whose first cell depends on the length of its slot
 pub put_place_at : (s : State) (f : PlainFrame) (n frame l : ℕ) (first : ℕ → ℕ) → s.now ≡ f ∷ [] → slice_get f.kinds n ≡ Some (slot.Place l) → put_place s n frame first ≡ put_place s n frame (λ _. first l)
 put_place_at s f n frame l first same is =
-    let put = λ (g : ℕ → ℕ) (l : ℕ). went (with_cell s (length s.now - 1) n (cell.Place (record { frame = frame; slot = g l; len = l }))) in
+    let put = λ (g : ℕ → ℕ) (l : ℕ). quiet_step (with_cell s (length s.now - 1) n (cell.Place (record { frame = frame; slot = g l; len = l }))) in
     let kind : slice_get (last_frame s.now).kinds n ≡ Some (slot.Place l) = ap (λ fs. slice_get (last_frame fs).kinds n) same ∙ is in
     ap (λ o. to_place o s (put first)) kind ∙ sym (ap (λ o. to_place o s (put (λ _. first l))) kind)
 
@@ -86,10 +86,10 @@ copied_more f i j m a b =
 
 -- after m cells n more are copied
 copied_from : (f : PlainFrame) (i j n m : ℕ) (s : State) → ((k : ℕ) → k < m + n → HasNumber f (i + k)) → ((k : ℕ) → k < m + n → HasNumber f (j + k))
-    → s.now ≡ with_copied f i j m ∷ [] → copied n (f ∷ []) s 0 (i + m) 0 (j + m) ≡ went (record s { now = with_copied f i j (m + n) ∷ [] })
+    → s.now ≡ with_copied f i j m ∷ [] → copied n (f ∷ []) s 0 (i + m) 0 (j + m) ≡ quiet_step (record s { now = with_copied f i j (m + n) ∷ [] })
 copied_from f i j zero m s to from same =
     let all : m ≡ m + 0 = omega arith in
-    ap (λ (fs : List PlainFrame). went (record s { now = fs })) (same ∙ ap (λ x. with_copied f i j x ∷ []) all)
+    ap (λ (fs : List PlainFrame). quiet_step (record s { now = fs })) (same ∙ ap (λ x. with_copied f i j x ∷ []) all)
 copied_from f i j (suc n) m s to from same =
     let a = to m (omega arith) in
     let b = from m (omega arith) in
@@ -108,11 +108,11 @@ copied_from f i j (suc n) m s to from same =
     ∙ ap (λ x. copied n (f ∷ []) t 0 x 0 (suc (j + m))) next_to
     ∙ ap (λ x. copied n (f ∷ []) t 0 (i + (m + 1)) 0 x) next_from
     ∙ copied_from f i j n (m + 1) t (λ k lt. to k (omega arith)) (λ k lt. from k (omega arith)) after
-    ∙ ap (λ x. went (record s { now = with_copied f i j x ∷ [] })) all
+    ∙ ap (λ x. quiet_step (record s { now = with_copied f i j x ∷ [] })) all
 
 -- the cells of a place are copied to another
 pub copied_is : (f : PlainFrame) (l : ℕ) (p q : CellPlace) (s : State) → IsCells f l p → IsCells f l q → s.now ≡ f ∷ []
-    → copied p.len s.now s p.frame p.slot q.frame q.slot ≡ went (record s { now = with_copied f p.slot q.slot l ∷ [] })
+    → copied p.len s.now s p.frame p.slot q.frame q.slot ≡ quiet_step (record s { now = with_copied f p.slot q.slot l ∷ [] })
 copied_is f l p q s to from same =
     let at_to : p.slot ≡ p.slot + 0 = omega arith in
     let at_from : q.slot ≡ q.slot + 0 = omega arith in
@@ -124,4 +124,4 @@ copied_is f l p q s to from same =
     ∙ ap (λ n. copied l (f ∷ []) s 0 n 0 q.slot) at_to
     ∙ ap (λ n. copied l (f ∷ []) s 0 (p.slot + 0) 0 n) at_from
     ∙ copied_from f p.slot q.slot l 0 s (λ k lt. to.each k (omega arith)) (λ k lt. from.each k (omega arith)) (same ∙ ap (λ (g : PlainFrame). g ∷ []) (copied_none f p.slot q.slot))
-    ∙ ap (λ n. went (record s { now = with_copied f p.slot q.slot n ∷ [] })) all
+    ∙ ap (λ n. quiet_step (record s { now = with_copied f p.slot q.slot n ∷ [] })) all

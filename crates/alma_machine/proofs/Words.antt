@@ -18,7 +18,7 @@ use Rattle.alma_code.specs.Plain.{PlainCode}
 use Rattle.alma_code.specs.Carries.{number_at}
 use Rattle.alma_code.specs.Fits.{IsContent}
 use Rattle.alma_code.specs.Kinds.{is_number}
-use Rattle.alma_code.specs.Machine.{State, Stepped, number, place, content, known, as_number, as_place, as_content, faulted, put_number, put_place, to_number, to_place, store, went, stuck, with_slot, with_cell, act, as_range, ranged}
+use Rattle.alma_code.specs.Machine.{State, Stepped, number, place, content, known, as_number, as_place, as_content, ends_in_fault, put_number, put_place, to_number, to_place, store, quiet_step, stuck, with_slot, with_cell, act, as_range, range_check}
 use Rattle.alma_base.specs.Choice.{if_true}
 use Rattle.alma_code.specs.Picture.{PlainFrame, last_frame, cell_at}
 use Rattle.alma_machine.specs.Rows.{HasNumber, IsCells, HoldsCells, Gives, put_or_fault}
@@ -36,7 +36,7 @@ pub reads_number : (f : PlainFrame) (n : ℕ) (v : ℤ) (s : State) (k : ℤ →
 reads_number f n v s k is same = ap (λ fs. as_number (slice_get (last_frame fs).cells n) s k) same ∙ ap (λ o. as_number o s k) is
 
 -- an unknown number is read
-pub reads_unknown : (f : PlainFrame) (n : ℕ) (s : State) (k : ℤ → Stepped) → slice_get f.cells n ≡ Some cell.Unknown → s.now ≡ f ∷ [] → number s n k ≡ faulted fault.Unknown s
+pub reads_unknown : (f : PlainFrame) (n : ℕ) (s : State) (k : ℤ → Stepped) → slice_get f.cells n ≡ Some cell.Unknown → s.now ≡ f ∷ [] → number s n k ≡ ends_in_fault fault.Unknown s
 reads_unknown f n s k is same = ap (λ fs. as_number (slice_get (last_frame fs).cells n) s k) same ∙ ap (λ o. as_number o s k) is
 
 -- a place is read
@@ -44,7 +44,7 @@ pub reads_place : (f : PlainFrame) (n : ℕ) (p : CellPlace) (s : State) (k : Ce
 reads_place f n p s k is same = ap (λ fs. as_place (slice_get (last_frame fs).cells n) s k) same ∙ ap (λ o. as_place o s k) is
 
 -- a place that is not there is read
-pub reads_unset : (f : PlainFrame) (n : ℕ) (s : State) (k : CellPlace → Stepped) → slice_get f.cells n ≡ Some cell.Unset → s.now ≡ f ∷ [] → place s n k ≡ faulted fault.Unknown s
+pub reads_unset : (f : PlainFrame) (n : ℕ) (s : State) (k : CellPlace → Stepped) → slice_get f.cells n ≡ Some cell.Unset → s.now ≡ f ∷ [] → place s n k ≡ ends_in_fault fault.Unknown s
 reads_unset f n s k is same = ap (λ fs. as_place (slice_get (last_frame fs).cells n) s k) same ∙ ap (λ o. as_place o s k) is
 
 pub ruleset numbers = (content_read, reads_number, reads_unknown)
@@ -163,25 +163,25 @@ pub ruleset at_places = (one_slot, at_place)
 -- ---- writes
 
 -- a number goes into a number slot
-pub put_is : (s : State) (f : PlainFrame) (n : ℕ) (v : ℤ) → s.now ≡ f ∷ [] → HasNumber f n → put_number s n v ≡ went (with_slot s n (cell.Int v))
+pub put_is : (s : State) (f : PlainFrame) (n : ℕ) (v : ℤ) → s.now ≡ f ∷ [] → HasNumber f n → put_number s n v ≡ quiet_step (with_slot s n (cell.Int v))
 put_is s f n v same h =
-    ap (λ fs. to_number (slice_get (last_frame fs).kinds n) s (λ _. went (with_slot s n (cell.Int v)))) same
-    ∙ ap (λ o. to_number o s (λ _. went (with_slot s n (cell.Int v)))) h.kind
+    ap (λ fs. to_number (slice_get (last_frame fs).kinds n) s (λ _. quiet_step (with_slot s n (cell.Int v)))) same
+    ∙ ap (λ o. to_number o s (λ _. quiet_step (with_slot s n (cell.Int v)))) h.kind
 
 -- a place goes into a place slot of its length
-pub put_place_is : (s : State) (f : PlainFrame) (n frame first l : ℕ) → s.now ≡ f ∷ [] → slice_get f.kinds n ≡ Some (slot.Place l) → put_place s n frame (λ _. first) ≡ went (with_slot s n (cell.Place (record { frame = frame; slot = first; len = l })))
+pub put_place_is : (s : State) (f : PlainFrame) (n frame first l : ℕ) → s.now ≡ f ∷ [] → slice_get f.kinds n ≡ Some (slot.Place l) → put_place s n frame (λ _. first) ≡ quiet_step (with_slot s n (cell.Place (record { frame = frame; slot = first; len = l })))
 put_place_is s f n frame first l same is =
-    ap (λ fs. to_place (slice_get (last_frame fs).kinds n) s (λ l. went (with_slot s n (cell.Place (record { frame = frame; slot = first; len = l }))))) same
-    ∙ ap (λ o. to_place o s (λ l. went (with_slot s n (cell.Place (record { frame = frame; slot = first; len = l }))))) is
+    ap (λ fs. to_place (slice_get (last_frame fs).kinds n) s (λ l. quiet_step (with_slot s n (cell.Place (record { frame = frame; slot = first; len = l }))))) same
+    ∙ ap (λ o. to_place o s (λ l. quiet_step (with_slot s n (cell.Place (record { frame = frame; slot = first; len = l }))))) is
 
 -- a number goes to a place of one cell as it goes into its slot
-pub store_is : (s : State) (f : PlainFrame) (l : ℕ) (p : CellPlace) (v : ℤ) → s.now ≡ f ∷ [] → IsCells f l p → l ≡ 1 → store s p.frame p.slot v went ≡ put_number s p.slot v
+pub store_is : (s : State) (f : PlainFrame) (l : ℕ) (p : CellPlace) (v : ℤ) → s.now ≡ f ∷ [] → IsCells f l p → l ≡ 1 → store s p.frame p.slot v quiet_step ≡ put_number s p.slot v
 store_is s f l p v same h one =
     let there = one_slot f l p h one in
-    ap (λ n. store s n p.slot v went) h.here
-    ∙ ap (λ fs. if_true (number_at fs 0 p.slot) (λ _. went (with_cell s 0 p.slot (cell.Int v))) (λ _. stuck s)) same
-    ∙ ap (λ o. if_true (is_number o) (λ _. went (with_cell s 0 p.slot (cell.Int v))) (λ _. stuck s)) there.kind
-    ∙ ap (λ n. went (with_cell s n p.slot (cell.Int v))) (sym (ap (λ fs. length fs - 1) same))
+    ap (λ n. store s n p.slot v quiet_step) h.here
+    ∙ ap (λ fs. if_true (number_at fs 0 p.slot) (λ _. quiet_step (with_cell s 0 p.slot (cell.Int v))) (λ _. stuck s)) same
+    ∙ ap (λ o. if_true (is_number o) (λ _. quiet_step (with_cell s 0 p.slot (cell.Int v))) (λ _. stuck s)) there.kind
+    ∙ ap (λ n. quiet_step (with_cell s n p.slot (cell.Int v))) (sym (ap (λ fs. length fs - 1) same))
     ∙ sym (put_is s f p.slot v same there)
 
 pub ruleset puts = (put_is, put_place_is)
@@ -195,9 +195,9 @@ gives_put f word s to (Err fault) same h = h s (λ v. put_number s to v) same
 
 -- what a word gives goes to a place of one cell, or ends the run
 pub gives_store : (f : PlainFrame) (word : State → (ℤ → Stepped) → Stepped) (s : State) (l : ℕ) (p : CellPlace) (result : Result ℤ RunFault) → s.now ≡ f ∷ [] → IsCells f l p → l ≡ 1
-    → Gives f word result → word s (λ v. store s p.frame p.slot v went) ≡ put_or_fault s p.slot result
-gives_store f word s l p (Ok v) same there one h = h s (λ v. store s p.frame p.slot v went) same ∙ store_is s f l p v same there one
-gives_store f word s l p (Err fault) same there one h = h s (λ v. store s p.frame p.slot v went) same
+    → Gives f word result → word s (λ v. store s p.frame p.slot v quiet_step) ≡ put_or_fault s p.slot result
+gives_store f word s l p (Ok v) same there one h = h s (λ v. store s p.frame p.slot v quiet_step) same ∙ store_is s f l p v same there one
+gives_store f word s l p (Err fault) same there one h = h s (λ v. store s p.frame p.slot v quiet_step) same
 
 -- ---- what the tables of the code hold
 
@@ -207,7 +207,7 @@ range_read rs n r lt is = slice_get-get_or rs n r lt ∙ ap Some (sym is)
 
 -- a part of a place is looked for in a range of the code
 pub index_is : (code : PlainCode) (input : List ℕ) (to from index range : ℕ) (s : State) (r : Range) → slice_get code.ranges range ≡ Some r → act code input (I.Index to from index range) s
-    ≡ place s from (λ p. number s index (λ v. ranged r fault.Index s v (λ _. put_place s to p.frame (λ l. p.slot + nat_abs (v -ℤ r.low) * l))))
+    ≡ place s from (λ p. number s index (λ v. range_check r fault.Index s v (λ _. put_place s to p.frame (λ l. p.slot + nat_abs (v -ℤ r.low) * l))))
 unfolding act
 index_is code input to from index range s r is =
-    ap (λ o. place s from (λ p. number s index (λ v. as_range o s (λ r. ranged r fault.Index s v (λ _. put_place s to p.frame (λ l. p.slot + nat_abs (v -ℤ r.low) * l)))))) is
+    ap (λ o. place s from (λ p. number s index (λ v. as_range o s (λ r. range_check r fault.Index s v (λ _. put_place s to p.frame (λ l. p.slot + nat_abs (v -ℤ r.low) * l)))))) is

@@ -13,7 +13,7 @@ use Rattle.alma_code.specs.declared.instr.Instr.TheVariants as I
 use Rattle.alma_code.specs.declared.step.Step.{Step}
 use Rattle.alma_code.specs.Fits.{IsContent}
 use Rattle.alma_code.specs.Kinds.{is_place}
-use Rattle.alma_code.specs.Machine.{Mode, Going, Failing, Ended, State, Stepped, number, place, put_number, put_place, copied, went, faulted}
+use Rattle.alma_code.specs.Machine.{Mode, Going, Failing, Ended, State, Stepped, number, place, put_number, put_place, copied, quiet_step, ends_in_fault}
 use Rattle.alma_code.specs.Picture.{PlainFrame}
 use Rattle.alma_code.specs.Plain.{PlainCode}
 use Rattle.alma_code.specs.Rules.{place_length, has_room}
@@ -136,13 +136,13 @@ Needs code f i = Computes f i
 abbrev pub Gives : PlainFrame → (State → (ℤ → Stepped) → Stepped) → Result ℤ RunFault → Type 0
 Gives frame word result = MatchResult result
     (λ v. (s : State) (k : ℤ → Stepped) → s.now ≡ frame ∷ [] → word s k ≡ k v)
-    (λ f. (s : State) (k : ℤ → Stepped) → s.now ≡ frame ∷ [] → word s k ≡ faulted f s)
+    (λ f. (s : State) (k : ℤ → Stepped) → s.now ≡ frame ∷ [] → word s k ≡ ends_in_fault f s)
 
 -- reading a place goes on with a place of number slots of the frame, or ends in the fault
 abbrev pub GivesPlace : PlainFrame → ℕ → Result CellPlace RunFault → Type 0
 GivesPlace frame n result = MatchResult result
     (λ p. IsCells frame (width frame n) p × ((s : State) (k : CellPlace → Stepped) → s.now ≡ frame ∷ [] → place s n k ≡ k p))
-    (λ f. (s : State) (k : CellPlace → Stepped) → s.now ≡ frame ∷ [] → place s n k ≡ faulted f s)
+    (λ f. (s : State) (k : CellPlace → Stepped) → s.now ≡ frame ∷ [] → place s n k ≡ ends_in_fault f s)
 
 -- a counter is counted on: the run goes out where the next number is beyond the limit
 abbrev pub counted : State → (counter limit by : ℕ) → (out : Stepped) → (ℤ → Stepped) → Stepped
@@ -158,17 +158,17 @@ next_or out k None = out
 abbrev pub GivesNext : PlainFrame → (counter limit by : ℕ) → Result (Option ℤ) RunFault → Type 0
 GivesNext frame counter limit by result = MatchResult result
     (λ next. (s : State) (out : Stepped) (k : ℤ → Stepped) → s.now ≡ frame ∷ [] → counted s counter limit by out k ≡ next_or out k next)
-    (λ f. (s : State) (out : Stepped) (k : ℤ → Stepped) → s.now ≡ frame ∷ [] → counted s counter limit by out k ≡ faulted f s)
+    (λ f. (s : State) (out : Stepped) (k : ℤ → Stepped) → s.now ≡ frame ∷ [] → counted s counter limit by out k ≡ ends_in_fault f s)
 
 -- the number goes into the slot, or the run ends in the fault
 abbrev pub put_or_fault : State → ℕ → Result ℤ RunFault → Stepped
 put_or_fault s n (Ok v) = put_number s n v
-put_or_fault s n (Err f) = faulted f s
+put_or_fault s n (Err f) = ends_in_fault f s
 
 -- the place of the slots of the frame from the first on goes into the slot, or the run ends in the fault
 abbrev pub point_or_fault : State → ℕ → Result ℕ RunFault → Stepped
 point_or_fault s n (Ok first) = put_place s n 0 (λ _. first)
-point_or_fault s n (Err f) = faulted f s
+point_or_fault s n (Err f) = ends_in_fault f s
 
 -- the frame after what n slots hold is put into as many others, all as they were before
 abbrev pub with_copied : PlainFrame → (to from n : ℕ) → PlainFrame
@@ -181,8 +181,8 @@ copying s to from = place s to (λ p. place s from (λ q. copied p.len s.now s p
 -- copying leads to the new frame, or ends in the fault
 abbrev pub GivesCopy : (old new : PlainFrame) → (to from : ℕ) → Result (Unit {0}) RunFault → Type 0
 GivesCopy old new to from result = MatchResult result
-    (λ _. (s : State) → s.now ≡ old ∷ [] → copying s to from ≡ went (record s { now = new ∷ [] }))
-    (λ f. (new ≡ old) × ((s : State) → s.now ≡ old ∷ [] → copying s to from ≡ faulted f s))
+    (λ _. (s : State) → s.now ≡ old ∷ [] → copying s to from ≡ quiet_step (record s { now = new ∷ [] }))
+    (λ f. (new ≡ old) × ((s : State) → s.now ≡ old ∷ [] → copying s to from ≡ ends_in_fault f s))
 
 -- a part of a step counts no step, and its answer tells the mode
 abbrev pub KeepsOn : Step → State → State → Type 0

@@ -2,7 +2,7 @@
 ghost use Rattle.std.specs.Prelude.{◌≡◌, ◌+◌, ◌*◌, ◌^◌, ◌<◌, ◌≤◌, ◌-ℤ◌, ℕ, [], ◌∷◌, true, nat_abs};
 ghost use Rattle.alma_base.specs.declared.fault.RunFault.TheVariants as fault;
 ghost use Rattle.alma_base.specs.Numbers.{within, range_size};
-ghost use Rattle.alma_code.specs.Machine.{State, number, place, ranged, put_place};
+ghost use Rattle.alma_code.specs.Machine.{State, number, place, range_check, put_place};
 ghost use Rattle.alma_machine.specs.Rows.{HasNumber, HasPlace, HasCells, width, GivesCopy, point_or_fault};
 
 use crate::frame::Frame;
@@ -46,7 +46,7 @@ impl Frame {
         requires index { HasNumber self.now index }
         requires room { range_size range.now * width self.now to ≤ width self.now from }
         ensures { (s : State) → s.now ≡ self.now ∷ []
-            → place s from (λ p. number s index (λ v. ranged range.now fault.Index s v (λ _. put_place s to p.frame (λ l. p.slot + nat_abs (v -ℤ range.now.low) * l))))
+            → place s from (λ p. number s index (λ v. range_check range.now fault.Index s v (λ _. put_place s to p.frame (λ l. p.slot + nat_abs (v -ℤ range.now.low) * l))))
             ≡ point_or_fault s to result }
     {
         let place = self.place(from)?;

@@ -6,7 +6,7 @@ ghost use Rattle.alma_base.specs.declared.fault.RunFault.TheVariants as fault;
 ghost use Rattle.alma_base.specs.declared.value.Value.TheVariants as kind;
 ghost use Rattle.alma_base.specs.Numbers.{is_zero, range_size};
 ghost use Rattle.alma_base.specs.Value.{value_text};
-ghost use Rattle.alma_code.specs.Machine.{act, top, number, place, store, put_number, put_place, ranged, run_faults, went, ended, goes_to, fails_now, printed};
+ghost use Rattle.alma_code.specs.Machine.{act, top, number, place, store, put_number, put_place, range_check, run_faults, quiet_step, ended, goes_to, fails_now, printed};
 ghost use Rattle.alma_code.specs.Plain.{code_of};
 ghost use Rattle.alma_machine.specs.Rows.{state_of, HasNumber, HasCells, HasOneCell, HasPlace, IsNumbered, KeepsOn, Needs, copying, counted, point_or_fault, put_or_fault, width};
 ghost use Rattle.alma_machine.specs.View.{stepped, PrintsOnly};
@@ -132,7 +132,7 @@ impl Registers {
         requires index { HasNumber self.old.frame index }
         requires room { range_size range.now * width self.old.frame to ≤ width self.old.frame from }
         ensures step { let s = state_of self.old in stepped result [] (state_of self.new) ≡
-            place s from (λ p. number s index (λ v. ranged range.now fault.Index s v (λ _.
+            place s from (λ p. number s index (λ v. range_check range.now fault.Index s v (λ _.
             put_place s to p.frame (λ l. p.slot + nat_abs (v -ℤ range.now.low) * l)))) }
         ensures kept { KeepsOn result (state_of self.old) (state_of self.new) }
     {
@@ -160,7 +160,7 @@ impl Registers {
         requires to { HasOneCell self.old.frame to }
         requires from { HasNumber self.old.frame from }
         ensures step { let s = state_of self.old in
-            stepped result [] (state_of self.new) ≡ place s to (λ p. number s from (λ v. store s p.frame p.slot v went)) }
+            stepped result [] (state_of self.new) ≡ place s to (λ p. number s from (λ v. store s p.frame p.slot v quiet_step)) }
         ensures kept { KeepsOn result (state_of self.old) (state_of self.new) }
     {
         match self.frame.place(to) {
@@ -195,7 +195,7 @@ impl Registers {
     fn jump_zero(&mut self, value: u32, to: u32) -> Step
         requires { HasNumber self.old.frame value }
         ensures step { let s = state_of self.old in
-            stepped result [] (state_of self.new) ≡ number s value (λ v. if_true (is_zero v) (λ _. goes_to to s) (λ _. went s)) }
+            stepped result [] (state_of self.new) ≡ number s value (λ v. if_true (is_zero v) (λ _. goes_to to s) (λ _. quiet_step s)) }
         ensures kept { KeepsOn result (state_of self.old) (state_of self.new) }
     {
         match self.frame.number(value) {
@@ -214,7 +214,7 @@ impl Registers {
     fn check(&mut self, value: u32) -> Step
         requires { HasNumber self.old.frame value }
         ensures step { let s = state_of self.old in
-            stepped result [] (state_of self.new) ≡ number s value (λ v. if_true (is_zero v) (λ _. fails_now s) (λ _. went s)) }
+            stepped result [] (state_of self.new) ≡ number s value (λ v. if_true (is_zero v) (λ _. fails_now s) (λ _. quiet_step s)) }
         ensures kept { KeepsOn result (state_of self.old) (state_of self.new) }
     {
         match self.frame.number(value) {
@@ -233,7 +233,7 @@ impl Registers {
     fn in_range(&mut self, value: u32, range: &Range) -> Step
         requires { HasNumber self.old.frame value }
         ensures step { let s = state_of self.old in
-            stepped result [] (state_of self.new) ≡ number s value (λ v. ranged range.now fault.Range s v (λ _. went s)) }
+            stepped result [] (state_of self.new) ≡ number s value (λ v. range_check range.now fault.Range s v (λ _. quiet_step s)) }
         ensures kept { KeepsOn result (state_of self.old) (state_of self.new) }
     {
         match self.frame.number_within(value, range, RunFault::Range) {

@@ -7,8 +7,8 @@ use Rattle.std.proofs.lemmas.Bool.{false≢true}
 use Rattle.alma_ir.specs.Phrases.{stmts_phrases}
 use Rattle.alma_ir.specs.Tree.{Routine, routine_at, a_loop, Assign, more_stmts, no_stmts}
 use Rattle.alma_ir.specs.Checked.{IsChecked, ParamsFirst, DeclaredFits, HeadRangesOrdered, RoutineKeepsLimits, EachRoutine, EachPhrase, IsHiddenSlot, RootLeaves, RootExists, PartsExist, CellsAgree, RangesOrdered, IsOrdered, HasStep, LoopIsApart, loops_of, CalleeExists, ResultAgrees, CallLeads, IsNested, HasLines, CallFits, HasChoice, ReturnAgrees, ReturnsStay, text_bytes}
-use Rattle.alma_mean.specs.Build.{int, var, held, number, load}
-use Rattle.alma_mean.specs.Conditions.{lives_again, ConditionsTell}
+use Rattle.alma_mean.specs.Worked.Build.{int, var, through_param, number, load}
+use Rattle.alma_mean.specs.Worked.Conditions.{lives_again, ConditionsTell}
 
 -- the range of INTEGER is in order
 in_order : IsOrdered int
@@ -36,7 +36,7 @@ hidden slot l h = record {
 }
 
 -- the loop's counter and limit
-apart : LoopIsApart lives_again 1 (a_loop (var 1) int 2 3 (number 1) (number 3) (pos 1) (more_stmts 0 (Assign (held 0) (load 1) int) no_stmts))
+apart : LoopIsApart lives_again 1 (a_loop (var 1) int 2 3 (number 1) (number 3) (pos 1) (more_stmts 0 (Assign (through_param 0) (load 1) int) no_stmts))
 unfolding stmts_phrases
 apart = record {
   of_counter = hidden 2 (omega arith) (omega arith);

@@ -3,7 +3,7 @@ use Rattle.std.proofs.Common.{refl}
 use Rattle.alma_ir.specs.Phrases.{stmts_phrases}
 use Rattle.alma_ir.specs.Lines.{stmts_with}
 use Rattle.alma_mean.specs.Meaning.{ev_stmts}
-use Rattle.alma_mean.specs.Nested.{NestedRun}
+use Rattle.alma_mean.specs.Worked.Nested.{NestedRun}
 
 -- each side computes
 pub nested_run : NestedRun

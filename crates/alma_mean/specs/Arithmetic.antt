@@ -52,10 +52,10 @@ compares cmp.Greater a b = int_lt b a
 compares cmp.GreaterEq a b = int_le b a
 
 -- what WRITE prints of a number: as a CHAR the byte is the number modulo 256, as a BOOLEAN 0 is FALSE
-abbrev pub written : WriteAs → ℤ → Value
-written write_as.Int n = value.Int n
-written write_as.Char n = value.Char (nat_abs (int_rem_euclid n (pos 256)))
-written write_as.Bool n = value.Bool (not (is_zero n))
+abbrev pub printed_value : WriteAs → ℤ → Value
+printed_value write_as.Int n = value.Int n
+printed_value write_as.Char n = value.Char (nat_abs (int_rem_euclid n (pos 256)))
+printed_value write_as.Bool n = value.Bool (not (is_zero n))
 
 abbrev pub written_text : WriteAs → ℤ → List ℕ
-written_text how n = value_text (written how n)
+written_text how n = value_text (printed_value how n)

@@ -4,14 +4,4 @@ pub mod Arithmetic
 pub mod Rows
 pub mod Meaning
 pub mod Laws
-pub mod Build
-pub mod Equations
-pub mod Loops
-pub mod Foralls
-pub mod Calls
-pub mod InOut
-pub mod Visits
-pub mod Choices
-pub mod Nested
-pub mod FaultLines
-pub mod Conditions
+pub mod Worked

@@ -1,14 +1,14 @@
 // Small programs and what they give at a level, each fact a field of the contract of a function that does nothing.
-ghost use Rattle.alma_mean.specs.Choices.{ChoicesRun};
-ghost use Rattle.alma_mean.specs.Equations.{EquationsRun, NumbersRun};
-ghost use Rattle.alma_mean.specs.Loops.{LoopsRun, QueensRun};
-ghost use Rattle.alma_mean.specs.Foralls.{ForallsRun};
-ghost use Rattle.alma_mean.specs.Calls.{CallsRun};
-ghost use Rattle.alma_mean.specs.Nested.{NestedRun};
-ghost use Rattle.alma_mean.specs.FaultLines.{FaultLines};
-ghost use Rattle.alma_mean.specs.InOut.{InOutRuns};
-ghost use Rattle.alma_mean.specs.Conditions.{ConditionsTell};
-ghost use Rattle.alma_mean.specs.Visits.{VisitsCount};
+ghost use Rattle.alma_mean.specs.Worked.Choices.{ChoicesRun};
+ghost use Rattle.alma_mean.specs.Worked.Equations.{EquationsRun, NumbersRun};
+ghost use Rattle.alma_mean.specs.Worked.Loops.{LoopsRun, QueensRun};
+ghost use Rattle.alma_mean.specs.Worked.Foralls.{ForallsRun};
+ghost use Rattle.alma_mean.specs.Worked.Calls.{CallsRun};
+ghost use Rattle.alma_mean.specs.Worked.Nested.{NestedRun};
+ghost use Rattle.alma_mean.specs.Worked.FaultLines.{FaultLines};
+ghost use Rattle.alma_mean.specs.Worked.InOut.{InOutRuns};
+ghost use Rattle.alma_mean.specs.Worked.Conditions.{ConditionsTell};
+ghost use Rattle.alma_mean.specs.Worked.Visits.{VisitsCount};
 
 /// Programs that choose.
 #[tactic(auto, using(crate::proofs::Choices::choices_run))]

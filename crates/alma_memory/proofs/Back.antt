@@ -5,7 +5,7 @@ use Rattle.std.proofs.lemmas.List.{length_push, length-take, length-take-le, len
 use Rattle.std.proofs.Math.ListN.{get_or-append}
 use Rattle.alma_code.specs.declared.cell.ChoiceKind.{ChoiceKind}
 use Rattle.alma_code.specs.declared.cell.ChoiceKind.TheVariants.{Branch, Forall, Body, Done}
-use Rattle.alma_code.specs.Picture.{PlainFrame, PlainEntry, no_entry, top_of, entry_at, popped, left_of, left_as}
+use Rattle.alma_code.specs.Picture.{PlainFrame, PlainEntry, no_entry, top_of, entry_at, stack_after_pop, entry_after_pop, entry_of_kind_after_pop}
 use Rattle.alma_base.specs.Carry.{with_changes}
 use Rattle.alma_code.specs.Carries.{with_carry, diffs}
 use Rattle.alma_memory.proofs.Gains.{or-above}
@@ -33,27 +33,27 @@ copy-set (x ∷ held) (suc j) e zero h = refl
 copy-set (x ∷ held) (suc j) e (suc i) h = copy-set held j e i h
 
 -- what a pop leaves of the top entry has its copy
-copy-left : (kind : ChoiceKind) (e : PlainEntry) → 1 ≤ length (left_as kind e) → copy_at (left_as kind e) 0 ≡ e.frames
+copy-left : (kind : ChoiceKind) (e : PlainEntry) → 1 ≤ length (entry_of_kind_after_pop kind e) → copy_at (entry_of_kind_after_pop kind e) 0 ≡ e.frames
 copy-left Forall e l = refl
 copy-left Branch e l = absurd (omega arith)
 copy-left Body e l = absurd (omega arith)
 copy-left Done e l = absurd (omega arith)
 
 -- a pop leaves the copies below the top, and the copy of the top where it stays
-copy-popped : (held : List PlainEntry) (i : ℕ) → i < length (popped held) → i < length held → copy_at (popped held) i ≡ copy_at held i
-copy-popped held i l m =
+copy-stack_after_pop : (held : List PlainEntry) (i : ℕ) → i < length (stack_after_pop held) → i < length held → copy_at (stack_after_pop held) i ≡ copy_at held i
+copy-stack_after_pop held i l m =
     let n : ℕ = length held - 1 in
     let less : n ≤ length held = omega arith in
     let len : length (take n held) ≡ n = length-take-le n held less in
     elim (or-above i n) [
-      | inl lt ↦ copy-append (take n held) (left_of (top_of held)) i (rw len lt) ∙ copy-take n held i lt
+      | inl lt ↦ copy-append (take n held) (entry_after_pop (top_of held)) i (rw len lt) ∙ copy-take n held i lt
       | inr le ↦ (
           let here : i ≡ n = omega arith in
-          let sum = length-append (take n held) (left_of (top_of held)) in
-          let some : 1 ≤ length (left_of (top_of held)) = omega (arith, l, sum, len, here) in
+          let sum = length-append (take n held) (entry_after_pop (top_of held)) in
+          let some : 1 ≤ length (entry_after_pop (top_of held)) = omega (arith, l, sum, len, here) in
           let z : i - n ≡ 0 = omega arith in
-          ap (λ (e : PlainEntry). e.frames) (get_or-append_right (take n held) (left_of (top_of held)) n i no_entry len le)
-          ∙ (ap (copy_at (left_of (top_of held))) z ∙ (copy-left (top_of held).kind (top_of held) some ∙ ap (copy_at held) (sym here))))
+          ap (λ (e : PlainEntry). e.frames) (get_or-append_right (take n held) (entry_after_pop (top_of held)) n i no_entry len le)
+          ∙ (ap (copy_at (entry_after_pop (top_of held))) z ∙ (copy-left (top_of held).kind (top_of held) some ∙ ap (copy_at held) (sym here))))
     ]
 
 -- a call that leaves an entry leaves its copy
@@ -64,7 +64,7 @@ copy-kept (Enter g) old new i m l k = ap (λ h. copy_at h i) m.held
 copy-kept Leave old new i m l k = ap (λ h. copy_at h i) m.held
 copy-kept (Choose kind resume) old new i m l k =
     ap (λ h. copy_at h i) m.held ∙ copy-append old.held ((record { kind = kind; resume = resume; frames = old.now; carry = [] }) ∷ []) i l
-copy-kept Fail old new i m l k = ap (λ h. copy_at h i) m.held ∙ copy-popped old.held i (rw (← m.held) k) l
+copy-kept Fail old new i m l k = ap (λ h. copy_at h i) m.held ∙ copy-stack_after_pop old.held i (rw (← m.held) k) l
 copy-kept (Cut h) old new i m l k =
     let len = length-take h old.held in
     let same = ap length m.held in

@@ -10,7 +10,7 @@ use Rattle.alma_code.specs.Kinds.{is_number}
 use Rattle.alma_code.specs.Picture.{PlainFrame, no_frame, frame_with, written, cell_at}
 use Rattle.alma_code.specs.Carries.{number_at, same_cell, diff_at}
 use Rattle.alma_memory.specs.Frames.{IsWhole, AreWhole}
-use Rattle.alma_memory.specs.Past.{rewritten, number_in, number_of, over, changed}
+use Rattle.alma_memory.specs.Inner.Past.{frames_with_old_cells, number_in, number_of, over, changed}
 use Rattle.alma_memory.proofs.Stores.{whole-set, whole-with, whole-at, number-slot}
 use Rattle.alma_memory.proofs.Carrying.{same-place-is}
 use Rattle.alma_memory.proofs.Rising.{if-keeps, same-itself}
@@ -59,25 +59,25 @@ number-other (x ∷ fs) (suc f) s zero t c h = refl
 number-other (x ∷ fs) (suc f) s (suc g) t c h = number-other fs f s g t c (λ e. h (ap suc e))
 
 -- whole frames stay whole
-whole-rewritten : (fs : List PlainFrame) (cs : Carry Cell) → AreWhole fs → AreWhole (rewritten fs cs)
-whole-rewritten fs [] w = w
-whole-rewritten fs (x ∷ cs) w =
-    let r = whole-rewritten fs cs w in
-    whole-set (rewritten fs cs) x.frame (frame_with (get_or (rewritten fs cs) x.frame no_frame) x.slot x.cell)
-    (whole-with (get_or (rewritten fs cs) x.frame no_frame) x.slot x.cell (whole-at (rewritten fs cs) x.frame r)) r
+whole-frames_with_old_cells : (fs : List PlainFrame) (cs : Carry Cell) → AreWhole fs → AreWhole (frames_with_old_cells fs cs)
+whole-frames_with_old_cells fs [] w = w
+whole-frames_with_old_cells fs (x ∷ cs) w =
+    let r = whole-frames_with_old_cells fs cs w in
+    whole-set (frames_with_old_cells fs cs) x.frame (frame_with (get_or (frames_with_old_cells fs cs) x.frame no_frame) x.slot x.cell)
+    (whole-with (get_or (frames_with_old_cells fs cs) x.frame no_frame) x.slot x.cell (whole-at (frames_with_old_cells fs cs) x.frame r)) r
 
 -- the cells of a carry are laid over the number slots
-pub number-rewritten : (fs : List PlainFrame) (cs : Carry Cell) (f s : ℕ) → AreWhole fs →
-    number_of (rewritten fs cs) f s ≡ over (number_of fs f s) (carried_at f s cs)
-number-rewritten fs [] f s w = sym (over-none (number_of fs f s))
-number-rewritten fs (x ∷ cs) f s w =
-    let R = rewritten fs cs in
+pub number-frames_with_old_cells : (fs : List PlainFrame) (cs : Carry Cell) (f s : ℕ) → AreWhole fs →
+    number_of (frames_with_old_cells fs cs) f s ≡ over (number_of fs f s) (carried_at f s cs)
+number-frames_with_old_cells fs [] f s w = sym (over-none (number_of fs f s))
+number-frames_with_old_cells fs (x ∷ cs) f s w =
+    let R = frames_with_old_cells fs cs in
     let P : Option Cell → Type 0 = (λ o. number_of (written R x.frame x.slot x.cell) f s ≡ over (number_of fs f s) o) in
-    let rest : number_of R f s ≡ over (number_of fs f s) (carried_at f s cs) = number-rewritten fs cs f s w in
+    let rest : number_of R f s ≡ over (number_of fs f s) (carried_at f s cs) = number-frames_with_old_cells fs cs f s w in
     if-keeps P (is_same_place x.frame x.slot f s) (λ _. Some x.cell) (λ _. carried_at f s cs)
     (λ e. let one = same-place-is x.frame x.slot f s e in
     ap (λ g. number_of (written R g x.slot x.cell) f s) one.0 ∙ (ap (λ t. number_of (written R f t x.cell) f s) one.1
-    ∙ (number-same R f s x.cell (whole-rewritten fs cs w)
+    ∙ (number-same R f s x.cell (whole-frames_with_old_cells fs cs w)
     ∙ (ap (λ o. over o (Some x.cell)) rest ∙ over-over (number_of fs f s) (carried_at f s cs) x.cell))))
     (λ ns. number-other R f s x.frame x.slot x.cell
     (λ e d. let no : true ≡ false = sym (rw (e, d) (same-itself x.frame x.slot)) ∙ ns in absurd (cc)) ∙ rest)
@@ -86,15 +86,15 @@ number-rewritten fs (x ∷ cs) f s w =
 
 -- a number slot of a shared frame
 pub number-shared : (n : ℕ) (now above : List PlainFrame) (cs : Carry Cell) (f s : ℕ) → n ≤ length now → f < n →
-    number_of (take n (rewritten now cs) ++ above) f s ≡ number_of (rewritten now cs) f s
+    number_of (take n (frames_with_old_cells now cs) ++ above) f s ≡ number_of (frames_with_old_cells now cs) f s
 number-shared n now above cs f s l lt =
     let len = shared-length n now cs l in
-    let in_shared : f < length (take n (rewritten now cs)) = omega (arith, len, lt) in
-    ap (λ g. number_in g s) (get_or-append (take n (rewritten now cs)) above no_frame f in_shared ∙ get_or-take n (rewritten now cs) f no_frame lt)
+    let in_shared : f < length (take n (frames_with_old_cells now cs)) = omega (arith, len, lt) in
+    ap (λ g. number_in g s) (get_or-append (take n (frames_with_old_cells now cs)) above no_frame f in_shared ∙ get_or-take n (frames_with_old_cells now cs) f no_frame lt)
 
 -- a number slot of a frame above the shared ones
 pub number-above : (n : ℕ) (now above : List PlainFrame) (cs : Carry Cell) (f s : ℕ) → n ≤ length now → n ≤ f →
-    number_of (take n (rewritten now cs) ++ above) f s ≡ number_in (get_or above (f - n) no_frame) s
+    number_of (take n (frames_with_old_cells now cs) ++ above) f s ≡ number_in (get_or above (f - n) no_frame) s
 number-above n now above cs f s l le = ap (λ g. number_in g s) (at-above n now above cs f l le)
 
 -- ---- differences

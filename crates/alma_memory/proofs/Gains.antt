@@ -12,12 +12,12 @@ use Rattle.alma_code.specs.Picture.{PlainFrame, no_frame, cell_at}
 use Rattle.alma_code.specs.Carries.{number_at, differs, diff_at, slot_diffs, frame_diffs, diffs}
 use Rattle.alma_code.proofs.Cells.{same_itself}
 use Rattle.alma_memory.specs.Frames.{AreWhole}
-use Rattle.alma_memory.specs.Past.{rewritten, number_of, over, changed, diffs_at, diffs_between, SameGain}
+use Rattle.alma_memory.specs.Inner.Past.{frames_with_old_cells, number_of, over, changed, diffs_at, diffs_between, SameGain}
 use Rattle.alma_memory.proofs.Carrying.{same-place-is}
 use Rattle.alma_memory.proofs.Rising.{same-itself, carried-with, rising-all, same-carry}
 use Rattle.alma_memory.proofs.Stores.{number-cell, number-frame}
 use Rattle.alma_memory.proofs.Pasts.{shared-length}
-use Rattle.alma_memory.proofs.Contents.{over-none, number-rewritten, number-shared, diff-changed, change_at}
+use Rattle.alma_memory.proofs.Contents.{over-none, number-frames_with_old_cells, number-shared, diff-changed, change_at}
 
 -- ---- tests
 
@@ -246,10 +246,10 @@ or-above f n = choose (nat_lt f n) refl
 
 -- a place of a shared frame differs only where a note names it
 shared-named : (n : ℕ) (now above : List PlainFrame) (cs : Carry Cell) (before : List PlainFrame) (f s : ℕ) → n ≤ length now → f < n →
-    before ≡ take n (rewritten now cs) ++ above → AreWhole now → differs before now f s ≡ true → has_place f s cs ≡ false → ⊥
+    before ≡ take n (frames_with_old_cells now cs) ++ above → AreWhole now → differs before now f s ≡ true → has_place f s cs ≡ false → ⊥
 shared-named n now above cs before f s l lt p w d e =
     let same : number_of before f s ≡ number_of now f s =
-    ap (λ gs. number_of gs f s) p ∙ (number-shared n now above cs f s l lt ∙ (number-rewritten now cs f s w
+    ap (λ gs. number_of gs f s) p ∙ (number-shared n now above cs f s l lt ∙ (number-frames_with_old_cells now cs f s w
     ∙ (ap (over (number_of now f s)) (none-carried f s cs e) ∙ over-none (number_of now f s)))) in
     let none : diff_at before now f s ≡ [] =
     diff-changed before now f s ∙ ap (change_at f s) (ap (λ o. changed o (number_of now f s)) same ∙ unchanged now f s (parts before now f s d).1) in
@@ -258,7 +258,7 @@ shared-named n now above cs before f s l lt p w d e =
 
 -- each place that differs is looked at
 covered : (n count : ℕ) (now above : List PlainFrame) (cs : Carry Cell) (before : List PlainFrame) (f s : ℕ) → n ≤ length now → count ≡ min (length above) (length now - n) →
-    before ≡ take n (rewritten now cs) ++ above → AreWhole now → differs before now f s ≡ true →
+    before ≡ take n (frames_with_old_cells now cs) ++ above → AreWhole now → differs before now f s ≡ true →
     has_place f s (diffs_at before now cs ++ diffs_between before now n count) ≡ true
 covered n count now above cs before f s l q p w d =
     elim (or-above f n) [
@@ -275,15 +275,15 @@ covered n count now above cs before f s l q p w d =
     below : n ≤ f → f < n + count
     below le =
         let len = shared-length n now cs l in
-        let sum = length-append (take n (rewritten now cs)) above in
+        let sum = length-append (take n (frames_with_old_cells now cs)) above in
         let b : f < length before = number-frame before f s (parts before now f s d).0 in
         let a : f < length now = number-frame now f s (parts before now f s d).1 in
-        let wide : length before ≡ length (take n (rewritten now cs) ++ above) = ap length p in
+        let wide : length before ≡ length (take n (frames_with_old_cells now cs) ++ above) = ap length p in
         omega (arith, len, sum, b, a, wide, q)
 
 -- what is found there gives a carry all changes
 pub found-gain : (n count : ℕ) (now above : List PlainFrame) (cs : Carry Cell) (before : List PlainFrame) (found : List (Change Cell)) → n ≤ length now →
-    count ≡ min (length above) (length now - n) → before ≡ take n (rewritten now cs) ++ above → AreWhole now →
+    count ≡ min (length above) (length now - n) → before ≡ take n (frames_with_old_cells now cs) ++ above → AreWhole now →
     found ≡ diffs_at before now cs ++ diffs_between before now n count → SameGain found (diffs before now)
 found-gain n count now above cs before found l q p w e =
     let looked : List (Change Cell) = diffs_at before now cs ++ diffs_between before now n count in

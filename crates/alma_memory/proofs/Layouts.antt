@@ -13,7 +13,7 @@ use Rattle.alma_code.specs.declared.head.ParamKind.TheVariants as param
 use Rattle.alma_code.specs.declared.head.CodeParam.{CodeParam}
 use Rattle.alma_code.specs.Head.{PlainHead}
 use Rattle.alma_code.specs.Picture.{PlainFrame, no_frame}
-use Rattle.alma_code.specs.Layout.{RunsRise, kinds_of, blank_of, no_param, args_cells, arg_cells, mix_cells, copied_cells, cells_at, FitsParam, FitsParams, FitsMix, FitsPlace, IsHead, blank_cells, entered_cells}
+use Rattle.alma_code.specs.Layout.{RunsRise, kinds_of, blank_of, no_param, args_cells, arg_cells, mix_cells, cells_behind_argument, cells_at, FitsParam, FitsParams, FitsMix, FitsPlace, IsHead, blank_cells, cells_of_call}
 use Rattle.alma_code.specs.Carries.{IsLive, number_at}
 use Rattle.alma_code.proofs.Heads.{param_kinds, params_kinds, first-kinds}
 use Rattle.alma_memory.specs.Frames.{AreWhole}
@@ -69,7 +69,7 @@ taken-length fs (suc n) p w live e =
     length-take-le p.len (drop p.slot (get_or fs p.frame no_frame).cells) le ∙ e
 
 -- copied cells fill their parameter
-pub copied-length : (fs : List PlainFrame) (n : ℕ) (c : Cell) → AreWhole fs → FitsPlace (IsLive fs) n c → length (copied_cells fs c) ≡ n
+pub copied-length : (fs : List PlainFrame) (n : ℕ) (c : Cell) → AreWhole fs → FitsPlace (IsLive fs) n c → length (cells_behind_argument fs c) ≡ n
 copied-length fs n (cell.Place p) w h = taken-length fs n p w h.1 h.0
 copied-length fs n (cell.Int i) w h = absurd h
 copied-length fs n cell.Unknown w h = absurd h
@@ -159,7 +159,7 @@ head-fits h i =
 
 -- an entered frame has a cell for each kind
 pub entered-length : (fs : List PlainFrame) (h : PlainHead) (args : List Cell) → IsHead h → AreWhole fs → FitsParams (IsLive fs) (λ routine. IsLive fs) h.params args →
-    length (kinds_of 0 h.runs) ≡ length (entered_cells fs h args)
+    length (kinds_of 0 h.runs) ≡ length (cells_of_call fs h args)
 entered-length fs h args i w f =
     let first : List Cell = args_cells fs h.params args (length h.params) in
     let a : length first ≡ length (params_kinds (take (length h.params) h.params)) = args-length fs h.params args (length h.params) w f (omega arith) in

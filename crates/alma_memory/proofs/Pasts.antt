@@ -5,7 +5,7 @@ use Rattle.alma_base.specs.Carry.{Change, Carry, is_before, is_same_place, with_
 use Rattle.alma_base.specs.Choice.{if_true}
 use Rattle.alma_code.specs.declared.cell.Cell.{Cell}
 use Rattle.alma_code.specs.Picture.{PlainFrame, no_frame, frame_with, written, without_last}
-use Rattle.alma_memory.specs.Past.{rewritten}
+use Rattle.alma_memory.specs.Inner.Past.{frames_with_old_cells}
 use Rattle.alma_memory.proofs.Carrying.{same-place-is}
 use Rattle.alma_memory.proofs.Rising.{if-keeps, same-itself}
 
@@ -29,9 +29,9 @@ take-take-le (suc m) (suc n) (x ∷ xs) l = ap (λ ys. x ∷ ys) (take-take-le m
 -- ---- writes
 
 -- old cells leave as many frames
-pub length-rewritten : (fs : List PlainFrame) (cs : Carry Cell) → length (rewritten fs cs) ≡ length fs
-length-rewritten fs [] = refl
-length-rewritten fs (x ∷ cs) = length-set (rewritten fs cs) x.frame (frame_with (get_or (rewritten fs cs) x.frame no_frame) x.slot x.cell) ∙ length-rewritten fs cs
+pub length-frames_with_old_cells : (fs : List PlainFrame) (cs : Carry Cell) → length (frames_with_old_cells fs cs) ≡ length fs
+length-frames_with_old_cells fs [] = refl
+length-frames_with_old_cells fs (x ∷ cs) = length-set (frames_with_old_cells fs cs) x.frame (frame_with (get_or (frames_with_old_cells fs cs) x.frame no_frame) x.slot x.cell) ∙ length-frames_with_old_cells fs cs
 
 -- of two writes to one slot the second counts
 written-again : (fs : List PlainFrame) (f s : ℕ) (c d : Cell) → written (written fs f s c) f s d ≡ written fs f s d
@@ -48,20 +48,20 @@ written-apart (x ∷ fs) (suc f) s zero t c d h = refl
 written-apart (x ∷ fs) (suc f) s (suc g) t c d h = ap (λ gs. x ∷ gs) (written-apart fs f s g t c d (λ e. h (ap suc e)))
 
 -- a change of the carry is one more write
-pub rewritten-with : (fs : List PlainFrame) (x : Change Cell) (cs : Carry Cell) → rewritten fs (with_change x cs) ≡ written (rewritten fs cs) x.frame x.slot x.cell
-rewritten-with fs x [] = refl
-rewritten-with fs x (y ∷ cs) =
-    let P : Carry Cell → Type 0 = (λ zs. rewritten fs zs ≡ written (rewritten fs (y ∷ cs)) x.frame x.slot x.cell) in
+pub frames_with_old_cells-with : (fs : List PlainFrame) (x : Change Cell) (cs : Carry Cell) → frames_with_old_cells fs (with_change x cs) ≡ written (frames_with_old_cells fs cs) x.frame x.slot x.cell
+frames_with_old_cells-with fs x [] = refl
+frames_with_old_cells-with fs x (y ∷ cs) =
+    let P : Carry Cell → Type 0 = (λ zs. frames_with_old_cells fs zs ≡ written (frames_with_old_cells fs (y ∷ cs)) x.frame x.slot x.cell) in
     let q = is_same_place x.frame x.slot y.frame y.slot in
     if-keeps P (is_before x.frame x.slot y.frame y.slot) (λ _. x ∷ y ∷ cs) (λ _. if_true q (λ _. x ∷ cs) (λ _. y ∷ with_change x cs))
     (λ _. refl)
     (λ _. if-keeps P q (λ _. x ∷ cs) (λ _. y ∷ with_change x cs)
     (λ s. let one = same-place-is x.frame x.slot y.frame y.slot s in
-    sym (ap (λ f. written (written (rewritten fs cs) f y.slot y.cell) x.frame x.slot x.cell) (sym one.0)
-    ∙ (ap (λ t. written (written (rewritten fs cs) x.frame t y.cell) x.frame x.slot x.cell) (sym one.1)
-    ∙ written-again (rewritten fs cs) x.frame x.slot y.cell x.cell)))
-    (λ ns. ap (λ gs. written gs y.frame y.slot y.cell) (rewritten-with fs x cs)
-    ∙ written-apart (rewritten fs cs) x.frame x.slot y.frame y.slot x.cell y.cell
+    sym (ap (λ f. written (written (frames_with_old_cells fs cs) f y.slot y.cell) x.frame x.slot x.cell) (sym one.0)
+    ∙ (ap (λ t. written (written (frames_with_old_cells fs cs) x.frame t y.cell) x.frame x.slot x.cell) (sym one.1)
+    ∙ written-again (frames_with_old_cells fs cs) x.frame x.slot y.cell x.cell)))
+    (λ ns. ap (λ gs. written gs y.frame y.slot y.cell) (frames_with_old_cells-with fs x cs)
+    ∙ written-apart (frames_with_old_cells fs cs) x.frame x.slot y.frame y.slot x.cell y.cell
     (λ e d. let no : true ≡ false = sym (rw (← e, ← d) (same-itself x.frame x.slot)) ∙ ns in absurd (cc))))
 
 -- a write to one of the first frames
@@ -86,32 +86,32 @@ written-right (x ∷ xs) ys (suc f) s i c e = ap (λ gs. x ∷ gs) (written-righ
 -- ---- what a note changes
 
 -- the frames that are shared, with their old cells
-pub shared-length : (n : ℕ) (now : List PlainFrame) (cs : Carry Cell) → n ≤ length now → length (take n (rewritten now cs)) ≡ n
-shared-length n now cs l = length-take-le n (rewritten now cs) (rw (length-rewritten now cs) l)
+pub shared-length : (n : ℕ) (now : List PlainFrame) (cs : Carry Cell) → n ≤ length now → length (take n (frames_with_old_cells now cs)) ≡ n
+shared-length n now cs l = length-take-le n (frames_with_old_cells now cs) (rw (length-frames_with_old_cells now cs) l)
 
 -- a write to a shared frame
 pub wrote-shared : (n : ℕ) (now above : List PlainFrame) (cs cs' : Carry Cell) (x : Change Cell) → n ≤ length now → x.frame < n → cs' ≡ with_change x cs →
-    take n (rewritten now cs') ++ above ≡ written (take n (rewritten now cs) ++ above) x.frame x.slot x.cell
+    take n (frames_with_old_cells now cs') ++ above ≡ written (take n (frames_with_old_cells now cs) ++ above) x.frame x.slot x.cell
 wrote-shared n now above cs cs' x l lt e =
     let len = shared-length n now cs l in
-    ap (λ gs. take n gs ++ above) (ap (rewritten now) e ∙ rewritten-with now x cs)
-    ∙ (ap (λ gs. gs ++ above) (take-written n (rewritten now cs) x.frame x.slot x.cell)
-    ∙ sym (written-left (take n (rewritten now cs)) above x.frame x.slot x.cell (omega (arith, len, lt))))
+    ap (λ gs. take n gs ++ above) (ap (frames_with_old_cells now) e ∙ frames_with_old_cells-with now x cs)
+    ∙ (ap (λ gs. gs ++ above) (take-written n (frames_with_old_cells now cs) x.frame x.slot x.cell)
+    ∙ sym (written-left (take n (frames_with_old_cells now cs)) above x.frame x.slot x.cell (omega (arith, len, lt))))
 
 -- a write to a frame above the shared ones
 pub wrote-above : (n : ℕ) (now above above' : List PlainFrame) (cs : Carry Cell) (f s : ℕ) (c : Cell) → n ≤ length now → n ≤ f → above' ≡ written above (f - n) s c →
-    take n (rewritten now cs) ++ above' ≡ written (take n (rewritten now cs) ++ above) f s c
+    take n (frames_with_old_cells now cs) ++ above' ≡ written (take n (frames_with_old_cells now cs) ++ above) f s c
 wrote-above n now above above' cs f s c l le e =
     let len = shared-length n now cs l in
-    let at : length (take n (rewritten now cs)) + (f - n) ≡ f = omega (arith, len, le) in
-    ap (λ gs. take n (rewritten now cs) ++ gs) e ∙ sym (written-right (take n (rewritten now cs)) above f s (f - n) c at)
+    let at : length (take n (frames_with_old_cells now cs)) + (f - n) ≡ f = omega (arith, len, le) in
+    ap (λ gs. take n (frames_with_old_cells now cs) ++ gs) e ∙ sym (written-right (take n (frames_with_old_cells now cs)) above f s (f - n) c at)
 
 -- a frame above the shared ones
 pub at-above : (n : ℕ) (now above : List PlainFrame) (cs : Carry Cell) (f : ℕ) → n ≤ length now → n ≤ f →
-    get_or (take n (rewritten now cs) ++ above) f no_frame ≡ get_or above (f - n) no_frame
+    get_or (take n (frames_with_old_cells now cs) ++ above) f no_frame ≡ get_or above (f - n) no_frame
 at-above n now above cs f l le =
     let len = shared-length n now cs l in
-    get_or-append_right (take n (rewritten now cs)) above n f no_frame len le
+    get_or-append_right (take n (frames_with_old_cells now cs)) above n f no_frame len le
 
 -- no frames on top
 none : (fs : List PlainFrame) → fs ≡ fs ++ []
@@ -119,23 +119,23 @@ none fs = rw append-nil refl
 
 -- an entry to the last of the shared frames
 pub entered-shared : (n : ℕ) (now above above' : List PlainFrame) (cs : Carry Cell) → n ≤ length now → above ≡ [] → above' ≡ [] →
-    take (n - 1) (rewritten now cs) ++ above' ≡ without_last (take n (rewritten now cs) ++ above)
+    take (n - 1) (frames_with_old_cells now cs) ++ above' ≡ without_last (take n (frames_with_old_cells now cs) ++ above)
 entered-shared n now above above' cs l e e' =
     let len = shared-length n now cs l in
     let less : n - 1 ≤ n = omega arith in
-    ap (λ gs. take (n - 1) (rewritten now cs) ++ gs) e' ∙ (sym (none (take (n - 1) (rewritten now cs)))
-    ∙ (sym (take-take-le (n - 1) n (rewritten now cs) less) ∙ (ap (λ k. take (k - 1) (take n (rewritten now cs))) (sym len)
-    ∙ ap without_last (none (take n (rewritten now cs)) ∙ ap (λ gs. take n (rewritten now cs) ++ gs) (sym e)))))
+    ap (λ gs. take (n - 1) (frames_with_old_cells now cs) ++ gs) e' ∙ (sym (none (take (n - 1) (frames_with_old_cells now cs)))
+    ∙ (sym (take-take-le (n - 1) n (frames_with_old_cells now cs) less) ∙ (ap (λ k. take (k - 1) (take n (frames_with_old_cells now cs))) (sym len)
+    ∙ ap without_last (none (take n (frames_with_old_cells now cs)) ∙ ap (λ gs. take n (frames_with_old_cells now cs) ++ gs) (sym e)))))
 
 -- a frame of before that is not shared is there
 pub above-there : (n : ℕ) (now above : List PlainFrame) (cs : Carry Cell) (f : ℕ) → n ≤ length now → n ≤ f →
-    f < length (take n (rewritten now cs) ++ above) → f - n < length above
+    f < length (take n (frames_with_old_cells now cs) ++ above) → f - n < length above
 above-there n now above cs f l le lt =
     let len = shared-length n now cs l in
-    let sum = length-append (take n (rewritten now cs)) above in
+    let sum = length-append (take n (frames_with_old_cells now cs)) above in
     omega (arith, len, sum, le, lt)
 
 -- the frame that is read above the shared ones
 pub above-read : (n : ℕ) (now above : List PlainFrame) (cs : Carry Cell) (f : ℕ) (g : PlainFrame) → n ≤ length now → n ≤ f →
-    f < length (take n (rewritten now cs) ++ above) → g ≡ get_or above (f - n) g → g ≡ get_or above (f - n) no_frame
+    f < length (take n (frames_with_old_cells now cs) ++ above) → g ≡ get_or above (f - n) g → g ≡ get_or above (f - n) no_frame
 above-read n now above cs f g l le lt e = get_or_read above (f - n) g (above-there n now above cs f l le lt) e no_frame

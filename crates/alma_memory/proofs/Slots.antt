@@ -6,7 +6,7 @@ use Rattle.std.proofs.lemmas.List.{nil_from_length}
 use Rattle.std.proofs.lemmas.List.Elements.{All-append, All-cons, All-nil, All-take, All-get_or}
 use Rattle.alma_code.specs.declared.cell.ChoiceKind.{ChoiceKind}
 use Rattle.alma_code.specs.declared.cell.ChoiceKind.TheVariants.{Branch, Forall, Body, Done}
-use Rattle.alma_code.specs.Picture.{PlainEntry, no_entry, top_of, left_of, left_as}
+use Rattle.alma_code.specs.Picture.{PlainEntry, no_entry, top_of, entry_after_pop, entry_of_kind_after_pop}
 use Rattle.alma_memory.specs.Calls.{Fail, Nothing, Makes}
 use Rattle.alma_memory.specs.Picture.{Picture}
 use Rattle.alma_memory.specs.Slots.{HasSlots, KeepsSlots}
@@ -16,7 +16,7 @@ abbrev CopyHasSlots : ℕ → PlainEntry → Type 0
 CopyHasSlots slots entry = HasSlots slots entry.frames
 
 -- what a pop leaves of an entry has its copy
-left-slots : (slots : ℕ) (kind : ChoiceKind) (e : PlainEntry) → CopyHasSlots slots e → All (CopyHasSlots slots) (left_as kind e)
+left-slots : (slots : ℕ) (kind : ChoiceKind) (e : PlainEntry) → CopyHasSlots slots e → All (CopyHasSlots slots) (entry_of_kind_after_pop kind e)
 left-slots slots Forall e h = All-cons (CopyHasSlots slots) (record e { kind = Done }) [] h (All-nil (CopyHasSlots slots))
 left-slots slots Branch e h = All-nil (CopyHasSlots slots)
 left-slots slots Body e h = All-nil (CopyHasSlots slots)
@@ -30,12 +30,12 @@ fail-slots slots p q m some h =
     let top : CopyHasSlots slots (top_of p.held) = All-get_or (CopyHasSlots slots) p.held (length p.held - 1) no_entry lt h.held in
     record {
       now = rw m.now top;
-      held = rw m.held (All-append (CopyHasSlots slots) (take (length p.held - 1) p.held) (left_of (top_of p.held))
+      held = rw m.held (All-append (CopyHasSlots slots) (take (length p.held - 1) p.held) (entry_after_pop (top_of p.held))
           (All-take (CopyHasSlots slots) (length p.held - 1) p.held h.held) (left-slots slots (top_of p.held).kind (top_of p.held) top));
     }
 
 -- and so does a pop that may find no entry
-pub popped-slots : {A : Type 0} (popped : Option A) (slots : ℕ) (p q : Picture) → (IsNone popped ↔ (p.held ≡ [])) →
-    Makes (if is_some popped then Fail else Nothing) p q → KeepsSlots slots p → KeepsSlots slots q
-popped-slots None slots p q none m h = record { now = rw m.now h.now; held = rw m.held h.held }
-popped-slots (Some r) slots p q none m h = fail-slots slots p q m (λ e. let no : true ≡ false = none.1 e in absurd (cc)) h
+pub stack_after_pop-slots : {A : Type 0} (stack_after_pop : Option A) (slots : ℕ) (p q : Picture) → (IsNone stack_after_pop ↔ (p.held ≡ [])) →
+    Makes (if is_some stack_after_pop then Fail else Nothing) p q → KeepsSlots slots p → KeepsSlots slots q
+stack_after_pop-slots None slots p q none m h = record { now = rw m.now h.now; held = rw m.held h.held }
+stack_after_pop-slots (Some r) slots p q none m h = fail-slots slots p q m (λ e. let no : true ≡ false = none.1 e in absurd (cc)) h

@@ -6,14 +6,14 @@ use Rattle.alma_code.specs.declared.cell.Cell.{Cell}
 use Rattle.alma_code.specs.declared.cell.Cell.TheVariants.{Unknown}
 use Rattle.alma_code.specs.declared.cell.ChoiceKind.{ChoiceKind}
 use Rattle.alma_code.specs.declared.cell.ChoiceKind.TheVariants.{Branch, Forall, Body, Done}
-use Rattle.alma_code.specs.Picture.{PlainFrame, PlainEntry, no_frame, no_entry, frame_with, written, cell_at, top_of, kind_at, popped, left_of, left_as, without_last, last_frame, live_cells}
+use Rattle.alma_code.specs.Picture.{PlainFrame, PlainEntry, no_frame, no_entry, frame_with, written, cell_at, top_of, kind_at, stack_after_pop, entry_after_pop, entry_of_kind_after_pop, without_last, last_frame, live_cells}
 use Rattle.alma_memory.specs.declared.carry.SlotPlace.{SlotPlace}
 use Rattle.alma_memory.specs.declared.trail.Note.{Note}
 use Rattle.alma_memory.specs.declared.trail.Note.TheVariants.{Wrote, Entered, Left}
 use Rattle.alma_memory.specs.declared.trail.Entry.{Entry}
 use Rattle.alma_memory.specs.Frames.{IsWhole, AreLive}
-use Rattle.alma_memory.specs.Trail.{undo, unwind, entry_of, held_of, noted, settled}
-use Rattle.alma_memory.specs.Held.{Undoes, Fits, Rises, IsTrailed, Keeps, stays, stays_as}
+use Rattle.alma_memory.specs.Inner.Trail.{undo, unwind, entry_of, held_of, noted, trail_for_entries}
+use Rattle.alma_memory.specs.Inner.Held.{Undoes, Fits, Rises, IsTrailed, Keeps, stays, stays_as}
 use Rattle.alma_memory.proofs.Stores.{live-push, live-after-write, undo-written, without-push, last-and-rest, whole-push, whole-take}
 
 -- ---- notes
@@ -183,13 +183,13 @@ leave-keeps es trail trail' fs fs' g p o t l trailed =
 -- ---- entries that are dropped
 
 -- a settled trail keeps all copies
-pub settled-keeps : (es : List Entry) (trail : List Note) (fs : List PlainFrame) →
-    Fits trail fs → Rises 0 es (length trail) → Keeps es trail (settled es trail) fs fs
-settled-keeps [] trail fs f r = record {
+pub trail_for_entries-keeps : (es : List Entry) (trail : List Note) (fs : List PlainFrame) →
+    Fits trail fs → Rises 0 es (length trail) → Keeps es trail (trail_for_entries es trail) fs fs
+trail_for_entries-keeps [] trail fs f r = record {
   held = refl;
   trailed = record { fits = fits-now trail fs f; live = fits-now trail fs f; rises = omega arith; idle = λ _. refl };
 }
-settled-keeps (d ∷ es) trail fs f r = record {
+trail_for_entries-keeps (d ∷ es) trail fs f r = record {
   held = refl;
   trailed = record { fits = f; live = fits-now trail fs f; rises = r; idle = λ h. absurd (omega (arith, h)) };
 }
@@ -205,11 +205,11 @@ pub record Cuts (h : ℕ) (es es' : List Entry) (trail after : List Note) (fs : 
   pub trailed : IsTrailed es' after fs
 
 -- a cut keeps the copies below it
-pub cut-keeps : (h : ℕ) (trail after : List Note) (fs : List PlainFrame) (es es' : List Entry) → es' ≡ take h es → after ≡ settled es' trail →
+pub cut-keeps : (h : ℕ) (trail after : List Note) (fs : List PlainFrame) (es es' : List Entry) → es' ≡ take h es → after ≡ trail_for_entries es' trail →
     IsTrailed es trail fs → Cuts h es es' trail after fs
 cut-keeps h trail after fs es es' p q t =
     let rises : Rises 0 es' (length trail) = rw p (rises-take h 0 (length trail) es t.rises) in
-    let k : Keeps es' trail (settled es' trail) fs fs = settled-keeps es' trail fs t.fits rises in
+    let k : Keeps es' trail (trail_for_entries es' trail) fs fs = trail_for_entries-keeps es' trail fs t.fits rises in
     record { held = rw q k.held ∙ cut-held h trail fs es es' p; trailed = rw q k.trailed }
 
 -- a stack with a top entry
@@ -219,11 +219,11 @@ top-push es e =
     ap (λ k. get_or (es ++ e ∷ []) k no_entry) n ∙ get_or_at es e [] no_entry (length es) refl
 
 -- a pop of a stack with a top entry
-pub popped-push : (es : List PlainEntry) (e : PlainEntry) → popped (es ++ e ∷ []) ≡ es ++ left_of e
-popped-push es e =
+pub stack_after_pop-push : (es : List PlainEntry) (e : PlainEntry) → stack_after_pop (es ++ e ∷ []) ≡ es ++ entry_after_pop e
+stack_after_pop-push es e =
     let n : length (es ++ e ∷ []) - 1 ≡ length es = rw (length_push es e) (omega arith) in
     let below : take (length (es ++ e ∷ []) - 1) (es ++ e ∷ []) ≡ es = ap (λ k. take k (es ++ e ∷ [])) n ∙ take_at es (e ∷ []) (length es) refl in
-    ap (λ xs. xs ++ left_of (top_of (es ++ e ∷ []))) below ∙ ap (λ x. es ++ left_of x) (top-push es e)
+    ap (λ xs. xs ++ entry_after_pop (top_of (es ++ e ∷ []))) below ∙ ap (λ x. es ++ entry_after_pop x) (top-push es e)
 
 -- the top of the stack is the last entry with its copy
 pub top-held : (es : List Entry) (e : Entry) (trail : List Note) (fs : List PlainFrame) → top_of (held_of trail fs (es ++ e ∷ [])) ≡ entry_of trail fs e
@@ -238,7 +238,7 @@ entry-at-mark e trail fs l =
 
 -- what stays of an entry has its copy
 pub stays-held : (k : ChoiceKind) (e : Entry) (trail : List Note) (fs : List PlainFrame) → e.mark ≤ length trail →
-    held_of (take e.mark trail) (unwind (drop e.mark trail) fs) (stays_as k e) ≡ left_as k (entry_of trail fs e)
+    held_of (take e.mark trail) (unwind (drop e.mark trail) fs) (stays_as k e) ≡ entry_of_kind_after_pop k (entry_of trail fs e)
 stays-held Forall e trail fs l =
     ap (λ gs. record { kind = Done; resume = e.resume; frames = gs; carry = e.carry } ∷ [])
     (entry-at-mark e trail (unwind (drop e.mark trail) fs) l)
@@ -256,7 +256,7 @@ stays-rises Done es e n r q = rw append-nil (rw (← q) r)
 -- what the undoing of the notes above the mark of an entry gives
 pub record Pops (es : List Entry) (e : Entry) (trail after : List Note) (fs gs : List PlainFrame) : Type 0 where
   pub now : gs ≡ (top_of (held_of trail fs (es ++ e ∷ []))).frames
-  pub held : held_of after gs (es ++ stays e) ≡ popped (held_of trail fs (es ++ e ∷ []))
+  pub held : held_of after gs (es ++ stays e) ≡ stack_after_pop (held_of trail fs (es ++ e ∷ []))
   pub rises : Rises 0 (es ++ stays e) (length after)
 
 -- the notes above the mark of an entry, undone, give its copy
@@ -270,25 +270,25 @@ pops es e trail fs r =
       held = map-append (entry_of (take e.mark trail) (unwind (drop e.mark trail) fs)) es (stays e)
           ∙ (ap (λ xs. xs ++ held_of (take e.mark trail) (unwind (drop e.mark trail) fs) (stays e)) (held-unwound e.mark 0 trail fs es p.0 p.1)
           ∙ (ap (λ xs. held_of trail fs es ++ xs) (stays-held e.kind e trail fs p.1)
-          ∙ sym (ap popped split ∙ popped-push (held_of trail fs es) (entry_of trail fs e))));
+          ∙ sym (ap stack_after_pop split ∙ stack_after_pop-push (held_of trail fs es) (entry_of trail fs e))));
       rises = stays-rises e.kind es e (length (take e.mark trail)) p.0 (sym (length-take-le e.mark trail p.1));
     }
 
 -- what a whole pop gives
 pub record Fails (es : List Entry) (e : Entry) (es' : List Entry) (trail after : List Note) (fs gs : List PlainFrame) : Type 0 where
   pub now : gs ≡ (top_of (held_of trail fs (es ++ e ∷ []))).frames
-  pub held : held_of after gs es' ≡ popped (held_of trail fs (es ++ e ∷ []))
+  pub held : held_of after gs es' ≡ stack_after_pop (held_of trail fs (es ++ e ∷ []))
   pub trailed : IsTrailed es' after gs
 
 -- a whole pop keeps the copies below
 pub fail-keeps : (es es' : List Entry) (e : Entry) (trail trail1 after : List Note) (fs gs : List PlainFrame) →
-    es' ≡ es ++ stays e → trail1 ≡ take e.mark trail → gs ≡ unwind (drop e.mark trail) fs → after ≡ settled es' trail1 →
+    es' ≡ es ++ stays e → trail1 ≡ take e.mark trail → gs ≡ unwind (drop e.mark trail) fs → after ≡ trail_for_entries es' trail1 →
     Fits trail1 gs → Rises 0 (es ++ e ∷ []) (length trail) → Fails es e es' trail after fs gs
 fail-keeps es es' e trail trail1 after fs gs q t g u f r =
     let pop : Pops es e trail (take e.mark trail) fs (unwind (drop e.mark trail) fs) = pops es e trail fs r in
-    let k : Keeps es' trail1 (settled es' trail1) gs gs = settled-keeps es' trail1 gs f (rw (t, q) pop.rises) in
+    let k : Keeps es' trail1 (trail_for_entries es' trail1) gs gs = trail_for_entries-keeps es' trail1 gs f (rw (t, q) pop.rises) in
     let one : held_of after gs es' ≡ held_of trail1 gs es' = rw u k.held in
-    let two : held_of trail1 gs es' ≡ popped (held_of trail fs (es ++ e ∷ [])) = rw (t, g, q) pop.held in
+    let two : held_of trail1 gs es' ≡ stack_after_pop (held_of trail fs (es ++ e ∷ [])) = rw (t, g, q) pop.held in
     record {
       now = g ∙ pop.now;
       held = one ∙ two;

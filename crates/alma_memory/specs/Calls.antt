@@ -2,8 +2,8 @@
 use Rattle.std.specs.Prelude.{◌≡◌, ℕ, ◌-◌, ◌≤◌, List, [], ◌∷◌, ◌++◌, length, take}
 use Rattle.alma_code.specs.declared.cell.Cell.{Cell}
 use Rattle.alma_code.specs.declared.cell.ChoiceKind.{ChoiceKind}
-use Rattle.alma_code.specs.Picture.{PlainFrame, PlainEntry, written, without_last, top_of, entry_at, popped}
-use Rattle.alma_code.specs.Carries.{overlaid, kept}
+use Rattle.alma_code.specs.Picture.{PlainFrame, PlainEntry, written, without_last, top_of, entry_at, stack_after_pop}
+use Rattle.alma_code.specs.Carries.{frames_with_carry, kept}
 use Rattle.alma_memory.specs.Picture.{Picture}
 
 -- a call that did what it was asked for; a reader, `reserve` and a refused call are all `Nothing`
@@ -28,9 +28,9 @@ now_after Leave p = without_last p.now
 now_after (Choose kind resume) p = p.now
 now_after Fail p = (top_of p.held).frames
 now_after (Cut height) p = p.now
-now_after (Overlay height) p = overlaid p.now (entry_at p.held height).carry
+now_after (Overlay height) p = frames_with_carry p.now (entry_at p.held height).carry
 now_after (Keep height) p = p.now
-now_after Finish p = overlaid p.now (top_of p.held).carry
+now_after Finish p = frames_with_carry p.now (top_of p.held).carry
 
 -- the stack after a call
 abbrev pub held_after : Call → Picture → List PlainEntry
@@ -39,7 +39,7 @@ held_after (Write frame slot cell) p = p.held
 held_after (Enter frame) p = p.held
 held_after Leave p = p.held
 held_after (Choose kind resume) p = p.held ++ (record { kind = kind; resume = resume; frames = p.now; carry = [] }) ∷ []
-held_after Fail p = popped p.held
+held_after Fail p = stack_after_pop p.held
 held_after (Cut height) p = take height p.held
 held_after (Overlay height) p = p.held
 held_after (Keep height) p = kept p.held height p.now

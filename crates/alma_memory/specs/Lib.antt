@@ -1,11 +1,7 @@
 pub mod Calls
 pub mod Carries
-pub mod Counted
 pub mod Frames
-pub mod Gain
-pub mod Held
-pub mod Past
 pub mod Picture
 pub mod Refusals
 pub mod Slots
-pub mod Trail
+pub mod Inner

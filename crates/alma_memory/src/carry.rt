@@ -1,7 +1,7 @@
 // The carry of a FORALL: a finite map from slots to cells.
 ghost use Rattle.std.specs.Prelude.{◌≡◌, ◌≤◌, [], length, take, is_ok, IsOk, IfOk, OnOk, if◌then◌else◌, vec_len, vec_capacity};
 ghost use Rattle.alma_base.specs.Carry.{carried_at, with_change, with_changes};
-ghost use Rattle.alma_memory.specs.Carries.{IsRising, change_of, hads, listed, put_back, all_put_back};
+ghost use Rattle.alma_memory.specs.Carries.{IsRising, change_of, cells_before_setting, listed, put_back, all_put_back};
 
 use alma_base::NoMemory;
 use alma_code::Cell;
@@ -102,7 +102,7 @@ impl Carry {
         requires empty { had.old.items ≡ [] }
         requires room { length changes.now ≤ vec_capacity had.old }
         ensures carry { self.new ≡ with_changes (listed (take (vec_len had.new) changes.now)) self.old }
-        ensures had { had.new.items ≡ hads (take (vec_len had.new) changes.now) self.old }
+        ensures had { had.new.items ≡ cells_before_setting (take (vec_len had.new) changes.now) self.old }
         ensures some { vec_len had.new ≤ length changes.now }
         ensures all { IsOk result → vec_len had.new ≡ length changes.now }
         ensures rising { IsRising self.old }

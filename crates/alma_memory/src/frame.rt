@@ -3,7 +3,7 @@ ghost use Rattle.std.specs.Prelude.{◌≡◌, ◌<◌, length, slice_get, slice
 ghost use Rattle.alma_code.specs.Picture.{frame_with};
 ghost use Rattle.alma_code.specs.Kinds.{is_number};
 ghost use Rattle.alma_memory.specs.Frames.{IsWhole};
-ghost use Rattle.alma_memory.specs.Past.{number_in};
+ghost use Rattle.alma_memory.specs.Inner.Past.{number_in};
 ghost use Rattle.alma_code.specs.declared.cell.Cell.TheVariants as cell;
 
 use alma_base::NoMemory;

@@ -3,7 +3,7 @@ ghost use Rattle.std.specs.Prelude.{◌≡◌, ℕ, ◌+◌, ◌<◌, ◌≤◌,
 ghost use Rattle.alma_code.specs.Picture.{no_frame, written, cell_at, last_frame, without_last, live_cells};
 ghost use Rattle.alma_code.specs.Carries.{number_at};
 ghost use Rattle.alma_memory.specs.Frames.{AreWhole};
-ghost use Rattle.alma_memory.specs.Past.{number_of};
+ghost use Rattle.alma_memory.specs.Inner.Past.{number_of};
 ghost use Rattle.alma_code.specs.declared.cell.Cell.TheVariants as cell;
 
 use crate::carry::SlotPlace;
@@ -32,7 +32,7 @@ impl Model for Frames {
 
     ghost Value = { List PlainFrame };
 
-    ghost use Rattle.alma_memory.specs.Counted.{IsCounted};
+    ghost use Rattle.alma_memory.specs.Inner.Counted.{IsCounted};
 
     ghost view = { λ f. f.list.items };
 

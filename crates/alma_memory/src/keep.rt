@@ -2,10 +2,10 @@
 ghost use Rattle.std.specs.Prelude.{◌≡◌, ◌-◌, ◌<◌, ◌≤◌, length, drop, set, is_ok, IfOk, OnOk, slice_index_or, if◌then◌else◌, vec_len, vec_capacity};
 ghost use Rattle.alma_code.specs.Carries.{diffs, kept};
 ghost use Rattle.alma_memory.specs.Carries.{IsRising, listed};
-ghost use Rattle.alma_memory.specs.Gain.{no_saved, saved_with};
-ghost use Rattle.alma_memory.specs.Held.{Fits, IsTrailed};
-ghost use Rattle.alma_memory.specs.Past.{SameGain};
-ghost use Rattle.alma_memory.specs.Trail.{held_of, unwind};
+ghost use Rattle.alma_memory.specs.Inner.Gain.{no_saved, entry_with_changes};
+ghost use Rattle.alma_memory.specs.Inner.Held.{Fits, IsTrailed};
+ghost use Rattle.alma_memory.specs.Inner.Past.{SameGain};
+ghost use Rattle.alma_memory.specs.Inner.Trail.{held_of, unwind};
 
 use crate::carry::SlotPlace;
 use crate::frames::Frames;
@@ -38,7 +38,7 @@ fn gain(
     changes: &[(SlotPlace, Cell)],
 ) -> Result<(), NoMemory>
     requires { at < length entries.old.items }
-    ensures items { entries.new.items ≡ (if is_ok result then set entries.old.items at (saved_with (slice_index_or entries.old.items at no_saved) (listed changes.now)) else entries.old.items) }
+    ensures items { entries.new.items ≡ (if is_ok result then set entries.old.items at (entry_with_changes (slice_index_or entries.old.items at no_saved) (listed changes.now)) else entries.old.items) }
     ensures rising { OnOk result (IsRising (slice_index_or entries.old.items at no_saved).carry) }
     ensures len { vec_len entries.new ≡ vec_len entries.old }
     ensures capacity { vec_capacity entries.new ≡ vec_capacity entries.old }

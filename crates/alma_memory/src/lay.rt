@@ -1,9 +1,9 @@
 // How a carry is laid over the frames.
 ghost use Rattle.std.specs.Prelude.{◌≡◌, ◌+◌, ◌≤◌, [], ◌∷◌, ◌++◌, length, vec_len, vec_capacity};
-ghost use Rattle.alma_code.specs.Carries.{laid, overlaid};
+ghost use Rattle.alma_code.specs.Carries.{laid, frames_with_carry};
 ghost use Rattle.alma_memory.specs.Carries.{change_of};
-ghost use Rattle.alma_memory.specs.Held.{HasNoteRoom, IsTrailed, Keeps};
-ghost use Rattle.alma_memory.specs.Trail.{held_of};
+ghost use Rattle.alma_memory.specs.Inner.Held.{HasNoteRoom, IsTrailed, Keeps};
+ghost use Rattle.alma_memory.specs.Inner.Trail.{held_of};
 
 use crate::carry::{Carry, SlotPlace};
 use crate::frames::Frames;
@@ -34,7 +34,7 @@ fn lay_one(
 pub fn lay(entries: &[Entry], frames: &mut Frames, trail: &mut Vec<Note>, carry: &Carry)
     requires trailed { IsTrailed entries.now trail.old.items frames.old }
     requires room { HasNoteRoom entries.now (length carry.now) (vec_len trail.old) (vec_capacity trail.old) }
-    ensures frames { frames.new ≡ overlaid frames.old carry.now }
+    ensures frames { frames.new ≡ frames_with_carry frames.old carry.now }
     ensures keeps { Keeps entries.now trail.old.items trail.new.items frames.old frames.new }
     ensures capacity { vec_capacity trail.old ≤ vec_capacity trail.new }
     ensures len { vec_len trail.new ≤ vec_len trail.old + length carry.now }
@@ -48,7 +48,7 @@ pub fn lay(entries: &[Entry], frames: &mut Frames, trail: &mut Vec<Note>, carry:
 pub fn lay_last(entries: &[Entry], frames: &mut Frames, trail: &mut Vec<Note>, entry: Entry)
     requires trailed { IsTrailed (entries.now ++ entry ∷ []) trail.old.items frames.old }
     requires room { HasNoteRoom entries.now (length entry.carry) (vec_len trail.old) (vec_capacity trail.old) }
-    ensures frames { frames.new ≡ overlaid frames.old entry.carry }
+    ensures frames { frames.new ≡ frames_with_carry frames.old entry.carry }
     ensures held { held_of trail.new.items frames.new entries.now ≡ held_of trail.old.items frames.old entries.now }
     ensures trailed { IsTrailed entries.now trail.new.items frames.new }
     ensures capacity { vec_capacity trail.old ≤ vec_capacity trail.new }

@@ -1,6 +1,6 @@
 // How the slots of a new frame are laid out.
 ghost use Rattle.std.specs.Prelude.{◌≡◌, ℕ, ◌+◌, ◌-◌, ◌^◌, ◌<◌, ◌≤◌, [], ◌∷◌, ◌++◌, length, map, drop, replicate, IfOk};
-ghost use Rattle.alma_code.specs.Layout.{RunsRise, kinds_of, blank_of, arg_cells, FitsParam, FitsParams, FitsPlace, mix_cells, copied_cells, IsHead, entered_cells, entered_frame, start_frame};
+ghost use Rattle.alma_code.specs.Layout.{RunsRise, kinds_of, blank_of, arg_cells, FitsParam, FitsParams, FitsPlace, mix_cells, cells_behind_argument, IsHead, cells_of_call, frame_of_call, start_frame};
 ghost use Rattle.alma_code.specs.Carries.{IsLive};
 ghost use Rattle.alma_memory.specs.Frames.{AreWhole, IsWhole};
 
@@ -110,7 +110,7 @@ fn push_copies(
 ) -> Result<(), NoMemory>
     requires fits { FitsPlace (IsLive frames.now) count arg }
     requires whole { AreWhole frames.now }
-    ensures { IfOk result (λ _. cells.new.items ≡ cells.old.items ++ copied_cells frames.now arg) }
+    ensures { IfOk result (λ _. cells.new.items ≡ cells.old.items ++ cells_behind_argument frames.now arg) }
 {
     match arg {
         Cell::Place(place) if place.len > 0 => {
@@ -134,7 +134,7 @@ fn cells_from<H: Head>(
     requires whole { AreWhole frames.now }
     requires kinds { kinds.now ≡ kinds_of 0 (H.head head.now).runs }
     requires args { FitsParams (IsLive frames.now) (λ routine. IsLive frames.now) (H.head head.now).params args.now }
-    ensures { IfOk result (λ cells. cells.items ≡ entered_cells frames.now (H.head head.now) args.now) }
+    ensures { IfOk result (λ cells. cells.items ≡ cells_of_call frames.now (H.head head.now) args.now) }
 {
     let mut cells = Vec::with_capacity(alloc, head.slots() as usize)?;
     for i in 0..head.param_count() {
@@ -170,7 +170,7 @@ pub fn frame_from<H: Head>(
     requires head { IsHead (H.head head.now) }
     requires whole { AreWhole frames.now }
     requires args { FitsParams (IsLive frames.now) (λ routine. IsLive frames.now) (H.head head.now).params args.now }
-    ensures frame { IfOk result (λ frame. frame ≡ entered_frame frames.now (H.head head.now) routine ret args.now) }
+    ensures frame { IfOk result (λ frame. frame ≡ frame_of_call frames.now (H.head head.now) routine ret args.now) }
     ensures whole { IfOk result IsWhole }
 {
     let kinds = kinds_from(alloc, head)?;

@@ -1,8 +1,8 @@
 // The memory of the machine, and its calls.
 ghost use Rattle.std.specs.Prelude.{◌≡◌, ◌≢◌, ◌+◌, ◌-◌, ◌<◌, ◌≤◌, [], ◌∷◌, ◌++◌, length, take, is_ok, is_some, slice_index_or, slice_get, Some, IfOk, OnOk, OnErr, IsOk, IsSome, IsNone, IfSome, IfNone, MatchResult, if◌then◌else◌, ◌↔◌};
-ghost use Rattle.alma_code.specs.Picture.{no_frame, written, cell_at, kind_at, last_frame, without_last, live_cells, popped, top_of, entry_at};
-ghost use Rattle.alma_code.specs.Carries.{IsLive, IsForallAt, IsTop, kept, overlaid};
-ghost use Rattle.alma_code.specs.Layout.{IsHead, FitsParams, start_frame, entered_frame};
+ghost use Rattle.alma_code.specs.Picture.{no_frame, written, cell_at, kind_at, last_frame, without_last, live_cells, stack_after_pop, top_of, entry_at};
+ghost use Rattle.alma_code.specs.Carries.{IsLive, IsForallAt, IsTop, kept, frames_with_carry};
+ghost use Rattle.alma_code.specs.Layout.{IsHead, FitsParams, start_frame, frame_of_call};
 ghost use Rattle.alma_code.specs.declared.cell.Cell.TheVariants as cell;
 ghost use Rattle.alma_memory.specs.Calls.{Choose, Cut, Enter, Fail, Finish, Keep, Leave, Makes, Nothing, Overlay, Write};
 ghost use Rattle.alma_memory.specs.Picture.{KeepsRooms};
@@ -55,8 +55,8 @@ impl Model for Memory {
 
     ghost Value = { Picture };
 
-    ghost use Rattle.alma_memory.specs.Trail.{held_of};
-    ghost use Rattle.alma_memory.specs.Held.{IsTrailed};
+    ghost use Rattle.alma_memory.specs.Inner.Trail.{held_of};
+    ghost use Rattle.alma_memory.specs.Inner.Held.{IsTrailed};
 
     ghost view = { λ m. record {
       now = m.frames;
@@ -192,7 +192,7 @@ impl Memory {
         requires head { IsHead (H.head head.now) }
         requires args { FitsParams (IsLive self.old.now) (λ routine. IsLive self.old.now) (H.head head.now).params args.now }
         ensures now { self.new.now ≡ (if is_ok result
-            then self.old.now ++ entered_frame self.old.now (H.head head.now) routine ret args.now ∷ []
+            then self.old.now ++ frame_of_call self.old.now (H.head head.now) routine ret args.now ∷ []
             else self.old.now) }
         ensures held { self.new.held ≡ self.old.held }
         ensures answer { MatchResult result
@@ -201,7 +201,7 @@ impl Memory {
         ensures choice_room { self.old.choice_room ≤ self.new.choice_room }
         ensures trail_room { self.old.trail_room ≤ self.new.trail_room + (if is_ok result then 1 else 0) }
         ensures call { Makes
-            (if is_ok result then Enter (entered_frame self.old.now (H.head head.now) routine ret args.now) else Nothing)
+            (if is_ok result then Enter (frame_of_call self.old.now (H.head head.now) routine ret args.now) else Nothing)
             self.old self.new }
     {
         if self.frames.len() >= MAX_FRAMES {
@@ -269,7 +269,7 @@ impl Memory {
         ensures kind { IfSome result (λ resumed. resumed.kind ≡ (top_of self.old.held).kind) }
         ensures resume { IfSome result (λ resumed. resumed.resume ≡ (top_of self.old.held).resume) }
         ensures now { IsSome result → self.new.now ≡ (top_of self.old.held).frames }
-        ensures held { IsSome result → self.new.held ≡ popped self.old.held }
+        ensures held { IsSome result → self.new.held ≡ stack_after_pop self.old.held }
         ensures empty { IfNone result (self.new ≡ self.old) }
         ensures rooms { KeepsRooms self.old self.new }
         ensures call { Makes (if is_some result then Fail else Nothing) self.old self.new }
@@ -314,7 +314,7 @@ impl Memory {
     pub fn overlay(&mut self, height: usize) -> Result<(), NoMemory>
         requires { IsForallAt self.old.held height }
         ensures now { self.new.now ≡ (if is_ok result
-            then overlaid self.old.now (entry_at self.old.held height).carry
+            then frames_with_carry self.old.now (entry_at self.old.held height).carry
             else self.old.now) }
         ensures held { self.new.held ≡ self.old.held }
         ensures succeeds { length (entry_at self.old.held height).carry ≤ self.old.trail_room → IsOk result }
@@ -357,7 +357,7 @@ impl Memory {
     /// Drops the Done on top, and lays its carry over the frames.
     pub fn finish(&mut self) -> Result<(), NoMemory>
         requires { IsTop self.old.held ChoiceKind.Done }
-        ensures now { self.new.now ≡ (if is_ok result then overlaid self.old.now (top_of self.old.held).carry else self.old.now) }
+        ensures now { self.new.now ≡ (if is_ok result then frames_with_carry self.old.now (top_of self.old.held).carry else self.old.now) }
         ensures held { self.new.held ≡ (if is_ok result then take (length self.old.held - 1) self.old.held else self.old.held) }
         ensures succeeds { length (top_of self.old.held).carry ≤ self.old.trail_room → IsOk result }
         ensures choice_room { self.old.choice_room ≤ self.new.choice_room }

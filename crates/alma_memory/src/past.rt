@@ -4,9 +4,9 @@ ghost use Rattle.alma_code.specs.Picture.{no_frame, written, without_last};
 ghost use Rattle.alma_code.specs.Carries.{diffs, diff_at, slot_diffs, same_cell};
 ghost use Rattle.alma_memory.specs.Carries.{listed};
 ghost use Rattle.alma_memory.specs.Frames.{AreLive, AreWhole};
-ghost use Rattle.alma_memory.specs.Held.{Fits, Undoes};
-ghost use Rattle.alma_memory.specs.Past.{number_of, over, changed, diffs_at, diffs_between, SameGain};
-ghost use Rattle.alma_memory.specs.Trail.{undo, unwind};
+ghost use Rattle.alma_memory.specs.Inner.Held.{Fits, Undoes};
+ghost use Rattle.alma_memory.specs.Inner.Past.{number_of, over, changed, diffs_at, diffs_between, SameGain};
+ghost use Rattle.alma_memory.specs.Inner.Trail.{undo, unwind};
 
 use crate::carry::{Carry, SlotPlace};
 use crate::frame::Frame;
@@ -29,7 +29,7 @@ pub struct Past<'a> {
 
 impl<'a> Model for Past<'a> {
     ghost use Rattle.std.specs.Prelude.{◌≤◌, length};
-    ghost use Rattle.alma_memory.specs.Past.{PlainPast, before_of};
+    ghost use Rattle.alma_memory.specs.Inner.Past.{PlainPast, before_of};
 
     ghost Value = { PlainPast };
 

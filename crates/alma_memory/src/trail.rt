@@ -1,9 +1,9 @@
 // The trail: notes of what changed since each entry was pushed, and how they are undone.
 ghost use Rattle.std.specs.Prelude.{◌≡◌, ◌+◌, ◌-◌, ◌<◌, ◌≤◌, [], ◌∷◌, ◌++◌, length, take, drop, slice_index_or, OnOk, IsOk, IsSome, IsNone, MatchOption, MatchResult, vec_len, vec_capacity};
-ghost use Rattle.alma_code.specs.Picture.{no_frame, written, last_frame, without_last, live_cells, popped, top_of};
+ghost use Rattle.alma_code.specs.Picture.{no_frame, written, last_frame, without_last, live_cells, stack_after_pop, top_of};
 ghost use Rattle.alma_memory.specs.Frames.{AreLive, IsWhole};
-ghost use Rattle.alma_memory.specs.Held.{Fits, HasNoteRoom, IsTrailed, Keeps, Undoes, stays};
-ghost use Rattle.alma_memory.specs.Trail.{held_of, noted, settled, undo, unwind};
+ghost use Rattle.alma_memory.specs.Inner.Held.{Fits, HasNoteRoom, IsTrailed, Keeps, Undoes, stays};
+ghost use Rattle.alma_memory.specs.Inner.Trail.{held_of, noted, trail_for_entries, undo, unwind};
 
 use crate::carry::{Carry, SlotPlace};
 use crate::frame::Frame;
@@ -64,7 +64,7 @@ fn add_note(entries: &[Entry], trail: &mut Vec<Note>, note: Note)
 
 /// Forgets the notes where no entry is left that needs them.
 pub fn settle(entries: &[Entry], trail: &mut Vec<Note>)
-    ensures items { trail.new.items ≡ settled entries.now trail.old.items }
+    ensures items { trail.new.items ≡ trail_for_entries entries.now trail.old.items }
     ensures capacity { vec_capacity trail.new ≡ vec_capacity trail.old }
     ensures len { vec_len trail.new ≤ vec_len trail.old }
 {
@@ -185,7 +185,7 @@ pub fn fail_to(entries: &mut Vec<Entry>, frames: &mut Frames, trail: &mut Vec<No
     requires room { vec_len entries.old < vec_capacity entries.old }
     requires trailed { IsTrailed (entries.old.items ++ entry ∷ []) trail.old.items frames.old }
     ensures now { frames.new ≡ (top_of (held_of trail.old.items frames.old (entries.old.items ++ entry ∷ []))).frames }
-    ensures held { held_of trail.new.items frames.new entries.new.items ≡ popped (held_of trail.old.items frames.old (entries.old.items ++ entry ∷ [])) }
+    ensures held { held_of trail.new.items frames.new entries.new.items ≡ stack_after_pop (held_of trail.old.items frames.old (entries.old.items ++ entry ∷ [])) }
     ensures trailed { IsTrailed entries.new.items trail.new.items frames.new }
     ensures choice_capacity { vec_capacity entries.old ≤ vec_capacity entries.new }
     ensures choice_len { vec_len entries.new ≤ vec_len entries.old + 1 }

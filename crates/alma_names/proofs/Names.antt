@@ -10,7 +10,7 @@ use Rattle.std.proofs.lemmas.Bool.Decides.{nat_tests}
 use Rattle.indexmap.specs.IndexMap.{insert_entry}
 use Rattle.indexmap.proofs.MapLemmas.{some_index}
 use Rattle.alma_names.specs.declared.block.Declaration.{Declaration}
-use Rattle.alma_names.specs.Blocks.{Declared, declared_of, place, seen, entry_in}
+use Rattle.alma_names.specs.Blocks.{DeclaredName, declared_of, place, seen, entry_in}
 
 -- a key of a map is the name
 abbrev pub is_named : List ℕ → Vec ℕ Global → Bool
@@ -28,7 +28,7 @@ place_names : (name : List ℕ) (es : List (Vec ℕ Global × Declaration)) → 
 place_names name es = rw (first_names name es, keys_len es) refl
 
 -- what a look-up in the map says of the block
-module _ (name : List ℕ) (at : ℕ) (es : List (Vec ℕ Global × Declaration)) (b : List Declared) (v : map declared_of es ≡ b) where
+module _ (name : List ℕ) (at : ℕ) (es : List (Vec ℕ Global × Declaration)) (b : List DeclaredName) (v : map declared_of es ≡ b) where
   pub place_found : {r : Option ℕ} → r ≡ position (is_named name) (keys_of es) → r ≡ place name b
   place_found h = rw (← v) (h ∙ sym (place_names name es))
 
@@ -64,7 +64,7 @@ missed test es h = by (lookup test es) refl
     by (Some k) p = absurd (true≢false (sym (some_index test es ∙ ap is_some p) ∙ ap is_some h))
 
 -- the block after an insertion of a name that it did not have
-pub added_name : (name : List ℕ) (key : Vec ℕ Global) (declaration : Declaration) (es : List (Vec ℕ Global × Declaration)) (b : List Declared) → map declared_of es ≡ b → place name b ≡ None → key.items ≡ name
+pub added_name : (name : List ℕ) (key : Vec ℕ Global) (declaration : Declaration) (es : List (Vec ℕ Global × Declaration)) (b : List DeclaredName) → map declared_of es ≡ b → place name b ≡ None → key.items ≡ name
     → (new : List (Vec ℕ Global × Declaration)) → new ≡ insert_entry (λ x y. bytes_eq x.items y.items) es key declaration → map declared_of new ≡ b ++ record { name = name; from = declaration.from; entry = declaration.entry } ∷ []
 added_name name key declaration es b v none is new h =
     let gone : lookup (is_named name) es ≡ None = missed (is_named name) es (place_found name 0 es b v refl ∙ none) in

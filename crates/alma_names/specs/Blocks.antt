@@ -8,16 +8,16 @@ use Rattle.alma_names.specs.declared.block.Entry.TheVariants.{Constant, Named, B
 use Rattle.alma_names.specs.declared.shapes.ShapeId.{ShapeId}
 
 -- a declared name: the token from which on it is visible, and what it stands for
-pub record Declared : Type 0 where
+pub record DeclaredName : Type 0 where
   pub name : List ℕ
   pub from : ℕ
   pub entry : Entry
 
 -- the declarations of a map from names
-abbrev pub declared_of : Vec ℕ Global × Declaration → Declared
+abbrev pub declared_of : Vec ℕ Global × Declaration → DeclaredName
 declared_of e = record { name = e.0.items; from = e.1.from; entry = e.1.entry }
 
-abbrev pub block_of : {S : Type 0} → HashMap (Vec ℕ Global) Declaration S → List Declared
+abbrev pub block_of : {S : Type 0} → HashMap (Vec ℕ Global) Declaration S → List DeclaredName
 block_of m = map declared_of m.entries
 
 -- the shape of a number
@@ -25,7 +25,7 @@ abbrev pub shape_id : ℕ → ShapeId
 shape_id n = record { 0 = n }
 
 -- the names that are declared outside each module
-abbrev pub predeclared : List Declared
+abbrev pub predeclared : List DeclaredName
 predeclared =
     record { name = codes "INTEGER"; from = 0; entry = Named (shape_id 0) }
     ∷ record { name = codes "CHAR"; from = 0; entry = Named (shape_id 1) }
@@ -35,23 +35,23 @@ predeclared =
     ∷ []
 
 -- the place of a name in a block
-abbrev pub place : List ℕ → List Declared → Option ℕ
+abbrev pub place : List ℕ → List DeclaredName → Option ℕ
 place name b = position (λ d. bytes_eq name d.name) b
 
 -- the declaration is visible at the token
-abbrev pub is_visible : ℕ → Option Declared → Bool
+abbrev pub is_visible : ℕ → Option DeclaredName → Bool
 is_visible at None = false
 is_visible at (Some d) = nat_le d.from at
 
 -- the place i, where the declaration there is visible at the token
-abbrev pub visible_place : ℕ → List Declared → ℕ → Option ℕ
+abbrev pub visible_place : ℕ → List DeclaredName → ℕ → Option ℕ
 visible_place at b i = if is_visible at (slice_get b i) then Some i else None
 
 -- the place of a name in a block, where it is visible at the token
-abbrev pub seen : List ℕ → ℕ → List Declared → Option ℕ
+abbrev pub seen : List ℕ → ℕ → List DeclaredName → Option ℕ
 seen name at b = option_and_then (visible_place at b) (place name b)
 
 -- what a declaration stands for
-abbrev pub entry_in : Option Declared → Entry
+abbrev pub entry_in : Option DeclaredName → Entry
 entry_in None = Bad
 entry_in (Some d) = d.entry

@@ -5,19 +5,19 @@ use Rattle.alma_names.specs.declared.block.Entry.TheVariants.{Bad}
 use Rattle.alma_names.specs.declared.scopes.Id.{Id}
 use Rattle.alma_names.specs.declared.scopes.DeclareError.{DeclareError}
 use Rattle.alma_names.specs.declared.scopes.DeclareError.TheVariants.{Twice, Memory}
-use Rattle.alma_names.specs.Blocks.{Declared, predeclared, place, seen, entry_in}
+use Rattle.alma_names.specs.Blocks.{DeclaredName, predeclared, place, seen, entry_in}
 
 -- the top block, and the blocks below it, the lowest first
 pub record Blocks : Type 0 where
-  pub below : List (List Declared)
-  pub top : List Declared
+  pub below : List (List DeclaredName)
+  pub top : List DeclaredName
 
 -- the lowest block alone
 abbrev pub first_blocks : Blocks
 first_blocks = record { below = []; top = predeclared }
 
 -- the number of entries of some blocks, and of all
-abbrev pub entries_of : List (List Declared) → ℕ
+abbrev pub entries_of : List (List DeclaredName) → ℕ
 entries_of [] = 0
 entries_of (b ∷ bs) = length b + entries_of bs
 
@@ -25,13 +25,13 @@ abbrev pub entry_count : Blocks → ℕ
 entry_count s = entries_of s.below + length s.top
 
 -- the blocks with an empty one on top, without the top one, and with one more declaration in the top one
-abbrev pub opened : Blocks → Blocks
-opened s = record { below = s.below ++ s.top ∷ []; top = [] }
+abbrev pub with_new_block : Blocks → Blocks
+with_new_block s = record { below = s.below ++ s.top ∷ []; top = [] }
 
-abbrev pub closed : Blocks → Blocks
-closed s = record { below = take (length s.below - 1) s.below; top = get_or s.below (length s.below - 1) [] }
+abbrev pub without_top_block : Blocks → Blocks
+without_top_block s = record { below = take (length s.below - 1) s.below; top = get_or s.below (length s.below - 1) [] }
 
-abbrev pub with_declared : Blocks → Declared → Blocks
+abbrev pub with_declared : Blocks → DeclaredName → Blocks
 with_declared s d = record { below = s.below; top = s.top ++ d ∷ [] }
 
 -- the first number where there is one, else the second
@@ -40,7 +40,7 @@ or_else (Some x) other = Some x
 or_else None other = other
 
 -- the number of the entry of the highest block in which the name is visible at the token, where the blocks' entries are numbered from n on
-abbrev pub visible_from : List ℕ → ℕ → ℕ → List (List Declared) → Option ℕ
+abbrev pub visible_from : List ℕ → ℕ → ℕ → List (List DeclaredName) → Option ℕ
 visible_from name at n [] = None
 visible_from name at n (b ∷ bs) = or_else (visible_from name at (n + length b) bs) (option_map (λ i. n + i) (seen name at b))
 
@@ -48,7 +48,7 @@ abbrev pub visible : List ℕ → ℕ → Blocks → Option ℕ
 visible name at s = or_else (option_map (λ i. entries_of s.below + i) (seen name at s.top)) (visible_from name at 0 s.below)
 
 -- what the entry of a number is
-abbrev pub entry_below : ℕ → List (List Declared) → Entry
+abbrev pub entry_below : ℕ → List (List DeclaredName) → Entry
 entry_below id [] = Bad
 entry_below id (b ∷ bs) = if nat_lt id (length b) then entry_in (slice_get b id) else entry_below (id - length b) bs
 
@@ -56,7 +56,7 @@ abbrev pub entry_at : ℕ → Blocks → Entry
 entry_at id s = if nat_lt id (entries_of s.below) then entry_below id s.below else entry_in (slice_get s.top (id - entries_of s.below))
 
 -- the number of the block in which the entry of a number stands, 0 for the lowest
-abbrev pub level_from : ℕ → ℕ → List (List Declared) → ℕ
+abbrev pub level_from : ℕ → ℕ → List (List DeclaredName) → ℕ
 level_from id n [] = n
 level_from id n (b ∷ bs) = if nat_lt id (length b) then n else level_from (id - length b) (n + 1) bs
 
@@ -64,8 +64,8 @@ abbrev pub level_of : ℕ → Blocks → ℕ
 level_of id s = level_from id 0 s.below
 
 -- the number of the entry that the top block has under a name
-abbrev pub taken : List ℕ → Blocks → Option ℕ
-taken name s = option_map (λ i. entries_of s.below + i) (place name s.top)
+abbrev pub number_in_top_block : List ℕ → Blocks → Option ℕ
+number_in_top_block name s = option_map (λ i. entries_of s.below + i) (place name s.top)
 
 -- a name that the top block has is refused, with its entry, and only such a one
 abbrev pub RefusesTwice : Option ℕ → Result Id DeclareError → Type 0

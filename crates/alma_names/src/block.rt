@@ -1,6 +1,6 @@
 // The names of one block, and what each stands for.
 ghost use Rattle.std.specs.Prelude.{◌≡◌, ◌^◌, ◌<◌, List, [], ◌∷◌, ◌++◌, Option, None, Some, length, slice_get, IfSome, IfOk, OnErr, OnOk};
-ghost use Rattle.alma_names.specs.Blocks.{Declared, block_of, predeclared, place, seen, entry_in};
+ghost use Rattle.alma_names.specs.Blocks.{DeclaredName, block_of, predeclared, place, seen, entry_in};
 
 use crate::shapes::ShapeId;
 use alma_base::NoMemory;
@@ -44,7 +44,7 @@ pub struct Block {
 }
 
 impl Model for Block {
-    ghost Value = { List Declared };
+    ghost Value = { List DeclaredName };
 
     ghost view = { λ b. block_of b.names };
 }

@@ -2,7 +2,7 @@
 #![tactic(auto, using(crate::proofs::Stacks::entries_push, std::proofs::lemmas::Grind::common_steps))]
 
 ghost use Rattle.std.specs.Prelude.{◌≡◌, ◌+◌, ◌-◌, ◌^◌, ◌<◌, ◌≤◌, Option, None, Some, length, option_map, IfSome, IfOk, OnErr, OnOk};
-ghost use Rattle.alma_names.specs.Scopes.{Blocks, first_blocks, entries_of, entry_count, visible, entry_at, opened, closed, with_declared, taken, level_of, RefusesTwice};
+ghost use Rattle.alma_names.specs.Scopes.{Blocks, first_blocks, entries_of, entry_count, visible, entry_at, with_new_block, without_top_block, with_declared, number_in_top_block, level_of, RefusesTwice};
 
 use crate::block::{Block, Entry};
 use alma_base::NoMemory;
@@ -53,7 +53,7 @@ impl Scopes {
 
     /// Opens a block.
     pub fn push_block(&mut self, alloc: Global) -> Result<(), NoMemory>
-        ensures ok { OnOk result (self.new ≡ opened self.old) }
+        ensures ok { OnOk result (self.new ≡ with_new_block self.old) }
         ensures err { OnErr result (self.new ≡ self.old) }
     {
         self.below.reserve(1)?;
@@ -66,7 +66,7 @@ impl Scopes {
     /// Closes the top block.
     pub fn pop_block(&mut self)
         requires { 0 < length self.old.below }
-        ensures { self.new ≡ closed self.old }
+        ensures { self.new ≡ without_top_block self.old }
     {
         if let Some(block) = self.below.pop() {
             self.count -= block.len();
@@ -87,7 +87,7 @@ impl Scopes {
         ensures id { IfOk result (λ id. id.0 ≡ entry_count self.old) }
         ensures ok { OnOk result (self.new ≡ with_declared self.old (record { name = name.now; from = from; entry = entry })) }
 
-        ensures twice { RefusesTwice (taken name.now self.old) result }
+        ensures twice { RefusesTwice (number_in_top_block name.now self.old) result }
         ensures err { OnErr result (self.new ≡ self.old) }
     {
         if let Some(i) = self.top.place(name) {

@@ -16,8 +16,8 @@ use Rattle.alma_tree.specs.Spelling as spelling
 use Rattle.alma_tree.specs.View as view
 use Rattle.alma_tree.specs.Numbers as numbers
 use Rattle.alma_tree.specs.Numbers.{token, ◌>>◌}
-use Rattle.alma_parse.specs.Entries.{spell_const_entry, spell_type_entry, spell_var_entry, number_const_entry, number_type_entry, number_var_entry}
-use Rattle.alma_parse.specs.Entries.{number_dimension, inside_params_of, number_inside_params}
+use Rattle.alma_parse.specs.Inner.Entries.{spell_const_entry, spell_type_entry, spell_var_entry, number_const_entry, number_type_entry, number_var_entry}
+use Rattle.alma_parse.specs.Inner.Entries.{number_dimension, inside_params_of, number_inside_params}
 use Rattle.alma_grammar.specs.Filling.{spell_inside_params}
 use Rattle.alma_cursor.proofs.Turns.{Lists, four_and, two_and}
 

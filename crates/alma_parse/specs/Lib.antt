@@ -1,2 +1,2 @@
-pub mod Entries
 pub mod Refusals
+pub mod Inner

@@ -12,9 +12,9 @@ ghost use Rattle.alma_grammar.specs.Parts.{formal_parts, block_parts};
 ghost use Rattle.alma_grammar.specs.Filling.{spell_inside_params};
 ghost use Rattle.alma_cursor.specs.Forms.{const_entry_parts, type_entry_parts, var_entry_parts, const_decl_parts, type_decl_parts, var_decl_parts};
 ghost use Rattle.alma_cursor.specs.Forms.{procedure_parts, decl_form_parts, formals_parts};
-ghost use Rattle.alma_parse.specs.Entries.{inside_params_of, spell_const_entry, spell_type_entry, spell_var_entry, number_const_entry, number_type_entry};
-ghost use Rattle.alma_parse.specs.Entries.{number_var_entry, number_inside_params};
-ghost use Rattle.alma_cursor.specs.Parsing.{seen, Reads, Fails};
+ghost use Rattle.alma_parse.specs.Inner.Entries.{inside_params_of, spell_const_entry, spell_type_entry, spell_var_entry, number_const_entry, number_type_entry};
+ghost use Rattle.alma_parse.specs.Inner.Entries.{number_var_entry, number_inside_params};
+ghost use Rattle.alma_cursor.specs.Parsing.{position_of, Reads, Fails};
 
 use crate::names::names;
 use crate::types::type_node;
@@ -31,8 +31,8 @@ pub fn block<'t, 's>(
     at: Cursor<'t, 's>,
     depth: u32,
 ) -> Result<(Block, Cursor<'t, 's>), Fault<'t, 's>>
-    ensures read { MatchResult result (λ t. Reads (spell_block (view_block t.0)) (number_block t.0) block_parts depth depth (seen at.entry) (seen t.1))
-        (λ e. Fails e block_parts depth (seen at.entry)) }
+    ensures read { MatchResult result (λ t. Reads (spell_block (view_block t.0)) (number_block t.0) block_parts depth depth (position_of at.entry) (position_of t.1))
+        (λ e. Fails e block_parts depth (position_of at.entry)) }
 {
     let (decls, at) = decl_list(alloc, at, depth)?;
     let (body, at) = body(alloc, at, depth)?;
@@ -47,8 +47,8 @@ fn decl_list<'t, 's>(
     depth: u32,
 ) -> Result<(Vec<Decl>, Cursor<'t, 's>), Fault<'t, 's>>
     ensures read { MatchResult result
-        (λ t. Reads (spell_decl_tail (decls_of t.0.items)) (numbers_of_decls t.0.items) (λ o. decl_tail ∷ o) depth depth (seen at.entry) (seen t.1))
-        (λ e. Fails e (λ o. decl_tail ∷ o) depth (seen at.entry)) }
+        (λ t. Reads (spell_decl_tail (decls_of t.0.items)) (numbers_of_decls t.0.items) (λ o. decl_tail ∷ o) depth depth (position_of at.entry) (position_of t.1))
+        (λ e. Fails e (λ o. decl_tail ∷ o) depth (position_of at.entry)) }
 {
     let mut more = Vec::new(alloc);
     while let Some(form) = at.decl_form() {
@@ -66,9 +66,9 @@ fn decl<'t, 's>(
     at: Cursor<'t, 's>,
     depth: u32,
 ) -> Result<(Decl, Cursor<'t, 's>), Fault<'t, 's>>
-    ensures read { MatchResult result (λ t. Reads (spell_decl (view_decl t.0)) (number_decl t.0) (decl_form_parts form) depth depth (seen at.entry) (seen t.1))
-        (λ e. Fails e (decl_form_parts form) depth (seen at.entry)) }
-    ensures shorter { IfOk result (λ t. length (seen t.1).kinds < length (seen at.entry).kinds) }
+    ensures read { MatchResult result (λ t. Reads (spell_decl (view_decl t.0)) (number_decl t.0) (decl_form_parts form) depth depth (position_of at.entry) (position_of t.1))
+        (λ e. Fails e (decl_form_parts form) depth (position_of at.entry)) }
+    ensures shorter { IfOk result (λ t. length (position_of t.1).kinds < length (position_of at.entry).kinds) }
 {
     match form {
         DeclForm::Const => const_decl(alloc, at, depth),
@@ -84,9 +84,9 @@ fn procedure<'t, 's>(
     at: Cursor<'t, 's>,
     depth: u32,
 ) -> Result<(Decl, Cursor<'t, 's>), Fault<'t, 's>>
-    ensures read { MatchResult result (λ t. Reads (spell_decl (view_decl t.0)) (number_decl t.0) procedure_parts depth depth (seen at.entry) (seen t.1))
-        (λ e. Fails e procedure_parts depth (seen at.entry)) }
-    ensures shorter { IfOk result (λ t. length (seen t.1).kinds < length (seen at.entry).kinds) }
+    ensures read { MatchResult result (λ t. Reads (spell_decl (view_decl t.0)) (number_decl t.0) procedure_parts depth depth (position_of at.entry) (position_of t.1))
+        (λ e. Fails e procedure_parts depth (position_of at.entry)) }
+    ensures shorter { IfOk result (λ t. length (position_of t.1).kinds < length (position_of at.entry).kinds) }
 {
     let (at, inner) = at.open(Kind::Procedure, depth)?;
     let (name, at) = at.name()?;
@@ -116,9 +116,9 @@ fn const_decl<'t, 's>(
     at: Cursor<'t, 's>,
     depth: u32,
 ) -> Result<(Decl, Cursor<'t, 's>), Fault<'t, 's>>
-    ensures read { MatchResult result (λ t. Reads (spell_decl (view_decl t.0)) (number_decl t.0) const_decl_parts depth depth (seen at.entry) (seen t.1))
-        (λ e. Fails e const_decl_parts depth (seen at.entry)) }
-    ensures shorter { IfOk result (λ t. length (seen t.1).kinds < length (seen at.entry).kinds) }
+    ensures read { MatchResult result (λ t. Reads (spell_decl (view_decl t.0)) (number_decl t.0) const_decl_parts depth depth (position_of at.entry) (position_of t.1))
+        (λ e. Fails e const_decl_parts depth (position_of at.entry)) }
+    ensures shorter { IfOk result (λ t. length (position_of t.1).kinds < length (position_of at.entry).kinds) }
 {
     let at = at.expect(Kind::Const)?;
     let (entries, at) = const_entries(alloc, at, depth)?;
@@ -132,8 +132,8 @@ fn const_entries<'t, 's>(
     depth: u32,
 ) -> Result<(Vec<ConstEntry>, Cursor<'t, 's>), Fault<'t, 's>>
     ensures read { MatchResult result
-        (λ t. Reads (spell_const_tail (consts_of t.0.items)) (numbers_of_consts t.0.items) (λ o. const_tail ∷ o) depth depth (seen at.entry) (seen t.1))
-        (λ e. Fails e (λ o. const_tail ∷ o) depth (seen at.entry)) }
+        (λ t. Reads (spell_const_tail (consts_of t.0.items)) (numbers_of_consts t.0.items) (λ o. const_tail ∷ o) depth depth (position_of at.entry) (position_of t.1))
+        (λ e. Fails e (λ o. const_tail ∷ o) depth (position_of at.entry)) }
 {
     let mut more = Vec::new(alloc);
     while at.is_at(Kind::Name) {
@@ -149,9 +149,9 @@ fn const_entry<'t, 's>(
     at: Cursor<'t, 's>,
     depth: u32,
 ) -> Result<(ConstEntry, Cursor<'t, 's>), Fault<'t, 's>>
-    ensures read { MatchResult result (λ t. Reads (spell_const_entry t.0) (number_const_entry t.0) const_entry_parts depth depth (seen at.entry) (seen t.1))
-        (λ e. Fails e const_entry_parts depth (seen at.entry)) }
-    ensures shorter { IfOk result (λ t. length (seen t.1).kinds < length (seen at.entry).kinds) }
+    ensures read { MatchResult result (λ t. Reads (spell_const_entry t.0) (number_const_entry t.0) const_entry_parts depth depth (position_of at.entry) (position_of t.1))
+        (λ e. Fails e const_entry_parts depth (position_of at.entry)) }
+    ensures shorter { IfOk result (λ t. length (position_of t.1).kinds < length (position_of at.entry).kinds) }
 {
     let (name, at) = at.name()?;
     let at = at.expect(Kind::Equal)?;
@@ -165,9 +165,9 @@ fn type_decl<'t, 's>(
     at: Cursor<'t, 's>,
     depth: u32,
 ) -> Result<(Decl, Cursor<'t, 's>), Fault<'t, 's>>
-    ensures read { MatchResult result (λ t. Reads (spell_decl (view_decl t.0)) (number_decl t.0) type_decl_parts depth depth (seen at.entry) (seen t.1))
-        (λ e. Fails e type_decl_parts depth (seen at.entry)) }
-    ensures shorter { IfOk result (λ t. length (seen t.1).kinds < length (seen at.entry).kinds) }
+    ensures read { MatchResult result (λ t. Reads (spell_decl (view_decl t.0)) (number_decl t.0) type_decl_parts depth depth (position_of at.entry) (position_of t.1))
+        (λ e. Fails e type_decl_parts depth (position_of at.entry)) }
+    ensures shorter { IfOk result (λ t. length (position_of t.1).kinds < length (position_of at.entry).kinds) }
 {
     let at = at.expect(Kind::Type)?;
     let (entries, at) = type_entries(alloc, at, depth)?;
@@ -181,8 +181,8 @@ fn type_entries<'t, 's>(
     depth: u32,
 ) -> Result<(Vec<TypeEntry>, Cursor<'t, 's>), Fault<'t, 's>>
     ensures read { MatchResult result
-        (λ t. Reads (spell_type_tail (types_of t.0.items)) (numbers_of_types t.0.items) (λ o. type_tail ∷ o) depth depth (seen at.entry) (seen t.1))
-        (λ e. Fails e (λ o. type_tail ∷ o) depth (seen at.entry)) }
+        (λ t. Reads (spell_type_tail (types_of t.0.items)) (numbers_of_types t.0.items) (λ o. type_tail ∷ o) depth depth (position_of at.entry) (position_of t.1))
+        (λ e. Fails e (λ o. type_tail ∷ o) depth (position_of at.entry)) }
 {
     let mut more = Vec::new(alloc);
     while at.is_at(Kind::Name) {
@@ -198,9 +198,9 @@ fn type_entry<'t, 's>(
     at: Cursor<'t, 's>,
     depth: u32,
 ) -> Result<(TypeEntry, Cursor<'t, 's>), Fault<'t, 's>>
-    ensures read { MatchResult result (λ t. Reads (spell_type_entry t.0) (number_type_entry t.0) type_entry_parts depth depth (seen at.entry) (seen t.1))
-        (λ e. Fails e type_entry_parts depth (seen at.entry)) }
-    ensures shorter { IfOk result (λ t. length (seen t.1).kinds < length (seen at.entry).kinds) }
+    ensures read { MatchResult result (λ t. Reads (spell_type_entry t.0) (number_type_entry t.0) type_entry_parts depth depth (position_of at.entry) (position_of t.1))
+        (λ e. Fails e type_entry_parts depth (position_of at.entry)) }
+    ensures shorter { IfOk result (λ t. length (position_of t.1).kinds < length (position_of at.entry).kinds) }
 {
     let (name, at) = at.name()?;
     let at = at.expect(Kind::Equal)?;
@@ -214,9 +214,9 @@ fn var_decl<'t, 's>(
     at: Cursor<'t, 's>,
     depth: u32,
 ) -> Result<(Decl, Cursor<'t, 's>), Fault<'t, 's>>
-    ensures read { MatchResult result (λ t. Reads (spell_decl (view_decl t.0)) (number_decl t.0) var_decl_parts depth depth (seen at.entry) (seen t.1))
-        (λ e. Fails e var_decl_parts depth (seen at.entry)) }
-    ensures shorter { IfOk result (λ t. length (seen t.1).kinds < length (seen at.entry).kinds) }
+    ensures read { MatchResult result (λ t. Reads (spell_decl (view_decl t.0)) (number_decl t.0) var_decl_parts depth depth (position_of at.entry) (position_of t.1))
+        (λ e. Fails e var_decl_parts depth (position_of at.entry)) }
+    ensures shorter { IfOk result (λ t. length (position_of t.1).kinds < length (position_of at.entry).kinds) }
 {
     let at = at.expect(Kind::Var)?;
     let (entries, at) = var_entries(alloc, at, depth)?;
@@ -230,8 +230,8 @@ fn var_entries<'t, 's>(
     depth: u32,
 ) -> Result<(Vec<VarEntry>, Cursor<'t, 's>), Fault<'t, 's>>
     ensures read { MatchResult result
-        (λ t. Reads (spell_var_tail (vars_of t.0.items)) (numbers_of_vars t.0.items) (λ o. var_tail ∷ o) depth depth (seen at.entry) (seen t.1))
-        (λ e. Fails e (λ o. var_tail ∷ o) depth (seen at.entry)) }
+        (λ t. Reads (spell_var_tail (vars_of t.0.items)) (numbers_of_vars t.0.items) (λ o. var_tail ∷ o) depth depth (position_of at.entry) (position_of t.1))
+        (λ e. Fails e (λ o. var_tail ∷ o) depth (position_of at.entry)) }
 {
     let mut more = Vec::new(alloc);
     while at.is_at(Kind::Name) {
@@ -247,9 +247,9 @@ fn var_entry<'t, 's>(
     at: Cursor<'t, 's>,
     depth: u32,
 ) -> Result<(VarEntry, Cursor<'t, 's>), Fault<'t, 's>>
-    ensures read { MatchResult result (λ t. Reads (spell_var_entry t.0) (number_var_entry t.0) var_entry_parts depth depth (seen at.entry) (seen t.1))
-        (λ e. Fails e var_entry_parts depth (seen at.entry)) }
-    ensures shorter { IfOk result (λ t. length (seen t.1).kinds < length (seen at.entry).kinds) }
+    ensures read { MatchResult result (λ t. Reads (spell_var_entry t.0) (number_var_entry t.0) var_entry_parts depth depth (position_of at.entry) (position_of t.1))
+        (λ e. Fails e var_entry_parts depth (position_of at.entry)) }
+    ensures shorter { IfOk result (λ t. length (position_of t.1).kinds < length (position_of at.entry).kinds) }
 {
     let (names, at) = names(alloc, at)?;
     let at = at.expect(Kind::Colon)?;
@@ -264,8 +264,8 @@ fn params<'t, 's>(
     depth: u32,
 ) -> Result<(Option<Params>, Cursor<'t, 's>), Fault<'t, 's>>
     ensures read { MatchResult result
-        (λ t. Reads (spell_params (params_of t.0)) (numbers_of_params t.0) (λ o. params_part ∷ o) depth depth (seen at.entry) (seen t.1))
-        (λ e. Fails e (λ o. params_part ∷ o) depth (seen at.entry)) }
+        (λ t. Reads (spell_params (params_of t.0)) (numbers_of_params t.0) (λ o. params_part ∷ o) depth depth (position_of at.entry) (position_of t.1))
+        (λ e. Fails e (λ o. params_part ∷ o) depth (position_of at.entry)) }
 {
     if !at.is_at(Kind::OpenParen) {
         return Ok((None, at));
@@ -283,8 +283,8 @@ fn params_values<'t, 's>(
 ) -> Result<(Option<Formals>, Cursor<'t, 's>), Fault<'t, 's>>
     ensures read { MatchResult result
         (λ t. Reads (spell_inside_params (inside_params_of t.0)) (number_inside_params t.0) (λ o. params_inside ∷ o)
-        depth (pred depth) (seen at.entry) (seen t.1))
-        (λ e. Fails e (λ o. params_inside ∷ o) depth (seen at.entry)) }
+        depth (pred depth) (position_of at.entry) (position_of t.1))
+        (λ e. Fails e (λ o. params_inside ∷ o) depth (position_of at.entry)) }
 {
     if let Some(after) = at.skip(Kind::CloseParen) {
         return Ok((None, after));
@@ -299,8 +299,8 @@ fn formals<'t, 's>(
     at: Cursor<'t, 's>,
     depth: u32,
 ) -> Result<(Formals, Cursor<'t, 's>), Fault<'t, 's>>
-    ensures read { MatchResult result (λ t. Reads (spell_formals (view_formals t.0)) (number_formals t.0) formals_parts depth depth (seen at.entry) (seen t.1))
-        (λ e. Fails e formals_parts depth (seen at.entry)) }
+    ensures read { MatchResult result (λ t. Reads (spell_formals (view_formals t.0)) (number_formals t.0) formals_parts depth depth (position_of at.entry) (position_of t.1))
+        (λ e. Fails e formals_parts depth (position_of at.entry)) }
 {
     let (first, at) = formal(alloc, at, depth)?;
     let (more, at) = formal_list(alloc, at, depth)?;
@@ -314,8 +314,8 @@ fn formal_list<'t, 's>(
     depth: u32,
 ) -> Result<(Vec<Formal>, Cursor<'t, 's>), Fault<'t, 's>>
     ensures read { MatchResult result
-        (λ t. Reads (spell_formal_tail (formal_tail_of t.0.items)) (numbers_of_formals t.0.items) (λ o. formal_tail ∷ o) depth depth (seen at.entry) (seen t.1))
-        (λ e. Fails e (λ o. formal_tail ∷ o) depth (seen at.entry)) }
+        (λ t. Reads (spell_formal_tail (formal_tail_of t.0.items)) (numbers_of_formals t.0.items) (λ o. formal_tail ∷ o) depth depth (position_of at.entry) (position_of t.1))
+        (λ e. Fails e (λ o. formal_tail ∷ o) depth (position_of at.entry)) }
 {
     let mut more = Vec::new(alloc);
     while let Some(after) = at.skip(Kind::Semicolon) {
@@ -331,8 +331,8 @@ fn formal<'t, 's>(
     at: Cursor<'t, 's>,
     depth: u32,
 ) -> Result<(Formal, Cursor<'t, 's>), Fault<'t, 's>>
-    ensures read { MatchResult result (λ t. Reads (spell_formal (view_formal t.0)) (number_formal t.0) formal_parts depth depth (seen at.entry) (seen t.1))
-        (λ e. Fails e formal_parts depth (seen at.entry)) }
+    ensures read { MatchResult result (λ t. Reads (spell_formal (view_formal t.0)) (number_formal t.0) formal_parts depth depth (position_of at.entry) (position_of t.1))
+        (λ e. Fails e formal_parts depth (position_of at.entry)) }
 {
     let (mode, at) = at.mode();
     let (names, at) = names(alloc, at)?;
@@ -353,8 +353,8 @@ fn formal<'t, 's>(
 /// The name of a result's type, or none.
 fn result_name<'t, 's>(at: Cursor<'t, 's>) -> Result<(Option<Name>, Cursor<'t, 's>), Fault<'t, 's>>
     ensures read { MatchResult result
-        (λ t. (d : ℕ) → Reads (spell_result_name (result_of t.0)) (numbers_of_result t.0) (λ o. result_part ∷ o) d d (seen at.entry) (seen t.1))
-        (λ e. (d : ℕ) → Fails e (λ o. result_part ∷ o) d (seen at.entry)) }
+        (λ t. (d : ℕ) → Reads (spell_result_name (result_of t.0)) (numbers_of_result t.0) (λ o. result_part ∷ o) d d (position_of at.entry) (position_of t.1))
+        (λ e. (d : ℕ) → Fails e (λ o. result_part ∷ o) d (position_of at.entry)) }
 {
     let Some(at) = at.skip(Kind::Colon) else {
         return Ok((None, at));
@@ -368,8 +368,8 @@ fn body<'t, 's>(
     at: Cursor<'t, 's>,
     depth: u32,
 ) -> Result<(Option<Stmts>, Cursor<'t, 's>), Fault<'t, 's>>
-    ensures read { MatchResult result (λ t. Reads (spell_body (body_of t.0)) (numbers_of_body t.0) (λ o. body_part ∷ o) depth depth (seen at.entry) (seen t.1))
-        (λ e. Fails e (λ o. body_part ∷ o) depth (seen at.entry)) }
+    ensures read { MatchResult result (λ t. Reads (spell_body (body_of t.0)) (numbers_of_body t.0) (λ o. body_part ∷ o) depth depth (position_of at.entry) (position_of t.1))
+        (λ e. Fails e (λ o. body_part ∷ o) depth (position_of at.entry)) }
 {
     let Some(at) = at.skip(Kind::Begin) else {
         return Ok((None, at));

@@ -5,7 +5,7 @@ ghost use Rattle.alma_tree.specs.View.{view_module};
 ghost use Rattle.alma_tree.specs.Numbers.{IsNumbered};
 ghost use Rattle.alma_grammar.specs.Parts.{whole};
 ghost use Rattle.alma_grammar.specs.Reading.{reading, done};
-ghost use Rattle.alma_cursor.specs.Parsing.{seen, kinds_of, EndsIn};
+ghost use Rattle.alma_cursor.specs.Parsing.{position_of, kinds_of, EndsIn};
 
 use crate::declarations::block;
 use alma_cursor::{Cursor, Fault};
@@ -38,7 +38,7 @@ pub fn module<'t, 's>(alloc: Global, tokens: &'t [Token<'s>]) -> Result<Module, 
 }
 
 fn nothing_left<'t, 's>(at: Cursor<'t, 's>) -> Result<(), Fault<'t, 's>>
-    ensures left { MatchResult result (λ _. (seen at.entry).kinds ≡ []) (λ e. EndsIn e (reading true (seen at.entry).kinds 0 [])) }
+    ensures left { MatchResult result (λ _. (position_of at.entry).kinds ≡ []) (λ e. EndsIn e (reading true (position_of at.entry).kinds 0 [])) }
 {
     match at.next() {
         None => Ok(()),

@@ -4,7 +4,7 @@ ghost use Rattle.alma_tree.specs.Spelling.{spell_names, spell_name_tail};
 ghost use Rattle.alma_tree.specs.View.{view_names, name_tail_of};
 ghost use Rattle.alma_tree.specs.Numbers.{number_names, numbers_of_names};
 ghost use Rattle.alma_grammar.specs.Parts.{name_tail, names_parts};
-ghost use Rattle.alma_cursor.specs.Parsing.{seen, Reads, Fails};
+ghost use Rattle.alma_cursor.specs.Parsing.{position_of, Reads, Fails};
 
 use alma_cursor::{Cursor, Fault};
 use alma_tree::{Kind, Name, Names};
@@ -15,8 +15,8 @@ pub fn names<'t, 's>(
     at: Cursor<'t, 's>,
 ) -> Result<(Names, Cursor<'t, 's>), Fault<'t, 's>>
     ensures read { MatchResult result
-        (λ t. (d : ℕ) → Reads (spell_names (view_names t.0)) (number_names t.0) names_parts d d (seen at.entry) (seen t.1))
-        (λ e. (d : ℕ) → Fails e names_parts d (seen at.entry)) }
+        (λ t. (d : ℕ) → Reads (spell_names (view_names t.0)) (number_names t.0) names_parts d d (position_of at.entry) (position_of t.1))
+        (λ e. (d : ℕ) → Fails e names_parts d (position_of at.entry)) }
 {
     let (first, at) = at.name()?;
     let (more, at) = name_list(alloc, at)?;
@@ -29,8 +29,8 @@ fn name_list<'t, 's>(
     mut at: Cursor<'t, 's>,
 ) -> Result<(Vec<Name>, Cursor<'t, 's>), Fault<'t, 's>>
     ensures read { MatchResult result
-        (λ t. (d : ℕ) → Reads (spell_name_tail (name_tail_of t.0.items)) (numbers_of_names t.0.items) (λ o. name_tail ∷ o) d d (seen at.entry) (seen t.1))
-        (λ e. (d : ℕ) → Fails e (λ o. name_tail ∷ o) d (seen at.entry)) }
+        (λ t. (d : ℕ) → Reads (spell_name_tail (name_tail_of t.0.items)) (numbers_of_names t.0.items) (λ o. name_tail ∷ o) d d (position_of at.entry) (position_of t.1))
+        (λ e. (d : ℕ) → Fails e (λ o. name_tail ∷ o) d (position_of at.entry)) }
 {
     let mut more = Vec::new(alloc);
     while let Some(after) = at.skip(Kind::Comma) {

@@ -8,8 +8,8 @@ ghost use Rattle.alma_tree.specs.Numbers.{number_type, numbers_of_arrays, number
 ghost use Rattle.alma_tree.specs.Numbers.{number_field_list, numbers_of_field_lists};
 ghost use Rattle.alma_grammar.specs.Parts.{array_tail, plain_part, plain_tail, field_list_part, field_list_tail, type_parts};
 ghost use Rattle.alma_cursor.specs.Forms.{dimensions_parts, named_type_parts, listed_parts, subrange_parts, record_parts, fields_parts};
-ghost use Rattle.alma_parse.specs.Entries.{number_dimension};
-ghost use Rattle.alma_cursor.specs.Parsing.{seen, Reads, Fails};
+ghost use Rattle.alma_parse.specs.Inner.Entries.{number_dimension};
+ghost use Rattle.alma_cursor.specs.Parsing.{position_of, Reads, Fails};
 
 use crate::names::names;
 use alma_cursor::{Cursor, Fault, PlainForm};
@@ -24,8 +24,8 @@ pub fn type_node<'t, 's>(
     depth: u32,
 ) -> Result<(TypeNode, Cursor<'t, 's>), Fault<'t, 's>>
     ensures read { MatchResult result
-        (λ t. Reads (spell_type_node (view_type_node t.0)) (number_type t.0) type_parts depth depth (seen at.entry) (seen t.1))
-        (λ e. Fails e type_parts depth (seen at.entry)) }
+        (λ t. Reads (spell_type_node (view_type_node t.0)) (number_type t.0) type_parts depth depth (position_of at.entry) (position_of t.1))
+        (λ e. Fails e type_parts depth (position_of at.entry)) }
 {
     let (arrays, at) = arrays(alloc, at, depth)?;
     let (element, at) = plain_type(alloc, at, depth)?;
@@ -47,8 +47,8 @@ fn arrays<'t, 's>(
     depth: u32,
 ) -> Result<(Option<Arrays>, Cursor<'t, 's>), Fault<'t, 's>>
     ensures read { MatchResult result
-        (λ t. Reads (spell_array_tail (arrays_of t.0)) (numbers_of_arrays t.0) (λ o. array_tail ∷ o) depth depth (seen at.entry) (seen t.1))
-        (λ e. Fails e (λ o. array_tail ∷ o) depth (seen at.entry)) }
+        (λ t. Reads (spell_array_tail (arrays_of t.0)) (numbers_of_arrays t.0) (λ o. array_tail ∷ o) depth depth (position_of at.entry) (position_of t.1))
+        (λ e. Fails e (λ o. array_tail ∷ o) depth (position_of at.entry)) }
 {
     if !at.is_at(Kind::Array) {
         return Ok((None, at));
@@ -66,9 +66,9 @@ fn dimensions<'t, 's>(
     depth: u32,
 ) -> Result<(Dimensions, Cursor<'t, 's>), Fault<'t, 's>>
     ensures read { MatchResult result
-        (λ t. Reads (spell_dimensions (view_dimension t.0)) (number_dimension t.0) dimensions_parts depth depth (seen at.entry) (seen t.1))
-        (λ e. Fails e dimensions_parts depth (seen at.entry)) }
-    ensures shorter { IfOk result (λ t. length (seen t.1).kinds < length (seen at.entry).kinds) }
+        (λ t. Reads (spell_dimensions (view_dimension t.0)) (number_dimension t.0) dimensions_parts depth depth (position_of at.entry) (position_of t.1))
+        (λ e. Fails e dimensions_parts depth (position_of at.entry)) }
+    ensures shorter { IfOk result (λ t. length (position_of t.1).kinds < length (position_of at.entry).kinds) }
 {
     let at = at.expect(Kind::Array)?;
     let (first, at) = plain_type(alloc, at, depth)?;
@@ -84,8 +84,8 @@ fn dimensions_list<'t, 's>(
     depth: u32,
 ) -> Result<(Vec<Dimensions>, Cursor<'t, 's>), Fault<'t, 's>>
     ensures read { MatchResult result
-        (λ t. Reads (spell_array_tail (dimensions_of t.0.items)) (numbers_of_dimensions t.0.items) (λ o. array_tail ∷ o) depth depth (seen at.entry) (seen t.1))
-        (λ e. Fails e (λ o. array_tail ∷ o) depth (seen at.entry)) }
+        (λ t. Reads (spell_array_tail (dimensions_of t.0.items)) (numbers_of_dimensions t.0.items) (λ o. array_tail ∷ o) depth depth (position_of at.entry) (position_of t.1))
+        (λ e. Fails e (λ o. array_tail ∷ o) depth (position_of at.entry)) }
 {
     let mut more = Vec::new(alloc);
     while at.is_at(Kind::Array) {
@@ -103,8 +103,8 @@ fn plain_type<'t, 's>(
     depth: u32,
 ) -> Result<(PlainType, Cursor<'t, 's>), Fault<'t, 's>>
     ensures read { MatchResult result
-        (λ t. Reads (spell_plain_type (view_plain_type t.0)) (number_plain t.0) (λ o. plain_part ∷ o) depth depth (seen at.entry) (seen t.1))
-        (λ e. Fails e (λ o. plain_part ∷ o) depth (seen at.entry)) }
+        (λ t. Reads (spell_plain_type (view_plain_type t.0)) (number_plain t.0) (λ o. plain_part ∷ o) depth depth (position_of at.entry) (position_of t.1))
+        (λ e. Fails e (λ o. plain_part ∷ o) depth (position_of at.entry)) }
 {
     match at.plain_form()? {
         PlainForm::Named => named_type(at),
@@ -116,8 +116,8 @@ fn plain_type<'t, 's>(
 
 fn named_type<'t, 's>(at: Cursor<'t, 's>) -> Result<(PlainType, Cursor<'t, 's>), Fault<'t, 's>>
     ensures read { MatchResult result
-        (λ t. (d : ℕ) → Reads (spell_plain_type (view_plain_type t.0)) (number_plain t.0) named_type_parts d d (seen at.entry) (seen t.1))
-        (λ e. (d : ℕ) → Fails e named_type_parts d (seen at.entry)) }
+        (λ t. (d : ℕ) → Reads (spell_plain_type (view_plain_type t.0)) (number_plain t.0) named_type_parts d d (position_of at.entry) (position_of t.1))
+        (λ e. (d : ℕ) → Fails e named_type_parts d (position_of at.entry)) }
 {
     let (name, at) = at.name()?;
     let (node, at) = at.count()?;
@@ -130,8 +130,8 @@ fn listed<'t, 's>(
     depth: u32,
 ) -> Result<(PlainType, Cursor<'t, 's>), Fault<'t, 's>>
     ensures read { MatchResult result
-        (λ t. Reads (spell_plain_type (view_plain_type t.0)) (number_plain t.0) listed_parts depth depth (seen at.entry) (seen t.1))
-        (λ e. Fails e listed_parts depth (seen at.entry)) }
+        (λ t. Reads (spell_plain_type (view_plain_type t.0)) (number_plain t.0) listed_parts depth depth (position_of at.entry) (position_of t.1))
+        (λ e. Fails e listed_parts depth (position_of at.entry)) }
 {
     let (at, _) = at.open(Kind::OpenParen, depth)?;
     let (names, at) = names(alloc, at)?;
@@ -146,8 +146,8 @@ fn subrange<'t, 's>(
     depth: u32,
 ) -> Result<(PlainType, Cursor<'t, 's>), Fault<'t, 's>>
     ensures read { MatchResult result
-        (λ t. Reads (spell_plain_type (view_plain_type t.0)) (number_plain t.0) subrange_parts depth depth (seen at.entry) (seen t.1))
-        (λ e. Fails e subrange_parts depth (seen at.entry)) }
+        (λ t. Reads (spell_plain_type (view_plain_type t.0)) (number_plain t.0) subrange_parts depth depth (position_of at.entry) (position_of t.1))
+        (λ e. Fails e subrange_parts depth (position_of at.entry)) }
 {
     let (at, inner) = at.open(Kind::OpenBracket, depth)?;
     let (low, at) = expr(alloc, at, inner)?;
@@ -165,8 +165,8 @@ fn record_type<'t, 's>(
     depth: u32,
 ) -> Result<(PlainType, Cursor<'t, 's>), Fault<'t, 's>>
     ensures read { MatchResult result
-        (λ t. Reads (spell_plain_type (view_plain_type t.0)) (number_plain t.0) record_parts depth depth (seen at.entry) (seen t.1))
-        (λ e. Fails e record_parts depth (seen at.entry)) }
+        (λ t. Reads (spell_plain_type (view_plain_type t.0)) (number_plain t.0) record_parts depth depth (position_of at.entry) (position_of t.1))
+        (λ e. Fails e record_parts depth (position_of at.entry)) }
 {
     let (at, inner) = at.open(Kind::Record, depth)?;
     let (first, at) = field_list(alloc, at, inner)?;
@@ -184,8 +184,8 @@ fn plain_list<'t, 's>(
     depth: u32,
 ) -> Result<(Vec<PlainType>, Cursor<'t, 's>), Fault<'t, 's>>
     ensures read { MatchResult result
-        (λ t. Reads (spell_plain_tail (plains_of t.0.items)) (numbers_of_plains t.0.items) (λ o. plain_tail ∷ o) depth depth (seen at.entry) (seen t.1))
-        (λ e. Fails e (λ o. plain_tail ∷ o) depth (seen at.entry)) }
+        (λ t. Reads (spell_plain_tail (plains_of t.0.items)) (numbers_of_plains t.0.items) (λ o. plain_tail ∷ o) depth depth (position_of at.entry) (position_of t.1))
+        (λ e. Fails e (λ o. plain_tail ∷ o) depth (position_of at.entry)) }
 {
     let mut more = Vec::new(alloc);
     while let Some(after) = at.skip(Kind::Comma) {
@@ -203,8 +203,8 @@ fn field_list<'t, 's>(
     depth: u32,
 ) -> Result<(FieldList, Cursor<'t, 's>), Fault<'t, 's>>
     ensures read { MatchResult result
-        (λ t. Reads (spell_field_list (view_field_list t.0)) (number_field_list t.0) (λ o. field_list_part ∷ o) depth depth (seen at.entry) (seen t.1))
-        (λ e. Fails e (λ o. field_list_part ∷ o) depth (seen at.entry)) }
+        (λ t. Reads (spell_field_list (view_field_list t.0)) (number_field_list t.0) (λ o. field_list_part ∷ o) depth depth (position_of at.entry) (position_of t.1))
+        (λ e. Fails e (λ o. field_list_part ∷ o) depth (position_of at.entry)) }
 {
     if at.is_at(Kind::Name) {
         return fields(alloc, at, depth);
@@ -220,8 +220,8 @@ fn fields<'t, 's>(
     depth: u32,
 ) -> Result<(FieldList, Cursor<'t, 's>), Fault<'t, 's>>
     ensures read { MatchResult result
-        (λ t. Reads (spell_field_list (view_field_list t.0)) (number_field_list t.0) fields_parts depth depth (seen at.entry) (seen t.1))
-        (λ e. Fails e fields_parts depth (seen at.entry)) }
+        (λ t. Reads (spell_field_list (view_field_list t.0)) (number_field_list t.0) fields_parts depth depth (position_of at.entry) (position_of t.1))
+        (λ e. Fails e fields_parts depth (position_of at.entry)) }
 {
     let (names, at) = names(alloc, at)?;
     let at = at.expect(Kind::Colon)?;
@@ -245,8 +245,8 @@ fn field_list_list<'t, 's>(
 ) -> Result<(Vec<FieldList>, Cursor<'t, 's>), Fault<'t, 's>>
     ensures read { MatchResult result
         (λ t. Reads (spell_field_list_tail (field_lists_of t.0.items)) (numbers_of_field_lists t.0.items) (λ o. field_list_tail ∷ o)
-        depth depth (seen at.entry) (seen t.1))
-        (λ e. Fails e (λ o. field_list_tail ∷ o) depth (seen at.entry)) }
+        depth depth (position_of at.entry) (position_of t.1))
+        (λ e. Fails e (λ o. field_list_tail ∷ o) depth (position_of at.entry)) }
 {
     let mut more = Vec::new(alloc);
     while let Some(after) = at.skip(Kind::Semicolon) {

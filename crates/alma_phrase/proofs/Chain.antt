@@ -7,7 +7,7 @@ use Rattle.alma_tree.specs.Numbers.{Step, token, node, ◌>>◌}
 use Rattle.alma_grammar.specs.Parts.{Part, one}
 use Rattle.alma_cursor.specs.declared.cursor.Cursor as cursors
 use Rattle.alma_cursor.specs.declared.fault.Fault.{Fault}
-use Rattle.alma_cursor.specs.Parsing.{At, seen, Opens, Reads, Fails}
+use Rattle.alma_cursor.specs.Parsing.{At, position_of, Opens, Reads, Fails}
 use Rattle.alma_cursor.specs.Joins.{Followed, Numbered}
 use Rattle.alma_cursor.proofs.Joins as joins
 use Rattle.alma_cursor.proofs.Joins.{Gives, Token}
@@ -40,7 +40,7 @@ module _ {T : Type 0} (s : T → List Kind → List Kind) (n : T → Step) (k : 
 
 -- what is given at any depth is given at this one
 pub at_depth : {T : Type 0} (s : T → List Kind → List Kind) (n : T → Step) (p : List Part → List Part) (d : ℕ) (a : At) (r : Result (T × cursors.Cursor) Fault)
-    → MatchResult r (λ t. (e : ℕ) → Reads (s t.0) (n t.0) p e e a (seen t.1)) (λ f. (e : ℕ) → Fails f p e a) → Gives s n p d d a r
+    → MatchResult r (λ t. (e : ℕ) → Reads (s t.0) (n t.0) p e e a (position_of t.1)) (λ f. (e : ℕ) → Fails f p e a) → Gives s n p d d a r
 at_depth s n p d a (Ok u) y = y d
 at_depth s n p d a (Err g) y = y d
 
@@ -51,6 +51,6 @@ stopped P Q (Err y) e h q = subst Q (sym h) q
 
 -- behind a part and a token fewer tokens are left
 pub fewer : {T : Type 0} (s : T → List Kind → List Kind) (n : T → Step) (p : List Part → List Part) (d e : ℕ) (a : At) (k : Kind)
-    (r : Result (T × cursors.Cursor) Fault) (u : T × cursors.Cursor) → Followed k r (Ok u) → Gives s n p d e a r → length (seen u.1).kinds < length a.kinds
+    (r : Result (T × cursors.Cursor) Fault) (u : T × cursors.Cursor) → Followed k r (Ok u) → Gives s n p d e a r → length (position_of u.1).kinds < length a.kinds
 fewer s n p d e a k (Ok t) u x y = omega (arith, x.1.shorter, y.shorter)
 fewer s n p d e a k (Err g) u x y = absurd (cc)

@@ -12,7 +12,7 @@ ghost use Rattle.alma_grammar.specs.Parts.{one, stmt_part, stmt_tail, elsif_tail
 ghost use Rattle.alma_grammar.specs.Parts.{arm_tail, high_part, label_tail, expr_parts, stmts_parts, label_parts};
 ghost use Rattle.alma_cursor.specs.Forms.{if_parts, while_parts, repeat_parts, for_parts, some_parts, case_parts, either_parts, forall_parts};
 ghost use Rattle.alma_cursor.specs.Forms.{commit_parts, return_parts, read_parts, write_parts, writeln_parts, desig_stmt_parts, labelled_parts};
-ghost use Rattle.alma_cursor.specs.Parsing.{seen, Reads, Extends, Fails};
+ghost use Rattle.alma_cursor.specs.Parsing.{position_of, Reads, Extends, Fails};
 
 use crate::expression::{args, desig, desig_value, expr, exprs};
 use alma_cursor::{Cursor, Fault, StmtForm, followed_by, numbered};
@@ -25,8 +25,8 @@ pub fn stmts<'t, 's>(
     at: Cursor<'t, 's>,
     depth: u32,
 ) -> Result<(Stmts, Cursor<'t, 's>), Fault<'t, 's>>
-    ensures read { MatchResult result (λ t. Reads (spell_stmts (view_stmts t.0)) (number_stmts t.0) stmts_parts depth depth (seen at.entry) (seen t.1))
-        (λ e. Fails e stmts_parts depth (seen at.entry)) }
+    ensures read { MatchResult result (λ t. Reads (spell_stmts (view_stmts t.0)) (number_stmts t.0) stmts_parts depth depth (position_of at.entry) (position_of t.1))
+        (λ e. Fails e stmts_parts depth (position_of at.entry)) }
 {
     let (first, at) = stmt(alloc, at, depth)?;
     let ((more, node), at) = numbered(stmt_list(alloc, at, depth))?;
@@ -41,8 +41,8 @@ fn stmt_list<'t, 's>(
     depth: u32,
 ) -> Result<(Vec<Stmt>, Cursor<'t, 's>), Fault<'t, 's>>
     ensures read { MatchResult result
-        (λ t. Reads (spell_stmt_tail (stmts_of t.0.items)) (numbers_of_stmts t.0.items) (λ o. stmt_tail ∷ o) depth depth (seen at.entry) (seen t.1))
-        (λ e. Fails e (λ o. stmt_tail ∷ o) depth (seen at.entry)) }
+        (λ t. Reads (spell_stmt_tail (stmts_of t.0.items)) (numbers_of_stmts t.0.items) (λ o. stmt_tail ∷ o) depth depth (position_of at.entry) (position_of t.1))
+        (λ e. Fails e (λ o. stmt_tail ∷ o) depth (position_of at.entry)) }
 {
     let mut more = Vec::new(alloc);
     while let Some(after) = at.skip(Kind::Semicolon) {
@@ -59,8 +59,8 @@ fn stmt<'t, 's>(
     at: Cursor<'t, 's>,
     depth: u32,
 ) -> Result<(Stmt, Cursor<'t, 's>), Fault<'t, 's>>
-    ensures read { MatchResult result (λ t. Reads (spell_stmt (view_stmt t.0)) (number_stmt t.0) (λ o. stmt_part ∷ o) depth depth (seen at.entry) (seen t.1))
-        (λ e. Fails e (λ o. stmt_part ∷ o) depth (seen at.entry)) }
+    ensures read { MatchResult result (λ t. Reads (spell_stmt (view_stmt t.0)) (number_stmt t.0) (λ o. stmt_part ∷ o) depth depth (position_of at.entry) (position_of t.1))
+        (λ e. Fails e (λ o. stmt_part ∷ o) depth (position_of at.entry)) }
 {
     match at.stmt_form() {
         StmtForm::Nothing => nothing(at),
@@ -84,8 +84,8 @@ fn stmt<'t, 's>(
 
 fn nothing<'t, 's>(at: Cursor<'t, 's>) -> Result<(Stmt, Cursor<'t, 's>), Fault<'t, 's>>
     ensures read { MatchResult result
-        (λ t. (d : ℕ) → Reads (spell_stmt (view_stmt t.0)) (number_stmt t.0) (λ o. o) d d (seen at.entry) (seen t.1))
-        (λ e. (d : ℕ) → Fails e (λ o. o) d (seen at.entry)) }
+        (λ t. (d : ℕ) → Reads (spell_stmt (view_stmt t.0)) (number_stmt t.0) (λ o. o) d d (position_of at.entry) (position_of t.1))
+        (λ e. (d : ℕ) → Fails e (λ o. o) d (position_of at.entry)) }
 {
     let (node, at) = at.count()?;
     Ok((Stmt::Nothing { node }, at))
@@ -98,8 +98,8 @@ fn desig_stmt<'t, 's>(
     at: Cursor<'t, 's>,
     depth: u32,
 ) -> Result<(Stmt, Cursor<'t, 's>), Fault<'t, 's>>
-    ensures read { MatchResult result (λ t. Reads (spell_stmt (view_stmt t.0)) (number_stmt t.0) desig_stmt_parts depth depth (seen at.entry) (seen t.1))
-        (λ e. Fails e desig_stmt_parts depth (seen at.entry)) }
+    ensures read { MatchResult result (λ t. Reads (spell_stmt (view_stmt t.0)) (number_stmt t.0) desig_stmt_parts depth depth (position_of at.entry) (position_of t.1))
+        (λ e. Fails e desig_stmt_parts depth (position_of at.entry)) }
 {
     let (desig, at) = desig(alloc, at, depth)?;
     if at.is_at(Kind::Assign) {
@@ -120,8 +120,8 @@ fn assign<'t, 's>(
 ) -> Result<(Stmt, Cursor<'t, 's>), Fault<'t, 's>>
     ensures read { MatchResult result
         (λ t. Extends (spell_desig (view_desig target)) (number_desig target) (λ o. one kinds.Assign ∷ expr_parts o)
-        (spell_stmt (view_stmt t.0)) (number_stmt t.0) depth (seen at.entry) (seen t.1))
-        (λ e. Fails e (λ o. one kinds.Assign ∷ expr_parts o) depth (seen at.entry)) }
+        (spell_stmt (view_stmt t.0)) (number_stmt t.0) depth (position_of at.entry) (position_of t.1))
+        (λ e. Fails e (λ o. one kinds.Assign ∷ expr_parts o) depth (position_of at.entry)) }
 {
     let at = at.expect(Kind::Assign)?;
     let ((value, node), at) = numbered(expr(alloc, at, depth))?;
@@ -141,8 +141,8 @@ fn value_stmt<'t, 's>(
     at: Cursor<'t, 's>,
     depth: u32,
 ) -> Result<(Stmt, Cursor<'t, 's>), Fault<'t, 's>>
-    ensures read { MatchResult result (λ t. Reads (spell_stmt (view_stmt t.0)) (number_stmt t.0) expr_parts depth depth (seen at.entry) (seen t.1))
-        (λ e. Fails e expr_parts depth (seen at.entry)) }
+    ensures read { MatchResult result (λ t. Reads (spell_stmt (view_stmt t.0)) (number_stmt t.0) expr_parts depth depth (position_of at.entry) (position_of t.1))
+        (λ e. Fails e expr_parts depth (position_of at.entry)) }
 {
     let ((value, node), at) = numbered(expr(alloc, at, depth))?;
     Ok((Stmt::Value { node, value }, at))
@@ -154,8 +154,8 @@ fn if_stmt<'t, 's>(
     at: Cursor<'t, 's>,
     depth: u32,
 ) -> Result<(Stmt, Cursor<'t, 's>), Fault<'t, 's>>
-    ensures read { MatchResult result (λ t. Reads (spell_stmt (view_stmt t.0)) (number_stmt t.0) if_parts depth depth (seen at.entry) (seen t.1))
-        (λ e. Fails e if_parts depth (seen at.entry)) }
+    ensures read { MatchResult result (λ t. Reads (spell_stmt (view_stmt t.0)) (number_stmt t.0) if_parts depth depth (position_of at.entry) (position_of t.1))
+        (λ e. Fails e if_parts depth (position_of at.entry)) }
 {
     let (at, inner) = at.open(Kind::If, depth)?;
     let (test, at) = followed_by(expr(alloc, at, inner), Kind::Then)?;
@@ -181,8 +181,8 @@ fn elsif_list<'t, 's>(
     depth: u32,
 ) -> Result<(Vec<Elsif>, Cursor<'t, 's>), Fault<'t, 's>>
     ensures read { MatchResult result
-        (λ t. Reads (spell_elsif_tail (elsifs_of t.0.items)) (numbers_of_elsifs t.0.items) (λ o. elsif_tail ∷ o) depth depth (seen at.entry) (seen t.1))
-        (λ e. Fails e (λ o. elsif_tail ∷ o) depth (seen at.entry)) }
+        (λ t. Reads (spell_elsif_tail (elsifs_of t.0.items)) (numbers_of_elsifs t.0.items) (λ o. elsif_tail ∷ o) depth depth (position_of at.entry) (position_of t.1))
+        (λ e. Fails e (λ o. elsif_tail ∷ o) depth (position_of at.entry)) }
 {
     let mut more = Vec::new(alloc);
     while let Some(after) = at.skip(Kind::Elsif) {
@@ -201,8 +201,8 @@ fn otherwise<'t, 's>(
     at: Cursor<'t, 's>,
     depth: u32,
 ) -> Result<(Option<Stmts>, Cursor<'t, 's>), Fault<'t, 's>>
-    ensures read { MatchResult result (λ t. Reads (spell_else (else_of t.0)) (numbers_of_else t.0) (λ o. else_part ∷ o) depth depth (seen at.entry) (seen t.1))
-        (λ e. Fails e (λ o. else_part ∷ o) depth (seen at.entry)) }
+    ensures read { MatchResult result (λ t. Reads (spell_else (else_of t.0)) (numbers_of_else t.0) (λ o. else_part ∷ o) depth depth (position_of at.entry) (position_of t.1))
+        (λ e. Fails e (λ o. else_part ∷ o) depth (position_of at.entry)) }
 {
     let Some(at) = at.skip(Kind::Else) else {
         return Ok((None, at));
@@ -217,8 +217,8 @@ fn while_stmt<'t, 's>(
     at: Cursor<'t, 's>,
     depth: u32,
 ) -> Result<(Stmt, Cursor<'t, 's>), Fault<'t, 's>>
-    ensures read { MatchResult result (λ t. Reads (spell_stmt (view_stmt t.0)) (number_stmt t.0) while_parts depth depth (seen at.entry) (seen t.1))
-        (λ e. Fails e while_parts depth (seen at.entry)) }
+    ensures read { MatchResult result (λ t. Reads (spell_stmt (view_stmt t.0)) (number_stmt t.0) while_parts depth depth (position_of at.entry) (position_of t.1))
+        (λ e. Fails e while_parts depth (position_of at.entry)) }
 {
     let (at, inner) = at.open(Kind::While, depth)?;
     let (test, at) = followed_by(expr(alloc, at, inner), Kind::Do)?;
@@ -232,8 +232,8 @@ fn repeat_stmt<'t, 's>(
     at: Cursor<'t, 's>,
     depth: u32,
 ) -> Result<(Stmt, Cursor<'t, 's>), Fault<'t, 's>>
-    ensures read { MatchResult result (λ t. Reads (spell_stmt (view_stmt t.0)) (number_stmt t.0) repeat_parts depth depth (seen at.entry) (seen t.1))
-        (λ e. Fails e repeat_parts depth (seen at.entry)) }
+    ensures read { MatchResult result (λ t. Reads (spell_stmt (view_stmt t.0)) (number_stmt t.0) repeat_parts depth depth (position_of at.entry) (position_of t.1))
+        (λ e. Fails e repeat_parts depth (position_of at.entry)) }
 {
     let (at, inner) = at.open(Kind::Repeat, depth)?;
     let (body, at) = followed_by(stmts(alloc, at, inner), Kind::Until)?;
@@ -247,8 +247,8 @@ fn for_stmt<'t, 's>(
     at: Cursor<'t, 's>,
     depth: u32,
 ) -> Result<(Stmt, Cursor<'t, 's>), Fault<'t, 's>>
-    ensures read { MatchResult result (λ t. Reads (spell_stmt (view_stmt t.0)) (number_stmt t.0) for_parts depth depth (seen at.entry) (seen t.1))
-        (λ e. Fails e for_parts depth (seen at.entry)) }
+    ensures read { MatchResult result (λ t. Reads (spell_stmt (view_stmt t.0)) (number_stmt t.0) for_parts depth depth (position_of at.entry) (position_of t.1))
+        (λ e. Fails e for_parts depth (position_of at.entry)) }
 {
     let (at, inner) = at.open(Kind::For, depth)?;
     let (variable, at) = followed_by(at.name(), Kind::Assign)?;
@@ -276,8 +276,8 @@ fn step<'t, 's>(
     at: Cursor<'t, 's>,
     depth: u32,
 ) -> Result<(Option<Expr>, Cursor<'t, 's>), Fault<'t, 's>>
-    ensures read { MatchResult result (λ t. Reads (spell_by (by_of t.0)) (numbers_of_by t.0) (λ o. by_part ∷ o) depth depth (seen at.entry) (seen t.1))
-        (λ e. Fails e (λ o. by_part ∷ o) depth (seen at.entry)) }
+    ensures read { MatchResult result (λ t. Reads (spell_by (by_of t.0)) (numbers_of_by t.0) (λ o. by_part ∷ o) depth depth (position_of at.entry) (position_of t.1))
+        (λ e. Fails e (λ o. by_part ∷ o) depth (position_of at.entry)) }
 {
     let Some(at) = at.skip(Kind::By) else {
         return Ok((None, at));
@@ -292,8 +292,8 @@ fn some_stmt<'t, 's>(
     at: Cursor<'t, 's>,
     depth: u32,
 ) -> Result<(Stmt, Cursor<'t, 's>), Fault<'t, 's>>
-    ensures read { MatchResult result (λ t. Reads (spell_stmt (view_stmt t.0)) (number_stmt t.0) some_parts depth depth (seen at.entry) (seen t.1))
-        (λ e. Fails e some_parts depth (seen at.entry)) }
+    ensures read { MatchResult result (λ t. Reads (spell_stmt (view_stmt t.0)) (number_stmt t.0) some_parts depth depth (position_of at.entry) (position_of t.1))
+        (λ e. Fails e some_parts depth (position_of at.entry)) }
 {
     let (at, inner) = at.open(Kind::Some, depth)?;
     let (variable, at) = followed_by(at.name(), Kind::Assign)?;
@@ -318,8 +318,8 @@ fn case_stmt<'t, 's>(
     at: Cursor<'t, 's>,
     depth: u32,
 ) -> Result<(Stmt, Cursor<'t, 's>), Fault<'t, 's>>
-    ensures read { MatchResult result (λ t. Reads (spell_stmt (view_stmt t.0)) (number_stmt t.0) case_parts depth depth (seen at.entry) (seen t.1))
-        (λ e. Fails e case_parts depth (seen at.entry)) }
+    ensures read { MatchResult result (λ t. Reads (spell_stmt (view_stmt t.0)) (number_stmt t.0) case_parts depth depth (position_of at.entry) (position_of t.1))
+        (λ e. Fails e case_parts depth (position_of at.entry)) }
 {
     let (at, inner) = at.open(Kind::Case, depth)?;
     let (value, at) = followed_by(expr(alloc, at, inner), Kind::Of)?;
@@ -345,8 +345,8 @@ fn arm<'t, 's>(
     at: Cursor<'t, 's>,
     depth: u32,
 ) -> Result<(Arm, Cursor<'t, 's>), Fault<'t, 's>>
-    ensures read { MatchResult result (λ t. Reads (spell_arm (view_arm t.0)) (number_arm t.0) (λ o. arm_part ∷ o) depth depth (seen at.entry) (seen t.1))
-        (λ e. Fails e (λ o. arm_part ∷ o) depth (seen at.entry)) }
+    ensures read { MatchResult result (λ t. Reads (spell_arm (view_arm t.0)) (number_arm t.0) (λ o. arm_part ∷ o) depth depth (position_of at.entry) (position_of t.1))
+        (λ e. Fails e (λ o. arm_part ∷ o) depth (position_of at.entry)) }
 {
     if at.begins_expr() {
         return labelled_arm(alloc, at, depth);
@@ -361,8 +361,8 @@ fn labelled_arm<'t, 's>(
     at: Cursor<'t, 's>,
     depth: u32,
 ) -> Result<(Arm, Cursor<'t, 's>), Fault<'t, 's>>
-    ensures read { MatchResult result (λ t. Reads (spell_arm (view_arm t.0)) (number_arm t.0) labelled_parts depth depth (seen at.entry) (seen t.1))
-        (λ e. Fails e labelled_parts depth (seen at.entry)) }
+    ensures read { MatchResult result (λ t. Reads (spell_arm (view_arm t.0)) (number_arm t.0) labelled_parts depth depth (position_of at.entry) (position_of t.1))
+        (λ e. Fails e labelled_parts depth (position_of at.entry)) }
 {
     let (first, at) = label(alloc, at, depth)?;
     let (more, at) = followed_by(label_list(alloc, at, depth), Kind::Colon)?;
@@ -385,8 +385,8 @@ fn arm_list<'t, 's>(
     depth: u32,
 ) -> Result<(Vec<Arm>, Cursor<'t, 's>), Fault<'t, 's>>
     ensures read { MatchResult result (λ t. Reads (spell_arm_tail (arms_of t.0.items)) (numbers_of_arms t.0.items)
-        (λ o. arm_tail ∷ o) depth depth (seen at.entry) (seen t.1))
-        (λ e. Fails e (λ o. arm_tail ∷ o) depth (seen at.entry)) }
+        (λ o. arm_tail ∷ o) depth depth (position_of at.entry) (position_of t.1))
+        (λ e. Fails e (λ o. arm_tail ∷ o) depth (position_of at.entry)) }
 {
     let mut more = Vec::new(alloc);
     while let Some(after) = at.skip(Kind::Bar) {
@@ -403,8 +403,8 @@ fn label<'t, 's>(
     at: Cursor<'t, 's>,
     depth: u32,
 ) -> Result<(Label, Cursor<'t, 's>), Fault<'t, 's>>
-    ensures read { MatchResult result (λ t. Reads (spell_label (view_label t.0)) (number_label t.0) label_parts depth depth (seen at.entry) (seen t.1))
-        (λ e. Fails e label_parts depth (seen at.entry)) }
+    ensures read { MatchResult result (λ t. Reads (spell_label (view_label t.0)) (number_label t.0) label_parts depth depth (position_of at.entry) (position_of t.1))
+        (λ e. Fails e label_parts depth (position_of at.entry)) }
 {
     let (low, at) = expr(alloc, at, depth)?;
     let ((high, node), at) = numbered(high(alloc, at, depth))?;
@@ -417,8 +417,8 @@ fn high<'t, 's>(
     at: Cursor<'t, 's>,
     depth: u32,
 ) -> Result<(Option<Expr>, Cursor<'t, 's>), Fault<'t, 's>>
-    ensures read { MatchResult result (λ t. Reads (spell_high (high_of t.0)) (numbers_of_high t.0) (λ o. high_part ∷ o) depth depth (seen at.entry) (seen t.1))
-        (λ e. Fails e (λ o. high_part ∷ o) depth (seen at.entry)) }
+    ensures read { MatchResult result (λ t. Reads (spell_high (high_of t.0)) (numbers_of_high t.0) (λ o. high_part ∷ o) depth depth (position_of at.entry) (position_of t.1))
+        (λ e. Fails e (λ o. high_part ∷ o) depth (position_of at.entry)) }
 {
     let Some(at) = at.skip(Kind::DotDot) else {
         return Ok((None, at));
@@ -434,8 +434,8 @@ fn label_list<'t, 's>(
     depth: u32,
 ) -> Result<(Vec<Label>, Cursor<'t, 's>), Fault<'t, 's>>
     ensures read { MatchResult result
-        (λ t. Reads (spell_label_tail (labels_of t.0.items)) (numbers_of_labels t.0.items) (λ o. label_tail ∷ o) depth depth (seen at.entry) (seen t.1))
-        (λ e. Fails e (λ o. label_tail ∷ o) depth (seen at.entry)) }
+        (λ t. Reads (spell_label_tail (labels_of t.0.items)) (numbers_of_labels t.0.items) (λ o. label_tail ∷ o) depth depth (position_of at.entry) (position_of t.1))
+        (λ e. Fails e (λ o. label_tail ∷ o) depth (position_of at.entry)) }
 {
     let mut more = Vec::new(alloc);
     while let Some(after) = at.skip(Kind::Comma) {
@@ -452,8 +452,8 @@ fn either_stmt<'t, 's>(
     at: Cursor<'t, 's>,
     depth: u32,
 ) -> Result<(Stmt, Cursor<'t, 's>), Fault<'t, 's>>
-    ensures read { MatchResult result (λ t. Reads (spell_stmt (view_stmt t.0)) (number_stmt t.0) either_parts depth depth (seen at.entry) (seen t.1))
-        (λ e. Fails e either_parts depth (seen at.entry)) }
+    ensures read { MatchResult result (λ t. Reads (spell_stmt (view_stmt t.0)) (number_stmt t.0) either_parts depth depth (position_of at.entry) (position_of t.1))
+        (λ e. Fails e either_parts depth (position_of at.entry)) }
 {
     let (at, inner) = at.open(Kind::Either, depth)?;
     let (first, at) = stmts(alloc, at, inner)?;
@@ -468,8 +468,8 @@ fn orelse_list<'t, 's>(
     depth: u32,
 ) -> Result<(Vec<Stmts>, Cursor<'t, 's>), Fault<'t, 's>>
     ensures read { MatchResult result
-        (λ t. Reads (spell_orelse_tail (orelses_of t.0.items)) (numbers_of_orelses t.0.items) (λ o. orelse_tail ∷ o) depth depth (seen at.entry) (seen t.1))
-        (λ e. Fails e (λ o. orelse_tail ∷ o) depth (seen at.entry)) }
+        (λ t. Reads (spell_orelse_tail (orelses_of t.0.items)) (numbers_of_orelses t.0.items) (λ o. orelse_tail ∷ o) depth depth (position_of at.entry) (position_of t.1))
+        (λ e. Fails e (λ o. orelse_tail ∷ o) depth (position_of at.entry)) }
 {
     let mut more = Vec::new(alloc);
     while let Some(after) = at.skip(Kind::Orelse) {
@@ -486,8 +486,8 @@ fn forall_stmt<'t, 's>(
     at: Cursor<'t, 's>,
     depth: u32,
 ) -> Result<(Stmt, Cursor<'t, 's>), Fault<'t, 's>>
-    ensures read { MatchResult result (λ t. Reads (spell_stmt (view_stmt t.0)) (number_stmt t.0) forall_parts depth depth (seen at.entry) (seen t.1))
-        (λ e. Fails e forall_parts depth (seen at.entry)) }
+    ensures read { MatchResult result (λ t. Reads (spell_stmt (view_stmt t.0)) (number_stmt t.0) forall_parts depth depth (position_of at.entry) (position_of t.1))
+        (λ e. Fails e forall_parts depth (position_of at.entry)) }
 {
     let (at, inner) = at.open(Kind::Forall, depth)?;
     let (choice, at) = followed_by(stmts(alloc, at, inner), Kind::Do)?;
@@ -501,8 +501,8 @@ fn commit_stmt<'t, 's>(
     at: Cursor<'t, 's>,
     depth: u32,
 ) -> Result<(Stmt, Cursor<'t, 's>), Fault<'t, 's>>
-    ensures read { MatchResult result (λ t. Reads (spell_stmt (view_stmt t.0)) (number_stmt t.0) commit_parts depth depth (seen at.entry) (seen t.1))
-        (λ e. Fails e commit_parts depth (seen at.entry)) }
+    ensures read { MatchResult result (λ t. Reads (spell_stmt (view_stmt t.0)) (number_stmt t.0) commit_parts depth depth (position_of at.entry) (position_of t.1))
+        (λ e. Fails e commit_parts depth (position_of at.entry)) }
 {
     let (at, inner) = at.open(Kind::Commit, depth)?;
     let ((body, node), at) = numbered(followed_by(stmts(alloc, at, inner), Kind::End))?;
@@ -515,8 +515,8 @@ fn return_stmt<'t, 's>(
     at: Cursor<'t, 's>,
     depth: u32,
 ) -> Result<(Stmt, Cursor<'t, 's>), Fault<'t, 's>>
-    ensures read { MatchResult result (λ t. Reads (spell_stmt (view_stmt t.0)) (number_stmt t.0) return_parts depth depth (seen at.entry) (seen t.1))
-        (λ e. Fails e return_parts depth (seen at.entry)) }
+    ensures read { MatchResult result (λ t. Reads (spell_stmt (view_stmt t.0)) (number_stmt t.0) return_parts depth depth (position_of at.entry) (position_of t.1))
+        (λ e. Fails e return_parts depth (position_of at.entry)) }
 {
     let at = at.expect(Kind::Return)?;
     let ((value, node), at) = numbered(returned(alloc, at, depth))?;
@@ -530,8 +530,8 @@ fn returned<'t, 's>(
     depth: u32,
 ) -> Result<(Option<Expr>, Cursor<'t, 's>), Fault<'t, 's>>
     ensures read { MatchResult result
-        (λ t. Reads (spell_returned (returned_of t.0)) (numbers_of_returned t.0) (λ o. returned_part ∷ o) depth depth (seen at.entry) (seen t.1))
-        (λ e. Fails e (λ o. returned_part ∷ o) depth (seen at.entry)) }
+        (λ t. Reads (spell_returned (returned_of t.0)) (numbers_of_returned t.0) (λ o. returned_part ∷ o) depth depth (position_of at.entry) (position_of t.1))
+        (λ e. Fails e (λ o. returned_part ∷ o) depth (position_of at.entry)) }
 {
     if at.begins_expr() {
         let (value, at) = expr(alloc, at, depth)?;
@@ -546,8 +546,8 @@ fn read_stmt<'t, 's>(
     at: Cursor<'t, 's>,
     depth: u32,
 ) -> Result<(Stmt, Cursor<'t, 's>), Fault<'t, 's>>
-    ensures read { MatchResult result (λ t. Reads (spell_stmt (view_stmt t.0)) (number_stmt t.0) read_parts depth depth (seen at.entry) (seen t.1))
-        (λ e. Fails e read_parts depth (seen at.entry)) }
+    ensures read { MatchResult result (λ t. Reads (spell_stmt (view_stmt t.0)) (number_stmt t.0) read_parts depth depth (position_of at.entry) (position_of t.1))
+        (λ e. Fails e read_parts depth (position_of at.entry)) }
 {
     let at = at.expect(Kind::Read)?;
     let (at, inner) = at.open(Kind::OpenParen, depth)?;
@@ -563,8 +563,8 @@ fn desig_list<'t, 's>(
     depth: u32,
 ) -> Result<(Vec<Desig>, Cursor<'t, 's>), Fault<'t, 's>>
     ensures read { MatchResult result
-        (λ t. Reads (spell_desig_tail (desigs_of t.0.items)) (numbers_of_desigs t.0.items) (λ o. desig_tail ∷ o) depth depth (seen at.entry) (seen t.1))
-        (λ e. Fails e (λ o. desig_tail ∷ o) depth (seen at.entry)) }
+        (λ t. Reads (spell_desig_tail (desigs_of t.0.items)) (numbers_of_desigs t.0.items) (λ o. desig_tail ∷ o) depth depth (position_of at.entry) (position_of t.1))
+        (λ e. Fails e (λ o. desig_tail ∷ o) depth (position_of at.entry)) }
 {
     let mut more = Vec::new(alloc);
     while let Some(after) = at.skip(Kind::Comma) {
@@ -581,8 +581,8 @@ fn write_stmt<'t, 's>(
     at: Cursor<'t, 's>,
     depth: u32,
 ) -> Result<(Stmt, Cursor<'t, 's>), Fault<'t, 's>>
-    ensures read { MatchResult result (λ t. Reads (spell_stmt (view_stmt t.0)) (number_stmt t.0) write_parts depth depth (seen at.entry) (seen t.1))
-        (λ e. Fails e write_parts depth (seen at.entry)) }
+    ensures read { MatchResult result (λ t. Reads (spell_stmt (view_stmt t.0)) (number_stmt t.0) write_parts depth depth (position_of at.entry) (position_of t.1))
+        (λ e. Fails e write_parts depth (position_of at.entry)) }
 {
     let at = at.expect(Kind::Write)?;
     let (at, inner) = at.open(Kind::OpenParen, depth)?;
@@ -596,8 +596,8 @@ fn writeln_stmt<'t, 's>(
     at: Cursor<'t, 's>,
     depth: u32,
 ) -> Result<(Stmt, Cursor<'t, 's>), Fault<'t, 's>>
-    ensures read { MatchResult result (λ t. Reads (spell_stmt (view_stmt t.0)) (number_stmt t.0) writeln_parts depth depth (seen at.entry) (seen t.1))
-        (λ e. Fails e writeln_parts depth (seen at.entry)) }
+    ensures read { MatchResult result (λ t. Reads (spell_stmt (view_stmt t.0)) (number_stmt t.0) writeln_parts depth depth (position_of at.entry) (position_of t.1))
+        (λ e. Fails e writeln_parts depth (position_of at.entry)) }
 {
     let at = at.expect(Kind::Writeln)?;
     let (items, at) = args(alloc, at, depth)?;

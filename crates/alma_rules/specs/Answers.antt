@@ -6,7 +6,7 @@ use Rattle.alma_scan.specs.Tokens.{Lexeme}
 use Rattle.alma_names.specs.declared.block.Entry.{Entry}
 use Rattle.alma_names.specs.declared.block.Entry.TheVariants as entry
 use Rattle.alma_names.specs.Shapes.{PlainShape, base_at, range_at}
-use Rattle.alma_names.specs.Blocks.{Declared}
+use Rattle.alma_names.specs.Blocks.{DeclaredName}
 use Rattle.alma_names.specs.Scopes.{Blocks}
 use Rattle.alma_ir.specs.Tree as ir
 use Rattle.alma_rules.specs.declared.error.Stop.{Stop}
@@ -68,7 +68,7 @@ IsEntryOf t (entry.Variable shape access) = shape.0 < length t
 IsEntryOf t (entry.Routine r) = Unit {0}
 IsEntryOf t entry.Bad = Unit {0}
 
-abbrev pub AreEntriesOf : List PlainShape → List Declared → Type 0
+abbrev pub AreEntriesOf : List PlainShape → List DeclaredName → Type 0
 AreEntriesOf t ds = All (λ d. IsEntryOf t d.entry) ds
 
 pub record IsEnvironment (t : List PlainShape) (b : Blocks) : Type 0 where

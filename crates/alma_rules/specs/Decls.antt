@@ -11,7 +11,7 @@ use Rattle.alma_names.specs.declared.block.Entry.{Entry}
 use Rattle.alma_names.specs.declared.block.Entry.TheVariants as entry
 use Rattle.alma_names.specs.Shapes.{limit}
 use Rattle.alma_names.specs.Blocks.{shape_id}
-use Rattle.alma_names.specs.Scopes.{opened}
+use Rattle.alma_names.specs.Scopes.{with_new_block}
 use Rattle.alma_ir.specs.declared.program.Param.{Param}
 use Rattle.alma_ir.specs.declared.program.ArgKind.{ArgKind}
 use Rattle.alma_ir.specs.declared.program.ArgKind.TheVariants as kinds
@@ -188,7 +188,7 @@ with_routines_of s r (tree.block n decls body) = with_routines s r decls
 -- a new block, with the names that it declares, of which those before its declarations are given
 abbrev pub with_block : Scene → (routine : ℕ) → Returns → List tree.Name → tree.Block → Scene
 with_block s r returns names b =
-    with_routines_of (record s { blocks = opened s.blocks; declares = with_texts s (names ++ block_names b); routine = r; returns = returns }) (r + 1) b
+    with_routines_of (record s { blocks = with_new_block s.blocks; declares = with_texts s (names ++ block_names b); routine = r; returns = returns }) (r + 1) b
 
 -- ---- headings
 

@@ -14,7 +14,7 @@ use Rattle.alma_scan.specs.Comments.{Closes, here, Gap, none, blank, comment, op
 use Rattle.alma_scan.specs.Spellings.{look_up, symbols, reserved_words, greatest_number}
 use Rattle.alma_scan.specs.Tokens.{Lexeme, IsToken, HasToken, HasTokens}
 use Rattle.alma_scan.specs.Faults.{IsFault, EndsLine, HasFault}
-use Rattle.alma_scan.specs.Fronts.{IsGapEnd, IsOtherFirst}
+use Rattle.alma_scan.specs.Inner.Fronts.{IsGapEnd, IsOtherFirst}
 use Rattle.alma_scan.proofs.Basics.{true_false, heads, tails}
 use Rattle.alma_scan.proofs.Comments.{ClosesAll, opened, opened_back, closed_back, byted, byted_back, no_all}
 use Rattle.alma_scan.proofs.Gaps.{gap_shorter, closes_shorter}

@@ -3,7 +3,7 @@ use Rattle.std.proofs.Common.{◌≡◌, ◌≤◌, ◌<◌, ℕ, true, List, []
 use Rattle.alma_base.specs.Reading.{is_blank}
 use Rattle.alma_scan.specs.Bytes.{AllIn, Stops}
 use Rattle.alma_scan.specs.Comments.{Closes, here, byte, nested, Gap, none, blank, comment}
-use Rattle.alma_scan.specs.Fronts.{IsGapEnd}
+use Rattle.alma_scan.specs.Inner.Fronts.{IsGapEnd}
 use Rattle.alma_scan.proofs.Basics.{true_false, both, heads, tails}
 use Rattle.alma_scan.proofs.Comments.{closes_once}
 

@@ -8,7 +8,7 @@ use Rattle.alma_base.specs.declared.fault.LexFault.TheVariants.{BadByte, OpenCom
 use Rattle.alma_tree.specs.declared.kind.Kind.{Kind}
 use Rattle.alma_scan.specs.Bytes.{is_quote, is_line_end, may_stand_in, AllIn, Stops, value_of}
 use Rattle.alma_scan.specs.Comments.{Closes, Gap, opens}
-use Rattle.alma_scan.specs.Fronts.{IsGapEnd}
+use Rattle.alma_scan.specs.Inner.Fronts.{IsGapEnd}
 use Rattle.alma_scan.specs.Spellings.{Spells, IsDigits}
 use Rattle.alma_scan.specs.Tokens.{Lexeme, IsToken, HasToken, HasTokens}
 use Rattle.alma_scan.specs.Faults.{IsOpenComment, IsOpenString, IsTooLarge, IsFault, EndsLine, HasFault}

@@ -9,7 +9,7 @@ use Rattle.alma_tree.specs.declared.kind.Kind.{Kind}
 use Rattle.alma_tree.specs.declared.kind.Kind.TheVariants as kinds
 use Rattle.alma_scan.specs.Bytes.{is_quote, AllIn, value_of}
 use Rattle.alma_scan.specs.Spellings.{Spelling, symbols, reserved_words, look_up, IsDigits, IsLiteral, greatest_number, Spells, name, number, literal, symbol, reserved}
-use Rattle.alma_scan.specs.Fronts.{IsOtherFirst}
+use Rattle.alma_scan.specs.Inner.Fronts.{IsOtherFirst}
 use Rattle.alma_scan.proofs.Basics.{true_false, both, heads}
 
 -- no letter is a digit

@@ -14,7 +14,7 @@ use Rattle.alma_scan.specs.Tokens.{IsToken}
 use Rattle.alma_scan.specs.Faults.{EndsLine, IsOpenString, IsTooLarge, IsBadByte}
 use Rattle.alma_base.specs.declared.fault.LexFault.TheVariants.{BadByte}
 use Rattle.alma_scan.specs.declared.front.Front.{Front}
-use Rattle.alma_scan.specs.Fronts.{IsOtherFirst, IsFront, IsSymbolAt}
+use Rattle.alma_scan.specs.Inner.Fronts.{IsOtherFirst, IsFront, IsSymbolAt}
 use Rattle.alma_scan.proofs.Basics.{true_false, both, heads, tails}
 use Rattle.alma_scan.proofs.Runs.{run_longest, run_once}
 use Rattle.alma_scan.proofs.Spelled.{word_only, number_only, literal_only, symbol_only, spells_some, letter_no_digit, letter_no_paren, digit_no_paren, quote_no_paren, number_digits, symbol_short}

@@ -9,6 +9,4 @@ pub mod Places
 pub mod Unread
 pub mod Scanned
 -- What the contracts of private functions say.
-pub mod Classes
-pub mod Tables
-pub mod Fronts
+pub mod Inner

@@ -3,7 +3,7 @@ ghost use Rattle.std.specs.Prelude.{◌≡◌, ◌++◌};
 ghost use Rattle.alma_base.specs.Bytes.{is_letter};
 ghost use Rattle.alma_base.specs.Reading.{is_blank, is_digit};
 ghost use Rattle.alma_scan.specs.Bytes.{is_quote, AllIn, Stops};
-ghost use Rattle.alma_scan.specs.Classes.{in_class};
+ghost use Rattle.alma_scan.specs.Inner.Classes.{in_class};
 
 /// A class of bytes.
 #[derive(Clone, Copy, Debug, PartialEq, Eq)]

@@ -4,7 +4,7 @@ ghost use Rattle.alma_base.specs.Bytes.{is_letter};
 ghost use Rattle.alma_base.specs.Reading.{is_digit};
 ghost use Rattle.alma_scan.specs.Bytes.{Begins, AllIn, Stops, is_quote, value_of};
 ghost use Rattle.alma_scan.specs.Spellings.{greatest_number};
-ghost use Rattle.alma_scan.specs.Fronts.{IsGapEnd, IsFront, IsFrontOf, IsOtherFirst, IsSymbolAt};
+ghost use Rattle.alma_scan.specs.Inner.Fronts.{IsGapEnd, IsFront, IsFrontOf, IsOtherFirst, IsSymbolAt};
 
 use crate::byte::{Class, is_digit, is_letter, is_quote, split_run};
 use crate::gap::skip_two;

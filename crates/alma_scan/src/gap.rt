@@ -1,7 +1,7 @@
 // Comments, and the gaps between tokens.
 ghost use Rattle.std.specs.Prelude.{◌≡◌, ◌∷◌, List, ℕ, MatchOption, false};
 ghost use Rattle.alma_scan.specs.Comments.{starts_with_two, Closes, Gap};
-ghost use Rattle.alma_scan.specs.Fronts.{IsGapEnd};
+ghost use Rattle.alma_scan.specs.Inner.Fronts.{IsGapEnd};
 
 use crate::byte::{Class, split_run};
 

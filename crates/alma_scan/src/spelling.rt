@@ -1,7 +1,7 @@
 // The texts that are spelled in one way.
 ghost use Rattle.std.specs.Prelude.{◌≡◌};
 ghost use Rattle.alma_scan.specs.Spellings.{look_up, symbols, reserved_words};
-ghost use Rattle.alma_scan.specs.Tables.{entries};
+ghost use Rattle.alma_scan.specs.Inner.Tables.{entries};
 
 use alma_tree::Kind;
 

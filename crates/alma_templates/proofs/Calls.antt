@@ -11,7 +11,7 @@ use Rattle.alma_code.specs.declared.cell.Cell.TheVariants as cell
 use Rattle.alma_code.specs.declared.cell.SlotKind.{SlotKind}
 use Rattle.alma_code.specs.declared.cell.SlotKind.TheVariants as slot
 use Rattle.alma_code.specs.declared.instr.Instr.TheVariants as I
-use Rattle.alma_code.specs.Layout.{entered_frame}
+use Rattle.alma_code.specs.Layout.{frame_of_call}
 use Rattle.alma_code.specs.Lines.{line_at}
 use Rattle.alma_code.specs.Picture.{PlainFrame, PlainEntry, last_frame, without_last}
 use Rattle.alma_code.specs.Picture as picture
@@ -324,7 +324,7 @@ module _ (p : Program) (tables : Tables) (code : PlainCode) (input : List ℕ) (
       new_store = v ++ frame_of v called up (routine_at p called) taken ∷ []
 
       abbrev pushed : PlainFrame
-      pushed = entered_frame now callee.named.head called back (handed_all p called (up_from v (top v) up) cells)
+      pushed = frame_of_call now callee.named.head called back (handed_all p called (up_from v (top v) up) cells)
 
       abbrev new_frames : List PlainFrame
       new_frames = now ++ pushed ∷ []

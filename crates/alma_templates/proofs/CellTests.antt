@@ -15,7 +15,7 @@ use Rattle.alma_code.specs.Carries.{number_at}
 use Rattle.alma_code.specs.Picture.{PlainFrame, PlainEntry, written, cell_at}
 use Rattle.alma_code.specs.Plain.{PlainCode}
 use Rattle.alma_code.specs.Lines.{line_at}
-use Rattle.alma_code.specs.Machine.{State, Stepped, Failing, act, step, went, faulted, fails_now, stuck, with_cell, as_range, as_content, number, place, content, bound, store, equated, equation}
+use Rattle.alma_code.specs.Machine.{State, Stepped, Failing, act, step, quiet_step, ends_in_fault, fails_now, stuck, with_cell, as_range, as_content, number, place, content, bound, store, equation_of_contents, equation}
 use Rattle.alma_ir.specs.Tree.{Program, Expr, Desig, Bind, Unify}
 use Rattle.alma_ir.specs.Checked.{desig_cells}
 use Rattle.alma_mean.specs.Store.{Store, Place, Unknown, Number, At, cell_of, put_at}
@@ -63,7 +63,7 @@ module _ (p : Program) (tables : Tables) (code : PlainCode) (input : List ℕ) (
   abbrev pub Does : (at : ℕ) → List PlainFrame → (State → Stepped) → Type 0
   Does at now f = (held : List PlainEntry) (s : State) → IsAt at now held s → step code input s ≡ f (passed code input s)
 
-  passes_ends : (at lo : ℕ) (v : Store) (now : List PlainFrame) → Begins p code input r v now → Does at now went → From p code input line 8 at (at + 1) now (leaving p code input lo r now (Nothing p code input)) (one v tt) q
+  passes_ends : (at lo : ℕ) (v : Store) (now : List PlainFrame) → Begins p code input r v now → Does at now quiet_step → From p code input line 8 at (at + 1) now (leaving p code input lo r now (Nothing p code input)) (one v tt) q
   passes_ends at lo v now b does_it =
       past_from p tables code input below r line q 7 at (at + 1) (at + 1) now (leaving p code input lo r now (Nothing p code input)) (one v tt) (λ held s is. goes_past code input line at now held s is (does_it held s is))
       (ends_here p code input line 7 (at + 1) lo r v now (Nothing p code input) tt q b tt)
@@ -74,26 +74,26 @@ module _ (p : Program) (tables : Tables) (code : PlainCode) (input : List ℕ) (
       (λ held s is. (record (passed code input s) { mode = Failing }, went_on code input s (record (passed code input s) { mode = Failing }) (does_it held s is), record { mode = refl; entries = is.entries }))
 
   -- a test of two numbers
-  equals_ends : (at lo : ℕ) (v : Store) (now : List PlainFrame) (z : Bool) → Begins p code input r v now → Does at now (λ s. if_true z (λ _. went s) (λ _. fails_now s)) → From p code input line 8 at (at + 1) now (leaving p code input lo r now (Nothing p code input)) (succeed_if v z) q
+  equals_ends : (at lo : ℕ) (v : Store) (now : List PlainFrame) (z : Bool) → Begins p code input r v now → Does at now (λ s. if_true z (λ _. quiet_step s) (λ _. fails_now s)) → From p code input line 8 at (at + 1) now (leaving p code input lo r now (Nothing p code input)) (succeed_if v z) q
   equals_ends at lo v now true b does_it = passes_ends at lo v now b does_it
   equals_ends at lo v now false b does_it = fails_ends at lo now does_it
 
   -- a number that goes into a cell where it is in the range
   puts_ends : (at lo n size : ℕ) (v : Store) (now : List PlainFrame) (a : Place) (range : Range) (x : ℤ) → own_end p r ≤ lo → 0 < size → Begins p code input r v now → (h : IsPlace p code input n size v a now) → is_integer x ≡ true → number_at now h.place.frame h.place.slot ≡ true → line_at code at ≡ line
-      → Does at now (λ s. if_true (within range x) (λ _. store s h.place.frame h.place.slot x went) (λ _. faulted fault.Range s)) → From p code input line 8 at (at + 1) now (leaving p code input lo r now (Nothing p code input)) (check_range range x (λ _. one (put_at v a (Number x)) tt)) q
+      → Does at now (λ s. if_true (within range x) (λ _. store s h.place.frame h.place.slot x quiet_step) (λ _. ends_in_fault fault.Range s)) → From p code input line 8 at (at + 1) now (leaving p code input lo r now (Nothing p code input)) (check_range range x (λ _. one (put_at v a (Number x)) tt)) q
   puts_ends at lo n size v now a range x behind some b h integer live there does_it = by (within range x) refl
     where
       by : (z : Bool) → within range x ≡ z → From p code input line 8 at (at + 1) now (leaving p code input lo r now (Nothing p code input)) (fault_unless fault.Range z (λ _. one (put_at v a (Number x)) tt)) q
       by false out =
           faults_here p code input line 7 at (at + 1) now (leaving p code input lo r now (Nothing p code input)) fault.Range q
-          (λ held s is. faults_now code input line s fault.Range (here_too code input line at now held s is there) (does_it held s is ∙ ap (λ z. if_true z (λ _. store (passed code input s) h.place.frame h.place.slot x went) (λ _. faulted fault.Range (passed code input s))) out))
+          (λ held s is. faults_now code input line s fault.Range (here_too code input line at now held s is there) (does_it held s is ∙ ap (λ z. if_true z (λ _. store (passed code input s) h.place.frame h.place.slot x quiet_step) (λ _. ends_in_fault fault.Range (passed code input s))) out))
       by true in_it =
           put_goes_on p code input line 7 at (at + 1) lo r v now x (Nothing p code input) (one (put_at v a (Number x)) tt) q behind b n size a some h integer
           (λ held s is.
-          let e : step code input s ≡ went (with_cell (passed code input s) h.place.frame h.place.slot (cell.Int x)) =
-          does_it held s is ∙ ap (λ z. if_true z (λ _. store (passed code input s) h.place.frame h.place.slot x went) (λ _. faulted fault.Range (passed code input s))) in_it
-          ∙ ap (λ z. if_true (number_at z h.place.frame h.place.slot) (λ _. went (with_cell (passed code input s) h.place.frame h.place.slot (cell.Int x))) (λ _. stuck (passed code input s))) is.frames
-          ∙ ap (λ t. if_true t (λ _. went (with_cell (passed code input s) h.place.frame h.place.slot (cell.Int x))) (λ _. stuck (passed code input s))) live in
+          let e : step code input s ≡ quiet_step (with_cell (passed code input s) h.place.frame h.place.slot (cell.Int x)) =
+          does_it held s is ∙ ap (λ z. if_true z (λ _. store (passed code input s) h.place.frame h.place.slot x quiet_step) (λ _. ends_in_fault fault.Range (passed code input s))) in_it
+          ∙ ap (λ z. if_true (number_at z h.place.frame h.place.slot) (λ _. quiet_step (with_cell (passed code input s) h.place.frame h.place.slot (cell.Int x))) (λ _. stuck (passed code input s))) is.frames
+          ∙ ap (λ t. if_true t (λ _. quiet_step (with_cell (passed code input s) h.place.frame h.place.slot (cell.Int x))) (λ _. stuck (passed code input s))) live in
           record { to = with_cell (passed code input s) h.place.frame h.place.slot (cell.Int x); silently = went_on code input s (with_cell (passed code input s) h.place.frame h.place.slot (cell.Int x)) e; is = record { mode = is.mode; here = ap (λ m. m + 1) is.here; frames = ap (λ z. written z h.place.frame h.place.slot (cell.Int x)) is.frames; entries = is.entries } })
           (λ t left. ends_here p code input line 7 (at + 1) lo r (put_at v a (Number x)) t (Nothing p code input) tt q (begins p code input lo r now (put_at v a (Number x)) t left) tt)
 
@@ -196,17 +196,17 @@ module _ (p : Program) (tables : Tables) (code : PlainCode) (input : List ℕ) (
 
   unify_does : (at a b m n : ℕ) (c e : CellPlace) (range range' : Range) (x y : Cell) (now : List PlainFrame) → InstrAt code input line at (I.Unify a m b n) → slice_get code.ranges m ≡ Some range → slice_get code.ranges n ≡ Some range' → Holds now a (cell.Place c) → Holds now b (cell.Place e)
       → number_at now c.frame c.slot ≡ true → cell_at now c.frame c.slot cell.Unset ≡ x → number_at now e.frame e.slot ≡ true → cell_at now e.frame e.slot cell.Unset ≡ y
-      → Does at now (λ s. as_content true x s (λ u. as_content true y s (λ w. equated s c.frame c.slot (Some range) u e.frame e.slot (Some range') w went)))
+      → Does at now (λ s. as_content true x s (λ u. as_content true y s (λ w. equation_of_contents s c.frame c.slot (Some range) u e.frame e.slot (Some range') w quiet_step)))
   unfolding act
   unify_does at a b m n c e range range' x y now i has has' ha hb live is_x live' is_y held s is =
       let here : State = passed code input s in
       does code input line at now held s (I.Unify a m b n) is i
-      ∙ place_is code input now here a c (λ k. as_range (slice_get code.ranges m) here (λ t. place here b (λ l. as_range (slice_get code.ranges n) here (λ t2. equation here k.frame k.slot (Some t) l.frame l.slot (Some t2) went)))) is.frames ha
-      ∙ ap (λ o. as_range o here (λ t. place here b (λ l. as_range (slice_get code.ranges n) here (λ t2. equation here c.frame c.slot (Some t) l.frame l.slot (Some t2) went)))) has
-      ∙ place_is code input now here b e (λ l. as_range (slice_get code.ranges n) here (λ t2. equation here c.frame c.slot (Some range) l.frame l.slot (Some t2) went)) is.frames hb
-      ∙ ap (λ o. as_range o here (λ t2. equation here c.frame c.slot (Some range) e.frame e.slot (Some t2) went)) has'
-      ∙ content_is code input line at now held s is c x (λ u. content here e.frame e.slot (λ w. equated here c.frame c.slot (Some range) u e.frame e.slot (Some range') w went)) (live, is_x)
-      ∙ second x (λ u w. equated here c.frame c.slot (Some range) u e.frame e.slot (Some range') w went)
+      ∙ place_is code input now here a c (λ k. as_range (slice_get code.ranges m) here (λ t. place here b (λ l. as_range (slice_get code.ranges n) here (λ t2. equation here k.frame k.slot (Some t) l.frame l.slot (Some t2) quiet_step)))) is.frames ha
+      ∙ ap (λ o. as_range o here (λ t. place here b (λ l. as_range (slice_get code.ranges n) here (λ t2. equation here c.frame c.slot (Some t) l.frame l.slot (Some t2) quiet_step)))) has
+      ∙ place_is code input now here b e (λ l. as_range (slice_get code.ranges n) here (λ t2. equation here c.frame c.slot (Some range) l.frame l.slot (Some t2) quiet_step)) is.frames hb
+      ∙ ap (λ o. as_range o here (λ t2. equation here c.frame c.slot (Some range) e.frame e.slot (Some t2) quiet_step)) has'
+      ∙ content_is code input line at now held s is c x (λ u. content here e.frame e.slot (λ w. equation_of_contents here c.frame c.slot (Some range) u e.frame e.slot (Some range') w quiet_step)) (live, is_x)
+      ∙ second x (λ u w. equation_of_contents here c.frame c.slot (Some range) u e.frame e.slot (Some range') w quiet_step)
     where
       second : (z : Cell) (k : Option ℤ → Option ℤ → Stepped) → as_content true z (passed code input s) (λ u. content (passed code input s) e.frame e.slot (λ w. k u w)) ≡ as_content true z (passed code input s) (λ u. as_content true y (passed code input s) (λ w. k u w))
       second (cell.Int z) k = content_is code input line at now held s is e y (λ w. k (Some z) w) (live', is_y)
@@ -224,7 +224,7 @@ module _ (p : Program) (tables : Tables) (code : PlainCode) (input : List ℕ) (
       Goal x y = From p code input line 8 at (at + 1) now (leaving p code input lo r now (Nothing p code input)) (unify_cells v m x range k y range') q
 
       steps : (x y : Cell) → number_at now h.place.frame h.place.slot ≡ true → cell_at now h.place.frame h.place.slot cell.Unset ≡ x → number_at now h'.place.frame h'.place.slot ≡ true → cell_at now h'.place.frame h'.place.slot cell.Unset ≡ y
-          → Does at now (λ s. as_content true x s (λ u. as_content true y s (λ w. equated s h.place.frame h.place.slot (Some range) u h'.place.frame h'.place.slot (Some range') w went)))
+          → Does at now (λ s. as_content true x s (λ u. as_content true y s (λ w. equation_of_contents s h.place.frame h.place.slot (Some range) u h'.place.frame h'.place.slot (Some range') w quiet_step)))
       steps x y live is live' is' = unify_does at a b (range_number tables range) (range_number tables range') h.place h'.place range range' x y now i has has' h.holds h'.holds live is live' is'
 
       by : CellIs p code input v m now h.place → CellIs p code input v k now h'.place → Goal (cell_of v m) (cell_of v k)

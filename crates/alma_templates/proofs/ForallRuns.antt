@@ -8,7 +8,7 @@ use Rattle.alma_code.specs.declared.cell.Cell.TheVariants as cell
 use Rattle.alma_code.specs.declared.cell.SlotKind.{SlotKind}
 use Rattle.alma_code.specs.declared.cell.SlotKind.TheVariants as slot
 use Rattle.alma_code.specs.declared.instr.Instr.TheVariants as I
-use Rattle.alma_code.specs.Carries.{overlaid, diffs}
+use Rattle.alma_code.specs.Carries.{frames_with_carry, diffs}
 use Rattle.alma_code.specs.Picture.{PlainFrame, PlainEntry, last_frame}
 use Rattle.alma_code.specs.Picture as picture
 use Rattle.alma_code.specs.Plain.{PlainCode, kinds_at}
@@ -112,24 +112,24 @@ module _ (p : Program) (tables : Tables) (code : PlainCode) (input : List ℕ) (
         alike_here : Alike p code inner v now c carry
         alike_here = alike_moved p code inner s0 v now0 now c carry long front alike
 
-        laid_left : Left p code input inner r now (over v carry) (overlaid now c)
+        laid_left : Left p code input inner r now (over v carry) (frames_with_carry now c)
         laid_left =
-            let fit : Fits p code inner now (over v carry) (overlaid now c) = laid_fits p code inner v now c carry left.fits.stand alike_here inner (omega arith) in
+            let fit : Fits p code inner now (over v carry) (frames_with_carry now c) = laid_fits p code inner v now c carry left.fits.stand alike_here inner (omega arith) in
             let top_is : (top_frame (over v carry)).routine ≡ (top_frame v).routine = ap (λ n. (get_or (over v carry) (n - 1) store.no_frame).routine) (over_count v carry) ∙ over_routine v carry (length v - 1) in
-            record { fits = fit; routine = top_is ∙ left.routine; sound = sound_of p code input (over v carry) (overlaid now c) fit.stand }
+            record { fits = fit; routine = top_is ∙ left.routine; sound = sound_of p code input (over v carry) (frames_with_carry now c) fit.stand }
 
-        begins_laid : Begins p code input r (over v carry) (overlaid now c)
-        begins_laid = begins p code input inner r now (over v carry) (overlaid now c) laid_left
+        begins_laid : Begins p code input r (over v carry) (frames_with_carry now c)
+        begins_laid = begins p code input inner r now (over v carry) (frames_with_carry now c) laid_left
 
-        laid_holds : Holds (overlaid now c) lo (cell.Mark h)
-        laid_holds = holds_after p code input inner r lo (cell.Mark h) v (over v carry) now (overlaid now c) (begins p code input (lo + 1) r marked0 v now left) own_lo above laid_left (first_holds v now left)
+        laid_holds : Holds (frames_with_carry now c) lo (cell.Mark h)
+        laid_holds = holds_after p code input inner r lo (cell.Mark h) v (over v carry) now (frames_with_carry now c) (begins p code input (lo + 1) r marked0 v now left) own_lo above laid_left (first_holds v now left)
 
     -- where the second part leaves off
     pub record SecondLeft (v : Store) (now : List PlainFrame) (c : Carry machine_cell.Cell) (height : ℕ) (t : Store) (now2 : List PlainFrame) : Type 0 where
       pub before : Left p code input (lo + 1) r marked0 v now
       pub mark : Holds now2 inner (cell.Mark height)
       pub outer_mark : Holds now2 lo (cell.Mark h)
-      pub gained : (carry : Carry store.Cell) → same c carry → same (with_changes (diffs (overlaid now c) now2) c) (with_changes (changes (over v carry) t) carry)
+      pub gained : (carry : Carry store.Cell) → same c carry → same (with_changes (diffs (frames_with_carry now c) now2) c) (with_changes (changes (over v carry) t) carry)
 
     abbrev second_ways : (v : Store) (now : List PlainFrame) (c : Carry machine_cell.Cell) (height : ℕ) → Ways NoYield
     second_ways v now c height = record { goes = λ t y now2. SecondLeft v now c height t now2; returns = λ t n at now2. ⊥ }
@@ -145,21 +145,21 @@ module _ (p : Program) (tables : Tables) (code : PlainCode) (input : List ℕ) (
       second_keeps_first = λ v now c height. record { keeps = λ t z now2 left. left.outer_mark; stays = λ t n at now2 left. left };
       grows = λ v t now now2 c carry height alike left. left.gained carry alike;
       ends = λ c carry alike.
-          let fit : Fits p code lo now0 (over s0 carry) (overlaid now0 c) = laid_fits p code inner s0 now0 c carry b0.stand alike lo (omega (arith, above)) in
+          let fit : Fits p code lo now0 (over s0 carry) (frames_with_carry now0 c) = laid_fits p code inner s0 now0 c carry b0.stand alike lo (omega (arith, above)) in
           let top_is : (top_frame (over s0 carry)).routine ≡ (top_frame s0).routine = ap (λ n. (get_or (over s0 carry) (n - 1) store.no_frame).routine) (over_count s0 carry) ∙ over_routine s0 carry (length s0 - 1) in
-          record { fits = fit; routine = top_is ∙ b0.routine; sound = sound_of p code input (over s0 carry) (overlaid now0 c) fit.stand };
+          record { fits = fit; routine = top_is ∙ b0.routine; sound = sound_of p code input (over s0 carry) (frames_with_carry now0 c) fit.stand };
     }
       where
-        mark_kind : (v : Store) (now : List PlainFrame) (c : Carry machine_cell.Cell) → Left p code input (lo + 1) r marked0 v now → HasKind (overlaid now c) inner slot.Mark
+        mark_kind : (v : Store) (now : List PlainFrame) (c : Carry machine_cell.Cell) → Left p code input (lo + 1) r marked0 v now → HasKind (frames_with_carry now c) inner slot.Mark
         mark_kind v now c left =
-            let kinds : (last_frame (overlaid now c)).kinds ≡ (last_frame now).kinds = ap (λ n. (get_or (overlaid now c) (n - 1) picture.no_frame).kinds) (overlaid_count now c) ∙ (overlaid_form now c (length now - 1)).kinds in
+            let kinds : (last_frame (frames_with_carry now c)).kinds ≡ (last_frame now).kinds = ap (λ n. (get_or (frames_with_carry now c) (n - 1) picture.no_frame).kinds) (overlaid_count now c) ∙ (overlaid_form now c (length now - 1)).kinds in
             ap (λ ks. slice_get ks inner) kinds ∙ has_kind p code input r inner v now slot.Mark second_kind_is (begins p code input (lo + 1) r marked0 v now left)
 
         second_runs : (v : Store) (now : List PlainFrame) (c : Carry machine_cell.Cell) (carry : Carry store.Cell) (height : ℕ) → Left p code input (lo + 1) r marked0 v now → same c carry
-            → Runs code input line (x + 2) y (top_written (overlaid now c) inner (cell.Mark height)) (second_ways v now c height) (ev_stmts p input below body (over v carry)) q
+            → Runs code input line (x + 2) y (top_written (frames_with_carry now c) inner (cell.Mark height)) (second_ways v now c height) (ev_stmts p input below body (over v carry)) q
         second_runs v now c carry height left alike =
             let u : Store = over v carry in
-            let laid : List PlainFrame = overlaid now c in
+            let laid : List PlainFrame = frames_with_carry now c in
             let marked : List PlainFrame = top_written laid inner (cell.Mark height) in
             let bl : Begins p code input r u laid = begins_laid v now left c carry alike in
             let put : Left p code input inner r laid u marked = left_temp p code input inner r inner u laid (cell.Mark height) (omega arith) (omega (arith, own_lo, above)) bl in

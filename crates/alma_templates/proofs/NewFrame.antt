@@ -13,7 +13,7 @@ use Rattle.alma_code.specs.declared.cell.CellPlace.{CellPlace}
 use Rattle.alma_code.specs.declared.cell.SlotKind.{SlotKind}
 use Rattle.alma_code.specs.declared.cell.SlotKind.TheVariants as slot
 use Rattle.alma_code.specs.declared.head.CodeParam.{CodeParam}
-use Rattle.alma_code.specs.Layout.{blank_of, blank_cells, no_param, arg_cells, args_cells, entered_cells, entered_frame, kinds_of}
+use Rattle.alma_code.specs.Layout.{blank_of, blank_cells, no_param, arg_cells, args_cells, cells_of_call, frame_of_call, kinds_of}
 use Rattle.alma_code.specs.Picture.{PlainFrame}
 use Rattle.alma_code.specs.Picture as picture
 use Rattle.alma_code.specs.Plain.{PlainCode, PlainRoutine, kinds_at, head_at}
@@ -369,7 +369,7 @@ module _ (p : Program) (code : PlainCode) (v : Store) (now : List PlainFrame) (s
   args = handed_all p r (up v links) cs
 
   abbrev pushed : PlainFrame
-  pushed = entered_frame now callee.head r back args
+  pushed = frame_of_call now callee.head r back args
 
   abbrev w : Store
   w = v ++ new ∷ []

@@ -12,7 +12,7 @@ use Rattle.alma_code.specs.declared.instr.Instr.TheVariants as I
 use Rattle.alma_code.specs.Lines.{line_at}
 use Rattle.alma_code.specs.Picture.{PlainFrame, PlainEntry}
 use Rattle.alma_code.specs.Plain.{PlainCode, kinds_at}
-use Rattle.alma_code.specs.Machine.{State, act, step, number, put_number, fitted, faulted}
+use Rattle.alma_code.specs.Machine.{State, act, step, number, put_number, integer_result, ends_in_fault}
 use Rattle.alma_ir.specs.declared.phrase.Op.{Op}
 use Rattle.alma_ir.specs.declared.phrase.Op.TheVariants as op
 use Rattle.alma_ir.specs.declared.phrase.Cmp.{Cmp}
@@ -35,13 +35,13 @@ module _ (p : Program) (code : PlainCode) (input : List ℕ) (line q lo r : ℕ)
 
   pub op_reads : (how : Op) (at operand : ℕ) (a : ℤ) (now : List PlainFrame) → InstrAt code input line at (op_code how lo operand) → Holds now lo (cell.Int a) → ReadsFirst code input at operand now
   unfolding act
-  op_reads op.Add at operand a now i ha held s is = (_, does code input line at now held s (I.Add lo lo operand) is i ∙ number_is code input now (passed code input s) lo a (λ x. number (passed code input s) operand (λ y. fitted (passed code input s) (x +ℤ y) (λ v. put_number (passed code input s) lo v))) is.frames ha)
-  op_reads op.Sub at operand a now i ha held s is = (_, does code input line at now held s (I.Sub lo lo operand) is i ∙ number_is code input now (passed code input s) lo a (λ x. number (passed code input s) operand (λ y. fitted (passed code input s) (x -ℤ y) (λ v. put_number (passed code input s) lo v))) is.frames ha)
-  op_reads op.Mul at operand a now i ha held s is = (_, does code input line at now held s (I.Mul lo lo operand) is i ∙ number_is code input now (passed code input s) lo a (λ x. number (passed code input s) operand (λ y. fitted (passed code input s) (x *ℤ y) (λ v. put_number (passed code input s) lo v))) is.frames ha)
+  op_reads op.Add at operand a now i ha held s is = (_, does code input line at now held s (I.Add lo lo operand) is i ∙ number_is code input now (passed code input s) lo a (λ x. number (passed code input s) operand (λ y. integer_result (passed code input s) (x +ℤ y) (λ v. put_number (passed code input s) lo v))) is.frames ha)
+  op_reads op.Sub at operand a now i ha held s is = (_, does code input line at now held s (I.Sub lo lo operand) is i ∙ number_is code input now (passed code input s) lo a (λ x. number (passed code input s) operand (λ y. integer_result (passed code input s) (x -ℤ y) (λ v. put_number (passed code input s) lo v))) is.frames ha)
+  op_reads op.Mul at operand a now i ha held s is = (_, does code input line at now held s (I.Mul lo lo operand) is i ∙ number_is code input now (passed code input s) lo a (λ x. number (passed code input s) operand (λ y. integer_result (passed code input s) (x *ℤ y) (λ v. put_number (passed code input s) lo v))) is.frames ha)
   op_reads op.Div at operand a now i ha held s is =
-      (_, does code input line at now held s (I.Div lo lo operand) is i ∙ number_is code input now (passed code input s) lo a (λ x. number (passed code input s) operand (λ y. if_true (is_zero y) (λ _. faulted fault.ZeroDivide (passed code input s)) (λ _. fitted (passed code input s) (div_down_of x y) (λ v. put_number (passed code input s) lo v)))) is.frames ha)
+      (_, does code input line at now held s (I.Div lo lo operand) is i ∙ number_is code input now (passed code input s) lo a (λ x. number (passed code input s) operand (λ y. if_true (is_zero y) (λ _. ends_in_fault fault.ZeroDivide (passed code input s)) (λ _. integer_result (passed code input s) (div_down_of x y) (λ v. put_number (passed code input s) lo v)))) is.frames ha)
   op_reads op.Mod at operand a now i ha held s is =
-      (_, does code input line at now held s (I.Mod lo lo operand) is i ∙ number_is code input now (passed code input s) lo a (λ x. number (passed code input s) operand (λ y. if_true (is_zero y) (λ _. faulted fault.ZeroDivide (passed code input s)) (λ _. fitted (passed code input s) (mod_down_of x y) (λ v. put_number (passed code input s) lo v)))) is.frames ha)
+      (_, does code input line at now held s (I.Mod lo lo operand) is i ∙ number_is code input now (passed code input s) lo a (λ x. number (passed code input s) operand (λ y. if_true (is_zero y) (λ _. ends_in_fault fault.ZeroDivide (passed code input s)) (λ _. integer_result (passed code input s) (mod_down_of x y) (λ v. put_number (passed code input s) lo v)))) is.frames ha)
 
   equal_reads : (at operand : ℕ) (a : ℤ) (now : List PlainFrame) → InstrAt code input line at (I.Equal lo lo operand) → Holds now lo (cell.Int a) → ReadsFirst code input at operand now
   unfolding act
@@ -73,7 +73,7 @@ module _ (p : Program) (code : PlainCode) (input : List ℕ) (line q lo r : ℕ)
       Applied e = From p code input line 8 at exit now (leaving p code input lo r now yields) (bind e k) q
 
       -- a result that must be one of INTEGER
-      checked_from : (z : ℤ) → line_at code at ≡ line → ((held : List PlainEntry) (s : State) → IsAt at now held s → step code input s ≡ fitted (passed code input s) z (λ x. put_number (passed code input s) lo x)) → GoesOnWith z → Applied (check_integer v z)
+      checked_from : (z : ℤ) → line_at code at ≡ line → ((held : List PlainEntry) (s : State) → IsAt at now held s → step code input s ≡ integer_result (passed code input s) z (λ x. put_number (passed code input s) lo x)) → GoesOnWith z → Applied (check_integer v z)
       checked_from z there e later = by (is_integer z) refl
         where
           by : (t : Bool) → is_integer z ≡ t → Applied (fault_unless fault.Overflow t (λ _. one v z))
@@ -83,17 +83,17 @@ module _ (p : Program) (code : PlainCode) (input : List ℕ) (line q lo r : ℕ)
           by false fits = faults_here p code input line 7 at exit now (leaving p code input lo r now yields) fault.Overflow q (λ held s is. overflow_step code input line at now held s is lo z there fits (e held s is))
 
       -- past the test of a divisor
-      divided_from : (y z : ℤ) (e : Events ℤ) → line_at code at ≡ line → ((held : List PlainEntry) (s : State) → IsAt at now held s → step code input s ≡ if_true (is_zero y) (λ _. faulted fault.ZeroDivide (passed code input s)) (λ _. fitted (passed code input s) z (λ x. put_number (passed code input s) lo x)))
-          → (is_zero y ≡ false → ((held : List PlainEntry) (s : State) → IsAt at now held s → step code input s ≡ fitted (passed code input s) z (λ x. put_number (passed code input s) lo x)) → Applied e)
+      divided_from : (y z : ℤ) (e : Events ℤ) → line_at code at ≡ line → ((held : List PlainEntry) (s : State) → IsAt at now held s → step code input s ≡ if_true (is_zero y) (λ _. ends_in_fault fault.ZeroDivide (passed code input s)) (λ _. integer_result (passed code input s) z (λ x. put_number (passed code input s) lo x)))
+          → (is_zero y ≡ false → ((held : List PlainEntry) (s : State) → IsAt at now held s → step code input s ≡ integer_result (passed code input s) z (λ x. put_number (passed code input s) lo x)) → Applied e)
           → Applied (fault_unless fault.ZeroDivide (not (is_zero y)) (λ _. e))
       divided_from y z e there does goes = by (is_zero y) refl
         where
           by : (t : Bool) → is_zero y ≡ t → Applied (fault_unless fault.ZeroDivide (not t) (λ _. e))
-          by false other = goes other (λ held s is. does held s is ∙ ap (λ t. if_true t (λ _. faulted fault.ZeroDivide (passed code input s)) (λ _. fitted (passed code input s) z (λ x. put_number (passed code input s) lo x))) other)
+          by false other = goes other (λ held s is. does held s is ∙ ap (λ t. if_true t (λ _. ends_in_fault fault.ZeroDivide (passed code input s)) (λ _. integer_result (passed code input s) z (λ x. put_number (passed code input s) lo x))) other)
           by true zero_there =
               faults_here p code input line 7 at exit now (leaving p code input lo r now yields) fault.ZeroDivide q
               (λ held s is. faults_now code input line s fault.ZeroDivide (here_too code input line at now held s is there)
-              (does held s is ∙ ap (λ t. if_true t (λ _. faulted fault.ZeroDivide (passed code input s)) (λ _. fitted (passed code input s) z (λ x. put_number (passed code input s) lo x))) zero_there))
+              (does held s is ∙ ap (λ t. if_true t (λ _. ends_in_fault fault.ZeroDivide (passed code input s)) (λ _. integer_result (passed code input s) z (λ x. put_number (passed code input s) lo x))) zero_there))
 
       pub op_from : (how : Op) (operand : ℕ) (x y : ℤ) → InstrAt code input line at (op_code how lo operand) → Holds now lo (cell.Int x) → IsValue p code input operand y now → ((z : ℤ) → GoesOnWith z) → Applied (apply_op v how x y)
       op_from op.Add operand x y i hx hy later = checked_from (x +ℤ y) i.on_line (λ held s is. add_does code input line at now held s is lo lo operand x y i hx hy.holds) (later (x +ℤ y))

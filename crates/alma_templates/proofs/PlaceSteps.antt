@@ -13,7 +13,7 @@ use Rattle.alma_code.specs.declared.instr.Instr.TheVariants as I
 use Rattle.alma_code.specs.Carries.{number_at}
 use Rattle.alma_code.specs.Picture.{PlainFrame, PlainEntry, cell_at}
 use Rattle.alma_code.specs.Plain.{PlainCode}
-use Rattle.alma_code.specs.Machine.{State, Stepped, act, step, went, faulted, as_range, as_content, as_text, number, content, ranged, put_number, put_place, is_known}
+use Rattle.alma_code.specs.Machine.{State, Stepped, act, step, quiet_step, ends_in_fault, as_range, as_content, as_text, number, content, range_check, put_number, put_place, is_known}
 use Rattle.alma_implements.proofs.Frames.{IsAt}
 use Rattle.alma_implements.proofs.Steps.{Holds, HasKind, InstrAt, Writes, Faults, PrintsNow, passed, does, went_on, number_is, place_is, written_from, puts, faults_now, place_put, here_too, prints_from, HasContent}
 use Rattle.alma_implements.proofs.ChoiceSteps.{GoesOn}
@@ -22,7 +22,7 @@ module _ (code : PlainCode) (input : List ℕ) (line at : ℕ) (now : List Plain
   abbrev here : State
   here = passed code input s
 
-  pub goes_past : step code input s ≡ went here → GoesOn code input (at + 1) now held s
+  pub goes_past : step code input s ≡ quiet_step here → GoesOn code input (at + 1) now held s
   goes_past e = record { to = here; silently = went_on code input s here e; is = record { mode = h.mode; here = ap (λ n. n + 1) h.here; frames = h.frames; entries = h.entries } }
 
   pub range_is : (n : ℕ) (range : Range) (k : Range → Stepped) → slice_get code.ranges n ≡ Some range → as_range (slice_get code.ranges n) here k ≡ k range
@@ -30,15 +30,15 @@ module _ (code : PlainCode) (input : List ℕ) (line at : ℕ) (now : List Plain
 
   -- ---- a number is in a range
 
-  pub in_range_reads : (a n : ℕ) (range : Range) → InstrAt code input line at (I.InRange a n) → slice_get code.ranges n ≡ Some range → step code input s ≡ number here a (λ v. ranged range fault.Range here v (λ _. went here))
+  pub in_range_reads : (a n : ℕ) (range : Range) → InstrAt code input line at (I.InRange a n) → slice_get code.ranges n ≡ Some range → step code input s ≡ number here a (λ v. range_check range fault.Range here v (λ _. quiet_step here))
   unfolding act
   in_range_reads a n range i e =
-      does code input line at now held s (I.InRange a n) h i ∙ ap (λ o. number here a (λ v. as_range o here (λ t. ranged t fault.Range here v (λ _. went here)))) e
+      does code input line at now held s (I.InRange a n) h i ∙ ap (λ o. number here a (λ v. as_range o here (λ t. range_check t fault.Range here v (λ _. quiet_step here)))) e
 
-  in_range_is : (a n : ℕ) (range : Range) (x : ℤ) (t : Bool) → InstrAt code input line at (I.InRange a n) → slice_get code.ranges n ≡ Some range → Holds now a (cell.Int x) → within range x ≡ t → step code input s ≡ if_true t (λ _. went here) (λ _. faulted fault.Range here)
+  in_range_is : (a n : ℕ) (range : Range) (x : ℤ) (t : Bool) → InstrAt code input line at (I.InRange a n) → slice_get code.ranges n ≡ Some range → Holds now a (cell.Int x) → within range x ≡ t → step code input s ≡ if_true t (λ _. quiet_step here) (λ _. ends_in_fault fault.Range here)
   in_range_is a n range x t i e ha is =
-      in_range_reads a n range i e ∙ number_is code input now here a x (λ v. ranged range fault.Range here v (λ _. went here)) h.frames ha
-      ∙ ap (λ b. if_true b (λ _. went here) (λ _. faulted fault.Range here)) is
+      in_range_reads a n range i e ∙ number_is code input now here a x (λ v. range_check range fault.Range here v (λ _. quiet_step here)) h.frames ha
+      ∙ ap (λ b. if_true b (λ _. quiet_step here) (λ _. ends_in_fault fault.Range here)) is
 
   pub in_range_passes : (a n : ℕ) (range : Range) (x : ℤ) → InstrAt code input line at (I.InRange a n) → slice_get code.ranges n ≡ Some range → Holds now a (cell.Int x) → within range x ≡ true → GoesOn code input (at + 1) now held s
   in_range_passes a n range x i e ha is = goes_past (in_range_is a n range x true i e ha is)
@@ -71,19 +71,19 @@ module _ (code : PlainCode) (input : List ℕ) (line at : ℕ) (now : List Plain
       (does code input line at now held s (I.Field a b c) h i ∙ place_is code input now here b q (λ p. put_place here a p.frame (λ _. p.slot + c)) h.frames hb)
 
   pub index_reads : (a b c d : ℕ) (q : CellPlace) (range : Range) → InstrAt code input line at (I.Index a b c d) → slice_get code.ranges d ≡ Some range → Holds now b (cell.Place q)
-      → step code input s ≡ number here c (λ v. ranged range fault.Index here v (λ _. put_place here a q.frame (λ l. q.slot + nat_abs (v -ℤ range.low) * l)))
+      → step code input s ≡ number here c (λ v. range_check range fault.Index here v (λ _. put_place here a q.frame (λ l. q.slot + nat_abs (v -ℤ range.low) * l)))
   unfolding act
   index_reads a b c d q range i e hb =
       does code input line at now held s (I.Index a b c d) h i
-      ∙ place_is code input now here b q (λ p. number here c (λ v. as_range (slice_get code.ranges d) here (λ t. ranged t fault.Index here v (λ _. put_place here a p.frame (λ l. p.slot + nat_abs (v -ℤ t.low) * l))))) h.frames hb
-      ∙ ap (λ o. number here c (λ v. as_range o here (λ t. ranged t fault.Index here v (λ _. put_place here a q.frame (λ l. q.slot + nat_abs (v -ℤ t.low) * l))))) e
+      ∙ place_is code input now here b q (λ p. number here c (λ v. as_range (slice_get code.ranges d) here (λ t. range_check t fault.Index here v (λ _. put_place here a p.frame (λ l. p.slot + nat_abs (v -ℤ t.low) * l))))) h.frames hb
+      ∙ ap (λ o. number here c (λ v. as_range o here (λ t. range_check t fault.Index here v (λ _. put_place here a q.frame (λ l. q.slot + nat_abs (v -ℤ t.low) * l))))) e
 
   module _ (a b c d l : ℕ) (q : CellPlace) (range : Range) (n : ℤ) (i : InstrAt code input line at (I.Index a b c d)) (e : slice_get code.ranges d ≡ Some range) (hb : Holds now b (cell.Place q)) (hc : Holds now c (cell.Int n)) where
-    index_is : (t : Bool) → within range n ≡ t → step code input s ≡ if_true t (λ _. put_place here a q.frame (λ m. q.slot + nat_abs (n -ℤ range.low) * m)) (λ _. faulted fault.Index here)
+    index_is : (t : Bool) → within range n ≡ t → step code input s ≡ if_true t (λ _. put_place here a q.frame (λ m. q.slot + nat_abs (n -ℤ range.low) * m)) (λ _. ends_in_fault fault.Index here)
     index_is t is =
         index_reads a b c d q range i e hb
-        ∙ number_is code input now here c n (λ v. ranged range fault.Index here v (λ _. put_place here a q.frame (λ m. q.slot + nat_abs (v -ℤ range.low) * m))) h.frames hc
-        ∙ ap (λ z. if_true z (λ _. put_place here a q.frame (λ m. q.slot + nat_abs (n -ℤ range.low) * m)) (λ _. faulted fault.Index here)) is
+        ∙ number_is code input now here c n (λ v. range_check range fault.Index here v (λ _. put_place here a q.frame (λ m. q.slot + nat_abs (v -ℤ range.low) * m))) h.frames hc
+        ∙ ap (λ z. if_true z (λ _. put_place here a q.frame (λ m. q.slot + nat_abs (n -ℤ range.low) * m)) (λ _. ends_in_fault fault.Index here)) is
 
     pub index_step : HasKind now a (slot.Place l) → within range n ≡ true → Writes code input at now held s a (the_place q.frame (q.slot + nat_abs (n -ℤ range.low) * l) l)
     index_step kind is = place_written a l q.frame (λ m. q.slot + nat_abs (n -ℤ range.low) * m) kind (index_is true is)

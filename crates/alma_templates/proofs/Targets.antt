@@ -9,7 +9,7 @@ use Rattle.alma_code.specs.declared.instr.Instr.TheVariants as I
 use Rattle.alma_code.specs.Picture.{PlainFrame, PlainEntry, written}
 use Rattle.alma_code.specs.Picture as picture
 use Rattle.alma_code.specs.Plain.{PlainCode}
-use Rattle.alma_code.specs.Machine.{act, number, store, went}
+use Rattle.alma_code.specs.Machine.{act, number, store, quiet_step}
 use Rattle.alma_ir.specs.Tree.{Program, Desig, Sels, a_desig, no_sels, more_sels, Field, Index}
 use Rattle.alma_ir.specs.Checked.{desig_cells}
 use Rattle.alma_mean.specs.Store.{Store, Frame, Place, Unknown, Number, At, cell_at, put, put_at, put_top, top, with_cell}
@@ -179,5 +179,5 @@ module _ (p : Program) (tables : Tables) (code : PlainCode) (input : List ℕ) (
   set_reads None at la value d v a now h i held s is = (
     _,
     does code input line at now held s (I.Store (place_at p tables r la d) value) is i
-        ∙ place_is code input now (passed code input s) (place_at p tables r la d) h.place (λ c. number (passed code input s) value (λ n. store (passed code input s) c.frame c.slot n went)) is.frames h.holds,
+        ∙ place_is code input now (passed code input s) (place_at p tables r la d) h.place (λ c. number (passed code input s) value (λ n. store (passed code input s) c.frame c.slot n quiet_step)) is.frames h.holds,
   )

@@ -11,7 +11,7 @@ use Rattle.alma_tree.specs.declared.type_node.TypeNode as dy
 use Rattle.alma_tree.specs.Spelling as spells
 use Rattle.alma_tree.specs.Tree as tree
 use Rattle.alma_tree.specs.View as view
-use Rattle.alma_tree.specs.Pushed.{Pushes}
+use Rattle.alma_tree.specs.Inner.Pushed.{Pushes}
 use Rattle.alma_tree.proofs.Rows as rows
 
 -- the last call goes on where the others stopped

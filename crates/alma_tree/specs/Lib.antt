@@ -1,7 +1,7 @@
 pub mod Depth
 pub mod Kinds
 pub mod Numbers
-pub mod Pushed
 pub mod Spelling
 pub mod Tree
 pub mod View
+pub mod Inner

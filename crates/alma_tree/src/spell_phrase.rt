@@ -1,6 +1,6 @@
 // The kinds of statements, expressions and designators.
 ghost use Rattle.std.specs.Prelude.{OnOk};
-ghost use Rattle.alma_tree.specs.Pushed.{Pushes};
+ghost use Rattle.alma_tree.specs.Inner.Pushed.{Pushes};
 ghost use Rattle.alma_tree.specs.Spelling.{spell_args, spell_arm, spell_arm_tail, spell_by, spell_compared, spell_desig, spell_desig_tail, spell_else, spell_elsif_tail, spell_expr, spell_expr_tail, spell_exprs, spell_factor, spell_factor_tail, spell_high, spell_label, spell_label_tail, spell_orelse_tail, spell_primary, spell_returned, spell_selector, spell_selector_tail, spell_simple, spell_stmt, spell_stmt_tail, spell_stmts, spell_term, spell_term_tail};
 ghost use Rattle.alma_tree.specs.Tree.{assign, case_stmt, commit_stmt, either_stmt, for_stmt, forall_stmt, if_stmt, read_stmt, repeat_stmt, return_stmt, some_stmt, while_stmt, write_stmt, writeln_stmt};
 ghost use Rattle.alma_tree.specs.View.{args_of, arms_of, by_of, compared_of, desigs_of, else_of, elsifs_of, exprs_of, factors_of, high_of, labels_of, orelses_of, returned_of, selectors_of, stmts_of, terms_of, view_arm, view_desig, view_expr, view_exprs, view_factor, view_label, view_primary, view_selector, view_simple, view_stmt, view_stmts, view_term};

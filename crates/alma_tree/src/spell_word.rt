@@ -1,6 +1,6 @@
 // One kind after another, and the kinds of operators.
 ghost use Rattle.std.specs.Prelude.{◌≡◌, ◌∷◌, OnOk};
-ghost use Rattle.alma_tree.specs.Pushed.{Pushes};
+ghost use Rattle.alma_tree.specs.Inner.Pushed.{Pushes};
 ghost use Rattle.alma_tree.specs.Spelling as spells;
 
 use crate::{AddOperator, Kind, MulOperator, Relation, Sign};

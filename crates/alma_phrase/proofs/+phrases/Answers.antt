@@ -15,7 +15,7 @@ use Rattle.alma_tree.proofs.NumberRows as numbers
 use Rattle.alma_grammar.specs.Parts.{one, primary_part, factor_tail, term_tail, compared_part, args_part, stmt_part, arm_part, after_desig}
 use Rattle.alma_grammar.specs.Parts.{expr_parts, desig_parts, stmts_parts}
 use Rattle.alma_cursor.specs.Forms as forms
-use Rattle.alma_cursor.specs.Parsing.{seen, Becomes}
+use Rattle.alma_cursor.specs.Parsing.{position_of, Becomes}
 use Rattle.alma_cursor.proofs.Joins.{followed, behind, ended}
 use Rattle.alma_cursor.proofs.Loops as loops
 use Rattle.alma_cursor.proofs.Loops.{grouped}

@@ -5,246 +5,246 @@ use Rattle.alma_tree.specs.View.{terms_of, factors_of, exprs_of, selectors_of, s
 use Rattle.alma_tree.specs.Numbers.{numbers_of_terms, numbers_of_factors, numbers_of_exprs, numbers_of_selectors, numbers_of_stmts}
 use Rattle.alma_tree.specs.Numbers.{numbers_of_elsifs, numbers_of_arms, numbers_of_labels, numbers_of_orelses, numbers_of_desigs}
 use Rattle.alma_grammar.specs.Parts.{term_tail, factor_tail, expr_tail, selector_tail, stmt_tail, elsif_tail, arm_tail, label_tail, orelse_tail, desig_tail}
-use Rattle.alma_cursor.specs.Parsing.{seen}
+use Rattle.alma_cursor.specs.Parsing.{position_of}
 use Rattle.alma_cursor.proofs.Loops.{Loops}
 use Rattle.alma_phrase.proofs.+phrases.Given as goal
 
 -- Each call reads fewer tokens, or as many and comes before in the order of the numbers here.
 
 abbrev pub decreases-expression::args : goal.decreases-expression::args
-decreases-expression::args l = 16 * length (seen l.at).kinds + 0
+decreases-expression::args l = 16 * length (position_of l.at).kinds + 0
 
 abbrev pub decreases-statement::arm_list : goal.decreases-statement::arm_list
-decreases-statement::arm_list l = 16 * length (seen l.at).kinds + 1
+decreases-statement::arm_list l = 16 * length (position_of l.at).kinds + 1
 
 abbrev pub decreases-statement::assign : goal.decreases-statement::assign
-decreases-statement::assign l = 16 * length (seen l.at).kinds + 1
+decreases-statement::assign l = 16 * length (position_of l.at).kinds + 1
 
 abbrev pub decreases-statement::case_stmt : goal.decreases-statement::case_stmt
-decreases-statement::case_stmt l = 16 * length (seen l.at).kinds + 1
+decreases-statement::case_stmt l = 16 * length (position_of l.at).kinds + 1
 
 abbrev pub decreases-expression::chr : goal.decreases-expression::chr
-decreases-expression::chr l = 16 * length (seen l.at).kinds + 1
+decreases-expression::chr l = 16 * length (position_of l.at).kinds + 1
 
 abbrev pub decreases-statement::commit_stmt : goal.decreases-statement::commit_stmt
-decreases-statement::commit_stmt l = 16 * length (seen l.at).kinds + 1
+decreases-statement::commit_stmt l = 16 * length (position_of l.at).kinds + 1
 
 abbrev pub decreases-expression::compared : goal.decreases-expression::compared
-decreases-expression::compared l = 16 * length (seen l.at).kinds + 1
+decreases-expression::compared l = 16 * length (position_of l.at).kinds + 1
 
 abbrev pub decreases-expression::desig : goal.decreases-expression::desig
-decreases-expression::desig l = 16 * length (seen l.at).kinds + 1
+decreases-expression::desig l = 16 * length (position_of l.at).kinds + 1
 
 abbrev pub decreases-statement::desig_list : goal.decreases-statement::desig_list
-decreases-statement::desig_list l = 16 * length (seen l.at).kinds + 1
+decreases-statement::desig_list l = 16 * length (position_of l.at).kinds + 1
 
 abbrev pub decreases-statement::either_stmt : goal.decreases-statement::either_stmt
-decreases-statement::either_stmt l = 16 * length (seen l.at).kinds + 1
+decreases-statement::either_stmt l = 16 * length (position_of l.at).kinds + 1
 
 abbrev pub decreases-statement::elsif_list : goal.decreases-statement::elsif_list
-decreases-statement::elsif_list l = 16 * length (seen l.at).kinds + 1
+decreases-statement::elsif_list l = 16 * length (position_of l.at).kinds + 1
 
 abbrev pub decreases-expression::expr_list : goal.decreases-expression::expr_list
-decreases-expression::expr_list l = 16 * length (seen l.at).kinds + 1
+decreases-expression::expr_list l = 16 * length (position_of l.at).kinds + 1
 
 abbrev pub decreases-expression::factors : goal.decreases-expression::factors
-decreases-expression::factors l = 16 * length (seen l.at).kinds + 1
+decreases-expression::factors l = 16 * length (position_of l.at).kinds + 1
 
 abbrev pub decreases-statement::for_stmt : goal.decreases-statement::for_stmt
-decreases-statement::for_stmt l = 16 * length (seen l.at).kinds + 1
+decreases-statement::for_stmt l = 16 * length (position_of l.at).kinds + 1
 
 abbrev pub decreases-statement::forall_stmt : goal.decreases-statement::forall_stmt
-decreases-statement::forall_stmt l = 16 * length (seen l.at).kinds + 1
+decreases-statement::forall_stmt l = 16 * length (position_of l.at).kinds + 1
 
 abbrev pub decreases-statement::high : goal.decreases-statement::high
-decreases-statement::high l = 16 * length (seen l.at).kinds + 1
+decreases-statement::high l = 16 * length (position_of l.at).kinds + 1
 
 abbrev pub decreases-statement::if_stmt : goal.decreases-statement::if_stmt
-decreases-statement::if_stmt l = 16 * length (seen l.at).kinds + 1
+decreases-statement::if_stmt l = 16 * length (position_of l.at).kinds + 1
 
 abbrev pub decreases-expression::index : goal.decreases-expression::index
-decreases-expression::index l = 16 * length (seen l.at).kinds + 1
+decreases-expression::index l = 16 * length (position_of l.at).kinds + 1
 
 abbrev pub decreases-expression::known : goal.decreases-expression::known
-decreases-expression::known l = 16 * length (seen l.at).kinds + 1
+decreases-expression::known l = 16 * length (position_of l.at).kinds + 1
 
 abbrev pub decreases-statement::label_list : goal.decreases-statement::label_list
-decreases-statement::label_list l = 16 * length (seen l.at).kinds + 1
+decreases-statement::label_list l = 16 * length (position_of l.at).kinds + 1
 
 abbrev pub decreases-expression::named : goal.decreases-expression::named
-decreases-expression::named l = 16 * length (seen l.at).kinds + 1
+decreases-expression::named l = 16 * length (position_of l.at).kinds + 1
 
 abbrev pub decreases-expression::ord : goal.decreases-expression::ord
-decreases-expression::ord l = 16 * length (seen l.at).kinds + 1
+decreases-expression::ord l = 16 * length (position_of l.at).kinds + 1
 
 abbrev pub decreases-statement::orelse_list : goal.decreases-statement::orelse_list
-decreases-statement::orelse_list l = 16 * length (seen l.at).kinds + 1
+decreases-statement::orelse_list l = 16 * length (position_of l.at).kinds + 1
 
 abbrev pub decreases-statement::otherwise : goal.decreases-statement::otherwise
-decreases-statement::otherwise l = 16 * length (seen l.at).kinds + 1
+decreases-statement::otherwise l = 16 * length (position_of l.at).kinds + 1
 
 abbrev pub decreases-expression::paren : goal.decreases-expression::paren
-decreases-expression::paren l = 16 * length (seen l.at).kinds + 1
+decreases-expression::paren l = 16 * length (position_of l.at).kinds + 1
 
 abbrev pub decreases-statement::read_stmt : goal.decreases-statement::read_stmt
-decreases-statement::read_stmt l = 16 * length (seen l.at).kinds + 1
+decreases-statement::read_stmt l = 16 * length (position_of l.at).kinds + 1
 
 abbrev pub decreases-statement::repeat_stmt : goal.decreases-statement::repeat_stmt
-decreases-statement::repeat_stmt l = 16 * length (seen l.at).kinds + 1
+decreases-statement::repeat_stmt l = 16 * length (position_of l.at).kinds + 1
 
 abbrev pub decreases-statement::return_stmt : goal.decreases-statement::return_stmt
-decreases-statement::return_stmt l = 16 * length (seen l.at).kinds + 1
+decreases-statement::return_stmt l = 16 * length (position_of l.at).kinds + 1
 
 abbrev pub decreases-statement::some_stmt : goal.decreases-statement::some_stmt
-decreases-statement::some_stmt l = 16 * length (seen l.at).kinds + 1
+decreases-statement::some_stmt l = 16 * length (position_of l.at).kinds + 1
 
 abbrev pub decreases-statement::step : goal.decreases-statement::step
-decreases-statement::step l = 16 * length (seen l.at).kinds + 1
+decreases-statement::step l = 16 * length (position_of l.at).kinds + 1
 
 abbrev pub decreases-statement::stmt_list : goal.decreases-statement::stmt_list
-decreases-statement::stmt_list l = 16 * length (seen l.at).kinds + 1
+decreases-statement::stmt_list l = 16 * length (position_of l.at).kinds + 1
 
 abbrev pub decreases-expression::terms : goal.decreases-expression::terms
-decreases-expression::terms l = 16 * length (seen l.at).kinds + 1
+decreases-expression::terms l = 16 * length (position_of l.at).kinds + 1
 
 abbrev pub decreases-statement::while_stmt : goal.decreases-statement::while_stmt
-decreases-statement::while_stmt l = 16 * length (seen l.at).kinds + 1
+decreases-statement::while_stmt l = 16 * length (position_of l.at).kinds + 1
 
 abbrev pub decreases-statement::write_stmt : goal.decreases-statement::write_stmt
-decreases-statement::write_stmt l = 16 * length (seen l.at).kinds + 1
+decreases-statement::write_stmt l = 16 * length (position_of l.at).kinds + 1
 
 abbrev pub decreases-statement::writeln_stmt : goal.decreases-statement::writeln_stmt
-decreases-statement::writeln_stmt l = 16 * length (seen l.at).kinds + 1
+decreases-statement::writeln_stmt l = 16 * length (position_of l.at).kinds + 1
 
 abbrev pub decreases-expression::expr_from : goal.decreases-expression::expr_from
-decreases-expression::expr_from l = 16 * length (seen l.at).kinds + 2
+decreases-expression::expr_from l = 16 * length (position_of l.at).kinds + 2
 
 abbrev pub decreases-expression::primary : goal.decreases-expression::primary
-decreases-expression::primary l = 16 * length (seen l.at).kinds + 2
+decreases-expression::primary l = 16 * length (position_of l.at).kinds + 2
 
 abbrev pub decreases-expression::selector : goal.decreases-expression::selector
-decreases-expression::selector l = 16 * length (seen l.at).kinds + 2
+decreases-expression::selector l = 16 * length (position_of l.at).kinds + 2
 
 abbrev pub decreases-expression::simple_from : goal.decreases-expression::simple_from
-decreases-expression::simple_from l = 16 * length (seen l.at).kinds + 2
+decreases-expression::simple_from l = 16 * length (position_of l.at).kinds + 2
 
 abbrev pub decreases-expression::term_from : goal.decreases-expression::term_from
-decreases-expression::term_from l = 16 * length (seen l.at).kinds + 2
+decreases-expression::term_from l = 16 * length (position_of l.at).kinds + 2
 
 abbrev pub decreases-expression::factor : goal.decreases-expression::factor
-decreases-expression::factor l = 16 * length (seen l.at).kinds + 3
+decreases-expression::factor l = 16 * length (position_of l.at).kinds + 3
 
 abbrev pub decreases-expression::selectors : goal.decreases-expression::selectors
-decreases-expression::selectors l = 16 * length (seen l.at).kinds + 3
+decreases-expression::selectors l = 16 * length (position_of l.at).kinds + 3
 
 abbrev pub decreases-expression::term : goal.decreases-expression::term
-decreases-expression::term l = 16 * length (seen l.at).kinds + 4
+decreases-expression::term l = 16 * length (position_of l.at).kinds + 4
 
 abbrev pub decreases-expression::simple : goal.decreases-expression::simple
-decreases-expression::simple l = 16 * length (seen l.at).kinds + 5
+decreases-expression::simple l = 16 * length (position_of l.at).kinds + 5
 
 abbrev pub decreases-expression::desig_value : goal.decreases-expression::desig_value
-decreases-expression::desig_value l = 16 * length (seen l.at).kinds + 6
+decreases-expression::desig_value l = 16 * length (position_of l.at).kinds + 6
 
 abbrev pub decreases-expression::expr : goal.decreases-expression::expr
-decreases-expression::expr l = 16 * length (seen l.at).kinds + 6
+decreases-expression::expr l = 16 * length (position_of l.at).kinds + 6
 
 abbrev pub decreases-statement::desig_stmt : goal.decreases-statement::desig_stmt
-decreases-statement::desig_stmt l = 16 * length (seen l.at).kinds + 7
+decreases-statement::desig_stmt l = 16 * length (position_of l.at).kinds + 7
 
 abbrev pub decreases-expression::exprs : goal.decreases-expression::exprs
-decreases-expression::exprs l = 16 * length (seen l.at).kinds + 7
+decreases-expression::exprs l = 16 * length (position_of l.at).kinds + 7
 
 abbrev pub decreases-statement::label : goal.decreases-statement::label
-decreases-statement::label l = 16 * length (seen l.at).kinds + 7
+decreases-statement::label l = 16 * length (position_of l.at).kinds + 7
 
 abbrev pub decreases-statement::returned : goal.decreases-statement::returned
-decreases-statement::returned l = 16 * length (seen l.at).kinds + 7
+decreases-statement::returned l = 16 * length (position_of l.at).kinds + 7
 
 abbrev pub decreases-statement::value_stmt : goal.decreases-statement::value_stmt
-decreases-statement::value_stmt l = 16 * length (seen l.at).kinds + 7
+decreases-statement::value_stmt l = 16 * length (position_of l.at).kinds + 7
 
 abbrev pub decreases-expression::args_values : goal.decreases-expression::args_values
-decreases-expression::args_values l = 16 * length (seen l.at).kinds + 8
+decreases-expression::args_values l = 16 * length (position_of l.at).kinds + 8
 
 abbrev pub decreases-statement::labelled_arm : goal.decreases-statement::labelled_arm
-decreases-statement::labelled_arm l = 16 * length (seen l.at).kinds + 8
+decreases-statement::labelled_arm l = 16 * length (position_of l.at).kinds + 8
 
 abbrev pub decreases-statement::stmt : goal.decreases-statement::stmt
-decreases-statement::stmt l = 16 * length (seen l.at).kinds + 8
+decreases-statement::stmt l = 16 * length (position_of l.at).kinds + 8
 
 abbrev pub decreases-statement::arm : goal.decreases-statement::arm
-decreases-statement::arm l = 16 * length (seen l.at).kinds + 9
+decreases-statement::arm l = 16 * length (position_of l.at).kinds + 9
 
 abbrev pub decreases-statement::stmts : goal.decreases-statement::stmts
-decreases-statement::stmts l = 16 * length (seen l.at).kinds + 9
+decreases-statement::stmts l = 16 * length (position_of l.at).kinds + 9
 
 abbrev pub invariant-expression::terms-loop-operator : goal.invariant-expression::terms-loop-operator
 invariant-expression::terms-loop-operator l = Loops (spell_term_tail (terms_of l.more.items)) (numbers_of_terms l.more.items) term_tail l.depth
-    (seen l.fn.at) (seen l.at)
+    (position_of l.fn.at) (position_of l.at)
 
 abbrev pub decreases-expression::terms-loop-operator : goal.decreases-expression::terms-loop-operator
-decreases-expression::terms-loop-operator l = length (seen l.at).kinds
+decreases-expression::terms-loop-operator l = length (position_of l.at).kinds
 
 abbrev pub invariant-expression::factors-loop-operator : goal.invariant-expression::factors-loop-operator
 invariant-expression::factors-loop-operator l = Loops (spell_factor_tail (factors_of l.more.items)) (numbers_of_factors l.more.items) factor_tail l.depth
-    (seen l.fn.at) (seen l.at)
+    (position_of l.fn.at) (position_of l.at)
 
 abbrev pub decreases-expression::factors-loop-operator : goal.decreases-expression::factors-loop-operator
-decreases-expression::factors-loop-operator l = length (seen l.at).kinds
+decreases-expression::factors-loop-operator l = length (position_of l.at).kinds
 
 abbrev pub invariant-expression::expr_list-loop-after : goal.invariant-expression::expr_list-loop-after
 invariant-expression::expr_list-loop-after l = Loops (spell_expr_tail (exprs_of l.more.items)) (numbers_of_exprs l.more.items) expr_tail l.depth
-    (seen l.fn.at) (seen l.at)
+    (position_of l.fn.at) (position_of l.at)
 
 abbrev pub decreases-expression::expr_list-loop-after : goal.decreases-expression::expr_list-loop-after
-decreases-expression::expr_list-loop-after l = length (seen l.at).kinds
+decreases-expression::expr_list-loop-after l = length (position_of l.at).kinds
 
 abbrev pub invariant-expression::selectors-loop-form : goal.invariant-expression::selectors-loop-form
 invariant-expression::selectors-loop-form l = Loops (spell_selector_tail (selectors_of l.more.items))
-    (numbers_of_selectors l.more.items) selector_tail l.depth (seen l.fn.at) (seen l.at)
+    (numbers_of_selectors l.more.items) selector_tail l.depth (position_of l.fn.at) (position_of l.at)
 
 abbrev pub decreases-expression::selectors-loop-form : goal.decreases-expression::selectors-loop-form
-decreases-expression::selectors-loop-form l = length (seen l.at).kinds
+decreases-expression::selectors-loop-form l = length (position_of l.at).kinds
 
 abbrev pub invariant-statement::stmt_list-loop-after : goal.invariant-statement::stmt_list-loop-after
 invariant-statement::stmt_list-loop-after l = Loops (spell_stmt_tail (stmts_of l.more.items)) (numbers_of_stmts l.more.items) stmt_tail l.depth
-    (seen l.fn.at) (seen l.at)
+    (position_of l.fn.at) (position_of l.at)
 
 abbrev pub decreases-statement::stmt_list-loop-after : goal.decreases-statement::stmt_list-loop-after
-decreases-statement::stmt_list-loop-after l = length (seen l.at).kinds
+decreases-statement::stmt_list-loop-after l = length (position_of l.at).kinds
 
 abbrev pub invariant-statement::elsif_list-loop-after : goal.invariant-statement::elsif_list-loop-after
 invariant-statement::elsif_list-loop-after l = Loops (spell_elsif_tail (elsifs_of l.more.items)) (numbers_of_elsifs l.more.items) elsif_tail l.depth
-    (seen l.fn.at) (seen l.at)
+    (position_of l.fn.at) (position_of l.at)
 
 abbrev pub decreases-statement::elsif_list-loop-after : goal.decreases-statement::elsif_list-loop-after
-decreases-statement::elsif_list-loop-after l = length (seen l.at).kinds
+decreases-statement::elsif_list-loop-after l = length (position_of l.at).kinds
 
 abbrev pub invariant-statement::arm_list-loop-after : goal.invariant-statement::arm_list-loop-after
-invariant-statement::arm_list-loop-after l = Loops (spell_arm_tail (arms_of l.more.items)) (numbers_of_arms l.more.items) arm_tail l.depth (seen l.fn.at)
-    (seen l.at)
+invariant-statement::arm_list-loop-after l = Loops (spell_arm_tail (arms_of l.more.items)) (numbers_of_arms l.more.items) arm_tail l.depth (position_of l.fn.at)
+    (position_of l.at)
 
 abbrev pub decreases-statement::arm_list-loop-after : goal.decreases-statement::arm_list-loop-after
-decreases-statement::arm_list-loop-after l = length (seen l.at).kinds
+decreases-statement::arm_list-loop-after l = length (position_of l.at).kinds
 
 abbrev pub invariant-statement::label_list-loop-after : goal.invariant-statement::label_list-loop-after
 invariant-statement::label_list-loop-after l = Loops (spell_label_tail (labels_of l.more.items)) (numbers_of_labels l.more.items) label_tail l.depth
-    (seen l.fn.at) (seen l.at)
+    (position_of l.fn.at) (position_of l.at)
 
 abbrev pub decreases-statement::label_list-loop-after : goal.decreases-statement::label_list-loop-after
-decreases-statement::label_list-loop-after l = length (seen l.at).kinds
+decreases-statement::label_list-loop-after l = length (position_of l.at).kinds
 
 abbrev pub invariant-statement::orelse_list-loop-after : goal.invariant-statement::orelse_list-loop-after
 invariant-statement::orelse_list-loop-after l = Loops (spell_orelse_tail (orelses_of l.more.items)) (numbers_of_orelses l.more.items) orelse_tail l.depth
-    (seen l.fn.at) (seen l.at)
+    (position_of l.fn.at) (position_of l.at)
 
 abbrev pub decreases-statement::orelse_list-loop-after : goal.decreases-statement::orelse_list-loop-after
-decreases-statement::orelse_list-loop-after l = length (seen l.at).kinds
+decreases-statement::orelse_list-loop-after l = length (position_of l.at).kinds
 
 abbrev pub invariant-statement::desig_list-loop-after : goal.invariant-statement::desig_list-loop-after
 invariant-statement::desig_list-loop-after l = Loops (spell_desig_tail (desigs_of l.more.items)) (numbers_of_desigs l.more.items) desig_tail l.depth
-    (seen l.fn.at) (seen l.at)
+    (position_of l.fn.at) (position_of l.at)
 
 abbrev pub decreases-statement::desig_list-loop-after : goal.decreases-statement::desig_list-loop-after
-decreases-statement::desig_list-loop-after l = length (seen l.at).kinds
+decreases-statement::desig_list-loop-after l = length (position_of l.at).kinds

@@ -11,7 +11,7 @@ use Rattle.alma_implements.specs.Built.{BuiltStmts, BuiltStmt, BuiltArms, BuiltC
 use Rattle.alma_ir.specs.Lines.{behind, stmts_with, stmt_with, arms_with, cases_with, else_with}
 use Rattle.alma_ir.specs.Phrases.{stmts_phrases, arms_phrases, cases_phrases, else_phrases}
 use Rattle.alma_lower.proofs.Unlined.{lined_as, test_lined, assign_lined, write_lined, write_line_lined, if_lined, while_lined, repeat_lined, for_lined, loop_lined, case_lined, arms_lined, cases_lined, stmts_lined, no_stmts_lined, no_arms_lined, no_cases_lined, no_else_lined, else_lined}
-use Rattle.alma_lower.specs.Emitted.{left, inside, PutsStmts, PutsStmt, PutsArms, PutsGuarded, PutsTurns, PutsExpr, filled, PutsCaseArm, PutsCases, PutsElse}
+use Rattle.alma_lower.specs.Emitted.{left, inside, PutsStmts, PutsStmt, PutsArms, PutsGuarded, PutsTurns, PutsExpr, emitted_count, PutsCaseArm, PutsCases, PutsElse}
 use Rattle.alma_lower.proofs.Emits.{on_ok_map, drop_one}
 use Rattle.alma_lower.proofs.EmitsBody.{stmt_as, no_stmts_put, stmts_put, no_arms_put, arms_put, guarded_put, if_put}
 use Rattle.alma_lower.proofs.EmitsFor.{turns_put, for_put}
@@ -74,10 +74,10 @@ emit_cases-loop-arm-preserved t c =
     let one = ap cases_list (drop_one c.args.arms.now l.arm-index c.arm-item.result c.loop-arm-test.true c.arm-item.is) in
     let lined = cases_lined arm.labels.items inner others ls in
     let built = subst BuiltCases one l.invariant.built in
-    let few : filled c.if-not-is_empty.emit ≤ filled l.emit + 16 * (1 + length arm.labels.items + stmts_nodes (stmts_list arm.body.items)) =
+    let few : emitted_count c.if-not-is_empty.emit ≤ emitted_count l.emit + 16 * (1 + length arm.labels.items + stmts_nodes (stmts_list arm.body.items)) =
     elim c.if-not-is_empty.branch [
-      | emit_cases-then-not-is_empty+in_ok-emit_case_arm w ↦ omega (arith, ap filled w.emit-is, w.in_ok-emit_case_arm.ensures.few, ap length w.deref-then-not-is_empty.ensures.value, ap (λ x. stmts_nodes (stmts_list x)) w.deref.ensures.value)
-      | emit_cases-else-not-is_empty+in_ok-emit_stmts w ↦ omega (arith, ap filled w.emit-is)
+      | emit_cases-then-not-is_empty+in_ok-emit_case_arm w ↦ omega (arith, ap emitted_count w.emit-is, w.in_ok-emit_case_arm.ensures.few, ap length w.deref-then-not-is_empty.ensures.value, ap (λ x. stmts_nodes (stmts_list x)) w.deref.ensures.value)
+      | emit_cases-else-not-is_empty+in_ok-emit_stmts w ↦ omega (arith, ap emitted_count w.emit-is)
     ] in
     let after : left c.if-not-is_empty.lines ≡ behind (stmts_phrases inner) ls =
     elim c.if-not-is_empty.branch [
@@ -267,10 +267,10 @@ emit_stmt-emit_stmts-requires-in-Some t c =
 pub emit_stmt-aim-requires-in-Case-clause-room : goal.emit_stmt-aim-requires-in-Case-clause-room
 emit_stmt-aim-requires-in-Case-clause-room t c =
     let view : stmt_of c.args.stmt.now ≡ tree.Case (expr_of c.in-Case.value) (cases_list c.deref-in-Case.result.now) (else_option c.in-Case.rest) = ap stmt_of c.in-Case.is ∙ Views.case_view _ _ _ ∙ ap (λ x. tree.Case (expr_of c.in-Case.value) (cases_list x) (else_option c.in-Case.rest)) (sym c.deref-in-Case.ensures.value) in
-    let few : filled c.match-rest.emit ≤ filled c.emit_cases.new.emit + 1 + 16 * else_nodes (else_option c.in-Case.rest) =
+    let few : emitted_count c.match-rest.emit ≤ emitted_count c.emit_cases.new.emit + 1 + 16 * else_nodes (else_option c.in-Case.rest) =
     elim c.match-rest.branch [
-      | emit_stmt-in-Some+in_ok-emit_stmts-in-Some w ↦ omega (arith, ap filled w.emit-is, w.in_ok-emit_stmts-in-Some.ensures.few, ap (λ x. else_nodes (else_option x)) w.in-Some.is, ap (λ x. stmts_nodes (stmts_list x)) w.deref-in-Some.ensures.value)
-      | emit_stmt-in-None+in_ok-put-in-None w ↦ omega (arith, ap filled w.emit-is, w.in_ok-put-in-None.ensures.few)
+      | emit_stmt-in-Some+in_ok-emit_stmts-in-Some w ↦ omega (arith, ap emitted_count w.emit-is, w.in_ok-emit_stmts-in-Some.ensures.few, ap (λ x. else_nodes (else_option x)) w.in-Some.is, ap (λ x. stmts_nodes (stmts_list x)) w.deref-in-Some.ensures.value)
+      | emit_stmt-in-None+in_ok-put-in-None w ↦ omega (arith, ap emitted_count w.emit-is, w.in_ok-put-in-None.ensures.few)
     ] in
     omega (arith, c.requires.room, ap stmt_nodes view, c.in_ok-head-in-Case.ensures.few, c.in_ok-emit_cases-in-Case.ensures.few, few)
 
@@ -452,10 +452,10 @@ emit_stmt-returns-after-rest-clause-left t c =
 pub emit_stmt-returns-after-rest-clause-few : goal.emit_stmt-returns-after-rest-clause-few
 emit_stmt-returns-after-rest-clause-few t c =
     let view : stmt_of c.args.stmt.now ≡ tree.Case (expr_of c.in-Case.value) (cases_list c.deref-in-Case.result.now) (else_option c.in-Case.rest) = ap stmt_of c.in-Case.is ∙ Views.case_view _ _ _ ∙ ap (λ x. tree.Case (expr_of c.in-Case.value) (cases_list x) (else_option c.in-Case.rest)) (sym c.deref-in-Case.ensures.value) in
-    let few : filled c.match-rest.emit ≤ filled c.emit_cases.new.emit + 1 + 16 * else_nodes (else_option c.in-Case.rest) =
+    let few : emitted_count c.match-rest.emit ≤ emitted_count c.emit_cases.new.emit + 1 + 16 * else_nodes (else_option c.in-Case.rest) =
     elim c.match-rest.branch [
-      | emit_stmt-in-Some+in_ok-emit_stmts-in-Some w ↦ omega (arith, ap filled w.emit-is, w.in_ok-emit_stmts-in-Some.ensures.few, ap (λ x. else_nodes (else_option x)) w.in-Some.is, ap (λ x. stmts_nodes (stmts_list x)) w.deref-in-Some.ensures.value)
-      | emit_stmt-in-None+in_ok-put-in-None w ↦ omega (arith, ap filled w.emit-is, w.in_ok-put-in-None.ensures.few)
+      | emit_stmt-in-Some+in_ok-emit_stmts-in-Some w ↦ omega (arith, ap emitted_count w.emit-is, w.in_ok-emit_stmts-in-Some.ensures.few, ap (λ x. else_nodes (else_option x)) w.in-Some.is, ap (λ x. stmts_nodes (stmts_list x)) w.deref-in-Some.ensures.value)
+      | emit_stmt-in-None+in_ok-put-in-None w ↦ omega (arith, ap emitted_count w.emit-is, w.in_ok-put-in-None.ensures.few)
     ] in
     omega (arith, ap stmt_nodes view, c.in_ok-head-in-Case.ensures.few, c.in_ok-emit_cases-in-Case.ensures.few, few, c.aim-in-Case.ensures.few)
 

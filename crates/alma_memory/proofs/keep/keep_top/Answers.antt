@@ -1,9 +1,9 @@
 use Rattle.std.proofs.Common.{◌≡◌, ◌<◌, ◌-◌, length, take, drop, get_or, set, ap, ◌∙◌, arith}
 use Rattle.alma_code.specs.Carries.{diffs}
 use Rattle.alma_memory.specs.Carries.{listed}
-use Rattle.alma_memory.specs.Gain.{no_saved, saved_with}
-use Rattle.alma_memory.specs.Past.{SameGain}
-use Rattle.alma_memory.specs.Trail.{unwind}
+use Rattle.alma_memory.specs.Inner.Gain.{no_saved, entry_with_changes}
+use Rattle.alma_memory.specs.Inner.Past.{SameGain}
+use Rattle.alma_memory.specs.Inner.Trail.{unwind}
 use Rattle.alma_memory.proofs.Trails.{rises-at}
 use Rattle.alma_memory.proofs.Keeping.{kept-held, kept-trailed}
 use Rattle.alma_memory.proofs.keep.keep_top.Goals as goal
@@ -18,7 +18,7 @@ returns-clause-held c =
     let es = c.args.entries.now.items in
     let h = c.args.height in
     let found = listed c.as_slice.result.now in
-    let rest : c.pop.new.self.items ≡ take (length es - 1) (set es (h - 1) (saved_with (get_or es (h - 1) no_saved) found)) =
+    let rest : c.pop.new.self.items ≡ take (length es - 1) (set es (h - 1) (entry_with_changes (get_or es (h - 1) no_saved) found)) =
     c.pop.ensures.rest ∙ (ap (λ k. take (k - 1) c.gain.new.entries.items) (c.in_ok-gain.ensures.len ∙ c.args.entries.now.ok.0)
     ∙ ap (take (length es - 1)) c.in_ok-gain.ensures.items) in
     let top : c.index.result.now ≡ get_or es (length es - 1) c.index.result.now =
@@ -33,7 +33,7 @@ returns-clause-trailed c =
     let es = c.args.entries.now.items in
     let h = c.args.height in
     let found = listed c.as_slice.result.now in
-    let rest : c.pop.new.self.items ≡ take (length es - 1) (set es (h - 1) (saved_with (get_or es (h - 1) no_saved) found)) =
+    let rest : c.pop.new.self.items ≡ take (length es - 1) (set es (h - 1) (entry_with_changes (get_or es (h - 1) no_saved) found)) =
     c.pop.ensures.rest ∙ (ap (λ k. take (k - 1) c.gain.new.entries.items) (c.in_ok-gain.ensures.len ∙ c.args.entries.now.ok.0)
     ∙ ap (take (length es - 1)) c.in_ok-gain.ensures.items) in
     kept-trailed h c.args.trail.now c.args.frames.now es c.pop.new.self.items found rest c.requires.low c.requires.below c.requires.trailed

@@ -1,5 +1,5 @@
 use Rattle.std.proofs.Common.{◌+◌, ◌≤◌, length, vec_len, vec_capacity}
-use Rattle.alma_memory.specs.Held.{HasNoteRoom}
+use Rattle.alma_memory.specs.Inner.Held.{HasNoteRoom}
 use Rattle.alma_memory.proofs.Lays.{Lays}
 use Rattle.alma_memory.proofs.lay.lay.Given as goal
 

@@ -1,10 +1,10 @@
 use Rattle.std.proofs.Common.{◌∙◌, length, vec_len, vec_capacity}
-use Rattle.alma_memory.proofs.Lays.{last-settled, room-fewer}
+use Rattle.alma_memory.proofs.Lays.{last-trail_for_entries, room-fewer}
 use Rattle.alma_memory.proofs.lay.lay_last.Goals as goal
 
 pub lay-requires-clause-trailed : goal.lay-requires-clause-trailed
 lay-requires-clause-trailed c =
-    (last-settled c.args.entries.now c.args.entry c.args.trail.now.items c.settle.new.trail.items c.args.frames.now c.settle.ensures.items c.requires.trailed).trailed
+    (last-trail_for_entries c.args.entries.now c.args.entry c.args.trail.now.items c.settle.new.trail.items c.args.frames.now c.settle.ensures.items c.requires.trailed).trailed
 
 pub lay-requires-clause-room : goal.lay-requires-clause-room
 lay-requires-clause-room c =
@@ -14,7 +14,7 @@ lay-requires-clause-room c =
 pub returns-clause-held : goal.returns-clause-held
 returns-clause-held c =
     c.lay.ensures.keeps.held
-    ∙ (last-settled c.args.entries.now c.args.entry c.args.trail.now.items c.settle.new.trail.items c.args.frames.now c.settle.ensures.items c.requires.trailed).held
+    ∙ (last-trail_for_entries c.args.entries.now c.args.entry c.args.trail.now.items c.settle.new.trail.items c.args.frames.now c.settle.ensures.items c.requires.trailed).held
 
 pub returns-clause-trailed : goal.returns-clause-trailed
 returns-clause-trailed c = c.lay.ensures.keeps.trailed

@@ -1,5 +1,5 @@
 use Rattle.std.proofs.Common.{arith, add-one}
-use Rattle.alma_scan.specs.Classes.{in_class}
+use Rattle.alma_scan.specs.Inner.Classes.{in_class}
 use Rattle.alma_scan.proofs.Runs.{all_in_more}
 use Rattle.alma_scan.proofs.byte.split_run.Goals as goal
 

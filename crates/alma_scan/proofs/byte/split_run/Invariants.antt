@@ -1,6 +1,6 @@
 use Rattle.std.proofs.Common.{◌≤◌, ◌-◌, length, take}
 use Rattle.alma_scan.specs.Bytes.{AllIn}
-use Rattle.alma_scan.specs.Classes.{in_class}
+use Rattle.alma_scan.specs.Inner.Classes.{in_class}
 use Rattle.alma_scan.proofs.byte.split_run.Given as goal
 
 abbrev pub invariant-loop-count : goal.invariant-loop-count

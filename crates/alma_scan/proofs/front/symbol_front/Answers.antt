@@ -2,7 +2,7 @@ use Rattle.std.proofs.Common.{subst, sym}
 use Rattle.std.specs.Prelude.{Result}
 use Rattle.alma_base.specs.declared.fault.LexFault.{LexFault}
 use Rattle.alma_scan.specs.declared.front.Front.{Front}
-use Rattle.alma_scan.specs.Fronts.{IsFront}
+use Rattle.alma_scan.specs.Inner.Fronts.{IsFront}
 use Rattle.alma_scan.proofs.Standing.{last_symbol}
 use Rattle.alma_scan.proofs.front.symbol_front.Goals as goal
 

@@ -1,6 +1,6 @@
 use Rattle.std.proofs.Common.{◌≡◌, drop}
 use Rattle.alma_scan.specs.Spellings.{look_up}
-use Rattle.alma_scan.specs.Tables.{entries}
+use Rattle.alma_scan.specs.Inner.Tables.{entries}
 use Rattle.alma_scan.proofs.spelling.find.Given as goal
 
 abbrev pub invariant-loop-spelling : goal.invariant-loop-spelling

@@ -1,5 +1,5 @@
 use Rattle.std.proofs.Common.{refl, ◌∙◌}
-use Rattle.alma_code.specs.Machine.{content, equated, equation}
+use Rattle.alma_code.specs.Machine.{content, equation_of_contents, equation}
 use Rattle.alma_engine.specs.Rows.{state_of}
 use Rattle.alma_engine.proofs.Meetings.{ok_meets}
 use Rattle.alma_engine.proofs.registers.Registers.equate.Goals as goal
@@ -14,5 +14,5 @@ returns-clause-ok c =
     let j = c.args.right.slot in
     let t = c.args.right_range in
     let u = c.content-left_known.result in
-    ok_meets c.settle.result (λ k. equated s f i r u g j t c.content-right_known.result k) (λ k. equation s f i r g j t k) (state_of c.settle.new.self) c.settle.ensures.ok
-    (λ k. c.content-left_known.ensures s (λ u. content s g j (λ v. equated s f i r u g j t v k)) refl ∙ c.content-right_known.ensures s (λ v. equated s f i r u g j t v k) refl)
+    ok_meets c.settle.result (λ k. equation_of_contents s f i r u g j t c.content-right_known.result k) (λ k. equation s f i r g j t k) (state_of c.settle.new.self) c.settle.ensures.ok
+    (λ k. c.content-left_known.ensures s (λ u. content s g j (λ v. equation_of_contents s f i r u g j t v k)) refl ∙ c.content-right_known.ensures s (λ v. equation_of_contents s f i r u g j t v k) refl)

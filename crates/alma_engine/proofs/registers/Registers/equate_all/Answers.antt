@@ -18,7 +18,7 @@ returns-in-Ok-Ends-clause-step c =
     let k = c.loop-k.k in
     let ends : Meets (Ends c.in-Ok-Ends.step) (λ q. equation t f (i + k) None g (j + k) None q) u =
     subst (λ met. Meets met (λ q. equation t f (i + k) None g (j + k) None q) u) c.in-Ok-Ends.field-0-is c.in-Ok-Ends.ensures.ok in
-    sym (c.loop-k.invariant.equated.rest ∙ equations_end c.args.count k t u c.in-Ok-Ends.step f i g j c.loop-k-test.true ends)
+    sym (c.loop-k.invariant.equation_of_contents.rest ∙ equations_end c.args.count k t u c.in-Ok-Ends.step f i g j c.loop-k-test.true ends)
 
 pub loop-k-preserved : goal.loop-k-preserved
 loop-k-preserved c =
@@ -34,6 +34,6 @@ loop-k-preserved c =
     subst (λ met. Meets met (λ q. equation t f (i + k) None g (j + k) None q) u) c.in-Ok-Holds.field-0-is c.in-Ok-Holds.ensures.ok in
     let kept : MeetsOn Holds t u = subst (λ met. MeetsOn met t u) c.in-Ok-Holds.field-0-is c.in-Ok-Holds.ensures.kept in
     record {
-      equated = equated_more c.args.count k s t u f i g j c.loop-k-test.true c.loop-k.invariant.equated holds c.in-Ok-Holds.ensures.stays kept;
+      equation_of_contents = equated_more c.args.count k s t u f i g j c.loop-k-test.true c.loop-k.invariant.equation_of_contents holds c.in-Ok-Holds.ensures.stays kept;
       room = omega (arith, c.loop-k.invariant.room, c.in-Ok-Holds.ensures.room);
     }

@@ -2,7 +2,7 @@ use Rattle.std.proofs.Common.{◌∙◌, ap, ◌+ℤ◌, ◌-ℤ◌, ◌*ℤ◌,
 use Rattle.alma_base.specs.Choice.{if_true}
 use Rattle.alma_base.specs.declared.fault.RunFault.TheVariants as fault
 use Rattle.alma_base.specs.Numbers.{is_zero, int_eq, bit, div_down_of, mod_down_of}
-use Rattle.alma_code.specs.Machine.{act, number, place, content, known, fitted, faulted}
+use Rattle.alma_code.specs.Machine.{act, number, place, content, known, integer_result, ends_in_fault}
 use Rattle.alma_machine.proofs.Words.{gives_put}
 use Rattle.alma_machine.proofs.frame.Frame.computed.Goals as goal
 
@@ -10,37 +10,37 @@ pub returns-in-Add-clause-number : goal.returns-in-Add-clause-number
 unfolding act
 returns-in-Add-clause-number c code input s same =
     ap (λ i. act code input i s) c.in-Add.is
-    ∙ gives_put c.args.self.now (λ s k. number s c.in-Add.left (λ x. number s c.in-Add.right (λ y. fitted s (x +ℤ y) k))) s c.in-Add.to c.sum.result same c.sum.ensures
+    ∙ gives_put c.args.self.now (λ s k. number s c.in-Add.left (λ x. number s c.in-Add.right (λ y. integer_result s (x +ℤ y) k))) s c.in-Add.to c.sum.result same c.sum.ensures
 
 pub returns-in-Sub-clause-number : goal.returns-in-Sub-clause-number
 unfolding act
 returns-in-Sub-clause-number c code input s same =
     ap (λ i. act code input i s) c.in-Sub.is
-    ∙ gives_put c.args.self.now (λ s k. number s c.in-Sub.left (λ x. number s c.in-Sub.right (λ y. fitted s (x -ℤ y) k))) s c.in-Sub.to c.difference.result same c.difference.ensures
+    ∙ gives_put c.args.self.now (λ s k. number s c.in-Sub.left (λ x. number s c.in-Sub.right (λ y. integer_result s (x -ℤ y) k))) s c.in-Sub.to c.difference.result same c.difference.ensures
 
 pub returns-in-Mul-clause-number : goal.returns-in-Mul-clause-number
 unfolding act
 returns-in-Mul-clause-number c code input s same =
     ap (λ i. act code input i s) c.in-Mul.is
-    ∙ gives_put c.args.self.now (λ s k. number s c.in-Mul.left (λ x. number s c.in-Mul.right (λ y. fitted s (x *ℤ y) k))) s c.in-Mul.to c.product.result same c.product.ensures
+    ∙ gives_put c.args.self.now (λ s k. number s c.in-Mul.left (λ x. number s c.in-Mul.right (λ y. integer_result s (x *ℤ y) k))) s c.in-Mul.to c.product.result same c.product.ensures
 
 pub returns-in-Div-clause-number : goal.returns-in-Div-clause-number
 unfolding act
 returns-in-Div-clause-number c code input s same =
     ap (λ i. act code input i s) c.in-Div.is
-    ∙ gives_put c.args.self.now (λ s k. number s c.in-Div.left (λ x. number s c.in-Div.right (λ y. if_true (is_zero y) (λ _. faulted fault.ZeroDivide s) (λ _. fitted s (div_down_of x y) k)))) s c.in-Div.to c.quotient.result same c.quotient.ensures
+    ∙ gives_put c.args.self.now (λ s k. number s c.in-Div.left (λ x. number s c.in-Div.right (λ y. if_true (is_zero y) (λ _. ends_in_fault fault.ZeroDivide s) (λ _. integer_result s (div_down_of x y) k)))) s c.in-Div.to c.quotient.result same c.quotient.ensures
 
 pub returns-in-Mod-clause-number : goal.returns-in-Mod-clause-number
 unfolding act
 returns-in-Mod-clause-number c code input s same =
     ap (λ i. act code input i s) c.in-Mod.is
-    ∙ gives_put c.args.self.now (λ s k. number s c.in-Mod.left (λ x. number s c.in-Mod.right (λ y. if_true (is_zero y) (λ _. faulted fault.ZeroDivide s) (λ _. fitted s (mod_down_of x y) k)))) s c.in-Mod.to c.rest.result same c.rest.ensures
+    ∙ gives_put c.args.self.now (λ s k. number s c.in-Mod.left (λ x. number s c.in-Mod.right (λ y. if_true (is_zero y) (λ _. ends_in_fault fault.ZeroDivide s) (λ _. integer_result s (mod_down_of x y) k)))) s c.in-Mod.to c.rest.result same c.rest.ensures
 
 pub returns-in-Neg-clause-number : goal.returns-in-Neg-clause-number
 unfolding act
 returns-in-Neg-clause-number c code input s same =
     ap (λ i. act code input i s) c.in-Neg.is
-    ∙ gives_put c.args.self.now (λ s k. number s c.in-Neg.from (λ x. fitted s (neg_ℤ x) k)) s c.in-Neg.to c.negated.result same c.negated.ensures
+    ∙ gives_put c.args.self.now (λ s k. number s c.in-Neg.from (λ x. integer_result s (neg_ℤ x) k)) s c.in-Neg.to c.negated.result same c.negated.ensures
 
 pub returns-in-Equal-clause-number : goal.returns-in-Equal-clause-number
 unfolding act

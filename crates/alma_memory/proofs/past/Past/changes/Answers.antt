@@ -1,5 +1,5 @@
 use Rattle.std.proofs.Common.{◌≡◌, ◌≤◌, ◌-◌, ◌++◌, ◌∙◌, ap, refl, length, min, take}
-use Rattle.alma_memory.specs.Past.{PlainPast, rewritten, diffs_at, diffs_between}
+use Rattle.alma_memory.specs.Inner.Past.{PlainPast, frames_with_old_cells, diffs_at, diffs_between}
 use Rattle.alma_memory.specs.Carries.{listed}
 use Rattle.alma_memory.proofs.Gains.{found-gain}
 use Rattle.alma_memory.proofs.past.Past.changes.Goals as goal
@@ -12,7 +12,7 @@ returns c =
     let shared = c.self.inside.shared in
     let above = c.self.inside.above.items in
     let le : shared ≤ length now = rw (← c.self.view_is) c.self.invariant in
-    let is : before ≡ take shared (rewritten now cells) ++ above = rw (← c.self.view_is) refl in
+    let is : before ≡ take shared (frames_with_old_cells now cells) ++ above = rw (← c.self.view_is) refl in
     let few : c.min-count.result ≡ min (length above) (length now - shared) =
     c.min-count.ensures ∙ (ap (λ k. min k (c.len-2.result - shared)) (c.len.ensures ∙ c.self.inside.above.ok.0)
     ∙ ap (λ k. min (length above) (k - shared)) (c.len-2.ensures ∙ ap (λ (q : PlainPast). length q.now) c.self.view_is)) in

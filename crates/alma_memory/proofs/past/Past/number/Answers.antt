@@ -1,10 +1,10 @@
 use Rattle.std.proofs.Common.{◌≡◌, ◌<◌, ◌-◌, ◌∙◌, ap, sym, arith, length, get_or}
 use Rattle.std.proofs.lemmas.List.{get_or_read}
 use Rattle.alma_code.specs.Picture.{no_frame}
-use Rattle.alma_memory.specs.Past.{PlainPast, number_of, number_in, over}
+use Rattle.alma_memory.specs.Inner.Past.{PlainPast, number_of, number_in, over}
 use Rattle.alma_memory.proofs.Stores.{whole-at}
 use Rattle.alma_memory.proofs.Pasts.{at-above}
-use Rattle.alma_memory.proofs.Contents.{number-rewritten, number-shared, number-above}
+use Rattle.alma_memory.proofs.Contents.{number-frames_with_old_cells, number-shared, number-above}
 use Rattle.alma_memory.proofs.past.Past.number.Goals as goal
 
 pub returns-then-place-self : goal.returns-then-place-self
@@ -14,7 +14,7 @@ returns-then-place-self c =
     let whole = rw (← c.self.view_is) at c.requires.now in
     c.laid_over.ensures
     ∙ (ap (λ o. over o c.get.result) c.number.ensures ∙ (ap (λ o. over (number_of now p.frame p.slot) o) c.get.ensures
-    ∙ (sym (number-rewritten now c.self.inside.cells p.frame p.slot whole)
+    ∙ (sym (number-frames_with_old_cells now c.self.inside.cells p.frame p.slot whole)
     ∙ (sym (number-shared c.self.inside.shared now c.self.inside.above.items c.self.inside.cells p.frame p.slot c.self.invariant c.if-place-self.true)
     ∙ ap (λ (q : PlainPast). number_of q.before p.frame p.slot) c.self.view_is))))
 

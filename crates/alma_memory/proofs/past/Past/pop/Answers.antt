@@ -2,7 +2,7 @@ use Rattle.std.proofs.Common.{◌≡◌, ◌∙◌, ap, length, [], arith}
 use Rattle.std.proofs.lemmas.Bool.Decides.{nat_tests}
 use Rattle.std.proofs.lemmas.List.{nil_from_length}
 use Rattle.alma_code.specs.Picture.{without_last}
-use Rattle.alma_memory.specs.Past.{PlainPast}
+use Rattle.alma_memory.specs.Inner.Past.{PlainPast}
 use Rattle.alma_memory.proofs.Pasts.{entered-shared}
 use Rattle.alma_memory.proofs.past.Past.pop.Goals as goal
 

@@ -3,7 +3,7 @@ use Rattle.std.specs.Prelude.{Some}
 use Rattle.std.proofs.lemmas.List.{map-append}
 use Rattle.alma_code.specs.declared.cell.Cell.{Cell}
 use Rattle.alma_memory.specs.declared.carry.SlotPlace.{SlotPlace}
-use Rattle.alma_memory.specs.Past.{PlainPast, number_of, changed}
+use Rattle.alma_memory.specs.Inner.Past.{PlainPast, number_of, changed}
 use Rattle.alma_memory.specs.Carries.{listed, change_of}
 use Rattle.alma_memory.proofs.Contents.{diff-changed, change_at}
 use Rattle.alma_memory.proofs.past.Past.push_change.Goals as goal

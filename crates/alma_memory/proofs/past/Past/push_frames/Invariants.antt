@@ -1,6 +1,6 @@
 use Rattle.std.proofs.Common.{◌≡◌, ◌++◌}
 use Rattle.alma_memory.specs.Carries.{listed}
-use Rattle.alma_memory.specs.Past.{diffs_between}
+use Rattle.alma_memory.specs.Inner.Past.{diffs_between}
 use Rattle.alma_memory.proofs.past.Past.push_frames.Given as goal
 
 abbrev pub invariant-loop-at : goal.invariant-loop-at

@@ -1,6 +1,6 @@
 use Rattle.std.proofs.Common.{◌≡◌, ◌-◌, ◌∙◌, ap, sym, set, get_or}
 use Rattle.alma_code.specs.Picture.{frame_with, written, no_frame}
-use Rattle.alma_memory.specs.Past.{PlainPast}
+use Rattle.alma_memory.specs.Inner.Past.{PlainPast}
 use Rattle.alma_memory.specs.Carries.{change_of}
 use Rattle.alma_memory.proofs.Pasts.{wrote-shared, wrote-above, at-above, above-read}
 use Rattle.alma_memory.proofs.past.Past.write.Goals as goal

@@ -6,7 +6,7 @@ use Rattle.alma_ir.specs.declared.phrase.ReadAs.TheVariants as read_as
 use Rattle.alma_ir.specs.declared.phrase.WriteAs.TheVariants as write_as
 use Rattle.alma_ir.specs.Tree.{Stmt, Read, WriteExpr, WriteText, WriteLine}
 use Rattle.alma_mean.specs.Events.{Succeeded, Failed, Faulted}
-use Rattle.alma_mean.specs.Build.{int, range, module_of, var, element, number, load, minus, is, write, write_bool, write_var, write_byte, either, digits_of, Gives}
+use Rattle.alma_mean.specs.Worked.Build.{int, range, module_of, var, element, number, load, minus, is, write, write_bool, write_var, write_byte, either, digits_of, Gives}
 
 -- `READ(x)` of an INTEGER, and of a CHAR
 abbrev pub read : ℕ → Stmt

@@ -5,7 +5,7 @@ use Rattle.alma_ir.specs.declared.phrase.Op.TheVariants as op
 use Rattle.alma_ir.specs.declared.phrase.ReadAs.TheVariants as read_as
 use Rattle.alma_ir.specs.Tree.{Stmt, Assign, If, Read, Load}
 use Rattle.alma_mean.specs.Events.{Succeeded, Failed, Faulted}
-use Rattle.alma_mean.specs.Build.{stmts, arms, int, module_of, var, element, number, load, operate, plus, succeed, fail, equals, is, let_be, write, write_var, write_known, either, forall, some, for, digits_of, Gives}
+use Rattle.alma_mean.specs.Worked.Build.{stmts, arms, int, module_of, var, element, number, load, operate, plus, succeed, fail, equals, is, let_be, write, write_var, write_known, either, forall, some, for, digits_of, Gives}
 
 -- SOME i := 1 TO n DO TRUE END, i and its hidden slots from a slot on
 abbrev pub choose_to : ℕ → ℕ → Stmt

@@ -7,7 +7,7 @@ use Rattle.alma_ir.specs.Tree.{Stmt, Program, TestStmt, While, Repeat, ForTo, Wr
 use Rattle.alma_mean.specs.Store.{Number, Unknown}
 use Rattle.alma_mean.specs.Events.{Succeeded, Failed, Faulted, CutOff, Go, Visit, Alt, Fail, first}
 use Rattle.alma_mean.specs.Meaning.{level, start}
-use Rattle.alma_mean.specs.Build.{stmts, tests, links, int, range, module_of, module_with, procedure, var, element, number, load, plus, greatest, test, succeed, fail, equals, is, let_be, write, write_var, write_known, either, some, for, call, digits_of, Gives}
+use Rattle.alma_mean.specs.Worked.Build.{stmts, tests, links, int, range, module_of, module_with, procedure, var, element, number, load, plus, greatest, test, succeed, fail, equals, is, let_be, write, write_var, write_known, either, some, for, call, digits_of, Gives}
 
 -- WHILE TRUE DO WRITE(1) END
 abbrev pub write_forever : Program
@@ -78,8 +78,8 @@ abbrev pub differ : Expr → Expr → Stmt
 differ x y = test (Compare cmp.Unequal x y)
 
 -- `x + y - z`
-abbrev pub shifted : ℕ → ℕ → ℕ → Expr
-shifted x y z = Chain false (load x) (links ((op.Add, load y) ∷ (op.Sub, load z) ∷ []))
+abbrev pub diagonal : ℕ → ℕ → ℕ → Expr
+diagonal x y z = Chain false (load x) (links ((op.Add, load y) ∷ (op.Sub, load z) ∷ []))
 
 -- FOR col := 1 TO n DO SOME row := 1 TO n DO
 --   FOR i := 1 TO col - 1 DO x[i] <> row; x[i] <> row + col - i; x[i] <> row + i - col END; x[col] = row
@@ -91,7 +91,7 @@ queens n =
     (for col (n + 4) (number 1) (number n)
     (some row (n + 6) (number 1) (number n)
     (for i (n + 8) (number 1) (Chain false (load col) (links ((op.Sub, number 1) ∷ [])))
-    (differ (queen n i) (load row) ∷ differ (queen n i) (shifted row col i) ∷ differ (queen n i) (shifted row i col) ∷ []) ∷
+    (differ (queen n i) (load row) ∷ differ (queen n i) (diagonal row col i) ∷ differ (queen n i) (diagonal row i col) ∷ []) ∷
     TestStmt (Bind (element 1 n (load col)) (load row) int true) ∷ []) ∷ []) ∷
     for i (n + 10) (number 1) (number n) (write (queen n i) ∷ []) ∷ [])
 

@@ -9,7 +9,7 @@ use Rattle.alma_ir.specs.declared.phrase.Cmp.TheVariants as cmp
 use Rattle.alma_ir.specs.declared.phrase.WriteAs.TheVariants as write_as
 use Rattle.alma_ir.specs.Tree.{Stmt, TestStmt, Assign, CopyCells, Case, WriteExpr, no_else, else_part, Bind, Unify, SameCells, Expr, Load, Chain, Compare, Known, Chr, a_desig, Field, Index}
 use Rattle.alma_mean.specs.Events.{Succeeded, Failed, Faulted}
-use Rattle.alma_mean.specs.Build.{stmts, case_arms, links, sels, int, range, module_of, var, element, whole, number, load, minus, operate, plus, greatest, let_be, write, write_bool, write_var, write_known, write_byte, digits_of, Gives}
+use Rattle.alma_mean.specs.Worked.Build.{stmts, case_arms, links, sels, int, range, module_of, var, element, whole, number, load, minus, operate, plus, greatest, let_be, write, write_bool, write_var, write_known, write_byte, digits_of, Gives}
 
 -- `x = y`
 abbrev pub meet : ℕ → ℕ → Stmt

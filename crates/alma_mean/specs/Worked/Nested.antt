@@ -6,7 +6,7 @@ use Rattle.alma_ir.specs.declared.phrase.Cmp.TheVariants as cmp
 use Rattle.alma_ir.specs.declared.phrase.Op.TheVariants as op
 use Rattle.alma_ir.specs.Tree.{Stmt, Expr, Routine, Program, Assign, If, Load, Return, some_result, Value, Bind, Compare, Known, TestStmt, ByValue, ByPlace, MixValue, MixPlace}
 use Rattle.alma_mean.specs.Events.{Succeeded, Failed}
-use Rattle.alma_mean.specs.Build.{stmts, arms, int, module_with, procedure, function, inside, param, var, global, held, outer, outer_held, number, load, operate, plus, test, let_be, write, write_bool, write_var, either, call, call_up, value_up, digits_of, Gives}
+use Rattle.alma_mean.specs.Worked.Build.{stmts, arms, int, module_with, procedure, function, inside, param, var, global, through_param, outer, through_outer_param, number, load, operate, plus, test, let_be, write, write_bool, write_var, either, call, call_up, value_up, digits_of, Gives}
 
 -- the value of a variable of a routine so many links up
 abbrev pub load_outer : (links slot : ℕ) → Expr
@@ -44,7 +44,7 @@ pub record NestedRun : Type 0 where
   pub variable_and_parameter :
       Gives 3 (module_with 2 (call 1 (ByPlace (var 1) ∷ []) ∷ write_var 1 ∷ [])
       (procedure (param kind.Place 0 1 ∷ []) 2 (let_be 1 (number 4) ∷ call_up 0 2 [] ∷ call_up 0 2 [] ∷ []) ∷
-      inside 2 1 (procedure [] 0 (Assign (outer 1 1) (plus (load_outer 1 1) (number 1)) int ∷ Assign (outer_held 1 0) (load_outer 1 1) int ∷ [])) ∷ [])) [] (digits_of (6 ∷ [])) Succeeded
+      inside 2 1 (procedure [] 0 (Assign (outer 1 1) (plus (load_outer 1 1) (number 1)) int ∷ Assign (through_outer_param 1 0) (load_outer 1 1) int ∷ [])) ∷ [])) [] (digits_of (6 ∷ [])) Succeeded
   -- PROCEDURE p; VAR l: INTEGER; PROCEDURE q; BEGIN EITHER l = 1 ORELSE l = 2 END END q; BEGIN q; WRITE(l); x := l END p;
   -- p; x > 1: a choice keeps the variable of the frame below
   pub choice_in_an_outer_frame :
@@ -84,13 +84,13 @@ pub record NestedRun : Type 0 where
   pub variable_is_handed_on :
       Gives 4 (module_with 1 (call 1 [] ∷ [])
       (procedure [] 1 (call_up 0 3 [] ∷ write_var 0 ∷ []) ∷
-      inside 2 1 (procedure (param kind.Place 0 1 ∷ []) 1 (Assign (held 0) (number 3) int ∷ [])) ∷
+      inside 2 1 (procedure (param kind.Place 0 1 ∷ []) 1 (Assign (through_param 0) (number 3) int ∷ [])) ∷
       inside 2 1 (procedure [] 0 (call_up 1 2 (ByPlace (outer 1 0) ∷ []) ∷ [])) ∷ [])) [] (digits_of (3 ∷ [])) Succeeded
   -- PROCEDURE p(MIX a: INTEGER); PROCEDURE q; BEGIN WRITE(KNOWN(a)); a = 7 END q; BEGIN q END p;  p(x); WRITE(x); p(7); p(8)
   pub mix_parameter_outside :
       Gives 3 (module_with 2 (call 1 (MixPlace (var 1) ∷ []) ∷ write_var 1 ∷ call 1 (MixValue (number 7) int ∷ []) ∷ call 1 (MixValue (number 8) int ∷ []) ∷ [])
       (procedure (param kind.Mix 0 1 ∷ []) 2 (call_up 0 2 [] ∷ []) ∷
-      inside 2 1 (procedure [] 0 (write_bool (Known (outer_held 1 0)) ∷ TestStmt (Bind (outer_held 1 0) (number 7) int true) ∷ [])) ∷ [])) []
+      inside 2 1 (procedure [] 0 (write_bool (Known (through_outer_param 1 0)) ∷ TestStmt (Bind (through_outer_param 1 0) (number 7) int true) ∷ [])) ∷ [])) []
       (codes "FALSE" ++ (decimal 7 ++ codes "TRUETRUE")) Failed
   -- PROCEDURE p; VAR l: INTEGER; PROCEDURE f(): INTEGER; BEGIN l := l + 1; RETURN l END f; BEGIN l := 1; WRITE(f() + f()) END p;  p
   pub function_inside :

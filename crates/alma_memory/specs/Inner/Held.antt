@@ -7,7 +7,7 @@ use Rattle.alma_memory.specs.declared.trail.Note.{Note}
 use Rattle.alma_memory.specs.declared.trail.Note.TheVariants.{Wrote, Entered, Left}
 use Rattle.alma_memory.specs.declared.trail.Entry.{Entry}
 use Rattle.alma_memory.specs.Frames.{AreLive}
-use Rattle.alma_memory.specs.Trail.{undo, unwind, held_of}
+use Rattle.alma_memory.specs.Inner.Trail.{undo, unwind, held_of}
 
 -- a note can be undone at the frames that it left
 abbrev pub Undoes : Note → List PlainFrame → Type 0

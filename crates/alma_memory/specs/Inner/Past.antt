@@ -15,13 +15,13 @@ pub record PlainPast : Type 0 where
   pub before : List PlainFrame
 
 -- the frames with the cells of a carry, of which the first is written last
-abbrev pub rewritten : List PlainFrame → Carry Cell → List PlainFrame
-rewritten frames [] = frames
-rewritten frames (x ∷ rest) = written (rewritten frames rest) x.frame x.slot x.cell
+abbrev pub frames_with_old_cells : List PlainFrame → Carry Cell → List PlainFrame
+frames_with_old_cells frames [] = frames
+frames_with_old_cells frames (x ∷ rest) = written (frames_with_old_cells frames rest) x.frame x.slot x.cell
 
 -- the frames from before: the shared ones with their old cells, and those that stood above them
 abbrev pub before_of : Inside → List PlainFrame
-before_of past = take past.shared (rewritten past.frames.now past.cells) ++ past.above.items
+before_of past = take past.shared (frames_with_old_cells past.frames.now past.cells) ++ past.above.items
 
 -- the cell of a slot that is a number slot
 abbrev pub number_in : PlainFrame → (slot : ℕ) → Option Cell

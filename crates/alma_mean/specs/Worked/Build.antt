@@ -126,15 +126,15 @@ abbrev pub global : ℕ → Desig
 global slot = a_desig (root.Global slot) 1 no_sels
 
 -- what a parameter's place names
-abbrev pub held : ℕ → Desig
-held slot = a_desig (root.Param slot) 1 no_sels
+abbrev pub through_param : ℕ → Desig
+through_param slot = a_desig (root.Param slot) 1 no_sels
 
 -- a variable of a routine so many links up, and what the place of a parameter there names
 abbrev pub outer : (links slot : ℕ) → Desig
 outer links slot = a_desig (root.Outer links slot) 1 no_sels
 
-abbrev pub outer_held : (links slot : ℕ) → Desig
-outer_held links slot = a_desig (root.OuterParam links slot) 1 no_sels
+abbrev pub through_outer_param : (links slot : ℕ) → Desig
+through_outer_param links slot = a_desig (root.OuterParam links slot) 1 no_sels
 
 -- all cells of a structured variable
 abbrev pub whole : ℕ → ℕ → Desig

@@ -31,6 +31,6 @@ noted [] trail note = trail
 noted (entry ∷ entries) trail note = trail ++ note ∷ []
 
 -- the trail once entries are dropped: where none is left, no note is kept
-abbrev pub settled : List Entry → List Note → List Note
-settled [] trail = []
-settled (entry ∷ entries) trail = trail
+abbrev pub trail_for_entries : List Entry → List Note → List Note
+trail_for_entries [] trail = []
+trail_for_entries (entry ∷ entries) trail = trail

@@ -10,5 +10,5 @@ abbrev pub no_saved : Entry
 no_saved = record { kind = Branch; resume = 0; mark = 0; carry = [] }
 
 -- the entry with these places set in its carry
-abbrev pub saved_with : Entry → List (Change Cell) → Entry
-saved_with entry changes = record entry { carry = with_changes changes entry.carry }
+abbrev pub entry_with_changes : Entry → List (Change Cell) → Entry
+entry_with_changes entry changes = record entry { carry = with_changes changes entry.carry }

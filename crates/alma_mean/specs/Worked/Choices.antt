@@ -3,7 +3,7 @@ use Rattle.std.specs.Prelude.{true, pos, [], ◌∷◌, ◌++◌, codes}
 use Rattle.alma_ir.specs.declared.phrase.Cmp.TheVariants as cmp
 use Rattle.alma_ir.specs.Tree.{Stmt, TestStmt, If, Commit, Return, no_result, Value, Seq, And, Or, Not, Compare, Truth, Assign, SomeOf, a_loop, Load, Bind, no_stmts}
 use Rattle.alma_mean.specs.Events.{Succeeded, Failed}
-use Rattle.alma_mean.specs.Build.{stmts, arms, tests, int, module_of, element, number, load, minus, test, succeed, fail, equals, is, let_be, write, write_bool, write_var, write_known, either, some, digits_of, Gives}
+use Rattle.alma_mean.specs.Worked.Build.{stmts, arms, tests, int, module_of, element, number, load, minus, test, succeed, fail, equals, is, let_be, write, write_bool, write_var, write_known, either, some, digits_of, Gives}
 
 -- EITHER x = 1 ORELSE x = 2 END, as a statement and as a test
 abbrev pub one_or_two : Stmt

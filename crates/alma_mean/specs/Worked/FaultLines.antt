@@ -10,7 +10,7 @@ use Rattle.alma_ir.specs.Tree.{Stmt, Expr, Program, Routine, TestStmt, Assign, I
 use Rattle.alma_mean.specs.Store.{no_frame}
 use Rattle.alma_mean.specs.Events.{Visit, Fault, Faulted}
 use Rattle.alma_mean.specs.Meaning.{level_0, ev_stmts}
-use Rattle.alma_mean.specs.Build.{stmts, arms, case_arms, tests, int, range, module_at, module_with, procedure, function, at_lines, param, var, element, number, load, operate, plus, greatest, succeed, fail, let_be, write, write_var, either, some, for, call, value_of, Gives}
+use Rattle.alma_mean.specs.Worked.Build.{stmts, arms, case_arms, tests, int, range, module_at, module_with, procedure, function, at_lines, param, var, element, number, load, operate, plus, greatest, succeed, fail, let_be, write, write_var, either, some, for, call, value_of, Gives}
 
 -- 1 DIV 0
 abbrev pub divide : Expr

@@ -9,11 +9,11 @@ use Rattle.alma_ir.specs.Tree.{Stmt, Routine, Program, TestStmt, Assign, If, Som
 use Rattle.alma_mean.specs.Store.{no_frame}
 use Rattle.alma_mean.specs.Events.{Succeeded, Failed, Faulted, CutOff, Visit, Fault, Cut}
 use Rattle.alma_mean.specs.Meaning.{level_0, ev_test}
-use Rattle.alma_mean.specs.Build.{stmts, arms, int, range, module_with, procedure, function, param, var, global, held, whole, element, number, load, operate, plus, greatest, test, fail, equals, is, let_be, write, write_var, write_known, some, call, call_up, value_of, value_up, digits_of, Gives}
+use Rattle.alma_mean.specs.Worked.Build.{stmts, arms, int, range, module_with, procedure, function, param, var, global, through_param, whole, element, number, load, operate, plus, greatest, test, fail, equals, is, let_be, write, write_var, write_known, some, call, call_up, value_of, value_up, digits_of, Gives}
 
 -- PROCEDURE p(MIX a: INTEGER); BEGIN a = 7 END p;
 abbrev pub mix_is_seven : Routine
-mix_is_seven = procedure (param kind.Mix 0 1 ∷ []) 2 (TestStmt (Bind (held 0) (number 7) int true) ∷ [])
+mix_is_seven = procedure (param kind.Mix 0 1 ∷ []) 2 (TestStmt (Bind (through_param 0) (number 7) int true) ∷ [])
 
 -- PROCEDURE f(): INTEGER; BEGIN WRITE(1); RETURN 2 END f;
 abbrev pub prints_and_gives : Routine
@@ -40,12 +40,12 @@ pub record CallsRun : Type 0 where
   -- PROCEDURE r(MIX b: INTEGER); BEGIN p(b) END r;  r(x); WRITE(x); r(7)
   pub mix_handed_on :
       Gives 3 (module_with 2 (call 2 (MixPlace (var 1) ∷ []) ∷ write_var 1 ∷ call 2 (MixValue (number 7) int ∷ []) ∷ [])
-      (mix_is_seven ∷ procedure (param kind.Mix 0 1 ∷ []) 2 (call_up 1 1 (MixPlace (held 0) ∷ []) ∷ []) ∷ [])) [] (digits_of (7 ∷ [])) Succeeded
+      (mix_is_seven ∷ procedure (param kind.Mix 0 1 ∷ []) 2 (call_up 1 1 (MixPlace (through_param 0) ∷ []) ∷ []) ∷ [])) [] (digits_of (7 ∷ [])) Succeeded
   -- PROCEDURE q(VAR a: INTEGER); VAR l: INTEGER; BEGIN SOME l := 1 TO 3 DO a := l END END q;  q(x); x > 2; WRITE(x):
   -- the frame of q lives again twice
   pub frame_lives_again :
       Gives 5 (module_with 2 (call 1 (ByPlace (var 1) ∷ []) ∷ test (Compare cmp.Greater (load 1) (number 2)) ∷ write_var 1 ∷ [])
-      (procedure (param kind.Place 0 1 ∷ []) 4 (some 1 2 (number 1) (number 3) (Assign (held 0) (load 1) int ∷ []) ∷ []) ∷ [])) [] (digits_of (3 ∷ [])) Succeeded
+      (procedure (param kind.Place 0 1 ∷ []) 4 (some 1 2 (number 1) (number 3) (Assign (through_param 0) (load 1) int ∷ []) ∷ []) ∷ [])) [] (digits_of (3 ∷ [])) Succeeded
   -- PROCEDURE f(): INTEGER; VAR l: INTEGER; BEGIN SOME l := 1 TO 3 DO RETURN l END END f;  x := f(); WRITE(x); x = 2
   pub function_takes_the_first :
       Gives 3 (module_with 2 (let_be 1 (value_of 1 []) ∷ write_var 1 ∷ is 1 2 ∷ [])

@@ -1,0 +1,2 @@
+-- Worked programs: what the definitions make of small ones, by computation.
+pub mod Examples
