@@ -1,8 +1,9 @@
-pub mod Bytes
-pub mod Carry
-pub mod Choice
-pub mod Fault
-pub mod Finding
+pub mod Limits
 pub mod Numbers
-pub mod Reading
+pub mod Choice
 pub mod Value
+pub mod Fault
+pub mod Bytes
+pub mod Reading
+pub mod Finding
+pub mod Carry

@@ -3,12 +3,17 @@
 
 mod fault;
 pub mod laws;
+mod limit;
 mod number;
 mod place;
 mod reading;
 mod value;
 
 pub use fault::{CheckFault, LexFault, NoMemory, RunFault, SyntaxFault};
+pub use limit::{
+    CELL_LIMIT, FRAME_LIMIT, INPUT_LIMIT, INSTR_LIMIT, OBJECT_LIMIT, POOL_LIMIT, RECORD_LIMIT,
+    SIZE_LIMIT, SLOT_LIMIT, SOURCE_LIMIT,
+};
 pub use number::{Range, ReadInt, div_down, mod_down};
 pub use place::{Place, Status};
 pub use reading::read_int;

@@ -54,7 +54,8 @@ fn div_alike(a: i64, b: i64) -> Option<i64>
     requires nonzero { b ≢ pos 0 }
     requires below { a <ℤ pos 0 → b <ℤ pos 0 }
     requires above { pos 0 <ℤ a → pos 0 <ℤ b }
-    ensures { MatchOption result (is_integer (div_down_of a b) ≡ false) (λ quotient. quotient ≡ div_down_of a b) }
+    ensures { MatchOption result (is_integer (div_down_of a b) ≡ false)
+        (λ quotient. quotient ≡ div_down_of a b) }
 {
     a.checked_div(b)
 }
@@ -62,7 +63,8 @@ fn div_alike(a: i64, b: i64) -> Option<i64>
 /// The quotient rounded down; None for -2^63 by -1 alone, whose quotient is no INTEGER.
 pub fn div_down(a: i64, b: i64) -> Option<i64>
     requires { b ≢ pos 0 }
-    ensures { MatchOption result (is_integer (div_down_of a b) ≡ false) (λ quotient. quotient ≡ div_down_of a b) }
+    ensures { MatchOption result (is_integer (div_down_of a b) ≡ false)
+        (λ quotient. quotient ≡ div_down_of a b) }
 {
     if a < 0 && b > 0 {
         Some(div_below(a, b))
@@ -102,35 +104,5 @@ pub fn mod_down(a: i64, b: i64) -> i64
         mod_above(a, b)
     } else {
         a.wrapping_rem(b)
-    }
-}
-
-#[cfg(test)]
-mod tests {
-    use super::*;
-
-    const QUOTIENTS: [(i64, i64, i64, i64); 10] = [
-        (7, 2, 3, 1),
-        (-7, 2, -4, 1),
-        (7, -2, -4, -1),
-        (-7, -2, 3, -1),
-        (6, -2, -3, 0),
-        (-6, 2, -3, 0),
-        (0, -5, 0, 0),
-        (i64::MIN, 1, i64::MIN, 0),
-        (i64::MIN, 3, -3074457345618258603, 1),
-        (i64::MAX, -1, -9223372036854775807, 0),
-    ];
-
-    #[test]
-    fn division_rounds_down(rt: HostRuntime) {
-        for (a, b, quotient, rest) in QUOTIENTS {
-            if b != 0 {
-                assert_eq!(rt; div_down(a, b), Some(quotient), "{a} DIV {b}");
-                assert_eq!(rt; mod_down(a, b), rest, "{a} MOD {b}");
-            }
-        }
-        assert_eq!(rt; div_down(i64::MIN, -1), None);
-        assert_eq!(rt; mod_down(i64::MIN, -1), 0);
     }
 }

@@ -43,8 +43,10 @@ struct Digits {
 fn read_digits(input: &[u8], start: usize) -> Digits
     requires { start ≤ length input.now }
     ensures within { (start ≤ result.end) × (result.end ≤ length input.now) }
-    ensures digits { (value : ℕ) × (result.magnitude ≡ min value (2 ^ 64 - 1)) × ((negative : Bool) →
-        digits_on false negative 0 start (drop start input.now) ≡ ended (nat_lt start result.end) negative value result.end) }
+    ensures digits { (value : ℕ) × (result.magnitude ≡ min value (2 ^ 64 - 1)) ×
+        ((negative : Bool) →
+        digits_on false negative 0 start (drop start input.now) ≡ ended
+        (nat_lt start result.end) negative value result.end) }
 {
     let mut magnitude: u64 = 0;
     let mut end = start;
@@ -93,38 +95,5 @@ pub fn read_int(input: &[u8], from: usize) -> ReadInt
         Some(b'-') => read_unsigned(input, start + 1, true),
         Some(b'+') => read_unsigned(input, start + 1, false),
         _ => read_unsigned(input, start, false),
-    }
-}
-
-#[cfg(test)]
-mod tests {
-    use super::*;
-
-    const ROWS: [(&[u8], usize, ReadInt); 17] = [
-        (b"7", 0, ReadInt::Number(7, 1)),
-        (b" \t\r\n42x", 0, ReadInt::Number(42, 6)),
-        (b"12 34", 2, ReadInt::Number(34, 5)),
-        (b"12 34", 1, ReadInt::Number(2, 2)),
-        (b"+5-6", 0, ReadInt::Number(5, 2)),
-        (b"+5-6", 2, ReadInt::Number(-6, 4)),
-        (b"-0", 0, ReadInt::Number(0, 2)),
-        (b"007", 0, ReadInt::Number(7, 3)),
-        (b"", 0, ReadInt::NoNumber),
-        (b"1 ", 1, ReadInt::NoNumber),
-        (b"- 1", 0, ReadInt::NoNumber),
-        (b"--1", 0, ReadInt::NoNumber),
-        (b"x1", 0, ReadInt::NoNumber),
-        (b"9223372036854775807", 0, ReadInt::Number(i64::MAX, 19)),
-        (b"9223372036854775808", 0, ReadInt::TooLarge),
-        (b"-9223372036854775808", 0, ReadInt::Number(i64::MIN, 20)),
-        (b"-99999999999999999999999", 0, ReadInt::TooLarge),
-    ];
-
-    #[test]
-    fn a_number_is_read_behind_blanks_and_a_sign(rt: HostRuntime) {
-        for (input, from, want) in ROWS {
-            assert!(rt; from <= input.len());
-            assert_eq!(rt; read_int(input, from), want);
-        }
     }
 }

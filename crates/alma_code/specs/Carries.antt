@@ -21,8 +21,8 @@ pub record IsLive (frames : List PlainFrame) (place : CellPlace) : Type 0 where
 
 -- ---- over the frames
 
--- the frames after one change is laid over them, where its place is a live number slot of them, whatever routine the
--- frame has
+-- the frames after one change is laid over them, where its place is a live number slot of them,
+-- whatever routine the frame has
 abbrev pub laid : List PlainFrame → Change Cell → List PlainFrame
 laid frames x = if number_at frames x.frame x.slot then written frames x.frame x.slot x.cell else frames
 
@@ -73,7 +73,8 @@ diffs before now = frame_diffs before now (length now)
 abbrev pub with_carry : PlainEntry → Carry Cell → PlainEntry
 with_carry entry carry = record entry { carry = carry }
 
--- the stack after the Body on top is kept: what differs from its copy enters the carry of the Forall at the height
+-- the stack after the Body on top is kept: what differs from its copy enters the carry of the
+-- Forall at the height
 abbrev pub kept : List PlainEntry → (height : ℕ) → (now : List PlainFrame) → List PlainEntry
 kept held height now =
     take (length held - 1) (set held (height - 1)

@@ -1,5 +1,6 @@
--- What is true of the machine at each moment of a run of a sound code.
--- A frame is spoken of by its number and by the routines of all frames: so what is true of it stays where the cells of others change.
+-- What is true of the machine at each moment of a run of a sound code. A frame is spoken of by its
+-- number and by the routines of all frames: so what is true of it stays where the cells of others
+-- change.
 use Rattle.std.specs.Prelude.{◌≡◌, ℕ, suc, ◌+◌, ◌-◌, ◌<◌, ◌≤◌, true, pos, negsuc, List, [], ◌∷◌, map, length, get_or, Some, slice_get}
 use Rattle.alma_base.specs.Carry.{Change, Carry}
 use Rattle.alma_code.specs.declared.cell.Cell.{Cell}
@@ -35,7 +36,8 @@ IsPosition (cell.Place p) = ⊥
 IsPosition (cell.Mark h) = ⊥
 
 module _ (code : PlainCode) where
-  -- slot i of frame f is a number slot and not the input position, where rs are the routines of the frames
+  -- slot i of frame f is a number slot and not the input position, where rs are the routines of the
+  -- frames
   pub record IsCell (rs : List ℕ) (f i : ℕ) : Type 0 where
     pub number : slice_get (kinds_at code (get_or rs f 0)) i ≡ Some slot.Number
     pub free : 0 < f + i
@@ -81,7 +83,8 @@ module _ (code : PlainCode) where
     pub low : start_at code caller ≤ at
     pub high : back < end_at code caller
 
-  -- frame f: of a routine of the code, with its slots and a cell that fits in each; the first is of routine 0, the others were called by the one below
+  -- frame f: of a routine of the code, with its slots and a cell that fits in each; the first is of
+  -- routine 0, the others were called by the one below
   pub record FitsFrame (rs : List ℕ) (f : ℕ) (frame : PlainFrame) : Type 0 where
     pub routine : frame.routine < length code.routines
     pub kinds : frame.kinds ≡ kinds_at code frame.routine

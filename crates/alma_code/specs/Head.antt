@@ -3,7 +3,8 @@ use Rattle.std.specs.Prelude.{ℕ, Bool, List}
 use Rattle.alma_code.specs.declared.head.CodeParam.{CodeParam}
 use Rattle.alma_code.specs.declared.head.Run.{Run}
 
--- how many slots a frame has, how many of them are declared cells, the parameters, the kinds of the slots in runs, and whether there is a result
+-- how many slots a frame has, how many of them are declared cells, the parameters, the kinds of the
+-- slots in runs, and whether there is a result
 pub record PlainHead : Type 0 where
   pub slots : ℕ
   pub declared : ℕ

@@ -4,7 +4,8 @@ use Rattle.alma_code.specs.Plain.{PlainCode}
 use Rattle.alma_code.specs.Machine.{State, Stuck, step, after, start}
 use Rattle.alma_code.specs.Fits.{Fits}
 
--- from the start the machine always has a next step until it ends: it never meets a slot of a wrong kind, a dead place, or an address or a number that is not in the code
+-- from the start the machine always has a next step until it ends: it never meets a slot of a wrong
+-- kind, a dead place, or an address or a number that is not in the code
 abbrev pub NeverStuck : PlainCode → (input : List ℕ) → Type 0
 NeverStuck code input = (n : ℕ) → (after code input n (start code)).mode ≡ Stuck → ⊥
 

@@ -48,7 +48,8 @@ abbrev pub hold_params : List SlotKind → List CodeParam → (i : ℕ) → Bool
 hold_params kinds [] i = true
 hold_params kinds (p ∷ ps) i = holds_param kinds p.kind p.cells i && hold_params kinds ps (i + param_slots p.kind p.cells)
 
--- a head of which a frame can be made: the run ends rise to its slots, and its first slots are those of its parameters
+-- a head of which a frame can be made: the run ends rise to its slots, and its first slots are
+-- those of its parameters
 pub record IsHead (h : PlainHead) : Type 0 where
   pub rise : RunsRise 0 h.runs h.slots
   pub first : hold_params (kinds_of 0 h.runs) h.params 0 ≡ true
@@ -66,8 +67,8 @@ blank_of (slot.Link q) = cell.Unset
 abbrev pub blank_cells : PlainHead → List Cell
 blank_cells h = map blank_of (kinds_of 0 h.runs)
 
--- frame 0 of a start: of routine 0, with the input position 0 in slot 0, whose kind is not looked at here: in a sound code
--- it is a number slot
+-- frame 0 of a start: of routine 0, with the input position 0 in slot 0, whose kind is not looked
+-- at here: in a sound code it is a number slot
 abbrev pub start_frame : PlainHead → PlainFrame
 start_frame h = record { routine = 0; back = 0; declared = h.declared; kinds = kinds_of 0 h.runs; cells = set (blank_cells h) 0 (cell.Int (pos 0)) }
 
@@ -81,7 +82,8 @@ no_param = record { kind = param.Value; cells = 0 }
 abbrev pub cells_at : List PlainFrame → CellPlace → List Cell
 cells_at frames place = take place.len (drop place.slot (get_or frames place.frame no_frame).cells)
 
--- the two slots of a Mix, of which the first is the slot at of the frame me: a place leaves the number slot unknown, a number goes there and is named by the place slot
+-- the two slots of a Mix, of which the first is the slot at of the frame me: a place leaves the
+-- number slot unknown, a number goes there and is named by the place slot
 abbrev pub mix_cells : (me at : ℕ) → Cell → List Cell
 mix_cells me at (cell.Place p) = cell.Place p ∷ cell.Unknown ∷ []
 mix_cells me at (cell.Int v) = cell.Place (record { frame = me; slot = at + 1; len = 1 }) ∷ cell.Int v ∷ []
@@ -97,7 +99,8 @@ cells_behind_argument frames cell.Unknown = []
 cells_behind_argument frames cell.Unset = []
 cells_behind_argument frames (cell.Mark h) = []
 
--- what an argument puts into the slots of its parameter, of which the first is the slot at of the frame me
+-- what an argument puts into the slots of its parameter, of which the first is the slot at of the
+-- frame me
 abbrev pub arg_cells : List PlainFrame → (me at : ℕ) → ParamKind → Cell → List Cell
 arg_cells frames me at param.Value c = c ∷ []
 arg_cells frames me at param.Place c = c ∷ []

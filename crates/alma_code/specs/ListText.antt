@@ -72,6 +72,7 @@ abbrev pub bit_text : Bool → List ℕ
 bit_text false = codes "0"
 bit_text true = codes "1"
 
+-- a variable of the module: its name, its slot and how many cells it has
 abbrev pub global_words : PlainGlobal → List (List ℕ)
 global_words g = codes "global" ∷ g.name ∷ decimal g.slot ∷ decimal g.cells ∷ []
 
@@ -92,6 +93,7 @@ routine_lines code r at [] = []
 routine_lines code r at (routine ∷ rest) =
     routine_words r routine ∷ (instr_lines at (take (routine.code_end - at) (drop at code.instrs)) ++ routine_lines code (suc r) routine.code_end rest)
 
+-- a record of the lines: its address and the line
 abbrev pub line_words : Line → List (List ℕ)
 line_words x = codes "line" ∷ decimal x.at ∷ decimal x.line ∷ []
 

@@ -1,7 +1,9 @@
--- The copying code machine: what each instruction does, where each choice entry holds a whole copy of the live frames.
--- A read looks at what the slot holds, a write at the kind of the slot, and a place is looked at when one of its cells is used.
+-- The copying code machine: what each instruction does, where each choice entry holds a whole copy
+-- of the live frames. A read looks at what the slot holds, a write at the kind of the slot, and a
+-- place is looked at when one of its cells is used.
 use Rattle.std.specs.Prelude.{ℕ, zero, suc, ◌+◌, ◌-◌, ◌*◌, Bool, true, false, not, ◌&&◌, nat_eq, nat_lt, nat_le, ℤ, pos, ◌+ℤ◌, ◌-ℤ◌, ◌*ℤ◌, neg_ℤ, int_lt, int_le, nat_abs, List, [], ◌∷◌, ◌++◌, length, get_or, take, Option, Some, None, slice_get}
 use Rattle.std.specs.Int.{int_rem_euclid}
+use Rattle.alma_base.specs.Limits.{cell_limit, frame_limit}
 use Rattle.alma_base.specs.declared.fault.RunFault.{RunFault}
 use Rattle.alma_base.specs.declared.fault.RunFault.TheVariants as fault
 use Rattle.alma_base.specs.declared.number.Range.{Range}
@@ -36,14 +38,17 @@ use Rattle.alma_code.specs.Plain.{PlainCode, PlainRoutine, head_at, start_at}
 
 -- ---- the state
 
--- Stuck: a slot of a wrong kind, a dead place, or an address or a number that is not in the code; a sound code never comes there
+-- the machine goes on, is failing, has ended, or is stuck: at a slot of a wrong kind, a dead place, or
+-- an address or a number that is not in the code; a sound code never comes there
 pub data Mode : Type 0 where
   Going : Mode
   Failing : Mode
   Ended : End → Mode
   Stuck : Mode
 
--- the next address, the address of the last instruction taken, or 0 before any, the live frames, the choice entries from the bottom, and the counts of steps, of entries pushed and of entries popped
+-- the next address, the address of the last instruction taken, or 0 before any, the live frames,
+-- the choice entries from the bottom, and the counts of steps, of entries pushed and of entries
+-- popped
 pub record State : Type 0 where
   pub at : ℕ
   pub last : ℕ
@@ -199,7 +204,8 @@ to_link None s k = stuck s
 abbrev pub put_number : State → ℕ → ℤ → Stepped
 put_number s n v = to_number (kind_of s n) s (λ _. quiet_step (with_slot s n (cell.Int v)))
 
--- slot n := the place in a frame, of as many cells as the slot's places have; the first cell may depend on that length
+-- slot n := the place in a frame, of as many cells as the slot's places have; the first cell may
+-- depend on that length
 abbrev pub put_place : State → ℕ → ℕ → (ℕ → ℕ) → Stepped
 put_place s n frame first = to_place (kind_of s n) s (λ l. quiet_step (with_slot s n (cell.Place (record { frame = frame; slot = first l; len = l }))))
 
@@ -309,7 +315,8 @@ is_kind _ _ = false
 abbrev pub is_forall_at : List PlainEntry → ℕ → Bool
 is_forall_at held h = is_kind choice.Forall (kind_at held h)
 
--- the state after a push of an entry with a copy of the frames; entries of all kinds count as pushed
+-- the state after a push of an entry with a copy of the frames; entries of all kinds count as
+-- pushed
 abbrev pub pushed : State → ChoiceKind → ℕ → State
 pushed s kind resume =
     record s { held = s.held ++ record { kind = kind; resume = resume; frames = s.now; carry = [] } ∷ []; choices = s.choices + 1 }
@@ -334,7 +341,8 @@ laid_over s h = record s { now = frames_with_carry s.now (entry_at s.held h).car
 abbrev pub overlay : State → ℕ → State
 overlay s h = if_true (is_forall_at s.held h) (λ _. laid_over s h) (λ _. s)
 
--- keeps the Body on top in the Forall at a height below it, whichever Forall that is; else does nothing
+-- keeps the Body on top in the Forall at a height below it, whichever Forall that is; else does
+-- nothing
 abbrev pub keep : State → ℕ → Stepped
 keep s h =
     if_true (is_forall_at s.held h && (nat_lt h (length s.held) && is_kind choice.Body (kind_at s.held (length s.held))))
@@ -390,11 +398,12 @@ abbrev pub arguments : List CodeParam → State → ℕ → (List Cell → Stepp
 arguments [] s n k = k []
 arguments (p ∷ ps) s n k = as_argument p.kind p.cells (slot_of s n) s (λ c. arguments ps s (suc n) (λ cs. k (c ∷ cs)))
 
--- enters a routine: DepthFull comes before CellsFull, and only then are the cells of arguments copied
+-- enters a routine: DepthFull comes before CellsFull, and only then are the cells of arguments
+-- copied
 abbrev pub entered : State → ℕ → ℕ → PlainHead → List Cell → Stepped
 entered s r start h args =
-    if_true (nat_lt (length s.now) 10000)
-    (λ _. if_true (nat_le (live_cells s.now + h.declared) 1048576)
+    if_true (nat_lt (length s.now) frame_limit)
+    (λ _. if_true (nat_le (live_cells s.now + h.declared) cell_limit)
     (λ _. answered (answer.Called r (length s.now + 1)) (record s { at = start; now = s.now ++ frame_of_call s.now h r s.at args ∷ [] }))
     (λ _. ends_in_fault fault.CellsFull s))
     (λ _. ends_in_fault fault.DepthFull s)
@@ -469,7 +478,8 @@ module _ (code : PlainCode) (input : List ℕ) where
   abbrev pub range_at : State → ℕ → (Range → Stepped) → Stepped
   range_at s r k = as_range (slice_get code.ranges r) s k
 
-  -- what an instruction does in a state that already goes on at the next address; words are read in their order
+  -- what an instruction does in a state that already goes on at the next address; words are read in
+  -- their order
   unfoldable pub act : Instr → State → Stepped
   act (I.Const a v) s = put_number s a v
   act (I.Move a b) s = number s b (λ v. put_number s a v)
@@ -488,7 +498,8 @@ module _ (code : PlainCode) (input : List ℕ) where
   act (I.InRange a r) s = number s a (λ v. range_at s r (λ t. range_check t fault.Range s v (λ _. quiet_step s)))
   act (I.Local a b) s = put_place s a (top s) (λ _. b)
   act (I.Global a b) s = put_place s a 0 (λ _. b)
-  -- the place has the length of the slot that it goes into: in a sound code that of the slot it comes from
+  -- the place has the length of the slot that it goes into: in a sound code that of the slot it
+  -- comes from
   act (I.Same a b) s = place s b (λ p. put_place s a p.frame (λ _. p.slot))
   act (I.Field a b c) s = place s b (λ p. put_place s a p.frame (λ _. p.slot + c))
   act (I.Index a b c d) s =
@@ -550,7 +561,8 @@ module _ (code : PlainCode) (input : List ℕ) where
   fetched (Some i) s = act i (record (with_step_counted s) { at = s.at + 1; last = s.at })
   fetched None s = stuck s
 
-  -- a step is one instruction, or a pop after one that failed; the pop that ends the run is a step too, and an ended machine does not change
+  -- a step is one instruction, or a pop after one that failed; the pop that ends the run is a step
+  -- too, and an ended machine does not change
   abbrev pub step_in : Mode → State → Stepped
   step_in Going s = fetched (slice_get code.instrs s.at) s
   step_in Failing s = pop (with_step_counted s)

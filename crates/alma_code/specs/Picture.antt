@@ -1,4 +1,5 @@
--- The picture of a memory: the frames that are live, and a stack of choice entries, each with a whole copy of the frames.
+-- The picture of a memory: the frames that are live, and a stack of choice entries, each with a
+-- whole copy of the frames.
 use Rattle.std.specs.Prelude.{ℕ, zero, suc, List, [], ◌∷◌, ◌++◌, ◌-◌, get_or, set, length, take, map, sum, Option, None, slice_get}
 use Rattle.alma_base.specs.Carry.{Carry}
 use Rattle.alma_code.specs.declared.cell.Cell.{Cell}
@@ -6,7 +7,8 @@ use Rattle.alma_code.specs.declared.cell.SlotKind.{SlotKind}
 use Rattle.alma_code.specs.declared.cell.ChoiceKind.{ChoiceKind}
 use Rattle.alma_code.specs.declared.cell.ChoiceKind.TheVariants.{Branch, Forall, Body, Done}
 
--- a live frame: its routine, the address it returns to, how many cells are declared, and its slots with their kinds
+-- a live frame: its routine, the address it returns to, how many cells are declared, and its slots
+-- with their kinds
 pub record PlainFrame : Type 0 where
   pub routine : ℕ
   pub back : ℕ
@@ -14,8 +16,8 @@ pub record PlainFrame : Type 0 where
   pub kinds : List SlotKind
   pub cells : List Cell
 
--- a choice entry: where a pop goes on, a whole copy of the frames, and for Forall and Done a carry, which Branch and Body
--- have empty
+-- a choice entry: where a pop goes on, a whole copy of the frames, and for Forall and Done a carry,
+-- which Branch and Body have empty
 pub record PlainEntry : Type 0 where
   pub kind : ChoiceKind
   pub resume : ℕ
@@ -58,7 +60,8 @@ no_entry = record { kind = Branch; resume = 0; frames = []; carry = [] }
 abbrev pub top_of : List PlainEntry → PlainEntry
 top_of held = get_or held (length held - 1) no_entry
 
--- the entry at a height, counted from 1 at the bottom; height 0 has none, and this is not asked there
+-- the entry at a height, counted from 1 at the bottom; height 0 has none, and this is not asked
+-- there
 abbrev pub entry_at : List PlainEntry → (height : ℕ) → PlainEntry
 entry_at held height = get_or held (height - 1) no_entry
 

@@ -1,4 +1,5 @@
--- A code as plain data: what the tables of a code in memory and the bytes of an object both stand for.
+-- A code as plain data: what the tables of a code in memory and the bytes of an object both stand
+-- for.
 use Rattle.std.specs.Prelude.{ℕ, zero, suc, List, [], map, get_or, false}
 use Rattle.alma_base.specs.declared.number.Range.{Range}
 use Rattle.alma_code.specs.declared.cell.SlotKind.{SlotKind}

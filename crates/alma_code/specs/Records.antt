@@ -1,6 +1,8 @@
--- What the format of objects asks of the tables of a code, beside their order: no count is too large, and each record is as it must be.
+-- What the format of objects asks of the tables of a code, beside their order: no count is too
+-- large, and each record is as it must be.
 use Rattle.std.specs.Prelude.{◌≡◌, ◌⊎◌, ◌+◌, ◌≤◌, ℕ, Bool, true, false, not, ◌&&◌, ◌||◌, nat_eq, nat_le, int_le, List, [], ◌∷◌, sum_by, length}
 use Rattle.std.specs.List.{list_all}
+use Rattle.alma_base.specs.Limits.{instr_limit, slot_limit, record_limit, pool_limit}
 use Rattle.alma_base.specs.Reading.{is_digit}
 use Rattle.alma_code.specs.declared.cell.SlotKind.{SlotKind}
 use Rattle.alma_code.specs.declared.cell.SlotKind.TheVariants as slot
@@ -33,15 +35,15 @@ text_count code = sum_by length code.texts
 -- no count is past its greatest value
 pub record KeepsCounts (code : PlainCode) : Type 0 where
   pub routines : length code.routines ≤ 262144
-  pub globals : length code.globals ≤ 1048576
-  pub params : param_count code ≤ 1048576
-  pub runs : run_count code ≤ 8388608
-  pub ranges : length code.ranges ≤ 1048576
-  pub texts : length code.texts ≤ 1048576
-  pub names : name_count code ≤ 16777216
-  pub text_bytes : text_count code ≤ 16777216
-  pub instrs : length code.instrs ≤ 4194304
-  pub lines : length code.lines ≤ 1048576
+  pub globals : length code.globals ≤ record_limit
+  pub params : param_count code ≤ record_limit
+  pub runs : run_count code ≤ slot_limit
+  pub ranges : length code.ranges ≤ record_limit
+  pub texts : length code.texts ≤ record_limit
+  pub names : name_count code ≤ pool_limit
+  pub text_bytes : text_count code ≤ pool_limit
+  pub instrs : length code.instrs ≤ instr_limit
+  pub lines : length code.lines ≤ record_limit
 
 -- ---- records
 
@@ -101,6 +103,7 @@ is_first_form (I.Outer a b c) = false
 is_first_form (I.OuterSame a b c) = false
 is_first_form _ = true
 
+-- a routine of version 1: no link among the kinds of its slots, nor among its parameters
 abbrev pub is_first_routine : PlainRoutine → Bool
 is_first_routine r = list_all (λ run. is_first_kind run.kind) r.head.runs && list_all (λ p. is_first_param p.kind) r.head.params
 

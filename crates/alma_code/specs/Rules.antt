@@ -1,7 +1,9 @@
--- The twelve rules of a sound code, each a test of one head or of one instruction, and the first that is broken.
--- Rules 1 to 3 are of a head, rules 4 to 12 of an instruction; "the routine" is the routine r in whose code it stands.
+-- The twelve rules of a sound code, each a test of one head or of one instruction, and the first
+-- that is broken. Rules 1 to 3 are of a head, rules 4 to 12 of an instruction; "the routine" is the
+-- routine r in whose code it stands.
 use Rattle.std.specs.Prelude.{◌≡◌, ℕ, zero, suc, ◌+◌, ◌-◌, ◌*◌, ◌<◌, ◌≤◌, Bool, true, false, not, ◌&&◌, ◌||◌, nat_eq, nat_lt, nat_le, List, [], ◌∷◌, length, get_or, Option, Some, None, slice_get}
 use Rattle.std.specs.List.{list_all}
+use Rattle.alma_base.specs.Limits.{cell_limit, slot_limit}
 use Rattle.alma_base.specs.Numbers.{range_size}
 use Rattle.alma_base.specs.declared.number.Range.{Range}
 use Rattle.alma_code.specs.declared.cell.SlotKind.{SlotKind}
@@ -28,7 +30,8 @@ abbrev pub last_end : (low : ℕ) → List Run → ℕ
 last_end low [] = low
 last_end low (run ∷ runs) = last_end run.end runs
 
--- there is a routine, the code ends never fall and the last is the number of instructions, and the run ends of each routine rise from above 0
+-- there is a routine, the code ends never fall and the last is the number of instructions, and the
+-- run ends of each routine rise from above 0
 pub record IsTable (code : PlainCode) : Type 0 where
   pub some : 1 ≤ length code.routines
   pub rise : (r : ℕ) → r < length code.routines → start_at code r ≤ end_at code r
@@ -53,7 +56,8 @@ link_routine (Some (slot.Place l)) = 0
 link_routine (Some slot.Mark) = 0
 link_routine None = 0
 
--- as many parts as a range has numbers fit into all; a range that is not there breaks rule 8 and not this
+-- as many parts as a range has numbers fit into all; a range that is not there breaks rule 8 and
+-- not this
 abbrev pub has_room : Option Range → (part all : ℕ) → Bool
 has_room (Some range) part all = nat_le (range_size range * part) all
 has_room None part all = true
@@ -120,19 +124,21 @@ module _ (code : PlainCode) where
   names_routine (slot.Place n) = true
   names_routine slot.Mark = true
 
-  -- rule 2: the runs end at the number of slots, at most 8,388,608, and those of links name routines from 1 on; the declared cells are at most as many as the slots, and at most 1,048,576
+  -- rule 2: the runs end at the number of slots, at most 8,388,608, and those of links name
+  -- routines from 1 on; the declared cells are at most as many as the slots, and at most 1,048,576
   abbrev pub rule_2 : ℕ → Bool
   rule_2 r =
       (nat_eq (last_end 0 (head_at code r).runs) (head_at code r).slots
-      && (nat_le (head_at code r).slots 8388608 && list_all (λ run. names_routine run.kind) (head_at code r).runs))
-      && (nat_le (head_at code r).declared (head_at code r).slots && nat_le (head_at code r).declared 1048576)
+      && (nat_le (head_at code r).slots slot_limit && list_all (λ run. names_routine run.kind) (head_at code r).runs))
+      && (nat_le (head_at code r).declared (head_at code r).slots && nat_le (head_at code r).declared cell_limit)
 
   -- slot 0 of routine 0 is a number slot
   abbrev pub has_position : ℕ → Bool
   has_position zero = is_number (kind_in 0 0)
   has_position (suc r) = true
 
-  -- rule 3: the first slots of the routine are those of its parameters, and slot 0 of routine 0 is a number slot
+  -- rule 3: the first slots of the routine are those of its parameters, and slot 0 of routine 0 is
+  -- a number slot
   abbrev pub rule_3 : ℕ → Bool
   rule_3 r = hold_params (kinds_at code r) (head_at code r).params 0 && has_position r
 
@@ -154,13 +160,15 @@ module _ (code : PlainCode) where
   names_slot r (W.Address n) = true
   names_slot r W.Free = true
 
-  -- rule 4: each slot word names a slot of the routine, of the kind that the form states, and not the input position
+  -- rule 4: each slot word names a slot of the routine, of the kind that the form states, and not
+  -- the input position
   abbrev pub rule_4 : ℕ → Instr → Bool
   rule_4 r i = list_all (names_slot r) (words i)
 
-  -- rule 5: Local and Global name as many number slots as the place slot's length, Same keeps the length, and Field stays inside;
-  -- Own links to the routine itself, and in the routine to which the other link leads, Chain names a link to the same routine,
-  -- Outer as many number slots as the place slot's length, and OuterSame a place slot of that length
+  -- rule 5: Local and Global name as many number slots as the place slot's length, Same keeps the
+  -- length, and Field stays inside; Own links to the routine itself, and in the routine to which
+  -- the other link leads, Chain names a link to the same routine, Outer as many number slots as the
+  -- place slot's length, and OuterSame a place slot of that length
   unfoldable pub rule_5 : ℕ → Instr → Bool
   rule_5 r (I.Local a b) = cells_in r b (length_in r a)
   rule_5 r (I.Global a b) = cells_in 0 b (length_in r a)
@@ -177,7 +185,8 @@ module _ (code : PlainCode) where
   rule_6 r (I.Index a b c d) = has_room (slice_get code.ranges d) (length_in r a) (length_in r b)
   rule_6 r _ = true
 
-  -- rule 7: what works on one cell has places of length 1, what works on many has places of equal length
+  -- rule 7: what works on one cell has places of length 1, what works on many has places of equal
+  -- length
   unfoldable pub rule_7 : ℕ → Instr → Bool
   rule_7 r (I.Load a b) = nat_eq (length_in r b) 1
   rule_7 r (I.Store a b) = nat_eq (length_in r a) 1
@@ -235,7 +244,8 @@ module _ (code : PlainCode) where
   fit_arguments r [] i = true
   fit_arguments r (p ∷ ps) i = (is_free r i && fits_argument r p.kind p.cells i) && fit_arguments r ps (suc i)
 
-  -- where there is a result its slot is a number slot and not the input position, and else the word is 0
+  -- where there is a result its slot is a number slot and not the input position, and else the word
+  -- is 0
   abbrev pub holds_result : ℕ → (has_result : Bool) → (to : ℕ) → Bool
   holds_result r true to = is_free r to && is_number (kind_in r to)
   holds_result r false to = nat_eq to 0
@@ -245,7 +255,8 @@ module _ (code : PlainCode) where
   can_call r at h first to =
       (fit_arguments r h.params first && holds_first h.params first) && (holds_result r h.has_result to && nat_lt (suc at) (end_at code r))
 
-  -- rule 10: Call names a routine from 1 on, argument slots that match its parameters and a slot for its result, and is not the last instruction
+  -- rule 10: Call names a routine from 1 on, argument slots that match its parameters and a slot
+  -- for its result, and is not the last instruction
   unfoldable pub rule_10 : ℕ → ℕ → Instr → Bool
   rule_10 r at (I.Call c first to) =
       (nat_lt 0 c && nat_lt c (length code.routines)) && can_call r at (head_at code c) first to
@@ -255,7 +266,8 @@ module _ (code : PlainCode) where
   unfoldable pub rule_11 : ℕ → ℕ → Instr → Bool
   rule_11 r at i = nat_lt (suc at) (end_at code r) || ends_routine i
 
-  -- rule 12: ReturnValue stands only in a routine with a result, Return only in one without, and Fault has the number of NoCase or NoReturn
+  -- rule 12: ReturnValue stands only in a routine with a result, Return only in one without, and
+  -- Fault has the number of NoCase or NoReturn
   unfoldable pub rule_12 : ℕ → Instr → Bool
   rule_12 r (I.ReturnValue a) = (head_at code r).has_result
   rule_12 r I.Return = not (head_at code r).has_result

@@ -50,6 +50,7 @@ watched_words code (name ∷ rest) s = (name ++ 61 ∷ value_of_name s.now code.
 
 -- ---- steps
 
+-- how the run ended, and where it is a fault, which
 abbrev pub end_words : End → List (List ℕ)
 end_words end.Succeeded = codes "succeeded" ∷ []
 end_words end.Failed = codes "failed" ∷ []

@@ -9,7 +9,8 @@ use Rattle.alma_code.specs.declared.instr.Word.TheVariants as W
 abbrev pub four : Word → Word → Word → Word → List Word
 four a b c d = a ∷ b ∷ c ∷ d ∷ []
 
--- the words of an instruction; those of a Call, the first slot of a Global, the slot of a frame that a link names, an offset and a fault's number have rules of their own
+-- the words of an instruction; those of a Call, the first slot of a Global, the slot of a frame
+-- that a link names, an offset and a fault's number have rules of their own
 unfoldable pub words : Instr → List Word
 words (I.Const a v) = four (W.Number a) W.Free W.Free W.Free
 words (I.Move a b) = four (W.Number a) (W.Number b) W.Free W.Free

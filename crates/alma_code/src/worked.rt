@@ -30,7 +30,8 @@ pub fn least_code()
 pub fn branch_comes_back()
     ensures sound { code_fault branch_undone ≡ None }
     ensures restores { (state_after branch_undone [] 5).now ≡ (start branch_undone).now }
-    ensures stack_after_pop { (step branch_undone [] (state_after branch_undone [] 4)).answer ≡ answer.Popped 1 }
+    ensures stack_after_pop { (step branch_undone [] (state_after branch_undone [] 4)).answer
+        ≡ answer.Popped 1 }
     ensures ends { Ends branch_undone [] 6 end.Succeeded }
     ensures prints { Prints branch_undone [] 6 (codes "Hi" ∷ []) }
 {}
@@ -53,7 +54,8 @@ pub fn forall_carries_a_sum()
     ensures sound { code_fault sum_carried ≡ None }
     ensures ends { Ends sum_carried [] 19 end.Succeeded }
     ensures prints { Prints sum_carried [] 19 (decimal 3 ∷ []) }
-    ensures cells { take 3 (last_frame (state_after sum_carried [] 19).now).cells ≡ cell.Int (pos 0) ∷ cell.Int (pos 3) ∷ cell.Unknown ∷ [] }
+    ensures cells { take 3 (last_frame (state_after sum_carried [] 19).now).cells ≡ cell.Int (pos 0)
+        ∷ cell.Int (pos 3) ∷ cell.Unknown ∷ [] }
     ensures choices { (state_after sum_carried [] 19).choices ≡ 4 }
     ensures fails { (state_after sum_carried [] 19).fails ≡ 2 }
 {}
@@ -63,7 +65,8 @@ pub fn forall_carries_a_sum()
 pub fn forall_carry_grows()
     ensures sound { code_fault carry_grows ≡ None }
     ensures first { (top_of (state_after carry_grows [] 9).held).carry ≡ [] }
-    ensures carry { (top_of (state_after carry_grows [] 18).held).carry ≡ change_of 0 1 (pos 1) ∷ change_of 0 2 (pos 2) ∷ [] }
+    ensures carry { (top_of (state_after carry_grows [] 18).held).carry ≡ change_of 0 1 (pos 1)
+        ∷ change_of 0 2 (pos 2) ∷ [] }
     ensures ends { Ends carry_grows [] 22 end.Succeeded }
     ensures prints { Prints carry_grows [] 22 (decimal 1 ∷ decimal 2 ∷ []) }
 {}
@@ -104,7 +107,8 @@ pub fn cells_are_equated()
 pub fn mix_takes_both()
     ensures sound { code_fault mix_called ≡ None }
     ensures called { (step mix_called [] (state_after mix_called [] 1)).answer ≡ answer.Called 1 2 }
-    ensures returned { (step mix_called [] (state_after mix_called [] 4)).answer ≡ answer.Returned 1 }
+    ensures returned { (step mix_called [] (state_after mix_called [] 4)).answer
+        ≡ answer.Returned 1 }
     ensures ends { Ends mix_called [] 16 end.Failed }
     ensures prints { Prints mix_called [] 16 (decimal 7 ∷ []) }
 {}
@@ -166,18 +170,24 @@ pub fn values_are_printed()
 /// A quotient is rounded down, and the remainder is what it leaves.
 #[tactic(auto, using(crate::proofs::Computed::arithmetic_rounds_down_quotient, crate::proofs::Computed::arithmetic_rounds_down_remainder, crate::proofs::Computed::arithmetic_rounds_down_negative, crate::proofs::Computed::arithmetic_rounds_down_least))]
 pub fn arithmetic_rounds_down()
-    ensures quotient { Prints (operation (I.Div 3 1 2) (negsuc 6) (pos 2)) [] 5 (signed_decimal (negsuc 3) ∷ []) }
+    ensures quotient { Prints (operation (I.Div 3 1 2) (negsuc 6) (pos 2)) [] 5
+        (signed_decimal (negsuc 3) ∷ []) }
     ensures remainder { Prints (operation (I.Mod 3 1 2) (negsuc 6) (pos 2)) [] 5 (decimal 1 ∷ []) }
-    ensures negative { Prints (operation (I.Mod 3 1 2) (pos 7) (negsuc 1)) [] 5 (signed_decimal (negsuc 0) ∷ []) }
-    ensures least { Prints (operation (I.Mod 3 1 2) (negsuc (2 ^ 63 - 1)) (negsuc 0)) [] 5 (decimal 0 ∷ []) }
+    ensures negative { Prints (operation (I.Mod 3 1 2) (pos 7) (negsuc 1)) [] 5
+        (signed_decimal (negsuc 0) ∷ []) }
+    ensures least { Prints (operation (I.Mod 3 1 2) (negsuc (2 ^ 63 - 1)) (negsuc 0)) [] 5
+        (decimal 0 ∷ []) }
 {}
 
 /// A result outside INTEGER is a fault, and so are a zero divisor, an index outside its range and an unknown number.
 #[tactic(auto, using(crate::proofs::Computed::arithmetic_faults_sum, crate::proofs::Computed::arithmetic_faults_quotient, crate::proofs::Computed::arithmetic_faults_divisor, crate::proofs::Computed::arithmetic_faults_index, crate::proofs::Computed::arithmetic_faults_unknown))]
 pub fn arithmetic_faults()
-    ensures sum { Ends (operation (I.Add 3 1 2) (pos (2 ^ 63 - 1)) (pos 1)) [] 3 (end.Fault fault.Overflow) }
-    ensures quotient { Ends (operation (I.Div 3 1 2) (negsuc (2 ^ 63 - 1)) (negsuc 0)) [] 3 (end.Fault fault.Overflow) }
-    ensures divisor { Ends (operation (I.Mod 3 1 2) (pos 1) (pos 0)) [] 3 (end.Fault fault.ZeroDivide) }
+    ensures sum { Ends (operation (I.Add 3 1 2) (pos (2 ^ 63 - 1)) (pos 1)) [] 3
+        (end.Fault fault.Overflow) }
+    ensures quotient { Ends (operation (I.Div 3 1 2) (negsuc (2 ^ 63 - 1)) (negsuc 0)) [] 3
+        (end.Fault fault.Overflow) }
+    ensures divisor { Ends (operation (I.Mod 3 1 2) (pos 1) (pos 0)) [] 3
+        (end.Fault fault.ZeroDivide) }
     ensures index { Ends index_outside [] 3 (end.Fault fault.Index) }
     ensures unknown { Ends (plain_main (I.Check 1 ∷ I.Return ∷ [])) [] 1 (end.Fault fault.Unknown) }
 {}
@@ -185,11 +195,15 @@ pub fn arithmetic_faults()
 /// Rules 1 to 3, of the head of a routine.
 #[tactic(auto, using(crate::proofs::Computed::routines_are_refused_empty_code, crate::proofs::Computed::routines_are_refused_main_result, crate::proofs::Computed::routines_are_refused_slot_count, crate::proofs::Computed::routines_are_refused_position, crate::proofs::Computed::routines_are_refused_param_slots))]
 pub fn routines_are_refused()
-    ensures empty_code { Breaks (code_with (routine_to 1 (numbers_to 1 ∷ []) [] false 1 ∷ routine_to 1 (numbers_to 1 ∷ []) [] false 1 ∷ []) (I.Return ∷ [])) 1 1 }
-    ensures main_result { Breaks (code_with (routine_to 1 (numbers_to 1 ∷ []) [] true 1 ∷ []) (I.ReturnValue 0 ∷ [])) 1 0 }
+    ensures empty_code { Breaks (code_with (routine_to 1 (numbers_to 1 ∷ []) [] false 1
+        ∷ routine_to 1 (numbers_to 1 ∷ []) [] false 1 ∷ []) (I.Return ∷ [])) 1 1 }
+    ensures main_result { Breaks (code_with (routine_to 1 (numbers_to 1 ∷ []) [] true 1 ∷ [])
+        (I.ReturnValue 0 ∷ [])) 1 0 }
     ensures slot_count { Breaks (main_with 2 (numbers_to 1 ∷ []) (I.Return ∷ [])) 2 0 }
     ensures position { Breaks (main_with 1 (marks_to 1 ∷ []) (I.Return ∷ [])) 3 0 }
-    ensures param_slots { Breaks (code_with (routine_to 1 (numbers_to 1 ∷ []) [] false 1 ∷ routine_to 1 (numbers_to 1 ∷ []) (param_of param.Mix 1 ∷ []) false 2 ∷ []) (I.Return ∷ I.Return ∷ [])) 3 1 }
+    ensures param_slots { Breaks (code_with (routine_to 1 (numbers_to 1 ∷ []) [] false 1
+        ∷ routine_to 1 (numbers_to 1 ∷ []) (param_of param.Mix 1 ∷ []) false 2 ∷ [])
+        (I.Return ∷ I.Return ∷ [])) 3 1 }
 {}
 
 /// Rules 4 to 7, of the slots that an instruction names.
@@ -199,8 +213,10 @@ pub fn slots_are_refused()
     ensures input_position { Breaks (plain_main (I.Const 0 (pos 1) ∷ I.Return ∷ [])) 4 0 }
     ensures place_of_place { Breaks (plain_main (I.Local 4 5 ∷ I.Return ∷ [])) 5 0 }
     ensures part_outside { Breaks (plain_main (I.Local 4 1 ∷ I.Field 5 4 1 ∷ I.Return ∷ [])) 5 1 }
-    ensures elements_outside { Breaks (plain_main (I.Local 4 1 ∷ I.Const 3 (pos 1) ∷ I.Index 5 4 3 1 ∷ I.Return ∷ [])) 6 2 }
-    ensures many_cells { Breaks (main_with 5 (numbers_to 4 ∷ places_to 2 5 ∷ []) (I.Local 4 1 ∷ I.Load 1 4 ∷ I.Return ∷ [])) 7 1 }
+    ensures elements_outside { Breaks (plain_main (I.Local 4 1 ∷ I.Const 3 (pos 1) ∷ I.Index 5 4 3 1
+        ∷ I.Return ∷ [])) 6 2 }
+    ensures many_cells { Breaks (main_with 5 (numbers_to 4 ∷ places_to 2 5 ∷ [])
+        (I.Local 4 1 ∷ I.Load 1 4 ∷ I.Return ∷ [])) 7 1 }
 {}
 
 /// Rules 8 to 12, of what else an instruction names and of where it stands.
@@ -210,7 +226,8 @@ pub fn words_are_refused()
     ensures no_text { Breaks (plain_main (I.WriteText 1 ∷ I.Return ∷ [])) 8 0 }
     ensures jump_out { Breaks (plain_main (I.Jump 2 ∷ I.Return ∷ [])) 9 0 }
     ensures call_of_main { Breaks (plain_main (I.Call 0 0 0 ∷ I.Return ∷ [])) 10 0 }
-    ensures call_last { Breaks (code_with (routine_to 1 (numbers_to 1 ∷ []) [] false 1 ∷ routine_to 1 (numbers_to 1 ∷ []) [] false 2 ∷ []) (I.Call 1 0 0 ∷ I.Return ∷ [])) 10 0 }
+    ensures call_last { Breaks (code_with (routine_to 1 (numbers_to 1 ∷ []) [] false 1
+        ∷ routine_to 1 (numbers_to 1 ∷ []) [] false 2 ∷ []) (I.Call 1 0 0 ∷ I.Return ∷ [])) 10 0 }
     ensures no_end { Breaks (plain_main (I.WriteLine ∷ [])) 11 0 }
     ensures other_fault { Breaks (plain_main (I.Fault 4 ∷ [])) 12 0 }
     ensures no_result { Breaks (plain_main (I.ReturnValue 1 ∷ [])) 12 0 }
@@ -220,12 +237,16 @@ pub fn words_are_refused()
 #[tactic(auto, using(crate::proofs::Computed::operations_compute_copy, crate::proofs::Computed::operations_compute_difference, crate::proofs::Computed::operations_compute_product, crate::proofs::Computed::operations_compute_opposite, crate::proofs::Computed::operations_compute_equal, crate::proofs::Computed::operations_compute_less, crate::proofs::Computed::operations_compute_less_or_equal, crate::proofs::Computed::operations_compute_flip, crate::proofs::Computed::operations_compute_flip_zero, crate::proofs::Computed::operations_compute_range))]
 pub fn operations_compute()
     ensures copy { Prints (operation (I.Move 3 1) (pos 5) (pos 0)) [] 5 (decimal 5 ∷ []) }
-    ensures difference { Prints (operation (I.Sub 3 1 2) (pos 7) (pos 9)) [] 5 (signed_decimal (negsuc 1) ∷ []) }
-    ensures product { Prints (operation (I.Mul 3 1 2) (negsuc 2) (pos 4)) [] 5 (signed_decimal (negsuc 11) ∷ []) }
-    ensures opposite { Prints (operation (I.Neg 3 1) (pos 5) (pos 0)) [] 5 (signed_decimal (negsuc 4) ∷ []) }
+    ensures difference { Prints (operation (I.Sub 3 1 2) (pos 7) (pos 9)) [] 5
+        (signed_decimal (negsuc 1) ∷ []) }
+    ensures product { Prints (operation (I.Mul 3 1 2) (negsuc 2) (pos 4)) [] 5
+        (signed_decimal (negsuc 11) ∷ []) }
+    ensures opposite { Prints (operation (I.Neg 3 1) (pos 5) (pos 0)) [] 5
+        (signed_decimal (negsuc 4) ∷ []) }
     ensures equal { Prints (operation (I.Equal 3 1 2) (pos 5) (pos 5)) [] 5 (decimal 1 ∷ []) }
     ensures less { Prints (operation (I.Less 3 1 2) (pos 5) (pos 5)) [] 5 (decimal 0 ∷ []) }
-    ensures less_or_equal { Prints (operation (I.LessEq 3 1 2) (pos 5) (pos 5)) [] 5 (decimal 1 ∷ []) }
+    ensures less_or_equal { Prints (operation (I.LessEq 3 1 2) (pos 5) (pos 5)) [] 5
+        (decimal 1 ∷ []) }
     ensures flip { Prints (operation (I.Flip 3 1) (pos 7) (pos 0)) [] 5 (decimal 0 ∷ []) }
     ensures flip_zero { Prints (operation (I.Flip 3 1) (pos 0) (pos 0)) [] 5 (decimal 1 ∷ []) }
     ensures range { Ends (operation (I.InRange 1 1) (pos 3) (pos 0)) [] 3 (end.Fault fault.Range) }
@@ -261,7 +282,8 @@ pub fn cells_overlap()
     ensures copy { Prints copy_overlaps [] 9 (decimal 1 ∷ decimal 1 ∷ decimal 2 ∷ []) }
     ensures equation { Prints equation_overlaps [] 8 (decimal 1 ∷ decimal 1 ∷ decimal 1 ∷ []) }
     ensures fault { Ends equation_stops [] 4 (end.Fault fault.Unknown) }
-    ensures written { cell_at (state_after equation_stops [] 4).now 0 3 cell.Unset ≡ cell.Int (pos 7) }
+    ensures written { cell_at (state_after equation_stops [] 4).now 0 3 cell.Unset ≡ cell.Int
+        (pos 7) }
 {}
 
 /// A jump on a number is taken where it is 0.
@@ -302,7 +324,8 @@ pub fn nothing_to_keep()
     ensures finish { (step nothing_held [] (state_after nothing_held [] 1)).answer ≡ answer.Went }
     ensures keep { (step nothing_held [] (state_after nothing_held [] 2)).answer ≡ answer.Went }
     ensures cut { (step nothing_held [] (state_after nothing_held [] 3)).answer ≡ answer.Went }
-    ensures overlay { (step nothing_held [] (state_after nothing_held [] 4)).answer ≡ answer.Chose 1 }
+    ensures overlay { (step nothing_held [] (state_after nothing_held [] 4)).answer
+        ≡ answer.Chose 1 }
 {}
 
 /// A Body may be kept in any Forall below it.
@@ -310,16 +333,19 @@ pub fn nothing_to_keep()
 pub fn body_kept_below()
     ensures sound { code_fault kept_below ≡ None }
     ensures answer { (step kept_below [] (state_after kept_below [] 4)).answer ≡ answer.Cut 2 }
-    ensures first { (entry_at (state_after kept_below [] 5).held 1).carry ≡ change_of 0 1 (pos 7) ∷ [] }
+    ensures first { (entry_at (state_after kept_below [] 5).held 1).carry ≡ change_of 0 1 (pos 7)
+        ∷ [] }
     ensures second { (entry_at (state_after kept_below [] 5).held 2).carry ≡ [] }
 {}
 
 /// The copy of a Forall has its mark slot as it was before; a pop of a Forall leaves it as a Done and answers the height before.
 #[tactic(auto, using(crate::proofs::Computed::forall_copies_old_mark_copy, crate::proofs::Computed::forall_copies_old_mark_now, crate::proofs::Computed::forall_copies_old_mark_popped, crate::proofs::Computed::forall_copies_old_mark_height))]
 pub fn forall_copies_old_mark()
-    ensures copy { cell_at (entry_at (state_after sum_carried [] 2).held 1).frames 0 6 cell.Unknown ≡ cell.Unset }
+    ensures copy { cell_at (entry_at (state_after sum_carried [] 2).held 1).frames 0 6 cell.Unknown
+        ≡ cell.Unset }
     ensures now { cell_at (state_after sum_carried [] 2).now 0 6 cell.Unknown ≡ cell.Mark 1 }
-    ensures stack_after_pop { (step sum_carried [] (state_after sum_carried [] 15)).answer ≡ answer.Popped 1 }
+    ensures stack_after_pop { (step sum_carried [] (state_after sum_carried [] 15)).answer
+        ≡ answer.Popped 1 }
     ensures height { length (state_after sum_carried [] 16).held ≡ 1 }
 {}
 
@@ -341,7 +367,8 @@ pub fn ended_machine_stays()
 /// A loop goes down too, and its counter never overflows.
 #[tactic(auto, using(crate::proofs::Computed::loops_step_exactly_down, crate::proofs::Computed::loops_step_exactly_edge))]
 pub fn loops_step_exactly()
-    ensures down { Prints (loop_by (pos 5) (pos 1) (negsuc 1)) [] 12 (decimal 5 ∷ decimal 3 ∷ decimal 1 ∷ []) }
+    ensures down { Prints (loop_by (pos 5) (pos 1) (negsuc 1)) [] 12
+        (decimal 5 ∷ decimal 3 ∷ decimal 1 ∷ []) }
     ensures edge { Ends (loop_by (pos (2 ^ 63 - 1)) (pos (2 ^ 63 - 1)) (pos 1)) [] 6 end.Succeeded }
 {}
 

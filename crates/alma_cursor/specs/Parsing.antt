@@ -11,6 +11,7 @@ use Rattle.alma_cursor.specs.declared.cursor.Cursor.{Cursor}
 use Rattle.alma_cursor.specs.declared.fault.Fault.{Fault}
 use Rattle.alma_cursor.specs.declared.fault.Fault.TheVariants as faults
 
+-- the kinds of tokens, in order: all that the grammar asks of them
 abbrev pub kinds_of : List Token → List Kind
 kinds_of tokens = map (λ t. t.kind) tokens
 
@@ -19,6 +20,7 @@ pub record At : Type 0 where
   pub kinds : List Kind
   pub place : numbers.Cursor
 
+-- where a cursor stands: the kinds not yet read, and the numbers of the next token and node
 abbrev pub position_of : Cursor → At
 position_of c = record { kinds = kinds_of c.rest.now; place = record { token = c.token; node = c.node } }
 

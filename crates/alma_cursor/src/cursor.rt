@@ -24,7 +24,11 @@ impl<'t, 's> Cursor<'t, 's> {
 
     /// At the first of the tokens.
     pub fn start(tokens: &'t [Token<'s>]) -> Self
-        ensures start { position_of result ≡ record { kinds = kinds_of tokens.now; place = record { token = 0; node = 0 } } }
+        ensures start { position_of result ≡ record {
+          kinds = kinds_of tokens.now;
+          place = record
+              { token = 0; node = 0 };
+        } }
     {
         Cursor {
             rest: tokens,
@@ -35,7 +39,8 @@ impl<'t, 's> Cursor<'t, 's> {
 
     /// The kind of the next token, and what stands behind it.
     pub fn next(self) -> Option<(Kind, Self)>
-        ensures passes { MatchOption result ((position_of self.entry).kinds ≡ []) (λ t. Passes t.0 (position_of self.entry) (position_of t.1)) }
+        ensures passes { MatchOption result ((position_of self.entry).kinds ≡ [])
+            (λ t. Passes t.0 (position_of self.entry) (position_of t.1)) }
     {
         let (first, rest) = self.rest.split_first()?;
         Some((
@@ -60,7 +65,8 @@ impl<'t, 's> Cursor<'t, 's> {
 
     /// Behind the next token, where it is of this kind.
     pub fn skip(self, kind: Kind) -> Option<Self>
-        ensures passes { MatchOption result (starts_with kind (position_of self.entry).kinds ≡ false) (λ after. Passes kind (position_of self.entry) (position_of after)) }
+        ensures passes { MatchOption result (starts_with kind (position_of self.entry).kinds
+            ≡ false) (λ after. Passes kind (position_of self.entry) (position_of after)) }
     {
         let (next, after) = self.next()?;
         if next.is(kind) { Some(after) } else { None }
@@ -68,7 +74,8 @@ impl<'t, 's> Cursor<'t, 's> {
 
     /// Behind the next token, which has to be of this kind.
     pub fn expect(self, kind: Kind) -> Result<Self, Fault<'t, 's>>
-        ensures passes { MatchResult result (λ after. Passes kind (position_of self.entry) (position_of after)) (λ e. (d : ℕ) → Fails e
+        ensures passes { MatchResult result (λ after. Passes kind (position_of self.entry)
+            (position_of after)) (λ e. (d : ℕ) → Fails e
             (λ o. one kind ∷ o) d (position_of self.entry)) }
     {
         match self.skip(kind) {
@@ -80,7 +87,8 @@ impl<'t, 's> Cursor<'t, 's> {
     /// Behind the next token, which has to be this opening one, and the depth there.
     pub fn open(self, kind: Kind, depth: u32) -> Result<(Self, u32), Fault<'t, 's>>
         requires opening { opens kind ≡ true }
-        ensures opened { MatchResult result (λ t. Opens kind depth t.1 (position_of self.entry) (position_of t.0)) (λ e. Fails e
+        ensures opened { MatchResult result (λ t. Opens kind depth t.1 (position_of self.entry)
+            (position_of t.0)) (λ e. Fails e
             (λ o. one kind ∷ o) depth (position_of self.entry)) }
     {
         let after = self.expect(kind)?;
@@ -93,7 +101,8 @@ impl<'t, 's> Cursor<'t, 's> {
 
     /// The number of a node that ends here.
     pub fn count(self) -> Result<(u32, Self), Fault<'t, 's>>
-        ensures counted { MatchResult result (λ t. Counts t.0 (position_of self.entry) (position_of t.1)) (λ e. e ≡ faults.Memory) }
+        ensures counted { MatchResult result (λ t. Counts t.0 (position_of self.entry)
+            (position_of t.1)) (λ e. e ≡ faults.Memory) }
     {
         match self.node.checked_add(1) {
             Some(node) => Ok((
@@ -111,7 +120,8 @@ impl<'t, 's> Cursor<'t, 's> {
     /// The name that has to stand here.
     pub fn name(self) -> Result<(Name, Self), Fault<'t, 's>>
         ensures read { MatchResult result
-            (λ t. (d : ℕ) → Reads (λ r. kinds.Name ∷ r) (number_name t.0) (λ o. one kinds.Name ∷ o) d d (position_of self.entry) (position_of t.1))
+            (λ t. (d : ℕ) → Reads (λ r. kinds.Name ∷ r) (number_name t.0)
+            (λ o. one kinds.Name ∷ o) d d (position_of self.entry) (position_of t.1))
             (λ e. (d : ℕ) → Fails e (λ o. one kinds.Name ∷ o) d (position_of self.entry)) }
     {
         let after = self.expect(Kind::Name)?;

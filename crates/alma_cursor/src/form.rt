@@ -76,7 +76,8 @@ pub enum DeclForm {
 
 /// The operator between two terms.
 pub fn add_operator(kind: Kind) -> Option<AddOperator>
-    ensures begins { MatchOption result (begins term_tail kind ≡ None) (λ operator. kind ≡ add_kind operator) }
+    ensures begins { MatchOption result (begins term_tail kind ≡ None)
+        (λ operator. kind ≡ add_kind operator) }
 {
     match kind {
         Kind::Plus => Some(AddOperator::Plus),
@@ -88,7 +89,8 @@ pub fn add_operator(kind: Kind) -> Option<AddOperator>
 
 /// The operator between two factors.
 pub fn mul_operator(kind: Kind) -> Option<MulOperator>
-    ensures begins { MatchOption result (begins factor_tail kind ≡ None) (λ operator. kind ≡ mul_kind operator) }
+    ensures begins { MatchOption result (begins factor_tail kind ≡ None)
+        (λ operator. kind ≡ mul_kind operator) }
 {
     match kind {
         Kind::Star => Some(MulOperator::Star),
@@ -101,7 +103,8 @@ pub fn mul_operator(kind: Kind) -> Option<MulOperator>
 
 /// The relation between the two sides of an expression.
 pub fn relation(kind: Kind) -> Option<Relation>
-    ensures begins { MatchOption result (begins compared_part kind ≡ None) (λ relation. kind ≡ relation_kind relation) }
+    ensures begins { MatchOption result (begins compared_part kind ≡ None)
+        (λ relation. kind ≡ relation_kind relation) }
 {
     match kind {
         Kind::Equal => Some(Relation::Equal),
@@ -116,8 +119,10 @@ pub fn relation(kind: Kind) -> Option<Relation>
 
 /// Whether an expression begins with this kind.
 pub fn begins_expr(kind: Kind) -> bool
-    ensures value { (ks : _) → Becomes (λ o. returned_part ∷ o) (λ o. if result then expr_parts o else o) (kind ∷ ks) }
-    ensures arm { (ks : _) → Becomes (λ o. arm_part ∷ o) (λ o. if result then labelled_parts o else o) (kind ∷ ks) }
+    ensures value { (ks : _) → Becomes (λ o. returned_part ∷ o)
+        (λ o. if result then expr_parts o else o) (kind ∷ ks) }
+    ensures arm { (ks : _) → Becomes (λ o. arm_part ∷ o)
+        (λ o. if result then labelled_parts o else o) (kind ∷ ks) }
 {
     match kind {
         Kind::Plus
@@ -168,7 +173,8 @@ pub fn stmt_form(kind: Kind) -> StmtForm
 
 /// The form of a primary that begins with this kind.
 pub fn primary_form(kind: Kind) -> Option<PrimaryForm>
-    ensures begins { MatchOption result (begins primary_part kind ≡ None) (λ form. (ks : _) → Becomes
+    ensures begins { MatchOption result (begins primary_part kind ≡ None)
+        (λ form. (ks : _) → Becomes
         (λ o. primary_part ∷ o) (primary_form_parts form) (kind ∷ ks)) }
 {
     match kind {
@@ -186,7 +192,8 @@ pub fn primary_form(kind: Kind) -> Option<PrimaryForm>
 /// The form of a selector that begins with this kind.
 pub fn selector_form(kind: Kind) -> Option<SelectorForm>
     ensures begins { MatchOption result (begins selector_tail kind ≡ None)
-        (λ form. (ks : _) → Becomes (λ o. selector_tail ∷ o) (λ o. selector_form_parts form (selector_tail ∷ o)) (kind ∷ ks)) }
+        (λ form. (ks : _) → Becomes (λ o. selector_tail ∷ o)
+        (λ o. selector_form_parts form (selector_tail ∷ o)) (kind ∷ ks)) }
 {
     match kind {
         Kind::Dot => Some(SelectorForm::Field),
@@ -212,7 +219,8 @@ pub fn plain_form(kind: Kind) -> Option<PlainForm>
 /// The form of a declaration that begins with this kind.
 pub fn decl_form(kind: Kind) -> Option<DeclForm>
     ensures begins { MatchOption result (begins decl_tail kind ≡ None)
-        (λ form. (ks : _) → Becomes (λ o. decl_tail ∷ o) (λ o. decl_form_parts form (decl_tail ∷ o)) (kind ∷ ks)) }
+        (λ form. (ks : _) → Becomes (λ o. decl_tail ∷ o) (λ o. decl_form_parts form (decl_tail ∷ o))
+        (kind ∷ ks)) }
 {
     match kind {
         Kind::Const => Some(DeclForm::Const),
@@ -225,7 +233,8 @@ pub fn decl_form(kind: Kind) -> Option<DeclForm>
 
 /// The sign that this kind is.
 pub fn sign(kind: Kind) -> Option<Sign>
-    ensures begins { MatchOption result (begins sign_part kind ≡ None) (λ sign. (ks : _) → spell_sign (Some sign) ks ≡ kind ∷ ks) }
+    ensures begins { MatchOption result (begins sign_part kind ≡ None)
+        (λ sign. (ks : _) → spell_sign (Some sign) ks ≡ kind ∷ ks) }
 {
     match kind {
         Kind::Plus => Some(Sign::Plus),
@@ -236,7 +245,8 @@ pub fn sign(kind: Kind) -> Option<Sign>
 
 /// The mode that this kind is.
 pub fn mode(kind: Kind) -> Option<Mode>
-    ensures begins { MatchOption result (begins mode_part kind ≡ None) (λ mode. (ks : _) → spell_mode (Some mode) ks ≡ kind ∷ ks) }
+    ensures begins { MatchOption result (begins mode_part kind ≡ None)
+        (λ mode. (ks : _) → spell_mode (Some mode) ks ≡ kind ∷ ks) }
 {
     match kind {
         Kind::Var => Some(Mode::Var),
@@ -248,7 +258,8 @@ pub fn mode(kind: Kind) -> Option<Mode>
 impl<'t, 's> Cursor<'t, 's> {
     /// The form of the statement that begins here.
     pub fn stmt_form(self) -> StmtForm
-        ensures becomes { Becomes (λ o. stmt_part ∷ o) (stmt_form_parts result) (position_of self.entry).kinds }
+        ensures becomes { Becomes (λ o. stmt_part ∷ o) (stmt_form_parts result)
+            (position_of self.entry).kinds }
     {
         match self.next() {
             Some((kind, _)) => stmt_form(kind),
@@ -258,7 +269,8 @@ impl<'t, 's> Cursor<'t, 's> {
 
     /// The form of the primary that has to begin here.
     pub fn primary_form(self) -> Result<PrimaryForm, Fault<'t, 's>>
-        ensures becomes { MatchResult result (λ form. Becomes (λ o. primary_part ∷ o) (primary_form_parts form) (position_of self.entry).kinds)
+        ensures becomes { MatchResult result (λ form. Becomes (λ o. primary_part ∷ o)
+            (primary_form_parts form) (position_of self.entry).kinds)
             (λ e. (d : ℕ) → Fails e (λ o. primary_part ∷ o) d (position_of self.entry)) }
     {
         match self.next() {
@@ -272,8 +284,10 @@ impl<'t, 's> Cursor<'t, 's> {
 
     /// The form of the selector that begins here.
     pub fn selector_form(self) -> Option<SelectorForm>
-        ensures becomes { MatchOption result (Becomes (λ o. selector_tail ∷ o) (λ o. o) (position_of self.entry).kinds)
-            (λ form. Becomes (λ o. selector_tail ∷ o) (λ o. selector_form_parts form (selector_tail ∷ o)) (position_of self.entry).kinds) }
+        ensures becomes { MatchOption result (Becomes (λ o. selector_tail ∷ o) (λ o. o)
+            (position_of self.entry).kinds)
+            (λ form. Becomes (λ o. selector_tail ∷ o) (λ o. selector_form_parts form
+            (selector_tail ∷ o)) (position_of self.entry).kinds) }
     {
         match self.next() {
             Some((kind, _)) => selector_form(kind),
@@ -283,7 +297,8 @@ impl<'t, 's> Cursor<'t, 's> {
 
     /// The form of the type that has to begin here and is no array.
     pub fn plain_form(self) -> Result<PlainForm, Fault<'t, 's>>
-        ensures becomes { MatchResult result (λ form. Becomes (λ o. plain_part ∷ o) (plain_form_parts form) (position_of self.entry).kinds)
+        ensures becomes { MatchResult result (λ form. Becomes (λ o. plain_part ∷ o)
+            (plain_form_parts form) (position_of self.entry).kinds)
             (λ e. (d : ℕ) → Fails e (λ o. plain_part ∷ o) d (position_of self.entry)) }
     {
         match self.next() {
@@ -297,8 +312,10 @@ impl<'t, 's> Cursor<'t, 's> {
 
     /// The form of the declaration that begins here.
     pub fn decl_form(self) -> Option<DeclForm>
-        ensures becomes { MatchOption result (Becomes (λ o. decl_tail ∷ o) (λ o. o) (position_of self.entry).kinds)
-            (λ form. Becomes (λ o. decl_tail ∷ o) (λ o. decl_form_parts form (decl_tail ∷ o)) (position_of self.entry).kinds) }
+        ensures becomes { MatchOption result (Becomes (λ o. decl_tail ∷ o) (λ o. o)
+            (position_of self.entry).kinds)
+            (λ form. Becomes (λ o. decl_tail ∷ o) (λ o. decl_form_parts form (decl_tail ∷ o))
+            (position_of self.entry).kinds) }
     {
         match self.next() {
             Some((kind, _)) => decl_form(kind),
@@ -308,8 +325,10 @@ impl<'t, 's> Cursor<'t, 's> {
 
     /// Whether an expression begins here.
     pub fn begins_expr(self) -> bool
-        ensures value { Becomes (λ o. returned_part ∷ o) (λ o. if result then expr_parts o else o) (position_of self.entry).kinds }
-        ensures arm { Becomes (λ o. arm_part ∷ o) (λ o. if result then labelled_parts o else o) (position_of self.entry).kinds }
+        ensures value { Becomes (λ o. returned_part ∷ o) (λ o. if result then expr_parts o else o)
+            (position_of self.entry).kinds }
+        ensures arm { Becomes (λ o. arm_part ∷ o) (λ o. if result then labelled_parts o else o)
+            (position_of self.entry).kinds }
     {
         match self.next() {
             Some((kind, _)) => begins_expr(kind),
@@ -319,7 +338,8 @@ impl<'t, 's> Cursor<'t, 's> {
 
     /// The operator between two terms, and what stands behind it.
     pub fn add_operator(self) -> Option<(AddOperator, Self)>
-        ensures passes { MatchOption result (Becomes (λ o. term_tail ∷ o) (λ o. o) (position_of self.entry).kinds)
+        ensures passes { MatchOption result (Becomes (λ o. term_tail ∷ o) (λ o. o)
+            (position_of self.entry).kinds)
             (λ t. Passes (add_kind t.0) (position_of self.entry) (position_of t.1)) }
     {
         let (kind, after) = self.next()?;
@@ -329,7 +349,8 @@ impl<'t, 's> Cursor<'t, 's> {
 
     /// The operator between two factors, and what stands behind it.
     pub fn mul_operator(self) -> Option<(MulOperator, Self)>
-        ensures passes { MatchOption result (Becomes (λ o. factor_tail ∷ o) (λ o. o) (position_of self.entry).kinds)
+        ensures passes { MatchOption result (Becomes (λ o. factor_tail ∷ o) (λ o. o)
+            (position_of self.entry).kinds)
             (λ t. Passes (mul_kind t.0) (position_of self.entry) (position_of t.1)) }
     {
         let (kind, after) = self.next()?;
@@ -339,7 +360,8 @@ impl<'t, 's> Cursor<'t, 's> {
 
     /// The relation between the two sides of an expression, and what stands behind it.
     pub fn relation(self) -> Option<(Relation, Self)>
-        ensures passes { MatchOption result (Becomes (λ o. compared_part ∷ o) (λ o. o) (position_of self.entry).kinds)
+        ensures passes { MatchOption result (Becomes (λ o. compared_part ∷ o) (λ o. o)
+            (position_of self.entry).kinds)
             (λ t. Passes (relation_kind t.0) (position_of self.entry) (position_of t.1)) }
     {
         let (kind, after) = self.next()?;
@@ -349,7 +371,8 @@ impl<'t, 's> Cursor<'t, 's> {
 
     /// The sign that stands here, or none, and what stands behind it.
     pub fn sign(self) -> (Option<Sign>, Self)
-        ensures read { (d : ℕ) → Reads (spell_sign result.0) (number_sign result.0) (λ o. sign_part ∷ o) d d (position_of self.entry) (position_of result.1) }
+        ensures read { (d : ℕ) → Reads (spell_sign result.0) (number_sign result.0)
+            (λ o. sign_part ∷ o) d d (position_of self.entry) (position_of result.1) }
     {
         if let Some((kind, after)) = self.next() {
             if let Some(sign) = sign(kind) {
@@ -361,7 +384,8 @@ impl<'t, 's> Cursor<'t, 's> {
 
     /// The mode that stands here, or none, and what stands behind it.
     pub fn mode(self) -> (Option<Mode>, Self)
-        ensures read { (d : ℕ) → Reads (spell_mode result.0) (number_mode result.0) (λ o. mode_part ∷ o) d d (position_of self.entry) (position_of result.1) }
+        ensures read { (d : ℕ) → Reads (spell_mode result.0) (number_mode result.0)
+            (λ o. mode_part ∷ o) d d (position_of self.entry) (position_of result.1) }
     {
         if let Some((kind, after)) = self.next() {
             if let Some(mode) = mode(kind) {

@@ -3,6 +3,7 @@ use Rattle.std.proofs.Common.{◌≡◌, ◌<◌, ◌∙◌, ℕ, List, [], refl
 use Rattle.std.proofs.lemmas.List.{append-nil}
 use Rattle.std.specs.Prelude.{◌⊎◌, Option}
 use Rattle.std.specs.Io.KnownBytes.{Appends}
+use Rattle.alma_base.specs.Limits.{source_limit}
 use Rattle.alma_io.specs.Fronts.{AppendsFront}
 use Rattle.alma_io.specs.Causes.{Rose}
 use Rattle.alma_io.specs.Files.{Told, Missing, MayHave, MayPass}
@@ -14,7 +15,7 @@ use Rattle.alma_driver.specs.Words.{Request, Run, Asks, file_of}
 use Rattle.alma_driver.specs.Refusal.{place_of}
 use Rattle.alma_driver.specs.Outside.{SinkSide, Outside}
 use Rattle.alma_driver.specs.Ends.{mode_end, status_of, text_of}
-use Rattle.alma_driver.specs.Outcome.{Due, size_of, ProgramOutcome, ran, too_much_code, SourceOutcome, refused, compiled, not_yet, RequestOutcome, absent, too_long, fetched, Outcome, bad_word, asks, silent, Lacks, source_limit}
+use Rattle.alma_driver.specs.Outcome.{Due, size_of, ProgramOutcome, ran, too_much_code, SourceOutcome, refused, compiled, not_yet, RequestOutcome, absent, too_long, fetched, Outcome, bad_word, asks, silent, Lacks}
 use Rattle.alma_driver.specs.Course.{Gains, FailsWithin, GainsPrefix, Goes, Fetches, Reports, Answers}
 use Rattle.alma_driver.specs.Causes.{Causes, WriteFailed, WritesGrew}
 use Rattle.alma_driver.specs.declared.end.End.{End}

@@ -2,6 +2,7 @@
 use Rattle.std.proofs.Common.{◌≡◌, ◌≤◌, ◌<◌, ◌∙◌, ℕ, List, [], length, ap, sym, subst, refl, inl, inr}
 use Rattle.std.specs.Prelude.{◌⊎◌, Result, Ok, Err}
 use Rattle.std.proofs.lemmas.Bool.{cases_lt}
+use Rattle.alma_base.specs.Limits.{source_limit, size_limit}
 use Rattle.alma_io.specs.Files.{MayHave, IsFetched}
 use Rattle.alma_io.specs.declared.files.Fetch.{Fetch}
 use Rattle.alma_io.specs.declared.files.Fetch.TheVariants as fetch
@@ -23,7 +24,7 @@ use Rattle.alma_scan.specs.Places.{line_at, column_at}
 use Rattle.alma_driver.specs.Refusal.{IsRefused, IsParsed}
 use Rattle.alma_driver.specs.declared.fault.SourceFault.{SourceFault}
 use Rattle.alma_driver.specs.Ends.{lower_end, read_end, words_end, fetch_end}
-use Rattle.alma_driver.specs.Outcome.{Due, size_of, size_limit, ProgramOutcome, ran, too_much_code, SourceOutcome, refused, compiled, not_yet, RequestOutcome, absent, too_long, fetched, Outcome, bad_word, asks, silent, source_limit}
+use Rattle.alma_driver.specs.Outcome.{Due, size_of, ProgramOutcome, ran, too_much_code, SourceOutcome, refused, compiled, not_yet, RequestOutcome, absent, too_long, fetched, Outcome, bad_word, asks, silent}
 use Rattle.alma_driver.specs.Course.{Gains, GainsPrefix, Goes, Fetches, Performs}
 use Rattle.alma_driver.specs.declared.words.WordsError.{WordsError}
 use Rattle.alma_driver.specs.declared.words.WordsError.TheVariants as words

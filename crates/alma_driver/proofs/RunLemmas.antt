@@ -3,6 +3,7 @@ use Rattle.std.proofs.Common.{◌≡◌, ◌≤◌, ◌<◌, ◌+◌, ◌*◌, �
 use Rattle.std.specs.Prelude.{◌⊎◌, Option, true}
 use Rattle.std.specs.Io.KnownBytes.{Appends}
 use Rattle.std.proofs.lemmas.Bool.{cases_lt}
+use Rattle.alma_base.specs.Limits.{size_limit}
 use Rattle.alma_io.specs.Causes.{HasCause}
 use Rattle.alma_io.specs.Fronts.{AppendsFront}
 use Rattle.alma_ir.specs.Tree.{Program}
@@ -21,7 +22,7 @@ use Rattle.alma_machine.specs.View.{MachineView}
 use Rattle.alma_machine.proofs.Budget.{ended_after}
 use Rattle.alma_driver.specs.Outside.{SinkSide}
 use Rattle.alma_driver.specs.Ends.{mode_end, run_end}
-use Rattle.alma_driver.specs.Outcome.{Due, due_of, code_due, size_of, size_limit, MayRunOut, ProgramOutcome, ran, too_much_code, Meant, whole, front, too_large}
+use Rattle.alma_driver.specs.Outcome.{Due, due_of, code_due, size_of, MayRunOut, ProgramOutcome, ran, too_much_code, Meant, whole, front, too_large}
 use Rattle.alma_driver.specs.Course.{Goes}
 
 -- ---- a run of the machine

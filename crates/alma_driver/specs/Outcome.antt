@@ -1,5 +1,6 @@
 -- What a call comes to where memory is found and nothing fails, layer by layer.
 use Rattle.std.specs.Prelude.{◌≡◌, ◌<◌, ◌≤◌, ◌+◌, ◌*◌, ◌/◌, suc, List, ℕ, [], length}
+use Rattle.alma_base.specs.Limits.{source_limit, size_limit}
 use Rattle.alma_io.specs.Files.{Told, Missing, MayHave, MayPass}
 use Rattle.alma_ir.specs.Tree.{Program}
 use Rattle.alma_ir.specs.Count.{saturate, nodes}
@@ -16,14 +17,6 @@ use Rattle.alma_driver.specs.Refusal.{IsRefused, IsParsed, place_of}
 use Rattle.alma_driver.specs.declared.fault.SourceFault.{SourceFault}
 use Rattle.alma_driver.specs.declared.end.End.{End}
 use Rattle.alma_driver.specs.declared.end.End.TheVariants.{BadWord, Refused, StepsOut, ReadFault, TooLong, TooMuchCode, NotYet}
-
--- the greatest length of a source
-abbrev pub source_limit : ℕ
-source_limit = 1048576
-
--- the greatest size of a program
-abbrev pub size_limit : ℕ
-size_limit = 4194304
 
 -- the size of a program, by which its code is limited
 abbrev pub size_of : Program → ℕ

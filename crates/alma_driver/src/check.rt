@@ -1,8 +1,8 @@
 // Whether a source is a program of the grammar.
 ghost use Rattle.std.specs.Prelude.{◌≡◌, ◌≤◌, length, IfOk, IfErr};
+ghost use Rattle.alma_base.specs.Limits.{source_limit};
 ghost use Rattle.alma_scan.specs.Scanned.{lexemes};
 ghost use Rattle.alma_scan.specs.Tokens.{Tokens};
-ghost use Rattle.alma_driver.specs.Outcome.{source_limit};
 ghost use Rattle.alma_driver.specs.Refusal.{offset_of, IsParsed, IsStopOf};
 
 use crate::fault::SourceFault;

@@ -1,5 +1,6 @@
 // The top call: from the words to the status.
 ghost use Rattle.std.specs.Prelude.{◌≡◌, ◌≤◌, length};
+ghost use Rattle.alma_base.specs.Limits.{source_limit};
 ghost use Rattle.alma_code.specs.Plain.{code_of};
 ghost use Rattle.alma_code.specs.Rules.{IsSound};
 ghost use Rattle.alma_front.specs.Source.{IsSource};
@@ -10,7 +11,7 @@ ghost use Rattle.alma_machine.specs.Built.{HasOnlyBuilt};
 ghost use Rattle.alma_driver.specs.Words.{Run, texts, asked, greatest_steps, IsWithinSteps};
 ghost use Rattle.alma_driver.specs.Outside.{sink_side, source_side, files_side, outside_of};
 ghost use Rattle.alma_driver.specs.Refusal.{IsParsed};
-ghost use Rattle.alma_driver.specs.Outcome.{code_due, ProgramOutcome, SourceOutcome, RequestOutcome, Outcome, source_limit};
+ghost use Rattle.alma_driver.specs.Outcome.{code_due, ProgramOutcome, SourceOutcome, RequestOutcome, Outcome};
 ghost use Rattle.alma_driver.specs.Course.{Goes, Performs, Answers};
 ghost use Rattle.alma_driver.specs.Causes.{Causes};
 
@@ -18,7 +19,7 @@ use crate::check::{SourceStop, check_source};
 use crate::end::{End, end_of, line_of};
 use crate::report::report;
 use crate::words::{Request, file_word, read_words};
-use alma_base::{NoMemory, Status};
+use alma_base::{NoMemory, SOURCE_LIMIT, Status};
 use alma_code::Code;
 use alma_front::read_source;
 use alma_io::{Files, Sink, Source};
@@ -28,15 +29,13 @@ use alma_machine::Machine;
 use alma_scan::place;
 use std::alloc::Global;
 
-/// The greatest length of a source, in bytes.
-const SOURCE_LIMIT: usize = 1_048_576;
-
 // Runs code for at most so many steps, without input.
 fn run_code<O: Sink>(alloc: Global, code: &Code, steps: u64, out: &mut O) -> End
     requires sound { IsSound (code_of code.now) }
     requires built { HasOnlyBuilt (code_of code.now) }
     requires few { steps ≤ greatest_steps }
-    ensures { Goes (λ due. due ≡ code_due (code_of code.now) steps) (sink_side (O.written out.old) (O.faults out.old))
+    ensures { Goes (λ due. due ≡ code_due (code_of code.now) steps)
+        (sink_side (O.written out.old) (O.faults out.old))
         (sink_side (O.written out.new) (O.faults out.new)) result }
 {
     match Machine::new(alloc, code, b"") {
@@ -53,7 +52,8 @@ fn run_program<O: Sink>(alloc: Global, program: &Program, steps: u64, out: &mut 
     requires checked { IsChecked (program_of program.now) }
     requires built { IsBuilt (program_of program.now) }
     requires few { steps ≤ greatest_steps }
-    ensures { Goes (ProgramOutcome (program_of program.now) steps) (sink_side (O.written out.old) (O.faults out.old))
+    ensures { Goes (ProgramOutcome (program_of program.now) steps)
+        (sink_side (O.written out.old) (O.faults out.old))
         (sink_side (O.written out.new) (O.faults out.new)) result }
 {
     match lower(alloc, program) {
@@ -67,7 +67,8 @@ fn run_parsed<O: Sink>(alloc: Global, source: &[u8], steps: u64, out: &mut O) ->
     requires parsed { IsParsed source.now }
     requires short { length source.now ≤ source_limit }
     requires few { steps ≤ greatest_steps }
-    ensures { Goes (SourceOutcome source.now steps) (sink_side (O.written out.old) (O.faults out.old))
+    ensures { Goes (SourceOutcome source.now steps) (sink_side (O.written out.old)
+        (O.faults out.old))
         (sink_side (O.written out.new) (O.faults out.new)) result }
 {
     match read_source(alloc, source) {
@@ -80,7 +81,8 @@ fn run_parsed<O: Sink>(alloc: Global, source: &[u8], steps: u64, out: &mut O) ->
 fn run_source<O: Sink>(alloc: Global, source: &[u8], steps: u64, out: &mut O) -> End
     requires short { length source.now ≤ source_limit }
     requires few { steps ≤ greatest_steps }
-    ensures { Goes (SourceOutcome source.now steps) (sink_side (O.written out.old) (O.faults out.old))
+    ensures { Goes (SourceOutcome source.now steps) (sink_side (O.written out.old)
+        (O.faults out.old))
         (sink_side (O.written out.new) (O.faults out.new)) result }
 {
     match check_source(alloc, source) {
@@ -102,7 +104,8 @@ fn run_file<F: Files, O: Sink>(
     ensures { Performs (RequestOutcome (F.told files.old) (Run name.now steps))
         (files_side (F.told files.old) (F.fetch_faults files.old) (F.store_faults files.old))
         (files_side (F.told files.new) (F.fetch_faults files.new) (F.store_faults files.new))
-        (sink_side (O.written out.old) (O.faults out.old)) (sink_side (O.written out.new) (O.faults out.new)) result }
+        (sink_side (O.written out.old) (O.faults out.old))
+        (sink_side (O.written out.new) (O.faults out.new)) result }
 {
     match files.fetch(alloc, name, SOURCE_LIMIT) {
         Ok(source) => run_source(alloc, &source, steps, out),
@@ -116,7 +119,8 @@ fn serve<F: Files, O: Sink>(alloc: Global, request: Request<'_>, files: &mut F, 
     ensures { Performs (RequestOutcome (F.told files.old) (asked request.entry))
         (files_side (F.told files.old) (F.fetch_faults files.old) (F.store_faults files.old))
         (files_side (F.told files.new) (F.fetch_faults files.new) (F.store_faults files.new))
-        (sink_side (O.written out.old) (O.faults out.old)) (sink_side (O.written out.new) (O.faults out.new)) result }
+        (sink_side (O.written out.old) (O.faults out.old))
+        (sink_side (O.written out.new) (O.faults out.new)) result }
 {
     match request {
         Request::Run(file, steps) => run_file(alloc, file, steps, files, out),
@@ -128,7 +132,8 @@ fn perform<F: Files, O: Sink>(alloc: Global, words: &[String], files: &mut F, ou
     ensures { Performs (Outcome (texts words.now) (F.told files.old))
         (files_side (F.told files.old) (F.fetch_faults files.old) (F.store_faults files.old))
         (files_side (F.told files.new) (F.fetch_faults files.new) (F.store_faults files.new))
-        (sink_side (O.written out.old) (O.faults out.old)) (sink_side (O.written out.new) (O.faults out.new)) result }
+        (sink_side (O.written out.old) (O.faults out.old))
+        (sink_side (O.written out.new) (O.faults out.new)) result }
 {
     match read_words(words) {
         Ok(request) => serve(alloc, request, files, out),
@@ -152,21 +157,25 @@ pub fn alma<F: Files, I: Source, O: Sink, E: Sink>(
     err: &mut E,
 ) -> Status
     ensures answer { Answers (texts words.now)
-        (outside_of (files_side (F.told files.old) (F.fetch_faults files.old) (F.store_faults files.old))
+        (outside_of (files_side (F.told files.old) (F.fetch_faults files.old)
+        (F.store_faults files.old))
         (source_side (I.left input.old) (I.faults input.old))
         (sink_side (O.written out.old) (O.faults out.old))
         (sink_side (E.written err.old) (E.faults err.old)))
-        (outside_of (files_side (F.told files.new) (F.fetch_faults files.new) (F.store_faults files.new))
+        (outside_of (files_side (F.told files.new) (F.fetch_faults files.new)
+        (F.store_faults files.new))
         (source_side (I.left input.new) (I.faults input.new))
         (sink_side (O.written out.new) (O.faults out.new))
         (sink_side (E.written err.new) (E.faults err.new)))
         result.0 }
     ensures causes { Causes (texts words.now)
-        (outside_of (files_side (F.told files.old) (F.fetch_faults files.old) (F.store_faults files.old))
+        (outside_of (files_side (F.told files.old) (F.fetch_faults files.old)
+        (F.store_faults files.old))
         (source_side (I.left input.old) (I.faults input.old))
         (sink_side (O.written out.old) (O.faults out.old))
         (sink_side (E.written err.old) (E.faults err.old)))
-        (outside_of (files_side (F.told files.new) (F.fetch_faults files.new) (F.store_faults files.new))
+        (outside_of (files_side (F.told files.new) (F.fetch_faults files.new)
+        (F.store_faults files.new))
         (source_side (I.left input.new) (I.faults input.new))
         (sink_side (O.written out.new) (O.faults out.new))
         (sink_side (E.written err.new) (E.faults err.new)))

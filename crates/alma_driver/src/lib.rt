@@ -11,8 +11,3 @@ mod words;
 
 pub use driver::alma;
 pub use words::{Request, WordsError, read_words};
-
-#[cfg(test)]
-mod examples;
-#[cfg(test)]
-mod tests;

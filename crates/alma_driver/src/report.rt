@@ -15,8 +15,10 @@ use itoa::Buffer;
 
 // Writes parts one after another.
 fn write_parts<E: Sink>(err: &mut E, parts: &[&[u8]]) -> Result<(), WriteFault>
-    ensures ok { OnOk result (Appends (E.written err.old) (E.written err.new) (flat_map (λ part. part.now) parts.now)) }
-    ensures front { OnErr result (AppendsFront (E.written err.old) (E.written err.new) (flat_map (λ part. part.now) parts.now)) }
+    ensures ok { OnOk result (Appends (E.written err.old) (E.written err.new)
+        (flat_map (λ part. part.now) parts.now)) }
+    ensures front { OnErr result (AppendsFront (E.written err.old) (E.written err.new)
+        (flat_map (λ part. part.now) parts.now)) }
     ensures cause { HasCause (E.faults err.old) (E.faults err.new) result }
 {
     for part in parts {
@@ -42,8 +44,10 @@ fn write_refusal_line<E: Sink>(
     column: &[u8],
     fault: &[u8],
 ) -> Result<(), WriteFault>
-    ensures ok { OnOk result (Appends (E.written err.old) (E.written err.new) (refusal_line file.now line.now column.now fault.now)) }
-    ensures front { OnErr result (AppendsFront (E.written err.old) (E.written err.new) (refusal_line file.now line.now column.now fault.now)) }
+    ensures ok { OnOk result (Appends (E.written err.old) (E.written err.new)
+        (refusal_line file.now line.now column.now fault.now)) }
+    ensures front { OnErr result (AppendsFront (E.written err.old) (E.written err.new)
+        (refusal_line file.now line.now column.now fault.now)) }
     ensures cause { HasCause (E.faults err.old) (E.faults err.new) result }
 {
     let colon = b":".as_slice();
@@ -59,8 +63,10 @@ fn write_refusal<E: Sink>(
     fault: SourceFault,
     place: Place,
 ) -> Result<(), WriteFault>
-    ensures ok { OnOk result (Appends (E.written err.old) (E.written err.new) (refusal_text file.now fault place)) }
-    ensures front { OnErr result (AppendsFront (E.written err.old) (E.written err.new) (refusal_text file.now fault place)) }
+    ensures ok { OnOk result (Appends (E.written err.old) (E.written err.new)
+        (refusal_text file.now fault place)) }
+    ensures front { OnErr result (AppendsFront (E.written err.old) (E.written err.new)
+        (refusal_text file.now fault place)) }
     ensures cause { HasCause (E.faults err.old) (E.faults err.new) result }
 {
     let mut line = Buffer::new();
@@ -72,8 +78,10 @@ fn write_refusal<E: Sink>(
 
 // Writes the fault of a run, and its line where it is known.
 fn write_fault<E: Sink>(err: &mut E, fault: RunFault, line: u32) -> Result<(), WriteFault>
-    ensures ok { OnOk result (Appends (E.written err.old) (E.written err.new) (fault_text fault line)) }
-    ensures front { OnErr result (AppendsFront (E.written err.old) (E.written err.new) (fault_text fault line)) }
+    ensures ok { OnOk result (Appends (E.written err.old) (E.written err.new)
+        (fault_text fault line)) }
+    ensures front { OnErr result (AppendsFront (E.written err.old) (E.written err.new)
+        (fault_text fault line)) }
     ensures cause { HasCause (E.faults err.old) (E.faults err.new) result }
 {
     let front = b"alma: fault ".as_slice();
@@ -89,8 +97,10 @@ fn write_fault<E: Sink>(err: &mut E, fault: RunFault, line: u32) -> Result<(), W
 
 // Writes the text of an end, where the words name this file.
 fn write_end<E: Sink>(err: &mut E, file: &str, end: End) -> Result<(), WriteFault>
-    ensures ok { OnOk result (Appends (E.written err.old) (E.written err.new) (text_of file.now end)) }
-    ensures front { OnErr result (AppendsFront (E.written err.old) (E.written err.new) (text_of file.now end)) }
+    ensures ok { OnOk result (Appends (E.written err.old) (E.written err.new)
+        (text_of file.now end)) }
+    ensures front { OnErr result (AppendsFront (E.written err.old) (E.written err.new)
+        (text_of file.now end)) }
     ensures cause { HasCause (E.faults err.old) (E.faults err.new) result }
 {
     let mut digits = Buffer::new();
@@ -110,7 +120,8 @@ fn write_end<E: Sink>(err: &mut E, file: &str, end: End) -> Result<(), WriteFaul
 /// Writes the text of an end to err, where the words name this file, and gives the status: that of a write fault where err
 /// fails.
 pub fn report<E: Sink>(err: &mut E, file: &str, end: End) -> Status
-    ensures { Reports file.now end (sink_side (E.written err.old) (E.faults err.old)) (sink_side (E.written err.new) (E.faults err.new)) result.0 }
+    ensures { Reports file.now end (sink_side (E.written err.old) (E.faults err.old))
+        (sink_side (E.written err.new) (E.faults err.new)) result.0 }
 {
     match write_end(err, file, end) {
         Ok(()) => Status(end.status()),

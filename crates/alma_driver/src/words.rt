@@ -39,7 +39,8 @@ fn is_file_name(word: &str) -> bool
 
 // The first word and the rest.
 fn split_word(words: &[String]) -> Option<(&str, &[String])>
-    ensures { MatchOption result (texts words.now ≡ []) (λ split. texts words.now ≡ split.0.now ∷ texts split.1.now) }
+    ensures { MatchOption result (texts words.now ≡ []) (λ split. texts words.now ≡ split.0.now
+        ∷ texts split.1.now) }
 {
     match words {
         [first, rest @ ..] => Some((first.as_str(), rest)),
@@ -49,7 +50,8 @@ fn split_word(words: &[String]) -> Option<(&str, &[String])>
 
 // The number of steps that digits name.
 fn named_steps(digits: &[u8]) -> Option<u64>
-    ensures { MatchOption result ((steps : ℕ) → NamesSteps digits.now steps → ⊥) (λ steps. NamesSteps digits.now steps) }
+    ensures { MatchOption result ((steps : ℕ) → NamesSteps digits.now steps → ⊥)
+        (λ steps. NamesSteps digits.now steps) }
 {
     if digits.is_empty() || digits.len() > MOST_DIGITS {
         return None;
@@ -70,7 +72,8 @@ fn named_steps(digits: &[u8]) -> Option<u64>
 
 // The number of steps that an option names.
 fn steps_option(word: &str) -> Option<u64>
-    ensures { MatchOption result ((steps : ℕ) → IsStepsOption word.now steps → ⊥) (λ steps. IsStepsOption word.now steps) }
+    ensures { MatchOption result ((steps : ℕ) → IsStepsOption word.now steps → ⊥)
+        (λ steps. IsStepsOption word.now steps) }
 {
     match word.strip_prefix("--steps=") {
         Some(digits) => named_steps(digits.as_bytes()),

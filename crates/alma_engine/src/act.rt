@@ -1,5 +1,6 @@
 // What each instruction does.
 ghost use Rattle.std.specs.Prelude.{false, ◌≡◌, ◌+◌, ◌^◌, ◌<◌, ◌≤◌, List, ℕ, [], length, IfOk, OnErr};
+ghost use Rattle.alma_base.specs.Limits.{input_limit};
 ghost use Rattle.alma_code.specs.Machine.{State, act};
 ghost use Rattle.alma_code.specs.Plain.{PlainCode};
 ghost use Rattle.alma_engine.specs.Needs.{Computes, Needs, prints};
@@ -51,7 +52,7 @@ impl Registers {
     ) -> Result<Step, NoMemory>
         requires needs { Needs (V.code view.now) self.old.memory.now instr }
         requires few { self.old.choices + 1 < 2 ^ 63 }
-        requires lawful { length input.now ≤ 16777216 }
+        requires lawful { length input.now ≤ input_limit }
         requires empty { bytes.old.items ≡ [] }
         ensures ok { IfOk result (λ answer. stepped answer bytes.new.items (state_of self.new) ≡ act (V.code view.now) input.now instr (state_of self.old)) }
         ensures kept { IfOk result (λ answer. KeepsOn answer (state_of self.old) (state_of self.new)) }
@@ -82,7 +83,7 @@ impl Registers {
         requires needs { Needs (V.code view.now) self.old.memory.now instr }
         requires quiet { prints instr ≡ false }
         requires few { self.old.choices + 1 < 2 ^ 63 }
-        requires lawful { length input.now ≤ 16777216 }
+        requires lawful { length input.now ≤ input_limit }
         ensures ok { IfOk result (λ answer. stepped answer [] (state_of self.new) ≡ act (V.code view.now) input.now instr (state_of self.old)) }
         ensures kept { IfOk result (λ answer. KeepsOn answer (state_of self.old) (state_of self.new)) }
         ensures quiet { IfOk result (λ answer. PrintsOnly answer []) }

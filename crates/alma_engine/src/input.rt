@@ -1,5 +1,6 @@
 // READ.
 ghost use Rattle.std.specs.Prelude.{◌≡◌, ◌<◌, ◌≤◌, ◌^◌, ℕ, [], length, slice_get, IfOk, OnErr, MatchOption};
+ghost use Rattle.alma_base.specs.Limits.{input_limit};
 ghost use Rattle.alma_base.specs.Reading.{number_from};
 ghost use Rattle.alma_code.specs.Machine.{State, Stepped, place, position, found, byte_or_failure};
 ghost use Rattle.alma_engine.specs.Rows.{state_of, HasOneCell, HasNumberIn, KeepsOn};
@@ -13,7 +14,7 @@ use alma_code::{Cell, CellPlace, End, Step};
 // What READ finds in an input from a place on.
 #[tactic(auto, using(crate::proofs::Reading::finds))]
 fn find_number(input: &[u8], from: usize) -> ReadInt
-    requires { length input.now ≤ 16777216 }
+    requires { length input.now ≤ input_limit }
     ensures found { result ≡ number_from input.now from }
     ensures below { IsBelow result }
 {
@@ -26,7 +27,7 @@ fn find_number(input: &[u8], from: usize) -> ReadInt
 // What READ finds on a CHAR type: the byte at a place.
 #[tactic(auto, using(crate::proofs::Reading::byte_read))]
 fn find_char(input: &[u8], from: usize) -> ReadInt
-    requires { length input.now ≤ 16777216 }
+    requires { length input.now ≤ input_limit }
     ensures found { (s : State) (r : Range) (p : CellPlace) → byte_or_failure s r p from (slice_get input.now from) ≡ found s r p result }
     ensures below { IsBelow result }
 {
@@ -82,7 +83,7 @@ impl Registers {
     /// Reads a number into the cell at the place in a slot.
     #[tactic(auto, using(crate::proofs::Words::one_slot, crate::proofs::Reading::position_slot, std::proofs::lemmas::Grind::common_steps))]
     pub(crate) fn read_number(&mut self, input: &[u8], to: u32, range: &Range) -> Result<Step, NoMemory>
-        requires lawful { length input.now ≤ 16777216 }
+        requires lawful { length input.now ≤ input_limit }
         requires position { HasPosition self.old.memory.now }
         requires to { HasOneCell self.old.memory.now to }
         ensures ok { let s = state_of self.old in IfOk result (λ answer. stepped answer [] (state_of self.new)
@@ -102,7 +103,7 @@ impl Registers {
     /// Reads a byte into the cell at the place in a slot.
     #[tactic(auto, using(crate::proofs::Words::one_slot, crate::proofs::Reading::position_slot))]
     pub(crate) fn read_char(&mut self, input: &[u8], to: u32, range: &Range) -> Result<Step, NoMemory>
-        requires lawful { length input.now ≤ 16777216 }
+        requires lawful { length input.now ≤ input_limit }
         requires position { HasPosition self.old.memory.now }
         requires to { HasOneCell self.old.memory.now to }
         ensures ok { let s = state_of self.old in IfOk result (λ answer. stepped answer [] (state_of self.new)

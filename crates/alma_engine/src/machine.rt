@@ -1,5 +1,6 @@
 // The machine.
 ghost use Rattle.std.specs.Prelude.{◌≡◌, ◌+◌, ◌^◌, ◌<◌, ◌≤◌, [], ◌∷◌, true, length, IfOk, OnOk, OnErr, IsTrue};
+ghost use Rattle.alma_base.specs.Limits.{input_limit};
 ghost use Rattle.alma_code.specs.Layout.{start_frame};
 ghost use Rattle.alma_code.specs.Plain.{head_at};
 ghost use Rattle.alma_code.specs.Rules.{IsSound};
@@ -57,7 +58,7 @@ fn take<V: CodeView>(
     requires keeps { Stands (V.code view.now) (state_of registers.old) }
     requires going { (state_of registers.old).mode ≡ Going }
     requires few { registers.old.steps + 1 < 2 ^ 63 }
-    requires lawful { length input.now ≤ 16777216 }
+    requires lawful { length input.now ≤ input_limit }
     requires empty { printed.old.items ≡ [] }
     ensures step { IfOk result (λ answer. stepped answer printed.new.items (state_of registers.new) ≡ step (V.code view.now) input.now (state_of registers.old)) }
     ensures quiet { IfOk result (λ answer. PrintsOnly answer printed.new.items) }
@@ -92,7 +93,7 @@ pub(crate) fn advance<V: CodeView>(
 ) -> Result<Step, NoMemory>
     requires keeps { Stands (V.code view.now) (state_of registers.old) }
     requires few { registers.old.steps + 1 < 2 ^ 63 }
-    requires lawful { length input.now ≤ 16777216 }
+    requires lawful { length input.now ≤ input_limit }
     ensures step { IfOk result (λ answer. stepped answer printed.new.items (state_of registers.new) ≡ step (V.code view.now) input.now (state_of registers.old)) }
     ensures quiet { IfOk result (λ answer. PrintsOnly answer printed.new.items) }
     ensures counted { OnOk result (registers.new.steps ≡ registers.old.steps + 1) }
@@ -143,7 +144,7 @@ impl<'v, 'i, V: CodeView> Model for Machine<'v, 'i, V> {
 
     ghost view = { λ m. record { code = V.code m.view.now; input = m.input.now; state = state_of m.registers; running = m.running; printed = m.printed.items } };
 
-    ghost invariant = { λ m. (length m.input.now ≤ 16777216) × (m.running ≡ true → Stands (V.code m.view.now) (state_of m.registers)) };
+    ghost invariant = { λ m. (length m.input.now ≤ input_limit) × (m.running ≡ true → Stands (V.code m.view.now) (state_of m.registers)) };
 }
 
 impl<'v, 'i, V: CodeView> Machine<'v, 'i, V> {
@@ -154,7 +155,7 @@ impl<'v, 'i, V: CodeView> Machine<'v, 'i, V> {
         requires built { HasOnlyBuilt (V.code view.now) }
         requires now { memory.now ≡ start_frame (head_at (V.code view.now) 0) ∷ [] }
         requires held { memory.held ≡ [] }
-        requires lawful { length input.now ≤ 16777216 }
+        requires lawful { length input.now ≤ input_limit }
         ensures { result ≡ record { code = V.code view.now; input = input.now; state = start (V.code view.now); running = true; printed = [] } }
     {
         let registers = Registers {

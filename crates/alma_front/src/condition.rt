@@ -45,7 +45,8 @@ pub fn condition<'t, 's>(
     variables: &Variables,
     tokens: &'t [Token<'s>],
 ) -> Result<(Test, &'t [Token<'s>]), ReadError>
-    ensures found { IfOk result (λ found. Only (IsCondition variables.now (words tokens.now)) EndsSum (test_of found.0) (words found.1.now)) }
+    ensures found { IfOk result (λ found. Only (IsCondition variables.now (words tokens.now))
+        EndsSum (test_of found.0) (words found.1.now)) }
     ensures refused { IfErr result (Refused (IsCondition variables.now (words tokens.now)) EndsSum) }
     ensures shorter { IfOk result (λ found. length found.1.now < length tokens.now) }
 {
@@ -68,7 +69,8 @@ fn item<'t, 's>(
     variables: &Variables,
     tokens: &'t [Token<'s>],
 ) -> Result<(Stmt, &'t [Token<'s>]), ReadError>
-    ensures found { IfOk result (λ found. Only (IsItem variables.now (words tokens.now)) EndsSum (stmt_of found.0) (words found.1.now)) }
+    ensures found { IfOk result (λ found. Only (IsItem variables.now (words tokens.now)) EndsSum
+        (stmt_of found.0) (words found.1.now)) }
     ensures refused { IfErr result (Refused (IsItem variables.now (words tokens.now)) EndsSum) }
     ensures shorter { IfOk result (λ found. length found.1.now < length tokens.now) }
 {
@@ -87,7 +89,8 @@ pub fn items<'t, 's>(
     variables: &Variables,
     tokens: &'t [Token<'s>],
 ) -> Result<(Vec<Stmt>, &'t [Token<'s>]), ReadError>
-    ensures found { IfOk result (λ found. Only (IsItems variables.now (words tokens.now)) EndsItems (stmts_list found.0.items) (words found.1.now)) }
+    ensures found { IfOk result (λ found. Only (IsItems variables.now (words tokens.now)) EndsItems
+        (stmts_list found.0.items) (words found.1.now)) }
     ensures refused { IfErr result (Refused (IsItems variables.now (words tokens.now)) EndsItems) }
     ensures shorter { IfOk result (λ found. length found.1.now < length tokens.now) }
 {

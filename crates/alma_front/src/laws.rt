@@ -1,5 +1,6 @@
 //! Laws of the definitions that the contracts cite: functions without work, whose contracts are the laws.
 ghost use Rattle.std.specs.Prelude.{◌≡◌, ℕ, ◌≤◌, List, length};
+ghost use Rattle.alma_base.specs.Limits.{source_limit};
 ghost use Rattle.alma_ir.specs.Tree.{Program};
 ghost use Rattle.alma_ir.specs.Checked.{IsChecked};
 ghost use Rattle.alma_implements.specs.Built.{IsBuilt};
@@ -12,7 +13,8 @@ pub fn sources_are_built()
 
 /// The program of a source of at most 1,048,576 bytes keeps all conditions on programs.
 pub fn sources_are_checked()
-    ensures { (source : List ℕ) (p : Program) → length source ≤ 1048576 → IsSource source p → IsChecked p }
+    ensures { (source : List ℕ) (p : Program) → length source ≤ source_limit → IsSource source p
+        → IsChecked p }
 {}
 
 /// A source is at most one program.

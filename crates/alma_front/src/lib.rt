@@ -15,6 +15,3 @@ mod word;
 
 pub use error::ReadError;
 pub use source::read_source;
-
-#[cfg(test)]
-mod tests;

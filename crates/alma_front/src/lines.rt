@@ -1,5 +1,6 @@
 // The lines of a module and of its statements.
 ghost use Rattle.std.specs.Prelude.{◌≡◌, ◌≤◌, ℕ, true, List, All, length, IfOk};
+ghost use Rattle.alma_base.specs.Limits.{source_limit};
 ghost use Rattle.alma_scan.specs.Places.{line_at};
 ghost use Rattle.alma_scan.specs.Tokens.{IsSlice};
 ghost use Rattle.alma_scan.specs.Scanned.{lexemes};
@@ -73,7 +74,7 @@ fn behind_begin<'t, 's>(tokens: &'t [Token<'s>]) -> &'t [Token<'s>]
 
 // The line of an offset, where that of another one is known.
 fn line_from(source: &[u8], known: usize, line: u32, offset: usize) -> u32
-    requires size { length source.now ≤ 1048576 }
+    requires size { length source.now ≤ source_limit }
     requires known { line ≡ line_at source.now known }
     requires inside { offset ≤ length source.now }
     ensures { result ≡ line_at source.now offset }
@@ -99,9 +100,10 @@ fn statement_lines(
     heading: u32,
     tokens: &[Token<'_>],
 ) -> Result<Vec<u32>, NoMemory>
-    requires size { length source.now ≤ 1048576 }
+    requires size { length source.now ≤ source_limit }
     requires slices { All (IsSlice source.now) (lexemes tokens.now) }
-    ensures { IfOk result (λ lines. lines.items ≡ spec.lines_from source.now true heading (lexemes tokens.now)) }
+    ensures { IfOk result (λ lines. lines.items ≡ spec.lines_from source.now true heading
+        (lexemes tokens.now)) }
 {
     let mut lines = Vec::new(alloc);
     let mut may_begin = true;
@@ -124,9 +126,10 @@ fn statement_lines(
 
 /// The lines of the module that these tokens of a source are.
 pub fn module_lines(alloc: Global, source: &[u8], tokens: &[Token<'_>]) -> Result<Lines, NoMemory>
-    requires size { length source.now ≤ 1048576 }
+    requires size { length source.now ≤ source_limit }
     requires slices { All (IsSlice source.now) (lexemes tokens.now) }
-    ensures { IfOk result (λ lines. lines_of lines ≡ spec.module_lines source.now (lexemes tokens.now)) }
+    ensures { IfOk result (λ lines. lines_of lines ≡ spec.module_lines source.now
+        (lexemes tokens.now)) }
 {
     let heading = match tokens.split_first() {
         Some((first, _)) => place(source, first.start).line,

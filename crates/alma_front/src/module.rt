@@ -22,7 +22,8 @@ use std::alloc::Global;
 
 // A name that has to come.
 fn expect_name<'t, 's>(tokens: &'t [Token<'s>]) -> Result<(&'s [u8], &'t [Token<'s>]), ReadError>
-    ensures found { MatchResult result (λ found. words tokens.now ≡ Named found.0.now ∷ words found.1.now)
+    ensures found { MatchResult result (λ found. words tokens.now ≡ Named found.0.now
+        ∷ words found.1.now)
         (λ error. (error ≡ NotYet) × ((text : List ℕ) → BeginsNot (Named text) (words tokens.now))) }
     ensures shorter { IfOk result (λ found. length found.1.now < length tokens.now) }
 {
@@ -31,7 +32,8 @@ fn expect_name<'t, 's>(tokens: &'t [Token<'s>]) -> Result<(&'s [u8], &'t [Token<
 
 // The heading: MODULE, a name and a semicolon.
 fn heading<'t, 's>(tokens: &'t [Token<'s>]) -> Result<(&'s [u8], &'t [Token<'s>]), ReadError>
-    ensures found { IfOk result (λ found. Only (IsHeading (words tokens.now)) Anything found.0.now (words found.1.now)) }
+    ensures found { IfOk result (λ found. Only (IsHeading (words tokens.now)) Anything found.0.now
+        (words found.1.now)) }
     ensures refused { IfErr result (Refused (IsHeading (words tokens.now)) Anything) }
     ensures shorter { IfOk result (λ found. length found.1.now < length tokens.now) }
 {
@@ -46,9 +48,11 @@ fn names<'t, 's>(
     alloc: Global,
     tokens: &'t [Token<'s>],
 ) -> Result<(Vec<&'s [u8]>, &'t [Token<'s>]), ReadError>
-    ensures found { IfOk result (λ found. Only (IsNames (words tokens.now)) EndsNames (texts found.0.items) (words found.1.now)) }
+    ensures found { IfOk result (λ found. Only (IsNames (words tokens.now)) EndsNames
+        (texts found.0.items) (words found.1.now)) }
     ensures refused { IfErr result (Refused (IsNames (words tokens.now)) EndsNames) }
-    ensures count { IfOk result (λ found. length found.0.items + length found.1.now ≤ length tokens.now) }
+    ensures count { IfOk result (λ found. length found.0.items + length found.1.now
+        ≤ length tokens.now) }
 {
     let mut names = Vec::new(alloc);
     let (first, mut rest) = expect_name(tokens)?;
@@ -80,9 +84,11 @@ fn declarations<'t, 's>(
     alloc: Global,
     tokens: &'t [Token<'s>],
 ) -> Result<(Vec<&'s [u8]>, &'t [Token<'s>]), ReadError>
-    ensures found { IfOk result (λ found. Only (HasVariables (words tokens.now)) EndsVariables (texts found.0.items) (words found.1.now)) }
+    ensures found { IfOk result (λ found. Only (HasVariables (words tokens.now)) EndsVariables
+        (texts found.0.items) (words found.1.now)) }
     ensures refused { IfErr result (Refused (HasVariables (words tokens.now)) EndsVariables) }
-    ensures count { IfOk result (λ found. length found.0.items + length found.1.now ≤ length tokens.now) }
+    ensures count { IfOk result (λ found. length found.0.items + length found.1.now
+        ≤ length tokens.now) }
 {
     let Some(inner) = skip(tokens, Kind::Var) else {
         return Ok((Vec::new(alloc), tokens));
@@ -97,8 +103,10 @@ fn body<'t, 's>(
     variables: &Variables,
     tokens: &'t [Token<'s>],
 ) -> Result<(Vec<Stmt>, &'t [Token<'s>]), ReadError>
-    ensures found { IfOk result (λ found. Only (HasBody variables.now (words tokens.now)) EndsStatements (stmts_list found.0.items) (words found.1.now)) }
-    ensures refused { IfErr result (Refused (HasBody variables.now (words tokens.now)) EndsStatements) }
+    ensures found { IfOk result (λ found. Only (HasBody variables.now (words tokens.now))
+        EndsStatements (stmts_list found.0.items) (words found.1.now)) }
+    ensures refused { IfErr result (Refused (HasBody variables.now (words tokens.now))
+        EndsStatements) }
 {
     match skip(tokens, Kind::Begin) {
         Some(inner) => statements(alloc, variables, inner),
@@ -108,7 +116,8 @@ fn body<'t, 's>(
 
 // Whether the last tokens of a module of this name stand here: END, the name and a dot.
 fn is_ending(name: &[u8], tokens: &[Token<'_>]) -> bool
-    ensures { IsTrue result ↔ (words tokens.now ≡ Fixed kinds.End ∷ Named name.now ∷ Fixed kinds.Dot ∷ []) }
+    ensures { IsTrue result ↔ (words tokens.now ≡ Fixed kinds.End ∷ Named name.now ∷ Fixed kinds.Dot
+        ∷ []) }
 {
     let Some(behind) = skip(tokens, Kind::End) else {
         return false;
@@ -146,7 +155,8 @@ fn assemble(
     variables: &Variables,
     statements: Vec<Stmt>,
 ) -> Result<Program, NoMemory>
-    ensures { IfOk result (λ p. program_of p ≡ program (lines_of lines) name.now variables.now (stmts_list statements.items)) }
+    ensures { IfOk result (λ p. program_of p ≡ program (lines_of lines) name.now variables.now
+        (stmts_list statements.items)) }
 {
     let globals = globals(alloc, variables)?;
     let declared = variables.names().len() as u32;
@@ -174,7 +184,8 @@ fn assemble(
 pub fn module(alloc: Global, tokens: &[Token<'_>], lines: Lines) -> Result<Program, ReadError>
     requires { length tokens.now ≤ 1048576 }
     ensures found { IfOk result (λ p. IsModule (lines_of lines) (words tokens.now) (program_of p)) }
-    ensures refused { result ≡ Err NotYet → (p : tree.Program) → IsModule (lines_of lines) (words tokens.now) p → ⊥ }
+    ensures refused { result ≡ Err NotYet → (p : tree.Program) → IsModule (lines_of lines)
+        (words tokens.now) p → ⊥ }
 {
     let (name, behind) = heading(tokens)?;
     let (names, behind) = declarations(alloc, behind)?;

@@ -1,5 +1,6 @@
 // Sources.
 ghost use Rattle.std.specs.Prelude.{◌≡◌, ◌≤◌, ◌↔◌, ℕ, List, length, IsTrue};
+ghost use Rattle.alma_base.specs.Limits.{source_limit};
 ghost use Rattle.alma_front.specs.Words.{KeepsDepth, word_of, depth_behind};
 ghost use Rattle.alma_front.specs.Parse.{words, scan_end};
 ghost use Rattle.alma_front.specs.Source.{IsRead};
@@ -55,7 +56,7 @@ impl From<ScanError> for ReadError {
 /// The resolved program that a source is. A lexical fault, a syntax fault and a broken rule are all `NotYet`, and so is
 /// each form of the language that the small one lacks.
 pub fn read_source(alloc: Global, source: &[u8]) -> Result<Program, ReadError>
-    requires { length source.now ≤ 1048576 }
+    requires { length source.now ≤ source_limit }
     ensures { IsRead source.now result }
 {
     let tokens = scan(alloc, source)?;

@@ -37,9 +37,11 @@ fn assignment<'t, 's>(
     inner: &'t [Token<'s>],
 ) -> Result<(Vec<Stmt>, &'t [Token<'s>]), ReadError>
     ensures found { IfOk result
-        (λ found. Only (IsStatement variables.now (Named name.now ∷ Fixed kinds.Assign ∷ words inner.now)) EndsStatement
+        (λ found. Only (IsStatement variables.now (Named name.now ∷ Fixed kinds.Assign
+        ∷ words inner.now)) EndsStatement
         (stmts_list found.0.items) (words found.1.now)) }
-    ensures refused { IfErr result (Refused (IsStatement variables.now (Named name.now ∷ Fixed kinds.Assign ∷ words inner.now)) EndsStatement) }
+    ensures refused { IfErr result (Refused (IsStatement variables.now
+        (Named name.now ∷ Fixed kinds.Assign ∷ words inner.now)) EndsStatement) }
     ensures no_longer { IfOk result (λ found. length found.1.now ≤ length inner.now) }
 {
     let slot = variables.slot(name).ok_or(ReadError::NotYet)?;
@@ -50,7 +52,8 @@ fn assignment<'t, 's>(
 
 // The name that is assigned to in front, and the tokens behind the sign of assignment.
 fn split_assigned<'t, 's>(tokens: &'t [Token<'s>]) -> Option<(&'s [u8], &'t [Token<'s>])>
-    ensures split { MatchOption result ((text : List ℕ) (rest : List Word) → words tokens.now ≡ Named text ∷ Fixed kinds.Assign ∷ rest → ⊥)
+    ensures split { MatchOption result ((text : List ℕ) (rest : List Word) → words tokens.now
+        ≡ Named text ∷ Fixed kinds.Assign ∷ rest → ⊥)
         (λ found. words tokens.now ≡ Named found.0.now ∷ Fixed kinds.Assign ∷ words found.1.now) }
     ensures shorter { IfSome result (λ found. length found.1.now < length tokens.now) }
 {
@@ -78,8 +81,10 @@ fn simple<'t, 's>(
     tokens: &'t [Token<'s>],
 ) -> Result<(Vec<Stmt>, &'t [Token<'s>]), ReadError>
     requires { first_is statement_word (words tokens.now) ≡ false }
-    ensures found { IfOk result (λ found. Only (IsStatement variables.now (words tokens.now)) EndsStatement (stmts_list found.0.items) (words found.1.now)) }
-    ensures refused { IfErr result (Refused (IsStatement variables.now (words tokens.now)) EndsStatement) }
+    ensures found { IfOk result (λ found. Only (IsStatement variables.now (words tokens.now))
+        EndsStatement (stmts_list found.0.items) (words found.1.now)) }
+    ensures refused { IfErr result (Refused (IsStatement variables.now (words tokens.now))
+        EndsStatement) }
     ensures no_longer { IfOk result (λ found. length found.1.now ≤ length tokens.now) }
 {
     if let Some((name, inner)) = split_assigned(tokens) {
@@ -99,8 +104,10 @@ fn write<'t, 's>(
     tokens: &'t [Token<'s>],
 ) -> Result<(Vec<Stmt>, &'t [Token<'s>]), ReadError>
     ensures found { IfOk result
-        (λ found. Only (IsStatement variables.now (Fixed kinds.Write ∷ words tokens.now)) EndsStatement (stmts_list found.0.items) (words found.1.now)) }
-    ensures refused { IfErr result (Refused (IsStatement variables.now (Fixed kinds.Write ∷ words tokens.now)) EndsStatement) }
+        (λ found. Only (IsStatement variables.now (Fixed kinds.Write ∷ words tokens.now))
+        EndsStatement (stmts_list found.0.items) (words found.1.now)) }
+    ensures refused { IfErr result (Refused (IsStatement variables.now
+        (Fixed kinds.Write ∷ words tokens.now)) EndsStatement) }
     ensures no_longer { IfOk result (λ found. length found.1.now ≤ length tokens.now) }
 {
     let inner = expect(tokens, Kind::OpenParen)?;
@@ -116,8 +123,10 @@ fn statement<'t, 's>(
     variables: &Variables,
     tokens: &'t [Token<'s>],
 ) -> Result<(Vec<Stmt>, &'t [Token<'s>]), ReadError>
-    ensures found { IfOk result (λ found. Only (IsStatement variables.now (words tokens.now)) EndsStatement (stmts_list found.0.items) (words found.1.now)) }
-    ensures refused { IfErr result (Refused (IsStatement variables.now (words tokens.now)) EndsStatement) }
+    ensures found { IfOk result (λ found. Only (IsStatement variables.now (words tokens.now))
+        EndsStatement (stmts_list found.0.items) (words found.1.now)) }
+    ensures refused { IfErr result (Refused (IsStatement variables.now (words tokens.now))
+        EndsStatement) }
     ensures no_longer { IfOk result (λ found. length found.1.now ≤ length tokens.now) }
 {
     if let Some(inner) = skip(tokens, Kind::Write) {
@@ -141,8 +150,10 @@ fn if_statement<'t, 's>(
     tokens: &'t [Token<'s>],
 ) -> Result<(Vec<Stmt>, &'t [Token<'s>]), ReadError>
     ensures found { IfOk result
-        (λ found. Only (IsStatement variables.now (Fixed kinds.If ∷ words tokens.now)) EndsStatement (stmts_list found.0.items) (words found.1.now)) }
-    ensures refused { IfErr result (Refused (IsStatement variables.now (Fixed kinds.If ∷ words tokens.now)) EndsStatement) }
+        (λ found. Only (IsStatement variables.now (Fixed kinds.If ∷ words tokens.now)) EndsStatement
+        (stmts_list found.0.items) (words found.1.now)) }
+    ensures refused { IfErr result (Refused (IsStatement variables.now
+        (Fixed kinds.If ∷ words tokens.now)) EndsStatement) }
     ensures no_longer { IfOk result (λ found. length found.1.now ≤ length tokens.now) }
 {
     let (arms, behind) = arms(alloc, variables, tokens)?;
@@ -158,8 +169,10 @@ fn while_loop<'t, 's>(
     tokens: &'t [Token<'s>],
 ) -> Result<(Vec<Stmt>, &'t [Token<'s>]), ReadError>
     ensures found { IfOk result
-        (λ found. Only (IsStatement variables.now (Fixed kinds.While ∷ words tokens.now)) EndsStatement (stmts_list found.0.items) (words found.1.now)) }
-    ensures refused { IfErr result (Refused (IsStatement variables.now (Fixed kinds.While ∷ words tokens.now)) EndsStatement) }
+        (λ found. Only (IsStatement variables.now (Fixed kinds.While ∷ words tokens.now))
+        EndsStatement (stmts_list found.0.items) (words found.1.now)) }
+    ensures refused { IfErr result (Refused (IsStatement variables.now
+        (Fixed kinds.While ∷ words tokens.now)) EndsStatement) }
     ensures no_longer { IfOk result (λ found. length found.1.now ≤ length tokens.now) }
 {
     let (test, behind) = condition(alloc, variables, tokens)?;
@@ -177,8 +190,10 @@ fn repeat_loop<'t, 's>(
     tokens: &'t [Token<'s>],
 ) -> Result<(Vec<Stmt>, &'t [Token<'s>]), ReadError>
     ensures found { IfOk result
-        (λ found. Only (IsStatement variables.now (Fixed kinds.Repeat ∷ words tokens.now)) EndsStatement (stmts_list found.0.items) (words found.1.now)) }
-    ensures refused { IfErr result (Refused (IsStatement variables.now (Fixed kinds.Repeat ∷ words tokens.now)) EndsStatement) }
+        (λ found. Only (IsStatement variables.now (Fixed kinds.Repeat ∷ words tokens.now))
+        EndsStatement (stmts_list found.0.items) (words found.1.now)) }
+    ensures refused { IfErr result (Refused (IsStatement variables.now
+        (Fixed kinds.Repeat ∷ words tokens.now)) EndsStatement) }
     ensures no_longer { IfOk result (λ found. length found.1.now ≤ length tokens.now) }
 {
     let (body, behind) = statements(alloc, variables, tokens)?;
@@ -194,7 +209,8 @@ fn arm<'t, 's>(
     variables: &Variables,
     tokens: &'t [Token<'s>],
 ) -> Result<(Arm, &'t [Token<'s>]), ReadError>
-    ensures found { IfOk result (λ found. Only (IsArm variables.now (words tokens.now)) EndsStatements (arm_of found.0) (words found.1.now)) }
+    ensures found { IfOk result (λ found. Only (IsArm variables.now (words tokens.now))
+        EndsStatements (arm_of found.0) (words found.1.now)) }
     ensures refused { IfErr result (Refused (IsArm variables.now (words tokens.now)) EndsStatements) }
     ensures no_longer { IfOk result (λ found. length found.1.now ≤ length tokens.now) }
 {
@@ -211,7 +227,8 @@ fn arms<'t, 's>(
     variables: &Variables,
     tokens: &'t [Token<'s>],
 ) -> Result<(Vec<Arm>, &'t [Token<'s>]), ReadError>
-    ensures found { IfOk result (λ found. Only (IsArms variables.now (words tokens.now)) EndsArms (arms_list found.0.items) (words found.1.now)) }
+    ensures found { IfOk result (λ found. Only (IsArms variables.now (words tokens.now)) EndsArms
+        (arms_list found.0.items) (words found.1.now)) }
     ensures refused { IfErr result (Refused (IsArms variables.now (words tokens.now)) EndsArms) }
     ensures no_longer { IfOk result (λ found. length found.1.now ≤ length tokens.now) }
 {
@@ -233,7 +250,8 @@ fn else_part<'t, 's>(
     variables: &Variables,
     tokens: &'t [Token<'s>],
 ) -> Result<(Vec<Stmt>, &'t [Token<'s>]), ReadError>
-    ensures found { IfOk result (λ found. Only (IsElse variables.now (words tokens.now)) Anything (stmts_list found.0.items) (words found.1.now)) }
+    ensures found { IfOk result (λ found. Only (IsElse variables.now (words tokens.now)) Anything
+        (stmts_list found.0.items) (words found.1.now)) }
     ensures refused { IfErr result (Refused (IsElse variables.now (words tokens.now)) Anything) }
     ensures shorter { IfOk result (λ found. length found.1.now < length tokens.now) }
 {
@@ -251,8 +269,10 @@ pub fn statements<'t, 's>(
     variables: &Variables,
     tokens: &'t [Token<'s>],
 ) -> Result<(Vec<Stmt>, &'t [Token<'s>]), ReadError>
-    ensures found { IfOk result (λ found. Only (IsStatements variables.now (words tokens.now)) EndsStatements (stmts_list found.0.items) (words found.1.now)) }
-    ensures refused { IfErr result (Refused (IsStatements variables.now (words tokens.now)) EndsStatements) }
+    ensures found { IfOk result (λ found. Only (IsStatements variables.now (words tokens.now))
+        EndsStatements (stmts_list found.0.items) (words found.1.now)) }
+    ensures refused { IfErr result (Refused (IsStatements variables.now (words tokens.now))
+        EndsStatements) }
     ensures no_longer { IfOk result (λ found. length found.1.now ≤ length tokens.now) }
 {
     let (mut all, mut rest) = statement(alloc, variables, tokens)?;

@@ -57,7 +57,8 @@ fn split_term_op<'t, 's>(tokens: &'t [Token<'s>]) -> Option<(Op, &'t [Token<'s>]
 // The sign before a sum, true for a minus, and the tokens behind it.
 fn split_sign<'t, 's>(tokens: &'t [Token<'s>]) -> (bool, &'t [Token<'s>])
     ensures sign { HasSign (words tokens.now) result.0 (words result.1.now) }
-    ensures alone { (negated : Bool) (behind : List Word) → HasSign (words tokens.now) negated behind → first_is sign_word behind ≡ false
+    ensures alone { (negated : Bool) (behind : List Word) → HasSign
+        (words tokens.now) negated behind → first_is sign_word behind ≡ false
         → (negated ≡ result.0) × (behind ≡ words result.1.now) }
     ensures no_longer { length result.1.now ≤ length tokens.now }
 {
@@ -72,7 +73,8 @@ fn split_sign<'t, 's>(tokens: &'t [Token<'s>]) -> (bool, &'t [Token<'s>])
 
 // An operand with the operators and operands behind it; one that is alone and has no minus sign stands for itself.
 fn chain(alloc: Global, negated: bool, first: Expr, links: Vec<Link>) -> Result<Expr, ReadError>
-    ensures found { IfOk result (λ e. expr_of e ≡ chained negated (expr_of first) (links_list links.items)) }
+    ensures found { IfOk result (λ e. expr_of e ≡ chained negated (expr_of first)
+        (links_list links.items)) }
     ensures memory { IfErr result (λ error. error ≡ Memory) }
 {
     if !negated && links.is_empty() {
@@ -88,7 +90,8 @@ fn operand<'t, 's>(
     variables: &Variables,
     tokens: &'t [Token<'s>],
 ) -> Result<(Expr, &'t [Token<'s>]), ReadError>
-    ensures found { IfOk result (λ found. Only (IsOperand variables.now (words tokens.now)) Anything (expr_of found.0) (words found.1.now)) }
+    ensures found { IfOk result (λ found. Only (IsOperand variables.now (words tokens.now)) Anything
+        (expr_of found.0) (words found.1.now)) }
     ensures refused { IfErr result (Refused (IsOperand variables.now (words tokens.now)) Anything) }
     ensures shorter { IfOk result (λ found. length found.1.now < length tokens.now) }
 {
@@ -113,8 +116,10 @@ fn factors<'t, 's>(
     variables: &Variables,
     tokens: &'t [Token<'s>],
 ) -> Result<(Vec<Link>, &'t [Token<'s>]), ReadError>
-    ensures found { IfOk result (λ found. Only (IsFactors variables.now (words tokens.now)) EndsProduct (links_list found.0.items) (words found.1.now)) }
-    ensures refused { IfErr result (Refused (IsFactors variables.now (words tokens.now)) EndsProduct) }
+    ensures found { IfOk result (λ found. Only (IsFactors variables.now (words tokens.now))
+        EndsProduct (links_list found.0.items) (words found.1.now)) }
+    ensures refused { IfErr result (Refused (IsFactors variables.now (words tokens.now))
+        EndsProduct) }
     ensures no_longer { IfOk result (λ found. length found.1.now ≤ length tokens.now) }
 {
     let mut links = Vec::new(alloc);
@@ -134,8 +139,10 @@ fn product<'t, 's>(
     variables: &Variables,
     tokens: &'t [Token<'s>],
 ) -> Result<(Expr, &'t [Token<'s>]), ReadError>
-    ensures found { IfOk result (λ found. Only (IsProduct variables.now (words tokens.now)) EndsProduct (expr_of found.0) (words found.1.now)) }
-    ensures refused { IfErr result (Refused (IsProduct variables.now (words tokens.now)) EndsProduct) }
+    ensures found { IfOk result (λ found. Only (IsProduct variables.now (words tokens.now))
+        EndsProduct (expr_of found.0) (words found.1.now)) }
+    ensures refused { IfErr result (Refused (IsProduct variables.now (words tokens.now))
+        EndsProduct) }
     ensures shorter { IfOk result (λ found. length found.1.now < length tokens.now) }
 {
     let (first, behind) = operand(alloc, variables, tokens)?;
@@ -150,7 +157,8 @@ fn terms<'t, 's>(
     variables: &Variables,
     tokens: &'t [Token<'s>],
 ) -> Result<(Vec<Link>, &'t [Token<'s>]), ReadError>
-    ensures found { IfOk result (λ found. Only (IsTerms variables.now (words tokens.now)) EndsSum (links_list found.0.items) (words found.1.now)) }
+    ensures found { IfOk result (λ found. Only (IsTerms variables.now (words tokens.now)) EndsSum
+        (links_list found.0.items) (words found.1.now)) }
     ensures refused { IfErr result (Refused (IsTerms variables.now (words tokens.now)) EndsSum) }
     ensures no_longer { IfOk result (λ found. length found.1.now ≤ length tokens.now) }
 {
@@ -171,7 +179,8 @@ pub fn sum<'t, 's>(
     variables: &Variables,
     tokens: &'t [Token<'s>],
 ) -> Result<(Expr, &'t [Token<'s>]), ReadError>
-    ensures found { IfOk result (λ found. Only (IsSum variables.now (words tokens.now)) EndsSum (expr_of found.0) (words found.1.now)) }
+    ensures found { IfOk result (λ found. Only (IsSum variables.now (words tokens.now)) EndsSum
+        (expr_of found.0) (words found.1.now)) }
     ensures refused { IfErr result (Refused (IsSum variables.now (words tokens.now)) EndsSum) }
     ensures shorter { IfOk result (λ found. length found.1.now < length tokens.now) }
 {

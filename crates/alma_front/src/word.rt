@@ -19,7 +19,8 @@ pub struct Rest<'t, 's> {
 /// The tokens behind the first, where it is of this kind.
 pub fn skip<'t, 's>(tokens: &'t [Token<'s>], kind: Kind) -> Option<&'t [Token<'s>]>
     requires { is_fixed kind ≡ true }
-    ensures skipped { MatchOption result (BeginsNot (Fixed kind) (words tokens.now)) (λ rest. words tokens.now ≡ Fixed kind ∷ words rest.now) }
+    ensures skipped { MatchOption result (BeginsNot (Fixed kind) (words tokens.now))
+        (λ rest. words tokens.now ≡ Fixed kind ∷ words rest.now) }
     ensures shorter { IfSome result (λ rest. length rest.now < length tokens.now) }
 {
     let (first, rest) = tokens.split_first()?;
@@ -57,7 +58,8 @@ pub fn split_name<'t, 's>(tokens: &'t [Token<'s>]) -> Option<(&'s [u8], &'t [Tok
 
 /// The digits of a number in front, and the tokens behind it.
 pub fn split_number<'t, 's>(tokens: &'t [Token<'s>]) -> Option<(&'s [u8], &'t [Token<'s>])>
-    ensures split { MatchOption result ((text : List ℕ) → BeginsNot (Digits text) (words tokens.now))
+    ensures split { MatchOption result ((text : List ℕ) → BeginsNot (Digits text)
+        (words tokens.now))
         (λ found. words tokens.now ≡ Digits found.0.now ∷ words found.1.now) }
     ensures shorter { IfSome result (λ found. length found.1.now < length tokens.now) }
 {
@@ -76,7 +78,8 @@ pub fn split_number<'t, 's>(tokens: &'t [Token<'s>]) -> Option<(&'s [u8], &'t [T
 
 /// The value of decimal digits, where it is no greater than the greatest number.
 pub fn number_value(digits: &[u8]) -> Option<i64>
-    ensures value { MatchOption result (greatest_number < value_of digits.now) (λ value. value ≡ pos (value_of digits.now)) }
+    ensures value { MatchOption result (greatest_number < value_of digits.now)
+        (λ value. value ≡ pos (value_of digits.now)) }
     ensures small { IfSome result (λ _. value_of digits.now ≤ greatest_number) }
 {
     let mut value: i64 = 0;
@@ -90,7 +93,8 @@ pub fn number_value(digits: &[u8]) -> Option<i64>
 
 /// The truth in front, and the tokens behind it.
 pub fn split_truth<'t, 's>(tokens: &'t [Token<'s>]) -> Option<(bool, &'t [Token<'s>])>
-    ensures split { MatchOption result ((value : Bool) → BeginsNot (Named (truth_word value)) (words tokens.now))
+    ensures split { MatchOption result ((value : Bool) → BeginsNot (Named (truth_word value))
+        (words tokens.now))
         (λ found. words tokens.now ≡ Named (truth_word found.0) ∷ words found.1.now) }
     ensures shorter { IfSome result (λ found. length found.1.now < length tokens.now) }
 {

@@ -70,14 +70,17 @@ Fill result_part = tree.ResultName
 Fill decl_tail = tree.DeclTail
 Fill body_part = tree.Body
 
+-- `:=` and an expression; or the rest of an expression that the designator began
 abbrev pub spell_behind : Behind → List Kind → List Kind
 spell_behind (assigned e) rest = kinds.Assign ∷ spells.spell_expr e rest
 spell_behind (used a fs ts r) rest = spells.spell_args a (spells.spell_factor_tail fs (spells.spell_term_tail ts (spells.spell_compared r rest)))
 
+-- the rest of arguments, the closing parenthesis included
 abbrev pub spell_inside_args : InsideArgs → List Kind → List Kind
 spell_inside_args closed_args rest = kinds.CloseParen ∷ rest
 spell_inside_args (filled_args es) rest = spells.spell_exprs es (kinds.CloseParen ∷ rest)
 
+-- the rest of parameters, the closing parenthesis included
 abbrev pub spell_inside_params : InsideParams → List Kind → List Kind
 spell_inside_params closed_params rest = kinds.CloseParen ∷ rest
 spell_inside_params (filled_params f) rest = spells.spell_formals f (kinds.CloseParen ∷ rest)
@@ -130,6 +133,7 @@ abbrev pub Fills : List Part → Type 0
 Fills [] = Unit {0}
 Fills (p ∷ rest) = Fill p × Fills rest
 
+-- the spelling of what fills all parts, one behind the other
 abbrev pub spell_fills : (parts : List Part) → Fills parts → List Kind
 spell_fills [] _ = []
 spell_fills (p ∷ rest) f = spell_fill p f.0 (spell_fills rest f.1)
@@ -177,6 +181,7 @@ shortest result_part = tree.no_result
 shortest decl_tail = tree.no_decl
 shortest body_part = tree.no_body
 
+-- the shortest that fills each part
 abbrev pub shortest_fills : (parts : List Part) → Fills parts
 shortest_fills [] = tt
 shortest_fills (p ∷ rest) = (shortest p, shortest_fills rest)
@@ -190,6 +195,7 @@ abbrev pub WhereSome : {A : Type 0} → Option A → (A → Type 0) → Type 0
 WhereSome None P = Unit {0}
 WhereSome (Some x) P = P x
 
+-- what a second step makes of the value of a first; none where either gives none
 abbrev pub and_then : {A B : Type 0} → Option A → (A → Option B) → Option B
 and_then None f = None
 and_then (Some x) f = f x

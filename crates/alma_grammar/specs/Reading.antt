@@ -10,6 +10,7 @@ pub data End : Type 0 where
   unexpected : (rest : List Kind) → End
   too_deep : (rest : List Kind) → End
 
+-- a depth behind a token that opens a bracket, closes one or does neither
 abbrev pub next_depth : (opening closing : Bool) → ℕ → ℕ
 next_depth true _ d = suc d
 next_depth false true d = pred d
@@ -19,14 +20,17 @@ next_depth false false d = d
 abbrev pub level : ℕ → Kind → ℕ
 level d k = next_depth (opens k) (closes k) d
 
+-- how reading ends where no token is left: well, if the program may end here
 abbrev pub at_end : Bool → End
 at_end true = done
 at_end false = unexpected []
 
+-- reading ends at a token with which the depth would pass 100, and goes on at others
 abbrev pub unless_deep : Bool → List Kind → End → End
 unless_deep true ks _ = too_deep ks
 unless_deep false _ e = e
 
+-- reading ends at a token that may not stand here, and goes on at others as said
 abbrev pub goes_on : Option (List Part) → Bool → List Kind → (List Part → End) → End
 goes_on None deep ks go = unexpected ks
 goes_on (Some parts) deep ks go = unless_deep deep ks (go parts)

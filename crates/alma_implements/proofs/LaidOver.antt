@@ -64,7 +64,7 @@ put_here v f n c lt there =
     ap (λ z. get_or (get_or z f store.no_frame).cells n Unknown) (put_is v f n c lt) ∙ ap (λ g. get_or g.cells n Unknown) (get_or-set_same v f (store.with_cell (get_or v f store.no_frame) n c) store.no_frame lt)
     ∙ get_or-set_same (get_or v f store.no_frame).cells n c Unknown there
 
-put_apart : (v : Store) (g j f i : ℕ) (c : store.Cell) → (g ≡ f → j ≡ i → ⊥) → store.cell_at (put v g j c) f i ≡ store.cell_at v f i
+pub put_apart : (v : Store) (g j f i : ℕ) (c : store.Cell) → (g ≡ f → j ≡ i → ⊥) → store.cell_at (put v g j c) f i ≡ store.cell_at v f i
 put_apart v g j f i c apart = elim (cases_lt g (length v)) [
   | inr past ↦ ap (λ z. store.cell_at z f i) (put_past v g j c past)
   | inl lt ↦ ap (λ z. store.cell_at z f i) (put_is v g j c lt) ∙ elim (cases_eq f g) [

@@ -1,5 +1,6 @@
--- The forms of the resolved program that are compiled so far: a body of the module alone, with variables of one cell,
--- numbers of the whole of INTEGER, arithmetic, comparisons, IF, WHILE, REPEAT, FOR, CASE, WRITE and WRITELN.
+-- The forms of the resolved program that are compiled so far: a body of the module alone, with
+-- variables of one cell, numbers of the whole of INTEGER, arithmetic, comparisons, IF, WHILE,
+-- REPEAT, FOR, CASE, WRITE and WRITELN.
 use Rattle.std.specs.Prelude.{◌≡◌, true, List, [], ◌∷◌}
 use Rattle.alma_base.specs.Numbers.{whole_range, is_integer}
 use Rattle.alma_ir.specs.declared.phrase.Root.TheVariants as root
@@ -18,6 +19,7 @@ BuiltDesig (a_desig (root.Outer links slot) cells sels) = ⊥
 BuiltDesig (a_desig (root.OuterParam links slot) cells sels) = ⊥
 
 abbrev mutual
+  -- numbers of INTEGER, variables, arithmetic and comparisons
   pub BuiltExpr : Expr → Type 0
   BuiltExpr (Const n) = is_integer n ≡ true
   BuiltExpr (Load d) = BuiltDesig d
@@ -28,6 +30,7 @@ abbrev mutual
   BuiltExpr (Chr e) = ⊥
   BuiltExpr (CallExpr r args up) = ⊥
 
+  -- each operand of the operators
   pub BuiltLinks : Links → Type 0
   BuiltLinks no_links = Unit {0}
   BuiltLinks (more_links op e rest) = BuiltExpr e × BuiltLinks rest
@@ -56,10 +59,12 @@ BuiltLabels [] = Unit {0}
 BuiltLabels (label ∷ rest) = (is_integer label.low ≡ true) × (is_integer label.high ≡ true) × BuiltLabels rest
 
 abbrev mutual
+  -- each statement
   pub BuiltStmts : Stmts → Type 0
   BuiltStmts no_stmts = Unit {0}
   BuiltStmts (more_stmts line x rest) = BuiltStmt x × BuiltStmts rest
 
+  -- a statement of a form that is compiled, with all its parts
   pub BuiltStmt : Stmt → Type 0
   BuiltStmt (TestStmt t) = BuiltTest t
   BuiltStmt (Assign d e range) = BuiltDesig d × BuiltExpr e × (range ≡ whole_range)
@@ -79,6 +84,7 @@ abbrev mutual
   BuiltStmt (WriteText text) = ⊥
   BuiltStmt WriteLine = Unit {0}
 
+  -- the arms of IF: each condition and each body
   pub BuiltArms : Arms → Type 0
   BuiltArms no_arms = Unit {0}
   BuiltArms (more_arms t body rest) = BuiltTest t × BuiltStmts body × BuiltArms rest
@@ -88,10 +94,12 @@ abbrev mutual
   BuiltLoop (a_loop d range counter limit from to by body) =
       BuiltDesig d × BuiltExpr from × BuiltExpr to × BuiltStmts body × (range ≡ whole_range) × (is_integer by ≡ true)
 
+  -- the arms of CASE: each label and each body
   pub BuiltCases : CaseArms → Type 0
   BuiltCases no_cases = Unit {0}
   BuiltCases (more_cases labels body rest) = BuiltLabels labels × BuiltStmts body × BuiltCases rest
 
+  -- the ELSE part of CASE, where there is one
   pub BuiltElse : Else → Type 0
   BuiltElse no_else = Unit {0}
   BuiltElse (else_part body) = BuiltStmts body

@@ -1,6 +1,7 @@
--- What it is that code implements a program: the machine on the code does what the meaning says, at least one visit
--- for each 32 steps.
+-- What it is that code implements a program: the machine on the code does what the meaning says, at
+-- least one visit for each 32 steps.
 use Rattle.std.specs.Prelude.{◌≡◌, ◌≤◌, ℕ, suc, ◌+◌, ◌*◌, ◌/◌, List, [], ◌++◌, length}
+use Rattle.alma_base.specs.Limits.{input_limit}
 use Rattle.alma_code.specs.declared.step.End.{End}
 use Rattle.alma_code.specs.declared.step.End.TheVariants as end
 use Rattle.alma_code.specs.Plain.{PlainCode}
@@ -11,14 +12,11 @@ use Rattle.alma_mean.specs.Events as events
 use Rattle.alma_mean.specs.Events.{Events, NoYield, Visit, Print, Alt, Flow, first, end_of, visit_count, CutOff}
 use Rattle.alma_mean.specs.Meaning.{ev_program, result}
 
--- the greatest length of an input
-abbrev pub input_limit : ℕ
-input_limit = 16777216
-
 -- the state of the machine after n steps from the start, and what these steps print
 abbrev pub state_after : PlainCode → (input : List ℕ) → ℕ → State
 state_after code input n = after code input n (start code)
 
+-- what n steps from the start print
 abbrev pub printed_by : PlainCode → (input : List ℕ) → ℕ → List ℕ
 printed_by code input n = prints code input n (start code)
 
@@ -38,14 +36,16 @@ pub data HasPrefix {A : Type 0} : Events A → (printed : List ℕ) → (visits 
   a_visit : {e : Events A} {printed : List ℕ} {visits : ℕ} → HasPrefix e printed visits → HasPrefix (Visit e) printed (suc visits)
   a_print : {e : Events A} {bytes printed : List ℕ} {visits : ℕ} → HasPrefix e printed visits → HasPrefix (Print bytes e) (bytes ++ printed) visits
 
--- The bytes are the prints of a front of the event list, and this front has at least so many visits.
+-- The bytes are the prints of a front of the event list, and this front has at least so many
+-- visits.
 pub record Covers {A : Type 0} (e : Events A) (printed : List ℕ) (least : ℕ) : Type 0 where
   pub visits : ℕ
   pub front : HasPrefix e printed visits
   pub enough : least ≤ visits
 
--- What n steps may have come to: where the machine has ended, the result of the meaning with one unfolding more than
--- steps, a fault at the line of the address where it ended; and else the prints of a front of the meaning with one visit for each 32 steps.
+-- What n steps may have come to: where the machine has ended, the result of the meaning with one
+-- unfolding more than steps, a fault at the line of the address where it ended; and else the prints
+-- of a front of the meaning with one visit for each 32 steps.
 abbrev pub ComesTo : Mode → (line : ℕ) → (printed : List ℕ) → Program → (input : List ℕ) → (n : ℕ) → Type 0
 ComesTo (Ended e) line printed p input n = result (suc n) p input ≡ (printed, meant_end e line)
 ComesTo Going line printed p input n = Covers (first (ev_program (suc n) p input)) printed (n / 32)
@@ -65,8 +65,8 @@ HasEnded Going = ⊥
 HasEnded Failing = ⊥
 HasEnded Stuck = ⊥
 
--- Where the meaning comes to its first alternative or its end with so many visits, 32 steps for each visit, and 32
--- more, bring the machine to its end.
+-- Where the meaning comes to its first alternative or its end with so many visits, 32 steps for
+-- each visit, and 32 more, bring the machine to its end.
 abbrev pub IsEnough : PlainCode → Program → Type 0
 IsEnough code p =
     (input : List ℕ) → length input ≤ input_limit → (n : ℕ)

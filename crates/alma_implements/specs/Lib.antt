@@ -1,4 +1,4 @@
 pub mod Implements
-pub mod Operators
 pub mod Built
+pub mod Operators
 pub mod Templates

@@ -21,8 +21,8 @@ write_code write_as.Int from = I.WriteInt from
 write_code write_as.Bool from = I.WriteBool from
 write_code write_as.Char from = I.WriteChar from
 
--- whether a loop has a turn: the slot `from` holds the first count, the slot `to` the limit; `from` becomes 0 where the
--- first is beyond it
+-- whether a loop has a turn: the slot `from` holds the first count, the slot `to` the limit; `from`
+-- becomes 0 where the first is beyond it
 abbrev pub entry_code : (by : ℤ) → (from to : ℕ) → Instr
 entry_code (pos step) from to = I.LessEq from from to
 entry_code (negsuc step) from to = I.LessEq from to from

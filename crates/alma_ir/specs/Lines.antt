@@ -1,4 +1,5 @@
--- The line of each statement: `lines` of a routine has them in order, a statement before those inside it.
+-- The line of each statement: `lines` of a routine has them in the order of the text, a statement
+-- before those inside it.
 use Rattle.std.specs.Prelude.{ℕ, suc, true, false, List, [], ◌∷◌, get_or, drop}
 use Rattle.alma_ir.specs.Tree.{Stmts, Stmt, Arms, CaseArms, Else, Branches, Loop, ReturnExpr, Test, Tests, Expr, Links, Args, Arg, Desig, Sels, Sel, no_stmts, more_stmts, Routine, TestStmt, Assign, CopyCells, If, While, Repeat, ForTo, SomeOf, Case, Either, Forall, Commit, Return, Read, WriteExpr, WriteText, WriteLine, no_arms, more_arms, no_cases, more_cases, no_else, else_part, no_branches, more_branches, a_loop, no_result, some_result, Value, Bind, Unify, SameCells, Seq, And, Or, Not, CallTest, no_tests, more_tests, Const, Load, Chain, Compare, Truth, Known, Chr, CallExpr, no_links, more_links, no_args, more_args, ByValue, ByCells, ByPlace, MixValue, MixPlace, a_desig, no_sels, more_sels, Field, Index}
 use Rattle.alma_ir.specs.Phrases.{Phrase, StmtPhrase, TestPhrase, ExprPhrase, ArgPhrase, DesigPhrase, SelPhrase, stmts_phrases, stmt_phrases, arms_phrases, cases_phrases, test_phrases, expr_phrases, arg_phrases, desig_phrases, sel_phrases}
@@ -17,13 +18,16 @@ stmt_count (SelPhrase x ∷ rest) = stmt_count rest
 abbrev pub behind : List Phrase → List ℕ → List ℕ
 behind phrases ls = drop (stmt_count phrases) ls
 
--- the phrases with these lines, handed out in order; a statement for which none is left has line 0
+-- The phrases with these lines, handed out in the order of the text. A statement for which none is
+-- left has line 0, and lines that are left over are dropped.
 unfoldable mutual
+  -- a statement has the first line, those inside it the next ones, and the rest those behind
   pub stmts_with : Stmts → List ℕ → Stmts
   stmts_with no_stmts ls = no_stmts
   stmts_with (more_stmts line x rest) ls =
       more_stmts (get_or ls 0 0) (stmt_with x (drop 1 ls)) (stmts_with rest (behind (stmt_phrases x) ls))
 
+  -- the parts of a statement
   pub stmt_with : Stmt → List ℕ → Stmt
   stmt_with (TestStmt t) ls = TestStmt (test_with t ls)
   stmt_with (Assign d e range) ls = Assign (desig_with d ls) (expr_with e (behind (desig_phrases d) ls)) range
@@ -44,33 +48,40 @@ unfoldable mutual
   stmt_with (WriteText text) ls = WriteText text
   stmt_with WriteLine ls = WriteLine
 
+  -- the condition of an arm of IF, its body, and the next arm
   pub arms_with : Arms → List ℕ → Arms
   arms_with no_arms ls = no_arms
   arms_with (more_arms t body rest) ls =
       more_arms (test_with t ls) (stmts_with body (behind (test_phrases t) ls)) (arms_with rest (behind (stmts_phrases body) (behind (test_phrases t) ls)))
 
+  -- the arms of CASE; a label has no statement
   pub cases_with : CaseArms → List ℕ → CaseArms
   cases_with no_cases ls = no_cases
   cases_with (more_cases labels body rest) ls = more_cases labels (stmts_with body ls) (cases_with rest (behind (stmts_phrases body) ls))
 
+  -- the ELSE part
   pub else_with : Else → List ℕ → Else
   else_with no_else ls = no_else
   else_with (else_part body) ls = else_part (stmts_with body ls)
 
+  -- the branches of EITHER
   pub branches_with : Branches → List ℕ → Branches
   branches_with no_branches ls = no_branches
   branches_with (more_branches body rest) ls = more_branches (stmts_with body ls) (branches_with rest (behind (stmts_phrases body) ls))
 
+  -- the variable of a loop, both bounds, and the body
   pub loop_with : Loop → List ℕ → Loop
   loop_with (a_loop d range counter limit from to by body) ls =
       a_loop (desig_with d ls) range counter limit (expr_with from (behind (desig_phrases d) ls))
       (expr_with to (behind (expr_phrases from) (behind (desig_phrases d) ls))) by
       (stmts_with body (behind (expr_phrases to) (behind (expr_phrases from) (behind (desig_phrases d) ls))))
 
+  -- what RETURN gives
   pub return_with : ReturnExpr → List ℕ → ReturnExpr
   return_with no_result ls = no_result
   return_with (some_result e) ls = some_result (expr_with e ls)
 
+  -- the parts of a test; in an equation the side that stands on the left comes first
   pub test_with : Test → List ℕ → Test
   test_with (Value e) ls = Value (expr_with e ls)
   test_with (Bind d e range true) ls = Bind (desig_with d ls) (expr_with e (behind (desig_phrases d) ls)) range true
@@ -83,10 +94,12 @@ unfoldable mutual
   test_with (Not t) ls = Not (test_with t ls)
   test_with (CallTest r args up) ls = CallTest r (args_with args ls) up
 
+  -- the operands of AND or OR
   pub tests_with : Tests → List ℕ → Tests
   tests_with no_tests ls = no_tests
   tests_with (more_tests t rest) ls = more_tests (test_with t ls) (tests_with rest (behind (test_phrases t) ls))
 
+  -- the parts of an expression
   pub expr_with : Expr → List ℕ → Expr
   expr_with (Const n) ls = Const n
   expr_with (Load d) ls = Load (desig_with d ls)
@@ -97,14 +110,17 @@ unfoldable mutual
   expr_with (Chr e) ls = Chr (expr_with e ls)
   expr_with (CallExpr r args up) ls = CallExpr r (args_with args ls) up
 
+  -- the operands behind operators
   pub links_with : Links → List ℕ → Links
   links_with no_links ls = no_links
   links_with (more_links how e rest) ls = more_links how (expr_with e ls) (links_with rest (behind (expr_phrases e) ls))
 
+  -- the arguments of a call
   pub args_with : Args → List ℕ → Args
   args_with no_args ls = no_args
   args_with (more_args a rest) ls = more_args (arg_with a ls) (args_with rest (behind (arg_phrases a) ls))
 
+  -- an argument
   pub arg_with : Arg → List ℕ → Arg
   arg_with (ByValue e range) ls = ByValue (expr_with e ls) range
   arg_with (ByCells d) ls = ByCells (desig_with d ls)
@@ -112,13 +128,16 @@ unfoldable mutual
   arg_with (MixValue e range) ls = MixValue (expr_with e ls) range
   arg_with (MixPlace d) ls = MixPlace (desig_with d ls)
 
+  -- the selectors of a designator
   pub desig_with : Desig → List ℕ → Desig
   desig_with (a_desig root cells sels) ls = a_desig root cells (sels_with sels ls)
 
+  -- selectors
   pub sels_with : Sels → List ℕ → Sels
   sels_with no_sels ls = no_sels
   sels_with (more_sels x rest) ls = more_sels (sel_with x ls) (sels_with rest (behind (sel_phrases x) ls))
 
+  -- the index of a selector
   pub sel_with : Sel → List ℕ → Sel
   sel_with (Field offset cells) ls = Field offset cells
   sel_with (Index e range cells) ls = Index (expr_with e ls) range cells

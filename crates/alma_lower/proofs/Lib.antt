@@ -2,9 +2,8 @@ pub mod Emits
 pub mod EmitsBody
 pub mod EmitsFor
 pub mod EmitsCase
-pub mod ExampleViews
-pub mod Examples
-pub mod ForExample
 pub mod Made
 pub mod RunLemmas
+pub mod Tables
 pub mod Unlined
+pub mod Walks

@@ -1,5 +1,5 @@
--- What a phrase inside a statement with a line appends to an emitter: code that depends on the address and on the first
--- free slot, and kinds of slots.
+-- What a phrase inside a statement with a line appends to an emitter: code that depends on the
+-- address and on the first free slot, and kinds of slots.
 use Rattle.std.specs.Prelude.{◌≡◌, ℕ, ◌+◌, ℤ, List, [], ◌∷◌, ◌++◌, length, drop, ◌*◌}
 use Rattle.alma_base.specs.declared.number.Range.{Range}
 use Rattle.alma_code.specs.declared.cell.SlotKind.{SlotKind}
@@ -34,6 +34,8 @@ with_target (I.Jump _) to = I.Jump to
 with_target (I.JumpZero value _) to = I.JumpZero value to
 with_target i to = i
 
+-- the emitter b is a with this code behind its own, given the address and the first free slot, and
+-- with these slots behind its own
 pub record Appends (a b : Emit) (code : (at lo : ℕ) → List Placed) (slots : List SlotKind) : Type 0 where
   pub instrs : b.code.items ≡ a.code.items ++ code (length a.code.items) (next_slot a)
   pub kinds : b.kinds.items ≡ a.kinds.items ++ slots
@@ -43,18 +45,23 @@ pub record Appends (a b : Emit) (code : (at lo : ℕ) → List Placed) (slots : 
 pub record Puts (a b : Emit) (line : ℕ) (instr : Instr) : Type 0 where
   pub all : Appends a b (λ at lo. (instr, line) ∷ []) []
 
+-- the place of a designator, in a slot of its own
 pub record PutsDesig (a b : Emit) (line : ℕ) (d : Desig) : Type 0 where
   pub all : Appends a b (λ at lo. desig_code line lo d) (desig_slots d)
 
+-- the value of an expression, in the first of its slots
 pub record PutsExpr (a b : Emit) (line : ℕ) (e : Expr) : Type 0 where
   pub all : Appends a b (λ at lo. expr_code line lo e) (expr_slots e)
 
+-- the operators and operands behind the number in a slot
 pub record PutsLinks (a b : Emit) (line : ℕ) (to : ℕ) (links : Links) : Type 0 where
   pub all : Appends a b (λ at lo. links_code line to lo links) (links_slots links)
 
+-- what goes before the jump of a condition
 pub record PutsCondition (a b : Emit) (line : ℕ) (t : Test) : Type 0 where
   pub all : Appends a b (λ at lo. condition_code line lo t) (test_slots t)
 
+-- a test, which fails where it has no alternative
 pub record PutsTest (a b : Emit) (line : ℕ) (t : Test) : Type 0 where
   pub all : Appends a b (λ at lo. test_code line lo t) (test_slots t)
 
@@ -62,12 +69,15 @@ pub record PutsTest (a b : Emit) (line : ℕ) (t : Test) : Type 0 where
 pub record PutsGuarded (a b : Emit) (line : ℕ) (t : Test) (body : Stmts) (back : ℕ) : Type 0 where
   pub all : Appends a b (λ at lo. guarded_code line lo (condition_code line lo t) (stmts_code (at + length (condition_code line lo t) + 1) (lo + length (test_slots t)) body) at back) (test_slots t ++ stmts_slots body)
 
+-- statements, each at its line
 pub record PutsStmts (a b : Emit) (body : Stmts) : Type 0 where
   pub all : Appends a b (λ at lo. stmts_code at lo body) (stmts_slots body)
 
+-- one statement
 pub record PutsStmt (a b : Emit) (line : ℕ) (x : Stmt) : Type 0 where
   pub all : Appends a b (λ at lo. stmt_code line at lo x) (stmt_slots x)
 
+-- the arms of an IF, each of which leaves by a jump to `exit`
 pub record PutsArms (a b : Emit) (line : ℕ) (exit : ℕ) (arms : Arms) : Type 0 where
   pub all : Appends a b (λ at lo. arms_code line at lo exit arms) (arms_slots arms)
 
@@ -81,10 +91,12 @@ pub record PutsTurns (a b : Emit) (line : ℕ) (counter limit step : ℕ) (var :
 
 -- ---- CASE
 
--- the value, the two slots for the labels, and the two jumps before the arms, of which the second is still to be aimed
+-- the value, the two slots for the labels, and the two jumps before the arms, of which the second
+-- is still to be aimed
 pub record PutsCaseHead (a b : Emit) (line : ℕ) (e : Expr) : Type 0 where
   pub all : Appends a b (λ at lo. expr_code line lo e ++ (I.Jump (at + length (expr_code line lo e) + 2), line) ∷ (I.Jump 0, line) ∷ []) (expr_slots e ++ slot.Number ∷ slot.Number ∷ [])
 
+-- the labels of an arm, each of which goes to `hit` where the value lies in it
 pub record PutsLabels (a b : Emit) (line : ℕ) (value bound hit : ℕ) (labels : List Range) : Type 0 where
   pub all : Appends a b (λ at lo. labels_code line value bound at hit labels) []
 
@@ -95,11 +107,14 @@ case_arm_code line value bound exit labels body at lo =
     let inner : List Placed = stmts_code hit lo body in
     labels_code line value bound at hit labels ++ (I.Jump (hit + length inner + 1), line) ∷ (inner ++ (I.Jump exit, line) ∷ [])
 
+-- an arm of a CASE
 pub record PutsCaseArm (a b : Emit) (line : ℕ) (value bound exit : ℕ) (labels : List Range) (body : Stmts) : Type 0 where
   pub all : Appends a b (case_arm_code line value bound exit labels body) (stmts_slots body)
 
+-- the arms of a CASE, each of which leaves by a jump to `exit`
 pub record PutsCases (a b : Emit) (line : ℕ) (value bound exit : ℕ) (arms : CaseArms) : Type 0 where
   pub all : Appends a b (λ at lo. cases_code line value bound at lo exit arms) (cases_slots arms)
 
+-- what a CASE does where no label holds the value
 pub record PutsElse (a b : Emit) (line : ℕ) (rest : Else) : Type 0 where
   pub all : Appends a b (λ at lo. else_code line at lo rest) (else_slots rest)

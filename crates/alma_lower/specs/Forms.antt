@@ -4,7 +4,8 @@ use Rattle.alma_code.specs.declared.instr.Instr.{Instr}
 use Rattle.alma_code.specs.declared.instr.Instr.TheVariants as I
 use Rattle.alma_code.specs.Plain.{PlainCode}
 
--- numbers, variables of the frame itself, jumps, loops that count, tests, prints, the fault NoCase and the end
+-- numbers, variables of the frame itself, jumps, loops that count, tests, prints, the fault NoCase
+-- and the end
 pub data IsMade : Instr → Type 0 where
   const : {a : ℕ} {v : ℤ} → IsMade (I.Const a v)
   move : {a b : ℕ} → IsMade (I.Move a b)

@@ -1,2 +1,2 @@
-pub mod Emitted
 pub mod Forms
+pub mod Emitted

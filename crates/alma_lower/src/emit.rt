@@ -1,5 +1,6 @@
 // The instructions and slots made so far, and the code of expressions and designators.
 ghost use Rattle.std.specs.Prelude.{◌≡◌, ℕ, ◌+◌, ◌*◌, ◌<◌, ◌≤◌, ◌^◌, List, [], ◌∷◌, ◌++◌, length, IfOk, OnOk};
+ghost use Rattle.alma_base.specs.Limits.{slot_limit};
 ghost use Rattle.alma_code.specs.declared.instr.Instr.{Instr};
 ghost use Rattle.alma_ir.specs.View.{desig_of, expr_of, links_list};
 ghost use Rattle.alma_ir.specs.Count.{desig_nodes, expr_nodes, links_nodes};
@@ -54,7 +55,7 @@ impl Emit {
     // One more slot, and its number.
     #[tactic(auto, unfolding(crate::specs::Emitted::emitted_count))]
     pub(crate) fn slot(&mut self, kind: SlotKind) -> Result<u32, NoMemory>
-        requires room { emitted_count self.old < 8388608 }
+        requires room { emitted_count self.old < slot_limit }
         ensures slot { IfOk result (λ slot. slot ≡ next_slot self.old) }
         ensures puts { OnOk result (Appends self.old self.new (λ at lo. []) (kind ∷ [])) }
         ensures few { OnOk result (emitted_count self.new ≡ emitted_count self.old + 1) }
@@ -67,7 +68,7 @@ impl Emit {
     // The address of the next instruction.
     #[tactic(auto, unfolding(crate::specs::Emitted::emitted_count))]
     pub(crate) fn here(&self) -> u32
-        requires room { emitted_count self.now ≤ 8388608 }
+        requires room { emitted_count self.now ≤ slot_limit }
         ensures address { result ≡ length self.now.code.items }
         ensures small { result ≤ emitted_count self.now }
     {
@@ -78,8 +79,10 @@ impl Emit {
     #[tactic(auto, unfolding(crate::specs::Emitted::emitted_count))]
     pub(crate) fn aim(&mut self, at: u32)
         requires jump { at < length self.old.code.items }
-        requires room { emitted_count self.old ≤ 8388608 }
-        ensures code { (before after : List Placed) (jump : Instr) (line : ℕ) → self.old.code.items ≡ before ++ (jump, line) ∷ after → length before ≡ at → self.new.code.items ≡ before ++ (with_target jump (length self.old.code.items), line) ∷ after }
+        requires room { emitted_count self.old ≤ slot_limit }
+        ensures code { (before after : List Placed) (jump : Instr) (line : ℕ) → self.old.code.items
+            ≡ before ++ (jump, line) ∷ after → length before ≡ at → self.new.code.items ≡ before ++
+            (with_target jump (length self.old.code.items), line) ∷ after }
         ensures kinds { self.new.kinds.items ≡ self.old.kinds.items }
         ensures base { self.new.base ≡ self.old.base }
         ensures few { emitted_count self.new ≡ emitted_count self.old }
@@ -104,10 +107,11 @@ fn aimed_at(jump: Instr, to: u32) -> Instr
 // The place of a variable, and its slot.
 pub(crate) fn emit_desig(emit: &mut Emit, line: u32, desig: &Desig) -> Result<u32, NoMemory>
     requires built { BuiltDesig (desig_of desig.now) }
-    requires room { emitted_count emit.old + 16 * desig_nodes (desig_of desig.now) ≤ 8388608 }
+    requires room { emitted_count emit.old + 16 * desig_nodes (desig_of desig.now) ≤ slot_limit }
     ensures slot { IfOk result (λ slot. slot ≡ next_slot emit.old) }
     ensures puts { OnOk result (PutsDesig emit.old emit.new line (desig_of desig.now)) }
-    ensures few { OnOk result (emitted_count emit.new ≤ emitted_count emit.old + 16 * desig_nodes (desig_of desig.now)) }
+    ensures few { OnOk result (emitted_count emit.new ≤ emitted_count emit.old + 16 * desig_nodes
+        (desig_of desig.now)) }
 {
     match desig.root {
         Root::Local(first) => {
@@ -123,7 +127,7 @@ pub(crate) fn emit_desig(emit: &mut Emit, line: u32, desig: &Desig) -> Result<u3
 
 // A number.
 pub(crate) fn emit_const(emit: &mut Emit, line: u32, value: i64) -> Result<u32, NoMemory>
-    requires room { emitted_count emit.old < 8388608 }
+    requires room { emitted_count emit.old < slot_limit }
     ensures slot { IfOk result (λ slot. slot ≡ next_slot emit.old) }
     ensures puts { OnOk result (PutsExpr emit.old emit.new line (tree.Const value)) }
     ensures few { OnOk result (emitted_count emit.new ≤ emitted_count emit.old + 2) }
@@ -136,10 +140,12 @@ pub(crate) fn emit_const(emit: &mut Emit, line: u32, value: i64) -> Result<u32, 
 // The number of a variable.
 fn emit_load(emit: &mut Emit, line: u32, desig: &Desig) -> Result<u32, NoMemory>
     requires built { BuiltDesig (desig_of desig.now) }
-    requires room { emitted_count emit.old + 16 + 16 * desig_nodes (desig_of desig.now) ≤ 8388608 }
+    requires room { emitted_count emit.old + 16 + 16 * desig_nodes (desig_of desig.now)
+        ≤ slot_limit }
     ensures slot { IfOk result (λ slot. slot ≡ next_slot emit.old) }
     ensures puts { OnOk result (PutsExpr emit.old emit.new line (tree.Load (desig_of desig.now))) }
-    ensures few { OnOk result (emitted_count emit.new ≤ emitted_count emit.old + 2 + 16 * desig_nodes (desig_of desig.now)) }
+    ensures few { OnOk result (emitted_count emit.new ≤ emitted_count emit.old + 2 + 16 *
+        desig_nodes (desig_of desig.now)) }
 {
     let to = emit.slot(SlotKind::Number)?;
     let from = emit_desig(emit, line, desig)?;
@@ -236,9 +242,10 @@ fn emit_neg(emit: &mut Emit, line: u32, negated: bool, to: u32) -> Result<(), No
 #[cycle(exprs)]
 fn emit_links(emit: &mut Emit, line: u32, to: u32, links: &[Link]) -> Result<(), NoMemory>
     requires built { BuiltLinks (links_list links.now) }
-    requires room { emitted_count emit.old + 16 * links_nodes (links_list links.now) ≤ 8388608 }
+    requires room { emitted_count emit.old + 16 * links_nodes (links_list links.now) ≤ slot_limit }
     ensures puts { OnOk result (PutsLinks emit.old emit.new line to (links_list links.now)) }
-    ensures few { OnOk result (emitted_count emit.new ≤ emitted_count emit.old + 16 * links_nodes (links_list links.now)) }
+    ensures few { OnOk result (emitted_count emit.new ≤ emitted_count emit.old + 16 * links_nodes
+        (links_list links.now)) }
 {
     for link in links {
         let operand = emit_expr(emit, line, &link.operand)?;
@@ -252,10 +259,11 @@ fn emit_links(emit: &mut Emit, line: u32, to: u32, links: &[Link]) -> Result<(),
 #[cycle(exprs)]
 pub(crate) fn emit_expr(emit: &mut Emit, line: u32, expr: &Expr) -> Result<u32, NoMemory>
     requires built { BuiltExpr (expr_of expr.now) }
-    requires room { emitted_count emit.old + 16 * expr_nodes (expr_of expr.now) ≤ 8388608 }
+    requires room { emitted_count emit.old + 16 * expr_nodes (expr_of expr.now) ≤ slot_limit }
     ensures slot { IfOk result (λ slot. slot ≡ next_slot emit.old) }
     ensures puts { OnOk result (PutsExpr emit.old emit.new line (expr_of expr.now)) }
-    ensures few { OnOk result (emitted_count emit.new + 1 ≤ emitted_count emit.old + 16 * expr_nodes (expr_of expr.now)) }
+    ensures few { OnOk result (emitted_count emit.new + 1 ≤ emitted_count emit.old + 16 * expr_nodes
+        (expr_of expr.now)) }
 {
     match expr {
         Expr::Const(value) => emit_const(emit, line, *value),

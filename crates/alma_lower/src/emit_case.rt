@@ -1,5 +1,6 @@
 // The code of CASE before its arms, and of the labels of an arm.
 ghost use Rattle.std.specs.Prelude.{◌≡◌, ◌+◌, ◌*◌, ◌<◌, ◌≤◌, [], length, IfOk, OnOk};
+ghost use Rattle.alma_base.specs.Limits.{slot_limit};
 ghost use Rattle.alma_ir.specs.View.{expr_of};
 ghost use Rattle.alma_ir.specs.Count.{expr_nodes};
 ghost use Rattle.alma_implements.specs.Built.{BuiltExpr};
@@ -25,13 +26,15 @@ pub(crate) struct CaseHead {
 #[tactic(auto, unfolding(crate::specs::Emitted::emitted_count))]
 pub(crate) fn emit_case_head(emit: &mut Emit, line: u32, value: &Expr) -> Result<CaseHead, NoMemory>
     requires built { BuiltExpr (expr_of value.now) }
-    requires room { emitted_count emit.old + 16 + 16 * expr_nodes (expr_of value.now) ≤ 8388608 }
+    requires room { emitted_count emit.old + 16 + 16 * expr_nodes (expr_of value.now) ≤ slot_limit }
     ensures value { IfOk result (λ head. head.value ≡ next_slot emit.old) }
-    ensures bound { IfOk result (λ head. head.bound ≡ next_slot emit.old + length (expr_slots (expr_of value.now))) }
+    ensures bound { IfOk result (λ head. head.bound ≡ next_slot emit.old + length
+        (expr_slots (expr_of value.now))) }
     ensures exit { IfOk result (λ head. head.exit + 1 ≡ length emit.new.code.items) }
-    ensures small { IfOk result (λ head. head.bound < 8388608) }
+    ensures small { IfOk result (λ head. head.bound < slot_limit) }
     ensures puts { OnOk result (PutsCaseHead emit.old emit.new line (expr_of value.now)) }
-    ensures few { OnOk result (emitted_count emit.new ≤ emitted_count emit.old + 3 + 16 * expr_nodes (expr_of value.now)) }
+    ensures few { OnOk result (emitted_count emit.new ≤ emitted_count emit.old + 3 + 16 * expr_nodes
+        (expr_of value.now)) }
 {
     let value = emit_expr(emit, line, value)?;
     let bound = emit.slot(SlotKind::Number)?;
@@ -51,9 +54,10 @@ fn emit_label(
     hit: u32,
     label: &Range,
 ) -> Result<(), NoMemory>
-    requires bound { head.bound < 8388608 }
-    requires room { emitted_count emit.old + 7 ≤ 8388608 }
-    ensures puts { OnOk result (Appends emit.old emit.new (λ at lo. label_code line head.value head.bound at hit label.now) []) }
+    requires bound { head.bound < slot_limit }
+    requires room { emitted_count emit.old + 7 ≤ slot_limit }
+    ensures puts { OnOk result (Appends emit.old emit.new
+        (λ at lo. label_code line head.value head.bound at hit label.now) []) }
     ensures few { OnOk result (emitted_count emit.new ≤ emitted_count emit.old + 7) }
 {
     let CaseHead { value, bound, .. } = head;
@@ -114,10 +118,12 @@ pub(crate) fn emit_labels(
     hit: u32,
     labels: &[Range],
 ) -> Result<(), NoMemory>
-    requires bound { head.bound < 8388608 }
-    requires room { emitted_count emit.old + 7 * length labels.now ≤ 8388608 }
-    ensures puts { OnOk result (PutsLabels emit.old emit.new line head.value head.bound hit labels.now) }
-    ensures few { OnOk result (emitted_count emit.new ≤ emitted_count emit.old + 7 * length labels.now) }
+    requires bound { head.bound < slot_limit }
+    requires room { emitted_count emit.old + 7 * length labels.now ≤ slot_limit }
+    ensures puts { OnOk result (PutsLabels emit.old emit.new line head.value head.bound hit
+        labels.now) }
+    ensures few { OnOk result (emitted_count emit.new ≤ emitted_count emit.old + 7 * length
+        labels.now) }
 {
     for label in labels {
         emit_label(emit, line, head, hit, label)?;

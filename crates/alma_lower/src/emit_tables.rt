@@ -1,5 +1,6 @@
 // The tables of a code: the runs of its slots, its routine and the variables of its module.
 ghost use Rattle.std.specs.Prelude.{◌≡◌, ◌+◌, ◌*◌, ◌<◌, ◌≤◌, ◌++◌, true, false, length, map, replicate, IfOk};
+ghost use Rattle.alma_base.specs.Limits.{slot_limit};
 ghost use Rattle.alma_code.specs.declared.cell.SlotKind.TheVariants as slot;
 ghost use Rattle.alma_code.specs.Plain as code;
 ghost use Rattle.alma_ir.specs.View as view;
@@ -20,8 +21,9 @@ fn is_same(kind: SlotKind, other: SlotKind) -> bool
 // The runs of so many slots for numbers and then slots of these kinds, each run as long as it can be.
 pub(crate) fn runs_of(alloc: Global, numbers: u32, kinds: &[SlotKind]) -> Result<Vec<Run>, NoMemory>
     requires some { 0 < numbers }
-    requires room { numbers + length kinds.now ≤ 8388608 }
-    ensures names { IfOk result (λ runs. NamesKinds runs.items (replicate numbers slot.Number ++ kinds.now)) }
+    requires room { numbers + length kinds.now ≤ slot_limit }
+    ensures names { IfOk result (λ runs. NamesKinds runs.items
+        (replicate numbers slot.Number ++ kinds.now)) }
     ensures few { IfOk result (λ runs. length runs.items ≤ numbers + length kinds.now) }
 {
     let mut runs = Vec::new(alloc);
@@ -60,7 +62,8 @@ pub(crate) fn globals_of(
     alloc: Global,
     globals: &[alma_ir::Global],
 ) -> Result<Vec<CodeGlobal>, NoMemory>
-    ensures { IfOk result (λ named. map code.global_of named.items ≡ map global_named (map view.global_of globals.now)) }
+    ensures { IfOk result (λ named. map code.global_of named.items ≡ map global_named
+        (map view.global_of globals.now)) }
 {
     let mut named = Vec::new(alloc);
     for global in globals {

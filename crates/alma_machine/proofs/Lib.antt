@@ -2,6 +2,5 @@ pub mod Budget
 pub mod Cells
 pub mod Kept
 pub mod Slots
-pub mod Small
 pub mod Sound
 pub mod Words

@@ -1,5 +1,4 @@
 pub mod Built
 pub mod Rows
 pub mod Runs
-pub mod Small
 pub mod View

@@ -5,8 +5,6 @@ mod frame;
 mod machine;
 mod places;
 mod registers;
-#[cfg(test)]
-mod tests;
 mod values;
 
 pub use alma_code::{End, Step};

@@ -1,5 +1,6 @@
 // The machine.
 ghost use Rattle.std.specs.Prelude.{◌≡◌, ◌+◌, ◌^◌, ◌<◌, ◌≤◌, List, ℕ, [], true, length, IfOk, OnOk, OnErr, IsTrue};
+ghost use Rattle.alma_base.specs.Limits.{input_limit};
 ghost use Rattle.alma_code.specs.Machine.{Going, step, start, after, prints};
 ghost use Rattle.alma_code.specs.Plain.{code_of};
 ghost use Rattle.alma_code.specs.Rules.{IsSound};
@@ -7,7 +8,7 @@ ghost use Rattle.alma_machine.specs.Built.{HasOnlyBuilt};
 ghost use Rattle.alma_io.specs.Causes.{HasCause};
 ghost use Rattle.alma_io.specs.Fronts.{AppendsFront};
 ghost use Rattle.alma_machine.specs.Rows.{state_of, KeepsOn};
-ghost use Rattle.alma_machine.specs.Runs.{end_of, run_end_of, is_steps_out, all_written, made, OnWhole, OnStepsOut, OnWriteFault, OnMemory};
+ghost use Rattle.alma_machine.specs.Runs.{ShowsLast, last_print, end_of, run_end_of, is_steps_out, all_written, made, OnWhole, OnStepsOut, OnWriteFault, OnMemory};
 ghost use Rattle.std.specs.Io.KnownBytes.{Appends};
 ghost use Rattle.alma_machine.specs.View.{MachineView, stepped, runs_after, ModeAfter, PrintsOnly, Keeps};
 
@@ -75,11 +76,13 @@ fn take(code: &Code, registers: &mut Registers, printed: &mut Vec<u8>) -> Result
     requires few { registers.old.steps + 1 < 2 ^ 63 }
     requires empty { printed.old.items ≡ [] }
     ensures step { IfOk result (λ answer. (input : List ℕ)
-        → stepped answer printed.new.items (state_of registers.new) ≡ step (code_of code.now) input (state_of registers.old)) }
+        → stepped answer printed.new.items (state_of registers.new) ≡ step (code_of code.now) input
+        (state_of registers.old)) }
     ensures quiet { IfOk result (λ answer. PrintsOnly answer printed.new.items) }
     ensures counted { OnOk result (registers.new.steps ≡ registers.old.steps + 1) }
     ensures mode { IfOk result (λ answer. ModeAfter answer (state_of registers.new).mode) }
-    ensures refused { OnErr result ((state_of registers.new ≡ state_of registers.old) × (printed.new.items ≡ [])) }
+    ensures refused { OnErr result ((state_of registers.new ≡ state_of registers.old) ×
+        (printed.new.items ≡ [])) }
 {
     let instr = &code.code[registers.at];
     let last = registers.last;
@@ -101,11 +104,13 @@ fn advance(code: &Code, registers: &mut Registers, printed: &mut Vec<u8>) -> Res
     requires keeps { Keeps (code_of code.now) (state_of registers.old) true }
     requires few { registers.old.steps + 1 < 2 ^ 63 }
     ensures step { IfOk result (λ answer. (input : List ℕ)
-        → stepped answer printed.new.items (state_of registers.new) ≡ step (code_of code.now) input (state_of registers.old)) }
+        → stepped answer printed.new.items (state_of registers.new) ≡ step (code_of code.now) input
+        (state_of registers.old)) }
     ensures quiet { IfOk result (λ answer. PrintsOnly answer printed.new.items) }
     ensures counted { OnOk result (registers.new.steps ≡ registers.old.steps + 1) }
     ensures mode { IfOk result (λ answer. ModeAfter answer (state_of registers.new).mode) }
-    ensures refused { OnErr result ((state_of registers.new ≡ state_of registers.old) × (printed.new.items ≡ [])) }
+    ensures refused { OnErr result ((state_of registers.new ≡ state_of registers.old) ×
+        (printed.new.items ≡ [])) }
 {
     printed.clear();
     match registers.mode {
@@ -134,7 +139,7 @@ impl<'b, 'i> Machine<'b, 'i> {
     pub fn new(alloc: Global, code: &'b Code, input: &'i [u8]) -> Result<Machine<'b, 'i>, NoMemory>
         requires sound { IsSound (code_of code.now) }
         requires built { HasOnlyBuilt (code_of code.now) }
-        requires lawful { length input.now ≤ 16777216 }
+        requires lawful { length input.now ≤ input_limit }
         ensures { IfOk result (λ machine. machine ≡ record {
           code = code_of code.now;
           input = input.now;
@@ -177,7 +182,8 @@ impl<'b, 'i> Machine<'b, 'i> {
         requires running { IsTrue self.old.running }
         requires few { self.old.state.steps + 1 < 2 ^ 63 }
         ensures step { IfOk result (λ answer.
-            stepped answer self.new.printed self.new.state ≡ step self.old.code self.old.input self.old.state) }
+            stepped answer self.new.printed self.new.state
+            ≡ step self.old.code self.old.input self.old.state) }
         ensures quiet { IfOk result (λ answer. PrintsOnly answer self.new.printed) }
         ensures mode { IfOk result (λ answer. ModeAfter answer self.new.state.mode) }
         ensures counted { OnOk result (self.new.state.steps ≡ self.old.state.steps + 1) }
@@ -231,19 +237,27 @@ impl<'b, 'i> Machine<'b, 'i> {
         requires few { self.old.state.steps + budget < 2 ^ 63 }
 
         // Without a fault of the sink and a want of memory: what the copying code machine does in so many steps.
-        ensures answer { OnWhole result (result ≡ run_end_of (after self.old.code self.old.input budget self.old.state).mode) }
-        ensures state { OnWhole result (self.new.state ≡ after self.old.code self.old.input budget self.old.state) }
+        ensures answer { OnWhole result (result ≡ run_end_of
+            (after self.old.code self.old.input budget self.old.state).mode) }
+        ensures state { OnWhole result (self.new.state ≡ after self.old.code self.old.input budget
+            self.old.state) }
         ensures out { OnWhole result
-            (Appends (K.written out.old) (K.written out.new) (prints self.old.code self.old.input budget self.old.state)) }
+            (Appends (K.written out.old) (K.written out.new)
+            (prints self.old.code self.old.input budget self.old.state)) }
 
         // In each case: what it does in the steps that were made.
         ensures few { self.new.state.steps ≤ self.old.state.steps + budget }
-        ensures made { self.new.state ≡ after self.old.code self.old.input (made self.old self.new) self.old.state }
+        ensures made { self.new.state ≡ after self.old.code self.old.input
+            (made self.old self.new) self.old.state }
         ensures steps_out { OnStepsOut result (made self.old self.new ≡ budget) }
         ensures memory { OnMemory result
-            (Appends (K.written out.old) (K.written out.new) (prints self.old.code self.old.input (made self.old self.new) self.old.state)) }
+            (Appends (K.written out.old) (K.written out.new)
+            (prints self.old.code self.old.input (made self.old self.new) self.old.state)) }
         ensures write_fault { OnWriteFault result
-            (AppendsFront (K.written out.old) (K.written out.new) (prints self.old.code self.old.input (made self.old self.new) self.old.state)) }
+            (AppendsFront (K.written out.old) (K.written out.new)
+            (prints self.old.code self.old.input (made self.old self.new) self.old.state)) }
+        ensures printed { ShowsLast result self.new.printed (last_print self.old.code self.old.input
+            (made self.old self.new) self.old.state self.old.printed) }
         ensures cause { HasCause (K.faults out.old) (K.faults out.new) (all_written result) }
         ensures running { self.new.running ≡ is_steps_out result }
         ensures same { (self.new.code ≡ self.old.code) × (self.new.input ≡ self.old.input) }

@@ -26,7 +26,8 @@ impl Frame {
         requires from { HasCells self.now from }
         requires inside { offset ≤ width self.now from }
         ensures { (to : ℕ) (s : State) → s.now ≡ self.now ∷ []
-            → place s from (λ p. put_place s to p.frame (λ _. p.slot + offset)) ≡ point_or_fault s to result }
+            → place s from (λ p. put_place s to p.frame (λ _. p.slot + offset))
+            ≡ point_or_fault s to result }
     {
         let place = self.place(from)?;
         Ok(place.slot + offset)
@@ -46,7 +47,8 @@ impl Frame {
         requires index { HasNumber self.now index }
         requires room { range_size range.now * width self.now to ≤ width self.now from }
         ensures { (s : State) → s.now ≡ self.now ∷ []
-            → place s from (λ p. number s index (λ v. range_check range.now fault.Index s v (λ _. put_place s to p.frame (λ l. p.slot + nat_abs (v -ℤ range.now.low) * l))))
+            → place s from (λ p. number s index (λ v. range_check range.now fault.Index s v
+            (λ _. put_place s to p.frame (λ l. p.slot + nat_abs (v -ℤ range.now.low) * l))))
             ≡ point_or_fault s to result }
     {
         let place = self.place(from)?;

@@ -71,7 +71,8 @@ impl Registers {
     #[tactic(auto, using(crate::proofs::Words::puts))]
     fn put(&mut self, to: u32, number: Result<i64, RunFault>) -> Step
         requires { HasNumber self.old.frame to }
-        ensures step { stepped result [] (state_of self.new) ≡ put_or_fault (state_of self.old) to number }
+        ensures step { stepped result [] (state_of self.new) ≡ put_or_fault
+            (state_of self.old) to number }
         ensures kept { KeepsOn result (state_of self.old) (state_of self.new) }
     {
         match number {
@@ -87,7 +88,8 @@ impl Registers {
     #[tactic(auto, using(crate::proofs::Words::puts))]
     fn put_place(&mut self, to: u32, first: u32) -> Step
         requires { HasPlace self.old.frame to }
-        ensures step { let s = state_of self.old in stepped result [] (state_of self.new) ≡ put_place s to (top s) (λ _. first) }
+        ensures step { let s = state_of self.old in stepped result [] (state_of self.new)
+            ≡ put_place s to (top s) (λ _. first) }
         ensures kept { KeepsOn result (state_of self.old) (state_of self.new) }
     {
         let len = self.frame.place_length(to);
@@ -103,7 +105,8 @@ impl Registers {
     // Puts the place of the slots of the frame from the first on into a place slot, or ends the run in its fault.
     fn point(&mut self, to: u32, first: Result<u32, RunFault>) -> Step
         requires { HasPlace self.old.frame to }
-        ensures step { stepped result [] (state_of self.new) ≡ point_or_fault (state_of self.old) to first }
+        ensures step { stepped result [] (state_of self.new) ≡ point_or_fault
+            (state_of self.old) to first }
         ensures kept { KeepsOn result (state_of self.old) (state_of self.new) }
     {
         match first {
@@ -118,7 +121,8 @@ impl Registers {
         requires from { HasCells self.old.frame from }
         requires inside { offset ≤ width self.old.frame from }
         ensures step { let s = state_of self.old in
-            stepped result [] (state_of self.new) ≡ place s from (λ p. put_place s to p.frame (λ _. p.slot + offset)) }
+            stepped result [] (state_of self.new) ≡ place s from
+            (λ p. put_place s to p.frame (λ _. p.slot + offset)) }
         ensures kept { KeepsOn result (state_of self.old) (state_of self.new) }
     {
         let first = self.frame.field(from, offset);
@@ -160,7 +164,8 @@ impl Registers {
         requires to { HasOneCell self.old.frame to }
         requires from { HasNumber self.old.frame from }
         ensures step { let s = state_of self.old in
-            stepped result [] (state_of self.new) ≡ place s to (λ p. number s from (λ v. store s p.frame p.slot v quiet_step)) }
+            stepped result [] (state_of self.new) ≡ place s to
+            (λ p. number s from (λ v. store s p.frame p.slot v quiet_step)) }
         ensures kept { KeepsOn result (state_of self.old) (state_of self.new) }
     {
         match self.frame.place(to) {
@@ -195,7 +200,8 @@ impl Registers {
     fn jump_zero(&mut self, value: u32, to: u32) -> Step
         requires { HasNumber self.old.frame value }
         ensures step { let s = state_of self.old in
-            stepped result [] (state_of self.new) ≡ number s value (λ v. if_true (is_zero v) (λ _. goes_to to s) (λ _. quiet_step s)) }
+            stepped result [] (state_of self.new) ≡ number s value
+            (λ v. if_true (is_zero v) (λ _. goes_to to s) (λ _. quiet_step s)) }
         ensures kept { KeepsOn result (state_of self.old) (state_of self.new) }
     {
         match self.frame.number(value) {
@@ -214,7 +220,8 @@ impl Registers {
     fn check(&mut self, value: u32) -> Step
         requires { HasNumber self.old.frame value }
         ensures step { let s = state_of self.old in
-            stepped result [] (state_of self.new) ≡ number s value (λ v. if_true (is_zero v) (λ _. fails_now s) (λ _. quiet_step s)) }
+            stepped result [] (state_of self.new) ≡ number s value
+            (λ v. if_true (is_zero v) (λ _. fails_now s) (λ _. quiet_step s)) }
         ensures kept { KeepsOn result (state_of self.old) (state_of self.new) }
     {
         match self.frame.number(value) {
@@ -233,7 +240,8 @@ impl Registers {
     fn in_range(&mut self, value: u32, range: &Range) -> Step
         requires { HasNumber self.old.frame value }
         ensures step { let s = state_of self.old in
-            stepped result [] (state_of self.new) ≡ number s value (λ v. range_check range.now fault.Range s v (λ _. quiet_step s)) }
+            stepped result [] (state_of self.new) ≡ number s value
+            (λ v. range_check range.now fault.Range s v (λ _. quiet_step s)) }
         ensures kept { KeepsOn result (state_of self.old) (state_of self.new) }
     {
         match self.frame.number_within(value, range, RunFault::Range) {
@@ -249,7 +257,8 @@ impl Registers {
         requires limit { HasNumber self.old.frame limit }
         requires by { HasNumber self.old.frame by }
         ensures step { let s = state_of self.old in
-            stepped result [] (state_of self.new) ≡ counted s counter limit by (goes_to out s) (put_number s counter) }
+            stepped result [] (state_of self.new) ≡ counted s counter limit by (goes_to out s)
+            (put_number s counter) }
         ensures kept { KeepsOn result (state_of self.old) (state_of self.new) }
     {
         match self.frame.next(counter, limit, by) {
@@ -265,8 +274,10 @@ impl Registers {
         requires slot { HasNumber self.old.frame value }
         requires empty { bytes.old.items ≡ [] }
         ensures ok { let s = state_of self.old in
-            IfOk result (λ answer. stepped answer bytes.new.items (state_of self.new) ≡ number s value (λ v. printed (value_text (kind.Int v)) s)) }
-        ensures kept { IfOk result (λ answer. KeepsOn answer (state_of self.old) (state_of self.new)) }
+            IfOk result (λ answer. stepped answer bytes.new.items (state_of self.new)
+            ≡ number s value (λ v. printed (value_text (kind.Int v)) s)) }
+        ensures kept { IfOk result (λ answer. KeepsOn answer (state_of self.old)
+            (state_of self.new)) }
         ensures quiet { IfOk result (λ answer. PrintsOnly answer bytes.new.items) }
         ensures refused { OnErr result ((self.new ≡ self.old) × (bytes.new.items ≡ [])) }
     {
@@ -285,8 +296,10 @@ impl Registers {
         requires slot { HasNumber self.old.frame value }
         requires empty { bytes.old.items ≡ [] }
         ensures ok { let s = state_of self.old in
-            IfOk result (λ answer. stepped answer bytes.new.items (state_of self.new) ≡ number s value (λ v. printed (value_text (kind.Bool (not (is_zero v)))) s)) }
-        ensures kept { IfOk result (λ answer. KeepsOn answer (state_of self.old) (state_of self.new)) }
+            IfOk result (λ answer. stepped answer bytes.new.items (state_of self.new)
+            ≡ number s value (λ v. printed (value_text (kind.Bool (not (is_zero v)))) s)) }
+        ensures kept { IfOk result (λ answer. KeepsOn answer (state_of self.old)
+            (state_of self.new)) }
         ensures quiet { IfOk result (λ answer. PrintsOnly answer bytes.new.items) }
         ensures refused { OnErr result ((self.new ≡ self.old) × (bytes.new.items ≡ [])) }
     {
@@ -306,8 +319,10 @@ impl Registers {
         requires empty { bytes.old.items ≡ [] }
         ensures ok { let s = state_of self.old in
             IfOk result (λ answer. stepped answer bytes.new.items (state_of self.new)
-            ≡ number s value (λ v. printed (value_text (kind.Char (nat_abs (int_rem_euclid v (pos 256))))) s)) }
-        ensures kept { IfOk result (λ answer. KeepsOn answer (state_of self.old) (state_of self.new)) }
+            ≡ number s value (λ v. printed (value_text (kind.Char
+            (nat_abs (int_rem_euclid v (pos 256))))) s)) }
+        ensures kept { IfOk result (λ answer. KeepsOn answer (state_of self.old)
+            (state_of self.new)) }
         ensures quiet { IfOk result (λ answer. PrintsOnly answer bytes.new.items) }
         ensures refused { OnErr result ((self.new ≡ self.old) × (bytes.new.items ≡ [])) }
     {
@@ -332,8 +347,10 @@ impl Registers {
         requires needs { Needs (code_of code.now) self.old.frame instr.now }
         requires empty { bytes.old.items ≡ [] }
         ensures ok { IfOk result (λ answer. (input : List ℕ)
-            → stepped answer bytes.new.items (state_of self.new) ≡ act (code_of code.now) input instr.now (state_of self.old)) }
-        ensures kept { IfOk result (λ answer. KeepsOn answer (state_of self.old) (state_of self.new)) }
+            → stepped answer bytes.new.items (state_of self.new) ≡ act
+            (code_of code.now) input instr.now (state_of self.old)) }
+        ensures kept { IfOk result (λ answer. KeepsOn answer (state_of self.old)
+            (state_of self.new)) }
         ensures quiet { IfOk result (λ answer. PrintsOnly answer bytes.new.items) }
         ensures refused { OnErr result ((self.new ≡ self.old) × (bytes.new.items ≡ [])) }
     {

@@ -14,7 +14,8 @@ use alma_code::{Cell, CellPlace, Instr};
 // The sum of a counter and its step, or none where that is beyond the limit.
 #[tactic(auto, using(crate::proofs::Words::limits, std::proofs::lemmas::Int::ints, std::proofs::lemmas::Grind::common_steps))]
 fn next_within(counter: i64, limit: i64, by: i64) -> Option<i64>
-    ensures { MatchOption result (is_beyond (counter +ℤ by) limit by ≡ true) (λ next. (next ≡ counter +ℤ by) × (is_beyond (counter +ℤ by) limit by ≡ false)) }
+    ensures { MatchOption result (is_beyond (counter +ℤ by) limit by ≡ true)
+        (λ next. (next ≡ counter +ℤ by) × (is_beyond (counter +ℤ by) limit by ≡ false)) }
 {
     let next = counter.checked_add(by)?;
     let is_beyond = if by < 0 { next < limit } else { limit < next };
@@ -53,7 +54,8 @@ impl Frame {
     pub(crate) fn sum(&self, left: u32, right: u32) -> Result<i64, RunFault>
         requires left { HasNumber self.now left }
         requires right { HasNumber self.now right }
-        ensures { Gives self.now (λ s k. number s left (λ x. number s right (λ y. integer_result s (x +ℤ y) k))) result }
+        ensures { Gives self.now (λ s k. number s left (λ x. number s right
+            (λ y. integer_result s (x +ℤ y) k))) result }
     {
         let x = self.number(left)?;
         let y = self.number(right)?;
@@ -65,7 +67,8 @@ impl Frame {
     pub(crate) fn difference(&self, left: u32, right: u32) -> Result<i64, RunFault>
         requires left { HasNumber self.now left }
         requires right { HasNumber self.now right }
-        ensures { Gives self.now (λ s k. number s left (λ x. number s right (λ y. integer_result s (x -ℤ y) k))) result }
+        ensures { Gives self.now (λ s k. number s left (λ x. number s right
+            (λ y. integer_result s (x -ℤ y) k))) result }
     {
         let x = self.number(left)?;
         let y = self.number(right)?;
@@ -77,7 +80,8 @@ impl Frame {
     pub(crate) fn product(&self, left: u32, right: u32) -> Result<i64, RunFault>
         requires left { HasNumber self.now left }
         requires right { HasNumber self.now right }
-        ensures { Gives self.now (λ s k. number s left (λ x. number s right (λ y. integer_result s (x *ℤ y) k))) result }
+        ensures { Gives self.now (λ s k. number s left (λ x. number s right
+            (λ y. integer_result s (x *ℤ y) k))) result }
     {
         let x = self.number(left)?;
         let y = self.number(right)?;
@@ -89,7 +93,9 @@ impl Frame {
     pub(crate) fn quotient(&self, left: u32, right: u32) -> Result<i64, RunFault>
         requires left { HasNumber self.now left }
         requires right { HasNumber self.now right }
-        ensures { Gives self.now (λ s k. number s left (λ x. number s right (λ y. if_true (is_zero y) (λ _. ends_in_fault fault.ZeroDivide s) (λ _. integer_result s (div_down_of x y) k)))) result }
+        ensures { Gives self.now (λ s k. number s left (λ x. number s right
+            (λ y. if_true (is_zero y) (λ _. ends_in_fault fault.ZeroDivide s)
+            (λ _. integer_result s (div_down_of x y) k)))) result }
     {
         let x = self.number(left)?;
         let y = self.number(right)?;
@@ -104,7 +110,9 @@ impl Frame {
     pub(crate) fn rest(&self, left: u32, right: u32) -> Result<i64, RunFault>
         requires left { HasNumber self.now left }
         requires right { HasNumber self.now right }
-        ensures { Gives self.now (λ s k. number s left (λ x. number s right (λ y. if_true (is_zero y) (λ _. ends_in_fault fault.ZeroDivide s) (λ _. integer_result s (mod_down_of x y) k)))) result }
+        ensures { Gives self.now (λ s k. number s left (λ x. number s right
+            (λ y. if_true (is_zero y) (λ _. ends_in_fault fault.ZeroDivide s)
+            (λ _. integer_result s (mod_down_of x y) k)))) result }
     {
         let x = self.number(left)?;
         let y = self.number(right)?;
@@ -139,7 +147,8 @@ impl Frame {
     pub(crate) fn equal(&self, left: u32, right: u32) -> Result<i64, RunFault>
         requires left { HasNumber self.now left }
         requires right { HasNumber self.now right }
-        ensures { Gives self.now (λ s k. number s left (λ x. number s right (λ y. k (bit (int_eq x y))))) result }
+        ensures { Gives self.now (λ s k. number s left (λ x. number s right
+            (λ y. k (bit (int_eq x y))))) result }
     {
         let x = self.number(left)?;
         let y = self.number(right)?;
@@ -151,7 +160,8 @@ impl Frame {
     pub(crate) fn less(&self, left: u32, right: u32) -> Result<i64, RunFault>
         requires left { HasNumber self.now left }
         requires right { HasNumber self.now right }
-        ensures { Gives self.now (λ s k. number s left (λ x. number s right (λ y. k (bit (int_lt x y))))) result }
+        ensures { Gives self.now (λ s k. number s left (λ x. number s right
+            (λ y. k (bit (int_lt x y))))) result }
     {
         let x = self.number(left)?;
         let y = self.number(right)?;
@@ -163,7 +173,8 @@ impl Frame {
     pub(crate) fn at_most(&self, left: u32, right: u32) -> Result<i64, RunFault>
         requires left { HasNumber self.now left }
         requires right { HasNumber self.now right }
-        ensures { Gives self.now (λ s k. number s left (λ x. number s right (λ y. k (bit (int_le x y))))) result }
+        ensures { Gives self.now (λ s k. number s left (λ x. number s right
+            (λ y. k (bit (int_le x y))))) result }
     {
         let x = self.number(left)?;
         let y = self.number(right)?;
@@ -174,7 +185,8 @@ impl Frame {
     #[tactic(auto, using(crate::proofs::Words::at_places))]
     pub(crate) fn number_at(&self, from: u32) -> Result<i64, RunFault>
         requires { HasOneCell self.now from }
-        ensures { Gives self.now (λ s k. place s from (λ p. content s p.frame p.slot (λ c. known s c k))) result }
+        ensures { Gives self.now (λ s k. place s from (λ p. content s p.frame p.slot
+            (λ c. known s c k))) result }
     {
         let place = self.place(from)?;
         self.number(place.slot)
@@ -189,7 +201,8 @@ impl Frame {
         fault: RunFault,
     ) -> Result<i64, RunFault>
         requires { HasNumber self.now slot }
-        ensures number { Gives self.now (λ s k. number s slot (λ v. range_check range.now fault s v (λ _. k v))) result }
+        ensures number { Gives self.now (λ s k. number s slot
+            (λ v. range_check range.now fault s v (λ _. k v))) result }
         ensures within { IfOk result (λ v. within range.now v ≡ true) }
     {
         let number = self.number(slot)?;

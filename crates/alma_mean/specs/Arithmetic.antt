@@ -30,7 +30,8 @@ check_range range n k = fault_unless fault.Range (within range n) k
 abbrev pub check_integer : Store → ℤ → Events ℤ
 check_integer s n = fault_unless fault.Overflow (is_integer n) (λ _. one s n)
 
--- the remainder always fits, so the greatest negative number by -1 leaves 0 and no fault
+-- an operator on two numbers, with fault Overflow outside INTEGER and fault ZeroDivide. The
+-- remainder always fits, so the least number by -1 leaves 0 and no fault
 abbrev pub apply_op : Store → Op → ℤ → ℤ → Events ℤ
 apply_op s op.Add a b = check_integer s (a +ℤ b)
 apply_op s op.Sub a b = check_integer s (a -ℤ b)
@@ -43,6 +44,7 @@ abbrev pub apply_sign : Bool → Store → ℤ → Events ℤ
 apply_sign false s n = one s n
 apply_sign true s n = check_integer s (neg_ℤ n)
 
+-- the comparison of two numbers is true
 abbrev pub compares : Cmp → ℤ → ℤ → Bool
 compares cmp.Equal a b = int_eq a b
 compares cmp.Unequal a b = not (int_eq a b)
@@ -51,11 +53,13 @@ compares cmp.LessEq a b = int_le a b
 compares cmp.Greater a b = int_lt b a
 compares cmp.GreaterEq a b = int_le b a
 
--- what WRITE prints of a number: as a CHAR the byte is the number modulo 256, as a BOOLEAN 0 is FALSE
+-- what WRITE prints of a number: as a CHAR the byte is the number modulo 256, as a BOOLEAN 0 is
+-- FALSE
 abbrev pub printed_value : WriteAs → ℤ → Value
 printed_value write_as.Int n = value.Int n
 printed_value write_as.Char n = value.Char (nat_abs (int_rem_euclid n (pos 256)))
 printed_value write_as.Bool n = value.Bool (not (is_zero n))
 
+-- the bytes that WRITE prints of a number
 abbrev pub written_text : WriteAs → ℤ → List ℕ
 written_text how n = value_text (printed_value how n)

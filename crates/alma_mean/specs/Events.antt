@@ -12,9 +12,9 @@ pub data Flow (A : Type 0) : Type 0 where
   Go : A → Flow A
   Return : Option ℤ → Flow A
 
--- a list of events, of which an alternative that goes on yields an A; it closes with one end, a fault with the line
--- where it stands, or 0 before that is known.
--- Fail says that there are no more alternatives, Cut that the level was too low to say more
+-- a list of events, of which an alternative that goes on yields an A; it closes with one end, a
+-- fault with the line where it stands, or 0 before that is known. Fail says that there are no more
+-- alternatives, Cut that the level was too low to say more
 pub data Events (A : Type 0) : Type 0 where
   Visit : Events A → Events A
   Print : List ℕ → Events A → Events A
@@ -73,7 +73,8 @@ at_line given Fail = Fail
 at_line given (Fault x l) = Fault x (line_or l given)
 at_line given Cut = Cut
 
--- the events up to the first alternative, that one included; behind it `Fail` stands for all that is dropped
+-- the events up to the first alternative, that one included; behind it `Fail` stands for all that
+-- is dropped
 abbrev pub first : {A : Type 0} → Events A → Events A
 first (Visit e) = Visit (first e)
 first (Print b e) = Print b (first e)
@@ -116,6 +117,7 @@ prints Fail = []
 prints (Fault x l) = []
 prints Cut = []
 
+-- how many visits a list has
 abbrev pub visit_count : {A : Type 0} → Events A → ℕ
 visit_count (Visit e) = suc (visit_count e)
 visit_count (Print b e) = visit_count e

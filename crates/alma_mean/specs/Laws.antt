@@ -8,7 +8,7 @@ use Rattle.alma_mean.specs.Events.{Events, NoYield, Visit, Print, Alt, Flow, Fai
 use Rattle.alma_mean.specs.Rows.{ArgValue, begin_loop}
 use Rattle.alma_mean.specs.Meaning.{Level, level, level_above, ev_stmt, ev_expr, ev_program, result}
 
--- the first list up to its Cut is the front of the second, and without a Cut both are equal
+-- the first list up to its Cut is a prefix of the second, and without a Cut both are equal
 pub data Extends (A : Type 0) : Events A → Events A → Type 0 where
   on_visit : {e f : Events A} → Extends A e f → Extends A (Visit e) (Visit f)
   on_print : {b : List ℕ} {e f : Events A} → Extends A e f → Extends A (Print b e) (Print b f)
@@ -30,7 +30,7 @@ ends_in_cut Cut = true
 abbrev pub IsWhole : (A : Type 0) → Type 0
 IsWhole A = (e f : Events A) → Extends A e f → ends_in_cut e ≡ false → f ≡ e
 
--- so it is for each sort of phrase
+-- so it is for each sort of phrase, by what an alternative of it yields
 pub record UncutListsStay : Type 0 where
   pub statements : IsWhole NoYield
   pub expressions : IsWhole ℤ
@@ -52,11 +52,12 @@ pub record IsBelow (b c : Level) : Type 0 where
   pub for : (l : Loop) (s : Store) → Extends NoYield (b.for l s) (c.for l s)
   pub some : (l : Loop) (s : Store) → Extends NoYield (b.some l s) (c.some l s)
 
--- each level is below the next, and so is the program
+-- each level is extended by the next, and so is the program
 pub record LevelsRise (p : Program) (input : List ℕ) : Type 0 where
   pub phrases : (n : ℕ) → IsBelow (level p input n) (level p input (suc n))
   pub program : (n : ℕ) → Extends NoYield (ev_program n p input) (ev_program (suc n) p input)
 
+-- the second list is the first and something behind it
 abbrev pub IsPrefix : List ℕ → List ℕ → Type 0
 IsPrefix xs ys = (zs : List ℕ) × (xs ++ zs ≡ ys)
 
@@ -64,7 +65,7 @@ IsPrefix xs ys = (zs : List ℕ) × (xs ++ zs ≡ ys)
 abbrev pub ResultStays : Program → List ℕ → Type 0
 ResultStays p input = (n k : ℕ) → (end_of (first (ev_program n p input)) ≡ CutOff → ⊥) → result (k + n) p input ≡ result n p input
 
--- what is printed at a level is the front of what is printed at each higher one
+-- what is printed at a level is a prefix of what is printed at each higher one
 abbrev pub PrintsGrow : Program → List ℕ → Type 0
 PrintsGrow p input = (n k : ℕ) → IsPrefix (prints (first (ev_program n p input))) (prints (first (ev_program (k + n) p input)))
 

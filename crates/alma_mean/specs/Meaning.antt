@@ -1,6 +1,8 @@
--- The meaning of a resolved program: the events of each phrase, row by row.
--- A node of the program is `node` of its row, but for an arm of IF and a label, whose visits stand in their rows; a Call,
--- a Link, the parts of a loop and the ELSE lists are no nodes.
+-- The meaning of a resolved program: the events of each phrase, row by row. A node of the program
+-- is `node` of its row, but for an arm of IF and a label, whose visits stand in their rows. A call,
+-- an operator with its operand, what FOR and SOME share, and the ELSE parts are no nodes. A fault
+-- has line 0 in the rows and gets that of the nearest statement round it; NoReturn has the line of
+-- its routine from the start.
 use Rattle.std.specs.Prelude.{ℕ, zero, suc, true, false, ℤ, pos, List, [], ◌∷◌, None}
 use Rattle.alma_base.specs.Choice.{if_true}
 use Rattle.alma_base.specs.Numbers.{is_zero, bit}
@@ -13,7 +15,8 @@ use Rattle.alma_mean.specs.Events.{Events, NoYield, Visit, Print, Alt, Fail, Fau
 use Rattle.alma_mean.specs.Arithmetic.{check_range, apply_op, apply_sign, compares, written_text}
 use Rattle.alma_mean.specs.Rows.{read_cell, known_bit, root_place, index_place, bind_cell, unify_cells, match_cells, copy_cells, while_turn, repeat_turn, for_turn, some_turn, begin_loop, try_labels, forall_row, read_row, ArgValue, ArgNumber, ArgMix, ArgPlace, ArgCells, enter, as_test, as_value, return_within}
 
--- the meaning at one level: the events of each phrase in a store, of a routine's statements, and of a turn of a loop
+-- the meaning at one level: the events of each phrase in a store, of a routine's statements, and of
+-- a turn of a loop
 pub record Level : Type 0 where
   pub stmts : Stmts → Store → Events NoYield
   pub stmt : Stmt → Store → Events NoYield
@@ -45,15 +48,17 @@ level_0 = record {
   some = λ l s. Cut;
 }
 
--- The rows. Parts are taken at the same level, each in the store that the part before it left; those that are taken
--- at the level below go through `below`.
+-- The rows. Parts are taken at the same level, each in the store that the part before it left;
+-- those that are taken at the level below go through `below`.
 module _ (p : Program) (input : List ℕ) (below : Level) where
   unfoldable mutual
+    -- none leaves the store as it is; else the first, and for each of its alternatives the rest
     pub ev_stmts : Stmts → Store → Events NoYield
     ev_stmts no_stmts s = one s tt
     -- a fault in a statement that has no line yet stands at the line of the statement
     ev_stmts (more_stmts line x rest) s = bind (at_line line (ev_stmt x s)) (λ t _. ev_stmts rest t)
 
+    -- each form of statement
     pub ev_stmt : Stmt → Store → Events NoYield
     -- a test as a statement is two nodes, the statement and the test
     ev_stmt (TestStmt t) s = node (ev_test t s)
@@ -80,19 +85,22 @@ module _ (p : Program) (input : List ℕ) (below : Level) where
     ev_stmt (WriteText text) s = node (Print text (one s tt))
     ev_stmt WriteLine s = node (Print (10 ∷ []) (one s tt))
 
-    -- the arms of IF in order, and then the ELSE part. An arm is a visit when it is tried, and one before each
-    -- alternative of its body; the arms behind it stand outside of it, in the store on entry
+    -- the arms of IF in order, and then the ELSE part. An arm is a visit when it is tried, and one
+    -- before each alternative of its body; the arms behind it stand outside of it, in the store on
+    -- entry
     pub ev_arms : Arms → Store → (Store → Events NoYield) → Events NoYield
     ev_arms no_arms s otherwise = otherwise s
     ev_arms (more_arms t body rest) s otherwise =
         Visit (on_first (ev_test t s) (λ u _. visit_each (ev_stmts body u)) (λ _. ev_arms rest s otherwise))
 
-    -- the labels of all arms in order; a label that is tried is one visit, and an arm that is taken is a node
+    -- the labels of all arms in order; a label that is tried is one visit, and an arm that is taken
+    -- is a node
     pub ev_cases : CaseArms → ℤ → Store → (Store → Events NoYield) → Events NoYield
     ev_cases no_cases n s otherwise = otherwise s
     ev_cases (more_cases labels body rest) n s otherwise =
         try_labels labels n (λ _. node (ev_stmts body s)) (λ _. ev_cases rest n s otherwise)
 
+    -- the ELSE part of CASE, or fault NoCase where there is none
     pub ev_else : Else → Store → Events NoYield
     ev_else no_else s = Fault fault.NoCase 0
     ev_else (else_part body) s = ev_stmts body s
@@ -124,6 +132,7 @@ module _ (p : Program) (input : List ℕ) (below : Level) where
     ev_return (some_result e) s =
         bind (ev_expr e s) (λ t n. return_within (routine_at p (top_frame t).routine).result t n)
 
+    -- each form of test
     pub ev_test : Test → Store → Events NoYield
     ev_test (Value e) s = node (bind (ev_expr e s) (λ t n. if_true (is_zero n) (λ _. Fail) (λ _. one t tt)))
     -- cells are looked at after both sides were evaluated and located, in the store that they left
@@ -138,22 +147,26 @@ module _ (p : Program) (input : List ℕ) (below : Level) where
     ev_test (Seq x) s = node (ev_stmts x s)
     ev_test (And ts) s = node (ev_and ts s)
     ev_test (Or ts) s = node (ev_or ts s)
-    -- where there is no alternative the store is the one on entry, hidden cells and the input position too
+    -- where there is no alternative the store is the one on entry, hidden cells and the input
+    -- position too
     ev_test (Not t) s = node (on_first (ev_test t s) (λ u _. Fail) (λ _. one s tt))
     -- at a call the routine's statements are taken, with no visit of the routine's own node
     ev_test (CallTest r args links) s = node (bind (ev_args args s) (λ t taken. as_test (enter p (below.routine r) r links t taken)))
 
+    -- as a list of statements: for each alternative of the first operand those of the rest
     pub ev_and : Tests → Store → Events NoYield
     ev_and no_tests s = one s tt
     ev_and (more_tests t rest) s = bind (ev_test t s) (λ u _. ev_and rest u)
 
-    -- each operand in the store on entry; the last has all its alternatives, each other one only its first
+    -- each operand in the store on entry; the last has all its alternatives, each other one only
+    -- its first
     pub ev_or : Tests → Store → Events NoYield
     ev_or no_tests s = Fail
     ev_or (more_tests t no_tests) s = ev_test t s
     ev_or (more_tests t (more_tests t' rest)) s =
         on_first (ev_test t s) (λ u _. one u tt) (λ _. ev_or (more_tests t' rest) s)
 
+    -- each form of expression
     pub ev_expr : Expr → Store → Events ℤ
     ev_expr (Const n) s = node (one s n)
     ev_expr (Load d) s = node (bind (ev_desig d s) (λ t q. read_cell (cell_of t q) (λ n. one t n)))
@@ -188,6 +201,7 @@ module _ (p : Program) (input : List ℕ) (below : Level) where
     ev_arg (MixValue e range) s = node (bind (ev_expr e s) (λ t n. check_range range n (λ _. one t (ArgMix n))))
     ev_arg (MixPlace d) s = node (bind (ev_desig d s) (λ t q. one t (ArgPlace q)))
 
+    -- the place of the root, of so many cells, narrowed by the selectors
     pub ev_desig : Desig → Store → Events Place
     ev_desig (a_desig root cells sels) s = node (bind (root_place s root cells) (λ t q. ev_sels sels q t))
 
@@ -196,6 +210,7 @@ module _ (p : Program) (input : List ℕ) (below : Level) where
     ev_sels no_sels q s = one s q
     ev_sels (more_sels x rest) q s = bind (ev_sel x q s) (λ t r. ev_sels rest r t)
 
+    -- a part of the place: a field, or the element with an index
     pub ev_sel : Sel → Place → Store → Events Place
     ev_sel (Field offset cells) q s = node (one s (part q offset cells))
     ev_sel (Index e range cells) q s = node (bind (ev_expr e s) (λ t n. index_place t q n range cells))
@@ -204,10 +219,13 @@ module _ (p : Program) (input : List ℕ) (below : Level) where
   abbrev pub ev_routine : ℕ → Store → Events NoYield
   ev_routine r s = ev_stmts (body_with_lines (routine_at p r)) s
 
+  -- a turn of FOR at this level: the variable is located here, the body and the next turn are taken
+  -- at the level below
   abbrev pub turn_for : Loop → Store → Events NoYield
   turn_for (a_loop d range counter limit from to by body) =
       for_turn (ev_desig d) range counter limit by (below.stmts body) (below.for (a_loop d range counter limit from to by body))
 
+  -- a turn of SOME, in the same way
   abbrev pub turn_some : Loop → Store → Events NoYield
   turn_some (a_loop d range counter limit from to by body) =
       some_turn (ev_desig d) range counter limit (below.stmts body) (below.some (a_loop d range counter limit from to by body))

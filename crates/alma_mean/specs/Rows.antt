@@ -1,5 +1,6 @@
 -- The rows of the meaning, each given the events of its parts. `Meaning` says what these parts are.
 use Rattle.std.specs.Prelude.{ℕ, zero, suc, ◌+◌, ◌*◌, Bool, true, false, nat_lt, nat_le, ℤ, pos, ◌+ℤ◌, ◌-ℤ◌, nat_abs, List, [], ◌∷◌, ◌++◌, length, replicate, drop, set, Option, Some, None, sum_by}
+use Rattle.alma_base.specs.Limits.{cell_limit, frame_limit}
 use Rattle.alma_base.specs.Choice.{if_true}
 use Rattle.alma_base.specs.Numbers.{within, int_eq, is_beyond}
 use Rattle.alma_base.specs.Carry.{Carry, with_changes}
@@ -38,8 +39,8 @@ place_held s (At p) = one s p
 place_held s Unknown = Fault fault.Unknown 0
 place_held s (Number n) = Fault fault.Unknown 0
 
--- the place of a root: cells of the frame on top, of the global frame or of a frame up the links, or the place that a
--- parameter holds there
+-- the place of a root: cells of the frame on top, of the global frame or of a frame up the links,
+-- or the place that a parameter holds there
 abbrev pub root_place : Store → Root → ℕ → Events Place
 root_place s (root.Local slot) cells = one s (record { frame = top s; slot = slot; size = cells })
 root_place s (root.Global slot) cells = one s (record { frame = 0; slot = slot; size = cells })
@@ -54,6 +55,7 @@ index_place s p n range cells =
 
 -- ---- equations
 
+-- one alternative where the test is true, and else none
 abbrev pub succeed_if : Store → Bool → Events NoYield
 succeed_if s true = one s tt
 succeed_if s false = Fail
@@ -104,8 +106,11 @@ abbrev pub try_labels : List Range → ℤ → (arm next : Unit {0} → Events N
 try_labels [] n arm next = next tt
 try_labels (label ∷ rest) n arm next = Visit (if_true (within label n) arm (λ _. try_labels rest n arm next))
 
--- ---- loops: a turn, given the events of its parts and of the next turn; it is one visit, at its start
+-- ---- loops: a turn, given the events of its parts and of the next turn; it begins with a visit
 
+-- by the first alternative of the condition: in its store the body, and behind each of its
+-- alternatives the next turn; where the condition has none, the store in which the turn began goes
+-- on
 abbrev pub while_turn : (cond body again : Store → Events NoYield) → Store → Events NoYield
 while_turn cond body again s = Visit (on_first (cond s) (λ t _. bind (body t) (λ u _. again u)) (λ _. one s tt))
 
@@ -131,8 +136,8 @@ for_turn locate range counter limit by body again s =
     Visit (read_cell (top_cell s counter) (λ n. set_variable locate range s n (λ t.
     bind (body t) (λ u _. next_turn counter limit by again u (one u tt)))))
 
--- the variable set and the body, and after their alternatives, or where there are none, the next turn, from the store in
--- which this turn began: that store does not have the variable's new value
+-- the variable set and the body, and after their alternatives, or where there are none, the next
+-- turn, from the store in which this turn began: that store does not have the variable's new value
 abbrev pub some_turn : (locate : Store → Events Place) → Range → (counter limit : ℕ) (body again : Store → Events NoYield) → Store → Events NoYield
 some_turn locate range counter limit body again s =
     Visit (read_cell (top_cell s counter) (λ n.
@@ -146,10 +151,11 @@ begin_loop counter limit by from to s turn empty =
 
 -- ---- FORALL
 
--- goes through the alternatives of S with the carry so far. In the store of each, with the carry over it, stand the
--- events of T up to its first alternative; what T left different joins the carry, which only gains. At the end of S
--- the store on entry goes on with the carry over it. An alternative by RETURN, which no source can give, counts too. The
--- input position is a cell like others: what T read stays read, also over what S read before its next alternative
+-- goes through the alternatives of S with the carry so far. In the store of each, with the carry
+-- over it, stand the events of T up to its first alternative; what T left different joins the
+-- carry, which only gains. At the end of S the store on entry goes on with the carry over it. An
+-- alternative by RETURN, which no source can give, counts too. The input position is a cell like
+-- others: what T read stays read, also over what S read before its next alternative
 abbrev pub forall_row : (then_do : Store → Events NoYield) → Store → Carry Cell → Events NoYield → Events NoYield
 forall_row then_do s carry (Visit e) = Visit (forall_row then_do s carry e)
 forall_row then_do s carry (Print b e) = Print b (forall_row then_do s carry e)
@@ -163,7 +169,8 @@ forall_row then_do s carry Cut = Cut
 
 -- ---- READ
 
--- the size of the number in a cell, 0 where there is none; a number that stands here is never below 0
+-- the size of the number in a cell, 0 where there is none; a number that stands here is never below
+-- 0
 abbrev pub nat_in : Cell → ℕ
 nat_in (Number n) = nat_abs n
 nat_in Unknown = 0
@@ -173,11 +180,13 @@ nat_in (At p) = 0
 abbrev pub position : Store → ℕ
 position s = nat_in (cell_at s 0 0)
 
+-- the store with the input position there
 abbrev pub set_position : Store → ℕ → Store
 set_position s n = put s 0 0 (Number (pos n))
 
--- what was found is stored, and the position set behind it. Where nothing was found it fails and moves nothing.
--- A number outside 64 bits is fault ReadRange, one outside the variable's type fault Range
+-- what was found is stored, and the position set behind it. Where nothing was found it fails and
+-- moves nothing. A number outside 64 bits is fault ReadRange, one outside the variable's type fault
+-- Range
 abbrev pub store_number : Store → Place → Range → ReadInt → Events NoYield
 store_number s p range found.NoNumber = Fail
 store_number s p range found.TooLarge = Fault fault.ReadRange 0
@@ -188,26 +197,29 @@ abbrev pub store_byte : Store → Place → Range → ℕ → List ℕ → Event
 store_byte s p range place [] = Fail
 store_byte s p range place (c ∷ rest) = check_range range (pos c) (λ _. one (put_at (set_position s (suc place)) p (Number (pos c))) tt)
 
+-- on an INTEGER type a number is read, on a CHAR type one byte; the place was located before
 abbrev pub read_row : List ℕ → ReadAs → Store → Place → Range → Events NoYield
 read_row input read_as.Int s p range = store_number s p range (number_from input (position s))
 read_row input read_as.Char s p range = store_byte s p range (position s) (drop (position s) input)
 
 -- ---- calls
 
--- an argument that was taken: a number for a value or for a MIX parameter, a place, or a place whose cells are copied
+-- an argument that was taken: a number for a value or for a MIX parameter, a place, or a place
+-- whose cells are copied
 pub data ArgValue : Type 0 where
   ArgNumber : ℤ → ArgValue
   ArgMix : ℤ → ArgValue
   ArgPlace : Place → ArgValue
   ArgCells : Place → ArgValue
 
+-- the cells with some put from a slot on
 abbrev pub set_all : List Cell → ℕ → List Cell → List Cell
 set_all cells slot [] = cells
 set_all cells slot (c ∷ cs) = set_all (set cells slot c) (suc slot) cs
 
--- one parameter's cells in the frame with this number. A MIX parameter has a place slot and then a number slot:
--- a number is put into the second, and the first names it; a place is put into the first, and the second is unknown.
--- Cells are copied from the store as it is after all arguments
+-- one parameter's cells in the frame with this number. A MIX parameter has a place slot and then a
+-- number slot: a number is put into the second, and the first names it; a place is put into the
+-- first, and the second is unknown. Cells are copied from the store as it is after all arguments
 abbrev pub with_param : Store → ℕ → ℕ → ArgValue → List Cell → List Cell
 with_param s frame slot (ArgNumber n) cells = set cells slot (Number n)
 with_param s frame slot (ArgMix n) cells =
@@ -215,6 +227,8 @@ with_param s frame slot (ArgMix n) cells =
 with_param s frame slot (ArgPlace p) cells = set cells slot (At p)
 with_param s frame slot (ArgCells p) cells = set_all cells slot (cells_of s p)
 
+-- the cells of the frame with this number, with each parameter set from its argument; where there
+-- are too few arguments the other parameters stay unknown
 abbrev pub with_params : Store → ℕ → List Param → List ArgValue → List Cell → List Cell
 with_params s frame [] args cells = cells
 with_params s frame (p ∷ ps) [] cells = cells
@@ -232,12 +246,12 @@ frame_of s r links routine args = record {
   cells = with_params s (length s) routine.params args (replicate routine.slots Unknown);
 }
 
--- the new frame pushed and the body taken, where at most 10,000 frames live then, and they declare at most 1,048,576
--- cells. Both are asked after all arguments
+-- the new frame pushed and the body taken, where at most 10,000 frames live then, and they declare
+-- at most 1,048,576 cells. Both are asked after all arguments
 abbrev pub enter : Program → (body : Store → Events NoYield) → (r links : ℕ) → Store → List ArgValue → Events NoYield
 enter p body r links s args =
-    fault_unless fault.DepthFull (nat_lt (length s) 10000) (λ _.
-    fault_unless fault.CellsFull (nat_le (declared_cells p s + (routine_at p r).declared) 1048576) (λ _.
+    fault_unless fault.DepthFull (nat_lt (length s) frame_limit) (λ _.
+    fault_unless fault.CellsFull (nat_le (declared_cells p s + (routine_at p r).declared) cell_limit) (λ _.
     body (s ++ frame_of s r links (routine_at p r) args ∷ [])))
 
 -- a call as a test: each alternative of the body, with the top frame dropped, goes on
@@ -255,8 +269,9 @@ function_value line s (Return (Some n)) = one (without_top s) n
 function_value line s (Return None) = Fault fault.NoReturn line
 function_value line s (Go y) = Fault fault.NoReturn line
 
--- A call in an expression: the number of the first way in which the body ends. A body that fails leaves the expression
--- without an alternative, and so what holds it: an assignment fails, and a condition has no alternative, as if it failed
+-- A call in an expression: the number of the first way in which the body ends. A body that fails
+-- leaves the expression without an alternative, and so what holds it: an assignment fails, and a
+-- condition has no alternative, as if it failed
 abbrev pub as_value : (line : ℕ) → Events NoYield → Events ℤ
 as_value line e = on_first e (function_value line) (λ _. Fail)
 

@@ -15,8 +15,8 @@ pub data Cell : Type 0 where
   Number : ℤ → Cell
   At : Place → Cell
 
--- a call that lives: its routine, its link, which is the number of a frame of the routine round it, or 0 for the global
--- frame, and its cells, one a slot
+-- a call that lives: its routine, its link, which is the number of a frame of the routine round it,
+-- or 0 for the global frame, and its cells, one a slot
 pub record Frame : Type 0 where
   pub routine : ℕ
   pub link : ℕ
@@ -26,6 +26,7 @@ pub record Frame : Type 0 where
 abbrev pub Store : Type 0
 Store = List Frame
 
+-- what stands where there is no frame: its link leads to the global frame
 abbrev pub no_frame : Frame
 no_frame = record { routine = 0; link = 0; cells = [] }
 
@@ -33,6 +34,7 @@ no_frame = record { routine = 0; link = 0; cells = [] }
 abbrev pub cell_at : Store → ℕ → ℕ → Cell
 cell_at s frame slot = get_or (get_or s frame no_frame).cells slot Unknown
 
+-- the frame with one cell changed, or as it is where it has no such slot
 abbrev pub with_cell : Frame → ℕ → Cell → Frame
 with_cell f slot c = record f { cells = set f.cells slot c }
 
@@ -72,6 +74,7 @@ part p offset n = record { frame = p.frame; slot = p.slot + offset; size = n }
 abbrev pub top : Store → ℕ
 top s = length s - 1
 
+-- the frame on top
 abbrev pub top_frame : Store → Frame
 top_frame s = get_or s (top s) no_frame
 
@@ -84,6 +87,7 @@ up_from s frame (suc links) = up_from s (get_or s frame no_frame).link links
 abbrev pub up : Store → (links : ℕ) → ℕ
 up s links = up_from s (top s) links
 
+-- the store without the frame on top
 abbrev pub without_top : Store → Store
 without_top s = take (top s) s
 
@@ -91,6 +95,7 @@ without_top s = take (top s) s
 abbrev pub top_cell : Store → ℕ → Cell
 top_cell s slot = cell_at s (top s) slot
 
+-- the store with one cell of the frame on top changed
 abbrev pub put_top : Store → ℕ → Cell → Store
 put_top s slot c = put s (top s) slot c
 
@@ -113,6 +118,7 @@ abbrev pub over : Store → Carry Cell → Store
 over s [] = s
 over s (x ∷ rest) = over (put s x.frame x.slot x.cell) rest
 
+-- the changes with one more in front, unless the two cells have one content
 abbrev pub change_unless : Bool → ℕ → ℕ → Cell → List (Change Cell) → List (Change Cell)
 change_unless true frame slot c rest = rest
 change_unless false frame slot c rest = record { frame = frame; slot = slot; cell = c } ∷ rest
@@ -124,6 +130,7 @@ cell_changes frame slot (old ∷ olds) [] = []
 cell_changes frame slot (old ∷ olds) (c ∷ now) =
     change_unless (same_cell old c) frame slot c (cell_changes frame (suc slot) olds now)
 
+-- the changes of each frame that both stores have, from the frame with this number on
 abbrev pub changes_from : ℕ → Store → Store → List (Change Cell)
 changes_from frame [] now = []
 changes_from frame (f ∷ fs) [] = []

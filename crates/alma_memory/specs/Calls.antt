@@ -50,12 +50,14 @@ pub record Makes (call : Call) (old new : Picture) : Type 0 where
   pub now : new.now ≡ now_after call old
   pub held : new.held ≡ held_after call old
 
--- the calls, one after another, take the first picture to the second, and after each of them there are at least so many entries
+-- the calls, one after another, take the first picture to the second, and after each of them there
+-- are at least so many entries
 abbrev pub Leads : (entries : ℕ) → List Call → (old new : Picture) → Type 0
 Leads entries [] old new = (new.now ≡ old.now) × (new.held ≡ old.held)
 Leads entries (call ∷ calls) old new = (next : Picture) × Makes call old next × (entries ≤ length next.held) × Leads entries calls next new
 
--- a choice, any calls that leave its entry, a cut to its height and a pop give back the frames from before the choice
+-- a choice, any calls that leave its entry, a cut to its height and a pop give back the frames from
+-- before the choice
 abbrev pub GivesBack : Type 0
 GivesBack =
     (kind : ChoiceKind) (resume : ℕ) (calls : List Call) (before chosen later cut failed : Picture)

@@ -1,5 +1,6 @@
 -- What is true of the frames of a memory at each moment.
 use Rattle.std.specs.Prelude.{◌≡◌, ◌≤◌, ◌<◌, ◌^◌, List, [], ◌∷◌, length}
+use Rattle.alma_base.specs.Limits.{cell_limit, frame_limit}
 use Rattle.alma_code.specs.Picture.{PlainFrame, live_cells}
 
 -- each slot has a kind and a cell, and there are fewer than 2^32 of them
@@ -15,6 +16,6 @@ AreWhole (frame ∷ frames) = IsWhole frame × AreWhole frames
 -- frames that may be live together
 pub record AreLive (frames : List PlainFrame) : Type 0 where
   pub some : 1 ≤ length frames
-  pub few : length frames ≤ 10000
-  pub declared : live_cells frames ≤ 1048576
+  pub few : length frames ≤ frame_limit
+  pub declared : live_cells frames ≤ cell_limit
   pub whole : AreWhole frames

@@ -1,6 +1,6 @@
 -- Definitions of contracts between the functions of this crate; no reader above it has to believe them.
 pub mod Counted
-pub mod Gain
-pub mod Held
-pub mod Past
 pub mod Trail
+pub mod Held
+pub mod Gain
+pub mod Past

@@ -2,7 +2,8 @@
 use Rattle.std.specs.Prelude.{ℕ, List, ◌≤◌}
 use Rattle.alma_code.specs.Picture.{PlainFrame, PlainEntry}
 
--- the live frames, the stack of choice entries from the bottom, and the free places for entries and for trail notes
+-- the live frames, the stack of choice entries from the bottom, and the free places for entries and
+-- for trail notes
 pub record Picture : Type 0 where
   pub now : List PlainFrame
   pub held : List PlainEntry

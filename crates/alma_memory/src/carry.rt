@@ -60,7 +60,8 @@ impl Carry {
 
     /// Sets the cell of a slot, and answers what the carry had for it.
     pub fn set(&mut self, place: SlotPlace, cell: Cell) -> Result<Option<Cell>, NoMemory>
-        ensures carry { self.new ≡ (if is_ok result then with_change (change_of place cell) self.old else self.old) }
+        ensures carry { self.new ≡ (if is_ok result then with_change
+            (change_of place cell) self.old else self.old) }
         ensures had { IfOk result (λ had. had ≡ carried_at place.frame place.slot self.old) }
     {
         Ok(self.cells.insert(place, cell)?)
@@ -101,8 +102,10 @@ impl Carry {
     ) -> Result<(), NoMemory>
         requires empty { had.old.items ≡ [] }
         requires room { length changes.now ≤ vec_capacity had.old }
-        ensures carry { self.new ≡ with_changes (listed (take (vec_len had.new) changes.now)) self.old }
-        ensures had { had.new.items ≡ cells_before_setting (take (vec_len had.new) changes.now) self.old }
+        ensures carry { self.new ≡ with_changes (listed (take (vec_len had.new) changes.now))
+            self.old }
+        ensures had { had.new.items ≡ cells_before_setting
+            (take (vec_len had.new) changes.now) self.old }
         ensures some { vec_len had.new ≤ length changes.now }
         ensures all { IsOk result → vec_len had.new ≡ length changes.now }
         ensures rising { IsRising self.old }
@@ -120,7 +123,8 @@ impl Carry {
 
     /// Sets the cells one after another, or none of them.
     pub fn set_all(&mut self, alloc: Global, changes: &[(SlotPlace, Cell)]) -> Result<(), NoMemory>
-        ensures carry { self.new ≡ (if is_ok result then with_changes (listed changes.now) self.old else self.old) }
+        ensures carry { self.new ≡ (if is_ok result then with_changes
+            (listed changes.now) self.old else self.old) }
         ensures rising { OnOk result (IsRising self.old) }
     {
         let mut had = Vec::with_capacity(alloc, changes.len())?;

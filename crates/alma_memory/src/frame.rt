@@ -36,7 +36,13 @@ impl Frame {
         kinds: Vec<SlotKind>,
         cells: Vec<Cell>,
     ) -> Frame
-        ensures { result ≡ record { routine = routine; back = back; declared = declared; kinds = kinds.items; cells = cells.items } }
+        ensures { result ≡ record {
+          routine = routine;
+          back = back;
+          declared = declared;
+          kinds = kinds.items;
+          cells = cells.items;
+        } }
     {
         Frame {
             routine,

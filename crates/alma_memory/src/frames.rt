@@ -1,5 +1,6 @@
 // The live frames, and how many cells they declare.
 ghost use Rattle.std.specs.Prelude.{◌≡◌, ℕ, ◌+◌, ◌<◌, ◌≤◌, [], ◌∷◌, ◌++◌, length, slice_index_or, IfOk};
+ghost use Rattle.alma_base.specs.Limits.{cell_limit, frame_limit};
 ghost use Rattle.alma_code.specs.Picture.{no_frame, written, cell_at, last_frame, without_last, live_cells};
 ghost use Rattle.alma_code.specs.Carries.{number_at};
 ghost use Rattle.alma_memory.specs.Frames.{AreWhole};
@@ -8,16 +9,10 @@ ghost use Rattle.alma_code.specs.declared.cell.Cell.TheVariants as cell;
 
 use crate::carry::SlotPlace;
 use crate::frame::Frame;
-use alma_base::NoMemory;
+use alma_base::{FRAME_LIMIT, NoMemory};
 use alma_code::Cell;
 use std::alloc::Global;
 use std::marker::Model;
-
-/// How many frames may be live together.
-pub const MAX_FRAMES: u32 = 10000;
-
-/// How many cells the live frames may declare together.
-pub const MAX_CELLS: u32 = 1048576;
 
 // There is always room to put a frame back.
 #[derive(Drop)]
@@ -42,11 +37,11 @@ impl Model for Frames {
 impl Frames {
     // One frame, and room for all that may be live.
     pub fn start(alloc: Global, frame: Frame) -> Result<Frames, NoMemory>
-        requires { frame.declared ≤ 1048576 }
+        requires { frame.declared ≤ cell_limit }
         ensures { IfOk result (λ frames. frames ≡ frame ∷ []) }
     {
         let declared = frame.declared();
-        let mut list = Vec::with_capacity(alloc, MAX_FRAMES as usize)?;
+        let mut list = Vec::with_capacity(alloc, FRAME_LIMIT as usize)?;
         list.push(frame)?;
         Ok(Frames { list, declared })
     }
@@ -59,7 +54,7 @@ impl Frames {
 
     pub fn declared(&self) -> u32
         ensures value { result ≡ live_cells self.now }
-        ensures limit { result ≤ 1048576 }
+        ensures limit { result ≤ cell_limit }
     {
         self.declared
     }
@@ -116,8 +111,8 @@ impl Frames {
     }
 
     pub fn push(&mut self, frame: Frame)
-        requires depth { length self.old < 10000 }
-        requires cells { live_cells self.old + frame.declared ≤ 1048576 }
+        requires depth { length self.old < frame_limit }
+        requires cells { live_cells self.old + frame.declared ≤ cell_limit }
         ensures { self.new ≡ self.old ++ frame ∷ [] }
     {
         self.declared += frame.declared();

@@ -24,7 +24,8 @@ fn changes_since(
 ) -> Result<Vec<(SlotPlace, Cell)>, NoMemory>
     requires fits { Fits trail.now frames.now }
     requires mark { mark ≤ length trail.now }
-    ensures { IfOk result (λ found. SameGain (listed found.items) (diffs (unwind (drop mark trail.now) frames.now) frames.now)) }
+    ensures { IfOk result (λ found. SameGain (listed found.items)
+        (diffs (unwind (drop mark trail.now) frames.now) frames.now)) }
 {
     let past = past_of(alloc, frames, trail, mark)?;
     past.changes(alloc)
@@ -38,7 +39,9 @@ fn gain(
     changes: &[(SlotPlace, Cell)],
 ) -> Result<(), NoMemory>
     requires { at < length entries.old.items }
-    ensures items { entries.new.items ≡ (if is_ok result then set entries.old.items at (entry_with_changes (slice_index_or entries.old.items at no_saved) (listed changes.now)) else entries.old.items) }
+    ensures items { entries.new.items ≡ (if is_ok result then set entries.old.items at
+        (entry_with_changes (slice_index_or entries.old.items at no_saved) (listed changes.now))
+        else entries.old.items) }
     ensures rising { OnOk result (IsRising (slice_index_or entries.old.items at no_saved).carry) }
     ensures len { vec_len entries.new ≡ vec_len entries.old }
     ensures capacity { vec_capacity entries.new ≡ vec_capacity entries.old }
@@ -59,7 +62,8 @@ pub fn keep_top(
     requires low { 1 ≤ height }
     requires below { height < length entries.old.items }
     ensures held { held_of trail.now frames.now entries.new.items
-        ≡ (if is_ok result then kept (held_of trail.now frames.now entries.old.items) height frames.now else held_of trail.now frames.now entries.old.items) }
+        ≡ (if is_ok result then kept (held_of trail.now frames.now entries.old.items) height
+        frames.now else held_of trail.now frames.now entries.old.items) }
     ensures trailed { IsTrailed entries.new.items trail.now frames.now }
     ensures len { vec_len entries.new ≤ vec_len entries.old }
     ensures capacity { vec_capacity entries.new ≡ vec_capacity entries.old }

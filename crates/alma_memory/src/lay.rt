@@ -33,7 +33,8 @@ fn lay_one(
 /// Lays a carry over the frames.
 pub fn lay(entries: &[Entry], frames: &mut Frames, trail: &mut Vec<Note>, carry: &Carry)
     requires trailed { IsTrailed entries.now trail.old.items frames.old }
-    requires room { HasNoteRoom entries.now (length carry.now) (vec_len trail.old) (vec_capacity trail.old) }
+    requires room { HasNoteRoom entries.now (length carry.now) (vec_len trail.old)
+        (vec_capacity trail.old) }
     ensures frames { frames.new ≡ frames_with_carry frames.old carry.now }
     ensures keeps { Keeps entries.now trail.old.items trail.new.items frames.old frames.new }
     ensures capacity { vec_capacity trail.old ≤ vec_capacity trail.new }
@@ -47,9 +48,11 @@ pub fn lay(entries: &[Entry], frames: &mut Frames, trail: &mut Vec<Note>, carry:
 /// Lays the carry of an entry that was taken from the top over the frames.
 pub fn lay_last(entries: &[Entry], frames: &mut Frames, trail: &mut Vec<Note>, entry: Entry)
     requires trailed { IsTrailed (entries.now ++ entry ∷ []) trail.old.items frames.old }
-    requires room { HasNoteRoom entries.now (length entry.carry) (vec_len trail.old) (vec_capacity trail.old) }
+    requires room { HasNoteRoom entries.now (length entry.carry) (vec_len trail.old)
+        (vec_capacity trail.old) }
     ensures frames { frames.new ≡ frames_with_carry frames.old entry.carry }
-    ensures held { held_of trail.new.items frames.new entries.now ≡ held_of trail.old.items frames.old entries.now }
+    ensures held { held_of trail.new.items frames.new entries.now
+        ≡ held_of trail.old.items frames.old entries.now }
     ensures trailed { IsTrailed entries.now trail.new.items frames.new }
     ensures capacity { vec_capacity trail.old ≤ vec_capacity trail.new }
     ensures len { vec_len trail.new ≤ vec_len trail.old + length entry.carry }

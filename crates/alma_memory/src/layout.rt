@@ -47,7 +47,8 @@ fn blank(kind: SlotKind) -> Cell
 
 // Blank cells for the slots that have none yet.
 fn push_blanks(cells: &mut Vec<Cell>, kinds: &[SlotKind]) -> Result<(), NoMemory>
-    ensures { IfOk result (λ _. cells.new.items ≡ cells.old.items ++ drop (length cells.old.items) (map blank_of kinds.now)) }
+    ensures { IfOk result (λ _. cells.new.items ≡ cells.old.items ++ drop (length cells.old.items)
+        (map blank_of kinds.now)) }
 {
     let from = cells.len();
     for i in from..kinds.len() {
@@ -63,10 +64,12 @@ fn push_arg(
     param: CodeParam,
     arg: Cell,
 ) -> Result<(), NoMemory>
-    requires fits { FitsParam (IsLive frames.now) (λ routine. IsLive frames.now) param.kind param.cells arg }
+    requires fits { FitsParam (IsLive frames.now) (λ routine. IsLive frames.now) param.kind
+        param.cells arg }
     requires whole { AreWhole frames.now }
     requires room { param.kind ≡ ParamKind.Mix → length cells.old.items + 1 < 2 ^ 32 }
-    ensures { IfOk result (λ _. cells.new.items ≡ cells.old.items ++ arg_cells frames.now (length frames.now) (length cells.old.items) param.kind arg) }
+    ensures { IfOk result (λ _. cells.new.items ≡ cells.old.items ++ arg_cells frames.now
+        (length frames.now) (length cells.old.items) param.kind arg) }
 {
     match param.kind {
         ParamKind::Value | ParamKind::Place | ParamKind::Link => {
@@ -81,7 +84,8 @@ fn push_arg(
 // The two slots of a Mix in the frame `me`.
 fn push_mix(cells: &mut Vec<Cell>, me: u32, arg: Cell) -> Result<(), NoMemory>
     requires { length cells.old.items + 1 < 2 ^ 32 }
-    ensures { IfOk result (λ _. cells.new.items ≡ cells.old.items ++ mix_cells me (length cells.old.items) arg) }
+    ensures { IfOk result (λ _. cells.new.items ≡ cells.old.items ++ mix_cells me
+        (length cells.old.items) arg) }
 {
     match arg {
         Cell::Place(_) => {
@@ -110,7 +114,8 @@ fn push_copies(
 ) -> Result<(), NoMemory>
     requires fits { FitsPlace (IsLive frames.now) count arg }
     requires whole { AreWhole frames.now }
-    ensures { IfOk result (λ _. cells.new.items ≡ cells.old.items ++ cells_behind_argument frames.now arg) }
+    ensures { IfOk result (λ _. cells.new.items ≡ cells.old.items
+        ++ cells_behind_argument frames.now arg) }
 {
     match arg {
         Cell::Place(place) if place.len > 0 => {
@@ -133,8 +138,10 @@ fn cells_from<H: Head>(
     requires head { IsHead (H.head head.now) }
     requires whole { AreWhole frames.now }
     requires kinds { kinds.now ≡ kinds_of 0 (H.head head.now).runs }
-    requires args { FitsParams (IsLive frames.now) (λ routine. IsLive frames.now) (H.head head.now).params args.now }
-    ensures { IfOk result (λ cells. cells.items ≡ cells_of_call frames.now (H.head head.now) args.now) }
+    requires args { FitsParams (IsLive frames.now) (λ routine. IsLive frames.now)
+        (H.head head.now).params args.now }
+    ensures { IfOk result (λ cells. cells.items ≡ cells_of_call frames.now
+        (H.head head.now) args.now) }
 {
     let mut cells = Vec::with_capacity(alloc, head.slots() as usize)?;
     for i in 0..head.param_count() {
@@ -169,8 +176,10 @@ pub fn frame_from<H: Head>(
 ) -> Result<Frame, NoMemory>
     requires head { IsHead (H.head head.now) }
     requires whole { AreWhole frames.now }
-    requires args { FitsParams (IsLive frames.now) (λ routine. IsLive frames.now) (H.head head.now).params args.now }
-    ensures frame { IfOk result (λ frame. frame ≡ frame_of_call frames.now (H.head head.now) routine ret args.now) }
+    requires args { FitsParams (IsLive frames.now) (λ routine. IsLive frames.now)
+        (H.head head.now).params args.now }
+    ensures frame { IfOk result (λ frame. frame ≡ frame_of_call frames.now
+        (H.head head.now) routine ret args.now) }
     ensures whole { IfOk result IsWhole }
 {
     let kinds = kinds_from(alloc, head)?;

@@ -15,6 +15,3 @@ mod trail;
 pub use alma_base::NoMemory;
 pub use alma_code::{Cell, CellPlace, ChoiceKind, CodeParam, Head, ParamKind, Run, SlotKind};
 pub use memory::{EnterError, Memory, Resumed};
-
-#[cfg(test)]
-mod tests;

@@ -1,5 +1,6 @@
 // The memory of the machine, and its calls.
 ghost use Rattle.std.specs.Prelude.{◌≡◌, ◌≢◌, ◌+◌, ◌-◌, ◌<◌, ◌≤◌, [], ◌∷◌, ◌++◌, length, take, is_ok, is_some, slice_index_or, slice_get, Some, IfOk, OnOk, OnErr, IsOk, IsSome, IsNone, IfSome, IfNone, MatchResult, if◌then◌else◌, ◌↔◌};
+ghost use Rattle.alma_base.specs.Limits.{cell_limit};
 ghost use Rattle.alma_code.specs.Picture.{no_frame, written, cell_at, kind_at, last_frame, without_last, live_cells, stack_after_pop, top_of, entry_at};
 ghost use Rattle.alma_code.specs.Carries.{IsLive, IsForallAt, IsTop, kept, frames_with_carry};
 ghost use Rattle.alma_code.specs.Layout.{IsHead, FitsParams, start_frame, frame_of_call};
@@ -9,14 +10,14 @@ ghost use Rattle.alma_memory.specs.Picture.{KeepsRooms};
 ghost use Rattle.alma_memory.specs.Refusals.{HasFrameRoom, RefusesFor};
 
 use crate::carry::{Carry, SlotPlace};
-use crate::frames::{Frames, MAX_CELLS, MAX_FRAMES};
+use crate::frames::Frames;
 use crate::keep::keep_top;
 use crate::lay::{lay, lay_last};
 use crate::layout::{frame_from, start_from};
 use crate::trail::{
     Entry, Note, cut_to, enter_noted, fail_to, leave_noted, room_for_notes, write_noted,
 };
-use alma_base::NoMemory;
+use alma_base::{CELL_LIMIT, FRAME_LIMIT, NoMemory};
 use alma_code::{Cell, ChoiceKind, Head, SlotKind};
 use std::alloc::Global;
 use std::marker::Model;
@@ -73,7 +74,7 @@ impl Memory {
     pub fn new<H: Head>(alloc: Global, head: &H) -> Result<Memory, NoMemory>
         requires head { IsHead (H.head head.now) }
         requires some { 1 ≤ (H.head head.now).slots }
-        requires few { (H.head head.now).declared ≤ 1048576 }
+        requires few { (H.head head.now).declared ≤ cell_limit }
         ensures now { IfOk result (λ memory. memory.now ≡ start_frame (H.head head.now) ∷ []) }
         ensures held { IfOk result (λ memory. memory.held ≡ []) }
     {
@@ -91,7 +92,8 @@ impl Memory {
         ensures now { self.new.now ≡ self.old.now }
         ensures held { self.new.held ≡ self.old.held }
         ensures rooms { KeepsRooms self.old self.new }
-        ensures succeeds { choices ≤ self.old.choice_room → trail ≤ self.old.trail_room → IsOk result }
+        ensures succeeds { choices ≤ self.old.choice_room → trail ≤ self.old.trail_room
+            → IsOk result }
         ensures choice_room { OnOk result (choices ≤ self.new.choice_room) }
         ensures trail_room { OnOk result (trail ≤ self.new.trail_room) }
         ensures call { Makes Nothing self.old self.new }
@@ -163,12 +165,15 @@ impl Memory {
     pub fn write(&mut self, frame: u32, slot: u32, cell: Cell) -> Result<(), NoMemory>
         requires live { frame < length self.old.now }
         requires slot_of { slot < length (slice_index_or self.old.now frame no_frame).cells }
-        ensures now { self.new.now ≡ (if is_ok result then written self.old.now frame slot cell else self.old.now) }
+        ensures now { self.new.now ≡ (if is_ok result then written self.old.now frame slot cell else
+            self.old.now) }
         ensures held { self.new.held ≡ self.old.held }
         ensures succeeds { 1 ≤ self.old.trail_room → IsOk result }
         ensures choice_room { self.old.choice_room ≤ self.new.choice_room }
-        ensures trail_room { self.old.trail_room ≤ self.new.trail_room + (if is_ok result then 1 else 0) }
-        ensures call { Makes (if is_ok result then Write frame slot cell else Nothing) self.old self.new }
+        ensures trail_room { self.old.trail_room ≤ self.new.trail_room +
+            (if is_ok result then 1 else 0) }
+        ensures call { Makes (if is_ok result then Write frame slot cell else Nothing) self.old
+            self.new }
     {
         room_for_notes(self.entries.as_slice(), &mut self.trail, 1)?;
         write_noted(
@@ -190,24 +195,28 @@ impl Memory {
         args: &[Cell],
     ) -> Result<(), EnterError>
         requires head { IsHead (H.head head.now) }
-        requires args { FitsParams (IsLive self.old.now) (λ routine. IsLive self.old.now) (H.head head.now).params args.now }
+        requires args { FitsParams (IsLive self.old.now) (λ routine. IsLive self.old.now)
+            (H.head head.now).params args.now }
         ensures now { self.new.now ≡ (if is_ok result
-            then self.old.now ++ frame_of_call self.old.now (H.head head.now) routine ret args.now ∷ []
+            then self.old.now ++ frame_of_call self.old.now (H.head head.now) routine ret args.now
+            ∷ []
             else self.old.now) }
         ensures held { self.new.held ≡ self.old.held }
         ensures answer { MatchResult result
             (λ _. HasFrameRoom self.old.now (H.head head.now).declared)
             (λ error. RefusesFor error self.old.now (H.head head.now).declared) }
         ensures choice_room { self.old.choice_room ≤ self.new.choice_room }
-        ensures trail_room { self.old.trail_room ≤ self.new.trail_room + (if is_ok result then 1 else 0) }
+        ensures trail_room { self.old.trail_room ≤ self.new.trail_room +
+            (if is_ok result then 1 else 0) }
         ensures call { Makes
-            (if is_ok result then Enter (frame_of_call self.old.now (H.head head.now) routine ret args.now) else Nothing)
+            (if is_ok result then Enter (frame_of_call self.old.now
+            (H.head head.now) routine ret args.now) else Nothing)
             self.old self.new }
     {
-        if self.frames.len() >= MAX_FRAMES {
+        if self.frames.len() >= FRAME_LIMIT {
             return Err(EnterError::DepthFull);
         }
-        if head.declared() > MAX_CELLS - self.frames.declared() {
+        if head.declared() > CELL_LIMIT - self.frames.declared() {
             return Err(EnterError::CellsFull);
         }
         let Ok(frame) = frame_from(self.alloc, &self.frames, head, routine, ret, args) else {
@@ -228,12 +237,14 @@ impl Memory {
     /// Drops the top frame, and answers the address that it returns to.
     pub fn leave(&mut self) -> Result<u32, NoMemory>
         requires { 2 ≤ length self.old.now }
-        ensures now { self.new.now ≡ (if is_ok result then without_last self.old.now else self.old.now) }
+        ensures now { self.new.now ≡ (if is_ok result then without_last self.old.now else
+            self.old.now) }
         ensures held { self.new.held ≡ self.old.held }
         ensures back { IfOk result (λ back. back ≡ (last_frame self.old.now).back) }
         ensures succeeds { 1 ≤ self.old.trail_room → IsOk result }
         ensures choice_room { self.old.choice_room ≤ self.new.choice_room }
-        ensures trail_room { self.old.trail_room ≤ self.new.trail_room + (if is_ok result then 1 else 0) }
+        ensures trail_room { self.old.trail_room ≤ self.new.trail_room +
+            (if is_ok result then 1 else 0) }
         ensures call { Makes (if is_ok result then Leave else Nothing) self.old self.new }
     {
         room_for_notes(self.entries.as_slice(), &mut self.trail, 1)?;
@@ -245,12 +256,19 @@ impl Memory {
         requires { kind ≢ ChoiceKind.Done }
         ensures now { self.new.now ≡ self.old.now }
         ensures held { self.new.held ≡ (if is_ok result
-            then self.old.held ++ (record { kind = kind; resume = resume; frames = self.old.now; carry = [] }) ∷ []
+            then self.old.held ++ (record {
+              kind = kind;
+              resume = resume;
+              frames = self.old.now;
+              carry = [];
+            }) ∷ []
             else self.old.held) }
         ensures succeeds { 1 ≤ self.old.choice_room → IsOk result }
-        ensures choice_room { self.old.choice_room ≤ self.new.choice_room + (if is_ok result then 1 else 0) }
+        ensures choice_room { self.old.choice_room ≤ self.new.choice_room +
+            (if is_ok result then 1 else 0) }
         ensures trail_room { self.old.trail_room ≤ self.new.trail_room }
-        ensures call { Makes (if is_ok result then Choose kind resume else Nothing) self.old self.new }
+        ensures call { Makes (if is_ok result then Choose kind resume else Nothing) self.old
+            self.new }
     {
         let entry = Entry {
             kind,
@@ -317,7 +335,8 @@ impl Memory {
             then frames_with_carry self.old.now (entry_at self.old.held height).carry
             else self.old.now) }
         ensures held { self.new.held ≡ self.old.held }
-        ensures succeeds { length (entry_at self.old.held height).carry ≤ self.old.trail_room → IsOk result }
+        ensures succeeds { length (entry_at self.old.held height).carry ≤ self.old.trail_room
+            → IsOk result }
         ensures choice_room { self.old.choice_room ≤ self.new.choice_room }
         ensures trail_room { self.old.trail_room ≤ self.new.trail_room
             + (if is_ok result then length (entry_at self.old.held height).carry else 0) }
@@ -341,7 +360,8 @@ impl Memory {
         requires forall { IsForallAt self.old.held height }
         requires below { height < length self.old.held }
         ensures now { self.new.now ≡ self.old.now }
-        ensures held { self.new.held ≡ (if is_ok result then kept self.old.held height self.old.now else self.old.held) }
+        ensures held { self.new.held ≡ (if is_ok result then kept self.old.held height self.old.now
+            else self.old.held) }
         ensures rooms { KeepsRooms self.old self.new }
         ensures call { Makes (if is_ok result then Keep height else Nothing) self.old self.new }
     {
@@ -357,8 +377,10 @@ impl Memory {
     /// Drops the Done on top, and lays its carry over the frames.
     pub fn finish(&mut self) -> Result<(), NoMemory>
         requires { IsTop self.old.held ChoiceKind.Done }
-        ensures now { self.new.now ≡ (if is_ok result then frames_with_carry self.old.now (top_of self.old.held).carry else self.old.now) }
-        ensures held { self.new.held ≡ (if is_ok result then take (length self.old.held - 1) self.old.held else self.old.held) }
+        ensures now { self.new.now ≡ (if is_ok result then frames_with_carry self.old.now
+            (top_of self.old.held).carry else self.old.now) }
+        ensures held { self.new.held ≡ (if is_ok result then take
+            (length self.old.held - 1) self.old.held else self.old.held) }
         ensures succeeds { length (top_of self.old.held).carry ≤ self.old.trail_room → IsOk result }
         ensures choice_room { self.old.choice_room ≤ self.new.choice_room }
         ensures trail_room { self.old.trail_room ≤ self.new.trail_room

@@ -1,5 +1,6 @@
 // The frames from before some notes, known by what of the frames of now was other then.
 ghost use Rattle.std.specs.Prelude.{◌≡◌, ◌+◌, ◌<◌, ◌≤◌, ◌∷◌, [], ◌++◌, length, drop, true, IfOk, slice_index_or};
+ghost use Rattle.alma_base.specs.Limits.{frame_limit};
 ghost use Rattle.alma_code.specs.Picture.{no_frame, written, without_last};
 ghost use Rattle.alma_code.specs.Carries.{diffs, diff_at, slot_diffs, same_cell};
 ghost use Rattle.alma_memory.specs.Carries.{listed};
@@ -55,9 +56,11 @@ impl<'a> Past<'a> {
     // Puts back the old cell of a place.
     fn write(&mut self, place: SlotPlace, cell: Cell) -> Result<(), NoMemory>
         requires live { place.frame < length self.old.before }
-        requires slot_of { place.slot < length (slice_index_or self.old.before place.frame no_frame).cells }
+        requires slot_of { place.slot < length (slice_index_or self.old.before place.frame
+            no_frame).cells }
         ensures now { self.new.now ≡ self.old.now }
-        ensures before { IfOk result (λ _. self.new.before ≡ written self.old.before place.frame place.slot cell) }
+        ensures before { IfOk result (λ _. self.new.before
+            ≡ written self.old.before place.frame place.slot cell) }
     {
         if place.frame < self.shared {
             self.cells.set(place, cell)?;
@@ -131,7 +134,8 @@ impl<'a> Past<'a> {
     ) -> Result<(), NoMemory>
         requires before { AreWhole self.now.before }
         requires now { AreWhole self.now.now }
-        ensures { IfOk result (λ _. listed found.new.items ≡ listed found.old.items ++ diff_at self.now.before self.now.now place.frame place.slot) }
+        ensures { IfOk result (λ _. listed found.new.items ≡ listed found.old.items
+            ++ diff_at self.now.before self.now.now place.frame place.slot) }
     {
         if let Some(cell) = changed_to(self.number(place), self.frames.number(place)) {
             found.push((place, cell))?;
@@ -148,7 +152,8 @@ impl<'a> Past<'a> {
     ) -> Result<(), NoMemory>
         requires before { AreWhole self.now.before }
         requires now { AreWhole self.now.now }
-        ensures { IfOk result (λ _. listed found.new.items ≡ listed found.old.items ++ slot_diffs self.now.before self.now.now frame slots) }
+        ensures { IfOk result (λ _. listed found.new.items ≡ listed found.old.items
+            ++ slot_diffs self.now.before self.now.now frame slots) }
     {
         for slot in 0..slots {
             self.push_change(found, SlotPlace { frame, slot })?;
@@ -175,8 +180,9 @@ impl<'a> Past<'a> {
         requires before { AreWhole self.now.before }
         requires now { AreWhole self.now.now }
         requires live { low + count ≤ length self.now.now }
-        requires few { length self.now.now ≤ 10000 }
-        ensures { IfOk result (λ _. listed found.new.items ≡ listed found.old.items ++ diffs_between self.now.before self.now.now low count) }
+        requires few { length self.now.now ≤ frame_limit }
+        ensures { IfOk result (λ _. listed found.new.items ≡ listed found.old.items
+            ++ diffs_between self.now.before self.now.now low count) }
     {
         for at in 0..count {
             let frame = low + at;
@@ -193,7 +199,8 @@ impl<'a> Past<'a> {
     ) -> Result<(), NoMemory>
         requires before { AreWhole self.now.before }
         requires now { AreWhole self.now.now }
-        ensures { IfOk result (λ _. listed found.new.items ≡ listed found.old.items ++ diffs_at self.now.before self.now.now places.now) }
+        ensures { IfOk result (λ _. listed found.new.items ≡ listed found.old.items
+            ++ diffs_at self.now.before self.now.now places.now) }
     {
         for (place, _) in &places.cells {
             self.push_change(found, *place)?;
@@ -206,7 +213,8 @@ impl<'a> Past<'a> {
     pub fn changes(&self, alloc: Global) -> Result<Vec<(SlotPlace, Cell)>, NoMemory>
         requires before { AreLive self.now.before }
         requires now { AreLive self.now.now }
-        ensures { IfOk result (λ found. SameGain (listed found.items) (diffs self.now.before self.now.now)) }
+        ensures { IfOk result (λ found. SameGain (listed found.items)
+            (diffs self.now.before self.now.now)) }
     {
         let mut found = Vec::new(alloc);
         self.push_places(&mut found, &self.cells)?;

@@ -1,5 +1,6 @@
 // The trail: notes of what changed since each entry was pushed, and how they are undone.
 ghost use Rattle.std.specs.Prelude.{◌≡◌, ◌+◌, ◌-◌, ◌<◌, ◌≤◌, [], ◌∷◌, ◌++◌, length, take, drop, slice_index_or, OnOk, IsOk, IsSome, IsNone, MatchOption, MatchResult, vec_len, vec_capacity};
+ghost use Rattle.alma_base.specs.Limits.{cell_limit, frame_limit};
 ghost use Rattle.alma_code.specs.Picture.{no_frame, written, last_frame, without_last, live_cells, stack_after_pop, top_of};
 ghost use Rattle.alma_memory.specs.Frames.{AreLive, IsWhole};
 ghost use Rattle.alma_memory.specs.Inner.Held.{Fits, HasNoteRoom, IsTrailed, Keeps, Undoes, stays};
@@ -37,7 +38,8 @@ pub fn room_for_notes(
 ) -> Result<(), NoMemory>
     ensures items { trail.new.items ≡ trail.old.items }
     ensures len { vec_len trail.new ≡ vec_len trail.old }
-    ensures room { OnOk result (HasNoteRoom entries.now notes (vec_len trail.new) (vec_capacity trail.new)) }
+    ensures room { OnOk result (HasNoteRoom entries.now notes (vec_len trail.new)
+        (vec_capacity trail.new)) }
     ensures capacity { vec_capacity trail.old ≤ vec_capacity trail.new }
     ensures succeeds { vec_len trail.old + notes ≤ vec_capacity trail.old → IsOk result }
 {
@@ -99,8 +101,8 @@ pub fn write_noted(
 pub fn enter_noted(entries: &[Entry], frames: &mut Frames, trail: &mut Vec<Note>, frame: Frame)
     requires trailed { IsTrailed entries.now trail.old.items frames.old }
     requires room { HasNoteRoom entries.now 1 (vec_len trail.old) (vec_capacity trail.old) }
-    requires depth { length frames.old < 10000 }
-    requires cells { live_cells frames.old + frame.declared ≤ 1048576 }
+    requires depth { length frames.old < frame_limit }
+    requires cells { live_cells frames.old + frame.declared ≤ cell_limit }
     requires whole { IsWhole frame }
     ensures frames { frames.new ≡ frames.old ++ frame ∷ [] }
     ensures keeps { Keeps entries.now trail.old.items trail.new.items frames.old frames.new }
@@ -184,8 +186,10 @@ fn put_back(entries: &mut Vec<Entry>, entry: Entry)
 pub fn fail_to(entries: &mut Vec<Entry>, frames: &mut Frames, trail: &mut Vec<Note>, entry: Entry)
     requires room { vec_len entries.old < vec_capacity entries.old }
     requires trailed { IsTrailed (entries.old.items ++ entry ∷ []) trail.old.items frames.old }
-    ensures now { frames.new ≡ (top_of (held_of trail.old.items frames.old (entries.old.items ++ entry ∷ []))).frames }
-    ensures held { held_of trail.new.items frames.new entries.new.items ≡ stack_after_pop (held_of trail.old.items frames.old (entries.old.items ++ entry ∷ [])) }
+    ensures now { frames.new ≡ (top_of (held_of trail.old.items frames.old
+        (entries.old.items ++ entry ∷ []))).frames }
+    ensures held { held_of trail.new.items frames.new entries.new.items ≡ stack_after_pop
+        (held_of trail.old.items frames.old (entries.old.items ++ entry ∷ [])) }
     ensures trailed { IsTrailed entries.new.items trail.new.items frames.new }
     ensures choice_capacity { vec_capacity entries.old ≤ vec_capacity entries.new }
     ensures choice_len { vec_len entries.new ≤ vec_len entries.old + 1 }
@@ -200,7 +204,8 @@ pub fn fail_to(entries: &mut Vec<Entry>, frames: &mut Frames, trail: &mut Vec<No
 /// Drops the entries above a height.
 pub fn cut_to(entries: &mut Vec<Entry>, frames: &Frames, trail: &mut Vec<Note>, height: usize)
     requires { IsTrailed entries.old.items trail.old.items frames.now }
-    ensures held { held_of trail.new.items frames.now entries.new.items ≡ take height (held_of trail.old.items frames.now entries.old.items) }
+    ensures held { held_of trail.new.items frames.now entries.new.items ≡ take height
+        (held_of trail.old.items frames.now entries.old.items) }
     ensures trailed { IsTrailed entries.new.items trail.new.items frames.now }
     ensures choice_capacity { vec_capacity entries.new ≡ vec_capacity entries.old }
     ensures choice_len { vec_len entries.new ≤ vec_len entries.old }

@@ -7,7 +7,8 @@ use Rattle.alma_names.specs.declared.shapes.Shape.{Shape}
 use Rattle.alma_names.specs.declared.shapes.ShapeId.{ShapeId}
 use Rattle.alma_names.specs.Table.{IsTable}
 use Rattle.alma_names.proofs.Tables.{table_push, table_more}
-use Rattle.alma_names.specs.Shapes.{limit, plain_of, table_of, field_named, PlainShape, PlainField, fields, field_of, fields_of, cells_in, cell_counts, sum_of_cells, placed, placed_shape, AllBelow, NamesOnlyBelow, HasIndex, HasCount, HasBase, HasDistinctNames, names_of, IsShapeAt}
+use Rattle.alma_base.specs.Limits.{cell_limit}
+use Rattle.alma_names.specs.Shapes.{plain_of, table_of, field_named, PlainShape, PlainField, fields, field_of, fields_of, cells_in, cell_counts, sum_of_cells, placed, placed_shape, AllBelow, NamesOnlyBelow, HasIndex, HasCount, HasBase, HasDistinctNames, names_of, IsShapeAt}
 
 -- the fields of one more
 pub fields_push : (fs : List FieldOf) (f : FieldOf) → fields_of (fs ++ f ∷ []) ≡ fields_of fs ++ field_of f ∷ []
@@ -102,7 +103,7 @@ field_below n name fs (Some f) h e = subst (λ o. IfSome o (λ g. g.1 < n)) (sym
 -- a table with one more shape, whose offsets were set
 pub table_added : (t : List PlainShape) (ss : List Shape) (cs : List ℕ) (s : PlainShape) (x : Shape) (n : ℕ) → IsTable (table_of ss) cs → table_of ss ≡ t
     → NamesOnlyBelow (length t) s → HasIndex t s → HasCount s → HasBase t s → HasDistinctNames s
-    → plain_of x ≡ placed_shape (cell_counts t) s → n ≡ cells_in t (cell_counts t) s → n ≤ limit → IsTable (table_of (ss ++ x ∷ [])) (cs ++ n ∷ [])
+    → plain_of x ≡ placed_shape (cell_counts t) s → n ≡ cells_in t (cell_counts t) s → n ≤ cell_limit → IsTable (table_of (ss ++ x ∷ [])) (cs ++ n ∷ [])
 table_added t ss cs s x n k v a b c d e p m le =
     rw (table_push ss x, v, p) (table_more t cs (placed_shape (cell_counts t) s) n (rw v at k) (shape_placed t (length t) (cell_counts t) s a b c d e) (m ∙ sym (cells_placed t (cell_counts t) (cell_counts t) s)) le)
 

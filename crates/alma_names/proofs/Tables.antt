@@ -4,7 +4,8 @@ use Rattle.std.specs.Prelude.{◌⊎◌, IsTrue}
 use Rattle.std.proofs.lemmas.List.{get_or_append_left}
 use Rattle.std.proofs.lemmas.List.Elements.{All-push}
 use Rattle.alma_names.specs.declared.shapes.Shape.{Shape}
-use Rattle.alma_names.specs.Shapes.{PlainShape, integer, char, boolean, sub, row, plain_of, table_of, cells_in, cell_counts, cell_counts_from, cells_at, first_shapes, limit, is_index, IsBaseOf, HasIndex, HasBase, IsShapeAt}
+use Rattle.alma_base.specs.Limits.{cell_limit}
+use Rattle.alma_names.specs.Shapes.{PlainShape, integer, char, boolean, sub, row, plain_of, table_of, cells_in, cell_counts, cell_counts_from, cells_at, first_shapes, is_index, IsBaseOf, HasIndex, HasBase, IsShapeAt}
 use Rattle.alma_names.specs.Table.{IsTable, IsSmall}
 
 -- the plain table of one more shape
@@ -73,7 +74,7 @@ last_or_before (y ∷ t) s zero x h = inl h
 last_or_before (y ∷ t) s (suc n) x h = ⊎_elim (λ a. inl a) (λ b. inr (ap suc b.0, b.1)) (last_or_before t s n x h)
 
 -- one more shape that meets the five conditions, with its cells
-pub table_more : (t : List PlainShape) (cs : List ℕ) (s : PlainShape) (n : ℕ) → IsTable t cs → IsShapeAt t (length t) s → n ≡ cells_in t (cell_counts t) s → n ≤ limit → IsTable (t ++ s ∷ []) (cs ++ n ∷ [])
+pub table_more : (t : List PlainShape) (cs : List ℕ) (s : PlainShape) (n : ℕ) → IsTable t cs → IsShapeAt t (length t) s → n ≡ cells_in t (cell_counts t) s → n ≤ cell_limit → IsTable (t ++ s ∷ []) (cs ++ n ∷ [])
 table_more t cs s n k h e le = record {
   counted = rw (counts_push t s, k.counted, e) refl;
   long = simp length-append (omega (arith, k.long));

@@ -7,24 +7,25 @@ use Rattle.alma_names.specs.declared.block.Entry.{Entry}
 use Rattle.alma_names.specs.declared.block.Entry.TheVariants.{Constant, Named, Bad}
 use Rattle.alma_names.specs.declared.shapes.ShapeId.{ShapeId}
 
--- a declared name: the token from which on it is visible, and what it stands for
+-- a declared name, the token from which on it is visible, and what it stands for
 pub record DeclaredName : Type 0 where
   pub name : List ℕ
   pub from : ℕ
   pub entry : Entry
 
--- the declarations of a map from names
+-- one declaration of a map from names, with its name
 abbrev pub declared_of : Vec ℕ Global × Declaration → DeclaredName
 declared_of e = record { name = e.0.items; from = e.1.from; entry = e.1.entry }
 
+-- the declarations of a map from names, in the order in which they were made
 abbrev pub block_of : {S : Type 0} → HashMap (Vec ℕ Global) Declaration S → List DeclaredName
 block_of m = map declared_of m.entries
 
--- the shape of a number
+-- the shape of this number in a table
 abbrev pub shape_id : ℕ → ShapeId
 shape_id n = record { 0 = n }
 
--- the names that are declared outside each module
+-- the names that stand outside each module, visible at each token: three types and two constants
 abbrev pub predeclared : List DeclaredName
 predeclared =
     record { name = codes "INTEGER"; from = 0; entry = Named (shape_id 0) }
@@ -51,7 +52,7 @@ visible_place at b i = if is_visible at (slice_get b i) then Some i else None
 abbrev pub seen : List ℕ → ℕ → List DeclaredName → Option ℕ
 seen name at b = option_and_then (visible_place at b) (place name b)
 
--- what a declaration stands for
+-- what a declaration stands for; what is not declared is Bad
 abbrev pub entry_in : Option DeclaredName → Entry
 entry_in None = Bad
 entry_in (Some d) = d.entry

@@ -122,7 +122,8 @@ impl Block {
         entry: Entry,
     ) -> Result<(), NoMemory>
         requires { place name.now self.old ≡ None }
-        ensures ok { OnOk result (self.new ≡ self.old ++ record { name = name.now; from = from; entry = entry } ∷ []) }
+        ensures ok { OnOk result (self.new ≡ self.old ++ record
+            { name = name.now; from = from; entry = entry } ∷ []) }
         ensures err { OnErr result (self.new ≡ self.old) }
     {
         let key = name.to_vec(alloc)?;

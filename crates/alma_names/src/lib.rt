@@ -8,6 +8,3 @@ mod shapes;
 pub use block::{Access, Entry};
 pub use scopes::{DeclareError, Id, Scopes};
 pub use shapes::{FieldOf, Shape, ShapeError, ShapeId, Shapes};
-
-#[cfg(test)]
-mod tests;

@@ -85,7 +85,8 @@ impl Scopes {
         requires { entry_count self.old < 2 ^ 32 }
 
         ensures id { IfOk result (λ id. id.0 ≡ entry_count self.old) }
-        ensures ok { OnOk result (self.new ≡ with_declared self.old (record { name = name.now; from = from; entry = entry })) }
+        ensures ok { OnOk result (self.new ≡ with_declared self.old
+            (record { name = name.now; from = from; entry = entry })) }
 
         ensures twice { RefusesTwice (number_in_top_block name.now self.old) result }
         ensures err { OnErr result (self.new ≡ self.old) }

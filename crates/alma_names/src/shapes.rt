@@ -3,15 +3,13 @@
 
 ghost use Rattle.std.specs.Prelude.{◌≡◌, ◌+◌, ◌*◌, ◌^◌, ◌<◌, ◌≤◌, ◌⊎◌, ◌≤ℤ◌, List, [], ◌∷◌, ◌++◌, Option, None, Some, IsTrue, IsFalse, length, slice_get, option_map, MatchOption, IfSome, IfOk, OnOk, OnErr};
 ghost use Rattle.alma_base.specs.Numbers.{range_size};
-ghost use Rattle.alma_names.specs.Shapes.{PlainShape, plain_of, fields_of, table_of, first_shapes, limit, range_at, base_at, IsBaseFor, values_at, cells_in, cell_counts, cells_at, is_too_large, sum_of_cells, NamesOnlyBelow, HasIndex, HasCount, HasBase, HasDistinctNames, AllBelow, IsShapeAt, placed, placed_shape, field_at, field_named, Refuses};
+ghost use Rattle.alma_base.specs.Limits.{cell_limit};
+ghost use Rattle.alma_names.specs.Shapes.{PlainShape, plain_of, fields_of, table_of, first_shapes, range_at, base_at, IsBaseFor, values_at, cells_in, cell_counts, cells_at, is_too_large, sum_of_cells, NamesOnlyBelow, HasIndex, HasCount, HasBase, HasDistinctNames, AllBelow, IsShapeAt, placed, placed_shape, field_at, field_named, Refuses};
 ghost use Rattle.alma_names.specs.Table.{IsTable, CountsUpToLimit};
 
-use alma_base::{NoMemory, Range};
+use alma_base::{CELL_LIMIT, NoMemory, Range};
 use std::alloc::Global;
 use std::marker::Model;
-
-// The most cells of one shape, and the most elements of one row.
-const LIMIT: u32 = 1_048_576;
 
 /// The number of a shape in its table.
 #[derive(Clone, Copy, Debug, PartialEq, Eq)]
@@ -91,7 +89,8 @@ impl Shapes {
         requires fields { HasDistinctNames (plain_of shape) }
 
         ensures id { IfOk result (λ id. id.0 ≡ length self.old) }
-        ensures ok { OnOk result (self.new ≡ self.old ++ placed_shape (cell_counts self.old) (plain_of shape) ∷ []) }
+        ensures ok { OnOk result (self.new ≡ self.old ++ placed_shape (cell_counts self.old)
+            (plain_of shape) ∷ []) }
 
         ensures too_large { Refuses (is_too_large self.old (plain_of shape)) result }
         ensures err { OnErr result (self.new ≡ self.old) }
@@ -134,7 +133,7 @@ impl Shapes {
     pub fn cells(&self, id: ShapeId) -> u32
         requires { id.0 < length self.now }
         ensures cells { result ≡ cells_at self.now id.0 }
-        ensures small { result ≤ limit }
+        ensures small { result ≤ cell_limit }
     {
         self.cells[id.0 as usize]
     }
@@ -144,7 +143,8 @@ impl Shapes {
         requires { id.0 < length self.now }
         ensures base { result.0 ≡ base_at self.now id.0 }
         ensures within { result.0 < length self.now }
-        ensures simple { IfSome (range_at self.now id.0) (λ range. IsBaseFor self.now result.0 range) }
+        ensures simple { IfSome (range_at self.now id.0)
+            (λ range. IsBaseFor self.now result.0 range) }
     {
         match self.get(id) {
             Shape::Sub { base, .. } => *base,
@@ -175,7 +175,8 @@ impl Shapes {
     /// The offset and the shape of a field of a record.
     pub fn field(&self, id: ShapeId, name: &[u8]) -> Option<(u32, ShapeId)>
         requires { id.0 < length self.now }
-        ensures field { option_map (λ f. (f.0, f.1.0)) result ≡ field_at name.now (slice_get self.now id.0) }
+        ensures field { option_map (λ f. (f.0, f.1.0)) result ≡ field_at name.now
+            (slice_get self.now id.0) }
         ensures within { IfSome result (λ f. f.1.0 < id.0) }
     {
         match self.get(id) {
@@ -201,7 +202,8 @@ impl Shapes {
         requires { NamesOnlyBelow (length self.now) (plain_of shape.now) }
         ensures { MatchOption result
             (IsTrue (is_too_large self.now (plain_of shape.now)))
-            (λ n. (n ≡ cells_in self.now (cell_counts self.now) (plain_of shape.now)) × (n ≤ limit) × IsFalse (is_too_large self.now (plain_of shape.now))) }
+            (λ n. (n ≡ cells_in self.now (cell_counts self.now) (plain_of shape.now)) ×
+            (n ≤ cell_limit) × IsFalse (is_too_large self.now (plain_of shape.now))) }
     {
         match shape {
             Shape::Row { index, element } => self.row_size(*index, *element),
@@ -216,14 +218,16 @@ impl Shapes {
         requires index { index.0 < length self.now }
         requires element { element.0 < length self.now }
         ensures { MatchOption result
-            ((limit < values_at self.now index.0) ⊎ (limit < values_at self.now index.0 * cells_at self.now element.0))
-            (λ n. (n ≡ values_at self.now index.0 * cells_at self.now element.0) × (n ≤ limit) × (values_at self.now index.0 ≤ limit)) }
+            ((cell_limit < values_at self.now index.0) ⊎
+            (cell_limit < values_at self.now index.0 * cells_at self.now element.0))
+            (λ n. (n ≡ values_at self.now index.0 * cells_at self.now element.0) × (n ≤ cell_limit)
+            × (values_at self.now index.0 ≤ cell_limit)) }
     {
         match self.values(index) {
             None => None,
             Some(count) => {
                 let all = u64::from(count) * u64::from(self.cells(element));
-                if all > u64::from(LIMIT) {
+                if all > u64::from(CELL_LIMIT) {
                     return None;
                 }
                 Some(all as u32)
@@ -234,12 +238,13 @@ impl Shapes {
     // The number of cells of all fields, where there are not too many.
     fn sum(&self, fields: &[FieldOf]) -> Option<u32>
         requires { AllBelow (length self.now) (fields_of fields.now) }
-        ensures { CountsUpToLimit result (sum_of_cells (cell_counts self.now) (fields_of fields.now)) }
+        ensures { CountsUpToLimit result (sum_of_cells (cell_counts self.now)
+            (fields_of fields.now)) }
     {
         let mut total: u32 = 0;
         for field in fields {
             total += self.cells(field.shape);
-            if total > LIMIT {
+            if total > CELL_LIMIT {
                 return None;
             }
         }
@@ -249,7 +254,7 @@ impl Shapes {
     // Puts each field behind the cells of those before it.
     fn place(&self, fields: &mut [FieldOf])
         requires below { AllBelow (length self.now) (fields_of fields.old) }
-        requires small { sum_of_cells (cell_counts self.now) (fields_of fields.old) ≤ limit }
+        requires small { sum_of_cells (cell_counts self.now) (fields_of fields.old) ≤ cell_limit }
         ensures { fields_of fields.new ≡ placed (cell_counts self.now) 0 (fields_of fields.old) }
     {
         let mut offset: u32 = 0;
@@ -263,7 +268,7 @@ impl Shapes {
     // The shape, with the offsets of its fields.
     fn placed(&self, shape: Shape) -> Shape
         requires names { NamesOnlyBelow (length self.now) (plain_of shape) }
-        requires small { cells_in self.now (cell_counts self.now) (plain_of shape) ≤ limit }
+        requires small { cells_in self.now (cell_counts self.now) (plain_of shape) ≤ cell_limit }
         ensures { plain_of result ≡ placed_shape (cell_counts self.now) (plain_of shape) }
     {
         match shape {
@@ -290,7 +295,7 @@ fn count_values(range: Range) -> Option<u32>
     match range.high.checked_sub(range.low) {
         None => None,
         Some(above) => {
-            if above >= i64::from(LIMIT) {
+            if above >= i64::from(CELL_LIMIT) {
                 return None;
             }
             Some(above as u32 + 1)

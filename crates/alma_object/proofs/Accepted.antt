@@ -43,7 +43,7 @@ known_version : (v : ℕ) → (v ≡ 1) ⊎ (v ≡ 2) → (nat_eq v 1 || nat_eq 
 known_version v (inl e) = ap (λ k. nat_eq k 1 || nat_eq k 2) e
 known_version v (inr e) = ap (λ k. nat_eq k 1 || nat_eq k 2) e
 
-or_clean : {a rest : Option ObjectFault} → a ≡ None → rest ≡ None → or_else a rest ≡ None
+pub or_clean : {a rest : Option ObjectFault} → a ≡ None → rest ≡ None → or_else a rest ≡ None
 or_clean {a = a} {rest = rest} e r = ap (λ x. or_else x rest) e ∙ r
 
 or_right : (a b : Bool) → b ≡ true → (a || b) ≡ true
@@ -54,7 +54,7 @@ some_text : (texts : List (List ℕ)) → (nat_eq (sum_by length texts) 0 || nat
 some_text [] = refl
 some_text (t ∷ ts) = or_right (nat_eq (sum_by length (t ∷ ts)) 0) (nat_le 1 (length (t ∷ ts))) (le_test 1 (length (t ∷ ts)) (omega arith))
 
-word_at : (bytes : List ℕ) (at : ℕ) (ns : List ℕ) → words_from bytes at (length ns) ≡ ns → (k : ℕ) → k < length ns → u32_at bytes (at + 4 * k) ≡ get_or ns k 0
+pub word_at : (bytes : List ℕ) (at : ℕ) (ns : List ℕ) → words_from bytes at (length ns) ≡ ns → (k : ℕ) → k < length ns → u32_at bytes (at + 4 * k) ≡ get_or ns k 0
 word_at bytes at [] e k lt = absurd (omega arith)
 word_at bytes at (n ∷ ns) e zero lt = (let z : at + 4 * 0 ≡ at = omega arith in ap (u32_at bytes) z ∙ ap (λ (t : List ℕ). get_or t 0 0) e)
 word_at bytes at (n ∷ ns) e (suc k) lt =

@@ -1,10 +1,15 @@
 pub mod Accepted
+pub mod Again
 pub mod Appends
+pub mod Clean
 pub mod Encoding
+pub mod Ends
 pub mod Faults
+pub mod Fields
 pub mod Forms
 pub mod Items
 pub mod Kept
+pub mod LineOrder
 pub mod Places
 pub mod Records
 pub mod Rows

@@ -1,9 +1,9 @@
 -- Where the sections of an object stand.
-use Rattle.std.proofs.Common.{◌≡◌, ℕ, suc, ◌+◌, ◌*◌, Bool, true, false, List, [], ◌∷◌, ◌++◌, length, get_or, refl, ap, subst, ◌∙◌, arith}
+use Rattle.std.proofs.Common.{◌≡◌, ℕ, suc, ◌+◌, ◌*◌, Bool, true, false, List, [], ◌∷◌, ◌++◌, length, get_or, map, refl, sym, ap, subst, ◌∙◌, append_assoc, arith}
 use Rattle.std.specs.Prelude.{nat_eq, if◌then◌else◌, sum_by}
 use Rattle.std.specs.List.{flat_map, range_with_len}
 use Rattle.std.proofs.lemmas.List.{length-append}
-use Rattle.std.proofs.lemmas.List.Concat.{length-flat_map}
+use Rattle.std.proofs.lemmas.List.Concat.{length-flat_map, flat_map-append}
 use Rattle.std.proofs.lemmas.List.FromFn.{length-range_with_len}
 use Rattle.alma_base.specs.declared.number.Range.{Range}
 use Rattle.alma_code.specs.declared.code.Line.{Line}
@@ -14,9 +14,10 @@ use Rattle.alma_code.specs.declared.instr.Instr.TheVariants as I
 use Rattle.alma_code.specs.Plain.{PlainCode, PlainRoutine, PlainGlobal, routine_at}
 use Rattle.alma_object.specs.Bytes.{u16_bytes, words_bytes, i64_bytes}
 use Rattle.alma_object.specs.Instrs.{instr_bytes, record_bytes}
-use Rattle.alma_object.specs.Header.{magic, routines_at, globals_at, params_at, runs_at, ranges_at, texts_at, name_pool_at, text_pool_at, instrs_at, lines_at}
+use Rattle.alma_object.specs.Header.{magic, routines_at, globals_at, params_at, runs_at, ranges_at, texts_at, name_pool_at, text_pool_at, instrs_at, lines_at, end_at}
 use Rattle.alma_object.specs.Object.{IsObject, end_of, no_global, param_number, slot_number, slot_size, section, counts_of, header_bytes, table_bytes, pool_bytes, object_bytes, routine_bytes, global_bytes, param_bytes, run_bytes, range_bytes, text_end_bytes, line_bytes}
 use Rattle.alma_object.proofs.Accepted.{header_for}
+use Rattle.alma_object.proofs.Encoding.{flat_map-map}
 use Rattle.alma_object.proofs.Stands.{Stands, stands_all, stands_first, stands_second, words_length, u16_length, i64_length, each_length}
 
 record_length : (opcode a b c d : ℕ) → length (record_bytes opcode a b c d) ≡ 17
@@ -78,33 +79,33 @@ instr_length (I.Chain a b c) = record_length 50 a b c 0
 instr_length (I.Outer a b c) = record_length 51 a b c 0
 instr_length (I.OuterSame a b c) = record_length 52 a b c 0
 
-routine_length : (code : PlainCode) (r : ℕ) → length (routine_bytes code r) ≡ 28
+pub routine_length : (code : PlainCode) (r : ℕ) → length (routine_bytes code r) ≡ 28
 unfolding routine_bytes
 routine_length code r = words_length (
     end_of (λ x. length x.name) code.routines r ∷ end_of (λ x. length x.head.params) code.routines r ∷ end_of (λ x. length x.head.runs) code.routines r
     ∷ (routine_at code r).code_end ∷ (routine_at code r).head.slots ∷ (routine_at code r).head.declared ∷ (if (routine_at code r).head.has_result then 1 else 0) ∷ [])
 
-global_length : (code : PlainCode) (g : ℕ) → length (global_bytes code g) ≡ 12
+pub global_length : (code : PlainCode) (g : ℕ) → length (global_bytes code g) ≡ 12
 unfolding global_bytes
 global_length code g = words_length ((sum_by (λ x. length x.name) code.routines + end_of (λ x. length x.name) code.globals g) ∷ (get_or code.globals g no_global).slot ∷ (get_or code.globals g no_global).cells ∷ [])
 
-text_length : (code : PlainCode) (t : ℕ) → length (text_end_bytes code t) ≡ 4
+pub text_length : (code : PlainCode) (t : ℕ) → length (text_end_bytes code t) ≡ 4
 unfolding text_end_bytes
 text_length code t = words_length (end_of length code.texts t ∷ [])
 
-param_length : (p : CodeParam) → length (param_bytes p) ≡ 8
+pub param_length : (p : CodeParam) → length (param_bytes p) ≡ 8
 unfolding param_bytes
 param_length p = words_length (param_number p.kind ∷ p.cells ∷ [])
 
-run_length : (r : Run) → length (run_bytes r) ≡ 12
+pub run_length : (r : Run) → length (run_bytes r) ≡ 12
 unfolding run_bytes
 run_length r = words_length (slot_number r.kind ∷ slot_size r.kind ∷ r.end ∷ [])
 
-range_length : (r : Range) → length (range_bytes r) ≡ 16
+pub range_length : (r : Range) → length (range_bytes r) ≡ 16
 unfolding range_bytes
 range_length r = length-append (i64_bytes r.low) (i64_bytes r.high) ∙ omega (arith, i64_length r.low, i64_length r.high)
 
-line_length : (l : Line) → length (line_bytes l) ≡ 8
+pub line_length : (l : Line) → length (line_bytes l) ≡ 8
 unfolding line_bytes
 line_length l = words_length (l.at ∷ l.line ∷ [])
 
@@ -125,6 +126,16 @@ header_length code two e =
     length-append magic (u16_bytes code.version ++ words_bytes (counts_of code))
     ∙ omega (arith, length-append (u16_bytes code.version) (words_bytes (counts_of code)), u16_length code.version, words_length (counts_of code), last)
 
+-- the names of routines, and behind them those of globals
+abbrev pub names_of : PlainCode → List (List ℕ)
+names_of code = map (λ r. r.name) code.routines ++ map (λ g. g.name) code.globals
+
+names_pool : (code : PlainCode) → flat_map (λ (n : List ℕ). n) (names_of code) ≡ flat_map (λ (r : PlainRoutine). r.name) code.routines ++ flat_map (λ (g : PlainGlobal). g.name) code.globals
+names_pool code =
+    flat_map-append (λ (n : List ℕ). n) (map (λ (r : PlainRoutine). r.name) code.routines) (map (λ (g : PlainGlobal). g.name) code.globals)
+    ∙ ap (λ (t : List ℕ). t ++ flat_map (λ (n : List ℕ). n) (map (λ (g : PlainGlobal). g.name) code.globals)) (flat_map-map (λ (n : List ℕ). n) (λ (r : PlainRoutine). r.name) code.routines)
+    ∙ ap (λ (t : List ℕ). flat_map (λ (r : PlainRoutine). r.name) code.routines ++ t) (flat_map-map (λ (n : List ℕ). n) (λ (g : PlainGlobal). g.name) code.globals)
+
 -- the sections of an object, each at its offset
 pub record SectionsStand (code : PlainCode) (bytes : List ℕ) : Type 0 where
   pub routines : Stands bytes (routines_at (header_for code)) (section (routine_bytes code) (length code.routines))
@@ -133,8 +144,7 @@ pub record SectionsStand (code : PlainCode) (bytes : List ℕ) : Type 0 where
   pub runs : Stands bytes (runs_at (header_for code)) (flat_map run_bytes (flat_map (λ r. r.head.runs) code.routines))
   pub ranges : Stands bytes (ranges_at (header_for code)) (flat_map range_bytes code.ranges)
   pub texts : Stands bytes (texts_at (header_for code)) (section (text_end_bytes code) (length code.texts))
-  pub names : Stands bytes (name_pool_at (header_for code)) (flat_map (λ r. r.name) code.routines)
-  pub global_names : Stands bytes (name_pool_at (header_for code) + length (flat_map (λ (r : PlainRoutine). r.name) code.routines)) (flat_map (λ g. g.name) code.globals)
+  pub names : Stands bytes (name_pool_at (header_for code)) (flat_map (λ n. n) (names_of code))
   pub text_pool : Stands bytes (text_pool_at (header_for code)) (flat_map (λ t. t) code.texts)
   pub instrs : Stands bytes (instrs_at (header_for code)) (flat_map instr_bytes code.instrs)
   pub lines : Stands bytes (lines_at (header_for code)) (flat_map line_bytes code.lines)
@@ -197,9 +207,25 @@ sections_stand code bytes object =
       runs = stands_first _ _ _ _ runs;
       ranges = stands_first _ _ _ _ ranges;
       texts = texts;
-      names = stands_first _ _ _ _ pool;
-      global_names = stands_first _ _ _ _ after_names;
+      names = subst (Stands bytes (name_pool_at h)) (sym (names_pool code))
+          (stands_first bytes (name_pool_at h) (flat_map (λ r. r.name) code.routines ++ flat_map (λ g. g.name) code.globals) (flat_map (λ t. t) code.texts)
+          (subst (Stands bytes (name_pool_at h)) (sym (append_assoc (flat_map (λ (r : PlainRoutine). r.name) code.routines) (flat_map (λ (g : PlainGlobal). g.name) code.globals) (flat_map (λ (t : List ℕ). t) code.texts))) pool));
       text_pool = text_pool;
       instrs = stands_first _ _ _ _ instrs;
       lines = lines;
     }
+
+-- nothing stands behind the last section
+pub object_length : (code : PlainCode) (bytes : List ℕ) → IsObject code bytes → length bytes ≡ end_at (header_for code)
+unfolding object_bytes
+object_length code bytes object =
+    sym (ap length object.spelled)
+    ∙ omega (
+      arith,
+      length-append {A = ℕ},
+      header_length code (nat_eq code.version 2) refl,
+      table_length code,
+      pool_length code,
+      each_length instr_bytes 17 code.instrs instr_length,
+      each_length line_bytes 8 code.lines line_length,
+    )

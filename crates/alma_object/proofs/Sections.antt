@@ -64,11 +64,11 @@ ge_test : (m n : ℕ) → n ≤ m → nat_lt m n ≡ false
 ge_test m n le = grind (arith, nat_tests)
 
 -- where a name ends
-name_end_routine : (bytes : List ℕ) (h : Header) (r : ℕ) → r < h.routines → name_end bytes h r ≡ u32_at bytes (routines_at h + 28 * r)
+pub name_end_routine : (bytes : List ℕ) (h : Header) (r : ℕ) → r < h.routines → name_end bytes h r ≡ u32_at bytes (routines_at h + 28 * r)
 unfolding name_end
 name_end_routine bytes h r lt = ap (λ b. if b then u32_at bytes (routines_at h + 28 * r) else u32_at bytes (globals_at h + 12 * (r - h.routines))) (lt_test r h.routines lt)
 
-name_end_global : (bytes : List ℕ) (h : Header) (g : ℕ) → name_end bytes h (h.routines + g) ≡ u32_at bytes (globals_at h + 12 * g)
+pub name_end_global : (bytes : List ℕ) (h : Header) (g : ℕ) → name_end bytes h (h.routines + g) ≡ u32_at bytes (globals_at h + 12 * g)
 unfolding name_end
 name_end_global bytes h g =
     let e : h.routines + g - h.routines ≡ g = omega arith in

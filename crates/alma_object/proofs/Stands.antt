@@ -150,3 +150,7 @@ pub more_words : (n : ℕ) (ns : List ℕ) → n < 2 ^ 32 → AreWords ns → Ar
 unfolding AreWords
 more_words n ns lt rest zero = lt
 more_words n ns lt rest (suc k) = rest k
+
+pub each_word : (ns : List ℕ) → ((k : ℕ) → get_or ns k 0 < 2 ^ 32) → AreWords ns
+unfolding AreWords
+each_word ns h = h

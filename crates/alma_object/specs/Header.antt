@@ -1,6 +1,7 @@
 -- The header of an object: the magic, the version and the counts.
 use Rattle.std.specs.Prelude.{◌≡◌, ℕ, ◌+◌, ◌*◌, ◌≤◌, true, ◌||◌, nat_eq, nat_le, if◌then◌else◌, Option, None, List, codes}
 use Rattle.std.specs.List.{starts_with}
+use Rattle.alma_base.specs.Limits.{instr_limit, slot_limit, record_limit, pool_limit}
 use Rattle.alma_object.specs.declared.fault.ObjectFault.{ObjectFault}
 use Rattle.alma_object.specs.declared.fault.ObjectFault.TheVariants as fault
 use Rattle.alma_object.specs.declared.header.Header.{Header}
@@ -47,16 +48,16 @@ unfoldable pub counts_fault : List ℕ → Option ObjectFault
 counts_fault bytes =
     or_else (count_fault bytes 10 262144)
     (unless (nat_le 1 (u32_at bytes 10)) (fault.BadCount 10)
-    (or_else (count_fault bytes 14 1048576)
-    (or_else (count_fault bytes 18 1048576)
-    (or_else (count_fault bytes 22 8388608)
-    (or_else (count_fault bytes 26 1048576)
-    (or_else (count_fault bytes 30 1048576)
-    (or_else (count_fault bytes 34 16777216)
-    (or_else (count_fault bytes 38 16777216)
+    (or_else (count_fault bytes 14 record_limit)
+    (or_else (count_fault bytes 18 record_limit)
+    (or_else (count_fault bytes 22 slot_limit)
+    (or_else (count_fault bytes 26 record_limit)
+    (or_else (count_fault bytes 30 record_limit)
+    (or_else (count_fault bytes 34 pool_limit)
+    (or_else (count_fault bytes 38 pool_limit)
     (unless (nat_eq (u32_at bytes 38) 0 || nat_le 1 (u32_at bytes 30)) (fault.BadCount 38)
-    (or_else (count_fault bytes 42 4194304)
-    (if nat_eq (u16_at bytes 8) 2 then count_fault bytes 46 1048576 else None)))))))))))
+    (or_else (count_fault bytes 42 instr_limit)
+    (if nat_eq (u16_at bytes 8) 2 then count_fault bytes 46 record_limit else None)))))))))))
 
 -- of the header
 unfoldable pub header_fault : List ℕ → Option ObjectFault
@@ -70,16 +71,16 @@ pub record IsWithin (h : Header) : Type 0 where
   pub no_lines : h.version ≡ 1 → h.lines ≡ 0
   pub some : 1 ≤ h.routines
   pub routines : h.routines ≤ 262144
-  pub globals : h.globals ≤ 1048576
-  pub params : h.params ≤ 1048576
-  pub runs : h.runs ≤ 8388608
-  pub ranges : h.ranges ≤ 1048576
-  pub texts : h.texts ≤ 1048576
-  pub name_bytes : h.name_bytes ≤ 16777216
-  pub text_bytes : h.text_bytes ≤ 16777216
+  pub globals : h.globals ≤ record_limit
+  pub params : h.params ≤ record_limit
+  pub runs : h.runs ≤ slot_limit
+  pub ranges : h.ranges ≤ record_limit
+  pub texts : h.texts ≤ record_limit
+  pub name_bytes : h.name_bytes ≤ pool_limit
+  pub text_bytes : h.text_bytes ≤ pool_limit
   pub no_text_bytes : h.texts ≡ 0 → h.text_bytes ≡ 0
-  pub instrs : h.instrs ≤ 4194304
-  pub lines : h.lines ≤ 1048576
+  pub instrs : h.instrs ≤ instr_limit
+  pub lines : h.lines ≤ record_limit
 
 -- ---- where the sections begin
 

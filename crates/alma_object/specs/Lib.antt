@@ -1,5 +1,6 @@
 pub mod Bytes
 pub mod Fault
+pub mod Fields
 pub mod Header
 pub mod Instrs
 pub mod Reading

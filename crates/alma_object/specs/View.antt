@@ -1,5 +1,6 @@
 -- What the views stand for.
-use Rattle.std.specs.Prelude.{Bool, true, false}
+use Rattle.std.specs.Prelude.{ℕ, ◌-◌, ◌<◌, ◌≤◌, Bool, true, false, List, length, get_or}
+use Rattle.alma_code.specs.declared.code.Line.{Line}
 use Rattle.alma_code.specs.declared.instr.Instr.{Instr}
 use Rattle.alma_code.specs.declared.instr.Instr.TheVariants as I
 use Rattle.alma_code.specs.Head.{PlainHead}
@@ -35,3 +36,13 @@ abbrev pub is_read : Instr → Bool
 is_read (I.ReadInt a b) = true
 is_read (I.ReadChar a b) = true
 is_read _ = false
+
+-- what stands for a line that is not there
+abbrev pub no_line : Line
+no_line = record { at = 0; line = 0 }
+
+-- the first k lines begin at or before an address, as far as the last of them says, and the next begins behind it
+pub record IsSplit (at : ℕ) (lines : List Line) (k : ℕ) : Type 0 where
+  pub top : k ≤ length lines
+  pub before : 0 < k → (get_or lines (k - 1) no_line).at ≤ at
+  pub behind : k < length lines → at < (get_or lines k no_line).at

@@ -1,5 +1,5 @@
 // The record of an instruction: its opcode and four words.
-ghost use Rattle.std.specs.Prelude.{◌≡◌, ◌+◌, ◌≤◌, ◌++◌, ◌∷◌, length, OnOk};
+ghost use Rattle.std.specs.Prelude.{◌≡◌, ◌+◌, ◌≤◌, ◌++◌, ◌∷◌, length, slice_index, OnOk};
 ghost use Rattle.alma_object.specs.Bytes.{words_bytes};
 ghost use Rattle.alma_object.specs.Instrs.{const_bytes, instr_bytes, is_instr as is_instr_there, instr_at as instr_there};
 
@@ -143,10 +143,27 @@ pub fn instr_at(bytes: &[u8], at: usize) -> Instr
     requires { at + 17 ≤ length bytes.now }
     ensures { result ≡ instr_there bytes.now at }
 {
+    match bytes[at] {
+        1..=13 => number_instr(bytes, at),
+        14..=25 => place_instr(bytes, at),
+        26..=36 => control_instr(bytes, at),
+        37..=48 => call_instr(bytes, at),
+        49..=52 => link_instr(bytes, at),
+        _ => Instr::Fail,
+    }
+}
+
+// The instruction of numbers at an offset.
+#[tactic(auto, unfolding(crate::specs::Instrs::instr_at))]
+fn number_instr(bytes: &[u8], at: usize) -> Instr
+    requires whole { at + 17 ≤ length bytes.now }
+    requires first { 1 ≤ slice_index bytes.now at }
+    requires last { slice_index bytes.now at ≤ 13 }
+    ensures { result ≡ instr_there bytes.now at }
+{
     let a = u32_at(bytes, at + 1);
     let b = u32_at(bytes, at + 5);
     let c = u32_at(bytes, at + 9);
-    let d = u32_at(bytes, at + 13);
     match bytes[at] {
         1 => Instr::Const {
             to: a,
@@ -196,6 +213,23 @@ pub fn instr_at(bytes: &[u8], at: usize) -> Instr
         },
         12 => Instr::Flip { to: a, from: b },
         13 => Instr::InRange { value: a, range: b },
+        _ => Instr::Fail,
+    }
+}
+
+// The instruction of places at an offset.
+#[tactic(auto, unfolding(crate::specs::Instrs::instr_at))]
+fn place_instr(bytes: &[u8], at: usize) -> Instr
+    requires whole { at + 17 ≤ length bytes.now }
+    requires first { 14 ≤ slice_index bytes.now at }
+    requires last { slice_index bytes.now at ≤ 25 }
+    ensures { result ≡ instr_there bytes.now at }
+{
+    let a = u32_at(bytes, at + 1);
+    let b = u32_at(bytes, at + 5);
+    let c = u32_at(bytes, at + 9);
+    let d = u32_at(bytes, at + 13);
+    match bytes[at] {
         14 => Instr::Local { to: a, first: b },
         15 => Instr::Global { to: a, first: b },
         16 => Instr::Same { to: a, from: b },
@@ -226,6 +260,21 @@ pub fn instr_at(bytes: &[u8], at: usize) -> Instr
         },
         24 => Instr::CopyCells { to: a, from: b },
         25 => Instr::SameCells { left: a, right: b },
+        _ => Instr::Fail,
+    }
+}
+
+// The instruction of control and choices at an offset.
+#[tactic(auto, unfolding(crate::specs::Instrs::instr_at))]
+fn control_instr(bytes: &[u8], at: usize) -> Instr
+    requires whole { at + 17 ≤ length bytes.now }
+    requires first { 26 ≤ slice_index bytes.now at }
+    requires last { slice_index bytes.now at ≤ 36 }
+    ensures { result ≡ instr_there bytes.now at }
+{
+    let a = u32_at(bytes, at + 1);
+    let b = u32_at(bytes, at + 5);
+    match bytes[at] {
         26 => Instr::Jump { to: a },
         27 => Instr::JumpZero { value: a, to: b },
         28 => Instr::Check { value: a },
@@ -237,6 +286,23 @@ pub fn instr_at(bytes: &[u8], at: usize) -> Instr
         34 => Instr::Overlay { mark: a, resume: b },
         35 => Instr::Keep { mark: a },
         36 => Instr::Finish,
+        _ => Instr::Fail,
+    }
+}
+
+// The instruction of calls, input, output and loops at an offset.
+#[tactic(auto, unfolding(crate::specs::Instrs::instr_at))]
+fn call_instr(bytes: &[u8], at: usize) -> Instr
+    requires whole { at + 17 ≤ length bytes.now }
+    requires first { 37 ≤ slice_index bytes.now at }
+    requires last { slice_index bytes.now at ≤ 48 }
+    ensures { result ≡ instr_there bytes.now at }
+{
+    let a = u32_at(bytes, at + 1);
+    let b = u32_at(bytes, at + 5);
+    let c = u32_at(bytes, at + 9);
+    let d = u32_at(bytes, at + 13);
+    match bytes[at] {
         37 => Instr::Call {
             routine: a,
             first: b,
@@ -258,6 +324,22 @@ pub fn instr_at(bytes: &[u8], at: usize) -> Instr
             by: c,
             out: d,
         },
+        _ => Instr::Fail,
+    }
+}
+
+// The instruction of links at an offset.
+#[tactic(auto, unfolding(crate::specs::Instrs::instr_at))]
+fn link_instr(bytes: &[u8], at: usize) -> Instr
+    requires whole { at + 17 ≤ length bytes.now }
+    requires first { 49 ≤ slice_index bytes.now at }
+    requires last { slice_index bytes.now at ≤ 52 }
+    ensures { result ≡ instr_there bytes.now at }
+{
+    let a = u32_at(bytes, at + 1);
+    let b = u32_at(bytes, at + 5);
+    let c = u32_at(bytes, at + 9);
+    match bytes[at] {
         49 => Instr::Own { to: a },
         50 => Instr::Chain {
             to: a,

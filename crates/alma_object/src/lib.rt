@@ -5,6 +5,7 @@ mod bytes;
 mod fault;
 mod header;
 mod instr;
+pub mod laws;
 mod record;
 mod routine;
 mod view;
@@ -15,6 +16,3 @@ pub use fault::ObjectFault;
 pub use routine::RoutineView;
 pub use view::{GlobalView, ObjectView};
 pub use writing::encode;
-
-#[cfg(test)]
-mod tests;

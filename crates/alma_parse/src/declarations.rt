@@ -31,7 +31,8 @@ pub fn block<'t, 's>(
     at: Cursor<'t, 's>,
     depth: u32,
 ) -> Result<(Block, Cursor<'t, 's>), Fault<'t, 's>>
-    ensures read { MatchResult result (λ t. Reads (spell_block (view_block t.0)) (number_block t.0) block_parts depth depth (position_of at.entry) (position_of t.1))
+    ensures read { MatchResult result (λ t. Reads (spell_block (view_block t.0))
+        (number_block t.0) block_parts depth depth (position_of at.entry) (position_of t.1))
         (λ e. Fails e block_parts depth (position_of at.entry)) }
 {
     let (decls, at) = decl_list(alloc, at, depth)?;
@@ -47,7 +48,8 @@ fn decl_list<'t, 's>(
     depth: u32,
 ) -> Result<(Vec<Decl>, Cursor<'t, 's>), Fault<'t, 's>>
     ensures read { MatchResult result
-        (λ t. Reads (spell_decl_tail (decls_of t.0.items)) (numbers_of_decls t.0.items) (λ o. decl_tail ∷ o) depth depth (position_of at.entry) (position_of t.1))
+        (λ t. Reads (spell_decl_tail (decls_of t.0.items)) (numbers_of_decls t.0.items)
+        (λ o. decl_tail ∷ o) depth depth (position_of at.entry) (position_of t.1))
         (λ e. Fails e (λ o. decl_tail ∷ o) depth (position_of at.entry)) }
 {
     let mut more = Vec::new(alloc);
@@ -66,9 +68,11 @@ fn decl<'t, 's>(
     at: Cursor<'t, 's>,
     depth: u32,
 ) -> Result<(Decl, Cursor<'t, 's>), Fault<'t, 's>>
-    ensures read { MatchResult result (λ t. Reads (spell_decl (view_decl t.0)) (number_decl t.0) (decl_form_parts form) depth depth (position_of at.entry) (position_of t.1))
+    ensures read { MatchResult result (λ t. Reads (spell_decl (view_decl t.0)) (number_decl t.0)
+        (decl_form_parts form) depth depth (position_of at.entry) (position_of t.1))
         (λ e. Fails e (decl_form_parts form) depth (position_of at.entry)) }
-    ensures shorter { IfOk result (λ t. length (position_of t.1).kinds < length (position_of at.entry).kinds) }
+    ensures shorter { IfOk result (λ t. length (position_of t.1).kinds < length
+        (position_of at.entry).kinds) }
 {
     match form {
         DeclForm::Const => const_decl(alloc, at, depth),
@@ -84,9 +88,11 @@ fn procedure<'t, 's>(
     at: Cursor<'t, 's>,
     depth: u32,
 ) -> Result<(Decl, Cursor<'t, 's>), Fault<'t, 's>>
-    ensures read { MatchResult result (λ t. Reads (spell_decl (view_decl t.0)) (number_decl t.0) procedure_parts depth depth (position_of at.entry) (position_of t.1))
+    ensures read { MatchResult result (λ t. Reads (spell_decl (view_decl t.0))
+        (number_decl t.0) procedure_parts depth depth (position_of at.entry) (position_of t.1))
         (λ e. Fails e procedure_parts depth (position_of at.entry)) }
-    ensures shorter { IfOk result (λ t. length (position_of t.1).kinds < length (position_of at.entry).kinds) }
+    ensures shorter { IfOk result (λ t. length (position_of t.1).kinds < length
+        (position_of at.entry).kinds) }
 {
     let (at, inner) = at.open(Kind::Procedure, depth)?;
     let (name, at) = at.name()?;
@@ -116,9 +122,11 @@ fn const_decl<'t, 's>(
     at: Cursor<'t, 's>,
     depth: u32,
 ) -> Result<(Decl, Cursor<'t, 's>), Fault<'t, 's>>
-    ensures read { MatchResult result (λ t. Reads (spell_decl (view_decl t.0)) (number_decl t.0) const_decl_parts depth depth (position_of at.entry) (position_of t.1))
+    ensures read { MatchResult result (λ t. Reads (spell_decl (view_decl t.0))
+        (number_decl t.0) const_decl_parts depth depth (position_of at.entry) (position_of t.1))
         (λ e. Fails e const_decl_parts depth (position_of at.entry)) }
-    ensures shorter { IfOk result (λ t. length (position_of t.1).kinds < length (position_of at.entry).kinds) }
+    ensures shorter { IfOk result (λ t. length (position_of t.1).kinds < length
+        (position_of at.entry).kinds) }
 {
     let at = at.expect(Kind::Const)?;
     let (entries, at) = const_entries(alloc, at, depth)?;
@@ -132,7 +140,8 @@ fn const_entries<'t, 's>(
     depth: u32,
 ) -> Result<(Vec<ConstEntry>, Cursor<'t, 's>), Fault<'t, 's>>
     ensures read { MatchResult result
-        (λ t. Reads (spell_const_tail (consts_of t.0.items)) (numbers_of_consts t.0.items) (λ o. const_tail ∷ o) depth depth (position_of at.entry) (position_of t.1))
+        (λ t. Reads (spell_const_tail (consts_of t.0.items)) (numbers_of_consts t.0.items)
+        (λ o. const_tail ∷ o) depth depth (position_of at.entry) (position_of t.1))
         (λ e. Fails e (λ o. const_tail ∷ o) depth (position_of at.entry)) }
 {
     let mut more = Vec::new(alloc);
@@ -149,9 +158,12 @@ fn const_entry<'t, 's>(
     at: Cursor<'t, 's>,
     depth: u32,
 ) -> Result<(ConstEntry, Cursor<'t, 's>), Fault<'t, 's>>
-    ensures read { MatchResult result (λ t. Reads (spell_const_entry t.0) (number_const_entry t.0) const_entry_parts depth depth (position_of at.entry) (position_of t.1))
+    ensures read { MatchResult result (λ t. Reads (spell_const_entry t.0)
+        (number_const_entry t.0) const_entry_parts depth depth (position_of at.entry)
+        (position_of t.1))
         (λ e. Fails e const_entry_parts depth (position_of at.entry)) }
-    ensures shorter { IfOk result (λ t. length (position_of t.1).kinds < length (position_of at.entry).kinds) }
+    ensures shorter { IfOk result (λ t. length (position_of t.1).kinds < length
+        (position_of at.entry).kinds) }
 {
     let (name, at) = at.name()?;
     let at = at.expect(Kind::Equal)?;
@@ -165,9 +177,11 @@ fn type_decl<'t, 's>(
     at: Cursor<'t, 's>,
     depth: u32,
 ) -> Result<(Decl, Cursor<'t, 's>), Fault<'t, 's>>
-    ensures read { MatchResult result (λ t. Reads (spell_decl (view_decl t.0)) (number_decl t.0) type_decl_parts depth depth (position_of at.entry) (position_of t.1))
+    ensures read { MatchResult result (λ t. Reads (spell_decl (view_decl t.0))
+        (number_decl t.0) type_decl_parts depth depth (position_of at.entry) (position_of t.1))
         (λ e. Fails e type_decl_parts depth (position_of at.entry)) }
-    ensures shorter { IfOk result (λ t. length (position_of t.1).kinds < length (position_of at.entry).kinds) }
+    ensures shorter { IfOk result (λ t. length (position_of t.1).kinds < length
+        (position_of at.entry).kinds) }
 {
     let at = at.expect(Kind::Type)?;
     let (entries, at) = type_entries(alloc, at, depth)?;
@@ -181,7 +195,8 @@ fn type_entries<'t, 's>(
     depth: u32,
 ) -> Result<(Vec<TypeEntry>, Cursor<'t, 's>), Fault<'t, 's>>
     ensures read { MatchResult result
-        (λ t. Reads (spell_type_tail (types_of t.0.items)) (numbers_of_types t.0.items) (λ o. type_tail ∷ o) depth depth (position_of at.entry) (position_of t.1))
+        (λ t. Reads (spell_type_tail (types_of t.0.items)) (numbers_of_types t.0.items)
+        (λ o. type_tail ∷ o) depth depth (position_of at.entry) (position_of t.1))
         (λ e. Fails e (λ o. type_tail ∷ o) depth (position_of at.entry)) }
 {
     let mut more = Vec::new(alloc);
@@ -198,9 +213,12 @@ fn type_entry<'t, 's>(
     at: Cursor<'t, 's>,
     depth: u32,
 ) -> Result<(TypeEntry, Cursor<'t, 's>), Fault<'t, 's>>
-    ensures read { MatchResult result (λ t. Reads (spell_type_entry t.0) (number_type_entry t.0) type_entry_parts depth depth (position_of at.entry) (position_of t.1))
+    ensures read { MatchResult result (λ t. Reads (spell_type_entry t.0)
+        (number_type_entry t.0) type_entry_parts depth depth (position_of at.entry)
+        (position_of t.1))
         (λ e. Fails e type_entry_parts depth (position_of at.entry)) }
-    ensures shorter { IfOk result (λ t. length (position_of t.1).kinds < length (position_of at.entry).kinds) }
+    ensures shorter { IfOk result (λ t. length (position_of t.1).kinds < length
+        (position_of at.entry).kinds) }
 {
     let (name, at) = at.name()?;
     let at = at.expect(Kind::Equal)?;
@@ -214,9 +232,11 @@ fn var_decl<'t, 's>(
     at: Cursor<'t, 's>,
     depth: u32,
 ) -> Result<(Decl, Cursor<'t, 's>), Fault<'t, 's>>
-    ensures read { MatchResult result (λ t. Reads (spell_decl (view_decl t.0)) (number_decl t.0) var_decl_parts depth depth (position_of at.entry) (position_of t.1))
+    ensures read { MatchResult result (λ t. Reads (spell_decl (view_decl t.0))
+        (number_decl t.0) var_decl_parts depth depth (position_of at.entry) (position_of t.1))
         (λ e. Fails e var_decl_parts depth (position_of at.entry)) }
-    ensures shorter { IfOk result (λ t. length (position_of t.1).kinds < length (position_of at.entry).kinds) }
+    ensures shorter { IfOk result (λ t. length (position_of t.1).kinds < length
+        (position_of at.entry).kinds) }
 {
     let at = at.expect(Kind::Var)?;
     let (entries, at) = var_entries(alloc, at, depth)?;
@@ -230,7 +250,8 @@ fn var_entries<'t, 's>(
     depth: u32,
 ) -> Result<(Vec<VarEntry>, Cursor<'t, 's>), Fault<'t, 's>>
     ensures read { MatchResult result
-        (λ t. Reads (spell_var_tail (vars_of t.0.items)) (numbers_of_vars t.0.items) (λ o. var_tail ∷ o) depth depth (position_of at.entry) (position_of t.1))
+        (λ t. Reads (spell_var_tail (vars_of t.0.items)) (numbers_of_vars t.0.items)
+        (λ o. var_tail ∷ o) depth depth (position_of at.entry) (position_of t.1))
         (λ e. Fails e (λ o. var_tail ∷ o) depth (position_of at.entry)) }
 {
     let mut more = Vec::new(alloc);
@@ -247,9 +268,11 @@ fn var_entry<'t, 's>(
     at: Cursor<'t, 's>,
     depth: u32,
 ) -> Result<(VarEntry, Cursor<'t, 's>), Fault<'t, 's>>
-    ensures read { MatchResult result (λ t. Reads (spell_var_entry t.0) (number_var_entry t.0) var_entry_parts depth depth (position_of at.entry) (position_of t.1))
+    ensures read { MatchResult result (λ t. Reads (spell_var_entry t.0)
+        (number_var_entry t.0) var_entry_parts depth depth (position_of at.entry) (position_of t.1))
         (λ e. Fails e var_entry_parts depth (position_of at.entry)) }
-    ensures shorter { IfOk result (λ t. length (position_of t.1).kinds < length (position_of at.entry).kinds) }
+    ensures shorter { IfOk result (λ t. length (position_of t.1).kinds < length
+        (position_of at.entry).kinds) }
 {
     let (names, at) = names(alloc, at)?;
     let at = at.expect(Kind::Colon)?;
@@ -264,7 +287,8 @@ fn params<'t, 's>(
     depth: u32,
 ) -> Result<(Option<Params>, Cursor<'t, 's>), Fault<'t, 's>>
     ensures read { MatchResult result
-        (λ t. Reads (spell_params (params_of t.0)) (numbers_of_params t.0) (λ o. params_part ∷ o) depth depth (position_of at.entry) (position_of t.1))
+        (λ t. Reads (spell_params (params_of t.0)) (numbers_of_params t.0)
+        (λ o. params_part ∷ o) depth depth (position_of at.entry) (position_of t.1))
         (λ e. Fails e (λ o. params_part ∷ o) depth (position_of at.entry)) }
 {
     if !at.is_at(Kind::OpenParen) {
@@ -282,7 +306,8 @@ fn params_values<'t, 's>(
     depth: u32,
 ) -> Result<(Option<Formals>, Cursor<'t, 's>), Fault<'t, 's>>
     ensures read { MatchResult result
-        (λ t. Reads (spell_inside_params (inside_params_of t.0)) (number_inside_params t.0) (λ o. params_inside ∷ o)
+        (λ t. Reads (spell_inside_params (inside_params_of t.0)) (number_inside_params t.0)
+        (λ o. params_inside ∷ o)
         depth (pred depth) (position_of at.entry) (position_of t.1))
         (λ e. Fails e (λ o. params_inside ∷ o) depth (position_of at.entry)) }
 {
@@ -299,7 +324,8 @@ fn formals<'t, 's>(
     at: Cursor<'t, 's>,
     depth: u32,
 ) -> Result<(Formals, Cursor<'t, 's>), Fault<'t, 's>>
-    ensures read { MatchResult result (λ t. Reads (spell_formals (view_formals t.0)) (number_formals t.0) formals_parts depth depth (position_of at.entry) (position_of t.1))
+    ensures read { MatchResult result (λ t. Reads (spell_formals (view_formals t.0))
+        (number_formals t.0) formals_parts depth depth (position_of at.entry) (position_of t.1))
         (λ e. Fails e formals_parts depth (position_of at.entry)) }
 {
     let (first, at) = formal(alloc, at, depth)?;
@@ -314,7 +340,8 @@ fn formal_list<'t, 's>(
     depth: u32,
 ) -> Result<(Vec<Formal>, Cursor<'t, 's>), Fault<'t, 's>>
     ensures read { MatchResult result
-        (λ t. Reads (spell_formal_tail (formal_tail_of t.0.items)) (numbers_of_formals t.0.items) (λ o. formal_tail ∷ o) depth depth (position_of at.entry) (position_of t.1))
+        (λ t. Reads (spell_formal_tail (formal_tail_of t.0.items)) (numbers_of_formals t.0.items)
+        (λ o. formal_tail ∷ o) depth depth (position_of at.entry) (position_of t.1))
         (λ e. Fails e (λ o. formal_tail ∷ o) depth (position_of at.entry)) }
 {
     let mut more = Vec::new(alloc);
@@ -331,7 +358,8 @@ fn formal<'t, 's>(
     at: Cursor<'t, 's>,
     depth: u32,
 ) -> Result<(Formal, Cursor<'t, 's>), Fault<'t, 's>>
-    ensures read { MatchResult result (λ t. Reads (spell_formal (view_formal t.0)) (number_formal t.0) formal_parts depth depth (position_of at.entry) (position_of t.1))
+    ensures read { MatchResult result (λ t. Reads (spell_formal (view_formal t.0))
+        (number_formal t.0) formal_parts depth depth (position_of at.entry) (position_of t.1))
         (λ e. Fails e formal_parts depth (position_of at.entry)) }
 {
     let (mode, at) = at.mode();
@@ -353,7 +381,8 @@ fn formal<'t, 's>(
 /// The name of a result's type, or none.
 fn result_name<'t, 's>(at: Cursor<'t, 's>) -> Result<(Option<Name>, Cursor<'t, 's>), Fault<'t, 's>>
     ensures read { MatchResult result
-        (λ t. (d : ℕ) → Reads (spell_result_name (result_of t.0)) (numbers_of_result t.0) (λ o. result_part ∷ o) d d (position_of at.entry) (position_of t.1))
+        (λ t. (d : ℕ) → Reads (spell_result_name (result_of t.0)) (numbers_of_result t.0)
+        (λ o. result_part ∷ o) d d (position_of at.entry) (position_of t.1))
         (λ e. (d : ℕ) → Fails e (λ o. result_part ∷ o) d (position_of at.entry)) }
 {
     let Some(at) = at.skip(Kind::Colon) else {
@@ -368,7 +397,8 @@ fn body<'t, 's>(
     at: Cursor<'t, 's>,
     depth: u32,
 ) -> Result<(Option<Stmts>, Cursor<'t, 's>), Fault<'t, 's>>
-    ensures read { MatchResult result (λ t. Reads (spell_body (body_of t.0)) (numbers_of_body t.0) (λ o. body_part ∷ o) depth depth (position_of at.entry) (position_of t.1))
+    ensures read { MatchResult result (λ t. Reads (spell_body (body_of t.0)) (numbers_of_body t.0)
+        (λ o. body_part ∷ o) depth depth (position_of at.entry) (position_of t.1))
         (λ e. Fails e (λ o. body_part ∷ o) depth (position_of at.entry)) }
 {
     let Some(at) = at.skip(Kind::Begin) else {

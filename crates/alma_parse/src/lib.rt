@@ -10,6 +10,3 @@ mod types;
 
 pub use error::ParseError;
 pub use parser::parse;
-
-#[cfg(test)]
-mod tests;

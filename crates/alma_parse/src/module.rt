@@ -1,5 +1,6 @@
 // The module.
 ghost use Rattle.std.specs.Prelude.{◌≡◌, ◌≤◌, [], true, length, MatchResult};
+ghost use Rattle.alma_base.specs.Limits.{source_limit};
 ghost use Rattle.alma_tree.specs.Spelling.{spelling};
 ghost use Rattle.alma_tree.specs.View.{view_module};
 ghost use Rattle.alma_tree.specs.Numbers.{IsNumbered};
@@ -15,9 +16,10 @@ use std::alloc::Global;
 
 /// The module that all of the tokens spell.
 pub fn module<'t, 's>(alloc: Global, tokens: &'t [Token<'s>]) -> Result<Module, Fault<'t, 's>>
-    requires few { length tokens.now ≤ 1048576 }
+    requires few { length tokens.now ≤ source_limit }
     ensures read { MatchResult result
-        (λ m. (kinds_of tokens.now ≡ spelling (view_module m)) × IsNumbered m (length tokens.now) × (reading true (kinds_of tokens.now) 0 whole ≡ done))
+        (λ m. (kinds_of tokens.now ≡ spelling (view_module m)) × IsNumbered m (length tokens.now) ×
+        (reading true (kinds_of tokens.now) 0 whole ≡ done))
         (λ e. EndsIn e (reading true (kinds_of tokens.now) 0 whole)) }
 {
     let (at, inner) = Cursor::start(tokens).open(Kind::Module, 0)?;
@@ -38,7 +40,8 @@ pub fn module<'t, 's>(alloc: Global, tokens: &'t [Token<'s>]) -> Result<Module, 
 }
 
 fn nothing_left<'t, 's>(at: Cursor<'t, 's>) -> Result<(), Fault<'t, 's>>
-    ensures left { MatchResult result (λ _. (position_of at.entry).kinds ≡ []) (λ e. EndsIn e (reading true (position_of at.entry).kinds 0 [])) }
+    ensures left { MatchResult result (λ _. (position_of at.entry).kinds ≡ [])
+        (λ e. EndsIn e (reading true (position_of at.entry).kinds 0 [])) }
 {
     match at.next() {
         None => Ok(()),

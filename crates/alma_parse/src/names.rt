@@ -15,7 +15,8 @@ pub fn names<'t, 's>(
     at: Cursor<'t, 's>,
 ) -> Result<(Names, Cursor<'t, 's>), Fault<'t, 's>>
     ensures read { MatchResult result
-        (λ t. (d : ℕ) → Reads (spell_names (view_names t.0)) (number_names t.0) names_parts d d (position_of at.entry) (position_of t.1))
+        (λ t. (d : ℕ) → Reads (spell_names (view_names t.0)) (number_names t.0) names_parts d d
+        (position_of at.entry) (position_of t.1))
         (λ e. (d : ℕ) → Fails e names_parts d (position_of at.entry)) }
 {
     let (first, at) = at.name()?;
@@ -29,7 +30,9 @@ fn name_list<'t, 's>(
     mut at: Cursor<'t, 's>,
 ) -> Result<(Vec<Name>, Cursor<'t, 's>), Fault<'t, 's>>
     ensures read { MatchResult result
-        (λ t. (d : ℕ) → Reads (spell_name_tail (name_tail_of t.0.items)) (numbers_of_names t.0.items) (λ o. name_tail ∷ o) d d (position_of at.entry) (position_of t.1))
+        (λ t. (d : ℕ) → Reads (spell_name_tail (name_tail_of t.0.items))
+        (numbers_of_names t.0.items) (λ o. name_tail ∷ o) d d (position_of at.entry)
+        (position_of t.1))
         (λ e. (d : ℕ) → Fails e (λ o. name_tail ∷ o) d (position_of at.entry)) }
 {
     let mut more = Vec::new(alloc);

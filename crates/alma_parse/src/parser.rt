@@ -1,5 +1,6 @@
 // The parser, and why it refuses.
 ghost use Rattle.std.specs.Prelude.{◌≡◌, ◌≤◌, ◌-◌, length, IfOk, IfErr};
+ghost use Rattle.alma_base.specs.Limits.{source_limit};
 ghost use Rattle.alma_tree.specs.Spelling.{spelling};
 ghost use Rattle.alma_tree.specs.View.{view_module};
 ghost use Rattle.alma_tree.specs.Numbers.{IsNumbered};
@@ -18,9 +19,10 @@ use std::alloc::Global;
 /// The concrete tree that the tokens spell; or the index of the first token at which no program goes on, which is the number of tokens
 /// where they end too early.
 pub fn parse(alloc: Global, tokens: &[Token<'_>]) -> Result<Module, ParseError>
-    requires few { length tokens.now ≤ 1048576 }
+    requires few { length tokens.now ≤ source_limit }
     ensures found { IfOk result
-        (λ m. (kinds_of tokens.now ≡ spelling (view_module m)) × IsNumbered m (length tokens.now) × (depth (kinds_of tokens.now) ≤ 100)) }
+        (λ m. (kinds_of tokens.now ≡ spelling (view_module m)) × IsNumbered m (length tokens.now) ×
+        (depth (kinds_of tokens.now) ≤ 100)) }
     ensures refused { IfErr result (λ e. Refuses e (kinds_of tokens.now)) }
 {
     match module(alloc, tokens) {

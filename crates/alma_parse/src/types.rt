@@ -24,7 +24,8 @@ pub fn type_node<'t, 's>(
     depth: u32,
 ) -> Result<(TypeNode, Cursor<'t, 's>), Fault<'t, 's>>
     ensures read { MatchResult result
-        (λ t. Reads (spell_type_node (view_type_node t.0)) (number_type t.0) type_parts depth depth (position_of at.entry) (position_of t.1))
+        (λ t. Reads (spell_type_node (view_type_node t.0)) (number_type t.0) type_parts depth depth
+        (position_of at.entry) (position_of t.1))
         (λ e. Fails e type_parts depth (position_of at.entry)) }
 {
     let (arrays, at) = arrays(alloc, at, depth)?;
@@ -47,7 +48,8 @@ fn arrays<'t, 's>(
     depth: u32,
 ) -> Result<(Option<Arrays>, Cursor<'t, 's>), Fault<'t, 's>>
     ensures read { MatchResult result
-        (λ t. Reads (spell_array_tail (arrays_of t.0)) (numbers_of_arrays t.0) (λ o. array_tail ∷ o) depth depth (position_of at.entry) (position_of t.1))
+        (λ t. Reads (spell_array_tail (arrays_of t.0)) (numbers_of_arrays t.0)
+        (λ o. array_tail ∷ o) depth depth (position_of at.entry) (position_of t.1))
         (λ e. Fails e (λ o. array_tail ∷ o) depth (position_of at.entry)) }
 {
     if !at.is_at(Kind::Array) {
@@ -66,9 +68,12 @@ fn dimensions<'t, 's>(
     depth: u32,
 ) -> Result<(Dimensions, Cursor<'t, 's>), Fault<'t, 's>>
     ensures read { MatchResult result
-        (λ t. Reads (spell_dimensions (view_dimension t.0)) (number_dimension t.0) dimensions_parts depth depth (position_of at.entry) (position_of t.1))
+        (λ t. Reads (spell_dimensions (view_dimension t.0))
+        (number_dimension t.0) dimensions_parts depth depth (position_of at.entry)
+        (position_of t.1))
         (λ e. Fails e dimensions_parts depth (position_of at.entry)) }
-    ensures shorter { IfOk result (λ t. length (position_of t.1).kinds < length (position_of at.entry).kinds) }
+    ensures shorter { IfOk result (λ t. length (position_of t.1).kinds < length
+        (position_of at.entry).kinds) }
 {
     let at = at.expect(Kind::Array)?;
     let (first, at) = plain_type(alloc, at, depth)?;
@@ -84,7 +89,8 @@ fn dimensions_list<'t, 's>(
     depth: u32,
 ) -> Result<(Vec<Dimensions>, Cursor<'t, 's>), Fault<'t, 's>>
     ensures read { MatchResult result
-        (λ t. Reads (spell_array_tail (dimensions_of t.0.items)) (numbers_of_dimensions t.0.items) (λ o. array_tail ∷ o) depth depth (position_of at.entry) (position_of t.1))
+        (λ t. Reads (spell_array_tail (dimensions_of t.0.items)) (numbers_of_dimensions t.0.items)
+        (λ o. array_tail ∷ o) depth depth (position_of at.entry) (position_of t.1))
         (λ e. Fails e (λ o. array_tail ∷ o) depth (position_of at.entry)) }
 {
     let mut more = Vec::new(alloc);
@@ -103,7 +109,8 @@ fn plain_type<'t, 's>(
     depth: u32,
 ) -> Result<(PlainType, Cursor<'t, 's>), Fault<'t, 's>>
     ensures read { MatchResult result
-        (λ t. Reads (spell_plain_type (view_plain_type t.0)) (number_plain t.0) (λ o. plain_part ∷ o) depth depth (position_of at.entry) (position_of t.1))
+        (λ t. Reads (spell_plain_type (view_plain_type t.0)) (number_plain t.0)
+        (λ o. plain_part ∷ o) depth depth (position_of at.entry) (position_of t.1))
         (λ e. Fails e (λ o. plain_part ∷ o) depth (position_of at.entry)) }
 {
     match at.plain_form()? {
@@ -116,7 +123,8 @@ fn plain_type<'t, 's>(
 
 fn named_type<'t, 's>(at: Cursor<'t, 's>) -> Result<(PlainType, Cursor<'t, 's>), Fault<'t, 's>>
     ensures read { MatchResult result
-        (λ t. (d : ℕ) → Reads (spell_plain_type (view_plain_type t.0)) (number_plain t.0) named_type_parts d d (position_of at.entry) (position_of t.1))
+        (λ t. (d : ℕ) → Reads (spell_plain_type (view_plain_type t.0))
+        (number_plain t.0) named_type_parts d d (position_of at.entry) (position_of t.1))
         (λ e. (d : ℕ) → Fails e named_type_parts d (position_of at.entry)) }
 {
     let (name, at) = at.name()?;
@@ -130,7 +138,8 @@ fn listed<'t, 's>(
     depth: u32,
 ) -> Result<(PlainType, Cursor<'t, 's>), Fault<'t, 's>>
     ensures read { MatchResult result
-        (λ t. Reads (spell_plain_type (view_plain_type t.0)) (number_plain t.0) listed_parts depth depth (position_of at.entry) (position_of t.1))
+        (λ t. Reads (spell_plain_type (view_plain_type t.0))
+        (number_plain t.0) listed_parts depth depth (position_of at.entry) (position_of t.1))
         (λ e. Fails e listed_parts depth (position_of at.entry)) }
 {
     let (at, _) = at.open(Kind::OpenParen, depth)?;
@@ -146,7 +155,8 @@ fn subrange<'t, 's>(
     depth: u32,
 ) -> Result<(PlainType, Cursor<'t, 's>), Fault<'t, 's>>
     ensures read { MatchResult result
-        (λ t. Reads (spell_plain_type (view_plain_type t.0)) (number_plain t.0) subrange_parts depth depth (position_of at.entry) (position_of t.1))
+        (λ t. Reads (spell_plain_type (view_plain_type t.0))
+        (number_plain t.0) subrange_parts depth depth (position_of at.entry) (position_of t.1))
         (λ e. Fails e subrange_parts depth (position_of at.entry)) }
 {
     let (at, inner) = at.open(Kind::OpenBracket, depth)?;
@@ -165,7 +175,8 @@ fn record_type<'t, 's>(
     depth: u32,
 ) -> Result<(PlainType, Cursor<'t, 's>), Fault<'t, 's>>
     ensures read { MatchResult result
-        (λ t. Reads (spell_plain_type (view_plain_type t.0)) (number_plain t.0) record_parts depth depth (position_of at.entry) (position_of t.1))
+        (λ t. Reads (spell_plain_type (view_plain_type t.0))
+        (number_plain t.0) record_parts depth depth (position_of at.entry) (position_of t.1))
         (λ e. Fails e record_parts depth (position_of at.entry)) }
 {
     let (at, inner) = at.open(Kind::Record, depth)?;
@@ -184,7 +195,8 @@ fn plain_list<'t, 's>(
     depth: u32,
 ) -> Result<(Vec<PlainType>, Cursor<'t, 's>), Fault<'t, 's>>
     ensures read { MatchResult result
-        (λ t. Reads (spell_plain_tail (plains_of t.0.items)) (numbers_of_plains t.0.items) (λ o. plain_tail ∷ o) depth depth (position_of at.entry) (position_of t.1))
+        (λ t. Reads (spell_plain_tail (plains_of t.0.items)) (numbers_of_plains t.0.items)
+        (λ o. plain_tail ∷ o) depth depth (position_of at.entry) (position_of t.1))
         (λ e. Fails e (λ o. plain_tail ∷ o) depth (position_of at.entry)) }
 {
     let mut more = Vec::new(alloc);
@@ -203,7 +215,8 @@ fn field_list<'t, 's>(
     depth: u32,
 ) -> Result<(FieldList, Cursor<'t, 's>), Fault<'t, 's>>
     ensures read { MatchResult result
-        (λ t. Reads (spell_field_list (view_field_list t.0)) (number_field_list t.0) (λ o. field_list_part ∷ o) depth depth (position_of at.entry) (position_of t.1))
+        (λ t. Reads (spell_field_list (view_field_list t.0)) (number_field_list t.0)
+        (λ o. field_list_part ∷ o) depth depth (position_of at.entry) (position_of t.1))
         (λ e. Fails e (λ o. field_list_part ∷ o) depth (position_of at.entry)) }
 {
     if at.is_at(Kind::Name) {
@@ -220,7 +233,8 @@ fn fields<'t, 's>(
     depth: u32,
 ) -> Result<(FieldList, Cursor<'t, 's>), Fault<'t, 's>>
     ensures read { MatchResult result
-        (λ t. Reads (spell_field_list (view_field_list t.0)) (number_field_list t.0) fields_parts depth depth (position_of at.entry) (position_of t.1))
+        (λ t. Reads (spell_field_list (view_field_list t.0))
+        (number_field_list t.0) fields_parts depth depth (position_of at.entry) (position_of t.1))
         (λ e. Fails e fields_parts depth (position_of at.entry)) }
 {
     let (names, at) = names(alloc, at)?;
@@ -244,7 +258,8 @@ fn field_list_list<'t, 's>(
     depth: u32,
 ) -> Result<(Vec<FieldList>, Cursor<'t, 's>), Fault<'t, 's>>
     ensures read { MatchResult result
-        (λ t. Reads (spell_field_list_tail (field_lists_of t.0.items)) (numbers_of_field_lists t.0.items) (λ o. field_list_tail ∷ o)
+        (λ t. Reads (spell_field_list_tail (field_lists_of t.0.items))
+        (numbers_of_field_lists t.0.items) (λ o. field_list_tail ∷ o)
         depth depth (position_of at.entry) (position_of t.1))
         (λ e. Fails e (λ o. field_list_tail ∷ o) depth (position_of at.entry)) }
 {

@@ -9,7 +9,8 @@ use Rattle.alma_names.specs.declared.block.Access.{Access}
 use Rattle.alma_names.specs.declared.block.Access.TheVariants as access
 use Rattle.alma_names.specs.declared.block.Entry.{Entry}
 use Rattle.alma_names.specs.declared.block.Entry.TheVariants as entry
-use Rattle.alma_names.specs.Shapes.{limit}
+use Rattle.alma_base.specs.Limits.{cell_limit}
+use Rattle.alma_names.specs.Shapes.{}
 use Rattle.alma_names.specs.Blocks.{shape_id}
 use Rattle.alma_names.specs.Scopes.{with_new_block}
 use Rattle.alma_ir.specs.declared.program.Param.{Param}
@@ -44,7 +45,7 @@ with_scene f s = record f { scene = s }
 
 -- TooLarge: the Name of a variable or parameter with which its frame's declared cells pass the limit
 abbrev pub passes_limit : Frame → List CheckFault
-passes_limit f = when (nat_lt limit f.declared) fault.TooLarge
+passes_limit f = when (nat_lt cell_limit f.declared) fault.TooLarge
 
 -- ---- constants, types and variables
 

@@ -7,7 +7,8 @@ use crate::byte::{Class, split_run};
 
 /// What stands behind these two bytes.
 pub fn skip_two(bytes: &[u8], first: u8, second: u8) -> Option<&[u8]>
-    ensures { MatchOption result (starts_with_two first second bytes.now ≡ false) (λ rest. bytes.now ≡ first ∷ second ∷ rest.now) }
+    ensures { MatchOption result (starts_with_two first second bytes.now ≡ false)
+        (λ rest. bytes.now ≡ first ∷ second ∷ rest.now) }
 {
     let (a, rest) = bytes.split_first()?;
     let (b, rest) = rest.split_first()?;
@@ -21,7 +22,8 @@ pub fn skip_two(bytes: &[u8], first: u8, second: u8) -> Option<&[u8]>
 /// What stands behind a comment, of which these bytes stand behind `(*`; None where it does not end.
 #[tactic(auto, using(crate::proofs::Comments::same_start, crate::proofs::Comments::same_opened, crate::proofs::Comments::same_closed, crate::proofs::Comments::same_end, crate::proofs::Comments::same_byte, crate::proofs::Comments::same_none))]
 fn skip_comment(bytes: &[u8]) -> Option<&[u8]>
-    ensures { MatchOption result ((rest : List ℕ) → Closes bytes.now rest → ⊥) (λ rest. Closes bytes.now rest.now) }
+    ensures { MatchOption result ((rest : List ℕ) → Closes bytes.now rest → ⊥)
+        (λ rest. Closes bytes.now rest.now) }
 {
     let mut depth: usize = 0;
     let mut rest = bytes;

@@ -14,18 +14,22 @@ pub fn one_reading()
     ensures never_both { (source : List ℕ) (tokens : List Lexeme) (fault : LexFault) (at : ℕ) →
         Tokens source tokens → FaultAt source fault at → ⊥ }
     ensures always { (source : List ℕ) →
-        ((tokens : List Lexeme) × Tokens source tokens) ⊎ ((fault : LexFault) × (at : ℕ) × FaultAt source fault at) }
+        ((tokens : List Lexeme) × Tokens source tokens) ⊎
+        ((fault : LexFault) × (at : ℕ) × FaultAt source fault at) }
 {}
 
 /// What is left of a source goes on with one token, or to its end, or to one fault.
 pub fn one_step()
     ensures token { (size : ℕ) (bytes : List ℕ) (token other : Lexeme) (rest after : List ℕ) →
-        HasToken size bytes token rest → HasToken size bytes other after → (token ≡ other) × (rest ≡ after) }
+        HasToken size bytes token rest → HasToken size bytes other after → (token ≡ other) ×
+        (rest ≡ after) }
     ensures fault { (size : ℕ) (bytes : List ℕ) (fault other : LexFault) (at place : ℕ) →
-        HasFault size bytes [] fault at → HasFault size bytes [] other place → (fault ≡ other) × (at ≡ place) }
+        HasFault size bytes [] fault at → HasFault size bytes [] other place → (fault ≡ other) ×
+        (at ≡ place) }
     ensures token_or_end { (size : ℕ) (bytes : List ℕ) (token : Lexeme) (rest : List ℕ) →
         HasToken size bytes token rest → Gap bytes [] → ⊥ }
-    ensures token_or_fault { (size : ℕ) (bytes : List ℕ) (token : Lexeme) (rest : List ℕ) (fault : LexFault) (at : ℕ) →
+    ensures token_or_fault { (size : ℕ) (bytes : List ℕ) (token : Lexeme) (rest : List ℕ)
+        (fault : LexFault) (at : ℕ) →
         HasToken size bytes token rest → HasFault size bytes [] fault at → ⊥ }
     ensures end_or_fault { (size : ℕ) (bytes : List ℕ) (fault : LexFault) (at : ℕ) →
         Gap bytes [] → HasFault size bytes [] fault at → ⊥ }
@@ -33,6 +37,8 @@ pub fn one_step()
 
 /// The tokens of a source are slices of it, and no more than its bytes.
 pub fn tokens_are_slices()
-    ensures slices { (source : List ℕ) (tokens : List Lexeme) → Tokens source tokens → All (IsSlice source) tokens }
-    ensures count { (source : List ℕ) (tokens : List Lexeme) → Tokens source tokens → length tokens ≤ length source }
+    ensures slices { (source : List ℕ) (tokens : List Lexeme) → Tokens source tokens → All
+        (IsSlice source) tokens }
+    ensures count { (source : List ℕ) (tokens : List Lexeme) → Tokens source tokens → length tokens
+        ≤ length source }
 {}

@@ -11,6 +11,3 @@ mod spelling;
 
 pub use line::place;
 pub use scanner::{LexStop, ScanError, Scanner, Token, scan};
-
-#[cfg(test)]
-mod tests;

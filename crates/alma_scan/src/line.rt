@@ -1,5 +1,6 @@
 // Lines and columns of a source.
 ghost use Rattle.std.specs.Prelude.{◌≡◌, ◌≤◌, length};
+ghost use Rattle.alma_base.specs.Limits.{source_limit};
 ghost use Rattle.alma_scan.specs.Places.{line_at, column_at};
 
 use alma_base::Place;
@@ -7,7 +8,7 @@ use alma_base::Place;
 /// The line and the column of an offset, both counted from 1; the column counts bytes.
 pub fn place(source: &[u8], offset: usize) -> Place
     requires inside { offset ≤ length source.now }
-    requires size { length source.now ≤ 1048576 }
+    requires size { length source.now ≤ source_limit }
     ensures line { result.line ≡ line_at source.now offset }
     ensures column { result.column ≡ column_at source.now offset }
 {

@@ -91,7 +91,8 @@ impl<'s> Scanner<'s> {
             HasToken self.old.size self.old.bytes (lexeme token) self.new.bytes)) }
         ensures end { IfOk result (λ found. IfNone found (Gap self.old.bytes [])) }
         ensures end_stays { IfOk result (λ found. IfNone found (self.new ≡ self.old)) }
-        ensures fault { IfErr result (λ stop. HasFault self.old.size self.old.bytes [] stop.fault stop.at) }
+        ensures fault { IfErr result (λ stop. HasFault self.old.size self.old.bytes [] stop.fault
+            stop.at) }
         ensures fault_stays { OnErr result (self.new ≡ self.old) }
     {
         let bytes = skip_gap(self.rest);

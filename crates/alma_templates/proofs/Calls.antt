@@ -3,6 +3,7 @@ use Rattle.std.proofs.Common.{◌≡◌, ℕ, zero, suc, ◌+◌, ◌-◌, ◌<�
 use Rattle.std.specs.Prelude.{slice_get}
 use Rattle.std.specs.List.{AllByRecursion}
 use Rattle.std.proofs.lemmas.Bool.{cases_eq, cases_lt}
+use Rattle.std.proofs.lemmas.List.{get_or_append_left, get_or-take}
 use Rattle.std.proofs.Math.Seq.{get_or-append_seam}
 use Rattle.alma_base.specs.declared.number.Range.{Range}
 use Rattle.alma_base.specs.Numbers.{is_integer}
@@ -19,7 +20,7 @@ use Rattle.alma_code.specs.Plain.{PlainCode, PlainRoutine, kinds_at, start_at}
 use Rattle.alma_code.specs.Machine.{State, link_to}
 use Rattle.alma_ir.specs.Tree.{Program, Args, no_args, more_args, CallTest, CallExpr, routine_at}
 use Rattle.alma_ir.specs.Checked.{IsNested, LinksAgree, ParamsFirst, ArgsFit, HasOneCellAs, link_slots, outer_at, EachRoutine}
-use Rattle.alma_mean.specs.Store.{Store, top, top_frame, up, up_from, without_top}
+use Rattle.alma_mean.specs.Store.{Store, Unknown, top, top_frame, up, up_from, without_top}
 use Rattle.alma_mean.specs.Store as store
 use Rattle.alma_mean.specs.Events.{Events, NoYield, Flow, Go, Return, bind, node}
 use Rattle.alma_mean.specs.Rows.{ArgValue, enter, as_test, as_value, frame_of}
@@ -190,7 +191,7 @@ module _ (p : Program) (tables : Tables) (code : PlainCode) (input : List ℕ) (
         silently = z.silently;
         frames = z.frames;
         is = at_address (at + 1 + up) (at + length (own line (link_code lo up))) z.frames held z.to e z.is;
-        left = record { fits = z.fits; routine = b.routine; sound = sound_of p code input v z.frames z.fits.stand };
+        left = record { fits = z.fits; routine = b.routine; sound = sound_of p code input v z.frames z.fits.stand b.sound.position };
         link = λ some. z.holds;
       }
 
@@ -337,7 +338,7 @@ module _ (p : Program) (tables : Tables) (code : PlainCode) (input : List ℕ) (
           record {
             stand = stand;
             routine = ap (λ n. (get_or new_store n store.no_frame).routine) last ∙ ap (λ f. f.routine) (get_or-append_seam v (frame_of v called up (routine_at p called) taken) [] store.no_frame);
-            sound = sound_of p code input new_store new_frames stand;
+            sound = sound_of p code input new_store new_frames stand (record { at = b.sound.position.at; is = ap (λ f. get_or f.cells 0 Unknown) (get_or_append_left v (frame_of v called up (routine_at p called) taken ∷ []) store.no_frame 0 (omega (arith, b.stand.some))) ∙ b.sound.position.is });
           }
 
       -- what the body leaves, and the frames of the caller below it
@@ -357,7 +358,7 @@ module _ (p : Program) (tables : Tables) (code : PlainCode) (input : List ℕ) (
             back_at = h.fits.top.back ∙ ap (λ g. g.back) is;
             left = λ lo.
                 let fit : Fits p code lo now (without_top x) (without_last z) = leave_fits p code lo lo2 now pushed x z some_now h.fits in
-                record { fits = fit; routine = routine_after p code lo r v (without_top x) now (without_last z) b.stand b.routine fit; sound = sound_of p code input (without_top x) (without_last z) fit.stand };
+                record { fits = fit; routine = routine_after p code lo r v (without_top x) now (without_last z) b.stand b.routine fit; sound = sound_of p code input (without_top x) (without_last z) fit.stand (record { at = h.sound.position.at; is = ap (λ f. get_or f.cells 0 Unknown) (get_or-take (length x - 1) x 0 store.no_frame (omega (arith, h.fits.same_count, h.fits.stand.count, long, some_now))) ∙ h.sound.position.is }) };
           }
 
     -- ---- the arguments, where nothing is handed over

@@ -32,3 +32,6 @@ pub mod CaseForms
 pub mod Starting
 pub mod ForForms
 pub mod ForStatement
+pub mod SomeForms
+pub mod CellsMoved
+pub mod CellRuns

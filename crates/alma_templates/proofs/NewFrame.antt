@@ -619,6 +619,7 @@ module _ (p : Program) (code : PlainCode) (v : Store) (now : List PlainFrame) (s
                         let z : q.slot + k ≡ q.slot = omega (arith, lt, o.size) in
                         ap (λ g. get_or g.kinds (shift_in p w q.frame + (q.slot + k)) slot.Mark) now_is ∙ ap (λ g. get_or kinds (shift p g.routine + (q.slot + k)) slot.Mark) frame_is
                         ∙ ap (λ n. get_or kinds (shift p r + n) slot.Mark) z ∙ o.kind;
+                    free = λ e. absurd (omega (arith, o.frame, e, stand.some));
                   };
                   size = size;
                 }

@@ -29,6 +29,7 @@ closes kinds.End = true
 closes kinds.Until = true
 closes _ = false
 
+-- one bracket where the token is of the sort that is counted, else none
 abbrev pub one_where : Bool → ℕ
 one_where true = 1
 one_where false = 0

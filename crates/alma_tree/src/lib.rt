@@ -22,6 +22,3 @@ pub use phrase::{
 };
 pub use spell_module::spell;
 pub use type_node::{Arrays, Dimensions, FieldList, PlainType, TypeNode};
-
-#[cfg(test)]
-mod tests;

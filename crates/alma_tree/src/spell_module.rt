@@ -11,10 +11,12 @@ use crate::{
     Block, ConstEntry, Decl, Formal, Formals, Kind, Mode, Module, Name, Params, Stmts, TypeEntry,
     VarEntry,
 };
-use std::alloc::{AllocError, Global};
+use alma_base::NoMemory;
+use std::alloc::Global;
 
-fn push_const_tail(trees: &[ConstEntry], out: &mut Vec<Kind>) -> Result<(), AllocError>
-    ensures pushed { OnOk result (Pushes out.old.items out.new.items (spell_const_tail (consts_of trees.now))) }
+fn push_const_tail(trees: &[ConstEntry], out: &mut Vec<Kind>) -> Result<(), NoMemory>
+    ensures pushed { OnOk result (Pushes out.old.items out.new.items
+        (spell_const_tail (consts_of trees.now))) }
 {
     for tree in trees {
         push(Kind::Name, out)?;
@@ -25,8 +27,9 @@ fn push_const_tail(trees: &[ConstEntry], out: &mut Vec<Kind>) -> Result<(), Allo
     Ok(())
 }
 
-fn push_type_tail(trees: &[TypeEntry], out: &mut Vec<Kind>) -> Result<(), AllocError>
-    ensures pushed { OnOk result (Pushes out.old.items out.new.items (spell_type_tail (types_of trees.now))) }
+fn push_type_tail(trees: &[TypeEntry], out: &mut Vec<Kind>) -> Result<(), NoMemory>
+    ensures pushed { OnOk result (Pushes out.old.items out.new.items
+        (spell_type_tail (types_of trees.now))) }
 {
     for tree in trees {
         push(Kind::Name, out)?;
@@ -37,8 +40,9 @@ fn push_type_tail(trees: &[TypeEntry], out: &mut Vec<Kind>) -> Result<(), AllocE
     Ok(())
 }
 
-fn push_var_tail(trees: &[VarEntry], out: &mut Vec<Kind>) -> Result<(), AllocError>
-    ensures pushed { OnOk result (Pushes out.old.items out.new.items (spell_var_tail (vars_of trees.now))) }
+fn push_var_tail(trees: &[VarEntry], out: &mut Vec<Kind>) -> Result<(), NoMemory>
+    ensures pushed { OnOk result (Pushes out.old.items out.new.items
+        (spell_var_tail (vars_of trees.now))) }
 {
     for tree in trees {
         push_names(&tree.names, out)?;
@@ -49,7 +53,7 @@ fn push_var_tail(trees: &[VarEntry], out: &mut Vec<Kind>) -> Result<(), AllocErr
     Ok(())
 }
 
-fn push_mode(mode: Option<Mode>, out: &mut Vec<Kind>) -> Result<(), AllocError>
+fn push_mode(mode: Option<Mode>, out: &mut Vec<Kind>) -> Result<(), NoMemory>
     ensures pushed { OnOk result (Pushes out.old.items out.new.items (spell_mode mode)) }
 {
     match mode {
@@ -59,8 +63,9 @@ fn push_mode(mode: Option<Mode>, out: &mut Vec<Kind>) -> Result<(), AllocError>
     }
 }
 
-fn push_formal(tree: &Formal, out: &mut Vec<Kind>) -> Result<(), AllocError>
-    ensures pushed { OnOk result (Pushes out.old.items out.new.items (spell_formal (view_formal tree.now))) }
+fn push_formal(tree: &Formal, out: &mut Vec<Kind>) -> Result<(), NoMemory>
+    ensures pushed { OnOk result (Pushes out.old.items out.new.items
+        (spell_formal (view_formal tree.now))) }
 {
     push_mode(tree.mode, out)?;
     push_names(&tree.names, out)?;
@@ -68,8 +73,9 @@ fn push_formal(tree: &Formal, out: &mut Vec<Kind>) -> Result<(), AllocError>
     push(Kind::Name, out)
 }
 
-fn push_formal_tail(trees: &[Formal], out: &mut Vec<Kind>) -> Result<(), AllocError>
-    ensures pushed { OnOk result (Pushes out.old.items out.new.items (spell_formal_tail (formal_tail_of trees.now))) }
+fn push_formal_tail(trees: &[Formal], out: &mut Vec<Kind>) -> Result<(), NoMemory>
+    ensures pushed { OnOk result (Pushes out.old.items out.new.items
+        (spell_formal_tail (formal_tail_of trees.now))) }
 {
     for tree in trees {
         push(Kind::Semicolon, out)?;
@@ -78,15 +84,17 @@ fn push_formal_tail(trees: &[Formal], out: &mut Vec<Kind>) -> Result<(), AllocEr
     Ok(())
 }
 
-fn push_formals(tree: &Formals, out: &mut Vec<Kind>) -> Result<(), AllocError>
-    ensures pushed { OnOk result (Pushes out.old.items out.new.items (spell_formals (view_formals tree.now))) }
+fn push_formals(tree: &Formals, out: &mut Vec<Kind>) -> Result<(), NoMemory>
+    ensures pushed { OnOk result (Pushes out.old.items out.new.items
+        (spell_formals (view_formals tree.now))) }
 {
     push_formal(&tree.first, out)?;
     push_formal_tail(&tree.more, out)
 }
 
-fn push_params(tree: &Option<Params>, out: &mut Vec<Kind>) -> Result<(), AllocError>
-    ensures pushed { OnOk result (Pushes out.old.items out.new.items (spell_params (params_of tree.now))) }
+fn push_params(tree: &Option<Params>, out: &mut Vec<Kind>) -> Result<(), NoMemory>
+    ensures pushed { OnOk result (Pushes out.old.items out.new.items
+        (spell_params (params_of tree.now))) }
 {
     let Some(params) = tree else {
         return Ok(());
@@ -101,8 +109,9 @@ fn push_params(tree: &Option<Params>, out: &mut Vec<Kind>) -> Result<(), AllocEr
     }
 }
 
-fn push_result(tree: &Option<Name>, out: &mut Vec<Kind>) -> Result<(), AllocError>
-    ensures pushed { OnOk result (Pushes out.old.items out.new.items (spell_result_name (result_of tree.now))) }
+fn push_result(tree: &Option<Name>, out: &mut Vec<Kind>) -> Result<(), NoMemory>
+    ensures pushed { OnOk result (Pushes out.old.items out.new.items
+        (spell_result_name (result_of tree.now))) }
 {
     match tree {
         None => Ok(()),
@@ -113,8 +122,9 @@ fn push_result(tree: &Option<Name>, out: &mut Vec<Kind>) -> Result<(), AllocErro
     }
 }
 
-fn push_body(tree: &Option<Stmts>, out: &mut Vec<Kind>) -> Result<(), AllocError>
-    ensures pushed { OnOk result (Pushes out.old.items out.new.items (spell_body (body_of tree.now))) }
+fn push_body(tree: &Option<Stmts>, out: &mut Vec<Kind>) -> Result<(), NoMemory>
+    ensures pushed { OnOk result (Pushes out.old.items out.new.items
+        (spell_body (body_of tree.now))) }
 {
     match tree {
         None => Ok(()),
@@ -126,16 +136,18 @@ fn push_body(tree: &Option<Stmts>, out: &mut Vec<Kind>) -> Result<(), AllocError
 }
 
 #[cycle(spell_blocks)]
-fn push_block(tree: &Block, out: &mut Vec<Kind>) -> Result<(), AllocError>
-    ensures pushed { OnOk result (Pushes out.old.items out.new.items (spell_block (view_block tree.now))) }
+fn push_block(tree: &Block, out: &mut Vec<Kind>) -> Result<(), NoMemory>
+    ensures pushed { OnOk result (Pushes out.old.items out.new.items
+        (spell_block (view_block tree.now))) }
 {
     push_decl_tail(&tree.decls, out)?;
     push_body(&tree.body, out)
 }
 
 #[cycle(spell_blocks)]
-fn push_decl_tail(trees: &[Decl], out: &mut Vec<Kind>) -> Result<(), AllocError>
-    ensures pushed { OnOk result (Pushes out.old.items out.new.items (spell_decl_tail (decls_of trees.now))) }
+fn push_decl_tail(trees: &[Decl], out: &mut Vec<Kind>) -> Result<(), NoMemory>
+    ensures pushed { OnOk result (Pushes out.old.items out.new.items
+        (spell_decl_tail (decls_of trees.now))) }
 {
     for tree in trees {
         push_decl(tree, out)?;
@@ -144,8 +156,9 @@ fn push_decl_tail(trees: &[Decl], out: &mut Vec<Kind>) -> Result<(), AllocError>
 }
 
 #[cycle(spell_blocks)]
-fn push_decl(tree: &Decl, out: &mut Vec<Kind>) -> Result<(), AllocError>
-    ensures pushed { OnOk result (Pushes out.old.items out.new.items (spell_decl (view_decl tree.now))) }
+fn push_decl(tree: &Decl, out: &mut Vec<Kind>) -> Result<(), NoMemory>
+    ensures pushed { OnOk result (Pushes out.old.items out.new.items
+        (spell_decl (view_decl tree.now))) }
 {
     match tree {
         Decl::Const { entries, .. } => {
@@ -180,7 +193,7 @@ fn push_decl(tree: &Decl, out: &mut Vec<Kind>) -> Result<(), AllocError>
 }
 
 /// The kinds of the tokens that the tree stands for.
-pub fn spell(alloc: Global, tree: &Module) -> Result<Vec<Kind>, AllocError>
+pub fn spell(alloc: Global, tree: &Module) -> Result<Vec<Kind>, NoMemory>
     ensures spelled { IfOk result (λ kinds. kinds.items ≡ spelling (view_module tree.now)) }
 {
     let mut out = Vec::new(alloc);

@@ -10,19 +10,21 @@ use crate::{
     AddLink, Args, Arm, Compared, Desig, Elsif, Expr, Exprs, Factor, Kind, Label, MulLink, Primary,
     Selector, Simple, Stmt, Stmts, Term,
 };
-use std::alloc::AllocError;
+use alma_base::NoMemory;
 
 #[cycle(spell)]
-pub fn push_stmts(tree: &Stmts, out: &mut Vec<Kind>) -> Result<(), AllocError>
-    ensures pushed { OnOk result (Pushes out.old.items out.new.items (spell_stmts (view_stmts tree.now))) }
+pub fn push_stmts(tree: &Stmts, out: &mut Vec<Kind>) -> Result<(), NoMemory>
+    ensures pushed { OnOk result (Pushes out.old.items out.new.items
+        (spell_stmts (view_stmts tree.now))) }
 {
     push_stmt(&tree.first, out)?;
     push_stmt_tail(&tree.more, out)
 }
 
 #[cycle(spell)]
-fn push_stmt_tail(trees: &[Stmt], out: &mut Vec<Kind>) -> Result<(), AllocError>
-    ensures pushed { OnOk result (Pushes out.old.items out.new.items (spell_stmt_tail (stmts_of trees.now))) }
+fn push_stmt_tail(trees: &[Stmt], out: &mut Vec<Kind>) -> Result<(), NoMemory>
+    ensures pushed { OnOk result (Pushes out.old.items out.new.items
+        (spell_stmt_tail (stmts_of trees.now))) }
 {
     for tree in trees {
         push(Kind::Semicolon, out)?;
@@ -32,8 +34,9 @@ fn push_stmt_tail(trees: &[Stmt], out: &mut Vec<Kind>) -> Result<(), AllocError>
 }
 
 #[cycle(spell)]
-fn push_stmt(tree: &Stmt, out: &mut Vec<Kind>) -> Result<(), AllocError>
-    ensures pushed { OnOk result (Pushes out.old.items out.new.items (spell_stmt (view_stmt tree.now))) }
+fn push_stmt(tree: &Stmt, out: &mut Vec<Kind>) -> Result<(), NoMemory>
+    ensures pushed { OnOk result (Pushes out.old.items out.new.items
+        (spell_stmt (view_stmt tree.now))) }
 {
     match tree {
         Stmt::Nothing { .. } => Ok(()),
@@ -74,8 +77,9 @@ fn push_stmt(tree: &Stmt, out: &mut Vec<Kind>) -> Result<(), AllocError>
 }
 
 #[cycle(spell)]
-fn push_assign(target: &Desig, value: &Expr, out: &mut Vec<Kind>) -> Result<(), AllocError>
-    ensures pushed { OnOk result (Pushes out.old.items out.new.items (spell_stmt (assign (view_desig target.now) (view_expr value.now)))) }
+fn push_assign(target: &Desig, value: &Expr, out: &mut Vec<Kind>) -> Result<(), NoMemory>
+    ensures pushed { OnOk result (Pushes out.old.items out.new.items
+        (spell_stmt (assign (view_desig target.now) (view_expr value.now)))) }
 {
     push_desig(target, out)?;
     push(Kind::Assign, out)?;
@@ -89,8 +93,10 @@ fn push_if(
     elsifs: &[Elsif],
     otherwise: &Option<Stmts>,
     out: &mut Vec<Kind>,
-) -> Result<(), AllocError>
-    ensures pushed { OnOk result (Pushes out.old.items out.new.items (spell_stmt (if_stmt (view_expr test.now) (view_stmts then.now) (elsifs_of elsifs.now) (else_of otherwise.now)))) }
+) -> Result<(), NoMemory>
+    ensures pushed { OnOk result (Pushes out.old.items out.new.items
+        (spell_stmt (if_stmt (view_expr test.now) (view_stmts then.now) (elsifs_of elsifs.now)
+        (else_of otherwise.now)))) }
 {
     push(Kind::If, out)?;
     push_expr(test, out)?;
@@ -102,8 +108,9 @@ fn push_if(
 }
 
 #[cycle(spell)]
-fn push_while(test: &Expr, body: &Stmts, out: &mut Vec<Kind>) -> Result<(), AllocError>
-    ensures pushed { OnOk result (Pushes out.old.items out.new.items (spell_stmt (while_stmt (view_expr test.now) (view_stmts body.now)))) }
+fn push_while(test: &Expr, body: &Stmts, out: &mut Vec<Kind>) -> Result<(), NoMemory>
+    ensures pushed { OnOk result (Pushes out.old.items out.new.items
+        (spell_stmt (while_stmt (view_expr test.now) (view_stmts body.now)))) }
 {
     push(Kind::While, out)?;
     push_expr(test, out)?;
@@ -113,8 +120,9 @@ fn push_while(test: &Expr, body: &Stmts, out: &mut Vec<Kind>) -> Result<(), Allo
 }
 
 #[cycle(spell)]
-fn push_repeat(body: &Stmts, test: &Expr, out: &mut Vec<Kind>) -> Result<(), AllocError>
-    ensures pushed { OnOk result (Pushes out.old.items out.new.items (spell_stmt (repeat_stmt (view_stmts body.now) (view_expr test.now)))) }
+fn push_repeat(body: &Stmts, test: &Expr, out: &mut Vec<Kind>) -> Result<(), NoMemory>
+    ensures pushed { OnOk result (Pushes out.old.items out.new.items
+        (spell_stmt (repeat_stmt (view_stmts body.now) (view_expr test.now)))) }
 {
     push(Kind::Repeat, out)?;
     push_stmts(body, out)?;
@@ -129,8 +137,10 @@ fn push_for(
     by: &Option<Expr>,
     body: &Stmts,
     out: &mut Vec<Kind>,
-) -> Result<(), AllocError>
-    ensures pushed { OnOk result (Pushes out.old.items out.new.items (spell_stmt (for_stmt (view_expr from.now) (view_expr to.now) (by_of by.now) (view_stmts body.now)))) }
+) -> Result<(), NoMemory>
+    ensures pushed { OnOk result (Pushes out.old.items out.new.items
+        (spell_stmt (for_stmt (view_expr from.now) (view_expr to.now) (by_of by.now)
+        (view_stmts body.now)))) }
 {
     push(Kind::For, out)?;
     push(Kind::Name, out)?;
@@ -145,8 +155,9 @@ fn push_for(
 }
 
 #[cycle(spell)]
-fn push_some(from: &Expr, to: &Expr, body: &Stmts, out: &mut Vec<Kind>) -> Result<(), AllocError>
-    ensures pushed { OnOk result (Pushes out.old.items out.new.items (spell_stmt (some_stmt (view_expr from.now) (view_expr to.now) (view_stmts body.now)))) }
+fn push_some(from: &Expr, to: &Expr, body: &Stmts, out: &mut Vec<Kind>) -> Result<(), NoMemory>
+    ensures pushed { OnOk result (Pushes out.old.items out.new.items
+        (spell_stmt (some_stmt (view_expr from.now) (view_expr to.now) (view_stmts body.now)))) }
 {
     push(Kind::Some, out)?;
     push(Kind::Name, out)?;
@@ -166,8 +177,10 @@ fn push_case(
     more: &[Arm],
     otherwise: &Option<Stmts>,
     out: &mut Vec<Kind>,
-) -> Result<(), AllocError>
-    ensures pushed { OnOk result (Pushes out.old.items out.new.items (spell_stmt (case_stmt (view_expr value.now) (view_arm first.now) (arms_of more.now) (else_of otherwise.now)))) }
+) -> Result<(), NoMemory>
+    ensures pushed { OnOk result (Pushes out.old.items out.new.items
+        (spell_stmt (case_stmt (view_expr value.now) (view_arm first.now) (arms_of more.now)
+        (else_of otherwise.now)))) }
 {
     push(Kind::Case, out)?;
     push_expr(value, out)?;
@@ -179,8 +192,9 @@ fn push_case(
 }
 
 #[cycle(spell)]
-fn push_either(first: &Stmts, more: &[Stmts], out: &mut Vec<Kind>) -> Result<(), AllocError>
-    ensures pushed { OnOk result (Pushes out.old.items out.new.items (spell_stmt (either_stmt (view_stmts first.now) (orelses_of more.now)))) }
+fn push_either(first: &Stmts, more: &[Stmts], out: &mut Vec<Kind>) -> Result<(), NoMemory>
+    ensures pushed { OnOk result (Pushes out.old.items out.new.items
+        (spell_stmt (either_stmt (view_stmts first.now) (orelses_of more.now)))) }
 {
     push(Kind::Either, out)?;
     push_stmts(first, out)?;
@@ -189,8 +203,9 @@ fn push_either(first: &Stmts, more: &[Stmts], out: &mut Vec<Kind>) -> Result<(),
 }
 
 #[cycle(spell)]
-fn push_forall(choice: &Stmts, body: &Stmts, out: &mut Vec<Kind>) -> Result<(), AllocError>
-    ensures pushed { OnOk result (Pushes out.old.items out.new.items (spell_stmt (forall_stmt (view_stmts choice.now) (view_stmts body.now)))) }
+fn push_forall(choice: &Stmts, body: &Stmts, out: &mut Vec<Kind>) -> Result<(), NoMemory>
+    ensures pushed { OnOk result (Pushes out.old.items out.new.items
+        (spell_stmt (forall_stmt (view_stmts choice.now) (view_stmts body.now)))) }
 {
     push(Kind::Forall, out)?;
     push_stmts(choice, out)?;
@@ -200,8 +215,9 @@ fn push_forall(choice: &Stmts, body: &Stmts, out: &mut Vec<Kind>) -> Result<(), 
 }
 
 #[cycle(spell)]
-fn push_commit(body: &Stmts, out: &mut Vec<Kind>) -> Result<(), AllocError>
-    ensures pushed { OnOk result (Pushes out.old.items out.new.items (spell_stmt (commit_stmt (view_stmts body.now)))) }
+fn push_commit(body: &Stmts, out: &mut Vec<Kind>) -> Result<(), NoMemory>
+    ensures pushed { OnOk result (Pushes out.old.items out.new.items
+        (spell_stmt (commit_stmt (view_stmts body.now)))) }
 {
     push(Kind::Commit, out)?;
     push_stmts(body, out)?;
@@ -209,16 +225,18 @@ fn push_commit(body: &Stmts, out: &mut Vec<Kind>) -> Result<(), AllocError>
 }
 
 #[cycle(spell)]
-fn push_return(value: &Option<Expr>, out: &mut Vec<Kind>) -> Result<(), AllocError>
-    ensures pushed { OnOk result (Pushes out.old.items out.new.items (spell_stmt (return_stmt (returned_of value.now)))) }
+fn push_return(value: &Option<Expr>, out: &mut Vec<Kind>) -> Result<(), NoMemory>
+    ensures pushed { OnOk result (Pushes out.old.items out.new.items
+        (spell_stmt (return_stmt (returned_of value.now)))) }
 {
     push(Kind::Return, out)?;
     push_returned(value, out)
 }
 
 #[cycle(spell)]
-fn push_read(first: &Desig, more: &[Desig], out: &mut Vec<Kind>) -> Result<(), AllocError>
-    ensures pushed { OnOk result (Pushes out.old.items out.new.items (spell_stmt (read_stmt (view_desig first.now) (desigs_of more.now)))) }
+fn push_read(first: &Desig, more: &[Desig], out: &mut Vec<Kind>) -> Result<(), NoMemory>
+    ensures pushed { OnOk result (Pushes out.old.items out.new.items
+        (spell_stmt (read_stmt (view_desig first.now) (desigs_of more.now)))) }
 {
     push(Kind::Read, out)?;
     push(Kind::OpenParen, out)?;
@@ -228,8 +246,9 @@ fn push_read(first: &Desig, more: &[Desig], out: &mut Vec<Kind>) -> Result<(), A
 }
 
 #[cycle(spell)]
-fn push_write(items: &Exprs, out: &mut Vec<Kind>) -> Result<(), AllocError>
-    ensures pushed { OnOk result (Pushes out.old.items out.new.items (spell_stmt (write_stmt (view_exprs items.now)))) }
+fn push_write(items: &Exprs, out: &mut Vec<Kind>) -> Result<(), NoMemory>
+    ensures pushed { OnOk result (Pushes out.old.items out.new.items
+        (spell_stmt (write_stmt (view_exprs items.now)))) }
 {
     push(Kind::Write, out)?;
     push(Kind::OpenParen, out)?;
@@ -238,16 +257,18 @@ fn push_write(items: &Exprs, out: &mut Vec<Kind>) -> Result<(), AllocError>
 }
 
 #[cycle(spell)]
-fn push_writeln(items: &Option<Args>, out: &mut Vec<Kind>) -> Result<(), AllocError>
-    ensures pushed { OnOk result (Pushes out.old.items out.new.items (spell_stmt (writeln_stmt (args_of items.now)))) }
+fn push_writeln(items: &Option<Args>, out: &mut Vec<Kind>) -> Result<(), NoMemory>
+    ensures pushed { OnOk result (Pushes out.old.items out.new.items
+        (spell_stmt (writeln_stmt (args_of items.now)))) }
 {
     push(Kind::Writeln, out)?;
     push_args(items, out)
 }
 
 #[cycle(spell)]
-fn push_elsif_tail(trees: &[Elsif], out: &mut Vec<Kind>) -> Result<(), AllocError>
-    ensures pushed { OnOk result (Pushes out.old.items out.new.items (spell_elsif_tail (elsifs_of trees.now))) }
+fn push_elsif_tail(trees: &[Elsif], out: &mut Vec<Kind>) -> Result<(), NoMemory>
+    ensures pushed { OnOk result (Pushes out.old.items out.new.items
+        (spell_elsif_tail (elsifs_of trees.now))) }
 {
     for tree in trees {
         push(Kind::Elsif, out)?;
@@ -259,8 +280,9 @@ fn push_elsif_tail(trees: &[Elsif], out: &mut Vec<Kind>) -> Result<(), AllocErro
 }
 
 #[cycle(spell)]
-fn push_else(tree: &Option<Stmts>, out: &mut Vec<Kind>) -> Result<(), AllocError>
-    ensures pushed { OnOk result (Pushes out.old.items out.new.items (spell_else (else_of tree.now))) }
+fn push_else(tree: &Option<Stmts>, out: &mut Vec<Kind>) -> Result<(), NoMemory>
+    ensures pushed { OnOk result (Pushes out.old.items out.new.items
+        (spell_else (else_of tree.now))) }
 {
     match tree {
         None => Ok(()),
@@ -272,7 +294,7 @@ fn push_else(tree: &Option<Stmts>, out: &mut Vec<Kind>) -> Result<(), AllocError
 }
 
 #[cycle(spell)]
-fn push_by(tree: &Option<Expr>, out: &mut Vec<Kind>) -> Result<(), AllocError>
+fn push_by(tree: &Option<Expr>, out: &mut Vec<Kind>) -> Result<(), NoMemory>
     ensures pushed { OnOk result (Pushes out.old.items out.new.items (spell_by (by_of tree.now))) }
 {
     match tree {
@@ -285,8 +307,9 @@ fn push_by(tree: &Option<Expr>, out: &mut Vec<Kind>) -> Result<(), AllocError>
 }
 
 #[cycle(spell)]
-fn push_orelse_tail(trees: &[Stmts], out: &mut Vec<Kind>) -> Result<(), AllocError>
-    ensures pushed { OnOk result (Pushes out.old.items out.new.items (spell_orelse_tail (orelses_of trees.now))) }
+fn push_orelse_tail(trees: &[Stmts], out: &mut Vec<Kind>) -> Result<(), NoMemory>
+    ensures pushed { OnOk result (Pushes out.old.items out.new.items
+        (spell_orelse_tail (orelses_of trees.now))) }
 {
     for tree in trees {
         push(Kind::Orelse, out)?;
@@ -296,8 +319,9 @@ fn push_orelse_tail(trees: &[Stmts], out: &mut Vec<Kind>) -> Result<(), AllocErr
 }
 
 #[cycle(spell)]
-fn push_returned(tree: &Option<Expr>, out: &mut Vec<Kind>) -> Result<(), AllocError>
-    ensures pushed { OnOk result (Pushes out.old.items out.new.items (spell_returned (returned_of tree.now))) }
+fn push_returned(tree: &Option<Expr>, out: &mut Vec<Kind>) -> Result<(), NoMemory>
+    ensures pushed { OnOk result (Pushes out.old.items out.new.items
+        (spell_returned (returned_of tree.now))) }
 {
     match tree {
         None => Ok(()),
@@ -306,8 +330,9 @@ fn push_returned(tree: &Option<Expr>, out: &mut Vec<Kind>) -> Result<(), AllocEr
 }
 
 #[cycle(spell)]
-fn push_desig_tail(trees: &[Desig], out: &mut Vec<Kind>) -> Result<(), AllocError>
-    ensures pushed { OnOk result (Pushes out.old.items out.new.items (spell_desig_tail (desigs_of trees.now))) }
+fn push_desig_tail(trees: &[Desig], out: &mut Vec<Kind>) -> Result<(), NoMemory>
+    ensures pushed { OnOk result (Pushes out.old.items out.new.items
+        (spell_desig_tail (desigs_of trees.now))) }
 {
     for tree in trees {
         push(Kind::Comma, out)?;
@@ -317,8 +342,9 @@ fn push_desig_tail(trees: &[Desig], out: &mut Vec<Kind>) -> Result<(), AllocErro
 }
 
 #[cycle(spell)]
-fn push_arm(tree: &Arm, out: &mut Vec<Kind>) -> Result<(), AllocError>
-    ensures pushed { OnOk result (Pushes out.old.items out.new.items (spell_arm (view_arm tree.now))) }
+fn push_arm(tree: &Arm, out: &mut Vec<Kind>) -> Result<(), NoMemory>
+    ensures pushed { OnOk result (Pushes out.old.items out.new.items
+        (spell_arm (view_arm tree.now))) }
 {
     match tree {
         Arm::Empty { .. } => Ok(()),
@@ -337,8 +363,9 @@ fn push_arm(tree: &Arm, out: &mut Vec<Kind>) -> Result<(), AllocError>
 }
 
 #[cycle(spell)]
-fn push_arm_tail(trees: &[Arm], out: &mut Vec<Kind>) -> Result<(), AllocError>
-    ensures pushed { OnOk result (Pushes out.old.items out.new.items (spell_arm_tail (arms_of trees.now))) }
+fn push_arm_tail(trees: &[Arm], out: &mut Vec<Kind>) -> Result<(), NoMemory>
+    ensures pushed { OnOk result (Pushes out.old.items out.new.items
+        (spell_arm_tail (arms_of trees.now))) }
 {
     for tree in trees {
         push(Kind::Bar, out)?;
@@ -348,16 +375,18 @@ fn push_arm_tail(trees: &[Arm], out: &mut Vec<Kind>) -> Result<(), AllocError>
 }
 
 #[cycle(spell)]
-fn push_label(tree: &Label, out: &mut Vec<Kind>) -> Result<(), AllocError>
-    ensures pushed { OnOk result (Pushes out.old.items out.new.items (spell_label (view_label tree.now))) }
+fn push_label(tree: &Label, out: &mut Vec<Kind>) -> Result<(), NoMemory>
+    ensures pushed { OnOk result (Pushes out.old.items out.new.items
+        (spell_label (view_label tree.now))) }
 {
     push_expr(&tree.low, out)?;
     push_high(&tree.high, out)
 }
 
 #[cycle(spell)]
-fn push_high(tree: &Option<Expr>, out: &mut Vec<Kind>) -> Result<(), AllocError>
-    ensures pushed { OnOk result (Pushes out.old.items out.new.items (spell_high (high_of tree.now))) }
+fn push_high(tree: &Option<Expr>, out: &mut Vec<Kind>) -> Result<(), NoMemory>
+    ensures pushed { OnOk result (Pushes out.old.items out.new.items
+        (spell_high (high_of tree.now))) }
 {
     match tree {
         None => Ok(()),
@@ -369,8 +398,9 @@ fn push_high(tree: &Option<Expr>, out: &mut Vec<Kind>) -> Result<(), AllocError>
 }
 
 #[cycle(spell)]
-fn push_label_tail(trees: &[Label], out: &mut Vec<Kind>) -> Result<(), AllocError>
-    ensures pushed { OnOk result (Pushes out.old.items out.new.items (spell_label_tail (labels_of trees.now))) }
+fn push_label_tail(trees: &[Label], out: &mut Vec<Kind>) -> Result<(), NoMemory>
+    ensures pushed { OnOk result (Pushes out.old.items out.new.items
+        (spell_label_tail (labels_of trees.now))) }
 {
     for tree in trees {
         push(Kind::Comma, out)?;
@@ -380,16 +410,18 @@ fn push_label_tail(trees: &[Label], out: &mut Vec<Kind>) -> Result<(), AllocErro
 }
 
 #[cycle(spell)]
-pub fn push_expr(tree: &Expr, out: &mut Vec<Kind>) -> Result<(), AllocError>
-    ensures pushed { OnOk result (Pushes out.old.items out.new.items (spell_expr (view_expr tree.now))) }
+pub fn push_expr(tree: &Expr, out: &mut Vec<Kind>) -> Result<(), NoMemory>
+    ensures pushed { OnOk result (Pushes out.old.items out.new.items
+        (spell_expr (view_expr tree.now))) }
 {
     push_simple(&tree.left, out)?;
     push_compared(&tree.right, out)
 }
 
 #[cycle(spell)]
-fn push_compared(tree: &Option<Box<Compared>>, out: &mut Vec<Kind>) -> Result<(), AllocError>
-    ensures pushed { OnOk result (Pushes out.old.items out.new.items (spell_compared (compared_of tree.now))) }
+fn push_compared(tree: &Option<Box<Compared>>, out: &mut Vec<Kind>) -> Result<(), NoMemory>
+    ensures pushed { OnOk result (Pushes out.old.items out.new.items
+        (spell_compared (compared_of tree.now))) }
 {
     match tree {
         None => Ok(()),
@@ -401,8 +433,9 @@ fn push_compared(tree: &Option<Box<Compared>>, out: &mut Vec<Kind>) -> Result<()
 }
 
 #[cycle(spell)]
-fn push_simple(tree: &Simple, out: &mut Vec<Kind>) -> Result<(), AllocError>
-    ensures pushed { OnOk result (Pushes out.old.items out.new.items (spell_simple (view_simple tree.now))) }
+fn push_simple(tree: &Simple, out: &mut Vec<Kind>) -> Result<(), NoMemory>
+    ensures pushed { OnOk result (Pushes out.old.items out.new.items
+        (spell_simple (view_simple tree.now))) }
 {
     push_sign(tree.sign, out)?;
     push_term(&tree.first, out)?;
@@ -410,8 +443,9 @@ fn push_simple(tree: &Simple, out: &mut Vec<Kind>) -> Result<(), AllocError>
 }
 
 #[cycle(spell)]
-fn push_term_tail(trees: &[AddLink], out: &mut Vec<Kind>) -> Result<(), AllocError>
-    ensures pushed { OnOk result (Pushes out.old.items out.new.items (spell_term_tail (terms_of trees.now))) }
+fn push_term_tail(trees: &[AddLink], out: &mut Vec<Kind>) -> Result<(), NoMemory>
+    ensures pushed { OnOk result (Pushes out.old.items out.new.items
+        (spell_term_tail (terms_of trees.now))) }
 {
     for tree in trees {
         push(add_kind(tree.operator), out)?;
@@ -421,16 +455,18 @@ fn push_term_tail(trees: &[AddLink], out: &mut Vec<Kind>) -> Result<(), AllocErr
 }
 
 #[cycle(spell)]
-fn push_term(tree: &Term, out: &mut Vec<Kind>) -> Result<(), AllocError>
-    ensures pushed { OnOk result (Pushes out.old.items out.new.items (spell_term (view_term tree.now))) }
+fn push_term(tree: &Term, out: &mut Vec<Kind>) -> Result<(), NoMemory>
+    ensures pushed { OnOk result (Pushes out.old.items out.new.items
+        (spell_term (view_term tree.now))) }
 {
     push_factor(&tree.first, out)?;
     push_factor_tail(&tree.more, out)
 }
 
 #[cycle(spell)]
-fn push_factor_tail(trees: &[MulLink], out: &mut Vec<Kind>) -> Result<(), AllocError>
-    ensures pushed { OnOk result (Pushes out.old.items out.new.items (spell_factor_tail (factors_of trees.now))) }
+fn push_factor_tail(trees: &[MulLink], out: &mut Vec<Kind>) -> Result<(), NoMemory>
+    ensures pushed { OnOk result (Pushes out.old.items out.new.items
+        (spell_factor_tail (factors_of trees.now))) }
 {
     for tree in trees {
         push(mul_kind(tree.operator), out)?;
@@ -440,8 +476,9 @@ fn push_factor_tail(trees: &[MulLink], out: &mut Vec<Kind>) -> Result<(), AllocE
 }
 
 #[cycle(spell)]
-fn push_factor(tree: &Factor, out: &mut Vec<Kind>) -> Result<(), AllocError>
-    ensures pushed { OnOk result (Pushes out.old.items out.new.items (spell_factor (view_factor tree.now))) }
+fn push_factor(tree: &Factor, out: &mut Vec<Kind>) -> Result<(), NoMemory>
+    ensures pushed { OnOk result (Pushes out.old.items out.new.items
+        (spell_factor (view_factor tree.now))) }
 {
     match tree {
         Factor::Not { primary, .. } => {
@@ -453,8 +490,9 @@ fn push_factor(tree: &Factor, out: &mut Vec<Kind>) -> Result<(), AllocError>
 }
 
 #[cycle(spell)]
-fn push_primary(tree: &Primary, out: &mut Vec<Kind>) -> Result<(), AllocError>
-    ensures pushed { OnOk result (Pushes out.old.items out.new.items (spell_primary (view_primary tree.now))) }
+fn push_primary(tree: &Primary, out: &mut Vec<Kind>) -> Result<(), NoMemory>
+    ensures pushed { OnOk result (Pushes out.old.items out.new.items
+        (spell_primary (view_primary tree.now))) }
 {
     match tree {
         Primary::Number { .. } => push(Kind::Number, out),
@@ -490,8 +528,9 @@ fn push_primary(tree: &Primary, out: &mut Vec<Kind>) -> Result<(), AllocError>
 }
 
 #[cycle(spell)]
-fn push_args(tree: &Option<Args>, out: &mut Vec<Kind>) -> Result<(), AllocError>
-    ensures pushed { OnOk result (Pushes out.old.items out.new.items (spell_args (args_of tree.now))) }
+fn push_args(tree: &Option<Args>, out: &mut Vec<Kind>) -> Result<(), NoMemory>
+    ensures pushed { OnOk result (Pushes out.old.items out.new.items
+        (spell_args (args_of tree.now))) }
 {
     let Some(args) = tree else {
         return Ok(());
@@ -507,16 +546,18 @@ fn push_args(tree: &Option<Args>, out: &mut Vec<Kind>) -> Result<(), AllocError>
 }
 
 #[cycle(spell)]
-fn push_exprs(tree: &Exprs, out: &mut Vec<Kind>) -> Result<(), AllocError>
-    ensures pushed { OnOk result (Pushes out.old.items out.new.items (spell_exprs (view_exprs tree.now))) }
+fn push_exprs(tree: &Exprs, out: &mut Vec<Kind>) -> Result<(), NoMemory>
+    ensures pushed { OnOk result (Pushes out.old.items out.new.items
+        (spell_exprs (view_exprs tree.now))) }
 {
     push_expr(&tree.first, out)?;
     push_expr_tail(&tree.more, out)
 }
 
 #[cycle(spell)]
-fn push_expr_tail(trees: &[Expr], out: &mut Vec<Kind>) -> Result<(), AllocError>
-    ensures pushed { OnOk result (Pushes out.old.items out.new.items (spell_expr_tail (exprs_of trees.now))) }
+fn push_expr_tail(trees: &[Expr], out: &mut Vec<Kind>) -> Result<(), NoMemory>
+    ensures pushed { OnOk result (Pushes out.old.items out.new.items
+        (spell_expr_tail (exprs_of trees.now))) }
 {
     for tree in trees {
         push(Kind::Comma, out)?;
@@ -526,16 +567,18 @@ fn push_expr_tail(trees: &[Expr], out: &mut Vec<Kind>) -> Result<(), AllocError>
 }
 
 #[cycle(spell)]
-fn push_desig(tree: &Desig, out: &mut Vec<Kind>) -> Result<(), AllocError>
-    ensures pushed { OnOk result (Pushes out.old.items out.new.items (spell_desig (view_desig tree.now))) }
+fn push_desig(tree: &Desig, out: &mut Vec<Kind>) -> Result<(), NoMemory>
+    ensures pushed { OnOk result (Pushes out.old.items out.new.items
+        (spell_desig (view_desig tree.now))) }
 {
     push(Kind::Name, out)?;
     push_selector_tail(&tree.more, out)
 }
 
 #[cycle(spell)]
-fn push_selector_tail(trees: &[Selector], out: &mut Vec<Kind>) -> Result<(), AllocError>
-    ensures pushed { OnOk result (Pushes out.old.items out.new.items (spell_selector_tail (selectors_of trees.now))) }
+fn push_selector_tail(trees: &[Selector], out: &mut Vec<Kind>) -> Result<(), NoMemory>
+    ensures pushed { OnOk result (Pushes out.old.items out.new.items
+        (spell_selector_tail (selectors_of trees.now))) }
 {
     for tree in trees {
         push_selector(tree, out)?;
@@ -544,8 +587,9 @@ fn push_selector_tail(trees: &[Selector], out: &mut Vec<Kind>) -> Result<(), All
 }
 
 #[cycle(spell)]
-fn push_selector(tree: &Selector, out: &mut Vec<Kind>) -> Result<(), AllocError>
-    ensures pushed { OnOk result (Pushes out.old.items out.new.items (spell_selector (view_selector tree.now))) }
+fn push_selector(tree: &Selector, out: &mut Vec<Kind>) -> Result<(), NoMemory>
+    ensures pushed { OnOk result (Pushes out.old.items out.new.items
+        (spell_selector (view_selector tree.now))) }
 {
     match tree {
         Selector::Field { .. } => {

@@ -7,10 +7,11 @@ ghost use Rattle.alma_tree.specs.View.{arrays_of, dimensions_of, field_lists_of,
 use crate::spell_phrase::push_expr;
 use crate::spell_word::push;
 use crate::{Arrays, Dimensions, FieldList, Kind, Name, Names, PlainType, TypeNode};
-use std::alloc::AllocError;
+use alma_base::NoMemory;
 
-fn push_name_tail(trees: &[Name], out: &mut Vec<Kind>) -> Result<(), AllocError>
-    ensures pushed { OnOk result (Pushes out.old.items out.new.items (spell_name_tail (name_tail_of trees.now))) }
+fn push_name_tail(trees: &[Name], out: &mut Vec<Kind>) -> Result<(), NoMemory>
+    ensures pushed { OnOk result (Pushes out.old.items out.new.items
+        (spell_name_tail (name_tail_of trees.now))) }
 {
     for _name in trees {
         push(Kind::Comma, out)?;
@@ -19,24 +20,27 @@ fn push_name_tail(trees: &[Name], out: &mut Vec<Kind>) -> Result<(), AllocError>
     Ok(())
 }
 
-pub fn push_names(tree: &Names, out: &mut Vec<Kind>) -> Result<(), AllocError>
-    ensures pushed { OnOk result (Pushes out.old.items out.new.items (spell_names (view_names tree.now))) }
+pub fn push_names(tree: &Names, out: &mut Vec<Kind>) -> Result<(), NoMemory>
+    ensures pushed { OnOk result (Pushes out.old.items out.new.items
+        (spell_names (view_names tree.now))) }
 {
     push(Kind::Name, out)?;
     push_name_tail(&tree.more, out)
 }
 
 #[cycle(spell_types)]
-pub fn push_type_node(tree: &TypeNode, out: &mut Vec<Kind>) -> Result<(), AllocError>
-    ensures pushed { OnOk result (Pushes out.old.items out.new.items (spell_type_node (view_type_node tree.now))) }
+pub fn push_type_node(tree: &TypeNode, out: &mut Vec<Kind>) -> Result<(), NoMemory>
+    ensures pushed { OnOk result (Pushes out.old.items out.new.items
+        (spell_type_node (view_type_node tree.now))) }
 {
     push_arrays(&tree.arrays, out)?;
     push_plain_type(&tree.element, out)
 }
 
 #[cycle(spell_types)]
-fn push_arrays(tree: &Option<Arrays>, out: &mut Vec<Kind>) -> Result<(), AllocError>
-    ensures pushed { OnOk result (Pushes out.old.items out.new.items (spell_array_tail (arrays_of tree.now))) }
+fn push_arrays(tree: &Option<Arrays>, out: &mut Vec<Kind>) -> Result<(), NoMemory>
+    ensures pushed { OnOk result (Pushes out.old.items out.new.items
+        (spell_array_tail (arrays_of tree.now))) }
 {
     match tree {
         None => Ok(()),
@@ -48,8 +52,9 @@ fn push_arrays(tree: &Option<Arrays>, out: &mut Vec<Kind>) -> Result<(), AllocEr
 }
 
 #[cycle(spell_types)]
-fn push_dimension_tail(trees: &[Dimensions], out: &mut Vec<Kind>) -> Result<(), AllocError>
-    ensures pushed { OnOk result (Pushes out.old.items out.new.items (spell_array_tail (dimensions_of trees.now))) }
+fn push_dimension_tail(trees: &[Dimensions], out: &mut Vec<Kind>) -> Result<(), NoMemory>
+    ensures pushed { OnOk result (Pushes out.old.items out.new.items
+        (spell_array_tail (dimensions_of trees.now))) }
 {
     for tree in trees {
         push_dimension(tree, out)?;
@@ -58,8 +63,9 @@ fn push_dimension_tail(trees: &[Dimensions], out: &mut Vec<Kind>) -> Result<(), 
 }
 
 #[cycle(spell_types)]
-fn push_dimension(tree: &Dimensions, out: &mut Vec<Kind>) -> Result<(), AllocError>
-    ensures pushed { OnOk result (Pushes out.old.items out.new.items (spell_dimensions (view_dimension tree.now))) }
+fn push_dimension(tree: &Dimensions, out: &mut Vec<Kind>) -> Result<(), NoMemory>
+    ensures pushed { OnOk result (Pushes out.old.items out.new.items
+        (spell_dimensions (view_dimension tree.now))) }
 {
     push(Kind::Array, out)?;
     push_plain_type(&tree.first, out)?;
@@ -68,8 +74,9 @@ fn push_dimension(tree: &Dimensions, out: &mut Vec<Kind>) -> Result<(), AllocErr
 }
 
 #[cycle(spell_types)]
-fn push_plain_tail(trees: &[PlainType], out: &mut Vec<Kind>) -> Result<(), AllocError>
-    ensures pushed { OnOk result (Pushes out.old.items out.new.items (spell_plain_tail (plains_of trees.now))) }
+fn push_plain_tail(trees: &[PlainType], out: &mut Vec<Kind>) -> Result<(), NoMemory>
+    ensures pushed { OnOk result (Pushes out.old.items out.new.items
+        (spell_plain_tail (plains_of trees.now))) }
 {
     for tree in trees {
         push(Kind::Comma, out)?;
@@ -79,8 +86,9 @@ fn push_plain_tail(trees: &[PlainType], out: &mut Vec<Kind>) -> Result<(), Alloc
 }
 
 #[cycle(spell_types)]
-fn push_plain_type(tree: &PlainType, out: &mut Vec<Kind>) -> Result<(), AllocError>
-    ensures pushed { OnOk result (Pushes out.old.items out.new.items (spell_plain_type (view_plain_type tree.now))) }
+fn push_plain_type(tree: &PlainType, out: &mut Vec<Kind>) -> Result<(), NoMemory>
+    ensures pushed { OnOk result (Pushes out.old.items out.new.items
+        (spell_plain_type (view_plain_type tree.now))) }
 {
     match tree {
         PlainType::Named { .. } => push(Kind::Name, out),
@@ -106,8 +114,9 @@ fn push_plain_type(tree: &PlainType, out: &mut Vec<Kind>) -> Result<(), AllocErr
 }
 
 #[cycle(spell_types)]
-fn push_field_list(tree: &FieldList, out: &mut Vec<Kind>) -> Result<(), AllocError>
-    ensures pushed { OnOk result (Pushes out.old.items out.new.items (spell_field_list (view_field_list tree.now))) }
+fn push_field_list(tree: &FieldList, out: &mut Vec<Kind>) -> Result<(), NoMemory>
+    ensures pushed { OnOk result (Pushes out.old.items out.new.items
+        (spell_field_list (view_field_list tree.now))) }
 {
     match tree {
         FieldList::Empty { .. } => Ok(()),
@@ -124,8 +133,9 @@ fn push_field_list(tree: &FieldList, out: &mut Vec<Kind>) -> Result<(), AllocErr
 }
 
 #[cycle(spell_types)]
-fn push_field_list_tail(trees: &[FieldList], out: &mut Vec<Kind>) -> Result<(), AllocError>
-    ensures pushed { OnOk result (Pushes out.old.items out.new.items (spell_field_list_tail (field_lists_of trees.now))) }
+fn push_field_list_tail(trees: &[FieldList], out: &mut Vec<Kind>) -> Result<(), NoMemory>
+    ensures pushed { OnOk result (Pushes out.old.items out.new.items
+        (spell_field_list_tail (field_lists_of trees.now))) }
 {
     for tree in trees {
         push(Kind::Semicolon, out)?;

@@ -4,9 +4,9 @@ ghost use Rattle.alma_tree.specs.Inner.Pushed.{Pushes};
 ghost use Rattle.alma_tree.specs.Spelling as spells;
 
 use crate::{AddOperator, Kind, MulOperator, Relation, Sign};
-use std::alloc::AllocError;
+use alma_base::NoMemory;
 
-pub fn push(kind: Kind, out: &mut Vec<Kind>) -> Result<(), AllocError>
+pub fn push(kind: Kind, out: &mut Vec<Kind>) -> Result<(), NoMemory>
     ensures pushed { OnOk result (Pushes out.old.items out.new.items (λ rest. kind ∷ rest)) }
 {
     out.push(kind)?;
@@ -47,7 +47,7 @@ pub fn mul_kind(operator: MulOperator) -> Kind
     }
 }
 
-pub fn push_sign(sign: Option<Sign>, out: &mut Vec<Kind>) -> Result<(), AllocError>
+pub fn push_sign(sign: Option<Sign>, out: &mut Vec<Kind>) -> Result<(), NoMemory>
     ensures pushed { OnOk result (Pushes out.old.items out.new.items (spells.spell_sign sign)) }
 {
     match sign {

@@ -1,6 +1,7 @@
 // The rules of a routine's head.
 ghost use Rattle.std.specs.Prelude.{◌≡◌, ◌≤◌, ◌<◌, ◌+◌, ◌^◌, length};
 ghost use Rattle.std.specs.List.{list_all};
+ghost use Rattle.alma_base.specs.Limits.{record_limit};
 ghost use Rattle.alma_code.specs.Layout.{holds_param as holds_param_spec, hold_params, param_slots as param_slots_spec};
 ghost use Rattle.alma_code.specs.Plain.{head_at, kinds_at};
 ghost use Rattle.alma_code.specs.Rules.{IsTable, is_global, is_main as is_main_spec, rule_1 as rule_1_spec, last_end, names_routine as names_routine_spec, rule_2 as rule_2_spec, has_position as has_position_spec, rule_3 as rule_3_spec};
@@ -67,7 +68,8 @@ pub fn names_routine<R: CodeReader>(reader: &R, kind: SlotKind) -> bool
 
 pub fn name_routines<R: CodeReader>(reader: &R, routine: u32) -> bool
     requires routine { routine < length (R.code reader.now).routines }
-    ensures { result ≡ list_all (λ run. names_routine_spec (R.code reader.now) run.kind) (head_at (R.code reader.now) routine).runs }
+    ensures { result ≡ list_all (λ run. names_routine_spec (R.code reader.now) run.kind)
+        (head_at (R.code reader.now) routine).runs }
 {
     for k in 0..reader.run_count(routine) {
         let run = reader.run(routine, k);
@@ -96,7 +98,8 @@ pub fn holds_param<R: CodeReader>(reader: &R, routine: u32, param: CodeParam, sl
     requires routine { routine < length (R.code reader.now).routines }
     requires table { IsTable (R.code reader.now) }
     requires slot { slot < 2 ^ 62 }
-    ensures { result ≡ holds_param_spec (kinds_at (R.code reader.now) routine) param.kind param.cells slot }
+    ensures { result ≡ holds_param_spec (kinds_at (R.code reader.now) routine) param.kind
+        param.cells slot }
 {
     match param.kind {
         ParamKind::Value => is_number(kind_of(reader, routine, slot)),
@@ -124,8 +127,9 @@ pub fn param_slots(param: CodeParam) -> u32
 pub fn are_params<R: CodeReader>(reader: &R, routine: u32) -> bool
     requires routine { routine < length (R.code reader.now).routines }
     requires table { IsTable (R.code reader.now) }
-    requires few { length (head_at (R.code reader.now) routine).params ≤ 1048576 }
-    ensures { result ≡ hold_params (kinds_at (R.code reader.now) routine) (head_at (R.code reader.now) routine).params 0 }
+    requires few { length (head_at (R.code reader.now) routine).params ≤ record_limit }
+    ensures { result ≡ hold_params (kinds_at (R.code reader.now) routine)
+        (head_at (R.code reader.now) routine).params 0 }
 {
     let mut slot: u64 = 0;
     for k in 0..reader.param_count(routine) {
@@ -150,7 +154,7 @@ pub fn has_position<R: CodeReader>(reader: &R, routine: u32) -> bool
 pub fn rule_3<R: CodeReader>(reader: &R, routine: u32) -> bool
     requires routine { routine < length (R.code reader.now).routines }
     requires table { IsTable (R.code reader.now) }
-    requires few { length (head_at (R.code reader.now) routine).params ≤ 1048576 }
+    requires few { length (head_at (R.code reader.now) routine).params ≤ record_limit }
     ensures { result ≡ rule_3_spec (R.code reader.now) routine }
 {
     are_params(reader, routine) && has_position(reader, routine)

@@ -11,6 +11,3 @@ mod words;
 
 pub use alma_code::VerifyFault;
 pub use verified::{Verified, verify};
-
-#[cfg(test)]
-mod tests;

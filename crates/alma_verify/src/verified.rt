@@ -1,5 +1,5 @@
 // Views whose code is sound.
-ghost use Rattle.std.specs.Prelude.{◌≡◌, None, Some, MatchResult, IfOk};
+ghost use Rattle.std.specs.Prelude.{◌≡◌, None, Some, MatchResult, IfOk, IsOk};
 ghost use Rattle.alma_code.specs.Rules.{IsSound, code_fault as code_fault_of};
 ghost use Rattle.alma_object.specs.View.{code_of_view};
 
@@ -14,11 +14,13 @@ pub struct Verified<'b> {
     ghost clean: { code_fault_of (code_of_view view) ≡ None },
 }
 
-/// The view, where its code breaks no rule, and else the first rule that it breaks. It takes no memory.
+/// The view, exactly where its code is sound, and else the first rule that it breaks. It takes no memory.
 pub fn verify<'b>(view: ObjectView<'b>) -> Result<Verified<'b>, VerifyFault>
-    ensures fault { MatchResult result (λ verified. code_fault_of (code_of_view view.entry) ≡ None) (λ fault. code_fault_of (code_of_view view.entry) ≡ Some fault) }
+    ensures fault { MatchResult result (λ verified. code_fault_of (code_of_view view.entry) ≡ None)
+        (λ fault. code_fault_of (code_of_view view.entry) ≡ Some fault) }
     ensures view { IfOk result (λ verified. verified.view ≡ view.entry) }
     ensures sound { IfOk result (λ verified. IsSound (code_of_view view.entry)) }
+    ensures complete { IsSound (code_of_view view.entry) → IsOk result }
 {
     view.keeps_object();
     match code_fault(&view) {

@@ -1,5 +1,6 @@
 // The first broken rule.
 ghost use Rattle.std.specs.Prelude.{◌≡◌, ◌≤◌, ◌<◌, ◌-◌, ℕ, length, get_or};
+ghost use Rattle.alma_base.specs.Limits.{record_limit};
 ghost use Rattle.alma_code.specs.Plain.{head_at, start_at, end_at};
 ghost use Rattle.alma_code.specs.Records.{KeepsCounts};
 ghost use Rattle.alma_code.specs.declared.instr.Instr.TheVariants as I;
@@ -18,7 +19,8 @@ pub fn instr_fault<R: CodeReader>(reader: &R, routine: u32, at: u32) -> Option<V
     requires routine { routine < length (R.code reader.now).routines }
     requires table { IsTable (R.code reader.now) }
     requires at { at < length (R.code reader.now).instrs }
-    ensures { result ≡ instr_fault_spec (R.code reader.now) routine at (get_or (R.code reader.now).instrs at I.Fail) }
+    ensures { result ≡ instr_fault_spec (R.code reader.now) routine at
+        (get_or (R.code reader.now).instrs at I.Fail) }
 {
     let instr = reader.instr(at);
     if !rule_4(reader, routine, instr) {
@@ -76,7 +78,7 @@ pub fn instrs_fault<R: CodeReader>(
 pub fn routine_fault<R: CodeReader>(reader: &R, routine: u32) -> Option<VerifyFault>
     requires routine { routine < length (R.code reader.now).routines }
     requires table { IsTable (R.code reader.now) }
-    requires few { length (head_at (R.code reader.now) routine).params ≤ 1048576 }
+    requires few { length (head_at (R.code reader.now) routine).params ≤ record_limit }
     requires order { start_at (R.code reader.now) routine ≤ end_at (R.code reader.now) routine }
     requires end { end_at (R.code reader.now) routine ≤ length (R.code reader.now).instrs }
     ensures { result ≡ routine_fault_spec (R.code reader.now) routine }

@@ -1,19 +1,46 @@
 // The words of an instruction.
 ghost use Rattle.std.specs.Prelude.{◌≡◌};
-ghost use Rattle.alma_code.specs.Words.{words};
+ghost use Rattle.alma_code.specs.Words.{four, words};
+ghost use Rattle.alma_code.specs.declared.instr.Word.TheVariants as W;
 
 use alma_code::{Instr, Word};
+
+// A word, and no other.
+fn one(a: Word) -> [Word; 4]
+    ensures { result ≡ four a W.Free W.Free W.Free }
+{
+    [a, Word::Free, Word::Free, Word::Free]
+}
+
+fn two(a: Word, b: Word) -> [Word; 4]
+    ensures { result ≡ four a b W.Free W.Free }
+{
+    [a, b, Word::Free, Word::Free]
+}
+
+fn three(a: Word, b: Word, c: Word) -> [Word; 4]
+    ensures { result ≡ four a b c W.Free }
+{
+    [a, b, c, Word::Free]
+}
+
+// Three number slots.
+fn numbers(a: u32, b: u32, c: u32) -> [Word; 4]
+    ensures { result ≡ four (W.Number a) (W.Number b) (W.Number c) W.Free }
+{
+    three(Word::Number(a), Word::Number(b), Word::Number(c))
+}
 
 #[tactic(auto, unfolding(alma_code::specs::Words::words))]
 pub fn words_of(instr: Instr) -> [Word; 4]
     ensures { result ≡ words instr }
 {
-    let free = Word::Free;
     match instr {
-        Instr::Const { to, value: _ } => [Word::Number(to), free, free, free],
-        Instr::Move { to, from } | Instr::Neg { to, from } | Instr::Flip { to, from } => {
-            [Word::Number(to), Word::Number(from), free, free]
-        }
+        Instr::Const { to, value: _ } => one(Word::Number(to)),
+        Instr::Move { to, from } | Instr::Neg { to, from } | Instr::Flip { to, from } => two(
+            Word::Number(to),
+            Word::Number(from),
+        ),
         Instr::Add { to, left, right }
         | Instr::Sub { to, left, right }
         | Instr::Mul { to, left, right }
@@ -21,110 +48,94 @@ pub fn words_of(instr: Instr) -> [Word; 4]
         | Instr::Mod { to, left, right }
         | Instr::Equal { to, left, right }
         | Instr::Less { to, left, right }
-        | Instr::LessEq { to, left, right } => {
-            [
-                Word::Number(to),
-                Word::Number(left),
-                Word::Number(right),
-                free,
-            ]
-        }
-        Instr::InRange { value, range } => [Word::Number(value), Word::Range(range), free, free],
-        Instr::Local { to, first } => [Word::Place(to), Word::Slot(first), free, free],
-        Instr::Global { to, first: _ } => [Word::Place(to), free, free, free],
+        | Instr::LessEq { to, left, right } => numbers(to, left, right),
+        Instr::InRange { value, range } => two(Word::Number(value), Word::Range(range)),
+        Instr::Local { to, first } => two(Word::Place(to), Word::Slot(first)),
+        Instr::Global { to, first: _ } => one(Word::Place(to)),
         Instr::Same { to, from }
         | Instr::CopyCells { to, from }
         | Instr::SameCells {
             left: to,
             right: from,
-        } => { [Word::Place(to), Word::Place(from), free, free] }
+        } => two(Word::Place(to), Word::Place(from)),
         Instr::Field {
             to,
             from,
             offset: _,
-        } => [Word::Place(to), Word::Place(from), free, free],
+        } => two(Word::Place(to), Word::Place(from)),
         Instr::Index {
             to,
             from,
             index,
             range,
-        } => {
-            [
-                Word::Place(to),
-                Word::Place(from),
-                Word::Number(index),
-                Word::Range(range),
-            ]
-        }
-        Instr::Load { to, from } | Instr::Known { to, of: from } => {
-            [Word::Number(to), Word::Place(from), free, free]
-        }
-        Instr::Store { to, from } => [Word::Place(to), Word::Number(from), free, free],
+        } => [
+            Word::Place(to),
+            Word::Place(from),
+            Word::Number(index),
+            Word::Range(range),
+        ],
+        Instr::Load { to, from } | Instr::Known { to, of: from } => two(
+            Word::Number(to),
+            Word::Place(from),
+        ),
+        Instr::Store { to, from } => two(Word::Place(to), Word::Number(from)),
         Instr::Bind {
             place,
             value,
             range,
-        } => {
-            [
-                Word::Place(place),
-                Word::Number(value),
-                Word::Range(range),
-                free,
-            ]
-        }
+        } => three(Word::Place(place), Word::Number(value), Word::Range(range)),
         Instr::Unify {
             left,
             left_range,
             right,
             right_range,
-        } => {
-            [
-                Word::Place(left),
-                Word::Range(left_range),
-                Word::Place(right),
-                Word::Range(right_range),
-            ]
-        }
-        Instr::Jump { to } | Instr::Choose { resume: to } => [Word::Address(to), free, free, free],
-        Instr::JumpZero { value, to } => [Word::Number(value), Word::Address(to), free, free],
+        } => [
+            Word::Place(left),
+            Word::Range(left_range),
+            Word::Place(right),
+            Word::Range(right_range),
+        ],
+        Instr::Jump { to } | Instr::Choose { resume: to } => one(Word::Address(to)),
+        Instr::JumpZero { value, to } => two(Word::Number(value), Word::Address(to)),
         Instr::Check { value }
         | Instr::ReturnValue { value }
         | Instr::WriteInt { value }
         | Instr::WriteChar { value }
-        | Instr::WriteBool { value } => [Word::Number(value), free, free, free],
-        Instr::Mark { to: mark } | Instr::Cut { mark } | Instr::Keep { mark } => {
-            [Word::Mark(mark), free, free, free]
-        }
-        Instr::Forall { mark, resume } | Instr::Overlay { mark, resume } => {
-            [Word::Mark(mark), Word::Address(resume), free, free]
-        }
-        Instr::ReadInt { place, range } | Instr::ReadChar { place, range } => {
-            [Word::Place(place), Word::Range(range), free, free]
-        }
-        Instr::WriteText { text } => [Word::Text(text), free, free, free],
+        | Instr::WriteBool { value } => one(Word::Number(value)),
+        Instr::Mark { to: mark } | Instr::Cut { mark } | Instr::Keep { mark } => one(Word::Mark(
+            mark,
+        )),
+        Instr::Forall { mark, resume } | Instr::Overlay { mark, resume } => two(
+            Word::Mark(mark),
+            Word::Address(resume),
+        ),
+        Instr::ReadInt { place, range } | Instr::ReadChar { place, range } => two(
+            Word::Place(place),
+            Word::Range(range),
+        ),
+        Instr::WriteText { text } => one(Word::Text(text)),
         Instr::Step {
             counter,
             limit,
             by,
             out,
-        } => {
-            [
-                Word::Number(counter),
-                Word::Number(limit),
-                Word::Number(by),
-                Word::Address(out),
-            ]
-        }
-        Instr::Own { to } => [Word::Link(to), free, free, free],
-        Instr::Chain { to, link, slot: _ } => [Word::Link(to), Word::Link(link), free, free],
-        Instr::Outer { to, link, first: _ } | Instr::OuterSame { to, link, slot: _ } => {
-            [Word::Place(to), Word::Link(link), free, free]
-        }
+        } => [
+            Word::Number(counter),
+            Word::Number(limit),
+            Word::Number(by),
+            Word::Address(out),
+        ],
+        Instr::Own { to } => one(Word::Link(to)),
+        Instr::Chain { to, link, slot: _ } => two(Word::Link(to), Word::Link(link)),
+        Instr::Outer { to, link, first: _ } | Instr::OuterSame { to, link, slot: _ } => two(
+            Word::Place(to),
+            Word::Link(link),
+        ),
         Instr::Fail
         | Instr::Finish
         | Instr::Call { .. }
         | Instr::Return
         | Instr::WriteLine
-        | Instr::Fault { .. } => [free, free, free, free],
+        | Instr::Fault { .. } => [Word::Free, Word::Free, Word::Free, Word::Free],
     }
 }

@@ -109,13 +109,15 @@ abbrev pub choices_cut : PlainCode
 choices_cut =
     plain_main (I.Mark 6 ∷ I.Choose 4 ∷ I.Const 1 (pos 1) ∷ I.Jump 5 ∷ I.Const 1 (pos 2) ∷ I.Cut 6 ∷ I.WriteInt 1 ∷ I.Fail ∷ I.Return ∷ [])
 
--- n := 0; FORALL EITHER i := 1 ORELSE i := 2 END DO n := n + i END; WRITE(n), with n in slot 1 and i in slot 2
+-- n := 0; FORALL EITHER i := 1 ORELSE i := 2 END DO n := n + i END; WRITE(n), with n in slot 1 and
+-- i in slot 2
 abbrev pub sum_carried : PlainCode
 sum_carried =
     plain_main (I.Const 1 (pos 0) ∷ I.Forall 6 10 ∷ I.Choose 8 ∷ I.Const 2 (pos 1)
     ∷ I.Overlay 6 7 ∷ I.Add 1 1 2 ∷ I.Keep 6 ∷ I.Fail ∷ I.Const 2 (pos 2) ∷ I.Jump 4 ∷ I.Finish ∷ I.WriteInt 1 ∷ I.Return ∷ [])
 
--- FORALL EITHER i := 1 ORELSE i := 2 END DO x[i] := i END; WRITE(x[1], x[2]), with x in slots 1 and 2, and i in slot 3
+-- FORALL EITHER i := 1 ORELSE i := 2 END DO x[i] := i END; WRITE(x[1], x[2]), with x in slots 1 and
+-- 2, and i in slot 3
 abbrev pub carry_grows : PlainCode
 carry_grows =
     main_with 7 (numbers_to 4 ∷ places_to 2 5 ∷ places_to 1 6 ∷ marks_to 7 ∷ [])
@@ -139,7 +141,8 @@ both_unknown = plain_main (I.Local 4 1 ∷ I.Local 5 2 ∷ I.Unify 4 0 5 0 ∷ I
 abbrev pub out_of_range : PlainCode
 out_of_range = plain_main (I.Const 2 (pos 5) ∷ I.Local 4 1 ∷ I.Local 5 2 ∷ I.Unify 4 1 5 0 ∷ I.Return ∷ [])
 
--- a[1] = 1; b[2] = 2; a = b; WRITE(a[1], a[2], b[1], b[2]), with a in slots 1 and 2 and b in slots 3 and 4
+-- a[1] = 1; b[2] = 2; a = b; WRITE(a[1], a[2], b[1], b[2]), with a in slots 1 and 2 and b in slots
+-- 3 and 4
 abbrev pub cells_equated : PlainCode
 cells_equated =
     main_with 7 (numbers_to 5 ∷ places_to 2 7 ∷ [])
@@ -154,7 +157,8 @@ mix_called =
     (I.Local 3 1 ∷ I.Call 1 3 0 ∷ I.WriteInt 1 ∷ I.Const 2 (pos 7) ∷ I.Call 1 2 0 ∷ I.Const 2 (pos 8) ∷ I.Call 1 2 0 ∷ I.Return
     ∷ I.Const 2 (pos 7) ∷ I.Bind 0 2 0 ∷ I.Return ∷ [])
 
--- PROCEDURE q(VAR a: INTEGER); BEGIN EITHER a := 1 ORELSE a := 2 END END q, and q(x); 1 < x; WRITE(x)
+-- PROCEDURE q(VAR a: INTEGER); BEGIN EITHER a := 1 ORELSE a := 2 END END q, and q(x); 1 < x;
+-- WRITE(x)
 abbrev pub frame_again : PlainCode
 frame_again =
     code_with (routine_to 5 (numbers_to 4 ∷ places_to 1 5 ∷ []) [] false 7

@@ -43,7 +43,8 @@ round code_end = routine_to 2 (numbers_to 1 ∷ links_to 1 2 ∷ []) [] false co
 abbrev pub within : (code_end : ℕ) → PlainRoutine
 within code_end = routine_to 4 (links_to 1 1 ∷ numbers_to 3 ∷ places_to 1 4 ∷ []) (param_of param.Link 1 ∷ []) false code_end
 
--- PROCEDURE p; VAR l: INTEGER; PROCEDURE q; BEGIN l := l + 1 END q; BEGIN l := 4; q; WRITE(l) END p;  p
+-- PROCEDURE p; VAR l: INTEGER; PROCEDURE q; BEGIN l := l + 1 END q; BEGIN l := 4; q; WRITE(l) END
+-- p;  p
 abbrev pub outer_counted : PlainCode
 outer_counted =
     second (code_with (calls_1 ∷ round 7 ∷ within 13 ∷ [])
@@ -57,7 +58,8 @@ link_handed_on =
     (I.Call 1 0 0 ∷ I.Return ∷ I.Const 0 (pos 4) ∷ I.Own 1 ∷ I.Call 2 1 0 ∷ I.WriteInt 0 ∷ I.Return
     ∷ I.Call 3 0 0 ∷ I.Return ∷ I.Outer 3 0 0 ∷ I.Const 1 (pos 8) ∷ I.Store 3 1 ∷ I.Return ∷ []))
 
--- PROCEDURE p; VAR l: INTEGER; PROCEDURE q; PROCEDURE r; BEGIN WRITE(l) END r; BEGIN r END q; BEGIN l := 7; q END p;  p
+-- PROCEDURE p; VAR l: INTEGER; PROCEDURE q; PROCEDURE r; BEGIN WRITE(l) END r; BEGIN r END q; BEGIN
+-- l := 7; q END p;  p
 abbrev pub two_links_up : PlainCode
 two_links_up =
     second (code_with (calls_1 ∷ round 6
@@ -74,7 +76,8 @@ parameter_reached =
     (I.Local 2 1 ∷ I.Call 1 2 0 ∷ I.WriteInt 1 ∷ I.Return ∷ I.Own 1 ∷ I.Call 2 1 0 ∷ I.Return
     ∷ I.OuterSame 3 0 0 ∷ I.Const 1 (pos 6) ∷ I.Store 3 1 ∷ I.Return ∷ []))
 
--- a routine that begins with an instruction, with slots for a number, a link to its frames, a place and a link to those of routine 2
+-- a routine that begins with an instruction, with slots for a number, a link to its frames, a place
+-- and a link to those of routine 2
 abbrev pub begins_with : Instr → PlainCode
 begins_with i =
     second (code_with (calls_1 ∷ routine_to 4 (numbers_to 1 ∷ links_to 1 2 ∷ places_to 1 3 ∷ links_to 2 4 ∷ []) [] false 4
@@ -85,6 +88,7 @@ begins_with i =
 abbrev pub main_links : (routine : ℕ) → PlainCode
 main_links routine = second (code_with (routine_to 2 (numbers_to 1 ∷ links_to routine 2 ∷ []) [] false 1 ∷ []) (I.Return ∷ []))
 
+-- what codes with links print, how they end, and that they are sound where they should be
 pub record LinksRun : Type 0 where
   pub counted_sound : code_fault outer_counted ≡ None
   pub counted : Prints outer_counted [] 13 (decimal 5 ∷ [])
@@ -103,6 +107,7 @@ pub record LinksRun : Type 0 where
   pub unset_slot :
       Ends (second (code_with (calls_1 ∷ routine_to 3 (links_to 1 2 ∷ places_to 1 3 ∷ []) [] false 5 ∷ []) (I.Call 1 0 0 ∷ I.Return ∷ I.Own 0 ∷ I.Chain 1 0 1 ∷ I.Return ∷ []))) [] 3 (end.Fault fault.Unknown)
 
+-- which rule a code with links breaks first, and where
 pub record LinksRefused : Type 0 where
   pub begins_well : code_fault (begins_with (I.Own 1)) ≡ None
   -- rule 2: a link to the module's body, and to a routine that is not there
@@ -128,6 +133,7 @@ pub record LinksRefused : Type 0 where
 abbrev pub lined : PlainCode
 lined = record outer_counted { lines = at_line 2 5 ∷ at_line 4 0 ∷ at_line 6 9 ∷ [] }
 
+-- which line an address has, and at which address a run ended
 pub record LinesTell : Type 0 where
   pub before : line_of lined 1 ≡ None
   pub first : line_of lined 2 ≡ Some 5
@@ -138,6 +144,7 @@ pub record LinesTell : Type 0 where
   pub fault_at : (state_after (begins_with (I.Outer 2 3 1)) [] 2).last ≡ 2
   pub none_taken : (start least).last ≡ 0
 
+-- the texts of some codes and of some runs
 pub record TextsTell : Type 0 where
   pub list :
       list_lines least ≡

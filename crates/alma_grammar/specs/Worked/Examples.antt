@@ -13,6 +13,7 @@ behind_begin ks = kinds.Module ∷ kinds.Name ∷ kinds.Semicolon ∷ kinds.Begi
 abbrev pub ending : List Kind
 ending = kinds.End ∷ kinds.Name ∷ kinds.Dot ∷ []
 
+-- how reading ends where these kinds are to be a whole program
 abbrev pub read_whole : List Kind → End
 read_whole ks = reading true ks 0 whole
 
@@ -21,6 +22,7 @@ abbrev pub many : Kind → ℕ → List Kind → List Kind
 many k zero ks = ks
 many k (suc n) ks = k ∷ many k n ks
 
+-- how reading some short lists ends: programs, and lists with a token too few, too many or wrong
 pub record ExamplesAreReadSo : Type 0 where
   -- MODULE A; END A.
   pub empty_module : read_whole (kinds.Module ∷ kinds.Name ∷ kinds.Semicolon ∷ ending) ≡ done

@@ -20,7 +20,8 @@ fn set_file(
     name: &str,
     bytes: &[u8],
 ) -> Result<(), NoMemory>
-    ensures ok { OnOk result (named_bytes files.new ≡ map.insert (named_bytes files.old) name.now bytes.now) }
+    ensures ok { OnOk result (named_bytes files.new ≡ map.insert
+        (named_bytes files.old) name.now bytes.now) }
     ensures err { OnErr result (named_bytes files.new ≡ named_bytes files.old) }
 {
     let key = String::from_str(alloc, name)?;
@@ -80,7 +81,8 @@ impl MemFiles {
 
     /// Sets a file, and counts no call.
     pub fn put(&mut self, alloc: Global, name: &str, bytes: &[u8]) -> Result<(), NoMemory>
-        ensures ok { OnOk result (self.new ≡ record self.old { files = map.insert self.old.files name.now bytes.now }) }
+        ensures ok { OnOk result (self.new ≡ record self.old
+            { files = map.insert self.old.files name.now bytes.now }) }
         ensures err { OnErr result (self.new ≡ self.old) }
     {
         set_file(alloc, &mut self.files, name, bytes)
@@ -104,8 +106,10 @@ impl Files for MemFiles {
 
     fn fetch(&mut self, alloc: Global, name: &str, limit: usize) -> Result<Vec<u8>, Fetch>
         requires { limit < 2 ^ 62 }
-        ensures same { (other : List ℕ) → told_by (map.get self.new.files other) ≡ told_by (map.get self.old.files other) }
-        ensures answer { IsFetched (told_by (map.get self.old.files name.now)) limit self.old.fetch_faults self.new.fetch_faults result }
+        ensures same { (other : List ℕ) → told_by (map.get self.new.files other) ≡ told_by
+            (map.get self.old.files other) }
+        ensures answer { IsFetched (told_by (map.get self.old.files name.now)) limit
+            self.old.fetch_faults self.new.fetch_faults result }
         ensures store_count { self.new.store_faults ≡ self.old.store_faults }
 
         // Which calls fail, and what stays.
@@ -136,7 +140,8 @@ impl Files for MemFiles {
         ensures others { (other : List ℕ) → other ≢ name.now →
             told_by (map.get self.new.files other) ≡ told_by (map.get self.old.files other) }
         ensures fetch_count { self.new.fetch_faults ≡ self.old.fetch_faults }
-        ensures answer { IsStored (told_by (map.get self.old.files name.now)) (told_by (map.get self.new.files name.now))
+        ensures answer { IsStored (told_by (map.get self.old.files name.now))
+            (told_by (map.get self.new.files name.now))
             bytes.now self.old.store_faults self.new.store_faults result }
 
         // Which calls fail, and what the files are then. A store that fails changes no file.
@@ -151,99 +156,5 @@ impl Files for MemFiles {
             Ok(()) => Ok(()),
             Err(NoMemory) => Err(StoreFault::Memory),
         }
-    }
-}
-
-#[cfg(test)]
-mod tests {
-    use super::*;
-    use std::test::Fail;
-
-    struct Row {
-        fails: &'static [u64],
-        stored: Result<(), StoreFault>,
-        name: &'static str,
-        limit: usize,
-        fetched: Result<&'static [u8], Fetch>,
-        got: Option<&'static [u8]>,
-    }
-
-    const ROWS: [Row; 7] = [
-        Row {
-            fails: &[],
-            stored: Ok(()),
-            name: "b.al",
-            limit: 5,
-            fetched: Ok(b"later"),
-            got: Some(b"later"),
-        },
-        Row {
-            fails: &[],
-            stored: Ok(()),
-            name: "b.al",
-            limit: 4,
-            fetched: Err(Fetch::TooLong),
-            got: Some(b"later"),
-        },
-        Row {
-            fails: &[],
-            stored: Ok(()),
-            name: "a.al",
-            limit: 5,
-            fetched: Ok(b"first"),
-            got: Some(b"first"),
-        },
-        Row {
-            fails: &[],
-            stored: Ok(()),
-            name: "c.al",
-            limit: 5,
-            fetched: Err(Fetch::Absent),
-            got: None,
-        },
-        Row {
-            fails: &[1],
-            stored: Err(StoreFault::Failed),
-            name: "b.al",
-            limit: 5,
-            fetched: Ok(b"other"),
-            got: Some(b"other"),
-        },
-        Row {
-            fails: &[2],
-            stored: Ok(()),
-            name: "b.al",
-            limit: 5,
-            fetched: Err(Fetch::Failed),
-            got: Some(b"later"),
-        },
-        Row {
-            fails: &[1, 2],
-            stored: Err(StoreFault::Failed),
-            name: "c.al",
-            limit: 5,
-            fetched: Err(Fetch::Failed),
-            got: None,
-        },
-    ];
-
-    #[test]
-    fn files_are_stored_and_fetched_and_fail_as_listed(rt: HostRuntime) -> Result<(), Fail> {
-        for row in &ROWS {
-            assert!(rt; row.limit < 10);
-            let mut files = MemFiles::new(rt.alloc(), row.fails)?;
-            files.put(rt.alloc(), "a.al", b"first")?;
-            files.put(rt.alloc(), "b.al", b"other")?;
-            assert_eq!(rt; files.store(rt.alloc(), "b.al", b"later"), row.stored);
-            match (files.fetch(rt.alloc(), row.name, row.limit), row.fetched) {
-                (Ok(bytes), Ok(want)) => assert_eq!(rt; bytes.as_slice(), want),
-                (got, want) => assert_eq!(rt; got.err(), want.err()),
-            }
-            match (files.get(row.name), row.got) {
-                (Some(bytes), Some(want)) => assert_eq!(rt; bytes, want),
-                (got, want) => assert_eq!(rt; got.is_some(), want.is_some()),
-            }
-        }
-        Ok(())
     }
 }

@@ -70,7 +70,8 @@ impl Source for MemSource {
 
         // Which calls fail, how many bytes the others move, and what is left.
         ensures fails { IsErr result ↔ FailsNext self.old.schedule }
-        ensures count { IfOk result (λ n. n ≡ min self.old.piece (min (length buf.new) (length self.old.left))) }
+        ensures count { IfOk result (λ n. n ≡ min self.old.piece
+            (min (length buf.new) (length self.old.left))) }
         ensures after { self.new ≡ after_read self.old result }
 
         // The buffer behind those bytes stays as it was.
@@ -86,57 +87,5 @@ impl Source for MemSource {
         buf[..count].copy_from_slice(&rest[..count]);
         self.at += count;
         Ok(count)
-    }
-}
-
-#[cfg(test)]
-mod tests {
-    use super::*;
-    use std::test::Fail;
-
-    struct Row {
-        piece: usize,
-        fails: &'static [u64],
-        // What each read of "abcde" gives, and None where it fails.
-        reads: &'static [Option<&'static [u8]>],
-    }
-
-    const ROWS: [Row; 4] = [
-        Row {
-            piece: 9,
-            fails: &[],
-            reads: &[Some(b"abc"), Some(b"de"), Some(b""), Some(b"")],
-        },
-        Row {
-            piece: 2,
-            fails: &[],
-            reads: &[Some(b"ab"), Some(b"cd"), Some(b"e"), Some(b"")],
-        },
-        Row {
-            piece: 2,
-            fails: &[2, 3],
-            reads: &[Some(b"ab"), None, None, Some(b"cd"), Some(b"e")],
-        },
-        Row {
-            piece: 3,
-            fails: &[1, 4],
-            reads: &[None, Some(b"abc"), Some(b"de"), None, Some(b"")],
-        },
-    ];
-
-    #[test]
-    fn a_source_gives_pieces_and_fails_as_listed(rt: HostRuntime) -> Result<(), Fail> {
-        for row in &ROWS {
-            assert!(rt; row.piece > 0);
-            let mut source = MemSource::new(rt.alloc(), b"abcde", row.piece, row.fails)?;
-            for want in row.reads {
-                let mut buf = [0u8; 3];
-                match (source.read(&mut buf), want) {
-                    (Ok(count), Some(front)) => assert_eq!(rt; &buf[..count], *front),
-                    (got, _) => assert!(rt; got.is_err() && want.is_none()),
-                }
-            }
-        }
-        Ok(())
     }
 }

@@ -69,13 +69,15 @@ impl Sink for MemSink {
     fn write(&mut self, piece: &[u8]) -> Result<usize, Failed>
         ensures bound { WritesAtMost result piece.now }
         ensures some { IfOk result (λ count. 0 < length piece.now → 0 < count) }
-        ensures bytes { WriteAppends (Some self.old.written) (Some self.new.written) result piece.now }
+        ensures bytes { WriteAppends (Some self.old.written)
+            (Some self.new.written) result piece.now }
         ensures cause { HasCause self.old.faults self.new.faults result }
 
         // Which calls fail, how many bytes the others move, and what is written then.
         ensures fails { IsErr result ↔ (FailsNext self.old.schedule
             ⊎ ((0 < length piece.now) × (self.old.room ≤ length self.old.written))) }
-        ensures count { IfOk result (λ n. n ≡ min self.old.piece (min (self.old.room - length self.old.written) (length piece.now))) }
+        ensures count { IfOk result (λ n. n ≡ min self.old.piece
+            (min (self.old.room - length self.old.written) (length piece.now))) }
         ensures after { self.new ≡ after_write self.old piece.now result }
     {
         let free = self.room - self.bytes.len();
@@ -89,64 +91,5 @@ impl Sink for MemSink {
             Ok(()) => Ok(count),
             Err(_) => unreachable!(),
         }
-    }
-}
-
-#[cfg(test)]
-mod tests {
-    use super::*;
-    use std::test::Fail;
-
-    struct Row {
-        room: usize,
-        piece: usize,
-        fails: &'static [u64],
-        // How many bytes each write of "abc" takes, and None where it fails.
-        writes: &'static [Option<usize>],
-        bytes: &'static [u8],
-    }
-
-    const ROWS: [Row; 4] = [
-        Row {
-            room: 9,
-            piece: 9,
-            fails: &[],
-            writes: &[Some(3), Some(3)],
-            bytes: b"abcabc",
-        },
-        Row {
-            room: 9,
-            piece: 2,
-            fails: &[1, 3],
-            writes: &[None, Some(2), None, Some(2)],
-            bytes: b"abab",
-        },
-        Row {
-            room: 4,
-            piece: 9,
-            fails: &[],
-            writes: &[Some(3), Some(1), None, None],
-            bytes: b"abca",
-        },
-        Row {
-            room: 0,
-            piece: 1,
-            fails: &[],
-            writes: &[None],
-            bytes: b"",
-        },
-    ];
-
-    #[test]
-    fn a_sink_takes_pieces_and_fails_as_listed_or_full(rt: HostRuntime) -> Result<(), Fail> {
-        for row in &ROWS {
-            assert!(rt; row.piece > 0);
-            let mut sink = MemSink::new(rt.alloc(), row.room, row.piece, row.fails)?;
-            for want in row.writes {
-                assert_eq!(rt; sink.write(b"abc").ok(), *want);
-            }
-            assert_eq!(rt; sink.bytes(), row.bytes);
-        }
-        Ok(())
     }
 }

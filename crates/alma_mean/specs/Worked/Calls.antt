@@ -19,7 +19,8 @@ mix_is_seven = procedure (param kind.Mix 0 1 ∷ []) 2 (TestStmt (Bind (through_
 abbrev pub prints_and_gives : Routine
 prints_and_gives = function [] int 0 (write (number 1) ∷ Return (some_result (number 2)) ∷ [])
 
--- PROCEDURE n(k: INTEGER): INTEGER; BEGIN IF k = 0 THEN RETURN 1 ELSE RETURN k * n(k - 1) END END n;
+-- PROCEDURE n(k: INTEGER): INTEGER; BEGIN IF k = 0 THEN RETURN 1
+-- ELSE RETURN k * n(k - 1) END END n;
 abbrev pub factorial : Routine
 factorial = function (param kind.Value 0 1 ∷ []) int 1
     (If (arms ((equals 0 0, Return (some_result (number 1)) ∷ []) ∷ []))
@@ -33,6 +34,7 @@ declares params cells = record { name = codes "p"; params = params; result = Non
 abbrev pub with_empty_procedure : List Stmt → Program
 with_empty_procedure body = module_with 1 body (procedure [] 0 [] ∷ [])
 
+-- parameters of each kind, results, frames that live again, and the limits of calls
 pub record CallsRun : Type 0 where
   -- p(x); WRITE(x); p(7); p(8), of MIX above
   pub mix_both_ways :
@@ -41,12 +43,13 @@ pub record CallsRun : Type 0 where
   pub mix_handed_on :
       Gives 3 (module_with 2 (call 2 (MixPlace (var 1) ∷ []) ∷ write_var 1 ∷ call 2 (MixValue (number 7) int ∷ []) ∷ [])
       (mix_is_seven ∷ procedure (param kind.Mix 0 1 ∷ []) 2 (call_up 1 1 (MixPlace (through_param 0) ∷ []) ∷ []) ∷ [])) [] (digits_of (7 ∷ [])) Succeeded
-  -- PROCEDURE q(VAR a: INTEGER); VAR l: INTEGER; BEGIN SOME l := 1 TO 3 DO a := l END END q;  q(x); x > 2; WRITE(x):
-  -- the frame of q lives again twice
+  -- PROCEDURE q(VAR a: INTEGER); VAR l: INTEGER; BEGIN SOME l := 1 TO 3 DO a := l END END q;  q(x);
+  -- x > 2; WRITE(x): the frame of q lives again twice
   pub frame_lives_again :
       Gives 5 (module_with 2 (call 1 (ByPlace (var 1) ∷ []) ∷ test (Compare cmp.Greater (load 1) (number 2)) ∷ write_var 1 ∷ [])
       (procedure (param kind.Place 0 1 ∷ []) 4 (some 1 2 (number 1) (number 3) (Assign (through_param 0) (load 1) int ∷ []) ∷ []) ∷ [])) [] (digits_of (3 ∷ [])) Succeeded
-  -- PROCEDURE f(): INTEGER; VAR l: INTEGER; BEGIN SOME l := 1 TO 3 DO RETURN l END END f;  x := f(); WRITE(x); x = 2
+  -- PROCEDURE f(): INTEGER; VAR l: INTEGER; BEGIN SOME l := 1 TO 3 DO RETURN l END END f;
+  -- x := f(); WRITE(x); x = 2
   pub function_takes_the_first :
       Gives 3 (module_with 2 (let_be 1 (value_of 1 []) ∷ write_var 1 ∷ is 1 2 ∷ [])
       (function [] int 3 (some 0 1 (number 1) (number 3) (Return (some_result (load 0)) ∷ []) ∷ []) ∷ [])) [] (digits_of (1 ∷ [])) Failed
@@ -54,12 +57,13 @@ pub record CallsRun : Type 0 where
   pub value_is_a_copy :
       Gives 2 (module_with 2 (let_be 1 (number 1) ∷ call 1 (ByValue (load 1) int ∷ []) ∷ write_var 1 ∷ [])
       (procedure (param kind.Value 0 1 ∷ []) 1 (let_be 0 (number 5) ∷ write_var 0 ∷ []) ∷ [])) [] (digits_of (5 ∷ 1 ∷ [])) Succeeded
-  -- PROCEDURE p(b: t); BEGIN WRITE(b[1], b[2]); b[1] := 9 END p;  a[1] := 3; a[2] := 4; p(a); WRITE(a[1])
+  -- PROCEDURE p(b: t); BEGIN WRITE(b[1], b[2]); b[1] := 9 END p;  a[1] := 3; a[2] := 4; p(a);
+  -- WRITE(a[1])
   pub all_cells_are_copied :
       Gives 2 (module_with 3 (Assign (element 1 2 (number 1)) (number 3) int ∷ Assign (element 1 2 (number 2)) (number 4) int ∷ call 1 (ByCells (whole 1 2) ∷ []) ∷ write_var 1 ∷ [])
       (procedure (param kind.Cells 0 2 ∷ []) 2 (write_var 0 ∷ write_var 1 ∷ Assign (element 0 2 (number 1)) (number 9) int ∷ []) ∷ [])) [] (digits_of (3 ∷ 4 ∷ 3 ∷ [])) Succeeded
-  -- PROCEDURE p(b: t; c: INTEGER); BEGIN WRITE(b[1]) END p;  PROCEDURE f(): INTEGER; BEGIN a[1] := 7; RETURN 0 END f;
-  -- a[1] := 1; p(a, f()): cells are copied after all arguments
+  -- PROCEDURE p(b: t; c: INTEGER); BEGIN WRITE(b[1]) END p;  PROCEDURE f(): INTEGER;
+  -- BEGIN a[1] := 7; RETURN 0 END f; a[1] := 1; p(a, f()): cells are copied after all arguments
   pub cells_are_copied_last :
       Gives 2 (module_with 3 (let_be 1 (number 1) ∷ call 1 (ByCells (whole 1 2) ∷ ByValue (value_of 2 []) int ∷ []) ∷ [])
       (procedure (param kind.Cells 0 2 ∷ param kind.Value 2 1 ∷ []) 3 (write_var 0 ∷ []) ∷
@@ -82,7 +86,8 @@ pub record CallsRun : Type 0 where
   pub function_without_return : Gives 2 (module_with 2 (let_be 1 (value_of 1 []) ∷ []) (function [] int 0 [] ∷ [])) [] [] (Faulted fault.NoReturn 1)
   -- PROCEDURE f(): t; BEGIN RETURN 10 END f;  x := f(), t = [0..9]
   pub result_out_of_range : Gives 2 (module_with 2 (let_be 1 (value_of 1 []) ∷ []) (function [] (range 0 9) 0 (Return (some_result (number 10)) ∷ []) ∷ [])) [] [] (Faulted fault.Range 1)
-  -- PROCEDURE f(): INTEGER; BEGIN x := 1; RETURN 2 END f;  x = f(): the cell is looked at after the call
+  -- PROCEDURE f(): INTEGER; BEGIN x := 1; RETURN 2 END f;  x = f():
+  -- the cell is looked at after the call
   pub cell_is_looked_at_last : Gives 2 (module_with 2 (TestStmt (Bind (var 1) (value_of 1 []) int true) ∷ []) (function [] int 0 (Assign (global 1) (number 1) int ∷ Return (some_result (number 2)) ∷ []) ∷ [])) [] [] Failed
   -- WRITE(9223372036854775807 + 1 + f()): f does not print
   pub sum_overflows_in_its_turn : Gives 2 (module_with 1 (write (plus (plus greatest (number 1)) (value_of 1 [])) ∷ []) (prints_and_gives ∷ [])) [] [] (Faulted fault.Overflow 1)
@@ -96,13 +101,14 @@ pub record CallsRun : Type 0 where
   -- a call of an empty procedure needs one level more
   pub call_at_1 : Gives 1 (with_empty_procedure (call 1 [] ∷ [])) [] [] CutOff
   pub call_at_2 : Gives 2 (with_empty_procedure (call 1 [] ∷ [])) [] [] Succeeded
-  -- PROCEDURE f(): INTEGER; BEGIN WRITE(7); FALSE END f;  SOME a[f()] := 1 TO 2 DO TRUE END: the variable is located anew
-  -- in each turn, also where it could not be located in the turn before
+  -- PROCEDURE f(): INTEGER; BEGIN WRITE(7); FALSE END f;  SOME a[f()] := 1 TO 2 DO TRUE END:
+  -- the variable is located anew in each turn, also where it could not be located in the turn
+  -- before
   pub some_locates_anew :
       Gives 4 (module_with 5 (SomeOf (a_loop (element 1 2 (value_of 1 [])) int 3 4 (number 1) (number 2) (pos 1) (stmts [])) ∷ [])
       (function [] int 0 (write (number 7) ∷ fail ∷ []) ∷ [])) [] (digits_of (7 ∷ 7 ∷ [])) Failed
-  -- PROCEDURE f(): INTEGER; BEGIN FALSE END f;  IF f() = 1 THEN WRITE(1) ELSE WRITE(2) END: a function that fails in a
-  -- condition leaves it without an alternative
+  -- PROCEDURE f(): INTEGER; BEGIN FALSE END f;  IF f() = 1 THEN WRITE(1) ELSE WRITE(2) END:
+  -- a function that fails in a condition leaves it without an alternative
   pub condition_has_none :
       Gives 3 (module_with 1 (If (arms ((Value (Compare cmp.Equal (value_of 1 []) (number 1)), write (number 1) ∷ []) ∷ [])) (stmts (write (number 2) ∷ [])) ∷ [])
       (function [] int 0 (fail ∷ []) ∷ [])) [] (digits_of (2 ∷ [])) Succeeded

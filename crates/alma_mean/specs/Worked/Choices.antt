@@ -9,6 +9,7 @@ use Rattle.alma_mean.specs.Worked.Build.{stmts, arms, tests, int, module_of, ele
 abbrev pub one_or_two : Stmt
 one_or_two = either ((is 1 1 ∷ []) ∷ (is 1 2 ∷ []) ∷ [])
 
+-- EITHER, SOME, COMMIT, NOT, AND, OR, tests as values and conditions
 pub record ChoicesRun : Type 0 where
   -- a module with no statements
   pub empty_module : Gives 1 (module_of 1 []) [] [] Succeeded
@@ -24,7 +25,8 @@ pub record ChoicesRun : Type 0 where
   pub empty_some_fails : Gives 1 (module_of 4 (some 1 2 (number 3) (number 1) (succeed ∷ []) ∷ [])) [] [] Failed
   -- SOME x := 1 TO 3 DO TRUE END; WRITE(x); x > 2
   pub some_in_order : Gives 4 (module_of 4 (some 1 2 (number 1) (number 3) (succeed ∷ []) ∷ write_var 1 ∷ test (Compare cmp.Greater (load 1) (number 2)) ∷ [])) [] (digits_of (1 ∷ 2 ∷ 3 ∷ [])) Succeeded
-  -- a[1] := 1; a[2] := 0; SOME a[a[1]] := 2 TO 3 DO a[1] = 3 END; WRITE(a[1], a[2]), which no source can say:
+  -- a[1] := 1; a[2] := 0; SOME a[a[1]] := 2 TO 3 DO a[1] = 3 END;
+  -- WRITE(a[1], a[2]), which no source can say:
   -- the second turn locates a[a[1]] where the first one did
   pub some_from_where_the_turn_began :
       Gives 4 (module_of 5 (Assign (element 1 2 (number 1)) (number 1) int ∷ Assign (element 1 2 (number 2)) (number 0) int ∷

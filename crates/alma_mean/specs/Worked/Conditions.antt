@@ -7,11 +7,13 @@ use Rattle.alma_ir.specs.Checked.{IsChecked}
 use Rattle.alma_mean.specs.Worked.Nested.{nested_to}
 use Rattle.alma_mean.specs.Worked.Build.{stmts, int, module_of, module_at, module_with, inside, outer, global, succeed, call_up, procedure, param, var, through_param, whole, number, load, test, let_be, write, write_var, either, some, for, call, value_of}
 
--- PROCEDURE q(VAR a: INTEGER); VAR l: INTEGER; BEGIN SOME l := 1 TO 3 DO a := l END END q;  q(x); x > 2; WRITE(x)
+-- PROCEDURE q(VAR a: INTEGER); VAR l: INTEGER; BEGIN SOME l := 1 TO 3 DO a := l END END q;  q(x);
+-- x > 2; WRITE(x)
 abbrev pub lives_again : Program
 lives_again = module_with 2 (call 1 (ByPlace (var 1) ∷ []) ∷ test (Compare cmp.Greater (load 1) (number 2)) ∷ write_var 1 ∷ [])
     (procedure (param kind.Place 0 1 ∷ []) 4 (some 1 2 (number 1) (number 3) (Assign (through_param 0) (load 1) int ∷ []) ∷ []) ∷ [])
 
+-- one program that is let through, and one for each way in which others are refused
 pub record ConditionsTell : Type 0 where
   pub let_through : IsChecked lives_again
   -- no routine

@@ -35,6 +35,7 @@ least = Chain true greatest (links ((op.Sub, number 1) ∷ []))
 abbrev pub write_compare : Cmp → ℕ → ℕ → Stmt
 write_compare how a b = write_bool (Compare how (number a) (number b))
 
+-- equations, assignments and CASE: what each program prints, and how it ends
 pub record EquationsRun : Type 0 where
   -- x = y, with neither known
   pub both_unknown : Gives 1 (module_of 3 (meet 1 2 ∷ [])) [] [] (Faulted fault.Unknown 1)
@@ -77,6 +78,7 @@ pub record EquationsRun : Type 0 where
   -- CASE 3 OF 1: WRITE(1) ELSE WRITE(2) END
   pub case_else : Gives 1 (module_of 1 (Case (number 3) (case_arms ((range 1 1 ∷ [], write (number 1) ∷ []) ∷ [])) (else_part (stmts (write (number 2) ∷ []))) ∷ [])) [] (digits_of (2 ∷ [])) Succeeded
 
+-- operators, comparisons, CHR and KNOWN
 pub record NumbersRun : Type 0 where
   -- x := 9223372036854775807; x := x + 1
   pub sum_overflows : Gives 1 (module_of 2 (let_be 1 greatest ∷ let_be 1 (plus (load 1) (number 1)) ∷ [])) [] [] (Faulted fault.Overflow 1)

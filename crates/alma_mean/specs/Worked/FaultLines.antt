@@ -36,6 +36,7 @@ here lines body = module_at 5 lines body []
 abbrev pub FaultsAt : ℕ → Program → RunFault → ℕ → Type 0
 FaultsAt n p f line = Gives n p [] [] (Faulted f line)
 
+-- each fault with the line at which it stands
 pub record FaultLines : Type 0 where
   -- each fault stands at the line of its statement: here the second of two
   pub unknown : FaultsAt 1 (here (2 ∷ 4 ∷ []) (succeed ∷ write_var 1 ∷ [])) fault.Unknown 4
@@ -67,7 +68,8 @@ pub record FaultLines : Type 0 where
   -- behind two statements inside an arm
   pub in_the_else_part : FaultsAt 1 (here (2 ∷ 3 ∷ 4 ∷ 6 ∷ []) (If (arms ((Value (number 0), succeed ∷ succeed ∷ []) ∷ [])) (stmts (let_be 1 divide ∷ [])) ∷ [])) fault.ZeroDivide 6
   pub behind_it : FaultsAt 1 (here (2 ∷ 3 ∷ 4 ∷ 6 ∷ []) (If (arms ((Value (number 0), succeed ∷ succeed ∷ []) ∷ [])) no_stmts ∷ let_be 1 divide ∷ [])) fault.ZeroDivide 6
-  -- x := 0; WHILE 1 DIV (1 - x) > 0 DO x := x + 1 END: the second turn's condition, at the line of WHILE
+  -- x := 0; WHILE 1 DIV (1 - x) > 0 DO x := x + 1 END:
+  -- the second turn's condition, at the line of WHILE
   pub in_a_later_turn :
       FaultsAt 3 (here (2 ∷ 3 ∷ 4 ∷ []) (let_be 1 (number 0) ∷
       While (Value (Compare cmp.Greater (operate op.Div (number 1) (operate op.Sub (number 1) (load 1))) (number 0))) (stmts (let_be 1 (plus (load 1) (number 1)) ∷ [])) ∷ [])) fault.ZeroDivide 3
@@ -83,7 +85,8 @@ pub record FaultLines : Type 0 where
   -- a[(TRUE; TRUE)] := (y := 1 DIV 0): those of the variable come first
   pub behind_the_variable :
       FaultsAt 1 (here (2 ∷ 3 ∷ 4 ∷ 5 ∷ []) (Assign (element 1 2 (truth_of (succeed ∷ succeed ∷ []))) (truth_of (let_be 3 divide ∷ [])) int ∷ [])) fault.ZeroDivide 5
-  -- a[3] in a function that an index calls: the fault of the index stands at the statement that has it
+  -- a[f()] := 1 of a function f that gives 3: the fault of the index stands at the statement with
+  -- the index, not at the RETURN of f
   pub behind_a_call :
       FaultsAt 2 (module_at 3 (8 ∷ []) (Assign (element 1 2 (value_of 1 [])) (number 1) int ∷ []) (function_at (4 ∷ []) (Return (some_result (number 3)) ∷ []) ∷ [])) fault.Index 8
   -- CASE 2 OF 1: TRUE | 2: x := 1 DIV 0 ELSE TRUE END

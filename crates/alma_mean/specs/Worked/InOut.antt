@@ -8,16 +8,19 @@ use Rattle.alma_ir.specs.Tree.{Stmt, Read, WriteExpr, WriteText, WriteLine}
 use Rattle.alma_mean.specs.Events.{Succeeded, Failed, Faulted}
 use Rattle.alma_mean.specs.Worked.Build.{int, range, module_of, var, element, number, load, minus, is, write, write_bool, write_var, write_byte, either, digits_of, Gives}
 
--- `READ(x)` of an INTEGER, and of a CHAR
+-- `READ(x)` of an INTEGER
 abbrev pub read : ℕ → Stmt
 read slot = Read (var slot) read_as.Int int
 
+-- `READ(c)` of a CHAR
 abbrev pub read_byte : ℕ → Stmt
 read_byte slot = Read (var slot) read_as.Char (range 0 255)
 
+-- `WRITE(c)` of a CHAR
 abbrev pub write_char : ℕ → Stmt
 write_char slot = WriteExpr (load slot) write_as.Char
 
+-- READ and WRITE
 pub record InOutRuns : Type 0 where
   -- EITHER READ(x); x = 6 ORELSE READ(x) END; WRITE(x): a failing branch gives the position back
   pub position_is_given_back : Gives 1 (module_of 2 (either ((read 1 ∷ is 1 6 ∷ []) ∷ (read 1 ∷ []) ∷ []) ∷ write_var 1 ∷ [])) (codes "5 6") (digits_of (5 ∷ [])) Succeeded

@@ -21,6 +21,7 @@ call_forever = module_with 1 (While (Value (number 1)) (stmts (call 1 [] ∷ [])
 abbrev pub empty_for : Stmt
 empty_for = for 1 2 (number 3) (number 1) (write_var 1 ∷ [])
 
+-- WHILE, REPEAT, FOR and SOME, and where they are cut off
 pub record LoopsRun : Type 0 where
   -- a loop with no end is cut off at each level
   pub forever_at_4 : Gives 4 write_forever [] (digits_of (1 ∷ 1 ∷ 1 ∷ [])) CutOff
@@ -40,7 +41,8 @@ pub record LoopsRun : Type 0 where
   pub repeat_counts : Gives 3 (module_of 2 (let_be 1 (number 0) ∷ Repeat (stmts (let_be 1 (plus (load 1) (number 1)) ∷ write_var 1 ∷ [])) (equals 1 3) ∷ [])) [] (digits_of (1 ∷ 2 ∷ 3 ∷ [])) Succeeded
   -- the same at a level that is too low for the third turn
   pub repeat_is_cut_off : Gives 2 (module_of 2 (let_be 1 (number 0) ∷ Repeat (stmts (let_be 1 (plus (load 1) (number 1)) ∷ write_var 1 ∷ [])) (equals 1 3) ∷ [])) [] (digits_of (1 ∷ 2 ∷ [])) CutOff
-  -- x := 0; REPEAT x := x + 1 UNTIL (y = x; y = 2); WRITE(x, y): a condition that fails leaves y unknown
+  -- x := 0; REPEAT x := x + 1 UNTIL (y = x; y = 2); WRITE(x, y):
+  -- a condition that fails leaves y unknown
   pub repeat_undoes_the_condition :
       Gives 2 (module_of 3 (let_be 1 (number 0) ∷ Repeat (stmts (let_be 1 (plus (load 1) (number 1)) ∷ [])) (Seq (stmts (TestStmt (Bind (var 2) (load 1) int true) ∷ is 2 2 ∷ []))) ∷
       write_var 1 ∷ write_var 2 ∷ [])) [] (digits_of (2 ∷ 2 ∷ [])) Succeeded
@@ -82,7 +84,8 @@ abbrev pub diagonal : ℕ → ℕ → ℕ → Expr
 diagonal x y z = Chain false (load x) (links ((op.Add, load y) ∷ (op.Sub, load z) ∷ []))
 
 -- FOR col := 1 TO n DO SOME row := 1 TO n DO
---   FOR i := 1 TO col - 1 DO x[i] <> row; x[i] <> row + col - i; x[i] <> row + i - col END; x[col] = row
+--   FOR i := 1 TO col - 1 DO x[i] <> row; x[i] <> row + col - i; x[i] <> row + i - col END;
+--   x[col] = row
 -- END END; FOR i := 1 TO n DO WRITE(x[i]) END
 abbrev pub queens : ℕ → Program
 queens n =
@@ -95,5 +98,6 @@ queens n =
     TestStmt (Bind (element 1 n (load col)) (load row) int true) ∷ []) ∷ []) ∷
     for i (n + 10) (number 1) (number n) (write (queen n i) ∷ []) ∷ [])
 
+-- the first board that is found
 pub record QueensRun : Type 0 where
   pub on_four_rows : Gives 14 (queens 4) [] (digits_of (2 ∷ 4 ∷ 1 ∷ 3 ∷ [])) Succeeded

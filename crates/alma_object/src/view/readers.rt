@@ -1,13 +1,12 @@
 // What a view reads.
-ghost use Rattle.alma_base.specs.Choice.{if_true};
-ghost use Rattle.std.specs.Prelude.{nat_le, ◌≡◌, ◌+◌, ◌<◌, ◌≤◌, length, map, slice_get, slice_range, option_map, Some, None, MatchOption, MatchResult, IfOk, IfSome};
+ghost use Rattle.std.specs.Prelude.{◌≡◌, ◌+◌, ◌<◌, ◌≤◌, length, map, slice_get, slice_range, option_map, Some, None, MatchOption, MatchResult, IfOk, IfSome};
 ghost use Rattle.std.specs.List.{list_any};
 ghost use Rattle.alma_code.specs.Lines.{line_of as line_of_code, known_line as known_line_of};
 ghost use Rattle.alma_code.specs.Plain.{start_at};
 ghost use Rattle.alma_object.specs.Object.{IsObject};
 ghost use Rattle.alma_object.specs.Reading.{name_in, text_in, routine_in, global_in};
 ghost use Rattle.alma_object.specs.Walk.{object_fault};
-ghost use Rattle.alma_object.specs.View.{code_of_view, routine_of_view, global_of_view, is_read as is_read_of};
+ghost use Rattle.alma_object.specs.View.{code_of_view, routine_of_view, global_of_view, IsSplit, is_read as is_read_of};
 
 use crate::bytes::u32_at;
 use crate::fault::ObjectFault;
@@ -37,13 +36,6 @@ fn is_read(instr: Instr) -> bool
     matches!(instr, Instr::ReadInt { .. } | Instr::ReadChar { .. })
 }
 
-// The line of a record at or before an address, or else another.
-fn line_or(line: Line, at: u32, other: u32) -> u32
-    ensures { result ≡ if_true (nat_le line.at at) (λ _. line.line) (λ _. other) }
-{
-    if line.at <= at { line.line } else { other }
-}
-
 fn known_line(line: u32) -> Option<u32>
     ensures { result ≡ known_line_of line }
 {
@@ -54,7 +46,8 @@ impl<'b> ObjectView<'b> {
     /// The view of the bytes of an object, or the first fault of bytes that are none.
     #[tactic(auto, unfolding(crate::specs::Walk::object_fault))]
     pub fn new(bytes: &'b [u8]) -> Result<ObjectView<'b>, ObjectFault>
-        ensures fault { MatchResult result (λ view. object_fault bytes.now ≡ None) (λ fault. object_fault bytes.now ≡ Some fault) }
+        ensures fault { MatchResult result (λ view. object_fault bytes.now ≡ None)
+            (λ fault. object_fault bytes.now ≡ Some fault) }
         ensures object { IfOk result (λ view. IsObject (code_of_view view) bytes.now) }
     {
         let header = read_header(bytes)?;
@@ -170,8 +163,10 @@ impl<'b> ObjectView<'b> {
     /// A routine, which lends its name and its records.
     #[tactic(auto, using(crate::proofs::Items::item_steps))]
     pub fn routine(&self, i: u32) -> Option<RoutineView<'b>>
-        ensures routine { option_map routine_of_view result ≡ slice_get (code_of_view self.now).routines i }
-        ensures start { IfSome result (λ routine. routine.code_start ≡ start_at (code_of_view self.now) i) }
+        ensures routine { option_map routine_of_view result ≡ slice_get
+            (code_of_view self.now).routines i }
+        ensures start { IfSome result (λ routine. routine.code_start ≡ start_at
+            (code_of_view self.now) i) }
     {
         if i < self.header.routines {
             Some(self.routine_view(i))
@@ -243,16 +238,43 @@ impl<'b> ObjectView<'b> {
         false
     }
 
-    /// The line of the last record at or before an address, where one is known.
+    // The record of a line.
     #[tactic(auto, using(crate::proofs::Items::item_steps))]
+    fn line(&self, k: u32) -> Line
+        requires { k < length (code_of_view self.now).lines }
+        ensures { slice_get (code_of_view self.now).lines k ≡ Some result }
+    {
+        line_in(self.bytes, self.header.lines_at() + 8 * k as usize)
+    }
+
+    // How many lines begin at or before an address, by halving.
+    #[tactic(auto, using(crate::proofs::Items::item_steps))]
+    fn lines_until(&self, at: u32) -> u32
+        ensures { IsSplit at (code_of_view self.now).lines result }
+    {
+        let mut low = 0;
+        let mut high = self.header.lines;
+        'halve: while low < high {
+            let middle = low + (high - low) / 2;
+            if self.line(middle).at <= at {
+                low = middle + 1;
+            } else {
+                high = middle;
+            }
+        }
+        low
+    }
+
+    /// The line of the last record at or before an address, where one is known.
     pub fn line_of(&self, at: u32) -> Option<u32>
         ensures { result ≡ line_of_code (code_of_view self.now) at }
     {
-        let lines_at = self.header.lines_at();
-        let mut found: u32 = 0;
-        for k in 0..self.header.lines {
-            found = line_or(line_in(self.bytes, lines_at + 8 * k as usize), at, found);
+        self.keeps_object();
+        let count = self.lines_until(at);
+        if count == 0 {
+            None
+        } else {
+            known_line(self.line(count - 1).line)
         }
-        known_line(found)
     }
 }

@@ -1,13 +1,13 @@
 -- Answers of the cycle of expressions and statements.
-use Rattle.std.proofs.Common.{◌≡◌, ◌≤◌, ℕ, suc, pred, Bool, true, false, List, [], ◌∷◌, ◌++◌, Some, None, Ok, Err, length, refl, ap, sym, ◌∙◌, arith}
+use Rattle.std.proofs.Common.{◌∷◌, Ok, Err, length, refl, ap, sym, ◌∙◌, arith}
 use Rattle.alma_tree.specs.declared.kind.Kind.TheVariants as kinds
 use Rattle.alma_tree.specs.declared.phrase.Compared as dc
 use Rattle.alma_tree.specs.Tree as tree
-use Rattle.alma_tree.specs.Spelling.{spell_expr, spell_compared, spell_sign, spell_simple, spell_term_tail, spell_term, spell_factor, spell_primary, spell_exprs, spell_desig}
+use Rattle.alma_tree.specs.Spelling.{spell_expr, spell_compared, spell_sign, spell_simple, spell_term_tail, spell_term, spell_primary, spell_exprs, spell_desig}
 use Rattle.alma_tree.specs.Spelling.{spell_selector, spell_stmt, spell_else, spell_by, spell_returned, spell_arm, spell_label, spell_high}
 use Rattle.alma_tree.specs.View.{view_expr, compared_of, view_simple, terms_of, view_term, view_primary, view_desig, view_selector, view_stmt, else_of, by_of}
-use Rattle.alma_tree.specs.View.{returned_of, view_arm, view_label, high_of}
-use Rattle.alma_tree.specs.Numbers.{token, node, ◌>>◌, number_name, number_sign, number_stmts, number_stmt, number_arm, number_label, number_expr, number_simple}
+use Rattle.alma_tree.specs.View.{returned_of, view_arm, high_of}
+use Rattle.alma_tree.specs.Numbers.{token, node, ◌>>◌, number_name, number_sign, number_stmts, number_stmt, number_arm, number_expr, number_simple}
 use Rattle.alma_tree.specs.Numbers.{number_term, number_primary, number_exprs, number_desig, number_selector, numbers_of_terms, numbers_of_by, numbers_of_else}
 use Rattle.alma_tree.specs.Numbers.{numbers_of_compared, numbers_of_high, numbers_of_returned}
 use Rattle.alma_tree.proofs.Rows as rows
@@ -15,7 +15,6 @@ use Rattle.alma_tree.proofs.NumberRows as numbers
 use Rattle.alma_grammar.specs.Parts.{one, primary_part, factor_tail, term_tail, compared_part, args_part, stmt_part, arm_part, after_desig}
 use Rattle.alma_grammar.specs.Parts.{expr_parts, desig_parts, stmts_parts}
 use Rattle.alma_cursor.specs.Forms as forms
-use Rattle.alma_cursor.specs.Parsing.{position_of, Becomes}
 use Rattle.alma_cursor.proofs.Joins.{followed, behind, ended}
 use Rattle.alma_cursor.proofs.Loops as loops
 use Rattle.alma_cursor.proofs.Loops.{grouped}

@@ -1,22 +1,23 @@
-use Rattle.std.proofs.Common.{◌≡◌, ◌+◌, ◌*◌, drop, Some, ap, sym, ◌∙◌, arith}
-use Rattle.alma_code.specs.Lines.{last_line, known_line}
-use Rattle.alma_object.specs.Header.{lines_at}
-use Rattle.alma_object.specs.Reading.{line_in}
-use Rattle.alma_object.specs.View.{code_of_view}
-use Rattle.alma_object.proofs.Items.{get_item, length_items}
-use Rattle.alma_object.proofs.Views.{line_more, line_all}
+use Rattle.std.proofs.Common.{arith, ◌≡◌, ℕ, suc, ◌+◌, ◌-◌, ◌<◌, ◌≤◌, List, ◌∷◌, length, get_or, sym, ap, ◌∙◌, subst, refl}
+use Rattle.std.proofs.lemmas.Option.{get_or_from_slice_get}
+use Rattle.alma_code.specs.declared.code.Line.{Line}
+use Rattle.alma_code.specs.Lines.{known_line}
+use Rattle.alma_object.specs.View.{code_of_view, no_line, IsSplit}
+use Rattle.alma_object.proofs.LineOrder.{line_split}
 use Rattle.alma_object.proofs.view.ObjectView.line_of.Goals as goal
 
-pub loop-k-preserved : goal.loop-k-preserved
-loop-k-preserved c =
-    let bytes = c.args.self.now.bytes.now in
-    let at = lines_at c.args.self.now.header in
-    let xs = (code_of_view c.args.self.now).lines in
-    let here : c.line_in.result ≡ line_in bytes (at + 8 * c.loop-k.k) = c.line_in.ensures ∙ ap (λ o. line_in bytes (o + 8 * c.loop-k.k)) c.lines_at-lines_at.ensures.offset in
-    let got = get_item (λ k. line_in bytes (at + 8 * k)) c.args.self.now.header.lines c.loop-k.k c.loop-k-test.true ∙ ap (λ x. Some x) (sym here) in
-    ap (λ f. last_line c.args.at f (drop (c.loop-k.k + 1) xs)) c.line_or-found.ensures ∙ line_more c.args.at c.loop-k.found xs c.loop-k.k c.line_in.result got ∙ c.loop-k.invariant
+pub returns-then-count-eq0 : goal.returns-then-count-eq0
+returns-then-count-eq0 c =
+    let code = code_of_view c.args.self.now in
+    let none : c.lines_until-count.result ≡ 0 = omega arith in
+    let split = subst (IsSplit c.args.at code.lines) none c.lines_until-count.ensures in
+    sym (ap known_line (line_split c.args.at 0 0 (length code.instrs) code.lines 0 c.keeps_object.ensures.records.lines split))
 
-pub returns : goal.returns
-returns c =
-    let n = length_items (λ k. line_in c.args.self.now.bytes.now (lines_at c.args.self.now.header + 8 * k)) c.args.self.now.header.lines in
-    c.known_line.ensures ∙ ap known_line (sym (line_all c.args.at c.loop-k.found (code_of_view c.args.self.now).lines c.loop-k.k (omega (arith, n))) ∙ c.loop-k.invariant)
+pub returns-else-count-eq0 : goal.returns-else-count-eq0
+returns-else-count-eq0 c =
+    let code = code_of_view c.args.self.now in
+    let count = c.lines_until-count.result in
+    let more : count ≡ suc (count - 1) = omega arith in
+    let split = subst (IsSplit c.args.at code.lines) more c.lines_until-count.ensures in
+    let last = get_or_from_slice_get code.lines (count - 1) c.line.result no_line c.line.ensures in
+    c.known_line.ensures ∙ ap known_line (ap (λ (x : Line). x.line) (sym last) ∙ sym (line_split c.args.at 0 0 (length code.instrs) code.lines (suc (count - 1)) c.keeps_object.ensures.records.lines split))

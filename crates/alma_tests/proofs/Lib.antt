@@ -1,0 +1,4 @@
+pub mod ExampleViews
+pub mod Examples
+pub mod ForExample
+pub mod Small

@@ -1,0 +1,115 @@
+// Spellings of trees made by hand, and depths.
+use alma_base::NoMemory;
+use alma_tree::{
+    Block, Expr, Factor, Kind, Leaf, Module, Name, Primary, Simple, Stmt, Stmts, Term, depth, spell,
+};
+use std::alloc::Global;
+use std::test::Fail;
+
+const NAME: Name = Name { node: 0, token: 0 };
+
+fn expr_of(alloc: Global, primary: Primary) -> Result<Expr, NoMemory> {
+    let first = Factor::Plain { node: 0, primary };
+    let term = Term {
+        node: 0,
+        first,
+        more: Vec::new(alloc),
+    };
+    let left = Simple {
+        node: 0,
+        sign: None,
+        first: Box::new(alloc, term)?,
+        more: Vec::new(alloc),
+    };
+    Ok(Expr {
+        node: 0,
+        left,
+        right: None,
+    })
+}
+
+fn stmts_of(alloc: Global, first: Stmt) -> Result<Stmts, NoMemory> {
+    Ok(Stmts {
+        node: 0,
+        first: Box::new(alloc, first)?,
+        more: Vec::new(alloc),
+    })
+}
+
+fn module_of(alloc: Global, body: Option<Stmts>) -> Module {
+    let block = Block {
+        node: 0,
+        decls: Vec::new(alloc),
+        body,
+    };
+    Module {
+        node: 0,
+        name: NAME,
+        block,
+        end_name: NAME,
+    }
+}
+
+#[test]
+fn the_empty_module(rt: HostRuntime) -> Result<(), Fail> {
+    let spelling = spell(rt.alloc(), &module_of(rt.alloc(), None))?;
+    let kinds = [
+        Kind::Module,
+        Kind::Name,
+        Kind::Semicolon,
+        Kind::End,
+        Kind::Name,
+        Kind::Dot,
+    ];
+    assert_eq!(rt; spelling.as_slice(), kinds.as_slice());
+    Ok(())
+}
+
+#[test]
+fn a_statement(rt: HostRuntime) -> Result<(), Fail> {
+    let number = Primary::Number {
+        node: 0,
+        number: Leaf { token: 5 },
+    };
+    let value = expr_of(rt.alloc(), number)?;
+    let body = stmts_of(
+        rt.alloc(),
+        Stmt::Return {
+            node: 0,
+            value: Some(value),
+        },
+    )?;
+    let spelling = spell(rt.alloc(), &module_of(rt.alloc(), Some(body)))?;
+    let front = [
+        Kind::Module,
+        Kind::Name,
+        Kind::Semicolon,
+        Kind::Begin,
+        Kind::Return,
+        Kind::Number,
+    ];
+    assert_eq!(rt; spelling.len(), 9);
+    assert_eq!(rt; &spelling[..6], front.as_slice());
+    assert_eq!(rt; depth(&spelling), 1);
+    Ok(())
+}
+
+#[test]
+fn depths(rt: HostRuntime) {
+    assert_eq!(rt; depth(&[]), 0);
+    assert_eq!(rt;
+        depth(&[Kind::CloseParen, Kind::OpenParen, Kind::OpenParen]),
+        1
+    );
+    assert_eq!(rt;
+        depth(&[
+            Kind::Repeat,
+            Kind::OpenBracket,
+            Kind::CloseBracket,
+            Kind::Until
+        ]),
+        2
+    );
+    assert!(rt; Kind::Name.is(Kind::Name));
+    assert!(rt; !Kind::Less.is(Kind::LessEq));
+}
