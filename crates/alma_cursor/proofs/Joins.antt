@@ -12,7 +12,8 @@ use Rattle.alma_cursor.proofs.Steps.{then, after, first, same, replaced, counted
 use Rattle.alma_cursor.proofs.Turns.{want}
 
 -- what a call gave: it read this, with its value, or reading ends in its fault
-abbrev pub Gives : {T : Type 0} → (T → List Kind → List Kind) → (T → Step) → (List Part → List Part) → ℕ → ℕ → At → Result (T × cursors.Cursor) Fault → Type 0
+abbrev pub Gives : {T : Type 0} → (T → List Kind → List Kind) → (T → Step) → (List Part → List Part) → ℕ → ℕ → At
+    → Result (T × cursors.Cursor) Fault → Type 0
 Gives s n p d e a r = MatchResult r (λ t. Reads (s t.0) (n t.0) p d e a (position_of t.1)) (λ f. Fails f p d a)
 
 -- what passing this token reads

@@ -30,134 +30,204 @@ use Rattle.alma_phrase.proofs.Values.{count_desigs}
 use Rattle.alma_phrase.proofs.+phrases.Goals as goal
 
 pub expression::expr_from-returns-in_err-right : goal.expression::expr_from-returns-in_err-right
-expression::expr_from-returns-in_err-right t c = record { read = stopped _ _ _ _ c.from_residual.ensures.1 (ended (λ v. spell_compared (compared_of
-    v)) numbers_of_compared _ _ _ _ c.compared.result (Err _) c.in_err-right.ensures.numbered c.compared.ensures.read) }
+expression::expr_from-returns-in_err-right t c = record {
+  read = stopped _ _ _ _ c.from_residual.ensures.1 (ended (λ v. spell_compared (compared_of
+      v)) numbers_of_compared _ _ _ _ c.compared.result (Err _) c.in_err-right.ensures.numbered c.compared.ensures.read);
+}
 
 pub expression::expr_from-returns : goal.expression::expr_from-returns
-expression::expr_from-returns t c = record { read = extending (ap spell_expr (rows.expr_rolled (record { node = c.in_ok-right.node; left =
-    c.args.left; right = c.in_ok-right.right }))) (numbers.expr_rolled (record { node = c.in_ok-right.node; left = c.args.left; right =
-    c.in_ok-right.right })) (ended (λ v. spell_compared (compared_of v)) numbers_of_compared _ _ _ _ c.compared.result (Ok _)
-    c.in_ok-right.ensures.numbered c.compared.ensures.read) }
+expression::expr_from-returns t c = record {
+  read = extending (ap spell_expr (rows.expr_rolled (record {
+    node = c.in_ok-right.node;
+    left =
+        c.args.left;
+    right = c.in_ok-right.right;
+  }))) (numbers.expr_rolled (record {
+    node = c.in_ok-right.node;
+    left = c.args.left;
+    right =
+        c.in_ok-right.right;
+  })) (ended (λ v. spell_compared (compared_of v)) numbers_of_compared _ _ _ _ c.compared.result (Ok _)
+      c.in_ok-right.ensures.numbered c.compared.ensures.read);
+}
 
 pub expression::term_from-returns-in_err-more : goal.expression::term_from-returns-in_err-more
-expression::term_from-returns-in_err-more t c = record { read = stopped _ _ _ _ c.from_residual.ensures.1 (ended more_factors count_factors _ _ _ _
-    c.factors.result (Err _) c.in_err-more.ensures.numbered c.factors.ensures.read) }
+expression::term_from-returns-in_err-more t c = record {
+  read = stopped _ _ _ _ c.from_residual.ensures.1 (ended more_factors count_factors _ _ _ _
+      c.factors.result (Err _) c.in_err-more.ensures.numbered c.factors.ensures.read);
+}
 
 pub expression::term_from-returns : goal.expression::term_from-returns
-expression::term_from-returns t c = record { read = extending (ap spell_term (rows.term_rolled (record { node = c.in_ok-more.node; first =
-    c.args.first; more = c.in_ok-more.more }))) (numbers.term_rolled (record { node = c.in_ok-more.node; first = c.args.first; more =
-    c.in_ok-more.more })) (ended more_factors count_factors _ _ _ _ c.factors.result (Ok _) c.in_ok-more.ensures.numbered c.factors.ensures.read) }
+expression::term_from-returns t c = record {
+  read = extending (ap spell_term (rows.term_rolled (record {
+    node = c.in_ok-more.node;
+    first =
+        c.args.first;
+    more = c.in_ok-more.more;
+  }))) (numbers.term_rolled (record {
+    node = c.in_ok-more.node;
+    first = c.args.first;
+    more =
+        c.in_ok-more.more;
+  })) (ended more_factors count_factors _ _ _ _ c.factors.result (Ok _) c.in_ok-more.ensures.numbered c.factors.ensures.read);
+}
 
 pub expression::simple_from-returns-in_err-more : goal.expression::simple_from-returns-in_err-more
-expression::simple_from-returns-in_err-more t c = record { read = stopped _ _ _ _ c.from_residual.ensures.1 (ended more_terms count_terms _ _ _ _
-    c.terms.result (Err _) c.in_err-more.ensures.numbered c.terms.ensures.read) }
+expression::simple_from-returns-in_err-more t c = record {
+  read = stopped _ _ _ _ c.from_residual.ensures.1 (ended more_terms count_terms _ _ _ _
+      c.terms.result (Err _) c.in_err-more.ensures.numbered c.terms.ensures.read);
+}
 
 pub expression::simple_from-returns : goal.expression::simple_from-returns
-expression::simple_from-returns t c = record { read = extending (ap spell_simple (rows.simple_rolled (record { node = c.in_ok-more.node; sign =
-    c.args.sign; first = c.in_ok-first.first; more = c.in_ok-more.more })) ∙ ap (λ v r. spell_sign c.args.sign (spell_term (view_term v)
-    (spell_term_tail (terms_of c.in_ok-more.more.items) r))) c.in_ok-first.ensures.ok) (numbers.simple_rolled (record { node = c.in_ok-more.node; sign
-    = c.args.sign; first = c.in_ok-first.first; more = c.in_ok-more.more }) ∙ ap (λ v. number_sign c.args.sign >> number_term v >> numbers_of_terms
-    c.in_ok-more.more.items >> node c.in_ok-more.node) c.in_ok-first.ensures.ok ∙ sym (grouped (number_sign c.args.sign) (number_term c.args.first)
-    (numbers_of_terms c.in_ok-more.more.items >> node c.in_ok-more.node))) (ended more_terms count_terms _ _ _ _ c.terms.result (Ok _)
-    c.in_ok-more.ensures.numbered c.terms.ensures.read) }
+expression::simple_from-returns t c = record {
+  read = extending (ap spell_simple (rows.simple_rolled (record {
+    node = c.in_ok-more.node;
+    sign =
+        c.args.sign;
+    first = c.in_ok-first.first;
+    more = c.in_ok-more.more;
+  })) ∙ ap (λ v r. spell_sign c.args.sign (spell_term (view_term v)
+      (spell_term_tail (terms_of c.in_ok-more.more.items) r))) c.in_ok-first.ensures.ok) (numbers.simple_rolled (record {
+        node = c.in_ok-more.node;
+        sign
+            = c.args.sign;
+        first = c.in_ok-first.first;
+        more = c.in_ok-more.more;
+      }) ∙ ap (λ v. number_sign c.args.sign >> number_term v >> numbers_of_terms
+      c.in_ok-more.more.items >> node c.in_ok-more.node) c.in_ok-first.ensures.ok ∙ sym (grouped (number_sign c.args.sign) (number_term c.args.first)
+      (numbers_of_terms c.in_ok-more.more.items >> node c.in_ok-more.node))) (ended more_terms count_terms _ _ _ _ c.terms.result (Ok _)
+      c.in_ok-more.ensures.numbered c.terms.ensures.read);
+}
 
 pub expression::paren-returns-in_err-at : goal.expression::paren-returns-in_err-at
 expression::paren-returns-in_err-at t c = record { read = stopped _ _ _ _ c.from_residual.ensures.1 (first c.in_err-at.ensures.opened) }
 
 pub expression::paren-returns-in_err-body : goal.expression::paren-returns-in_err-body
-expression::paren-returns-in_err-body t c = record { read = stopped _ _ _ _ c.from_residual-in_err-body.ensures.1 (after (opened refl
-    c.in_ok-at.ensures.opened) (ended_behind some_stmts number_stmts _ _ _ _ _ _ (matching kinds.CloseParen refl refl c.in_ok-at.ensures.opened)
-    c.stmts.result c.followed_by.result c.followed_by.ensures.followed c.stmts.ensures.read (Err _) c.in_err-body.ensures.numbered)) }
+expression::paren-returns-in_err-body t c = record {
+  read = stopped _ _ _ _ c.from_residual-in_err-body.ensures.1 (after (opened refl
+      c.in_ok-at.ensures.opened) (ended_behind some_stmts number_stmts _ _ _ _ _ _ (matching kinds.CloseParen refl refl c.in_ok-at.ensures.opened)
+      c.stmts.result c.followed_by.result c.followed_by.ensures.followed c.stmts.ensures.read (Err _) c.in_err-body.ensures.numbered));
+}
 
 pub expression::paren-returns : goal.expression::paren-returns
-expression::paren-returns t c = record { read = same (ap spell_primary (rows.paren_laid c.in_ok-body.node c.in_ok-body-2.body)) (numbers.paren_laid
-    c.in_ok-body.node c.in_ok-body-2.body) (then (opened refl c.in_ok-at.ensures.opened) (replaced (λ v ks. some_stmts v (kinds.CloseParen ∷ ks)) (λ
-    v. number_stmts v >> token >> node c.in_ok-body.node) c.in_ok-body-2.ensures.ok (ended_behind some_stmts number_stmts _ _ _ _ _ _ (matching
-    kinds.CloseParen refl refl c.in_ok-at.ensures.opened) c.stmts.result c.followed_by.result c.followed_by.ensures.followed c.stmts.ensures.read (Ok
-    _) c.in_ok-body.ensures.numbered))) }
+expression::paren-returns t c = record {
+  read = same (ap spell_primary (rows.paren_laid c.in_ok-body.node c.in_ok-body-2.body)) (numbers.paren_laid
+      c.in_ok-body.node c.in_ok-body-2.body) (then (opened refl c.in_ok-at.ensures.opened) (replaced (λ v ks. some_stmts v (kinds.CloseParen ∷ ks)) (λ
+      v. number_stmts v >> token >> node c.in_ok-body.node) c.in_ok-body-2.ensures.ok (ended_behind some_stmts number_stmts _ _ _ _ _ _ (matching
+      kinds.CloseParen refl refl c.in_ok-at.ensures.opened) c.stmts.result c.followed_by.result c.followed_by.ensures.followed c.stmts.ensures.read (Ok
+      _) c.in_ok-body.ensures.numbered)));
+}
 
 pub expression::known-returns-in_err-at : goal.expression::known-returns-in_err-at
 expression::known-returns-in_err-at t c = record { read = stopped _ _ _ _ c.from_residual.ensures.1 (first (c.in_err-at.ensures.passes _)) }
 
 pub expression::known-returns-in_err-at-2 : goal.expression::known-returns-in_err-at-2
-expression::known-returns-in_err-at-2 t c = record { read = stopped _ _ _ _ c.from_residual-in_err-at-2.ensures.1 (after (passed refl refl
-    c.in_ok-at.ensures.passes) (first c.in_err-at-2.ensures.opened)) }
+expression::known-returns-in_err-at-2 t c = record {
+  read = stopped _ _ _ _ c.from_residual-in_err-at-2.ensures.1 (after (passed refl refl
+      c.in_ok-at.ensures.passes) (first c.in_err-at-2.ensures.opened));
+}
 
 pub expression::known-returns-in_err-desig : goal.expression::known-returns-in_err-desig
-expression::known-returns-in_err-desig t c = record { read = stopped _ _ _ _ c.from_residual-in_err-desig.ensures.1 (after (passed refl refl
-    c.in_ok-at.ensures.passes) (after (opened refl c.in_ok-at-2.ensures.opened) (ended_behind a_desig number_desig _ _ _ _ _ _ (matching
-    kinds.CloseParen refl refl c.in_ok-at-2.ensures.opened) c.desig.result c.followed_by.result c.followed_by.ensures.followed c.desig.ensures.read
-    (Err _) c.in_err-desig.ensures.numbered))) }
+expression::known-returns-in_err-desig t c = record {
+  read = stopped _ _ _ _ c.from_residual-in_err-desig.ensures.1 (after (passed refl refl
+      c.in_ok-at.ensures.passes) (after (opened refl c.in_ok-at-2.ensures.opened) (ended_behind a_desig number_desig _ _ _ _ _ _ (matching
+      kinds.CloseParen refl refl c.in_ok-at-2.ensures.opened) c.desig.result c.followed_by.result c.followed_by.ensures.followed c.desig.ensures.read
+      (Err _) c.in_err-desig.ensures.numbered)));
+}
 
 pub expression::known-returns : goal.expression::known-returns
-expression::known-returns t c = record { read = same (ap spell_primary (rows.known_laid c.in_ok-desig.node c.in_ok-desig.desig)) (numbers.known_laid
-    c.in_ok-desig.node c.in_ok-desig.desig) (then (passed refl refl c.in_ok-at.ensures.passes) (then (opened refl c.in_ok-at-2.ensures.opened)
-    (ended_behind a_desig number_desig _ _ _ _ _ _ (matching kinds.CloseParen refl refl c.in_ok-at-2.ensures.opened) c.desig.result
-    c.followed_by.result c.followed_by.ensures.followed c.desig.ensures.read (Ok _) c.in_ok-desig.ensures.numbered))) }
+expression::known-returns t c = record {
+  read = same (ap spell_primary (rows.known_laid c.in_ok-desig.node c.in_ok-desig.desig)) (numbers.known_laid
+      c.in_ok-desig.node c.in_ok-desig.desig) (then (passed refl refl c.in_ok-at.ensures.passes) (then (opened refl c.in_ok-at-2.ensures.opened)
+      (ended_behind a_desig number_desig _ _ _ _ _ _ (matching kinds.CloseParen refl refl c.in_ok-at-2.ensures.opened) c.desig.result
+      c.followed_by.result c.followed_by.ensures.followed c.desig.ensures.read (Ok _) c.in_ok-desig.ensures.numbered)));
+}
 
 pub expression::ord-returns-in_err-at : goal.expression::ord-returns-in_err-at
 expression::ord-returns-in_err-at t c = record { read = stopped _ _ _ _ c.from_residual.ensures.1 (first (c.in_err-at.ensures.passes _)) }
 
 pub expression::ord-returns-in_err-at-2 : goal.expression::ord-returns-in_err-at-2
-expression::ord-returns-in_err-at-2 t c = record { read = stopped _ _ _ _ c.from_residual-in_err-at-2.ensures.1 (after (passed refl refl
-    c.in_ok-at.ensures.passes) (first c.in_err-at-2.ensures.opened)) }
+expression::ord-returns-in_err-at-2 t c = record {
+  read = stopped _ _ _ _ c.from_residual-in_err-at-2.ensures.1 (after (passed refl refl
+      c.in_ok-at.ensures.passes) (first c.in_err-at-2.ensures.opened));
+}
 
 pub expression::ord-returns-in_err-value : goal.expression::ord-returns-in_err-value
-expression::ord-returns-in_err-value t c = record { read = stopped _ _ _ _ c.from_residual-in_err-value.ensures.1 (after (passed refl refl
-    c.in_ok-at.ensures.passes) (after (opened refl c.in_ok-at-2.ensures.opened) (ended_behind an_expr number_expr _ _ _ _ _ _ (matching
-    kinds.CloseParen refl refl c.in_ok-at-2.ensures.opened) c.expr.result c.followed_by.result c.followed_by.ensures.followed c.expr.ensures.read (Err
-    _) c.in_err-value.ensures.numbered))) }
+expression::ord-returns-in_err-value t c = record {
+  read = stopped _ _ _ _ c.from_residual-in_err-value.ensures.1 (after (passed refl refl
+      c.in_ok-at.ensures.passes) (after (opened refl c.in_ok-at-2.ensures.opened) (ended_behind an_expr number_expr _ _ _ _ _ _ (matching
+      kinds.CloseParen refl refl c.in_ok-at-2.ensures.opened) c.expr.result c.followed_by.result c.followed_by.ensures.followed c.expr.ensures.read (Err
+      _) c.in_err-value.ensures.numbered)));
+}
 
 pub expression::ord-returns : goal.expression::ord-returns
-expression::ord-returns t c = record { read = same (ap spell_primary (rows.ord_laid c.in_ok-value.node c.in_ok-value-2.value)) refl (then (passed refl
-    refl c.in_ok-at.ensures.passes) (then (opened refl c.in_ok-at-2.ensures.opened) (replaced (λ v ks. an_expr v (kinds.CloseParen ∷ ks)) (λ v.
-    number_expr v >> token >> node c.in_ok-value.node) c.in_ok-value-2.ensures.ok (ended_behind an_expr number_expr _ _ _ _ _ _ (matching
-    kinds.CloseParen refl refl c.in_ok-at-2.ensures.opened) c.expr.result c.followed_by.result c.followed_by.ensures.followed c.expr.ensures.read (Ok
-    _) c.in_ok-value.ensures.numbered)))) }
+expression::ord-returns t c = record {
+  read = same (ap spell_primary (rows.ord_laid c.in_ok-value.node c.in_ok-value-2.value)) refl (then (passed refl
+      refl c.in_ok-at.ensures.passes) (then (opened refl c.in_ok-at-2.ensures.opened) (replaced (λ v ks. an_expr v (kinds.CloseParen ∷ ks)) (λ v.
+      number_expr v >> token >> node c.in_ok-value.node) c.in_ok-value-2.ensures.ok (ended_behind an_expr number_expr _ _ _ _ _ _ (matching
+      kinds.CloseParen refl refl c.in_ok-at-2.ensures.opened) c.expr.result c.followed_by.result c.followed_by.ensures.followed c.expr.ensures.read (Ok
+      _) c.in_ok-value.ensures.numbered))));
+}
 
 pub expression::chr-returns-in_err-at : goal.expression::chr-returns-in_err-at
 expression::chr-returns-in_err-at t c = record { read = stopped _ _ _ _ c.from_residual.ensures.1 (first (c.in_err-at.ensures.passes _)) }
 
 pub expression::chr-returns-in_err-at-2 : goal.expression::chr-returns-in_err-at-2
-expression::chr-returns-in_err-at-2 t c = record { read = stopped _ _ _ _ c.from_residual-in_err-at-2.ensures.1 (after (passed refl refl
-    c.in_ok-at.ensures.passes) (first c.in_err-at-2.ensures.opened)) }
+expression::chr-returns-in_err-at-2 t c = record {
+  read = stopped _ _ _ _ c.from_residual-in_err-at-2.ensures.1 (after (passed refl refl
+      c.in_ok-at.ensures.passes) (first c.in_err-at-2.ensures.opened));
+}
 
 pub expression::chr-returns-in_err-value : goal.expression::chr-returns-in_err-value
-expression::chr-returns-in_err-value t c = record { read = stopped _ _ _ _ c.from_residual-in_err-value.ensures.1 (after (passed refl refl
-    c.in_ok-at.ensures.passes) (after (opened refl c.in_ok-at-2.ensures.opened) (ended_behind an_expr number_expr _ _ _ _ _ _ (matching
-    kinds.CloseParen refl refl c.in_ok-at-2.ensures.opened) c.expr.result c.followed_by.result c.followed_by.ensures.followed c.expr.ensures.read (Err
-    _) c.in_err-value.ensures.numbered))) }
+expression::chr-returns-in_err-value t c = record {
+  read = stopped _ _ _ _ c.from_residual-in_err-value.ensures.1 (after (passed refl refl
+      c.in_ok-at.ensures.passes) (after (opened refl c.in_ok-at-2.ensures.opened) (ended_behind an_expr number_expr _ _ _ _ _ _ (matching
+      kinds.CloseParen refl refl c.in_ok-at-2.ensures.opened) c.expr.result c.followed_by.result c.followed_by.ensures.followed c.expr.ensures.read (Err
+      _) c.in_err-value.ensures.numbered)));
+}
 
 pub expression::chr-returns : goal.expression::chr-returns
-expression::chr-returns t c = record { read = same (ap spell_primary (rows.chr_laid c.in_ok-value.node c.in_ok-value-2.value)) refl (then (passed refl
-    refl c.in_ok-at.ensures.passes) (then (opened refl c.in_ok-at-2.ensures.opened) (replaced (λ v ks. an_expr v (kinds.CloseParen ∷ ks)) (λ v.
-    number_expr v >> token >> node c.in_ok-value.node) c.in_ok-value-2.ensures.ok (ended_behind an_expr number_expr _ _ _ _ _ _ (matching
-    kinds.CloseParen refl refl c.in_ok-at-2.ensures.opened) c.expr.result c.followed_by.result c.followed_by.ensures.followed c.expr.ensures.read (Ok
-    _) c.in_ok-value.ensures.numbered)))) }
+expression::chr-returns t c = record {
+  read = same (ap spell_primary (rows.chr_laid c.in_ok-value.node c.in_ok-value-2.value)) refl (then (passed refl
+      refl c.in_ok-at.ensures.passes) (then (opened refl c.in_ok-at-2.ensures.opened) (replaced (λ v ks. an_expr v (kinds.CloseParen ∷ ks)) (λ v.
+      number_expr v >> token >> node c.in_ok-value.node) c.in_ok-value-2.ensures.ok (ended_behind an_expr number_expr _ _ _ _ _ _ (matching
+      kinds.CloseParen refl refl c.in_ok-at-2.ensures.opened) c.expr.result c.followed_by.result c.followed_by.ensures.followed c.expr.ensures.read (Ok
+      _) c.in_ok-value.ensures.numbered))));
+}
 
 pub expression::args_values-returns-in-Some : goal.expression::args_values-returns-in-Some
-expression::args_values-returns-in-Some t c = record { read = becoming (heads.begins_args_end c.in-Some.ensures.passes) (closed_any refl refl
-    c.in-Some.ensures.passes) }
+expression::args_values-returns-in-Some t c = record {
+  read = becoming (heads.begins_args_end c.in-Some.ensures.passes) (closed_any refl refl
+      c.in-Some.ensures.passes);
+}
 
 pub expression::args_values-returns-in_err-values : goal.expression::args_values-returns-in_err-values
-expression::args_values-returns-in_err-values t c = record { read = stopped _ _ _ _ c.from_residual.ensures.1 (becoming_fails (heads.some_args _
-    c.in_default.ensures.passes) (followed some_exprs number_exprs _ _ _ _ _ (closing kinds.CloseParen _ refl refl) c.exprs.result (Err _)
-    c.in_err-values.ensures.followed c.exprs.ensures.read)) }
+expression::args_values-returns-in_err-values t c = record {
+  read = stopped _ _ _ _ c.from_residual.ensures.1 (becoming_fails (heads.some_args _
+      c.in_default.ensures.passes) (followed some_exprs number_exprs _ _ _ _ _ (closing kinds.CloseParen _ refl refl) c.exprs.result (Err _)
+      c.in_err-values.ensures.followed c.exprs.ensures.read));
+}
 
 pub expression::args_values-returns : goal.expression::args_values-returns
-expression::args_values-returns t c = record { read = becoming (heads.some_args _ c.in_default.ensures.passes) (followed some_exprs number_exprs _ _ _
-    _ _ (closing kinds.CloseParen _ refl refl) c.exprs.result (Ok _) c.in_ok-values.ensures.followed c.exprs.ensures.read) }
+expression::args_values-returns t c = record {
+  read = becoming (heads.some_args _ c.in_default.ensures.passes) (followed some_exprs number_exprs _ _ _
+      _ _ (closing kinds.CloseParen _ refl refl) c.exprs.result (Ok _) c.in_ok-values.ensures.followed c.exprs.ensures.read);
+}
 
 pub expression::desig-returns-in_err-name : goal.expression::desig-returns-in_err-name
 expression::desig-returns-in_err-name t c = record { read = stopped _ _ _ _ c.from_residual.ensures.1 (first (c.in_err-name.ensures.read _)) }
 
 pub expression::desig-returns-in_err-more : goal.expression::desig-returns-in_err-more
-expression::desig-returns-in_err-more t c = record { read = stopped _ _ _ _ c.from_residual-in_err-more.ensures.1 (after (c.in_ok-name.ensures.read _)
-    (ended more_selectors count_selectors _ _ _ _ c.selectors.result (Err _) c.in_err-more.ensures.numbered c.selectors.ensures.read)) }
+expression::desig-returns-in_err-more t c = record {
+  read = stopped _ _ _ _ c.from_residual-in_err-more.ensures.1 (after (c.in_ok-name.ensures.read _)
+      (ended more_selectors count_selectors _ _ _ _ c.selectors.result (Err _) c.in_err-more.ensures.numbered c.selectors.ensures.read));
+}
 
 pub expression::desig-returns : goal.expression::desig-returns
-expression::desig-returns t c = record { read = (then (c.in_ok-name.ensures.read _) (ended more_selectors count_selectors _ _ _ _ c.selectors.result
-    (Ok _) c.in_ok-more.ensures.numbered c.selectors.ensures.read)) }
+expression::desig-returns t c = record {
+  read = (then (c.in_ok-name.ensures.read _) (ended more_selectors count_selectors _ _ _ _ c.selectors.result
+      (Ok _) c.in_ok-more.ensures.numbered c.selectors.ensures.read));
+}
 
 pub expression::index-returns-in_err-at-clause-read : goal.expression::index-returns-in_err-at-clause-read
 expression::index-returns-in_err-at-clause-read t c = stopped _ _ _ _ c.from_residual.ensures.1 (first c.in_err-at.ensures.opened)
@@ -181,508 +251,779 @@ pub statement::stmts-returns-in_err-first : goal.statement::stmts-returns-in_err
 statement::stmts-returns-in_err-first t c = record { read = stopped _ _ _ _ c.from_residual.ensures.1 (first c.in_err-first.ensures.read) }
 
 pub statement::stmts-returns-in_err-more : goal.statement::stmts-returns-in_err-more
-statement::stmts-returns-in_err-more t c = record { read = stopped _ _ _ _ c.from_residual-in_err-more.ensures.1 (after c.in_ok-first.ensures.read
-    (ended more_stmts count_stmts _ _ _ _ c.stmt_list.result (Err _) c.in_err-more.ensures.numbered c.stmt_list.ensures.read)) }
+statement::stmts-returns-in_err-more t c = record {
+  read = stopped _ _ _ _ c.from_residual-in_err-more.ensures.1 (after c.in_ok-first.ensures.read
+      (ended more_stmts count_stmts _ _ _ _ c.stmt_list.result (Err _) c.in_err-more.ensures.numbered c.stmt_list.ensures.read));
+}
 
 pub statement::stmts-returns : goal.statement::stmts-returns
-statement::stmts-returns t c = record { read = (then (replaced (λ v. spell_stmt (view_stmt v)) number_stmt c.in_ok-first-2.ensures.ok
-    c.in_ok-first.ensures.read) (ended more_stmts count_stmts _ _ _ _ c.stmt_list.result (Ok _) c.in_ok-more.ensures.numbered
-    c.stmt_list.ensures.read)) }
+statement::stmts-returns t c = record {
+  read = (then (replaced (λ v. spell_stmt (view_stmt v)) number_stmt c.in_ok-first-2.ensures.ok
+      c.in_ok-first.ensures.read) (ended more_stmts count_stmts _ _ _ _ c.stmt_list.result (Ok _) c.in_ok-more.ensures.numbered
+      c.stmt_list.ensures.read));
+}
 
 pub statement::assign-returns-in_err-at : goal.statement::assign-returns-in_err-at
 statement::assign-returns-in_err-at t c = record { read = stopped _ _ _ _ c.from_residual.ensures.1 (first (c.in_err-at.ensures.passes _)) }
 
 pub statement::assign-returns-in_err-value : goal.statement::assign-returns-in_err-value
-statement::assign-returns-in_err-value t c = record { read = stopped _ _ _ _ c.from_residual-in_err-value.ensures.1 (after (passed refl refl
-    c.in_ok-at.ensures.passes) (ended an_expr number_expr _ _ _ _ c.expr.result (Err _) c.in_err-value.ensures.numbered c.expr.ensures.read)) }
+statement::assign-returns-in_err-value t c = record {
+  read = stopped _ _ _ _ c.from_residual-in_err-value.ensures.1 (after (passed refl refl
+      c.in_ok-at.ensures.passes) (ended an_expr number_expr _ _ _ _ c.expr.result (Err _) c.in_err-value.ensures.numbered c.expr.ensures.read));
+}
 
 pub statement::assign-returns : goal.statement::assign-returns
-statement::assign-returns t c = record { read = extending (ap spell_stmt (rows.assign_laid c.in_ok-value.node c.args.target c.in_ok-value.value))
-    (numbers.assign_laid c.in_ok-value.node c.args.target c.in_ok-value.value) (then (passed refl refl c.in_ok-at.ensures.passes) (ended an_expr
-    number_expr _ _ _ _ c.expr.result (Ok _) c.in_ok-value.ensures.numbered c.expr.ensures.read)) }
+statement::assign-returns t c = record {
+  read = extending (ap spell_stmt (rows.assign_laid c.in_ok-value.node c.args.target c.in_ok-value.value))
+      (numbers.assign_laid c.in_ok-value.node c.args.target c.in_ok-value.value) (then (passed refl refl c.in_ok-at.ensures.passes) (ended an_expr
+      number_expr _ _ _ _ c.expr.result (Ok _) c.in_ok-value.ensures.numbered c.expr.ensures.read));
+}
 
 pub statement::value_stmt-returns-in_err-value : goal.statement::value_stmt-returns-in_err-value
-statement::value_stmt-returns-in_err-value t c = record { read = stopped _ _ _ _ c.from_residual.ensures.1 (ended an_expr number_expr _ _ _ _
-    c.expr.result (Err _) c.in_err-value.ensures.numbered c.expr.ensures.read) }
+statement::value_stmt-returns-in_err-value t c = record {
+  read = stopped _ _ _ _ c.from_residual.ensures.1 (ended an_expr number_expr _ _ _ _
+      c.expr.result (Err _) c.in_err-value.ensures.numbered c.expr.ensures.read);
+}
 
 pub statement::value_stmt-returns : goal.statement::value_stmt-returns
-statement::value_stmt-returns t c = record { read = (ended an_expr number_expr _ _ _ _ c.expr.result (Ok _) c.in_ok-value.ensures.numbered
-    c.expr.ensures.read) }
+statement::value_stmt-returns t c = record {
+  read = (ended an_expr number_expr _ _ _ _ c.expr.result (Ok _) c.in_ok-value.ensures.numbered
+      c.expr.ensures.read);
+}
 
 pub statement::if_stmt-returns-in_err-at : goal.statement::if_stmt-returns-in_err-at
 statement::if_stmt-returns-in_err-at t c = record { read = stopped _ _ _ _ c.from_residual.ensures.1 (first c.in_err-at.ensures.opened) }
 
 pub statement::if_stmt-returns-in_err-test : goal.statement::if_stmt-returns-in_err-test
-statement::if_stmt-returns-in_err-test t c = record { read = stopped _ _ _ _ c.from_residual-in_err-test.ensures.1 (after (opened refl
-    c.in_ok-at.ensures.opened) (first (followed an_expr number_expr _ _ _ _ _ (plain kinds.Then _ refl refl) c.expr.result (Err _)
-    c.in_err-test.ensures.followed c.expr.ensures.read))) }
+statement::if_stmt-returns-in_err-test t c = record {
+  read = stopped _ _ _ _ c.from_residual-in_err-test.ensures.1 (after (opened refl
+      c.in_ok-at.ensures.opened) (first (followed an_expr number_expr _ _ _ _ _ (plain kinds.Then _ refl refl) c.expr.result (Err _)
+      c.in_err-test.ensures.followed c.expr.ensures.read)));
+}
 
 pub statement::if_stmt-returns-in_err-then : goal.statement::if_stmt-returns-in_err-then
-statement::if_stmt-returns-in_err-then t c = record { read = stopped _ _ _ _ c.from_residual-in_err-then.ensures.1 (after (opened refl
-    c.in_ok-at.ensures.opened) (after (followed an_expr number_expr _ _ _ _ _ (plain kinds.Then _ refl refl) c.expr.result (Ok _)
-    c.in_ok-test.ensures.followed c.expr.ensures.read) (first c.in_err-then.ensures.read))) }
+statement::if_stmt-returns-in_err-then t c = record {
+  read = stopped _ _ _ _ c.from_residual-in_err-then.ensures.1 (after (opened refl
+      c.in_ok-at.ensures.opened) (after (followed an_expr number_expr _ _ _ _ _ (plain kinds.Then _ refl refl) c.expr.result (Ok _)
+      c.in_ok-test.ensures.followed c.expr.ensures.read) (first c.in_err-then.ensures.read)));
+}
 
 pub statement::if_stmt-returns-in_err-elsifs : goal.statement::if_stmt-returns-in_err-elsifs
-statement::if_stmt-returns-in_err-elsifs t c = record { read = stopped _ _ _ _ c.from_residual-in_err-elsifs.ensures.1 (after (opened refl
-    c.in_ok-at.ensures.opened) (after (followed an_expr number_expr _ _ _ _ _ (plain kinds.Then _ refl refl) c.expr.result (Ok _)
-    c.in_ok-test.ensures.followed c.expr.ensures.read) (after c.in_ok-then.ensures.read (first c.in_err-elsifs.ensures.read)))) }
+statement::if_stmt-returns-in_err-elsifs t c = record {
+  read = stopped _ _ _ _ c.from_residual-in_err-elsifs.ensures.1 (after (opened refl
+      c.in_ok-at.ensures.opened) (after (followed an_expr number_expr _ _ _ _ _ (plain kinds.Then _ refl refl) c.expr.result (Ok _)
+      c.in_ok-test.ensures.followed c.expr.ensures.read) (after c.in_ok-then.ensures.read (first c.in_err-elsifs.ensures.read))));
+}
 
 pub statement::if_stmt-returns-in_err-otherwise : goal.statement::if_stmt-returns-in_err-otherwise
-statement::if_stmt-returns-in_err-otherwise t c = record { read = stopped _ _ _ _ c.from_residual-in_err-otherwise.ensures.1 (after (opened refl
-    c.in_ok-at.ensures.opened) (after (followed an_expr number_expr _ _ _ _ _ (plain kinds.Then _ refl refl) c.expr.result (Ok _)
-    c.in_ok-test.ensures.followed c.expr.ensures.read) (after c.in_ok-then.ensures.read (after c.in_ok-elsifs.ensures.read (ended_behind (λ v.
-    spell_else (else_of v)) numbers_of_else _ _ _ _ _ _ (matching kinds.End refl refl c.in_ok-at.ensures.opened) c.otherwise.result
-    c.followed_by-2.result c.followed_by-2.ensures.followed c.otherwise.ensures.read (Err _) c.in_err-otherwise.ensures.numbered))))) }
+statement::if_stmt-returns-in_err-otherwise t c = record {
+  read = stopped _ _ _ _ c.from_residual-in_err-otherwise.ensures.1 (after (opened refl
+      c.in_ok-at.ensures.opened) (after (followed an_expr number_expr _ _ _ _ _ (plain kinds.Then _ refl refl) c.expr.result (Ok _)
+      c.in_ok-test.ensures.followed c.expr.ensures.read) (after c.in_ok-then.ensures.read (after c.in_ok-elsifs.ensures.read (ended_behind (λ v.
+      spell_else (else_of v)) numbers_of_else _ _ _ _ _ _ (matching kinds.End refl refl c.in_ok-at.ensures.opened) c.otherwise.result
+      c.followed_by-2.result c.followed_by-2.ensures.followed c.otherwise.ensures.read (Err _) c.in_err-otherwise.ensures.numbered)))));
+}
 
 pub statement::if_stmt-returns : goal.statement::if_stmt-returns
-statement::if_stmt-returns t c = record { read = same (ap spell_stmt (rows.if_laid c.in_ok-otherwise.node c.in_ok-test.test c.in_ok-then.then
-    c.in_ok-elsifs.elsifs c.in_ok-otherwise.otherwise)) (numbers.if_laid c.in_ok-otherwise.node c.in_ok-test.test c.in_ok-then.then
-    c.in_ok-elsifs.elsifs c.in_ok-otherwise.otherwise) (then (opened refl c.in_ok-at.ensures.opened) (behind an_expr number_expr _ _ _ _ _ (plain
-    kinds.Then _ refl refl) c.expr.result _ c.in_ok-test.ensures.followed c.expr.ensures.read (then c.in_ok-then.ensures.read (then
-    c.in_ok-elsifs.ensures.read (ended_behind (λ v. spell_else (else_of v)) numbers_of_else _ _ _ _ _ _ (matching kinds.End refl refl
-    c.in_ok-at.ensures.opened) c.otherwise.result c.followed_by-2.result c.followed_by-2.ensures.followed c.otherwise.ensures.read (Ok _)
-    c.in_ok-otherwise.ensures.numbered))))) }
+statement::if_stmt-returns t c = record {
+  read = same (ap spell_stmt (rows.if_laid c.in_ok-otherwise.node c.in_ok-test.test c.in_ok-then.then
+      c.in_ok-elsifs.elsifs c.in_ok-otherwise.otherwise)) (numbers.if_laid c.in_ok-otherwise.node c.in_ok-test.test c.in_ok-then.then
+      c.in_ok-elsifs.elsifs c.in_ok-otherwise.otherwise) (then (opened refl c.in_ok-at.ensures.opened) (behind an_expr number_expr _ _ _ _ _ (plain
+      kinds.Then _ refl refl) c.expr.result _ c.in_ok-test.ensures.followed c.expr.ensures.read (then c.in_ok-then.ensures.read (then
+      c.in_ok-elsifs.ensures.read (ended_behind (λ v. spell_else (else_of v)) numbers_of_else _ _ _ _ _ _ (matching kinds.End refl refl
+      c.in_ok-at.ensures.opened) c.otherwise.result c.followed_by-2.result c.followed_by-2.ensures.followed c.otherwise.ensures.read (Ok _)
+      c.in_ok-otherwise.ensures.numbered)))));
+}
 
 pub statement::if_stmt-stmts-requires : goal.statement::if_stmt-stmts-requires
-statement::if_stmt-stmts-requires t c = (omega (arith, c.in_ok-at.ensures.opened.passes.shorter, fewer an_expr number_expr _ _ _ _ _ c.expr.result _
-    c.in_ok-test.ensures.followed c.expr.ensures.read), tt)
+statement::if_stmt-stmts-requires t c = (
+  omega (
+    arith,
+    c.in_ok-at.ensures.opened.passes.shorter,
+    fewer an_expr number_expr _ _ _ _ _ c.expr.result _
+        c.in_ok-test.ensures.followed c.expr.ensures.read,
+  ),
+  tt,
+)
 
 pub statement::if_stmt-elsif_list-requires : goal.statement::if_stmt-elsif_list-requires
-statement::if_stmt-elsif_list-requires t c = (omega (arith, c.in_ok-at.ensures.opened.passes.shorter, fewer an_expr number_expr _ _ _ _ _
-    c.expr.result _ c.in_ok-test.ensures.followed c.expr.ensures.read, c.in_ok-then.ensures.read.shorter), tt)
+statement::if_stmt-elsif_list-requires t c = (
+  omega (
+    arith,
+    c.in_ok-at.ensures.opened.passes.shorter,
+    fewer an_expr number_expr _ _ _ _ _
+        c.expr.result _ c.in_ok-test.ensures.followed c.expr.ensures.read,
+    c.in_ok-then.ensures.read.shorter,
+  ),
+  tt,
+)
 
 pub statement::if_stmt-otherwise-requires : goal.statement::if_stmt-otherwise-requires
-statement::if_stmt-otherwise-requires t c = (omega (arith, c.in_ok-at.ensures.opened.passes.shorter, fewer an_expr number_expr _ _ _ _ _ c.expr.result
-    _ c.in_ok-test.ensures.followed c.expr.ensures.read, c.in_ok-then.ensures.read.shorter, c.in_ok-elsifs.ensures.read.shorter), tt)
+statement::if_stmt-otherwise-requires t c = (
+  omega (
+    arith,
+    c.in_ok-at.ensures.opened.passes.shorter,
+    fewer an_expr number_expr _ _ _ _ _ c.expr.result
+        _ c.in_ok-test.ensures.followed c.expr.ensures.read,
+    c.in_ok-then.ensures.read.shorter,
+    c.in_ok-elsifs.ensures.read.shorter,
+  ),
+  tt,
+)
 
 pub statement::while_stmt-returns-in_err-at : goal.statement::while_stmt-returns-in_err-at
 statement::while_stmt-returns-in_err-at t c = record { read = stopped _ _ _ _ c.from_residual.ensures.1 (first c.in_err-at.ensures.opened) }
 
 pub statement::while_stmt-returns-in_err-test : goal.statement::while_stmt-returns-in_err-test
-statement::while_stmt-returns-in_err-test t c = record { read = stopped _ _ _ _ c.from_residual-in_err-test.ensures.1 (after (opened refl
-    c.in_ok-at.ensures.opened) (first (followed an_expr number_expr _ _ _ _ _ (plain kinds.Do _ refl refl) c.expr.result (Err _)
-    c.in_err-test.ensures.followed c.expr.ensures.read))) }
+statement::while_stmt-returns-in_err-test t c = record {
+  read = stopped _ _ _ _ c.from_residual-in_err-test.ensures.1 (after (opened refl
+      c.in_ok-at.ensures.opened) (first (followed an_expr number_expr _ _ _ _ _ (plain kinds.Do _ refl refl) c.expr.result (Err _)
+      c.in_err-test.ensures.followed c.expr.ensures.read)));
+}
 
 pub statement::while_stmt-returns-in_err-body : goal.statement::while_stmt-returns-in_err-body
-statement::while_stmt-returns-in_err-body t c = record { read = stopped _ _ _ _ c.from_residual-in_err-body.ensures.1 (after (opened refl
-    c.in_ok-at.ensures.opened) (after (followed an_expr number_expr _ _ _ _ _ (plain kinds.Do _ refl refl) c.expr.result (Ok _)
-    c.in_ok-test.ensures.followed c.expr.ensures.read) (ended_behind some_stmts number_stmts _ _ _ _ _ _ (matching kinds.End refl refl
-    c.in_ok-at.ensures.opened) c.stmts.result c.followed_by-2.result c.followed_by-2.ensures.followed c.stmts.ensures.read (Err _)
-    c.in_err-body.ensures.numbered))) }
+statement::while_stmt-returns-in_err-body t c = record {
+  read = stopped _ _ _ _ c.from_residual-in_err-body.ensures.1 (after (opened refl
+      c.in_ok-at.ensures.opened) (after (followed an_expr number_expr _ _ _ _ _ (plain kinds.Do _ refl refl) c.expr.result (Ok _)
+      c.in_ok-test.ensures.followed c.expr.ensures.read) (ended_behind some_stmts number_stmts _ _ _ _ _ _ (matching kinds.End refl refl
+      c.in_ok-at.ensures.opened) c.stmts.result c.followed_by-2.result c.followed_by-2.ensures.followed c.stmts.ensures.read (Err _)
+      c.in_err-body.ensures.numbered)));
+}
 
 pub statement::while_stmt-returns : goal.statement::while_stmt-returns
-statement::while_stmt-returns t c = record { read = same (ap spell_stmt (rows.while_laid c.in_ok-body.node c.in_ok-test.test c.in_ok-body.body))
-    (numbers.while_laid c.in_ok-body.node c.in_ok-test.test c.in_ok-body.body) (then (opened refl c.in_ok-at.ensures.opened) (behind an_expr
-    number_expr _ _ _ _ _ (plain kinds.Do _ refl refl) c.expr.result _ c.in_ok-test.ensures.followed c.expr.ensures.read (ended_behind some_stmts
-    number_stmts _ _ _ _ _ _ (matching kinds.End refl refl c.in_ok-at.ensures.opened) c.stmts.result c.followed_by-2.result
-    c.followed_by-2.ensures.followed c.stmts.ensures.read (Ok _) c.in_ok-body.ensures.numbered))) }
+statement::while_stmt-returns t c = record {
+  read = same (ap spell_stmt (rows.while_laid c.in_ok-body.node c.in_ok-test.test c.in_ok-body.body))
+      (numbers.while_laid c.in_ok-body.node c.in_ok-test.test c.in_ok-body.body) (then (opened refl c.in_ok-at.ensures.opened) (behind an_expr
+      number_expr _ _ _ _ _ (plain kinds.Do _ refl refl) c.expr.result _ c.in_ok-test.ensures.followed c.expr.ensures.read (ended_behind some_stmts
+      number_stmts _ _ _ _ _ _ (matching kinds.End refl refl c.in_ok-at.ensures.opened) c.stmts.result c.followed_by-2.result
+      c.followed_by-2.ensures.followed c.stmts.ensures.read (Ok _) c.in_ok-body.ensures.numbered)));
+}
 
 pub statement::while_stmt-stmts-requires : goal.statement::while_stmt-stmts-requires
-statement::while_stmt-stmts-requires t c = (omega (arith, c.in_ok-at.ensures.opened.passes.shorter, fewer an_expr number_expr _ _ _ _ _ c.expr.result
-    _ c.in_ok-test.ensures.followed c.expr.ensures.read), tt)
+statement::while_stmt-stmts-requires t c = (
+  omega (
+    arith,
+    c.in_ok-at.ensures.opened.passes.shorter,
+    fewer an_expr number_expr _ _ _ _ _ c.expr.result
+        _ c.in_ok-test.ensures.followed c.expr.ensures.read,
+  ),
+  tt,
+)
 
 pub statement::repeat_stmt-returns-in_err-at : goal.statement::repeat_stmt-returns-in_err-at
 statement::repeat_stmt-returns-in_err-at t c = record { read = stopped _ _ _ _ c.from_residual.ensures.1 (first c.in_err-at.ensures.opened) }
 
 pub statement::repeat_stmt-returns-in_err-body : goal.statement::repeat_stmt-returns-in_err-body
-statement::repeat_stmt-returns-in_err-body t c = record { read = stopped _ _ _ _ c.from_residual-in_err-body.ensures.1 (after (opened refl
-    c.in_ok-at.ensures.opened) (first (followed some_stmts number_stmts _ _ _ _ _ (matching kinds.Until refl refl c.in_ok-at.ensures.opened)
-    c.stmts.result (Err _) c.in_err-body.ensures.followed c.stmts.ensures.read))) }
+statement::repeat_stmt-returns-in_err-body t c = record {
+  read = stopped _ _ _ _ c.from_residual-in_err-body.ensures.1 (after (opened refl
+      c.in_ok-at.ensures.opened) (first (followed some_stmts number_stmts _ _ _ _ _ (matching kinds.Until refl refl c.in_ok-at.ensures.opened)
+      c.stmts.result (Err _) c.in_err-body.ensures.followed c.stmts.ensures.read)));
+}
 
 pub statement::repeat_stmt-returns-in_err-test : goal.statement::repeat_stmt-returns-in_err-test
-statement::repeat_stmt-returns-in_err-test t c = record { read = stopped _ _ _ _ c.from_residual-in_err-test.ensures.1 (after (opened refl
-    c.in_ok-at.ensures.opened) (after (followed some_stmts number_stmts _ _ _ _ _ (matching kinds.Until refl refl c.in_ok-at.ensures.opened)
-    c.stmts.result (Ok _) c.in_ok-body.ensures.followed c.stmts.ensures.read) (ended an_expr number_expr _ _ _ _ c.expr.result (Err _)
-    c.in_err-test.ensures.numbered c.expr.ensures.read))) }
+statement::repeat_stmt-returns-in_err-test t c = record {
+  read = stopped _ _ _ _ c.from_residual-in_err-test.ensures.1 (after (opened refl
+      c.in_ok-at.ensures.opened) (after (followed some_stmts number_stmts _ _ _ _ _ (matching kinds.Until refl refl c.in_ok-at.ensures.opened)
+      c.stmts.result (Ok _) c.in_ok-body.ensures.followed c.stmts.ensures.read) (ended an_expr number_expr _ _ _ _ c.expr.result (Err _)
+      c.in_err-test.ensures.numbered c.expr.ensures.read)));
+}
 
 pub statement::repeat_stmt-returns : goal.statement::repeat_stmt-returns
-statement::repeat_stmt-returns t c = record { read = same (ap spell_stmt (rows.repeat_laid c.in_ok-test.node c.in_ok-body.body c.in_ok-test.test))
-    (numbers.repeat_laid c.in_ok-test.node c.in_ok-body.body c.in_ok-test.test) (then (opened refl c.in_ok-at.ensures.opened) (behind some_stmts
-    number_stmts _ _ _ _ _ (matching kinds.Until refl refl c.in_ok-at.ensures.opened) c.stmts.result _ c.in_ok-body.ensures.followed
-    c.stmts.ensures.read (ended an_expr number_expr _ _ _ _ c.expr.result (Ok _) c.in_ok-test.ensures.numbered c.expr.ensures.read))) }
+statement::repeat_stmt-returns t c = record {
+  read = same (ap spell_stmt (rows.repeat_laid c.in_ok-test.node c.in_ok-body.body c.in_ok-test.test))
+      (numbers.repeat_laid c.in_ok-test.node c.in_ok-body.body c.in_ok-test.test) (then (opened refl c.in_ok-at.ensures.opened) (behind some_stmts
+      number_stmts _ _ _ _ _ (matching kinds.Until refl refl c.in_ok-at.ensures.opened) c.stmts.result _ c.in_ok-body.ensures.followed
+      c.stmts.ensures.read (ended an_expr number_expr _ _ _ _ c.expr.result (Ok _) c.in_ok-test.ensures.numbered c.expr.ensures.read)));
+}
 
 pub statement::repeat_stmt-expr-requires : goal.statement::repeat_stmt-expr-requires
-statement::repeat_stmt-expr-requires t c = (omega (arith, c.in_ok-at.ensures.opened.passes.shorter, fewer some_stmts number_stmts _ _ _ _ _
-    c.stmts.result _ c.in_ok-body.ensures.followed c.stmts.ensures.read), tt)
+statement::repeat_stmt-expr-requires t c = (
+  omega (
+    arith,
+    c.in_ok-at.ensures.opened.passes.shorter,
+    fewer some_stmts number_stmts _ _ _ _ _
+        c.stmts.result _ c.in_ok-body.ensures.followed c.stmts.ensures.read,
+  ),
+  tt,
+)
 
 pub statement::for_stmt-returns-in_err-at : goal.statement::for_stmt-returns-in_err-at
 statement::for_stmt-returns-in_err-at t c = record { read = stopped _ _ _ _ c.from_residual.ensures.1 (first c.in_err-at.ensures.opened) }
 
 pub statement::for_stmt-returns-in_err-variable : goal.statement::for_stmt-returns-in_err-variable
-statement::for_stmt-returns-in_err-variable t c = record { read = stopped _ _ _ _ c.from_residual-in_err-variable.ensures.1 (after (opened refl
-    c.in_ok-at.ensures.opened) (first (followed a_name number_name _ _ _ _ _ (plain kinds.Assign _ refl refl) c.name.result (Err _)
-    c.in_err-variable.ensures.followed (at_depth a_name number_name _ _ _ _ c.name.ensures.read)))) }
+statement::for_stmt-returns-in_err-variable t c = record {
+  read = stopped _ _ _ _ c.from_residual-in_err-variable.ensures.1 (after (opened refl
+      c.in_ok-at.ensures.opened) (first (followed a_name number_name _ _ _ _ _ (plain kinds.Assign _ refl refl) c.name.result (Err _)
+      c.in_err-variable.ensures.followed (at_depth a_name number_name _ _ _ _ c.name.ensures.read))));
+}
 
 pub statement::for_stmt-returns-in_err-from : goal.statement::for_stmt-returns-in_err-from
-statement::for_stmt-returns-in_err-from t c = record { read = stopped _ _ _ _ c.from_residual-in_err-from.ensures.1 (after (opened refl
-    c.in_ok-at.ensures.opened) (after (followed a_name number_name _ _ _ _ _ (plain kinds.Assign _ refl refl) c.name.result (Ok _)
-    c.in_ok-variable.ensures.followed (at_depth a_name number_name _ _ _ _ c.name.ensures.read)) (first (followed an_expr number_expr _ _ _ _ _ (plain
-    kinds.To _ refl refl) c.expr.result (Err _) c.in_err-from.ensures.followed c.expr.ensures.read)))) }
+statement::for_stmt-returns-in_err-from t c = record {
+  read = stopped _ _ _ _ c.from_residual-in_err-from.ensures.1 (after (opened refl
+      c.in_ok-at.ensures.opened) (after (followed a_name number_name _ _ _ _ _ (plain kinds.Assign _ refl refl) c.name.result (Ok _)
+      c.in_ok-variable.ensures.followed (at_depth a_name number_name _ _ _ _ c.name.ensures.read)) (first (followed an_expr number_expr _ _ _ _ _ (plain
+      kinds.To _ refl refl) c.expr.result (Err _) c.in_err-from.ensures.followed c.expr.ensures.read))));
+}
 
 pub statement::for_stmt-returns-in_err-to : goal.statement::for_stmt-returns-in_err-to
-statement::for_stmt-returns-in_err-to t c = record { read = stopped _ _ _ _ c.from_residual-in_err-to.ensures.1 (after (opened refl
-    c.in_ok-at.ensures.opened) (after (followed a_name number_name _ _ _ _ _ (plain kinds.Assign _ refl refl) c.name.result (Ok _)
-    c.in_ok-variable.ensures.followed (at_depth a_name number_name _ _ _ _ c.name.ensures.read)) (after (followed an_expr number_expr _ _ _ _ _ (plain
-    kinds.To _ refl refl) c.expr.result (Ok _) c.in_ok-from.ensures.followed c.expr.ensures.read) (first c.in_err-to.ensures.read)))) }
+statement::for_stmt-returns-in_err-to t c = record {
+  read = stopped _ _ _ _ c.from_residual-in_err-to.ensures.1 (after (opened refl
+      c.in_ok-at.ensures.opened) (after (followed a_name number_name _ _ _ _ _ (plain kinds.Assign _ refl refl) c.name.result (Ok _)
+      c.in_ok-variable.ensures.followed (at_depth a_name number_name _ _ _ _ c.name.ensures.read)) (after (followed an_expr number_expr _ _ _ _ _ (plain
+      kinds.To _ refl refl) c.expr.result (Ok _) c.in_ok-from.ensures.followed c.expr.ensures.read) (first c.in_err-to.ensures.read))));
+}
 
 pub statement::for_stmt-returns-in_err-by : goal.statement::for_stmt-returns-in_err-by
-statement::for_stmt-returns-in_err-by t c = record { read = stopped _ _ _ _ c.from_residual-in_err-by.ensures.1 (after (opened refl
-    c.in_ok-at.ensures.opened) (after (followed a_name number_name _ _ _ _ _ (plain kinds.Assign _ refl refl) c.name.result (Ok _)
-    c.in_ok-variable.ensures.followed (at_depth a_name number_name _ _ _ _ c.name.ensures.read)) (after (followed an_expr number_expr _ _ _ _ _ (plain
-    kinds.To _ refl refl) c.expr.result (Ok _) c.in_ok-from.ensures.followed c.expr.ensures.read) (after c.in_ok-to.ensures.read (first (followed (λ
-    v. spell_by (by_of v)) numbers_of_by _ _ _ _ _ (plain kinds.Do _ refl refl) c.step.result (Err _) c.in_err-by.ensures.followed
-    c.step.ensures.read)))))) }
+statement::for_stmt-returns-in_err-by t c = record {
+  read = stopped _ _ _ _ c.from_residual-in_err-by.ensures.1 (after (opened refl
+      c.in_ok-at.ensures.opened) (after (followed a_name number_name _ _ _ _ _ (plain kinds.Assign _ refl refl) c.name.result (Ok _)
+      c.in_ok-variable.ensures.followed (at_depth a_name number_name _ _ _ _ c.name.ensures.read)) (after (followed an_expr number_expr _ _ _ _ _ (plain
+      kinds.To _ refl refl) c.expr.result (Ok _) c.in_ok-from.ensures.followed c.expr.ensures.read) (after c.in_ok-to.ensures.read (first (followed (λ
+      v. spell_by (by_of v)) numbers_of_by _ _ _ _ _ (plain kinds.Do _ refl refl) c.step.result (Err _) c.in_err-by.ensures.followed
+      c.step.ensures.read))))));
+}
 
 pub statement::for_stmt-returns-in_err-body : goal.statement::for_stmt-returns-in_err-body
-statement::for_stmt-returns-in_err-body t c = record { read = stopped _ _ _ _ c.from_residual-in_err-body.ensures.1 (after (opened refl
-    c.in_ok-at.ensures.opened) (after (followed a_name number_name _ _ _ _ _ (plain kinds.Assign _ refl refl) c.name.result (Ok _)
-    c.in_ok-variable.ensures.followed (at_depth a_name number_name _ _ _ _ c.name.ensures.read)) (after (followed an_expr number_expr _ _ _ _ _ (plain
-    kinds.To _ refl refl) c.expr.result (Ok _) c.in_ok-from.ensures.followed c.expr.ensures.read) (after c.in_ok-to.ensures.read (after (followed (λ
-    v. spell_by (by_of v)) numbers_of_by _ _ _ _ _ (plain kinds.Do _ refl refl) c.step.result (Ok _) c.in_ok-by.ensures.followed c.step.ensures.read)
-    (ended_behind some_stmts number_stmts _ _ _ _ _ _ (matching kinds.End refl refl c.in_ok-at.ensures.opened) c.stmts.result c.followed_by-4.result
-    c.followed_by-4.ensures.followed c.stmts.ensures.read (Err _) c.in_err-body.ensures.numbered)))))) }
+statement::for_stmt-returns-in_err-body t c = record {
+  read = stopped _ _ _ _ c.from_residual-in_err-body.ensures.1 (after (opened refl
+      c.in_ok-at.ensures.opened) (after (followed a_name number_name _ _ _ _ _ (plain kinds.Assign _ refl refl) c.name.result (Ok _)
+      c.in_ok-variable.ensures.followed (at_depth a_name number_name _ _ _ _ c.name.ensures.read)) (after (followed an_expr number_expr _ _ _ _ _ (plain
+      kinds.To _ refl refl) c.expr.result (Ok _) c.in_ok-from.ensures.followed c.expr.ensures.read) (after c.in_ok-to.ensures.read (after (followed (λ
+      v. spell_by (by_of v)) numbers_of_by _ _ _ _ _ (plain kinds.Do _ refl refl) c.step.result (Ok _) c.in_ok-by.ensures.followed c.step.ensures.read)
+      (ended_behind some_stmts number_stmts _ _ _ _ _ _ (matching kinds.End refl refl c.in_ok-at.ensures.opened) c.stmts.result c.followed_by-4.result
+      c.followed_by-4.ensures.followed c.stmts.ensures.read (Err _) c.in_err-body.ensures.numbered))))));
+}
 
 pub statement::for_stmt-returns : goal.statement::for_stmt-returns
-statement::for_stmt-returns t c = record { read = same (ap spell_stmt (rows.for_laid c.in_ok-body.node c.in_ok-variable.variable c.in_ok-from.from
-    c.in_ok-to.to c.in_ok-by.by c.in_ok-body.body)) (numbers.for_laid c.in_ok-body.node c.in_ok-variable.variable c.in_ok-from.from c.in_ok-to.to
-    c.in_ok-by.by c.in_ok-body.body) (then (opened refl c.in_ok-at.ensures.opened) (behind a_name number_name _ _ _ _ _ (plain kinds.Assign _ refl
-    refl) c.name.result _ c.in_ok-variable.ensures.followed (at_depth a_name number_name _ _ _ _ c.name.ensures.read) (behind an_expr number_expr _ _
-    _ _ _ (plain kinds.To _ refl refl) c.expr.result _ c.in_ok-from.ensures.followed c.expr.ensures.read (then c.in_ok-to.ensures.read (behind (λ v.
-    spell_by (by_of v)) numbers_of_by _ _ _ _ _ (plain kinds.Do _ refl refl) c.step.result _ c.in_ok-by.ensures.followed c.step.ensures.read
-    (ended_behind some_stmts number_stmts _ _ _ _ _ _ (matching kinds.End refl refl c.in_ok-at.ensures.opened) c.stmts.result c.followed_by-4.result
-    c.followed_by-4.ensures.followed c.stmts.ensures.read (Ok _) c.in_ok-body.ensures.numbered)))))) }
+statement::for_stmt-returns t c = record {
+  read = same (ap spell_stmt (rows.for_laid c.in_ok-body.node c.in_ok-variable.variable c.in_ok-from.from
+      c.in_ok-to.to c.in_ok-by.by c.in_ok-body.body)) (numbers.for_laid c.in_ok-body.node c.in_ok-variable.variable c.in_ok-from.from c.in_ok-to.to
+      c.in_ok-by.by c.in_ok-body.body) (then (opened refl c.in_ok-at.ensures.opened) (behind a_name number_name _ _ _ _ _ (plain kinds.Assign _ refl
+      refl) c.name.result _ c.in_ok-variable.ensures.followed (at_depth a_name number_name _ _ _ _ c.name.ensures.read) (behind an_expr number_expr _ _
+      _ _ _ (plain kinds.To _ refl refl) c.expr.result _ c.in_ok-from.ensures.followed c.expr.ensures.read (then c.in_ok-to.ensures.read (behind (λ v.
+      spell_by (by_of v)) numbers_of_by _ _ _ _ _ (plain kinds.Do _ refl refl) c.step.result _ c.in_ok-by.ensures.followed c.step.ensures.read
+      (ended_behind some_stmts number_stmts _ _ _ _ _ _ (matching kinds.End refl refl c.in_ok-at.ensures.opened) c.stmts.result c.followed_by-4.result
+      c.followed_by-4.ensures.followed c.stmts.ensures.read (Ok _) c.in_ok-body.ensures.numbered))))));
+}
 
 pub statement::for_stmt-expr-requires : goal.statement::for_stmt-expr-requires
-statement::for_stmt-expr-requires t c = (omega (arith, c.in_ok-at.ensures.opened.passes.shorter, fewer a_name number_name _ _ _ _ _ c.name.result _
-    c.in_ok-variable.ensures.followed (at_depth a_name number_name _ 0 _ _ c.name.ensures.read)), tt)
+statement::for_stmt-expr-requires t c = (
+  omega (
+    arith,
+    c.in_ok-at.ensures.opened.passes.shorter,
+    fewer a_name number_name _ _ _ _ _ c.name.result _
+        c.in_ok-variable.ensures.followed (at_depth a_name number_name _ 0 _ _ c.name.ensures.read),
+  ),
+  tt,
+)
 
 pub statement::for_stmt-expr-requires-2 : goal.statement::for_stmt-expr-requires-2
-statement::for_stmt-expr-requires-2 t c = (omega (arith, c.in_ok-at.ensures.opened.passes.shorter, fewer a_name number_name _ _ _ _ _ c.name.result _
-    c.in_ok-variable.ensures.followed (at_depth a_name number_name _ 0 _ _ c.name.ensures.read), fewer an_expr number_expr _ _ _ _ _ c.expr.result _
-    c.in_ok-from.ensures.followed c.expr.ensures.read), tt)
+statement::for_stmt-expr-requires-2 t c = (
+  omega (
+    arith,
+    c.in_ok-at.ensures.opened.passes.shorter,
+    fewer a_name number_name _ _ _ _ _ c.name.result _
+        c.in_ok-variable.ensures.followed (at_depth a_name number_name _ 0 _ _ c.name.ensures.read),
+    fewer an_expr number_expr _ _ _ _ _ c.expr.result _
+        c.in_ok-from.ensures.followed c.expr.ensures.read,
+  ),
+  tt,
+)
 
 pub statement::for_stmt-step-requires : goal.statement::for_stmt-step-requires
-statement::for_stmt-step-requires t c = (omega (arith, c.in_ok-at.ensures.opened.passes.shorter, fewer a_name number_name _ _ _ _ _ c.name.result _
-    c.in_ok-variable.ensures.followed (at_depth a_name number_name _ 0 _ _ c.name.ensures.read), fewer an_expr number_expr _ _ _ _ _ c.expr.result _
-    c.in_ok-from.ensures.followed c.expr.ensures.read, c.in_ok-to.ensures.read.shorter), tt)
+statement::for_stmt-step-requires t c = (
+  omega (
+    arith,
+    c.in_ok-at.ensures.opened.passes.shorter,
+    fewer a_name number_name _ _ _ _ _ c.name.result _
+        c.in_ok-variable.ensures.followed (at_depth a_name number_name _ 0 _ _ c.name.ensures.read),
+    fewer an_expr number_expr _ _ _ _ _ c.expr.result _
+        c.in_ok-from.ensures.followed c.expr.ensures.read,
+    c.in_ok-to.ensures.read.shorter,
+  ),
+  tt,
+)
 
 pub statement::for_stmt-stmts-requires : goal.statement::for_stmt-stmts-requires
-statement::for_stmt-stmts-requires t c = (omega (arith, c.in_ok-at.ensures.opened.passes.shorter, fewer a_name number_name _ _ _ _ _ c.name.result _
-    c.in_ok-variable.ensures.followed (at_depth a_name number_name _ 0 _ _ c.name.ensures.read), fewer an_expr number_expr _ _ _ _ _ c.expr.result _
-    c.in_ok-from.ensures.followed c.expr.ensures.read, c.in_ok-to.ensures.read.shorter, fewer (λ v. spell_by (by_of v)) numbers_of_by _ _ _ _ _
-    c.step.result _ c.in_ok-by.ensures.followed c.step.ensures.read), tt)
+statement::for_stmt-stmts-requires t c = (
+  omega (
+    arith,
+    c.in_ok-at.ensures.opened.passes.shorter,
+    fewer a_name number_name _ _ _ _ _ c.name.result _
+        c.in_ok-variable.ensures.followed (at_depth a_name number_name _ 0 _ _ c.name.ensures.read),
+    fewer an_expr number_expr _ _ _ _ _ c.expr.result _
+        c.in_ok-from.ensures.followed c.expr.ensures.read,
+    c.in_ok-to.ensures.read.shorter,
+    fewer (λ v. spell_by (by_of v)) numbers_of_by _ _ _ _ _
+        c.step.result _ c.in_ok-by.ensures.followed c.step.ensures.read,
+  ),
+  tt,
+)
 
 pub statement::some_stmt-returns-in_err-at : goal.statement::some_stmt-returns-in_err-at
 statement::some_stmt-returns-in_err-at t c = record { read = stopped _ _ _ _ c.from_residual.ensures.1 (first c.in_err-at.ensures.opened) }
 
 pub statement::some_stmt-returns-in_err-variable : goal.statement::some_stmt-returns-in_err-variable
-statement::some_stmt-returns-in_err-variable t c = record { read = stopped _ _ _ _ c.from_residual-in_err-variable.ensures.1 (after (opened refl
-    c.in_ok-at.ensures.opened) (first (followed a_name number_name _ _ _ _ _ (plain kinds.Assign _ refl refl) c.name.result (Err _)
-    c.in_err-variable.ensures.followed (at_depth a_name number_name _ _ _ _ c.name.ensures.read)))) }
+statement::some_stmt-returns-in_err-variable t c = record {
+  read = stopped _ _ _ _ c.from_residual-in_err-variable.ensures.1 (after (opened refl
+      c.in_ok-at.ensures.opened) (first (followed a_name number_name _ _ _ _ _ (plain kinds.Assign _ refl refl) c.name.result (Err _)
+      c.in_err-variable.ensures.followed (at_depth a_name number_name _ _ _ _ c.name.ensures.read))));
+}
 
 pub statement::some_stmt-returns-in_err-from : goal.statement::some_stmt-returns-in_err-from
-statement::some_stmt-returns-in_err-from t c = record { read = stopped _ _ _ _ c.from_residual-in_err-from.ensures.1 (after (opened refl
-    c.in_ok-at.ensures.opened) (after (followed a_name number_name _ _ _ _ _ (plain kinds.Assign _ refl refl) c.name.result (Ok _)
-    c.in_ok-variable.ensures.followed (at_depth a_name number_name _ _ _ _ c.name.ensures.read)) (first (followed an_expr number_expr _ _ _ _ _ (plain
-    kinds.To _ refl refl) c.expr.result (Err _) c.in_err-from.ensures.followed c.expr.ensures.read)))) }
+statement::some_stmt-returns-in_err-from t c = record {
+  read = stopped _ _ _ _ c.from_residual-in_err-from.ensures.1 (after (opened refl
+      c.in_ok-at.ensures.opened) (after (followed a_name number_name _ _ _ _ _ (plain kinds.Assign _ refl refl) c.name.result (Ok _)
+      c.in_ok-variable.ensures.followed (at_depth a_name number_name _ _ _ _ c.name.ensures.read)) (first (followed an_expr number_expr _ _ _ _ _ (plain
+      kinds.To _ refl refl) c.expr.result (Err _) c.in_err-from.ensures.followed c.expr.ensures.read))));
+}
 
 pub statement::some_stmt-returns-in_err-to : goal.statement::some_stmt-returns-in_err-to
-statement::some_stmt-returns-in_err-to t c = record { read = stopped _ _ _ _ c.from_residual-in_err-to.ensures.1 (after (opened refl
-    c.in_ok-at.ensures.opened) (after (followed a_name number_name _ _ _ _ _ (plain kinds.Assign _ refl refl) c.name.result (Ok _)
-    c.in_ok-variable.ensures.followed (at_depth a_name number_name _ _ _ _ c.name.ensures.read)) (after (followed an_expr number_expr _ _ _ _ _ (plain
-    kinds.To _ refl refl) c.expr.result (Ok _) c.in_ok-from.ensures.followed c.expr.ensures.read) (first (followed an_expr number_expr _ _ _ _ _
-    (plain kinds.Do _ refl refl) c.expr-2.result (Err _) c.in_err-to.ensures.followed c.expr-2.ensures.read))))) }
+statement::some_stmt-returns-in_err-to t c = record {
+  read = stopped _ _ _ _ c.from_residual-in_err-to.ensures.1 (after (opened refl
+      c.in_ok-at.ensures.opened) (after (followed a_name number_name _ _ _ _ _ (plain kinds.Assign _ refl refl) c.name.result (Ok _)
+      c.in_ok-variable.ensures.followed (at_depth a_name number_name _ _ _ _ c.name.ensures.read)) (after (followed an_expr number_expr _ _ _ _ _ (plain
+      kinds.To _ refl refl) c.expr.result (Ok _) c.in_ok-from.ensures.followed c.expr.ensures.read) (first (followed an_expr number_expr _ _ _ _ _
+      (plain kinds.Do _ refl refl) c.expr-2.result (Err _) c.in_err-to.ensures.followed c.expr-2.ensures.read)))));
+}
 
 pub statement::some_stmt-returns-in_err-body : goal.statement::some_stmt-returns-in_err-body
-statement::some_stmt-returns-in_err-body t c = record { read = stopped _ _ _ _ c.from_residual-in_err-body.ensures.1 (after (opened refl
-    c.in_ok-at.ensures.opened) (after (followed a_name number_name _ _ _ _ _ (plain kinds.Assign _ refl refl) c.name.result (Ok _)
-    c.in_ok-variable.ensures.followed (at_depth a_name number_name _ _ _ _ c.name.ensures.read)) (after (followed an_expr number_expr _ _ _ _ _ (plain
-    kinds.To _ refl refl) c.expr.result (Ok _) c.in_ok-from.ensures.followed c.expr.ensures.read) (after (followed an_expr number_expr _ _ _ _ _
-    (plain kinds.Do _ refl refl) c.expr-2.result (Ok _) c.in_ok-to.ensures.followed c.expr-2.ensures.read) (ended_behind some_stmts number_stmts _ _ _
-    _ _ _ (matching kinds.End refl refl c.in_ok-at.ensures.opened) c.stmts.result c.followed_by-4.result c.followed_by-4.ensures.followed
-    c.stmts.ensures.read (Err _) c.in_err-body.ensures.numbered))))) }
+statement::some_stmt-returns-in_err-body t c = record {
+  read = stopped _ _ _ _ c.from_residual-in_err-body.ensures.1 (after (opened refl
+      c.in_ok-at.ensures.opened) (after (followed a_name number_name _ _ _ _ _ (plain kinds.Assign _ refl refl) c.name.result (Ok _)
+      c.in_ok-variable.ensures.followed (at_depth a_name number_name _ _ _ _ c.name.ensures.read)) (after (followed an_expr number_expr _ _ _ _ _ (plain
+      kinds.To _ refl refl) c.expr.result (Ok _) c.in_ok-from.ensures.followed c.expr.ensures.read) (after (followed an_expr number_expr _ _ _ _ _
+      (plain kinds.Do _ refl refl) c.expr-2.result (Ok _) c.in_ok-to.ensures.followed c.expr-2.ensures.read) (ended_behind some_stmts number_stmts _ _ _
+      _ _ _ (matching kinds.End refl refl c.in_ok-at.ensures.opened) c.stmts.result c.followed_by-4.result c.followed_by-4.ensures.followed
+      c.stmts.ensures.read (Err _) c.in_err-body.ensures.numbered)))));
+}
 
 pub statement::some_stmt-returns : goal.statement::some_stmt-returns
-statement::some_stmt-returns t c = record { read = same (ap spell_stmt (rows.some_laid c.in_ok-body.node c.in_ok-variable.variable c.in_ok-from.from
-    c.in_ok-to.to c.in_ok-body.body)) (numbers.some_laid c.in_ok-body.node c.in_ok-variable.variable c.in_ok-from.from c.in_ok-to.to
-    c.in_ok-body.body) (then (opened refl c.in_ok-at.ensures.opened) (behind a_name number_name _ _ _ _ _ (plain kinds.Assign _ refl refl)
-    c.name.result _ c.in_ok-variable.ensures.followed (at_depth a_name number_name _ _ _ _ c.name.ensures.read) (behind an_expr number_expr _ _ _ _ _
-    (plain kinds.To _ refl refl) c.expr.result _ c.in_ok-from.ensures.followed c.expr.ensures.read (behind an_expr number_expr _ _ _ _ _ (plain
-    kinds.Do _ refl refl) c.expr-2.result _ c.in_ok-to.ensures.followed c.expr-2.ensures.read (ended_behind some_stmts number_stmts _ _ _ _ _ _
-    (matching kinds.End refl refl c.in_ok-at.ensures.opened) c.stmts.result c.followed_by-4.result c.followed_by-4.ensures.followed
-    c.stmts.ensures.read (Ok _) c.in_ok-body.ensures.numbered))))) }
+statement::some_stmt-returns t c = record {
+  read = same (ap spell_stmt (rows.some_laid c.in_ok-body.node c.in_ok-variable.variable c.in_ok-from.from
+      c.in_ok-to.to c.in_ok-body.body)) (numbers.some_laid c.in_ok-body.node c.in_ok-variable.variable c.in_ok-from.from c.in_ok-to.to
+      c.in_ok-body.body) (then (opened refl c.in_ok-at.ensures.opened) (behind a_name number_name _ _ _ _ _ (plain kinds.Assign _ refl refl)
+      c.name.result _ c.in_ok-variable.ensures.followed (at_depth a_name number_name _ _ _ _ c.name.ensures.read) (behind an_expr number_expr _ _ _ _ _
+      (plain kinds.To _ refl refl) c.expr.result _ c.in_ok-from.ensures.followed c.expr.ensures.read (behind an_expr number_expr _ _ _ _ _ (plain
+      kinds.Do _ refl refl) c.expr-2.result _ c.in_ok-to.ensures.followed c.expr-2.ensures.read (ended_behind some_stmts number_stmts _ _ _ _ _ _
+      (matching kinds.End refl refl c.in_ok-at.ensures.opened) c.stmts.result c.followed_by-4.result c.followed_by-4.ensures.followed
+      c.stmts.ensures.read (Ok _) c.in_ok-body.ensures.numbered)))));
+}
 
 pub statement::some_stmt-expr-requires : goal.statement::some_stmt-expr-requires
-statement::some_stmt-expr-requires t c = (omega (arith, c.in_ok-at.ensures.opened.passes.shorter, fewer a_name number_name _ _ _ _ _ c.name.result _
-    c.in_ok-variable.ensures.followed (at_depth a_name number_name _ 0 _ _ c.name.ensures.read)), tt)
+statement::some_stmt-expr-requires t c = (
+  omega (
+    arith,
+    c.in_ok-at.ensures.opened.passes.shorter,
+    fewer a_name number_name _ _ _ _ _ c.name.result _
+        c.in_ok-variable.ensures.followed (at_depth a_name number_name _ 0 _ _ c.name.ensures.read),
+  ),
+  tt,
+)
 
 pub statement::some_stmt-expr-requires-2 : goal.statement::some_stmt-expr-requires-2
-statement::some_stmt-expr-requires-2 t c = (omega (arith, c.in_ok-at.ensures.opened.passes.shorter, fewer a_name number_name _ _ _ _ _ c.name.result _
-    c.in_ok-variable.ensures.followed (at_depth a_name number_name _ 0 _ _ c.name.ensures.read), fewer an_expr number_expr _ _ _ _ _ c.expr.result _
-    c.in_ok-from.ensures.followed c.expr.ensures.read), tt)
+statement::some_stmt-expr-requires-2 t c = (
+  omega (
+    arith,
+    c.in_ok-at.ensures.opened.passes.shorter,
+    fewer a_name number_name _ _ _ _ _ c.name.result _
+        c.in_ok-variable.ensures.followed (at_depth a_name number_name _ 0 _ _ c.name.ensures.read),
+    fewer an_expr number_expr _ _ _ _ _ c.expr.result _
+        c.in_ok-from.ensures.followed c.expr.ensures.read,
+  ),
+  tt,
+)
 
 pub statement::some_stmt-stmts-requires : goal.statement::some_stmt-stmts-requires
-statement::some_stmt-stmts-requires t c = (omega (arith, c.in_ok-at.ensures.opened.passes.shorter, fewer a_name number_name _ _ _ _ _ c.name.result _
-    c.in_ok-variable.ensures.followed (at_depth a_name number_name _ 0 _ _ c.name.ensures.read), fewer an_expr number_expr _ _ _ _ _ c.expr.result _
-    c.in_ok-from.ensures.followed c.expr.ensures.read, fewer an_expr number_expr _ _ _ _ _ c.expr-2.result _ c.in_ok-to.ensures.followed
-    c.expr-2.ensures.read), tt)
+statement::some_stmt-stmts-requires t c = (
+  omega (
+    arith,
+    c.in_ok-at.ensures.opened.passes.shorter,
+    fewer a_name number_name _ _ _ _ _ c.name.result _
+        c.in_ok-variable.ensures.followed (at_depth a_name number_name _ 0 _ _ c.name.ensures.read),
+    fewer an_expr number_expr _ _ _ _ _ c.expr.result _
+        c.in_ok-from.ensures.followed c.expr.ensures.read,
+    fewer an_expr number_expr _ _ _ _ _ c.expr-2.result _ c.in_ok-to.ensures.followed
+        c.expr-2.ensures.read,
+  ),
+  tt,
+)
 
 pub statement::case_stmt-returns-in_err-at : goal.statement::case_stmt-returns-in_err-at
 statement::case_stmt-returns-in_err-at t c = record { read = stopped _ _ _ _ c.from_residual.ensures.1 (first c.in_err-at.ensures.opened) }
 
 pub statement::case_stmt-returns-in_err-value : goal.statement::case_stmt-returns-in_err-value
-statement::case_stmt-returns-in_err-value t c = record { read = stopped _ _ _ _ c.from_residual-in_err-value.ensures.1 (after (opened refl
-    c.in_ok-at.ensures.opened) (first (followed an_expr number_expr _ _ _ _ _ (plain kinds.Of _ refl refl) c.expr.result (Err _)
-    c.in_err-value.ensures.followed c.expr.ensures.read))) }
+statement::case_stmt-returns-in_err-value t c = record {
+  read = stopped _ _ _ _ c.from_residual-in_err-value.ensures.1 (after (opened refl
+      c.in_ok-at.ensures.opened) (first (followed an_expr number_expr _ _ _ _ _ (plain kinds.Of _ refl refl) c.expr.result (Err _)
+      c.in_err-value.ensures.followed c.expr.ensures.read)));
+}
 
 pub statement::case_stmt-returns-in_err-first : goal.statement::case_stmt-returns-in_err-first
-statement::case_stmt-returns-in_err-first t c = record { read = stopped _ _ _ _ c.from_residual-in_err-first.ensures.1 (after (opened refl
-    c.in_ok-at.ensures.opened) (after (followed an_expr number_expr _ _ _ _ _ (plain kinds.Of _ refl refl) c.expr.result (Ok _)
-    c.in_ok-value.ensures.followed c.expr.ensures.read) (first c.in_err-first.ensures.read))) }
+statement::case_stmt-returns-in_err-first t c = record {
+  read = stopped _ _ _ _ c.from_residual-in_err-first.ensures.1 (after (opened refl
+      c.in_ok-at.ensures.opened) (after (followed an_expr number_expr _ _ _ _ _ (plain kinds.Of _ refl refl) c.expr.result (Ok _)
+      c.in_ok-value.ensures.followed c.expr.ensures.read) (first c.in_err-first.ensures.read)));
+}
 
 pub statement::case_stmt-returns-in_err-more : goal.statement::case_stmt-returns-in_err-more
-statement::case_stmt-returns-in_err-more t c = record { read = stopped _ _ _ _ c.from_residual-in_err-more.ensures.1 (after (opened refl
-    c.in_ok-at.ensures.opened) (after (followed an_expr number_expr _ _ _ _ _ (plain kinds.Of _ refl refl) c.expr.result (Ok _)
-    c.in_ok-value.ensures.followed c.expr.ensures.read) (after c.in_ok-first.ensures.read (first c.in_err-more.ensures.read)))) }
+statement::case_stmt-returns-in_err-more t c = record {
+  read = stopped _ _ _ _ c.from_residual-in_err-more.ensures.1 (after (opened refl
+      c.in_ok-at.ensures.opened) (after (followed an_expr number_expr _ _ _ _ _ (plain kinds.Of _ refl refl) c.expr.result (Ok _)
+      c.in_ok-value.ensures.followed c.expr.ensures.read) (after c.in_ok-first.ensures.read (first c.in_err-more.ensures.read))));
+}
 
 pub statement::case_stmt-returns-in_err-otherwise : goal.statement::case_stmt-returns-in_err-otherwise
-statement::case_stmt-returns-in_err-otherwise t c = record { read = stopped _ _ _ _ c.from_residual-in_err-otherwise.ensures.1 (after (opened refl
-    c.in_ok-at.ensures.opened) (after (followed an_expr number_expr _ _ _ _ _ (plain kinds.Of _ refl refl) c.expr.result (Ok _)
-    c.in_ok-value.ensures.followed c.expr.ensures.read) (after c.in_ok-first.ensures.read (after c.in_ok-more.ensures.read (ended_behind (λ v.
-    spell_else (else_of v)) numbers_of_else _ _ _ _ _ _ (matching kinds.End refl refl c.in_ok-at.ensures.opened) c.otherwise.result
-    c.followed_by-2.result c.followed_by-2.ensures.followed c.otherwise.ensures.read (Err _) c.in_err-otherwise.ensures.numbered))))) }
+statement::case_stmt-returns-in_err-otherwise t c = record {
+  read = stopped _ _ _ _ c.from_residual-in_err-otherwise.ensures.1 (after (opened refl
+      c.in_ok-at.ensures.opened) (after (followed an_expr number_expr _ _ _ _ _ (plain kinds.Of _ refl refl) c.expr.result (Ok _)
+      c.in_ok-value.ensures.followed c.expr.ensures.read) (after c.in_ok-first.ensures.read (after c.in_ok-more.ensures.read (ended_behind (λ v.
+      spell_else (else_of v)) numbers_of_else _ _ _ _ _ _ (matching kinds.End refl refl c.in_ok-at.ensures.opened) c.otherwise.result
+      c.followed_by-2.result c.followed_by-2.ensures.followed c.otherwise.ensures.read (Err _) c.in_err-otherwise.ensures.numbered)))));
+}
 
 pub statement::case_stmt-returns : goal.statement::case_stmt-returns
-statement::case_stmt-returns t c = record { read = same (ap spell_stmt (rows.case_laid c.in_ok-otherwise.node c.in_ok-value.value
-    c.in_ok-first-2.first c.in_ok-more.more c.in_ok-otherwise.otherwise)) (numbers.case_laid c.in_ok-otherwise.node c.in_ok-value.value
-    c.in_ok-first-2.first c.in_ok-more.more c.in_ok-otherwise.otherwise) (then (opened refl c.in_ok-at.ensures.opened) (behind an_expr number_expr _ _
-    _ _ _ (plain kinds.Of _ refl refl) c.expr.result _ c.in_ok-value.ensures.followed c.expr.ensures.read (then (replaced (λ v. spell_arm (view_arm
-    v)) number_arm c.in_ok-first-2.ensures.ok c.in_ok-first.ensures.read) (then c.in_ok-more.ensures.read (ended_behind (λ v. spell_else (else_of v))
-    numbers_of_else _ _ _ _ _ _ (matching kinds.End refl refl c.in_ok-at.ensures.opened) c.otherwise.result c.followed_by-2.result
-    c.followed_by-2.ensures.followed c.otherwise.ensures.read (Ok _) c.in_ok-otherwise.ensures.numbered))))) }
+statement::case_stmt-returns t c = record {
+  read = same (ap spell_stmt (rows.case_laid c.in_ok-otherwise.node c.in_ok-value.value
+      c.in_ok-first-2.first c.in_ok-more.more c.in_ok-otherwise.otherwise)) (numbers.case_laid c.in_ok-otherwise.node c.in_ok-value.value
+      c.in_ok-first-2.first c.in_ok-more.more c.in_ok-otherwise.otherwise) (then (opened refl c.in_ok-at.ensures.opened) (behind an_expr number_expr _ _
+      _ _ _ (plain kinds.Of _ refl refl) c.expr.result _ c.in_ok-value.ensures.followed c.expr.ensures.read (then (replaced (λ v. spell_arm (view_arm
+      v)) number_arm c.in_ok-first-2.ensures.ok c.in_ok-first.ensures.read) (then c.in_ok-more.ensures.read (ended_behind (λ v. spell_else (else_of v))
+      numbers_of_else _ _ _ _ _ _ (matching kinds.End refl refl c.in_ok-at.ensures.opened) c.otherwise.result c.followed_by-2.result
+      c.followed_by-2.ensures.followed c.otherwise.ensures.read (Ok _) c.in_ok-otherwise.ensures.numbered)))));
+}
 
 pub statement::case_stmt-arm-requires : goal.statement::case_stmt-arm-requires
-statement::case_stmt-arm-requires t c = (omega (arith, c.in_ok-at.ensures.opened.passes.shorter, fewer an_expr number_expr _ _ _ _ _ c.expr.result _
-    c.in_ok-value.ensures.followed c.expr.ensures.read), tt)
+statement::case_stmt-arm-requires t c = (
+  omega (
+    arith,
+    c.in_ok-at.ensures.opened.passes.shorter,
+    fewer an_expr number_expr _ _ _ _ _ c.expr.result _
+        c.in_ok-value.ensures.followed c.expr.ensures.read,
+  ),
+  tt,
+)
 
 pub statement::case_stmt-arm_list-requires : goal.statement::case_stmt-arm_list-requires
-statement::case_stmt-arm_list-requires t c = (omega (arith, c.in_ok-at.ensures.opened.passes.shorter, fewer an_expr number_expr _ _ _ _ _
-    c.expr.result _ c.in_ok-value.ensures.followed c.expr.ensures.read, c.in_ok-first.ensures.read.shorter), tt)
+statement::case_stmt-arm_list-requires t c = (
+  omega (
+    arith,
+    c.in_ok-at.ensures.opened.passes.shorter,
+    fewer an_expr number_expr _ _ _ _ _
+        c.expr.result _ c.in_ok-value.ensures.followed c.expr.ensures.read,
+    c.in_ok-first.ensures.read.shorter,
+  ),
+  tt,
+)
 
 pub statement::case_stmt-otherwise-requires : goal.statement::case_stmt-otherwise-requires
-statement::case_stmt-otherwise-requires t c = (omega (arith, c.in_ok-at.ensures.opened.passes.shorter, fewer an_expr number_expr _ _ _ _ _
-    c.expr.result _ c.in_ok-value.ensures.followed c.expr.ensures.read, c.in_ok-first.ensures.read.shorter, c.in_ok-more.ensures.read.shorter), tt)
+statement::case_stmt-otherwise-requires t c = (
+  omega (
+    arith,
+    c.in_ok-at.ensures.opened.passes.shorter,
+    fewer an_expr number_expr _ _ _ _ _
+        c.expr.result _ c.in_ok-value.ensures.followed c.expr.ensures.read,
+    c.in_ok-first.ensures.read.shorter,
+    c.in_ok-more.ensures.read.shorter,
+  ),
+  tt,
+)
 
 pub statement::labelled_arm-returns-in_err-first : goal.statement::labelled_arm-returns-in_err-first
 statement::labelled_arm-returns-in_err-first t c = record { read = stopped _ _ _ _ c.from_residual.ensures.1 (first c.in_err-first.ensures.read) }
 
 pub statement::labelled_arm-returns-in_err-more : goal.statement::labelled_arm-returns-in_err-more
-statement::labelled_arm-returns-in_err-more t c = record { read = stopped _ _ _ _ c.from_residual-in_err-more.ensures.1 (after
-    c.in_ok-first.ensures.read (first (followed more_labels count_labels _ _ _ _ _ (plain kinds.Colon _ refl refl) c.label_list.result (Err _)
-    c.in_err-more.ensures.followed c.label_list.ensures.read))) }
+statement::labelled_arm-returns-in_err-more t c = record {
+  read = stopped _ _ _ _ c.from_residual-in_err-more.ensures.1 (after
+      c.in_ok-first.ensures.read (first (followed more_labels count_labels _ _ _ _ _ (plain kinds.Colon _ refl refl) c.label_list.result (Err _)
+      c.in_err-more.ensures.followed c.label_list.ensures.read)));
+}
 
 pub statement::labelled_arm-returns-in_err-body : goal.statement::labelled_arm-returns-in_err-body
-statement::labelled_arm-returns-in_err-body t c = record { read = stopped _ _ _ _ c.from_residual-in_err-body.ensures.1 (after
-    c.in_ok-first.ensures.read (after (followed more_labels count_labels _ _ _ _ _ (plain kinds.Colon _ refl refl) c.label_list.result (Ok _)
-    c.in_ok-more.ensures.followed c.label_list.ensures.read) (ended some_stmts number_stmts _ _ _ _ c.stmts.result (Err _)
-    c.in_err-body.ensures.numbered c.stmts.ensures.read))) }
+statement::labelled_arm-returns-in_err-body t c = record {
+  read = stopped _ _ _ _ c.from_residual-in_err-body.ensures.1 (after
+      c.in_ok-first.ensures.read (after (followed more_labels count_labels _ _ _ _ _ (plain kinds.Colon _ refl refl) c.label_list.result (Ok _)
+      c.in_ok-more.ensures.followed c.label_list.ensures.read) (ended some_stmts number_stmts _ _ _ _ c.stmts.result (Err _)
+      c.in_err-body.ensures.numbered c.stmts.ensures.read)));
+}
 
 pub statement::labelled_arm-returns : goal.statement::labelled_arm-returns
-statement::labelled_arm-returns t c = record { read = same (ap spell_arm (rows.labelled_laid c.in_ok-body.node c.in_ok-first.first c.in_ok-more.more
-    c.in_ok-body.body)) (numbers.labelled_laid c.in_ok-body.node c.in_ok-first.first c.in_ok-more.more c.in_ok-body.body) (then
-    c.in_ok-first.ensures.read (behind more_labels count_labels _ _ _ _ _ (plain kinds.Colon _ refl refl) c.label_list.result _
-    c.in_ok-more.ensures.followed c.label_list.ensures.read (ended some_stmts number_stmts _ _ _ _ c.stmts.result (Ok _) c.in_ok-body.ensures.numbered
-    c.stmts.ensures.read))) }
+statement::labelled_arm-returns t c = record {
+  read = same (ap spell_arm (rows.labelled_laid c.in_ok-body.node c.in_ok-first.first c.in_ok-more.more
+      c.in_ok-body.body)) (numbers.labelled_laid c.in_ok-body.node c.in_ok-first.first c.in_ok-more.more c.in_ok-body.body) (then
+      c.in_ok-first.ensures.read (behind more_labels count_labels _ _ _ _ _ (plain kinds.Colon _ refl refl) c.label_list.result _
+      c.in_ok-more.ensures.followed c.label_list.ensures.read (ended some_stmts number_stmts _ _ _ _ c.stmts.result (Ok _) c.in_ok-body.ensures.numbered
+      c.stmts.ensures.read)));
+}
 
 pub statement::labelled_arm-stmts-requires : goal.statement::labelled_arm-stmts-requires
-statement::labelled_arm-stmts-requires t c = (omega (arith, c.in_ok-first.ensures.read.shorter, fewer more_labels count_labels _ _ _ _ _
-    c.label_list.result _ c.in_ok-more.ensures.followed c.label_list.ensures.read), tt)
+statement::labelled_arm-stmts-requires t c = (
+  omega (
+    arith,
+    c.in_ok-first.ensures.read.shorter,
+    fewer more_labels count_labels _ _ _ _ _
+        c.label_list.result _ c.in_ok-more.ensures.followed c.label_list.ensures.read,
+  ),
+  tt,
+)
 
 pub statement::label-returns-in_err-low : goal.statement::label-returns-in_err-low
 statement::label-returns-in_err-low t c = record { read = stopped _ _ _ _ c.from_residual.ensures.1 (first c.in_err-low.ensures.read) }
 
 pub statement::label-returns-in_err-high : goal.statement::label-returns-in_err-high
-statement::label-returns-in_err-high t c = record { read = stopped _ _ _ _ c.from_residual-in_err-high.ensures.1 (after c.in_ok-low.ensures.read
-    (ended (λ v. spell_high (high_of v)) numbers_of_high _ _ _ _ c.high.result (Err _) c.in_err-high.ensures.numbered c.high.ensures.read)) }
+statement::label-returns-in_err-high t c = record {
+  read = stopped _ _ _ _ c.from_residual-in_err-high.ensures.1 (after c.in_ok-low.ensures.read
+      (ended (λ v. spell_high (high_of v)) numbers_of_high _ _ _ _ c.high.result (Err _) c.in_err-high.ensures.numbered c.high.ensures.read));
+}
 
 pub statement::label-returns : goal.statement::label-returns
-statement::label-returns t c = record { read = same (ap spell_label (rows.label_rolled (record { node = c.in_ok-high.node; low = c.in_ok-low.low; high
-    = c.in_ok-high.high }))) (numbers.label_rolled (record { node = c.in_ok-high.node; low = c.in_ok-low.low; high = c.in_ok-high.high })) (then
-    c.in_ok-low.ensures.read (ended (λ v. spell_high (high_of v)) numbers_of_high _ _ _ _ c.high.result (Ok _) c.in_ok-high.ensures.numbered
-    c.high.ensures.read)) }
+statement::label-returns t c = record {
+  read = same (ap spell_label (rows.label_rolled (record {
+    node = c.in_ok-high.node;
+    low = c.in_ok-low.low;
+    high
+        = c.in_ok-high.high;
+  }))) (numbers.label_rolled (record { node = c.in_ok-high.node; low = c.in_ok-low.low; high = c.in_ok-high.high })) (then
+      c.in_ok-low.ensures.read (ended (λ v. spell_high (high_of v)) numbers_of_high _ _ _ _ c.high.result (Ok _) c.in_ok-high.ensures.numbered
+      c.high.ensures.read));
+}
 
 pub statement::either_stmt-returns-in_err-at : goal.statement::either_stmt-returns-in_err-at
 statement::either_stmt-returns-in_err-at t c = record { read = stopped _ _ _ _ c.from_residual.ensures.1 (first c.in_err-at.ensures.opened) }
 
 pub statement::either_stmt-returns-in_err-first : goal.statement::either_stmt-returns-in_err-first
-statement::either_stmt-returns-in_err-first t c = record { read = stopped _ _ _ _ c.from_residual-in_err-first.ensures.1 (after (opened refl
-    c.in_ok-at.ensures.opened) (first c.in_err-first.ensures.read)) }
+statement::either_stmt-returns-in_err-first t c = record {
+  read = stopped _ _ _ _ c.from_residual-in_err-first.ensures.1 (after (opened refl
+      c.in_ok-at.ensures.opened) (first c.in_err-first.ensures.read));
+}
 
 pub statement::either_stmt-returns-in_err-more : goal.statement::either_stmt-returns-in_err-more
-statement::either_stmt-returns-in_err-more t c = record { read = stopped _ _ _ _ c.from_residual-in_err-more.ensures.1 (after (opened refl
-    c.in_ok-at.ensures.opened) (after c.in_ok-first.ensures.read (ended_behind more_orelses count_orelses _ _ _ _ _ _ (matching kinds.End refl refl
-    c.in_ok-at.ensures.opened) c.orelse_list.result c.followed_by.result c.followed_by.ensures.followed c.orelse_list.ensures.read (Err _)
-    c.in_err-more.ensures.numbered))) }
+statement::either_stmt-returns-in_err-more t c = record {
+  read = stopped _ _ _ _ c.from_residual-in_err-more.ensures.1 (after (opened refl
+      c.in_ok-at.ensures.opened) (after c.in_ok-first.ensures.read (ended_behind more_orelses count_orelses _ _ _ _ _ _ (matching kinds.End refl refl
+      c.in_ok-at.ensures.opened) c.orelse_list.result c.followed_by.result c.followed_by.ensures.followed c.orelse_list.ensures.read (Err _)
+      c.in_err-more.ensures.numbered)));
+}
 
 pub statement::either_stmt-returns : goal.statement::either_stmt-returns
-statement::either_stmt-returns t c = record { read = same (ap spell_stmt (rows.either_laid c.in_ok-more.node c.in_ok-first.first c.in_ok-more.more))
-    (numbers.either_laid c.in_ok-more.node c.in_ok-first.first c.in_ok-more.more) (then (opened refl c.in_ok-at.ensures.opened) (then
-    c.in_ok-first.ensures.read (ended_behind more_orelses count_orelses _ _ _ _ _ _ (matching kinds.End refl refl c.in_ok-at.ensures.opened)
-    c.orelse_list.result c.followed_by.result c.followed_by.ensures.followed c.orelse_list.ensures.read (Ok _) c.in_ok-more.ensures.numbered))) }
+statement::either_stmt-returns t c = record {
+  read = same (ap spell_stmt (rows.either_laid c.in_ok-more.node c.in_ok-first.first c.in_ok-more.more))
+      (numbers.either_laid c.in_ok-more.node c.in_ok-first.first c.in_ok-more.more) (then (opened refl c.in_ok-at.ensures.opened) (then
+      c.in_ok-first.ensures.read (ended_behind more_orelses count_orelses _ _ _ _ _ _ (matching kinds.End refl refl c.in_ok-at.ensures.opened)
+      c.orelse_list.result c.followed_by.result c.followed_by.ensures.followed c.orelse_list.ensures.read (Ok _) c.in_ok-more.ensures.numbered)));
+}
 
 pub statement::forall_stmt-returns-in_err-at : goal.statement::forall_stmt-returns-in_err-at
 statement::forall_stmt-returns-in_err-at t c = record { read = stopped _ _ _ _ c.from_residual.ensures.1 (first c.in_err-at.ensures.opened) }
 
 pub statement::forall_stmt-returns-in_err-choice : goal.statement::forall_stmt-returns-in_err-choice
-statement::forall_stmt-returns-in_err-choice t c = record { read = stopped _ _ _ _ c.from_residual-in_err-choice.ensures.1 (after (opened refl
-    c.in_ok-at.ensures.opened) (first (followed some_stmts number_stmts _ _ _ _ _ (plain kinds.Do _ refl refl) c.stmts.result (Err _)
-    c.in_err-choice.ensures.followed c.stmts.ensures.read))) }
+statement::forall_stmt-returns-in_err-choice t c = record {
+  read = stopped _ _ _ _ c.from_residual-in_err-choice.ensures.1 (after (opened refl
+      c.in_ok-at.ensures.opened) (first (followed some_stmts number_stmts _ _ _ _ _ (plain kinds.Do _ refl refl) c.stmts.result (Err _)
+      c.in_err-choice.ensures.followed c.stmts.ensures.read)));
+}
 
 pub statement::forall_stmt-returns-in_err-body : goal.statement::forall_stmt-returns-in_err-body
-statement::forall_stmt-returns-in_err-body t c = record { read = stopped _ _ _ _ c.from_residual-in_err-body.ensures.1 (after (opened refl
-    c.in_ok-at.ensures.opened) (after (followed some_stmts number_stmts _ _ _ _ _ (plain kinds.Do _ refl refl) c.stmts.result (Ok _)
-    c.in_ok-choice.ensures.followed c.stmts.ensures.read) (ended_behind some_stmts number_stmts _ _ _ _ _ _ (matching kinds.End refl refl
-    c.in_ok-at.ensures.opened) c.stmts-2.result c.followed_by-2.result c.followed_by-2.ensures.followed c.stmts-2.ensures.read (Err _)
-    c.in_err-body.ensures.numbered))) }
+statement::forall_stmt-returns-in_err-body t c = record {
+  read = stopped _ _ _ _ c.from_residual-in_err-body.ensures.1 (after (opened refl
+      c.in_ok-at.ensures.opened) (after (followed some_stmts number_stmts _ _ _ _ _ (plain kinds.Do _ refl refl) c.stmts.result (Ok _)
+      c.in_ok-choice.ensures.followed c.stmts.ensures.read) (ended_behind some_stmts number_stmts _ _ _ _ _ _ (matching kinds.End refl refl
+      c.in_ok-at.ensures.opened) c.stmts-2.result c.followed_by-2.result c.followed_by-2.ensures.followed c.stmts-2.ensures.read (Err _)
+      c.in_err-body.ensures.numbered)));
+}
 
 pub statement::forall_stmt-returns : goal.statement::forall_stmt-returns
-statement::forall_stmt-returns t c = record { read = same (ap spell_stmt (rows.forall_laid c.in_ok-body.node c.in_ok-choice.choice c.in_ok-body.body))
-    (numbers.forall_laid c.in_ok-body.node c.in_ok-choice.choice c.in_ok-body.body) (then (opened refl c.in_ok-at.ensures.opened) (behind some_stmts
-    number_stmts _ _ _ _ _ (plain kinds.Do _ refl refl) c.stmts.result _ c.in_ok-choice.ensures.followed c.stmts.ensures.read (ended_behind some_stmts
-    number_stmts _ _ _ _ _ _ (matching kinds.End refl refl c.in_ok-at.ensures.opened) c.stmts-2.result c.followed_by-2.result
-    c.followed_by-2.ensures.followed c.stmts-2.ensures.read (Ok _) c.in_ok-body.ensures.numbered))) }
+statement::forall_stmt-returns t c = record {
+  read = same (ap spell_stmt (rows.forall_laid c.in_ok-body.node c.in_ok-choice.choice c.in_ok-body.body))
+      (numbers.forall_laid c.in_ok-body.node c.in_ok-choice.choice c.in_ok-body.body) (then (opened refl c.in_ok-at.ensures.opened) (behind some_stmts
+      number_stmts _ _ _ _ _ (plain kinds.Do _ refl refl) c.stmts.result _ c.in_ok-choice.ensures.followed c.stmts.ensures.read (ended_behind some_stmts
+      number_stmts _ _ _ _ _ _ (matching kinds.End refl refl c.in_ok-at.ensures.opened) c.stmts-2.result c.followed_by-2.result
+      c.followed_by-2.ensures.followed c.stmts-2.ensures.read (Ok _) c.in_ok-body.ensures.numbered)));
+}
 
 pub statement::forall_stmt-stmts-requires-2 : goal.statement::forall_stmt-stmts-requires-2
-statement::forall_stmt-stmts-requires-2 t c = (omega (arith, c.in_ok-at.ensures.opened.passes.shorter, fewer some_stmts number_stmts _ _ _ _ _
-    c.stmts.result _ c.in_ok-choice.ensures.followed c.stmts.ensures.read), tt)
+statement::forall_stmt-stmts-requires-2 t c = (
+  omega (
+    arith,
+    c.in_ok-at.ensures.opened.passes.shorter,
+    fewer some_stmts number_stmts _ _ _ _ _
+        c.stmts.result _ c.in_ok-choice.ensures.followed c.stmts.ensures.read,
+  ),
+  tt,
+)
 
 pub statement::commit_stmt-returns-in_err-at : goal.statement::commit_stmt-returns-in_err-at
 statement::commit_stmt-returns-in_err-at t c = record { read = stopped _ _ _ _ c.from_residual.ensures.1 (first c.in_err-at.ensures.opened) }
 
 pub statement::commit_stmt-returns-in_err-body : goal.statement::commit_stmt-returns-in_err-body
-statement::commit_stmt-returns-in_err-body t c = record { read = stopped _ _ _ _ c.from_residual-in_err-body.ensures.1 (after (opened refl
-    c.in_ok-at.ensures.opened) (ended_behind some_stmts number_stmts _ _ _ _ _ _ (matching kinds.End refl refl c.in_ok-at.ensures.opened)
-    c.stmts.result c.followed_by.result c.followed_by.ensures.followed c.stmts.ensures.read (Err _) c.in_err-body.ensures.numbered)) }
+statement::commit_stmt-returns-in_err-body t c = record {
+  read = stopped _ _ _ _ c.from_residual-in_err-body.ensures.1 (after (opened refl
+      c.in_ok-at.ensures.opened) (ended_behind some_stmts number_stmts _ _ _ _ _ _ (matching kinds.End refl refl c.in_ok-at.ensures.opened)
+      c.stmts.result c.followed_by.result c.followed_by.ensures.followed c.stmts.ensures.read (Err _) c.in_err-body.ensures.numbered));
+}
 
 pub statement::commit_stmt-returns : goal.statement::commit_stmt-returns
-statement::commit_stmt-returns t c = record { read = same (ap spell_stmt (rows.commit_laid c.in_ok-body.node c.in_ok-body.body)) (numbers.commit_laid
-    c.in_ok-body.node c.in_ok-body.body) (then (opened refl c.in_ok-at.ensures.opened) (ended_behind some_stmts number_stmts _ _ _ _ _ _ (matching
-    kinds.End refl refl c.in_ok-at.ensures.opened) c.stmts.result c.followed_by.result c.followed_by.ensures.followed c.stmts.ensures.read (Ok _)
-    c.in_ok-body.ensures.numbered)) }
+statement::commit_stmt-returns t c = record {
+  read = same (ap spell_stmt (rows.commit_laid c.in_ok-body.node c.in_ok-body.body)) (numbers.commit_laid
+      c.in_ok-body.node c.in_ok-body.body) (then (opened refl c.in_ok-at.ensures.opened) (ended_behind some_stmts number_stmts _ _ _ _ _ _ (matching
+      kinds.End refl refl c.in_ok-at.ensures.opened) c.stmts.result c.followed_by.result c.followed_by.ensures.followed c.stmts.ensures.read (Ok _)
+      c.in_ok-body.ensures.numbered));
+}
 
 pub statement::return_stmt-returns-in_err-at : goal.statement::return_stmt-returns-in_err-at
 statement::return_stmt-returns-in_err-at t c = record { read = stopped _ _ _ _ c.from_residual.ensures.1 (first (c.in_err-at.ensures.passes _)) }
 
 pub statement::return_stmt-returns-in_err-value : goal.statement::return_stmt-returns-in_err-value
-statement::return_stmt-returns-in_err-value t c = record { read = stopped _ _ _ _ c.from_residual-in_err-value.ensures.1 (after (passed refl refl
-    c.in_ok-at.ensures.passes) (ended (λ v. spell_returned (returned_of v)) numbers_of_returned _ _ _ _ c.returned.result (Err _)
-    c.in_err-value.ensures.numbered c.returned.ensures.read)) }
+statement::return_stmt-returns-in_err-value t c = record {
+  read = stopped _ _ _ _ c.from_residual-in_err-value.ensures.1 (after (passed refl refl
+      c.in_ok-at.ensures.passes) (ended (λ v. spell_returned (returned_of v)) numbers_of_returned _ _ _ _ c.returned.result (Err _)
+      c.in_err-value.ensures.numbered c.returned.ensures.read));
+}
 
 pub statement::return_stmt-returns : goal.statement::return_stmt-returns
-statement::return_stmt-returns t c = record { read = same (ap spell_stmt (rows.return_laid c.in_ok-value.node c.in_ok-value.value))
-    (numbers.return_laid c.in_ok-value.node c.in_ok-value.value) (then (passed refl refl c.in_ok-at.ensures.passes) (ended (λ v. spell_returned
-    (returned_of v)) numbers_of_returned _ _ _ _ c.returned.result (Ok _) c.in_ok-value.ensures.numbered c.returned.ensures.read)) }
+statement::return_stmt-returns t c = record {
+  read = same (ap spell_stmt (rows.return_laid c.in_ok-value.node c.in_ok-value.value))
+      (numbers.return_laid c.in_ok-value.node c.in_ok-value.value) (then (passed refl refl c.in_ok-at.ensures.passes) (ended (λ v. spell_returned
+      (returned_of v)) numbers_of_returned _ _ _ _ c.returned.result (Ok _) c.in_ok-value.ensures.numbered c.returned.ensures.read));
+}
 
 pub statement::read_stmt-returns-in_err-at : goal.statement::read_stmt-returns-in_err-at
 statement::read_stmt-returns-in_err-at t c = record { read = stopped _ _ _ _ c.from_residual.ensures.1 (first (c.in_err-at.ensures.passes _)) }
 
 pub statement::read_stmt-returns-in_err-at-2 : goal.statement::read_stmt-returns-in_err-at-2
-statement::read_stmt-returns-in_err-at-2 t c = record { read = stopped _ _ _ _ c.from_residual-in_err-at-2.ensures.1 (after (passed refl refl
-    c.in_ok-at.ensures.passes) (first c.in_err-at-2.ensures.opened)) }
+statement::read_stmt-returns-in_err-at-2 t c = record {
+  read = stopped _ _ _ _ c.from_residual-in_err-at-2.ensures.1 (after (passed refl refl
+      c.in_ok-at.ensures.passes) (first c.in_err-at-2.ensures.opened));
+}
 
 pub statement::read_stmt-returns-in_err-first : goal.statement::read_stmt-returns-in_err-first
-statement::read_stmt-returns-in_err-first t c = record { read = stopped _ _ _ _ c.from_residual-in_err-first.ensures.1 (after (passed refl refl
-    c.in_ok-at.ensures.passes) (after (opened refl c.in_ok-at-2.ensures.opened) (first c.in_err-first.ensures.read))) }
+statement::read_stmt-returns-in_err-first t c = record {
+  read = stopped _ _ _ _ c.from_residual-in_err-first.ensures.1 (after (passed refl refl
+      c.in_ok-at.ensures.passes) (after (opened refl c.in_ok-at-2.ensures.opened) (first c.in_err-first.ensures.read)));
+}
 
 pub statement::read_stmt-returns-in_err-more : goal.statement::read_stmt-returns-in_err-more
-statement::read_stmt-returns-in_err-more t c = record { read = stopped _ _ _ _ c.from_residual-in_err-more.ensures.1 (after (passed refl refl
-    c.in_ok-at.ensures.passes) (after (opened refl c.in_ok-at-2.ensures.opened) (after c.in_ok-first.ensures.read (ended_behind more_desigs
-    count_desigs _ _ _ _ _ _ (matching kinds.CloseParen refl refl c.in_ok-at-2.ensures.opened) c.desig_list.result c.followed_by.result
-    c.followed_by.ensures.followed c.desig_list.ensures.read (Err _) c.in_err-more.ensures.numbered)))) }
+statement::read_stmt-returns-in_err-more t c = record {
+  read = stopped _ _ _ _ c.from_residual-in_err-more.ensures.1 (after (passed refl refl
+      c.in_ok-at.ensures.passes) (after (opened refl c.in_ok-at-2.ensures.opened) (after c.in_ok-first.ensures.read (ended_behind more_desigs
+      count_desigs _ _ _ _ _ _ (matching kinds.CloseParen refl refl c.in_ok-at-2.ensures.opened) c.desig_list.result c.followed_by.result
+      c.followed_by.ensures.followed c.desig_list.ensures.read (Err _) c.in_err-more.ensures.numbered))));
+}
 
 pub statement::read_stmt-returns : goal.statement::read_stmt-returns
-statement::read_stmt-returns t c = record { read = same (ap spell_stmt (rows.read_laid c.in_ok-more.node c.in_ok-first.first c.in_ok-more.more))
-    (numbers.read_laid c.in_ok-more.node c.in_ok-first.first c.in_ok-more.more) (then (passed refl refl c.in_ok-at.ensures.passes) (then (opened refl
-    c.in_ok-at-2.ensures.opened) (then c.in_ok-first.ensures.read (ended_behind more_desigs count_desigs _ _ _ _ _ _ (matching kinds.CloseParen refl
-    refl c.in_ok-at-2.ensures.opened) c.desig_list.result c.followed_by.result c.followed_by.ensures.followed c.desig_list.ensures.read (Ok _)
-    c.in_ok-more.ensures.numbered)))) }
+statement::read_stmt-returns t c = record {
+  read = same (ap spell_stmt (rows.read_laid c.in_ok-more.node c.in_ok-first.first c.in_ok-more.more))
+      (numbers.read_laid c.in_ok-more.node c.in_ok-first.first c.in_ok-more.more) (then (passed refl refl c.in_ok-at.ensures.passes) (then (opened refl
+      c.in_ok-at-2.ensures.opened) (then c.in_ok-first.ensures.read (ended_behind more_desigs count_desigs _ _ _ _ _ _ (matching kinds.CloseParen refl
+      refl c.in_ok-at-2.ensures.opened) c.desig_list.result c.followed_by.result c.followed_by.ensures.followed c.desig_list.ensures.read (Ok _)
+      c.in_ok-more.ensures.numbered))));
+}
 
 pub statement::write_stmt-returns-in_err-at : goal.statement::write_stmt-returns-in_err-at
 statement::write_stmt-returns-in_err-at t c = record { read = stopped _ _ _ _ c.from_residual.ensures.1 (first (c.in_err-at.ensures.passes _)) }
 
 pub statement::write_stmt-returns-in_err-at-2 : goal.statement::write_stmt-returns-in_err-at-2
-statement::write_stmt-returns-in_err-at-2 t c = record { read = stopped _ _ _ _ c.from_residual-in_err-at-2.ensures.1 (after (passed refl refl
-    c.in_ok-at.ensures.passes) (first c.in_err-at-2.ensures.opened)) }
+statement::write_stmt-returns-in_err-at-2 t c = record {
+  read = stopped _ _ _ _ c.from_residual-in_err-at-2.ensures.1 (after (passed refl refl
+      c.in_ok-at.ensures.passes) (first c.in_err-at-2.ensures.opened));
+}
 
 pub statement::write_stmt-returns-in_err-items : goal.statement::write_stmt-returns-in_err-items
-statement::write_stmt-returns-in_err-items t c = record { read = stopped _ _ _ _ c.from_residual-in_err-items.ensures.1 (after (passed refl refl
-    c.in_ok-at.ensures.passes) (after (opened refl c.in_ok-at-2.ensures.opened) (ended_behind some_exprs number_exprs _ _ _ _ _ _ (matching
-    kinds.CloseParen refl refl c.in_ok-at-2.ensures.opened) c.exprs.result c.followed_by.result c.followed_by.ensures.followed c.exprs.ensures.read
-    (Err _) c.in_err-items.ensures.numbered))) }
+statement::write_stmt-returns-in_err-items t c = record {
+  read = stopped _ _ _ _ c.from_residual-in_err-items.ensures.1 (after (passed refl refl
+      c.in_ok-at.ensures.passes) (after (opened refl c.in_ok-at-2.ensures.opened) (ended_behind some_exprs number_exprs _ _ _ _ _ _ (matching
+      kinds.CloseParen refl refl c.in_ok-at-2.ensures.opened) c.exprs.result c.followed_by.result c.followed_by.ensures.followed c.exprs.ensures.read
+      (Err _) c.in_err-items.ensures.numbered)));
+}
 
 pub statement::write_stmt-returns : goal.statement::write_stmt-returns
-statement::write_stmt-returns t c = record { read = (then (passed refl refl c.in_ok-at.ensures.passes) (then (opened refl c.in_ok-at-2.ensures.opened)
-    (ended_behind some_exprs number_exprs _ _ _ _ _ _ (matching kinds.CloseParen refl refl c.in_ok-at-2.ensures.opened) c.exprs.result
-    c.followed_by.result c.followed_by.ensures.followed c.exprs.ensures.read (Ok _) c.in_ok-items.ensures.numbered))) }
+statement::write_stmt-returns t c = record {
+  read = (then (passed refl refl c.in_ok-at.ensures.passes) (then (opened refl c.in_ok-at-2.ensures.opened)
+      (ended_behind some_exprs number_exprs _ _ _ _ _ _ (matching kinds.CloseParen refl refl c.in_ok-at-2.ensures.opened) c.exprs.result
+      c.followed_by.result c.followed_by.ensures.followed c.exprs.ensures.read (Ok _) c.in_ok-items.ensures.numbered)));
+}
 
 pub expression::expr-returns-in_err-left : goal.expression::expr-returns-in_err-left
 expression::expr-returns-in_err-left t c = record { read = stopped _ _ _ _ c.from_residual.ensures.1 (first c.in_err-left.ensures.read) }
 
 pub expression::expr-returns : goal.expression::expr-returns
-expression::expr-returns t c = record { read = extended c.expr_from.result (λ v. spell_expr (view_expr v)) number_expr (λ o. compared_part ∷ o)
-    c.in_ok-left.ensures.read c.expr_from.ensures.read }
+expression::expr-returns t c = record {
+  read = extended c.expr_from.result (λ v. spell_expr (view_expr v)) number_expr (λ o. compared_part ∷ o)
+      c.in_ok-left.ensures.read c.expr_from.ensures.read;
+}
 
 pub expression::simple-returns-in_err-first : goal.expression::simple-returns-in_err-first
-expression::simple-returns-in_err-first t c = record { read = stopped _ _ _ _ c.from_residual.ensures.1 (after (c.sign-sign.ensures.read _) (first
-    c.in_err-first.ensures.read)) }
+expression::simple-returns-in_err-first t c = record {
+  read = stopped _ _ _ _ c.from_residual.ensures.1 (after (c.sign-sign.ensures.read _) (first
+      c.in_err-first.ensures.read));
+}
 
 pub expression::simple-returns : goal.expression::simple-returns
-expression::simple-returns t c = record { read = extended c.simple_from.result (λ v. spell_simple (view_simple v)) number_simple (λ o. term_tail ∷ o)
-    (then (c.sign-sign.ensures.read _) c.in_ok-first.ensures.read) c.simple_from.ensures.read }
+expression::simple-returns t c = record {
+  read = extended c.simple_from.result (λ v. spell_simple (view_simple v)) number_simple (λ o. term_tail ∷ o)
+      (then (c.sign-sign.ensures.read _) c.in_ok-first.ensures.read) c.simple_from.ensures.read;
+}
 
 pub expression::term-returns-in_err-first : goal.expression::term-returns-in_err-first
 expression::term-returns-in_err-first t c = record { read = stopped _ _ _ _ c.from_residual.ensures.1 (first c.in_err-first.ensures.read) }
 
 pub expression::term-returns : goal.expression::term-returns
-expression::term-returns t c = record { read = extended c.term_from.result (λ v. spell_term (view_term v)) number_term (λ o. factor_tail ∷ o)
-    c.in_ok-first.ensures.read c.term_from.ensures.read }
+expression::term-returns t c = record {
+  read = extended c.term_from.result (λ v. spell_term (view_term v)) number_term (λ o. factor_tail ∷ o)
+      c.in_ok-first.ensures.read c.term_from.ensures.read;
+}
 
 pub expression::desig_value-returns-in_err-primary : goal.expression::desig_value-returns-in_err-primary
 expression::desig_value-returns-in_err-primary t c = record { read = stopped _ _ _ _ c.from_residual.ensures.1 (first c.in_err-primary.ensures.read) }
 
 pub expression::desig_value-returns-in_err-node : goal.expression::desig_value-returns-in_err-node
-expression::desig_value-returns-in_err-node t c = record { read = stopped _ _ _ _ c.from_residual-in_err-node.ensures.1 (want
-    c.in_err-node.ensures.counted) }
+expression::desig_value-returns-in_err-node t c = record {
+  read = stopped _ _ _ _ c.from_residual-in_err-node.ensures.1 (want
+      c.in_err-node.ensures.counted);
+}
 
 pub expression::desig_value-returns-in_err-first : goal.expression::desig_value-returns-in_err-first
-expression::desig_value-returns-in_err-first t c = record { read = stopped _ _ _ _ c.from_residual-in_err-first.ensures.1 (beyond (twice
-    c.in_ok-primary.ensures.read (extending refl refl (counted c.in_ok-node.ensures.counted))) (first c.in_err-first.ensures.read)) }
+expression::desig_value-returns-in_err-first t c = record {
+  read = stopped _ _ _ _ c.from_residual-in_err-first.ensures.1 (beyond (twice
+      c.in_ok-primary.ensures.read (extending refl refl (counted c.in_ok-node.ensures.counted))) (first c.in_err-first.ensures.read));
+}
 
 pub expression::desig_value-returns-in_err-left : goal.expression::desig_value-returns-in_err-left
-expression::desig_value-returns-in_err-left t c = record { read = stopped _ _ _ _ c.from_residual-in_err-left.ensures.1 (beyond (twice
-    c.in_ok-primary.ensures.read (twice (extending refl refl (counted c.in_ok-node.ensures.counted)) c.in_ok-first.ensures.read)) (first
-    c.in_err-left.ensures.read)) }
+expression::desig_value-returns-in_err-left t c = record {
+  read = stopped _ _ _ _ c.from_residual-in_err-left.ensures.1 (beyond (twice
+      c.in_ok-primary.ensures.read (twice (extending refl refl (counted c.in_ok-node.ensures.counted)) c.in_ok-first.ensures.read)) (first
+      c.in_err-left.ensures.read));
+}
 
 pub expression::desig_value-returns : goal.expression::desig_value-returns
-expression::desig_value-returns t c = record { read = extended_twice c.expr_from.result (λ v. spell_expr (view_expr v)) number_expr (λ o.
-    compared_part ∷ o) (twice c.in_ok-primary.ensures.read (twice (extending refl refl (counted c.in_ok-node.ensures.counted)) (twice
-    c.in_ok-first.ensures.read c.in_ok-left.ensures.read))) c.expr_from.ensures.read }
+expression::desig_value-returns t c = record {
+  read = extended_twice c.expr_from.result (λ v. spell_expr (view_expr v)) number_expr (λ o.
+      compared_part ∷ o) (twice c.in_ok-primary.ensures.read (twice (extending refl refl (counted c.in_ok-node.ensures.counted)) (twice
+      c.in_ok-first.ensures.read c.in_ok-left.ensures.read))) c.expr_from.ensures.read;
+}
 
 pub expression::compared-returns-in_default : goal.expression::compared-returns-in_default
 expression::compared-returns-in_default t c = record { read = skipped c.in_default.ensures.passes }
 
 pub expression::compared-returns-in_err-right : goal.expression::compared-returns-in_err-right
-expression::compared-returns-in_err-right t c = record { read = stopped _ _ _ _ c.from_residual.ensures.1 (becoming_fails (heads.begins_relation
-    c.in-Some.relation c.in-Some.ensures.passes) (after (passed (heads.relation_opens c.in-Some.relation) (heads.relation_closes c.in-Some.relation)
-    c.in-Some.ensures.passes) (first c.in_err-right.ensures.read))) }
+expression::compared-returns-in_err-right t c = record {
+  read = stopped _ _ _ _ c.from_residual.ensures.1 (becoming_fails (heads.begins_relation
+      c.in-Some.relation c.in-Some.ensures.passes) (after (passed (heads.relation_opens c.in-Some.relation) (heads.relation_closes c.in-Some.relation)
+      c.in-Some.ensures.passes) (first c.in_err-right.ensures.read)));
+}
 
 pub expression::compared-returns : goal.expression::compared-returns
-expression::compared-returns t c = record { read = becoming (heads.begins_relation c.in-Some.relation c.in-Some.ensures.passes) (same (ap (λ v.
-    spell_compared (tree.compared (dc.out-Compared v).relation (view_simple (dc.out-Compared v).right))) c.in_ok-compared.ensures.ok ∙ ap (λ o.
-    spell_compared (tree.compared o.relation (view_simple o.right))) (dc.out-roll-Compared (record { relation = c.in-Some.relation; right =
-    c.in_ok-right.right }))) (ap (λ v. token >> number_simple (dc.out-Compared v).right) c.in_ok-compared.ensures.ok ∙ ap (λ o. token >> number_simple
-    o.right) (dc.out-roll-Compared (record { relation = c.in-Some.relation; right = c.in_ok-right.right }))) (then (passed (heads.relation_opens
-    c.in-Some.relation) (heads.relation_closes c.in-Some.relation) c.in-Some.ensures.passes) c.in_ok-right.ensures.read)) }
+expression::compared-returns t c = record {
+  read = becoming (heads.begins_relation c.in-Some.relation c.in-Some.ensures.passes) (same (ap (λ v.
+      spell_compared (tree.compared (dc.out-Compared v).relation (view_simple (dc.out-Compared v).right))) c.in_ok-compared.ensures.ok ∙ ap (λ o.
+      spell_compared (tree.compared o.relation (view_simple o.right))) (dc.out-roll-Compared (record {
+        relation = c.in-Some.relation;
+        right =
+            c.in_ok-right.right;
+      }))) (ap (λ v. token >> number_simple (dc.out-Compared v).right) c.in_ok-compared.ensures.ok ∙ ap (λ o. token >> number_simple
+      o.right) (dc.out-roll-Compared (record { relation = c.in-Some.relation; right = c.in_ok-right.right }))) (then (passed (heads.relation_opens
+      c.in-Some.relation) (heads.relation_closes c.in-Some.relation) c.in-Some.ensures.passes) c.in_ok-right.ensures.read));
+}
 
 pub expression::terms-loop-operator-init : goal.expression::terms-loop-operator-init
 expression::terms-loop-operator-init t c = rw c.new-more.ensures.items loops.loops_start
@@ -690,14 +1031,18 @@ expression::terms-loop-operator-init t c = rw c.new-more.ensures.items loops.loo
 pub expression::terms-loop-operator-preserved : goal.expression::terms-loop-operator-preserved
 expression::terms-loop-operator-preserved t c = rw c.in_ok-push.ensures.items (loops.turned (lists.terms_spelled_rolled c.loop-operator.more.items
     (record { operator = c.in-Some.operator; operand = c.in_ok-operand.operand })) (lists.terms_numbered_rolled c.loop-operator.more.items (record {
-    operator = c.in-Some.operator; operand = c.in_ok-operand.operand })) c.loop-operator.invariant (heads.begins_add c.in-Some.operator
+      operator = c.in-Some.operator;
+      operand = c.in_ok-operand.operand;
+    })) c.loop-operator.invariant (heads.begins_add c.in-Some.operator
     c.in-Some.ensures.passes) (then (passed (heads.add_opens c.in-Some.operator) (heads.add_closes c.in-Some.operator) c.in-Some.ensures.passes)
     c.in_ok-operand.ensures.read))
 
 pub expression::terms-returns-in_err-operand : goal.expression::terms-returns-in_err-operand
-expression::terms-returns-in_err-operand t c = record { read = stopped _ _ _ _ c.from_residual.ensures.1 (loops.broken c.loop-operator.invariant
-    (heads.begins_add c.in-Some.operator c.in-Some.ensures.passes) (after (passed (heads.add_opens c.in-Some.operator) (heads.add_closes
-    c.in-Some.operator) c.in-Some.ensures.passes) c.in_err-operand.ensures.read)) }
+expression::terms-returns-in_err-operand t c = record {
+  read = stopped _ _ _ _ c.from_residual.ensures.1 (loops.broken c.loop-operator.invariant
+      (heads.begins_add c.in-Some.operator c.in-Some.ensures.passes) (after (passed (heads.add_opens c.in-Some.operator) (heads.add_closes
+      c.in-Some.operator) c.in-Some.ensures.passes) c.in_err-operand.ensures.read));
+}
 
 pub expression::terms-returns : goal.expression::terms-returns
 expression::terms-returns t c = record { read = loops.ended c.loop-operator.invariant c.in_default.ensures.passes }
@@ -708,41 +1053,57 @@ expression::factors-loop-operator-init t c = rw c.new-more.ensures.items loops.l
 pub expression::factors-loop-operator-preserved : goal.expression::factors-loop-operator-preserved
 expression::factors-loop-operator-preserved t c = rw c.in_ok-push.ensures.items (loops.turned (lists.factors_spelled c.loop-operator.more.items
     (record { operator = c.in-Some.operator; operand = c.in_ok-operand.operand })) (lists.factors_numbered c.loop-operator.more.items (record {
-    operator = c.in-Some.operator; operand = c.in_ok-operand.operand })) c.loop-operator.invariant (heads.begins_mul c.in-Some.operator
+      operator = c.in-Some.operator;
+      operand = c.in_ok-operand.operand;
+    })) c.loop-operator.invariant (heads.begins_mul c.in-Some.operator
     c.in-Some.ensures.passes) (then (passed (heads.mul_opens c.in-Some.operator) (heads.mul_closes c.in-Some.operator) c.in-Some.ensures.passes)
     c.in_ok-operand.ensures.read))
 
 pub expression::factors-returns-in_err-operand : goal.expression::factors-returns-in_err-operand
-expression::factors-returns-in_err-operand t c = record { read = stopped _ _ _ _ c.from_residual.ensures.1 (loops.broken c.loop-operator.invariant
-    (heads.begins_mul c.in-Some.operator c.in-Some.ensures.passes) (after (passed (heads.mul_opens c.in-Some.operator) (heads.mul_closes
-    c.in-Some.operator) c.in-Some.ensures.passes) c.in_err-operand.ensures.read)) }
+expression::factors-returns-in_err-operand t c = record {
+  read = stopped _ _ _ _ c.from_residual.ensures.1 (loops.broken c.loop-operator.invariant
+      (heads.begins_mul c.in-Some.operator c.in-Some.ensures.passes) (after (passed (heads.mul_opens c.in-Some.operator) (heads.mul_closes
+      c.in-Some.operator) c.in-Some.ensures.passes) c.in_err-operand.ensures.read));
+}
 
 pub expression::factors-returns : goal.expression::factors-returns
 expression::factors-returns t c = record { read = loops.ended c.loop-operator.invariant c.in_default.ensures.passes }
 
 pub expression::factor-returns-in_err-primary : goal.expression::factor-returns-in_err-primary
-expression::factor-returns-in_err-primary t c = record { read = stopped _ _ _ _ c.from_residual.ensures.1 (becoming_fails (heads.begins_not
-    c.in-Some.ensures.passes) (after (passed refl refl c.in-Some.ensures.passes) (first c.in_err-primary.ensures.read))) }
+expression::factor-returns-in_err-primary t c = record {
+  read = stopped _ _ _ _ c.from_residual.ensures.1 (becoming_fails (heads.begins_not
+      c.in-Some.ensures.passes) (after (passed refl refl c.in-Some.ensures.passes) (first c.in_err-primary.ensures.read)));
+}
 
 pub expression::factor-returns-in_err-node : goal.expression::factor-returns-in_err-node
-expression::factor-returns-in_err-node t c = record { read = stopped _ _ _ _ c.from_residual-in_err-node.ensures.1 (want
-    c.in_err-node.ensures.counted) }
+expression::factor-returns-in_err-node t c = record {
+  read = stopped _ _ _ _ c.from_residual-in_err-node.ensures.1 (want
+      c.in_err-node.ensures.counted);
+}
 
 pub expression::factor-returns-in-Some : goal.expression::factor-returns-in-Some
-expression::factor-returns-in-Some t c = record { read = becoming (heads.begins_not c.in-Some.ensures.passes) (then (passed refl refl
-    c.in-Some.ensures.passes) (then c.in_ok-primary.ensures.read (counted c.in_ok-node.ensures.counted))) }
+expression::factor-returns-in-Some t c = record {
+  read = becoming (heads.begins_not c.in-Some.ensures.passes) (then (passed refl refl
+      c.in-Some.ensures.passes) (then c.in_ok-primary.ensures.read (counted c.in_ok-node.ensures.counted)));
+}
 
 pub expression::factor-returns-in_err-primary-2 : goal.expression::factor-returns-in_err-primary-2
-expression::factor-returns-in_err-primary-2 t c = record { read = stopped _ _ _ _ c.from_residual-in_err-primary-2.ensures.1 (becoming_fails
-    (heads.no_not _ c.in_default.ensures.passes) (first c.in_err-primary-2.ensures.read)) }
+expression::factor-returns-in_err-primary-2 t c = record {
+  read = stopped _ _ _ _ c.from_residual-in_err-primary-2.ensures.1 (becoming_fails
+      (heads.no_not _ c.in_default.ensures.passes) (first c.in_err-primary-2.ensures.read));
+}
 
 pub expression::factor-returns-in_err-node-2 : goal.expression::factor-returns-in_err-node-2
-expression::factor-returns-in_err-node-2 t c = record { read = stopped _ _ _ _ c.from_residual-in_err-node-2.ensures.1 (want
-    c.in_err-node-2.ensures.counted) }
+expression::factor-returns-in_err-node-2 t c = record {
+  read = stopped _ _ _ _ c.from_residual-in_err-node-2.ensures.1 (want
+      c.in_err-node-2.ensures.counted);
+}
 
 pub expression::factor-returns : goal.expression::factor-returns
-expression::factor-returns t c = record { read = becoming (heads.no_not _ c.in_default.ensures.passes) (then c.in_ok-primary-2.ensures.read (counted
-    c.in_ok-node-2.ensures.counted)) }
+expression::factor-returns t c = record {
+  read = becoming (heads.no_not _ c.in_default.ensures.passes) (then c.in_ok-primary-2.ensures.read (counted
+      c.in_ok-node-2.ensures.counted));
+}
 
 pub expression::simple-term-requires : goal.expression::simple-term-requires
 expression::simple-term-requires t c = (omega (arith, (c.sign-sign.ensures.read 0).shorter), tt)
@@ -754,24 +1115,34 @@ pub expression::exprs-returns-in_err-first : goal.expression::exprs-returns-in_e
 expression::exprs-returns-in_err-first t c = record { read = stopped _ _ _ _ c.from_residual.ensures.1 (first c.in_err-first.ensures.read) }
 
 pub expression::exprs-returns-in_err-more : goal.expression::exprs-returns-in_err-more
-expression::exprs-returns-in_err-more t c = record { read = stopped _ _ _ _ c.from_residual-in_err-more.ensures.1 (after c.in_ok-first.ensures.read
-    (first c.in_err-more.ensures.read)) }
+expression::exprs-returns-in_err-more t c = record {
+  read = stopped _ _ _ _ c.from_residual-in_err-more.ensures.1 (after c.in_ok-first.ensures.read
+      (first c.in_err-more.ensures.read));
+}
 
 pub expression::exprs-returns : goal.expression::exprs-returns
-expression::exprs-returns t c = record { read = same (ap spell_exprs (rows.exprs_rolled (record { first = c.in_ok-first-2.first; more =
-    c.in_ok-more.more }))) (numbers.exprs_rolled (record { first = c.in_ok-first-2.first; more = c.in_ok-more.more })) (then (replaced (λ v.
-    spell_expr (view_expr v)) number_expr c.in_ok-first-2.ensures.ok c.in_ok-first.ensures.read) c.in_ok-more.ensures.read) }
+expression::exprs-returns t c = record {
+  read = same (ap spell_exprs (rows.exprs_rolled (record {
+    first = c.in_ok-first-2.first;
+    more =
+        c.in_ok-more.more;
+  }))) (numbers.exprs_rolled (record { first = c.in_ok-first-2.first; more = c.in_ok-more.more })) (then (replaced (λ v.
+      spell_expr (view_expr v)) number_expr c.in_ok-first-2.ensures.ok c.in_ok-first.ensures.read) c.in_ok-more.ensures.read);
+}
 
 pub expression::named-returns-in_err-args : goal.expression::named-returns-in_err-args
 expression::named-returns-in_err-args t c = record { read = stopped _ _ _ _ c.from_residual.ensures.1 (first c.in_err-args.ensures.read) }
 
 pub expression::named-returns-in_err-node : goal.expression::named-returns-in_err-node
-expression::named-returns-in_err-node t c = record { read = stopped _ _ _ _ c.from_residual-in_err-node.ensures.1 (want c.in_err-node.ensures.counted)
-    }
+expression::named-returns-in_err-node t c = record {
+  read = stopped _ _ _ _ c.from_residual-in_err-node.ensures.1 (want c.in_err-node.ensures.counted);
+}
 
 pub expression::named-returns : goal.expression::named-returns
-expression::named-returns t c = record { read = extending (ap spell_primary (rows.named_laid c.in_ok-node.node c.args.desig c.in_ok-args.args))
-    (numbers.named_laid c.in_ok-node.node c.args.desig c.in_ok-args.args) (then c.in_ok-args.ensures.read (counted c.in_ok-node.ensures.counted)) }
+expression::named-returns t c = record {
+  read = extending (ap spell_primary (rows.named_laid c.in_ok-node.node c.args.desig c.in_ok-args.args))
+      (numbers.named_laid c.in_ok-node.node c.args.desig c.in_ok-args.args) (then c.in_ok-args.ensures.read (counted c.in_ok-node.ensures.counted));
+}
 
 pub expression::expr_list-loop-after-init : goal.expression::expr_list-loop-after-init
 expression::expr_list-loop-after-init t c = rw c.new-more.ensures.items loops.loops_start
@@ -782,65 +1153,89 @@ expression::expr_list-loop-after-preserved t c = rw c.in_ok-push.ensures.items (
     c.in-Some.ensures.passes) (then (passed refl refl c.in-Some.ensures.passes) c.in_ok-next.ensures.read))
 
 pub expression::expr_list-returns-in_err-next : goal.expression::expr_list-returns-in_err-next
-expression::expr_list-returns-in_err-next t c = record { read = stopped _ _ _ _ c.from_residual.ensures.1 (loops.broken c.loop-after.invariant
-    (heads.begins_exprs c.in-Some.ensures.passes) (after (passed refl refl c.in-Some.ensures.passes) c.in_err-next.ensures.read)) }
+expression::expr_list-returns-in_err-next t c = record {
+  read = stopped _ _ _ _ c.from_residual.ensures.1 (loops.broken c.loop-after.invariant
+      (heads.begins_exprs c.in-Some.ensures.passes) (after (passed refl refl c.in-Some.ensures.passes) c.in_err-next.ensures.read));
+}
 
 pub expression::expr_list-returns : goal.expression::expr_list-returns
 expression::expr_list-returns t c = record { read = loops.ended c.loop-after.invariant (heads.skips_exprs _ c.in_default.ensures.passes) }
 
 pub expression::args-returns-in_err-at : goal.expression::args-returns-in_err-at
-expression::args-returns-in_err-at t c = record { read = stopped _ _ _ _ c.from_residual.ensures.1 (becoming_fails (heads.at_args _ (sym
-    c.is_at.ensures.starts ∙ c.if-is_at.true)) (first c.in_err-at.ensures.opened)) }
+expression::args-returns-in_err-at t c = record {
+  read = stopped _ _ _ _ c.from_residual.ensures.1 (becoming_fails (heads.at_args _ (sym
+      c.is_at.ensures.starts ∙ c.if-is_at.true)) (first c.in_err-at.ensures.opened));
+}
 
 pub expression::args-returns-in_err-values : goal.expression::args-returns-in_err-values
-expression::args-returns-in_err-values t c = record { read = stopped _ _ _ _ c.from_residual-in_err-values.ensures.1 (becoming_fails (heads.at_args _
-    (sym c.is_at.ensures.starts ∙ c.if-is_at.true)) (after (opened refl c.in_ok-at.ensures.opened) (first c.in_err-values.ensures.read))) }
+expression::args-returns-in_err-values t c = record {
+  read = stopped _ _ _ _ c.from_residual-in_err-values.ensures.1 (becoming_fails (heads.at_args _
+      (sym c.is_at.ensures.starts ∙ c.if-is_at.true)) (after (opened refl c.in_ok-at.ensures.opened) (first c.in_err-values.ensures.read)));
+}
 
 pub expression::args-returns-then-is_at : goal.expression::args-returns-then-is_at
-expression::args-returns-then-is_at t c = record { read = becoming (heads.at_args _ (sym c.is_at.ensures.starts ∙ c.if-is_at.true)) (lists.args_made
-    c.in_ok-values.values (then (opened refl c.in_ok-at.ensures.opened) (shallower c.in_ok-at.ensures.opened c.in_ok-values.ensures.read))) }
+expression::args-returns-then-is_at t c = record {
+  read = becoming (heads.at_args _ (sym c.is_at.ensures.starts ∙ c.if-is_at.true)) (lists.args_made
+      c.in_ok-values.values (then (opened refl c.in_ok-at.ensures.opened) (shallower c.in_ok-at.ensures.opened c.in_ok-values.ensures.read)));
+}
 
 pub expression::args-returns : goal.expression::args-returns
 expression::args-returns t c = record { read = skipped (heads.skips_args _ (sym c.is_at.ensures.starts ∙ c.if-is_at.false)) }
 
 pub expression::primary-returns-in_err-primary_form : goal.expression::primary-returns-in_err-primary_form
-expression::primary-returns-in_err-primary_form t c = record { read = stopped _ _ _ _ c.from_residual.ensures.1 (c.in_err-primary_form.ensures.becomes
-    _) }
+expression::primary-returns-in_err-primary_form t c = record {
+  read = stopped _ _ _ _ c.from_residual.ensures.1 (c.in_err-primary_form.ensures.becomes
+      _);
+}
 
 pub expression::primary-returns-in-Number : goal.expression::primary-returns-in-Number
-expression::primary-returns-in-Number t c = record { read = instead_any c.number.result (λ v. spell_primary (view_primary v)) number_primary (λ o.
-    primary_part ∷ o) (λ o. one kinds.Number ∷ o) c.args.depth _ (rw c.in-Number.is at c.in_ok-primary_form.ensures.becomes) c.number.ensures.read }
+expression::primary-returns-in-Number t c = record {
+  read = instead_any c.number.result (λ v. spell_primary (view_primary v)) number_primary (λ o.
+      primary_part ∷ o) (λ o. one kinds.Number ∷ o) c.args.depth _ (rw c.in-Number.is at c.in_ok-primary_form.ensures.becomes) c.number.ensures.read;
+}
 
 pub expression::primary-returns-in-Literal : goal.expression::primary-returns-in-Literal
-expression::primary-returns-in-Literal t c = record { read = instead_any c.literal.result (λ v. spell_primary (view_primary v)) number_primary (λ o.
-    primary_part ∷ o) (λ o. one kinds.Literal ∷ o) c.args.depth _ (rw c.in-Literal.is at c.in_ok-primary_form.ensures.becomes) c.literal.ensures.read
-    }
+expression::primary-returns-in-Literal t c = record {
+  read = instead_any c.literal.result (λ v. spell_primary (view_primary v)) number_primary (λ o.
+      primary_part ∷ o) (λ o. one kinds.Literal ∷ o) c.args.depth _ (rw c.in-Literal.is at c.in_ok-primary_form.ensures.becomes) c.literal.ensures.read;
+}
 
 pub expression::primary-returns-in-Paren : goal.expression::primary-returns-in-Paren
-expression::primary-returns-in-Paren t c = record { read = instead c.paren.result (λ v. spell_primary (view_primary v)) number_primary (λ o.
-    primary_part ∷ o) forms.paren_parts c.args.depth _ (rw c.in-Paren.is at c.in_ok-primary_form.ensures.becomes) c.paren.ensures.read }
+expression::primary-returns-in-Paren t c = record {
+  read = instead c.paren.result (λ v. spell_primary (view_primary v)) number_primary (λ o.
+      primary_part ∷ o) forms.paren_parts c.args.depth _ (rw c.in-Paren.is at c.in_ok-primary_form.ensures.becomes) c.paren.ensures.read;
+}
 
 pub expression::primary-returns-in-Known : goal.expression::primary-returns-in-Known
-expression::primary-returns-in-Known t c = record { read = instead c.known.result (λ v. spell_primary (view_primary v)) number_primary (λ o.
-    primary_part ∷ o) forms.known_parts c.args.depth _ (rw c.in-Known.is at c.in_ok-primary_form.ensures.becomes) c.known.ensures.read }
+expression::primary-returns-in-Known t c = record {
+  read = instead c.known.result (λ v. spell_primary (view_primary v)) number_primary (λ o.
+      primary_part ∷ o) forms.known_parts c.args.depth _ (rw c.in-Known.is at c.in_ok-primary_form.ensures.becomes) c.known.ensures.read;
+}
 
 pub expression::primary-returns-in-Ord : goal.expression::primary-returns-in-Ord
-expression::primary-returns-in-Ord t c = record { read = instead c.ord.result (λ v. spell_primary (view_primary v)) number_primary (λ o. primary_part
-    ∷ o) forms.ord_parts c.args.depth _ (rw c.in-Ord.is at c.in_ok-primary_form.ensures.becomes) c.ord.ensures.read }
+expression::primary-returns-in-Ord t c = record {
+  read = instead c.ord.result (λ v. spell_primary (view_primary v)) number_primary (λ o. primary_part
+      ∷ o) forms.ord_parts c.args.depth _ (rw c.in-Ord.is at c.in_ok-primary_form.ensures.becomes) c.ord.ensures.read;
+}
 
 pub expression::primary-returns-in-Chr : goal.expression::primary-returns-in-Chr
-expression::primary-returns-in-Chr t c = record { read = instead c.chr.result (λ v. spell_primary (view_primary v)) number_primary (λ o. primary_part
-    ∷ o) forms.chr_parts c.args.depth _ (rw c.in-Chr.is at c.in_ok-primary_form.ensures.becomes) c.chr.ensures.read }
+expression::primary-returns-in-Chr t c = record {
+  read = instead c.chr.result (λ v. spell_primary (view_primary v)) number_primary (λ o. primary_part
+      ∷ o) forms.chr_parts c.args.depth _ (rw c.in-Chr.is at c.in_ok-primary_form.ensures.becomes) c.chr.ensures.read;
+}
 
 pub expression::primary-returns-in_err-desig-in-Desig : goal.expression::primary-returns-in_err-desig-in-Desig
-expression::primary-returns-in_err-desig-in-Desig t c = record { read = stopped _ _ _ _ c.from_residual-in_err-desig-in-Desig.ensures.1
-    (becoming_fails (rw c.in-Desig.is at c.in_ok-primary_form.ensures.becomes) (first c.in_err-desig-in-Desig.ensures.read)) }
+expression::primary-returns-in_err-desig-in-Desig t c = record {
+  read = stopped _ _ _ _ c.from_residual-in_err-desig-in-Desig.ensures.1
+      (becoming_fails (rw c.in-Desig.is at c.in_ok-primary_form.ensures.becomes) (first c.in_err-desig-in-Desig.ensures.read));
+}
 
 pub expression::primary-returns-in_ok-desig-in-Desig : goal.expression::primary-returns-in_ok-desig-in-Desig
-expression::primary-returns-in_ok-desig-in-Desig t c = record { read = instead c.named.result (λ v. spell_primary (view_primary v)) number_primary (λ
-    o. primary_part ∷ o) (λ o. desig_parts (args_part ∷ o)) c.args.depth _ (rw c.in-Desig.is at c.in_ok-primary_form.ensures.becomes) (extended
-    c.named.result (λ v. spell_primary (view_primary v)) number_primary (λ o. args_part ∷ o) c.in_ok-desig-in-Desig.ensures.read c.named.ensures.read)
-    }
+expression::primary-returns-in_ok-desig-in-Desig t c = record {
+  read = instead c.named.result (λ v. spell_primary (view_primary v)) number_primary (λ
+      o. primary_part ∷ o) (λ o. desig_parts (args_part ∷ o)) c.args.depth _ (rw c.in-Desig.is at c.in_ok-primary_form.ensures.becomes) (extended
+      c.named.result (λ v. spell_primary (view_primary v)) number_primary (λ o. args_part ∷ o) c.in_ok-desig-in-Desig.ensures.read c.named.ensures.read);
+}
 
 pub expression::paren-open-requires : goal.expression::paren-open-requires
 expression::paren-open-requires t c = record { opening = refl }
@@ -861,17 +1256,23 @@ pub statement::writeln_stmt-returns-in_err-at : goal.statement::writeln_stmt-ret
 statement::writeln_stmt-returns-in_err-at t c = record { read = stopped _ _ _ _ c.from_residual.ensures.1 (first (c.in_err-at.ensures.passes _)) }
 
 pub statement::writeln_stmt-returns-in_err-items : goal.statement::writeln_stmt-returns-in_err-items
-statement::writeln_stmt-returns-in_err-items t c = record { read = stopped _ _ _ _ c.from_residual-in_err-items.ensures.1 (after (passed refl refl
-    c.in_ok-at.ensures.passes) (first c.in_err-items.ensures.read)) }
+statement::writeln_stmt-returns-in_err-items t c = record {
+  read = stopped _ _ _ _ c.from_residual-in_err-items.ensures.1 (after (passed refl refl
+      c.in_ok-at.ensures.passes) (first c.in_err-items.ensures.read));
+}
 
 pub statement::writeln_stmt-returns-in_err-node : goal.statement::writeln_stmt-returns-in_err-node
-statement::writeln_stmt-returns-in_err-node t c = record { read = stopped _ _ _ _ c.from_residual-in_err-node.ensures.1 (want
-    c.in_err-node.ensures.counted) }
+statement::writeln_stmt-returns-in_err-node t c = record {
+  read = stopped _ _ _ _ c.from_residual-in_err-node.ensures.1 (want
+      c.in_err-node.ensures.counted);
+}
 
 pub statement::writeln_stmt-returns : goal.statement::writeln_stmt-returns
-statement::writeln_stmt-returns t c = record { read = same (ap spell_stmt (rows.writeln_laid c.in_ok-node.node c.in_ok-items.items))
-    (numbers.writeln_laid c.in_ok-node.node c.in_ok-items.items) (then (passed refl refl c.in_ok-at.ensures.passes) (then c.in_ok-items.ensures.read
-    (counted c.in_ok-node.ensures.counted))) }
+statement::writeln_stmt-returns t c = record {
+  read = same (ap spell_stmt (rows.writeln_laid c.in_ok-node.node c.in_ok-items.items))
+      (numbers.writeln_laid c.in_ok-node.node c.in_ok-items.items) (then (passed refl refl c.in_ok-at.ensures.passes) (then c.in_ok-items.ensures.read
+      (counted c.in_ok-node.ensures.counted)));
+}
 
 pub statement::desig_list-loop-after-init : goal.statement::desig_list-loop-after-init
 statement::desig_list-loop-after-init t c = rw c.new-more.ensures.items loops.loops_start
@@ -882,8 +1283,10 @@ statement::desig_list-loop-after-preserved t c = rw c.in_ok-push.ensures.items (
     c.in-Some.ensures.passes) (then (passed refl refl c.in-Some.ensures.passes) c.in_ok-next.ensures.read))
 
 pub statement::desig_list-returns-in_err-next : goal.statement::desig_list-returns-in_err-next
-statement::desig_list-returns-in_err-next t c = record { read = stopped _ _ _ _ c.from_residual.ensures.1 (loops.broken c.loop-after.invariant
-    (heads.begins_desigs c.in-Some.ensures.passes) (after (passed refl refl c.in-Some.ensures.passes) c.in_err-next.ensures.read)) }
+statement::desig_list-returns-in_err-next t c = record {
+  read = stopped _ _ _ _ c.from_residual.ensures.1 (loops.broken c.loop-after.invariant
+      (heads.begins_desigs c.in-Some.ensures.passes) (after (passed refl refl c.in-Some.ensures.passes) c.in_err-next.ensures.read));
+}
 
 pub statement::desig_list-returns : goal.statement::desig_list-returns
 statement::desig_list-returns t c = record { read = loops.ended c.loop-after.invariant (heads.skips_desigs _ c.in_default.ensures.passes) }
@@ -897,8 +1300,10 @@ expression::selectors-loop-form-preserved t c = rw c.in_ok-push.ensures.items (l
     c.in_ok-next.ensures.read)
 
 pub expression::selectors-returns-in_err-next : goal.expression::selectors-returns-in_err-next
-expression::selectors-returns-in_err-next t c = record { read = stopped _ _ _ _ c.from_residual.ensures.1 (loops.broken c.loop-form.invariant
-    c.in-Some.ensures.becomes c.in_err-next.ensures.read) }
+expression::selectors-returns-in_err-next t c = record {
+  read = stopped _ _ _ _ c.from_residual.ensures.1 (loops.broken c.loop-form.invariant
+      c.in-Some.ensures.becomes c.in_err-next.ensures.read);
+}
 
 pub expression::selectors-returns : goal.expression::selectors-returns
 expression::selectors-returns t c = record { read = loops.ended c.loop-form.invariant c.in_default.ensures.becomes }
@@ -911,12 +1316,16 @@ pub expression::selector-returns-in-Index-clause-read : goal.expression::selecto
 expression::selector-returns-in-Index-clause-read t c = rw c.in-Index.is c.index.ensures.read
 
 pub statement::returned-returns-in_err-value : goal.statement::returned-returns-in_err-value
-statement::returned-returns-in_err-value t c = record { read = stopped _ _ _ _ c.from_residual.ensures.1 (becoming_fails (rw c.if-begins_expr.true at
-    c.begins_expr.ensures.value) (first c.in_err-value.ensures.read)) }
+statement::returned-returns-in_err-value t c = record {
+  read = stopped _ _ _ _ c.from_residual.ensures.1 (becoming_fails (rw c.if-begins_expr.true at
+      c.begins_expr.ensures.value) (first c.in_err-value.ensures.read));
+}
 
 pub statement::returned-returns-then-begins_expr : goal.statement::returned-returns-then-begins_expr
-statement::returned-returns-then-begins_expr t c = record { read = becoming (rw c.if-begins_expr.true at c.begins_expr.ensures.value)
-    c.in_ok-value.ensures.read }
+statement::returned-returns-then-begins_expr t c = record {
+  read = becoming (rw c.if-begins_expr.true at c.begins_expr.ensures.value)
+      c.in_ok-value.ensures.read;
+}
 
 pub statement::returned-returns : goal.statement::returned-returns
 statement::returned-returns t c = record { read = skipped (rw c.if-begins_expr.false at c.begins_expr.ensures.value) }
@@ -942,97 +1351,139 @@ statement::stmt_list-loop-after-preserved t c = rw c.in_ok-push.ensures.items (l
     c.in-Some.ensures.passes) (then (passed refl refl c.in-Some.ensures.passes) c.in_ok-next.ensures.read))
 
 pub statement::stmt_list-returns-in_err-next : goal.statement::stmt_list-returns-in_err-next
-statement::stmt_list-returns-in_err-next t c = record { read = stopped _ _ _ _ c.from_residual.ensures.1 (loops.broken c.loop-after.invariant
-    (heads.begins_stmts c.in-Some.ensures.passes) (after (passed refl refl c.in-Some.ensures.passes) c.in_err-next.ensures.read)) }
+statement::stmt_list-returns-in_err-next t c = record {
+  read = stopped _ _ _ _ c.from_residual.ensures.1 (loops.broken c.loop-after.invariant
+      (heads.begins_stmts c.in-Some.ensures.passes) (after (passed refl refl c.in-Some.ensures.passes) c.in_err-next.ensures.read));
+}
 
 pub statement::stmt_list-returns : goal.statement::stmt_list-returns
 statement::stmt_list-returns t c = record { read = loops.ended c.loop-after.invariant (heads.skips_stmts _ c.in_default.ensures.passes) }
 
 pub statement::stmt-returns-in-Nothing : goal.statement::stmt-returns-in-Nothing
-statement::stmt-returns-in-Nothing t c = record { read = instead_any c.nothing.result (λ v. spell_stmt (view_stmt v)) number_stmt (λ o. stmt_part ∷ o)
-    (λ o. o) c.args.depth _ (rw c.in-Nothing.is at c.stmt_form.ensures.becomes) c.nothing.ensures.read }
+statement::stmt-returns-in-Nothing t c = record {
+  read = instead_any c.nothing.result (λ v. spell_stmt (view_stmt v)) number_stmt (λ o. stmt_part ∷ o)
+      (λ o. o) c.args.depth _ (rw c.in-Nothing.is at c.stmt_form.ensures.becomes) c.nothing.ensures.read;
+}
 
 pub statement::stmt-returns-in-Desig : goal.statement::stmt-returns-in-Desig
-statement::stmt-returns-in-Desig t c = record { read = instead c.desig_stmt.result (λ v. spell_stmt (view_stmt v)) number_stmt (λ o. stmt_part ∷ o)
-    forms.desig_stmt_parts c.args.depth _ (rw c.in-Desig.is at c.stmt_form.ensures.becomes) c.desig_stmt.ensures.read }
+statement::stmt-returns-in-Desig t c = record {
+  read = instead c.desig_stmt.result (λ v. spell_stmt (view_stmt v)) number_stmt (λ o. stmt_part ∷ o)
+      forms.desig_stmt_parts c.args.depth _ (rw c.in-Desig.is at c.stmt_form.ensures.becomes) c.desig_stmt.ensures.read;
+}
 
 pub statement::stmt-returns-in-Value : goal.statement::stmt-returns-in-Value
-statement::stmt-returns-in-Value t c = record { read = instead c.value_stmt.result (λ v. spell_stmt (view_stmt v)) number_stmt (λ o. stmt_part ∷ o)
-    expr_parts c.args.depth _ (rw c.in-Value.is at c.stmt_form.ensures.becomes) c.value_stmt.ensures.read }
+statement::stmt-returns-in-Value t c = record {
+  read = instead c.value_stmt.result (λ v. spell_stmt (view_stmt v)) number_stmt (λ o. stmt_part ∷ o)
+      expr_parts c.args.depth _ (rw c.in-Value.is at c.stmt_form.ensures.becomes) c.value_stmt.ensures.read;
+}
 
 pub statement::stmt-returns-in-If : goal.statement::stmt-returns-in-If
-statement::stmt-returns-in-If t c = record { read = instead c.if_stmt.result (λ v. spell_stmt (view_stmt v)) number_stmt (λ o. stmt_part ∷ o)
-    forms.if_parts c.args.depth _ (rw c.in-If.is at c.stmt_form.ensures.becomes) c.if_stmt.ensures.read }
+statement::stmt-returns-in-If t c = record {
+  read = instead c.if_stmt.result (λ v. spell_stmt (view_stmt v)) number_stmt (λ o. stmt_part ∷ o)
+      forms.if_parts c.args.depth _ (rw c.in-If.is at c.stmt_form.ensures.becomes) c.if_stmt.ensures.read;
+}
 
 pub statement::stmt-returns-in-While : goal.statement::stmt-returns-in-While
-statement::stmt-returns-in-While t c = record { read = instead c.while_stmt.result (λ v. spell_stmt (view_stmt v)) number_stmt (λ o. stmt_part ∷ o)
-    forms.while_parts c.args.depth _ (rw c.in-While.is at c.stmt_form.ensures.becomes) c.while_stmt.ensures.read }
+statement::stmt-returns-in-While t c = record {
+  read = instead c.while_stmt.result (λ v. spell_stmt (view_stmt v)) number_stmt (λ o. stmt_part ∷ o)
+      forms.while_parts c.args.depth _ (rw c.in-While.is at c.stmt_form.ensures.becomes) c.while_stmt.ensures.read;
+}
 
 pub statement::stmt-returns-in-Repeat : goal.statement::stmt-returns-in-Repeat
-statement::stmt-returns-in-Repeat t c = record { read = instead c.repeat_stmt.result (λ v. spell_stmt (view_stmt v)) number_stmt (λ o. stmt_part ∷ o)
-    forms.repeat_parts c.args.depth _ (rw c.in-Repeat.is at c.stmt_form.ensures.becomes) c.repeat_stmt.ensures.read }
+statement::stmt-returns-in-Repeat t c = record {
+  read = instead c.repeat_stmt.result (λ v. spell_stmt (view_stmt v)) number_stmt (λ o. stmt_part ∷ o)
+      forms.repeat_parts c.args.depth _ (rw c.in-Repeat.is at c.stmt_form.ensures.becomes) c.repeat_stmt.ensures.read;
+}
 
 pub statement::stmt-returns-in-For : goal.statement::stmt-returns-in-For
-statement::stmt-returns-in-For t c = record { read = instead c.for_stmt.result (λ v. spell_stmt (view_stmt v)) number_stmt (λ o. stmt_part ∷ o)
-    forms.for_parts c.args.depth _ (rw c.in-For.is at c.stmt_form.ensures.becomes) c.for_stmt.ensures.read }
+statement::stmt-returns-in-For t c = record {
+  read = instead c.for_stmt.result (λ v. spell_stmt (view_stmt v)) number_stmt (λ o. stmt_part ∷ o)
+      forms.for_parts c.args.depth _ (rw c.in-For.is at c.stmt_form.ensures.becomes) c.for_stmt.ensures.read;
+}
 
 pub statement::stmt-returns-in-Some : goal.statement::stmt-returns-in-Some
-statement::stmt-returns-in-Some t c = record { read = instead c.some_stmt.result (λ v. spell_stmt (view_stmt v)) number_stmt (λ o. stmt_part ∷ o)
-    forms.some_parts c.args.depth _ (rw c.in-Some.is at c.stmt_form.ensures.becomes) c.some_stmt.ensures.read }
+statement::stmt-returns-in-Some t c = record {
+  read = instead c.some_stmt.result (λ v. spell_stmt (view_stmt v)) number_stmt (λ o. stmt_part ∷ o)
+      forms.some_parts c.args.depth _ (rw c.in-Some.is at c.stmt_form.ensures.becomes) c.some_stmt.ensures.read;
+}
 
 pub statement::stmt-returns-in-Case : goal.statement::stmt-returns-in-Case
-statement::stmt-returns-in-Case t c = record { read = instead c.case_stmt.result (λ v. spell_stmt (view_stmt v)) number_stmt (λ o. stmt_part ∷ o)
-    forms.case_parts c.args.depth _ (rw c.in-Case.is at c.stmt_form.ensures.becomes) c.case_stmt.ensures.read }
+statement::stmt-returns-in-Case t c = record {
+  read = instead c.case_stmt.result (λ v. spell_stmt (view_stmt v)) number_stmt (λ o. stmt_part ∷ o)
+      forms.case_parts c.args.depth _ (rw c.in-Case.is at c.stmt_form.ensures.becomes) c.case_stmt.ensures.read;
+}
 
 pub statement::stmt-returns-in-Either : goal.statement::stmt-returns-in-Either
-statement::stmt-returns-in-Either t c = record { read = instead c.either_stmt.result (λ v. spell_stmt (view_stmt v)) number_stmt (λ o. stmt_part ∷ o)
-    forms.either_parts c.args.depth _ (rw c.in-Either.is at c.stmt_form.ensures.becomes) c.either_stmt.ensures.read }
+statement::stmt-returns-in-Either t c = record {
+  read = instead c.either_stmt.result (λ v. spell_stmt (view_stmt v)) number_stmt (λ o. stmt_part ∷ o)
+      forms.either_parts c.args.depth _ (rw c.in-Either.is at c.stmt_form.ensures.becomes) c.either_stmt.ensures.read;
+}
 
 pub statement::stmt-returns-in-Forall : goal.statement::stmt-returns-in-Forall
-statement::stmt-returns-in-Forall t c = record { read = instead c.forall_stmt.result (λ v. spell_stmt (view_stmt v)) number_stmt (λ o. stmt_part ∷ o)
-    forms.forall_parts c.args.depth _ (rw c.in-Forall.is at c.stmt_form.ensures.becomes) c.forall_stmt.ensures.read }
+statement::stmt-returns-in-Forall t c = record {
+  read = instead c.forall_stmt.result (λ v. spell_stmt (view_stmt v)) number_stmt (λ o. stmt_part ∷ o)
+      forms.forall_parts c.args.depth _ (rw c.in-Forall.is at c.stmt_form.ensures.becomes) c.forall_stmt.ensures.read;
+}
 
 pub statement::stmt-returns-in-Commit : goal.statement::stmt-returns-in-Commit
-statement::stmt-returns-in-Commit t c = record { read = instead c.commit_stmt.result (λ v. spell_stmt (view_stmt v)) number_stmt (λ o. stmt_part ∷ o)
-    forms.commit_parts c.args.depth _ (rw c.in-Commit.is at c.stmt_form.ensures.becomes) c.commit_stmt.ensures.read }
+statement::stmt-returns-in-Commit t c = record {
+  read = instead c.commit_stmt.result (λ v. spell_stmt (view_stmt v)) number_stmt (λ o. stmt_part ∷ o)
+      forms.commit_parts c.args.depth _ (rw c.in-Commit.is at c.stmt_form.ensures.becomes) c.commit_stmt.ensures.read;
+}
 
 pub statement::stmt-returns-in-Return : goal.statement::stmt-returns-in-Return
-statement::stmt-returns-in-Return t c = record { read = instead c.return_stmt.result (λ v. spell_stmt (view_stmt v)) number_stmt (λ o. stmt_part ∷ o)
-    forms.return_parts c.args.depth _ (rw c.in-Return.is at c.stmt_form.ensures.becomes) c.return_stmt.ensures.read }
+statement::stmt-returns-in-Return t c = record {
+  read = instead c.return_stmt.result (λ v. spell_stmt (view_stmt v)) number_stmt (λ o. stmt_part ∷ o)
+      forms.return_parts c.args.depth _ (rw c.in-Return.is at c.stmt_form.ensures.becomes) c.return_stmt.ensures.read;
+}
 
 pub statement::stmt-returns-in-Read : goal.statement::stmt-returns-in-Read
-statement::stmt-returns-in-Read t c = record { read = instead c.read_stmt.result (λ v. spell_stmt (view_stmt v)) number_stmt (λ o. stmt_part ∷ o)
-    forms.read_parts c.args.depth _ (rw c.in-Read.is at c.stmt_form.ensures.becomes) c.read_stmt.ensures.read }
+statement::stmt-returns-in-Read t c = record {
+  read = instead c.read_stmt.result (λ v. spell_stmt (view_stmt v)) number_stmt (λ o. stmt_part ∷ o)
+      forms.read_parts c.args.depth _ (rw c.in-Read.is at c.stmt_form.ensures.becomes) c.read_stmt.ensures.read;
+}
 
 pub statement::stmt-returns-in-Write : goal.statement::stmt-returns-in-Write
-statement::stmt-returns-in-Write t c = record { read = instead c.write_stmt.result (λ v. spell_stmt (view_stmt v)) number_stmt (λ o. stmt_part ∷ o)
-    forms.write_parts c.args.depth _ (rw c.in-Write.is at c.stmt_form.ensures.becomes) c.write_stmt.ensures.read }
+statement::stmt-returns-in-Write t c = record {
+  read = instead c.write_stmt.result (λ v. spell_stmt (view_stmt v)) number_stmt (λ o. stmt_part ∷ o)
+      forms.write_parts c.args.depth _ (rw c.in-Write.is at c.stmt_form.ensures.becomes) c.write_stmt.ensures.read;
+}
 
 pub statement::stmt-returns-in-Writeln : goal.statement::stmt-returns-in-Writeln
-statement::stmt-returns-in-Writeln t c = record { read = instead c.writeln_stmt.result (λ v. spell_stmt (view_stmt v)) number_stmt (λ o. stmt_part ∷
-    o) forms.writeln_parts c.args.depth _ (rw c.in-Writeln.is at c.stmt_form.ensures.becomes) c.writeln_stmt.ensures.read }
+statement::stmt-returns-in-Writeln t c = record {
+  read = instead c.writeln_stmt.result (λ v. spell_stmt (view_stmt v)) number_stmt (λ o. stmt_part ∷
+      o) forms.writeln_parts c.args.depth _ (rw c.in-Writeln.is at c.stmt_form.ensures.becomes) c.writeln_stmt.ensures.read;
+}
 
 pub statement::desig_stmt-returns-in_err-desig : goal.statement::desig_stmt-returns-in_err-desig
 statement::desig_stmt-returns-in_err-desig t c = record { read = stopped _ _ _ _ c.from_residual.ensures.1 (first c.in_err-desig.ensures.read) }
 
 pub statement::desig_stmt-returns-then-is_at : goal.statement::desig_stmt-returns-then-is_at
-statement::desig_stmt-returns-then-is_at t c = record { read = extended c.assign.result (λ v. spell_stmt (view_stmt v)) number_stmt (λ o. after_desig
-    ∷ o) c.in_ok-desig.ensures.read (instead_extending c.assign.result (λ v. spell_stmt (view_stmt v)) number_stmt (λ o. after_desig ∷ o) (λ o. one
-    kinds.Assign ∷ expr_parts o) c.args.depth _ (spell_desig (view_desig c.in_ok-desig.desig)) (number_desig c.in_ok-desig.desig) (heads.at_assign _
-    (sym c.is_at.ensures.starts ∙ c.if-is_at.true)) c.assign.ensures.read) }
+statement::desig_stmt-returns-then-is_at t c = record {
+  read = extended c.assign.result (λ v. spell_stmt (view_stmt v)) number_stmt (λ o. after_desig
+      ∷ o) c.in_ok-desig.ensures.read (instead_extending c.assign.result (λ v. spell_stmt (view_stmt v)) number_stmt (λ o. after_desig ∷ o) (λ o. one
+      kinds.Assign ∷ expr_parts o) c.args.depth _ (spell_desig (view_desig c.in_ok-desig.desig)) (number_desig c.in_ok-desig.desig) (heads.at_assign _
+      (sym c.is_at.ensures.starts ∙ c.if-is_at.true)) c.assign.ensures.read);
+}
 
 pub statement::desig_stmt-returns-in_err-value : goal.statement::desig_stmt-returns-in_err-value
-statement::desig_stmt-returns-in_err-value t c = record { read = stopped _ _ _ _ c.from_residual-in_err-value.ensures.1 (after
-    c.in_ok-desig.ensures.read (becoming_fails (heads.no_assign _ (sym c.is_at.ensures.starts ∙ c.if-is_at.false)) (first
-    c.in_err-value.ensures.read))) }
+statement::desig_stmt-returns-in_err-value t c = record {
+  read = stopped _ _ _ _ c.from_residual-in_err-value.ensures.1 (after
+      c.in_ok-desig.ensures.read (becoming_fails (heads.no_assign _ (sym c.is_at.ensures.starts ∙ c.if-is_at.false)) (first
+      c.in_err-value.ensures.read)));
+}
 
 pub statement::desig_stmt-returns-in_err-node : goal.statement::desig_stmt-returns-in_err-node
-statement::desig_stmt-returns-in_err-node t c = record { read = stopped _ _ _ _ c.from_residual-in_err-node.ensures.1 (want
-    c.in_err-node.ensures.counted) }
+statement::desig_stmt-returns-in_err-node t c = record {
+  read = stopped _ _ _ _ c.from_residual-in_err-node.ensures.1 (want
+      c.in_err-node.ensures.counted);
+}
 
 pub statement::desig_stmt-returns : goal.statement::desig_stmt-returns
-statement::desig_stmt-returns t c = record { read = then (extended_by (heads.no_assign _ (sym c.is_at.ensures.starts ∙ c.if-is_at.false))
-    c.in_ok-desig.ensures.read c.in_ok-value.ensures.read) (counted c.in_ok-node.ensures.counted) }
+statement::desig_stmt-returns t c = record {
+  read = then (extended_by (heads.no_assign _ (sym c.is_at.ensures.starts ∙ c.if-is_at.false))
+      c.in_ok-desig.ensures.read c.in_ok-value.ensures.read) (counted c.in_ok-node.ensures.counted);
+}
 
 pub statement::arm_list-loop-after-init : goal.statement::arm_list-loop-after-init
 statement::arm_list-loop-after-init t c = rw c.new-more.ensures.items loops.loops_start
@@ -1043,8 +1494,10 @@ statement::arm_list-loop-after-preserved t c = rw c.in_ok-push.ensures.items (lo
     c.in-Some.ensures.passes) (then (passed refl refl c.in-Some.ensures.passes) c.in_ok-next.ensures.read))
 
 pub statement::arm_list-returns-in_err-next : goal.statement::arm_list-returns-in_err-next
-statement::arm_list-returns-in_err-next t c = record { read = stopped _ _ _ _ c.from_residual.ensures.1 (loops.broken c.loop-after.invariant
-    (heads.begins_arms c.in-Some.ensures.passes) (after (passed refl refl c.in-Some.ensures.passes) c.in_err-next.ensures.read)) }
+statement::arm_list-returns-in_err-next t c = record {
+  read = stopped _ _ _ _ c.from_residual.ensures.1 (loops.broken c.loop-after.invariant
+      (heads.begins_arms c.in-Some.ensures.passes) (after (passed refl refl c.in-Some.ensures.passes) c.in_err-next.ensures.read));
+}
 
 pub statement::arm_list-returns : goal.statement::arm_list-returns
 statement::arm_list-returns t c = record { read = loops.ended c.loop-after.invariant (heads.skips_arms _ c.in_default.ensures.passes) }
@@ -1058,8 +1511,10 @@ statement::label_list-loop-after-preserved t c = rw c.in_ok-push.ensures.items (
     c.in-Some.ensures.passes) (then (passed refl refl c.in-Some.ensures.passes) c.in_ok-next.ensures.read))
 
 pub statement::label_list-returns-in_err-next : goal.statement::label_list-returns-in_err-next
-statement::label_list-returns-in_err-next t c = record { read = stopped _ _ _ _ c.from_residual.ensures.1 (loops.broken c.loop-after.invariant
-    (heads.begins_labels c.in-Some.ensures.passes) (after (passed refl refl c.in-Some.ensures.passes) c.in_err-next.ensures.read)) }
+statement::label_list-returns-in_err-next t c = record {
+  read = stopped _ _ _ _ c.from_residual.ensures.1 (loops.broken c.loop-after.invariant
+      (heads.begins_labels c.in-Some.ensures.passes) (after (passed refl refl c.in-Some.ensures.passes) c.in_err-next.ensures.read));
+}
 
 pub statement::label_list-returns : goal.statement::label_list-returns
 statement::label_list-returns t c = record { read = loops.ended c.loop-after.invariant (heads.skips_labels _ c.in_default.ensures.passes) }
@@ -1069,24 +1524,33 @@ statement::elsif_list-loop-after-init t c = rw c.new-more.ensures.items loops.lo
 
 pub statement::elsif_list-loop-after-preserved : goal.statement::elsif_list-loop-after-preserved
 statement::elsif_list-loop-after-preserved t c = rw c.in_ok-push.ensures.items (loops.turned (lists.elsifs_spelled_rolled c.loop-after.more.items
-    (record { test = c.in_ok-test.test; then = c.in_ok-then.then })) (lists.elsifs_numbered_rolled c.loop-after.more.items (record { test =
-    c.in_ok-test.test; then = c.in_ok-then.then })) c.loop-after.invariant (heads.begins_elsifs c.in-Some.ensures.passes) (then (passed refl refl
+    (record { test = c.in_ok-test.test; then = c.in_ok-then.then })) (lists.elsifs_numbered_rolled c.loop-after.more.items (record {
+      test =
+          c.in_ok-test.test;
+      then = c.in_ok-then.then;
+    })) c.loop-after.invariant (heads.begins_elsifs c.in-Some.ensures.passes) (then (passed refl refl
     c.in-Some.ensures.passes) (then c.in_ok-test.ensures.read (then (passed refl refl c.in_ok-after.ensures.passes) c.in_ok-then.ensures.read))))
 
 pub statement::elsif_list-returns-in_err-test : goal.statement::elsif_list-returns-in_err-test
-statement::elsif_list-returns-in_err-test t c = record { read = stopped _ _ _ _ c.from_residual.ensures.1 (loops.broken c.loop-after.invariant
-    (heads.begins_elsifs c.in-Some.ensures.passes) (after (passed refl refl c.in-Some.ensures.passes) (first {q = λ o. one kinds.Then ∷ stmts_parts o}
-    c.in_err-test.ensures.read))) }
+statement::elsif_list-returns-in_err-test t c = record {
+  read = stopped _ _ _ _ c.from_residual.ensures.1 (loops.broken c.loop-after.invariant
+      (heads.begins_elsifs c.in-Some.ensures.passes) (after (passed refl refl c.in-Some.ensures.passes) (first {q = λ o. one kinds.Then ∷ stmts_parts o}
+      c.in_err-test.ensures.read)));
+}
 
 pub statement::elsif_list-returns-in_err-after : goal.statement::elsif_list-returns-in_err-after
-statement::elsif_list-returns-in_err-after t c = record { read = stopped _ _ _ _ c.from_residual-in_err-after.ensures.1 (loops.broken
-    c.loop-after.invariant (heads.begins_elsifs c.in-Some.ensures.passes) (after (passed refl refl c.in-Some.ensures.passes) (after
-    c.in_ok-test.ensures.read (first {q = stmts_parts} (c.in_err-after.ensures.passes _))))) }
+statement::elsif_list-returns-in_err-after t c = record {
+  read = stopped _ _ _ _ c.from_residual-in_err-after.ensures.1 (loops.broken
+      c.loop-after.invariant (heads.begins_elsifs c.in-Some.ensures.passes) (after (passed refl refl c.in-Some.ensures.passes) (after
+      c.in_ok-test.ensures.read (first {q = stmts_parts} (c.in_err-after.ensures.passes _)))));
+}
 
 pub statement::elsif_list-returns-in_err-then : goal.statement::elsif_list-returns-in_err-then
-statement::elsif_list-returns-in_err-then t c = record { read = stopped _ _ _ _ c.from_residual-in_err-then.ensures.1 (loops.broken
-    c.loop-after.invariant (heads.begins_elsifs c.in-Some.ensures.passes) (after (passed refl refl c.in-Some.ensures.passes) (after
-    c.in_ok-test.ensures.read (after (passed refl refl c.in_ok-after.ensures.passes) c.in_err-then.ensures.read)))) }
+statement::elsif_list-returns-in_err-then t c = record {
+  read = stopped _ _ _ _ c.from_residual-in_err-then.ensures.1 (loops.broken
+      c.loop-after.invariant (heads.begins_elsifs c.in-Some.ensures.passes) (after (passed refl refl c.in-Some.ensures.passes) (after
+      c.in_ok-test.ensures.read (after (passed refl refl c.in_ok-after.ensures.passes) c.in_err-then.ensures.read))));
+}
 
 pub statement::elsif_list-returns : goal.statement::elsif_list-returns
 statement::elsif_list-returns t c = record { read = loops.ended c.loop-after.invariant (heads.skips_elsifs _ c.in_default.ensures.passes) }
@@ -1095,34 +1559,45 @@ pub statement::otherwise-returns-in_default : goal.statement::otherwise-returns-
 statement::otherwise-returns-in_default t c = record { read = skipped (heads.skips_else _ c.in_default.ensures.passes) }
 
 pub statement::otherwise-returns-in_err-value : goal.statement::otherwise-returns-in_err-value
-statement::otherwise-returns-in_err-value t c = record { read = stopped _ _ _ _ c.from_residual.ensures.1 (becoming_fails (heads.begins_else
-    c.in-Some.ensures.passes) (after (passed refl refl c.in-Some.ensures.passes) (first c.in_err-value.ensures.read))) }
+statement::otherwise-returns-in_err-value t c = record {
+  read = stopped _ _ _ _ c.from_residual.ensures.1 (becoming_fails (heads.begins_else
+      c.in-Some.ensures.passes) (after (passed refl refl c.in-Some.ensures.passes) (first c.in_err-value.ensures.read)));
+}
 
 pub statement::otherwise-returns : goal.statement::otherwise-returns
-statement::otherwise-returns t c = record { read = becoming (heads.begins_else c.in-Some.ensures.passes) (then (passed refl refl
-    c.in-Some.ensures.passes) c.in_ok-value.ensures.read) }
+statement::otherwise-returns t c = record {
+  read = becoming (heads.begins_else c.in-Some.ensures.passes) (then (passed refl refl
+      c.in-Some.ensures.passes) c.in_ok-value.ensures.read);
+}
 
 pub statement::high-returns-in_default : goal.statement::high-returns-in_default
 statement::high-returns-in_default t c = record { read = skipped (heads.skips_high _ c.in_default.ensures.passes) }
 
 pub statement::high-returns-in_err-value : goal.statement::high-returns-in_err-value
-statement::high-returns-in_err-value t c = record { read = stopped _ _ _ _ c.from_residual.ensures.1 (becoming_fails (heads.begins_high
-    c.in-Some.ensures.passes) (after (passed refl refl c.in-Some.ensures.passes) (first c.in_err-value.ensures.read))) }
+statement::high-returns-in_err-value t c = record {
+  read = stopped _ _ _ _ c.from_residual.ensures.1 (becoming_fails (heads.begins_high
+      c.in-Some.ensures.passes) (after (passed refl refl c.in-Some.ensures.passes) (first c.in_err-value.ensures.read)));
+}
 
 pub statement::high-returns : goal.statement::high-returns
-statement::high-returns t c = record { read = becoming (heads.begins_high c.in-Some.ensures.passes) (then (passed refl refl c.in-Some.ensures.passes)
-    c.in_ok-value.ensures.read) }
+statement::high-returns t c = record {
+  read = becoming (heads.begins_high c.in-Some.ensures.passes) (then (passed refl refl c.in-Some.ensures.passes)
+      c.in_ok-value.ensures.read);
+}
 
 pub statement::arm-returns-then-begins_expr : goal.statement::arm-returns-then-begins_expr
-statement::arm-returns-then-begins_expr t c = record { read = instead c.labelled_arm.result (λ v. spell_arm (view_arm v)) number_arm (λ o. arm_part ∷
-    o) forms.labelled_parts c.args.depth _ (rw c.if-begins_expr.true at c.begins_expr.ensures.arm) c.labelled_arm.ensures.read }
+statement::arm-returns-then-begins_expr t c = record {
+  read = instead c.labelled_arm.result (λ v. spell_arm (view_arm v)) number_arm (λ o. arm_part ∷
+      o) forms.labelled_parts c.args.depth _ (rw c.if-begins_expr.true at c.begins_expr.ensures.arm) c.labelled_arm.ensures.read;
+}
 
 pub statement::arm-returns-in_err-node : goal.statement::arm-returns-in_err-node
 statement::arm-returns-in_err-node t c = record { read = stopped _ _ _ _ c.from_residual.ensures.1 (want c.in_err-node.ensures.counted) }
 
 pub statement::arm-returns : goal.statement::arm-returns
-statement::arm-returns t c = record { read = becoming (rw c.if-begins_expr.false at c.begins_expr.ensures.arm) (counted c.in_ok-node.ensures.counted)
-    }
+statement::arm-returns t c = record {
+  read = becoming (rw c.if-begins_expr.false at c.begins_expr.ensures.arm) (counted c.in_ok-node.ensures.counted);
+}
 
 pub statement::if_stmt-open-requires : goal.statement::if_stmt-open-requires
 statement::if_stmt-open-requires t c = record { opening = refl }
@@ -1139,8 +1614,10 @@ statement::orelse_list-loop-after-preserved t c = rw c.in_ok-push.ensures.items 
     c.in-Some.ensures.passes) (then (passed refl refl c.in-Some.ensures.passes) c.in_ok-next.ensures.read))
 
 pub statement::orelse_list-returns-in_err-next : goal.statement::orelse_list-returns-in_err-next
-statement::orelse_list-returns-in_err-next t c = record { read = stopped _ _ _ _ c.from_residual.ensures.1 (loops.broken c.loop-after.invariant
-    (heads.begins_orelses c.in-Some.ensures.passes) (after (passed refl refl c.in-Some.ensures.passes) c.in_err-next.ensures.read)) }
+statement::orelse_list-returns-in_err-next t c = record {
+  read = stopped _ _ _ _ c.from_residual.ensures.1 (loops.broken c.loop-after.invariant
+      (heads.begins_orelses c.in-Some.ensures.passes) (after (passed refl refl c.in-Some.ensures.passes) c.in_err-next.ensures.read));
+}
 
 pub statement::orelse_list-returns : goal.statement::orelse_list-returns
 statement::orelse_list-returns t c = record { read = loops.ended c.loop-after.invariant (heads.skips_orelses _ c.in_default.ensures.passes) }
@@ -1149,12 +1626,16 @@ pub statement::step-returns-in_default : goal.statement::step-returns-in_default
 statement::step-returns-in_default t c = record { read = skipped (heads.skips_by _ c.in_default.ensures.passes) }
 
 pub statement::step-returns-in_err-value : goal.statement::step-returns-in_err-value
-statement::step-returns-in_err-value t c = record { read = stopped _ _ _ _ c.from_residual.ensures.1 (becoming_fails (heads.begins_by
-    c.in-Some.ensures.passes) (after (passed refl refl c.in-Some.ensures.passes) (first c.in_err-value.ensures.read))) }
+statement::step-returns-in_err-value t c = record {
+  read = stopped _ _ _ _ c.from_residual.ensures.1 (becoming_fails (heads.begins_by
+      c.in-Some.ensures.passes) (after (passed refl refl c.in-Some.ensures.passes) (first c.in_err-value.ensures.read)));
+}
 
 pub statement::step-returns : goal.statement::step-returns
-statement::step-returns t c = record { read = becoming (heads.begins_by c.in-Some.ensures.passes) (then (passed refl refl c.in-Some.ensures.passes)
-    c.in_ok-value.ensures.read) }
+statement::step-returns t c = record {
+  read = becoming (heads.begins_by c.in-Some.ensures.passes) (then (passed refl refl c.in-Some.ensures.passes)
+      c.in_ok-value.ensures.read);
+}
 
 pub statement::while_stmt-open-requires : goal.statement::while_stmt-open-requires
 statement::while_stmt-open-requires t c = record { opening = refl }
