@@ -24,7 +24,7 @@ use Rattle.alma_mean.specs.Events.{Events, NoYield, Visit, one, bind, on_first}
 use Rattle.alma_mean.specs.Rows.{while_turn, repeat_turn}
 use Rattle.alma_implements.proofs.Ways.{Later, visited_later}
 use Rattle.alma_templates.specs.Stands.{Stands}
-use Rattle.alma_implements.specs.Implements.{input_limit}
+use Rattle.alma_base.specs.Limits.{input_limit}
 use Rattle.alma_implements.proofs.Frames.{shift, own_end, HasSlots}
 use Rattle.alma_implements.proofs.ExprRows.{AreVariables, first_kind, slots_first, slots_behind}
 use Rattle.alma_templates.specs.Tables.{Tables}

@@ -22,7 +22,8 @@ use Rattle.alma_mean.specs.Events.{Events, NoYield, Flow, Go, first, node, print
 use Rattle.alma_mean.specs.Events as events
 use Rattle.alma_mean.specs.Meaning as meaning
 use Rattle.alma_mean.specs.Meaning.{Level, level, level_0, ev_program, ev_stmts}
-use Rattle.alma_implements.specs.Implements.{ComesTo, Implements, input_limit, line_in, state_after, printed_by}
+use Rattle.alma_base.specs.Limits.{input_limit}
+use Rattle.alma_implements.specs.Implements.{ComesTo, Implements, line_in, state_after, printed_by}
 use Rattle.alma_implements.proofs.Follows.{AgreesFrom, EndsWell, follows}
 use Rattle.alma_implements.proofs.Frames.{own_end}
 use Rattle.alma_implements.proofs.Goes.{IsGoing, weaker, node_goes}

@@ -34,7 +34,7 @@ use Rattle.alma_mean.specs.Events.{Events, NoYield, Fail, one, bind}
 use Rattle.alma_mean.specs.Arithmetic.{check_range, fault_unless}
 use Rattle.alma_mean.specs.Rows.{nat_in, set_position, store_number, store_byte, read_row}
 use Rattle.alma_mean.specs.Meaning.{Level, ev_stmt, ev_expr, ev_desig}
-use Rattle.alma_implements.specs.Implements.{input_limit}
+use Rattle.alma_base.specs.Limits.{input_limit}
 use Rattle.alma_implements.proofs.Frames.{shift, shift_in, own_end, IsAt, SameContent, SameFrame}
 use Rattle.alma_implements.proofs.FrameLemmas.{content_there, numbers_kept, place_kept}
 use Rattle.alma_implements.proofs.Carrying.{kind_in}
