@@ -116,7 +116,6 @@ pub fn add(
     }
 }
 
-
 // ---- constants
 
 // The value of an operation; None where it leaves INTEGER or divides by zero.
@@ -249,7 +248,12 @@ fn is_minus(sign: Option<Sign>) -> bool
     }
 }
 
-fn arithmetic(alloc: Global, sign: Option<Sign>, first: Meaning, rest: Vec<Behind>) -> Result<Meaning, AllocError>
+fn arithmetic(
+    alloc: Global,
+    sign: Option<Sign>,
+    first: Meaning,
+    rest: Vec<Behind>,
+) -> Result<Meaning, AllocError>
     ensures { IfOk result (λ m. meaning_view m ≡ parts.plain (ir.Chain (parts.is_minus sign) (parts.value_of (meaning_view first)) (parts.links_of (operands_of rest)))) }
 {
     let value = Box::new(alloc, as_value(alloc, first)?)?;
@@ -257,7 +261,12 @@ fn arithmetic(alloc: Global, sign: Option<Sign>, first: Meaning, rest: Vec<Behin
     Ok(Meaning::Plain(Expr::Chain(is_minus(sign), value, links)))
 }
 
-fn logical(alloc: Global, join: Join, first: Meaning, rest: Vec<Behind>) -> Result<Meaning, AllocError>
+fn logical(
+    alloc: Global,
+    join: Join,
+    first: Meaning,
+    rest: Vec<Behind>,
+) -> Result<Meaning, AllocError>
     ensures { IfOk result (λ m. meaning_view m ≡ parts.a_test (join_view join (ir.more_tests (parts.test_of (meaning_view first)) (parts.tests_of (operands_of rest))))) }
 {
     let tests = tests(alloc, first, rest)?;

@@ -7,8 +7,8 @@ ghost use Rattle.alma_rules.specs.Parts as parts;
 ghost use Rattle.alma_rules.specs.Nodes as nodes;
 ghost use Rattle.alma_check_rules.specs.Views.{argument_in, located_of, scene_of, headings_in, denoted_in, typing_in, typing_of, located_in, callee_in, formal_view, meaning_view, args_of, args_in, stmts_in, somewhere};
 
-use alma_check_rules::{Callee, Denoted, Env, Formal, Located, Meaning, Typed};
 use alma_base::Range;
+use alma_check_rules::{Callee, Denoted, Env, Formal, Located, Meaning, Typed};
 use alma_ir::{Arg, Call, Cmp, Desig, Expr, Sel, Stmt, Test};
 use alma_tree::{Mode, Relation};
 use std::alloc::{AllocError, Global};

@@ -16,7 +16,7 @@ pub use expression::{
 };
 pub use list::with_part;
 pub use statement::{
-    assigned, bare_return, case_arm, case_stmt, commit_stmt, condition, either_stmt, for_stmt, forall_stmt,
-    guarded, if_stmt, joined, line, loop_of, nothing, read, repeat_stmt, returned, some_stmt,
-    test_stmt, text, while_stmt, write,
+    assigned, bare_return, case_arm, case_stmt, commit_stmt, condition, either_stmt, for_stmt,
+    forall_stmt, guarded, if_stmt, joined, line, loop_of, nothing, read, repeat_stmt, returned,
+    some_stmt, test_stmt, text, while_stmt, write,
 };

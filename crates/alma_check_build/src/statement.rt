@@ -320,10 +320,7 @@ pub fn forall_stmt(
 }
 
 /// COMMIT.
-pub fn commit_stmt(
-    alloc: Global,
-    body: Option<Vec<Stmt>>,
-) -> Result<Option<Vec<Stmt>>, AllocError>
+pub fn commit_stmt(alloc: Global, body: Option<Vec<Stmt>>) -> Result<Option<Vec<Stmt>>, AllocError>
     ensures { IfOk result (λ v. stmts_in v ≡ option_map parts.one_stmt (option_map ir.Commit (stmts_in body))) }
 {
     match body {

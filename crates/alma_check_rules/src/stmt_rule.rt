@@ -144,12 +144,7 @@ pub fn pass_case(env: &Env, node: u32, typed: &Option<Typed>) -> Result<(), Stop
 }
 
 // A label of another base than the value of its CASE.
-fn other_label(
-    env: &Env,
-    case: &Option<Typed>,
-    low: &Option<Typed>,
-    high: &Option<Typed>,
-) -> bool
+fn other_label(env: &Env, case: &Option<Typed>, low: &Option<Typed>, high: &Option<Typed>) -> bool
     ensures { result ≡ holds (rules.other_label (scene_of env.now somewhere) (typing_in low.now) (typing_in high.now)) (typing_in case.now) }
 {
     match case {

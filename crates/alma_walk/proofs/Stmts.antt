@@ -346,4 +346,3 @@ module _ (s : Scene) where
   pub items_end : (n i : ℕ) (all : List de.Expr) → length all ≤ i → walk.judge_item_tail s n (view.exprs_of (drop i all)) ≡ fine n ir.no_stmts
   unfolding walk.judge_stmts
   items_end n i all h = ap (λ xs. walk.judge_item_tail s n (view.exprs_of xs)) (drop_all i all h)
-
