@@ -93,7 +93,7 @@ fn compiled(alloc: Global, program: &Program) -> Result<Code, NoMemory>
 }
 
 // The instructions and slots of the body of the module.
-#[tactic(auto, unfolding(crate::specs::Emitted::filled))]
+#[tactic(auto, unfolding(crate::specs::Emitted::emitted_count))]
 fn emitted(alloc: Global, body: &Routine) -> Result<Emit, NoMemory>
     requires built { BuiltStmts (stmts_list body.now.body.items) }
     requires slots { body.now.slots ≤ routine_slot_limit }
