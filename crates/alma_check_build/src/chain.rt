@@ -101,7 +101,8 @@ pub fn add(
     operator: Operator,
     typed: Option<Typed>,
 ) -> Result<Option<Vec<Behind>>, AllocError>
-    ensures { IfOk result (λ k. operands_in k ≡ gathered (operator_view operator) (operands_in kept) (typing_in typed)) }
+    ensures { IfOk result (λ k. operands_in k ≡ gathered (operator_view operator) (operands_in kept)
+        (typing_in typed)) }
 {
     match kept {
         None => Ok(None),
@@ -156,7 +157,8 @@ fn apply_sign(sign: Option<Sign>, value: Option<i64>) -> Option<i64>
 }
 
 fn apply_operator(value: Option<i64>, behind: &Behind) -> Option<i64>
-    ensures { result ≡ option_and_then (parts.apply_operator (operator_view behind.now.operator) (typing_of behind.now.operand)) value }
+    ensures { result ≡ option_and_then (parts.apply_operator (operator_view behind.now.operator)
+        (typing_of behind.now.operand)) value }
 {
     match value {
         None => None,
@@ -182,7 +184,8 @@ fn folded(sign: Option<Sign>, first: &Typed, rest: &[Behind]) -> Option<i64>
 }
 
 fn has_no_value(sign: Option<Sign>, first: &Option<Typed>, rest: &Option<Vec<Behind>>) -> bool
-    ensures { result ≡ holds (rules.has_no_value sign) (both_of (typing_in first.now) (operands_in rest.now)) }
+    ensures { result ≡ holds (rules.has_no_value sign) (both_of (typing_in first.now)
+        (operands_in rest.now)) }
 {
     match first {
         None => false,
@@ -202,7 +205,8 @@ pub fn no_constant_sum(
     first: &Option<Typed>,
     rest: &Option<Vec<Behind>>,
 ) -> bool
-    ensures { result ≡ rules.no_constant_sum (scene_of env.now place) sign logical (both_of (typing_in first.now) (operands_in rest.now)) }
+    ensures { result ≡ rules.no_constant_sum (scene_of env.now place) sign logical
+        (both_of (typing_in first.now) (operands_in rest.now)) }
 {
     place.constant && !logical && has_no_value(sign, first, rest)
 }
@@ -229,7 +233,8 @@ fn links(alloc: Global, rest: Vec<Behind>) -> Result<Vec<Link>, AllocError>
 
 #[tactic(auto, using(crate::proofs::Steps::gathers, std::proofs::lemmas::Grind::common_steps))]
 fn tests(alloc: Global, first: Meaning, rest: Vec<Behind>) -> Result<Vec<Test>, AllocError>
-    ensures { IfOk result (λ v. tests_list v.items ≡ ir.more_tests (parts.test_of (meaning_view first)) (parts.tests_of (operands_of rest))) }
+    ensures { IfOk result (λ v. tests_list v.items ≡ ir.more_tests
+        (parts.test_of (meaning_view first)) (parts.tests_of (operands_of rest))) }
 {
     let mut tests: Vec<Test> = Vec::new(alloc);
     tests.push(as_test(first))?;
@@ -254,7 +259,9 @@ fn arithmetic(
     first: Meaning,
     rest: Vec<Behind>,
 ) -> Result<Meaning, AllocError>
-    ensures { IfOk result (λ m. meaning_view m ≡ parts.plain (ir.Chain (parts.is_minus sign) (parts.value_of (meaning_view first)) (parts.links_of (operands_of rest)))) }
+    ensures { IfOk result (λ m. meaning_view m ≡ parts.plain
+        (ir.Chain (parts.is_minus sign) (parts.value_of (meaning_view first))
+        (parts.links_of (operands_of rest)))) }
 {
     let value = Box::new(alloc, as_value(alloc, first)?)?;
     let links = links(alloc, rest)?;
@@ -267,7 +274,9 @@ fn logical(
     first: Meaning,
     rest: Vec<Behind>,
 ) -> Result<Meaning, AllocError>
-    ensures { IfOk result (λ m. meaning_view m ≡ parts.a_test (join_view join (ir.more_tests (parts.test_of (meaning_view first)) (parts.tests_of (operands_of rest))))) }
+    ensures { IfOk result (λ m. meaning_view m ≡ parts.a_test
+        (join_view join (ir.more_tests (parts.test_of (meaning_view first))
+        (parts.tests_of (operands_of rest))))) }
 {
     let tests = tests(alloc, first, rest)?;
     match join {
@@ -293,7 +302,8 @@ fn chain_of(
     first: Typed,
     rest: Vec<Behind>,
 ) -> Result<Meaning, AllocError>
-    ensures { IfOk result (λ m. meaning_view m ≡ parts.chain_of (join_view join) sign (typing_of first, operands_of rest)) }
+    ensures { IfOk result (λ m. meaning_view m ≡ parts.chain_of (join_view join) sign
+        (typing_of first, operands_of rest)) }
 {
     match first_operator(&rest) {
         None => match sign {
@@ -322,7 +332,8 @@ fn chained(
     first: Typed,
     rest: Vec<Behind>,
 ) -> Result<Typed, AllocError>
-    ensures { IfOk result (λ t. typing_of t ≡ parts.chained (join_view join) sign (typing_of first, operands_of rest)) }
+    ensures { IfOk result (λ t. typing_of t ≡ parts.chained (join_view join) sign
+        (typing_of first, operands_of rest)) }
 {
     let shape = chain_shape(&rest);
     let constant = folded(sign, &first, &rest);
@@ -342,7 +353,8 @@ pub fn chained_in(
     first: Option<Typed>,
     rest: Option<Vec<Behind>>,
 ) -> Result<Option<Typed>, AllocError>
-    ensures { IfOk result (λ t. typing_in t ≡ option_map (parts.chained (join_view join) sign) (both_of (typing_in first) (operands_in rest))) }
+    ensures { IfOk result (λ t. typing_in t ≡ option_map (parts.chained (join_view join) sign)
+        (both_of (typing_in first) (operands_in rest))) }
 {
     match first {
         None => Ok(None),
@@ -355,7 +367,8 @@ pub fn chained_in(
 
 /// A sum or a product of one operand.
 pub fn alone(first: Option<Typed>, rest: Option<Vec<Behind>>) -> Option<Typed>
-    ensures { typing_in result ≡ option_map (λ p. p.0) (both_of (typing_in first) (operands_in rest)) }
+    ensures { typing_in result ≡ option_map (λ p. p.0) (both_of (typing_in first)
+        (operands_in rest)) }
 {
     match rest {
         None => None,

@@ -157,7 +157,8 @@ pub fn negate(alloc: Global, typed: Option<Typed>) -> Result<Option<Typed>, Allo
 }
 
 pub fn sequence(body: Option<Vec<Stmt>>) -> Option<Typed>
-    ensures { typing_in result ≡ option_map (λ b. parts.boolean_typing (parts.a_test (ir.Seq b))) (stmts_in body) }
+    ensures { typing_in result ≡ option_map (λ b. parts.boolean_typing (parts.a_test (ir.Seq b)))
+        (stmts_in body) }
 {
     match body {
         None => None,
@@ -203,7 +204,8 @@ pub fn known(located: Option<Located>) -> Option<Typed>
 }
 
 pub fn as_located(env: &Env, found: Option<Denoted>) -> Option<Located>
-    ensures { located_in result ≡ option_and_then parts.located_in (denoted_in (headings_in env.now) found) }
+    ensures { located_in result ≡ option_and_then parts.located_in
+        (denoted_in (headings_in env.now) found) }
 {
     match found {
         Some(Denoted::Variable(located)) => Some(located),
@@ -213,7 +215,8 @@ pub fn as_located(env: &Env, found: Option<Denoted>) -> Option<Located>
 }
 
 pub fn as_callee(env: &Env, found: Option<Denoted>) -> Option<Callee>
-    ensures { callee_in (headings_in env.now) result ≡ option_and_then parts.callee_in (denoted_in (headings_in env.now) found) }
+    ensures { callee_in (headings_in env.now) result ≡ option_and_then parts.callee_in
+        (denoted_in (headings_in env.now) found) }
 {
     match found {
         Some(Denoted::Routine(number, up)) => Some(Callee { number, up }),
@@ -223,7 +226,12 @@ pub fn as_callee(env: &Env, found: Option<Denoted>) -> Option<Callee>
 }
 
 fn variable(located: Located) -> Typed
-    ensures { typing_of result ≡ record { shape = located.shape; constant = None; meaning = parts.a_place (parts.desig_of (located_of located)) } }
+    ensures { typing_of result ≡ record {
+      shape = located.shape;
+      constant = None;
+      meaning =
+          parts.a_place (parts.desig_of (located_of located));
+    } }
 {
     let shape = located.shape;
     Typed {
@@ -235,7 +243,8 @@ fn variable(located: Located) -> Typed
 
 /// A designator as an expression.
 pub fn as_typed(alloc: Global, env: &Env, found: Option<Denoted>) -> Option<Typed>
-    ensures { typing_in result ≡ option_and_then parts.typing_in (denoted_in (headings_in env.now) found) }
+    ensures { typing_in result ≡ option_and_then parts.typing_in
+        (denoted_in (headings_in env.now) found) }
 {
     match found {
         Some(Denoted::Constant(shape, value)) => Some(Typed {
@@ -253,7 +262,13 @@ pub fn as_typed(alloc: Global, env: &Env, found: Option<Denoted>) -> Option<Type
 }
 
 fn narrowed(located: Located, shape: u32, sel: Sel) -> Result<Located, AllocError>
-    ensures { IfOk result (λ l. located_of l ≡ record { shape = shape; root = located.root; cells = located.cells; sels = parts.with_sel (sels_list located.sels.items) (sel_of sel) }) }
+    ensures { IfOk result (λ l. located_of l ≡ record {
+      shape = shape;
+      root = located.root;
+      cells =
+          located.cells;
+      sels = parts.with_sel (sels_list located.sels.items) (sel_of sel);
+    }) }
 {
     let Located {
         shape: _,
@@ -276,7 +291,9 @@ pub fn select_field(
     name: &[u8],
     found: Option<Denoted>,
 ) -> Result<Option<Denoted>, AllocError>
-    ensures { IfOk result (λ d. denoted_in (headings_in env.now) d ≡ option_and_then (parts.select_field (scene_of env.now somewhere) name.now) (denoted_in (headings_in env.now) found)) }
+    ensures { IfOk result (λ d. denoted_in (headings_in env.now) d ≡ option_and_then
+        (parts.select_field (scene_of env.now somewhere) name.now)
+        (denoted_in (headings_in env.now) found)) }
 {
     match found {
         Some(Denoted::Variable(located)) => match env.field(located.shape, name) {
@@ -299,7 +316,8 @@ pub fn select_index(
     found: Option<Denoted>,
     typed: Option<Typed>,
 ) -> Result<Option<Denoted>, AllocError>
-    ensures { IfOk result (λ d. denoted_in (headings_in env.now) d ≡ parts.select_index (scene_of env.now somewhere) (denoted_in (headings_in env.now) found) (typing_in typed)) }
+    ensures { IfOk result (λ d. denoted_in (headings_in env.now) d ≡ parts.select_index
+        (scene_of env.now somewhere) (denoted_in (headings_in env.now) found) (typing_in typed)) }
 {
     match found {
         None => Ok(None),
@@ -342,7 +360,8 @@ fn comparison(relation: Relation) -> Cmp
 }
 
 fn compare(alloc: Global, cmp: Cmp, left: Meaning, right: Meaning) -> Result<Meaning, AllocError>
-    ensures { IfOk result (λ m. meaning_view m ≡ parts.plain (ir.Compare cmp (parts.value_of (meaning_view left)) (parts.value_of (meaning_view right)))) }
+    ensures { IfOk result (λ m. meaning_view m ≡ parts.plain
+        (ir.Compare cmp (parts.value_of (meaning_view left)) (parts.value_of (meaning_view right)))) }
 {
     let first = Box::new(alloc, as_value(alloc, left)?)?;
     let second = Box::new(alloc, as_value(alloc, right)?)?;
@@ -351,7 +370,8 @@ fn compare(alloc: Global, cmp: Cmp, left: Meaning, right: Meaning) -> Result<Mea
 
 // An equation with exactly one designator binds it; one of two unifies them, or their cells.
 fn equation(alloc: Global, env: &Env, left: Typed, right: Typed) -> Result<Meaning, AllocError>
-    ensures { IfOk result (λ m. meaning_view m ≡ parts.equation_of (scene_of env.now somewhere) (typing_of left) (typing_of right) (meaning_view left.meaning) (meaning_view right.meaning)) }
+    ensures { IfOk result (λ m. meaning_view m ≡ parts.equation_of (scene_of env.now somewhere)
+        (typing_of left) (typing_of right) (meaning_view left.meaning) (meaning_view right.meaning)) }
 {
     let first = left.shape;
     let second = right.shape;
@@ -422,7 +442,8 @@ fn relation_of(
     left: Typed,
     right: Typed,
 ) -> Result<Meaning, AllocError>
-    ensures { IfOk result (λ m. meaning_view m ≡ parts.relation_of (scene_of env.now somewhere) relation (typing_of left, typing_of right)) }
+    ensures { IfOk result (λ m. meaning_view m ≡ parts.relation_of
+        (scene_of env.now somewhere) relation (typing_of left, typing_of right)) }
 {
     match relation {
         Relation::Equal => equation(alloc, env, left, right),
@@ -443,7 +464,9 @@ pub fn relate(
     left: Option<Typed>,
     right: Option<Typed>,
 ) -> Result<Option<Typed>, AllocError>
-    ensures { IfOk result (λ t. typing_in t ≡ option_map (parts.related (scene_of env.now somewhere) relation) (both_of (typing_in left) (typing_in right))) }
+    ensures { IfOk result (λ t. typing_in t ≡ option_map
+        (parts.related (scene_of env.now somewhere) relation)
+        (both_of (typing_in left) (typing_in right))) }
 {
     match left {
         None => Ok(None),
@@ -505,7 +528,9 @@ pub fn argument(
     formal: Option<Formal>,
     typed: Option<Typed>,
 ) -> Result<Option<Arg>, AllocError>
-    ensures { IfOk result (λ a. option_map arg_of a ≡ option_map (parts.argument_of (scene_of env.now somewhere) (option_map formal_view formal)) (typing_in typed)) }
+    ensures { IfOk result (λ a. option_map arg_of a ≡ option_map
+        (parts.argument_of (scene_of env.now somewhere) (option_map formal_view formal))
+        (typing_in typed)) }
 {
     match typed {
         None => Ok(None),
@@ -524,7 +549,8 @@ pub fn argument(
 
 /// A call of a function is plain, and one of a procedure without result is a test.
 pub fn call(env: &Env, callee: Option<Callee>, args: Option<Vec<Arg>>) -> Option<Typed>
-    ensures { typing_in result ≡ option_map parts.called (both_of (callee_in (headings_in env.now) callee) (args_in args)) }
+    ensures { typing_in result ≡ option_map parts.called
+        (both_of (callee_in (headings_in env.now) callee) (args_in args)) }
 {
     match callee {
         None => None,

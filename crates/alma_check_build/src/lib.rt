@@ -1,4 +1,5 @@
 //! What the phrases of a source stand for in the resolved program, built of their parts.
+// The line #![tactic(auto)] of every crate, with lemmas for all functions of this one.
 #![tactic(auto, using(crate::proofs::Steps::steps, std::proofs::lemmas::Grind::common_steps))]
 
 mod chain;

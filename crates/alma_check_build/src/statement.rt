@@ -42,7 +42,8 @@ pub fn condition(typed: Option<Typed>) -> Option<Test>
 
 /// A condition as a statement.
 pub fn test_stmt(alloc: Global, test: Option<Test>) -> Result<Option<Vec<Stmt>>, AllocError>
-    ensures { IfOk result (λ v. stmts_in v ≡ option_map parts.one_stmt (option_map ir.TestStmt (test_in test))) }
+    ensures { IfOk result (λ v. stmts_in v ≡ option_map parts.one_stmt
+        (option_map ir.TestStmt (test_in test))) }
 {
     match test {
         None => Ok(None),
@@ -58,7 +59,8 @@ fn assigned_to(
     located: Located,
     meaning: Meaning,
 ) -> Result<Stmt, AllocError>
-    ensures { IfOk result (λ x. stmt_of x ≡ parts.assigned_to (scene_of env.now somewhere) (located_of located) (meaning_view meaning)) }
+    ensures { IfOk result (λ x. stmt_of x ≡ parts.assigned_to (scene_of env.now somewhere)
+        (located_of located) (meaning_view meaning)) }
 {
     let shape = located.shape;
     let range = env.range(shape);
@@ -85,7 +87,8 @@ pub fn assigned(
     located: Option<Located>,
     typed: Option<Typed>,
 ) -> Result<Option<Vec<Stmt>>, AllocError>
-    ensures { IfOk result (λ v. stmts_in v ≡ option_map (parts.assigned (scene_of env.now somewhere)) (both_of (located_in located) (typing_in typed))) }
+    ensures { IfOk result (λ v. stmts_in v ≡ option_map (parts.assigned
+        (scene_of env.now somewhere)) (both_of (located_in located) (typing_in typed))) }
 {
     match located {
         None => Ok(None),
@@ -120,7 +123,8 @@ pub fn if_stmt(
     arms: Option<Vec<Arm>>,
     other: Option<Vec<Stmt>>,
 ) -> Result<Option<Vec<Stmt>>, AllocError>
-    ensures { IfOk result (λ v. stmts_in v ≡ option_map parts.one_stmt (option_map (λ p. ir.If p.0 p.1) (both_of (arms_in arms) (stmts_in other)))) }
+    ensures { IfOk result (λ v. stmts_in v ≡ option_map parts.one_stmt
+        (option_map (λ p. ir.If p.0 p.1) (both_of (arms_in arms) (stmts_in other)))) }
 {
     match arms {
         None => Ok(None),
@@ -137,7 +141,8 @@ pub fn while_stmt(
     test: Option<Test>,
     body: Option<Vec<Stmt>>,
 ) -> Result<Option<Vec<Stmt>>, AllocError>
-    ensures { IfOk result (λ v. stmts_in v ≡ option_map parts.one_stmt (option_map (λ p. ir.While p.0 p.1) (both_of (test_in test) (stmts_in body)))) }
+    ensures { IfOk result (λ v. stmts_in v ≡ option_map parts.one_stmt
+        (option_map (λ p. ir.While p.0 p.1) (both_of (test_in test) (stmts_in body)))) }
 {
     match test {
         None => Ok(None),
@@ -154,7 +159,8 @@ pub fn repeat_stmt(
     body: Option<Vec<Stmt>>,
     test: Option<Test>,
 ) -> Result<Option<Vec<Stmt>>, AllocError>
-    ensures { IfOk result (λ v. stmts_in v ≡ option_map parts.one_stmt (option_map (λ p. ir.Repeat p.0 p.1) (both_of (stmts_in body) (test_in test)))) }
+    ensures { IfOk result (λ v. stmts_in v ≡ option_map parts.one_stmt
+        (option_map (λ p. ir.Repeat p.0 p.1) (both_of (stmts_in body) (test_in test)))) }
 {
     match body {
         None => Ok(None),
@@ -179,7 +185,9 @@ pub fn loop_of(
     body: Option<Vec<Stmt>>,
 ) -> Result<Option<Loop>, AllocError>
     requires limit { counter + 1 < 2 ^ 32 }
-    ensures { IfOk result (λ l. loop_in l ≡ option_map (nodes.loop_of (scene_of env.now somewhere) counter) (both_of (located_in variable) (both_of (typing_in low) (both_of (typing_in high) (both_of by (stmts_in body)))))) }
+    ensures { IfOk result (λ l. loop_in l ≡ option_map (nodes.loop_of
+        (scene_of env.now somewhere) counter) (both_of (located_in variable)
+        (both_of (typing_in low) (both_of (typing_in high) (both_of by (stmts_in body)))))) }
 {
     let Some(variable) = variable else {
         return Ok(None);
@@ -211,7 +219,8 @@ pub fn loop_of(
 
 /// FOR.
 pub fn for_stmt(alloc: Global, turns: Option<Loop>) -> Result<Option<Vec<Stmt>>, AllocError>
-    ensures { IfOk result (λ v. stmts_in v ≡ option_map parts.one_stmt (option_map ir.ForTo (loop_in turns))) }
+    ensures { IfOk result (λ v. stmts_in v ≡ option_map parts.one_stmt
+        (option_map ir.ForTo (loop_in turns))) }
 {
     match turns {
         None => Ok(None),
@@ -221,7 +230,8 @@ pub fn for_stmt(alloc: Global, turns: Option<Loop>) -> Result<Option<Vec<Stmt>>,
 
 /// SOME.
 pub fn some_stmt(alloc: Global, turns: Option<Loop>) -> Result<Option<Vec<Stmt>>, AllocError>
-    ensures { IfOk result (λ v. stmts_in v ≡ option_map parts.one_stmt (option_map ir.SomeOf (loop_in turns))) }
+    ensures { IfOk result (λ v. stmts_in v ≡ option_map parts.one_stmt
+        (option_map ir.SomeOf (loop_in turns))) }
 {
     match turns {
         None => Ok(None),
@@ -247,7 +257,8 @@ pub fn case_arm(
     labels: Option<Vec<Span>>,
     body: Option<Vec<Stmt>>,
 ) -> Result<Option<Vec<CaseArm>>, AllocError>
-    ensures { IfOk result (λ v. cases_in v ≡ option_map nodes.arm_of (both_of (spans_in labels) (stmts_in body))) }
+    ensures { IfOk result (λ v. cases_in v ≡ option_map nodes.arm_of
+        (both_of (spans_in labels) (stmts_in body))) }
 {
     match labels {
         None => Ok(None),
@@ -270,7 +281,9 @@ pub fn case_stmt(
     arms: Option<Vec<CaseArm>>,
     other: Option<Option<Vec<Stmt>>>,
 ) -> Result<Option<Vec<Stmt>>, AllocError>
-    ensures { IfOk result (λ v. stmts_in v ≡ option_map parts.one_stmt (option_map (λ p. ir.Case (parts.value_of p.0.meaning) p.1.0 p.1.1) (both_of (typing_in typed) (both_of (cases_in arms) (else_in other))))) }
+    ensures { IfOk result (λ v. stmts_in v ≡ option_map parts.one_stmt
+        (option_map (λ p. ir.Case (parts.value_of p.0.meaning) p.1.0 p.1.1)
+        (both_of (typing_in typed) (both_of (cases_in arms) (else_in other))))) }
 {
     match typed {
         None => Ok(None),
@@ -294,7 +307,8 @@ pub fn either_stmt(
     alloc: Global,
     branches: Option<Vec<Branch>>,
 ) -> Result<Option<Vec<Stmt>>, AllocError>
-    ensures { IfOk result (λ v. stmts_in v ≡ option_map parts.one_stmt (option_map ir.Either (branches_in branches))) }
+    ensures { IfOk result (λ v. stmts_in v ≡ option_map parts.one_stmt
+        (option_map ir.Either (branches_in branches))) }
 {
     match branches {
         None => Ok(None),
@@ -308,7 +322,8 @@ pub fn forall_stmt(
     choice: Option<Vec<Stmt>>,
     body: Option<Vec<Stmt>>,
 ) -> Result<Option<Vec<Stmt>>, AllocError>
-    ensures { IfOk result (λ v. stmts_in v ≡ option_map parts.one_stmt (option_map (λ p. ir.Forall p.0 p.1) (both_of (stmts_in choice) (stmts_in body)))) }
+    ensures { IfOk result (λ v. stmts_in v ≡ option_map parts.one_stmt
+        (option_map (λ p. ir.Forall p.0 p.1) (both_of (stmts_in choice) (stmts_in body)))) }
 {
     match choice {
         None => Ok(None),
@@ -321,7 +336,8 @@ pub fn forall_stmt(
 
 /// COMMIT.
 pub fn commit_stmt(alloc: Global, body: Option<Vec<Stmt>>) -> Result<Option<Vec<Stmt>>, AllocError>
-    ensures { IfOk result (λ v. stmts_in v ≡ option_map parts.one_stmt (option_map ir.Commit (stmts_in body))) }
+    ensures { IfOk result (λ v. stmts_in v ≡ option_map parts.one_stmt
+        (option_map ir.Commit (stmts_in body))) }
 {
     match body {
         None => Ok(None),
@@ -346,7 +362,8 @@ pub fn bare_return(alloc: Global) -> Result<Option<Vec<Stmt>>, AllocError>
 
 /// RETURN with an expression.
 pub fn returned(alloc: Global, typed: Option<Typed>) -> Result<Option<Vec<Stmt>>, AllocError>
-    ensures { IfOk result (λ v. stmts_in v ≡ option_map parts.one_stmt (option_map (λ t. ir.Return (ir.some_result (parts.value_of t.meaning))) (typing_in typed))) }
+    ensures { IfOk result (λ v. stmts_in v ≡ option_map parts.one_stmt
+        (option_map (λ t. ir.Return (ir.some_result (parts.value_of t.meaning))) (typing_in typed))) }
 {
     match typed {
         None => Ok(None),
@@ -373,7 +390,8 @@ pub fn read(
     env: &Env,
     located: Option<Located>,
 ) -> Result<Option<Vec<Stmt>>, AllocError>
-    ensures { IfOk result (λ v. stmts_in v ≡ option_map (parts.read_stmts (scene_of env.now somewhere)) (located_in located)) }
+    ensures { IfOk result (λ v. stmts_in v ≡ option_map (parts.read_stmts
+        (scene_of env.now somewhere)) (located_in located)) }
 {
     match located {
         None => Ok(None),
@@ -403,7 +421,8 @@ pub fn write(
     env: &Env,
     typed: Option<Typed>,
 ) -> Result<Option<Vec<Stmt>>, AllocError>
-    ensures { IfOk result (λ v. stmts_in v ≡ option_map (parts.write_stmts (scene_of env.now somewhere)) (typing_in typed)) }
+    ensures { IfOk result (λ v. stmts_in v ≡ option_map (parts.write_stmts
+        (scene_of env.now somewhere)) (typing_in typed)) }
 {
     match typed {
         None => Ok(None),
@@ -442,7 +461,8 @@ pub fn joined(
     first: Option<Vec<Stmt>>,
     second: Option<Vec<Stmt>>,
 ) -> Result<Option<Vec<Stmt>>, AllocError>
-    ensures { IfOk result (λ v. stmts_in v ≡ option_map parts.joined_stmts (both_of (stmts_in first) (stmts_in second))) }
+    ensures { IfOk result (λ v. stmts_in v ≡ option_map parts.joined_stmts
+        (both_of (stmts_in first) (stmts_in second))) }
 {
     match first {
         None => Ok(None),

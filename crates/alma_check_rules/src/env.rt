@@ -194,7 +194,8 @@ impl<'e, 's> Env<'e, 's> {
 
     /// The heading of a routine.
     pub fn heading(&self, routine: u32) -> Option<&Heading>
-        ensures { option_map (λ h. heading_view h.now) result ≡ heading_of (scene_of self.now somewhere) routine }
+        ensures { option_map (λ h. heading_view h.now) result ≡ heading_of
+            (scene_of self.now somewhere) routine }
     {
         match self.headings.get(routine as usize) {
             Some(Some(heading)) => Some(heading),

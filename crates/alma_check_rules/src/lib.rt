@@ -1,4 +1,5 @@
 //! What is round a phrase in a source, what the names there stand for, and the rules of each node, in the order of the faults.
+// The line #![tactic(auto)] of every crate, with lemmas for all functions of this one.
 #![tactic(auto, using(std::proofs::lemmas::Grind::common_steps))]
 
 mod env;

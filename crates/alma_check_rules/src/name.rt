@@ -51,7 +51,8 @@ fn root(level: usize, block: usize, access: Access) -> Result<Root, AllocError>
 impl<'e, 's> Env<'e, 's> {
     // What an entry is, whose block has this number.
     fn found_as(&self, block: usize, entry: Entry) -> Result<Found, AllocError>
-        ensures { IfOk result (λ f. found_view (headings_view self.now.headings.items) f ≡ found_as (scene_of self.now somewhere) block entry) }
+        ensures { IfOk result (λ f. found_view (headings_view self.now.headings.items) f ≡ found_as
+            (scene_of self.now somewhere) block entry) }
     {
         let level = self.scopes.depth().saturating_sub(1);
         match entry {
@@ -71,7 +72,8 @@ impl<'e, 's> Env<'e, 's> {
 
     /// What a name in use stands for: the declaration that is visible at its token.
     pub fn found(&self, name: &Name) -> Result<Found, AllocError>
-        ensures { IfOk result (λ f. found_view (headings_view self.now.headings.items) f ≡ found (scene_of self.now somewhere) (view_name name.now)) }
+        ensures { IfOk result (λ f. found_view (headings_view self.now.headings.items) f ≡ found
+            (scene_of self.now somewhere) (view_name name.now)) }
     {
         match self.scopes.find(self.text(name.token), name.token) {
             None => Ok(Found::Absent),
@@ -82,7 +84,8 @@ impl<'e, 's> Env<'e, 's> {
     /// What a designator of a bare name denotes.
     pub fn denoted(&self, alloc: Global, found: Found) -> Option<Denoted>
         ensures { option_map (denoted_of (headings_view self.now.headings.items)) result
-            ≡ denoted (scene_of self.now somewhere) (found_view (headings_view self.now.headings.items) found) }
+            ≡ denoted (scene_of self.now somewhere) (found_view
+            (headings_view self.now.headings.items) found) }
     {
         match found {
             Found::Absent | Found::Bad | Found::Named(_) => None,

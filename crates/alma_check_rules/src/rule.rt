@@ -15,7 +15,8 @@ use alma_tree::{Mode, Relation};
 // ---- names and designators
 
 pub fn pass_name(env: &Env, node: u32, found: Found) -> Result<(), Stop>
-    ensures { Passes node (rules.name_rules {A = parts.Denoted} (found_view (headings_in env.now) found) None) result }
+    ensures { Passes node (rules.name_rules {A = parts.Denoted}
+        (found_view (headings_in env.now) found) None) result }
 {
     match found {
         Found::Absent => Err(Stop::Fault(CheckFault::Undeclared, node)),
@@ -26,7 +27,8 @@ pub fn pass_name(env: &Env, node: u32, found: Found) -> Result<(), Stop>
 
 // A designator in a constant place with selectors, or that names no constant.
 fn no_constant(place: Place, selected: bool, found: Found, env: &Env) -> bool
-    ensures { result ≡ rules.no_constant (scene_of env.now place) selected (found_view (headings_in env.now) found) }
+    ensures { result ≡ rules.no_constant (scene_of env.now place) selected
+        (found_view (headings_in env.now) found) }
 {
     match found {
         Found::Absent | Found::Bad => false,
@@ -54,7 +56,8 @@ fn is_procedure(wanted: Use) -> bool
 }
 
 fn not_variable(env: &Env, wanted: Use, selected: bool, found: Found) -> bool
-    ensures { result ≡ rules.not_variable (use_view wanted) selected (found_view (headings_in env.now) found) }
+    ensures { result ≡ rules.not_variable (use_view wanted) selected
+        (found_view (headings_in env.now) found) }
 {
     match found {
         Found::Absent | Found::Bad | Found::Variable(_, _) => false,
@@ -71,7 +74,8 @@ fn not_variable(env: &Env, wanted: Use, selected: bool, found: Found) -> bool
 }
 
 fn not_procedure(env: &Env, wanted: Use, selected: bool, found: Found) -> bool
-    ensures { result ≡ rules.not_procedure (use_view wanted) selected (found_view (headings_in env.now) found) }
+    ensures { result ≡ rules.not_procedure (use_view wanted) selected
+        (found_view (headings_in env.now) found) }
 {
     match found {
         Found::Absent | Found::Bad => false,
@@ -91,7 +95,8 @@ pub fn pass_desig(
     selected: bool,
     found: Found,
 ) -> Result<(), Stop>
-    ensures { Passes node (rules.desig_rules (scene_of env.now place) (use_view wanted) selected (found_view (headings_in env.now) found) None) result }
+    ensures { Passes node (rules.desig_rules (scene_of env.now place) (use_view wanted) selected
+        (found_view (headings_in env.now) found) None) result }
 {
     if no_constant(place, selected, found, env) {
         return Err(Stop::Fault(CheckFault::NotConst, node));
@@ -106,7 +111,8 @@ pub fn pass_desig(
 }
 
 fn not_record(env: &Env, found: &Option<Denoted>) -> bool
-    ensures { result ≡ holds (rules.not_record (scene_of env.now somewhere)) (denoted_in (headings_in env.now) found.now) }
+    ensures { result ≡ holds (rules.not_record (scene_of env.now somewhere))
+        (denoted_in (headings_in env.now) found.now) }
 {
     match found {
         Some(Denoted::Variable(located)) => !env.is_record(located.shape),
@@ -116,7 +122,8 @@ fn not_record(env: &Env, found: &Option<Denoted>) -> bool
 }
 
 fn no_field(env: &Env, name: &[u8], found: &Option<Denoted>) -> bool
-    ensures { result ≡ holds (rules.no_field (scene_of env.now somewhere) name.now) (denoted_in (headings_in env.now) found.now) }
+    ensures { result ≡ holds (rules.no_field (scene_of env.now somewhere) name.now)
+        (denoted_in (headings_in env.now) found.now) }
 {
     match found {
         Some(Denoted::Variable(located)) => {
@@ -128,7 +135,8 @@ fn no_field(env: &Env, name: &[u8], found: &Option<Denoted>) -> bool
 }
 
 pub fn pass_field(env: &Env, node: u32, name: &[u8], found: &Option<Denoted>) -> Result<(), Stop>
-    ensures { Passes node (rules.field_rules (scene_of env.now somewhere) name.now (denoted_in (headings_in env.now) found.now)) result }
+    ensures { Passes node (rules.field_rules (scene_of env.now somewhere) name.now
+        (denoted_in (headings_in env.now) found.now)) result }
 {
     if not_record(env, found) {
         return Err(Stop::Fault(CheckFault::NotRecord, node));
@@ -151,7 +159,8 @@ pub fn pass_array(env: &Env, node: u32, found: &Option<Denoted>) -> Result<(), S
 
 // An index of another base than the index type.
 fn other_index(env: &Env, found: &Option<Denoted>, typed: &Option<Typed>) -> bool
-    ensures { result ≡ holds (rules.other_index_of (scene_of env.now somewhere) (denoted_in (headings_in env.now) found.now)) (typing_in typed.now) }
+    ensures { result ≡ holds (rules.other_index_of (scene_of env.now somewhere)
+        (denoted_in (headings_in env.now) found.now)) (typing_in typed.now) }
 {
     match typed {
         None => false,
@@ -172,7 +181,8 @@ pub fn pass_index(
     found: &Option<Denoted>,
     typed: &Option<Typed>,
 ) -> Result<(), Stop>
-    ensures { Passes node (rules.index_rules (scene_of env.now somewhere) (denoted_in (headings_in env.now) found.now) (typing_in typed.now)) result }
+    ensures { Passes node (rules.index_rules (scene_of env.now somewhere)
+        (denoted_in (headings_in env.now) found.now) (typing_in typed.now)) result }
 {
     if other_index(env, found, typed) {
         return Err(Stop::Fault(CheckFault::TypeMismatch, node));
@@ -234,7 +244,8 @@ fn arithmetic_operand(operand: Operand) -> bool
 }
 
 fn no_operand(env: &Env, operand: Operand, typed: &Option<Typed>) -> bool
-    ensures { result ≡ holds (rules.no_operand (scene_of env.now somewhere) (operand_view operand)) (typing_in typed.now) }
+    ensures { result ≡ holds (rules.no_operand (scene_of env.now somewhere) (operand_view operand))
+        (typing_in typed.now) }
 {
     match typed {
         None => false,
@@ -258,7 +269,8 @@ pub fn pass_operand(
     operand: Operand,
     typed: &Option<Typed>,
 ) -> Result<(), Stop>
-    ensures { Passes node (rules.operand_rules (scene_of env.now somewhere) (operand_view operand) (typing_in typed.now)) result }
+    ensures { Passes node (rules.operand_rules (scene_of env.now somewhere) (operand_view operand)
+        (typing_in typed.now)) result }
 {
     if logical_operand(operand) && not_test(env, typed) {
         return Err(Stop::Fault(CheckFault::NotTest, node));
@@ -285,7 +297,8 @@ pub fn pass_not(
     operand: Operand,
     typed: &Option<Typed>,
 ) -> Result<(), Stop>
-    ensures { Passes node (rules.not_rules (scene_of env.now place) (operand_view operand) (typing_in typed.now)) result }
+    ensures { Passes node (rules.not_rules (scene_of env.now place) (operand_view operand)
+        (typing_in typed.now)) result }
 {
     if place.constant {
         return Err(Stop::Fault(CheckFault::NotConst, node));
@@ -294,7 +307,8 @@ pub fn pass_not(
 }
 
 pub fn pass_test(env: &Env, node: u32, typed: &Option<Typed>) -> Result<(), Stop>
-    ensures { Passes node (rules.test_rules (scene_of env.now somewhere) (typing_in typed.now)) result }
+    ensures { Passes node (rules.test_rules (scene_of env.now somewhere) (typing_in typed.now))
+        result }
 {
     if not_test(env, typed) {
         return Err(Stop::Fault(CheckFault::NotTest, node));
@@ -303,7 +317,8 @@ pub fn pass_test(env: &Env, node: u32, typed: &Option<Typed>) -> Result<(), Stop
 }
 
 pub fn pass_simple(env: &Env, node: u32, typed: &Option<Typed>) -> Result<(), Stop>
-    ensures { Passes node (rules.simple_rules (scene_of env.now somewhere) (typing_in typed.now)) result }
+    ensures { Passes node (rules.simple_rules (scene_of env.now somewhere) (typing_in typed.now))
+        result }
 {
     if structured(env, typed) {
         return Err(Stop::Fault(CheckFault::TypeMismatch, node));
@@ -344,7 +359,8 @@ pub fn pass_call(
     callee: Option<Callee>,
     count: usize,
 ) -> Result<(), Stop>
-    ensures { Passes node (rules.call_rules (scene_of env.now place) (callee_in (headings_in env.now) callee) count None) result }
+    ensures { Passes node (rules.call_rules (scene_of env.now place)
+        (callee_in (headings_in env.now) callee) count None) result }
 {
     if place.constant {
         return Err(Stop::Fault(CheckFault::NotConst, node));
@@ -356,7 +372,8 @@ pub fn pass_call(
 }
 
 fn structured_place(env: &Env, located: &Option<Located>) -> bool
-    ensures { result ≡ holds (rules.structured_place (scene_of env.now somewhere)) (located_in located.now) }
+    ensures { result ≡ holds (rules.structured_place (scene_of env.now somewhere))
+        (located_in located.now) }
 {
     match located {
         None => false,
@@ -365,7 +382,8 @@ fn structured_place(env: &Env, located: &Option<Located>) -> bool
 }
 
 pub fn pass_known(env: &Env, place: Place, node: u32, located: &Option<Located>) -> Result<(), Stop>
-    ensures { Passes node (rules.known_rules (scene_of env.now place) (located_in located.now)) result }
+    ensures { Passes node (rules.known_rules (scene_of env.now place) (located_in located.now))
+        result }
 {
     if place.constant {
         return Err(Stop::Fault(CheckFault::NotConst, node));
@@ -423,7 +441,8 @@ pub fn pass_relation(
     left: &Option<Typed>,
     right: &Option<Typed>,
 ) -> Result<(), Stop>
-    ensures { Passes node (rules.relation_rules (scene_of env.now place) relation (both_of (typing_in left.now) (typing_in right.now))) result }
+    ensures { Passes node (rules.relation_rules (scene_of env.now place) relation
+        (both_of (typing_in left.now) (typing_in right.now))) result }
 {
     if place.constant {
         return Err(Stop::Fault(CheckFault::NotConst, node));
@@ -446,7 +465,8 @@ pub fn pass_relation(
 // ---- arguments
 
 fn not_fitting(env: &Env, formal: Formal, typed: &Option<Typed>) -> bool
-    ensures { result ≡ holds (rules.not_fitting (scene_of env.now somewhere) (formal_view formal)) (typing_in typed.now) }
+    ensures { result ≡ holds (rules.not_fitting (scene_of env.now somewhere) (formal_view formal))
+        (typing_in typed.now) }
 {
     match typed {
         None => false,
@@ -479,7 +499,8 @@ pub fn pass_argument(
     kind: Argument,
     typed: &Option<Typed>,
 ) -> Result<(), Stop>
-    ensures { Passes node (rules.argument_rules (scene_of env.now somewhere) (option_map formal_view formal) (argument_view kind) (typing_in typed.now)) result }
+    ensures { Passes node (rules.argument_rules (scene_of env.now somewhere)
+        (option_map formal_view formal) (argument_view kind) (typing_in typed.now)) result }
 {
     match formal {
         None => Ok(()),

@@ -20,7 +20,8 @@ pub fn pass_assign(
     located: &Option<Located>,
     typed: &Option<Typed>,
 ) -> Result<(), Stop>
-    ensures { Passes node (rules.assign_rules (scene_of env.now somewhere) (both_of (located_in located.now) (typing_in typed.now))) result }
+    ensures { Passes node (rules.assign_rules (scene_of env.now somewhere)
+        (both_of (located_in located.now) (typing_in typed.now))) result }
 {
     match located {
         None => Ok(()),
@@ -39,7 +40,8 @@ pub fn pass_assign(
 // ---- loops
 
 fn no_loop_variable(env: &Env, place: Place, found: Found) -> bool
-    ensures { result ≡ rules.no_loop_variable (scene_of env.now place) (found_view (headings_in env.now) found) }
+    ensures { result ≡ rules.no_loop_variable (scene_of env.now place)
+        (found_view (headings_in env.now) found) }
 {
     match found {
         Found::Absent | Found::Bad | Found::Variable(_, _) => false,
@@ -53,7 +55,8 @@ fn no_loop_variable(env: &Env, place: Place, found: Found) -> bool
 
 /// The name of a loop's variable.
 pub fn pass_loop_name(env: &Env, place: Place, node: u32, found: Found) -> Result<(), Stop>
-    ensures { Passes node (rules.loop_name_rules (scene_of env.now place) (found_view (headings_in env.now) found) None) result }
+    ensures { Passes node (rules.loop_name_rules (scene_of env.now place)
+        (found_view (headings_in env.now) found) None) result }
 {
     match found {
         Found::Absent => return Err(Stop::Fault(CheckFault::Undeclared, node)),
@@ -68,7 +71,8 @@ pub fn pass_loop_name(env: &Env, place: Place, node: u32, found: Found) -> Resul
 
 // A bound, or the end of a label, of another base than this shape's.
 fn other_base(env: &Env, shape: u32, typed: &Option<Typed>) -> bool
-    ensures { result ≡ holds (rules.other_base (scene_of env.now somewhere) shape) (typing_in typed.now) }
+    ensures { result ≡ holds (rules.other_base (scene_of env.now somewhere) shape)
+        (typing_in typed.now) }
 {
     match typed {
         None => false,
@@ -84,7 +88,8 @@ pub fn pass_loop(
     low: &Option<Typed>,
     high: &Option<Typed>,
 ) -> Result<(), Stop>
-    ensures { Passes node (rules.loop_rules {A = parts.Typing} (scene_of env.now somewhere) (located_in variable.now) (typing_in low.now) (typing_in high.now) None) result }
+    ensures { Passes node (rules.loop_rules {A = parts.Typing} (scene_of env.now somewhere)
+        (located_in variable.now) (typing_in low.now) (typing_in high.now) None) result }
 {
     match variable {
         None => Ok(()),
@@ -135,7 +140,8 @@ pub fn pass_by(env: &Env, node: u32, typed: &Option<Typed>) -> Result<(), Stop>
 
 /// CASE, behind its value.
 pub fn pass_case(env: &Env, node: u32, typed: &Option<Typed>) -> Result<(), Stop>
-    ensures { Passes node (rules.case_rules {A = parts.Typing} (scene_of env.now somewhere) (typing_in typed.now) None) result }
+    ensures { Passes node (rules.case_rules {A = parts.Typing} (scene_of env.now somewhere)
+        (typing_in typed.now) None) result }
 {
     if structured(env, typed) {
         return Err(Stop::Fault(CheckFault::TypeMismatch, node));
@@ -145,7 +151,8 @@ pub fn pass_case(env: &Env, node: u32, typed: &Option<Typed>) -> Result<(), Stop
 
 // A label of another base than the value of its CASE.
 fn other_label(env: &Env, case: &Option<Typed>, low: &Option<Typed>, high: &Option<Typed>) -> bool
-    ensures { result ≡ holds (rules.other_label (scene_of env.now somewhere) (typing_in low.now) (typing_in high.now)) (typing_in case.now) }
+    ensures { result ≡ holds (rules.other_label (scene_of env.now somewhere) (typing_in low.now)
+        (typing_in high.now)) (typing_in case.now) }
 {
     match case {
         None => false,
@@ -189,7 +196,8 @@ fn shares_value(span: Span, earlier: &[Span]) -> bool
 
 /// The values of a label, where both its ends have one.
 pub fn span_of(env: &Env, low: &Typed, high: &Typed) -> Option<Span>
-    ensures { option_map span_view result ≡ parts.span_of (scene_of env.now somewhere) (typing_of low.now, typing_of high.now) }
+    ensures { option_map span_view result ≡ parts.span_of (scene_of env.now somewhere)
+        (typing_of low.now, typing_of high.now) }
 {
     match low.constant {
         None => None,
@@ -217,13 +225,15 @@ fn shares_with(earlier: &[Span], span: Option<Span>) -> bool
 
 // The two ends are of one base, and the first is above the second.
 fn low_above_high(env: &Env, low: &Typed, high: &Typed) -> bool
-    ensures { result ≡ rules.low_above_high (scene_of env.now somewhere) (typing_of low.now, typing_of high.now) }
+    ensures { result ≡ rules.low_above_high (scene_of env.now somewhere)
+        (typing_of low.now, typing_of high.now) }
 {
     env.base(low.shape) == env.base(high.shape) && is_above(low.constant, high.constant)
 }
 
 fn label_twice(env: &Env, earlier: &[Span], low: &Typed, high: &Typed) -> bool
-    ensures { result ≡ rules.label_twice (scene_of env.now somewhere) (spans_view earlier.now) (parts.span_of (scene_of env.now somewhere)) (typing_of low.now, typing_of high.now) }
+    ensures { result ≡ rules.label_twice (scene_of env.now somewhere) (spans_view earlier.now)
+        (parts.span_of (scene_of env.now somewhere)) (typing_of low.now, typing_of high.now) }
 {
     env.base(low.shape) == env.base(high.shape)
         && !is_above(low.constant, high.constant)
@@ -239,7 +249,9 @@ pub fn pass_label(
     low: &Option<Typed>,
     high: &Option<Typed>,
 ) -> Result<(), Stop>
-    ensures { Passes node (rules.label_rules {A = parts.Typing} (scene_of env.now somewhere) (typing_in case.now) (spans_view earlier.now) (parts.span_of (scene_of env.now somewhere)) (typing_in low.now) (typing_in high.now) None) result }
+    ensures { Passes node (rules.label_rules {A = parts.Typing} (scene_of env.now somewhere)
+        (typing_in case.now) (spans_view earlier.now) (parts.span_of (scene_of env.now somewhere))
+        (typing_in low.now) (typing_in high.now) None) result }
 {
     if other_label(env, case, low, high) {
         return Err(Stop::Fault(CheckFault::TypeMismatch, node));
@@ -264,7 +276,8 @@ pub fn pass_label(
 // ---- RETURN, READ and WRITE
 
 fn other_result(env: &Env, typed: &Option<Typed>) -> bool
-    ensures { result ≡ holds (rules.other_result (scene_of env.now somewhere) (returns_view env.now.returns)) (typing_in typed.now) }
+    ensures { result ≡ holds (rules.other_result (scene_of env.now somewhere)
+        (returns_view env.now.returns)) (typing_in typed.now) }
 {
     match env.returns {
         Returns::Nothing => false,
@@ -285,7 +298,8 @@ fn other_form(with_value: bool, returns: Returns) -> bool
 
 /// RETURN with an expression.
 pub fn pass_return(env: &Env, place: Place, node: u32, typed: &Option<Typed>) -> Result<(), Stop>
-    ensures { Passes node (rules.return_rules (scene_of env.now place) true (typing_in typed.now)) result }
+    ensures { Passes node (rules.return_rules (scene_of env.now place) true (typing_in typed.now))
+        result }
 {
     if other_result(env, typed) {
         return Err(Stop::Fault(CheckFault::TypeMismatch, node));
@@ -314,7 +328,8 @@ pub fn pass_bare_return(env: &Env, place: Place, node: u32) -> Result<(), Stop>
 
 /// A designator that READ fills.
 pub fn pass_read(env: &Env, node: u32, located: &Option<Located>) -> Result<(), Stop>
-    ensures { Passes node (rules.read_rules (scene_of env.now somewhere) (located_in located.now)) result }
+    ensures { Passes node (rules.read_rules (scene_of env.now somewhere) (located_in located.now))
+        result }
 {
     match located {
         None => Ok(()),
@@ -329,7 +344,8 @@ pub fn pass_read(env: &Env, node: u32, located: &Option<Located>) -> Result<(), 
 
 /// An item of WRITE.
 pub fn pass_write(env: &Env, node: u32, typed: &Option<Typed>) -> Result<(), Stop>
-    ensures { Passes node (rules.write_rules (scene_of env.now somewhere) (typing_in typed.now)) result }
+    ensures { Passes node (rules.write_rules (scene_of env.now somewhere) (typing_in typed.now))
+        result }
 {
     match typed {
         None => Ok(()),
