@@ -24,6 +24,8 @@ mod names;
 #[cfg(test)]
 mod object;
 #[cfg(test)]
+mod objects;
+#[cfg(test)]
 mod parse;
 #[cfg(test)]
 mod scan;

@@ -5,7 +5,7 @@ use Rattle.alma_code.specs.Lines.{line_at}
 use Rattle.alma_implements.specs.Implements.{line_in}
 use Rattle.alma_driver.specs.Ends.{run_end}
 use Rattle.alma_driver.proofs.RunLemmas.{goes_run}
-use Rattle.alma_driver.proofs.driver.run_code.Goals as goal
+use Rattle.alma_driver.proofs.run.run_code.Goals as goal
 
 pub returns-in-Ok : goal.returns-in-Ok
 returns-in-Ok g c =
