@@ -1,5 +1,5 @@
 -- The row of SOME: a turn, its choice entry, and the next turn from the frames in which this one began.
-use Rattle.std.proofs.Common.{◌≡◌, ℕ, suc, ◌+◌, ◌≤◌, List, [], ◌∷◌, ◌++◌, arith, ℤ, pos, ◌+ℤ◌, refl, sym, ap, ◌∙◌, subst, append-nil}
+use Rattle.std.proofs.Common.{◌≡◌, ℕ, suc, ◌+◌, ◌-◌, ◌≤◌, List, [], ◌∷◌, ◌++◌, arith, ℤ, pos, ◌+ℤ◌, refl, sym, ap, ◌∙◌, subst, append-nil}
 use Rattle.std.specs.Prelude.{Bool, true, false, not, int_lt}
 use Rattle.std.proofs.lemmas.Int.{ints}
 use Rattle.alma_base.specs.declared.number.Range.{Range}
@@ -14,7 +14,7 @@ use Rattle.alma_code.specs.Machine.{State}
 use Rattle.alma_mean.specs.Store.{Store, Place, Number, top_cell, put_top}
 use Rattle.alma_mean.specs.Events.{Events, NoYield, Fail, join}
 use Rattle.alma_mean.specs.Rows.{read_cell, next_turn, set_variable}
-use Rattle.alma_implements.proofs.Goes.{Goes, no_step, and_then, before, join_goes}
+use Rattle.alma_implements.proofs.Goes.{Goes, no_step, and_then, before, weaker, join_goes}
 use Rattle.alma_implements.proofs.Address.{at_address}
 use Rattle.alma_implements.proofs.Frames.{IsAt}
 use Rattle.alma_implements.proofs.Steps.{InstrAt, top_written, Holds, HasKind, less_step, zero_jumps, other_goes_on, add_does, fits_step}
@@ -75,14 +75,15 @@ module _ (code : PlainCode) (input : List ℕ) where
           let b = other_goes_on code input line (top + 1) now1 held a.to a_is more (top + 3) (pos 1) zero (holds.test (pos 1)) refl in
           let c = choose_step code input line (top + 2) retry now1 held b.to (at_address (top + 1 + 1) (top + 2) now1 held b.to (omega arith) b.is) choose in
           subst (λ x. Goes code input line 0 24 (Leaves exit w) held (join tried (rest (not x))) s 24 q) (sym e)
-          (join_goes code input line 0 24 (Leaves exit w) held (branch_entry retry now1 ∷ []) tried (rest false) s 24 q
-          (before code input line 0 24 (Leaves exit w) (held ++ branch_entry retry now1 ∷ []) tried s c.to 3 24 16 q q (and_then code input (and_then code input a.silently b.silently) c.silently) (omega arith) (omega arith)
+          (before code input line 0 24 (Leaves exit w) held (join tried (rest false)) s c.to 3 24 16 q (q - 3) (and_then code input (and_then code input a.silently b.silently) c.silently) (omega arith) (omega arith)
+          (join_goes code input line 0 24 (Leaves exit w) held (branch_entry retry now1 ∷ []) tried (rest false) c.to 16 (q - 3)
+          (weaker code input line 0 24 (Leaves exit w) (held ++ branch_entry retry now1 ∷ []) tried c.to 16 16 (q - 3) q (omega arith) (omega arith)
           (attempt (pos 1) (held ++ branch_entry retry now1 ∷ []) c.to (at_address (top + 2 + 1) (top + 3) now1 (held ++ branch_entry retry now1 ∷ []) c.to (omega arith) c.is)))
           (λ base2 x like failing.
           let y = pop_step code input retry now1 base2 x failing in
           let z = fits_step code input line retry now1 base2 y.to y.is counter (n +ℤ pos 1) (holds.kind' (pos 1)) (fits e) (add_does code input line retry now1 base2 y.to y.is counter counter step n (pos 1) add (holds.count' (pos 1)) (holds.by_one (pos 1))) in
           let t = jumps code input line (retry + 1) top (top_written now1 counter (cell.Int (n +ℤ pos 1))) base2 z.to z.is back in
-          later e 3 q (omega arith) (omega (arith, owes)) base2 x t.to (and_then code input (and_then code input y.silently z.silently) t.silently) t.is))
+          later e 3 (q - 3) (omega arith) (omega (arith, owes)) base2 x t.to (and_then code input (and_then code input y.silently z.silently) t.silently) t.is)))
       by false e =
           let now0 : List PlainFrame = top_written now more (cell.Int (pos 0)) in
           let a = less_step code input line top now held s is more counter limit n l less holds.kind holds.count holds.last in

@@ -22,12 +22,12 @@ use Rattle.alma_mean.specs.Store.{Store, Place, Unknown, Number, put, put_all, c
 use Rattle.alma_mean.specs.Store as store_of
 use Rattle.alma_mean.specs.Events.{Events, NoYield, Fail, Fault, one, join, bind, node}
 use Rattle.alma_mean.specs.Rows.{match_cell, match_cells, copy_cells, succeed_if}
-use Rattle.alma_mean.specs.Meaning.{Level, ev_test, ev_expr, ev_desig}
+use Rattle.alma_mean.specs.Meaning.{Level, ev_expr, ev_desig}
 use Rattle.alma_implements.specs.Implements.{line_in}
 use Rattle.alma_implements.proofs.Frames.{shift_in, own_end, IsAt, AreNumbers, SamePlace, SameContent}
 use Rattle.alma_implements.proofs.FrameLemmas.{content_there, numbers_kept, place_kept}
 use Rattle.alma_implements.proofs.Carrying.{kind_in, number_content}
-use Rattle.alma_implements.proofs.Steps.{Holds, InstrAt, passed, does, went_on, place_is, faults_now, here_too}
+use Rattle.alma_implements.proofs.Steps.{InstrAt, passed, does, went_on, place_is, here_too}
 use Rattle.alma_templates.specs.Lined.{Lined, own, in_row}
 use Rattle.alma_templates.specs.Tables.{Tables}
 use Rattle.alma_templates.specs.Slots.{behind_desig}
@@ -203,7 +203,7 @@ module _ (p : Program) (tables : Tables) (code : PlainCode) (input : List ℕ) (
   abbrev Ends : (at lo : ℕ) → Store → List PlainFrame → Events NoYield → Type 0
   Ends at lo v now e = From p code input line 8 at (at + 1) now (leaving p code input lo r now (Nothing p code input)) e q
 
-  passes_with : (at lo : ℕ) (v w : Store) (now t : List PlainFrame) → own_end p r ≤ lo → Begins p code input r v now → Left p code input lo r now w t → ((held : List PlainEntry) (s : State) → IsAt at now held s → step code input s ≡ quiet_step (record (passed code input s) { now = t })) → Ends at lo v now (one w tt)
+  pub passes_with : (at lo : ℕ) (v w : Store) (now t : List PlainFrame) → own_end p r ≤ lo → Begins p code input r v now → Left p code input lo r now w t → ((held : List PlainEntry) (s : State) → IsAt at now held s → step code input s ≡ quiet_step (record (passed code input s) { now = t })) → Ends at lo v now (one w tt)
   passes_with at lo v w now t behind b left steps =
       step_from p code input line 7 at (at + 1) (at + 1) lo r w now t (Nothing p code input) (one w tt) q behind
       (λ held s is. record { to = record (passed code input s) { now = t }; silently = went_on code input s (record (passed code input s) { now = t }) (steps held s is); is = record { mode = is.mode; here = ap (λ n. n + 1) is.here; frames = refl; entries = is.entries } }) left

@@ -13,16 +13,15 @@ use Rattle.alma_code.specs.Picture.{PlainFrame, PlainEntry, written}
 use Rattle.alma_code.specs.Picture as picture
 use Rattle.alma_code.specs.declared.cell.SlotKind.TheVariants as slot
 use Rattle.alma_code.specs.Plain.{PlainCode, kinds_at}
-use Rattle.alma_code.specs.Machine.{State}
 use Rattle.alma_ir.specs.Tree.{Program, Stmts, Desig}
 use Rattle.alma_ir.specs.Checked.{desig_cells}
 use Rattle.alma_mean.specs.Store.{Store, Place, Number, Unknown, put, put_at, put_top, top, top_cell}
 use Rattle.alma_mean.specs.Store as store_of
-use Rattle.alma_mean.specs.Events.{Events, NoYield, Flow, Go, Return, Fail, one, join, bind}
+use Rattle.alma_mean.specs.Events.{Events, NoYield, Fail, one, join, bind}
 use Rattle.alma_mean.specs.Arithmetic.{check_range, fault_unless}
 use Rattle.alma_mean.specs.Rows.{read_cell, next_turn, set_variable}
 use Rattle.alma_mean.specs.Meaning.{Level, ev_expr, ev_desig}
-use Rattle.alma_implements.proofs.Goes.{IsGoing, Goes, Silently, before, weaker, and_then, bind_goes, one_goes, no_step}
+use Rattle.alma_implements.proofs.Goes.{before, weaker, bind_goes, one_goes}
 use Rattle.alma_implements.proofs.Frames.{shift, shift_in, own_end, Fits}
 use Rattle.alma_implements.proofs.ChoiceSteps.{jumps}
 use Rattle.alma_implements.proofs.ExprRows.{AreVariables}
@@ -30,15 +29,15 @@ use Rattle.alma_implements.proofs.ForSteps.{SlotThere, a_number, not_known, slot
 use Rattle.alma_implements.proofs.StmtRows.{put_routine}
 use Rattle.alma_implements.proofs.Steps.{top_written, Holds, InstrAt, store_step}
 use Rattle.alma_implements.proofs.FrameLemmas.{content_there}
-use Rattle.alma_implements.proofs.Ways.{Ways, Leaves, Runs, Later, then_up_to}
-use Rattle.alma_templates.specs.Lined.{Lined, own, in_row}
+use Rattle.alma_implements.proofs.Ways.{Ways, Leaves, Runs, Later}
+use Rattle.alma_templates.specs.Lined.{Lined, own}
 use Rattle.alma_templates.specs.Tables.{Tables, range_number, is_whole}
 use Rattle.alma_templates.specs.Slots.{bare_desig, unless_bare, desig_slots}
 use Rattle.alma_templates.specs.Pieces.{unless_whole, fit_code, turn_code}
 use Rattle.alma_templates.specs.Templates.{stmts_code, desig_code, place_at, set_by, count_at, count_code}
 use Rattle.alma_templates.specs.Stands.{Stands}
 use Rattle.alma_templates.proofs.Stands.{stands_front, stands_back}
-use Rattle.alma_templates.proofs.Parts.{Takes, RunsFor, alone_from, Begins, begins, Left, left_self, left_less, left_on, left_temp, has_kind, holds_temp, put_position, sound_after, holds_after, value_after, IsValue, PlaceIn, NodeRuns, From, leaving, ending, from_more, from_ending, on_later, then_ending, faults_here}
+use Rattle.alma_templates.proofs.Parts.{Takes, RunsFor, alone_from, Begins, begins, Left, left_self, left_less, left_on, left_temp, has_kind, holds_temp, put_position, sound_after, holds_after, value_after, IsValue, PlaceIn, From, ending, from_more, from_ending, on_later, then_ending, faults_here}
 use Rattle.alma_templates.proofs.AtOnce.{BareFits, bare_place}
 use Rattle.alma_templates.proofs.RangeChecks.{whole_within, check_from}
 use Rattle.alma_templates.proofs.Targets.{IsTarget, put_places, left_put, top_free}
@@ -96,10 +95,10 @@ module _ (p : Program) (tables : Tables) (code : PlainCode) (input : List ℕ) (
           let left : Left p code input (lo + 1) r now v2 t = record { fits = fit; routine = put_routine v (top v) counter (Number y) live ∙ b.routine; sound = sound_after p code input (lo + 1) v v2 now t b.stand fit (put_places p code input v (top v) counter y live there) (put_position p code input v (top v) counter (Number y) (top_free p code input counter r v now of_counter b)) b.sound } in
           let m = next_count code input line at now held s is (shift p r + counter) (shift p r + limit) lo exit i x hx l by hl step within_limit (slot_has_kind p code input r counter of_counter v now b.stand b.routine) in
           let g = jumps code input line (at + 1) top_at t held m.to m.is j in
-          weaker code input line 0 24 (Leaves exit (ending p code input may (lo + 1) r now)) held (again v2) s 7 0 q q (omega arith) (omega arith)
+          before code input line 0 24 (Leaves exit (ending p code input may (lo + 1) r now)) held (again v2) s m.to 1 7 0 q (q - 1) m.silently (omega arith) (omega arith)
           (on_later p code input may line top_at exit (lo + 1) (lo + 1) r v2 now t (again v2) u (omega arith) (omega (arith, behind)) left
           (turns v2 t y (begins p code input (lo + 1) r now v2 t left) (top_put v counter (Number y) b.stand.some there) (holds_after p code input (lo + 1) r lo (cell.Int by) v v2 now t b behind (omega arith) left step))
-          2 q (omega arith) (omega (arith, owes)) held s g.to (and_then code input m.silently g.silently) g.is)
+          1 (q - 1) (omega arith) (omega (arith, owes)) held m.to g.to g.silently g.is)
 
       by_limit : (x : ℤ) → top_cell v counter ≡ Number x → is_integer x ≡ true → Holds now (shift p r + counter) (cell.Int x) → SlotThere p code input v now limit (shift p r + limit)
           → Goal (read_cell (top_cell v limit) (λ l. if_true (is_beyond (x +ℤ by) l by) (λ _. one v tt) (λ _. again (put_top v counter (Number (x +ℤ by))))))

@@ -45,7 +45,7 @@ same_entry (negsuc n) from to = refl
 
 module _ (p : Program) (tables : Tables) (code : PlainCode) (input : List ℕ) (below : Level) (r line q : ℕ) (may : Bool) where
   -- behind both bounds: they are stored, and a loop that has a turn begins
-  pub bounds_from : (at empty exit lo last counter limit u : ℕ) (by : ℤ) (d : Desig) (turn none : Store → Events NoYield) (v : Store) (now : List PlainFrame) (n l : ℤ) → desig_cells d ≡ 1 → own_end p r ≤ lo → lo + 1 < last → q ≤ 4 + u
+  pub bounds_from : (at empty exit lo last counter limit u : ℕ) (by : ℤ) (d : Desig) (turn none : Store → Events NoYield) (v : Store) (now : List PlainFrame) (n l : ℤ) → desig_cells d ≡ 1 → own_end p r ≤ lo → lo + 1 < last → q ≤ u
       → AreVariables p code input r counter 1 → AreVariables p code input r limit 1 → counter ≢ limit → slice_get (kinds_at code r) (lo + 1) ≡ Some slot.Number
       → InstrAt code input line at (I.Move (shift p r + counter) (lo + 1)) → InstrAt code input line (at + 1) (I.Move (shift p r + limit) last) → InstrAt code input line (at + 1 + 1) (entry_code by (lo + 1) last) → InstrAt code input line (at + 1 + 1 + 1) (I.JumpZero (lo + 1) empty)
       → Begins p code input r v now → IsValue p code input (lo + 1) n now → IsValue p code input last l now → Holds now lo (cell.Int by)
@@ -147,7 +147,7 @@ module _ (p : Program) (tables : Tables) (code : PlainCode) (input : List ℕ) (
       (value_after p code input last r (lo + 1) n v1 v2 t1 t2 b1 (omega (arith, slots.behind)) above left2 value1) value2 (holds_after p code input last r lo (cell.Int by) v1 v2 t1 t2 b1 slots.behind (omega (arith, above)) left2 step1))))))
       held c.to c.is)
 
-  pub for_runs : (at lo u : ℕ) (d : Desig) (range : Range) (counter limit : ℕ) (from to : Expr) (by : ℤ) (body : Stmts) → desig_cells d ≡ 1 → q ≤ 4 + u → counter ≢ limit
+  pub for_runs : (at lo u : ℕ) (d : Desig) (range : Range) (counter limit : ℕ) (from to : Expr) (by : ℤ) (body : Stmts) → desig_cells d ≡ 1 → q ≤ u → counter ≢ limit
       → HasSlots p code r lo (for_slots p r (a_loop d range counter limit from to by body)) → AreVariables p code input r counter 1 → AreVariables p code input r limit 1
       → ExprRuns p tables code input below r line q (at + 1) (lo + 1) from → ((next : ℕ) → ExprRuns p tables code input below r line q next (behind_expr p r (lo + 1) from) to)
       → CountsOn p tables code input below r line q may (for_top at lo from to by) (at + length (stmt_code p tables r line at lo (ForTo (a_loop d range counter limit from to by body)))) lo counter by (turn_for p input below (a_loop d range counter limit from to by body)) u

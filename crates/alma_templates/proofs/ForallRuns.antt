@@ -14,24 +14,21 @@ use Rattle.alma_code.specs.Carries.{frames_with_carry, diffs}
 use Rattle.alma_code.specs.Picture.{PlainFrame, PlainEntry, last_frame}
 use Rattle.alma_code.specs.Picture as picture
 use Rattle.alma_code.specs.Plain.{PlainCode, kinds_at}
-use Rattle.alma_code.specs.Machine.{State}
 use Rattle.alma_ir.specs.Tree.{Program, Stmts, Forall, routine_at}
 use Rattle.alma_mean.specs.Store.{Store, Unknown, Number, top_frame, over, changes}
 use Rattle.alma_mean.specs.Store as store
-use Rattle.alma_mean.specs.Events.{Events, NoYield}
+use Rattle.alma_mean.specs.Events.{NoYield}
 use Rattle.alma_mean.specs.Rows.{forall_row}
-use Rattle.alma_mean.specs.Meaning.{Level, ev_stmts, ev_stmt}
-use Rattle.alma_implements.proofs.Goes.{Goes, before, weaker}
-use Rattle.alma_implements.proofs.Address.{at_address}
-use Rattle.alma_implements.proofs.Frames.{own_end, StandFor, Fits, HasSlots, IsAt}
+use Rattle.alma_mean.specs.Meaning.{Level, ev_stmts}
+use Rattle.alma_implements.proofs.Goes.{Goes, before}
+use Rattle.alma_implements.proofs.Frames.{own_end, StandFor, Fits, HasSlots}
 use Rattle.alma_implements.proofs.FrameLemmas.{FrontAlike, frame_routine}
-use Rattle.alma_implements.proofs.ExprRows.{first_kind, slots_first, slots_behind}
+use Rattle.alma_implements.proofs.ExprRows.{first_kind, slots_behind}
 use Rattle.alma_implements.proofs.CarryMaps.{IsRising}
-use Rattle.alma_implements.proofs.Carrying.{Alike, nothing_alike, alike_moved, laid_stands, laid_fits}
+use Rattle.alma_implements.proofs.Carrying.{Alike, nothing_alike, alike_moved, laid_fits}
 use Rattle.alma_implements.proofs.Gaining.{gains, meant_gained}
 use Rattle.alma_implements.proofs.LaidOver.{or_else, over_cell, over_count, over_routine, overlaid_count, overlaid_form}
 use Rattle.alma_implements.proofs.Steps.{Holds, HasKind, InstrAt, top_written}
-use Rattle.alma_implements.proofs.FirstRow.{KeepsMark}
 use Rattle.alma_implements.proofs.ForallSteps.{forall_step}
 use Rattle.alma_implements.proofs.ForallRow.{ForallCode, ForallParts, forall_goes}
 use Rattle.alma_implements.proofs.SeqRow.{runs_less}
@@ -43,7 +40,7 @@ use Rattle.alma_templates.specs.Templates.{stmts_code, stmt_code}
 use Rattle.alma_templates.specs.Pieces.{begin_each, end_each}
 use Rattle.alma_templates.specs.Stands.{Stands}
 use Rattle.alma_templates.proofs.Stands.{stands_front, stands_back}
-use Rattle.alma_templates.proofs.Parts.{Positioned, Begins, Left, sound_of, begins, left_on, left_less, left_temp, holds_temp, has_kind, holds_after, From, from_less, node_runs, leaving, ending, Nothing}
+use Rattle.alma_templates.proofs.Parts.{Positioned, Begins, Left, sound_of, begins, left_on, left_temp, holds_temp, has_kind, holds_after, From, from_less, node_runs, leaving, ending, Nothing}
 use Rattle.alma_templates.proofs.FormRuns.{ListRuns, StmtRuns}
 
 module _ (p : Program) (code : PlainCode) where
@@ -75,7 +72,7 @@ CarriesPosition carry = (a : store.Cell) → carried_at 0 0 carry ≡ Some a →
 
 module _ (p : Program) (code : PlainCode) (input : List ℕ) where
   -- there is such a cell
-  position_there : (v : Store) → Positioned p code input v → 0 < length (get_or v 0 store.no_frame).cells
+  pub position_there : (v : Store) → Positioned p code input v → 0 < length (get_or v 0 store.no_frame).cells
   position_there v h = elim (cases_lt 0 (length (get_or v 0 store.no_frame).cells)) [
     | inl there ↦ there
     | inr past ↦ let bad : Unknown ≡ Number (pos h.at) = sym (get_or_past (get_or v 0 store.no_frame).cells 0 Unknown past) ∙ h.is in absurd (cc)
@@ -209,8 +206,7 @@ module _ (p : Program) (tables : Tables) (code : PlainCode) (input : List ℕ) (
               mark = holds_after p code input (inner + 1) r inner (cell.Mark height) u t marked now2 bm (omega (arith, own_lo, above)) (omega arith) after (holds_temp p code input r inner u laid (cell.Mark height) slot.Mark second_kind_is bl);
               outer_mark = holds_after p code input inner r lo (cell.Mark h) u t laid now2 bl own_lo above whole (laid_holds v now left c carry alike);
               gained = λ other alike2.
-                  let here : Alike p code inner v now c other = alike_here v now left c other alike2 in
-                  (
+                  let here : Alike p code inner v now c other = alike_here v now left c other alike2 in (
                     alike_moved p code inner v s0 now now0 (with_changes (diffs laid now2) c) (with_changes (changes (over v other) t) other) (sym (long v now left)) (front_back p code s0 v now0 now (long v now left) (front v now left))
                         (gains p code inner v now c other left.fits.stand here t now2 whole.fits),
                     gained_position p code input (over v other) t other (begins_laid v now left c other alike2).stand.some (begins_laid v now left c other alike2).sound.position whole.fits.stand.some whole.sound.position alike2.1,

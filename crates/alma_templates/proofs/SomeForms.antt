@@ -1,5 +1,5 @@
 -- SOME, from template to run: the step and both bounds, and the turns, each with a choice entry but the last.
-use Rattle.std.proofs.Common.{◌≡◌, ◌≢◌, ℕ, suc, ◌+◌, ◌-◌, ◌<◌, ◌≤◌, Bool, true, false, not, List, [], ◌∷◌, ◌++◌, length, Some, None, Option, refl, sym, ap, ◌∙◌, subst, arith, ℤ, pos, ◌+ℤ◌}
+use Rattle.std.proofs.Common.{◌≡◌, ◌≢◌, ℕ, suc, ◌+◌, ◌-◌, ◌<◌, ◌≤◌, Bool, true, not, List, [], ◌∷◌, ◌++◌, length, Some, None, Option, refl, sym, ap, ◌∙◌, subst, arith, ℤ, pos, ◌+ℤ◌}
 use Rattle.std.specs.Prelude.{slice_get, int_lt}
 use Rattle.std.proofs.lemmas.List.{length-append}
 use Rattle.alma_base.specs.declared.number.Range.{Range}
@@ -9,17 +9,16 @@ use Rattle.alma_code.specs.declared.cell.SlotKind.{SlotKind}
 use Rattle.alma_code.specs.declared.cell.SlotKind.TheVariants as slot
 use Rattle.alma_code.specs.declared.instr.Instr.{Instr}
 use Rattle.alma_code.specs.declared.instr.Instr.TheVariants as I
-use Rattle.alma_code.specs.Picture.{PlainFrame, PlainEntry}
+use Rattle.alma_code.specs.Picture.{PlainFrame}
 use Rattle.alma_code.specs.Plain.{PlainCode, kinds_at}
-use Rattle.alma_code.specs.Machine.{State}
 use Rattle.alma_ir.specs.Tree.{Program, Desig, Expr, Stmts, Loop, SomeOf, a_loop}
 use Rattle.alma_ir.specs.Checked.{desig_cells}
 use Rattle.alma_mean.specs.Store.{Store, Number, put_top, top, top_cell}
 use Rattle.alma_mean.specs.Events.{Events, NoYield, Fail, join, bind, node}
 use Rattle.alma_mean.specs.Rows.{begin_loop, read_cell, set_variable, next_turn, some_turn}
 use Rattle.alma_mean.specs.Meaning.{Level, ev_stmts, ev_expr, ev_desig, turn_some}
-use Rattle.alma_implements.proofs.Goes.{Goes, credited}
-use Rattle.alma_implements.proofs.Frames.{shift, own_end, HasSlots, Fits, IsAt}
+use Rattle.alma_implements.proofs.Goes.{credited}
+use Rattle.alma_implements.proofs.Frames.{shift, own_end, HasSlots, Fits}
 use Rattle.alma_implements.proofs.ExprRows.{AreVariables, first_kind, slots_first, slots_behind}
 use Rattle.alma_implements.proofs.ForSteps.{slot_within, slot_has_kind, number_there, fits_top, count_integer, top_put, top_put_other}
 use Rattle.alma_implements.proofs.SomeRow.{HoldsTurn, some_row, beyond_by_one}
@@ -235,7 +234,7 @@ module _ (p : Program) (tables : Tables) (code : PlainCode) (input : List ℕ) (
       let next : ℕ = at + length front in
       stands_front code at front (some_turns line next (shift p r + counter) (shift p r + limit) lo (lo + 1) (behind_expr p r (lo + 1) from) more (turn_made (bare_desig d) (next + 7) (more + 1) d range counter body)) stands
 
-  pub some_runs : (at lo u : ℕ) (d : Desig) (range : Range) (counter limit : ℕ) (from to : Expr) (by : ℤ) (body : Stmts) → desig_cells d ≡ 1 → q ≤ 4 + u → counter ≢ limit
+  pub some_runs : (at lo u : ℕ) (d : Desig) (range : Range) (counter limit : ℕ) (from to : Expr) (by : ℤ) (body : Stmts) → desig_cells d ≡ 1 → q ≤ u → counter ≢ limit
       → HasSlots p code r lo (some_slots p r (a_loop d range counter limit from to by body)) → AreVariables p code input r counter 1 → AreVariables p code input r limit 1
       → ExprRuns p tables code input below r line q (at + 1) (lo + 1) from → ((next : ℕ) → ExprRuns p tables code input below r line q next (behind_expr p r (lo + 1) from) to)
       → TurnsOn (some_top at lo from to) (some_exit at lo (a_loop d range counter limit from to by body)) lo counter limit (turn_some p input below (a_loop d range counter limit from to by body)) u
