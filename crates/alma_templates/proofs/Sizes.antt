@@ -1,16 +1,18 @@
 -- The slots and the instructions of each routine of a checked program are at most 16 for each node.
-use Rattle.std.proofs.Common.{◌≡◌, ℕ, suc, ◌+◌, ◌*◌, ◌<◌, ◌≤◌, true, false, List, [], ◌∷◌, length, Option, Some, None, arith}
+use Rattle.std.proofs.Common.{◌≡◌, ℕ, suc, ◌+◌, ◌*◌, ◌<◌, ◌≤◌, true, false, List, [], ◌∷◌, length, get_or, Option, Some, None, ap, ◌∙◌, arith}
 use Rattle.std.specs.List.{AllByRecursion}
-use Rattle.std.proofs.lemmas.List.{length-append}
+use Rattle.std.proofs.lemmas.List.{length-append, length-map}
+use Rattle.alma_code.specs.declared.head.Run.{Run}
 use Rattle.alma_ir.specs.declared.phrase.Root.TheVariants as root
-use Rattle.alma_ir.specs.Tree.{Program, Routine, routine_at, Value, Bind, Unify, SameCells, Seq, And, Or, Not, CallTest, Const, Load, Chain, Compare, Truth, Known, Chr, CallExpr, a_desig}
+use Rattle.alma_ir.specs.Tree.{Program, Routine, no_routine, routine_at, Value, Bind, Unify, SameCells, Seq, And, Or, Not, CallTest, Const, Load, Chain, Compare, Truth, Known, Chr, CallExpr, a_desig}
 use Rattle.alma_ir.specs.Checked.{IsChecked, RootExists, CallLeads}
-use Rattle.alma_ir.specs.Count.{stmts_nodes, routine_nodes}
+use Rattle.alma_ir.specs.Count.{stmts_nodes, routine_nodes, routines_nodes, nodes}
 use Rattle.alma_ir.specs.Lines.{body_with_lines}
 use Rattle.alma_ir.specs.Phrases.{Phrase, StmtPhrase, TestPhrase, ExprPhrase, ArgPhrase, DesigPhrase, SelPhrase, stmts_phrases}
 use Rattle.alma_templates.specs.Lined.{Lined, own}
 use Rattle.alma_templates.specs.Slots.{stmts_slots, own_kinds}
 use Rattle.alma_templates.specs.Tables.{Tables}
+use Rattle.alma_templates.specs.Compiled.{program_code, routines_code}
 use Rattle.alma_templates.specs.Templates.{stmts_code, end_code, routine_code}
 use Rattle.alma_templates.proofs.FewInstrs as instrs
 use Rattle.alma_templates.proofs.FewSlots as slots
@@ -64,3 +66,24 @@ module _ (p : Program) (checked : IsChecked p) (r : ℕ) (lt : r < length p.rout
         z,
         length-append (stmts_code p tables r at lo (body_with_lines (routine_at p r))) (own (routine_at p r).line (end_code p tables r (routine_at p r).result ∷ [])),
       )
+
+module _ (p : Program) (checked : IsChecked p) (tables : Tables) where
+  routines_few :
+      (xs : List Routine) (r at : ℕ) → ((i : ℕ) → routine_at p (r + i) ≡ get_or xs i no_routine) → r + length xs ≤ length p.routines
+      → length (routines_code p tables r (length xs) at) ≤ 16 * routines_nodes xs
+  routines_few [] r at same fit = omega arith
+  routines_few (x ∷ rest) r at same fit =
+      let first : List Lined = routine_code p tables r at in
+      let next : ℕ = at + length first in
+      let here : r ≡ r + 0 = omega arith in
+      let is : routine_nodes (routine_at p r) ≡ routine_nodes x = ap routine_nodes (ap (routine_at p) here ∙ same 0) in
+      let a = few_instrs p checked r (omega (arith, fit)) tables at in
+      let b = routines_few rest (suc r) next (λ i. (let moved : suc r + i ≡ r + suc i = omega arith in ap (routine_at p) moved ∙ same (suc i))) (omega (arith, fit)) in
+      omega (arith, a, b, is, length-append first (routines_code p tables (suc r) (length rest) next))
+
+  -- the instructions of the whole code
+  pub few_of_code : (runs : List (List Run)) → length (program_code p tables runs).instrs ≤ 16 * nodes p
+  few_of_code runs =
+      let code : List Lined = routines_code p tables 0 (length p.routines) 0 in
+      let z = routines_few p.routines 0 0 (λ i. (let same : 0 + i ≡ i = omega arith in ap (routine_at p) same)) (omega arith) in
+      omega (arith, z, length-map code (λ x. x.instr))
