@@ -3,6 +3,7 @@ use Rattle.std.proofs.Common.{◌≡◌, ℕ, suc, ◌+◌, ◌*◌, ◌<◌, �
 use Rattle.std.specs.List.{AllByRecursion}
 use Rattle.std.proofs.lemmas.List.{length-append, length-map}
 use Rattle.alma_code.specs.declared.head.Run.{Run}
+use Rattle.alma_code.specs.Plain.{PlainCode}
 use Rattle.alma_ir.specs.declared.phrase.Root.TheVariants as root
 use Rattle.alma_ir.specs.Tree.{Program, Routine, no_routine, routine_at, Value, Bind, Unify, SameCells, Seq, And, Or, Not, CallTest, Const, Load, Chain, Compare, Truth, Known, Chr, CallExpr, a_desig}
 use Rattle.alma_ir.specs.Checked.{IsChecked, RootExists, CallLeads}
@@ -12,6 +13,7 @@ use Rattle.alma_ir.specs.Phrases.{Phrase, StmtPhrase, TestPhrase, ExprPhrase, Ar
 use Rattle.alma_templates.specs.Lined.{Lined, own}
 use Rattle.alma_templates.specs.Slots.{stmts_slots, own_kinds}
 use Rattle.alma_templates.specs.Tables.{Tables}
+use Rattle.alma_templates.specs.CodeOf.{IsCodeOf}
 use Rattle.alma_templates.specs.Compiled.{program_code, routines_code}
 use Rattle.alma_templates.specs.Templates.{stmts_code, end_code, routine_code}
 use Rattle.alma_templates.proofs.FewInstrs as instrs
@@ -87,3 +89,9 @@ module _ (p : Program) (checked : IsChecked p) (tables : Tables) where
       let code : List Lined = routines_code p tables 0 (length p.routines) 0 in
       let z = routines_few p.routines 0 0 (λ i. (let same : 0 + i ≡ i = omega arith in ap (routine_at p) same)) (omega arith) in
       omega (arith, z, length-map code (λ x. x.instr))
+
+pub code_is_short : (p : Program) (code : PlainCode) → IsChecked p → IsCodeOf p code → length code.instrs ≤ 16 * nodes p
+code_is_short p code checked is_code =
+    let same : length code.instrs ≡ length (program_code p is_code.tables is_code.runs).instrs = ap (λ c. length c.instrs) is_code.is in
+    let z = few_of_code p checked is_code.tables is_code.runs in
+    omega (arith, same, z)
