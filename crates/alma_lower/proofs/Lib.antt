@@ -7,4 +7,6 @@ pub mod Examples
 pub mod ForExample
 pub mod Made
 pub mod RunLemmas
+pub mod Tables
 pub mod Unlined
+pub mod Walks

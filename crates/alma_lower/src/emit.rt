@@ -27,7 +27,7 @@ pub(crate) struct Emit {
 
 impl Emit {
     // No code yet.
-    #[tactic(auto, unfolding(crate::specs::Emitted::filled))]
+    #[tactic(auto, unfolding(crate::specs::Emitted::emitted_count))]
     pub(crate) fn new(alloc: Global, base: u32) -> Emit
         ensures code { result.code.items ≡ [] }
         ensures kinds { result.kinds.items ≡ [] }
@@ -43,7 +43,7 @@ impl Emit {
     }
 
     // One more instruction, at a line.
-    #[tactic(auto, unfolding(crate::specs::Emitted::filled))]
+    #[tactic(auto, unfolding(crate::specs::Emitted::emitted_count))]
     pub(crate) fn put(&mut self, line: u32, instr: Instr) -> Result<(), NoMemory>
         ensures puts { OnOk result (Puts self.old self.new line instr) }
         ensures few { OnOk result (emitted_count self.new ≡ emitted_count self.old + 1) }
@@ -53,7 +53,7 @@ impl Emit {
     }
 
     // One more slot, and its number.
-    #[tactic(auto, unfolding(crate::specs::Emitted::filled))]
+    #[tactic(auto, unfolding(crate::specs::Emitted::emitted_count))]
     pub(crate) fn slot(&mut self, kind: SlotKind) -> Result<u32, NoMemory>
         requires room { emitted_count self.old < slot_limit }
         ensures slot { IfOk result (λ slot. slot ≡ next_slot self.old) }
@@ -66,7 +66,7 @@ impl Emit {
     }
 
     // The address of the next instruction.
-    #[tactic(auto, unfolding(crate::specs::Emitted::filled))]
+    #[tactic(auto, unfolding(crate::specs::Emitted::emitted_count))]
     pub(crate) fn here(&self) -> u32
         requires room { emitted_count self.now ≤ slot_limit }
         ensures address { result ≡ length self.now.code.items }
@@ -76,7 +76,7 @@ impl Emit {
     }
 
     // Sets the target of the jump at this address to the address of the next instruction.
-    #[tactic(auto, unfolding(crate::specs::Emitted::filled))]
+    #[tactic(auto, unfolding(crate::specs::Emitted::emitted_count))]
     pub(crate) fn aim(&mut self, at: u32)
         requires jump { at < length self.old.code.items }
         requires room { emitted_count self.old ≤ slot_limit }

@@ -23,7 +23,7 @@ pub(crate) struct CaseHead {
 
 // The value of CASE, the slots for its labels, and the jump over the jump by which the arms leave, which is still to be
 // aimed.
-#[tactic(auto, unfolding(crate::specs::Emitted::filled))]
+#[tactic(auto, unfolding(crate::specs::Emitted::emitted_count))]
 pub(crate) fn emit_case_head(emit: &mut Emit, line: u32, value: &Expr) -> Result<CaseHead, NoMemory>
     requires built { BuiltExpr (expr_of value.now) }
     requires room { emitted_count emit.old + 16 + 16 * expr_nodes (expr_of value.now) ≤ slot_limit }

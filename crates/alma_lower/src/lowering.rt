@@ -7,6 +7,7 @@ ghost use Rattle.alma_ir.specs.View.{program_of, routine_of, stmts_list};
 ghost use Rattle.alma_ir.specs.Count.{saturate, nodes, stmts_nodes};
 ghost use Rattle.alma_ir.specs.Checked.{IsChecked};
 ghost use Rattle.alma_ir.specs.Lines.{body_with_lines};
+ghost use Rattle.alma_code.specs.Records.{KeepsCounts, KeepsRecords, KeepsVersion};
 ghost use Rattle.alma_code.specs.Rules.{IsSound};
 ghost use Rattle.alma_implements.specs.Built.{IsBuilt, BuiltStmts};
 ghost use Rattle.alma_implements.specs.Implements.{Implements};
@@ -45,6 +46,9 @@ pub fn lower(alloc: Global, program: &Program) -> Result<Code, LowerError>
     requires checked { IsChecked (program_of program.now) }
     ensures implements { IfOk result (λ code. Implements (code_of code) (program_of program.now)) }
     ensures sound { IfOk result (λ code. IsSound (code_of code)) }
+    ensures version { IfOk result (λ code. KeepsVersion (code_of code)) }
+    ensures counts { IfOk result (λ code. KeepsCounts (code_of code)) }
+    ensures records { IfOk result (λ code. KeepsRecords (code_of code)) }
     ensures forms { IfOk result (λ code. HasOnlyMade (code_of code)) }
     ensures few { IfOk result (λ code. length (code_of code).instrs ≤ 16 * nodes (program_of program.now)) }
     ensures too_much { let size = saturate (16 * nodes (program_of program.now)) in size_limit < size → result ≡ Err (LowerError.TooMuchCode size) }
@@ -93,7 +97,7 @@ fn compiled(alloc: Global, program: &Program) -> Result<Code, NoMemory>
 }
 
 // The instructions and slots of the body of the module.
-#[tactic(auto, unfolding(crate::specs::Emitted::filled))]
+#[tactic(auto, unfolding(crate::specs::Emitted::emitted_count))]
 fn emitted(alloc: Global, body: &Routine) -> Result<Emit, NoMemory>
     requires built { BuiltStmts (stmts_list body.now.body.items) }
     requires slots { body.now.slots ≤ routine_slot_limit }
