@@ -17,20 +17,20 @@ use Rattle.alma_templates.specs.Slots.{shift_of, chain_slots, bare, bare_desig, 
 abbrev pub Short : Phrase → Type 0
 Short (DesigPhrase (a_desig (root.Outer links from) cells sels)) = links ≤ 7
 Short (DesigPhrase (a_desig (root.OuterParam links from) cells sels)) = links ≤ 7
-Short (TestPhrase (CallTest called args up)) = up ≤ 8
-Short (ExprPhrase (CallExpr called args up)) = up ≤ 8
+Short (TestPhrase (CallTest called args up)) = up ≤ 9
+Short (ExprPhrase (CallExpr called args up)) = up ≤ 9
 Short _ = Unit {0}
 
 abbrev pub AreShort : List Phrase → Type 0
 AreShort xs = AllByRecursion Short xs
 
-short_front : (xs ys : List Phrase) → AreShort (xs ++ ys) → AreShort xs
+pub short_front : (xs ys : List Phrase) → AreShort (xs ++ ys) → AreShort xs
 short_front xs ys h = each_of_front Short xs ys h
 
-short_back : (xs ys : List Phrase) → AreShort (xs ++ ys) → AreShort ys
+pub short_back : (xs ys : List Phrase) → AreShort (xs ++ ys) → AreShort ys
 short_back xs ys h = each_of_back Short xs ys h
 
-unless_few : {A : Type 0} (o : Option ℕ) (xs : List A) → length (unless_bare o xs) ≤ length xs
+pub unless_few : {A : Type 0} (o : Option ℕ) (xs : List A) → length (unless_bare o xs) ≤ length xs
 unless_few (Some n) xs = omega arith
 unless_few None xs = omega arith
 

@@ -31,6 +31,7 @@ pub mod CaseForms
 pub mod Starting
 pub mod ForForms
 pub mod ForStatement
+pub mod Sizes
 pub mod SomeForms
 pub mod CellsMoved
 pub mod CellRuns
@@ -41,4 +42,5 @@ pub mod Induction
 pub mod Premises
 pub mod Law
 pub mod Exists
+pub mod FewInstrs
 pub mod FewSlots

@@ -1,6 +1,8 @@
 // Laws of the templates, each as the contract of a function that does nothing.
+ghost use Rattle.std.specs.Prelude.{◌*◌, ◌≤◌, length};
 ghost use Rattle.alma_code.specs.Plain.{PlainCode};
 ghost use Rattle.alma_ir.specs.Checked.{IsChecked};
+ghost use Rattle.alma_ir.specs.Count.{nodes};
 ghost use Rattle.alma_ir.specs.Tree.{Program};
 ghost use Rattle.alma_implements.specs.Implements.{Implements};
 ghost use Rattle.alma_templates.specs.CodeOf.{IsCodeOf, IsOfIntegers};
@@ -23,4 +25,10 @@ pub fn code_of_a_checked_program_implements_it()
 #[tactic(auto, using(crate::proofs::Exists::has_code))]
 pub fn each_program_has_a_code()
     ensures { (p : Program) → (code : PlainCode) × IsCodeOf p code }
+{}
+
+/// The code that the templates give for a checked program has at most 16 instructions for each node of the program.
+#[tactic(auto, using(crate::proofs::Sizes::code_is_short))]
+pub fn code_of_a_checked_program_is_short()
+    ensures { (p : Program) (code : PlainCode) → IsChecked p → IsCodeOf p code → length code.instrs ≤ 16 * nodes p }
 {}
