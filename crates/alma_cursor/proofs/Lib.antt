@@ -1,3 +1,4 @@
+pub mod Joins
 pub mod Loops
 pub mod OneKind
 pub mod Signs

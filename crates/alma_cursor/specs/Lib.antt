@@ -2,3 +2,5 @@
 pub mod Parsing
 -- The parts of each form that a first token tells.
 pub mod Forms
+-- What stands behind a part, of the part's result unopened.
+pub mod Joins

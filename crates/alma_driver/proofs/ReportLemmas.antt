@@ -2,11 +2,12 @@
 use Rattle.std.proofs.Common.{◌≡◌, ◌<◌, ◌+◌, ℕ, zero, suc, List, [], ◌++◌, refl, length, take, drop, get_or, ap, sym, ◌∙◌, add-one, append_assoc, drop-cons}
 use Rattle.std.proofs.lemmas.List.{take-append-drop}
 use Rattle.std.proofs.lemmas.List.Concat.{flat_map-append}
-use Rattle.std.specs.Prelude.{Option, flat_map, codes, decimal}
+use Rattle.std.specs.Prelude.{Option, None, Some, flat_map, codes, decimal}
 use Rattle.alma_base.specs.Fault.{run_fault_text}
 use Rattle.alma_base.specs.declared.fault.RunFault.{RunFault}
 use Rattle.alma_code.specs.Lines.{known_line}
-use Rattle.alma_driver.specs.Ends.{line_text, fault_text}
+use Rattle.alma_object.specs.declared.fault.ObjectFault.{ObjectFault}
+use Rattle.alma_driver.specs.Ends.{line_text, fault_text, object_fault_name, object_fault_number, number_text, object_text}
 use Rattle.std.specs.Borrow.{Bor}
 use Rattle.std.specs.Io.KnownBytes.{Appends}
 use Rattle.alma_io.specs.Fronts.{AppendsFront}
@@ -48,3 +49,23 @@ known_parts fault (suc k) front name middle number end some f n m d e =
     ∙ ap (λ x. codes "alma: fault " ++ (run_fault_text fault ++ (codes " line " ++ (x ++ (end ++ []))))) d
     ∙ ap (λ x. codes "alma: fault " ++ (run_fault_text fault ++ (codes " line " ++ (decimal (suc k) ++ (x ++ []))))) e
     ∙ ap (λ x. codes "alma: fault " ++ (run_fault_text fault ++ x)) (sym (append_assoc (codes " line ") (decimal (suc k)) (codes "\n")))
+
+-- the parts of the text of an object's fault without a number
+pub numberless_parts : (fault : ObjectFault) (front name end : List ℕ) → object_fault_number fault ≡ None → front ≡ codes "alma: object " → name ≡ object_fault_name fault
+    → end ≡ codes "\n" → front ++ (name ++ (end ++ [])) ≡ object_text fault
+numberless_parts fault front name end none f n e =
+    ap (λ x. x ++ (name ++ (end ++ []))) f ∙ ap (λ x. codes "alma: object " ++ (x ++ (end ++ []))) n
+    ∙ ap (λ x. codes "alma: object " ++ (object_fault_name fault ++ (x ++ []))) e
+    ∙ ap (λ k. codes "alma: object " ++ (object_fault_name fault ++ (number_text k ++ codes "\n"))) (sym none)
+
+-- and of one with a number
+pub numbered_parts : (fault : ObjectFault) (number : ℕ) (front name middle digits end : List ℕ) → object_fault_number fault ≡ Some number → front ≡ codes "alma: object "
+    → name ≡ object_fault_name fault → middle ≡ codes " " → digits ≡ decimal number → end ≡ codes "\n"
+    → front ++ (name ++ (middle ++ (digits ++ (end ++ [])))) ≡ object_text fault
+numbered_parts fault number front name middle digits end some f n m d e =
+    ap (λ x. x ++ (name ++ (middle ++ (digits ++ (end ++ []))))) f ∙ ap (λ x. codes "alma: object " ++ (x ++ (middle ++ (digits ++ (end ++ []))))) n
+    ∙ ap (λ x. codes "alma: object " ++ (object_fault_name fault ++ (x ++ (digits ++ (end ++ []))))) m
+    ∙ ap (λ x. codes "alma: object " ++ (object_fault_name fault ++ (codes " " ++ (x ++ (end ++ []))))) d
+    ∙ ap (λ x. codes "alma: object " ++ (object_fault_name fault ++ (codes " " ++ (decimal number ++ (x ++ []))))) e
+    ∙ ap (λ x. codes "alma: object " ++ (object_fault_name fault ++ x)) (sym (append_assoc (codes " ") (decimal number) (codes "\n")))
+    ∙ ap (λ k. codes "alma: object " ++ (object_fault_name fault ++ (number_text k ++ codes "\n"))) (sym some)

@@ -1,13 +1,16 @@
 -- How a call that comes to an outcome may go: to its end, or into a fault or want of memory.
-use Rattle.std.specs.Prelude.{◌≡◌, ◌⊎◌, List, ℕ, []}
+use Rattle.std.specs.Prelude.{◌≡◌, ◌≢◌, ◌⊎◌, List, ℕ, [], None, Some}
 use Rattle.std.specs.Io.KnownBytes.{Appends}
+use Rattle.alma_io.specs.Files.{NowHas}
 use Rattle.alma_io.specs.Fronts.{AppendsFront}
 use Rattle.alma_driver.specs.Words.{file_of}
 use Rattle.alma_driver.specs.Outside.{SinkSide, FilesSide, Outside, HasRisen, FilesStay}
 use Rattle.alma_driver.specs.Ends.{status_of, text_of}
-use Rattle.alma_driver.specs.Outcome.{Due, Outcome}
+use Rattle.alma_driver.specs.Outcome.{Due, Stored, Outcome}
 use Rattle.alma_driver.specs.declared.end.End.{End}
 use Rattle.alma_driver.specs.declared.end.End.TheVariants.{ReadFault, WriteFault, Memory}
+
+-- ---- the outputs
 
 -- the sink gained these bytes, and did not fail
 abbrev pub Gains : SinkSide → SinkSide → List ℕ → Type 0
@@ -28,15 +31,47 @@ Goes outcome old new WriteFault = (due : Due) × outcome due × FailsWithin old 
 Goes outcome old new Memory = GainsPrefix outcome old new × (new.faults ≡ old.faults)
 Goes outcome old new end = (due : Due) × (due.end ≡ end) × outcome due × Gains old new due.out
 
--- The same where a file is fetched first: the fetch failed, and nothing was written; or it did not.
-abbrev pub Fetches : (Due → Type 0) → FilesSide → FilesSide → SinkSide → SinkSide → End → Type 0
-Fetches outcome files files' out out' end =
-    ((end ≡ ReadFault) × HasRisen files.fetch_faults files'.fetch_faults × Gains out out' [])
-    ⊎ ((files'.fetch_faults ≡ files.fetch_faults) × Goes outcome out out' end)
+-- ---- the files
 
--- The same with what becomes of the files.
+-- the files tell what they told of all other names
+abbrev pub OthersStay : FilesSide → FilesSide → (name : List ℕ) → Type 0
+OthersStay old new name = (other : List ℕ) → other ≢ name → new.told other ≡ old.told other
+
+-- The file has these bytes, if it is told; all others stay, and no store failed.
+abbrev pub HasStored : FilesSide → FilesSide → Stored → Type 0
+HasStored old new stored =
+    OthersStay old new stored.name × NowHas (old.told stored.name) (new.told stored.name) stored.bytes × (new.store_faults ≡ old.store_faults)
+
+-- a store of the file failed; all others stay, and of this one nothing is said
+abbrev pub FailsToStore : FilesSide → FilesSide → Stored → Type 0
+FailsToStore old new stored = OthersStay old new stored.name × HasRisen old.store_faults new.store_faults
+
+-- what is due is this, and nothing is to be stored
+abbrev pub Keeps : (Due → Type 0) → Due → Type 0
+Keeps outcome due = outcome due × (due.stored ≡ None)
+
+-- What is due was stored, and the call is at its end; or it was to be stored, and that failed. Out gained what is due.
+pub data Stores (outcome : Due → Type 0) (files files' : FilesSide) (out out' : SinkSide) (end : End) : Type 0 where
+  done : (due : Due) (stored : Stored) → outcome due → due.stored ≡ Some stored → Gains out out' due.out → HasStored files files' stored
+      → due.end ≡ end → Stores outcome files files' out out' end
+  failed : (due : Due) (stored : Stored) → outcome due → due.stored ≡ Some stored → Gains out out' due.out → FailsToStore files files' stored
+      → end ≡ WriteFault → Stores outcome files files' out out' end
+
+-- How a call may come to this end, by what becomes of out and of the files: where nothing is stored they stay.
+abbrev pub Works : (Due → Type 0) → FilesSide → FilesSide → SinkSide → SinkSide → End → Type 0
+Works outcome files files' out out' end = (FilesStay files files' × Goes (Keeps outcome) out out' end) ⊎ Stores outcome files files' out out' end
+
+-- ---- the call
+
+-- the fetch of the file failed; nothing was written, and the files stay
+abbrev pub FailsToFetch : FilesSide → FilesSide → SinkSide → SinkSide → End → Type 0
+FailsToFetch files files' out out' end =
+    (end ≡ ReadFault) × HasRisen files.fetch_faults files'.fetch_faults × FilesStay files files' × Gains out out' []
+
+-- How a call may come to this end: a fetch failed; or none did.
 abbrev pub Performs : (Due → Type 0) → FilesSide → FilesSide → SinkSide → SinkSide → End → Type 0
-Performs outcome files files' out out' end = FilesStay files files' × Fetches outcome files files' out out' end
+Performs outcome files files' out out' end =
+    FailsToFetch files files' out out' end ⊎ ((files'.fetch_faults ≡ files.fetch_faults) × Works outcome files files' out out' end)
 
 -- How an end is reported, where the words name this file: err gained its text, and its status is answered; or err failed
 -- within the text.

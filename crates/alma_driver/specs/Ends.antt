@@ -4,6 +4,10 @@ use Rattle.alma_base.specs.Fault.{lex_fault_text, syntax_fault_text, run_fault_t
 use Rattle.alma_base.specs.declared.place.Place.{Place}
 use Rattle.alma_io.specs.declared.files.Fetch.{Fetch}
 use Rattle.alma_io.specs.declared.files.Fetch.TheVariants as fetch
+use Rattle.alma_io.specs.declared.files.StoreFault.{StoreFault}
+use Rattle.alma_io.specs.declared.files.StoreFault.TheVariants as store
+use Rattle.alma_object.specs.declared.fault.ObjectFault.{ObjectFault}
+use Rattle.alma_object.specs.declared.fault.ObjectFault.TheVariants as object
 use Rattle.alma_front.specs.declared.error.ReadError.{ReadError}
 use Rattle.alma_front.specs.declared.error.ReadError.TheVariants as read
 use Rattle.alma_lower.specs.declared.lowering.LowerError.{LowerError}
@@ -21,7 +25,7 @@ use Rattle.alma_driver.specs.declared.fault.SourceFault.{SourceFault}
 use Rattle.alma_driver.specs.declared.fault.SourceFault.TheVariants.{Lex, Syntax}
 use Rattle.alma_driver.specs.declared.end.End.{End}
 use Rattle.alma_driver.specs.declared.end.End.TheVariants.{Succeeded, Failed, BadWord, Refused, Faulted, StepsOut, ReadFault, WriteFault}
-use Rattle.alma_driver.specs.declared.end.End.TheVariants.{Memory, TooLong, TooMuchCode, NotYet}
+use Rattle.alma_driver.specs.declared.end.End.TheVariants.{Memory, BadObject, TooLong, TooMuchCode, NotYet}
 
 -- the status of an end
 abbrev pub status_of : End → ℕ
@@ -34,6 +38,7 @@ status_of StepsOut = 5
 status_of ReadFault = 6
 status_of WriteFault = 7
 status_of Memory = 8
+status_of (BadObject fault) = 9
 status_of TooLong = 10
 status_of (TooMuchCode size) = 11
 status_of NotYet = 12
@@ -49,6 +54,7 @@ fixed_text StepsOut = codes "alma: steps out\n"
 fixed_text ReadFault = codes "alma: read fault\n"
 fixed_text WriteFault = codes "alma: write fault\n"
 fixed_text Memory = codes "alma: out of memory\n"
+fixed_text (BadObject fault) = []
 fixed_text TooLong = codes "alma: too long\n"
 fixed_text (TooMuchCode size) = []
 fixed_text NotYet = codes "alma: not yet\n"
@@ -75,11 +81,41 @@ line_text (Some line) = codes " line " ++ decimal line
 abbrev pub fault_text : RunFault → (line : ℕ) → List ℕ
 fault_text fault line = codes "alma: fault " ++ (run_fault_text fault ++ (line_text (known_line line) ++ codes "\n"))
 
+-- the name of a fault of an object
+abbrev pub object_fault_name : ObjectFault → List ℕ
+object_fault_name object.Magic = codes "Magic"
+object_fault_name (object.Version version) = codes "Version"
+object_fault_name (object.Cut length) = codes "Cut"
+object_fault_name (object.Trailing offset) = codes "Trailing"
+object_fault_name (object.BadCount offset) = codes "BadCount"
+object_fault_name (object.BadOpcode offset) = codes "BadOpcode"
+object_fault_name (object.BadName offset) = codes "BadName"
+
+-- its number, which Magic has not
+abbrev pub object_fault_number : ObjectFault → Option ℕ
+object_fault_number object.Magic = None
+object_fault_number (object.Version version) = Some version
+object_fault_number (object.Cut length) = Some length
+object_fault_number (object.Trailing offset) = Some offset
+object_fault_number (object.BadCount offset) = Some offset
+object_fault_number (object.BadOpcode offset) = Some offset
+object_fault_number (object.BadName offset) = Some offset
+
+-- the number of a fault, if it has one
+abbrev pub number_text : Option ℕ → List ℕ
+number_text None = []
+number_text (Some number) = codes " " ++ decimal number
+
+-- the text of bytes that are no object
+abbrev pub object_text : ObjectFault → List ℕ
+object_text fault = codes "alma: object " ++ (object_fault_name fault ++ (number_text (object_fault_number fault) ++ codes "\n"))
+
 -- the text of an end, where the words name this file
 abbrev pub text_of : (file : List ℕ) → End → List ℕ
 text_of file (BadWord k) = codes "alma: bad word " ++ (decimal k ++ codes "\n")
 text_of file (Refused fault place) = refusal_text file fault place
 text_of file (Faulted fault line) = fault_text fault line
+text_of file (BadObject fault) = object_text fault
 text_of file (TooMuchCode size) = codes "alma: too much code " ++ (decimal size ++ codes "\n")
 text_of file end = fixed_text end
 
@@ -126,3 +162,8 @@ fetch_end fetch.Absent = ReadFault
 fetch_end fetch.Failed = ReadFault
 fetch_end fetch.TooLong = TooLong
 fetch_end fetch.Memory = Memory
+
+-- the end of a store that stored nothing
+abbrev pub store_end : StoreFault → End
+store_end store.Failed = WriteFault
+store_end store.Memory = Memory

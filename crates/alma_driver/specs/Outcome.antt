@@ -1,39 +1,57 @@
 -- What a call comes to where memory is found and nothing fails, layer by layer.
-use Rattle.std.specs.Prelude.{◌≡◌, ◌<◌, ◌≤◌, ◌+◌, ◌*◌, ◌/◌, suc, List, ℕ, [], length}
-use Rattle.alma_base.specs.Limits.{source_limit, size_limit}
+use Rattle.std.specs.Prelude.{◌≡◌, ◌<◌, ◌≤◌, ◌+◌, ◌*◌, ◌/◌, ◌⊎◌, suc, List, ℕ, [], length, Option, None, Some}
+use Rattle.alma_base.specs.Limits.{size_limit}
 use Rattle.alma_io.specs.Files.{Told, Missing, MayHave, MayPass}
 use Rattle.alma_ir.specs.Tree.{Program}
 use Rattle.alma_ir.specs.Count.{saturate, nodes}
 use Rattle.alma_mean.specs.Events.{first, end_of, visit_count, CutOff}
 use Rattle.alma_mean.specs.Meaning.{ev_program, result}
 use Rattle.alma_code.specs.declared.step.End as code
+use Rattle.alma_code.specs.ListText.{list_text}
 use Rattle.alma_code.specs.Plain.{PlainCode}
 use Rattle.alma_code.specs.Rules.{IsSound}
+use Rattle.alma_object.specs.declared.fault.ObjectFault.{ObjectFault}
+use Rattle.alma_object.specs.Header.{header_of}
+use Rattle.alma_object.specs.Object.{IsObject}
+use Rattle.alma_object.specs.Reading.{code_in}
+use Rattle.alma_object.specs.Walk.{object_fault}
 use Rattle.alma_implements.specs.Implements.{Implements, Covers, meant_end, state_after, printed_by, line_in}
 use Rattle.alma_front.specs.Source.{IsSource}
-use Rattle.alma_driver.specs.Words.{Request, Run, Asks, IsBadWord}
+use Rattle.alma_driver.specs.Words.{Request, Run, Compile, Listing, Asks, IsBadWord, read_by, limit_of}
 use Rattle.alma_driver.specs.Ends.{ended_end, mode_end}
 use Rattle.alma_driver.specs.Refusal.{IsRefused, IsParsed, place_of}
 use Rattle.alma_driver.specs.declared.fault.SourceFault.{SourceFault}
 use Rattle.alma_driver.specs.declared.end.End.{End}
-use Rattle.alma_driver.specs.declared.end.End.TheVariants.{BadWord, Refused, StepsOut, ReadFault, TooLong, TooMuchCode, NotYet}
+use Rattle.alma_driver.specs.declared.end.End.TheVariants.{Succeeded, BadWord, Refused, StepsOut, ReadFault, Memory, BadObject, TooLong, TooMuchCode, NotYet}
 
 -- the size of a program, by which its code is limited
 abbrev pub size_of : Program → ℕ
 size_of p = saturate (16 * nodes p)
 
--- what is due from a call: its end, and the bytes that it prints
+-- bytes under the name of a file
+pub record Stored : Type 0 where
+  pub name : List ℕ
+  pub bytes : List ℕ
+
+-- what is due from a call: its end, the bytes that it writes to out, and what it stores
 pub record Due : Type 0 where
   pub end : End
   pub out : List ℕ
+  pub stored : Option Stored
 
--- each of them by its parts
+-- an end with these bytes on out, and nothing stored
 abbrev pub due_of : End → List ℕ → Due
-due_of end out = record { end = end; out = out }
+due_of end out = record { end = end; out = out; stored = None }
 
 -- an end without a print
 abbrev pub silent : End → Due
 silent end = due_of end []
+
+-- success without a print, where these bytes are stored under this name
+abbrev pub storing : (name bytes : List ℕ) → Due
+storing name bytes = record { end = Succeeded; out = []; stored = Some (record { name = name; bytes = bytes }) }
+
+-- ---- programs
 
 -- what a run of code for so many steps, without input, comes to
 abbrev pub code_due : PlainCode → (steps : ℕ) → Due
@@ -44,6 +62,13 @@ code_due code steps = due_of (mode_end (state_after code [] steps).mode (line_in
 pub data ProgramOutcome (p : Program) (steps : ℕ) (due : Due) : Type 0 where
   ran : (code : PlainCode) → size_of p ≤ size_limit → IsSound code → Implements code p → due ≡ code_due code steps → ProgramOutcome p steps due
   too_much_code : size_limit < size_of p → due ≡ silent (TooMuchCode (size_of p)) → ProgramOutcome p steps due
+
+-- What compiling a program under a name comes to: the object of a sound code that implements it is stored there, or the
+-- refusal of its size.
+pub data CompileOutcome (p : Program) (object : List ℕ) (due : Due) : Type 0 where
+  made : (code : PlainCode) (bytes : List ℕ) → size_of p ≤ size_limit → IsSound code → Implements code p → IsObject code bytes
+      → due ≡ storing object bytes → CompileOutcome p object due
+  past_size : size_limit < size_of p → due ≡ silent (TooMuchCode (size_of p)) → CompileOutcome p object due
 
 -- ---- the same by the meaning alone
 
@@ -61,30 +86,54 @@ pub data Meant (p : Program) (steps : ℕ) (due : Due) : Type 0 where
       → MayRunOut p steps → due ≡ due_of StepsOut printed → Meant p steps due
   too_large : size_limit < size_of p → due ≡ silent (TooMuchCode (size_of p)) → Meant p steps due
 
--- ---- sources and requests
+-- ---- sources and objects
 
--- What a run of a source for so many steps comes to: the refusal of what is no program of the grammar, what its program
--- does, or that it is a program of the grammar alone.
-pub data SourceOutcome (source : List ℕ) (steps : ℕ) (due : Due) : Type 0 where
-  refused : (fault : SourceFault) (offset : ℕ) → IsRefused source fault offset → due ≡ silent (Refused fault (place_of source offset))
-      → SourceOutcome source steps due
-  compiled : (p : Program) → IsParsed source → IsSource source p → ProgramOutcome p steps due → SourceOutcome source steps due
-  not_yet : IsParsed source → ((p : Program) → IsSource source p → ⊥) → due ≡ silent NotYet → SourceOutcome source steps due
+-- the end of a source that has no program: the refusal of what is no program of the grammar, or that it is one alone
+pub data IsSourceEnd (source : List ℕ) (end : End) : Type 0 where
+  refused : (fault : SourceFault) (offset : ℕ) → IsRefused source fault offset → end ≡ Refused fault (place_of source offset) → IsSourceEnd source end
+  not_yet : IsParsed source → ((p : Program) → IsSource source p → ⊥) → end ≡ NotYet → IsSourceEnd source end
+
+-- what a source comes to: that end, or what its program comes to
+pub data SourceOutcome (source : List ℕ) (program_outcome : Program → Due → Type 0) (due : Due) : Type 0 where
+  stopped : (end : End) → IsSourceEnd source end → due ≡ silent end → SourceOutcome source program_outcome due
+  compiled : (p : Program) → IsParsed source → IsSource source p → program_outcome p due → SourceOutcome source program_outcome due
+
+-- the code that the bytes of an object spell
+abbrev pub object_code : List ℕ → PlainCode
+object_code bytes = code_in bytes (header_of bytes)
+
+-- What listing bytes comes to: the text of the code whose object they are, or the first fault of the format.
+pub data ListOutcome (bytes : List ℕ) (due : Due) : Type 0 where
+  listed : object_fault bytes ≡ None → IsObject (object_code bytes) bytes → due ≡ due_of Succeeded (list_text (object_code bytes))
+      → ListOutcome bytes due
+  no_object : (fault : ObjectFault) → object_fault bytes ≡ Some fault → due ≡ silent (BadObject fault) → ListOutcome bytes due
+
+-- ---- requests
+
+-- what a request comes to, by the bytes of the file that it reads
+abbrev pub FileOutcome : Request → List ℕ → Due → Type 0
+FileOutcome (Run name steps) source due = SourceOutcome source (λ p. ProgramOutcome p steps) due
+FileOutcome (Compile name object) source due = SourceOutcome source (λ p. CompileOutcome p object) due
+FileOutcome (Listing object) bytes due = ListOutcome bytes due
 
 -- what a request comes to, by what the files tell
 pub data RequestOutcome (told : List ℕ → Told) (request : Request) (due : Due) : Type 0 where
-  absent : (name : List ℕ) (steps : ℕ) → request ≡ Run name steps → told name ≡ Missing → due ≡ silent ReadFault
+  absent : told (read_by request) ≡ Missing → due ≡ silent ReadFault → RequestOutcome told request due
+  too_long : MayPass (told (read_by request)) (limit_of request) → due ≡ silent TooLong → RequestOutcome told request due
+  fetched : (bytes : List ℕ) → MayHave (told (read_by request)) bytes → length bytes ≤ limit_of request → FileOutcome request bytes due
       → RequestOutcome told request due
-  too_long : (name : List ℕ) (steps : ℕ) → request ≡ Run name steps → MayPass (told name) source_limit → due ≡ silent TooLong
-      → RequestOutcome told request due
-  fetched : (name : List ℕ) (steps : ℕ) (source : List ℕ) → request ≡ Run name steps → MayHave (told name) source
-      → length source ≤ source_limit → SourceOutcome source steps due → RequestOutcome told request due
 
 -- what words come to, by what the files tell
 pub data Outcome (words : List (List ℕ)) (told : List ℕ → Told) (due : Due) : Type 0 where
   bad_word : (k : ℕ) → IsBadWord words k → due ≡ silent (BadWord k) → Outcome words told due
   asks : (request : Request) → Asks words request → RequestOutcome told request due → Outcome words told due
 
--- the words ask for a file that is told to be missing
+-- the words ask to read a file that is told to be missing
 abbrev pub Lacks : List (List ℕ) → (List ℕ → Told) → Type 0
-Lacks words told = (name : List ℕ) × (steps : ℕ) × Asks words (Run name steps) × (told name ≡ Missing)
+Lacks words told = (request : Request) × Asks words request × (told (read_by request) ≡ Missing)
+
+-- ---- inner: how the reading of a source may stop
+
+-- memory ran out, or the source has no program
+abbrev pub IsStop : (source : List ℕ) → End → Type 0
+IsStop source end = (end ≡ Memory) ⊎ IsSourceEnd source end

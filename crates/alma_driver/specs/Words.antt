@@ -2,6 +2,7 @@
 use Rattle.std.specs.Prelude.{◌≡◌, ◌≢◌, ◌<◌, ◌≤◌, ◌+◌, ◌^◌, List, ℕ, [], ◌∷◌, ◌++◌, length, take, map, codes, String, Result, Ok, Err}
 use Rattle.std.specs.declared.alloc.Global.{Global}
 use Rattle.std.specs.String.{string_bytes}
+use Rattle.alma_base.specs.Limits.{source_limit, object_limit}
 use Rattle.alma_base.specs.Reading.{is_digit}
 use Rattle.alma_scan.specs.Bytes.{AllIn, value_of}
 use Rattle.alma_driver.specs.declared.words.Request as read
@@ -41,14 +42,30 @@ GiveSteps [] steps = steps ≡ default_steps
 GiveSteps (option ∷ []) steps = IsStepsOption option steps
 GiveSteps (option ∷ other ∷ options) steps = ⊥
 
--- a request: to run a file for so many steps
+-- a request: to run a file for so many steps, to store the object of a file under a name, or to list an object
 pub data Request : Type 0 where
   Run : (name : List ℕ) (steps : ℕ) → Request
+  Compile : (name object : List ℕ) → Request
+  Listing : (object : List ℕ) → Request
 
 -- the words are this request
 abbrev pub Asks : List (List ℕ) → Request → Type 0
 Asks words (Run name steps) =
     (options : List (List ℕ)) × (words ≡ codes "run" ∷ name ∷ options) × IsFileName name × GiveSteps options steps
+Asks words (Compile name object) = (words ≡ codes "compile" ∷ name ∷ object ∷ []) × IsFileName name × IsFileName object
+Asks words (Listing object) = (words ≡ codes "list" ∷ object ∷ []) × IsFileName object
+
+-- the file that a request reads
+abbrev pub read_by : Request → List ℕ
+read_by (Run name steps) = name
+read_by (Compile name object) = name
+read_by (Listing object) = object
+
+-- the greatest number of bytes of that file
+abbrev pub limit_of : Request → ℕ
+limit_of (Run name steps) = source_limit
+limit_of (Compile name object) = source_limit
+limit_of (Listing object) = object_limit
 
 -- a request begins with these words
 abbrev pub Begins : List (List ℕ) → Type 0
@@ -61,7 +78,7 @@ pub record IsBadWord (words : List (List ℕ)) (k : ℕ) : Type 0 where
   pub end : k ≤ length words + 1
   pub none : (request : Request) → Asks words request → ⊥
 
--- the file that the words name: the second word
+-- the file that the words name for a refusal: the second word
 abbrev pub file_of : List (List ℕ) → List ℕ
 file_of [] = []
 file_of (command ∷ []) = []
@@ -74,13 +91,24 @@ texts words = map (λ word. string_bytes word) words
 -- the request that a read one is
 abbrev pub asked : read.Request → Request
 asked (read_request.Run file steps) = Run file.now steps
+asked (read_request.Compile file object) = Compile file.now object.now
+asked (read_request.List object) = Listing object.now
 
 -- the request is for no more steps than words may name
 abbrev pub IsWithinSteps : read.Request → Type 0
 IsWithinSteps (read_request.Run file steps) = steps ≤ greatest_steps
+IsWithinSteps (read_request.Compile file object) = Unit {0}
+IsWithinSteps (read_request.List object) = Unit {0}
 
 -- What reading these words may answer: the request that they are, or the first word that cannot stand.
 abbrev pub Reads : List (List ℕ) → Result read.Request WordsError → Type 0
 Reads words (Ok request) = Asks words (asked request)
 Reads words (Err (Bad k)) = IsBadWord words k
 Reads words (Err Memory) = ⊥
+
+-- ---- inner
+
+-- no name of a file stands in front
+abbrev pub LacksName : List (List ℕ) → Type 0
+LacksName [] = Unit {0}
+LacksName (word ∷ words) = IsFileName word → ⊥

@@ -2,16 +2,17 @@
 ghost use Rattle.std.specs.Prelude.{◌≡◌};
 ghost use Rattle.alma_code.specs.Lines.{line_at};
 ghost use Rattle.alma_code.specs.Plain.{code_of};
-ghost use Rattle.alma_driver.specs.Ends.{status_of, fixed_text, run_end, lower_end, read_end, words_end, fetch_end};
+ghost use Rattle.alma_driver.specs.Ends.{status_of, fixed_text, run_end, lower_end, read_end, words_end, fetch_end, store_end};
 
 use crate::fault::SourceFault;
 use crate::words::WordsError;
 use alma_base::{Place, RunFault};
 use alma_code::Code;
 use alma_front::ReadError;
-use alma_io::Fetch;
+use alma_io::{Fetch, StoreFault};
 use alma_lower::LowerError;
 use alma_machine::RunEnd;
+use alma_object::ObjectFault;
 
 /// How a call ends, but for what becomes of its text on err.
 #[derive(Clone, Copy, Debug, PartialEq, Eq)]
@@ -30,11 +31,13 @@ pub enum End {
     StepsOut,
     /// The file is missing, or a fetch failed.
     ReadFault,
-    /// A write failed.
+    /// A write or a store failed.
     WriteFault,
     /// Memory ran out.
     Memory,
-    /// The source is past its greatest length.
+    /// The bytes are no object: their fault.
+    BadObject(ObjectFault),
+    /// The source or the object is past its greatest length.
     TooLong,
     /// The size of the program, which is past the greatest.
     TooMuchCode(u64),
@@ -57,6 +60,7 @@ impl End {
             End::ReadFault => 6,
             End::WriteFault => 7,
             End::Memory => 8,
+            End::BadObject(_) => 9,
             End::TooLong => 10,
             End::TooMuchCode(_) => 11,
             End::NotYet => 12,
@@ -70,7 +74,7 @@ impl End {
         match self {
             End::Succeeded | End::Failed => b"",
             End::BadWord(_) | End::Refused(_, _) => b"",
-            End::Faulted(_, _) | End::TooMuchCode(_) => b"",
+            End::Faulted(_, _) | End::BadObject(_) | End::TooMuchCode(_) => b"",
             End::StepsOut => b"alma: steps out\n",
             End::ReadFault => b"alma: read fault\n",
             End::WriteFault => b"alma: write fault\n",
@@ -150,6 +154,17 @@ impl From<Fetch> for End {
             Fetch::Failed => End::ReadFault,
             Fetch::TooLong => End::TooLong,
             Fetch::Memory => End::Memory,
+        }
+    }
+}
+
+impl From<StoreFault> for End {
+    ghost from_gives = { λ fault end. end ≡ store_end fault };
+
+    fn from(fault: StoreFault) -> Self {
+        match fault {
+            StoreFault::Failed => End::WriteFault,
+            StoreFault::Memory => End::Memory,
         }
     }
 }

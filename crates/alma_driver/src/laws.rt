@@ -3,7 +3,7 @@ ghost use Rattle.std.specs.Prelude.{◌≡◌, List, ℕ};
 ghost use Rattle.alma_driver.specs.Words.{Request, Asks, IsBadWord};
 ghost use Rattle.alma_driver.specs.declared.fault.SourceFault.{SourceFault};
 ghost use Rattle.alma_driver.specs.Refusal.{IsRefused, IsParsed};
-ghost use Rattle.alma_driver.specs.Outcome.{Due, ProgramOutcome, Meant};
+ghost use Rattle.alma_driver.specs.Outcome.{Due, ProgramOutcome, Meant, ListOutcome};
 ghost use Rattle.alma_ir.specs.Tree.{Program};
 
 /// Words are no two requests, no two words are the first bad one, and words with a bad one are no request.
@@ -34,4 +34,10 @@ pub fn a_source_has_one_refusal()
     ensures same { (source : List ℕ) (fault other : SourceFault) (offset place : ℕ) →
         IsRefused source fault offset → IsRefused source other place → (fault ≡ other) ×
         (offset ≡ place) }
+{}
+
+/// Listing bytes comes to one end and one text.
+pub fn a_listing_has_one_outcome()
+    ensures same { (bytes : List ℕ) (first second : Due) → ListOutcome bytes first
+        → ListOutcome bytes second → first ≡ second }
 {}

@@ -2,11 +2,15 @@
 #![tactic(auto)]
 
 mod check;
+mod compile;
 mod driver;
 mod end;
 mod fault;
 pub mod laws;
+mod list;
+mod load;
 mod report;
+mod run;
 mod words;
 
 pub use driver::alma;

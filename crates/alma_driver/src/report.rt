@@ -4,13 +4,14 @@ ghost use Rattle.std.specs.Io.KnownBytes.{Appends};
 ghost use Rattle.alma_io.specs.Causes.{HasCause};
 ghost use Rattle.alma_io.specs.Fronts.{AppendsFront};
 ghost use Rattle.alma_driver.specs.Outside.{sink_side};
-ghost use Rattle.alma_driver.specs.Ends.{fault_text, refusal_line, refusal_text, text_of};
+ghost use Rattle.alma_driver.specs.Ends.{fault_text, object_text, refusal_line, refusal_text, text_of};
 ghost use Rattle.alma_driver.specs.Course.{Reports};
 
 use crate::end::End;
-use crate::fault::SourceFault;
+use crate::fault::{SourceFault, object_fault_name, object_fault_number};
 use alma_base::{Place, RunFault, Status};
 use alma_io::{Sink, WriteFault, write_all};
+use alma_object::ObjectFault;
 use itoa::Buffer;
 
 // Writes parts one after another.
@@ -95,6 +96,27 @@ fn write_fault<E: Sink>(err: &mut E, fault: RunFault, line: u32) -> Result<(), W
     write_parts(err, &[front, name, b" line ".as_slice(), number, end])
 }
 
+// Writes the fault of bytes that are no object, and its number where it has one.
+fn write_object_fault<E: Sink>(err: &mut E, fault: ObjectFault) -> Result<(), WriteFault>
+    ensures ok { OnOk result (Appends (E.written err.old) (E.written err.new)
+        (object_text fault)) }
+    ensures front { OnErr result (AppendsFront (E.written err.old) (E.written err.new)
+        (object_text fault)) }
+    ensures cause { HasCause (E.faults err.old) (E.faults err.new) result }
+{
+    let front = b"alma: object ".as_slice();
+    let name = object_fault_name(fault);
+    let end = b"\n".as_slice();
+    match object_fault_number(fault) {
+        None => write_parts(err, &[front, name, end]),
+        Some(number) => {
+            let mut digits = Buffer::new();
+            let number = digits.format(number).as_bytes();
+            write_parts(err, &[front, name, b" ".as_slice(), number, end])
+        }
+    }
+}
+
 // Writes the text of an end, where the words name this file.
 fn write_end<E: Sink>(err: &mut E, file: &str, end: End) -> Result<(), WriteFault>
     ensures ok { OnOk result (Appends (E.written err.old) (E.written err.new)
@@ -110,6 +132,7 @@ fn write_end<E: Sink>(err: &mut E, file: &str, end: End) -> Result<(), WriteFaul
         }
         End::Refused(fault, place) => write_refusal(err, file, fault, place),
         End::Faulted(fault, line) => write_fault(err, fault, line),
+        End::BadObject(fault) => write_object_fault(err, fault),
         End::TooMuchCode(size) => {
             write_line(err, b"alma: too much code ", digits.format(size).as_bytes())
         }

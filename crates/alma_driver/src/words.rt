@@ -1,6 +1,8 @@
 // The words of a call.
-ghost use Rattle.std.specs.Prelude.{◌≡◌, ◌∷◌, ℕ, [], ◌++◌, ◌↔◌, codes, IsTrue, MatchOption};
-ghost use Rattle.alma_driver.specs.Words.{Reads, texts, file_of, IsFileName, IsStepsOption, NamesSteps};
+ghost use Rattle.std.specs.Prelude.{◌≡◌, ◌∷◌, ℕ, [], ◌↔◌, codes, IsTrue, MatchOption};
+ghost use Rattle.alma_driver.specs.Words.{Reads, texts, asked, file_of, read_by, limit_of, IsFileName, LacksName, IsStepsOption, NamesSteps};
+
+use alma_base::{OBJECT_LIMIT, SOURCE_LIMIT};
 
 /// The number of steps of a run where the words name none.
 const DEFAULT_STEPS: u64 = 1_000_000_000;
@@ -16,6 +18,33 @@ const MOST_DIGITS: usize = 19;
 pub enum Request<'w> {
     /// `run FILE` or `run FILE --steps=N`: compiles the source of this name and runs it for at most so many steps.
     Run(&'w str, u64),
+    /// `compile FILE OUT`: compiles the source of the first name and stores its object under the second.
+    Compile(&'w str, &'w str),
+    /// `list OBJ`: prints the text that lists the object of this name. The object is not verified.
+    List(&'w str),
+}
+
+impl<'w> Request<'w> {
+    /// The name of the file that is read.
+    pub fn file(self) -> &'w str
+        ensures { result.now ≡ read_by (asked self.entry) }
+    {
+        match self {
+            Request::Run(file, _) => file,
+            Request::Compile(file, _) => file,
+            Request::List(object) => object,
+        }
+    }
+
+    /// The greatest number of bytes of that file.
+    pub fn limit(self) -> usize
+        ensures { result ≡ limit_of (asked self.entry) }
+    {
+        match self {
+            Request::Run(_, _) | Request::Compile(_, _) => SOURCE_LIMIT,
+            Request::List(_) => OBJECT_LIMIT,
+        }
+    }
 }
 
 /// Why words are no request.
@@ -81,6 +110,23 @@ fn steps_option(word: &str) -> Option<u64>
     }
 }
 
+// The name of a file in front, and the rest.
+fn split_name(words: &[String]) -> Option<(&str, &[String])>
+    ensures { MatchOption result (LacksName (texts words.now)) (λ split. (texts words.now
+        ≡ split.0.now ∷ texts split.1.now) × IsFileName split.0.now) }
+{
+    match split_word(words) {
+        Some((name, rest)) => {
+            if is_file_name(name) {
+                Some((name, rest))
+            } else {
+                None
+            }
+        }
+        None => None,
+    }
+}
+
 // The request to run a file, by the options behind its name.
 fn read_options<'w>(name: &'w str, options: &[String]) -> Result<Request<'w>, WordsError>
     requires { IsFileName name.now }
@@ -95,6 +141,45 @@ fn read_options<'w>(name: &'w str, options: &[String]) -> Result<Request<'w>, Wo
     match split_word(more) {
         None => Ok(Request::Run(name, steps)),
         Some((_word, _rest)) => Err(WordsError::Bad(4)),
+    }
+}
+
+// The request to run a file, by the words behind the command.
+fn read_run(names: &[String]) -> Result<Request<'_>, WordsError>
+    ensures { Reads (codes "run" ∷ texts names.now) result }
+{
+    match split_name(names) {
+        Some((name, options)) => read_options(name, options),
+        None => Err(WordsError::Bad(2)),
+    }
+}
+
+// The request to compile a file, by the words behind the command.
+fn read_compile(names: &[String]) -> Result<Request<'_>, WordsError>
+    ensures { Reads (codes "compile" ∷ texts names.now) result }
+{
+    let Some((name, behind)) = split_name(names) else {
+        return Err(WordsError::Bad(2));
+    };
+    let Some((object, more)) = split_name(behind) else {
+        return Err(WordsError::Bad(3));
+    };
+    match split_word(more) {
+        None => Ok(Request::Compile(name, object)),
+        Some((_word, _rest)) => Err(WordsError::Bad(4)),
+    }
+}
+
+// The request to list an object, by the words behind the command.
+fn read_list(names: &[String]) -> Result<Request<'_>, WordsError>
+    ensures { Reads (codes "list" ∷ texts names.now) result }
+{
+    let Some((object, more)) = split_name(names) else {
+        return Err(WordsError::Bad(2));
+    };
+    match split_word(more) {
+        None => Ok(Request::List(object)),
+        Some((_word, _rest)) => Err(WordsError::Bad(3)),
     }
 }
 
@@ -115,14 +200,14 @@ pub fn read_words(words: &[String]) -> Result<Request<'_>, WordsError>
     let Some((command, names)) = split_word(words) else {
         return Err(WordsError::Bad(1));
     };
-    if command != "run" {
-        return Err(WordsError::Bad(1));
+    if command == "run" {
+        return read_run(names);
     }
-    let Some((name, options)) = split_word(names) else {
-        return Err(WordsError::Bad(2));
-    };
-    if !is_file_name(name) {
-        return Err(WordsError::Bad(2));
+    if command == "compile" {
+        return read_compile(names);
     }
-    read_options(name, options)
+    if command == "list" {
+        return read_list(names);
+    }
+    Err(WordsError::Bad(1))
 }

@@ -1,10 +1,9 @@
 -- The carry of the machine and that of the meaning, and what they make of frames that stand for a store.
-use Rattle.std.proofs.Common.{◌≡◌, ℕ, zero, suc, ◌+◌, ◌-◌, ◌<◌, ◌≤◌, ◌⊎◌, inl, inr, Bool, true, false, List, [], ◌∷◌, length, get_or, Option, Some, None, refl, sym, ap, ◌∙◌, subst, arith}
-use Rattle.std.specs.Prelude.{slice_get}
+use Rattle.std.proofs.Common.{◌≡◌, ℕ, suc, ◌+◌, ◌-◌, ◌<◌, ◌≤◌, ◌⊎◌, inl, inr, Bool, true, false, List, [], length, get_or, Option, Some, None, refl, sym, ap, ◌∙◌, subst, arith}
 use Rattle.std.proofs.lemmas.Bool.{cases_lt}
 use Rattle.std.proofs.lemmas.List.{get_or_past}
 use Rattle.std.proofs.lemmas.Option.{slice_get-get_or}
-use Rattle.alma_base.specs.Carry.{Change, Carry, carried_at}
+use Rattle.alma_base.specs.Carry.{Carry, carried_at}
 use Rattle.alma_code.specs.declared.cell.Cell.{Cell}
 use Rattle.alma_code.specs.declared.cell.Cell.TheVariants as cell
 use Rattle.alma_code.specs.declared.cell.SlotKind.{SlotKind}
@@ -18,10 +17,10 @@ use Rattle.alma_code.specs.Machine.{link_to}
 use Rattle.alma_ir.specs.Tree.{Program, routine_at}
 use Rattle.alma_mean.specs.Store.{Store, Place, Unknown, Number, At, over}
 use Rattle.alma_mean.specs.Store as store
-use Rattle.alma_implements.proofs.Frames.{shift, shift_in, own_end, SameContent, HasLink, SameFrame, HeldPlace, StandFor, KeptBelow, Fits}
+use Rattle.alma_implements.proofs.Frames.{shift, shift_in, own_end, SameContent, SameFrame, StandFor, KeptBelow, Fits}
 use Rattle.alma_implements.proofs.FrameLemmas.{content_moved, HoldsPlace, FrontAlike, held_moved}
 use Rattle.alma_implements.proofs.CarryMaps.{IsRising}
-use Rattle.alma_implements.proofs.LaidOver.{or_else, over_count, over_routine, over_link, over_long, over_cell, SameForm, AreFull, overlaid_count, overlaid_form, overlaid_other, overlaid_cell}
+use Rattle.alma_implements.proofs.LaidOver.{or_else, over_count, over_routine, over_link, over_long, over_cell, AreFull, overlaid_count, overlaid_form, overlaid_other, overlaid_cell}
 
 module _ (p : Program) (code : PlainCode) where
   -- nothing, or a number, or an unknown cell in both

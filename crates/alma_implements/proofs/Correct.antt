@@ -108,9 +108,10 @@ module _ (p : Program) (code : PlainCode) (input : List ℕ) where
 
   module _ (numbers : (n : ℕ) → n < own.slots → slice_get (kinds_at code 0) n ≡ Some slot.Number) (flat : shift p 0 ≡ 0) where
     -- slots of the routine
-    are_numbers : (n count : ℕ) → n + count ≤ own.slots → AreVariables p code input 0 n count
-    are_numbers n count le = record {
+    are_numbers : (n count : ℕ) → n + count ≤ own.slots → 0 < n → AreVariables p code input 0 n count
+    are_numbers n count le some = record {
       exist = le;
+      free = λ e. some;
       numbers = λ k lt.
           let at : n + k ≡ shift p 0 + (n + k) = omega (arith, flat) in
           subst (λ m. slice_get (kinds_at code 0) m ≡ Some slot.Number) at (numbers (n + k) (omega (arith, lt, le)));
@@ -118,7 +119,7 @@ module _ (p : Program) (code : PlainCode) (input : List ℕ) where
 
     fine_desig : (d : Desig) (ls : List ℕ) → BuiltDesig d → Roots (desig_phrases d) → FineDesig p code input 0 (desig_with d ls)
     unfolding stmts_phrases stmts_with
-    fine_desig (a_desig (root.Local from) cells no_sels) ls built roots = (built, are_numbers from cells roots.0.0.0.exist, flat)
+    fine_desig (a_desig (root.Local from) cells no_sels) ls built roots = (built, are_numbers from cells roots.0.0.0.exist (roots.0.0.1 refl), flat)
     fine_desig (a_desig (root.Local from) cells (more_sels x rest)) ls built roots = absurd built
     fine_desig (a_desig (root.Global from) cells sels) ls built roots = absurd built
     fine_desig (a_desig (root.Param from) cells sels) ls built roots = absurd built
@@ -249,8 +250,8 @@ module _ (p : Program) (code : PlainCode) (input : List ℕ) where
             fine_expr to (behind (expr_phrases from) (behind (desig_phrases d) ls)) built.2 (each_of_back IsApart (desig_phrases d ++ expr_phrases from) (expr_phrases to) before),
             fine_stmts body (behind (expr_phrases to) (behind (expr_phrases from) (behind (desig_phrases d) ls))) built.3 (each_of_back IsApart bounds (stmts_phrases body) roots) (lined_fourth (desig_phrases d) (expr_phrases from) (expr_phrases to) (stmts_phrases body) ls lined),
             built.4,
-            are_numbers counter 1 (omega (arith, apart.of_counter.exists)),
-            are_numbers limit 1 (omega (arith, apart.of_limit.exists)),
+            are_numbers counter 1 (omega (arith, apart.of_counter.exists)) (apart.of_counter.position refl),
+            are_numbers limit 1 (omega (arith, apart.of_limit.exists)) (apart.of_limit.position refl),
             apart.two,
             flat,
           )

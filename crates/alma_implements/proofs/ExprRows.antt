@@ -124,6 +124,7 @@ module _ (p : Program) (code : PlainCode) (input : List ℕ) where
   pub record AreVariables (r from cells : ℕ) : Type 0 where
     pub exist : from + cells ≤ (routine_at p r).slots
     pub numbers : (k : ℕ) → k < cells → slice_get (kinds_at code r) (shift p r + (from + k)) ≡ Some slot.Number
+    pub free : r ≡ 0 → 0 < from
 
   pub variables_are_numbers : (r from cells : ℕ) (v : Store) (now : List PlainFrame) → StandFor p code v now → (top_frame v).routine ≡ r → AreVariables r from cells → AreNumbers p code v now (local_place from cells v)
   variables_are_numbers r from cells v now stand routine h =
@@ -138,6 +139,7 @@ module _ (p : Program) (code : PlainCode) (input : List ℕ) where
             subst (λ m. get_or (get_or now (top v) picture.no_frame).kinds (m + (from + k)) slot.Mark ≡ slot.Number) shifts
             (subst (λ n. get_or (get_or now n picture.no_frame).kinds (shift p r + (from + k)) slot.Mark ≡ slot.Number) at
             (get_or_from_slice_get (last_frame now).kinds (shift p r + (from + k)) slot.Number slot.Mark (kind_there v now r stand routine (shift p r + (from + k)) slot.Number (h.numbers k lt))));
+        free = λ e. h.free (sym routine ∙ ap (λ n. (get_or v n store.no_frame).routine) e ∙ stand.main);
       }
 
   -- ---- what a part has left is where the next part begins

@@ -231,6 +231,7 @@ module _ (p : Program) (code : PlainCode) where
     frame = omega (arith, lt, alike.live);
     cells = λ k small. omega (arith, h.cells k small, alike.long q.frame lt);
     kinds = λ k small. ap (λ r. get_or (get_or later q.frame picture.no_frame).kinds (shift p r + (q.slot + k)) slot.Mark) (alike.routine q.frame lt) ∙ ap (λ ks. get_or ks (shift_in p v q.frame + (q.slot + k)) slot.Mark) (alike.kinds q.frame lt) ∙ h.kinds k small;
+    free = h.free;
   }
 
   -- and what a frame of it holds
@@ -479,6 +480,7 @@ module _ (p : Program) (code : PlainCode) where
     frame = omega (arith, numbers.frame, h.count, fit.same_count, fit.stand.count);
     cells = λ k lt. there k lt;
     kinds = λ k lt. ap (λ n. get_or (get_or later q.frame picture.no_frame).kinds (n + (q.slot + k)) slot.Mark) same_shift ∙ ap (λ ks. get_or ks (shift_in p v q.frame + (q.slot + k)) slot.Mark) same_kinds ∙ numbers.kinds k lt;
+    free = numbers.free;
   }
     where
       in_later : q.frame < length v'

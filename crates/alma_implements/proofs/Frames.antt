@@ -69,11 +69,12 @@ module _ (p : Program) where
           SameContent v (get_or g.kinds (shift f.routine + i) slot.Mark) (get_or f.cells i Unknown) (get_or g.cells (shift f.routine + i) cell.Unset)
       pub link : 1 ≤ shift f.routine → get_or g.cells 0 cell.Unset ≡ cell.Place (link_to f.link)
 
-    -- a place of the store whose cells are live numbers, of the frames that stand for it too
+    -- a place of the store whose cells are live numbers, of the frames that stand for it too, and not the input position
     pub record AreNumbers (v : Store) (now : List PlainFrame) (q : Place) : Type 0 where
       pub frame : q.frame < length v
       pub cells : (k : ℕ) → k < q.size → q.slot + k < length (get_or v q.frame store.no_frame).cells
       pub kinds : (k : ℕ) → k < q.size → get_or (get_or now q.frame picture.no_frame).kinds (shift_in v q.frame + (q.slot + k)) slot.Mark ≡ slot.Number
+      pub free : q.frame ≡ 0 → 0 < q.slot
 
     -- a place that a slot of a frame holds: live numbers of a frame that is not above it, as many as the slot says
     pub record HeldPlace (v : Store) (now : List PlainFrame) (k i : ℕ) (q : Place) : Type 0 where

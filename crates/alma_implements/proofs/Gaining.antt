@@ -20,9 +20,8 @@ use Rattle.alma_ir.specs.Tree.{Program, routine_at}
 use Rattle.alma_mean.specs.Store.{Store, Place, Unknown, Number, At, over, changes, changes_from, cell_changes, change_unless}
 use Rattle.alma_mean.specs.Store as store
 use Rattle.alma_implements.proofs.Frames.{shift, shift_in, own_end, SameContent, SamePlace, StandFor, KeptBelow, Fits}
-use Rattle.alma_implements.proofs.FrameLemmas.{content_moved}
 use Rattle.alma_implements.proofs.Leaving.{any_kept}
-use Rattle.alma_implements.proofs.CarryMaps.{same_place_is, same_itself, has_place, Only, carried_all, has_both, only_both, rising_all}
+use Rattle.alma_implements.proofs.CarryMaps.{same_place_is, same_itself, has_place, Only, carried_all, has_both, rising_all}
 use Rattle.alma_implements.proofs.LaidOver.{AreFull, number_within, over_count, over_long, overlaid_count, overlaid_form, number_overlaid}
 use Rattle.alma_implements.proofs.Carrying.{SameOption, kind_in, Alike, full_frames, number_content, laid_stands, laid_content, kind_number}
 

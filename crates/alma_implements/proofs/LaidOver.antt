@@ -1,15 +1,13 @@
 -- What a carry makes of a store and of the frames of the machine, cell by cell.
-use Rattle.std.proofs.Common.{◌≡◌, ℕ, zero, suc, ◌+◌, ◌-◌, ◌<◌, ◌≤◌, ◌⊎◌, inl, inr, Bool, true, false, List, [], ◌∷◌, length, get_or, set, Option, Some, None, refl, sym, ap, ◌∙◌, subst, arith}
+use Rattle.std.proofs.Common.{◌≡◌, ℕ, zero, suc, ◌<◌, ◌≤◌, inl, inr, Bool, true, false, List, [], ◌∷◌, length, get_or, set, Option, Some, None, refl, sym, ap, ◌∙◌, subst, arith}
 use Rattle.std.specs.Prelude.{slice_get, if◌then◌else◌}
 use Rattle.std.proofs.lemmas.Bool.{cases_eq, cases_lt}
 use Rattle.std.proofs.lemmas.List.{get_or-set_same, get_or-set_other, get_or_past, length-set}
-use Rattle.std.proofs.lemmas.Option.{slice_get-get_or, slice_get_within}
 use Rattle.alma_base.specs.Carry.{Change, Carry, is_same_place, carried_at}
 use Rattle.alma_base.specs.Choice.{if_true}
 use Rattle.alma_code.specs.declared.cell.Cell.{Cell}
 use Rattle.alma_code.specs.declared.cell.Cell.TheVariants as cell
 use Rattle.alma_code.specs.declared.cell.SlotKind.{SlotKind}
-use Rattle.alma_code.specs.declared.cell.SlotKind.TheVariants as slot
 use Rattle.alma_code.specs.Carries.{number_at, laid, frames_with_carry}
 use Rattle.alma_code.specs.Kinds.{is_number}
 use Rattle.alma_code.specs.Picture.{PlainFrame, frame_with, written, cell_at}
@@ -17,7 +15,7 @@ use Rattle.alma_code.specs.Picture as picture
 use Rattle.alma_mean.specs.Store.{Store, Unknown, put, over}
 use Rattle.alma_mean.specs.Store as store
 use Rattle.alma_implements.proofs.FrameLemmas.{put_is}
-use Rattle.alma_implements.proofs.CarryMaps.{same_place_is, same_itself, IsAbove, IsRising, absent_below, if_so, if_not}
+use Rattle.alma_implements.proofs.CarryMaps.{same_place_is, same_itself, IsRising, absent_below}
 
 -- what is carried, or else what was there
 abbrev pub or_else : {A : Type 0} → Option A → A → A
@@ -59,12 +57,12 @@ put_count [] f n c = refl
 put_count (g ∷ v) zero n c = refl
 put_count (g ∷ v) (suc f) n c = ap suc (put_count v f n c)
 
-put_here : (v : Store) (f n : ℕ) (c : store.Cell) → f < length v → n < length (get_or v f store.no_frame).cells → store.cell_at (put v f n c) f n ≡ c
+pub put_here : (v : Store) (f n : ℕ) (c : store.Cell) → f < length v → n < length (get_or v f store.no_frame).cells → store.cell_at (put v f n c) f n ≡ c
 put_here v f n c lt there =
     ap (λ z. get_or (get_or z f store.no_frame).cells n Unknown) (put_is v f n c lt) ∙ ap (λ g. get_or g.cells n Unknown) (get_or-set_same v f (store.with_cell (get_or v f store.no_frame) n c) store.no_frame lt)
     ∙ get_or-set_same (get_or v f store.no_frame).cells n c Unknown there
 
-put_apart : (v : Store) (g j f i : ℕ) (c : store.Cell) → (g ≡ f → j ≡ i → ⊥) → store.cell_at (put v g j c) f i ≡ store.cell_at v f i
+pub put_apart : (v : Store) (g j f i : ℕ) (c : store.Cell) → (g ≡ f → j ≡ i → ⊥) → store.cell_at (put v g j c) f i ≡ store.cell_at v f i
 put_apart v g j f i c apart = elim (cases_lt g (length v)) [
   | inr past ↦ ap (λ z. store.cell_at z f i) (put_past v g j c past)
   | inl lt ↦ ap (λ z. store.cell_at z f i) (put_is v g j c lt) ∙ elim (cases_eq f g) [

@@ -178,6 +178,7 @@ module _ (p : Program) (code : PlainCode) (input : List ℕ) (line : ℕ) where
         kinds = λ k lt.
             subst (λ m. get_or (get_or now f picture.no_frame).kinds (m + (from + k)) slot.Mark ≡ slot.Number) shifts
             (get_or_from_slice_get (get_or now f picture.no_frame).kinds (shift p q + (from + k)) slot.Number slot.Mark (ap (λ ks. slice_get ks (shift p q + (from + k))) kinds ∙ h.numbers k lt));
+        free = λ e. h.free (sym is ∙ ap (λ n. (get_or v n store.no_frame).routine) e ∙ stand.main);
       }
 
   -- a variable of a routine round this one: its place goes into the slot lo, the links into the slots behind it

@@ -27,11 +27,10 @@ module _ (code : PlainCode) (input : List ℕ) where
   Runs line at exit now w e q =
       (c : ℕ) → c ≤ 8 → (held : List PlainEntry) (s : State) → IsAt at now held s → Goes code input line c 0 (Leaves exit w) held e s c q
 
-  -- a part inside of a node, from any state that comes to its start in at most 8 steps, of which each lowers the debt: what
-  -- the part begins with pays for them
+  -- a part inside of a node, from any state that comes to its start in at most 8 steps: what the part begins with pays for them
   abbrev pub Later : {A : Type 0} → (line at exit : ℕ) → List PlainFrame → Ways A → Events A → (q : ℕ) → Type 0
   Later line at exit now w e q =
-      (j d : ℕ) → j ≤ 8 → d ≤ j + q → (held : List PlainEntry) (s u : State) → Silently code input j s u → IsAt at now held u → Goes code input line 0 24 (Leaves exit w) held e s 0 d
+      (j d : ℕ) → j ≤ 8 → d ≤ q → (held : List PlainEntry) (s u : State) → Silently code input j s u → IsAt at now held u → Goes code input line 0 24 (Leaves exit w) held e s 0 d
 
   -- the events behind the visit with which a part begins
   abbrev pub Visited : {A : Type 0} → (line at exit : ℕ) → List PlainFrame → Ways A → Events A → (q : ℕ) → Type 0

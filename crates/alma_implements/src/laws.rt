@@ -20,10 +20,12 @@ pub fn steps_for_each_visit_are_enough()
 /// where all its phrases are of the forms that are built.
 #[tactic(auto, using(crate::proofs::Correct::code_implements))]
 pub fn code_by_template_implements()
-    ensures { (p : Program) (code : PlainCode) → IsChecked p → IsBuilt p → IsCodeOf p code → Implements code p }
+    ensures { (p : Program) (code : PlainCode) → IsChecked p → IsBuilt p → IsCodeOf p code
+        → Implements code p }
 {}
 
 /// The code that the templates give is sound: a machine on it is never stuck.
 pub fn code_by_template_is_sound()
-    ensures { (p : Program) (code : PlainCode) → IsChecked p → IsBuilt p → IsCodeOf p code → 16 * nodes p ≤ size_limit → IsSound code }
+    ensures { (p : Program) (code : PlainCode) → IsChecked p → IsBuilt p → IsCodeOf p code
+        → 16 * nodes p ≤ size_limit → IsSound code }
 {}

@@ -4,4 +4,6 @@ pub mod EmitsFor
 pub mod EmitsCase
 pub mod Made
 pub mod RunLemmas
+pub mod Tables
 pub mod Unlined
+pub mod Walks

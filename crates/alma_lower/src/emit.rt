@@ -27,7 +27,7 @@ pub(crate) struct Emit {
 
 impl Emit {
     // No code yet.
-    #[tactic(auto, unfolding(crate::specs::Emitted::filled))]
+    #[tactic(auto, unfolding(crate::specs::Emitted::emitted_count))]
     pub(crate) fn new(alloc: Global, base: u32) -> Emit
         ensures code { result.code.items ≡ [] }
         ensures kinds { result.kinds.items ≡ [] }
@@ -43,7 +43,7 @@ impl Emit {
     }
 
     // One more instruction, at a line.
-    #[tactic(auto, unfolding(crate::specs::Emitted::filled))]
+    #[tactic(auto, unfolding(crate::specs::Emitted::emitted_count))]
     pub(crate) fn put(&mut self, line: u32, instr: Instr) -> Result<(), NoMemory>
         ensures puts { OnOk result (Puts self.old self.new line instr) }
         ensures few { OnOk result (emitted_count self.new ≡ emitted_count self.old + 1) }
@@ -53,7 +53,7 @@ impl Emit {
     }
 
     // One more slot, and its number.
-    #[tactic(auto, unfolding(crate::specs::Emitted::filled))]
+    #[tactic(auto, unfolding(crate::specs::Emitted::emitted_count))]
     pub(crate) fn slot(&mut self, kind: SlotKind) -> Result<u32, NoMemory>
         requires room { emitted_count self.old < slot_limit }
         ensures slot { IfOk result (λ slot. slot ≡ next_slot self.old) }
@@ -66,7 +66,7 @@ impl Emit {
     }
 
     // The address of the next instruction.
-    #[tactic(auto, unfolding(crate::specs::Emitted::filled))]
+    #[tactic(auto, unfolding(crate::specs::Emitted::emitted_count))]
     pub(crate) fn here(&self) -> u32
         requires room { emitted_count self.now ≤ slot_limit }
         ensures address { result ≡ length self.now.code.items }
@@ -76,11 +76,13 @@ impl Emit {
     }
 
     // Sets the target of the jump at this address to the address of the next instruction.
-    #[tactic(auto, unfolding(crate::specs::Emitted::filled))]
+    #[tactic(auto, unfolding(crate::specs::Emitted::emitted_count))]
     pub(crate) fn aim(&mut self, at: u32)
         requires jump { at < length self.old.code.items }
         requires room { emitted_count self.old ≤ slot_limit }
-        ensures code { (before after : List Placed) (jump : Instr) (line : ℕ) → self.old.code.items ≡ before ++ (jump, line) ∷ after → length before ≡ at → self.new.code.items ≡ before ++ (with_target jump (length self.old.code.items), line) ∷ after }
+        ensures code { (before after : List Placed) (jump : Instr) (line : ℕ) → self.old.code.items
+            ≡ before ++ (jump, line) ∷ after → length before ≡ at → self.new.code.items ≡ before ++
+            (with_target jump (length self.old.code.items), line) ∷ after }
         ensures kinds { self.new.kinds.items ≡ self.old.kinds.items }
         ensures base { self.new.base ≡ self.old.base }
         ensures few { emitted_count self.new ≡ emitted_count self.old }
@@ -108,7 +110,8 @@ pub(crate) fn emit_desig(emit: &mut Emit, line: u32, desig: &Desig) -> Result<u3
     requires room { emitted_count emit.old + 16 * desig_nodes (desig_of desig.now) ≤ slot_limit }
     ensures slot { IfOk result (λ slot. slot ≡ next_slot emit.old) }
     ensures puts { OnOk result (PutsDesig emit.old emit.new line (desig_of desig.now)) }
-    ensures few { OnOk result (emitted_count emit.new ≤ emitted_count emit.old + 16 * desig_nodes (desig_of desig.now)) }
+    ensures few { OnOk result (emitted_count emit.new ≤ emitted_count emit.old + 16 * desig_nodes
+        (desig_of desig.now)) }
 {
     match desig.root {
         Root::Local(first) => {
@@ -137,10 +140,12 @@ pub(crate) fn emit_const(emit: &mut Emit, line: u32, value: i64) -> Result<u32, 
 // The number of a variable.
 fn emit_load(emit: &mut Emit, line: u32, desig: &Desig) -> Result<u32, NoMemory>
     requires built { BuiltDesig (desig_of desig.now) }
-    requires room { emitted_count emit.old + 16 + 16 * desig_nodes (desig_of desig.now) ≤ slot_limit }
+    requires room { emitted_count emit.old + 16 + 16 * desig_nodes (desig_of desig.now)
+        ≤ slot_limit }
     ensures slot { IfOk result (λ slot. slot ≡ next_slot emit.old) }
     ensures puts { OnOk result (PutsExpr emit.old emit.new line (tree.Load (desig_of desig.now))) }
-    ensures few { OnOk result (emitted_count emit.new ≤ emitted_count emit.old + 2 + 16 * desig_nodes (desig_of desig.now)) }
+    ensures few { OnOk result (emitted_count emit.new ≤ emitted_count emit.old + 2 + 16 *
+        desig_nodes (desig_of desig.now)) }
 {
     let to = emit.slot(SlotKind::Number)?;
     let from = emit_desig(emit, line, desig)?;
@@ -239,7 +244,8 @@ fn emit_links(emit: &mut Emit, line: u32, to: u32, links: &[Link]) -> Result<(),
     requires built { BuiltLinks (links_list links.now) }
     requires room { emitted_count emit.old + 16 * links_nodes (links_list links.now) ≤ slot_limit }
     ensures puts { OnOk result (PutsLinks emit.old emit.new line to (links_list links.now)) }
-    ensures few { OnOk result (emitted_count emit.new ≤ emitted_count emit.old + 16 * links_nodes (links_list links.now)) }
+    ensures few { OnOk result (emitted_count emit.new ≤ emitted_count emit.old + 16 * links_nodes
+        (links_list links.now)) }
 {
     for link in links {
         let operand = emit_expr(emit, line, &link.operand)?;
@@ -256,7 +262,8 @@ pub(crate) fn emit_expr(emit: &mut Emit, line: u32, expr: &Expr) -> Result<u32, 
     requires room { emitted_count emit.old + 16 * expr_nodes (expr_of expr.now) ≤ slot_limit }
     ensures slot { IfOk result (λ slot. slot ≡ next_slot emit.old) }
     ensures puts { OnOk result (PutsExpr emit.old emit.new line (expr_of expr.now)) }
-    ensures few { OnOk result (emitted_count emit.new + 1 ≤ emitted_count emit.old + 16 * expr_nodes (expr_of expr.now)) }
+    ensures few { OnOk result (emitted_count emit.new + 1 ≤ emitted_count emit.old + 16 * expr_nodes
+        (expr_of expr.now)) }
 {
     match expr {
         Expr::Const(value) => emit_const(emit, line, *value),

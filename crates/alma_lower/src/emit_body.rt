@@ -29,7 +29,8 @@ fn emit_condition(emit: &mut Emit, line: u32, test: &Test) -> Result<u32, NoMemo
     requires room { emitted_count emit.old + 16 * test_nodes (test_of test.now) ≤ slot_limit }
     ensures slot { IfOk result (λ slot. slot ≡ next_slot emit.old) }
     ensures puts { OnOk result (PutsCondition emit.old emit.new line (test_of test.now)) }
-    ensures few { OnOk result (emitted_count emit.new + 16 ≤ emitted_count emit.old + 16 * test_nodes (test_of test.now)) }
+    ensures few { OnOk result (emitted_count emit.new + 16
+        ≤ emitted_count emit.old + 16 * test_nodes (test_of test.now)) }
 {
     match test {
         Test::Value(value) => emit_expr(emit, line, value),
@@ -49,7 +50,8 @@ fn emit_test(emit: &mut Emit, line: u32, test: &Test) -> Result<(), NoMemory>
     requires built { BuiltTest (test_of test.now) }
     requires room { emitted_count emit.old + 16 * test_nodes (test_of test.now) ≤ slot_limit }
     ensures puts { OnOk result (PutsTest emit.old emit.new line (test_of test.now)) }
-    ensures few { OnOk result (emitted_count emit.new ≤ emitted_count emit.old + 16 * test_nodes (test_of test.now)) }
+    ensures few { OnOk result (emitted_count emit.new ≤ emitted_count emit.old + 16 * test_nodes
+        (test_of test.now)) }
 {
     let value = emit_condition(emit, line, test)?;
     emit.put(line, Instr::Check { value })?;
@@ -61,8 +63,11 @@ fn emit_guard(emit: &mut Emit, line: u32, test: &Test) -> Result<u32, NoMemory>
     requires built { BuiltTest (test_of test.now) }
     requires room { emitted_count emit.old + 16 * test_nodes (test_of test.now) ≤ slot_limit }
     ensures jump { IfOk result (λ jump. jump + 1 ≡ length emit.new.code.items) }
-    ensures puts { OnOk result (Appends emit.old emit.new (λ at lo. condition_code line lo (test_of test.now) ++ (instr.JumpZero lo 0, line) ∷ []) (test_slots (test_of test.now))) }
-    ensures few { OnOk result (emitted_count emit.new + 15 ≤ emitted_count emit.old + 16 * test_nodes (test_of test.now)) }
+    ensures puts { OnOk result (Appends emit.old emit.new
+        (λ at lo. condition_code line lo (test_of test.now) ++ (instr.JumpZero lo 0, line) ∷ [])
+        (test_slots (test_of test.now))) }
+    ensures few { OnOk result (emitted_count emit.new + 15
+        ≤ emitted_count emit.old + 16 * test_nodes (test_of test.now)) }
 {
     let value = emit_condition(emit, line, test)?;
     let jump = emit.here();
@@ -74,9 +79,12 @@ fn emit_guard(emit: &mut Emit, line: u32, test: &Test) -> Result<u32, NoMemory>
 fn emit_assign(emit: &mut Emit, line: u32, desig: &Desig, value: &Expr) -> Result<(), NoMemory>
     requires desig { BuiltDesig (desig_of desig.now) }
     requires value { BuiltExpr (expr_of value.now) }
-    requires room { emitted_count emit.old + 16 * desig_nodes (desig_of desig.now) + 16 * expr_nodes (expr_of value.now) ≤ slot_limit }
-    ensures puts { OnOk result (PutsStmt emit.old emit.new line (tree.Assign (desig_of desig.now) (expr_of value.now) whole_range)) }
-    ensures few { OnOk result (emitted_count emit.new ≤ emitted_count emit.old + 16 * desig_nodes (desig_of desig.now) + 16 * expr_nodes (expr_of value.now)) }
+    requires room { emitted_count emit.old + 16 * desig_nodes (desig_of desig.now) + 16 * expr_nodes
+        (expr_of value.now) ≤ slot_limit }
+    ensures puts { OnOk result (PutsStmt emit.old emit.new line
+        (tree.Assign (desig_of desig.now) (expr_of value.now) whole_range)) }
+    ensures few { OnOk result (emitted_count emit.new ≤ emitted_count emit.old + 16 * desig_nodes
+        (desig_of desig.now) + 16 * expr_nodes (expr_of value.now)) }
 {
     let to = emit_desig(emit, line, desig)?;
     let from = emit_expr(emit, line, value)?;
@@ -89,8 +97,10 @@ fn emit_write(emit: &mut Emit, line: u32, value: &Expr, how: WriteAs) -> Result<
     requires value { BuiltExpr (expr_of value.now) }
     requires how { BuiltWrite how }
     requires room { emitted_count emit.old + 16 * expr_nodes (expr_of value.now) ≤ slot_limit }
-    ensures puts { OnOk result (PutsStmt emit.old emit.new line (tree.WriteExpr (expr_of value.now) how)) }
-    ensures few { OnOk result (emitted_count emit.new ≤ emitted_count emit.old + 16 * expr_nodes (expr_of value.now)) }
+    ensures puts { OnOk result (PutsStmt emit.old emit.new line
+        (tree.WriteExpr (expr_of value.now) how)) }
+    ensures few { OnOk result (emitted_count emit.new ≤ emitted_count emit.old + 16 * expr_nodes
+        (expr_of value.now)) }
 {
     let value = emit_expr(emit, line, value)?;
     match how {
@@ -112,10 +122,14 @@ fn emit_guarded(
 ) -> Result<(), NoMemory>
     requires body { BuiltStmts (stmts_list body.now) }
     requires test { BuiltTest (test_of test.now) }
-    requires room { emitted_count emit.old + 16 * test_nodes (test_of test.now) + 16 * stmts_nodes (stmts_list body.now) ≤ slot_limit }
-    ensures puts { OnOk result (PutsGuarded emit.old emit.new line (test_of test.now) (stmts_with (stmts_list body.now) (left lines.old)) back) }
-    ensures left { OnOk result (left lines.new ≡ behind (stmts_phrases (stmts_list body.now)) (left lines.old)) }
-    ensures few { OnOk result (emitted_count emit.new ≤ emitted_count emit.old + 16 * test_nodes (test_of test.now) + 16 * stmts_nodes (stmts_list body.now)) }
+    requires room { emitted_count emit.old + 16 * test_nodes (test_of test.now) + 16 * stmts_nodes
+        (stmts_list body.now) ≤ slot_limit }
+    ensures puts { OnOk result (PutsGuarded emit.old emit.new line (test_of test.now)
+        (stmts_with (stmts_list body.now) (left lines.old)) back) }
+    ensures left { OnOk result (left lines.new ≡ behind (stmts_phrases (stmts_list body.now))
+        (left lines.old)) }
+    ensures few { OnOk result (emitted_count emit.new ≤ emitted_count emit.old + 16 * test_nodes
+        (test_of test.now) + 16 * stmts_nodes (stmts_list body.now)) }
 {
     let jump = emit_guard(emit, line, test)?;
     emit_stmts(emit, lines, body)?;
@@ -135,9 +149,12 @@ fn emit_arms(
 ) -> Result<(), NoMemory>
     requires built { BuiltArms (arms_list arms.now) }
     requires room { emitted_count emit.old + 16 * arms_nodes (arms_list arms.now) ≤ slot_limit }
-    ensures puts { OnOk result (PutsArms emit.old emit.new line exit (arms_with (arms_list arms.now) (left lines.old))) }
-    ensures left { OnOk result (left lines.new ≡ behind (arms_phrases (arms_list arms.now)) (left lines.old)) }
-    ensures few { OnOk result (emitted_count emit.new ≤ emitted_count emit.old + 16 * arms_nodes (arms_list arms.now)) }
+    ensures puts { OnOk result (PutsArms emit.old emit.new line exit
+        (arms_with (arms_list arms.now) (left lines.old))) }
+    ensures left { OnOk result (left lines.new ≡ behind (arms_phrases (arms_list arms.now))
+        (left lines.old)) }
+    ensures few { OnOk result (emitted_count emit.new ≤ emitted_count emit.old + 16 * arms_nodes
+        (arms_list arms.now)) }
 {
     for arm in arms {
         emit_guarded(emit, lines, line, &arm.body, &arm.cond, exit)?;
@@ -156,10 +173,14 @@ fn emit_while(
 ) -> Result<(), NoMemory>
     requires body { BuiltStmts (stmts_list body.now) }
     requires test { BuiltTest (test_of test.now) }
-    requires room { emitted_count emit.old + 16 + 16 * test_nodes (test_of test.now) + 16 * stmts_nodes (stmts_list body.now) ≤ slot_limit }
-    ensures puts { OnOk result (PutsStmt emit.old emit.new line (tree.While (test_of test.now) (stmts_with (stmts_list body.now) (left lines.old)))) }
-    ensures left { OnOk result (left lines.new ≡ behind (stmts_phrases (stmts_list body.now)) (left lines.old)) }
-    ensures few { OnOk result (emitted_count emit.new ≤ emitted_count emit.old + 16 + 16 * test_nodes (test_of test.now) + 16 * stmts_nodes (stmts_list body.now)) }
+    requires room { emitted_count emit.old + 16 + 16 * test_nodes
+        (test_of test.now) + 16 * stmts_nodes (stmts_list body.now) ≤ slot_limit }
+    ensures puts { OnOk result (PutsStmt emit.old emit.new line
+        (tree.While (test_of test.now) (stmts_with (stmts_list body.now) (left lines.old)))) }
+    ensures left { OnOk result (left lines.new ≡ behind (stmts_phrases (stmts_list body.now))
+        (left lines.old)) }
+    ensures few { OnOk result (emitted_count emit.new ≤ emitted_count emit.old + 16 + 16 *
+        test_nodes (test_of test.now) + 16 * stmts_nodes (stmts_list body.now)) }
 {
     let start = emit.here();
     emit.put(line, Instr::Jump { to: start + 1 })?;
@@ -177,10 +198,14 @@ fn emit_repeat(
 ) -> Result<(), NoMemory>
     requires body { BuiltStmts (stmts_list body.now) }
     requires test { BuiltTest (test_of test.now) }
-    requires room { emitted_count emit.old + 16 + 16 * test_nodes (test_of test.now) + 16 * stmts_nodes (stmts_list body.now) ≤ slot_limit }
-    ensures puts { OnOk result (PutsStmt emit.old emit.new line (tree.Repeat (stmts_with (stmts_list body.now) (left lines.old)) (test_of test.now))) }
-    ensures left { OnOk result (left lines.new ≡ behind (stmts_phrases (stmts_list body.now)) (left lines.old)) }
-    ensures few { OnOk result (emitted_count emit.new ≤ emitted_count emit.old + 16 + 16 * test_nodes (test_of test.now) + 16 * stmts_nodes (stmts_list body.now)) }
+    requires room { emitted_count emit.old + 16 + 16 * test_nodes
+        (test_of test.now) + 16 * stmts_nodes (stmts_list body.now) ≤ slot_limit }
+    ensures puts { OnOk result (PutsStmt emit.old emit.new line
+        (tree.Repeat (stmts_with (stmts_list body.now) (left lines.old)) (test_of test.now))) }
+    ensures left { OnOk result (left lines.new ≡ behind (stmts_phrases (stmts_list body.now))
+        (left lines.old)) }
+    ensures few { OnOk result (emitted_count emit.new ≤ emitted_count emit.old + 16 + 16 *
+        test_nodes (test_of test.now) + 16 * stmts_nodes (stmts_list body.now)) }
 {
     let start = emit.here();
     emit_stmts(emit, lines, body)?;
@@ -209,10 +234,14 @@ fn emit_turns(
 ) -> Result<(), NoMemory>
     requires var { BuiltDesig (desig_of each.now.var) }
     requires body { BuiltStmts (stmts_list each.now.body.items) }
-    requires room { emitted_count emit.old + 8 + 16 * desig_nodes (desig_of each.now.var) + 16 * stmts_nodes (stmts_list each.now.body.items) ≤ slot_limit }
-    ensures puts { OnOk result (PutsTurns emit.old emit.new line each.now.counter each.now.limit step (desig_of each.now.var) (stmts_with (stmts_list each.now.body.items) (left lines.old))) }
-    ensures left { OnOk result (left lines.new ≡ behind (stmts_phrases (stmts_list each.now.body.items)) (left lines.old)) }
-    ensures few { OnOk result (emitted_count emit.new ≤ emitted_count emit.old + 3 + 16 * desig_nodes (desig_of each.now.var) + 16 * stmts_nodes (stmts_list each.now.body.items)) }
+    requires room { emitted_count emit.old + 8 + 16 * desig_nodes
+        (desig_of each.now.var) + 16 * stmts_nodes (stmts_list each.now.body.items) ≤ slot_limit }
+    ensures puts { OnOk result (PutsTurns emit.old emit.new line each.now.counter each.now.limit
+        step (desig_of each.now.var) (stmts_with (stmts_list each.now.body.items) (left lines.old))) }
+    ensures left { OnOk result (left lines.new ≡ behind (stmts_phrases
+        (stmts_list each.now.body.items)) (left lines.old)) }
+    ensures few { OnOk result (emitted_count emit.new ≤ emitted_count emit.old + 3 + 16 *
+        desig_nodes (desig_of each.now.var) + 16 * stmts_nodes (stmts_list each.now.body.items)) }
 {
     let turn = emit.here();
     let place = emit_desig(emit, line, &each.var)?;
@@ -243,9 +272,12 @@ fn emit_turns(
 fn emit_for(emit: &mut Emit, lines: &mut Lines, line: u32, each: &Loop) -> Result<(), NoMemory>
     requires built { BuiltLoop (loop_of each.now) }
     requires room { emitted_count emit.old + 16 + 16 * loop_nodes (loop_of each.now) ≤ slot_limit }
-    ensures puts { OnOk result (PutsStmt emit.old emit.new line (tree.ForTo (loop_with (loop_of each.now) (left lines.old)))) }
-    ensures left { OnOk result (left lines.new ≡ behind (loop_phrases (loop_of each.now)) (left lines.old)) }
-    ensures few { OnOk result (emitted_count emit.new ≤ emitted_count emit.old + 16 + 16 * loop_nodes (loop_of each.now)) }
+    ensures puts { OnOk result (PutsStmt emit.old emit.new line
+        (tree.ForTo (loop_with (loop_of each.now) (left lines.old)))) }
+    ensures left { OnOk result (left lines.new ≡ behind (loop_phrases (loop_of each.now))
+        (left lines.old)) }
+    ensures few { OnOk result (emitted_count emit.new ≤ emitted_count emit.old + 16 + 16 *
+        loop_nodes (loop_of each.now)) }
 {
     let step = emit_const(emit, line, each.by)?;
     let jump = emit_bounds(emit, line, each)?;
@@ -266,10 +298,14 @@ fn emit_case_arm(
 ) -> Result<(), NoMemory>
     requires body { BuiltStmts (stmts_list body.now) }
     requires bound { head.bound < slot_limit }
-    requires room { emitted_count emit.old + 16 + 16 * length labels.now + 16 * stmts_nodes (stmts_list body.now) ≤ slot_limit }
-    ensures puts { OnOk result (PutsCaseArm emit.old emit.new line head.value head.bound head.exit labels.now (stmts_with (stmts_list body.now) (left lines.old))) }
-    ensures left { OnOk result (left lines.new ≡ behind (stmts_phrases (stmts_list body.now)) (left lines.old)) }
-    ensures few { OnOk result (emitted_count emit.new ≤ emitted_count emit.old + 16 + 16 * length labels.now + 16 * stmts_nodes (stmts_list body.now)) }
+    requires room { emitted_count emit.old + 16 + 16 * length labels.now + 16 * stmts_nodes
+        (stmts_list body.now) ≤ slot_limit }
+    ensures puts { OnOk result (PutsCaseArm emit.old emit.new line head.value head.bound head.exit
+        labels.now (stmts_with (stmts_list body.now) (left lines.old))) }
+    ensures left { OnOk result (left lines.new ≡ behind (stmts_phrases (stmts_list body.now))
+        (left lines.old)) }
+    ensures few { OnOk result (emitted_count emit.new ≤ emitted_count emit.old + 16 + 16 * length
+        labels.now + 16 * stmts_nodes (stmts_list body.now)) }
 {
     let hit = emit.here() + 7 * labels.len() as u32 + 1;
     emit_labels(emit, line, head, hit, labels)?;
@@ -294,9 +330,12 @@ fn emit_cases(
     requires built { BuiltCases (cases_list arms.now) }
     requires bound { head.bound < slot_limit }
     requires room { emitted_count emit.old + 16 * cases_nodes (cases_list arms.now) ≤ slot_limit }
-    ensures puts { OnOk result (PutsCases emit.old emit.new line head.value head.bound head.exit (cases_with (cases_list arms.now) (left lines.old))) }
-    ensures left { OnOk result (left lines.new ≡ behind (cases_phrases (cases_list arms.now)) (left lines.old)) }
-    ensures few { OnOk result (emitted_count emit.new ≤ emitted_count emit.old + 16 * cases_nodes (cases_list arms.now)) }
+    ensures puts { OnOk result (PutsCases emit.old emit.new line head.value head.bound head.exit
+        (cases_with (cases_list arms.now) (left lines.old))) }
+    ensures left { OnOk result (left lines.new ≡ behind (cases_phrases (cases_list arms.now))
+        (left lines.old)) }
+    ensures few { OnOk result (emitted_count emit.new ≤ emitted_count emit.old + 16 * cases_nodes
+        (cases_list arms.now)) }
 {
     for arm in arms {
         if !arm.labels.is_empty() {
@@ -314,9 +353,12 @@ fn emit_cases(
 pub(crate) fn emit_stmts(emit: &mut Emit, lines: &mut Lines, body: &[Stmt]) -> Result<(), NoMemory>
     requires built { BuiltStmts (stmts_list body.now) }
     requires room { emitted_count emit.old + 16 * stmts_nodes (stmts_list body.now) ≤ slot_limit }
-    ensures puts { OnOk result (PutsStmts emit.old emit.new (stmts_with (stmts_list body.now) (left lines.old))) }
-    ensures left { OnOk result (left lines.new ≡ behind (stmts_phrases (stmts_list body.now)) (left lines.old)) }
-    ensures few { OnOk result (emitted_count emit.new ≤ emitted_count emit.old + 16 * stmts_nodes (stmts_list body.now)) }
+    ensures puts { OnOk result (PutsStmts emit.old emit.new
+        (stmts_with (stmts_list body.now) (left lines.old))) }
+    ensures left { OnOk result (left lines.new ≡ behind (stmts_phrases (stmts_list body.now))
+        (left lines.old)) }
+    ensures few { OnOk result (emitted_count emit.new ≤ emitted_count emit.old + 16 * stmts_nodes
+        (stmts_list body.now)) }
 {
     for stmt in body {
         let line = lines.next();
@@ -330,9 +372,12 @@ pub(crate) fn emit_stmts(emit: &mut Emit, lines: &mut Lines, body: &[Stmt]) -> R
 fn emit_stmt(emit: &mut Emit, lines: &mut Lines, line: u32, stmt: &Stmt) -> Result<(), NoMemory>
     requires built { BuiltStmt (stmt_of stmt.now) }
     requires room { emitted_count emit.old + 16 * stmt_nodes (stmt_of stmt.now) ≤ slot_limit }
-    ensures puts { OnOk result (PutsStmt emit.old emit.new line (stmt_with (stmt_of stmt.now) (left lines.old))) }
-    ensures left { OnOk result (left lines.new ≡ behind (inside (stmt_of stmt.now)) (left lines.old)) }
-    ensures few { OnOk result (emitted_count emit.new ≤ emitted_count emit.old + 16 * stmt_nodes (stmt_of stmt.now)) }
+    ensures puts { OnOk result (PutsStmt emit.old emit.new line
+        (stmt_with (stmt_of stmt.now) (left lines.old))) }
+    ensures left { OnOk result (left lines.new ≡ behind (inside (stmt_of stmt.now))
+        (left lines.old)) }
+    ensures few { OnOk result (emitted_count emit.new ≤ emitted_count emit.old + 16 * stmt_nodes
+        (stmt_of stmt.now)) }
 {
     match stmt {
         Stmt::Test(test) => emit_test(emit, line, test),

@@ -23,16 +23,18 @@ pub(crate) struct CaseHead {
 
 // The value of CASE, the slots for its labels, and the jump over the jump by which the arms leave, which is still to be
 // aimed.
-#[tactic(auto, unfolding(crate::specs::Emitted::filled))]
+#[tactic(auto, unfolding(crate::specs::Emitted::emitted_count))]
 pub(crate) fn emit_case_head(emit: &mut Emit, line: u32, value: &Expr) -> Result<CaseHead, NoMemory>
     requires built { BuiltExpr (expr_of value.now) }
     requires room { emitted_count emit.old + 16 + 16 * expr_nodes (expr_of value.now) ≤ slot_limit }
     ensures value { IfOk result (λ head. head.value ≡ next_slot emit.old) }
-    ensures bound { IfOk result (λ head. head.bound ≡ next_slot emit.old + length (expr_slots (expr_of value.now))) }
+    ensures bound { IfOk result (λ head. head.bound ≡ next_slot emit.old + length
+        (expr_slots (expr_of value.now))) }
     ensures exit { IfOk result (λ head. head.exit + 1 ≡ length emit.new.code.items) }
     ensures small { IfOk result (λ head. head.bound < slot_limit) }
     ensures puts { OnOk result (PutsCaseHead emit.old emit.new line (expr_of value.now)) }
-    ensures few { OnOk result (emitted_count emit.new ≤ emitted_count emit.old + 3 + 16 * expr_nodes (expr_of value.now)) }
+    ensures few { OnOk result (emitted_count emit.new ≤ emitted_count emit.old + 3 + 16 * expr_nodes
+        (expr_of value.now)) }
 {
     let value = emit_expr(emit, line, value)?;
     let bound = emit.slot(SlotKind::Number)?;
@@ -54,7 +56,8 @@ fn emit_label(
 ) -> Result<(), NoMemory>
     requires bound { head.bound < slot_limit }
     requires room { emitted_count emit.old + 7 ≤ slot_limit }
-    ensures puts { OnOk result (Appends emit.old emit.new (λ at lo. label_code line head.value head.bound at hit label.now) []) }
+    ensures puts { OnOk result (Appends emit.old emit.new
+        (λ at lo. label_code line head.value head.bound at hit label.now) []) }
     ensures few { OnOk result (emitted_count emit.new ≤ emitted_count emit.old + 7) }
 {
     let CaseHead { value, bound, .. } = head;
@@ -117,8 +120,10 @@ pub(crate) fn emit_labels(
 ) -> Result<(), NoMemory>
     requires bound { head.bound < slot_limit }
     requires room { emitted_count emit.old + 7 * length labels.now ≤ slot_limit }
-    ensures puts { OnOk result (PutsLabels emit.old emit.new line head.value head.bound hit labels.now) }
-    ensures few { OnOk result (emitted_count emit.new ≤ emitted_count emit.old + 7 * length labels.now) }
+    ensures puts { OnOk result (PutsLabels emit.old emit.new line head.value head.bound hit
+        labels.now) }
+    ensures few { OnOk result (emitted_count emit.new ≤ emitted_count emit.old + 7 * length
+        labels.now) }
 {
     for label in labels {
         emit_label(emit, line, head, hit, label)?;

@@ -35,10 +35,13 @@ fn entry_instr(by: i64, from: u32, to: u32) -> Instr
 pub(crate) fn emit_bounds(emit: &mut Emit, line: u32, each: &Loop) -> Result<u32, NoMemory>
     requires from { BuiltExpr (expr_of each.now.from) }
     requires to { BuiltExpr (expr_of each.now.to) }
-    requires room { emitted_count emit.old + 8 + 16 * expr_nodes (expr_of each.now.from) + 16 * expr_nodes (expr_of each.now.to) ≤ slot_limit }
+    requires room { emitted_count emit.old + 8 + 16 * expr_nodes
+        (expr_of each.now.from) + 16 * expr_nodes (expr_of each.now.to) ≤ slot_limit }
     ensures jump { IfOk result (λ jump. jump + 1 ≡ length emit.new.code.items) }
-    ensures puts { OnOk result (PutsBounds emit.old emit.new line each.now.by each.now.counter each.now.limit (expr_of each.now.from) (expr_of each.now.to)) }
-    ensures few { OnOk result (emitted_count emit.new ≤ emitted_count emit.old + 2 + 16 * expr_nodes (expr_of each.now.from) + 16 * expr_nodes (expr_of each.now.to)) }
+    ensures puts { OnOk result (PutsBounds emit.old emit.new line each.now.by each.now.counter
+        each.now.limit (expr_of each.now.from) (expr_of each.now.to)) }
+    ensures few { OnOk result (emitted_count emit.new ≤ emitted_count emit.old + 2 + 16 * expr_nodes
+        (expr_of each.now.from) + 16 * expr_nodes (expr_of each.now.to)) }
 {
     let first = emit_expr(emit, line, &each.from)?;
     let last = emit_expr(emit, line, &each.to)?;

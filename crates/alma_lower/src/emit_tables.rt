@@ -22,7 +22,8 @@ fn is_same(kind: SlotKind, other: SlotKind) -> bool
 pub(crate) fn runs_of(alloc: Global, numbers: u32, kinds: &[SlotKind]) -> Result<Vec<Run>, NoMemory>
     requires some { 0 < numbers }
     requires room { numbers + length kinds.now ≤ slot_limit }
-    ensures names { IfOk result (λ runs. NamesKinds runs.items (replicate numbers slot.Number ++ kinds.now)) }
+    ensures names { IfOk result (λ runs. NamesKinds runs.items
+        (replicate numbers slot.Number ++ kinds.now)) }
     ensures few { IfOk result (λ runs. length runs.items ≤ numbers + length kinds.now) }
 {
     let mut runs = Vec::new(alloc);
@@ -61,7 +62,8 @@ pub(crate) fn globals_of(
     alloc: Global,
     globals: &[alma_ir::Global],
 ) -> Result<Vec<CodeGlobal>, NoMemory>
-    ensures { IfOk result (λ named. map code.global_of named.items ≡ map global_named (map view.global_of globals.now)) }
+    ensures { IfOk result (λ named. map code.global_of named.items ≡ map global_named
+        (map view.global_of globals.now)) }
 {
     let mut named = Vec::new(alloc);
     for global in globals {

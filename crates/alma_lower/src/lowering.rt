@@ -7,6 +7,7 @@ ghost use Rattle.alma_ir.specs.View.{program_of, routine_of, stmts_list};
 ghost use Rattle.alma_ir.specs.Count.{saturate, nodes, stmts_nodes};
 ghost use Rattle.alma_ir.specs.Checked.{IsChecked};
 ghost use Rattle.alma_ir.specs.Lines.{body_with_lines};
+ghost use Rattle.alma_code.specs.Records.{KeepsCounts, KeepsRecords, KeepsVersion};
 ghost use Rattle.alma_code.specs.Rules.{IsSound};
 ghost use Rattle.alma_implements.specs.Built.{IsBuilt, BuiltStmts};
 ghost use Rattle.alma_implements.specs.Implements.{Implements};
@@ -42,10 +43,16 @@ pub fn lower(alloc: Global, program: &Program) -> Result<Code, LowerError>
     requires checked { IsChecked (program_of program.now) }
     ensures implements { IfOk result (λ code. Implements (code_of code) (program_of program.now)) }
     ensures sound { IfOk result (λ code. IsSound (code_of code)) }
+    ensures version { IfOk result (λ code. KeepsVersion (code_of code)) }
+    ensures counts { IfOk result (λ code. KeepsCounts (code_of code)) }
+    ensures records { IfOk result (λ code. KeepsRecords (code_of code)) }
     ensures forms { IfOk result (λ code. HasOnlyMade (code_of code)) }
-    ensures few { IfOk result (λ code. length (code_of code).instrs ≤ 16 * nodes (program_of program.now)) }
-    ensures too_much { let size = saturate (16 * nodes (program_of program.now)) in size_limit < size → result ≡ Err (LowerError.TooMuchCode size) }
-    ensures within { let size = saturate (16 * nodes (program_of program.now)) in size ≤ size_limit → (n : ℕ) → result ≡ Err (LowerError.TooMuchCode n) → ⊥ }
+    ensures few { IfOk result (λ code. length (code_of code).instrs ≤ 16 * nodes
+        (program_of program.now)) }
+    ensures too_much { let size = saturate (16 * nodes (program_of program.now)) in size_limit
+        < size → result ≡ Err (LowerError.TooMuchCode size) }
+    ensures within { let size = saturate (16 * nodes (program_of program.now)) in size ≤ size_limit
+        → (n : ℕ) → result ≡ Err (LowerError.TooMuchCode n) → ⊥ }
 {
     let size = size(program);
     if size > SIZE_LIMIT {
@@ -63,7 +70,8 @@ fn compiled(alloc: Global, program: &Program) -> Result<Code, NoMemory>
     requires checked { IsChecked (program_of program.now) }
     requires size { 16 * nodes (program_of program.now) ≤ size_limit }
     ensures code { IfOk result (λ code. IsCodeOf (program_of program.now) (code_of code)) }
-    ensures few { IfOk result (λ code. length (code_of code).instrs ≤ 16 * nodes (program_of program.now)) }
+    ensures few { IfOk result (λ code. length (code_of code).instrs ≤ 16 * nodes
+        (program_of program.now)) }
 {
     let body = &program.routines[0];
     let emit = emitted(alloc, body)?;
@@ -90,15 +98,17 @@ fn compiled(alloc: Global, program: &Program) -> Result<Code, NoMemory>
 }
 
 // The instructions and slots of the body of the module.
-#[tactic(auto, unfolding(crate::specs::Emitted::filled))]
+#[tactic(auto, unfolding(crate::specs::Emitted::emitted_count))]
 fn emitted(alloc: Global, body: &Routine) -> Result<Emit, NoMemory>
     requires built { BuiltStmts (stmts_list body.now.body.items) }
     requires slots { body.now.slots ≤ routine_slot_limit }
     requires size { 16 + 16 * stmts_nodes (stmts_list body.now.body.items) ≤ size_limit }
     ensures code { IfOk result (λ emit. emit.code.items ≡ body_code (routine_of body.now)) }
-    ensures kinds { IfOk result (λ emit. emit.kinds.items ≡ stmts_slots (body_with_lines (routine_of body.now))) }
+    ensures kinds { IfOk result (λ emit. emit.kinds.items ≡ stmts_slots
+        (body_with_lines (routine_of body.now))) }
     ensures base { IfOk result (λ emit. emit.base ≡ body.now.slots) }
-    ensures few { IfOk result (λ emit. length emit.code.items ≤ 16 + 16 * stmts_nodes (stmts_list body.now.body.items)) }
+    ensures few { IfOk result (λ emit. length emit.code.items ≤ 16 + 16 * stmts_nodes
+        (stmts_list body.now.body.items)) }
     ensures room { IfOk result (λ emit. emit.base + length emit.kinds.items ≤ slot_limit) }
     ensures full { IfOk result (λ emit. emitted_count emit ≤ slot_limit) }
 {

@@ -107,8 +107,10 @@ impl Header {
 #[tactic(auto, unfolding(crate::specs::Header::count_fault))]
 fn read_count(bytes: &[u8], at: usize, greatest: u32) -> Result<u32, ObjectFault>
     requires { at < 2 ^ 32 }
-    ensures count { IfOk result (λ n. (n ≡ u32_there bytes.now at) × (n ≤ greatest) × (at + 4 ≤ length bytes.now)) }
-    ensures fault { MatchResult result (λ n. count_fault bytes.now at greatest ≡ None) (λ fault. count_fault bytes.now at greatest ≡ Some fault) }
+    ensures count { IfOk result (λ n. (n ≡ u32_there bytes.now at) × (n ≤ greatest) ×
+        (at + 4 ≤ length bytes.now)) }
+    ensures fault { MatchResult result (λ n. count_fault bytes.now at greatest ≡ None)
+        (λ fault. count_fault bytes.now at greatest ≡ Some fault) }
 {
     if bytes.len() < at + 4 {
         return Err(ObjectFault::Cut(bytes.len()));
@@ -122,8 +124,11 @@ fn read_count(bytes: &[u8], at: usize, greatest: u32) -> Result<u32, ObjectFault
 
 // The magic and the version.
 fn read_version(bytes: &[u8]) -> Result<u16, ObjectFault>
-    ensures version { IfOk result (λ v. (v ≡ u16_there bytes.now 8) × ((nat_eq v 1 || nat_eq v 2) ≡ true)) }
-    ensures fault { MatchResult result (λ v. or_else (magic_fault bytes.now) (version_fault bytes.now) ≡ None) (λ fault. or_else (magic_fault bytes.now) (version_fault bytes.now) ≡ Some fault) }
+    ensures version { IfOk result (λ v. (v ≡ u16_there bytes.now 8) ×
+        ((nat_eq v 1 || nat_eq v 2) ≡ true)) }
+    ensures fault { MatchResult result (λ v. or_else (magic_fault bytes.now)
+        (version_fault bytes.now) ≡ None) (λ fault. or_else (magic_fault bytes.now)
+        (version_fault bytes.now) ≡ Some fault) }
 {
     if bytes.len() < 8 {
         return Err(ObjectFault::Cut(bytes.len()));
@@ -146,8 +151,10 @@ fn read_version(bytes: &[u8]) -> Result<u16, ObjectFault>
 fn read_counts(bytes: &[u8], version: u16) -> Result<Header, ObjectFault>
     requires version { version ≡ u16_there bytes.now 8 }
     requires known { (nat_eq version 1 || nat_eq version 2) ≡ true }
-    ensures header { IfOk result (λ h. (h ≡ header_of bytes.now) × IsWithin h × (routines_at h ≤ length bytes.now)) }
-    ensures fault { MatchResult result (λ h. counts_fault bytes.now ≡ None) (λ fault. counts_fault bytes.now ≡ Some fault) }
+    ensures header { IfOk result (λ h. (h ≡ header_of bytes.now) × IsWithin h ×
+        (routines_at h ≤ length bytes.now)) }
+    ensures fault { MatchResult result (λ h. counts_fault bytes.now ≡ None)
+        (λ fault. counts_fault bytes.now ≡ Some fault) }
 {
     let routines = read_count(bytes, 10, 262_144)?;
     if routines == 0 {
@@ -187,8 +194,10 @@ fn read_counts(bytes: &[u8], version: u16) -> Result<Header, ObjectFault>
 /// The header of an object, or its first fault.
 #[tactic(auto, unfolding(crate::specs::Header::header_fault))]
 pub fn read_header(bytes: &[u8]) -> Result<Header, ObjectFault>
-    ensures header { IfOk result (λ h. (h ≡ header_of bytes.now) × IsWithin h × (routines_at h ≤ length bytes.now)) }
-    ensures fault { MatchResult result (λ h. header_fault bytes.now ≡ None) (λ fault. header_fault bytes.now ≡ Some fault) }
+    ensures header { IfOk result (λ h. (h ≡ header_of bytes.now) × IsWithin h ×
+        (routines_at h ≤ length bytes.now)) }
+    ensures fault { MatchResult result (λ h. header_fault bytes.now ≡ None)
+        (λ fault. header_fault bytes.now ≡ Some fault) }
 {
     let version = read_version(bytes)?;
     read_counts(bytes, version)

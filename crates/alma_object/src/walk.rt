@@ -50,8 +50,10 @@ pub fn text_end(bytes: &[u8], header: &Header, text: u32) -> u32
 /// Where a name ends. The names of the routines come first, then those of the globals.
 #[tactic(auto, unfolding(crate::specs::Walk::name_end))]
 pub fn name_end(bytes: &[u8], header: &Header, name: u32) -> u32
-    requires routine { name < header.now.routines → routines_at header.now + 28 * name + 28 ≤ length bytes.now }
-    requires global { header.now.routines ≤ name → globals_at header.now + 12 * (name - header.now.routines) + 12 ≤ length bytes.now }
+    requires routine { name < header.now.routines → routines_at header.now + 28 * name + 28
+        ≤ length bytes.now }
+    requires global { header.now.routines ≤ name → globals_at header.now + 12 *
+        (name - header.now.routines) + 12 ≤ length bytes.now }
     ensures { result ≡ name_end_of bytes.now header.now name }
 {
     if name < header.routines {
@@ -119,8 +121,10 @@ pub fn text_start(bytes: &[u8], header: &Header, text: u32) -> u32
 /// Where a name begins.
 #[tactic(auto, using(crate::proofs::Starts::starts))]
 pub fn name_start(bytes: &[u8], header: &Header, name: u32) -> u32
-    requires routine { name ≤ header.now.routines → routines_at header.now + 28 * name ≤ length bytes.now }
-    requires global { header.now.routines ≤ name → globals_at header.now + 12 * (name - header.now.routines) ≤ length bytes.now }
+    requires routine { name ≤ header.now.routines → routines_at header.now + 28 * name
+        ≤ length bytes.now }
+    requires global { header.now.routines ≤ name → globals_at header.now + 12 *
+        (name - header.now.routines) ≤ length bytes.now }
     ensures { result ≡ start_of (name_end_of bytes.now header.now) name }
 {
     if name == 0 {
@@ -329,9 +333,11 @@ fn run_fault(bytes: &[u8], header: &Header, first: bool, run: u32) -> Option<Obj
 #[tactic(auto, unfolding(crate::specs::Walk::routine_runs_fault), using(crate::proofs::Faults::fault_steps))]
 fn routine_runs_fault(bytes: &[u8], header: &Header, routine: u32) -> Option<ObjectFault>
     requires table { routines_at header.now + 28 * routine + 28 ≤ length bytes.now }
-    requires before { runs_at header.now + 12 * start_of (runs_end_of bytes.now header.now) routine ≤ length bytes.now }
+    requires before { runs_at header.now + 12 * start_of (runs_end_of bytes.now header.now) routine
+        ≤ length bytes.now }
     ensures fault { result ≡ routine_runs_fault_of bytes.now header.now routine }
-    ensures whole { IfNone result (runs_at header.now + 12 * runs_end_of bytes.now header.now routine ≤ length bytes.now) }
+    ensures whole { IfNone result (runs_at header.now + 12 * runs_end_of bytes.now header.now
+        routine ≤ length bytes.now) }
 {
     let start = runs_start(bytes, header, routine);
     let end = runs_end(bytes, header, routine);
@@ -349,7 +355,8 @@ fn runs_fault(bytes: &[u8], header: &Header) -> Option<ObjectFault>
     requires table { globals_at header.now ≤ length bytes.now }
     requires before { runs_at header.now ≤ length bytes.now }
     ensures fault { result ≡ runs_fault_of bytes.now header.now }
-    ensures whole { IfNone result (runs_at header.now + 12 * start_of (runs_end_of bytes.now header.now) header.now.routines ≤ length bytes.now) }
+    ensures whole { IfNone result (runs_at header.now + 12 * start_of
+        (runs_end_of bytes.now header.now) header.now.routines ≤ length bytes.now) }
 {
     for routine in 0..header.routines {
         if let Some(fault) = routine_runs_fault(bytes, header, routine) {
@@ -444,8 +451,10 @@ fn can_stand(first: bool, byte: u8) -> bool
 // Of the bytes of a name.
 #[tactic(auto, unfolding(crate::specs::Walk::name_fault), using(crate::proofs::Faults::fault_steps))]
 fn name_fault(bytes: &[u8], header: &Header, name: u32) -> Option<ObjectFault>
-    requires routine { name < header.now.routines → routines_at header.now + 28 * name + 28 ≤ length bytes.now }
-    requires global { header.now.routines ≤ name → globals_at header.now + 12 * (name - header.now.routines) + 12 ≤ length bytes.now }
+    requires routine { name < header.now.routines → routines_at header.now + 28 * name + 28
+        ≤ length bytes.now }
+    requires global { header.now.routines ≤ name → globals_at header.now + 12 *
+        (name - header.now.routines) + 12 ≤ length bytes.now }
     requires end { name_end_of bytes.now header.now name ≤ header.now.name_bytes }
     requires pool { text_pool_at header.now ≤ length bytes.now }
     ensures { result ≡ name_fault_of bytes.now header.now name }
@@ -464,9 +473,11 @@ fn name_fault(bytes: &[u8], header: &Header, name: u32) -> Option<ObjectFault>
 #[tactic(auto, using(crate::proofs::Faults::fault_steps))]
 fn names_fault(bytes: &[u8], header: &Header) -> Option<ObjectFault>
     requires within { IsWithin header.now }
-    requires ends { (name : ℕ) → name < name_count_of bytes.now header.now → name_end_of bytes.now header.now name ≤ header.now.name_bytes }
+    requires ends { (name : ℕ) → name < name_count_of bytes.now header.now
+        → name_end_of bytes.now header.now name ≤ header.now.name_bytes }
     requires pool { text_pool_at header.now ≤ length bytes.now }
-    ensures { result ≡ first_fault (name_fault_of bytes.now header.now) 0 (name_count_of bytes.now header.now) }
+    ensures { result ≡ first_fault (name_fault_of bytes.now header.now) 0
+        (name_count_of bytes.now header.now) }
 {
     for name in 0..header.routines + header.globals {
         if let Some(fault) = name_fault(bytes, header, name) {
@@ -479,7 +490,8 @@ fn names_fault(bytes: &[u8], header: &Header) -> Option<ObjectFault>
 /// Of the name bytes and of the text bytes.
 fn pools_fault(bytes: &[u8], header: &Header) -> Option<ObjectFault>
     requires within { IsWithin header.now }
-    requires ends { (name : ℕ) → name < name_count_of bytes.now header.now → name_end_of bytes.now header.now name ≤ header.now.name_bytes }
+    requires ends { (name : ℕ) → name < name_count_of bytes.now header.now
+        → name_end_of bytes.now header.now name ≤ header.now.name_bytes }
     ensures fault { result ≡ pools_fault_of bytes.now header.now }
     ensures whole { IfNone result (instrs_at header.now ≤ length bytes.now) }
 {

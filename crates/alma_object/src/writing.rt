@@ -53,7 +53,9 @@ fn push_routine(
     params_end: u32,
     runs_end: u32,
 ) -> Result<(), NoMemory>
-    ensures { OnOk result (out.new.items ≡ out.old.items ++ words_bytes (name_end ∷ params_end ∷ runs_end ∷ routine.now.code_end ∷ routine.now.slots ∷ routine.now.declared ∷ (if routine.now.result then 1 else 0) ∷ [])) }
+    ensures { OnOk result (out.new.items ≡ out.old.items ++ words_bytes
+        (name_end ∷ params_end ∷ runs_end ∷ routine.now.code_end ∷ routine.now.slots
+        ∷ routine.now.declared ∷ (if routine.now.result then 1 else 0) ∷ [])) }
 {
     let result = if routine.result { 1 } else { 0 };
     push_words(
@@ -74,7 +76,8 @@ fn push_routine(
 // The records of the routines.
 fn push_routines(out: &mut Vec<u8>, code: &Code) -> Result<(), NoMemory>
     requires { KeepsCounts (code_of code.now) }
-    ensures { OnOk result (out.new.items ≡ out.old.items ++ section (routine_bytes (code_of code.now)) (length (code_of code.now).routines)) }
+    ensures { OnOk result (out.new.items ≡ out.old.items ++ section
+        (routine_bytes (code_of code.now)) (length (code_of code.now).routines)) }
 {
     let mut name_end: u32 = 0;
     let mut params_end: u32 = 0;
@@ -92,7 +95,8 @@ fn push_routines(out: &mut Vec<u8>, code: &Code) -> Result<(), NoMemory>
 fn push_globals(out: &mut Vec<u8>, code: &Code, name_start: u32) -> Result<(), NoMemory>
     requires counts { KeepsCounts (code_of code.now) }
     requires start { name_start ≡ sum_by (λ r. length r.name) (code_of code.now).routines }
-    ensures { OnOk result (out.new.items ≡ out.old.items ++ section (global_bytes (code_of code.now)) (length (code_of code.now).globals)) }
+    ensures { OnOk result (out.new.items ≡ out.old.items ++ section
+        (global_bytes (code_of code.now)) (length (code_of code.now).globals)) }
 {
     let mut name_end = name_start;
     for global in &code.globals {
@@ -121,7 +125,8 @@ fn push_params(out: &mut Vec<u8>, params: &[CodeParam]) -> Result<(), NoMemory>
 
 // The params of the routines.
 fn push_all_params(out: &mut Vec<u8>, code: &Code) -> Result<(), NoMemory>
-    ensures { OnOk result (out.new.items ≡ out.old.items ++ flat_map param_bytes (flat_map (λ r. r.head.params) (code_of code.now).routines)) }
+    ensures { OnOk result (out.new.items ≡ out.old.items ++ flat_map param_bytes
+        (flat_map (λ r. r.head.params) (code_of code.now).routines)) }
 {
     for routine in &code.routines {
         push_params(out, &routine.params)?;
@@ -148,7 +153,8 @@ fn push_runs(out: &mut Vec<u8>, runs: &[Run]) -> Result<(), NoMemory>
 
 // The runs of the routines.
 fn push_all_runs(out: &mut Vec<u8>, code: &Code) -> Result<(), NoMemory>
-    ensures { OnOk result (out.new.items ≡ out.old.items ++ flat_map run_bytes (flat_map (λ r. r.head.runs) (code_of code.now).routines)) }
+    ensures { OnOk result (out.new.items ≡ out.old.items ++ flat_map run_bytes
+        (flat_map (λ r. r.head.runs) (code_of code.now).routines)) }
 {
     for routine in &code.routines {
         push_runs(out, &routine.kinds)?;
@@ -177,7 +183,8 @@ fn push_ranges(out: &mut Vec<u8>, ranges: &[Range]) -> Result<(), NoMemory>
 // The ends of the texts.
 fn push_text_ends(out: &mut Vec<u8>, code: &Code) -> Result<(), NoMemory>
     requires { KeepsCounts (code_of code.now) }
-    ensures { OnOk result (out.new.items ≡ out.old.items ++ section (text_end_bytes (code_of code.now)) (length (code_of code.now).texts)) }
+    ensures { OnOk result (out.new.items ≡ out.old.items ++ section
+        (text_end_bytes (code_of code.now)) (length (code_of code.now).texts)) }
 {
     let mut end: u32 = 0;
     for text in &code.texts {

@@ -16,7 +16,6 @@ use Rattle.alma_grammar.specs.Parts.{stmt_part, arm_part, stmt_tail, elsif_tail,
 use Rattle.alma_grammar.specs.Parts.{label_tail}
 use Rattle.alma_grammar.specs.Parts.{term_parts, simple_parts, expr_parts, exprs_parts, stmts_parts, label_parts}
 use Rattle.alma_grammar.specs.Parts.{desig_parts}
-use Rattle.alma_grammar.specs.Reading.{reading}
 use Rattle.alma_cursor.specs.Parsing.{At, starts_with, Passes, Becomes}
 
 no : true ≡ false → ⊥

@@ -1,2 +1,4 @@
+pub mod Chain
 pub mod Heads
 pub mod Lists
+pub mod Values

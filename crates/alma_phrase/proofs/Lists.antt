@@ -1,6 +1,5 @@
 -- Lists of trees with one more at the end.
 use Rattle.std.proofs.Common.{◌≡◌, ℕ, List, [], ◌∷◌, ◌++◌, Option, None, Some, refl, ap, sym, ◌∙◌}
-use Rattle.alma_tree.specs.declared.kind.Kind.{Kind}
 use Rattle.alma_tree.specs.declared.kind.Kind.TheVariants as kinds
 use Rattle.alma_tree.specs.declared.phrase.Stmts as ds
 use Rattle.alma_tree.specs.declared.phrase.Stmt as dt
@@ -17,7 +16,7 @@ use Rattle.alma_tree.specs.Spelling.{spell_factor, spell_term, spell_expr_tail, 
 use Rattle.alma_tree.specs.Spelling.{spell_desig_tail, spell_selector_tail, spell_factor_tail, spell_term_tail, spell_elsif_tail}
 use Rattle.alma_tree.specs.View.{view_expr, view_stmt, view_stmts, view_arm, view_label, view_desig, view_selector, view_factor, view_term, exprs_of}
 use Rattle.alma_tree.specs.View.{stmts_of, arms_of, labels_of, orelses_of, desigs_of, selectors_of, factors_of, terms_of, elsifs_of}
-use Rattle.alma_tree.specs.Numbers.{Step, stay, token, ◌>>◌, number_expr, number_stmt, number_stmts, number_arm, number_label, number_desig}
+use Rattle.alma_tree.specs.Numbers.{token, ◌>>◌, number_expr, number_stmt, number_stmts, number_arm, number_label, number_desig}
 use Rattle.alma_tree.specs.Numbers.{number_selector, number_factor, number_term, numbers_of_exprs, numbers_of_stmts, numbers_of_arms, numbers_of_labels}
 use Rattle.alma_tree.specs.Numbers.{numbers_of_orelses, numbers_of_desigs, numbers_of_selectors, numbers_of_factors, numbers_of_terms, numbers_of_elsifs}
 use Rattle.alma_tree.specs.declared.phrase.Args as dg

@@ -17,7 +17,7 @@ ghost use Rattle.alma_phrase.specs.Pieces.{inside_of, number_inside_args, spell_
 ghost use Rattle.alma_cursor.specs.Parsing.{position_of, Reads, Extends, Fails};
 
 use crate::statement::stmts;
-use alma_cursor::{Cursor, Fault, PrimaryForm, SelectorForm};
+use alma_cursor::{Cursor, Fault, PrimaryForm, SelectorForm, followed_by, numbered};
 use alma_tree::{
     AddLink, Args, Compared, Desig, Expr, Exprs, Factor, Kind, Leaf, MulLink, Primary, Selector,
     Sign, Simple, Term,
@@ -50,8 +50,7 @@ fn expr_from<'t, 's>(
         (spell_expr (view_expr t.0)) (number_expr t.0) depth (position_of at.entry) (position_of t.1))
         (λ e. Fails e (λ o. compared_part ∷ o) depth (position_of at.entry)) }
 {
-    let (right, at) = compared(alloc, at, depth)?;
-    let (node, at) = at.count()?;
+    let ((right, node), at) = numbered(compared(alloc, at, depth))?;
     Ok((Expr { node, left, right }, at))
 }
 
@@ -101,9 +100,8 @@ fn simple_from<'t, 's>(
         (spell_simple (view_simple t.0)) (number_simple t.0) depth (position_of at.entry) (position_of t.1))
         (λ e. Fails e (λ o. term_tail ∷ o) depth (position_of at.entry)) }
 {
-    let (more, at) = terms(alloc, at, depth)?;
+    let ((more, node), at) = numbered(terms(alloc, at, depth))?;
     let first = Box::new(alloc, first)?;
-    let (node, at) = at.count()?;
     Ok((
         Simple {
             node,
@@ -160,8 +158,7 @@ fn term_from<'t, 's>(
         (spell_term (view_term t.0)) (number_term t.0) depth (position_of at.entry) (position_of t.1))
         (λ e. Fails e (λ o. factor_tail ∷ o) depth (position_of at.entry)) }
 {
-    let (more, at) = factors(alloc, at, depth)?;
-    let (node, at) = at.count()?;
+    let ((more, node), at) = numbered(factors(alloc, at, depth))?;
     Ok((Term { node, first, more }, at))
 }
 
@@ -288,10 +285,8 @@ fn paren<'t, 's>(
         (λ e. Fails e paren_parts depth (position_of at.entry)) }
 {
     let (at, inner) = at.open(Kind::OpenParen, depth)?;
-    let (body, at) = stmts(alloc, at, inner)?;
-    let at = at.expect(Kind::CloseParen)?;
+    let ((body, node), at) = numbered(followed_by(stmts(alloc, at, inner), Kind::CloseParen))?;
     let body = Box::new(alloc, body)?;
-    let (node, at) = at.count()?;
     Ok((Primary::Paren { node, body }, at))
 }
 
@@ -306,9 +301,7 @@ fn known<'t, 's>(
 {
     let at = at.expect(Kind::Known)?;
     let (at, inner) = at.open(Kind::OpenParen, depth)?;
-    let (desig, at) = desig(alloc, at, inner)?;
-    let at = at.expect(Kind::CloseParen)?;
-    let (node, at) = at.count()?;
+    let ((desig, node), at) = numbered(followed_by(desig(alloc, at, inner), Kind::CloseParen))?;
     Ok((Primary::Known { node, desig }, at))
 }
 
@@ -323,10 +316,8 @@ fn ord<'t, 's>(
 {
     let at = at.expect(Kind::Ord)?;
     let (at, inner) = at.open(Kind::OpenParen, depth)?;
-    let (value, at) = expr(alloc, at, inner)?;
-    let at = at.expect(Kind::CloseParen)?;
+    let ((value, node), at) = numbered(followed_by(expr(alloc, at, inner), Kind::CloseParen))?;
     let value = Box::new(alloc, value)?;
-    let (node, at) = at.count()?;
     Ok((Primary::Ord { node, value }, at))
 }
 
@@ -341,10 +332,8 @@ fn chr<'t, 's>(
 {
     let at = at.expect(Kind::Chr)?;
     let (at, inner) = at.open(Kind::OpenParen, depth)?;
-    let (value, at) = expr(alloc, at, inner)?;
-    let at = at.expect(Kind::CloseParen)?;
+    let ((value, node), at) = numbered(followed_by(expr(alloc, at, inner), Kind::CloseParen))?;
     let value = Box::new(alloc, value)?;
-    let (node, at) = at.count()?;
     Ok((Primary::Chr { node, value }, at))
 }
 
@@ -379,8 +368,7 @@ fn args_values<'t, 's>(
     if let Some(after) = at.skip(Kind::CloseParen) {
         return Ok((None, after));
     }
-    let (values, at) = exprs(alloc, at, depth)?;
-    let at = at.expect(Kind::CloseParen)?;
+    let (values, at) = followed_by(exprs(alloc, at, depth), Kind::CloseParen)?;
     Ok((Some(values), at))
 }
 
@@ -428,8 +416,7 @@ pub fn desig<'t, 's>(
         (λ e. Fails e desig_parts depth (position_of at.entry)) }
 {
     let (name, at) = at.name()?;
-    let (more, at) = selectors(alloc, at, depth)?;
-    let (node, at) = at.count()?;
+    let ((more, node), at) = numbered(selectors(alloc, at, depth))?;
     Ok((Desig { node, name, more }, at))
 }
 
@@ -494,9 +481,7 @@ fn index<'t, 's>(
     ensures shorter { IfOk result (λ t. length (position_of t.1).kinds < length (position_of at.entry).kinds) }
 {
     let (at, inner) = at.open(Kind::OpenBracket, depth)?;
-    let (indices, at) = exprs(alloc, at, inner)?;
-    let at = at.expect(Kind::CloseBracket)?;
-    let (node, at) = at.count()?;
+    let ((indices, node), at) = numbered(followed_by(exprs(alloc, at, inner), Kind::CloseBracket))?;
     Ok((Selector::Index { node, indices }, at))
 }
 

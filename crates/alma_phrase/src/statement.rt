@@ -15,7 +15,7 @@ ghost use Rattle.alma_cursor.specs.Forms.{commit_parts, return_parts, read_parts
 ghost use Rattle.alma_cursor.specs.Parsing.{position_of, Reads, Extends, Fails};
 
 use crate::expression::{args, desig, desig_value, expr, exprs};
-use alma_cursor::{Cursor, Fault, StmtForm};
+use alma_cursor::{Cursor, Fault, StmtForm, followed_by, numbered};
 use alma_tree::{Arm, Desig, Elsif, Expr, Kind, Label, Stmt, Stmts};
 use std::alloc::Global;
 
@@ -29,9 +29,8 @@ pub fn stmts<'t, 's>(
         (λ e. Fails e stmts_parts depth (position_of at.entry)) }
 {
     let (first, at) = stmt(alloc, at, depth)?;
-    let (more, at) = stmt_list(alloc, at, depth)?;
+    let ((more, node), at) = numbered(stmt_list(alloc, at, depth))?;
     let first = Box::new(alloc, first)?;
-    let (node, at) = at.count()?;
     Ok((Stmts { node, first, more }, at))
 }
 
@@ -125,8 +124,7 @@ fn assign<'t, 's>(
         (λ e. Fails e (λ o. one kinds.Assign ∷ expr_parts o) depth (position_of at.entry)) }
 {
     let at = at.expect(Kind::Assign)?;
-    let (value, at) = expr(alloc, at, depth)?;
-    let (node, at) = at.count()?;
+    let ((value, node), at) = numbered(expr(alloc, at, depth))?;
     Ok((
         Stmt::Assign {
             node,
@@ -146,8 +144,7 @@ fn value_stmt<'t, 's>(
     ensures read { MatchResult result (λ t. Reads (spell_stmt (view_stmt t.0)) (number_stmt t.0) expr_parts depth depth (position_of at.entry) (position_of t.1))
         (λ e. Fails e expr_parts depth (position_of at.entry)) }
 {
-    let (value, at) = expr(alloc, at, depth)?;
-    let (node, at) = at.count()?;
+    let ((value, node), at) = numbered(expr(alloc, at, depth))?;
     Ok((Stmt::Value { node, value }, at))
 }
 
@@ -161,13 +158,10 @@ fn if_stmt<'t, 's>(
         (λ e. Fails e if_parts depth (position_of at.entry)) }
 {
     let (at, inner) = at.open(Kind::If, depth)?;
-    let (test, at) = expr(alloc, at, inner)?;
-    let at = at.expect(Kind::Then)?;
+    let (test, at) = followed_by(expr(alloc, at, inner), Kind::Then)?;
     let (then, at) = stmts(alloc, at, inner)?;
     let (elsifs, at) = elsif_list(alloc, at, inner)?;
-    let (otherwise, at) = otherwise(alloc, at, inner)?;
-    let at = at.expect(Kind::End)?;
-    let (node, at) = at.count()?;
+    let ((otherwise, node), at) = numbered(followed_by(otherwise(alloc, at, inner), Kind::End))?;
     Ok((
         Stmt::If {
             node,
@@ -227,11 +221,8 @@ fn while_stmt<'t, 's>(
         (λ e. Fails e while_parts depth (position_of at.entry)) }
 {
     let (at, inner) = at.open(Kind::While, depth)?;
-    let (test, at) = expr(alloc, at, inner)?;
-    let at = at.expect(Kind::Do)?;
-    let (body, at) = stmts(alloc, at, inner)?;
-    let at = at.expect(Kind::End)?;
-    let (node, at) = at.count()?;
+    let (test, at) = followed_by(expr(alloc, at, inner), Kind::Do)?;
+    let ((body, node), at) = numbered(followed_by(stmts(alloc, at, inner), Kind::End))?;
     Ok((Stmt::While { node, test, body }, at))
 }
 
@@ -245,10 +236,8 @@ fn repeat_stmt<'t, 's>(
         (λ e. Fails e repeat_parts depth (position_of at.entry)) }
 {
     let (at, inner) = at.open(Kind::Repeat, depth)?;
-    let (body, at) = stmts(alloc, at, inner)?;
-    let at = at.expect(Kind::Until)?;
-    let (test, at) = expr(alloc, at, depth)?;
-    let (node, at) = at.count()?;
+    let (body, at) = followed_by(stmts(alloc, at, inner), Kind::Until)?;
+    let ((test, node), at) = numbered(expr(alloc, at, depth))?;
     Ok((Stmt::Repeat { node, body, test }, at))
 }
 
@@ -262,16 +251,11 @@ fn for_stmt<'t, 's>(
         (λ e. Fails e for_parts depth (position_of at.entry)) }
 {
     let (at, inner) = at.open(Kind::For, depth)?;
-    let (variable, at) = at.name()?;
-    let at = at.expect(Kind::Assign)?;
-    let (from, at) = expr(alloc, at, inner)?;
-    let at = at.expect(Kind::To)?;
+    let (variable, at) = followed_by(at.name(), Kind::Assign)?;
+    let (from, at) = followed_by(expr(alloc, at, inner), Kind::To)?;
     let (to, at) = expr(alloc, at, inner)?;
-    let (by, at) = step(alloc, at, inner)?;
-    let at = at.expect(Kind::Do)?;
-    let (body, at) = stmts(alloc, at, inner)?;
-    let at = at.expect(Kind::End)?;
-    let (node, at) = at.count()?;
+    let (by, at) = followed_by(step(alloc, at, inner), Kind::Do)?;
+    let ((body, node), at) = numbered(followed_by(stmts(alloc, at, inner), Kind::End))?;
     Ok((
         Stmt::For {
             node,
@@ -312,15 +296,10 @@ fn some_stmt<'t, 's>(
         (λ e. Fails e some_parts depth (position_of at.entry)) }
 {
     let (at, inner) = at.open(Kind::Some, depth)?;
-    let (variable, at) = at.name()?;
-    let at = at.expect(Kind::Assign)?;
-    let (from, at) = expr(alloc, at, inner)?;
-    let at = at.expect(Kind::To)?;
-    let (to, at) = expr(alloc, at, inner)?;
-    let at = at.expect(Kind::Do)?;
-    let (body, at) = stmts(alloc, at, inner)?;
-    let at = at.expect(Kind::End)?;
-    let (node, at) = at.count()?;
+    let (variable, at) = followed_by(at.name(), Kind::Assign)?;
+    let (from, at) = followed_by(expr(alloc, at, inner), Kind::To)?;
+    let (to, at) = followed_by(expr(alloc, at, inner), Kind::Do)?;
+    let ((body, node), at) = numbered(followed_by(stmts(alloc, at, inner), Kind::End))?;
     Ok((
         Stmt::Some {
             node,
@@ -343,14 +322,11 @@ fn case_stmt<'t, 's>(
         (λ e. Fails e case_parts depth (position_of at.entry)) }
 {
     let (at, inner) = at.open(Kind::Case, depth)?;
-    let (value, at) = expr(alloc, at, inner)?;
-    let at = at.expect(Kind::Of)?;
+    let (value, at) = followed_by(expr(alloc, at, inner), Kind::Of)?;
     let (first, at) = arm(alloc, at, inner)?;
     let (more, at) = arm_list(alloc, at, inner)?;
-    let (otherwise, at) = otherwise(alloc, at, inner)?;
-    let at = at.expect(Kind::End)?;
+    let ((otherwise, node), at) = numbered(followed_by(otherwise(alloc, at, inner), Kind::End))?;
     let first = Box::new(alloc, first)?;
-    let (node, at) = at.count()?;
     Ok((
         Stmt::Case {
             node,
@@ -389,10 +365,8 @@ fn labelled_arm<'t, 's>(
         (λ e. Fails e labelled_parts depth (position_of at.entry)) }
 {
     let (first, at) = label(alloc, at, depth)?;
-    let (more, at) = label_list(alloc, at, depth)?;
-    let at = at.expect(Kind::Colon)?;
-    let (body, at) = stmts(alloc, at, depth)?;
-    let (node, at) = at.count()?;
+    let (more, at) = followed_by(label_list(alloc, at, depth), Kind::Colon)?;
+    let ((body, node), at) = numbered(stmts(alloc, at, depth))?;
     Ok((
         Arm::Labelled {
             node,
@@ -433,8 +407,7 @@ fn label<'t, 's>(
         (λ e. Fails e label_parts depth (position_of at.entry)) }
 {
     let (low, at) = expr(alloc, at, depth)?;
-    let (high, at) = high(alloc, at, depth)?;
-    let (node, at) = at.count()?;
+    let ((high, node), at) = numbered(high(alloc, at, depth))?;
     Ok((Label { node, low, high }, at))
 }
 
@@ -484,9 +457,7 @@ fn either_stmt<'t, 's>(
 {
     let (at, inner) = at.open(Kind::Either, depth)?;
     let (first, at) = stmts(alloc, at, inner)?;
-    let (more, at) = orelse_list(alloc, at, inner)?;
-    let at = at.expect(Kind::End)?;
-    let (node, at) = at.count()?;
+    let ((more, node), at) = numbered(followed_by(orelse_list(alloc, at, inner), Kind::End))?;
     Ok((Stmt::Either { node, first, more }, at))
 }
 
@@ -519,11 +490,8 @@ fn forall_stmt<'t, 's>(
         (λ e. Fails e forall_parts depth (position_of at.entry)) }
 {
     let (at, inner) = at.open(Kind::Forall, depth)?;
-    let (choice, at) = stmts(alloc, at, inner)?;
-    let at = at.expect(Kind::Do)?;
-    let (body, at) = stmts(alloc, at, inner)?;
-    let at = at.expect(Kind::End)?;
-    let (node, at) = at.count()?;
+    let (choice, at) = followed_by(stmts(alloc, at, inner), Kind::Do)?;
+    let ((body, node), at) = numbered(followed_by(stmts(alloc, at, inner), Kind::End))?;
     Ok((Stmt::Forall { node, choice, body }, at))
 }
 
@@ -537,9 +505,7 @@ fn commit_stmt<'t, 's>(
         (λ e. Fails e commit_parts depth (position_of at.entry)) }
 {
     let (at, inner) = at.open(Kind::Commit, depth)?;
-    let (body, at) = stmts(alloc, at, inner)?;
-    let at = at.expect(Kind::End)?;
-    let (node, at) = at.count()?;
+    let ((body, node), at) = numbered(followed_by(stmts(alloc, at, inner), Kind::End))?;
     Ok((Stmt::Commit { node, body }, at))
 }
 
@@ -553,8 +519,7 @@ fn return_stmt<'t, 's>(
         (λ e. Fails e return_parts depth (position_of at.entry)) }
 {
     let at = at.expect(Kind::Return)?;
-    let (value, at) = returned(alloc, at, depth)?;
-    let (node, at) = at.count()?;
+    let ((value, node), at) = numbered(returned(alloc, at, depth))?;
     Ok((Stmt::Return { node, value }, at))
 }
 
@@ -587,9 +552,7 @@ fn read_stmt<'t, 's>(
     let at = at.expect(Kind::Read)?;
     let (at, inner) = at.open(Kind::OpenParen, depth)?;
     let (first, at) = desig(alloc, at, inner)?;
-    let (more, at) = desig_list(alloc, at, inner)?;
-    let at = at.expect(Kind::CloseParen)?;
-    let (node, at) = at.count()?;
+    let ((more, node), at) = numbered(followed_by(desig_list(alloc, at, inner), Kind::CloseParen))?;
     Ok((Stmt::Read { node, first, more }, at))
 }
 
@@ -623,9 +586,7 @@ fn write_stmt<'t, 's>(
 {
     let at = at.expect(Kind::Write)?;
     let (at, inner) = at.open(Kind::OpenParen, depth)?;
-    let (items, at) = exprs(alloc, at, inner)?;
-    let at = at.expect(Kind::CloseParen)?;
-    let (node, at) = at.count()?;
+    let ((items, node), at) = numbered(followed_by(exprs(alloc, at, inner), Kind::CloseParen))?;
     Ok((Stmt::Write { node, items }, at))
 }
 

@@ -87,8 +87,10 @@ is_earlier a b h = go (nat_lt a.node b.node) refl (eqb_tells a.node b.node)
   where
     ra : rank a.fault < 32
     ra = small a.fault
+
     rb : rank b.fault < 32
     rb = small b.fault
+
     go : (t : Bool) → nat_lt a.node b.node ≡ t → ((nat_eq a.node b.node ≡ true) × (a.node ≡ b.node)) ⊎ ((nat_eq a.node b.node ≡ false) × (a.node ≡ b.node → ⊥)) → is_before a b ≡ true
     go true e d = sure_left (nat_lt a.node b.node) _ e
     go false e (inl p) = sure_right (nat_lt a.node b.node) (nat_eq a.node b.node) (nat_lt (rank a.fault) (rank b.fault)) p.0 (lt-ltb (rank a.fault) (rank b.fault) (omega (arith, h, p.1)))

@@ -1,8 +1,8 @@
 -- The arguments of a call: each goes into a slot of its own, where the Call reads it.
-use Rattle.std.proofs.Common.{◌≡◌, ℕ, suc, ◌+◌, ◌<◌, ◌≤◌, Bool, true, false, List, [], ◌∷◌, ◌++◌, length, map, Some, None, Option, refl, sym, ap, ◌∙◌, subst, arith, ℤ, pos, negsuc, length-append}
+use Rattle.std.proofs.Common.{◌≡◌, ℕ, suc, ◌+◌, ◌<◌, ◌≤◌, Bool, true, false, List, [], ◌∷◌, ◌++◌, length, Some, refl, sym, ap, ◌∙◌, subst, arith, ℤ, pos, negsuc, length-append}
 use Rattle.std.proofs.lemmas.Int.{ints}
 use Rattle.std.proofs.lemmas.Bool.Decides.{nat_tests}
-use Rattle.std.specs.Prelude.{slice_get, int_le, ◌&&◌}
+use Rattle.std.specs.Prelude.{slice_get}
 use Rattle.std.proofs.lemmas.List.{map-append}
 use Rattle.alma_base.specs.declared.fault.RunFault.TheVariants as fault
 use Rattle.alma_base.specs.declared.number.Range.{Range}
@@ -10,14 +10,13 @@ use Rattle.alma_base.specs.Numbers.{is_integer, within}
 use Rattle.alma_code.specs.declared.cell.Cell.{Cell}
 use Rattle.alma_code.specs.declared.cell.Cell.TheVariants as cell
 use Rattle.alma_code.specs.declared.cell.CellPlace.{CellPlace}
-use Rattle.alma_code.specs.declared.cell.SlotKind.{SlotKind}
 use Rattle.alma_code.specs.declared.cell.SlotKind.TheVariants as slot
 use Rattle.alma_code.specs.declared.instr.Instr.{Instr}
 use Rattle.alma_code.specs.declared.instr.Instr.TheVariants as I
 use Rattle.alma_code.specs.Lines.{line_at}
-use Rattle.alma_code.specs.Picture.{PlainFrame, PlainEntry, last_frame}
+use Rattle.alma_code.specs.Picture.{PlainFrame}
 use Rattle.alma_code.specs.Plain.{PlainCode, kinds_at}
-use Rattle.alma_code.specs.Machine.{State, act, number, put_number}
+use Rattle.alma_code.specs.Machine.{act, put_number}
 use Rattle.alma_ir.specs.declared.program.ArgKind.{ArgKind}
 use Rattle.alma_ir.specs.declared.program.ArgKind.TheVariants as kind
 use Rattle.alma_ir.specs.declared.program.Param.{Param}
@@ -26,13 +25,13 @@ use Rattle.std.specs.List.{AllByRecursion}
 use Rattle.alma_ir.specs.Checked.{ArgFits, ArgsFit, HasOneCellAs, cells_after}
 use Rattle.alma_ir.specs.Checked as checked
 use Rattle.alma_mean.specs.Store.{Store, Place}
-use Rattle.alma_mean.specs.Events.{Events, Flow, Go, Return, one, bind, node}
+use Rattle.alma_mean.specs.Events.{Events, one, bind, node}
 use Rattle.alma_mean.specs.Arithmetic.{check_range, fault_unless}
 use Rattle.alma_mean.specs.Rows.{ArgValue, ArgNumber, ArgMix, ArgPlace, ArgCells}
 use Rattle.alma_mean.specs.Meaning.{Level, ev_stmts, ev_expr, ev_desig, ev_arg, ev_args}
 use Rattle.alma_implements.proofs.Goes.{Goes, before, bind_goes, one_goes}
 use Rattle.alma_implements.proofs.Address.{at_address}
-use Rattle.alma_implements.proofs.Frames.{own_end, SamePlace, AreNumbers, HasSlots, IsAt}
+use Rattle.alma_implements.proofs.Frames.{own_end, SamePlace, HasSlots}
 use Rattle.alma_implements.proofs.FrameLemmas.{numbers_kept, place_kept}
 use Rattle.alma_implements.proofs.ExprRows.{first_kind, slots_behind}
 use Rattle.alma_implements.proofs.ForSteps.{move_step}
@@ -46,8 +45,8 @@ use Rattle.alma_templates.specs.Slots.{bare, unless_bare, handed_slots, arg_kind
 use Rattle.alma_templates.specs.Templates.{expr_code, desig_code, value_at, place_at, arg_code, args_code}
 use Rattle.alma_templates.specs.Stands.{Stands}
 use Rattle.alma_templates.proofs.Stands.{stands_front, stands_back}
-use Rattle.alma_templates.proofs.Parts.{Begins, Left, begins, left_self, left_on, left_less, left_temp, holds_temp, has_kind, holds_after, IsValue, IsPlace, PlaceIn, ValueIn, NodeFor, From, from_more, leaving, as_runs, node_runs, then_from, step_from, writes_take, ends_here, faults_here}
-use Rattle.alma_templates.proofs.PlaceSteps.{in_range_reads, in_range_passes, in_range_faults, goes_past, same_step}
+use Rattle.alma_templates.proofs.Parts.{Begins, Left, begins, left_self, left_on, left_temp, holds_temp, has_kind, holds_after, IsValue, PlaceIn, NodeFor, From, from_more, leaving, as_runs, node_runs, then_from, step_from, ends_here}
+use Rattle.alma_templates.proofs.PlaceSteps.{in_range_reads, in_range_passes, in_range_faults, same_step}
 use Rattle.alma_templates.proofs.AtOnce.{AtOnce, at_once}
 use Rattle.alma_templates.proofs.NewFrame.{PlaceAlike, HandedAs, a_value, a_place, mix_value, mix_place, some_cells, AllHanded}
 use Rattle.alma_templates.proofs.Handing.{HeldFrom}

@@ -1,5 +1,5 @@
 -- Calls of a checked program, in the words of its conditions.
-use Rattle.std.proofs.Common.{◌≡◌, ℕ, suc, ◌+◌, ◌<◌, List, [], length, get_or, Some, None, Option, refl, arith}
+use Rattle.std.proofs.Common.{◌≡◌, ℕ, suc, ◌+◌, ◌<◌, List, [], length, get_or, Some, None, Option, refl}
 use Rattle.std.specs.Prelude.{IsNone, IsSome}
 use Rattle.alma_code.specs.declared.head.Run.{Run}
 use Rattle.alma_code.specs.Layout.{kinds_of}
@@ -11,7 +11,7 @@ use Rattle.alma_ir.specs.Checked.{IsChecked, LinksAgree, CalleeExists, CallLeads
 use Rattle.alma_mean.specs.Meaning.{Level}
 use Rattle.alma_implements.proofs.Frames.{HasSlots}
 use Rattle.alma_templates.specs.Tables.{Tables}
-use Rattle.alma_templates.specs.Slots.{routine_kinds, handed_slots, test_slots, expr_slots}
+use Rattle.alma_templates.specs.Slots.{routine_kinds, handed_slots, args_slots, test_slots, expr_slots}
 use Rattle.alma_templates.specs.Compiled.{program_code}
 use Rattle.alma_templates.proofs.FormRuns.{TestRuns, ExprRuns}
 use Rattle.alma_templates.proofs.Args.{ArgParts}
@@ -42,14 +42,14 @@ module _ (p : Program) (tables : Tables) (code : PlainCode) (all : List (List Ru
 
   -- a call as a test
   pub test_call_runs : (called up : ℕ) (args : Args) (at lo : ℕ) → CalleeExists p (TestPhrase (CallTest called args up)) → CallLeads p r (routine_at p r) (TestPhrase (CallTest called args up)) → CallFits p (TestPhrase (CallTest called args up)) → ResultAgrees p (TestPhrase (CallTest called args up))
-      → HasSlots p code r lo (test_slots p r (CallTest called args up)) → ((m first : ℕ) → ArgParts p tables code input below r line (suc q) m first (first + length (handed_slots args)) args)
+      → HasSlots p code r lo (test_slots p r (CallTest called args up)) → ((m first : ℕ) → HasSlots p code r (first + length (handed_slots args)) (args_slots p r args) → ArgParts p tables code input below r line (suc q) m first (first + length (handed_slots args)) args)
       → TestRuns p tables code input below r line (suc q) at lo (CallTest called args up)
   test_call_runs called up args at lo there leads fits result slots parts =
       call_test_runs p tables code input below r line q called up (callee_of called up there leads) (routines called there.1) (none_is (routine_at p called).result result) args lo at fits slots parts
 
   -- a call in an expression
   pub expr_call_runs : (called up : ℕ) (args : Args) (at lo : ℕ) → CalleeExists p (ExprPhrase (CallExpr called args up)) → CallLeads p r (routine_at p r) (ExprPhrase (CallExpr called args up)) → CallFits p (ExprPhrase (CallExpr called args up)) → ResultAgrees p (ExprPhrase (CallExpr called args up))
-      → HasSlots p code r lo (expr_slots p r (CallExpr called args up)) → ((m first : ℕ) → ArgParts p tables code input below r line (suc q) m first (first + length (handed_slots args)) args)
+      → HasSlots p code r lo (expr_slots p r (CallExpr called args up)) → ((m first : ℕ) → HasSlots p code r (first + length (handed_slots args)) (args_slots p r args) → ArgParts p tables code input below r line (suc q) m first (first + length (handed_slots args)) args)
       → ExprRuns p tables code input below r line (suc q) at lo (CallExpr called args up)
   expr_call_runs called up args at lo there leads fits result slots parts =
       let some = some_is (routine_at p called).result result in

@@ -1,8 +1,8 @@
 -- Calls, from template to run: the link, the arguments, and the body of the routine at the level below.
-use Rattle.std.proofs.Common.{◌≡◌, ℕ, zero, suc, ◌+◌, ◌-◌, ◌<◌, ◌≤◌, ◌⊎◌, inl, inr, Bool, true, false, List, [], ◌∷◌, ◌++◌, length, get_or, Some, None, Option, refl, sym, ap, ◌∙◌, subst, arith, ℤ, length-append}
+use Rattle.std.proofs.Common.{◌≡◌, ℕ, zero, suc, ◌+◌, ◌-◌, ◌<◌, ◌≤◌, inl, inr, true, List, [], ◌∷◌, ◌++◌, length, get_or, Some, None, Option, refl, sym, ap, ◌∙◌, subst, arith, ℤ, length-append}
 use Rattle.std.specs.Prelude.{slice_get}
-use Rattle.std.specs.List.{AllByRecursion}
 use Rattle.std.proofs.lemmas.Bool.{cases_eq, cases_lt}
+use Rattle.std.proofs.lemmas.List.{get_or_append_left, get_or-take}
 use Rattle.std.proofs.Math.Seq.{get_or-append_seam}
 use Rattle.alma_base.specs.declared.number.Range.{Range}
 use Rattle.alma_base.specs.Numbers.{is_integer}
@@ -18,21 +18,21 @@ use Rattle.alma_code.specs.Picture as picture
 use Rattle.alma_code.specs.Plain.{PlainCode, PlainRoutine, kinds_at, start_at}
 use Rattle.alma_code.specs.Machine.{State, link_to}
 use Rattle.alma_ir.specs.Tree.{Program, Args, no_args, more_args, CallTest, CallExpr, routine_at}
-use Rattle.alma_ir.specs.Checked.{IsNested, LinksAgree, ParamsFirst, ArgsFit, HasOneCellAs, link_slots, outer_at, EachRoutine}
-use Rattle.alma_mean.specs.Store.{Store, top, top_frame, up, up_from, without_top}
+use Rattle.alma_ir.specs.Checked.{IsNested, LinksAgree, ParamsFirst, ArgsFit, link_slots, outer_at, EachRoutine}
+use Rattle.alma_mean.specs.Store.{Store, Unknown, top, top_frame, up, up_from, without_top}
 use Rattle.alma_mean.specs.Store as store
-use Rattle.alma_mean.specs.Events.{Events, NoYield, Flow, Go, Return, bind, node}
+use Rattle.alma_mean.specs.Events.{Events, NoYield, Flow, Go, Return, bind}
 use Rattle.alma_mean.specs.Rows.{ArgValue, enter, as_test, as_value, frame_of}
 use Rattle.alma_mean.specs.Meaning.{Level, ev_stmts, ev_args, ev_test, ev_expr}
-use Rattle.alma_implements.proofs.Goes.{Silently, Goes, no_step, and_then, before, bind_goes}
+use Rattle.alma_implements.proofs.Goes.{Silently, Goes, no_step, before, bind_goes}
 use Rattle.alma_implements.proofs.Address.{at_address}
 use Rattle.alma_implements.proofs.Frames.{shift, shift_in, own_end, HasLink, StandFor, KeptBelow, Fits, HasSlots, IsAt}
-use Rattle.alma_implements.proofs.FrameLemmas.{top_same, fits_self, fits_on, fits_less, holds_other}
+use Rattle.alma_implements.proofs.FrameLemmas.{top_same, holds_other}
 use Rattle.alma_implements.proofs.ExprRows.{first_kind, slots_first, slots_behind}
 use Rattle.alma_implements.proofs.LinkRows.{LinkedUp, linked_up, ChainsAt, AreLinks, link_goes}
 use Rattle.alma_implements.proofs.Leaving.{leave_fits}
 use Rattle.alma_implements.proofs.CallRow.{Returns, call_row}
-use Rattle.alma_implements.proofs.FunctionRow.{GivesNumber, LeavesFunction, function_call_row}
+use Rattle.alma_implements.proofs.FunctionRow.{LeavesFunction, function_call_row}
 use Rattle.alma_implements.proofs.ChoiceSteps.{mark_step}
 use Rattle.alma_implements.proofs.Steps.{Holds, InstrAt, top_written}
 use Rattle.alma_implements.proofs.Ways.{Ways, Leaves, Runs}
@@ -43,7 +43,7 @@ use Rattle.alma_templates.specs.Slots.{shift_of, chain_slots, links_if, call_lin
 use Rattle.alma_templates.specs.Templates.{link_if, call_link_code, call_code, arguments_from, handed_from, args_code, test_code, expr_code}
 use Rattle.alma_templates.specs.Stands.{Stands}
 use Rattle.alma_templates.proofs.Stands.{stands_front, stands_back}
-use Rattle.alma_templates.proofs.Parts.{Begins, Left, Sound, sound_of, begins, left_self, left_on, left_less, on_from, holds_after, Nothing, ValueIn, NodeFor, node_runs, From, leaving, ending, left_temp, holds_temp, has_kind, ReturnsAt, ReturnsFrom, ResultIs}
+use Rattle.alma_templates.proofs.Parts.{Begins, Left, sound_of, begins, left_self, left_on, left_less, on_from, holds_after, Nothing, ValueIn, NodeFor, node_runs, From, leaving, ending, left_temp, holds_temp, has_kind, ResultIs}
 use Rattle.alma_templates.proofs.NewFrame.{AllHanded, with_link, handed_all, IsCompiled, enter_stands}
 use Rattle.alma_templates.proofs.Handing.{HeldFrom, counts_alike, holds_arguments}
 use Rattle.alma_templates.proofs.Args.{ArgsIn, ArgParts, args_run, handed_after}
@@ -190,7 +190,7 @@ module _ (p : Program) (tables : Tables) (code : PlainCode) (input : List ℕ) (
         silently = z.silently;
         frames = z.frames;
         is = at_address (at + 1 + up) (at + length (own line (link_code lo up))) z.frames held z.to e z.is;
-        left = record { fits = z.fits; routine = b.routine; sound = sound_of p code input v z.frames z.fits.stand };
+        left = record { fits = z.fits; routine = b.routine; sound = sound_of p code input v z.frames z.fits.stand b.sound.position };
         link = λ some. z.holds;
       }
 
@@ -252,7 +252,7 @@ module _ (p : Program) (tables : Tables) (code : PlainCode) (input : List ℕ) (
 
     pub front_from : {A : Type 0} (args : Args) (lo la at exit : ℕ) (yields : Store → A → List PlainFrame → Type 0) (k : Store → List ArgValue → Events A) (v : Store) (now : List PlainFrame)
         → ArgsFit (routine_at p called).params args → own_end p r ≤ lo → lo ≤ la → HasSlots p code r la (call_links p r called up ++ (handed_slots args ++ args_slots p r args))
-        → ((m first : ℕ) → ArgParts p tables code input below r line q m first (first + length (handed_slots args)) args)
+        → ((m first : ℕ) → HasSlots p code r (first + length (handed_slots args)) (args_slots p r args) → ArgParts p tables code input below r line q m first (first + length (handed_slots args)) args)
         → let first : ℕ = la + length (call_links p r called up) in
         let link : List Lined = own line (link_if p tables r (shift_of p called) up la) in
         let given : List Lined = args_code p tables r line (at + length link) first (first + length (handed_slots args)) args in
@@ -275,7 +275,7 @@ module _ (p : Program) (tables : Tables) (code : PlainCode) (input : List ℕ) (
         let both : m + length given ≡ at + length (link ++ given) = omega (arith, length-append link given) in
         before code input line 0 24 (Leaves exit w) held (bind (ev_args p input below args v) k) s z.to z.steps 24 8 q q z.silently (omega (arith, z.few)) (omega arith)
         (bind_goes code input line 8 0 24 (Leaves (m + length given) wa) (Leaves exit w) held (ev_args p input below args v) k z.to 8 q 8 (omega arith) (omega arith)
-        (args_run p tables code input below r line q args (routine_at p called).params m first (first + length (handed_slots args)) fits callee.first.cells (slots_first p code input r first (handed_slots args) (args_slots p r args) behind) (omega arith) (parts m first) (stands_back code at link given stands) v z.frames b1 8 (omega arith) held z.to z.is)
+        (args_run p tables code input below r line q args (routine_at p called).params m first (first + length (handed_slots args)) fits callee.first.cells (slots_first p code input r first (handed_slots args) (args_slots p r args) behind) (omega arith) (parts m first (slots_behind p code input r first (handed_slots args) (args_slots p r args) behind)) (stands_back code at link given stands) v z.frames b1 8 (omega arith) held z.to z.is)
         (λ u taken t base going left.
         let done = left.1.1 in
         let whole : Left p code input la r now u t.now = left_on p code input la first r now v u z.frames t.now (omega arith) z.left left.1.0 in
@@ -337,7 +337,7 @@ module _ (p : Program) (tables : Tables) (code : PlainCode) (input : List ℕ) (
           record {
             stand = stand;
             routine = ap (λ n. (get_or new_store n store.no_frame).routine) last ∙ ap (λ f. f.routine) (get_or-append_seam v (frame_of v called up (routine_at p called) taken) [] store.no_frame);
-            sound = sound_of p code input new_store new_frames stand;
+            sound = sound_of p code input new_store new_frames stand (record { at = b.sound.position.at; is = ap (λ f. get_or f.cells 0 Unknown) (get_or_append_left v (frame_of v called up (routine_at p called) taken ∷ []) store.no_frame 0 (omega (arith, b.stand.some))) ∙ b.sound.position.is });
           }
 
       -- what the body leaves, and the frames of the caller below it
@@ -357,7 +357,7 @@ module _ (p : Program) (tables : Tables) (code : PlainCode) (input : List ℕ) (
             back_at = h.fits.top.back ∙ ap (λ g. g.back) is;
             left = λ lo.
                 let fit : Fits p code lo now (without_top x) (without_last z) = leave_fits p code lo lo2 now pushed x z some_now h.fits in
-                record { fits = fit; routine = routine_after p code lo r v (without_top x) now (without_last z) b.stand b.routine fit; sound = sound_of p code input (without_top x) (without_last z) fit.stand };
+                record { fits = fit; routine = routine_after p code lo r v (without_top x) now (without_last z) b.stand b.routine fit; sound = sound_of p code input (without_top x) (without_last z) fit.stand (record { at = h.sound.position.at; is = ap (λ f. get_or f.cells 0 Unknown) (get_or-take (length x - 1) x 0 store.no_frame (omega (arith, h.fits.same_count, h.fits.stand.count, long, some_now))) ∙ h.sound.position.is }) };
           }
 
     -- ---- the arguments, where nothing is handed over
@@ -388,7 +388,7 @@ module _ (p : Program) (tables : Tables) (code : PlainCode) (input : List ℕ) (
 
     module _ (none : (routine_at p called).result ≡ None) where
       pub call_test_runs : (args : Args) (lo at : ℕ) → ArgsFit (routine_at p called).params args → HasSlots p code r lo (test_slots p r (CallTest called args up))
-          → ((m first : ℕ) → ArgParts p tables code input below r line (suc q) m first (first + length (handed_slots args)) args)
+          → ((m first : ℕ) → HasSlots p code r (first + length (handed_slots args)) (args_slots p r args) → ArgParts p tables code input below r line (suc q) m first (first + length (handed_slots args)) args)
           → NodeFor p code input r line at lo (test_code p tables r line at lo (CallTest called args up)) (ev_test p input below (CallTest called args up)) (Nothing p code input) (suc q)
       unfolding ev_stmts
       call_test_runs args lo at fits slots parts stands v now b =
@@ -485,7 +485,7 @@ module _ (p : Program) (tables : Tables) (code : PlainCode) (input : List ℕ) (
               }
 
       pub call_expr_runs : (args : Args) (lo at : ℕ) → ArgsFit (routine_at p called).params args → HasSlots p code r lo (expr_slots p r (CallExpr called args up))
-          → ((m first : ℕ) → ArgParts p tables code input below r line (suc q) m first (first + length (handed_slots args)) args)
+          → ((m first : ℕ) → HasSlots p code r (first + length (handed_slots args)) (args_slots p r args) → ArgParts p tables code input below r line (suc q) m first (first + length (handed_slots args)) args)
           → NodeFor p code input r line at lo (expr_code p tables r line at lo (CallExpr called args up)) (ev_expr p input below (CallExpr called args up)) (ValueIn p code input lo) (suc q)
       unfolding ev_stmts
       call_expr_runs args lo at fits slots parts stands v now b =

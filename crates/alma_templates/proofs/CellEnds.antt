@@ -16,7 +16,7 @@ use Rattle.alma_mean.specs.Store.{Store, Place, Unknown, Number, At, cell_of}
 use Rattle.alma_mean.specs.Store as store
 use Rattle.alma_mean.specs.Events.{one}
 use Rattle.alma_mean.specs.Rows.{read_cell, known_bit}
-use Rattle.alma_implements.proofs.Frames.{own_end, SameContent}
+use Rattle.alma_implements.proofs.Frames.{own_end, AreNumbers, SamePlace, SameContent, StandFor}
 use Rattle.alma_implements.proofs.FrameLemmas.{content_there}
 use Rattle.alma_implements.proofs.Steps.{InstrAt, load_step, load_unknown}
 use Rattle.alma_templates.proofs.Parts.{Begins, has_kind, IsPlace, ValueIn, From, leaving, faults_here, value_ends}
@@ -28,12 +28,12 @@ module _ (p : Program) (code : PlainCode) (input : List ℕ) where
     is_number : (x : ℤ) → cell_of v a ≡ Number x → number_at now c.frame c.slot ≡ true → cell_at now c.frame c.slot cell.Unset ≡ cell.Int x → is_integer x ≡ true → CellIs v a now c
     is_unknown : cell_of v a ≡ Unknown → number_at now c.frame c.slot ≡ true → cell_at now c.frame c.slot cell.Unset ≡ cell.Unknown → CellIs v a now c
 
-  pub cell_is : (r n size : ℕ) (v : Store) (a : Place) (now : List PlainFrame) → 0 < size → Begins p code input r v now → (h : IsPlace p code input n size v a now) → CellIs v a now h.place
-  cell_is r n size v a now some b h =
-      let there = content_there p code v now a h.place b.stand h.numbers (omega (arith, some, h.sized)) h.same in
-      by (cell_of v a) (cell_at now h.place.frame h.place.slot cell.Unset) refl refl there.0 there.1
+  pub cell_there : (v : Store) (a : Place) (now : List PlainFrame) (c : CellPlace) → StandFor p code v now → AreNumbers p code v now a → 0 < a.size → SamePlace p v a c → CellIs v a now c
+  cell_there v a now c stand numbers some same =
+      let there = content_there p code v now a c stand numbers some same in
+      by (cell_of v a) (cell_at now c.frame c.slot cell.Unset) refl refl there.0 there.1
     where
-      by : (x : store.Cell) (d : Cell) → cell_of v a ≡ x → cell_at now h.place.frame h.place.slot cell.Unset ≡ d → number_at now h.place.frame h.place.slot ≡ true → SameContent p v slot.Number x d → CellIs v a now h.place
+      by : (x : store.Cell) (d : Cell) → cell_of v a ≡ x → cell_at now c.frame c.slot cell.Unset ≡ d → number_at now c.frame c.slot ≡ true → SameContent p v slot.Number x d → CellIs v a now c
       by (Number x) (cell.Int y) e f live same = is_number x e live (f ∙ ap cell.Int (sym same.0)) same.1
       by Unknown cell.Unknown e f live same = is_unknown e live f
       by Unknown (cell.Int y) e f live same = absurd same
@@ -45,6 +45,9 @@ module _ (p : Program) (code : PlainCode) (input : List ℕ) where
       by (Number x) (cell.Place y) e f live same = absurd same
       by (Number x) (cell.Mark y) e f live same = absurd same
       by (At x) d e f live same = absurd same
+
+  pub cell_is : (r n size : ℕ) (v : Store) (a : Place) (now : List PlainFrame) → 0 < size → Begins p code input r v now → (h : IsPlace p code input n size v a now) → CellIs v a now h.place
+  cell_is r n size v a now some b h = cell_there v a now h.place b.stand h.numbers (omega (arith, some, h.sized)) h.same
 
   module _ (line q at lo r place_slot size : ℕ) (v : Store) (now : List PlainFrame) (a : Place) (behind : own_end p r ≤ lo) (kind : slice_get (kinds_at code r) lo ≡ Some slot.Number) (some : 0 < size) (b : Begins p code input r v now) (h : IsPlace p code input place_slot size v a now) where
     -- the number there is loaded

@@ -29,7 +29,7 @@ use Rattle.alma_implements.proofs.TurnRow.{Decides, barrier_decides, simple_deci
 use Rattle.alma_implements.proofs.Ways.{Ways, Leaves}
 use Rattle.alma_templates.specs.Lined.{Lined, own}
 use Rattle.alma_templates.specs.Tables.{Tables}
-use Rattle.alma_templates.specs.Slots.{bare, unless_bare, is_simple, mark_slots, test_slots}
+use Rattle.alma_templates.specs.Slots.{bare, unless_bare, is_simple, is_simple_expr, mark_slots, test_slots}
 use Rattle.alma_templates.specs.Pieces.{condition}
 use Rattle.alma_templates.specs.Templates.{expr_code, test_code, jump_code, slot_or, value_at}
 use Rattle.alma_templates.specs.Stands.{Stands}
@@ -94,7 +94,7 @@ module _ (p : Program) (tables : Tables) (code : PlainCode) (input : List ℕ) (
 
   -- what is known of the test of a condition: one that is simple is a value, any other runs behind its mark
   pub record TestKnown (at lo : ℕ) (t : Test) : Type 0 where
-    pub value : (x : Expr) → t ≡ Value x → AtOnce p tables code input below r line q at lo x
+    pub value : (x : Expr) → t ≡ Value x → is_simple_expr x ≡ true → AtOnce p tables code input below r line q at lo x
     pub runs : is_simple t ≡ false → TestRuns p tables code input below r line q (at + 2) (lo + 1) t
 
   abbrev pub condition_code : (at lo none : ℕ) → Test → List Lined
@@ -151,7 +151,7 @@ module _ (p : Program) (tables : Tables) (code : PlainCode) (input : List ℕ) (
   condition_by : (z : Bool) (at lo none : ℕ) (t : Test) (v : Store) (now : List PlainFrame) → is_simple t ≡ z → HasSlots p code r lo (mark_slots z ++ test_slots p r t) → Begins p code input r v now → TestKnown at lo t
       → Stands code at (condition z line at lo none (λ at lo none. jump_code p tables r line at lo none t) (λ at lo. test_code p tables r line at lo t))
       → Decides code input line at (at + length (condition z line at lo none (λ at lo none. jump_code p tables r line at lo none t) (λ at lo. test_code p tables r line at lo t))) none now (ev_test p input below t v) (λ u t2. Left p code input lo r now u t2) (λ t2. Left p code input lo r now v t2) q
-  condition_by true at lo none (Value x) v now e slots b known stands = value_condition at lo none x v now e b (known.value x refl) stands
+  condition_by true at lo none (Value x) v now e slots b known stands = value_condition at lo none x v now e b (known.value x refl e) stands
   condition_by true at lo none (Bind d x range left) v now e slots b known stands = absurd (let bad : false ≡ true = e in cc)
   condition_by true at lo none (Unify d range x range') v now e slots b known stands = absurd (let bad : false ≡ true = e in cc)
   condition_by true at lo none (SameCells d x) v now e slots b known stands = absurd (let bad : false ≡ true = e in cc)

@@ -44,6 +44,7 @@ module _ (p : Program) (code : PlainCode) (input : List ℕ) where
     kinds = λ k lt.
         let e : a.slot + (offset + k) ≡ a.slot + offset + k = omega arith in
         subst (λ i. get_or (get_or now a.frame picture.no_frame).kinds (shift_in p v a.frame + i) slot.Mark ≡ slot.Number) e (h.kinds (offset + k) (room k lt));
+    free = λ e. omega (arith, h.free e);
   }
 
   pub part_same : (v : Store) (a : Place) (c : CellPlace) (offset n : ℕ) → SamePlace p v a c → SamePlace p v (part a offset n) (record { frame = c.frame; slot = c.slot + offset; len = n })

@@ -1,8 +1,10 @@
 -- FORALL, from template to run: its first part is gone through, and the second runs in frames over which the carry was laid.
-use Rattle.std.proofs.Common.{◌≡◌, ℕ, suc, ◌+◌, ◌-◌, ◌<◌, ◌≤◌, inl, inr, true, false, List, [], ◌∷◌, ◌++◌, length, get_or, Some, Option, refl, sym, ap, ◌∙◌, subst, arith, length-append}
+use Rattle.std.proofs.Common.{◌≡◌, ℕ, suc, ◌+◌, ◌-◌, ◌<◌, ◌≤◌, inl, inr, Bool, true, false, not, List, [], ◌∷◌, ◌++◌, length, get_or, Some, None, Option, refl, sym, ap, ◌∙◌, subst, arith, pos, length-append}
 use Rattle.std.specs.Prelude.{slice_get}
 use Rattle.std.proofs.lemmas.Bool.{cases_lt}
-use Rattle.alma_base.specs.Carry.{Carry, with_changes}
+use Rattle.std.proofs.lemmas.List.{get_or_past}
+use Rattle.alma_base.specs.Choice.{if_true}
+use Rattle.alma_base.specs.Carry.{Carry, carried_at, with_changes}
 use Rattle.alma_code.specs.declared.cell.Cell as machine_cell
 use Rattle.alma_code.specs.declared.cell.Cell.TheVariants as cell
 use Rattle.alma_code.specs.declared.cell.SlotKind.{SlotKind}
@@ -12,23 +14,21 @@ use Rattle.alma_code.specs.Carries.{frames_with_carry, diffs}
 use Rattle.alma_code.specs.Picture.{PlainFrame, PlainEntry, last_frame}
 use Rattle.alma_code.specs.Picture as picture
 use Rattle.alma_code.specs.Plain.{PlainCode, kinds_at}
-use Rattle.alma_code.specs.Machine.{State}
 use Rattle.alma_ir.specs.Tree.{Program, Stmts, Forall, routine_at}
-use Rattle.alma_mean.specs.Store.{Store, top_frame, over, changes}
+use Rattle.alma_mean.specs.Store.{Store, Unknown, Number, top_frame, over, changes}
 use Rattle.alma_mean.specs.Store as store
-use Rattle.alma_mean.specs.Events.{Events, NoYield}
+use Rattle.alma_mean.specs.Events.{NoYield}
 use Rattle.alma_mean.specs.Rows.{forall_row}
-use Rattle.alma_mean.specs.Meaning.{Level, ev_stmts, ev_stmt}
-use Rattle.alma_implements.proofs.Goes.{Goes, before, weaker}
-use Rattle.alma_implements.proofs.Address.{at_address}
-use Rattle.alma_implements.proofs.Frames.{own_end, StandFor, Fits, HasSlots, IsAt}
+use Rattle.alma_mean.specs.Meaning.{Level, ev_stmts}
+use Rattle.alma_implements.proofs.Goes.{Goes, before}
+use Rattle.alma_implements.proofs.Frames.{own_end, StandFor, Fits, HasSlots}
 use Rattle.alma_implements.proofs.FrameLemmas.{FrontAlike, frame_routine}
-use Rattle.alma_implements.proofs.ExprRows.{first_kind, slots_first, slots_behind}
-use Rattle.alma_implements.proofs.Carrying.{Alike, nothing_alike, alike_moved, laid_stands, laid_fits}
-use Rattle.alma_implements.proofs.Gaining.{gains}
-use Rattle.alma_implements.proofs.LaidOver.{over_count, over_routine, overlaid_count, overlaid_form}
+use Rattle.alma_implements.proofs.ExprRows.{first_kind, slots_behind}
+use Rattle.alma_implements.proofs.CarryMaps.{IsRising}
+use Rattle.alma_implements.proofs.Carrying.{Alike, nothing_alike, alike_moved, laid_fits}
+use Rattle.alma_implements.proofs.Gaining.{gains, meant_gained}
+use Rattle.alma_implements.proofs.LaidOver.{or_else, over_cell, over_count, over_routine, overlaid_count, overlaid_form}
 use Rattle.alma_implements.proofs.Steps.{Holds, HasKind, InstrAt, top_written}
-use Rattle.alma_implements.proofs.FirstRow.{KeepsMark}
 use Rattle.alma_implements.proofs.ForallSteps.{forall_step}
 use Rattle.alma_implements.proofs.ForallRow.{ForallCode, ForallParts, forall_goes}
 use Rattle.alma_implements.proofs.SeqRow.{runs_less}
@@ -40,7 +40,7 @@ use Rattle.alma_templates.specs.Templates.{stmts_code, stmt_code}
 use Rattle.alma_templates.specs.Pieces.{begin_each, end_each}
 use Rattle.alma_templates.specs.Stands.{Stands}
 use Rattle.alma_templates.proofs.Stands.{stands_front, stands_back}
-use Rattle.alma_templates.proofs.Parts.{Begins, Left, sound_of, begins, left_on, left_less, left_temp, holds_temp, has_kind, holds_after, From, from_less, node_runs, leaving, ending, Nothing}
+use Rattle.alma_templates.proofs.Parts.{Positioned, Begins, Left, sound_of, begins, left_on, left_temp, holds_temp, has_kind, holds_after, From, from_less, node_runs, leaving, ending, Nothing}
 use Rattle.alma_templates.proofs.FormRuns.{ListRuns, StmtRuns}
 
 module _ (p : Program) (code : PlainCode) where
@@ -65,6 +65,39 @@ module _ (p : Program) (code : PlainCode) where
     long = λ k lt. sym (h.long k (omega (arith, lt, long)));
     kinds = λ k lt. sym (h.kinds k (omega (arith, lt, long)));
   }
+
+-- an input position that is carried is a number at or above 0
+abbrev pub CarriesPosition : Carry store.Cell → Type 0
+CarriesPosition carry = (a : store.Cell) → carried_at 0 0 carry ≡ Some a → (n : ℕ) × (a ≡ Number (pos n))
+
+module _ (p : Program) (code : PlainCode) (input : List ℕ) where
+  -- there is such a cell
+  pub position_there : (v : Store) → Positioned p code input v → 0 < length (get_or v 0 store.no_frame).cells
+  position_there v h = elim (cases_lt 0 (length (get_or v 0 store.no_frame).cells)) [
+    | inl there ↦ there
+    | inr past ↦ let bad : Unknown ≡ Number (pos h.at) = sym (get_or_past (get_or v 0 store.no_frame).cells 0 Unknown past) ∙ h.is in absurd (cc)
+  ]
+
+  -- the carry laid over a store leaves a position
+  laid_position : (v : Store) (carry : Carry store.Cell) → IsRising carry → CarriesPosition carry → 1 ≤ length v → Positioned p code input v → Positioned p code input (over v carry)
+  laid_position v carry rising carries some h = by (carried_at 0 0 carry) refl
+    where
+      by : (o : Option store.Cell) → carried_at 0 0 carry ≡ o → Positioned p code input (over v carry)
+      by None e = record { at = h.at; is = over_cell v carry 0 0 rising (omega (arith, some)) (position_there v h) ∙ ap (λ o. or_else o (store.cell_at v 0 0)) e ∙ h.is }
+      by (Some a) e = let z = carries a e in record { at = z.0; is = over_cell v carry 0 0 rising (omega (arith, some)) (position_there v h) ∙ ap (λ o. or_else o (store.cell_at v 0 0)) e ∙ z.1 }
+
+  some_inj : {A : Type 0} {x y : A} → Some x ≡ Some y → x ≡ y
+  some_inj e = cc
+
+  gained_by : (b : Bool) (t : Store) (carry : Carry store.Cell) → Positioned p code input t → CarriesPosition carry → (a : store.Cell) → if_true b (λ _. Some (store.cell_at t 0 0)) (λ _. carried_at 0 0 carry) ≡ Some a → (n : ℕ) × (a ≡ Number (pos n))
+  gained_by true t carry h carries a e = (h.at, let same : Some (store.cell_at t 0 0) ≡ Some a = e in sym (some_inj same) ∙ h.is)
+  gained_by false t carry h carries a e = carries a e
+
+  -- and what a body changed is one
+  gained_position : (u t : Store) (carry : Carry store.Cell) → 1 ≤ length u → Positioned p code input u → 1 ≤ length t → Positioned p code input t → CarriesPosition carry → CarriesPosition (with_changes (changes u t) carry)
+  gained_position u t carry some h some_t ht carries a e =
+      gained_by (not (store.same_cell (store.cell_at u 0 0) (store.cell_at t 0 0))) t carry ht carries a
+      (sym (meant_gained u t 0 0 carry (omega (arith, some)) (omega (arith, some_t)) (position_there u h) (position_there t ht)) ∙ e)
 
 module _ (p : Program) (tables : Tables) (code : PlainCode) (input : List ℕ) (below : Level) (r line q : ℕ) where
   -- statements without RETURN
@@ -92,7 +125,7 @@ module _ (p : Program) (tables : Tables) (code : PlainCode) (input : List ℕ) (
     first_ways = staying (lo + 1) marked0
 
     abbrev same : Carry machine_cell.Cell → Carry store.Cell → Type 0
-    same c carry = Alike p code inner s0 now0 c carry
+    same c carry = Alike p code inner s0 now0 c carry × CarriesPosition carry
 
     first_holds : (v : Store) (now : List PlainFrame) → Left p code input (lo + 1) r marked0 v now → Holds now lo (cell.Mark h)
     first_holds v now left = holds_after p code input (lo + 1) r lo (cell.Mark h) s0 v marked0 now begins_first own_lo (omega arith) left (holds_temp p code input r lo s0 now0 (cell.Mark h) slot.Mark first_kind_is b0)
@@ -110,13 +143,13 @@ module _ (p : Program) (tables : Tables) (code : PlainCode) (input : List ℕ) (
 
       module _ (c : Carry machine_cell.Cell) (carry : Carry store.Cell) (alike : same c carry) where
         alike_here : Alike p code inner v now c carry
-        alike_here = alike_moved p code inner s0 v now0 now c carry long front alike
+        alike_here = alike_moved p code inner s0 v now0 now c carry long front alike.0
 
         laid_left : Left p code input inner r now (over v carry) (frames_with_carry now c)
         laid_left =
             let fit : Fits p code inner now (over v carry) (frames_with_carry now c) = laid_fits p code inner v now c carry left.fits.stand alike_here inner (omega arith) in
             let top_is : (top_frame (over v carry)).routine ≡ (top_frame v).routine = ap (λ n. (get_or (over v carry) (n - 1) store.no_frame).routine) (over_count v carry) ∙ over_routine v carry (length v - 1) in
-            record { fits = fit; routine = top_is ∙ left.routine; sound = sound_of p code input (over v carry) (frames_with_carry now c) fit.stand }
+            record { fits = fit; routine = top_is ∙ left.routine; sound = sound_of p code input (over v carry) (frames_with_carry now c) fit.stand (laid_position p code input v carry alike.0.carry_rising alike.1 left.fits.stand.some left.sound.position) }
 
         begins_laid : Begins p code input r (over v carry) (frames_with_carry now c)
         begins_laid = begins p code input inner r now (over v carry) (frames_with_carry now c) laid_left
@@ -145,9 +178,9 @@ module _ (p : Program) (tables : Tables) (code : PlainCode) (input : List ℕ) (
       second_keeps_first = λ v now c height. record { keeps = λ t z now2 left. left.outer_mark; stays = λ t n at now2 left. left };
       grows = λ v t now now2 c carry height alike left. left.gained carry alike;
       ends = λ c carry alike.
-          let fit : Fits p code lo now0 (over s0 carry) (frames_with_carry now0 c) = laid_fits p code inner s0 now0 c carry b0.stand alike lo (omega (arith, above)) in
+          let fit : Fits p code lo now0 (over s0 carry) (frames_with_carry now0 c) = laid_fits p code inner s0 now0 c carry b0.stand alike.0 lo (omega (arith, above)) in
           let top_is : (top_frame (over s0 carry)).routine ≡ (top_frame s0).routine = ap (λ n. (get_or (over s0 carry) (n - 1) store.no_frame).routine) (over_count s0 carry) ∙ over_routine s0 carry (length s0 - 1) in
-          record { fits = fit; routine = top_is ∙ b0.routine; sound = sound_of p code input (over s0 carry) (frames_with_carry now0 c) fit.stand };
+          record { fits = fit; routine = top_is ∙ b0.routine; sound = sound_of p code input (over s0 carry) (frames_with_carry now0 c) fit.stand (laid_position p code input s0 carry alike.0.carry_rising alike.1 b0.stand.some b0.sound.position) };
     }
       where
         mark_kind : (v : Store) (now : List PlainFrame) (c : Carry machine_cell.Cell) → Left p code input (lo + 1) r marked0 v now → HasKind (frames_with_carry now c) inner slot.Mark
@@ -173,9 +206,11 @@ module _ (p : Program) (tables : Tables) (code : PlainCode) (input : List ℕ) (
               mark = holds_after p code input (inner + 1) r inner (cell.Mark height) u t marked now2 bm (omega (arith, own_lo, above)) (omega arith) after (holds_temp p code input r inner u laid (cell.Mark height) slot.Mark second_kind_is bl);
               outer_mark = holds_after p code input inner r lo (cell.Mark h) u t laid now2 bl own_lo above whole (laid_holds v now left c carry alike);
               gained = λ other alike2.
-                  let here : Alike p code inner v now c other = alike_here v now left c other alike2 in
-                  alike_moved p code inner v s0 now now0 (with_changes (diffs laid now2) c) (with_changes (changes (over v other) t) other) (sym (long v now left)) (front_back p code s0 v now0 now (long v now left) (front v now left))
-                  (gains p code inner v now c other left.fits.stand here t now2 whole.fits);
+                  let here : Alike p code inner v now c other = alike_here v now left c other alike2 in (
+                    alike_moved p code inner v s0 now now0 (with_changes (diffs laid now2) c) (with_changes (changes (over v other) t) other) (sym (long v now left)) (front_back p code s0 v now0 now (long v now left) (front v now left))
+                        (gains p code inner v now c other left.fits.stand here t now2 whole.fits),
+                    gained_position p code input (over v other) t other (begins_laid v now left c other alike2).stand.some (begins_laid v now left c other alike2).sound.position whole.fits.stand.some whole.sound.position alike2.1,
+                  );
             })
             (λ t n at now2 left2. left2)
             (runs stands u marked bm))
@@ -228,7 +263,7 @@ module _ (p : Program) (tables : Tables) (code : PlainCode) (input : List ℕ) (
       subst (λ k. Goes code input line 0 24 (Leaves k w) held (forall_row (ev_stmts p input below y) v [] (ev_stmts p input below x v)) s 24 q) exit
       (before code input line 0 24 (Leaves (n + 4) w) held (forall_row (ev_stmts p input below y) v [] (ev_stmts p input below x v)) s z.to 1 24 8 q q z.silently (omega arith) (omega arith)
       (forall_goes code input line m n lo inner now held q v (same lo inner h v now b slots.behind above first_mark second_mark) (ev_stmts p input below y) (first_ways lo inner h v now b slots.behind above first_mark second_mark) w is_code made
-      (ev_stmts p input below x v) [] [] z.to 8 q (omega arith) (nothing_alike p code inner v now)
+      (ev_stmts p input below x v) [] [] z.to 8 q (omega arith) (nothing_alike p code inner v now, λ a e. absurd (let bad : None ≡ Some a = e in cc))
       (first first_there v (top_written now lo (cell.Mark h)) (begins_first lo inner h v now b slots.behind above first_mark second_mark) 8 (omega arith) _ z.to z.is)))
 
   -- a list without RETURN, in words of lists

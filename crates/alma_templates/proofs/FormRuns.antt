@@ -1,13 +1,13 @@
 -- How the phrases of one statement run, in words: each stands somewhere, takes its slots from `lo` on, and is at the line
 -- of the statement.
-use Rattle.std.proofs.Common.{◌≡◌, ℕ, Bool, Some, List}
+use Rattle.std.proofs.Common.{◌≡◌, ℕ, Bool, false, Some, List}
 use Rattle.std.specs.Prelude.{slice_get}
 use Rattle.alma_base.specs.declared.number.Range.{Range}
 use Rattle.alma_code.specs.Plain.{PlainCode}
 use Rattle.alma_ir.specs.Tree.{Program, Stmts, Stmt, Test, Expr, Desig}
 use Rattle.alma_ir.specs.Checked.{desig_cells}
 use Rattle.alma_mean.specs.Meaning.{Level, ev_stmts, ev_stmt, ev_test, ev_expr, ev_desig}
-use Rattle.alma_templates.specs.Tables.{Tables, range_number}
+use Rattle.alma_templates.specs.Tables.{Tables, range_number, is_whole}
 use Rattle.alma_templates.specs.Templates.{stmts_code, stmt_code, test_code, expr_code, desig_code, place_at}
 use Rattle.alma_templates.proofs.Parts.{NodeFor, RunsFor, ValueIn, PlaceIn, Nothing}
 
@@ -35,3 +35,7 @@ module _ (p : Program) (tables : Tables) (code : PlainCode) (input : List ℕ) (
   -- the code has the range by its number
   abbrev pub HasRange : Range → Type 0
   HasRange range = slice_get code.ranges (range_number tables range) ≡ Some range
+
+  -- and where a check of it has code
+  abbrev pub FitsRange : Range → Type 0
+  FitsRange range = is_whole range ≡ false → HasRange range

@@ -1,6 +1,6 @@
 -- The arguments of a call as the machine reads them from their slots, and the counts that a call asks.
-use Rattle.std.proofs.Common.{◌≡◌, ℕ, zero, suc, ◌+◌, ◌<◌, ◌≤◌, List, [], ◌∷◌, ◌++◌, length, map, get_or, Some, refl, sym, ap, ◌∙◌, subst, arith}
-use Rattle.std.specs.Prelude.{slice_get, true, ◌&&◌, nat_eq, sum_by}
+use Rattle.std.proofs.Common.{◌≡◌, ℕ, zero, suc, ◌+◌, ◌<◌, List, [], ◌∷◌, ◌++◌, length, map, get_or, Some, refl, sym, ap, ◌∙◌, arith}
+use Rattle.std.specs.Prelude.{slice_get, true, ◌&&◌, sum_by}
 use Rattle.std.proofs.lemmas.Bool.{eq-eqb}
 use Rattle.std.proofs.lemmas.List.Sums.{sum_by-cons, sum-map}
 use Rattle.std.proofs.lemmas.Option.{slice_get-get_or}
@@ -21,7 +21,7 @@ use Rattle.alma_ir.specs.declared.program.Param.{Param}
 use Rattle.alma_ir.specs.Tree.{Program, routine_at}
 use Rattle.alma_mean.specs.Store.{Store, Place}
 use Rattle.alma_mean.specs.Store as store
-use Rattle.alma_mean.specs.Rows.{ArgValue, declared_cells}
+use Rattle.alma_mean.specs.Rows.{ArgValue}
 use Rattle.alma_implements.proofs.Frames.{shift_in, StandFor, IsAt}
 use Rattle.alma_implements.proofs.Steps.{Holds, passed}
 use Rattle.alma_implements.proofs.CallSteps.{HoldsArguments}

@@ -1,6 +1,5 @@
 pub mod Stands
 pub mod EitherRuns
-pub mod Statements
 pub mod Parts
 pub mod PlaceSteps
 pub mod AtOnce
@@ -32,3 +31,16 @@ pub mod CaseForms
 pub mod Starting
 pub mod ForForms
 pub mod ForStatement
+pub mod Sizes
+pub mod SomeForms
+pub mod CellsMoved
+pub mod CellRuns
+pub mod ReadForms
+pub mod Asked
+pub mod Levels
+pub mod Induction
+pub mod Premises
+pub mod Law
+pub mod Exists
+pub mod FewInstrs
+pub mod FewSlots

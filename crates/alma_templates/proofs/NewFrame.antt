@@ -1,11 +1,11 @@
 -- The frame that a call pushes stands for the new frame of the meaning: its link, its parameters and its other slots.
-use Rattle.std.proofs.Common.{◌≡◌, ◌≢◌, ℕ, zero, suc, ◌+◌, ◌-◌, ◌<◌, ◌≤◌, ◌⊎◌, inl, inr, List, [], ◌∷◌, ◌++◌, length, map, get_or, set, take, drop, replicate, Some, refl, sym, ap, ◌∙◌, subst, arith, ℤ, append_assoc, append-nil}
+use Rattle.std.proofs.Common.{◌≡◌, ℕ, zero, suc, ◌+◌, ◌-◌, ◌<◌, ◌≤◌, ◌⊎◌, inl, inr, List, [], ◌∷◌, ◌++◌, length, map, get_or, set, take, drop, replicate, Some, refl, sym, ap, ◌∙◌, subst, arith, ℤ, append_assoc, append-nil}
 use Rattle.std.specs.Prelude.{slice_get, true, sum_by}
 use Rattle.std.proofs.lemmas.Bool.{cases_eq, cases_lt}
 use Rattle.std.proofs.Math.Seq.{get_or-append_seam}
 use Rattle.std.proofs.lemmas.List.{get_or-set_same, get_or-set_other, set-get_or, length-set, length-append, length-map, length-drop, length-replicate, get_or-replicate, get_or_past, get_or-drop, get_or_append_left, get_or-append_right, get_or-append-add, get_or-map}
 use Rattle.std.proofs.lemmas.List.Sums.{sum_by-cons}
-use Rattle.std.proofs.lemmas.Option.{slice_get-get_or, get_or_from_slice_get}
+use Rattle.std.proofs.lemmas.Option.{get_or_from_slice_get}
 use Rattle.alma_base.specs.Numbers.{is_integer}
 use Rattle.alma_code.specs.declared.cell.Cell.{Cell}
 use Rattle.alma_code.specs.declared.cell.Cell.TheVariants as cell
@@ -13,7 +13,7 @@ use Rattle.alma_code.specs.declared.cell.CellPlace.{CellPlace}
 use Rattle.alma_code.specs.declared.cell.SlotKind.{SlotKind}
 use Rattle.alma_code.specs.declared.cell.SlotKind.TheVariants as slot
 use Rattle.alma_code.specs.declared.head.CodeParam.{CodeParam}
-use Rattle.alma_code.specs.Layout.{blank_of, blank_cells, no_param, arg_cells, args_cells, cells_of_call, frame_of_call, kinds_of}
+use Rattle.alma_code.specs.Layout.{blank_of, blank_cells, no_param, arg_cells, args_cells, frame_of_call, kinds_of}
 use Rattle.alma_code.specs.Picture.{PlainFrame}
 use Rattle.alma_code.specs.Picture as picture
 use Rattle.alma_code.specs.Plain.{PlainCode, PlainRoutine, kinds_at, head_at}
@@ -31,7 +31,7 @@ use Rattle.alma_mean.specs.Rows.{ArgValue, ArgNumber, ArgMix, ArgPlace, ArgCells
 use Rattle.alma_implements.proofs.Frames.{shift, shift_in, SamePlace, SameContent, HasLink, SameFrame, AreNumbers, HeldPlace, StandFor}
 use Rattle.alma_implements.proofs.FrameLemmas.{HoldsPlace, FrontAlike, numbers_moved, held_moved}
 use Rattle.alma_implements.proofs.Leaving.{same_below}
-use Rattle.alma_templates.specs.Slots.{param_kinds, params_kinds, routine_kinds, own_kinds, link_kinds, stmts_slots}
+use Rattle.alma_templates.specs.Slots.{param_kinds, params_kinds, routine_kinds, link_kinds, stmts_slots}
 use Rattle.alma_templates.specs.Compiled.{param_kind, param_named, link_params}
 
 take_next : {A : Type 0} (l : List A) (m n : ℕ) (d : A) → m < length l → take (suc n) (drop m l) ≡ get_or l m d ∷ take n (drop (suc m) l)
@@ -619,6 +619,7 @@ module _ (p : Program) (code : PlainCode) (v : Store) (now : List PlainFrame) (s
                         let z : q.slot + k ≡ q.slot = omega (arith, lt, o.size) in
                         ap (λ g. get_or g.kinds (shift_in p w q.frame + (q.slot + k)) slot.Mark) now_is ∙ ap (λ g. get_or kinds (shift p g.routine + (q.slot + k)) slot.Mark) frame_is
                         ∙ ap (λ n. get_or kinds (shift p r + n) slot.Mark) z ∙ o.kind;
+                    free = λ e. absurd (omega (arith, o.frame, e, stand.some));
                   };
                   size = size;
                 }

@@ -1,5 +1,5 @@
 -- What each part of a phrase keeps, and how one part follows another.
-use Rattle.std.proofs.Common.{◌≡◌, ℕ, suc, ◌+◌, ◌<◌, ◌≤◌, Bool, true, false, List, [], ◌++◌, length, get_or, Some, None, Option, refl, sym, ap, ◌∙◌, subst, arith, ℤ, append-nil}
+use Rattle.std.proofs.Common.{◌≡◌, ℕ, suc, ◌+◌, ◌<◌, ◌≤◌, Bool, true, false, List, [], ◌++◌, length, get_or, Some, None, Option, refl, sym, ap, ◌∙◌, subst, arith, ℤ, pos, append-nil}
 use Rattle.std.specs.Prelude.{slice_get}
 use Rattle.std.proofs.lemmas.Option.{slice_get-get_or, slice_get_within, get_or_from_slice_get}
 use Rattle.alma_base.specs.declared.fault.RunFault.{RunFault}
@@ -16,7 +16,7 @@ use Rattle.alma_code.specs.Picture as picture
 use Rattle.alma_code.specs.Plain.{PlainCode, kinds_at}
 use Rattle.alma_code.specs.Machine.{State}
 use Rattle.alma_ir.specs.Tree.{Program, routine_at}
-use Rattle.alma_mean.specs.Store.{Store, Place, At, top_frame, cell_at}
+use Rattle.alma_mean.specs.Store.{Store, Place, Number, At, top_frame, cell_at}
 use Rattle.alma_mean.specs.Store as store
 use Rattle.alma_mean.specs.Events.{Events, Flow, Go, Return, NoYield, Fail, Fault, one, join, bind, node}
 use Rattle.alma_implements.proofs.Goes.{Silently, IsGoing, IsFailing, Goes, before, weaker, credited, join_goes, bind_goes, node_goes, one_goes, no_step}
@@ -26,6 +26,7 @@ use Rattle.alma_implements.proofs.ExprRows.{kind_there, within_frame, slots_behi
 use Rattle.alma_implements.proofs.Steps.{top_written, Holds, HasKind, Writes, Faults}
 use Rattle.alma_implements.proofs.ChoiceSteps.{GoesOn}
 use Rattle.alma_implements.proofs.SeqRow.{runs_less}
+use Rattle.alma_implements.proofs.LaidOver.{put_apart}
 use Rattle.alma_implements.proofs.Leaving.{PlacesBelow}
 use Rattle.alma_implements.proofs.Ways.{Ways, Leaves, Runs, Later, then_up_to}
 use Rattle.alma_templates.specs.Lined.{Lined}
@@ -34,8 +35,18 @@ use Rattle.alma_templates.specs.Stands.{Stands}
 module _ (p : Program) (code : PlainCode) (input : List ℕ) where
   -- ---- what is kept
 
+  -- the input position is a number at or above 0
+  pub record Positioned (v : Store) : Type 0 where
+    pub at : ℕ
+    pub is : cell_at v 0 0 ≡ Number (pos at)
+
+  -- a write to another cell leaves it
+  pub put_position : (v : Store) (f i : ℕ) (c : store.Cell) → (f ≡ 0 → 0 < i) → Positioned v → Positioned (store.put v f i c)
+  put_position v f i c free h = record { at = h.at; is = put_apart v f i 0 0 c (λ same_frame same_slot. absurd (omega (arith, free same_frame, same_slot))) ∙ h.is }
+
   -- of the frames of a store, beside that those of the machine stand for them
   pub record Sound (v : Store) (now : List PlainFrame) : Type 0 where
+    pub position : Positioned v
     pub main : (get_or v 0 store.no_frame).routine ≡ 0
     pub routines : (k : ℕ) → k < length v → (get_or v k store.no_frame).routine < length p.routines
     pub below : PlacesBelow v
@@ -43,8 +54,9 @@ module _ (p : Program) (code : PlainCode) (input : List ℕ) where
     pub sized : (k i l : ℕ) (q : Place) → k < length v → slice_get (kinds_at code (get_or v k store.no_frame).routine) (shift_in p v k + i) ≡ Some (slot.Place l) → cell_at v k i ≡ At q → q.size ≡ l
 
   -- frames that stand for a store are sound
-  pub sound_of : (v : Store) (now : List PlainFrame) → StandFor p code v now → Sound v now
-  sound_of v now h = record {
+  pub sound_of : (v : Store) (now : List PlainFrame) → StandFor p code v now → Positioned v → Sound v now
+  sound_of v now h position = record {
+    position = position;
     main = h.main;
     routines = h.routines;
     below = λ k i q lt e. (h.places k i q lt e).below;
@@ -76,8 +88,9 @@ module _ (p : Program) (code : PlainCode) (input : List ℕ) where
   abbrev pub NoNewPlaces : Store → Store → Type 0
   NoNewPlaces v w = (k i : ℕ) (q : Place) → cell_at w k i ≡ At q → cell_at v k i ≡ At q
 
-  pub sound_after : (lo : ℕ) (v w : Store) (now later : List PlainFrame) → StandFor p code v now → Fits p code lo now w later → NoNewPlaces v w → Sound v now → Sound w later
-  sound_after lo v w now later stand fit old h = record {
+  pub sound_after : (lo : ℕ) (v w : Store) (now later : List PlainFrame) → StandFor p code v now → Fits p code lo now w later → NoNewPlaces v w → (Positioned v → Positioned w) → Sound v now → Sound w later
+  sound_after lo v w now later stand fit old kept h = record {
+    position = kept h.position;
     main = routine 0 stand.some ∙ h.main;
     routines = λ k lt. subst (λ x. x < length p.routines) (sym (routine k (omega (arith, lt, long)))) (h.routines k (omega (arith, lt, long)));
     below = λ k i q lt e. h.below k i q (omega (arith, lt, long)) (old k i q e);
@@ -104,7 +117,7 @@ module _ (p : Program) (code : PlainCode) (input : List ℕ) where
   pub left_temp : (lo r n : ℕ) (v : Store) (now : List PlainFrame) (c : Cell) → lo ≤ n → own_end p r ≤ n → Begins r v now → Left lo r now v (top_written now n c)
   left_temp lo r n v now c le behind b =
       let fit : Fits p code lo now v (top_written now n c) = fits_temp p code lo v now n c le (slots_behind_routine p code input v now r b.stand b.routine n behind) b.stand in
-      record { fits = fit; routine = b.routine; sound = sound_after lo v v now (top_written now n c) b.stand fit (λ k i q e. e) b.sound }
+      record { fits = fit; routine = b.routine; sound = sound_after lo v v now (top_written now n c) b.stand fit (λ k i q e. e) (λ x. x) b.sound }
 
   pub holds_temp : (r n : ℕ) (v : Store) (now : List PlainFrame) (c : Cell) (k : SlotKind) → slice_get (kinds_at code r) n ≡ Some k → Begins r v now → Holds (top_written now n c) n c
   holds_temp r n v now c k kind b = holds_written now n c (some_frames p code input v now r b.stand b.routine) (within_frame p code input v now r b.stand b.routine n k kind)

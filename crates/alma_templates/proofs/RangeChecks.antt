@@ -31,7 +31,7 @@ use Rattle.alma_templates.specs.Stands.{Stands}
 use Rattle.alma_templates.proofs.Stands.{stands_front, stands_back}
 use Rattle.alma_templates.proofs.Parts.{begins, IsValue, ValueIn, NodeRuns, From, Takes, leaving, from_more, node_runs, then_from, faults_here, ends_here}
 use Rattle.alma_templates.proofs.PlaceSteps.{in_range_reads, in_range_passes, in_range_faults}
-use Rattle.alma_templates.proofs.FormRuns.{ExprRuns, HasRange}
+use Rattle.alma_templates.proofs.FormRuns.{ExprRuns, HasRange, FitsRange}
 
 -- a number of INTEGER is in a range of all of them
 in_whole : (low high n : ℤ) → int_le low whole_range.low ≡ true → int_le whole_range.high high ≡ true → is_integer n ≡ true → (int_le low n ≡ true) × (int_le n high ≡ true)
@@ -74,7 +74,7 @@ module _ (p : Program) (tables : Tables) (code : PlainCode) (input : List ℕ) (
     abbrev behind_check : Bool → ℕ
     behind_check z = at + length (own line (unless_whole z (I.InRange value (range_number tables range) ∷ [])))
 
-    fit_by : {A : Type 0} (z : Bool) (exit : ℕ) (n : ℤ) (now : List PlainFrame) (w : Ways A) (e : Events A) → is_whole range ≡ z → HasRange p tables code input below r line q range → Stands code at (checked z) → IsValue p code input value n now
+    fit_by : {A : Type 0} (z : Bool) (exit : ℕ) (n : ℤ) (now : List PlainFrame) (w : Ways A) (e : Events A) → is_whole range ≡ z → FitsRange p tables code input below r line q range → Stands code at (checked z) → IsValue p code input value n now
         → (InstrAt code input line (behind_check z) i → within range n ≡ true → From p code input line 7 (behind_check z) exit now w e q) → From p code input line 8 at exit now w (check_range range n (λ _. e)) q
     fit_by true exit n now w e is has stands h later =
         let zero : at + 0 ≡ at = omega arith in
@@ -83,15 +83,15 @@ module _ (p : Program) (tables : Tables) (code : PlainCode) (input : List ℕ) (
         (from_more p code input line 7 8 at exit now w e q (omega arith)
         (subst (λ m. From p code input line 7 m exit now w e q) zero (later (subst (λ m. InstrAt code input line m i) (sym zero) (record { instr = stands.0; on_line = stands.1 })) in_it)))
     fit_by false exit n now w e is has stands h later =
-        check_from at exit value range n now w e has (record { instr = stands.0; on_line = stands.1 }) h (λ in_it. later (record { instr = stands.2.0; on_line = stands.2.1 }) in_it)
+        check_from at exit value range n now w e (has is) (record { instr = stands.0; on_line = stands.1 }) h (λ in_it. later (record { instr = stands.2.0; on_line = stands.2.1 }) in_it)
 
     line_by : (z : Bool) → Stands code at (checked z) → line_at code at ≡ line
     line_by true stands = stands.1
     line_by false stands = stands.1
 
-    reads_by : (z : Bool) (now : List PlainFrame) → HasRange p tables code input below r line q range → Stands code at (checked z) → (InstrAt code input line at i → ReadsFirst code input at value now) → ReadsFirst code input at value now
+    reads_by : (z : Bool) (now : List PlainFrame) → (z ≡ false → HasRange p tables code input below r line q range) → Stands code at (checked z) → (InstrAt code input line at i → ReadsFirst code input at value now) → ReadsFirst code input at value now
     reads_by true now has stands reads held s is = reads (record { instr = stands.0; on_line = stands.1 }) held s is
-    reads_by false now has stands reads held s is = (_, in_range_reads code input line at now held s is value (range_number tables range) range (record { instr = stands.0; on_line = stands.1 }) has)
+    reads_by false now has stands reads held s is = (_, in_range_reads code input line at now held s is value (range_number tables range) range (record { instr = stands.0; on_line = stands.1 }) (has refl))
 
     long_by : (z : Bool) → length (checked z) ≡ length (own line (unless_whole z (I.InRange value (range_number tables range) ∷ []))) + 1
     long_by true = refl
@@ -103,14 +103,14 @@ module _ (p : Program) (tables : Tables) (code : PlainCode) (input : List ℕ) (
     abbrev pub behind_fit : ℕ
     behind_fit = at + length (own line (fit_code tables range value))
 
-    pub fit_from : {A : Type 0} (exit : ℕ) (n : ℤ) (now : List PlainFrame) (w : Ways A) (e : Events A) → HasRange p tables code input below r line q range → Checked → IsValue p code input value n now
+    pub fit_from : {A : Type 0} (exit : ℕ) (n : ℤ) (now : List PlainFrame) (w : Ways A) (e : Events A) → FitsRange p tables code input below r line q range → Checked → IsValue p code input value n now
         → (InstrAt code input line behind_fit i → within range n ≡ true → From p code input line 7 behind_fit exit now w e q) → From p code input line 8 at exit now w (check_range range n (λ _. e)) q
     fit_from exit n now w e has stands h later = fit_by (is_whole range) exit n now w e refl has stands h later
 
     pub fit_line : Checked → line_at code at ≡ line
     fit_line stands = line_by (is_whole range) stands
 
-    pub fit_reads : (now : List PlainFrame) → HasRange p tables code input below r line q range → Checked → (InstrAt code input line at i → ReadsFirst code input at value now) → ReadsFirst code input at value now
+    pub fit_reads : (now : List PlainFrame) → FitsRange p tables code input below r line q range → Checked → (InstrAt code input line at i → ReadsFirst code input at value now) → ReadsFirst code input at value now
     fit_reads now has stands reads = reads_by (is_whole range) now has stands reads
 
     pub fit_long : at + length (own line (fit_code tables range value ++ (i ∷ []))) ≡ behind_fit + 1

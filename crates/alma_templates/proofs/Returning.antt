@@ -4,9 +4,8 @@ use Rattle.std.specs.Prelude.{slice_get, sum_by}
 use Rattle.std.proofs.lemmas.List.{length-replicate}
 use Rattle.std.proofs.lemmas.List.Sums.{sum_by-cons}
 use Rattle.alma_base.specs.declared.number.Range.{Range}
-use Rattle.alma_base.specs.Numbers.{is_integer, within}
+use Rattle.alma_base.specs.Numbers.{within}
 use Rattle.alma_base.specs.declared.fault.RunFault.TheVariants as fault
-use Rattle.alma_code.specs.declared.cell.Cell.TheVariants as cell
 use Rattle.alma_code.specs.declared.cell.SlotKind.TheVariants as slot
 use Rattle.alma_code.specs.declared.instr.Instr.{Instr}
 use Rattle.alma_code.specs.declared.instr.Instr.TheVariants as I
@@ -26,17 +25,17 @@ use Rattle.alma_mean.specs.Rows.{return_within}
 use Rattle.alma_mean.specs.Meaning.{Level, level, level_0, level_above, ev_stmts, ev_stmt, ev_expr}
 use Rattle.alma_implements.proofs.Goes.{IsOn, Goes, no_step}
 use Rattle.alma_implements.proofs.BareRow.{ReadsFirst}
-use Rattle.alma_implements.proofs.Frames.{own_end, IsAt}
-use Rattle.alma_implements.proofs.Steps.{Holds, InstrAt, passed, does}
+use Rattle.alma_implements.proofs.Frames.{own_end}
+use Rattle.alma_implements.proofs.Steps.{InstrAt, passed, does}
 use Rattle.alma_implements.proofs.Ways.{Ways, Leaves, Runs}
 use Rattle.alma_templates.specs.Lined.{Lined, own}
 use Rattle.alma_templates.specs.Tables.{Tables}
 use Rattle.alma_templates.specs.Pieces.{fit_code}
 use Rattle.alma_templates.specs.Slots.{bare, unless_bare, own_kinds, link_kinds, param_kinds, params_kinds}
-use Rattle.alma_templates.specs.Templates.{expr_code, stmt_code, stmts_code, value_at, fit_result, return_code, routine_code, end_code}
+use Rattle.alma_templates.specs.Templates.{expr_code, stmt_code, stmts_code, value_at, fit_result, routine_code, end_code}
 use Rattle.alma_templates.specs.Stands.{Stands}
 use Rattle.alma_templates.proofs.Stands.{stands_front, stands_back}
-use Rattle.alma_templates.proofs.Parts.{Begins, Left, begins, left_self, left_less, IsValue, ValueIn, RunsFor, From, leaving, ending, ends_here, as_runs, node_runs, ReturnsFrom, ResultIs}
+use Rattle.alma_templates.proofs.Parts.{Begins, Left, begins, left_self, left_less, ValueIn, RunsFor, From, leaving, ending, ends_here, as_runs, node_runs, ResultIs}
 use Rattle.alma_templates.proofs.AtOnce.{AtOnce, at_once}
 use Rattle.alma_templates.proofs.Args.{RangeFits, fit_from, fit_reads, own_both}
 use Rattle.alma_templates.proofs.Calls.{RoutineRuns, EndsAt}
@@ -196,14 +195,14 @@ module _ (p : Program) (tables : Tables) (code : PlainCode) (input : List ℕ) w
         first.fit,
       )
 
-  abbrev body_slot : (r : ℕ) → ℕ
+  abbrev pub body_slot : (r : ℕ) → ℕ
   body_slot r = length (own_kinds (routine_at p r))
 
-  abbrev body_code_of : (r : ℕ) → List Lined
+  abbrev pub body_code_of : (r : ℕ) → List Lined
   body_code_of r = stmts_code p tables r (start_at code r) (body_slot r) (body_with_lines (routine_at p r))
 
   -- what stands at its end
-  routine_ends : (below : Level) (r : ℕ) → Stands code (start_at code r) (routine_code p tables r (start_at code r)) → EndsAt p tables code input below r (start_at code r + length (body_code_of r)) (routine_at p r).result
+  pub routine_ends : (below : Level) (r : ℕ) → Stands code (start_at code r) (routine_code p tables r (start_at code r)) → EndsAt p tables code input below r (start_at code r + length (body_code_of r)) (routine_at p r).result
   routine_ends below r stands = ends_at (routine_at p r).result (stands_back code (start_at code r) (body_code_of r) (own (routine_at p r).line (end_code p tables r (routine_at p r).result ∷ [])) stands)
     where
       ends_at : (result : Option Range) → Stands code (start_at code r + length (body_code_of r)) (own (routine_at p r).line (end_code p tables r result ∷ [])) → EndsAt p tables code input below r (start_at code r + length (body_code_of r)) result

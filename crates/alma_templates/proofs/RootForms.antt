@@ -52,6 +52,7 @@ module _ (p : Program) (code : PlainCode) (input : List ℕ) where
         kinds = λ k lt.
             subst (λ m. get_or (get_or now f picture.no_frame).kinds (m + (from + k)) slot.Mark ≡ slot.Number) shifts
             (get_or_from_slice_get (get_or now f picture.no_frame).kinds (shift p r + (from + k)) slot.Number slot.Mark (ap (λ ks. slice_get ks (shift p r + (from + k))) kinds ∙ h.numbers k lt));
+        free = λ e. h.free (sym is ∙ ap (λ n. (get_or v n store.no_frame).routine) e ∙ stand.main);
       }
 
   -- a slot of a live frame for a place, in the store and in the machine
@@ -176,7 +177,7 @@ module _ (p : Program) (code : PlainCode) (input : List ℕ) where
         let up_there : LinkedUp p v (top v) links = linked_up p code v now (top v) links nested b.sound.routines b.sound.main b.stand live (subst (λ x. links < (routine_at p x).level) (sym b.routine) few) in
         let z = chains_stand line links (at + 1) (lo + 1) rest stands.2 in
         let l = link_goes p code input line links at (lo + 1) r v now held s (omega (arith, behind)) is b.stand b.routine up_there (record { instr = stands.0; on_line = stands.1 }) r (chain_first links r r (lo + 1) slots) z.0 (links_are line links r r (lo + 1) slots) in
-        let left : Left p code input lo r now v l.frames = record { fits = fits_less p code lo (lo + 1) v now l.frames (omega arith) l.fits; routine = b.routine; sound = sound_after p code input (lo + 1) v v now l.frames b.stand l.fits (λ j i x y. y) b.sound } in
+        let left : Left p code input lo r now v l.frames = record { fits = fits_less p code lo (lo + 1) v now l.frames (omega arith) l.fits; routine = b.routine; sound = sound_after p code input (lo + 1) v v now l.frames b.stand l.fits (λ j i x y. y) (λ x. x) b.sound } in
         before code input line 0 24 (Leaves exit (leaving p code input lo r now yields)) held (bind e k) s l.to (1 + links) 24 9 q q l.silently (omega (arith, few, short)) (omega arith)
         (on_from p code input line 9 (at + 1 + links) exit lo lo r v now l.frames yields (bind e k) q (omega arith) behind left
         (later l.frames (begins p code input lo r now v l.frames left) up_there l.holds z.1 left) held l.to l.is)

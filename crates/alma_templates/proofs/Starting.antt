@@ -125,4 +125,4 @@ module _ (p : Program) (tables : Tables) (code : PlainCode) (all : List (List Ru
 
   -- the statements of the module begin there
   pub start_begins : (input : List ℕ) → Begins p code input 0 (start p) (start_frame (head_at code 0) ∷ [])
-  start_begins input = record { stand = start_stands; routine = refl; sound = sound_of p code input (start p) (start_frame (head_at code 0) ∷ []) start_stands }
+  start_begins input = record { stand = start_stands; routine = refl; sound = sound_of p code input (start p) (start_frame (head_at code 0) ∷ []) start_stands (record { at = 0; is = get_or-set_same (replicate slots Unknown) 0 (Number (pos 0)) Unknown (omega (arith, checked.body.1, length-replicate slots Unknown)) }) }

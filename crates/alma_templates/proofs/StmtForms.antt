@@ -36,12 +36,12 @@ use Rattle.alma_templates.proofs.AtOnce.{AtOnce, BareFits, at_once}
 use Rattle.alma_templates.proofs.RangeChecks.{past_from, fit_from, fit_line, fit_reads, fit_long, behind_fit}
 use Rattle.alma_templates.proofs.Targets.{target_after, target_from, set_from, set_reads}
 use Rattle.alma_templates.proofs.PlaceSteps.{write_text_step}
-use Rattle.alma_templates.proofs.FormRuns.{DesigRuns, TestRuns, StmtRuns, HasRange}
+use Rattle.alma_templates.proofs.FormRuns.{DesigRuns, TestRuns, StmtRuns, FitsRange}
 
 module _ (p : Program) (tables : Tables) (code : PlainCode) (input : List ℕ) (below : Level) (r line q : ℕ) where
   -- ---- assignment
 
-  assign_of : (o : Option ℕ) (at lo : ℕ) (d : Desig) (x : Expr) (range : Range) → bare_desig d ≡ o → BareFits p tables code input below r line q o → desig_cells d ≡ 1 → own_end p r ≤ lo → HasRange p tables code input below r line q range
+  assign_of : (o : Option ℕ) (at lo : ℕ) (d : Desig) (x : Expr) (range : Range) → bare_desig d ≡ o → BareFits p tables code input below r line q o → desig_cells d ≡ 1 → own_end p r ≤ lo → FitsRange p tables code input below r line q range
       → (o ≡ None → DesigRuns p tables code input below r line q at lo d) → ((next : ℕ) → AtOnce p tables code input below r line q next (lo + length (unless_bare o (desig_slots p r d))) x)
       → (made : List Lined) → made ≡ in_row at (unless_bare o (desig_code p tables r line at lo d)) (λ next. unless_bare (bare x) (expr_code p tables r line next (lo + length (unless_bare o (desig_slots p r d))) x))
       ++ own line (fit_code tables range (value_at p tables r (lo + length (unless_bare o (desig_slots p r d))) x) ++ (set_by p tables r o lo (value_at p tables r (lo + length (unless_bare o (desig_slots p r d))) x) d ∷ []))
@@ -83,7 +83,7 @@ module _ (p : Program) (tables : Tables) (code : PlainCode) (input : List ℕ) (
       (target_after p tables code input below r line q o lo lo2 d a u u2 t t2 b1 behind (omega arith) left2 target) value i
       (λ t3 left3. ends_here p code input line 6 exit lo r (put_at u2 a (Number n)) t3 (Nothing p code input) tt q (begins p code input lo r t2 (put_at u2 a (Number n)) t3 left3) tt)))))))
 
-  pub assign_runs : (at lo : ℕ) (d : Desig) (x : Expr) (range : Range) → BareFits p tables code input below r line q (bare_desig d) → desig_cells d ≡ 1 → own_end p r ≤ lo → HasRange p tables code input below r line q range
+  pub assign_runs : (at lo : ℕ) (d : Desig) (x : Expr) (range : Range) → BareFits p tables code input below r line q (bare_desig d) → desig_cells d ≡ 1 → own_end p r ≤ lo → FitsRange p tables code input below r line q range
       → (bare_desig d ≡ None → DesigRuns p tables code input below r line q at lo d) → ((next : ℕ) → AtOnce p tables code input below r line q next (lo + length (unless_bare (bare_desig d) (desig_slots p r d))) x)
       → StmtRuns p tables code input below r line q at lo (Assign d x range)
   assign_runs at lo d x range fits cells behind has runs once = assign_of (bare_desig d) at lo d x range refl fits cells behind has runs once (stmt_code p tables r line at lo (Assign d x range)) refl

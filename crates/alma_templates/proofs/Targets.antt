@@ -29,7 +29,7 @@ use Rattle.alma_templates.specs.Tables.{Tables}
 use Rattle.alma_templates.specs.Slots.{bare, bare_desig, unless_bare, expr_slots, desig_slots, sels_slots, root_slots, behind_value}
 use Rattle.alma_templates.specs.Templates.{desig_code, place_at, part_at, behind_root, set_by}
 use Rattle.alma_templates.specs.Stands.{Stands}
-use Rattle.alma_templates.proofs.Parts.{Begins, Left, left_self, sound_after, place_after, IsValue, IsPlace, PlaceIn, NoNewPlaces, From, Takes, leaving, step_from, then_from, alone_from}
+use Rattle.alma_templates.proofs.Parts.{Begins, Left, left_self, put_position, sound_after, place_after, IsValue, IsPlace, PlaceIn, NoNewPlaces, From, Takes, leaving, step_from, then_from, alone_from}
 use Rattle.alma_templates.proofs.AtOnce.{BareFits, bare_place}
 use Rattle.alma_templates.proofs.FormRuns.{DesigRuns}
 
@@ -59,11 +59,15 @@ module _ (p : Program) (code : PlainCode) (input : List ℕ) where
           ap (λ n. get_or (set v f (with_cell old i (Number x))) n store_of.no_frame) same ∙ get_or-set_same v f (with_cell old i (Number x)) store_of.no_frame live in
           ap (λ n. cell_at v n j) same ∙ within (sym (ap (λ g. get_or g.cells j Unknown) here) ∙ sym (ap (λ z. cell_at z k j) is) ∙ e)
 
-  pub left_put : (lo r f i : ℕ) (x : ℤ) (v : Store) (now : List PlainFrame) → f < length v → i < length (get_or v f store_of.no_frame).cells → get_or (get_or now f picture.no_frame).kinds (shift_in p v f + i) slot.Mark ≡ slot.Number → is_integer x ≡ true
+  -- a variable of the routine on top is not the input position
+  pub top_free : (from r : ℕ) (v : Store) (now : List PlainFrame) → AreVariables p code input r from 1 → Begins p code input r v now → top v ≡ 0 → 0 < from
+  top_free from r v now variable b e = variable.free (sym b.routine ∙ ap (λ n. (get_or v n store_of.no_frame).routine) e ∙ b.stand.main)
+
+  pub left_put : (lo r f i : ℕ) (x : ℤ) (v : Store) (now : List PlainFrame) → f < length v → i < length (get_or v f store_of.no_frame).cells → get_or (get_or now f picture.no_frame).kinds (shift_in p v f + i) slot.Mark ≡ slot.Number → is_integer x ≡ true → (f ≡ 0 → 0 < i)
       → Begins p code input r v now → Left p code input lo r now (put v f i (Number x)) (written now f (shift_in p v f + i) (cell.Int x))
-  left_put lo r f i x v now live there kind integer b =
+  left_put lo r f i x v now live there kind integer free b =
       let fit : Fits p code lo now (put v f i (Number x)) (written now f (shift_in p v f + i) (cell.Int x)) = fits_put p code lo v now f i x live there kind integer b.stand in
-      record { fits = fit; routine = put_routine v f i (Number x) live ∙ b.routine; sound = sound_after p code input lo v (put v f i (Number x)) now (written now f (shift_in p v f + i) (cell.Int x)) b.stand fit (put_places v f i x live there) b.sound }
+      record { fits = fit; routine = put_routine v f i (Number x) live ∙ b.routine; sound = sound_after p code input lo v (put v f i (Number x)) now (written now f (shift_in p v f + i) (cell.Int x)) b.stand fit (put_places v f i x live there) (put_position p code input v f i (Number x) free) b.sound }
 
   module _ {B : Type 0} (line c at exit lo r : ℕ) (v : Store) (now : List PlainFrame) (x : ℤ) (yields : Store → B → List PlainFrame → Type 0) (e : Events B) (q : ℕ) (behind : own_end p r ≤ lo) (b : Begins p code input r v now) where
     -- a number goes into a place by one step, and the phrase goes on
@@ -77,7 +81,7 @@ module _ (p : Program) (code : PlainCode) (input : List ℕ) where
         let kind : get_or (get_or now a.frame picture.no_frame).kinds (sh + a.slot) slot.Mark ≡ slot.Number = ap (λ n. get_or (get_or now a.frame picture.no_frame).kinds n slot.Mark) (sym zero) ∙ h.numbers.kinds 0 some_cell in
         let t : List PlainFrame = written now a.frame (sh + a.slot) (cell.Int x) in
         let here : written now h.place.frame h.place.slot (cell.Int x) ≡ t = ap (λ f. written now f h.place.slot (cell.Int x)) (sym h.same.frame) ∙ ap (λ n. written now a.frame n (cell.Int x)) (sym h.same.slot) in
-        let left : Left p code input lo r now (put_at v a (Number x)) t = left_put lo r a.frame a.slot x v now h.numbers.frame there kind integer b in
+        let left : Left p code input lo r now (put_at v a (Number x)) t = left_put lo r a.frame a.slot x v now h.numbers.frame there kind integer h.numbers.free b in
         step_from p code input line c at (at + 1) exit lo r (put_at v a (Number x)) now t yields e q behind
         (λ held s is. let w = takes held s is in record { to = w.to; silently = w.silently; is = record { mode = w.is.mode; here = w.is.here; frames = w.is.frames ∙ here; entries = w.is.entries } })
         left (later t left)
@@ -100,7 +104,7 @@ module _ (p : Program) (code : PlainCode) (input : List ℕ) where
         let left : Left p code input lo r now (put_top v from (Number x)) t = record {
           fits = fit;
           routine = put_routine v (top v) from (Number x) live ∙ b.routine;
-          sound = sound_after p code input lo v (put_top v from (Number x)) now t b.stand fit (put_places v (top v) from x live (slot_within p code input r from variable v now b.stand b.routine)) b.sound;
+          sound = sound_after p code input lo v (put_top v from (Number x)) now t b.stand fit (put_places v (top v) from x live (slot_within p code input r from variable v now b.stand b.routine)) (put_position p code input v (top v) from (Number x) (top_free from r v now variable b)) b.sound;
         } in
         step_from p code input line c at (at + 1) exit lo r (put_top v from (Number x)) now t yields e q behind
         (λ held s is.

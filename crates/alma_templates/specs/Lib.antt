@@ -5,3 +5,4 @@ pub mod Pieces
 pub mod Templates
 pub mod Compiled
 pub mod Stands
+pub mod CodeOf

@@ -160,15 +160,16 @@ module _ (p : Program) (r : ℕ) where
     branches_slots no_branches = []
     branches_slots (more_branches body rest) = stmts_slots body ++ branches_slots rest
 
-    -- the step, the first count, the limit, the place of the variable, and the body
+    -- the step, the first count, the limit, the count of a turn and the place of the variable where it is not set in its own
+    -- slot, and the body
     pub for_slots : Loop → List SlotKind
     for_slots (a_loop d range counter limit from to by body) =
-        slot.Number ∷ (expr_slots from ++ (expr_slots to ++ (unless_bare (bare_desig d) (desig_slots d) ++ stmts_slots body)))
+        slot.Number ∷ (expr_slots from ++ (expr_slots to ++ (unless_bare (bare_desig d) (slot.Number ∷ desig_slots d) ++ stmts_slots body)))
 
     -- and behind the limit whether there are more turns
     pub some_slots : Loop → List SlotKind
     some_slots (a_loop d range counter limit from to by body) =
-        slot.Number ∷ (expr_slots from ++ (expr_slots to ++ (slot.Number ∷ (unless_bare (bare_desig d) (desig_slots d) ++ stmts_slots body))))
+        slot.Number ∷ (expr_slots from ++ (expr_slots to ++ (slot.Number ∷ (unless_bare (bare_desig d) (slot.Number ∷ desig_slots d) ++ stmts_slots body))))
 
     pub return_slots : ReturnExpr → List SlotKind
     return_slots no_result = []
@@ -262,6 +263,10 @@ module _ (p : Program) (r : ℕ) where
   -- of a designator that is written
   abbrev pub behind_target : (lo : ℕ) → Desig → ℕ
   behind_target lo d = lo + length (unless_bare (bare_desig d) (desig_slots d))
+
+  -- of the variable of a loop
+  abbrev pub behind_variable : (lo : ℕ) → Desig → ℕ
+  behind_variable lo d = lo + length (unless_bare (bare_desig d) (slot.Number ∷ desig_slots d))
 
 -- ---- the whole frame
 

@@ -11,7 +11,7 @@ use Rattle.alma_ir.specs.Checked.{outer_at}
 use Rattle.alma_ir.specs.Lines.{body_with_lines}
 use Rattle.alma_templates.specs.Lined.{Lined, own, in_row, leaving}
 use Rattle.alma_templates.specs.Tables.{Tables, range_number, text_number}
-use Rattle.alma_templates.specs.Slots.{shift_of, bare_desig, bare, unless_bare, is_simple, handed_slots, call_links, root_slots, arg_slots, behind_stmts, behind_stmt, behind_test, behind_condition, behind_expr, behind_value, behind_desig, behind_target, own_kinds}
+use Rattle.alma_templates.specs.Slots.{shift_of, bare_desig, bare, unless_bare, is_simple, handed_slots, call_links, root_slots, arg_slots, behind_stmts, behind_stmt, behind_test, behind_condition, behind_expr, behind_value, behind_desig, behind_target, behind_variable, own_kinds}
 use Rattle.alma_templates.specs.Pieces.{op_code, cmp_code, neg_code, write_code, read_code, fit_code, link_code, condition, guarded, chosen, first_of_two, refused, truth_code, each_body, forall_code, begin_loop, turn_code, for_turns, some_turns, behind_labels, case_arm, first_argument}
 
 -- the numbers of CHAR
@@ -105,6 +105,21 @@ module _ (p : Program) (tables : Tables) (r : ℕ) where
   abbrev pub load_code : (lo : ℕ) → Desig → Instr
   load_code lo d = load_by (bare_desig d) lo d
 
+  -- ---- the count of a turn
+
+  -- its slot: that of the counter where the variable is set in its own slot. Else it has a slot of its own, since the code that
+  -- locates the variable stands between
+  abbrev pub count_at : Option ℕ → (counter lo : ℕ) → ℕ
+  count_at (Some to) counter lo = counter
+  count_at None counter lo = lo
+
+  abbrev pub save_code : Option ℕ → (counter lo : ℕ) → List Instr
+  save_code (Some to) counter lo = []
+  save_code None counter lo = I.Move lo counter ∷ []
+
+  abbrev pub count_code : Option ℕ → Range → (counter lo : ℕ) → List Instr
+  count_code o range counter lo = save_code o counter lo ++ fit_code tables range (count_at o counter lo)
+
   -- ---- RETURN
 
   abbrev pub fit_result : Option Range → (value : ℕ) → List Instr
@@ -177,8 +192,8 @@ module _ (p : Program) (tables : Tables) (r : ℕ) where
         let place : ℕ = behind_expr p r last to in
         in_row at (begin_loop line at lo by (λ at. expr_code line at (lo + 1) from) (λ at. expr_code line at last to))
         (λ next. for_turns line next by (own_slot counter) (own_slot limit) lo (lo + 1) last
-        (turn_code line (next + 4) (fit_code tables range (own_slot counter)) (λ at. unless_bare (bare_desig d) (desig_code line at place d))
-        (set_code place (own_slot counter) d) (λ at. stmts_code at (behind_target p r place d) body)))
+        (turn_code line (next + 4) (count_code (bare_desig d) range (own_slot counter) place) (λ at. unless_bare (bare_desig d) (desig_code line at (place + 1) d))
+        (set_code (place + 1) (count_at (bare_desig d) (own_slot counter) place) d) (λ at. stmts_code at (behind_variable p r place d) body)))
 
     pub some_code : (line at lo : ℕ) → Loop → List Lined
     some_code line at lo (a_loop d range counter limit from to by body) =
@@ -186,8 +201,8 @@ module _ (p : Program) (tables : Tables) (r : ℕ) where
         let more : ℕ = behind_expr p r last to in
         in_row at (begin_loop line at lo (pos 1) (λ at. expr_code line at (lo + 1) from) (λ at. expr_code line at last to))
         (λ next. some_turns line next (own_slot counter) (own_slot limit) lo (lo + 1) last more
-        (turn_code line (next + 7) (fit_code tables range (own_slot counter)) (λ at. unless_bare (bare_desig d) (desig_code line at (more + 1) d))
-        (set_code (more + 1) (own_slot counter) d) (λ at. stmts_code at (behind_target p r (more + 1) d) body)))
+        (turn_code line (next + 7) (count_code (bare_desig d) range (own_slot counter) (more + 1)) (λ at. unless_bare (bare_desig d) (desig_code line at (more + 1 + 1) d))
+        (set_code (more + 1 + 1) (count_at (bare_desig d) (own_slot counter) (more + 1)) d) (λ at. stmts_code at (behind_variable p r (more + 1) d) body)))
 
     -- the first arm that has a label leaves over all, the others by its jump
     pub case_code : (line value bound at lo : ℕ) → CaseArms → (otherwise : (at lo : ℕ) → List Lined) → List Lined

@@ -68,7 +68,8 @@ pub fn names_routine<R: CodeReader>(reader: &R, kind: SlotKind) -> bool
 
 pub fn name_routines<R: CodeReader>(reader: &R, routine: u32) -> bool
     requires routine { routine < length (R.code reader.now).routines }
-    ensures { result ≡ list_all (λ run. names_routine_spec (R.code reader.now) run.kind) (head_at (R.code reader.now) routine).runs }
+    ensures { result ≡ list_all (λ run. names_routine_spec (R.code reader.now) run.kind)
+        (head_at (R.code reader.now) routine).runs }
 {
     for k in 0..reader.run_count(routine) {
         let run = reader.run(routine, k);
@@ -97,7 +98,8 @@ pub fn holds_param<R: CodeReader>(reader: &R, routine: u32, param: CodeParam, sl
     requires routine { routine < length (R.code reader.now).routines }
     requires table { IsTable (R.code reader.now) }
     requires slot { slot < 2 ^ 62 }
-    ensures { result ≡ holds_param_spec (kinds_at (R.code reader.now) routine) param.kind param.cells slot }
+    ensures { result ≡ holds_param_spec (kinds_at (R.code reader.now) routine) param.kind
+        param.cells slot }
 {
     match param.kind {
         ParamKind::Value => is_number(kind_of(reader, routine, slot)),
@@ -126,7 +128,8 @@ pub fn are_params<R: CodeReader>(reader: &R, routine: u32) -> bool
     requires routine { routine < length (R.code reader.now).routines }
     requires table { IsTable (R.code reader.now) }
     requires few { length (head_at (R.code reader.now) routine).params ≤ record_limit }
-    ensures { result ≡ hold_params (kinds_at (R.code reader.now) routine) (head_at (R.code reader.now) routine).params 0 }
+    ensures { result ≡ hold_params (kinds_at (R.code reader.now) routine)
+        (head_at (R.code reader.now) routine).params 0 }
 {
     let mut slot: u64 = 0;
     for k in 0..reader.param_count(routine) {

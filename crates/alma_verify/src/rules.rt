@@ -13,7 +13,8 @@ use alma_code::{CodeParam, Instr, ParamKind, Run, SlotKind, Word};
 pub fn run_over<R: CodeReader>(reader: &R, routine: u32, slot: u64) -> Option<Run>
     requires routine { routine < length (R.code reader.now).routines }
     requires table { IsTable (R.code reader.now) }
-    ensures { MatchOption result (kind_in (R.code reader.now) routine slot ≡ None) (λ r. Covers (kinds_at (R.code reader.now) routine) slot r) }
+    ensures { MatchOption result (kind_in (R.code reader.now) routine slot ≡ None)
+        (λ r. Covers (kinds_at (R.code reader.now) routine) slot r) }
 {
     let count = reader.run_count(routine);
     let mut low = 0;
@@ -423,7 +424,8 @@ pub fn fit_all<R: CodeReader>(reader: &R, routine: u32, callee: u32, first: u32)
     requires routine { routine < length (R.code reader.now).routines }
     requires callee { callee < length (R.code reader.now).routines }
     requires table { IsTable (R.code reader.now) }
-    ensures { result ≡ fit_arguments (R.code reader.now) routine (head_at (R.code reader.now) callee).params first }
+    ensures { result ≡ fit_arguments (R.code reader.now) routine
+        (head_at (R.code reader.now) callee).params first }
 {
     let count = reader.param_count(callee);
     for k in 0..count {

@@ -16,7 +16,8 @@ pub struct Verified<'b> {
 
 /// The view, exactly where its code is sound, and else the first rule that it breaks. It takes no memory.
 pub fn verify<'b>(view: ObjectView<'b>) -> Result<Verified<'b>, VerifyFault>
-    ensures fault { MatchResult result (λ verified. code_fault_of (code_of_view view.entry) ≡ None) (λ fault. code_fault_of (code_of_view view.entry) ≡ Some fault) }
+    ensures fault { MatchResult result (λ verified. code_fault_of (code_of_view view.entry) ≡ None)
+        (λ fault. code_fault_of (code_of_view view.entry) ≡ Some fault) }
     ensures view { IfOk result (λ verified. verified.view ≡ view.entry) }
     ensures sound { IfOk result (λ verified. IsSound (code_of_view view.entry)) }
     ensures complete { IsSound (code_of_view view.entry) → IsOk result }

@@ -19,7 +19,8 @@ pub fn instr_fault<R: CodeReader>(reader: &R, routine: u32, at: u32) -> Option<V
     requires routine { routine < length (R.code reader.now).routines }
     requires table { IsTable (R.code reader.now) }
     requires at { at < length (R.code reader.now).instrs }
-    ensures { result ≡ instr_fault_spec (R.code reader.now) routine at (get_or (R.code reader.now).instrs at I.Fail) }
+    ensures { result ≡ instr_fault_spec (R.code reader.now) routine at
+        (get_or (R.code reader.now).instrs at I.Fail) }
 {
     let instr = reader.instr(at);
     if !rule_4(reader, routine, instr) {

@@ -65,7 +65,8 @@ fn copy_global(alloc: Global, global: &GlobalView<'_>) -> Result<CodeGlobal, NoM
 impl<'b> ObjectView<'b> {
     #[tactic(auto, using(crate::proofs::Items::copy_steps))]
     fn copy_routines(&self, alloc: Global) -> Result<Vec<RoutineHead>, NoMemory>
-        ensures { IfOk result (λ routines. map routine_of routines.items ≡ (code_of_view self.now).routines) }
+        ensures { IfOk result (λ routines. map routine_of routines.items ≡
+            (code_of_view self.now).routines) }
     {
         let mut routines = Vec::new(alloc);
         for i in 0..self.header.routines {
@@ -77,7 +78,8 @@ impl<'b> ObjectView<'b> {
 
     #[tactic(auto, using(crate::proofs::Items::copy_steps))]
     fn copy_globals(&self, alloc: Global) -> Result<Vec<CodeGlobal>, NoMemory>
-        ensures { IfOk result (λ globals. map global_of globals.items ≡ (code_of_view self.now).globals) }
+        ensures { IfOk result (λ globals. map global_of globals.items ≡
+            (code_of_view self.now).globals) }
     {
         let mut globals = Vec::new(alloc);
         for i in 0..self.header.globals {
@@ -89,7 +91,8 @@ impl<'b> ObjectView<'b> {
 
     #[tactic(auto, using(crate::proofs::Items::copy_steps))]
     fn copy_texts(&self, alloc: Global) -> Result<Vec<Vec<u8>>, NoMemory>
-        ensures { IfOk result (λ texts. map (λ t. t.items) texts.items ≡ (code_of_view self.now).texts) }
+        ensures { IfOk result (λ texts. map (λ t. t.items) texts.items ≡
+            (code_of_view self.now).texts) }
     {
         let mut texts = Vec::new(alloc);
         for i in 0..self.header.texts {

@@ -46,7 +46,8 @@ impl<'b> ObjectView<'b> {
     /// The view of the bytes of an object, or the first fault of bytes that are none.
     #[tactic(auto, unfolding(crate::specs::Walk::object_fault))]
     pub fn new(bytes: &'b [u8]) -> Result<ObjectView<'b>, ObjectFault>
-        ensures fault { MatchResult result (λ view. object_fault bytes.now ≡ None) (λ fault. object_fault bytes.now ≡ Some fault) }
+        ensures fault { MatchResult result (λ view. object_fault bytes.now ≡ None)
+            (λ fault. object_fault bytes.now ≡ Some fault) }
         ensures object { IfOk result (λ view. IsObject (code_of_view view) bytes.now) }
     {
         let header = read_header(bytes)?;
@@ -162,8 +163,10 @@ impl<'b> ObjectView<'b> {
     /// A routine, which lends its name and its records.
     #[tactic(auto, using(crate::proofs::Items::item_steps))]
     pub fn routine(&self, i: u32) -> Option<RoutineView<'b>>
-        ensures routine { option_map routine_of_view result ≡ slice_get (code_of_view self.now).routines i }
-        ensures start { IfSome result (λ routine. routine.code_start ≡ start_at (code_of_view self.now) i) }
+        ensures routine { option_map routine_of_view result ≡ slice_get
+            (code_of_view self.now).routines i }
+        ensures start { IfSome result (λ routine. routine.code_start ≡ start_at
+            (code_of_view self.now) i) }
     {
         if i < self.header.routines {
             Some(self.routine_view(i))

@@ -1,931 +1,1659 @@
-mod Sums
-mod Primaries
-mod Designators
-mod Sequences
-mod Branches
-mod Turns
-use Rattle.alma_phrase.proofs.+phrases.Answers.Sums as sums
-use Rattle.alma_phrase.proofs.+phrases.Answers.Primaries as primaries
-use Rattle.alma_phrase.proofs.+phrases.Answers.Designators as designators
-use Rattle.alma_phrase.proofs.+phrases.Answers.Sequences as sequences
-use Rattle.alma_phrase.proofs.+phrases.Answers.Branches as branches
-use Rattle.alma_phrase.proofs.+phrases.Answers.Turns as turns
+-- Answers of the cycle of expressions and statements.
+use Rattle.std.proofs.Common.{◌∷◌, Ok, Err, length, refl, ap, sym, ◌∙◌, arith}
+use Rattle.alma_tree.specs.declared.kind.Kind.TheVariants as kinds
+use Rattle.alma_tree.specs.declared.phrase.Compared as dc
+use Rattle.alma_tree.specs.Tree as tree
+use Rattle.alma_tree.specs.Spelling.{spell_expr, spell_compared, spell_sign, spell_simple, spell_term_tail, spell_term, spell_primary, spell_exprs, spell_desig}
+use Rattle.alma_tree.specs.Spelling.{spell_selector, spell_stmt, spell_else, spell_by, spell_returned, spell_arm, spell_label, spell_high}
+use Rattle.alma_tree.specs.View.{view_expr, compared_of, view_simple, terms_of, view_term, view_primary, view_desig, view_selector, view_stmt, else_of, by_of}
+use Rattle.alma_tree.specs.View.{returned_of, view_arm, high_of}
+use Rattle.alma_tree.specs.Numbers.{token, node, ◌>>◌, number_name, number_sign, number_stmts, number_stmt, number_arm, number_expr, number_simple}
+use Rattle.alma_tree.specs.Numbers.{number_term, number_primary, number_exprs, number_desig, number_selector, numbers_of_terms, numbers_of_by, numbers_of_else}
+use Rattle.alma_tree.specs.Numbers.{numbers_of_compared, numbers_of_high, numbers_of_returned}
+use Rattle.alma_tree.proofs.Rows as rows
+use Rattle.alma_tree.proofs.NumberRows as numbers
+use Rattle.alma_grammar.specs.Parts.{one, primary_part, factor_tail, term_tail, compared_part, args_part, stmt_part, arm_part, after_desig}
+use Rattle.alma_grammar.specs.Parts.{expr_parts, desig_parts, stmts_parts}
+use Rattle.alma_cursor.specs.Forms as forms
+use Rattle.alma_cursor.proofs.Joins.{followed, behind, ended}
+use Rattle.alma_cursor.proofs.Loops as loops
+use Rattle.alma_cursor.proofs.Loops.{grouped}
+use Rattle.alma_cursor.proofs.Steps.{passed, opened, closed_any, counted, then, same, replaced, skipped, becoming, extending, twice, after, first}
+use Rattle.alma_cursor.proofs.Steps.{becoming_fails, beyond, instead, instead_any, extended, extended_twice, instead_extending, extended_by, shallower, strictly}
+use Rattle.alma_cursor.proofs.Turns.{want}
+use Rattle.alma_phrase.proofs.Chain.{plain, closing, matching, ended_behind, at_depth, fewer, stopped}
+use Rattle.alma_phrase.proofs.Heads as heads
+use Rattle.alma_phrase.proofs.Lists as lists
+use Rattle.alma_phrase.proofs.Values.{a_name, an_expr, some_exprs, a_desig, some_stmts, more_terms, more_factors, more_selectors, more_stmts, more_labels}
+use Rattle.alma_phrase.proofs.Values.{more_orelses, more_desigs, count_terms, count_factors, count_selectors, count_stmts, count_labels, count_orelses}
+use Rattle.alma_phrase.proofs.Values.{count_desigs}
 use Rattle.alma_phrase.proofs.+phrases.Goals as goal
 
-pub statement::if_stmt-returns-in_err-at : goal.statement::if_stmt-returns-in_err-at
-statement::if_stmt-returns-in_err-at = branches.statement::if_stmt-returns-in_err-at
-
-pub statement::if_stmt-returns-in_err-test : goal.statement::if_stmt-returns-in_err-test
-statement::if_stmt-returns-in_err-test = branches.statement::if_stmt-returns-in_err-test
-
-pub statement::if_stmt-returns-in_err-at-2 : goal.statement::if_stmt-returns-in_err-at-2
-statement::if_stmt-returns-in_err-at-2 = branches.statement::if_stmt-returns-in_err-at-2
-
-pub statement::if_stmt-returns-in_err-then : goal.statement::if_stmt-returns-in_err-then
-statement::if_stmt-returns-in_err-then = branches.statement::if_stmt-returns-in_err-then
-
-pub statement::if_stmt-returns-in_err-elsifs : goal.statement::if_stmt-returns-in_err-elsifs
-statement::if_stmt-returns-in_err-elsifs = branches.statement::if_stmt-returns-in_err-elsifs
-
-pub statement::if_stmt-returns-in_err-otherwise : goal.statement::if_stmt-returns-in_err-otherwise
-statement::if_stmt-returns-in_err-otherwise = branches.statement::if_stmt-returns-in_err-otherwise
-
-pub statement::if_stmt-returns-in_err-at-3 : goal.statement::if_stmt-returns-in_err-at-3
-statement::if_stmt-returns-in_err-at-3 = branches.statement::if_stmt-returns-in_err-at-3
-
-pub statement::if_stmt-returns-in_err-node : goal.statement::if_stmt-returns-in_err-node
-statement::if_stmt-returns-in_err-node = branches.statement::if_stmt-returns-in_err-node
-
-pub statement::if_stmt-returns : goal.statement::if_stmt-returns
-statement::if_stmt-returns = branches.statement::if_stmt-returns
-
-pub statement::while_stmt-returns-in_err-at : goal.statement::while_stmt-returns-in_err-at
-statement::while_stmt-returns-in_err-at = turns.statement::while_stmt-returns-in_err-at
-
-pub statement::while_stmt-returns-in_err-test : goal.statement::while_stmt-returns-in_err-test
-statement::while_stmt-returns-in_err-test = turns.statement::while_stmt-returns-in_err-test
-
-pub statement::while_stmt-returns-in_err-at-2 : goal.statement::while_stmt-returns-in_err-at-2
-statement::while_stmt-returns-in_err-at-2 = turns.statement::while_stmt-returns-in_err-at-2
-
-pub statement::while_stmt-returns-in_err-body : goal.statement::while_stmt-returns-in_err-body
-statement::while_stmt-returns-in_err-body = turns.statement::while_stmt-returns-in_err-body
-
-pub statement::while_stmt-returns-in_err-at-3 : goal.statement::while_stmt-returns-in_err-at-3
-statement::while_stmt-returns-in_err-at-3 = turns.statement::while_stmt-returns-in_err-at-3
-
-pub statement::while_stmt-returns-in_err-node : goal.statement::while_stmt-returns-in_err-node
-statement::while_stmt-returns-in_err-node = turns.statement::while_stmt-returns-in_err-node
-
-pub statement::while_stmt-returns : goal.statement::while_stmt-returns
-statement::while_stmt-returns = turns.statement::while_stmt-returns
-
-pub statement::repeat_stmt-returns-in_err-at : goal.statement::repeat_stmt-returns-in_err-at
-statement::repeat_stmt-returns-in_err-at = turns.statement::repeat_stmt-returns-in_err-at
-
-pub statement::repeat_stmt-returns-in_err-body : goal.statement::repeat_stmt-returns-in_err-body
-statement::repeat_stmt-returns-in_err-body = turns.statement::repeat_stmt-returns-in_err-body
-
-pub statement::repeat_stmt-returns-in_err-at-2 : goal.statement::repeat_stmt-returns-in_err-at-2
-statement::repeat_stmt-returns-in_err-at-2 = turns.statement::repeat_stmt-returns-in_err-at-2
-
-pub statement::repeat_stmt-returns-in_err-test : goal.statement::repeat_stmt-returns-in_err-test
-statement::repeat_stmt-returns-in_err-test = turns.statement::repeat_stmt-returns-in_err-test
-
-pub statement::repeat_stmt-returns-in_err-node : goal.statement::repeat_stmt-returns-in_err-node
-statement::repeat_stmt-returns-in_err-node = turns.statement::repeat_stmt-returns-in_err-node
-
-pub statement::repeat_stmt-returns : goal.statement::repeat_stmt-returns
-statement::repeat_stmt-returns = turns.statement::repeat_stmt-returns
-
-pub statement::for_stmt-returns-in_err-at : goal.statement::for_stmt-returns-in_err-at
-statement::for_stmt-returns-in_err-at = turns.statement::for_stmt-returns-in_err-at
-
-pub statement::for_stmt-returns-in_err-variable : goal.statement::for_stmt-returns-in_err-variable
-statement::for_stmt-returns-in_err-variable = turns.statement::for_stmt-returns-in_err-variable
-
-pub statement::for_stmt-returns-in_err-at-2 : goal.statement::for_stmt-returns-in_err-at-2
-statement::for_stmt-returns-in_err-at-2 = turns.statement::for_stmt-returns-in_err-at-2
-
-pub statement::for_stmt-returns-in_err-from : goal.statement::for_stmt-returns-in_err-from
-statement::for_stmt-returns-in_err-from = turns.statement::for_stmt-returns-in_err-from
-
-pub statement::for_stmt-returns-in_err-at-3 : goal.statement::for_stmt-returns-in_err-at-3
-statement::for_stmt-returns-in_err-at-3 = turns.statement::for_stmt-returns-in_err-at-3
-
-pub statement::for_stmt-returns-in_err-to : goal.statement::for_stmt-returns-in_err-to
-statement::for_stmt-returns-in_err-to = turns.statement::for_stmt-returns-in_err-to
-
-pub statement::for_stmt-returns-in_err-by : goal.statement::for_stmt-returns-in_err-by
-statement::for_stmt-returns-in_err-by = turns.statement::for_stmt-returns-in_err-by
-
-pub statement::for_stmt-returns-in_err-at-4 : goal.statement::for_stmt-returns-in_err-at-4
-statement::for_stmt-returns-in_err-at-4 = turns.statement::for_stmt-returns-in_err-at-4
-
-pub statement::for_stmt-returns-in_err-body : goal.statement::for_stmt-returns-in_err-body
-statement::for_stmt-returns-in_err-body = turns.statement::for_stmt-returns-in_err-body
-
-pub statement::for_stmt-returns-in_err-at-5 : goal.statement::for_stmt-returns-in_err-at-5
-statement::for_stmt-returns-in_err-at-5 = turns.statement::for_stmt-returns-in_err-at-5
-
-pub statement::for_stmt-returns-in_err-node : goal.statement::for_stmt-returns-in_err-node
-statement::for_stmt-returns-in_err-node = turns.statement::for_stmt-returns-in_err-node
-
-pub statement::for_stmt-returns : goal.statement::for_stmt-returns
-statement::for_stmt-returns = turns.statement::for_stmt-returns
-
-pub statement::some_stmt-returns-in_err-at : goal.statement::some_stmt-returns-in_err-at
-statement::some_stmt-returns-in_err-at = turns.statement::some_stmt-returns-in_err-at
-
-pub statement::some_stmt-returns-in_err-variable : goal.statement::some_stmt-returns-in_err-variable
-statement::some_stmt-returns-in_err-variable = turns.statement::some_stmt-returns-in_err-variable
-
-pub statement::some_stmt-returns-in_err-at-2 : goal.statement::some_stmt-returns-in_err-at-2
-statement::some_stmt-returns-in_err-at-2 = turns.statement::some_stmt-returns-in_err-at-2
-
-pub statement::some_stmt-returns-in_err-from : goal.statement::some_stmt-returns-in_err-from
-statement::some_stmt-returns-in_err-from = turns.statement::some_stmt-returns-in_err-from
-
-pub statement::some_stmt-returns-in_err-at-3 : goal.statement::some_stmt-returns-in_err-at-3
-statement::some_stmt-returns-in_err-at-3 = turns.statement::some_stmt-returns-in_err-at-3
-
-pub statement::some_stmt-returns-in_err-to : goal.statement::some_stmt-returns-in_err-to
-statement::some_stmt-returns-in_err-to = turns.statement::some_stmt-returns-in_err-to
-
-pub statement::some_stmt-returns-in_err-at-4 : goal.statement::some_stmt-returns-in_err-at-4
-statement::some_stmt-returns-in_err-at-4 = turns.statement::some_stmt-returns-in_err-at-4
-
-pub statement::some_stmt-returns-in_err-body : goal.statement::some_stmt-returns-in_err-body
-statement::some_stmt-returns-in_err-body = turns.statement::some_stmt-returns-in_err-body
-
-pub statement::some_stmt-returns-in_err-at-5 : goal.statement::some_stmt-returns-in_err-at-5
-statement::some_stmt-returns-in_err-at-5 = turns.statement::some_stmt-returns-in_err-at-5
-
-pub statement::some_stmt-returns-in_err-node : goal.statement::some_stmt-returns-in_err-node
-statement::some_stmt-returns-in_err-node = turns.statement::some_stmt-returns-in_err-node
-
-pub statement::some_stmt-returns : goal.statement::some_stmt-returns
-statement::some_stmt-returns = turns.statement::some_stmt-returns
-
-pub statement::case_stmt-returns-in_err-at : goal.statement::case_stmt-returns-in_err-at
-statement::case_stmt-returns-in_err-at = branches.statement::case_stmt-returns-in_err-at
-
-pub statement::case_stmt-returns-in_err-value : goal.statement::case_stmt-returns-in_err-value
-statement::case_stmt-returns-in_err-value = branches.statement::case_stmt-returns-in_err-value
-
-pub statement::case_stmt-returns-in_err-at-2 : goal.statement::case_stmt-returns-in_err-at-2
-statement::case_stmt-returns-in_err-at-2 = branches.statement::case_stmt-returns-in_err-at-2
-
-pub statement::case_stmt-returns-in_err-first : goal.statement::case_stmt-returns-in_err-first
-statement::case_stmt-returns-in_err-first = branches.statement::case_stmt-returns-in_err-first
-
-pub statement::case_stmt-returns-in_err-more : goal.statement::case_stmt-returns-in_err-more
-statement::case_stmt-returns-in_err-more = branches.statement::case_stmt-returns-in_err-more
-
-pub statement::case_stmt-returns-in_err-otherwise : goal.statement::case_stmt-returns-in_err-otherwise
-statement::case_stmt-returns-in_err-otherwise = branches.statement::case_stmt-returns-in_err-otherwise
-
-pub statement::case_stmt-returns-in_err-at-3 : goal.statement::case_stmt-returns-in_err-at-3
-statement::case_stmt-returns-in_err-at-3 = branches.statement::case_stmt-returns-in_err-at-3
-
-pub statement::case_stmt-returns-in_err-node : goal.statement::case_stmt-returns-in_err-node
-statement::case_stmt-returns-in_err-node = branches.statement::case_stmt-returns-in_err-node
-
-pub statement::case_stmt-returns : goal.statement::case_stmt-returns
-statement::case_stmt-returns = branches.statement::case_stmt-returns
-
-pub statement::either_stmt-returns-in_err-at : goal.statement::either_stmt-returns-in_err-at
-statement::either_stmt-returns-in_err-at = turns.statement::either_stmt-returns-in_err-at
-
-pub statement::either_stmt-returns-in_err-first : goal.statement::either_stmt-returns-in_err-first
-statement::either_stmt-returns-in_err-first = turns.statement::either_stmt-returns-in_err-first
-
-pub statement::either_stmt-returns-in_err-more : goal.statement::either_stmt-returns-in_err-more
-statement::either_stmt-returns-in_err-more = turns.statement::either_stmt-returns-in_err-more
-
-pub statement::either_stmt-returns-in_err-at-2 : goal.statement::either_stmt-returns-in_err-at-2
-statement::either_stmt-returns-in_err-at-2 = turns.statement::either_stmt-returns-in_err-at-2
-
-pub statement::either_stmt-returns-in_err-node : goal.statement::either_stmt-returns-in_err-node
-statement::either_stmt-returns-in_err-node = turns.statement::either_stmt-returns-in_err-node
-
-pub statement::either_stmt-returns : goal.statement::either_stmt-returns
-statement::either_stmt-returns = turns.statement::either_stmt-returns
-
-pub statement::forall_stmt-returns-in_err-at : goal.statement::forall_stmt-returns-in_err-at
-statement::forall_stmt-returns-in_err-at = turns.statement::forall_stmt-returns-in_err-at
-
-pub statement::forall_stmt-returns-in_err-choice : goal.statement::forall_stmt-returns-in_err-choice
-statement::forall_stmt-returns-in_err-choice = turns.statement::forall_stmt-returns-in_err-choice
-
-pub statement::forall_stmt-returns-in_err-at-2 : goal.statement::forall_stmt-returns-in_err-at-2
-statement::forall_stmt-returns-in_err-at-2 = turns.statement::forall_stmt-returns-in_err-at-2
-
-pub statement::forall_stmt-returns-in_err-body : goal.statement::forall_stmt-returns-in_err-body
-statement::forall_stmt-returns-in_err-body = turns.statement::forall_stmt-returns-in_err-body
-
-pub statement::forall_stmt-returns-in_err-at-3 : goal.statement::forall_stmt-returns-in_err-at-3
-statement::forall_stmt-returns-in_err-at-3 = turns.statement::forall_stmt-returns-in_err-at-3
-
-pub statement::forall_stmt-returns-in_err-node : goal.statement::forall_stmt-returns-in_err-node
-statement::forall_stmt-returns-in_err-node = turns.statement::forall_stmt-returns-in_err-node
-
-pub statement::forall_stmt-returns : goal.statement::forall_stmt-returns
-statement::forall_stmt-returns = turns.statement::forall_stmt-returns
-
-pub statement::commit_stmt-returns-in_err-at : goal.statement::commit_stmt-returns-in_err-at
-statement::commit_stmt-returns-in_err-at = turns.statement::commit_stmt-returns-in_err-at
-
-pub statement::commit_stmt-returns-in_err-body : goal.statement::commit_stmt-returns-in_err-body
-statement::commit_stmt-returns-in_err-body = turns.statement::commit_stmt-returns-in_err-body
-
-pub statement::commit_stmt-returns-in_err-at-2 : goal.statement::commit_stmt-returns-in_err-at-2
-statement::commit_stmt-returns-in_err-at-2 = turns.statement::commit_stmt-returns-in_err-at-2
-
-pub statement::commit_stmt-returns-in_err-node : goal.statement::commit_stmt-returns-in_err-node
-statement::commit_stmt-returns-in_err-node = turns.statement::commit_stmt-returns-in_err-node
-
-pub statement::commit_stmt-returns : goal.statement::commit_stmt-returns
-statement::commit_stmt-returns = turns.statement::commit_stmt-returns
-
-pub statement::return_stmt-returns-in_err-at : goal.statement::return_stmt-returns-in_err-at
-statement::return_stmt-returns-in_err-at = designators.statement::return_stmt-returns-in_err-at
-
-pub statement::return_stmt-returns-in_err-value : goal.statement::return_stmt-returns-in_err-value
-statement::return_stmt-returns-in_err-value = designators.statement::return_stmt-returns-in_err-value
-
-pub statement::return_stmt-returns-in_err-node : goal.statement::return_stmt-returns-in_err-node
-statement::return_stmt-returns-in_err-node = designators.statement::return_stmt-returns-in_err-node
-
-pub statement::return_stmt-returns : goal.statement::return_stmt-returns
-statement::return_stmt-returns = designators.statement::return_stmt-returns
-
-pub statement::read_stmt-returns-in_err-at : goal.statement::read_stmt-returns-in_err-at
-statement::read_stmt-returns-in_err-at = designators.statement::read_stmt-returns-in_err-at
-
-pub statement::read_stmt-returns-in_err-at-2 : goal.statement::read_stmt-returns-in_err-at-2
-statement::read_stmt-returns-in_err-at-2 = designators.statement::read_stmt-returns-in_err-at-2
-
-pub statement::read_stmt-returns-in_err-first : goal.statement::read_stmt-returns-in_err-first
-statement::read_stmt-returns-in_err-first = designators.statement::read_stmt-returns-in_err-first
-
-pub statement::read_stmt-returns-in_err-more : goal.statement::read_stmt-returns-in_err-more
-statement::read_stmt-returns-in_err-more = designators.statement::read_stmt-returns-in_err-more
-
-pub statement::read_stmt-returns-in_err-at-3 : goal.statement::read_stmt-returns-in_err-at-3
-statement::read_stmt-returns-in_err-at-3 = designators.statement::read_stmt-returns-in_err-at-3
-
-pub statement::read_stmt-returns-in_err-node : goal.statement::read_stmt-returns-in_err-node
-statement::read_stmt-returns-in_err-node = designators.statement::read_stmt-returns-in_err-node
-
-pub statement::read_stmt-returns : goal.statement::read_stmt-returns
-statement::read_stmt-returns = designators.statement::read_stmt-returns
-
-pub statement::write_stmt-returns-in_err-at : goal.statement::write_stmt-returns-in_err-at
-statement::write_stmt-returns-in_err-at = designators.statement::write_stmt-returns-in_err-at
-
-pub statement::write_stmt-returns-in_err-at-2 : goal.statement::write_stmt-returns-in_err-at-2
-statement::write_stmt-returns-in_err-at-2 = designators.statement::write_stmt-returns-in_err-at-2
-
-pub statement::write_stmt-returns-in_err-items : goal.statement::write_stmt-returns-in_err-items
-statement::write_stmt-returns-in_err-items = designators.statement::write_stmt-returns-in_err-items
-
-pub statement::write_stmt-returns-in_err-at-3 : goal.statement::write_stmt-returns-in_err-at-3
-statement::write_stmt-returns-in_err-at-3 = designators.statement::write_stmt-returns-in_err-at-3
-
-pub statement::write_stmt-returns-in_err-node : goal.statement::write_stmt-returns-in_err-node
-statement::write_stmt-returns-in_err-node = designators.statement::write_stmt-returns-in_err-node
-
-pub statement::write_stmt-returns : goal.statement::write_stmt-returns
-statement::write_stmt-returns = designators.statement::write_stmt-returns
-
-pub statement::writeln_stmt-returns-in_err-at : goal.statement::writeln_stmt-returns-in_err-at
-statement::writeln_stmt-returns-in_err-at = designators.statement::writeln_stmt-returns-in_err-at
-
-pub statement::writeln_stmt-returns-in_err-items : goal.statement::writeln_stmt-returns-in_err-items
-statement::writeln_stmt-returns-in_err-items = designators.statement::writeln_stmt-returns-in_err-items
-
-pub statement::writeln_stmt-returns-in_err-node : goal.statement::writeln_stmt-returns-in_err-node
-statement::writeln_stmt-returns-in_err-node = designators.statement::writeln_stmt-returns-in_err-node
-
-pub statement::writeln_stmt-returns : goal.statement::writeln_stmt-returns
-statement::writeln_stmt-returns = designators.statement::writeln_stmt-returns
-
-pub statement::value_stmt-returns-in_err-value : goal.statement::value_stmt-returns-in_err-value
-statement::value_stmt-returns-in_err-value = sequences.statement::value_stmt-returns-in_err-value
-
-pub statement::value_stmt-returns-in_err-node : goal.statement::value_stmt-returns-in_err-node
-statement::value_stmt-returns-in_err-node = sequences.statement::value_stmt-returns-in_err-node
-
-pub statement::value_stmt-returns : goal.statement::value_stmt-returns
-statement::value_stmt-returns = sequences.statement::value_stmt-returns
-
-pub statement::stmts-returns-in_err-first : goal.statement::stmts-returns-in_err-first
-statement::stmts-returns-in_err-first = sequences.statement::stmts-returns-in_err-first
-
-pub statement::stmts-returns-in_err-more : goal.statement::stmts-returns-in_err-more
-statement::stmts-returns-in_err-more = sequences.statement::stmts-returns-in_err-more
-
-pub statement::stmts-returns-in_err-node : goal.statement::stmts-returns-in_err-node
-statement::stmts-returns-in_err-node = sequences.statement::stmts-returns-in_err-node
-
-pub statement::stmts-returns : goal.statement::stmts-returns
-statement::stmts-returns = sequences.statement::stmts-returns
-
-pub statement::labelled_arm-returns-in_err-first : goal.statement::labelled_arm-returns-in_err-first
-statement::labelled_arm-returns-in_err-first = branches.statement::labelled_arm-returns-in_err-first
-
-pub statement::labelled_arm-returns-in_err-more : goal.statement::labelled_arm-returns-in_err-more
-statement::labelled_arm-returns-in_err-more = branches.statement::labelled_arm-returns-in_err-more
-
-pub statement::labelled_arm-returns-in_err-at : goal.statement::labelled_arm-returns-in_err-at
-statement::labelled_arm-returns-in_err-at = branches.statement::labelled_arm-returns-in_err-at
-
-pub statement::labelled_arm-returns-in_err-body : goal.statement::labelled_arm-returns-in_err-body
-statement::labelled_arm-returns-in_err-body = branches.statement::labelled_arm-returns-in_err-body
-
-pub statement::labelled_arm-returns-in_err-node : goal.statement::labelled_arm-returns-in_err-node
-statement::labelled_arm-returns-in_err-node = branches.statement::labelled_arm-returns-in_err-node
-
-pub statement::labelled_arm-returns : goal.statement::labelled_arm-returns
-statement::labelled_arm-returns = branches.statement::labelled_arm-returns
-
-pub statement::label-returns-in_err-low : goal.statement::label-returns-in_err-low
-statement::label-returns-in_err-low = branches.statement::label-returns-in_err-low
-
-pub statement::label-returns-in_err-high : goal.statement::label-returns-in_err-high
-statement::label-returns-in_err-high = branches.statement::label-returns-in_err-high
-
-pub statement::label-returns-in_err-node : goal.statement::label-returns-in_err-node
-statement::label-returns-in_err-node = branches.statement::label-returns-in_err-node
-
-pub statement::label-returns : goal.statement::label-returns
-statement::label-returns = branches.statement::label-returns
-
-pub expression::paren-returns-in_err-at : goal.expression::paren-returns-in_err-at
-expression::paren-returns-in_err-at = primaries.expression::paren-returns-in_err-at
-
-pub expression::paren-returns-in_err-body : goal.expression::paren-returns-in_err-body
-expression::paren-returns-in_err-body = primaries.expression::paren-returns-in_err-body
-
-pub expression::paren-returns-in_err-at-2 : goal.expression::paren-returns-in_err-at-2
-expression::paren-returns-in_err-at-2 = primaries.expression::paren-returns-in_err-at-2
-
-pub expression::paren-returns-in_err-node : goal.expression::paren-returns-in_err-node
-expression::paren-returns-in_err-node = primaries.expression::paren-returns-in_err-node
-
-pub expression::paren-returns : goal.expression::paren-returns
-expression::paren-returns = primaries.expression::paren-returns
-
-pub expression::known-returns-in_err-at : goal.expression::known-returns-in_err-at
-expression::known-returns-in_err-at = primaries.expression::known-returns-in_err-at
-
-pub expression::known-returns-in_err-at-2 : goal.expression::known-returns-in_err-at-2
-expression::known-returns-in_err-at-2 = primaries.expression::known-returns-in_err-at-2
-
-pub expression::known-returns-in_err-desig : goal.expression::known-returns-in_err-desig
-expression::known-returns-in_err-desig = primaries.expression::known-returns-in_err-desig
-
-pub expression::known-returns-in_err-at-3 : goal.expression::known-returns-in_err-at-3
-expression::known-returns-in_err-at-3 = primaries.expression::known-returns-in_err-at-3
-
-pub expression::known-returns-in_err-node : goal.expression::known-returns-in_err-node
-expression::known-returns-in_err-node = primaries.expression::known-returns-in_err-node
-
-pub expression::known-returns : goal.expression::known-returns
-expression::known-returns = primaries.expression::known-returns
-
-pub expression::ord-returns-in_err-at : goal.expression::ord-returns-in_err-at
-expression::ord-returns-in_err-at = primaries.expression::ord-returns-in_err-at
-
-pub expression::ord-returns-in_err-at-2 : goal.expression::ord-returns-in_err-at-2
-expression::ord-returns-in_err-at-2 = primaries.expression::ord-returns-in_err-at-2
-
-pub expression::ord-returns-in_err-value : goal.expression::ord-returns-in_err-value
-expression::ord-returns-in_err-value = primaries.expression::ord-returns-in_err-value
-
-pub expression::ord-returns-in_err-at-3 : goal.expression::ord-returns-in_err-at-3
-expression::ord-returns-in_err-at-3 = primaries.expression::ord-returns-in_err-at-3
-
-pub expression::ord-returns-in_err-node : goal.expression::ord-returns-in_err-node
-expression::ord-returns-in_err-node = primaries.expression::ord-returns-in_err-node
-
-pub expression::ord-returns : goal.expression::ord-returns
-expression::ord-returns = primaries.expression::ord-returns
-
-pub expression::chr-returns-in_err-at : goal.expression::chr-returns-in_err-at
-expression::chr-returns-in_err-at = primaries.expression::chr-returns-in_err-at
-
-pub expression::chr-returns-in_err-at-2 : goal.expression::chr-returns-in_err-at-2
-expression::chr-returns-in_err-at-2 = primaries.expression::chr-returns-in_err-at-2
-
-pub expression::chr-returns-in_err-value : goal.expression::chr-returns-in_err-value
-expression::chr-returns-in_err-value = primaries.expression::chr-returns-in_err-value
-
-pub expression::chr-returns-in_err-at-3 : goal.expression::chr-returns-in_err-at-3
-expression::chr-returns-in_err-at-3 = primaries.expression::chr-returns-in_err-at-3
-
-pub expression::chr-returns-in_err-node : goal.expression::chr-returns-in_err-node
-expression::chr-returns-in_err-node = primaries.expression::chr-returns-in_err-node
-
-pub expression::chr-returns : goal.expression::chr-returns
-expression::chr-returns = primaries.expression::chr-returns
-
-pub expression::exprs-returns-in_err-first : goal.expression::exprs-returns-in_err-first
-expression::exprs-returns-in_err-first = primaries.expression::exprs-returns-in_err-first
-
-pub expression::exprs-returns-in_err-more : goal.expression::exprs-returns-in_err-more
-expression::exprs-returns-in_err-more = primaries.expression::exprs-returns-in_err-more
-
-pub expression::exprs-returns : goal.expression::exprs-returns
-expression::exprs-returns = primaries.expression::exprs-returns
-
-pub expression::desig-returns-in_err-name : goal.expression::desig-returns-in_err-name
-expression::desig-returns-in_err-name = designators.expression::desig-returns-in_err-name
-
-pub expression::desig-returns-in_err-more : goal.expression::desig-returns-in_err-more
-expression::desig-returns-in_err-more = designators.expression::desig-returns-in_err-more
-
-pub expression::desig-returns-in_err-node : goal.expression::desig-returns-in_err-node
-expression::desig-returns-in_err-node = designators.expression::desig-returns-in_err-node
-
-pub expression::desig-returns : goal.expression::desig-returns
-expression::desig-returns = designators.expression::desig-returns
-
-pub expression::index-returns-in_err-at-clause-read : goal.expression::index-returns-in_err-at-clause-read
-expression::index-returns-in_err-at-clause-read = designators.expression::index-returns-in_err-at-clause-read
-
-pub expression::index-returns-in_err-indices-clause-read : goal.expression::index-returns-in_err-indices-clause-read
-expression::index-returns-in_err-indices-clause-read = designators.expression::index-returns-in_err-indices-clause-read
-
-pub expression::index-returns-in_err-at-2-clause-read : goal.expression::index-returns-in_err-at-2-clause-read
-expression::index-returns-in_err-at-2-clause-read = designators.expression::index-returns-in_err-at-2-clause-read
-
-pub expression::index-returns-in_err-node-clause-read : goal.expression::index-returns-in_err-node-clause-read
-expression::index-returns-in_err-node-clause-read = designators.expression::index-returns-in_err-node-clause-read
-
-pub expression::index-returns-clause-read : goal.expression::index-returns-clause-read
-expression::index-returns-clause-read = designators.expression::index-returns-clause-read
-
 pub expression::expr_from-returns-in_err-right : goal.expression::expr_from-returns-in_err-right
-expression::expr_from-returns-in_err-right = sums.expression::expr_from-returns-in_err-right
-
-pub expression::expr_from-returns-in_err-node : goal.expression::expr_from-returns-in_err-node
-expression::expr_from-returns-in_err-node = sums.expression::expr_from-returns-in_err-node
+expression::expr_from-returns-in_err-right t c = record {
+  read = stopped _ _ _ _ c.from_residual.ensures.1 (ended (λ v. spell_compared (compared_of
+      v)) numbers_of_compared _ _ _ _ c.compared.result (Err _) c.in_err-right.ensures.numbered c.compared.ensures.read);
+}
 
 pub expression::expr_from-returns : goal.expression::expr_from-returns
-expression::expr_from-returns = sums.expression::expr_from-returns
+expression::expr_from-returns t c = record {
+  read = extending (ap spell_expr (rows.expr_rolled (record {
+    node = c.in_ok-right.node;
+    left =
+        c.args.left;
+    right = c.in_ok-right.right;
+  }))) (numbers.expr_rolled (record {
+    node = c.in_ok-right.node;
+    left = c.args.left;
+    right =
+        c.in_ok-right.right;
+  })) (ended (λ v. spell_compared (compared_of v)) numbers_of_compared _ _ _ _ c.compared.result (Ok _)
+      c.in_ok-right.ensures.numbered c.compared.ensures.read);
+}
 
 pub expression::term_from-returns-in_err-more : goal.expression::term_from-returns-in_err-more
-expression::term_from-returns-in_err-more = sums.expression::term_from-returns-in_err-more
-
-pub expression::term_from-returns-in_err-node : goal.expression::term_from-returns-in_err-node
-expression::term_from-returns-in_err-node = sums.expression::term_from-returns-in_err-node
+expression::term_from-returns-in_err-more t c = record {
+  read = stopped _ _ _ _ c.from_residual.ensures.1 (ended more_factors count_factors _ _ _ _
+      c.factors.result (Err _) c.in_err-more.ensures.numbered c.factors.ensures.read);
+}
 
 pub expression::term_from-returns : goal.expression::term_from-returns
-expression::term_from-returns = sums.expression::term_from-returns
-
-pub expression::named-returns-in_err-args : goal.expression::named-returns-in_err-args
-expression::named-returns-in_err-args = primaries.expression::named-returns-in_err-args
-
-pub expression::named-returns-in_err-node : goal.expression::named-returns-in_err-node
-expression::named-returns-in_err-node = primaries.expression::named-returns-in_err-node
-
-pub expression::named-returns : goal.expression::named-returns
-expression::named-returns = primaries.expression::named-returns
-
-pub statement::assign-returns-in_err-at : goal.statement::assign-returns-in_err-at
-statement::assign-returns-in_err-at = sequences.statement::assign-returns-in_err-at
-
-pub statement::assign-returns-in_err-value : goal.statement::assign-returns-in_err-value
-statement::assign-returns-in_err-value = sequences.statement::assign-returns-in_err-value
-
-pub statement::assign-returns-in_err-node : goal.statement::assign-returns-in_err-node
-statement::assign-returns-in_err-node = sequences.statement::assign-returns-in_err-node
-
-pub statement::assign-returns : goal.statement::assign-returns
-statement::assign-returns = sequences.statement::assign-returns
+expression::term_from-returns t c = record {
+  read = extending (ap spell_term (rows.term_rolled (record {
+    node = c.in_ok-more.node;
+    first =
+        c.args.first;
+    more = c.in_ok-more.more;
+  }))) (numbers.term_rolled (record {
+    node = c.in_ok-more.node;
+    first = c.args.first;
+    more =
+        c.in_ok-more.more;
+  })) (ended more_factors count_factors _ _ _ _ c.factors.result (Ok _) c.in_ok-more.ensures.numbered c.factors.ensures.read);
+}
 
 pub expression::simple_from-returns-in_err-more : goal.expression::simple_from-returns-in_err-more
-expression::simple_from-returns-in_err-more = sums.expression::simple_from-returns-in_err-more
-
-pub expression::simple_from-returns-in_err-node : goal.expression::simple_from-returns-in_err-node
-expression::simple_from-returns-in_err-node = sums.expression::simple_from-returns-in_err-node
+expression::simple_from-returns-in_err-more t c = record {
+  read = stopped _ _ _ _ c.from_residual.ensures.1 (ended more_terms count_terms _ _ _ _
+      c.terms.result (Err _) c.in_err-more.ensures.numbered c.terms.ensures.read);
+}
 
 pub expression::simple_from-returns : goal.expression::simple_from-returns
-expression::simple_from-returns = sums.expression::simple_from-returns
-
-pub expression::expr-returns-in_err-left : goal.expression::expr-returns-in_err-left
-expression::expr-returns-in_err-left = sums.expression::expr-returns-in_err-left
-
-pub expression::expr-returns : goal.expression::expr-returns
-expression::expr-returns = sums.expression::expr-returns
-
-pub expression::simple-returns-in_err-first : goal.expression::simple-returns-in_err-first
-expression::simple-returns-in_err-first = sums.expression::simple-returns-in_err-first
-
-pub expression::simple-returns : goal.expression::simple-returns
-expression::simple-returns = sums.expression::simple-returns
-
-pub expression::term-returns-in_err-first : goal.expression::term-returns-in_err-first
-expression::term-returns-in_err-first = sums.expression::term-returns-in_err-first
-
-pub expression::term-returns : goal.expression::term-returns
-expression::term-returns = sums.expression::term-returns
-
-pub expression::desig_value-returns-in_err-primary : goal.expression::desig_value-returns-in_err-primary
-expression::desig_value-returns-in_err-primary = sums.expression::desig_value-returns-in_err-primary
-
-pub expression::desig_value-returns-in_err-node : goal.expression::desig_value-returns-in_err-node
-expression::desig_value-returns-in_err-node = sums.expression::desig_value-returns-in_err-node
-
-pub expression::desig_value-returns-in_err-first : goal.expression::desig_value-returns-in_err-first
-expression::desig_value-returns-in_err-first = sums.expression::desig_value-returns-in_err-first
-
-pub expression::desig_value-returns-in_err-left : goal.expression::desig_value-returns-in_err-left
-expression::desig_value-returns-in_err-left = sums.expression::desig_value-returns-in_err-left
-
-pub expression::desig_value-returns : goal.expression::desig_value-returns
-expression::desig_value-returns = sums.expression::desig_value-returns
-
-pub expression::compared-returns-in_default : goal.expression::compared-returns-in_default
-expression::compared-returns-in_default = sums.expression::compared-returns-in_default
-
-pub expression::compared-returns-in_err-right : goal.expression::compared-returns-in_err-right
-expression::compared-returns-in_err-right = sums.expression::compared-returns-in_err-right
-
-pub expression::compared-returns : goal.expression::compared-returns
-expression::compared-returns = sums.expression::compared-returns
-
-pub expression::expr_list-loop-after-init : goal.expression::expr_list-loop-after-init
-expression::expr_list-loop-after-init = primaries.expression::expr_list-loop-after-init
-
-pub expression::expr_list-loop-after-preserved : goal.expression::expr_list-loop-after-preserved
-expression::expr_list-loop-after-preserved = primaries.expression::expr_list-loop-after-preserved
-
-pub expression::expr_list-returns-in_err-next : goal.expression::expr_list-returns-in_err-next
-expression::expr_list-returns-in_err-next = primaries.expression::expr_list-returns-in_err-next
-
-pub expression::expr_list-returns : goal.expression::expr_list-returns
-expression::expr_list-returns = primaries.expression::expr_list-returns
-
-pub statement::stmt_list-loop-after-init : goal.statement::stmt_list-loop-after-init
-statement::stmt_list-loop-after-init = sequences.statement::stmt_list-loop-after-init
-
-pub statement::stmt_list-loop-after-preserved : goal.statement::stmt_list-loop-after-preserved
-statement::stmt_list-loop-after-preserved = sequences.statement::stmt_list-loop-after-preserved
-
-pub statement::stmt_list-returns-in_err-next : goal.statement::stmt_list-returns-in_err-next
-statement::stmt_list-returns-in_err-next = sequences.statement::stmt_list-returns-in_err-next
-
-pub statement::stmt_list-returns : goal.statement::stmt_list-returns
-statement::stmt_list-returns = sequences.statement::stmt_list-returns
-
-pub statement::arm_list-loop-after-init : goal.statement::arm_list-loop-after-init
-statement::arm_list-loop-after-init = branches.statement::arm_list-loop-after-init
-
-pub statement::arm_list-loop-after-preserved : goal.statement::arm_list-loop-after-preserved
-statement::arm_list-loop-after-preserved = branches.statement::arm_list-loop-after-preserved
-
-pub statement::arm_list-returns-in_err-next : goal.statement::arm_list-returns-in_err-next
-statement::arm_list-returns-in_err-next = branches.statement::arm_list-returns-in_err-next
-
-pub statement::arm_list-returns : goal.statement::arm_list-returns
-statement::arm_list-returns = branches.statement::arm_list-returns
-
-pub statement::label_list-loop-after-init : goal.statement::label_list-loop-after-init
-statement::label_list-loop-after-init = branches.statement::label_list-loop-after-init
-
-pub statement::label_list-loop-after-preserved : goal.statement::label_list-loop-after-preserved
-statement::label_list-loop-after-preserved = branches.statement::label_list-loop-after-preserved
-
-pub statement::label_list-returns-in_err-next : goal.statement::label_list-returns-in_err-next
-statement::label_list-returns-in_err-next = branches.statement::label_list-returns-in_err-next
-
-pub statement::label_list-returns : goal.statement::label_list-returns
-statement::label_list-returns = branches.statement::label_list-returns
-
-pub statement::orelse_list-loop-after-init : goal.statement::orelse_list-loop-after-init
-statement::orelse_list-loop-after-init = turns.statement::orelse_list-loop-after-init
-
-pub statement::orelse_list-loop-after-preserved : goal.statement::orelse_list-loop-after-preserved
-statement::orelse_list-loop-after-preserved = turns.statement::orelse_list-loop-after-preserved
-
-pub statement::orelse_list-returns-in_err-next : goal.statement::orelse_list-returns-in_err-next
-statement::orelse_list-returns-in_err-next = turns.statement::orelse_list-returns-in_err-next
-
-pub statement::orelse_list-returns : goal.statement::orelse_list-returns
-statement::orelse_list-returns = turns.statement::orelse_list-returns
-
-pub statement::desig_list-loop-after-init : goal.statement::desig_list-loop-after-init
-statement::desig_list-loop-after-init = designators.statement::desig_list-loop-after-init
-
-pub statement::desig_list-loop-after-preserved : goal.statement::desig_list-loop-after-preserved
-statement::desig_list-loop-after-preserved = designators.statement::desig_list-loop-after-preserved
-
-pub statement::desig_list-returns-in_err-next : goal.statement::desig_list-returns-in_err-next
-statement::desig_list-returns-in_err-next = designators.statement::desig_list-returns-in_err-next
-
-pub statement::desig_list-returns : goal.statement::desig_list-returns
-statement::desig_list-returns = designators.statement::desig_list-returns
-
-pub expression::terms-loop-operator-init : goal.expression::terms-loop-operator-init
-expression::terms-loop-operator-init = sums.expression::terms-loop-operator-init
-
-pub expression::terms-loop-operator-preserved : goal.expression::terms-loop-operator-preserved
-expression::terms-loop-operator-preserved = sums.expression::terms-loop-operator-preserved
-
-pub expression::terms-returns-in_err-operand : goal.expression::terms-returns-in_err-operand
-expression::terms-returns-in_err-operand = sums.expression::terms-returns-in_err-operand
-
-pub expression::terms-returns : goal.expression::terms-returns
-expression::terms-returns = sums.expression::terms-returns
-
-pub expression::factors-loop-operator-init : goal.expression::factors-loop-operator-init
-expression::factors-loop-operator-init = sums.expression::factors-loop-operator-init
-
-pub expression::factors-loop-operator-preserved : goal.expression::factors-loop-operator-preserved
-expression::factors-loop-operator-preserved = sums.expression::factors-loop-operator-preserved
-
-pub expression::factors-returns-in_err-operand : goal.expression::factors-returns-in_err-operand
-expression::factors-returns-in_err-operand = sums.expression::factors-returns-in_err-operand
-
-pub expression::factors-returns : goal.expression::factors-returns
-expression::factors-returns = sums.expression::factors-returns
-
-pub expression::selectors-loop-form-init : goal.expression::selectors-loop-form-init
-expression::selectors-loop-form-init = designators.expression::selectors-loop-form-init
-
-pub expression::selectors-loop-form-preserved : goal.expression::selectors-loop-form-preserved
-expression::selectors-loop-form-preserved = designators.expression::selectors-loop-form-preserved
-
-pub expression::selectors-returns-in_err-next : goal.expression::selectors-returns-in_err-next
-expression::selectors-returns-in_err-next = designators.expression::selectors-returns-in_err-next
-
-pub expression::selectors-returns : goal.expression::selectors-returns
-expression::selectors-returns = designators.expression::selectors-returns
-
-pub statement::elsif_list-loop-after-init : goal.statement::elsif_list-loop-after-init
-statement::elsif_list-loop-after-init = branches.statement::elsif_list-loop-after-init
-
-pub statement::elsif_list-loop-after-preserved : goal.statement::elsif_list-loop-after-preserved
-statement::elsif_list-loop-after-preserved = branches.statement::elsif_list-loop-after-preserved
-
-pub statement::elsif_list-returns-in_err-test : goal.statement::elsif_list-returns-in_err-test
-statement::elsif_list-returns-in_err-test = branches.statement::elsif_list-returns-in_err-test
-
-pub statement::elsif_list-returns-in_err-after : goal.statement::elsif_list-returns-in_err-after
-statement::elsif_list-returns-in_err-after = branches.statement::elsif_list-returns-in_err-after
-
-pub statement::elsif_list-returns-in_err-then : goal.statement::elsif_list-returns-in_err-then
-statement::elsif_list-returns-in_err-then = branches.statement::elsif_list-returns-in_err-then
-
-pub statement::elsif_list-returns : goal.statement::elsif_list-returns
-statement::elsif_list-returns = branches.statement::elsif_list-returns
-
-pub statement::otherwise-returns-in_default : goal.statement::otherwise-returns-in_default
-statement::otherwise-returns-in_default = branches.statement::otherwise-returns-in_default
-
-pub statement::otherwise-returns-in_err-value : goal.statement::otherwise-returns-in_err-value
-statement::otherwise-returns-in_err-value = branches.statement::otherwise-returns-in_err-value
-
-pub statement::otherwise-returns : goal.statement::otherwise-returns
-statement::otherwise-returns = branches.statement::otherwise-returns
-
-pub statement::step-returns-in_default : goal.statement::step-returns-in_default
-statement::step-returns-in_default = turns.statement::step-returns-in_default
-
-pub statement::step-returns-in_err-value : goal.statement::step-returns-in_err-value
-statement::step-returns-in_err-value = turns.statement::step-returns-in_err-value
-
-pub statement::step-returns : goal.statement::step-returns
-statement::step-returns = turns.statement::step-returns
-
-pub statement::high-returns-in_default : goal.statement::high-returns-in_default
-statement::high-returns-in_default = branches.statement::high-returns-in_default
-
-pub statement::high-returns-in_err-value : goal.statement::high-returns-in_err-value
-statement::high-returns-in_err-value = branches.statement::high-returns-in_err-value
-
-pub statement::high-returns : goal.statement::high-returns
-statement::high-returns = branches.statement::high-returns
-
-pub expression::factor-returns-in_err-primary : goal.expression::factor-returns-in_err-primary
-expression::factor-returns-in_err-primary = sums.expression::factor-returns-in_err-primary
-
-pub expression::factor-returns-in_err-node : goal.expression::factor-returns-in_err-node
-expression::factor-returns-in_err-node = sums.expression::factor-returns-in_err-node
-
-pub expression::factor-returns-in-Some : goal.expression::factor-returns-in-Some
-expression::factor-returns-in-Some = sums.expression::factor-returns-in-Some
-
-pub expression::factor-returns-in_err-primary-2 : goal.expression::factor-returns-in_err-primary-2
-expression::factor-returns-in_err-primary-2 = sums.expression::factor-returns-in_err-primary-2
-
-pub expression::factor-returns-in_err-node-2 : goal.expression::factor-returns-in_err-node-2
-expression::factor-returns-in_err-node-2 = sums.expression::factor-returns-in_err-node-2
-
-pub expression::factor-returns : goal.expression::factor-returns
-expression::factor-returns = sums.expression::factor-returns
-
-pub expression::args-returns-in_err-at : goal.expression::args-returns-in_err-at
-expression::args-returns-in_err-at = primaries.expression::args-returns-in_err-at
-
-pub expression::args-returns-in_err-values : goal.expression::args-returns-in_err-values
-expression::args-returns-in_err-values = primaries.expression::args-returns-in_err-values
-
-pub expression::args-returns-then-is_at : goal.expression::args-returns-then-is_at
-expression::args-returns-then-is_at = primaries.expression::args-returns-then-is_at
-
-pub expression::args-returns : goal.expression::args-returns
-expression::args-returns = primaries.expression::args-returns
+expression::simple_from-returns t c = record {
+  read = extending (ap spell_simple (rows.simple_rolled (record {
+    node = c.in_ok-more.node;
+    sign =
+        c.args.sign;
+    first = c.in_ok-first.first;
+    more = c.in_ok-more.more;
+  })) ∙ ap (λ v r. spell_sign c.args.sign (spell_term (view_term v)
+      (spell_term_tail (terms_of c.in_ok-more.more.items) r))) c.in_ok-first.ensures.ok) (numbers.simple_rolled (record {
+        node = c.in_ok-more.node;
+        sign
+            = c.args.sign;
+        first = c.in_ok-first.first;
+        more = c.in_ok-more.more;
+      }) ∙ ap (λ v. number_sign c.args.sign >> number_term v >> numbers_of_terms
+      c.in_ok-more.more.items >> node c.in_ok-more.node) c.in_ok-first.ensures.ok ∙ sym (grouped (number_sign c.args.sign) (number_term c.args.first)
+      (numbers_of_terms c.in_ok-more.more.items >> node c.in_ok-more.node))) (ended more_terms count_terms _ _ _ _ c.terms.result (Ok _)
+      c.in_ok-more.ensures.numbered c.terms.ensures.read);
+}
+
+pub expression::paren-returns-in_err-at : goal.expression::paren-returns-in_err-at
+expression::paren-returns-in_err-at t c = record { read = stopped _ _ _ _ c.from_residual.ensures.1 (first c.in_err-at.ensures.opened) }
+
+pub expression::paren-returns-in_err-body : goal.expression::paren-returns-in_err-body
+expression::paren-returns-in_err-body t c = record {
+  read = stopped _ _ _ _ c.from_residual-in_err-body.ensures.1 (after (opened refl
+      c.in_ok-at.ensures.opened) (ended_behind some_stmts number_stmts _ _ _ _ _ _ (matching kinds.CloseParen refl refl c.in_ok-at.ensures.opened)
+      c.stmts.result c.followed_by.result c.followed_by.ensures.followed c.stmts.ensures.read (Err _) c.in_err-body.ensures.numbered));
+}
+
+pub expression::paren-returns : goal.expression::paren-returns
+expression::paren-returns t c = record {
+  read = same (ap spell_primary (rows.paren_laid c.in_ok-body.node c.in_ok-body-2.body)) (numbers.paren_laid
+      c.in_ok-body.node c.in_ok-body-2.body) (then (opened refl c.in_ok-at.ensures.opened) (replaced (λ v ks. some_stmts v (kinds.CloseParen ∷ ks)) (λ
+      v. number_stmts v >> token >> node c.in_ok-body.node) c.in_ok-body-2.ensures.ok (ended_behind some_stmts number_stmts _ _ _ _ _ _ (matching
+      kinds.CloseParen refl refl c.in_ok-at.ensures.opened) c.stmts.result c.followed_by.result c.followed_by.ensures.followed c.stmts.ensures.read (Ok
+      _) c.in_ok-body.ensures.numbered)));
+}
+
+pub expression::known-returns-in_err-at : goal.expression::known-returns-in_err-at
+expression::known-returns-in_err-at t c = record { read = stopped _ _ _ _ c.from_residual.ensures.1 (first (c.in_err-at.ensures.passes _)) }
+
+pub expression::known-returns-in_err-at-2 : goal.expression::known-returns-in_err-at-2
+expression::known-returns-in_err-at-2 t c = record {
+  read = stopped _ _ _ _ c.from_residual-in_err-at-2.ensures.1 (after (passed refl refl
+      c.in_ok-at.ensures.passes) (first c.in_err-at-2.ensures.opened));
+}
+
+pub expression::known-returns-in_err-desig : goal.expression::known-returns-in_err-desig
+expression::known-returns-in_err-desig t c = record {
+  read = stopped _ _ _ _ c.from_residual-in_err-desig.ensures.1 (after (passed refl refl
+      c.in_ok-at.ensures.passes) (after (opened refl c.in_ok-at-2.ensures.opened) (ended_behind a_desig number_desig _ _ _ _ _ _ (matching
+      kinds.CloseParen refl refl c.in_ok-at-2.ensures.opened) c.desig.result c.followed_by.result c.followed_by.ensures.followed c.desig.ensures.read
+      (Err _) c.in_err-desig.ensures.numbered)));
+}
+
+pub expression::known-returns : goal.expression::known-returns
+expression::known-returns t c = record {
+  read = same (ap spell_primary (rows.known_laid c.in_ok-desig.node c.in_ok-desig.desig)) (numbers.known_laid
+      c.in_ok-desig.node c.in_ok-desig.desig) (then (passed refl refl c.in_ok-at.ensures.passes) (then (opened refl c.in_ok-at-2.ensures.opened)
+      (ended_behind a_desig number_desig _ _ _ _ _ _ (matching kinds.CloseParen refl refl c.in_ok-at-2.ensures.opened) c.desig.result
+      c.followed_by.result c.followed_by.ensures.followed c.desig.ensures.read (Ok _) c.in_ok-desig.ensures.numbered)));
+}
+
+pub expression::ord-returns-in_err-at : goal.expression::ord-returns-in_err-at
+expression::ord-returns-in_err-at t c = record { read = stopped _ _ _ _ c.from_residual.ensures.1 (first (c.in_err-at.ensures.passes _)) }
+
+pub expression::ord-returns-in_err-at-2 : goal.expression::ord-returns-in_err-at-2
+expression::ord-returns-in_err-at-2 t c = record {
+  read = stopped _ _ _ _ c.from_residual-in_err-at-2.ensures.1 (after (passed refl refl
+      c.in_ok-at.ensures.passes) (first c.in_err-at-2.ensures.opened));
+}
+
+pub expression::ord-returns-in_err-value : goal.expression::ord-returns-in_err-value
+expression::ord-returns-in_err-value t c = record {
+  read = stopped _ _ _ _ c.from_residual-in_err-value.ensures.1 (after (passed refl refl
+      c.in_ok-at.ensures.passes) (after (opened refl c.in_ok-at-2.ensures.opened) (ended_behind an_expr number_expr _ _ _ _ _ _ (matching
+      kinds.CloseParen refl refl c.in_ok-at-2.ensures.opened) c.expr.result c.followed_by.result c.followed_by.ensures.followed c.expr.ensures.read (Err
+      _) c.in_err-value.ensures.numbered)));
+}
+
+pub expression::ord-returns : goal.expression::ord-returns
+expression::ord-returns t c = record {
+  read = same (ap spell_primary (rows.ord_laid c.in_ok-value.node c.in_ok-value-2.value)) refl (then (passed refl
+      refl c.in_ok-at.ensures.passes) (then (opened refl c.in_ok-at-2.ensures.opened) (replaced (λ v ks. an_expr v (kinds.CloseParen ∷ ks)) (λ v.
+      number_expr v >> token >> node c.in_ok-value.node) c.in_ok-value-2.ensures.ok (ended_behind an_expr number_expr _ _ _ _ _ _ (matching
+      kinds.CloseParen refl refl c.in_ok-at-2.ensures.opened) c.expr.result c.followed_by.result c.followed_by.ensures.followed c.expr.ensures.read (Ok
+      _) c.in_ok-value.ensures.numbered))));
+}
+
+pub expression::chr-returns-in_err-at : goal.expression::chr-returns-in_err-at
+expression::chr-returns-in_err-at t c = record { read = stopped _ _ _ _ c.from_residual.ensures.1 (first (c.in_err-at.ensures.passes _)) }
+
+pub expression::chr-returns-in_err-at-2 : goal.expression::chr-returns-in_err-at-2
+expression::chr-returns-in_err-at-2 t c = record {
+  read = stopped _ _ _ _ c.from_residual-in_err-at-2.ensures.1 (after (passed refl refl
+      c.in_ok-at.ensures.passes) (first c.in_err-at-2.ensures.opened));
+}
+
+pub expression::chr-returns-in_err-value : goal.expression::chr-returns-in_err-value
+expression::chr-returns-in_err-value t c = record {
+  read = stopped _ _ _ _ c.from_residual-in_err-value.ensures.1 (after (passed refl refl
+      c.in_ok-at.ensures.passes) (after (opened refl c.in_ok-at-2.ensures.opened) (ended_behind an_expr number_expr _ _ _ _ _ _ (matching
+      kinds.CloseParen refl refl c.in_ok-at-2.ensures.opened) c.expr.result c.followed_by.result c.followed_by.ensures.followed c.expr.ensures.read (Err
+      _) c.in_err-value.ensures.numbered)));
+}
+
+pub expression::chr-returns : goal.expression::chr-returns
+expression::chr-returns t c = record {
+  read = same (ap spell_primary (rows.chr_laid c.in_ok-value.node c.in_ok-value-2.value)) refl (then (passed refl
+      refl c.in_ok-at.ensures.passes) (then (opened refl c.in_ok-at-2.ensures.opened) (replaced (λ v ks. an_expr v (kinds.CloseParen ∷ ks)) (λ v.
+      number_expr v >> token >> node c.in_ok-value.node) c.in_ok-value-2.ensures.ok (ended_behind an_expr number_expr _ _ _ _ _ _ (matching
+      kinds.CloseParen refl refl c.in_ok-at-2.ensures.opened) c.expr.result c.followed_by.result c.followed_by.ensures.followed c.expr.ensures.read (Ok
+      _) c.in_ok-value.ensures.numbered))));
+}
 
 pub expression::args_values-returns-in-Some : goal.expression::args_values-returns-in-Some
-expression::args_values-returns-in-Some = primaries.expression::args_values-returns-in-Some
+expression::args_values-returns-in-Some t c = record {
+  read = becoming (heads.begins_args_end c.in-Some.ensures.passes) (closed_any refl refl
+      c.in-Some.ensures.passes);
+}
 
 pub expression::args_values-returns-in_err-values : goal.expression::args_values-returns-in_err-values
-expression::args_values-returns-in_err-values = primaries.expression::args_values-returns-in_err-values
-
-pub expression::args_values-returns-in_err-at : goal.expression::args_values-returns-in_err-at
-expression::args_values-returns-in_err-at = primaries.expression::args_values-returns-in_err-at
+expression::args_values-returns-in_err-values t c = record {
+  read = stopped _ _ _ _ c.from_residual.ensures.1 (becoming_fails (heads.some_args _
+      c.in_default.ensures.passes) (followed some_exprs number_exprs _ _ _ _ _ (closing kinds.CloseParen _ refl refl) c.exprs.result (Err _)
+      c.in_err-values.ensures.followed c.exprs.ensures.read));
+}
 
 pub expression::args_values-returns : goal.expression::args_values-returns
-expression::args_values-returns = primaries.expression::args_values-returns
+expression::args_values-returns t c = record {
+  read = becoming (heads.some_args _ c.in_default.ensures.passes) (followed some_exprs number_exprs _ _ _
+      _ _ (closing kinds.CloseParen _ refl refl) c.exprs.result (Ok _) c.in_ok-values.ensures.followed c.exprs.ensures.read);
+}
 
-pub expression::primary-returns-in_err-primary_form : goal.expression::primary-returns-in_err-primary_form
-expression::primary-returns-in_err-primary_form = primaries.expression::primary-returns-in_err-primary_form
+pub expression::desig-returns-in_err-name : goal.expression::desig-returns-in_err-name
+expression::desig-returns-in_err-name t c = record { read = stopped _ _ _ _ c.from_residual.ensures.1 (first (c.in_err-name.ensures.read _)) }
 
-pub expression::primary-returns-in-Number : goal.expression::primary-returns-in-Number
-expression::primary-returns-in-Number = primaries.expression::primary-returns-in-Number
+pub expression::desig-returns-in_err-more : goal.expression::desig-returns-in_err-more
+expression::desig-returns-in_err-more t c = record {
+  read = stopped _ _ _ _ c.from_residual-in_err-more.ensures.1 (after (c.in_ok-name.ensures.read _)
+      (ended more_selectors count_selectors _ _ _ _ c.selectors.result (Err _) c.in_err-more.ensures.numbered c.selectors.ensures.read));
+}
 
-pub expression::primary-returns-in-Literal : goal.expression::primary-returns-in-Literal
-expression::primary-returns-in-Literal = primaries.expression::primary-returns-in-Literal
+pub expression::desig-returns : goal.expression::desig-returns
+expression::desig-returns t c = record {
+  read = (then (c.in_ok-name.ensures.read _) (ended more_selectors count_selectors _ _ _ _ c.selectors.result
+      (Ok _) c.in_ok-more.ensures.numbered c.selectors.ensures.read));
+}
 
-pub expression::primary-returns-in-Paren : goal.expression::primary-returns-in-Paren
-expression::primary-returns-in-Paren = primaries.expression::primary-returns-in-Paren
+pub expression::index-returns-in_err-at-clause-read : goal.expression::index-returns-in_err-at-clause-read
+expression::index-returns-in_err-at-clause-read t c = stopped _ _ _ _ c.from_residual.ensures.1 (first c.in_err-at.ensures.opened)
 
-pub expression::primary-returns-in-Known : goal.expression::primary-returns-in-Known
-expression::primary-returns-in-Known = primaries.expression::primary-returns-in-Known
+pub expression::index-returns-in_err-indices-clause-read : goal.expression::index-returns-in_err-indices-clause-read
+expression::index-returns-in_err-indices-clause-read t c = stopped _ _ _ _ c.from_residual-in_err-indices.ensures.1 (after (opened refl
+    c.in_ok-at.ensures.opened) (ended_behind some_exprs number_exprs _ _ _ _ _ _ (matching kinds.CloseBracket refl refl c.in_ok-at.ensures.opened)
+    c.exprs.result c.followed_by.result c.followed_by.ensures.followed c.exprs.ensures.read (Err _) c.in_err-indices.ensures.numbered))
 
-pub expression::primary-returns-in-Ord : goal.expression::primary-returns-in-Ord
-expression::primary-returns-in-Ord = primaries.expression::primary-returns-in-Ord
-
-pub expression::primary-returns-in-Chr : goal.expression::primary-returns-in-Chr
-expression::primary-returns-in-Chr = primaries.expression::primary-returns-in-Chr
-
-pub expression::primary-returns-in_err-desig-in-Desig : goal.expression::primary-returns-in_err-desig-in-Desig
-expression::primary-returns-in_err-desig-in-Desig = primaries.expression::primary-returns-in_err-desig-in-Desig
-
-pub expression::primary-returns-in_ok-desig-in-Desig : goal.expression::primary-returns-in_ok-desig-in-Desig
-expression::primary-returns-in_ok-desig-in-Desig = primaries.expression::primary-returns-in_ok-desig-in-Desig
-
-pub expression::selector-returns-in-Field-clause-read : goal.expression::selector-returns-in-Field-clause-read
-expression::selector-returns-in-Field-clause-read = designators.expression::selector-returns-in-Field-clause-read
-
-pub expression::selector-returns-in-Index-clause-read : goal.expression::selector-returns-in-Index-clause-read
-expression::selector-returns-in-Index-clause-read = designators.expression::selector-returns-in-Index-clause-read
-
-pub statement::stmt-returns-in-Nothing : goal.statement::stmt-returns-in-Nothing
-statement::stmt-returns-in-Nothing = sequences.statement::stmt-returns-in-Nothing
-
-pub statement::stmt-returns-in-Desig : goal.statement::stmt-returns-in-Desig
-statement::stmt-returns-in-Desig = sequences.statement::stmt-returns-in-Desig
-
-pub statement::stmt-returns-in-Value : goal.statement::stmt-returns-in-Value
-statement::stmt-returns-in-Value = sequences.statement::stmt-returns-in-Value
-
-pub statement::stmt-returns-in-If : goal.statement::stmt-returns-in-If
-statement::stmt-returns-in-If = sequences.statement::stmt-returns-in-If
-
-pub statement::stmt-returns-in-While : goal.statement::stmt-returns-in-While
-statement::stmt-returns-in-While = sequences.statement::stmt-returns-in-While
-
-pub statement::stmt-returns-in-Repeat : goal.statement::stmt-returns-in-Repeat
-statement::stmt-returns-in-Repeat = sequences.statement::stmt-returns-in-Repeat
-
-pub statement::stmt-returns-in-For : goal.statement::stmt-returns-in-For
-statement::stmt-returns-in-For = sequences.statement::stmt-returns-in-For
-
-pub statement::stmt-returns-in-Some : goal.statement::stmt-returns-in-Some
-statement::stmt-returns-in-Some = sequences.statement::stmt-returns-in-Some
-
-pub statement::stmt-returns-in-Case : goal.statement::stmt-returns-in-Case
-statement::stmt-returns-in-Case = sequences.statement::stmt-returns-in-Case
-
-pub statement::stmt-returns-in-Either : goal.statement::stmt-returns-in-Either
-statement::stmt-returns-in-Either = sequences.statement::stmt-returns-in-Either
-
-pub statement::stmt-returns-in-Forall : goal.statement::stmt-returns-in-Forall
-statement::stmt-returns-in-Forall = sequences.statement::stmt-returns-in-Forall
-
-pub statement::stmt-returns-in-Commit : goal.statement::stmt-returns-in-Commit
-statement::stmt-returns-in-Commit = sequences.statement::stmt-returns-in-Commit
-
-pub statement::stmt-returns-in-Return : goal.statement::stmt-returns-in-Return
-statement::stmt-returns-in-Return = sequences.statement::stmt-returns-in-Return
-
-pub statement::stmt-returns-in-Read : goal.statement::stmt-returns-in-Read
-statement::stmt-returns-in-Read = sequences.statement::stmt-returns-in-Read
-
-pub statement::stmt-returns-in-Write : goal.statement::stmt-returns-in-Write
-statement::stmt-returns-in-Write = sequences.statement::stmt-returns-in-Write
-
-pub statement::stmt-returns-in-Writeln : goal.statement::stmt-returns-in-Writeln
-statement::stmt-returns-in-Writeln = sequences.statement::stmt-returns-in-Writeln
-
-pub statement::desig_stmt-returns-in_err-desig : goal.statement::desig_stmt-returns-in_err-desig
-statement::desig_stmt-returns-in_err-desig = sequences.statement::desig_stmt-returns-in_err-desig
-
-pub statement::desig_stmt-returns-then-is_at : goal.statement::desig_stmt-returns-then-is_at
-statement::desig_stmt-returns-then-is_at = sequences.statement::desig_stmt-returns-then-is_at
-
-pub statement::desig_stmt-returns-in_err-value : goal.statement::desig_stmt-returns-in_err-value
-statement::desig_stmt-returns-in_err-value = sequences.statement::desig_stmt-returns-in_err-value
-
-pub statement::desig_stmt-returns-in_err-node : goal.statement::desig_stmt-returns-in_err-node
-statement::desig_stmt-returns-in_err-node = sequences.statement::desig_stmt-returns-in_err-node
-
-pub statement::desig_stmt-returns : goal.statement::desig_stmt-returns
-statement::desig_stmt-returns = sequences.statement::desig_stmt-returns
-
-pub statement::arm-returns-then-begins_expr : goal.statement::arm-returns-then-begins_expr
-statement::arm-returns-then-begins_expr = branches.statement::arm-returns-then-begins_expr
-
-pub statement::arm-returns-in_err-node : goal.statement::arm-returns-in_err-node
-statement::arm-returns-in_err-node = branches.statement::arm-returns-in_err-node
-
-pub statement::arm-returns : goal.statement::arm-returns
-statement::arm-returns = branches.statement::arm-returns
-
-pub statement::returned-returns-in_err-value : goal.statement::returned-returns-in_err-value
-statement::returned-returns-in_err-value = designators.statement::returned-returns-in_err-value
-
-pub statement::returned-returns-then-begins_expr : goal.statement::returned-returns-then-begins_expr
-statement::returned-returns-then-begins_expr = designators.statement::returned-returns-then-begins_expr
-
-pub statement::returned-returns : goal.statement::returned-returns
-statement::returned-returns = designators.statement::returned-returns
+pub expression::index-returns-clause-read : goal.expression::index-returns-clause-read
+expression::index-returns-clause-read t c = (then (opened refl c.in_ok-at.ensures.opened) (ended_behind some_exprs number_exprs _ _ _ _ _ _ (matching
+    kinds.CloseBracket refl refl c.in_ok-at.ensures.opened) c.exprs.result c.followed_by.result c.followed_by.ensures.followed c.exprs.ensures.read
+    (Ok _) c.in_ok-indices.ensures.numbered))
 
 pub expression::index-returns-clause-shorter : goal.expression::index-returns-clause-shorter
-expression::index-returns-clause-shorter = designators.expression::index-returns-clause-shorter
+expression::index-returns-clause-shorter t c = strictly c.in_ok-at.ensures.opened.passes (ended_behind some_exprs number_exprs _ _ _ _ _ _ (matching
+    kinds.CloseBracket refl refl c.in_ok-at.ensures.opened) c.exprs.result c.followed_by.result c.followed_by.ensures.followed c.exprs.ensures.read
+    (Ok _) c.in_ok-indices.ensures.numbered)
 
-pub expression::desig-selectors-requires : goal.expression::desig-selectors-requires
-expression::desig-selectors-requires = designators.expression::desig-selectors-requires
+pub statement::stmts-returns-in_err-first : goal.statement::stmts-returns-in_err-first
+statement::stmts-returns-in_err-first t c = record { read = stopped _ _ _ _ c.from_residual.ensures.1 (first c.in_err-first.ensures.read) }
 
-pub expression::simple-term-requires : goal.expression::simple-term-requires
-expression::simple-term-requires = sums.expression::simple-term-requires
+pub statement::stmts-returns-in_err-more : goal.statement::stmts-returns-in_err-more
+statement::stmts-returns-in_err-more t c = record {
+  read = stopped _ _ _ _ c.from_residual-in_err-more.ensures.1 (after c.in_ok-first.ensures.read
+      (ended more_stmts count_stmts _ _ _ _ c.stmt_list.result (Err _) c.in_err-more.ensures.numbered c.stmt_list.ensures.read));
+}
 
-pub expression::simple-simple_from-requires : goal.expression::simple-simple_from-requires
-expression::simple-simple_from-requires = sums.expression::simple-simple_from-requires
+pub statement::stmts-returns : goal.statement::stmts-returns
+statement::stmts-returns t c = record {
+  read = (then (replaced (λ v. spell_stmt (view_stmt v)) number_stmt c.in_ok-first-2.ensures.ok
+      c.in_ok-first.ensures.read) (ended more_stmts count_stmts _ _ _ _ c.stmt_list.result (Ok _) c.in_ok-more.ensures.numbered
+      c.stmt_list.ensures.read));
+}
+
+pub statement::assign-returns-in_err-at : goal.statement::assign-returns-in_err-at
+statement::assign-returns-in_err-at t c = record { read = stopped _ _ _ _ c.from_residual.ensures.1 (first (c.in_err-at.ensures.passes _)) }
+
+pub statement::assign-returns-in_err-value : goal.statement::assign-returns-in_err-value
+statement::assign-returns-in_err-value t c = record {
+  read = stopped _ _ _ _ c.from_residual-in_err-value.ensures.1 (after (passed refl refl
+      c.in_ok-at.ensures.passes) (ended an_expr number_expr _ _ _ _ c.expr.result (Err _) c.in_err-value.ensures.numbered c.expr.ensures.read));
+}
+
+pub statement::assign-returns : goal.statement::assign-returns
+statement::assign-returns t c = record {
+  read = extending (ap spell_stmt (rows.assign_laid c.in_ok-value.node c.args.target c.in_ok-value.value))
+      (numbers.assign_laid c.in_ok-value.node c.args.target c.in_ok-value.value) (then (passed refl refl c.in_ok-at.ensures.passes) (ended an_expr
+      number_expr _ _ _ _ c.expr.result (Ok _) c.in_ok-value.ensures.numbered c.expr.ensures.read));
+}
+
+pub statement::value_stmt-returns-in_err-value : goal.statement::value_stmt-returns-in_err-value
+statement::value_stmt-returns-in_err-value t c = record {
+  read = stopped _ _ _ _ c.from_residual.ensures.1 (ended an_expr number_expr _ _ _ _
+      c.expr.result (Err _) c.in_err-value.ensures.numbered c.expr.ensures.read);
+}
+
+pub statement::value_stmt-returns : goal.statement::value_stmt-returns
+statement::value_stmt-returns t c = record {
+  read = (ended an_expr number_expr _ _ _ _ c.expr.result (Ok _) c.in_ok-value.ensures.numbered
+      c.expr.ensures.read);
+}
+
+pub statement::if_stmt-returns-in_err-at : goal.statement::if_stmt-returns-in_err-at
+statement::if_stmt-returns-in_err-at t c = record { read = stopped _ _ _ _ c.from_residual.ensures.1 (first c.in_err-at.ensures.opened) }
+
+pub statement::if_stmt-returns-in_err-test : goal.statement::if_stmt-returns-in_err-test
+statement::if_stmt-returns-in_err-test t c = record {
+  read = stopped _ _ _ _ c.from_residual-in_err-test.ensures.1 (after (opened refl
+      c.in_ok-at.ensures.opened) (first (followed an_expr number_expr _ _ _ _ _ (plain kinds.Then _ refl refl) c.expr.result (Err _)
+      c.in_err-test.ensures.followed c.expr.ensures.read)));
+}
+
+pub statement::if_stmt-returns-in_err-then : goal.statement::if_stmt-returns-in_err-then
+statement::if_stmt-returns-in_err-then t c = record {
+  read = stopped _ _ _ _ c.from_residual-in_err-then.ensures.1 (after (opened refl
+      c.in_ok-at.ensures.opened) (after (followed an_expr number_expr _ _ _ _ _ (plain kinds.Then _ refl refl) c.expr.result (Ok _)
+      c.in_ok-test.ensures.followed c.expr.ensures.read) (first c.in_err-then.ensures.read)));
+}
+
+pub statement::if_stmt-returns-in_err-elsifs : goal.statement::if_stmt-returns-in_err-elsifs
+statement::if_stmt-returns-in_err-elsifs t c = record {
+  read = stopped _ _ _ _ c.from_residual-in_err-elsifs.ensures.1 (after (opened refl
+      c.in_ok-at.ensures.opened) (after (followed an_expr number_expr _ _ _ _ _ (plain kinds.Then _ refl refl) c.expr.result (Ok _)
+      c.in_ok-test.ensures.followed c.expr.ensures.read) (after c.in_ok-then.ensures.read (first c.in_err-elsifs.ensures.read))));
+}
+
+pub statement::if_stmt-returns-in_err-otherwise : goal.statement::if_stmt-returns-in_err-otherwise
+statement::if_stmt-returns-in_err-otherwise t c = record {
+  read = stopped _ _ _ _ c.from_residual-in_err-otherwise.ensures.1 (after (opened refl
+      c.in_ok-at.ensures.opened) (after (followed an_expr number_expr _ _ _ _ _ (plain kinds.Then _ refl refl) c.expr.result (Ok _)
+      c.in_ok-test.ensures.followed c.expr.ensures.read) (after c.in_ok-then.ensures.read (after c.in_ok-elsifs.ensures.read (ended_behind (λ v.
+      spell_else (else_of v)) numbers_of_else _ _ _ _ _ _ (matching kinds.End refl refl c.in_ok-at.ensures.opened) c.otherwise.result
+      c.followed_by-2.result c.followed_by-2.ensures.followed c.otherwise.ensures.read (Err _) c.in_err-otherwise.ensures.numbered)))));
+}
+
+pub statement::if_stmt-returns : goal.statement::if_stmt-returns
+statement::if_stmt-returns t c = record {
+  read = same (ap spell_stmt (rows.if_laid c.in_ok-otherwise.node c.in_ok-test.test c.in_ok-then.then
+      c.in_ok-elsifs.elsifs c.in_ok-otherwise.otherwise)) (numbers.if_laid c.in_ok-otherwise.node c.in_ok-test.test c.in_ok-then.then
+      c.in_ok-elsifs.elsifs c.in_ok-otherwise.otherwise) (then (opened refl c.in_ok-at.ensures.opened) (behind an_expr number_expr _ _ _ _ _ (plain
+      kinds.Then _ refl refl) c.expr.result _ c.in_ok-test.ensures.followed c.expr.ensures.read (then c.in_ok-then.ensures.read (then
+      c.in_ok-elsifs.ensures.read (ended_behind (λ v. spell_else (else_of v)) numbers_of_else _ _ _ _ _ _ (matching kinds.End refl refl
+      c.in_ok-at.ensures.opened) c.otherwise.result c.followed_by-2.result c.followed_by-2.ensures.followed c.otherwise.ensures.read (Ok _)
+      c.in_ok-otherwise.ensures.numbered)))));
+}
+
+pub statement::if_stmt-stmts-requires : goal.statement::if_stmt-stmts-requires
+statement::if_stmt-stmts-requires t c = (
+  omega (
+    arith,
+    c.in_ok-at.ensures.opened.passes.shorter,
+    fewer an_expr number_expr _ _ _ _ _ c.expr.result _
+        c.in_ok-test.ensures.followed c.expr.ensures.read,
+  ),
+  tt,
+)
+
+pub statement::if_stmt-elsif_list-requires : goal.statement::if_stmt-elsif_list-requires
+statement::if_stmt-elsif_list-requires t c = (
+  omega (
+    arith,
+    c.in_ok-at.ensures.opened.passes.shorter,
+    fewer an_expr number_expr _ _ _ _ _
+        c.expr.result _ c.in_ok-test.ensures.followed c.expr.ensures.read,
+    c.in_ok-then.ensures.read.shorter,
+  ),
+  tt,
+)
+
+pub statement::if_stmt-otherwise-requires : goal.statement::if_stmt-otherwise-requires
+statement::if_stmt-otherwise-requires t c = (
+  omega (
+    arith,
+    c.in_ok-at.ensures.opened.passes.shorter,
+    fewer an_expr number_expr _ _ _ _ _ c.expr.result
+        _ c.in_ok-test.ensures.followed c.expr.ensures.read,
+    c.in_ok-then.ensures.read.shorter,
+    c.in_ok-elsifs.ensures.read.shorter,
+  ),
+  tt,
+)
+
+pub statement::while_stmt-returns-in_err-at : goal.statement::while_stmt-returns-in_err-at
+statement::while_stmt-returns-in_err-at t c = record { read = stopped _ _ _ _ c.from_residual.ensures.1 (first c.in_err-at.ensures.opened) }
+
+pub statement::while_stmt-returns-in_err-test : goal.statement::while_stmt-returns-in_err-test
+statement::while_stmt-returns-in_err-test t c = record {
+  read = stopped _ _ _ _ c.from_residual-in_err-test.ensures.1 (after (opened refl
+      c.in_ok-at.ensures.opened) (first (followed an_expr number_expr _ _ _ _ _ (plain kinds.Do _ refl refl) c.expr.result (Err _)
+      c.in_err-test.ensures.followed c.expr.ensures.read)));
+}
+
+pub statement::while_stmt-returns-in_err-body : goal.statement::while_stmt-returns-in_err-body
+statement::while_stmt-returns-in_err-body t c = record {
+  read = stopped _ _ _ _ c.from_residual-in_err-body.ensures.1 (after (opened refl
+      c.in_ok-at.ensures.opened) (after (followed an_expr number_expr _ _ _ _ _ (plain kinds.Do _ refl refl) c.expr.result (Ok _)
+      c.in_ok-test.ensures.followed c.expr.ensures.read) (ended_behind some_stmts number_stmts _ _ _ _ _ _ (matching kinds.End refl refl
+      c.in_ok-at.ensures.opened) c.stmts.result c.followed_by-2.result c.followed_by-2.ensures.followed c.stmts.ensures.read (Err _)
+      c.in_err-body.ensures.numbered)));
+}
+
+pub statement::while_stmt-returns : goal.statement::while_stmt-returns
+statement::while_stmt-returns t c = record {
+  read = same (ap spell_stmt (rows.while_laid c.in_ok-body.node c.in_ok-test.test c.in_ok-body.body))
+      (numbers.while_laid c.in_ok-body.node c.in_ok-test.test c.in_ok-body.body) (then (opened refl c.in_ok-at.ensures.opened) (behind an_expr
+      number_expr _ _ _ _ _ (plain kinds.Do _ refl refl) c.expr.result _ c.in_ok-test.ensures.followed c.expr.ensures.read (ended_behind some_stmts
+      number_stmts _ _ _ _ _ _ (matching kinds.End refl refl c.in_ok-at.ensures.opened) c.stmts.result c.followed_by-2.result
+      c.followed_by-2.ensures.followed c.stmts.ensures.read (Ok _) c.in_ok-body.ensures.numbered)));
+}
+
+pub statement::while_stmt-stmts-requires : goal.statement::while_stmt-stmts-requires
+statement::while_stmt-stmts-requires t c = (
+  omega (
+    arith,
+    c.in_ok-at.ensures.opened.passes.shorter,
+    fewer an_expr number_expr _ _ _ _ _ c.expr.result
+        _ c.in_ok-test.ensures.followed c.expr.ensures.read,
+  ),
+  tt,
+)
+
+pub statement::repeat_stmt-returns-in_err-at : goal.statement::repeat_stmt-returns-in_err-at
+statement::repeat_stmt-returns-in_err-at t c = record { read = stopped _ _ _ _ c.from_residual.ensures.1 (first c.in_err-at.ensures.opened) }
+
+pub statement::repeat_stmt-returns-in_err-body : goal.statement::repeat_stmt-returns-in_err-body
+statement::repeat_stmt-returns-in_err-body t c = record {
+  read = stopped _ _ _ _ c.from_residual-in_err-body.ensures.1 (after (opened refl
+      c.in_ok-at.ensures.opened) (first (followed some_stmts number_stmts _ _ _ _ _ (matching kinds.Until refl refl c.in_ok-at.ensures.opened)
+      c.stmts.result (Err _) c.in_err-body.ensures.followed c.stmts.ensures.read)));
+}
+
+pub statement::repeat_stmt-returns-in_err-test : goal.statement::repeat_stmt-returns-in_err-test
+statement::repeat_stmt-returns-in_err-test t c = record {
+  read = stopped _ _ _ _ c.from_residual-in_err-test.ensures.1 (after (opened refl
+      c.in_ok-at.ensures.opened) (after (followed some_stmts number_stmts _ _ _ _ _ (matching kinds.Until refl refl c.in_ok-at.ensures.opened)
+      c.stmts.result (Ok _) c.in_ok-body.ensures.followed c.stmts.ensures.read) (ended an_expr number_expr _ _ _ _ c.expr.result (Err _)
+      c.in_err-test.ensures.numbered c.expr.ensures.read)));
+}
+
+pub statement::repeat_stmt-returns : goal.statement::repeat_stmt-returns
+statement::repeat_stmt-returns t c = record {
+  read = same (ap spell_stmt (rows.repeat_laid c.in_ok-test.node c.in_ok-body.body c.in_ok-test.test))
+      (numbers.repeat_laid c.in_ok-test.node c.in_ok-body.body c.in_ok-test.test) (then (opened refl c.in_ok-at.ensures.opened) (behind some_stmts
+      number_stmts _ _ _ _ _ (matching kinds.Until refl refl c.in_ok-at.ensures.opened) c.stmts.result _ c.in_ok-body.ensures.followed
+      c.stmts.ensures.read (ended an_expr number_expr _ _ _ _ c.expr.result (Ok _) c.in_ok-test.ensures.numbered c.expr.ensures.read)));
+}
+
+pub statement::repeat_stmt-expr-requires : goal.statement::repeat_stmt-expr-requires
+statement::repeat_stmt-expr-requires t c = (
+  omega (
+    arith,
+    c.in_ok-at.ensures.opened.passes.shorter,
+    fewer some_stmts number_stmts _ _ _ _ _
+        c.stmts.result _ c.in_ok-body.ensures.followed c.stmts.ensures.read,
+  ),
+  tt,
+)
+
+pub statement::for_stmt-returns-in_err-at : goal.statement::for_stmt-returns-in_err-at
+statement::for_stmt-returns-in_err-at t c = record { read = stopped _ _ _ _ c.from_residual.ensures.1 (first c.in_err-at.ensures.opened) }
+
+pub statement::for_stmt-returns-in_err-variable : goal.statement::for_stmt-returns-in_err-variable
+statement::for_stmt-returns-in_err-variable t c = record {
+  read = stopped _ _ _ _ c.from_residual-in_err-variable.ensures.1 (after (opened refl
+      c.in_ok-at.ensures.opened) (first (followed a_name number_name _ _ _ _ _ (plain kinds.Assign _ refl refl) c.name.result (Err _)
+      c.in_err-variable.ensures.followed (at_depth a_name number_name _ _ _ _ c.name.ensures.read))));
+}
+
+pub statement::for_stmt-returns-in_err-from : goal.statement::for_stmt-returns-in_err-from
+statement::for_stmt-returns-in_err-from t c = record {
+  read = stopped _ _ _ _ c.from_residual-in_err-from.ensures.1 (after (opened refl
+      c.in_ok-at.ensures.opened) (after (followed a_name number_name _ _ _ _ _ (plain kinds.Assign _ refl refl) c.name.result (Ok _)
+      c.in_ok-variable.ensures.followed (at_depth a_name number_name _ _ _ _ c.name.ensures.read)) (first (followed an_expr number_expr _ _ _ _ _ (plain
+      kinds.To _ refl refl) c.expr.result (Err _) c.in_err-from.ensures.followed c.expr.ensures.read))));
+}
+
+pub statement::for_stmt-returns-in_err-to : goal.statement::for_stmt-returns-in_err-to
+statement::for_stmt-returns-in_err-to t c = record {
+  read = stopped _ _ _ _ c.from_residual-in_err-to.ensures.1 (after (opened refl
+      c.in_ok-at.ensures.opened) (after (followed a_name number_name _ _ _ _ _ (plain kinds.Assign _ refl refl) c.name.result (Ok _)
+      c.in_ok-variable.ensures.followed (at_depth a_name number_name _ _ _ _ c.name.ensures.read)) (after (followed an_expr number_expr _ _ _ _ _ (plain
+      kinds.To _ refl refl) c.expr.result (Ok _) c.in_ok-from.ensures.followed c.expr.ensures.read) (first c.in_err-to.ensures.read))));
+}
+
+pub statement::for_stmt-returns-in_err-by : goal.statement::for_stmt-returns-in_err-by
+statement::for_stmt-returns-in_err-by t c = record {
+  read = stopped _ _ _ _ c.from_residual-in_err-by.ensures.1 (after (opened refl
+      c.in_ok-at.ensures.opened) (after (followed a_name number_name _ _ _ _ _ (plain kinds.Assign _ refl refl) c.name.result (Ok _)
+      c.in_ok-variable.ensures.followed (at_depth a_name number_name _ _ _ _ c.name.ensures.read)) (after (followed an_expr number_expr _ _ _ _ _ (plain
+      kinds.To _ refl refl) c.expr.result (Ok _) c.in_ok-from.ensures.followed c.expr.ensures.read) (after c.in_ok-to.ensures.read (first (followed (λ
+      v. spell_by (by_of v)) numbers_of_by _ _ _ _ _ (plain kinds.Do _ refl refl) c.step.result (Err _) c.in_err-by.ensures.followed
+      c.step.ensures.read))))));
+}
+
+pub statement::for_stmt-returns-in_err-body : goal.statement::for_stmt-returns-in_err-body
+statement::for_stmt-returns-in_err-body t c = record {
+  read = stopped _ _ _ _ c.from_residual-in_err-body.ensures.1 (after (opened refl
+      c.in_ok-at.ensures.opened) (after (followed a_name number_name _ _ _ _ _ (plain kinds.Assign _ refl refl) c.name.result (Ok _)
+      c.in_ok-variable.ensures.followed (at_depth a_name number_name _ _ _ _ c.name.ensures.read)) (after (followed an_expr number_expr _ _ _ _ _ (plain
+      kinds.To _ refl refl) c.expr.result (Ok _) c.in_ok-from.ensures.followed c.expr.ensures.read) (after c.in_ok-to.ensures.read (after (followed (λ
+      v. spell_by (by_of v)) numbers_of_by _ _ _ _ _ (plain kinds.Do _ refl refl) c.step.result (Ok _) c.in_ok-by.ensures.followed c.step.ensures.read)
+      (ended_behind some_stmts number_stmts _ _ _ _ _ _ (matching kinds.End refl refl c.in_ok-at.ensures.opened) c.stmts.result c.followed_by-4.result
+      c.followed_by-4.ensures.followed c.stmts.ensures.read (Err _) c.in_err-body.ensures.numbered))))));
+}
+
+pub statement::for_stmt-returns : goal.statement::for_stmt-returns
+statement::for_stmt-returns t c = record {
+  read = same (ap spell_stmt (rows.for_laid c.in_ok-body.node c.in_ok-variable.variable c.in_ok-from.from
+      c.in_ok-to.to c.in_ok-by.by c.in_ok-body.body)) (numbers.for_laid c.in_ok-body.node c.in_ok-variable.variable c.in_ok-from.from c.in_ok-to.to
+      c.in_ok-by.by c.in_ok-body.body) (then (opened refl c.in_ok-at.ensures.opened) (behind a_name number_name _ _ _ _ _ (plain kinds.Assign _ refl
+      refl) c.name.result _ c.in_ok-variable.ensures.followed (at_depth a_name number_name _ _ _ _ c.name.ensures.read) (behind an_expr number_expr _ _
+      _ _ _ (plain kinds.To _ refl refl) c.expr.result _ c.in_ok-from.ensures.followed c.expr.ensures.read (then c.in_ok-to.ensures.read (behind (λ v.
+      spell_by (by_of v)) numbers_of_by _ _ _ _ _ (plain kinds.Do _ refl refl) c.step.result _ c.in_ok-by.ensures.followed c.step.ensures.read
+      (ended_behind some_stmts number_stmts _ _ _ _ _ _ (matching kinds.End refl refl c.in_ok-at.ensures.opened) c.stmts.result c.followed_by-4.result
+      c.followed_by-4.ensures.followed c.stmts.ensures.read (Ok _) c.in_ok-body.ensures.numbered))))));
+}
 
 pub statement::for_stmt-expr-requires : goal.statement::for_stmt-expr-requires
-statement::for_stmt-expr-requires = turns.statement::for_stmt-expr-requires
+statement::for_stmt-expr-requires t c = (
+  omega (
+    arith,
+    c.in_ok-at.ensures.opened.passes.shorter,
+    fewer a_name number_name _ _ _ _ _ c.name.result _
+        c.in_ok-variable.ensures.followed (at_depth a_name number_name _ 0 _ _ c.name.ensures.read),
+  ),
+  tt,
+)
 
 pub statement::for_stmt-expr-requires-2 : goal.statement::for_stmt-expr-requires-2
-statement::for_stmt-expr-requires-2 = turns.statement::for_stmt-expr-requires-2
+statement::for_stmt-expr-requires-2 t c = (
+  omega (
+    arith,
+    c.in_ok-at.ensures.opened.passes.shorter,
+    fewer a_name number_name _ _ _ _ _ c.name.result _
+        c.in_ok-variable.ensures.followed (at_depth a_name number_name _ 0 _ _ c.name.ensures.read),
+    fewer an_expr number_expr _ _ _ _ _ c.expr.result _
+        c.in_ok-from.ensures.followed c.expr.ensures.read,
+  ),
+  tt,
+)
 
 pub statement::for_stmt-step-requires : goal.statement::for_stmt-step-requires
-statement::for_stmt-step-requires = turns.statement::for_stmt-step-requires
+statement::for_stmt-step-requires t c = (
+  omega (
+    arith,
+    c.in_ok-at.ensures.opened.passes.shorter,
+    fewer a_name number_name _ _ _ _ _ c.name.result _
+        c.in_ok-variable.ensures.followed (at_depth a_name number_name _ 0 _ _ c.name.ensures.read),
+    fewer an_expr number_expr _ _ _ _ _ c.expr.result _
+        c.in_ok-from.ensures.followed c.expr.ensures.read,
+    c.in_ok-to.ensures.read.shorter,
+  ),
+  tt,
+)
 
 pub statement::for_stmt-stmts-requires : goal.statement::for_stmt-stmts-requires
-statement::for_stmt-stmts-requires = turns.statement::for_stmt-stmts-requires
+statement::for_stmt-stmts-requires t c = (
+  omega (
+    arith,
+    c.in_ok-at.ensures.opened.passes.shorter,
+    fewer a_name number_name _ _ _ _ _ c.name.result _
+        c.in_ok-variable.ensures.followed (at_depth a_name number_name _ 0 _ _ c.name.ensures.read),
+    fewer an_expr number_expr _ _ _ _ _ c.expr.result _
+        c.in_ok-from.ensures.followed c.expr.ensures.read,
+    c.in_ok-to.ensures.read.shorter,
+    fewer (λ v. spell_by (by_of v)) numbers_of_by _ _ _ _ _
+        c.step.result _ c.in_ok-by.ensures.followed c.step.ensures.read,
+  ),
+  tt,
+)
+
+pub statement::some_stmt-returns-in_err-at : goal.statement::some_stmt-returns-in_err-at
+statement::some_stmt-returns-in_err-at t c = record { read = stopped _ _ _ _ c.from_residual.ensures.1 (first c.in_err-at.ensures.opened) }
+
+pub statement::some_stmt-returns-in_err-variable : goal.statement::some_stmt-returns-in_err-variable
+statement::some_stmt-returns-in_err-variable t c = record {
+  read = stopped _ _ _ _ c.from_residual-in_err-variable.ensures.1 (after (opened refl
+      c.in_ok-at.ensures.opened) (first (followed a_name number_name _ _ _ _ _ (plain kinds.Assign _ refl refl) c.name.result (Err _)
+      c.in_err-variable.ensures.followed (at_depth a_name number_name _ _ _ _ c.name.ensures.read))));
+}
+
+pub statement::some_stmt-returns-in_err-from : goal.statement::some_stmt-returns-in_err-from
+statement::some_stmt-returns-in_err-from t c = record {
+  read = stopped _ _ _ _ c.from_residual-in_err-from.ensures.1 (after (opened refl
+      c.in_ok-at.ensures.opened) (after (followed a_name number_name _ _ _ _ _ (plain kinds.Assign _ refl refl) c.name.result (Ok _)
+      c.in_ok-variable.ensures.followed (at_depth a_name number_name _ _ _ _ c.name.ensures.read)) (first (followed an_expr number_expr _ _ _ _ _ (plain
+      kinds.To _ refl refl) c.expr.result (Err _) c.in_err-from.ensures.followed c.expr.ensures.read))));
+}
+
+pub statement::some_stmt-returns-in_err-to : goal.statement::some_stmt-returns-in_err-to
+statement::some_stmt-returns-in_err-to t c = record {
+  read = stopped _ _ _ _ c.from_residual-in_err-to.ensures.1 (after (opened refl
+      c.in_ok-at.ensures.opened) (after (followed a_name number_name _ _ _ _ _ (plain kinds.Assign _ refl refl) c.name.result (Ok _)
+      c.in_ok-variable.ensures.followed (at_depth a_name number_name _ _ _ _ c.name.ensures.read)) (after (followed an_expr number_expr _ _ _ _ _ (plain
+      kinds.To _ refl refl) c.expr.result (Ok _) c.in_ok-from.ensures.followed c.expr.ensures.read) (first (followed an_expr number_expr _ _ _ _ _
+      (plain kinds.Do _ refl refl) c.expr-2.result (Err _) c.in_err-to.ensures.followed c.expr-2.ensures.read)))));
+}
+
+pub statement::some_stmt-returns-in_err-body : goal.statement::some_stmt-returns-in_err-body
+statement::some_stmt-returns-in_err-body t c = record {
+  read = stopped _ _ _ _ c.from_residual-in_err-body.ensures.1 (after (opened refl
+      c.in_ok-at.ensures.opened) (after (followed a_name number_name _ _ _ _ _ (plain kinds.Assign _ refl refl) c.name.result (Ok _)
+      c.in_ok-variable.ensures.followed (at_depth a_name number_name _ _ _ _ c.name.ensures.read)) (after (followed an_expr number_expr _ _ _ _ _ (plain
+      kinds.To _ refl refl) c.expr.result (Ok _) c.in_ok-from.ensures.followed c.expr.ensures.read) (after (followed an_expr number_expr _ _ _ _ _
+      (plain kinds.Do _ refl refl) c.expr-2.result (Ok _) c.in_ok-to.ensures.followed c.expr-2.ensures.read) (ended_behind some_stmts number_stmts _ _ _
+      _ _ _ (matching kinds.End refl refl c.in_ok-at.ensures.opened) c.stmts.result c.followed_by-4.result c.followed_by-4.ensures.followed
+      c.stmts.ensures.read (Err _) c.in_err-body.ensures.numbered)))));
+}
+
+pub statement::some_stmt-returns : goal.statement::some_stmt-returns
+statement::some_stmt-returns t c = record {
+  read = same (ap spell_stmt (rows.some_laid c.in_ok-body.node c.in_ok-variable.variable c.in_ok-from.from
+      c.in_ok-to.to c.in_ok-body.body)) (numbers.some_laid c.in_ok-body.node c.in_ok-variable.variable c.in_ok-from.from c.in_ok-to.to
+      c.in_ok-body.body) (then (opened refl c.in_ok-at.ensures.opened) (behind a_name number_name _ _ _ _ _ (plain kinds.Assign _ refl refl)
+      c.name.result _ c.in_ok-variable.ensures.followed (at_depth a_name number_name _ _ _ _ c.name.ensures.read) (behind an_expr number_expr _ _ _ _ _
+      (plain kinds.To _ refl refl) c.expr.result _ c.in_ok-from.ensures.followed c.expr.ensures.read (behind an_expr number_expr _ _ _ _ _ (plain
+      kinds.Do _ refl refl) c.expr-2.result _ c.in_ok-to.ensures.followed c.expr-2.ensures.read (ended_behind some_stmts number_stmts _ _ _ _ _ _
+      (matching kinds.End refl refl c.in_ok-at.ensures.opened) c.stmts.result c.followed_by-4.result c.followed_by-4.ensures.followed
+      c.stmts.ensures.read (Ok _) c.in_ok-body.ensures.numbered)))));
+}
 
 pub statement::some_stmt-expr-requires : goal.statement::some_stmt-expr-requires
-statement::some_stmt-expr-requires = turns.statement::some_stmt-expr-requires
+statement::some_stmt-expr-requires t c = (
+  omega (
+    arith,
+    c.in_ok-at.ensures.opened.passes.shorter,
+    fewer a_name number_name _ _ _ _ _ c.name.result _
+        c.in_ok-variable.ensures.followed (at_depth a_name number_name _ 0 _ _ c.name.ensures.read),
+  ),
+  tt,
+)
 
 pub statement::some_stmt-expr-requires-2 : goal.statement::some_stmt-expr-requires-2
-statement::some_stmt-expr-requires-2 = turns.statement::some_stmt-expr-requires-2
+statement::some_stmt-expr-requires-2 t c = (
+  omega (
+    arith,
+    c.in_ok-at.ensures.opened.passes.shorter,
+    fewer a_name number_name _ _ _ _ _ c.name.result _
+        c.in_ok-variable.ensures.followed (at_depth a_name number_name _ 0 _ _ c.name.ensures.read),
+    fewer an_expr number_expr _ _ _ _ _ c.expr.result _
+        c.in_ok-from.ensures.followed c.expr.ensures.read,
+  ),
+  tt,
+)
 
 pub statement::some_stmt-stmts-requires : goal.statement::some_stmt-stmts-requires
-statement::some_stmt-stmts-requires = turns.statement::some_stmt-stmts-requires
+statement::some_stmt-stmts-requires t c = (
+  omega (
+    arith,
+    c.in_ok-at.ensures.opened.passes.shorter,
+    fewer a_name number_name _ _ _ _ _ c.name.result _
+        c.in_ok-variable.ensures.followed (at_depth a_name number_name _ 0 _ _ c.name.ensures.read),
+    fewer an_expr number_expr _ _ _ _ _ c.expr.result _
+        c.in_ok-from.ensures.followed c.expr.ensures.read,
+    fewer an_expr number_expr _ _ _ _ _ c.expr-2.result _ c.in_ok-to.ensures.followed
+        c.expr-2.ensures.read,
+  ),
+  tt,
+)
+
+pub statement::case_stmt-returns-in_err-at : goal.statement::case_stmt-returns-in_err-at
+statement::case_stmt-returns-in_err-at t c = record { read = stopped _ _ _ _ c.from_residual.ensures.1 (first c.in_err-at.ensures.opened) }
+
+pub statement::case_stmt-returns-in_err-value : goal.statement::case_stmt-returns-in_err-value
+statement::case_stmt-returns-in_err-value t c = record {
+  read = stopped _ _ _ _ c.from_residual-in_err-value.ensures.1 (after (opened refl
+      c.in_ok-at.ensures.opened) (first (followed an_expr number_expr _ _ _ _ _ (plain kinds.Of _ refl refl) c.expr.result (Err _)
+      c.in_err-value.ensures.followed c.expr.ensures.read)));
+}
+
+pub statement::case_stmt-returns-in_err-first : goal.statement::case_stmt-returns-in_err-first
+statement::case_stmt-returns-in_err-first t c = record {
+  read = stopped _ _ _ _ c.from_residual-in_err-first.ensures.1 (after (opened refl
+      c.in_ok-at.ensures.opened) (after (followed an_expr number_expr _ _ _ _ _ (plain kinds.Of _ refl refl) c.expr.result (Ok _)
+      c.in_ok-value.ensures.followed c.expr.ensures.read) (first c.in_err-first.ensures.read)));
+}
+
+pub statement::case_stmt-returns-in_err-more : goal.statement::case_stmt-returns-in_err-more
+statement::case_stmt-returns-in_err-more t c = record {
+  read = stopped _ _ _ _ c.from_residual-in_err-more.ensures.1 (after (opened refl
+      c.in_ok-at.ensures.opened) (after (followed an_expr number_expr _ _ _ _ _ (plain kinds.Of _ refl refl) c.expr.result (Ok _)
+      c.in_ok-value.ensures.followed c.expr.ensures.read) (after c.in_ok-first.ensures.read (first c.in_err-more.ensures.read))));
+}
+
+pub statement::case_stmt-returns-in_err-otherwise : goal.statement::case_stmt-returns-in_err-otherwise
+statement::case_stmt-returns-in_err-otherwise t c = record {
+  read = stopped _ _ _ _ c.from_residual-in_err-otherwise.ensures.1 (after (opened refl
+      c.in_ok-at.ensures.opened) (after (followed an_expr number_expr _ _ _ _ _ (plain kinds.Of _ refl refl) c.expr.result (Ok _)
+      c.in_ok-value.ensures.followed c.expr.ensures.read) (after c.in_ok-first.ensures.read (after c.in_ok-more.ensures.read (ended_behind (λ v.
+      spell_else (else_of v)) numbers_of_else _ _ _ _ _ _ (matching kinds.End refl refl c.in_ok-at.ensures.opened) c.otherwise.result
+      c.followed_by-2.result c.followed_by-2.ensures.followed c.otherwise.ensures.read (Err _) c.in_err-otherwise.ensures.numbered)))));
+}
+
+pub statement::case_stmt-returns : goal.statement::case_stmt-returns
+statement::case_stmt-returns t c = record {
+  read = same (ap spell_stmt (rows.case_laid c.in_ok-otherwise.node c.in_ok-value.value
+      c.in_ok-first-2.first c.in_ok-more.more c.in_ok-otherwise.otherwise)) (numbers.case_laid c.in_ok-otherwise.node c.in_ok-value.value
+      c.in_ok-first-2.first c.in_ok-more.more c.in_ok-otherwise.otherwise) (then (opened refl c.in_ok-at.ensures.opened) (behind an_expr number_expr _ _
+      _ _ _ (plain kinds.Of _ refl refl) c.expr.result _ c.in_ok-value.ensures.followed c.expr.ensures.read (then (replaced (λ v. spell_arm (view_arm
+      v)) number_arm c.in_ok-first-2.ensures.ok c.in_ok-first.ensures.read) (then c.in_ok-more.ensures.read (ended_behind (λ v. spell_else (else_of v))
+      numbers_of_else _ _ _ _ _ _ (matching kinds.End refl refl c.in_ok-at.ensures.opened) c.otherwise.result c.followed_by-2.result
+      c.followed_by-2.ensures.followed c.otherwise.ensures.read (Ok _) c.in_ok-otherwise.ensures.numbered)))));
+}
+
+pub statement::case_stmt-arm-requires : goal.statement::case_stmt-arm-requires
+statement::case_stmt-arm-requires t c = (
+  omega (
+    arith,
+    c.in_ok-at.ensures.opened.passes.shorter,
+    fewer an_expr number_expr _ _ _ _ _ c.expr.result _
+        c.in_ok-value.ensures.followed c.expr.ensures.read,
+  ),
+  tt,
+)
+
+pub statement::case_stmt-arm_list-requires : goal.statement::case_stmt-arm_list-requires
+statement::case_stmt-arm_list-requires t c = (
+  omega (
+    arith,
+    c.in_ok-at.ensures.opened.passes.shorter,
+    fewer an_expr number_expr _ _ _ _ _
+        c.expr.result _ c.in_ok-value.ensures.followed c.expr.ensures.read,
+    c.in_ok-first.ensures.read.shorter,
+  ),
+  tt,
+)
+
+pub statement::case_stmt-otherwise-requires : goal.statement::case_stmt-otherwise-requires
+statement::case_stmt-otherwise-requires t c = (
+  omega (
+    arith,
+    c.in_ok-at.ensures.opened.passes.shorter,
+    fewer an_expr number_expr _ _ _ _ _
+        c.expr.result _ c.in_ok-value.ensures.followed c.expr.ensures.read,
+    c.in_ok-first.ensures.read.shorter,
+    c.in_ok-more.ensures.read.shorter,
+  ),
+  tt,
+)
+
+pub statement::labelled_arm-returns-in_err-first : goal.statement::labelled_arm-returns-in_err-first
+statement::labelled_arm-returns-in_err-first t c = record { read = stopped _ _ _ _ c.from_residual.ensures.1 (first c.in_err-first.ensures.read) }
+
+pub statement::labelled_arm-returns-in_err-more : goal.statement::labelled_arm-returns-in_err-more
+statement::labelled_arm-returns-in_err-more t c = record {
+  read = stopped _ _ _ _ c.from_residual-in_err-more.ensures.1 (after
+      c.in_ok-first.ensures.read (first (followed more_labels count_labels _ _ _ _ _ (plain kinds.Colon _ refl refl) c.label_list.result (Err _)
+      c.in_err-more.ensures.followed c.label_list.ensures.read)));
+}
+
+pub statement::labelled_arm-returns-in_err-body : goal.statement::labelled_arm-returns-in_err-body
+statement::labelled_arm-returns-in_err-body t c = record {
+  read = stopped _ _ _ _ c.from_residual-in_err-body.ensures.1 (after
+      c.in_ok-first.ensures.read (after (followed more_labels count_labels _ _ _ _ _ (plain kinds.Colon _ refl refl) c.label_list.result (Ok _)
+      c.in_ok-more.ensures.followed c.label_list.ensures.read) (ended some_stmts number_stmts _ _ _ _ c.stmts.result (Err _)
+      c.in_err-body.ensures.numbered c.stmts.ensures.read)));
+}
+
+pub statement::labelled_arm-returns : goal.statement::labelled_arm-returns
+statement::labelled_arm-returns t c = record {
+  read = same (ap spell_arm (rows.labelled_laid c.in_ok-body.node c.in_ok-first.first c.in_ok-more.more
+      c.in_ok-body.body)) (numbers.labelled_laid c.in_ok-body.node c.in_ok-first.first c.in_ok-more.more c.in_ok-body.body) (then
+      c.in_ok-first.ensures.read (behind more_labels count_labels _ _ _ _ _ (plain kinds.Colon _ refl refl) c.label_list.result _
+      c.in_ok-more.ensures.followed c.label_list.ensures.read (ended some_stmts number_stmts _ _ _ _ c.stmts.result (Ok _) c.in_ok-body.ensures.numbered
+      c.stmts.ensures.read)));
+}
+
+pub statement::labelled_arm-stmts-requires : goal.statement::labelled_arm-stmts-requires
+statement::labelled_arm-stmts-requires t c = (
+  omega (
+    arith,
+    c.in_ok-first.ensures.read.shorter,
+    fewer more_labels count_labels _ _ _ _ _
+        c.label_list.result _ c.in_ok-more.ensures.followed c.label_list.ensures.read,
+  ),
+  tt,
+)
+
+pub statement::label-returns-in_err-low : goal.statement::label-returns-in_err-low
+statement::label-returns-in_err-low t c = record { read = stopped _ _ _ _ c.from_residual.ensures.1 (first c.in_err-low.ensures.read) }
+
+pub statement::label-returns-in_err-high : goal.statement::label-returns-in_err-high
+statement::label-returns-in_err-high t c = record {
+  read = stopped _ _ _ _ c.from_residual-in_err-high.ensures.1 (after c.in_ok-low.ensures.read
+      (ended (λ v. spell_high (high_of v)) numbers_of_high _ _ _ _ c.high.result (Err _) c.in_err-high.ensures.numbered c.high.ensures.read));
+}
+
+pub statement::label-returns : goal.statement::label-returns
+statement::label-returns t c = record {
+  read = same (ap spell_label (rows.label_rolled (record {
+    node = c.in_ok-high.node;
+    low = c.in_ok-low.low;
+    high
+        = c.in_ok-high.high;
+  }))) (numbers.label_rolled (record { node = c.in_ok-high.node; low = c.in_ok-low.low; high = c.in_ok-high.high })) (then
+      c.in_ok-low.ensures.read (ended (λ v. spell_high (high_of v)) numbers_of_high _ _ _ _ c.high.result (Ok _) c.in_ok-high.ensures.numbered
+      c.high.ensures.read));
+}
+
+pub statement::either_stmt-returns-in_err-at : goal.statement::either_stmt-returns-in_err-at
+statement::either_stmt-returns-in_err-at t c = record { read = stopped _ _ _ _ c.from_residual.ensures.1 (first c.in_err-at.ensures.opened) }
+
+pub statement::either_stmt-returns-in_err-first : goal.statement::either_stmt-returns-in_err-first
+statement::either_stmt-returns-in_err-first t c = record {
+  read = stopped _ _ _ _ c.from_residual-in_err-first.ensures.1 (after (opened refl
+      c.in_ok-at.ensures.opened) (first c.in_err-first.ensures.read));
+}
+
+pub statement::either_stmt-returns-in_err-more : goal.statement::either_stmt-returns-in_err-more
+statement::either_stmt-returns-in_err-more t c = record {
+  read = stopped _ _ _ _ c.from_residual-in_err-more.ensures.1 (after (opened refl
+      c.in_ok-at.ensures.opened) (after c.in_ok-first.ensures.read (ended_behind more_orelses count_orelses _ _ _ _ _ _ (matching kinds.End refl refl
+      c.in_ok-at.ensures.opened) c.orelse_list.result c.followed_by.result c.followed_by.ensures.followed c.orelse_list.ensures.read (Err _)
+      c.in_err-more.ensures.numbered)));
+}
+
+pub statement::either_stmt-returns : goal.statement::either_stmt-returns
+statement::either_stmt-returns t c = record {
+  read = same (ap spell_stmt (rows.either_laid c.in_ok-more.node c.in_ok-first.first c.in_ok-more.more))
+      (numbers.either_laid c.in_ok-more.node c.in_ok-first.first c.in_ok-more.more) (then (opened refl c.in_ok-at.ensures.opened) (then
+      c.in_ok-first.ensures.read (ended_behind more_orelses count_orelses _ _ _ _ _ _ (matching kinds.End refl refl c.in_ok-at.ensures.opened)
+      c.orelse_list.result c.followed_by.result c.followed_by.ensures.followed c.orelse_list.ensures.read (Ok _) c.in_ok-more.ensures.numbered)));
+}
+
+pub statement::forall_stmt-returns-in_err-at : goal.statement::forall_stmt-returns-in_err-at
+statement::forall_stmt-returns-in_err-at t c = record { read = stopped _ _ _ _ c.from_residual.ensures.1 (first c.in_err-at.ensures.opened) }
+
+pub statement::forall_stmt-returns-in_err-choice : goal.statement::forall_stmt-returns-in_err-choice
+statement::forall_stmt-returns-in_err-choice t c = record {
+  read = stopped _ _ _ _ c.from_residual-in_err-choice.ensures.1 (after (opened refl
+      c.in_ok-at.ensures.opened) (first (followed some_stmts number_stmts _ _ _ _ _ (plain kinds.Do _ refl refl) c.stmts.result (Err _)
+      c.in_err-choice.ensures.followed c.stmts.ensures.read)));
+}
+
+pub statement::forall_stmt-returns-in_err-body : goal.statement::forall_stmt-returns-in_err-body
+statement::forall_stmt-returns-in_err-body t c = record {
+  read = stopped _ _ _ _ c.from_residual-in_err-body.ensures.1 (after (opened refl
+      c.in_ok-at.ensures.opened) (after (followed some_stmts number_stmts _ _ _ _ _ (plain kinds.Do _ refl refl) c.stmts.result (Ok _)
+      c.in_ok-choice.ensures.followed c.stmts.ensures.read) (ended_behind some_stmts number_stmts _ _ _ _ _ _ (matching kinds.End refl refl
+      c.in_ok-at.ensures.opened) c.stmts-2.result c.followed_by-2.result c.followed_by-2.ensures.followed c.stmts-2.ensures.read (Err _)
+      c.in_err-body.ensures.numbered)));
+}
+
+pub statement::forall_stmt-returns : goal.statement::forall_stmt-returns
+statement::forall_stmt-returns t c = record {
+  read = same (ap spell_stmt (rows.forall_laid c.in_ok-body.node c.in_ok-choice.choice c.in_ok-body.body))
+      (numbers.forall_laid c.in_ok-body.node c.in_ok-choice.choice c.in_ok-body.body) (then (opened refl c.in_ok-at.ensures.opened) (behind some_stmts
+      number_stmts _ _ _ _ _ (plain kinds.Do _ refl refl) c.stmts.result _ c.in_ok-choice.ensures.followed c.stmts.ensures.read (ended_behind some_stmts
+      number_stmts _ _ _ _ _ _ (matching kinds.End refl refl c.in_ok-at.ensures.opened) c.stmts-2.result c.followed_by-2.result
+      c.followed_by-2.ensures.followed c.stmts-2.ensures.read (Ok _) c.in_ok-body.ensures.numbered)));
+}
+
+pub statement::forall_stmt-stmts-requires-2 : goal.statement::forall_stmt-stmts-requires-2
+statement::forall_stmt-stmts-requires-2 t c = (
+  omega (
+    arith,
+    c.in_ok-at.ensures.opened.passes.shorter,
+    fewer some_stmts number_stmts _ _ _ _ _
+        c.stmts.result _ c.in_ok-choice.ensures.followed c.stmts.ensures.read,
+  ),
+  tt,
+)
+
+pub statement::commit_stmt-returns-in_err-at : goal.statement::commit_stmt-returns-in_err-at
+statement::commit_stmt-returns-in_err-at t c = record { read = stopped _ _ _ _ c.from_residual.ensures.1 (first c.in_err-at.ensures.opened) }
+
+pub statement::commit_stmt-returns-in_err-body : goal.statement::commit_stmt-returns-in_err-body
+statement::commit_stmt-returns-in_err-body t c = record {
+  read = stopped _ _ _ _ c.from_residual-in_err-body.ensures.1 (after (opened refl
+      c.in_ok-at.ensures.opened) (ended_behind some_stmts number_stmts _ _ _ _ _ _ (matching kinds.End refl refl c.in_ok-at.ensures.opened)
+      c.stmts.result c.followed_by.result c.followed_by.ensures.followed c.stmts.ensures.read (Err _) c.in_err-body.ensures.numbered));
+}
+
+pub statement::commit_stmt-returns : goal.statement::commit_stmt-returns
+statement::commit_stmt-returns t c = record {
+  read = same (ap spell_stmt (rows.commit_laid c.in_ok-body.node c.in_ok-body.body)) (numbers.commit_laid
+      c.in_ok-body.node c.in_ok-body.body) (then (opened refl c.in_ok-at.ensures.opened) (ended_behind some_stmts number_stmts _ _ _ _ _ _ (matching
+      kinds.End refl refl c.in_ok-at.ensures.opened) c.stmts.result c.followed_by.result c.followed_by.ensures.followed c.stmts.ensures.read (Ok _)
+      c.in_ok-body.ensures.numbered));
+}
+
+pub statement::return_stmt-returns-in_err-at : goal.statement::return_stmt-returns-in_err-at
+statement::return_stmt-returns-in_err-at t c = record { read = stopped _ _ _ _ c.from_residual.ensures.1 (first (c.in_err-at.ensures.passes _)) }
+
+pub statement::return_stmt-returns-in_err-value : goal.statement::return_stmt-returns-in_err-value
+statement::return_stmt-returns-in_err-value t c = record {
+  read = stopped _ _ _ _ c.from_residual-in_err-value.ensures.1 (after (passed refl refl
+      c.in_ok-at.ensures.passes) (ended (λ v. spell_returned (returned_of v)) numbers_of_returned _ _ _ _ c.returned.result (Err _)
+      c.in_err-value.ensures.numbered c.returned.ensures.read));
+}
+
+pub statement::return_stmt-returns : goal.statement::return_stmt-returns
+statement::return_stmt-returns t c = record {
+  read = same (ap spell_stmt (rows.return_laid c.in_ok-value.node c.in_ok-value.value))
+      (numbers.return_laid c.in_ok-value.node c.in_ok-value.value) (then (passed refl refl c.in_ok-at.ensures.passes) (ended (λ v. spell_returned
+      (returned_of v)) numbers_of_returned _ _ _ _ c.returned.result (Ok _) c.in_ok-value.ensures.numbered c.returned.ensures.read));
+}
+
+pub statement::read_stmt-returns-in_err-at : goal.statement::read_stmt-returns-in_err-at
+statement::read_stmt-returns-in_err-at t c = record { read = stopped _ _ _ _ c.from_residual.ensures.1 (first (c.in_err-at.ensures.passes _)) }
+
+pub statement::read_stmt-returns-in_err-at-2 : goal.statement::read_stmt-returns-in_err-at-2
+statement::read_stmt-returns-in_err-at-2 t c = record {
+  read = stopped _ _ _ _ c.from_residual-in_err-at-2.ensures.1 (after (passed refl refl
+      c.in_ok-at.ensures.passes) (first c.in_err-at-2.ensures.opened));
+}
+
+pub statement::read_stmt-returns-in_err-first : goal.statement::read_stmt-returns-in_err-first
+statement::read_stmt-returns-in_err-first t c = record {
+  read = stopped _ _ _ _ c.from_residual-in_err-first.ensures.1 (after (passed refl refl
+      c.in_ok-at.ensures.passes) (after (opened refl c.in_ok-at-2.ensures.opened) (first c.in_err-first.ensures.read)));
+}
+
+pub statement::read_stmt-returns-in_err-more : goal.statement::read_stmt-returns-in_err-more
+statement::read_stmt-returns-in_err-more t c = record {
+  read = stopped _ _ _ _ c.from_residual-in_err-more.ensures.1 (after (passed refl refl
+      c.in_ok-at.ensures.passes) (after (opened refl c.in_ok-at-2.ensures.opened) (after c.in_ok-first.ensures.read (ended_behind more_desigs
+      count_desigs _ _ _ _ _ _ (matching kinds.CloseParen refl refl c.in_ok-at-2.ensures.opened) c.desig_list.result c.followed_by.result
+      c.followed_by.ensures.followed c.desig_list.ensures.read (Err _) c.in_err-more.ensures.numbered))));
+}
+
+pub statement::read_stmt-returns : goal.statement::read_stmt-returns
+statement::read_stmt-returns t c = record {
+  read = same (ap spell_stmt (rows.read_laid c.in_ok-more.node c.in_ok-first.first c.in_ok-more.more))
+      (numbers.read_laid c.in_ok-more.node c.in_ok-first.first c.in_ok-more.more) (then (passed refl refl c.in_ok-at.ensures.passes) (then (opened refl
+      c.in_ok-at-2.ensures.opened) (then c.in_ok-first.ensures.read (ended_behind more_desigs count_desigs _ _ _ _ _ _ (matching kinds.CloseParen refl
+      refl c.in_ok-at-2.ensures.opened) c.desig_list.result c.followed_by.result c.followed_by.ensures.followed c.desig_list.ensures.read (Ok _)
+      c.in_ok-more.ensures.numbered))));
+}
+
+pub statement::write_stmt-returns-in_err-at : goal.statement::write_stmt-returns-in_err-at
+statement::write_stmt-returns-in_err-at t c = record { read = stopped _ _ _ _ c.from_residual.ensures.1 (first (c.in_err-at.ensures.passes _)) }
+
+pub statement::write_stmt-returns-in_err-at-2 : goal.statement::write_stmt-returns-in_err-at-2
+statement::write_stmt-returns-in_err-at-2 t c = record {
+  read = stopped _ _ _ _ c.from_residual-in_err-at-2.ensures.1 (after (passed refl refl
+      c.in_ok-at.ensures.passes) (first c.in_err-at-2.ensures.opened));
+}
+
+pub statement::write_stmt-returns-in_err-items : goal.statement::write_stmt-returns-in_err-items
+statement::write_stmt-returns-in_err-items t c = record {
+  read = stopped _ _ _ _ c.from_residual-in_err-items.ensures.1 (after (passed refl refl
+      c.in_ok-at.ensures.passes) (after (opened refl c.in_ok-at-2.ensures.opened) (ended_behind some_exprs number_exprs _ _ _ _ _ _ (matching
+      kinds.CloseParen refl refl c.in_ok-at-2.ensures.opened) c.exprs.result c.followed_by.result c.followed_by.ensures.followed c.exprs.ensures.read
+      (Err _) c.in_err-items.ensures.numbered)));
+}
+
+pub statement::write_stmt-returns : goal.statement::write_stmt-returns
+statement::write_stmt-returns t c = record {
+  read = (then (passed refl refl c.in_ok-at.ensures.passes) (then (opened refl c.in_ok-at-2.ensures.opened)
+      (ended_behind some_exprs number_exprs _ _ _ _ _ _ (matching kinds.CloseParen refl refl c.in_ok-at-2.ensures.opened) c.exprs.result
+      c.followed_by.result c.followed_by.ensures.followed c.exprs.ensures.read (Ok _) c.in_ok-items.ensures.numbered)));
+}
+
+pub expression::expr-returns-in_err-left : goal.expression::expr-returns-in_err-left
+expression::expr-returns-in_err-left t c = record { read = stopped _ _ _ _ c.from_residual.ensures.1 (first c.in_err-left.ensures.read) }
+
+pub expression::expr-returns : goal.expression::expr-returns
+expression::expr-returns t c = record {
+  read = extended c.expr_from.result (λ v. spell_expr (view_expr v)) number_expr (λ o. compared_part ∷ o)
+      c.in_ok-left.ensures.read c.expr_from.ensures.read;
+}
+
+pub expression::simple-returns-in_err-first : goal.expression::simple-returns-in_err-first
+expression::simple-returns-in_err-first t c = record {
+  read = stopped _ _ _ _ c.from_residual.ensures.1 (after (c.sign-sign.ensures.read _) (first
+      c.in_err-first.ensures.read));
+}
+
+pub expression::simple-returns : goal.expression::simple-returns
+expression::simple-returns t c = record {
+  read = extended c.simple_from.result (λ v. spell_simple (view_simple v)) number_simple (λ o. term_tail ∷ o)
+      (then (c.sign-sign.ensures.read _) c.in_ok-first.ensures.read) c.simple_from.ensures.read;
+}
+
+pub expression::term-returns-in_err-first : goal.expression::term-returns-in_err-first
+expression::term-returns-in_err-first t c = record { read = stopped _ _ _ _ c.from_residual.ensures.1 (first c.in_err-first.ensures.read) }
+
+pub expression::term-returns : goal.expression::term-returns
+expression::term-returns t c = record {
+  read = extended c.term_from.result (λ v. spell_term (view_term v)) number_term (λ o. factor_tail ∷ o)
+      c.in_ok-first.ensures.read c.term_from.ensures.read;
+}
+
+pub expression::desig_value-returns-in_err-primary : goal.expression::desig_value-returns-in_err-primary
+expression::desig_value-returns-in_err-primary t c = record { read = stopped _ _ _ _ c.from_residual.ensures.1 (first c.in_err-primary.ensures.read) }
+
+pub expression::desig_value-returns-in_err-node : goal.expression::desig_value-returns-in_err-node
+expression::desig_value-returns-in_err-node t c = record {
+  read = stopped _ _ _ _ c.from_residual-in_err-node.ensures.1 (want
+      c.in_err-node.ensures.counted);
+}
+
+pub expression::desig_value-returns-in_err-first : goal.expression::desig_value-returns-in_err-first
+expression::desig_value-returns-in_err-first t c = record {
+  read = stopped _ _ _ _ c.from_residual-in_err-first.ensures.1 (beyond (twice
+      c.in_ok-primary.ensures.read (extending refl refl (counted c.in_ok-node.ensures.counted))) (first c.in_err-first.ensures.read));
+}
+
+pub expression::desig_value-returns-in_err-left : goal.expression::desig_value-returns-in_err-left
+expression::desig_value-returns-in_err-left t c = record {
+  read = stopped _ _ _ _ c.from_residual-in_err-left.ensures.1 (beyond (twice
+      c.in_ok-primary.ensures.read (twice (extending refl refl (counted c.in_ok-node.ensures.counted)) c.in_ok-first.ensures.read)) (first
+      c.in_err-left.ensures.read));
+}
+
+pub expression::desig_value-returns : goal.expression::desig_value-returns
+expression::desig_value-returns t c = record {
+  read = extended_twice c.expr_from.result (λ v. spell_expr (view_expr v)) number_expr (λ o.
+      compared_part ∷ o) (twice c.in_ok-primary.ensures.read (twice (extending refl refl (counted c.in_ok-node.ensures.counted)) (twice
+      c.in_ok-first.ensures.read c.in_ok-left.ensures.read))) c.expr_from.ensures.read;
+}
+
+pub expression::compared-returns-in_default : goal.expression::compared-returns-in_default
+expression::compared-returns-in_default t c = record { read = skipped c.in_default.ensures.passes }
+
+pub expression::compared-returns-in_err-right : goal.expression::compared-returns-in_err-right
+expression::compared-returns-in_err-right t c = record {
+  read = stopped _ _ _ _ c.from_residual.ensures.1 (becoming_fails (heads.begins_relation
+      c.in-Some.relation c.in-Some.ensures.passes) (after (passed (heads.relation_opens c.in-Some.relation) (heads.relation_closes c.in-Some.relation)
+      c.in-Some.ensures.passes) (first c.in_err-right.ensures.read)));
+}
+
+pub expression::compared-returns : goal.expression::compared-returns
+expression::compared-returns t c = record {
+  read = becoming (heads.begins_relation c.in-Some.relation c.in-Some.ensures.passes) (same (ap (λ v.
+      spell_compared (tree.compared (dc.out-Compared v).relation (view_simple (dc.out-Compared v).right))) c.in_ok-compared.ensures.ok ∙ ap (λ o.
+      spell_compared (tree.compared o.relation (view_simple o.right))) (dc.out-roll-Compared (record {
+        relation = c.in-Some.relation;
+        right =
+            c.in_ok-right.right;
+      }))) (ap (λ v. token >> number_simple (dc.out-Compared v).right) c.in_ok-compared.ensures.ok ∙ ap (λ o. token >> number_simple
+      o.right) (dc.out-roll-Compared (record { relation = c.in-Some.relation; right = c.in_ok-right.right }))) (then (passed (heads.relation_opens
+      c.in-Some.relation) (heads.relation_closes c.in-Some.relation) c.in-Some.ensures.passes) c.in_ok-right.ensures.read));
+}
+
+pub expression::terms-loop-operator-init : goal.expression::terms-loop-operator-init
+expression::terms-loop-operator-init t c = rw c.new-more.ensures.items loops.loops_start
+
+pub expression::terms-loop-operator-preserved : goal.expression::terms-loop-operator-preserved
+expression::terms-loop-operator-preserved t c = rw c.in_ok-push.ensures.items (loops.turned (lists.terms_spelled_rolled c.loop-operator.more.items
+    (record { operator = c.in-Some.operator; operand = c.in_ok-operand.operand })) (lists.terms_numbered_rolled c.loop-operator.more.items (record {
+      operator = c.in-Some.operator;
+      operand = c.in_ok-operand.operand;
+    })) c.loop-operator.invariant (heads.begins_add c.in-Some.operator
+    c.in-Some.ensures.passes) (then (passed (heads.add_opens c.in-Some.operator) (heads.add_closes c.in-Some.operator) c.in-Some.ensures.passes)
+    c.in_ok-operand.ensures.read))
+
+pub expression::terms-returns-in_err-operand : goal.expression::terms-returns-in_err-operand
+expression::terms-returns-in_err-operand t c = record {
+  read = stopped _ _ _ _ c.from_residual.ensures.1 (loops.broken c.loop-operator.invariant
+      (heads.begins_add c.in-Some.operator c.in-Some.ensures.passes) (after (passed (heads.add_opens c.in-Some.operator) (heads.add_closes
+      c.in-Some.operator) c.in-Some.ensures.passes) c.in_err-operand.ensures.read));
+}
+
+pub expression::terms-returns : goal.expression::terms-returns
+expression::terms-returns t c = record { read = loops.ended c.loop-operator.invariant c.in_default.ensures.passes }
+
+pub expression::factors-loop-operator-init : goal.expression::factors-loop-operator-init
+expression::factors-loop-operator-init t c = rw c.new-more.ensures.items loops.loops_start
+
+pub expression::factors-loop-operator-preserved : goal.expression::factors-loop-operator-preserved
+expression::factors-loop-operator-preserved t c = rw c.in_ok-push.ensures.items (loops.turned (lists.factors_spelled c.loop-operator.more.items
+    (record { operator = c.in-Some.operator; operand = c.in_ok-operand.operand })) (lists.factors_numbered c.loop-operator.more.items (record {
+      operator = c.in-Some.operator;
+      operand = c.in_ok-operand.operand;
+    })) c.loop-operator.invariant (heads.begins_mul c.in-Some.operator
+    c.in-Some.ensures.passes) (then (passed (heads.mul_opens c.in-Some.operator) (heads.mul_closes c.in-Some.operator) c.in-Some.ensures.passes)
+    c.in_ok-operand.ensures.read))
+
+pub expression::factors-returns-in_err-operand : goal.expression::factors-returns-in_err-operand
+expression::factors-returns-in_err-operand t c = record {
+  read = stopped _ _ _ _ c.from_residual.ensures.1 (loops.broken c.loop-operator.invariant
+      (heads.begins_mul c.in-Some.operator c.in-Some.ensures.passes) (after (passed (heads.mul_opens c.in-Some.operator) (heads.mul_closes
+      c.in-Some.operator) c.in-Some.ensures.passes) c.in_err-operand.ensures.read));
+}
+
+pub expression::factors-returns : goal.expression::factors-returns
+expression::factors-returns t c = record { read = loops.ended c.loop-operator.invariant c.in_default.ensures.passes }
+
+pub expression::factor-returns-in_err-primary : goal.expression::factor-returns-in_err-primary
+expression::factor-returns-in_err-primary t c = record {
+  read = stopped _ _ _ _ c.from_residual.ensures.1 (becoming_fails (heads.begins_not
+      c.in-Some.ensures.passes) (after (passed refl refl c.in-Some.ensures.passes) (first c.in_err-primary.ensures.read)));
+}
+
+pub expression::factor-returns-in_err-node : goal.expression::factor-returns-in_err-node
+expression::factor-returns-in_err-node t c = record {
+  read = stopped _ _ _ _ c.from_residual-in_err-node.ensures.1 (want
+      c.in_err-node.ensures.counted);
+}
+
+pub expression::factor-returns-in-Some : goal.expression::factor-returns-in-Some
+expression::factor-returns-in-Some t c = record {
+  read = becoming (heads.begins_not c.in-Some.ensures.passes) (then (passed refl refl
+      c.in-Some.ensures.passes) (then c.in_ok-primary.ensures.read (counted c.in_ok-node.ensures.counted)));
+}
+
+pub expression::factor-returns-in_err-primary-2 : goal.expression::factor-returns-in_err-primary-2
+expression::factor-returns-in_err-primary-2 t c = record {
+  read = stopped _ _ _ _ c.from_residual-in_err-primary-2.ensures.1 (becoming_fails
+      (heads.no_not _ c.in_default.ensures.passes) (first c.in_err-primary-2.ensures.read));
+}
+
+pub expression::factor-returns-in_err-node-2 : goal.expression::factor-returns-in_err-node-2
+expression::factor-returns-in_err-node-2 t c = record {
+  read = stopped _ _ _ _ c.from_residual-in_err-node-2.ensures.1 (want
+      c.in_err-node-2.ensures.counted);
+}
+
+pub expression::factor-returns : goal.expression::factor-returns
+expression::factor-returns t c = record {
+  read = becoming (heads.no_not _ c.in_default.ensures.passes) (then c.in_ok-primary-2.ensures.read (counted
+      c.in_ok-node-2.ensures.counted));
+}
+
+pub expression::simple-term-requires : goal.expression::simple-term-requires
+expression::simple-term-requires t c = (omega (arith, (c.sign-sign.ensures.read 0).shorter), tt)
+
+pub expression::simple-simple_from-requires : goal.expression::simple-simple_from-requires
+expression::simple-simple_from-requires t c = (omega (arith, (c.sign-sign.ensures.read 0).shorter, c.in_ok-first.ensures.read.shorter), tt)
+
+pub expression::exprs-returns-in_err-first : goal.expression::exprs-returns-in_err-first
+expression::exprs-returns-in_err-first t c = record { read = stopped _ _ _ _ c.from_residual.ensures.1 (first c.in_err-first.ensures.read) }
+
+pub expression::exprs-returns-in_err-more : goal.expression::exprs-returns-in_err-more
+expression::exprs-returns-in_err-more t c = record {
+  read = stopped _ _ _ _ c.from_residual-in_err-more.ensures.1 (after c.in_ok-first.ensures.read
+      (first c.in_err-more.ensures.read));
+}
+
+pub expression::exprs-returns : goal.expression::exprs-returns
+expression::exprs-returns t c = record {
+  read = same (ap spell_exprs (rows.exprs_rolled (record {
+    first = c.in_ok-first-2.first;
+    more =
+        c.in_ok-more.more;
+  }))) (numbers.exprs_rolled (record { first = c.in_ok-first-2.first; more = c.in_ok-more.more })) (then (replaced (λ v.
+      spell_expr (view_expr v)) number_expr c.in_ok-first-2.ensures.ok c.in_ok-first.ensures.read) c.in_ok-more.ensures.read);
+}
+
+pub expression::named-returns-in_err-args : goal.expression::named-returns-in_err-args
+expression::named-returns-in_err-args t c = record { read = stopped _ _ _ _ c.from_residual.ensures.1 (first c.in_err-args.ensures.read) }
+
+pub expression::named-returns-in_err-node : goal.expression::named-returns-in_err-node
+expression::named-returns-in_err-node t c = record {
+  read = stopped _ _ _ _ c.from_residual-in_err-node.ensures.1 (want c.in_err-node.ensures.counted);
+}
+
+pub expression::named-returns : goal.expression::named-returns
+expression::named-returns t c = record {
+  read = extending (ap spell_primary (rows.named_laid c.in_ok-node.node c.args.desig c.in_ok-args.args))
+      (numbers.named_laid c.in_ok-node.node c.args.desig c.in_ok-args.args) (then c.in_ok-args.ensures.read (counted c.in_ok-node.ensures.counted));
+}
+
+pub expression::expr_list-loop-after-init : goal.expression::expr_list-loop-after-init
+expression::expr_list-loop-after-init t c = rw c.new-more.ensures.items loops.loops_start
+
+pub expression::expr_list-loop-after-preserved : goal.expression::expr_list-loop-after-preserved
+expression::expr_list-loop-after-preserved t c = rw c.in_ok-push.ensures.items (loops.turned (lists.exprs_spelled c.loop-after.more.items
+    c.in_ok-next.next) (lists.exprs_numbered c.loop-after.more.items c.in_ok-next.next) c.loop-after.invariant (heads.begins_exprs
+    c.in-Some.ensures.passes) (then (passed refl refl c.in-Some.ensures.passes) c.in_ok-next.ensures.read))
+
+pub expression::expr_list-returns-in_err-next : goal.expression::expr_list-returns-in_err-next
+expression::expr_list-returns-in_err-next t c = record {
+  read = stopped _ _ _ _ c.from_residual.ensures.1 (loops.broken c.loop-after.invariant
+      (heads.begins_exprs c.in-Some.ensures.passes) (after (passed refl refl c.in-Some.ensures.passes) c.in_err-next.ensures.read));
+}
+
+pub expression::expr_list-returns : goal.expression::expr_list-returns
+expression::expr_list-returns t c = record { read = loops.ended c.loop-after.invariant (heads.skips_exprs _ c.in_default.ensures.passes) }
+
+pub expression::args-returns-in_err-at : goal.expression::args-returns-in_err-at
+expression::args-returns-in_err-at t c = record {
+  read = stopped _ _ _ _ c.from_residual.ensures.1 (becoming_fails (heads.at_args _ (sym
+      c.is_at.ensures.starts ∙ c.if-is_at.true)) (first c.in_err-at.ensures.opened));
+}
+
+pub expression::args-returns-in_err-values : goal.expression::args-returns-in_err-values
+expression::args-returns-in_err-values t c = record {
+  read = stopped _ _ _ _ c.from_residual-in_err-values.ensures.1 (becoming_fails (heads.at_args _
+      (sym c.is_at.ensures.starts ∙ c.if-is_at.true)) (after (opened refl c.in_ok-at.ensures.opened) (first c.in_err-values.ensures.read)));
+}
+
+pub expression::args-returns-then-is_at : goal.expression::args-returns-then-is_at
+expression::args-returns-then-is_at t c = record {
+  read = becoming (heads.at_args _ (sym c.is_at.ensures.starts ∙ c.if-is_at.true)) (lists.args_made
+      c.in_ok-values.values (then (opened refl c.in_ok-at.ensures.opened) (shallower c.in_ok-at.ensures.opened c.in_ok-values.ensures.read)));
+}
+
+pub expression::args-returns : goal.expression::args-returns
+expression::args-returns t c = record { read = skipped (heads.skips_args _ (sym c.is_at.ensures.starts ∙ c.if-is_at.false)) }
+
+pub expression::primary-returns-in_err-primary_form : goal.expression::primary-returns-in_err-primary_form
+expression::primary-returns-in_err-primary_form t c = record {
+  read = stopped _ _ _ _ c.from_residual.ensures.1 (c.in_err-primary_form.ensures.becomes
+      _);
+}
+
+pub expression::primary-returns-in-Number : goal.expression::primary-returns-in-Number
+expression::primary-returns-in-Number t c = record {
+  read = instead_any c.number.result (λ v. spell_primary (view_primary v)) number_primary (λ o.
+      primary_part ∷ o) (λ o. one kinds.Number ∷ o) c.args.depth _ (rw c.in-Number.is at c.in_ok-primary_form.ensures.becomes) c.number.ensures.read;
+}
+
+pub expression::primary-returns-in-Literal : goal.expression::primary-returns-in-Literal
+expression::primary-returns-in-Literal t c = record {
+  read = instead_any c.literal.result (λ v. spell_primary (view_primary v)) number_primary (λ o.
+      primary_part ∷ o) (λ o. one kinds.Literal ∷ o) c.args.depth _ (rw c.in-Literal.is at c.in_ok-primary_form.ensures.becomes) c.literal.ensures.read;
+}
+
+pub expression::primary-returns-in-Paren : goal.expression::primary-returns-in-Paren
+expression::primary-returns-in-Paren t c = record {
+  read = instead c.paren.result (λ v. spell_primary (view_primary v)) number_primary (λ o.
+      primary_part ∷ o) forms.paren_parts c.args.depth _ (rw c.in-Paren.is at c.in_ok-primary_form.ensures.becomes) c.paren.ensures.read;
+}
+
+pub expression::primary-returns-in-Known : goal.expression::primary-returns-in-Known
+expression::primary-returns-in-Known t c = record {
+  read = instead c.known.result (λ v. spell_primary (view_primary v)) number_primary (λ o.
+      primary_part ∷ o) forms.known_parts c.args.depth _ (rw c.in-Known.is at c.in_ok-primary_form.ensures.becomes) c.known.ensures.read;
+}
+
+pub expression::primary-returns-in-Ord : goal.expression::primary-returns-in-Ord
+expression::primary-returns-in-Ord t c = record {
+  read = instead c.ord.result (λ v. spell_primary (view_primary v)) number_primary (λ o. primary_part
+      ∷ o) forms.ord_parts c.args.depth _ (rw c.in-Ord.is at c.in_ok-primary_form.ensures.becomes) c.ord.ensures.read;
+}
+
+pub expression::primary-returns-in-Chr : goal.expression::primary-returns-in-Chr
+expression::primary-returns-in-Chr t c = record {
+  read = instead c.chr.result (λ v. spell_primary (view_primary v)) number_primary (λ o. primary_part
+      ∷ o) forms.chr_parts c.args.depth _ (rw c.in-Chr.is at c.in_ok-primary_form.ensures.becomes) c.chr.ensures.read;
+}
+
+pub expression::primary-returns-in_err-desig-in-Desig : goal.expression::primary-returns-in_err-desig-in-Desig
+expression::primary-returns-in_err-desig-in-Desig t c = record {
+  read = stopped _ _ _ _ c.from_residual-in_err-desig-in-Desig.ensures.1
+      (becoming_fails (rw c.in-Desig.is at c.in_ok-primary_form.ensures.becomes) (first c.in_err-desig-in-Desig.ensures.read));
+}
+
+pub expression::primary-returns-in_ok-desig-in-Desig : goal.expression::primary-returns-in_ok-desig-in-Desig
+expression::primary-returns-in_ok-desig-in-Desig t c = record {
+  read = instead c.named.result (λ v. spell_primary (view_primary v)) number_primary (λ
+      o. primary_part ∷ o) (λ o. desig_parts (args_part ∷ o)) c.args.depth _ (rw c.in-Desig.is at c.in_ok-primary_form.ensures.becomes) (extended
+      c.named.result (λ v. spell_primary (view_primary v)) number_primary (λ o. args_part ∷ o) c.in_ok-desig-in-Desig.ensures.read c.named.ensures.read);
+}
 
 pub expression::paren-open-requires : goal.expression::paren-open-requires
-expression::paren-open-requires = primaries.expression::paren-open-requires
+expression::paren-open-requires t c = record { opening = refl }
 
 pub expression::known-open-requires : goal.expression::known-open-requires
-expression::known-open-requires = primaries.expression::known-open-requires
+expression::known-open-requires t c = record { opening = refl }
 
 pub expression::ord-open-requires : goal.expression::ord-open-requires
-expression::ord-open-requires = primaries.expression::ord-open-requires
+expression::ord-open-requires t c = record { opening = refl }
 
 pub expression::chr-open-requires : goal.expression::chr-open-requires
-expression::chr-open-requires = primaries.expression::chr-open-requires
+expression::chr-open-requires t c = record { opening = refl }
 
 pub expression::args-open-requires : goal.expression::args-open-requires
-expression::args-open-requires = primaries.expression::args-open-requires
+expression::args-open-requires t c = record { opening = refl }
+
+pub statement::writeln_stmt-returns-in_err-at : goal.statement::writeln_stmt-returns-in_err-at
+statement::writeln_stmt-returns-in_err-at t c = record { read = stopped _ _ _ _ c.from_residual.ensures.1 (first (c.in_err-at.ensures.passes _)) }
+
+pub statement::writeln_stmt-returns-in_err-items : goal.statement::writeln_stmt-returns-in_err-items
+statement::writeln_stmt-returns-in_err-items t c = record {
+  read = stopped _ _ _ _ c.from_residual-in_err-items.ensures.1 (after (passed refl refl
+      c.in_ok-at.ensures.passes) (first c.in_err-items.ensures.read));
+}
+
+pub statement::writeln_stmt-returns-in_err-node : goal.statement::writeln_stmt-returns-in_err-node
+statement::writeln_stmt-returns-in_err-node t c = record {
+  read = stopped _ _ _ _ c.from_residual-in_err-node.ensures.1 (want
+      c.in_err-node.ensures.counted);
+}
+
+pub statement::writeln_stmt-returns : goal.statement::writeln_stmt-returns
+statement::writeln_stmt-returns t c = record {
+  read = same (ap spell_stmt (rows.writeln_laid c.in_ok-node.node c.in_ok-items.items))
+      (numbers.writeln_laid c.in_ok-node.node c.in_ok-items.items) (then (passed refl refl c.in_ok-at.ensures.passes) (then c.in_ok-items.ensures.read
+      (counted c.in_ok-node.ensures.counted)));
+}
+
+pub statement::desig_list-loop-after-init : goal.statement::desig_list-loop-after-init
+statement::desig_list-loop-after-init t c = rw c.new-more.ensures.items loops.loops_start
+
+pub statement::desig_list-loop-after-preserved : goal.statement::desig_list-loop-after-preserved
+statement::desig_list-loop-after-preserved t c = rw c.in_ok-push.ensures.items (loops.turned (lists.desigs_spelled c.loop-after.more.items
+    c.in_ok-next.next) (lists.desigs_numbered c.loop-after.more.items c.in_ok-next.next) c.loop-after.invariant (heads.begins_desigs
+    c.in-Some.ensures.passes) (then (passed refl refl c.in-Some.ensures.passes) c.in_ok-next.ensures.read))
+
+pub statement::desig_list-returns-in_err-next : goal.statement::desig_list-returns-in_err-next
+statement::desig_list-returns-in_err-next t c = record {
+  read = stopped _ _ _ _ c.from_residual.ensures.1 (loops.broken c.loop-after.invariant
+      (heads.begins_desigs c.in-Some.ensures.passes) (after (passed refl refl c.in-Some.ensures.passes) c.in_err-next.ensures.read));
+}
+
+pub statement::desig_list-returns : goal.statement::desig_list-returns
+statement::desig_list-returns t c = record { read = loops.ended c.loop-after.invariant (heads.skips_desigs _ c.in_default.ensures.passes) }
+
+pub expression::selectors-loop-form-init : goal.expression::selectors-loop-form-init
+expression::selectors-loop-form-init t c = rw c.new-more.ensures.items loops.loops_start
+
+pub expression::selectors-loop-form-preserved : goal.expression::selectors-loop-form-preserved
+expression::selectors-loop-form-preserved t c = rw c.in_ok-push.ensures.items (loops.turned (lists.selectors_spelled c.loop-form.more.items
+    c.in_ok-next.next) (lists.selectors_numbered c.loop-form.more.items c.in_ok-next.next) c.loop-form.invariant c.in-Some.ensures.becomes
+    c.in_ok-next.ensures.read)
+
+pub expression::selectors-returns-in_err-next : goal.expression::selectors-returns-in_err-next
+expression::selectors-returns-in_err-next t c = record {
+  read = stopped _ _ _ _ c.from_residual.ensures.1 (loops.broken c.loop-form.invariant
+      c.in-Some.ensures.becomes c.in_err-next.ensures.read);
+}
+
+pub expression::selectors-returns : goal.expression::selectors-returns
+expression::selectors-returns t c = record { read = loops.ended c.loop-form.invariant c.in_default.ensures.becomes }
+
+pub expression::selector-returns-in-Field-clause-read : goal.expression::selector-returns-in-Field-clause-read
+expression::selector-returns-in-Field-clause-read t c = rw c.in-Field.is (instead_any c.field.result (λ v. spell_selector (view_selector v))
+    number_selector forms.field_parts forms.field_parts c.args.depth _ (record { becomes = λ d o. refl }) c.field.ensures.read)
+
+pub expression::selector-returns-in-Index-clause-read : goal.expression::selector-returns-in-Index-clause-read
+expression::selector-returns-in-Index-clause-read t c = rw c.in-Index.is c.index.ensures.read
+
+pub statement::returned-returns-in_err-value : goal.statement::returned-returns-in_err-value
+statement::returned-returns-in_err-value t c = record {
+  read = stopped _ _ _ _ c.from_residual.ensures.1 (becoming_fails (rw c.if-begins_expr.true at
+      c.begins_expr.ensures.value) (first c.in_err-value.ensures.read));
+}
+
+pub statement::returned-returns-then-begins_expr : goal.statement::returned-returns-then-begins_expr
+statement::returned-returns-then-begins_expr t c = record {
+  read = becoming (rw c.if-begins_expr.true at c.begins_expr.ensures.value)
+      c.in_ok-value.ensures.read;
+}
+
+pub statement::returned-returns : goal.statement::returned-returns
+statement::returned-returns t c = record { read = skipped (rw c.if-begins_expr.false at c.begins_expr.ensures.value) }
+
+pub expression::desig-selectors-requires : goal.expression::desig-selectors-requires
+expression::desig-selectors-requires t c = (omega (arith, ap length (c.in_ok-name.ensures.read 0).spelled_so), tt)
 
 pub expression::index-open-requires : goal.expression::index-open-requires
-expression::index-open-requires = designators.expression::index-open-requires
-
-pub statement::if_stmt-open-requires : goal.statement::if_stmt-open-requires
-statement::if_stmt-open-requires = branches.statement::if_stmt-open-requires
-
-pub statement::while_stmt-open-requires : goal.statement::while_stmt-open-requires
-statement::while_stmt-open-requires = turns.statement::while_stmt-open-requires
-
-pub statement::repeat_stmt-open-requires : goal.statement::repeat_stmt-open-requires
-statement::repeat_stmt-open-requires = turns.statement::repeat_stmt-open-requires
-
-pub statement::for_stmt-open-requires : goal.statement::for_stmt-open-requires
-statement::for_stmt-open-requires = turns.statement::for_stmt-open-requires
-
-pub statement::some_stmt-open-requires : goal.statement::some_stmt-open-requires
-statement::some_stmt-open-requires = turns.statement::some_stmt-open-requires
-
-pub statement::case_stmt-open-requires : goal.statement::case_stmt-open-requires
-statement::case_stmt-open-requires = branches.statement::case_stmt-open-requires
-
-pub statement::either_stmt-open-requires : goal.statement::either_stmt-open-requires
-statement::either_stmt-open-requires = turns.statement::either_stmt-open-requires
-
-pub statement::forall_stmt-open-requires : goal.statement::forall_stmt-open-requires
-statement::forall_stmt-open-requires = turns.statement::forall_stmt-open-requires
-
-pub statement::commit_stmt-open-requires : goal.statement::commit_stmt-open-requires
-statement::commit_stmt-open-requires = turns.statement::commit_stmt-open-requires
+expression::index-open-requires t c = record { opening = refl }
 
 pub statement::read_stmt-open-requires : goal.statement::read_stmt-open-requires
-statement::read_stmt-open-requires = designators.statement::read_stmt-open-requires
+statement::read_stmt-open-requires t c = record { opening = refl }
 
 pub statement::write_stmt-open-requires : goal.statement::write_stmt-open-requires
-statement::write_stmt-open-requires = designators.statement::write_stmt-open-requires
+statement::write_stmt-open-requires t c = record { opening = refl }
+
+pub statement::stmt_list-loop-after-init : goal.statement::stmt_list-loop-after-init
+statement::stmt_list-loop-after-init t c = rw c.new-more.ensures.items loops.loops_start
+
+pub statement::stmt_list-loop-after-preserved : goal.statement::stmt_list-loop-after-preserved
+statement::stmt_list-loop-after-preserved t c = rw c.in_ok-push.ensures.items (loops.turned (lists.stmts_spelled c.loop-after.more.items
+    c.in_ok-next.next) (lists.stmts_numbered c.loop-after.more.items c.in_ok-next.next) c.loop-after.invariant (heads.begins_stmts
+    c.in-Some.ensures.passes) (then (passed refl refl c.in-Some.ensures.passes) c.in_ok-next.ensures.read))
+
+pub statement::stmt_list-returns-in_err-next : goal.statement::stmt_list-returns-in_err-next
+statement::stmt_list-returns-in_err-next t c = record {
+  read = stopped _ _ _ _ c.from_residual.ensures.1 (loops.broken c.loop-after.invariant
+      (heads.begins_stmts c.in-Some.ensures.passes) (after (passed refl refl c.in-Some.ensures.passes) c.in_err-next.ensures.read));
+}
+
+pub statement::stmt_list-returns : goal.statement::stmt_list-returns
+statement::stmt_list-returns t c = record { read = loops.ended c.loop-after.invariant (heads.skips_stmts _ c.in_default.ensures.passes) }
+
+pub statement::stmt-returns-in-Nothing : goal.statement::stmt-returns-in-Nothing
+statement::stmt-returns-in-Nothing t c = record {
+  read = instead_any c.nothing.result (λ v. spell_stmt (view_stmt v)) number_stmt (λ o. stmt_part ∷ o)
+      (λ o. o) c.args.depth _ (rw c.in-Nothing.is at c.stmt_form.ensures.becomes) c.nothing.ensures.read;
+}
+
+pub statement::stmt-returns-in-Desig : goal.statement::stmt-returns-in-Desig
+statement::stmt-returns-in-Desig t c = record {
+  read = instead c.desig_stmt.result (λ v. spell_stmt (view_stmt v)) number_stmt (λ o. stmt_part ∷ o)
+      forms.desig_stmt_parts c.args.depth _ (rw c.in-Desig.is at c.stmt_form.ensures.becomes) c.desig_stmt.ensures.read;
+}
+
+pub statement::stmt-returns-in-Value : goal.statement::stmt-returns-in-Value
+statement::stmt-returns-in-Value t c = record {
+  read = instead c.value_stmt.result (λ v. spell_stmt (view_stmt v)) number_stmt (λ o. stmt_part ∷ o)
+      expr_parts c.args.depth _ (rw c.in-Value.is at c.stmt_form.ensures.becomes) c.value_stmt.ensures.read;
+}
+
+pub statement::stmt-returns-in-If : goal.statement::stmt-returns-in-If
+statement::stmt-returns-in-If t c = record {
+  read = instead c.if_stmt.result (λ v. spell_stmt (view_stmt v)) number_stmt (λ o. stmt_part ∷ o)
+      forms.if_parts c.args.depth _ (rw c.in-If.is at c.stmt_form.ensures.becomes) c.if_stmt.ensures.read;
+}
+
+pub statement::stmt-returns-in-While : goal.statement::stmt-returns-in-While
+statement::stmt-returns-in-While t c = record {
+  read = instead c.while_stmt.result (λ v. spell_stmt (view_stmt v)) number_stmt (λ o. stmt_part ∷ o)
+      forms.while_parts c.args.depth _ (rw c.in-While.is at c.stmt_form.ensures.becomes) c.while_stmt.ensures.read;
+}
+
+pub statement::stmt-returns-in-Repeat : goal.statement::stmt-returns-in-Repeat
+statement::stmt-returns-in-Repeat t c = record {
+  read = instead c.repeat_stmt.result (λ v. spell_stmt (view_stmt v)) number_stmt (λ o. stmt_part ∷ o)
+      forms.repeat_parts c.args.depth _ (rw c.in-Repeat.is at c.stmt_form.ensures.becomes) c.repeat_stmt.ensures.read;
+}
+
+pub statement::stmt-returns-in-For : goal.statement::stmt-returns-in-For
+statement::stmt-returns-in-For t c = record {
+  read = instead c.for_stmt.result (λ v. spell_stmt (view_stmt v)) number_stmt (λ o. stmt_part ∷ o)
+      forms.for_parts c.args.depth _ (rw c.in-For.is at c.stmt_form.ensures.becomes) c.for_stmt.ensures.read;
+}
+
+pub statement::stmt-returns-in-Some : goal.statement::stmt-returns-in-Some
+statement::stmt-returns-in-Some t c = record {
+  read = instead c.some_stmt.result (λ v. spell_stmt (view_stmt v)) number_stmt (λ o. stmt_part ∷ o)
+      forms.some_parts c.args.depth _ (rw c.in-Some.is at c.stmt_form.ensures.becomes) c.some_stmt.ensures.read;
+}
+
+pub statement::stmt-returns-in-Case : goal.statement::stmt-returns-in-Case
+statement::stmt-returns-in-Case t c = record {
+  read = instead c.case_stmt.result (λ v. spell_stmt (view_stmt v)) number_stmt (λ o. stmt_part ∷ o)
+      forms.case_parts c.args.depth _ (rw c.in-Case.is at c.stmt_form.ensures.becomes) c.case_stmt.ensures.read;
+}
+
+pub statement::stmt-returns-in-Either : goal.statement::stmt-returns-in-Either
+statement::stmt-returns-in-Either t c = record {
+  read = instead c.either_stmt.result (λ v. spell_stmt (view_stmt v)) number_stmt (λ o. stmt_part ∷ o)
+      forms.either_parts c.args.depth _ (rw c.in-Either.is at c.stmt_form.ensures.becomes) c.either_stmt.ensures.read;
+}
+
+pub statement::stmt-returns-in-Forall : goal.statement::stmt-returns-in-Forall
+statement::stmt-returns-in-Forall t c = record {
+  read = instead c.forall_stmt.result (λ v. spell_stmt (view_stmt v)) number_stmt (λ o. stmt_part ∷ o)
+      forms.forall_parts c.args.depth _ (rw c.in-Forall.is at c.stmt_form.ensures.becomes) c.forall_stmt.ensures.read;
+}
+
+pub statement::stmt-returns-in-Commit : goal.statement::stmt-returns-in-Commit
+statement::stmt-returns-in-Commit t c = record {
+  read = instead c.commit_stmt.result (λ v. spell_stmt (view_stmt v)) number_stmt (λ o. stmt_part ∷ o)
+      forms.commit_parts c.args.depth _ (rw c.in-Commit.is at c.stmt_form.ensures.becomes) c.commit_stmt.ensures.read;
+}
+
+pub statement::stmt-returns-in-Return : goal.statement::stmt-returns-in-Return
+statement::stmt-returns-in-Return t c = record {
+  read = instead c.return_stmt.result (λ v. spell_stmt (view_stmt v)) number_stmt (λ o. stmt_part ∷ o)
+      forms.return_parts c.args.depth _ (rw c.in-Return.is at c.stmt_form.ensures.becomes) c.return_stmt.ensures.read;
+}
+
+pub statement::stmt-returns-in-Read : goal.statement::stmt-returns-in-Read
+statement::stmt-returns-in-Read t c = record {
+  read = instead c.read_stmt.result (λ v. spell_stmt (view_stmt v)) number_stmt (λ o. stmt_part ∷ o)
+      forms.read_parts c.args.depth _ (rw c.in-Read.is at c.stmt_form.ensures.becomes) c.read_stmt.ensures.read;
+}
+
+pub statement::stmt-returns-in-Write : goal.statement::stmt-returns-in-Write
+statement::stmt-returns-in-Write t c = record {
+  read = instead c.write_stmt.result (λ v. spell_stmt (view_stmt v)) number_stmt (λ o. stmt_part ∷ o)
+      forms.write_parts c.args.depth _ (rw c.in-Write.is at c.stmt_form.ensures.becomes) c.write_stmt.ensures.read;
+}
+
+pub statement::stmt-returns-in-Writeln : goal.statement::stmt-returns-in-Writeln
+statement::stmt-returns-in-Writeln t c = record {
+  read = instead c.writeln_stmt.result (λ v. spell_stmt (view_stmt v)) number_stmt (λ o. stmt_part ∷
+      o) forms.writeln_parts c.args.depth _ (rw c.in-Writeln.is at c.stmt_form.ensures.becomes) c.writeln_stmt.ensures.read;
+}
+
+pub statement::desig_stmt-returns-in_err-desig : goal.statement::desig_stmt-returns-in_err-desig
+statement::desig_stmt-returns-in_err-desig t c = record { read = stopped _ _ _ _ c.from_residual.ensures.1 (first c.in_err-desig.ensures.read) }
+
+pub statement::desig_stmt-returns-then-is_at : goal.statement::desig_stmt-returns-then-is_at
+statement::desig_stmt-returns-then-is_at t c = record {
+  read = extended c.assign.result (λ v. spell_stmt (view_stmt v)) number_stmt (λ o. after_desig
+      ∷ o) c.in_ok-desig.ensures.read (instead_extending c.assign.result (λ v. spell_stmt (view_stmt v)) number_stmt (λ o. after_desig ∷ o) (λ o. one
+      kinds.Assign ∷ expr_parts o) c.args.depth _ (spell_desig (view_desig c.in_ok-desig.desig)) (number_desig c.in_ok-desig.desig) (heads.at_assign _
+      (sym c.is_at.ensures.starts ∙ c.if-is_at.true)) c.assign.ensures.read);
+}
+
+pub statement::desig_stmt-returns-in_err-value : goal.statement::desig_stmt-returns-in_err-value
+statement::desig_stmt-returns-in_err-value t c = record {
+  read = stopped _ _ _ _ c.from_residual-in_err-value.ensures.1 (after
+      c.in_ok-desig.ensures.read (becoming_fails (heads.no_assign _ (sym c.is_at.ensures.starts ∙ c.if-is_at.false)) (first
+      c.in_err-value.ensures.read)));
+}
+
+pub statement::desig_stmt-returns-in_err-node : goal.statement::desig_stmt-returns-in_err-node
+statement::desig_stmt-returns-in_err-node t c = record {
+  read = stopped _ _ _ _ c.from_residual-in_err-node.ensures.1 (want
+      c.in_err-node.ensures.counted);
+}
+
+pub statement::desig_stmt-returns : goal.statement::desig_stmt-returns
+statement::desig_stmt-returns t c = record {
+  read = then (extended_by (heads.no_assign _ (sym c.is_at.ensures.starts ∙ c.if-is_at.false))
+      c.in_ok-desig.ensures.read c.in_ok-value.ensures.read) (counted c.in_ok-node.ensures.counted);
+}
+
+pub statement::arm_list-loop-after-init : goal.statement::arm_list-loop-after-init
+statement::arm_list-loop-after-init t c = rw c.new-more.ensures.items loops.loops_start
+
+pub statement::arm_list-loop-after-preserved : goal.statement::arm_list-loop-after-preserved
+statement::arm_list-loop-after-preserved t c = rw c.in_ok-push.ensures.items (loops.turned (lists.arms_spelled c.loop-after.more.items
+    c.in_ok-next.next) (lists.arms_numbered c.loop-after.more.items c.in_ok-next.next) c.loop-after.invariant (heads.begins_arms
+    c.in-Some.ensures.passes) (then (passed refl refl c.in-Some.ensures.passes) c.in_ok-next.ensures.read))
+
+pub statement::arm_list-returns-in_err-next : goal.statement::arm_list-returns-in_err-next
+statement::arm_list-returns-in_err-next t c = record {
+  read = stopped _ _ _ _ c.from_residual.ensures.1 (loops.broken c.loop-after.invariant
+      (heads.begins_arms c.in-Some.ensures.passes) (after (passed refl refl c.in-Some.ensures.passes) c.in_err-next.ensures.read));
+}
+
+pub statement::arm_list-returns : goal.statement::arm_list-returns
+statement::arm_list-returns t c = record { read = loops.ended c.loop-after.invariant (heads.skips_arms _ c.in_default.ensures.passes) }
+
+pub statement::label_list-loop-after-init : goal.statement::label_list-loop-after-init
+statement::label_list-loop-after-init t c = rw c.new-more.ensures.items loops.loops_start
+
+pub statement::label_list-loop-after-preserved : goal.statement::label_list-loop-after-preserved
+statement::label_list-loop-after-preserved t c = rw c.in_ok-push.ensures.items (loops.turned (lists.labels_spelled c.loop-after.more.items
+    c.in_ok-next.next) (lists.labels_numbered c.loop-after.more.items c.in_ok-next.next) c.loop-after.invariant (heads.begins_labels
+    c.in-Some.ensures.passes) (then (passed refl refl c.in-Some.ensures.passes) c.in_ok-next.ensures.read))
+
+pub statement::label_list-returns-in_err-next : goal.statement::label_list-returns-in_err-next
+statement::label_list-returns-in_err-next t c = record {
+  read = stopped _ _ _ _ c.from_residual.ensures.1 (loops.broken c.loop-after.invariant
+      (heads.begins_labels c.in-Some.ensures.passes) (after (passed refl refl c.in-Some.ensures.passes) c.in_err-next.ensures.read));
+}
+
+pub statement::label_list-returns : goal.statement::label_list-returns
+statement::label_list-returns t c = record { read = loops.ended c.loop-after.invariant (heads.skips_labels _ c.in_default.ensures.passes) }
+
+pub statement::elsif_list-loop-after-init : goal.statement::elsif_list-loop-after-init
+statement::elsif_list-loop-after-init t c = rw c.new-more.ensures.items loops.loops_start
+
+pub statement::elsif_list-loop-after-preserved : goal.statement::elsif_list-loop-after-preserved
+statement::elsif_list-loop-after-preserved t c = rw c.in_ok-push.ensures.items (loops.turned (lists.elsifs_spelled_rolled c.loop-after.more.items
+    (record { test = c.in_ok-test.test; then = c.in_ok-then.then })) (lists.elsifs_numbered_rolled c.loop-after.more.items (record {
+      test =
+          c.in_ok-test.test;
+      then = c.in_ok-then.then;
+    })) c.loop-after.invariant (heads.begins_elsifs c.in-Some.ensures.passes) (then (passed refl refl
+    c.in-Some.ensures.passes) (then c.in_ok-test.ensures.read (then (passed refl refl c.in_ok-after.ensures.passes) c.in_ok-then.ensures.read))))
+
+pub statement::elsif_list-returns-in_err-test : goal.statement::elsif_list-returns-in_err-test
+statement::elsif_list-returns-in_err-test t c = record {
+  read = stopped _ _ _ _ c.from_residual.ensures.1 (loops.broken c.loop-after.invariant
+      (heads.begins_elsifs c.in-Some.ensures.passes) (after (passed refl refl c.in-Some.ensures.passes) (first {q = λ o. one kinds.Then ∷ stmts_parts o}
+      c.in_err-test.ensures.read)));
+}
+
+pub statement::elsif_list-returns-in_err-after : goal.statement::elsif_list-returns-in_err-after
+statement::elsif_list-returns-in_err-after t c = record {
+  read = stopped _ _ _ _ c.from_residual-in_err-after.ensures.1 (loops.broken
+      c.loop-after.invariant (heads.begins_elsifs c.in-Some.ensures.passes) (after (passed refl refl c.in-Some.ensures.passes) (after
+      c.in_ok-test.ensures.read (first {q = stmts_parts} (c.in_err-after.ensures.passes _)))));
+}
+
+pub statement::elsif_list-returns-in_err-then : goal.statement::elsif_list-returns-in_err-then
+statement::elsif_list-returns-in_err-then t c = record {
+  read = stopped _ _ _ _ c.from_residual-in_err-then.ensures.1 (loops.broken
+      c.loop-after.invariant (heads.begins_elsifs c.in-Some.ensures.passes) (after (passed refl refl c.in-Some.ensures.passes) (after
+      c.in_ok-test.ensures.read (after (passed refl refl c.in_ok-after.ensures.passes) c.in_err-then.ensures.read))));
+}
+
+pub statement::elsif_list-returns : goal.statement::elsif_list-returns
+statement::elsif_list-returns t c = record { read = loops.ended c.loop-after.invariant (heads.skips_elsifs _ c.in_default.ensures.passes) }
+
+pub statement::otherwise-returns-in_default : goal.statement::otherwise-returns-in_default
+statement::otherwise-returns-in_default t c = record { read = skipped (heads.skips_else _ c.in_default.ensures.passes) }
+
+pub statement::otherwise-returns-in_err-value : goal.statement::otherwise-returns-in_err-value
+statement::otherwise-returns-in_err-value t c = record {
+  read = stopped _ _ _ _ c.from_residual.ensures.1 (becoming_fails (heads.begins_else
+      c.in-Some.ensures.passes) (after (passed refl refl c.in-Some.ensures.passes) (first c.in_err-value.ensures.read)));
+}
+
+pub statement::otherwise-returns : goal.statement::otherwise-returns
+statement::otherwise-returns t c = record {
+  read = becoming (heads.begins_else c.in-Some.ensures.passes) (then (passed refl refl
+      c.in-Some.ensures.passes) c.in_ok-value.ensures.read);
+}
+
+pub statement::high-returns-in_default : goal.statement::high-returns-in_default
+statement::high-returns-in_default t c = record { read = skipped (heads.skips_high _ c.in_default.ensures.passes) }
+
+pub statement::high-returns-in_err-value : goal.statement::high-returns-in_err-value
+statement::high-returns-in_err-value t c = record {
+  read = stopped _ _ _ _ c.from_residual.ensures.1 (becoming_fails (heads.begins_high
+      c.in-Some.ensures.passes) (after (passed refl refl c.in-Some.ensures.passes) (first c.in_err-value.ensures.read)));
+}
+
+pub statement::high-returns : goal.statement::high-returns
+statement::high-returns t c = record {
+  read = becoming (heads.begins_high c.in-Some.ensures.passes) (then (passed refl refl c.in-Some.ensures.passes)
+      c.in_ok-value.ensures.read);
+}
+
+pub statement::arm-returns-then-begins_expr : goal.statement::arm-returns-then-begins_expr
+statement::arm-returns-then-begins_expr t c = record {
+  read = instead c.labelled_arm.result (λ v. spell_arm (view_arm v)) number_arm (λ o. arm_part ∷
+      o) forms.labelled_parts c.args.depth _ (rw c.if-begins_expr.true at c.begins_expr.ensures.arm) c.labelled_arm.ensures.read;
+}
+
+pub statement::arm-returns-in_err-node : goal.statement::arm-returns-in_err-node
+statement::arm-returns-in_err-node t c = record { read = stopped _ _ _ _ c.from_residual.ensures.1 (want c.in_err-node.ensures.counted) }
+
+pub statement::arm-returns : goal.statement::arm-returns
+statement::arm-returns t c = record {
+  read = becoming (rw c.if-begins_expr.false at c.begins_expr.ensures.arm) (counted c.in_ok-node.ensures.counted);
+}
+
+pub statement::if_stmt-open-requires : goal.statement::if_stmt-open-requires
+statement::if_stmt-open-requires t c = record { opening = refl }
+
+pub statement::case_stmt-open-requires : goal.statement::case_stmt-open-requires
+statement::case_stmt-open-requires t c = record { opening = refl }
+
+pub statement::orelse_list-loop-after-init : goal.statement::orelse_list-loop-after-init
+statement::orelse_list-loop-after-init t c = rw c.new-more.ensures.items loops.loops_start
+
+pub statement::orelse_list-loop-after-preserved : goal.statement::orelse_list-loop-after-preserved
+statement::orelse_list-loop-after-preserved t c = rw c.in_ok-push.ensures.items (loops.turned (lists.orelses_spelled c.loop-after.more.items
+    c.in_ok-next.next) (lists.orelses_numbered c.loop-after.more.items c.in_ok-next.next) c.loop-after.invariant (heads.begins_orelses
+    c.in-Some.ensures.passes) (then (passed refl refl c.in-Some.ensures.passes) c.in_ok-next.ensures.read))
+
+pub statement::orelse_list-returns-in_err-next : goal.statement::orelse_list-returns-in_err-next
+statement::orelse_list-returns-in_err-next t c = record {
+  read = stopped _ _ _ _ c.from_residual.ensures.1 (loops.broken c.loop-after.invariant
+      (heads.begins_orelses c.in-Some.ensures.passes) (after (passed refl refl c.in-Some.ensures.passes) c.in_err-next.ensures.read));
+}
+
+pub statement::orelse_list-returns : goal.statement::orelse_list-returns
+statement::orelse_list-returns t c = record { read = loops.ended c.loop-after.invariant (heads.skips_orelses _ c.in_default.ensures.passes) }
+
+pub statement::step-returns-in_default : goal.statement::step-returns-in_default
+statement::step-returns-in_default t c = record { read = skipped (heads.skips_by _ c.in_default.ensures.passes) }
+
+pub statement::step-returns-in_err-value : goal.statement::step-returns-in_err-value
+statement::step-returns-in_err-value t c = record {
+  read = stopped _ _ _ _ c.from_residual.ensures.1 (becoming_fails (heads.begins_by
+      c.in-Some.ensures.passes) (after (passed refl refl c.in-Some.ensures.passes) (first c.in_err-value.ensures.read)));
+}
+
+pub statement::step-returns : goal.statement::step-returns
+statement::step-returns t c = record {
+  read = becoming (heads.begins_by c.in-Some.ensures.passes) (then (passed refl refl c.in-Some.ensures.passes)
+      c.in_ok-value.ensures.read);
+}
+
+pub statement::while_stmt-open-requires : goal.statement::while_stmt-open-requires
+statement::while_stmt-open-requires t c = record { opening = refl }
+
+pub statement::repeat_stmt-open-requires : goal.statement::repeat_stmt-open-requires
+statement::repeat_stmt-open-requires t c = record { opening = refl }
+
+pub statement::for_stmt-open-requires : goal.statement::for_stmt-open-requires
+statement::for_stmt-open-requires t c = record { opening = refl }
+
+pub statement::some_stmt-open-requires : goal.statement::some_stmt-open-requires
+statement::some_stmt-open-requires t c = record { opening = refl }
+
+pub statement::either_stmt-open-requires : goal.statement::either_stmt-open-requires
+statement::either_stmt-open-requires t c = record { opening = refl }
+
+pub statement::forall_stmt-open-requires : goal.statement::forall_stmt-open-requires
+statement::forall_stmt-open-requires t c = record { opening = refl }
+
+pub statement::commit_stmt-open-requires : goal.statement::commit_stmt-open-requires
+statement::commit_stmt-open-requires t c = record { opening = refl }

@@ -1,11 +1,29 @@
-use Rattle.std.proofs.Common.{◌≡◌, refl, List, ℕ}
-use Rattle.std.specs.Borrow.{Bor}
-use Rattle.alma_driver.specs.declared.words.Request as read
-use Rattle.alma_driver.specs.declared.words.Request.TheVariants as read_request
+use Rattle.alma_driver.specs.Words.{asked}
+use Rattle.alma_driver.specs.Outside.{files_side, sink_side}
+use Rattle.alma_driver.proofs.DriverLemmas.{limit_small, fetch_of, performs_fetched, performs_unfetched}
 use Rattle.alma_driver.proofs.driver.serve.Goals as goal
 
-by_run : (r : read.Request) (P : Type 0) → ((file : Bor (List ℕ)) (steps : ℕ) → r ≡ read_request.Run file steps → P) → P
-by_run (read_request.Run file steps) P f = f file steps refl
+pub fetch-requires : goal.fetch-requires
+fetch-requires g c = rw c.limit.ensures (limit_small (asked c.args.request))
 
-pub returns : goal.returns
-returns g c = let h = c.run_file.ensures in by_run c.args.request _ (λ file steps e. rw e (rw e at h))
+pub serve_file-requires-clause-short : goal.serve_file-requires-clause-short
+serve_file-requires-clause-short g c = rw (c.deref.ensures.value) (rw (c.file.ensures, c.limit.ensures) at c.in-Ok.ensures.answer).1
+
+pub returns-in-Ok : goal.returns-in-Ok
+returns-in-Ok g c =
+    let got = rw (c.file.ensures, c.limit.ensures) at c.in-Ok.ensures.answer in
+    performs_fetched (files_side (g.F.Files.told c.args.files.now) (g.F.Files.fetch_faults c.args.files.now) (g.F.Files.store_faults c.args.files.now))
+    (files_side (g.F.Files.told c.fetch.new.self) (g.F.Files.fetch_faults c.fetch.new.self) (g.F.Files.store_faults c.fetch.new.self))
+    (files_side (g.F.Files.told c.serve_file.new.files) (g.F.Files.fetch_faults c.serve_file.new.files) (g.F.Files.store_faults c.serve_file.new.files))
+    (asked c.args.request) c.in-Ok.bytes.items (sink_side (g.O.Sink.written c.args.out.now) (g.O.Sink.faults c.args.out.now))
+    (sink_side (g.O.Sink.written c.serve_file.new.out) (g.O.Sink.faults c.serve_file.new.out)) c.serve_file.result
+    (c.in-Ok.ensures.same, c.in-Ok.ensures.store_count) got.0 got.1 got.2 c.serve_file.ensures.fetch_count
+    (rw c.deref.ensures.value at c.serve_file.ensures.course)
+
+pub returns-in-Err : goal.returns-in-Err
+returns-in-Err g c =
+    rw c.from.ensures (performs_unfetched (files_side (g.F.Files.told c.args.files.now) (g.F.Files.fetch_faults c.args.files.now) (g.F.Files.store_faults c.args.files.now))
+    (files_side (g.F.Files.told c.fetch.new.self) (g.F.Files.fetch_faults c.fetch.new.self) (g.F.Files.store_faults c.fetch.new.self))
+    (asked c.args.request) c.in-Err.fault (sink_side (g.O.Sink.written c.args.out.now) (g.O.Sink.faults c.args.out.now))
+    (c.in-Err.ensures.same, c.in-Err.ensures.store_count) (fetch_of (g.F.Files.told c.args.files.now) c.file.result.now c.limit.result (asked c.args.request) (g.F.Files.fetch_faults c.args.files.now)
+    (g.F.Files.fetch_faults c.fetch.new.self) c.in-Err.fault c.file.ensures c.limit.ensures c.in-Err.ensures.answer))

@@ -1,0 +1,569 @@
+// What the check makes of the parts of a node.
+ghost use Rattle.std.specs.Prelude.{◌≡◌, Option, None, Some, option_map, option_and_then, IfOk};
+ghost use Rattle.alma_ir.specs.View.{expr_of, test_of, arg_of, desig_of, sels_list, sel_of};
+ghost use Rattle.alma_ir.specs.Tree as ir;
+ghost use Rattle.alma_rules.specs.Judged.{both_of};
+ghost use Rattle.alma_rules.specs.Parts as parts;
+ghost use Rattle.alma_rules.specs.Nodes as nodes;
+ghost use Rattle.alma_check_rules.specs.Views.{argument_in, located_of, scene_of, headings_in, denoted_in, typing_in, typing_of, located_in, callee_in, formal_view, meaning_view, args_of, args_in, stmts_in, somewhere};
+
+use alma_base::Range;
+use alma_check_rules::{Callee, Denoted, Env, Formal, Located, Meaning, Typed};
+use alma_ir::{Arg, Call, Cmp, Desig, Expr, Sel, Stmt, Test};
+use alma_tree::{Mode, Relation};
+use std::alloc::{AllocError, Global};
+
+// ---- expressions
+
+/// An expression as a value: a plain one is itself, and any other the truth of its test.
+pub fn as_value(alloc: Global, meaning: Meaning) -> Result<Expr, AllocError>
+    ensures { IfOk result (λ e. expr_of e ≡ parts.value_of (meaning_view meaning)) }
+{
+    match meaning {
+        Meaning::Place(desig) => Ok(Expr::Load(desig)),
+        Meaning::Plain(expr) => Ok(expr),
+        Meaning::Test(test) => Ok(Expr::Truth(Box::new(alloc, test)?)),
+    }
+}
+
+/// An expression as a test: a plain one is its value.
+pub fn as_test(meaning: Meaning) -> Test
+    ensures { test_of result ≡ parts.test_of (meaning_view meaning) }
+{
+    match meaning {
+        Meaning::Place(desig) => Test::Value(Expr::Load(desig)),
+        Meaning::Plain(expr) => Test::Value(expr),
+        Meaning::Test(test) => test,
+    }
+}
+
+/// In parentheses or behind a sign it is no longer exactly a designator.
+pub fn no_place(meaning: Meaning) -> Meaning
+    ensures { meaning_view result ≡ parts.no_place (meaning_view meaning) }
+{
+    match meaning {
+        Meaning::Place(desig) => Meaning::Plain(Expr::Load(desig)),
+        Meaning::Plain(expr) => Meaning::Plain(expr),
+        Meaning::Test(test) => Meaning::Test(test),
+    }
+}
+
+pub fn without_place(typed: Option<Typed>) -> Option<Typed>
+    ensures { typing_in result ≡ option_map parts.without_place (typing_in typed) }
+{
+    match typed {
+        None => None,
+        Some(
+            Typed {
+                shape,
+                constant,
+                meaning,
+            },
+        ) => Some(Typed {
+            shape,
+            constant,
+            meaning: no_place(meaning),
+        }),
+    }
+}
+
+fn boolean(meaning: Meaning) -> Typed
+    ensures { typing_of result ≡ parts.boolean_typing (meaning_view meaning) }
+{
+    Typed {
+        shape: 2,
+        constant: None,
+        meaning,
+    }
+}
+
+pub fn integer(value: i64) -> Typed
+    ensures { typing_of result ≡ parts.integer_typing value }
+{
+    Typed {
+        shape: 0,
+        constant: Some(value),
+        meaning: Meaning::Plain(Expr::Const(value)),
+    }
+}
+
+pub fn character(value: i64) -> Typed
+    ensures { typing_of result ≡ parts.char_typing value }
+{
+    Typed {
+        shape: 1,
+        constant: Some(value),
+        meaning: Meaning::Plain(Expr::Const(value)),
+    }
+}
+
+pub fn ord(alloc: Global, typed: Option<Typed>) -> Result<Option<Typed>, AllocError>
+    ensures { IfOk result (λ t. typing_in t ≡ option_map nodes.ord_typing (typing_in typed)) }
+{
+    match typed {
+        None => Ok(None),
+        Some(
+            Typed {
+                shape: _,
+                constant,
+                meaning,
+            },
+        ) => Ok(Some(Typed {
+            shape: 0,
+            constant,
+            meaning: Meaning::Plain(as_value(alloc, meaning)?),
+        })),
+    }
+}
+
+pub fn chr(alloc: Global, typed: Option<Typed>) -> Result<Option<Typed>, AllocError>
+    ensures { IfOk result (λ t. typing_in t ≡ option_map nodes.chr_typing (typing_in typed)) }
+{
+    match typed {
+        None => Ok(None),
+        Some(
+            Typed {
+                shape: _,
+                constant,
+                meaning,
+            },
+        ) => {
+            let value = Box::new(alloc, as_value(alloc, meaning)?)?;
+            Ok(Some(Typed {
+                shape: 1,
+                constant,
+                meaning: Meaning::Plain(Expr::Chr(value)),
+            }))
+        }
+    }
+}
+
+pub fn negate(alloc: Global, typed: Option<Typed>) -> Result<Option<Typed>, AllocError>
+    ensures { IfOk result (λ t. typing_in t ≡ option_map nodes.not_typing (typing_in typed)) }
+{
+    match typed {
+        None => Ok(None),
+        Some(
+            Typed {
+                shape: _,
+                constant: _,
+                meaning,
+            },
+        ) => {
+            let test = Box::new(alloc, as_test(meaning))?;
+            Ok(Some(boolean(Meaning::Test(Test::Not(test)))))
+        }
+    }
+}
+
+pub fn sequence(body: Option<Vec<Stmt>>) -> Option<Typed>
+    ensures { typing_in result ≡ option_map (λ b. parts.boolean_typing (parts.a_test (ir.Seq b)))
+        (stmts_in body) }
+{
+    match body {
+        None => None,
+        Some(body) => Some(boolean(Meaning::Test(Test::Seq(body)))),
+    }
+}
+
+// ---- calls without their types
+
+fn call_test(routine: u32, args: Vec<Arg>, up: u32) -> Meaning
+    ensures { meaning_view result ≡ parts.a_test (ir.CallTest routine (args_of args) up) }
+{
+    Meaning::Test(Test::Call(Call { routine, args, up }))
+}
+
+fn call_value(routine: u32, args: Vec<Arg>, up: u32) -> Meaning
+    ensures { meaning_view result ≡ parts.plain (ir.CallExpr routine (args_of args) up) }
+{
+    Meaning::Plain(Expr::Call(Call { routine, args, up }))
+}
+
+// ---- designators
+
+pub(crate) fn desig(located: Located) -> Desig
+    ensures { desig_of result ≡ parts.desig_of (located_of located) }
+{
+    let Located {
+        shape: _,
+        root,
+        cells,
+        sels,
+    } = located;
+    Desig { root, cells, sels }
+}
+
+pub fn known(located: Option<Located>) -> Option<Typed>
+    ensures { typing_in result ≡ option_map nodes.known_typing (located_in located) }
+{
+    match located {
+        None => None,
+        Some(located) => Some(boolean(Meaning::Plain(Expr::Known(desig(located))))),
+    }
+}
+
+pub fn as_located(env: &Env, found: Option<Denoted>) -> Option<Located>
+    ensures { located_in result ≡ option_and_then parts.located_in
+        (denoted_in (headings_in env.now) found) }
+{
+    match found {
+        Some(Denoted::Variable(located)) => Some(located),
+        Some(Denoted::Constant(_, _)) | Some(Denoted::Routine(_, _)) => None,
+        Some(Denoted::NoArray) | None => None,
+    }
+}
+
+pub fn as_callee(env: &Env, found: Option<Denoted>) -> Option<Callee>
+    ensures { callee_in (headings_in env.now) result ≡ option_and_then parts.callee_in
+        (denoted_in (headings_in env.now) found) }
+{
+    match found {
+        Some(Denoted::Routine(number, up)) => Some(Callee { number, up }),
+        Some(Denoted::Constant(_, _)) | Some(Denoted::Variable(_)) => None,
+        Some(Denoted::NoArray) | None => None,
+    }
+}
+
+fn variable(located: Located) -> Typed
+    ensures { typing_of result ≡ record {
+      shape = located.shape;
+      constant = None;
+      meaning =
+          parts.a_place (parts.desig_of (located_of located));
+    } }
+{
+    let shape = located.shape;
+    Typed {
+        shape,
+        constant: None,
+        meaning: Meaning::Place(desig(located)),
+    }
+}
+
+/// A designator as an expression.
+pub fn as_typed(alloc: Global, env: &Env, found: Option<Denoted>) -> Option<Typed>
+    ensures { typing_in result ≡ option_and_then parts.typing_in
+        (denoted_in (headings_in env.now) found) }
+{
+    match found {
+        Some(Denoted::Constant(shape, value)) => Some(Typed {
+            shape,
+            constant: Some(value),
+            meaning: Meaning::Plain(Expr::Const(value)),
+        }),
+        Some(Denoted::Variable(located)) => Some(variable(located)),
+        Some(Denoted::Routine(routine, up)) => {
+            let args = Vec::new(alloc);
+            Some(boolean(call_test(routine, args, up)))
+        }
+        Some(Denoted::NoArray) | None => None,
+    }
+}
+
+fn narrowed(located: Located, shape: u32, sel: Sel) -> Result<Located, AllocError>
+    ensures { IfOk result (λ l. located_of l ≡ record {
+      shape = shape;
+      root = located.root;
+      cells =
+          located.cells;
+      sels = parts.with_sel (sels_list located.sels.items) (sel_of sel);
+    }) }
+{
+    let Located {
+        shape: _,
+        root,
+        cells,
+        sels,
+    } = located;
+    let mut sels = sels;
+    sels.push(sel)?;
+    Ok(Located {
+        shape,
+        root,
+        cells,
+        sels,
+    })
+}
+
+pub fn select_field(
+    env: &Env,
+    name: &[u8],
+    found: Option<Denoted>,
+) -> Result<Option<Denoted>, AllocError>
+    ensures { IfOk result (λ d. denoted_in (headings_in env.now) d ≡ option_and_then
+        (parts.select_field (scene_of env.now somewhere) name.now)
+        (denoted_in (headings_in env.now) found)) }
+{
+    match found {
+        Some(Denoted::Variable(located)) => match env.field(located.shape, name) {
+            None => Ok(None),
+            Some((offset, shape)) => {
+                let sel = Sel::Field(offset, env.cells(shape));
+                Ok(Some(Denoted::Variable(narrowed(located, shape, sel)?)))
+            }
+        },
+        Some(Denoted::Constant(shape, value)) => Ok(Some(Denoted::Constant(shape, value))),
+        Some(Denoted::Routine(routine, up)) => Ok(Some(Denoted::Routine(routine, up))),
+        Some(Denoted::NoArray) => Ok(Some(Denoted::NoArray)),
+        None => Ok(None),
+    }
+}
+
+pub fn select_index(
+    alloc: Global,
+    env: &Env,
+    found: Option<Denoted>,
+    typed: Option<Typed>,
+) -> Result<Option<Denoted>, AllocError>
+    ensures { IfOk result (λ d. denoted_in (headings_in env.now) d ≡ parts.select_index
+        (scene_of env.now somewhere) (denoted_in (headings_in env.now) found) (typing_in typed)) }
+{
+    match found {
+        None => Ok(None),
+        Some(Denoted::NoArray) => Ok(Some(Denoted::NoArray)),
+        Some(Denoted::Variable(located)) => match env.row(located.shape) {
+            None => Ok(Some(Denoted::NoArray)),
+            Some((index, element)) => match typed {
+                None => Ok(None),
+                Some(typed) => {
+                    let value = as_value(alloc, typed.meaning)?;
+                    let sel = Sel::Index(value, env.range(index), env.cells(element));
+                    Ok(Some(Denoted::Variable(narrowed(located, element, sel)?)))
+                }
+            },
+        },
+        Some(Denoted::Constant(shape, value)) => match typed {
+            None => Ok(None),
+            Some(_typed) => Ok(Some(Denoted::Constant(shape, value))),
+        },
+        Some(Denoted::Routine(routine, up)) => match typed {
+            None => Ok(None),
+            Some(_typed) => Ok(Some(Denoted::Routine(routine, up))),
+        },
+    }
+}
+
+// ---- relations
+
+fn comparison(relation: Relation) -> Cmp
+    ensures { result ≡ parts.compare_of relation }
+{
+    match relation {
+        Relation::Equal => Cmp::Equal,
+        Relation::Unequal => Cmp::Unequal,
+        Relation::Less => Cmp::Less,
+        Relation::LessEq => Cmp::LessEq,
+        Relation::Greater => Cmp::Greater,
+        Relation::GreaterEq => Cmp::GreaterEq,
+    }
+}
+
+fn compare(alloc: Global, cmp: Cmp, left: Meaning, right: Meaning) -> Result<Meaning, AllocError>
+    ensures { IfOk result (λ m. meaning_view m ≡ parts.plain
+        (ir.Compare cmp (parts.value_of (meaning_view left)) (parts.value_of (meaning_view right)))) }
+{
+    let first = Box::new(alloc, as_value(alloc, left)?)?;
+    let second = Box::new(alloc, as_value(alloc, right)?)?;
+    Ok(Meaning::Plain(Expr::Compare(cmp, first, second)))
+}
+
+// An equation with exactly one designator binds it; one of two unifies them, or their cells.
+fn equation(alloc: Global, env: &Env, left: Typed, right: Typed) -> Result<Meaning, AllocError>
+    ensures { IfOk result (λ m. meaning_view m ≡ parts.equation_of (scene_of env.now somewhere)
+        (typing_of left) (typing_of right) (meaning_view left.meaning) (meaning_view right.meaning)) }
+{
+    let first = left.shape;
+    let second = right.shape;
+    match left.meaning {
+        Meaning::Place(place) => match right.meaning {
+            Meaning::Place(other) => {
+                if env.is_structured(first) {
+                    return Ok(Meaning::Test(Test::SameCells(place, other)));
+                }
+                Ok(Meaning::Test(Test::Unify(place, env.range(first), other, env.range(second))))
+            }
+            Meaning::Plain(expr) => Ok(Meaning::Test(Test::Bind(
+                place,
+                expr,
+                env.range(first),
+                true,
+            ))),
+            Meaning::Test(test) => {
+                let truth = Expr::Truth(Box::new(alloc, test)?);
+                Ok(Meaning::Test(Test::Bind(place, truth, env.range(first), true)))
+            }
+        },
+        Meaning::Plain(value) => match right.meaning {
+            Meaning::Place(place) => Ok(Meaning::Test(Test::Bind(
+                place,
+                value,
+                env.range(second),
+                false,
+            ))),
+            Meaning::Plain(expr) => compare(
+                alloc,
+                Cmp::Equal,
+                Meaning::Plain(value),
+                Meaning::Plain(expr),
+            ),
+            Meaning::Test(test) => compare(
+                alloc,
+                Cmp::Equal,
+                Meaning::Plain(value),
+                Meaning::Test(test),
+            ),
+        },
+        Meaning::Test(value) => match right.meaning {
+            Meaning::Place(place) => {
+                let truth = Expr::Truth(Box::new(alloc, value)?);
+                Ok(Meaning::Test(Test::Bind(place, truth, env.range(second), false)))
+            }
+            Meaning::Plain(expr) => compare(
+                alloc,
+                Cmp::Equal,
+                Meaning::Test(value),
+                Meaning::Plain(expr),
+            ),
+            Meaning::Test(test) => compare(
+                alloc,
+                Cmp::Equal,
+                Meaning::Test(value),
+                Meaning::Test(test),
+            ),
+        },
+    }
+}
+
+fn relation_of(
+    alloc: Global,
+    env: &Env,
+    relation: Relation,
+    left: Typed,
+    right: Typed,
+) -> Result<Meaning, AllocError>
+    ensures { IfOk result (λ m. meaning_view m ≡ parts.relation_of
+        (scene_of env.now somewhere) relation (typing_of left, typing_of right)) }
+{
+    match relation {
+        Relation::Equal => equation(alloc, env, left, right),
+        Relation::Unequal
+        | Relation::Less
+        | Relation::LessEq
+        | Relation::Greater
+        | Relation::GreaterEq => {
+            compare(alloc, comparison(relation), left.meaning, right.meaning)
+        }
+    }
+}
+
+pub fn relate(
+    alloc: Global,
+    env: &Env,
+    relation: Relation,
+    left: Option<Typed>,
+    right: Option<Typed>,
+) -> Result<Option<Typed>, AllocError>
+    ensures { IfOk result (λ t. typing_in t ≡ option_map
+        (parts.related (scene_of env.now somewhere) relation)
+        (both_of (typing_in left) (typing_in right))) }
+{
+    match left {
+        None => Ok(None),
+        Some(left) => match right {
+            None => Ok(None),
+            Some(right) => Ok(Some(boolean(relation_of(alloc, env, relation, left, right)?))),
+        },
+    }
+}
+
+// ---- calls
+
+fn simple_argument(
+    alloc: Global,
+    mode: Option<Mode>,
+    range: Range,
+    meaning: Meaning,
+) -> Result<Arg, AllocError>
+    ensures { IfOk result (λ a. arg_of a ≡ argument_in mode range (meaning_view meaning)) }
+{
+    match mode {
+        None => Ok(Arg::Value(as_value(alloc, meaning)?, range)),
+        Some(Mode::Var) => match meaning {
+            Meaning::Place(desig) => Ok(Arg::Place(desig)),
+            Meaning::Plain(expr) => Ok(Arg::Value(expr, range)),
+            Meaning::Test(test) => Ok(Arg::Value(Expr::Truth(Box::new(alloc, test)?), range)),
+        },
+        Some(Mode::Mix) => match meaning {
+            Meaning::Place(desig) => Ok(Arg::MixPlace(desig)),
+            Meaning::Plain(expr) => Ok(Arg::MixValue(expr, range)),
+            Meaning::Test(test) => Ok(Arg::MixValue(Expr::Truth(Box::new(alloc, test)?), range)),
+        },
+    }
+}
+
+fn structured_argument(
+    alloc: Global,
+    mode: Option<Mode>,
+    meaning: Meaning,
+) -> Result<Arg, AllocError>
+    ensures { IfOk result (λ a. arg_of a ≡ parts.structured_argument mode (meaning_view meaning)) }
+{
+    match meaning {
+        Meaning::Place(desig) => match mode {
+            None => Ok(Arg::Cells(desig)),
+            Some(_mode) => Ok(Arg::Place(desig)),
+        },
+        Meaning::Plain(expr) => Ok(Arg::Value(expr, Range::integer())),
+        Meaning::Test(test) => Ok(Arg::Value(
+            Expr::Truth(Box::new(alloc, test)?),
+            Range::integer(),
+        )),
+    }
+}
+
+pub fn argument(
+    alloc: Global,
+    env: &Env,
+    formal: Option<Formal>,
+    typed: Option<Typed>,
+) -> Result<Option<Arg>, AllocError>
+    ensures { IfOk result (λ a. option_map arg_of a ≡ option_map
+        (parts.argument_of (scene_of env.now somewhere) (option_map formal_view formal))
+        (typing_in typed)) }
+{
+    match typed {
+        None => Ok(None),
+        Some(typed) => match formal {
+            None => Ok(Some(Arg::Value(as_value(alloc, typed.meaning)?, Range::integer()))),
+            Some(formal) => {
+                if env.is_structured(formal.shape) {
+                    return Ok(Some(structured_argument(alloc, formal.mode, typed.meaning)?));
+                }
+                let range = env.range(formal.shape);
+                Ok(Some(simple_argument(alloc, formal.mode, range, typed.meaning)?))
+            }
+        },
+    }
+}
+
+/// A call of a function is plain, and one of a procedure without result is a test.
+pub fn call(env: &Env, callee: Option<Callee>, args: Option<Vec<Arg>>) -> Option<Typed>
+    ensures { typing_in result ≡ option_map parts.called
+        (both_of (callee_in (headings_in env.now) callee) (args_in args)) }
+{
+    match callee {
+        None => None,
+        Some(callee) => match args {
+            None => None,
+            Some(args) => match env.result(callee.number) {
+                None => Some(boolean(call_test(callee.number, args, callee.up))),
+                Some(shape) => Some(Typed {
+                    shape,
+                    constant: None,
+                    meaning: call_value(callee.number, args, callee.up),
+                }),
+            },
+        },
+    }
+}

@@ -1,0 +1,479 @@
+// What statements stand for. A part is None where a name in use there is Bad, and then so is the whole.
+ghost use Rattle.std.specs.Prelude.{◌≡◌, ◌+◌, ◌<◌, ◌^◌, ℕ, List, Option, None, Some, option_map, IfOk};
+ghost use Rattle.alma_ir.specs.View.{expr_of, test_of, stmt_of, desig_of, return_option};
+ghost use Rattle.alma_ir.specs.Tree as ir;
+ghost use Rattle.alma_rules.specs.Judged.{both_of};
+ghost use Rattle.alma_rules.specs.Parts as parts;
+ghost use Rattle.alma_rules.specs.Nodes as nodes;
+ghost use Rattle.alma_check_rules.specs.Views.{scene_of, typing_in, typing_of, located_in, located_of, meaning_view, spans_in, spans_view, stmts_in, stmts_of, somewhere};
+ghost use Rattle.alma_check_build.specs.Lists.{test_in, arms_of, arms_in, cases_of, cases_in, branches_in, else_in, loop_in, guarded_in};
+
+use crate::expression::{as_test, as_value, desig};
+use alma_base::Range;
+use alma_check_rules::{Env, Located, Meaning, Span, Typed};
+use alma_ir::{Arm, Branch, CaseArm, Expr, Loop, ReadAs, Stmt, Test, WriteAs};
+use std::alloc::{AllocError, Global};
+
+// A statement alone.
+fn one(alloc: Global, stmt: Stmt) -> Result<Vec<Stmt>, AllocError>
+    ensures { IfOk result (λ v. stmts_of v ≡ parts.one_stmt (stmt_of stmt)) }
+{
+    let mut stmts: Vec<Stmt> = Vec::new(alloc);
+    stmts.push(stmt)?;
+    Ok(stmts)
+}
+
+/// No statement.
+pub fn nothing(alloc: Global) -> Option<Vec<Stmt>>
+    ensures { stmts_in result ≡ Some ir.no_stmts }
+{
+    Some(Vec::new(alloc))
+}
+
+/// An expression as a condition.
+pub fn condition(typed: Option<Typed>) -> Option<Test>
+    ensures { test_in result ≡ option_map (λ t. parts.test_of t.meaning) (typing_in typed) }
+{
+    match typed {
+        None => None,
+        Some(typed) => Some(as_test(typed.meaning)),
+    }
+}
+
+/// A condition as a statement.
+pub fn test_stmt(alloc: Global, test: Option<Test>) -> Result<Option<Vec<Stmt>>, AllocError>
+    ensures { IfOk result (λ v. stmts_in v ≡ option_map parts.one_stmt
+        (option_map ir.TestStmt (test_in test))) }
+{
+    match test {
+        None => Ok(None),
+        Some(test) => Ok(Some(one(alloc, Stmt::Test(test))?)),
+    }
+}
+
+// ---- :=
+
+fn assigned_to(
+    alloc: Global,
+    env: &Env,
+    located: Located,
+    meaning: Meaning,
+) -> Result<Stmt, AllocError>
+    ensures { IfOk result (λ x. stmt_of x ≡ parts.assigned_to (scene_of env.now somewhere)
+        (located_of located) (meaning_view meaning)) }
+{
+    let shape = located.shape;
+    let range = env.range(shape);
+    match meaning {
+        Meaning::Place(place) => {
+            if env.is_structured(shape) {
+                return Ok(Stmt::CopyCells(desig(located), place));
+            }
+            let value = as_value(alloc, Meaning::Place(place))?;
+            Ok(Stmt::Assign(desig(located), value, range))
+        }
+        Meaning::Plain(expr) => Ok(Stmt::Assign(desig(located), expr, range)),
+        Meaning::Test(test) => {
+            let value = as_value(alloc, Meaning::Test(test))?;
+            Ok(Stmt::Assign(desig(located), value, range))
+        }
+    }
+}
+
+/// `:=`, by which a structured value is copied cell by cell.
+pub fn assigned(
+    alloc: Global,
+    env: &Env,
+    located: Option<Located>,
+    typed: Option<Typed>,
+) -> Result<Option<Vec<Stmt>>, AllocError>
+    ensures { IfOk result (λ v. stmts_in v ≡ option_map (parts.assigned
+        (scene_of env.now somewhere)) (both_of (located_in located) (typing_in typed))) }
+{
+    match located {
+        None => Ok(None),
+        Some(located) => match typed {
+            None => Ok(None),
+            Some(typed) => {
+                let stmt = assigned_to(alloc, env, located, typed.meaning)?;
+                Ok(Some(one(alloc, stmt)?))
+            }
+        },
+    }
+}
+
+// ---- IF, WHILE and REPEAT
+
+/// A condition with the statements behind it.
+pub fn guarded(test: Option<Test>, body: Option<Vec<Stmt>>) -> Option<Arm>
+    ensures { guarded_in result ≡ both_of (test_in test) (stmts_in body) }
+{
+    match test {
+        None => None,
+        Some(cond) => match body {
+            None => None,
+            Some(body) => Some(Arm { cond, body }),
+        },
+    }
+}
+
+/// IF, with all its arms and the ELSE part.
+pub fn if_stmt(
+    alloc: Global,
+    arms: Option<Vec<Arm>>,
+    other: Option<Vec<Stmt>>,
+) -> Result<Option<Vec<Stmt>>, AllocError>
+    ensures { IfOk result (λ v. stmts_in v ≡ option_map parts.one_stmt
+        (option_map (λ p. ir.If p.0 p.1) (both_of (arms_in arms) (stmts_in other)))) }
+{
+    match arms {
+        None => Ok(None),
+        Some(arms) => match other {
+            None => Ok(None),
+            Some(other) => Ok(Some(one(alloc, Stmt::If(arms, other))?)),
+        },
+    }
+}
+
+/// WHILE.
+pub fn while_stmt(
+    alloc: Global,
+    test: Option<Test>,
+    body: Option<Vec<Stmt>>,
+) -> Result<Option<Vec<Stmt>>, AllocError>
+    ensures { IfOk result (λ v. stmts_in v ≡ option_map parts.one_stmt
+        (option_map (λ p. ir.While p.0 p.1) (both_of (test_in test) (stmts_in body)))) }
+{
+    match test {
+        None => Ok(None),
+        Some(test) => match body {
+            None => Ok(None),
+            Some(body) => Ok(Some(one(alloc, Stmt::While(test, body))?)),
+        },
+    }
+}
+
+/// REPEAT.
+pub fn repeat_stmt(
+    alloc: Global,
+    body: Option<Vec<Stmt>>,
+    test: Option<Test>,
+) -> Result<Option<Vec<Stmt>>, AllocError>
+    ensures { IfOk result (λ v. stmts_in v ≡ option_map parts.one_stmt
+        (option_map (λ p. ir.Repeat p.0 p.1) (both_of (stmts_in body) (test_in test)))) }
+{
+    match body {
+        None => Ok(None),
+        Some(body) => match test {
+            None => Ok(None),
+            Some(test) => Ok(Some(one(alloc, Stmt::Repeat(body, test))?)),
+        },
+    }
+}
+
+// ---- FOR and SOME
+
+/// What FOR and SOME share; the hidden slots are the first and the one behind it.
+pub fn loop_of(
+    alloc: Global,
+    env: &Env,
+    counter: u32,
+    variable: Option<Located>,
+    low: Option<Typed>,
+    high: Option<Typed>,
+    by: Option<i64>,
+    body: Option<Vec<Stmt>>,
+) -> Result<Option<Loop>, AllocError>
+    requires limit { counter + 1 < 2 ^ 32 }
+    ensures { IfOk result (λ l. loop_in l ≡ option_map (nodes.loop_of
+        (scene_of env.now somewhere) counter) (both_of (located_in variable)
+        (both_of (typing_in low) (both_of (typing_in high) (both_of by (stmts_in body)))))) }
+{
+    let Some(variable) = variable else {
+        return Ok(None);
+    };
+    let Some(low) = low else {
+        return Ok(None);
+    };
+    let Some(high) = high else {
+        return Ok(None);
+    };
+    let Some(by) = by else {
+        return Ok(None);
+    };
+    let Some(body) = body else {
+        return Ok(None);
+    };
+    let range = env.range(variable.shape);
+    Ok(Some(Loop {
+        var: desig(variable),
+        range,
+        counter,
+        limit: counter + 1,
+        from: as_value(alloc, low.meaning)?,
+        to: as_value(alloc, high.meaning)?,
+        by,
+        body,
+    }))
+}
+
+/// FOR.
+pub fn for_stmt(alloc: Global, turns: Option<Loop>) -> Result<Option<Vec<Stmt>>, AllocError>
+    ensures { IfOk result (λ v. stmts_in v ≡ option_map parts.one_stmt
+        (option_map ir.ForTo (loop_in turns))) }
+{
+    match turns {
+        None => Ok(None),
+        Some(turns) => Ok(Some(one(alloc, Stmt::ForTo(turns))?)),
+    }
+}
+
+/// SOME.
+pub fn some_stmt(alloc: Global, turns: Option<Loop>) -> Result<Option<Vec<Stmt>>, AllocError>
+    ensures { IfOk result (λ v. stmts_in v ≡ option_map parts.one_stmt
+        (option_map ir.SomeOf (loop_in turns))) }
+{
+    match turns {
+        None => Ok(None),
+        Some(turns) => Ok(Some(one(alloc, Stmt::SomeOf(turns))?)),
+    }
+}
+
+// ---- CASE
+
+fn ranges(alloc: Global, labels: &[Span]) -> Result<Vec<Range>, AllocError>
+    ensures { IfOk result (λ v. v.items ≡ parts.ranges_of (spans_view labels.now)) }
+{
+    let mut ranges: Vec<Range> = Vec::new(alloc);
+    for label in labels {
+        ranges.push(label.range)?;
+    }
+    Ok(ranges)
+}
+
+/// An arm of CASE.
+pub fn case_arm(
+    alloc: Global,
+    labels: Option<Vec<Span>>,
+    body: Option<Vec<Stmt>>,
+) -> Result<Option<Vec<CaseArm>>, AllocError>
+    ensures { IfOk result (λ v. cases_in v ≡ option_map nodes.arm_of
+        (both_of (spans_in labels) (stmts_in body))) }
+{
+    match labels {
+        None => Ok(None),
+        Some(labels) => match body {
+            None => Ok(None),
+            Some(body) => {
+                let labels = ranges(alloc, &labels)?;
+                let mut arms: Vec<CaseArm> = Vec::new(alloc);
+                arms.push(CaseArm { labels, body })?;
+                Ok(Some(arms))
+            }
+        },
+    }
+}
+
+/// CASE, with all its arms and the ELSE part.
+pub fn case_stmt(
+    alloc: Global,
+    typed: Option<Typed>,
+    arms: Option<Vec<CaseArm>>,
+    other: Option<Option<Vec<Stmt>>>,
+) -> Result<Option<Vec<Stmt>>, AllocError>
+    ensures { IfOk result (λ v. stmts_in v ≡ option_map parts.one_stmt
+        (option_map (λ p. ir.Case (parts.value_of p.0.meaning) p.1.0 p.1.1)
+        (both_of (typing_in typed) (both_of (cases_in arms) (else_in other))))) }
+{
+    match typed {
+        None => Ok(None),
+        Some(typed) => match arms {
+            None => Ok(None),
+            Some(arms) => match other {
+                None => Ok(None),
+                Some(other) => {
+                    let value = as_value(alloc, typed.meaning)?;
+                    Ok(Some(one(alloc, Stmt::Case(value, arms, other))?))
+                }
+            },
+        },
+    }
+}
+
+// ---- EITHER, FORALL and COMMIT
+
+/// EITHER, with all its branches.
+pub fn either_stmt(
+    alloc: Global,
+    branches: Option<Vec<Branch>>,
+) -> Result<Option<Vec<Stmt>>, AllocError>
+    ensures { IfOk result (λ v. stmts_in v ≡ option_map parts.one_stmt
+        (option_map ir.Either (branches_in branches))) }
+{
+    match branches {
+        None => Ok(None),
+        Some(branches) => Ok(Some(one(alloc, Stmt::Either(branches))?)),
+    }
+}
+
+/// FORALL.
+pub fn forall_stmt(
+    alloc: Global,
+    choice: Option<Vec<Stmt>>,
+    body: Option<Vec<Stmt>>,
+) -> Result<Option<Vec<Stmt>>, AllocError>
+    ensures { IfOk result (λ v. stmts_in v ≡ option_map parts.one_stmt
+        (option_map (λ p. ir.Forall p.0 p.1) (both_of (stmts_in choice) (stmts_in body)))) }
+{
+    match choice {
+        None => Ok(None),
+        Some(choice) => match body {
+            None => Ok(None),
+            Some(body) => Ok(Some(one(alloc, Stmt::Forall(choice, body))?)),
+        },
+    }
+}
+
+/// COMMIT.
+pub fn commit_stmt(alloc: Global, body: Option<Vec<Stmt>>) -> Result<Option<Vec<Stmt>>, AllocError>
+    ensures { IfOk result (λ v. stmts_in v ≡ option_map parts.one_stmt
+        (option_map ir.Commit (stmts_in body))) }
+{
+    match body {
+        None => Ok(None),
+        Some(body) => Ok(Some(one(alloc, Stmt::Commit(body))?)),
+    }
+}
+
+// ---- RETURN, READ and WRITE
+
+fn return_stmt(value: Option<Expr>) -> Stmt
+    ensures { stmt_of result ≡ ir.Return (return_option value) }
+{
+    Stmt::Return(value)
+}
+
+/// RETURN alone.
+pub fn bare_return(alloc: Global) -> Result<Option<Vec<Stmt>>, AllocError>
+    ensures { IfOk result (λ v. stmts_in v ≡ Some (parts.one_stmt (ir.Return ir.no_result))) }
+{
+    Ok(Some(one(alloc, return_stmt(None))?))
+}
+
+/// RETURN with an expression.
+pub fn returned(alloc: Global, typed: Option<Typed>) -> Result<Option<Vec<Stmt>>, AllocError>
+    ensures { IfOk result (λ v. stmts_in v ≡ option_map parts.one_stmt
+        (option_map (λ t. ir.Return (ir.some_result (parts.value_of t.meaning))) (typing_in typed))) }
+{
+    match typed {
+        None => Ok(None),
+        Some(typed) => {
+            let value = as_value(alloc, typed.meaning)?;
+            Ok(Some(one(alloc, return_stmt(Some(value)))?))
+        }
+    }
+}
+
+fn read_as(env: &Env, shape: u32) -> ReadAs
+    ensures { result ≡ parts.read_as (scene_of env.now somewhere) shape }
+{
+    if env.has_base(shape, 0) {
+        ReadAs::Int
+    } else {
+        ReadAs::Char
+    }
+}
+
+/// READ of one designator.
+pub fn read(
+    alloc: Global,
+    env: &Env,
+    located: Option<Located>,
+) -> Result<Option<Vec<Stmt>>, AllocError>
+    ensures { IfOk result (λ v. stmts_in v ≡ option_map (parts.read_stmts
+        (scene_of env.now somewhere)) (located_in located)) }
+{
+    match located {
+        None => Ok(None),
+        Some(located) => {
+            let how = read_as(env, located.shape);
+            let range = env.range(located.shape);
+            Ok(Some(one(alloc, Stmt::Read(desig(located), how, range))?))
+        }
+    }
+}
+
+fn write_as(env: &Env, shape: u32) -> WriteAs
+    ensures { result ≡ parts.write_as (scene_of env.now somewhere) shape }
+{
+    if env.has_base(shape, 0) {
+        WriteAs::Int
+    } else if env.has_base(shape, 1) {
+        WriteAs::Char
+    } else {
+        WriteAs::Bool
+    }
+}
+
+/// WRITE of one expression.
+pub fn write(
+    alloc: Global,
+    env: &Env,
+    typed: Option<Typed>,
+) -> Result<Option<Vec<Stmt>>, AllocError>
+    ensures { IfOk result (λ v. stmts_in v ≡ option_map (parts.write_stmts
+        (scene_of env.now somewhere)) (typing_in typed)) }
+{
+    match typed {
+        None => Ok(None),
+        Some(typed) => {
+            let how = write_as(env, typed.shape);
+            let value = as_value(alloc, typed.meaning)?;
+            Ok(Some(one(alloc, Stmt::WriteExpr(value, how))?))
+        }
+    }
+}
+
+/// WRITE of a text.
+pub fn text(alloc: Global, bytes: &[u8]) -> Result<Option<Vec<Stmt>>, AllocError>
+    ensures { IfOk result (λ v. stmts_in v ≡ Some (parts.one_stmt (ir.WriteText bytes.now))) }
+{
+    let bytes = bytes.to_vec(alloc)?;
+    Ok(Some(one(alloc, Stmt::WriteText(bytes))?))
+}
+
+/// WRITELN, behind its items.
+pub fn line(items: Option<Vec<Stmt>>) -> Result<Option<Vec<Stmt>>, AllocError>
+    ensures { IfOk result (λ v. stmts_in v ≡ option_map nodes.with_line (stmts_in items)) }
+{
+    match items {
+        None => Ok(None),
+        Some(items) => {
+            let mut items = items;
+            items.push(Stmt::WriteLine)?;
+            Ok(Some(items))
+        }
+    }
+}
+
+/// Statements behind others.
+pub fn joined(
+    first: Option<Vec<Stmt>>,
+    second: Option<Vec<Stmt>>,
+) -> Result<Option<Vec<Stmt>>, AllocError>
+    ensures { IfOk result (λ v. stmts_in v ≡ option_map parts.joined_stmts
+        (both_of (stmts_in first) (stmts_in second))) }
+{
+    match first {
+        None => Ok(None),
+        Some(first) => match second {
+            None => Ok(None),
+            Some(second) => {
+                let mut first = first;
+                let mut second = second;
+                first.append(&mut second)?;
+                Ok(Some(first))
+            }
+        },
+    }
+}

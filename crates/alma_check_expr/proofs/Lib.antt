@@ -1,4 +1,0 @@
-pub mod Rows
-pub mod Judging
-pub mod Walking
-pub mod Steps

@@ -1,0 +1,529 @@
+// The rules of one node, in the order of the faults.
+ghost use Rattle.std.specs.Prelude.{◌≡◌, ◌&&◌, Option, None, Some, not, option_map, length};
+ghost use Rattle.alma_rules.specs.Judged.{holds, both_of};
+ghost use Rattle.alma_rules.specs.Answers.{Passes};
+ghost use Rattle.alma_rules.specs.Parts as parts;
+ghost use Rattle.alma_rules.specs.ExprRules as rules;
+ghost use Rattle.alma_check_rules.specs.Views.{scene_of, found_view, headings_in, denoted_in, typing_in, located_in, operand_view, use_view, argument_view, formal_view, operator_view, somewhere, callee_in};
+
+use crate::env::{Env, Formal, Found, Place};
+use crate::part::{Argument, Callee, Denoted, Located, Operand, Operator, Typed, Use};
+use alma_base::CheckFault;
+use alma_rules::Stop;
+use alma_tree::{Mode, Relation};
+
+// ---- names and designators
+
+pub fn pass_name(env: &Env, node: u32, found: Found) -> Result<(), Stop>
+    ensures { Passes node (rules.name_rules {A = parts.Denoted}
+        (found_view (headings_in env.now) found) None) result }
+{
+    match found {
+        Found::Absent => Err(Stop::Fault(CheckFault::Undeclared, node)),
+        Found::Bad | Found::Constant(_, _) | Found::Named(_) => Ok(()),
+        Found::Variable(_, _) | Found::Routine(_, _) => Ok(()),
+    }
+}
+
+// A designator in a constant place with selectors, or that names no constant.
+fn no_constant(place: Place, selected: bool, found: Found, env: &Env) -> bool
+    ensures { result ≡ rules.no_constant (scene_of env.now place) selected
+        (found_view (headings_in env.now) found) }
+{
+    match found {
+        Found::Absent | Found::Bad => false,
+        Found::Constant(_, _) => place.constant && selected,
+        Found::Named(_) | Found::Variable(_, _) | Found::Routine(_, _) => place.constant,
+    }
+}
+
+fn is_variable(wanted: Use) -> bool
+    ensures { result ≡ rules.is_variable_use (use_view wanted) }
+{
+    matches!(wanted, Use::Variable)
+}
+
+fn is_value(wanted: Use) -> bool
+    ensures { result ≡ rules.is_value_use (use_view wanted) }
+{
+    matches!(wanted, Use::Value)
+}
+
+fn is_procedure(wanted: Use) -> bool
+    ensures { result ≡ rules.is_procedure_use (use_view wanted) }
+{
+    matches!(wanted, Use::Procedure)
+}
+
+fn not_variable(env: &Env, wanted: Use, selected: bool, found: Found) -> bool
+    ensures { result ≡ rules.not_variable (use_view wanted) selected
+        (found_view (headings_in env.now) found) }
+{
+    match found {
+        Found::Absent | Found::Bad | Found::Variable(_, _) => false,
+        Found::Constant(_, _) => selected || is_variable(wanted),
+        Found::Named(_) => selected || is_variable(wanted) || is_value(wanted),
+        Found::Routine(routine, _) => match env.heading(routine) {
+            None => false,
+            Some(heading) => {
+                let wants = heading.result.is_some() || !heading.formals.is_empty();
+                selected || is_variable(wanted) || (is_value(wanted) && wants)
+            }
+        },
+    }
+}
+
+fn not_procedure(env: &Env, wanted: Use, selected: bool, found: Found) -> bool
+    ensures { result ≡ rules.not_procedure (use_view wanted) selected
+        (found_view (headings_in env.now) found) }
+{
+    match found {
+        Found::Absent | Found::Bad => false,
+        Found::Constant(_, _) | Found::Named(_) | Found::Variable(_, _) => is_procedure(wanted),
+        Found::Routine(routine, _) => match env.heading(routine) {
+            None => false,
+            Some(_heading) => is_procedure(wanted) && selected,
+        },
+    }
+}
+
+pub fn pass_desig(
+    env: &Env,
+    place: Place,
+    node: u32,
+    wanted: Use,
+    selected: bool,
+    found: Found,
+) -> Result<(), Stop>
+    ensures { Passes node (rules.desig_rules (scene_of env.now place) (use_view wanted) selected
+        (found_view (headings_in env.now) found) None) result }
+{
+    if no_constant(place, selected, found, env) {
+        return Err(Stop::Fault(CheckFault::NotConst, node));
+    }
+    if not_variable(env, wanted, selected, found) {
+        return Err(Stop::Fault(CheckFault::NotVariable, node));
+    }
+    if not_procedure(env, wanted, selected, found) {
+        return Err(Stop::Fault(CheckFault::NotProcedure, node));
+    }
+    Ok(())
+}
+
+fn not_record(env: &Env, found: &Option<Denoted>) -> bool
+    ensures { result ≡ holds (rules.not_record (scene_of env.now somewhere))
+        (denoted_in (headings_in env.now) found.now) }
+{
+    match found {
+        Some(Denoted::Variable(located)) => !env.is_record(located.shape),
+        Some(Denoted::Constant(_, _)) | Some(Denoted::Routine(_, _)) => false,
+        Some(Denoted::NoArray) | None => false,
+    }
+}
+
+fn no_field(env: &Env, name: &[u8], found: &Option<Denoted>) -> bool
+    ensures { result ≡ holds (rules.no_field (scene_of env.now somewhere) name.now)
+        (denoted_in (headings_in env.now) found.now) }
+{
+    match found {
+        Some(Denoted::Variable(located)) => {
+            env.is_record(located.shape) && env.field(located.shape, name).is_none()
+        }
+        Some(Denoted::Constant(_, _)) | Some(Denoted::Routine(_, _)) => false,
+        Some(Denoted::NoArray) | None => false,
+    }
+}
+
+pub fn pass_field(env: &Env, node: u32, name: &[u8], found: &Option<Denoted>) -> Result<(), Stop>
+    ensures { Passes node (rules.field_rules (scene_of env.now somewhere) name.now
+        (denoted_in (headings_in env.now) found.now)) result }
+{
+    if not_record(env, found) {
+        return Err(Stop::Fault(CheckFault::NotRecord, node));
+    }
+    if no_field(env, name, found) {
+        return Err(Stop::Fault(CheckFault::NoField, node));
+    }
+    Ok(())
+}
+
+pub fn pass_array(env: &Env, node: u32, found: &Option<Denoted>) -> Result<(), Stop>
+    ensures { Passes node (rules.array_rules (denoted_in (headings_in env.now) found.now)) result }
+{
+    match found {
+        Some(Denoted::NoArray) => Err(Stop::Fault(CheckFault::NotArray, node)),
+        Some(Denoted::Constant(_, _)) | Some(Denoted::Routine(_, _)) => Ok(()),
+        Some(Denoted::Variable(_)) | None => Ok(()),
+    }
+}
+
+// An index of another base than the index type.
+fn other_index(env: &Env, found: &Option<Denoted>, typed: &Option<Typed>) -> bool
+    ensures { result ≡ holds (rules.other_index_of (scene_of env.now somewhere)
+        (denoted_in (headings_in env.now) found.now)) (typing_in typed.now) }
+{
+    match typed {
+        None => false,
+        Some(typed) => match found {
+            Some(Denoted::Variable(located)) => match env.row(located.shape) {
+                None => false,
+                Some((index, _)) => env.base(index) != env.base(typed.shape),
+            },
+            Some(Denoted::Constant(_, _)) | Some(Denoted::Routine(_, _)) => false,
+            Some(Denoted::NoArray) | None => false,
+        },
+    }
+}
+
+pub fn pass_index(
+    env: &Env,
+    node: u32,
+    found: &Option<Denoted>,
+    typed: &Option<Typed>,
+) -> Result<(), Stop>
+    ensures { Passes node (rules.index_rules (scene_of env.now somewhere)
+        (denoted_in (headings_in env.now) found.now) (typing_in typed.now)) result }
+{
+    if other_index(env, found, typed) {
+        return Err(Stop::Fault(CheckFault::TypeMismatch, node));
+    }
+    Ok(())
+}
+
+// ---- types of expressions
+
+fn not_test(env: &Env, typed: &Option<Typed>) -> bool
+    ensures { result ≡ holds (rules.not_test (scene_of env.now somewhere)) (typing_in typed.now) }
+{
+    match typed {
+        None => false,
+        Some(typed) => !env.has_base(typed.shape, 2),
+    }
+}
+
+pub(crate) fn no_integer(env: &Env, typed: &Option<Typed>) -> bool
+    ensures { result ≡ holds (rules.no_integer (scene_of env.now somewhere)) (typing_in typed.now) }
+{
+    match typed {
+        None => false,
+        Some(typed) => !env.has_base(typed.shape, 0),
+    }
+}
+
+pub(crate) fn structured(env: &Env, typed: &Option<Typed>) -> bool
+    ensures { result ≡ holds (rules.structured (scene_of env.now somewhere)) (typing_in typed.now) }
+{
+    match typed {
+        None => false,
+        Some(typed) => env.is_structured(typed.shape),
+    }
+}
+
+fn is_logical(operator: Operator) -> bool
+    ensures { result ≡ parts.is_logical (operator_view operator) }
+{
+    matches!(operator, Operator::Logical)
+}
+
+fn logical_operand(operand: Operand) -> bool
+    ensures { result ≡ rules.logical_operand (operand_view operand).operator }
+{
+    match operand.operator {
+        None => false,
+        Some(operator) => is_logical(operator),
+    }
+}
+
+fn arithmetic_operand(operand: Operand) -> bool
+    ensures { result ≡ rules.arithmetic_operand (operand_view operand).operator }
+{
+    match operand.operator {
+        None => false,
+        Some(operator) => !is_logical(operator),
+    }
+}
+
+fn no_operand(env: &Env, operand: Operand, typed: &Option<Typed>) -> bool
+    ensures { result ≡ holds (rules.no_operand (scene_of env.now somewhere) (operand_view operand))
+        (typing_in typed.now) }
+{
+    match typed {
+        None => false,
+        Some(typed) => {
+            let numbers = arithmetic_operand(operand) || operand.signed;
+            (numbers && !env.has_base(typed.shape, 0))
+                || (operand.operator.is_some() && env.is_structured(typed.shape))
+        }
+    }
+}
+
+fn other_sort(operand: Operand) -> bool
+    ensures { result ≡ rules.other_sort (operand_view operand) }
+{
+    (operand.sort && arithmetic_operand(operand)) || (!operand.sort && logical_operand(operand))
+}
+
+pub fn pass_operand(
+    env: &Env,
+    node: u32,
+    operand: Operand,
+    typed: &Option<Typed>,
+) -> Result<(), Stop>
+    ensures { Passes node (rules.operand_rules (scene_of env.now somewhere) (operand_view operand)
+        (typing_in typed.now)) result }
+{
+    if logical_operand(operand) && not_test(env, typed) {
+        return Err(Stop::Fault(CheckFault::NotTest, node));
+    }
+    if other_sort(operand) || no_operand(env, operand, typed) {
+        return Err(Stop::Fault(CheckFault::TypeMismatch, node));
+    }
+    Ok(())
+}
+
+pub fn pass_constant(env: &Env, place: Place, node: u32) -> Result<(), Stop>
+    ensures { Passes node (rules.constant_rules (scene_of env.now place)) result }
+{
+    if place.constant {
+        return Err(Stop::Fault(CheckFault::NotConst, node));
+    }
+    Ok(())
+}
+
+pub fn pass_not(
+    env: &Env,
+    place: Place,
+    node: u32,
+    operand: Operand,
+    typed: &Option<Typed>,
+) -> Result<(), Stop>
+    ensures { Passes node (rules.not_rules (scene_of env.now place) (operand_view operand)
+        (typing_in typed.now)) result }
+{
+    if place.constant {
+        return Err(Stop::Fault(CheckFault::NotConst, node));
+    }
+    pass_operand(env, node, operand, typed)
+}
+
+pub fn pass_test(env: &Env, node: u32, typed: &Option<Typed>) -> Result<(), Stop>
+    ensures { Passes node (rules.test_rules (scene_of env.now somewhere) (typing_in typed.now))
+        result }
+{
+    if not_test(env, typed) {
+        return Err(Stop::Fault(CheckFault::NotTest, node));
+    }
+    Ok(())
+}
+
+pub fn pass_simple(env: &Env, node: u32, typed: &Option<Typed>) -> Result<(), Stop>
+    ensures { Passes node (rules.simple_rules (scene_of env.now somewhere) (typing_in typed.now))
+        result }
+{
+    if structured(env, typed) {
+        return Err(Stop::Fault(CheckFault::TypeMismatch, node));
+    }
+    Ok(())
+}
+
+// ---- primaries
+
+pub fn pass_literal(env: &Env, place: Place, node: u32, text: &[u8]) -> Result<(), Stop>
+    ensures { Passes node (rules.literal_rules (scene_of env.now place) text.now None) result }
+{
+    if text.len() != 1 {
+        if place.constant {
+            return Err(Stop::Fault(CheckFault::NotConst, node));
+        }
+        return Err(Stop::Fault(CheckFault::TypeMismatch, node));
+    }
+    Ok(())
+}
+
+fn other_count(env: &Env, count: usize, callee: Option<Callee>) -> bool
+    ensures { result ≡ holds (rules.other_count count) (callee_in (headings_in env.now) callee) }
+{
+    match callee {
+        None => false,
+        Some(callee) => match env.heading(callee.number) {
+            None => count != 0,
+            Some(heading) => count != heading.formals.len(),
+        },
+    }
+}
+
+pub fn pass_call(
+    env: &Env,
+    place: Place,
+    node: u32,
+    callee: Option<Callee>,
+    count: usize,
+) -> Result<(), Stop>
+    ensures { Passes node (rules.call_rules (scene_of env.now place)
+        (callee_in (headings_in env.now) callee) count None) result }
+{
+    if place.constant {
+        return Err(Stop::Fault(CheckFault::NotConst, node));
+    }
+    if other_count(env, count, callee) {
+        return Err(Stop::Fault(CheckFault::ArgCount, node));
+    }
+    Ok(())
+}
+
+fn structured_place(env: &Env, located: &Option<Located>) -> bool
+    ensures { result ≡ holds (rules.structured_place (scene_of env.now somewhere))
+        (located_in located.now) }
+{
+    match located {
+        None => false,
+        Some(located) => env.is_structured(located.shape),
+    }
+}
+
+pub fn pass_known(env: &Env, place: Place, node: u32, located: &Option<Located>) -> Result<(), Stop>
+    ensures { Passes node (rules.known_rules (scene_of env.now place) (located_in located.now))
+        result }
+{
+    if place.constant {
+        return Err(Stop::Fault(CheckFault::NotConst, node));
+    }
+    if structured_place(env, located) {
+        return Err(Stop::Fault(CheckFault::TypeMismatch, node));
+    }
+    Ok(())
+}
+
+// The constant is one, and is a CHAR.
+fn is_char(constant: Option<i64>) -> bool
+    ensures { result ≡ holds rules.is_char constant }
+{
+    match constant {
+        None => false,
+        Some(value) => 0 <= value && value <= 255,
+    }
+}
+
+fn no_char(env: &Env, place: Place, typed: &Option<Typed>) -> bool
+    ensures { result ≡ holds (rules.no_char (scene_of env.now place)) (typing_in typed.now) }
+{
+    match typed {
+        None => false,
+        Some(typed) => place.constant && env.has_base(typed.shape, 0) && !is_char(typed.constant),
+    }
+}
+
+pub fn pass_chr(env: &Env, place: Place, node: u32, typed: &Option<Typed>) -> Result<(), Stop>
+    ensures { Passes node (rules.chr_rules (scene_of env.now place) (typing_in typed.now)) result }
+{
+    if no_integer(env, typed) {
+        return Err(Stop::Fault(CheckFault::TypeMismatch, node));
+    }
+    if no_char(env, place, typed) {
+        return Err(Stop::Fault(CheckFault::ConstRange, node));
+    }
+    Ok(())
+}
+
+// ---- relations
+
+fn is_equation(relation: Relation) -> bool
+    ensures { result ≡ rules.is_equation relation }
+{
+    matches!(relation, Relation::Equal)
+}
+
+pub fn pass_relation(
+    env: &Env,
+    place: Place,
+    node: u32,
+    relation: Relation,
+    left: &Option<Typed>,
+    right: &Option<Typed>,
+) -> Result<(), Stop>
+    ensures { Passes node (rules.relation_rules (scene_of env.now place) relation
+        (both_of (typing_in left.now) (typing_in right.now))) result }
+{
+    if place.constant {
+        return Err(Stop::Fault(CheckFault::NotConst, node));
+    }
+    match left {
+        None => Ok(()),
+        Some(left) => match right {
+            None => Ok(()),
+            Some(right) => {
+                let compatible = env.base(left.shape) == env.base(right.shape);
+                if !compatible || (env.is_structured(left.shape) && !is_equation(relation)) {
+                    return Err(Stop::Fault(CheckFault::TypeMismatch, node));
+                }
+                Ok(())
+            }
+        },
+    }
+}
+
+// ---- arguments
+
+fn not_fitting(env: &Env, formal: Formal, typed: &Option<Typed>) -> bool
+    ensures { result ≡ holds (rules.not_fitting (scene_of env.now somewhere) (formal_view formal))
+        (typing_in typed.now) }
+{
+    match typed {
+        None => false,
+        Some(typed) => env.base(typed.shape) != env.base(formal.shape),
+    }
+}
+
+fn is_var(mode: Option<Mode>) -> bool
+    ensures { result ≡ rules.is_var mode }
+{
+    match mode {
+        Some(Mode::Var) => true,
+        Some(Mode::Mix) | None => false,
+    }
+}
+
+fn other_type(formal: Formal, typed: &Option<Typed>) -> bool
+    ensures { result ≡ holds (rules.other_type (formal_view formal)) (typing_in typed.now) }
+{
+    match typed {
+        None => false,
+        Some(typed) => typed.shape != formal.shape,
+    }
+}
+
+pub fn pass_argument(
+    env: &Env,
+    node: u32,
+    formal: Option<Formal>,
+    kind: Argument,
+    typed: &Option<Typed>,
+) -> Result<(), Stop>
+    ensures { Passes node (rules.argument_rules (scene_of env.now somewhere)
+        (option_map formal_view formal) (argument_view kind) (typing_in typed.now)) result }
+{
+    match formal {
+        None => Ok(()),
+        Some(formal) => match kind {
+            Argument::OfBad => Ok(()),
+            Argument::OfVariable => {
+                if formal.mode.is_none() && not_fitting(env, formal, typed) {
+                    return Err(Stop::Fault(CheckFault::TypeMismatch, node));
+                }
+                if formal.mode.is_some() && other_type(formal, typed) {
+                    return Err(Stop::Fault(CheckFault::ModeType, node));
+                }
+                Ok(())
+            }
+            Argument::Other => {
+                if is_var(formal.mode) {
+                    return Err(Stop::Fault(CheckFault::NotDesignator, node));
+                }
+                if not_fitting(env, formal, typed) {
+                    return Err(Stop::Fault(CheckFault::TypeMismatch, node));
+                }
+                Ok(())
+            }
+        },
+    }
+}

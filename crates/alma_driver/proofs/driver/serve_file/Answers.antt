@@ -1,0 +1,27 @@
+use Rattle.alma_driver.specs.Outside.{files_side, sink_side}
+use Rattle.alma_driver.proofs.DriverLemmas.{works_run, works_list}
+use Rattle.alma_driver.proofs.driver.serve_file.Goals as goal
+
+pub run_source-requires-clause-short : goal.run_source-requires-clause-short
+run_source-requires-clause-short g c = rw c.in-Run.is at c.requires.short
+
+pub run_source-requires-clause-few : goal.run_source-requires-clause-few
+run_source-requires-clause-few g c = rw c.in-Run.is at c.requires.steps
+
+pub returns-in-Run-clause-course : goal.returns-in-Run-clause-course
+returns-in-Run-clause-course g c =
+    rw c.in-Run.is (works_run c.args.bytes.now c.in-Run.steps
+    (files_side (g.F.Files.told c.args.files.now) (g.F.Files.fetch_faults c.args.files.now) (g.F.Files.store_faults c.args.files.now))
+    (sink_side (g.O.Sink.written c.args.out.now) (g.O.Sink.faults c.args.out.now))
+    (sink_side (g.O.Sink.written c.run_source.new.out) (g.O.Sink.faults c.run_source.new.out)) c.run_source.result c.run_source.ensures)
+
+pub returns-in-Compile-clause-course : goal.returns-in-Compile-clause-course
+returns-in-Compile-clause-course g c =
+    rw c.in-Compile.is (c.compile_source.ensures.course (sink_side (g.O.Sink.written c.args.out.now) (g.O.Sink.faults c.args.out.now)))
+
+pub returns-in-List-clause-course : goal.returns-in-List-clause-course
+returns-in-List-clause-course g c =
+    rw c.in-List.is (works_list c.args.bytes.now
+    (files_side (g.F.Files.told c.args.files.now) (g.F.Files.fetch_faults c.args.files.now) (g.F.Files.store_faults c.args.files.now))
+    (sink_side (g.O.Sink.written c.args.out.now) (g.O.Sink.faults c.args.out.now))
+    (sink_side (g.O.Sink.written c.list_object.new.out) (g.O.Sink.faults c.list_object.new.out)) c.list_object.result c.list_object.ensures)

@@ -1,4 +1,0 @@
-pub mod ExampleViews
-pub mod Examples
-pub mod ForExample
-pub mod Small

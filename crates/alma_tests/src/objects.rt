@@ -1,0 +1,478 @@
+// The commands `compile` and `list`, over the fakes in memory.
+ghost use Rattle.std.specs.Prelude.{◌<◌};
+
+mod cases;
+
+use crate::object::{FIRST, SECOND};
+use crate::objects::cases::CASES;
+use alma_base::Status;
+use alma_driver::alma;
+use alma_io::{MemFiles, MemSink, MemSource};
+use std::alloc::Global;
+use std::process::Abort;
+use std::test::Fail;
+
+/// What a call comes to.
+#[derive(Clone, Copy)]
+struct Answer<'s> {
+    status: u8,
+    out: &'s [u8],
+    err: &'s [u8],
+}
+
+const SUCCESS: Answer = Answer {
+    status: 0,
+    out: b"",
+    err: b"",
+};
+
+const READ_FAULT: Answer = Answer {
+    status: 6,
+    out: b"",
+    err: b"alma: read fault\n",
+};
+
+const WRITE_FAULT: Answer = Answer {
+    status: 7,
+    out: b"",
+    err: b"alma: write fault\n",
+};
+
+// The words as the program takes them.
+fn words_of(alloc: Global, words: &[&str]) -> Result<Vec<String>, Fail> {
+    let mut found = Vec::new(alloc);
+    for word in words {
+        found.push(String::from_str(alloc, word)?)?;
+    }
+    Ok(found)
+}
+
+// Runs the program on these words. Out takes at most seven bytes in one write, and the writes of this list fail.
+fn check_on(
+    rt: &impl Abort,
+    alloc: Global,
+    files: &mut MemFiles,
+    words: &[&str],
+    fails: &[u64],
+    answer: &Answer<'_>,
+) -> Result<(), Fail> {
+    let words = words_of(alloc, words)?;
+    let mut input = MemSource::new(alloc, b"", 1, &[])?;
+    let mut out = MemSink::new(alloc, 10000, 7, fails)?;
+    let mut err = MemSink::new(alloc, 1000, 7, &[])?;
+    let status = alma(alloc, &words, files, &mut input, &mut out, &mut err);
+    assert_eq!(rt; status, Status(answer.status));
+    assert_eq!(rt; out.bytes(), answer.out);
+    assert_eq!(rt; err.bytes(), answer.err);
+    Ok(())
+}
+
+// The same where nothing fails.
+fn check(
+    rt: &impl Abort,
+    alloc: Global,
+    files: &mut MemFiles,
+    words: &[&str],
+    answer: &Answer<'_>,
+) -> Result<(), Fail> {
+    check_on(rt, alloc, files, words, &[], answer)
+}
+
+// Files with one file.
+fn files_with(alloc: Global, name: &str, bytes: &[u8], fails: &[u64]) -> Result<MemFiles, Fail> {
+    let mut files = MemFiles::new(alloc, fails)?;
+    files.put(alloc, name, bytes)?;
+    Ok(files)
+}
+
+const EMPTY: &[u8] = b"MODULE A; END A.";
+
+const EMPTY_LISTING: &[u8] =
+    b"object 2\nroutine 0 A slots 1 declared 0 params 0 result 0\n0 Return\nline 0 1\n";
+
+#[test]
+fn a_compiled_program_is_listed(rt: HostRuntime) -> Result<(), Fail> {
+    let alloc = rt.alloc();
+    let mut files = files_with(alloc, "a.al", EMPTY, &[])?;
+    check(
+        &rt,
+        alloc,
+        &mut files,
+        &["compile", "a.al", "a.obj"],
+        &SUCCESS,
+    )?;
+    let listed = Answer {
+        status: 0,
+        out: EMPTY_LISTING,
+        err: b"",
+    };
+    check(&rt, alloc, &mut files, &["list", "a.obj"], &listed)?;
+    assert_eq!(rt; files.get("a.al"), Some(EMPTY));
+    Ok(())
+}
+
+#[test]
+fn the_object_may_take_the_place_of_the_source(rt: HostRuntime) -> Result<(), Fail> {
+    let alloc = rt.alloc();
+    let mut files = files_with(alloc, "a.al", EMPTY, &[])?;
+    check(
+        &rt,
+        alloc,
+        &mut files,
+        &["compile", "a.al", "a.al"],
+        &SUCCESS,
+    )?;
+    let listed = Answer {
+        status: 0,
+        out: EMPTY_LISTING,
+        err: b"",
+    };
+    check(&rt, alloc, &mut files, &["list", "a.al"], &listed)
+}
+
+#[test]
+fn a_store_that_fails_is_a_write_fault(rt: HostRuntime) -> Result<(), Fail> {
+    let alloc = rt.alloc();
+    let mut files = files_with(alloc, "a.al", EMPTY, &[2])?;
+    check(
+        &rt,
+        alloc,
+        &mut files,
+        &["compile", "a.al", "a.obj"],
+        &WRITE_FAULT,
+    )?;
+    assert_eq!(rt; files.get("a.al"), Some(EMPTY));
+    check(
+        &rt,
+        alloc,
+        &mut files,
+        &["compile", "a.al", "a.obj"],
+        &SUCCESS,
+    )?;
+    assert!(rt; files.get("a.obj").is_some());
+    Ok(())
+}
+
+#[test]
+fn a_fetch_that_fails_is_a_read_fault(rt: HostRuntime) -> Result<(), Fail> {
+    let alloc = rt.alloc();
+    let mut files = files_with(alloc, "a.al", EMPTY, &[1])?;
+    check(
+        &rt,
+        alloc,
+        &mut files,
+        &["compile", "a.al", "a.obj"],
+        &READ_FAULT,
+    )?;
+    assert!(rt; files.get("a.obj").is_none());
+    Ok(())
+}
+
+/// A source without code, and what compiling it answers.
+struct Refusal {
+    source: &'static [u8],
+    status: u8,
+    err: &'static [u8],
+}
+
+const REFUSALS: [Refusal; 4] = [
+    Refusal {
+        source: b"MODULE A; BEGIN WRITE(",
+        status: 3,
+        err: b"a.al:1:23: Unexpected\n",
+    },
+    Refusal {
+        source: b"MODULE A; BEGIN ? END A.",
+        status: 3,
+        err: b"a.al:1:17: BadByte\n",
+    },
+    Refusal {
+        source: b"MODULE A; BEGIN x := 1 END A.",
+        status: 12,
+        err: b"alma: not yet\n",
+    },
+    Refusal {
+        source: b"MODULE A; VAR x: INTEGER; BEGIN EITHER x = 1 ORELSE x = 2 END END A.",
+        status: 12,
+        err: b"alma: not yet\n",
+    },
+];
+
+#[test]
+fn a_source_without_code_is_not_stored(rt: HostRuntime) -> Result<(), Fail> {
+    let alloc = rt.alloc();
+    for refusal in &REFUSALS {
+        let mut files = files_with(alloc, "a.al", refusal.source, &[])?;
+        files.put(alloc, "a.obj", b"before")?;
+        let answer = Answer {
+            status: refusal.status,
+            out: b"",
+            err: refusal.err,
+        };
+        check(
+            &rt,
+            alloc,
+            &mut files,
+            &["compile", "a.al", "a.obj"],
+            &answer,
+        )?;
+        assert_eq!(rt; files.get("a.obj"), Some(b"before".as_slice()));
+    }
+    Ok(())
+}
+
+struct Words {
+    words: &'static [&'static str],
+    status: u8,
+    err: &'static [u8],
+}
+
+// The file is `a.al`, a source.
+const WORDS: [Words; 18] = [
+    Words {
+        words: &["compile"],
+        status: 2,
+        err: b"alma: bad word 2\n",
+    },
+    Words {
+        words: &["compile", ""],
+        status: 2,
+        err: b"alma: bad word 2\n",
+    },
+    Words {
+        words: &["compile", "--", "00", "00", ""],
+        status: 2,
+        err: b"alma: bad word 2\n",
+    },
+    Words {
+        words: &["compile", "--steps=4611686018427387905", "a.al", "b.obj"],
+        status: 2,
+        err: b"alma: bad word 2\n",
+    },
+    Words {
+        words: &["compile", "a.al"],
+        status: 2,
+        err: b"alma: bad word 3\n",
+    },
+    Words {
+        words: &["compile", "a.al", ""],
+        status: 2,
+        err: b"alma: bad word 3\n",
+    },
+    Words {
+        words: &["compile", "a.al", "--steps=", "b.obj"],
+        status: 2,
+        err: b"alma: bad word 3\n",
+    },
+    Words {
+        words: &["compile", "0", "a.al", "b.obj"],
+        status: 2,
+        err: b"alma: bad word 4\n",
+    },
+    Words {
+        words: &["compile", "trace", "b.al", "--watch=BEGIN"],
+        status: 2,
+        err: b"alma: bad word 4\n",
+    },
+    Words {
+        words: &["compile", "b.al", "b.obj"],
+        status: 6,
+        err: b"alma: read fault\n",
+    },
+    Words {
+        words: &["compile", "a.al", "b.obj"],
+        status: 0,
+        err: b"",
+    },
+    Words {
+        words: &["list"],
+        status: 2,
+        err: b"alma: bad word 2\n",
+    },
+    Words {
+        words: &["list", "--watch=x", "a.al"],
+        status: 2,
+        err: b"alma: bad word 2\n",
+    },
+    Words {
+        words: &["list", "a.al", "0"],
+        status: 2,
+        err: b"alma: bad word 3\n",
+    },
+    Words {
+        words: &["list", "b.al"],
+        status: 6,
+        err: b"alma: read fault\n",
+    },
+    Words {
+        words: &["list", "a.al"],
+        status: 9,
+        err: b"alma: object Magic\n",
+    },
+    Words {
+        words: &["lists", "a.al"],
+        status: 2,
+        err: b"alma: bad word 1\n",
+    },
+    Words {
+        words: &["Compile", "a.al", "b.obj"],
+        status: 2,
+        err: b"alma: bad word 1\n",
+    },
+];
+
+#[test]
+fn words_are_read(rt: HostRuntime) -> Result<(), Fail> {
+    let alloc = rt.alloc();
+    for row in &WORDS {
+        let mut files = files_with(alloc, "a.al", EMPTY, &[])?;
+        let answer = Answer {
+            status: row.status,
+            out: b"",
+            err: row.err,
+        };
+        check(&rt, alloc, &mut files, row.words, &answer)?;
+    }
+    Ok(())
+}
+
+const FIRST_LISTING: &[u8] =
+    b"object 1\nroutine 0 A slots 1 declared 0 params 0 result 0\n0 Return\n";
+
+const SECOND_LISTING: &[u8] =
+    b"object 2\nroutine 0 A slots 1 declared 0 params 0 result 0\n0 Return\n";
+
+// Lists an object.
+fn check_list(
+    rt: &impl Abort,
+    alloc: Global,
+    object: &[u8],
+    answer: &Answer<'_>,
+) -> Result<(), Fail> {
+    let mut files = files_with(alloc, "o.obj", object, &[])?;
+    check(rt, alloc, &mut files, &["list", "o.obj"], answer)
+}
+
+// Lists bytes that are no object.
+fn check_refused(rt: &impl Abort, alloc: Global, object: &[u8], err: &[u8]) -> Result<(), Fail> {
+    let answer = Answer {
+        status: 9,
+        out: b"",
+        err,
+    };
+    check_list(rt, alloc, object, &answer)
+}
+
+#[test]
+fn small_objects_are_listed(rt: HostRuntime) -> Result<(), Fail> {
+    let first = Answer {
+        status: 0,
+        out: FIRST_LISTING,
+        err: b"",
+    };
+    check_list(&rt, rt.alloc(), &FIRST, &first)?;
+    let second = Answer {
+        status: 0,
+        out: SECOND_LISTING,
+        err: b"",
+    };
+    check_list(&rt, rt.alloc(), &SECOND, &second)
+}
+
+#[test]
+fn damaged_objects_are_refused(rt: HostRuntime) -> Result<(), Fail> {
+    let alloc = rt.alloc();
+    check_refused(&rt, alloc, &FIRST[..103], b"alma: object Cut 103\n")?;
+    let mut longer = Vec::from_slice(alloc, &FIRST)?;
+    longer.push(0)?;
+    check_refused(&rt, alloc, &longer, b"alma: object Trailing 104\n")?;
+    let mut opcode = FIRST;
+    opcode[87] = 0;
+    check_refused(&rt, alloc, &opcode, b"alma: object BadOpcode 87\n")?;
+    let mut magic = FIRST;
+    magic[0] = b'a';
+    check_refused(&rt, alloc, &magic, b"alma: object Magic\n")?;
+    let mut version = FIRST;
+    version[8] = 49;
+    check_refused(&rt, alloc, &version, b"alma: object Version 49\n")?;
+    let mut counts = FIRST;
+    counts[10] = 0;
+    check_refused(&rt, alloc, &counts, b"alma: object BadCount 10\n")?;
+    let mut name = FIRST;
+    name[86] = b'1';
+    check_refused(&rt, alloc, &name, b"alma: object BadName 86\n")
+}
+
+#[test]
+fn an_object_is_not_verified(rt: HostRuntime) -> Result<(), Fail> {
+    let mut mark = FIRST;
+    mark[87] = 0x1e;
+    let answer = Answer {
+        status: 0,
+        out: b"object 1\nroutine 0 A slots 1 declared 0 params 0 result 0\n0 Mark 0\n",
+        err: b"",
+    };
+    check_list(&rt, rt.alloc(), &mark, &answer)
+}
+
+#[test]
+fn a_write_that_fails_is_not_hidden(rt: HostRuntime) -> Result<(), Fail> {
+    let alloc = rt.alloc();
+    let mut files = files_with(alloc, "o.obj", &FIRST, &[])?;
+    let answer = Answer {
+        status: 7,
+        out: b"object ",
+        err: b"alma: write fault\n",
+    };
+    check_on(&rt, alloc, &mut files, &["list", "o.obj"], &[2], &answer)
+}
+
+// The value of a hexadecimal digit.
+fn digit(byte: u8) -> u8
+    ensures { result < 16 }
+{
+    match byte {
+        b'0'..=b'9' => byte - b'0',
+        b'a'..=b'f' => byte - b'a' + 10,
+        _ => 0,
+    }
+}
+
+// The bytes that lines in hexadecimal spell.
+fn bytes_of(alloc: Global, lines: &[&str]) -> Result<Vec<u8>, Fail> {
+    let mut bytes = Vec::new(alloc);
+    for line in lines {
+        for pair in line.as_bytes().chunks(2) {
+            if let [high, low] = pair {
+                bytes.push(digit(*high) * 16 + digit(*low))?;
+            }
+        }
+    }
+    Ok(bytes)
+}
+
+// Lines, each with its end.
+fn text_of(alloc: Global, lines: &[&str]) -> Result<Vec<u8>, Fail> {
+    let mut text = Vec::new(alloc);
+    for line in lines {
+        text.extend_from_slice(line.as_bytes())?;
+        text.push(b'\n')?;
+    }
+    Ok(text)
+}
+
+#[test]
+fn objects_made_elsewhere_are_listed_or_refused(rt: HostRuntime) -> Result<(), Fail> {
+    let alloc = rt.alloc();
+    for case in &CASES {
+        let object = bytes_of(alloc, case.object)?;
+        let out = text_of(alloc, case.lines)?;
+        let answer = Answer {
+            status: case.status,
+            out: &out,
+            err: case.err,
+        };
+        check_list(&rt, alloc, &object, &answer)?;
+    }
+    Ok(())
+}

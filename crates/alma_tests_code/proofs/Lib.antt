@@ -1,0 +1,3 @@
+pub mod Examples
+pub mod ExampleViews
+pub mod ForExample

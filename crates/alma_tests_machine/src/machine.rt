@@ -1,0 +1,310 @@
+// The machine, run on small codes.
+ghost use Rattle.std.specs.Prelude.{◌≡◌, ◌<◌, ◌^◌, length, IfOk};
+ghost use Rattle.alma_code.specs.Plain.{code_of};
+ghost use Rattle.alma_code.specs.Rules.{IsSound};
+ghost use Rattle.alma_machine.specs.Built.{HasOnlyBuilt};
+ghost use Rattle.alma_tests_machine.specs.Small.{small_code};
+
+use alma_base::{NoMemory, Range, RunFault};
+use alma_code::{Code, Instr, RoutineHead, Run, SlotKind};
+use alma_io::MemSink;
+use alma_machine::{Machine, RunEnd, Step};
+use std::alloc::Global;
+use std::test::Fail;
+
+// Counts to 3 and prints each number and then a truth, in 31 steps.
+const COUNT: [Instr; 13] = [
+    Instr::Const { to: 1, value: 0 },
+    Instr::Const { to: 2, value: 3 },
+    Instr::Local { to: 5, first: 1 },
+    Instr::Less {
+        to: 3,
+        left: 1,
+        right: 2,
+    },
+    Instr::JumpZero { value: 3, to: 11 },
+    Instr::Const { to: 4, value: 1 },
+    Instr::Load { to: 3, from: 5 },
+    Instr::Add {
+        to: 3,
+        left: 3,
+        right: 4,
+    },
+    Instr::Store { to: 5, from: 3 },
+    Instr::WriteInt { value: 1 },
+    Instr::Jump { to: 3 },
+    Instr::WriteBool { value: 3 },
+    Instr::Return,
+];
+
+const TOO_LARGE: [Instr; 4] = [
+    Instr::Const {
+        to: 1,
+        value: i64::MAX,
+    },
+    Instr::Const { to: 2, value: 1 },
+    Instr::Add {
+        to: 3,
+        left: 1,
+        right: 2,
+    },
+    Instr::Return,
+];
+
+const BY_ZERO: [Instr; 4] = [
+    Instr::Const { to: 1, value: 7 },
+    Instr::Const { to: 2, value: 0 },
+    Instr::Div {
+        to: 3,
+        left: 1,
+        right: 2,
+    },
+    Instr::Return,
+];
+
+const NOT_KNOWN: [Instr; 3] = [
+    Instr::Local { to: 5, first: 1 },
+    Instr::Load { to: 2, from: 5 },
+    Instr::Return,
+];
+
+const CHECK_FAILS: [Instr; 3] = [
+    Instr::Const { to: 1, value: 0 },
+    Instr::Check { value: 1 },
+    Instr::Return,
+];
+
+const FAILS: [Instr; 1] = [Instr::Fail];
+
+// Copies a pair onto one that overlaps it, prints two characters, a text and a line, and then counts to 2, in 24 steps.
+const PARTS: [Instr; 21] = [
+    Instr::Local { to: 10, first: 6 },
+    Instr::Const { to: 1, value: 2 },
+    Instr::Index {
+        to: 11,
+        from: 10,
+        index: 1,
+        range: 0,
+    },
+    Instr::Local { to: 12, first: 7 },
+    Instr::Const { to: 7, value: 321 },
+    Instr::Const { to: 8, value: 66 },
+    Instr::CopyCells { to: 11, from: 12 },
+    Instr::Field {
+        to: 5,
+        from: 11,
+        offset: 1,
+    },
+    Instr::Load { to: 2, from: 5 },
+    Instr::WriteChar { value: 2 },
+    Instr::WriteChar { value: 8 },
+    Instr::WriteText { text: 0 },
+    Instr::WriteLine,
+    Instr::Const { to: 1, value: 1 },
+    Instr::Const { to: 3, value: 1 },
+    Instr::Const { to: 4, value: 2 },
+    Instr::InRange { value: 1, range: 0 },
+    Instr::WriteInt { value: 1 },
+    Instr::Step {
+        counter: 1,
+        limit: 4,
+        by: 3,
+        out: 20,
+    },
+    Instr::Jump { to: 16 },
+    Instr::Fault { number: 5 },
+];
+
+const NOT_IN_RANGE: [Instr; 3] = [
+    Instr::Const { to: 1, value: 3 },
+    Instr::InRange { value: 1, range: 0 },
+    Instr::Return,
+];
+
+const NO_PART: [Instr; 4] = [
+    Instr::Local { to: 10, first: 6 },
+    Instr::Const { to: 1, value: 0 },
+    Instr::Index {
+        to: 11,
+        from: 10,
+        index: 1,
+        range: 0,
+    },
+    Instr::Return,
+];
+
+const COUNTS_DOWN: [Instr; 6] = [
+    Instr::Const {
+        to: 1,
+        value: i64::MIN,
+    },
+    Instr::Const {
+        to: 2,
+        value: i64::MIN,
+    },
+    Instr::Const { to: 3, value: -1 },
+    Instr::Step {
+        counter: 1,
+        limit: 2,
+        by: 3,
+        out: 5,
+    },
+    Instr::Fail,
+    Instr::Return,
+];
+
+// The code of a module body with nine number slots, place slots for one, four and two cells, a range and a text.
+fn small(alloc: Global, instrs: &[Instr]) -> Result<Code, NoMemory>
+    requires { length instrs.now < 2 ^ 32 }
+    ensures { IfOk result (λ code. code_of code ≡ small_code instrs.now) }
+{
+    let mut kinds = Vec::new(alloc);
+    kinds.push(Run {
+        kind: SlotKind::Number,
+        end: 5,
+    })?;
+    kinds.push(Run {
+        kind: SlotKind::Place(1),
+        end: 6,
+    })?;
+    kinds.push(Run {
+        kind: SlotKind::Number,
+        end: 10,
+    })?;
+    kinds.push(Run {
+        kind: SlotKind::Place(4),
+        end: 11,
+    })?;
+    kinds.push(Run {
+        kind: SlotKind::Place(2),
+        end: 13,
+    })?;
+    let mut routines = Vec::new(alloc);
+    routines.push(RoutineHead {
+        name: Vec::new(alloc),
+        slots: 13,
+        declared: 2,
+        kinds,
+        params: Vec::new(alloc),
+        result: false,
+        code_end: instrs.len() as u32,
+    })?;
+    let mut texts = Vec::new(alloc);
+    texts.push(Vec::from_slice(alloc, b"ok")?)?;
+    Ok(Code {
+        version: 1,
+        routines,
+        globals: Vec::new(alloc),
+        ranges: Vec::from_slice(alloc, &[Range { low: 1, high: 2 }])?,
+        texts,
+        code: Vec::from_slice(alloc, instrs)?,
+        lines: Vec::new(alloc),
+    })
+}
+
+// The same of a sound code.
+fn body(alloc: Global, instrs: &[Instr]) -> Result<Code, NoMemory>
+    requires short { length instrs.now < 2 ^ 32 }
+    requires sound { IsSound (small_code instrs.now) }
+    requires built { HasOnlyBuilt (small_code instrs.now) }
+    ensures sound { IfOk result (λ code. IsSound (code_of code)) }
+    ensures built { IfOk result (λ code. HasOnlyBuilt (code_of code)) }
+{
+    small(alloc, instrs)
+}
+
+// How a run of the code ends, and in how many steps.
+fn outcome(alloc: Global, instrs: &[Instr]) -> Result<(RunEnd, u64), NoMemory>
+    requires short { length instrs.now < 2 ^ 32 }
+    requires sound { IsSound (small_code instrs.now) }
+    requires built { HasOnlyBuilt (small_code instrs.now) }
+{
+    let code = body(alloc, instrs)?;
+    let mut machine = Machine::new(alloc, &code, b"")?;
+    let mut out = MemSink::new(alloc, 99, 99, &[])?;
+    let end = machine.run(99, &mut out);
+    Ok((end, machine.steps()))
+}
+
+#[test]
+fn a_run_ends_as_its_code_says(rt: HostRuntime) -> Result<(), Fail> {
+    let fault = outcome(rt.alloc(), &TOO_LARGE)?;
+    assert_eq!(rt; fault, (RunEnd::Fault(RunFault::Overflow), 3));
+    let fault = outcome(rt.alloc(), &BY_ZERO)?;
+    assert_eq!(rt; fault, (RunEnd::Fault(RunFault::ZeroDivide), 3));
+    let fault = outcome(rt.alloc(), &NOT_KNOWN)?;
+    assert_eq!(rt; fault, (RunEnd::Fault(RunFault::Unknown), 2));
+    assert_eq!(rt; outcome(rt.alloc(), &CHECK_FAILS)?, (RunEnd::Failed, 3));
+    assert_eq!(rt; outcome(rt.alloc(), &FAILS)?, (RunEnd::Failed, 2));
+    let fault = outcome(rt.alloc(), &NOT_IN_RANGE)?;
+    assert_eq!(rt; fault, (RunEnd::Fault(RunFault::Range), 2));
+    let fault = outcome(rt.alloc(), &NO_PART)?;
+    assert_eq!(rt; fault, (RunEnd::Fault(RunFault::Index), 3));
+    let counted = outcome(rt.alloc(), &COUNTS_DOWN)?;
+    assert_eq!(rt; counted, (RunEnd::Succeeded, 5));
+    Ok(())
+}
+
+#[test]
+fn parts_are_copied_and_a_loop_counts(rt: HostRuntime) -> Result<(), Fail> {
+    let code = body(rt.alloc(), &PARTS)?;
+    let mut machine = Machine::new(rt.alloc(), &code, b"")?;
+    let mut out = MemSink::new(rt.alloc(), 99, 99, &[])?;
+    let end = machine.run(99, &mut out);
+    assert_eq!(rt; end, RunEnd::Fault(RunFault::NoCase));
+    assert_eq!(rt; machine.steps(), 24);
+    assert_eq!(rt; out.bytes(), b"BAok\n12".as_slice());
+    Ok(())
+}
+
+#[test]
+fn steps_run_out_at_each_budget_below_the_whole(rt: HostRuntime) -> Result<(), Fail> {
+    let code = body(rt.alloc(), &COUNT)?;
+    for budget in 0..31 {
+        let mut machine = Machine::new(rt.alloc(), &code, b"")?;
+        let mut out = MemSink::new(rt.alloc(), 99, 99, &[])?;
+        assert_eq!(rt; machine.run(budget, &mut out), RunEnd::StepsOut);
+        assert_eq!(rt; machine.steps(), budget);
+        assert!(rt; machine.is_running());
+        let rest = machine.run(31 - budget, &mut out);
+        assert_eq!(rt; rest, RunEnd::Succeeded);
+        assert_eq!(rt; out.bytes(), b"123FALSE".as_slice());
+        assert!(rt; !machine.is_running());
+    }
+    Ok(())
+}
+
+#[test]
+fn a_write_fault_stops_the_machine(rt: HostRuntime) -> Result<(), Fail> {
+    let code = body(rt.alloc(), &COUNT)?;
+    let written: [&[u8]; 4] = [b"", b"1", b"12", b"123"];
+    for (k, bytes) in written.iter().enumerate() {
+        let mut machine = Machine::new(rt.alloc(), &code, b"")?;
+        let mut out = MemSink::new(rt.alloc(), 99, 99, &[k as u64 + 1])?;
+        assert_eq!(rt; machine.run(99, &mut out), RunEnd::WriteFault);
+        assert_eq!(rt; out.bytes(), *bytes);
+        assert!(rt; !machine.is_running());
+    }
+    Ok(())
+}
+
+#[test]
+fn the_print_of_the_last_step_is_there(rt: HostRuntime) -> Result<(), Fail> {
+    let code = body(rt.alloc(), &COUNT)?;
+    let mut machine = Machine::new(rt.alloc(), &code, b"")?;
+    let prints: [(u64, &[u8]); 4] = [(10, b"1"), (18, b"2"), (26, b"3"), (30, b"FALSE")];
+    for step in 1..32 {
+        assert!(rt; machine.is_running());
+        assert!(rt; machine.steps() < 99);
+        let answer = machine.step()?;
+        let print = prints.iter().find(|print| print.0 == step);
+        assert_eq!(rt; answer == Step::Printed, print.is_some());
+        assert_eq!(rt;
+            machine.printed(),
+            print.map_or(b"".as_slice(), |print| print.1)
+        );
+    }
+    assert!(rt; !machine.is_running());
+    assert_eq!(rt; (machine.choices(), machine.fails()), (0, 0));
+    Ok(())
+}

@@ -1,0 +1,13 @@
+//! What public calls answer, and what is printed. Tests alone, of the text: values, the outside, tokens, trees, names.
+#![tactic(auto)]
+
+#[cfg(test)]
+mod base;
+#[cfg(test)]
+mod io;
+#[cfg(test)]
+mod names;
+#[cfg(test)]
+mod scan;
+#[cfg(test)]
+mod tree;
