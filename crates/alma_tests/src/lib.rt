@@ -1,13 +1,5 @@
-//! What the public calls of the other crates answer, and what is printed. Tests alone, of the parser, objects, the verifier and the program.
+//! What public calls answer, and what is printed. Tests alone, of the parser.
 #![tactic(auto)]
 
 #[cfg(test)]
-mod driver;
-#[cfg(test)]
-mod object;
-#[cfg(test)]
-mod objects;
-#[cfg(test)]
 mod parse;
-#[cfg(test)]
-mod verify;

@@ -1,0 +1,7 @@
+//! What public calls answer, and what is printed. Tests alone, of the commands on objects.
+#![tactic(auto)]
+
+#[cfg(test)]
+mod object;
+#[cfg(test)]
+mod objects;
