@@ -1,10 +1,7 @@
 // The commands `compile` and `list`, over the fakes in memory.
 ghost use Rattle.std.specs.Prelude.{◌<◌};
 
-mod cases;
-
 use crate::object::{FIRST, SECOND};
-use crate::objects::cases::CASES;
 use alma_base::Status;
 use alma_driver::alma;
 use alma_io::{MemFiles, MemSink, MemSource};
@@ -425,54 +422,4 @@ fn a_write_that_fails_is_not_hidden(rt: HostRuntime) -> Result<(), Fail> {
         err: b"alma: write fault\n",
     };
     check_on(&rt, alloc, &mut files, &["list", "o.obj"], &[2], &answer)
-}
-
-// The value of a hexadecimal digit.
-fn digit(byte: u8) -> u8
-    ensures { result < 16 }
-{
-    match byte {
-        b'0'..=b'9' => byte - b'0',
-        b'a'..=b'f' => byte - b'a' + 10,
-        _ => 0,
-    }
-}
-
-// The bytes that lines in hexadecimal spell.
-fn bytes_of(alloc: Global, lines: &[&str]) -> Result<Vec<u8>, Fail> {
-    let mut bytes = Vec::new(alloc);
-    for line in lines {
-        for pair in line.as_bytes().chunks(2) {
-            if let [high, low] = pair {
-                bytes.push(digit(*high) * 16 + digit(*low))?;
-            }
-        }
-    }
-    Ok(bytes)
-}
-
-// Lines, each with its end.
-fn text_of(alloc: Global, lines: &[&str]) -> Result<Vec<u8>, Fail> {
-    let mut text = Vec::new(alloc);
-    for line in lines {
-        text.extend_from_slice(line.as_bytes())?;
-        text.push(b'\n')?;
-    }
-    Ok(text)
-}
-
-#[test]
-fn objects_made_elsewhere_are_listed_or_refused(rt: HostRuntime) -> Result<(), Fail> {
-    let alloc = rt.alloc();
-    for case in &CASES {
-        let object = bytes_of(alloc, case.object)?;
-        let out = text_of(alloc, case.lines)?;
-        let answer = Answer {
-            status: case.status,
-            out: &out,
-            err: case.err,
-        };
-        check_list(&rt, alloc, &object, &answer)?;
-    }
-    Ok(())
 }
