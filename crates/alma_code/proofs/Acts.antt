@@ -13,12 +13,12 @@ use Rattle.std.proofs.Math.ListN.{get_or-map}
 use Rattle.alma_code.specs.declared.cell.ChoiceKind.{ChoiceKind}
 use Rattle.alma_code.specs.declared.cell.ChoiceKind.TheVariants as choice
 use Rattle.alma_code.specs.declared.cell.Cell.{Cell}
-use Rattle.alma_code.specs.Picture.{PlainFrame, PlainEntry, no_frame, no_entry, cell_at, written, last_frame, top_of}
+use Rattle.alma_code.specs.Picture.{PlainFrame, PlainEntry, no_frame, no_entry, cell_at, frames_with_cell, last_frame, top_of}
 use Rattle.alma_base.specs.Carry.{Change, Carry, is_before, is_same_place, with_change, with_changes}
 use Rattle.alma_base.specs.declared.number.ReadInt.{ReadInt}
 use Rattle.alma_base.specs.declared.number.ReadInt.TheVariants.{Number, NoNumber, TooLarge}
 use Rattle.alma_code.specs.Picture.{entry_at}
-use Rattle.alma_code.specs.Carries.{number_at, laid, frames_with_carry, same_cell, differs, diff_at, slot_diffs, frame_diffs, diffs, with_carry, kept}
+use Rattle.alma_code.specs.Carries.{number_at, frames_with_change, frames_with_carry, same_cell, differs, diff_at, slot_diffs, frame_diffs, diffs, with_carry, held_after_keep}
 use Rattle.std.proofs.lemmas.List.{take-map, get_or_past, length-map, length-take-le, get_or-take, length-append}
 use Rattle.std.proofs.Math.Seq.{get_or-append_seam}
 use Rattle.std.proofs.Math.ListN.{get_or-append}
@@ -36,7 +36,7 @@ use Rattle.alma_code.specs.Kinds.{is_number, is_place, is_mark, numbers_from}
 use Rattle.alma_code.specs.Rules.{kind_in, length_in, is_free, is_address, names_slot, names_entry, names_address, rule_4, rule_5, rule_6, rule_7, rule_8, rule_9, rule_10, rule_11, rule_12, unless, instr_fault, IsSound, is_main, is_global, fit_arguments, holds_first, holds_result, can_call, cells_in}
 use Rattle.alma_base.specs.Choice.{if_true}
 use Rattle.alma_code.specs.Picture.{kind_at}
-use Rattle.alma_code.specs.Machine.{State, Stepped, quiet_step, goes_to, fails_now, top, bound, number, place, put_number, put_place, store, with_cell, with_slot, stuck, pushed, cut_to, equations, copied, to_number, left, returned, result_to, as_position, position, take_input, found, byte_or_failure, is_kind, is_forall_at, laid_over, overlay, finish, keep}
+use Rattle.alma_code.specs.Machine.{State, Stepped, quiet_step, goes_to, fails_now, top, binds_content, number, place, put_number, put_place, store, with_cell, with_slot, gets_stuck, state_after_push, cut_to, equations, copies_cells, to_number, state_after_leave, answers_return, result_to, as_position, position, take_input, takes_read, byte_or_failure, is_kind, is_forall_at, state_with_carry, overlay, finish, keep}
 use Rattle.alma_code.specs.Fits.{routines_of, IsPosition, IsReturn, FitsFrame, FitsCarried, IsContent, IsCell, IsPlace, FitsSlot, FitsEntry, FitsHeld, AllFit}
 use Rattle.alma_code.proofs.Heads.{number_is}
 use Rattle.alma_code.proofs.Ready.{Ready, last-routine, Good, place_is, if_true_keeps, went_good, fails_good, fault_good, number_good, place_good, put_number_good, put_place_good, store_good, ranged_good, equation_good, cell_ready, slot_ready, has_slot, number_there, number_at_is, content_any}
@@ -214,7 +214,7 @@ module _ (code : PlainCode) where
 
   -- a cell has a number, or gets it
   pub bound_good : (r at : ℕ) (s : State) (p : CellPlace) (t : Range) (v : ℤ) (u : Option ℤ) → Here r at s → p.frame < length s.now → IsCell code (routines_of s.now) p.frame p.slot →
-      is_address code r s.at ≡ true → Good code (bound s p t v u)
+      is_address code r s.at ≡ true → Good code (binds_content s p t v u)
   bound_good r at s p t v (Some u) h lf c e = if_true_keeps (Good code) (int_eq u v) (λ _. quiet_step s) (λ _. fails_now s) (λ _. went_good code r s h.ready e) (λ _. fails_good code r s h.ready)
   bound_good r at s p t v None h lf c e =
       ranged_good code r s t fault.Range v (λ _. store s p.frame p.slot v quiet_step) h.ready
@@ -243,7 +243,7 @@ module _ (code : PlainCode) where
   -- n cells are copied, from a state that has come from s by such
   pub copied_good : (r : ℕ) (s : State) → is_address code r s.at ≡ true → Ready code r s → (n : ℕ) (t : State) (f i g j : ℕ) → Ready code r t → routines_of t.now ≡ routines_of s.now → t.at ≡ s.at →
       f < length s.now → g < length s.now → ((k : ℕ) → k < n → IsCell code (routines_of s.now) f (i + k)) → ((k : ℕ) → k < n → IsCell code (routines_of s.now) g (j + k)) →
-      Good code (copied n s.now t f i g j)
+      Good code (copies_cells n s.now t f i g j)
   copied_good r s e hs zero t f i g j h same at lf lg cf cg = went_good code r t h (subst (λ m. is_address code r m ≡ true) (sym at) e)
   copied_good r s e hs (suc n) t f i g j h same at lf lg cf cg =
       let len = same_length t.now s.now same in
@@ -259,7 +259,7 @@ module _ (code : PlainCode) where
       let free : 0 < f + i = ci.free in
       let u : State = with_cell t f i c in
       let hu : Ready code r u = cell_ready code r t f i c h lt' there.0 (subst (λ q. FitsSlot code (routines_of t.now) f q c) (sym there.1) fits) (λ q. absurd (omega arith)) in
-      subst (λ b. Good code (if_true b (λ _. copied n s.now u f (suc i) g (suc j)) (λ _. stuck t))) (sym both)
+      subst (λ b. Good code (if_true b (λ _. copies_cells n s.now u f (suc i) g (suc j)) (λ _. gets_stuck t))) (sym both)
       (copied_good r s e hs n u f (suc i) g (suc j) hu (written-routines t.now f i c ∙ same) at lf lg
       (λ k lt. let x : i + suc k ≡ suc i + k = omega arith in subst (λ m. IsCell code (routines_of s.now) f m) x (cf (suc k) (omega arith)))
       (λ k lt. let x : j + suc k ≡ suc j + k = omega arith in subst (λ m. IsCell code (routines_of s.now) g m) x (cg (suc k) (omega arith))))
@@ -267,7 +267,7 @@ module _ (code : PlainCode) where
   -- ---- entries
 
   -- an entry is pushed
-  pub pushed_ready : (r : ℕ) (s : State) (kind : ChoiceKind) (resume : ℕ) → Ready code r s → is_address code r resume ≡ true → Ready code r (pushed s kind resume)
+  pub pushed_ready : (r : ℕ) (s : State) (kind : ChoiceKind) (resume : ℕ) → Ready code r s → is_address code r resume ≡ true → Ready code r (state_after_push s kind resume)
   pushed_ready r s kind resume h e =
       let entry : PlainEntry = record { kind = kind; resume = resume; frames = s.now; carry = [] } in
       record {
@@ -377,13 +377,13 @@ module _ (code : PlainCode) where
       let same = written-routines s.now 0 0 (cell.Int (pos n)) in
       let len = same_length u.now s.now same in
       ranged_good code r s t fault.Range v _ h.ready (λ _.
-      subst (λ b. Good code (if_true b (λ _. store u p.frame p.slot v quiet_step) (λ _. stuck s))) (sym z)
+      subst (λ b. Good code (if_true b (λ _. store u p.frame p.slot v quiet_step) (λ _. gets_stuck s))) (sym z)
       (store_good code r u p.frame p.slot v quiet_step hu (omega arith) (subst (λ rs. IsCell code rs p.frame p.slot) (sym same) cf)
       (λ h'. went_good code r (with_cell u p.frame p.slot (cell.Int v)) h' e)))
 
   -- what was found where a number is read
   pub found_good : (r at : ℕ) (s : State) (t : Range) (p : CellPlace) (f : ReadInt) → Here r at s → p.frame < length s.now → IsCell code (routines_of s.now) p.frame p.slot →
-      slice_get (get_or s.now 0 no_frame).cells 0 ≡ Some (get_or (get_or s.now 0 no_frame).cells 0 cell.Unset) → 0 < length s.now → is_address code r s.at ≡ true → Good code (found s t p f)
+      slice_get (get_or s.now 0 no_frame).cells 0 ≡ Some (get_or (get_or s.now 0 no_frame).cells 0 cell.Unset) → 0 < length s.now → is_address code r s.at ≡ true → Good code (takes_read s t p f)
   found_good r at s t p NoNumber h lf cf is ll e = fails_good code r s h.ready
   found_good r at s t p TooLarge h lf cf is ll e = fault_good code r s fault.ReadRange h.ready
   found_good r at s t p (Number v n) h lf cf is ll e = took_good r at s t p v n h lf cf is ll e
@@ -397,10 +397,10 @@ module _ (code : PlainCode) where
   -- ---- carries
 
   -- one cell of a carry is laid over the frames
-  pub laid_fits : (r : ℕ) (s : State) (c : Change Cell) → Ready code r s → FitsCarried code c → Ready code r (record s { now = laid s.now c })
+  pub laid_fits : (r : ℕ) (s : State) (c : Change Cell) → Ready code r s → FitsCarried code c → Ready code r (record s { now = frames_with_change s.now c })
   laid_fits r s c h fc =
-      let ready : (b : Bool) → number_at s.now c.frame c.slot ≡ b → Ready code r (record s { now = (if b then written s.now c.frame c.slot c.cell else s.now) }) =
-      λ b. elim b as (λ b. number_at s.now c.frame c.slot ≡ b → Ready code r (record s { now = (if b then written s.now c.frame c.slot c.cell else s.now) })) [
+      let ready : (b : Bool) → number_at s.now c.frame c.slot ≡ b → Ready code r (record s { now = (if b then frames_with_cell s.now c.frame c.slot c.cell else s.now) }) =
+      λ b. elim b as (λ b. number_at s.now c.frame c.slot ≡ b → Ready code r (record s { now = (if b then frames_with_cell s.now c.frame c.slot c.cell else s.now) })) [
         | true ↦ λ e.
             let live = number_at_live s.now c.frame c.slot e in
             cell_ready code r s c.frame c.slot c.cell h live.0 live.1
@@ -412,7 +412,7 @@ module _ (code : PlainCode) where
   -- a carry is laid over the frames
   pub overlaid_ready : (r : ℕ) (s : State) (cs : Carry Cell) → Ready code r s → AllFit code cs → Ready code r (record s { now = frames_with_carry s.now cs })
   overlaid_ready r s [] h f = record { frames = h.frames; held = h.held; routine = h.routine; going = h.going }
-  overlaid_ready r s (c ∷ cs) h f = overlaid_ready r (record s { now = laid s.now c }) cs (laid_fits r s c h f.0) f.1
+  overlaid_ready r s (c ∷ cs) h f = overlaid_ready r (record s { now = frames_with_change s.now c }) cs (laid_fits r s c h f.0) f.1
 
   -- a height at which there is a kind is one of the stack
   pub is_kind_within : (kind : ChoiceKind) (held : List PlainEntry) (h : ℕ) → is_kind kind (kind_at held h) ≡ true → (1 ≤ h) × (h ≤ length held)
@@ -426,13 +426,13 @@ module _ (code : PlainCode) where
       ]
 
   -- the carry of an entry is laid over
-  pub laid_ready : (r : ℕ) (s : State) (n : ℕ) → Ready code r s → (1 ≤ n) × (n ≤ length s.held) → Ready code r (laid_over s n)
+  pub laid_ready : (r : ℕ) (s : State) (n : ℕ) → Ready code r s → (1 ≤ n) × (n ≤ length s.held) → Ready code r (state_with_carry s n)
   laid_ready r s n h w = overlaid_ready r s (entry_at s.held n).carry h (h.held (n - 1) (omega arith)).carry
 
   -- the carry of a Forall is laid over, where there is one
   pub overlay_ready : (r : ℕ) (s : State) (n : ℕ) → Ready code r s → Ready code r (overlay s n) × ((overlay s n).at ≡ s.at)
   overlay_ready r s n h =
-      if_true_keeps (λ t. Ready code r t × (t.at ≡ s.at)) (is_forall_at s.held n) (λ _. laid_over s n) (λ _. s)
+      if_true_keeps (λ t. Ready code r t × (t.at ≡ s.at)) (is_forall_at s.held n) (λ _. state_with_carry s n) (λ _. s)
       (λ e. (laid_ready r s n h (is_kind_within choice.Forall s.held n e), refl)) (λ _. (h, refl))
 
   -- the top entry is dropped
@@ -452,7 +452,7 @@ module _ (code : PlainCode) where
   finish_good r s h e =
       if_true_keeps (Good code) (is_kind choice.Done (kind_at s.held (length s.held))) _ _
       (λ b.
-      let t = laid_over s (length s.held) in
+      let t = state_with_carry s (length s.held) in
       let ready = laid_ready r s (length s.held) h (is_kind_within choice.Done s.held (length s.held) b) in
       went_good code r (record t { held = take (length s.held - 1) s.held }) (without_top r t ready) e)
       (λ _. went_good code r s h e)
@@ -532,7 +532,7 @@ module _ (code : PlainCode) where
       (slot_diffs_fit r s before n (length (get_or s.now n no_frame).cells) h)
 
   -- the stack after a Body is kept
-  pub kept_held : (r : ℕ) (s : State) (n : ℕ) → Ready code r s → (1 ≤ n) × (n ≤ length s.held) → FitsHeld code (kept s.held n s.now)
+  pub kept_held : (r : ℕ) (s : State) (n : ℕ) → Ready code r s → (1 ≤ n) × (n ≤ length s.held) → FitsHeld code (held_after_keep s.held n s.now)
   kept_held r s n h w k lk =
       let old = entry_at s.held n in
       let gain = diffs (top_of s.held).frames s.now in
@@ -557,7 +557,7 @@ module _ (code : PlainCode) where
       if_true_keeps (Good code) (is_forall_at s.held n && rest) _ _
       (λ b.
       let w = is_kind_within choice.Forall s.held n (and_parts (is_forall_at s.held n) rest b).0 in
-      went_good code r (record s { held = kept s.held n s.now }) (record { frames = h.frames; held = kept_held r s n h w; routine = h.routine; going = h.going }) e)
+      went_good code r (record s { held = held_after_keep s.held n s.now }) (record { frames = h.frames; held = kept_held r s n h w; routine = h.routine; going = h.going }) e)
       (λ _. went_good code r s h e)
 
   -- ---- leaving
@@ -601,8 +601,8 @@ module _ (code : PlainCode) where
   -- the state after the top frame is left goes on behind the call of it
   pub record Left (s : State) : Type 0 where
     pub caller : ℕ
-    pub ready : Ready code caller (left s)
-    pub at : is_address code caller (left s).at ≡ true
+    pub ready : Ready code caller (state_after_leave s)
+    pub at : is_address code caller (state_after_leave s).at ≡ true
     pub called : IsReturn code caller (last_frame s.now).back (last_frame s.now).routine
     pub routine : caller < length code.routines
 
@@ -668,7 +668,7 @@ module _ (code : PlainCode) where
         (and_parts (holds_result code caller h.has_result to) (nat_lt (suc at) (end_at code caller)) y).0
 
     -- a result goes to the slot that the Call names
-    pub result_good : (r : ℕ) (s : State) (v : ℤ) → Ready code r s → (head_at code r).has_result ≡ true → Good code (result_to (slice_get code.instrs ((last_frame s.now).back - 1)) (left s) v)
+    pub result_good : (r : ℕ) (s : State) (v : ℤ) → Ready code r s → (head_at code r).has_result ≡ true → Good code (result_to (slice_get code.instrs ((last_frame s.now).back - 1)) (state_after_leave s) v)
     result_good r s v h has =
         let ff = h.frames.each (top s) (omega (arith, h.frames.some)) in
         let many : 1 ≤ top s =
@@ -685,7 +685,7 @@ module _ (code : PlainCode) where
         let yes : (head_at code (last_frame s.now).routine).has_result ≡ true = ap (λ q. (head_at code q).has_result) h.routine ∙ has in
         let both = and_parts (is_free code l.caller ret.to) (is_number (kind_in code l.caller ret.to)) (subst (λ b. holds_result code l.caller b ret.to ≡ true) yes holds) in
         let k = number_is (kind_in code l.caller ret.to) both.1 in
-        let slot_there = has_slot code l.caller (left s) ret.to slot.Number l.ready k in
-        subst (λ o. Good code (result_to o (left s) v)) (sym is)
-        (subst (λ o. Good code (to_number o (left s) (λ _. returned (with_slot (left s) ret.to (cell.Int v))))) (sym slot_there.kind_is)
-        (went_good code l.caller (with_slot (left s) ret.to (cell.Int v)) (slot_ready code l.caller (left s) ret.to slot.Number (cell.Int v) l.ready k both.0 tt) l.at))
+        let slot_there = has_slot code l.caller (state_after_leave s) ret.to slot.Number l.ready k in
+        subst (λ o. Good code (result_to o (state_after_leave s) v)) (sym is)
+        (subst (λ o. Good code (to_number o (state_after_leave s) (λ _. answers_return (with_slot (state_after_leave s) ret.to (cell.Int v))))) (sym slot_there.kind_is)
+        (went_good code l.caller (with_slot (state_after_leave s) ret.to (cell.Int v)) (slot_ready code l.caller (state_after_leave s) ret.to slot.Number (cell.Int v) l.ready k both.0 tt) l.at))

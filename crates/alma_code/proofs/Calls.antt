@@ -27,7 +27,7 @@ use Rattle.alma_code.specs.Layout.{holds_param, hold_params, param_slots}
 use Rattle.alma_code.specs.Rules.{fits_argument, has_position, kind_in, is_free, is_address, rule_10, IsSound, is_main, fit_arguments, holds_first, holds_result, can_call}
 use Rattle.alma_base.specs.Choice.{if_true}
 use Rattle.alma_code.specs.Picture.{live_cells}
-use Rattle.alma_code.specs.Machine.{State, Stepped, top, stuck, as_argument, arguments, as_routine, entered, numbers_at, slot_of}
+use Rattle.alma_code.specs.Machine.{State, Stepped, top, gets_stuck, as_argument, arguments, as_routine, enters_routine, numbers_at, slot_of}
 use Rattle.alma_code.specs.Fits.{routines_of, IsPosition, FitsFrame, FitsFrames, IsContent, IsCell, IsPlace, IsLink, FitsSlot}
 use Rattle.alma_code.proofs.Heads.{place_of_is, number_is, link_of_is}
 use Rattle.alma_code.proofs.Ready.{Ready, Good, if_true_keeps, went_good, fault_good, has_slot, number_there, number_at_is, content_is}
@@ -81,12 +81,12 @@ module _ (code : PlainCode) where
   spot_good r s n param.Value c k h w f good = absurd w
   spot_good r s n param.Link c k h w f good = absurd w
   spot_good r s n param.Mix (cell.Place p) k h w f good =
-      subst (λ b. Good code (if_true b (λ _. k (cell.Place p)) (λ _. stuck s))) (sym (eq-eqb p.len 1 f.0)) (good (cell.Place p) f)
+      subst (λ b. Good code (if_true b (λ _. k (cell.Place p)) (λ _. gets_stuck s))) (sym (eq-eqb p.len 1 f.0)) (good (cell.Place p) f)
   spot_good r s n param.Place (cell.Place p) k h w f good =
-      subst (λ b. Good code (if_true b (λ _. k (cell.Place p)) (λ _. stuck s))) (sym (eq-eqb p.len n f.0)) (good (cell.Place p) f)
+      subst (λ b. Good code (if_true b (λ _. k (cell.Place p)) (λ _. gets_stuck s))) (sym (eq-eqb p.len n f.0)) (good (cell.Place p) f)
   spot_good r s n param.Cells (cell.Place p) k h w f good =
       let all : numbers_at n s.now p.frame p.slot ≡ true = numbers_are n r s p.frame p.slot h (frame_live code r s p h f.1) (λ k lt. f.1.cells k (omega (arith, f.0))) in
-      subst (λ b. Good code (if_true b (λ _. k (cell.Place p)) (λ _. stuck s))) (sym (and_from (nat_eq p.len n) (numbers_at n s.now p.frame p.slot) (eq-eqb p.len n f.0) all)) (good (cell.Place p) f)
+      subst (λ b. Good code (if_true b (λ _. k (cell.Place p)) (λ _. gets_stuck s))) (sym (and_from (nat_eq p.len n) (numbers_at n s.now p.frame p.slot) (eq-eqb p.len n f.0) all)) (good (cell.Place p) f)
   spot_good r s n param.Mix cell.Unset k h w f good = record { frames = h.frames; held = h.held; mode = tt }
   spot_good r s n param.Place cell.Unset k h w f good = record { frames = h.frames; held = h.held; mode = tt }
   spot_good r s n param.Cells cell.Unset k h w f good = record { frames = h.frames; held = h.held; mode = tt }
@@ -118,7 +118,7 @@ module _ (code : PlainCode) where
   link_cell_good : (r : ℕ) (s : State) (n : ℕ) (c : Cell) (k : Cell → Stepped) → Ready code r s → FitsSlot code (routines_of s.now) (top s) (slot.Link n) c →
       ((c : Cell) → FitsParam (IsPlace code (routines_of s.now) (top s)) (IsLink code (routines_of s.now) (top s)) param.Link n c → Good code (k c)) → Good code (as_argument param.Link n (Some c) s k)
   link_cell_good r s n (cell.Place p) k h f good =
-      subst (λ b. Good code (if_true b (λ _. k (cell.Place p)) (λ _. stuck s))) (sym (and_from (nat_eq p.slot 0) (nat_eq p.len 0) (eq-eqb p.slot 0 f.slot) (eq-eqb p.len 0 f.len))) (good (cell.Place p) (f.slot, f.len, f))
+      subst (λ b. Good code (if_true b (λ _. k (cell.Place p)) (λ _. gets_stuck s))) (sym (and_from (nat_eq p.slot 0) (nat_eq p.len 0) (eq-eqb p.slot 0 f.slot) (eq-eqb p.len 0 f.len))) (good (cell.Place p) (f.slot, f.len, f))
   link_cell_good r s n cell.Unset k h f good = record { frames = h.frames; held = h.held; mode = tt }
   link_cell_good r s n cell.Unknown k h f good = absurd f
   link_cell_good r s n (cell.Int v) k h f good = absurd f
@@ -419,7 +419,7 @@ module _ (code : PlainCode) where
     -- a routine is entered
     entered_good : (at first to : ℕ) (args : List Cell) → 0 < c → c < length code.routines → start_at code c < end_at code c → hold_params (kinds_at code c) (head_at code c).params 0 ≡ true →
         FitsParams (IsPlace code (routines_of s.now) (top s)) (IsLink code (routines_of s.now) (top s)) (head_at code c).params args → s.at ≡ suc at → slice_get code.instrs at ≡ Some (I.Call c first to) → start_at code r ≤ at → suc at < end_at code r →
-        Good code (entered s c (start_at code c) (head_at code c) args)
+        Good code (enters_routine s c (start_at code c) (head_at code c) args)
     entered_good at first to args pos_c lc le e f eb is low high =
         let nf = frame_of_call s.now (head_at code c) c s.at args in
         let fits = new_fits at s.at first to args pos_c lc e f eb is low high in
@@ -454,7 +454,7 @@ module _ (code : PlainCode) where
 
   -- a Call that keeps its rule
   pub call_good : (sound : IsSound code) (r at : ℕ) (s : State) (c first to : ℕ) → Here code r at s → rule_10 code r at (I.Call c first to) ≡ true → slice_get code.instrs at ≡ Some (I.Call c first to) →
-      Good code (as_routine (slice_get code.routines c) s (λ h. arguments h.params s first (λ args. entered s c (start_at code c) h args)))
+      Good code (as_routine (slice_get code.routines c) s (λ h. arguments h.params s first (λ args. enters_routine s c (start_at code c) h args)))
   unfolding rule_10
   call_good sound r at s c first to h o is =
       let hd = head_at code c in
@@ -468,6 +468,6 @@ module _ (code : PlainCode) where
       let le = ltb-true (start_at code c) (end_at code c) (and_parts (nat_lt (start_at code c) (end_at code c)) (is_main code c) rules.0).0 in
       let params = (and_parts (hold_params (kinds_at code c) hd.params 0) (has_position code c) rules.2).0 in
       let there : slice_get code.routines c ≡ Some (routine_at code c) = slice_get-get_or code.routines c no_routine lc in
-      subst (λ q. Good code (as_routine q s (λ h. arguments h.params s first (λ args. entered s c (start_at code c) h args)))) (sym there)
-      (arguments_good r s hd.params first (λ args. entered s c (start_at code c) hd args) h.ready fit
+      subst (λ q. Good code (as_routine q s (λ h. arguments h.params s first (λ args. enters_routine s c (start_at code c) h args)))) (sym there)
+      (arguments_good r s hd.params first (λ args. enters_routine s c (start_at code c) hd args) h.ready fit
       (λ args f. entered_good r s h.ready c at first to args (ltb-true 0 c w.0) lc le params f h.at_is is h.low high))

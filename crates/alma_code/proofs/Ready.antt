@@ -14,7 +14,7 @@ use Rattle.alma_code.specs.declared.step.Step.{Step}
 use Rattle.alma_code.specs.declared.step.End.{End}
 use Rattle.alma_base.specs.declared.fault.RunFault.{RunFault}
 use Rattle.alma_base.specs.declared.fault.RunFault.TheVariants as fault
-use Rattle.alma_code.specs.Picture.{PlainFrame, no_frame, written, cell_at, last_frame}
+use Rattle.alma_code.specs.Picture.{PlainFrame, no_frame, frames_with_cell, cell_at, last_frame}
 use Rattle.alma_code.specs.Carries.{number_at}
 use Rattle.alma_code.specs.Machine
 use Rattle.alma_base.specs.Choice.{if_true}
@@ -22,7 +22,7 @@ use Rattle.alma_code.specs.Plain.{PlainCode, kinds_at}
 use Rattle.alma_base.specs.Numbers.{within, is_integer, int_eq}
 use Rattle.alma_code.specs.Kinds.{is_number, is_place, is_mark, is_link}
 use Rattle.alma_code.specs.Rules.{place_length, link_routine, kind_in, is_free, is_address}
-use Rattle.alma_code.specs.Machine.{Mode, Going, Failing, Ended, State, Stepped, quiet_step, ended, ends_in_fault, fails_now, answered, top, slot_of, kind_of, as_number, as_place, as_mark, number, place, mark, with_cell, with_slot, to_number, to_place, to_mark, put_number, put_place, put_mark, integer_result, as_content, content, store, known, as_range, range_check, optional_range_check, equation_of_contents, equation}
+use Rattle.alma_code.specs.Machine.{Mode, Going, Failing, Ended, State, Stepped, quiet_step, ends_run, ends_in_fault, fails_now, answers_with, top, slot_of, kind_of, as_number, as_place, as_mark, number, place, mark, with_cell, with_slot, to_number, to_place, to_mark, put_number, put_place, put_mark, integer_result, as_content, content, store, with_known_content, as_range, range_check, optional_range_check, equation_of_contents, equation}
 use Rattle.alma_code.specs.Fits.{routines_of, IsContent, IsPosition, IsCell, IsPlace, FitsSlot, FitsFrame, FitsFrames, FitsHeld, FitsMode, Fits}
 use Rattle.alma_code.proofs.Heads.{number_is}
 use Rattle.alma_code.proofs.Writes.{written-routines, frames-written}
@@ -81,11 +81,11 @@ module _ (code : PlainCode) where
   }
 
   -- the machine goes on with an answer
-  pub answered_good : (r : ℕ) (s : State) (a : Step) → Ready r s → is_address code r s.at ≡ true → Good (answered a s)
+  pub answered_good : (r : ℕ) (s : State) (a : Step) → Ready r s → is_address code r s.at ≡ true → Good (answers_with a s)
   answered_good r s a h at = went_good r s h at
 
   -- the machine ends
-  pub ended_good : (r : ℕ) (s : State) (e : End) → Ready r s → Good (ended e s)
+  pub ended_good : (r : ℕ) (s : State) (e : End) → Ready r s → Good (ends_run e s)
   ended_good r s e h = record { frames = h.frames; held = h.held; mode = tt }
 
   -- the machine fails
@@ -178,12 +178,12 @@ module _ (code : PlainCode) where
       FitsSlot code (routines_of s.now) f (get_or (get_or s.now f no_frame).kinds i slot.Mark) c → (f + i ≡ 0 → IsPosition c) → Ready r (with_cell s f i c)
   cell_ready r s f i c h lf li fits position =
       let rs = written-routines s.now f i c in
-      let len : length (written s.now f i c) - 1 ≡ length s.now - 1 = omega (arith, length-set s.now f (record (get_or s.now f no_frame) { cells = set (get_or s.now f no_frame).cells i c })) in
+      let len : length (frames_with_cell s.now f i c) - 1 ≡ length s.now - 1 = omega (arith, length-set s.now f (record (get_or s.now f no_frame) { cells = set (get_or s.now f no_frame).cells i c })) in
       record {
         frames = frames-written code s.now f i c h.frames lf li fits position;
         held = h.held;
         routine =
-            last-routine (written s.now f i c) ∙ ap (λ q. get_or q (length (written s.now f i c) - 1) 0) rs ∙ ap (λ q. get_or (routines_of s.now) q 0) len
+            last-routine (frames_with_cell s.now f i c) ∙ ap (λ q. get_or q (length (frames_with_cell s.now f i c) - 1) 0) rs ∙ ap (λ q. get_or (routines_of s.now) q 0) len
             ∙ sym (last-routine s.now) ∙ h.routine;
         going = h.going;
       }
@@ -292,7 +292,7 @@ module _ (code : PlainCode) where
       (good (cell_ready r s f i (cell.Int v) h lf there.0 (subst (λ q. FitsSlot code (routines_of s.now) f q (cell.Int v)) (sym there.1) tt) (λ z. absurd (omega arith))))
 
   -- a content that may be unknown
-  pub known_good : (r : ℕ) (s : State) (o : Option ℤ) (k : ℤ → Stepped) → Ready r s → ((v : ℤ) → Good (k v)) → Good (known s o k)
+  pub known_good : (r : ℕ) (s : State) (o : Option ℤ) (k : ℤ → Stepped) → Ready r s → ((v : ℤ) → Good (k v)) → Good (with_known_content s o k)
   known_good r s (Some v) k h good = good v
   known_good r s None k h good = record { frames = h.frames; held = h.held; mode = tt }
 

@@ -16,7 +16,7 @@ use Rattle.alma_code.specs.Layout.{blank_of, blank_cells}
 use Rattle.alma_code.specs.Plain.{PlainCode, head_at, kinds_at, start_at, end_at}
 use Rattle.alma_code.specs.Layout.{hold_params}
 use Rattle.alma_code.specs.Rules.{IsSound, is_main, kind_in, has_position}
-use Rattle.alma_code.specs.Machine.{Mode, Going, Failing, Ended, Stuck, State, step_in, fetched, with_step_counted, step, after, start, pop_or_end}
+use Rattle.alma_code.specs.Machine.{Mode, Going, Failing, Ended, Stuck, State, step_in, fetch_and_act, with_step_counted, step, after, start, pop_or_end}
 use Rattle.alma_code.specs.Fits.{routines_of, FitsSlot, FitsFrame, FitsFrames, FitsEntry, FitsHeld, FitsMode, Fits, IsPosition}
 use Rattle.alma_code.specs.Laws.{NeverStuck, StaysFit}
 use Rattle.alma_code.proofs.Tables.{end_inside}
@@ -81,7 +81,7 @@ module _ (code : PlainCode) (sound : IsSound code) where
         let t : State = record (with_step_counted code input s) { at = s.at + 1; last = s.at } in
         let ready : Ready code r t = record { frames = f; held = h; routine = refl; going = going } in
         let next : s.at + 1 ≡ suc s.at = omega arith in
-        subst (λ o. Good code (fetched code input o s)) (sym is)
+        subst (λ o. Good code (fetch_and_act code input o s)) (sym is)
         (act_good code input sound i r s.at t (record { ready = ready; at_is = next; low = low; first = first_number })
         (obeys code r s.at i (sound.instrs r s.at fits.routine low high)) is fits.routine)
     step_in_good Failing s going f h at = pop_good s.held (with_step_counted code input s) refl f h

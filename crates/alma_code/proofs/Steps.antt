@@ -17,7 +17,7 @@ use Rattle.alma_code.specs.Plain.{PlainCode}
 use Rattle.alma_base.specs.Numbers.{is_zero, div_down_of, mod_down_of, range_size, is_beyond}
 use Rattle.alma_code.specs.Words.{words}
 use Rattle.alma_code.specs.Rules.{kind_in, length_in, link_in, is_address, rule_5, rule_6, rule_7, rule_11, rule_12, has_room, IsSound}
-use Rattle.alma_code.specs.Machine.{State, quiet_step, top, act, put_number, with_cell, with_slot, to_mark, answer_of_push, pushed, as_text, as_fault, run_faults, left, found, byte_or_failure, overlay}
+use Rattle.alma_code.specs.Machine.{State, quiet_step, top, act, put_number, with_cell, with_slot, to_mark, answer_of_push, state_after_push, as_text, as_fault, run_faults, state_after_leave, takes_read, byte_or_failure, overlay}
 use Rattle.alma_code.specs.Fits.{routines_of, IsCell}
 use Rattle.alma_code.proofs.Ready.{Good, mark_is, if_true_keeps, went_good, ended_good, fails_good, fault_good, number_good, place_good, mark_good, put_mark_good, fitted_good, content_good, store_good, known_good, ranged_good, as_range_good, equation_good, slot_ready, has_slot}
 use Rattle.alma_code.proofs.Acts.{Here, Obeys, addresses, bound_good, cells_of, char_good, copied_good, cut_good, entries, equations_good, finish_good, first_is, found_good, frame_live, goes_good, keep_good, left_ready, mark_word, next, number_word, one_good, overlay_ready, place_word, position_good, pushed_ready, put_good, put_place_at, result_good, slots, top_is, top_main, two_good}
@@ -163,13 +163,13 @@ module _ (code : PlainCode) (input : List ℕ) (sound : IsSound code) where
       mark_good code r s a _ h.ready (mark_word code r a w.0).1 (λ n. cut_good code r s n h.ready (next code r at s h o.r11))
   act_good (I.Choose a) r at s h o is lr =
       let e = addresses code r at (I.Choose a) (W.Address a) W.Free W.Free W.Free refl o in
-      went_good code r (pushed s choice.Branch a) (pushed_ready code r s choice.Branch a h.ready e.0) (next code r at s h o.r11)
+      went_good code r (state_after_push s choice.Branch a) (pushed_ready code r s choice.Branch a h.ready e.0) (next code r at s h o.r11)
   act_good (I.Forall a b) r at s h o is lr =
       let w = slots code r at (I.Forall a b) (W.Mark a) (W.Address b) W.Free W.Free refl o in
       let e = addresses code r at (I.Forall a b) (W.Mark a) (W.Address b) W.Free W.Free refl o in
       let k = mark_is (kind_in code r a) (mark_word code r a w.0).1 in
       let has = has_slot code r s a slot.Mark h.ready k in
-      let t = pushed s choice.Forall b in
+      let t = state_after_push s choice.Forall b in
       subst (λ x. Good code (to_mark x s (λ _. answer_of_push (with_slot t a (cell.Mark (length s.held + 1)))))) (sym has.kind_is)
       (went_good code r (with_slot t a (cell.Mark (length s.held + 1)))
       (slot_ready code r t a slot.Mark (cell.Mark (length s.held + 1)) (pushed_ready code r s choice.Forall b h.ready e.1) k (mark_word code r a w.0).0 tt)
@@ -200,7 +200,7 @@ module _ (code : PlainCode) (input : List ℕ) (sound : IsSound code) where
   act_good (I.ReadInt a t) r at s h o is lr =
       let w = slots code r at (I.ReadInt a t) (W.Place a) (W.Range t) W.Free W.Free refl o in
       let e = entries code r at (I.ReadInt a t) (W.Place a) (W.Range t) W.Free W.Free refl o in
-      one_good code r at s a _ h w.0 o.r7 (λ p lf cf. as_range_good code s t _ e.1 (λ q _. position_good code r s (λ n. found s q p (number_from input n)) h.ready
+      one_good code r at s a _ h w.0 o.r7 (λ p lf cf. as_range_good code s t _ e.1 (λ q _. position_good code r s (λ n. takes_read s q p (number_from input n)) h.ready
       (λ n ls ll. found_good code r at s q p (number_from input n) h lf cf ls ll (next code r at s h o.r11))))
   act_good (I.ReadChar a t) r at s h o is lr =
       let w = slots code r at (I.ReadChar a t) (W.Place a) (W.Range t) W.Free W.Free refl o in
@@ -213,7 +213,7 @@ module _ (code : PlainCode) (input : List ℕ) (sound : IsSound code) where
       mark_good code r s a _ h.ready (mark_word code r a w.0).1
       (λ n. let t = overlay s n in
       let ready = overlay_ready code r s n h.ready in
-      went_good code r (pushed t choice.Body b) (pushed_ready code r t choice.Body b ready.0 e.1) (subst (λ m. is_address code r m ≡ true) (sym ready.1) (next code r at s h o.r11)))
+      went_good code r (state_after_push t choice.Body b) (pushed_ready code r t choice.Body b ready.0 e.1) (subst (λ m. is_address code r m ≡ true) (sym ready.1) (next code r at s h o.r11)))
   act_good I.Finish r at s h o is lr = finish_good code r s h.ready (next code r at s h o.r11)
   act_good I.Return r at s h o is lr =
       if_true_keeps (Good code) (nat_eq (length s.now) 1) _ _
@@ -221,7 +221,7 @@ module _ (code : PlainCode) (input : List ℕ) (sound : IsSound code) where
       (λ b.
       let ne = eqb-false (length s.now) 1 b in
       let l = left_ready code r s h.ready (omega (arith, h.ready.frames.some)) in
-      went_good code l.caller (left s) l.ready l.at)
+      went_good code l.caller (state_after_leave s) l.ready l.at)
   act_good (I.ReturnValue a) r at s h o is lr =
       let w = slots code r at (I.ReturnValue a) (W.Number a) W.Free W.Free W.Free refl o in
       number_good code r s a _ h.ready (number_word code r a w.0).1 (λ v. result_good code sound r s v h.ready o.r12)

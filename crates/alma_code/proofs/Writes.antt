@@ -6,12 +6,12 @@ use Rattle.std.proofs.Math.ListN.{get_or-map}
 use Rattle.alma_code.specs.declared.cell.Cell.{Cell}
 use Rattle.alma_code.specs.declared.cell.Cell.TheVariants as cell
 use Rattle.alma_code.specs.declared.cell.SlotKind.TheVariants as slot
-use Rattle.alma_code.specs.Picture.{PlainFrame, no_frame, frame_with, written}
+use Rattle.alma_code.specs.Picture.{PlainFrame, no_frame, frame_with, frames_with_cell}
 use Rattle.alma_code.specs.Plain.{PlainCode}
 use Rattle.alma_code.specs.Fits.{routines_of, IsPosition, FitsSlot, FitsFrame, FitsFrames}
 
 -- a write leaves the routines
-pub written-routines : (fs : List PlainFrame) (f i : ℕ) (c : Cell) → routines_of (written fs f i c) ≡ routines_of fs
+pub written-routines : (fs : List PlainFrame) (f i : ℕ) (c : Cell) → routines_of (frames_with_cell fs f i c) ≡ routines_of fs
 written-routines fs f i c =
     map-set (λ g. g.routine) fs f (frame_with (get_or fs f no_frame) i c)
     ∙ ap (λ r. set (routines_of fs) f r) (sym (get_or-map (λ g. g.routine) fs f no_frame))
@@ -39,7 +39,7 @@ module _ (code : PlainCode) where
 
   -- frames that fit, after a write of what fits its slot
   pub frames-written : (fs : List PlainFrame) (f i : ℕ) (c : Cell) → FitsFrames code fs → f < length fs → i < length (get_or fs f no_frame).kinds →
-      FitsSlot code (routines_of fs) f (get_or (get_or fs f no_frame).kinds i slot.Mark) c → (f + i ≡ 0 → IsPosition c) → FitsFrames code (written fs f i c)
+      FitsSlot code (routines_of fs) f (get_or (get_or fs f no_frame).kinds i slot.Mark) c → (f + i ≡ 0 → IsPosition c) → FitsFrames code (frames_with_cell fs f i c)
   frames-written fs f i c h lf li fits position =
       let new : PlainFrame = frame_with (get_or fs f no_frame) i c in
       let len : length (set fs f new) ≡ length fs = length-set fs f new in

@@ -8,7 +8,7 @@ use Rattle.alma_code.specs.declared.cell.CellPlace.{CellPlace}
 use Rattle.alma_code.specs.declared.cell.ChoiceKind.{ChoiceKind}
 use Rattle.alma_code.specs.declared.cell.ChoiceKind.TheVariants.{Forall}
 use Rattle.alma_code.specs.Kinds.{is_number}
-use Rattle.alma_code.specs.Picture.{PlainFrame, PlainEntry, no_frame, written, cell_at, top_of, entry_at}
+use Rattle.alma_code.specs.Picture.{PlainFrame, PlainEntry, no_frame, frames_with_cell, cell_at, top_of, entry_at}
 
 -- the frame is live, and the slot is a number slot of it
 abbrev pub number_at : List PlainFrame → (frame slot : ℕ) → Bool
@@ -23,13 +23,13 @@ pub record IsLive (frames : List PlainFrame) (place : CellPlace) : Type 0 where
 
 -- the frames after one change is laid over them, where its place is a live number slot of them,
 -- whatever routine the frame has
-abbrev pub laid : List PlainFrame → Change Cell → List PlainFrame
-laid frames x = if number_at frames x.frame x.slot then written frames x.frame x.slot x.cell else frames
+abbrev pub frames_with_change : List PlainFrame → Change Cell → List PlainFrame
+frames_with_change frames x = if number_at frames x.frame x.slot then frames_with_cell frames x.frame x.slot x.cell else frames
 
 -- the frames after a carry is laid over them
 abbrev pub frames_with_carry : List PlainFrame → Carry Cell → List PlainFrame
 frames_with_carry frames [] = frames
-frames_with_carry frames (x ∷ rest) = frames_with_carry (laid frames x) rest
+frames_with_carry frames (x ∷ rest) = frames_with_carry (frames_with_change frames x) rest
 
 -- ---- what a body changed
 
@@ -75,8 +75,8 @@ with_carry entry carry = record entry { carry = carry }
 
 -- the stack after the Body on top is kept: what differs from its copy enters the carry of the
 -- Forall at the height
-abbrev pub kept : List PlainEntry → (height : ℕ) → (now : List PlainFrame) → List PlainEntry
-kept held height now =
+abbrev pub held_after_keep : List PlainEntry → (height : ℕ) → (now : List PlainFrame) → List PlainEntry
+held_after_keep held height now =
     take (length held - 1) (set held (height - 1)
     (with_carry (entry_at held height) (with_changes (diffs (top_of held).frames now) (entry_at held height).carry)))
 

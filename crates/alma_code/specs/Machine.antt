@@ -31,9 +31,9 @@ use Rattle.alma_code.specs.declared.step.Step.TheVariants as answer
 use Rattle.alma_code.specs.declared.step.End.{End}
 use Rattle.alma_code.specs.declared.step.End.TheVariants as end
 use Rattle.alma_code.specs.Head.{PlainHead}
-use Rattle.alma_code.specs.Picture.{PlainFrame, PlainEntry, no_frame, written, cell_at, last_frame, without_last, live_cells, top_of, entry_at, kind_at, stack_after_pop}
+use Rattle.alma_code.specs.Picture.{PlainFrame, PlainEntry, no_frame, frames_with_cell, cell_at, last_frame, without_last, live_cells, top_of, entry_at, kind_at, stack_after_pop}
 use Rattle.alma_code.specs.Layout.{start_frame, frame_of_call}
-use Rattle.alma_code.specs.Carries.{number_at, frames_with_carry, kept}
+use Rattle.alma_code.specs.Carries.{number_at, frames_with_carry, held_after_keep}
 use Rattle.alma_code.specs.Plain.{PlainCode, PlainRoutine, head_at, start_at}
 
 -- ---- the state
@@ -68,28 +68,28 @@ pub record Stepped : Type 0 where
 -- ---- how a step ends
 
 -- with an answer, and no print
-abbrev pub answered : Step → State → Stepped
-answered a s = record { answer = a; printed = []; state = s }
+abbrev pub answers_with : Step → State → Stepped
+answers_with a s = record { answer = a; printed = []; state = s }
 
 -- with nothing to tell
 abbrev pub quiet_step : State → Stepped
-quiet_step s = answered answer.Went s
+quiet_step s = answers_with answer.Went s
 
 -- with a print, which may be of no bytes
-abbrev pub printed : List ℕ → State → Stepped
-printed bytes s = record { answer = answer.Printed; printed = bytes; state = s }
+abbrev pub prints_bytes : List ℕ → State → Stepped
+prints_bytes bytes s = record { answer = answer.Printed; printed = bytes; state = s }
 
 -- at what a sound code never comes to
-abbrev pub stuck : State → Stepped
-stuck s = quiet_step (record s { mode = Stuck })
+abbrev pub gets_stuck : State → Stepped
+gets_stuck s = quiet_step (record s { mode = Stuck })
 
 -- with the end of the run; the next address stays behind the instruction that ended it
-abbrev pub ended : End → State → Stepped
-ended e s = answered (answer.Done e) (record s { mode = Ended e })
+abbrev pub ends_run : End → State → Stepped
+ends_run e s = answers_with (answer.Done e) (record s { mode = Ended e })
 
 -- with a fault; what was written before it in the same step stays written
 abbrev pub ends_in_fault : RunFault → State → Stepped
-ends_in_fault f s = ended (end.Fault f) s
+ends_in_fault f s = ends_run (end.Fault f) s
 
 -- with a failure: the next step is a pop
 abbrev pub fails_now : State → Stepped
@@ -117,19 +117,19 @@ kind_of s n = slice_get (last_frame s.now).kinds n
 abbrev pub as_number : Option Cell → State → (ℤ → Stepped) → Stepped
 as_number (Some (cell.Int v)) s k = k v
 as_number (Some cell.Unknown) s k = ends_in_fault fault.Unknown s
-as_number (Some cell.Unset) s k = stuck s
-as_number (Some (cell.Place p)) s k = stuck s
-as_number (Some (cell.Mark h)) s k = stuck s
-as_number None s k = stuck s
+as_number (Some cell.Unset) s k = gets_stuck s
+as_number (Some (cell.Place p)) s k = gets_stuck s
+as_number (Some (cell.Mark h)) s k = gets_stuck s
+as_number None s k = gets_stuck s
 
 -- a cell that is read as a place
 abbrev pub as_place : Option Cell → State → (CellPlace → Stepped) → Stepped
 as_place (Some (cell.Place p)) s k = k p
 as_place (Some cell.Unset) s k = ends_in_fault fault.Unknown s
-as_place (Some cell.Unknown) s k = stuck s
-as_place (Some (cell.Int v)) s k = stuck s
-as_place (Some (cell.Mark h)) s k = stuck s
-as_place None s k = stuck s
+as_place (Some cell.Unknown) s k = gets_stuck s
+as_place (Some (cell.Int v)) s k = gets_stuck s
+as_place (Some (cell.Mark h)) s k = gets_stuck s
+as_place None s k = gets_stuck s
 
 -- what a slot of a frame holds, as a link to the frame finds it
 abbrev pub slot_in : State → (frame n : ℕ) → Option Cell
@@ -139,10 +139,10 @@ slot_in s frame n = slice_get (get_or s.now frame no_frame).cells n
 abbrev pub as_mark : Option Cell → State → (ℕ → Stepped) → Stepped
 as_mark (Some (cell.Mark h)) s k = k h
 as_mark (Some cell.Unset) s k = ends_in_fault fault.Unknown s
-as_mark (Some cell.Unknown) s k = stuck s
-as_mark (Some (cell.Int v)) s k = stuck s
-as_mark (Some (cell.Place p)) s k = stuck s
-as_mark None s k = stuck s
+as_mark (Some cell.Unknown) s k = gets_stuck s
+as_mark (Some (cell.Int v)) s k = gets_stuck s
+as_mark (Some (cell.Place p)) s k = gets_stuck s
+as_mark None s k = gets_stuck s
 
 -- goes on with the number in a slot
 abbrev pub number : State → ℕ → (ℤ → Stepped) → Stepped
@@ -162,7 +162,7 @@ link s n k = as_place (slot_of s n) s (λ p. k p.frame)
 
 -- the state after a write to a slot of a frame
 abbrev pub with_cell : State → ℕ → ℕ → Cell → State
-with_cell s frame n c = record s { now = written s.now frame n c }
+with_cell s frame n c = record s { now = frames_with_cell s.now frame n c }
 
 -- the state after a write to a slot of the top frame
 abbrev pub with_slot : State → ℕ → Cell → State
@@ -171,34 +171,34 @@ with_slot s n c = with_cell s (top s) n c
 -- goes on where the slot that is written is a number slot
 abbrev pub to_number : Option SlotKind → State → (Unit {0} → Stepped) → Stepped
 to_number (Some slot.Number) s k = k tt
-to_number (Some (slot.Place l)) s k = stuck s
-to_number (Some slot.Mark) s k = stuck s
-to_number (Some (slot.Link r)) s k = stuck s
-to_number None s k = stuck s
+to_number (Some (slot.Place l)) s k = gets_stuck s
+to_number (Some slot.Mark) s k = gets_stuck s
+to_number (Some (slot.Link r)) s k = gets_stuck s
+to_number None s k = gets_stuck s
 
 -- goes on where it is a place slot, with the length that its places have
 abbrev pub to_place : Option SlotKind → State → (ℕ → Stepped) → Stepped
 to_place (Some (slot.Place l)) s k = k l
-to_place (Some slot.Number) s k = stuck s
-to_place (Some slot.Mark) s k = stuck s
-to_place (Some (slot.Link r)) s k = stuck s
-to_place None s k = stuck s
+to_place (Some slot.Number) s k = gets_stuck s
+to_place (Some slot.Mark) s k = gets_stuck s
+to_place (Some (slot.Link r)) s k = gets_stuck s
+to_place None s k = gets_stuck s
 
 -- goes on where it is a mark slot
 abbrev pub to_mark : Option SlotKind → State → (Unit {0} → Stepped) → Stepped
 to_mark (Some slot.Mark) s k = k tt
-to_mark (Some slot.Number) s k = stuck s
-to_mark (Some (slot.Place l)) s k = stuck s
-to_mark (Some (slot.Link r)) s k = stuck s
-to_mark None s k = stuck s
+to_mark (Some slot.Number) s k = gets_stuck s
+to_mark (Some (slot.Place l)) s k = gets_stuck s
+to_mark (Some (slot.Link r)) s k = gets_stuck s
+to_mark None s k = gets_stuck s
 
 -- goes on where it is a link slot
 abbrev pub to_link : Option SlotKind → State → (Unit {0} → Stepped) → Stepped
 to_link (Some (slot.Link r)) s k = k tt
-to_link (Some slot.Number) s k = stuck s
-to_link (Some (slot.Place l)) s k = stuck s
-to_link (Some slot.Mark) s k = stuck s
-to_link None s k = stuck s
+to_link (Some slot.Number) s k = gets_stuck s
+to_link (Some (slot.Place l)) s k = gets_stuck s
+to_link (Some slot.Mark) s k = gets_stuck s
+to_link None s k = gets_stuck s
 
 -- slot n := the number
 abbrev pub put_number : State → ℕ → ℤ → Stepped
@@ -231,10 +231,10 @@ integer_result s v k = if_true (is_integer v) (λ _. k v) (λ _. ends_in_fault f
 abbrev pub as_content : Bool → Cell → State → (Option ℤ → Stepped) → Stepped
 as_content true (cell.Int v) s k = k (Some v)
 as_content true cell.Unknown s k = k None
-as_content true cell.Unset s k = stuck s
-as_content true (cell.Place p) s k = stuck s
-as_content true (cell.Mark h) s k = stuck s
-as_content false c s k = stuck s
+as_content true cell.Unset s k = gets_stuck s
+as_content true (cell.Place p) s k = gets_stuck s
+as_content true (cell.Mark h) s k = gets_stuck s
+as_content false c s k = gets_stuck s
 
 -- goes on with the content of a live number slot of a frame
 abbrev pub content : State → ℕ → ℕ → (Option ℤ → Stepped) → Stepped
@@ -242,12 +242,12 @@ content s frame n k = as_content (number_at s.now frame n) (cell_at s.now frame 
 
 -- a live number slot of a frame := the number
 abbrev pub store : State → ℕ → ℕ → ℤ → (State → Stepped) → Stepped
-store s frame n v k = if_true (number_at s.now frame n) (λ _. k (with_cell s frame n (cell.Int v))) (λ _. stuck s)
+store s frame n v k = if_true (number_at s.now frame n) (λ _. k (with_cell s frame n (cell.Int v))) (λ _. gets_stuck s)
 
 -- goes on with a content that is known
-abbrev pub known : State → Option ℤ → (ℤ → Stepped) → Stepped
-known s (Some v) k = k v
-known s None k = ends_in_fault fault.Unknown s
+abbrev pub with_known_content : State → Option ℤ → (ℤ → Stepped) → Stepped
+with_known_content s (Some v) k = k v
+with_known_content s None k = ends_in_fault fault.Unknown s
 
 -- the content is known
 abbrev pub is_known : Option ℤ → Bool
@@ -259,7 +259,7 @@ is_known None = false
 -- goes on with a range that is there
 abbrev pub as_range : Option Range → State → (Range → Stepped) → Stepped
 as_range (Some r) s k = k r
-as_range None s k = stuck s
+as_range None s k = gets_stuck s
 
 -- goes on where the number is in the range
 abbrev pub range_check : Range → RunFault → State → ℤ → (Unit {0} → Stepped) → Stepped
@@ -271,9 +271,9 @@ optional_range_check (Some r) s v k = range_check r fault.Range s v k
 optional_range_check None s v k = k tt
 
 -- a cell with this content has the number, or gets it
-abbrev pub bound : State → CellPlace → Range → ℤ → Option ℤ → Stepped
-bound s p r v (Some u) = if_true (int_eq u v) (λ _. quiet_step s) (λ _. fails_now s)
-bound s p r v None = range_check r fault.Range s v (λ _. store s p.frame p.slot v quiet_step)
+abbrev pub binds_content : State → CellPlace → Range → ℤ → Option ℤ → Stepped
+binds_content s p r v (Some u) = if_true (int_eq u v) (λ _. quiet_step s) (λ _. fails_now s)
+binds_content s p r v None = range_check r fault.Range s v (λ _. store s p.frame p.slot v quiet_step)
 
 -- ---- equations
 
@@ -294,12 +294,12 @@ equations zero s f i g j = quiet_step s
 equations (suc n) s f i g j = equation s f i None g j None (λ t. equations n t f (suc i) g (suc j))
 
 -- n cells := cells of these frames, which are the frames as they were before
-abbrev pub copied : ℕ → (before : List PlainFrame) → State → (f i g j : ℕ) → Stepped
-copied zero before s f i g j = quiet_step s
-copied (suc n) before s f i g j =
+abbrev pub copies_cells : ℕ → (before : List PlainFrame) → State → (f i g j : ℕ) → Stepped
+copies_cells zero before s f i g j = quiet_step s
+copies_cells (suc n) before s f i g j =
     if_true (number_at s.now f i && number_at before g j)
-    (λ _. copied n before (with_cell s f i (cell_at before g j cell.Unknown)) f (suc i) g (suc j))
-    (λ _. stuck s)
+    (λ _. copies_cells n before (with_cell s f i (cell_at before g j cell.Unknown)) f (suc i) g (suc j))
+    (λ _. gets_stuck s)
 
 -- ---- choice entries; heights count from 1 at the bottom
 
@@ -317,50 +317,50 @@ is_forall_at held h = is_kind choice.Forall (kind_at held h)
 
 -- the state after a push of an entry with a copy of the frames; entries of all kinds count as
 -- pushed
-abbrev pub pushed : State → ChoiceKind → ℕ → State
-pushed s kind resume =
+abbrev pub state_after_push : State → ChoiceKind → ℕ → State
+state_after_push s kind resume =
     record s { held = s.held ++ record { kind = kind; resume = resume; frames = s.now; carry = [] } ∷ []; choices = s.choices + 1 }
 
 -- answers the new height
 abbrev pub answer_of_push : State → Stepped
-answer_of_push s = answered (answer.Chose (length s.held)) s
+answer_of_push s = answers_with (answer.Chose (length s.held)) s
 
 -- answers the height after entries fell
 abbrev pub answer_of_fall : State → Stepped
-answer_of_fall s = answered (answer.Cut (length s.held)) s
+answer_of_fall s = answers_with (answer.Cut (length s.held)) s
 
 -- drops the entries above a height, where there are any
 abbrev pub cut_to : State → ℕ → Stepped
 cut_to s h = if_true (nat_lt h (length s.held)) (λ _. answer_of_fall (record s { held = take h s.held })) (λ _. quiet_step s)
 
 -- the state after the carry of an entry is laid over the frames
-abbrev pub laid_over : State → ℕ → State
-laid_over s h = record s { now = frames_with_carry s.now (entry_at s.held h).carry }
+abbrev pub state_with_carry : State → ℕ → State
+state_with_carry s h = record s { now = frames_with_carry s.now (entry_at s.held h).carry }
 
 -- lays the carry of a Forall over; where there is none at the height, nothing is laid over
 abbrev pub overlay : State → ℕ → State
-overlay s h = if_true (is_forall_at s.held h) (λ _. laid_over s h) (λ _. s)
+overlay s h = if_true (is_forall_at s.held h) (λ _. state_with_carry s h) (λ _. s)
 
 -- keeps the Body on top in the Forall at a height below it, whichever Forall that is; else does
 -- nothing
 abbrev pub keep : State → ℕ → Stepped
 keep s h =
     if_true (is_forall_at s.held h && (nat_lt h (length s.held) && is_kind choice.Body (kind_at s.held (length s.held))))
-    (λ _. answer_of_fall (record s { held = kept s.held h s.now }))
+    (λ _. answer_of_fall (record s { held = held_after_keep s.held h s.now }))
     (λ _. quiet_step s)
 
 -- lays the carry of the Done on top over and drops that entry; else does nothing
 abbrev pub finish : State → Stepped
 finish s =
     if_true (is_kind choice.Done (kind_at s.held (length s.held)))
-    (λ _. answer_of_fall (record (laid_over s (length s.held)) { held = take (length s.held - 1) s.held }))
+    (λ _. answer_of_fall (record (state_with_carry s (length s.held)) { held = take (length s.held - 1) s.held }))
     (λ _. quiet_step s)
 
 -- a pop of the entries that are left: with none the run ends, and no pop is counted
 abbrev pub pop_or_end : State → List PlainEntry → Stepped
-pop_or_end s [] = ended end.Failed s
+pop_or_end s [] = ends_run end.Failed s
 pop_or_end s (e ∷ rest) =
-    answered (answer.Popped (length s.held))
+    answers_with (answer.Popped (length s.held))
     (record s { mode = Going; at = (top_of s.held).resume; now = (top_of s.held).frames; held = stack_after_pop s.held; fails = s.fails + 1 })
 
 -- what a failing machine does: it takes the top copy; a Forall that becomes a Done is a pop too
@@ -376,22 +376,22 @@ numbers_at (suc n) frames f i = number_at frames f i && numbers_at n frames f (s
 
 -- a cell that is read as the argument of a parameter
 abbrev pub as_argument : ParamKind → ℕ → Option Cell → State → (Cell → Stepped) → Stepped
-as_argument kind n None s k = stuck s
+as_argument kind n None s k = gets_stuck s
 as_argument kind n (Some cell.Unknown) s k = ends_in_fault fault.Unknown s
 as_argument kind n (Some cell.Unset) s k = ends_in_fault fault.Unknown s
-as_argument kind n (Some (cell.Mark h)) s k = stuck s
+as_argument kind n (Some (cell.Mark h)) s k = gets_stuck s
 as_argument param.Value n (Some (cell.Int v)) s k = k (cell.Int v)
 as_argument param.Mix n (Some (cell.Int v)) s k = k (cell.Int v)
-as_argument param.Place n (Some (cell.Int v)) s k = stuck s
-as_argument param.Cells n (Some (cell.Int v)) s k = stuck s
-as_argument param.Value n (Some (cell.Place p)) s k = stuck s
-as_argument param.Mix n (Some (cell.Place p)) s k = if_true (nat_eq p.len 1) (λ _. k (cell.Place p)) (λ _. stuck s)
-as_argument param.Place n (Some (cell.Place p)) s k = if_true (nat_eq p.len n) (λ _. k (cell.Place p)) (λ _. stuck s)
+as_argument param.Place n (Some (cell.Int v)) s k = gets_stuck s
+as_argument param.Cells n (Some (cell.Int v)) s k = gets_stuck s
+as_argument param.Value n (Some (cell.Place p)) s k = gets_stuck s
+as_argument param.Mix n (Some (cell.Place p)) s k = if_true (nat_eq p.len 1) (λ _. k (cell.Place p)) (λ _. gets_stuck s)
+as_argument param.Place n (Some (cell.Place p)) s k = if_true (nat_eq p.len n) (λ _. k (cell.Place p)) (λ _. gets_stuck s)
 as_argument param.Cells n (Some (cell.Place p)) s k =
-    if_true (nat_eq p.len n && numbers_at n s.now p.frame p.slot) (λ _. k (cell.Place p)) (λ _. stuck s)
-as_argument param.Link n (Some (cell.Int v)) s k = stuck s
+    if_true (nat_eq p.len n && numbers_at n s.now p.frame p.slot) (λ _. k (cell.Place p)) (λ _. gets_stuck s)
+as_argument param.Link n (Some (cell.Int v)) s k = gets_stuck s
 as_argument param.Link n (Some (cell.Place p)) s k =
-    if_true (nat_eq p.slot 0 && nat_eq p.len 0) (λ _. k (cell.Place p)) (λ _. stuck s)
+    if_true (nat_eq p.slot 0 && nat_eq p.len 0) (λ _. k (cell.Place p)) (λ _. gets_stuck s)
 
 -- the argument slots from n on are all read, in order, before anything else is done
 abbrev pub arguments : List CodeParam → State → ℕ → (List Cell → Stepped) → Stepped
@@ -400,39 +400,39 @@ arguments (p ∷ ps) s n k = as_argument p.kind p.cells (slot_of s n) s (λ c. a
 
 -- enters a routine: DepthFull comes before CellsFull, and only then are the cells of arguments
 -- copied
-abbrev pub entered : State → ℕ → ℕ → PlainHead → List Cell → Stepped
-entered s r start h args =
+abbrev pub enters_routine : State → ℕ → ℕ → PlainHead → List Cell → Stepped
+enters_routine s r start h args =
     if_true (nat_lt (length s.now) frame_limit)
     (λ _. if_true (nat_le (live_cells s.now + h.declared) cell_limit)
-    (λ _. answered (answer.Called r (length s.now + 1)) (record s { at = start; now = s.now ++ frame_of_call s.now h r s.at args ∷ [] }))
+    (λ _. answers_with (answer.Called r (length s.now + 1)) (record s { at = start; now = s.now ++ frame_of_call s.now h r s.at args ∷ [] }))
     (λ _. ends_in_fault fault.CellsFull s))
     (λ _. ends_in_fault fault.DepthFull s)
 
 -- goes on with the head of a routine that is there
 abbrev pub as_routine : Option PlainRoutine → State → (PlainHead → Stepped) → Stepped
 as_routine (Some r) s k = k r.head
-as_routine None s k = stuck s
+as_routine None s k = gets_stuck s
 
 -- the state after the top frame is left
-abbrev pub left : State → State
-left s = record s { at = (last_frame s.now).back; now = without_last s.now }
+abbrev pub state_after_leave : State → State
+state_after_leave s = record s { at = (last_frame s.now).back; now = without_last s.now }
 
 -- answers how many frames are left
-abbrev pub returned : State → Stepped
-returned s = answered (answer.Returned (length s.now)) s
+abbrev pub answers_return : State → Stepped
+answers_return s = answers_with (answer.Returned (length s.now)) s
 
 -- the slot of the caller that the Call before the return address names := the number
 abbrev pub result_to : Option Instr → State → ℤ → Stepped
 result_to (Some (I.Call r first to)) s v =
-    to_number (kind_of s to) s (λ _. returned (with_slot s to (cell.Int v)))
-result_to _ s v = stuck s
+    to_number (kind_of s to) s (λ _. answers_return (with_slot s to (cell.Int v)))
+result_to _ s v = gets_stuck s
 
 -- ---- input
 
 -- a cell that is read as the input position
 abbrev pub as_position : Option Cell → State → (ℕ → Stepped) → Stepped
 as_position (Some (cell.Int (pos n))) s k = k n
-as_position _ s k = stuck s
+as_position _ s k = gets_stuck s
 
 -- goes on with the input position, which is slot 0 of frame 0
 abbrev pub position : State → (ℕ → Stepped) → Stepped
@@ -443,10 +443,10 @@ abbrev pub take_input : State → Range → CellPlace → ℤ → ℕ → Steppe
 take_input s r p v behind = range_check r fault.Range s v (λ _. store s 0 0 (pos behind) (λ t. store t p.frame p.slot v quiet_step))
 
 -- what was found where a number is read
-abbrev pub found : State → Range → CellPlace → ReadInt → Stepped
-found s r p NoNumber = fails_now s
-found s r p TooLarge = ends_in_fault fault.ReadRange s
-found s r p (Number v behind) = take_input s r p v behind
+abbrev pub takes_read : State → Range → CellPlace → ReadInt → Stepped
+takes_read s r p NoNumber = fails_now s
+takes_read s r p TooLarge = ends_in_fault fault.ReadRange s
+takes_read s r p (Number v behind) = take_input s r p v behind
 
 -- what was found where a byte is read
 abbrev pub byte_or_failure : State → Range → CellPlace → ℕ → Option ℕ → Stepped
@@ -457,8 +457,8 @@ byte_or_failure s r p at (Some byte) = take_input s r p (pos byte) (at + 1)
 
 -- prints a text that is there
 abbrev pub as_text : Option (List ℕ) → State → Stepped
-as_text (Some t) s = printed t s
-as_text None s = stuck s
+as_text (Some t) s = prints_bytes t s
+as_text None s = gets_stuck s
 
 -- the run faults in the order of their numbers, from 0 on
 abbrev pub run_faults : List RunFault
@@ -469,7 +469,7 @@ run_faults =
 -- ends in a fault that is there
 abbrev pub as_fault : Option RunFault → State → Stepped
 as_fault (Some f) s = ends_in_fault f s
-as_fault None s = stuck s
+as_fault None s = gets_stuck s
 
 -- ---- the instructions, in the order of their opcodes
 
@@ -504,14 +504,14 @@ module _ (code : PlainCode) (input : List ℕ) where
   act (I.Field a b c) s = place s b (λ p. put_place s a p.frame (λ _. p.slot + c))
   act (I.Index a b c d) s =
       place s b (λ p. number s c (λ v. range_at s d (λ t. range_check t fault.Index s v (λ _. put_place s a p.frame (λ l. p.slot + nat_abs (v -ℤ t.low) * l)))))
-  act (I.Load a b) s = place s b (λ p. content s p.frame p.slot (λ c. known s c (λ v. put_number s a v)))
+  act (I.Load a b) s = place s b (λ p. content s p.frame p.slot (λ c. with_known_content s c (λ v. put_number s a v)))
   act (I.Store a b) s = place s a (λ p. number s b (λ v. store s p.frame p.slot v quiet_step))
   act (I.Known a b) s = place s b (λ p. content s p.frame p.slot (λ c. put_number s a (bit (is_known c))))
   act (I.Bind a b c) s =
-      place s a (λ p. number s b (λ v. range_at s c (λ t. content s p.frame p.slot (λ u. bound s p t v u))))
+      place s a (λ p. number s b (λ v. range_at s c (λ t. content s p.frame p.slot (λ u. binds_content s p t v u))))
   act (I.Unify a b c d) s =
       place s a (λ p. range_at s b (λ r. place s c (λ q. range_at s d (λ t. equation s p.frame p.slot (Some r) q.frame q.slot (Some t) quiet_step))))
-  act (I.CopyCells a b) s = place s a (λ p. place s b (λ q. copied p.len s.now s p.frame p.slot q.frame q.slot))
+  act (I.CopyCells a b) s = place s a (λ p. place s b (λ q. copies_cells p.len s.now s p.frame p.slot q.frame q.slot))
   act (I.SameCells a b) s = place s a (λ p. place s b (λ q. equations p.len s p.frame p.slot q.frame q.slot))
   act (I.Jump a) s = goes_to a s
   act (I.JumpZero a b) s = number s a (λ v. if_true (is_zero v) (λ _. goes_to b s) (λ _. quiet_step s))
@@ -519,28 +519,28 @@ module _ (code : PlainCode) (input : List ℕ) where
   act I.Fail s = fails_now s
   act (I.Mark a) s = put_mark s a (length s.held)
   act (I.Cut a) s = mark s a (λ h. cut_to s h)
-  act (I.Choose a) s = answer_of_push (pushed s choice.Branch a)
+  act (I.Choose a) s = answer_of_push (state_after_push s choice.Branch a)
   -- the copy in the entry has the mark slot as it was before
   act (I.Forall a b) s =
-      to_mark (kind_of s a) s (λ _. answer_of_push (with_slot (pushed s choice.Forall b) a (cell.Mark (length s.held + 1))))
+      to_mark (kind_of s a) s (λ _. answer_of_push (with_slot (state_after_push s choice.Forall b) a (cell.Mark (length s.held + 1))))
   -- the copy in the entry has the cells that were laid over
-  act (I.Overlay a b) s = mark s a (λ h. answer_of_push (pushed (overlay s h) choice.Body b))
+  act (I.Overlay a b) s = mark s a (λ h. answer_of_push (state_after_push (overlay s h) choice.Body b))
   act (I.Keep a) s = mark s a (λ h. keep s h)
   act I.Finish s = finish s
   act (I.Call r b c) s =
-      as_routine (slice_get code.routines r) s (λ h. arguments h.params s b (λ args. entered s r (start_at code r) h args))
-  act I.Return s = if_true (nat_eq (length s.now) 1) (λ _. ended end.Succeeded s) (λ _. returned (left s))
+      as_routine (slice_get code.routines r) s (λ h. arguments h.params s b (λ args. enters_routine s r (start_at code r) h args))
+  act I.Return s = if_true (nat_eq (length s.now) 1) (λ _. ends_run end.Succeeded s) (λ _. answers_return (state_after_leave s))
   act (I.ReturnValue a) s =
-      number s a (λ v. result_to (slice_get code.instrs ((last_frame s.now).back - 1)) (left s) v)
+      number s a (λ v. result_to (slice_get code.instrs ((last_frame s.now).back - 1)) (state_after_leave s) v)
   act (I.ReadInt a r) s =
-      place s a (λ p. range_at s r (λ t. position s (λ n. found s t p (number_from input n))))
+      place s a (λ p. range_at s r (λ t. position s (λ n. takes_read s t p (number_from input n))))
   act (I.ReadChar a r) s =
       place s a (λ p. range_at s r (λ t. position s (λ n. byte_or_failure s t p n (slice_get input n))))
-  act (I.WriteInt a) s = number s a (λ v. printed (value_text (value.Int v)) s)
-  act (I.WriteChar a) s = number s a (λ v. printed (value_text (value.Char (nat_abs (int_rem_euclid v (pos 256))))) s)
-  act (I.WriteBool a) s = number s a (λ v. printed (value_text (value.Bool (not (is_zero v)))) s)
+  act (I.WriteInt a) s = number s a (λ v. prints_bytes (value_text (value.Int v)) s)
+  act (I.WriteChar a) s = number s a (λ v. prints_bytes (value_text (value.Char (nat_abs (int_rem_euclid v (pos 256))))) s)
+  act (I.WriteBool a) s = number s a (λ v. prints_bytes (value_text (value.Bool (not (is_zero v)))) s)
   act (I.WriteText a) s = as_text (slice_get code.texts a) s
-  act I.WriteLine s = printed (10 ∷ []) s
+  act I.WriteLine s = prints_bytes (10 ∷ []) s
   act (I.Fault n) s = as_fault (slice_get run_faults n) s
   act (I.Step a b c d) s =
       number s a (λ x. number s b (λ y. number s c (λ z.
@@ -557,17 +557,17 @@ module _ (code : PlainCode) (input : List ℕ) where
   with_step_counted s = record s { steps = s.steps + 1 }
 
   -- takes the instruction at the address
-  abbrev pub fetched : Option Instr → State → Stepped
-  fetched (Some i) s = act i (record (with_step_counted s) { at = s.at + 1; last = s.at })
-  fetched None s = stuck s
+  abbrev pub fetch_and_act : Option Instr → State → Stepped
+  fetch_and_act (Some i) s = act i (record (with_step_counted s) { at = s.at + 1; last = s.at })
+  fetch_and_act None s = gets_stuck s
 
   -- a step is one instruction, or a pop after one that failed; the pop that ends the run is a step
   -- too, and an ended machine does not change
   abbrev pub step_in : Mode → State → Stepped
-  step_in Going s = fetched (slice_get code.instrs s.at) s
+  step_in Going s = fetch_and_act (slice_get code.instrs s.at) s
   step_in Failing s = pop (with_step_counted s)
-  step_in (Ended e) s = answered (answer.Done e) s
-  step_in Stuck s = stuck s
+  step_in (Ended e) s = answers_with (answer.Done e) s
+  step_in Stuck s = gets_stuck s
 
   -- one step
   abbrev pub step : State → Stepped

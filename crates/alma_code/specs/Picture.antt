@@ -33,8 +33,8 @@ abbrev pub frame_with : PlainFrame → (slot : ℕ) → Cell → PlainFrame
 frame_with frame slot cell = record frame { cells = set frame.cells slot cell }
 
 -- the frames after a write to a slot of one of them
-abbrev pub written : List PlainFrame → (frame slot : ℕ) → Cell → List PlainFrame
-written frames frame slot cell = set frames frame (frame_with (get_or frames frame no_frame) slot cell)
+abbrev pub frames_with_cell : List PlainFrame → (frame slot : ℕ) → Cell → List PlainFrame
+frames_with_cell frames frame slot cell = set frames frame (frame_with (get_or frames frame no_frame) slot cell)
 
 -- the cell in a slot of a frame, or else the last argument
 abbrev pub cell_at : List PlainFrame → (frame slot : ℕ) → Cell → Cell

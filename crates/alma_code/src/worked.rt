@@ -30,7 +30,7 @@ pub fn least_code()
 pub fn branch_comes_back()
     ensures sound { code_fault branch_undone ≡ None }
     ensures restores { (state_after branch_undone [] 5).now ≡ (start branch_undone).now }
-    ensures stack_after_pop { (step branch_undone [] (state_after branch_undone [] 4)).answer
+    ensures pops { (step branch_undone [] (state_after branch_undone [] 4)).answer
         ≡ answer.Popped 1 }
     ensures ends { Ends branch_undone [] 6 end.Succeeded }
     ensures prints { Prints branch_undone [] 6 (codes "Hi" ∷ []) }
@@ -344,7 +344,7 @@ pub fn forall_copies_old_mark()
     ensures copy { cell_at (entry_at (state_after sum_carried [] 2).held 1).frames 0 6 cell.Unknown
         ≡ cell.Unset }
     ensures now { cell_at (state_after sum_carried [] 2).now 0 6 cell.Unknown ≡ cell.Mark 1 }
-    ensures stack_after_pop { (step sum_carried [] (state_after sum_carried [] 15)).answer
+    ensures pops { (step sum_carried [] (state_after sum_carried [] 15)).answer
         ≡ answer.Popped 1 }
     ensures height { length (state_after sum_carried [] 16).held ≡ 1 }
 {}

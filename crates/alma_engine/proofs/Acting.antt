@@ -8,7 +8,7 @@ use Rattle.alma_code.specs.Head.{PlainHead}
 use Rattle.alma_base.specs.declared.number.Range.{Range}
 use Rattle.alma_base.specs.declared.fault.RunFault.TheVariants as fault
 use Rattle.alma_code.specs.declared.instr.Instr.TheVariants as I
-use Rattle.alma_code.specs.Machine.{State, Stepped, act, number, place, content, bound, range_check, as_range, quiet_step, put_place, equation, position, found, byte_or_failure, arguments, entered, as_routine}
+use Rattle.alma_code.specs.Machine.{State, Stepped, act, number, place, content, binds_content, range_check, as_range, quiet_step, put_place, equation, position, takes_read, byte_or_failure, arguments, enters_routine, as_routine}
 use Rattle.alma_code.specs.Plain.{PlainCode, PlainRoutine, no_routine, head_at, start_at}
 
 -- a number is looked for in a range of the code
@@ -19,9 +19,9 @@ in_range_is code input value range s r is = ap (λ o. number s value (λ v. as_r
 
 -- a cell is bound in a range of the code
 pub bind_is : (code : PlainCode) (input : List ℕ) (to value range : ℕ) (s : State) (r : Range) → Some r ≡ slice_get code.ranges range
-    → place s to (λ p. number s value (λ v. content s p.frame p.slot (λ u. bound s p r v u))) ≡ act code input (I.Bind to value range) s
+    → place s to (λ p. number s value (λ v. content s p.frame p.slot (λ u. binds_content s p r v u))) ≡ act code input (I.Bind to value range) s
 unfolding act
-bind_is code input to value range s r is = ap (λ o. place s to (λ p. number s value (λ v. as_range o s (λ t. content s p.frame p.slot (λ u. bound s p t v u))))) is
+bind_is code input to value range s r is = ap (λ o. place s to (λ p. number s value (λ v. as_range o s (λ t. content s p.frame p.slot (λ u. binds_content s p t v u))))) is
 
 -- a part is looked for in a range of the code
 pub index_is : (code : PlainCode) (input : List ℕ) (to from index range : ℕ) (s : State) (r : Range) → Some r ≡ slice_get code.ranges range
@@ -40,9 +40,9 @@ unify_is code input left first right second s r t a b =
 
 -- a number is read in a range of the code
 pub read_int_is : (code : PlainCode) (input : List ℕ) (to range : ℕ) (s : State) (r : Range) → Some r ≡ slice_get code.ranges range
-    → place s to (λ p. position s (λ n. found s r p (number_from input n))) ≡ act code input (I.ReadInt to range) s
+    → place s to (λ p. position s (λ n. takes_read s r p (number_from input n))) ≡ act code input (I.ReadInt to range) s
 unfolding act
-read_int_is code input to range s r is = ap (λ o. place s to (λ p. as_range o s (λ t. position s (λ n. found s t p (number_from input n))))) is
+read_int_is code input to range s r is = ap (λ o. place s to (λ p. as_range o s (λ t. position s (λ n. takes_read s t p (number_from input n))))) is
 
 -- a byte is read in a range of the code
 pub read_char_is : (code : PlainCode) (input : List ℕ) (to range : ℕ) (s : State) (r : Range) → Some r ≡ slice_get code.ranges range
@@ -62,10 +62,10 @@ head_of_some None hd s k is = absurd (cc)
 
 -- a routine of the code is called
 pub call_is : (code : PlainCode) (input : List ℕ) (routine first to : ℕ) (s : State) (hd : PlainHead) → Some hd ≡ slice_get (map (λ (r : PlainRoutine). r.head) code.routines) routine
-    → arguments hd.params s first (λ args. entered s routine (start_at code routine) hd args) ≡ act code input (I.Call routine first to) s
+    → arguments hd.params s first (λ args. enters_routine s routine (start_at code routine) hd args) ≡ act code input (I.Call routine first to) s
 unfolding act
 call_is code input routine first to s hd is =
-    head_of_some (slice_get code.routines routine) hd s (λ h. arguments h.params s first (λ args. entered s routine (start_at code routine) h args))
+    head_of_some (slice_get code.routines routine) hd s (λ h. arguments h.params s first (λ args. enters_routine s routine (start_at code routine) h args))
     (is ∙ slice_get-map (λ (r : PlainRoutine). r.head) code.routines routine)
 
 -- its head is the one that is called

@@ -7,8 +7,8 @@ use Rattle.alma_code.specs.declared.cell.Cell.{Cell}
 use Rattle.alma_code.specs.declared.cell.Cell.TheVariants as cell
 use Rattle.alma_code.specs.declared.instr.Instr.{Instr}
 use Rattle.alma_code.specs.declared.instr.Instr.TheVariants as I
-use Rattle.alma_code.specs.Machine.{State, Stepped, result_to, to_number, returned, left, with_slot}
-use Rattle.alma_code.specs.Picture.{PlainFrame, last_frame, without_last, written, frame_with, no_frame}
+use Rattle.alma_code.specs.Machine.{State, Stepped, result_to, to_number, answers_return, state_after_leave, with_slot}
+use Rattle.alma_code.specs.Picture.{PlainFrame, last_frame, without_last, frames_with_cell, frame_with, no_frame}
 use Rattle.alma_code.specs.Plain.{PlainCode}
 use Rattle.alma_engine.specs.Rows.{HasNumber, Gives}
 use Rattle.alma_base.specs.declared.fault.RunFault.{RunFault}
@@ -33,11 +33,11 @@ pub back_call : (code : PlainCode) (now : List PlainFrame) (h : CallsBack code n
 back_call code now h = ap (slice_get code.instrs) (back_at code now h) ∙ h.call
 
 -- a Call's slot that is a number slot gets the number
-pub back_is : (o : Option Instr) (s : State) (r first to : ℕ) (v : ℤ) → o ≡ Some (I.Call r first to) → HasNumber s.now to → result_to o s v ≡ returned (with_slot s to (cell.Int v))
-back_is o s r first to v is h = ap (λ o. result_to o s v) is ∙ ap (λ o. to_number o s (λ _. returned (with_slot s to (cell.Int v)))) h.kind
+pub back_is : (o : Option Instr) (s : State) (r first to : ℕ) (v : ℤ) → o ≡ Some (I.Call r first to) → HasNumber s.now to → result_to o s v ≡ answers_return (with_slot s to (cell.Int v))
+back_is o s r first to v is h = ap (λ o. result_to o s v) is ∙ ap (λ o. to_number o s (λ _. answers_return (with_slot s to (cell.Int v)))) h.kind
 
 -- as many frames after a write
-pub same_frames : (now : List PlainFrame) (f n : ℕ) (c : Cell) → length (written now f n c) ≡ length now
+pub same_frames : (now : List PlainFrame) (f n : ℕ) (c : Cell) → length (frames_with_cell now f n c) ≡ length now
 same_frames now f n c = length-set now f (frame_with (get_or now f no_frame) n c)
 
 -- one frame less
@@ -47,6 +47,6 @@ one_less now = length-take-le (length now - 1) now (omega arith)
 pub ruleset backs = (back_some, back_inside, same_frames, one_less)
 
 -- what a word gives is returned, or ends the run
-pub gives_back : (now : List PlainFrame) (word : State → (ℤ → Stepped) → Stepped) (s : State) (o : Option Instr) (result : Result ℤ RunFault) → s.now ≡ now → Gives now word result → word s (λ v. result_to o (left s) v) ≡ back_or_fault o s result
-gives_back now word s o (Ok v) same h = h s (λ v. result_to o (left s) v) same
-gives_back now word s o (Err f) same h = h s (λ v. result_to o (left s) v) same
+pub gives_back : (now : List PlainFrame) (word : State → (ℤ → Stepped) → Stepped) (s : State) (o : Option Instr) (result : Result ℤ RunFault) → s.now ≡ now → Gives now word result → word s (λ v. result_to o (state_after_leave s) v) ≡ back_or_fault o s result
+gives_back now word s o (Ok v) same h = h s (λ v. result_to o (state_after_leave s) v) same
+gives_back now word s o (Err f) same h = h s (λ v. result_to o (state_after_leave s) v) same

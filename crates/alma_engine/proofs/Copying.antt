@@ -13,7 +13,7 @@ use Rattle.alma_code.specs.declared.step.Step.TheVariants as answer
 use Rattle.alma_code.specs.Carries.{number_at}
 use Rattle.alma_code.specs.Fits.{IsContent}
 use Rattle.alma_code.specs.Kinds.{is_number}
-use Rattle.alma_code.specs.Machine.{State, Stepped, stuck, copied, with_cell}
+use Rattle.alma_code.specs.Machine.{State, Stepped, gets_stuck, copies_cells, with_cell}
 use Rattle.alma_code.specs.Picture.{PlainFrame, cell_at}
 use Rattle.alma_engine.specs.Copies.{cells_from, laid}
 use Rattle.alma_engine.specs.declared.equations.Met.TheVariants.{Holds}
@@ -31,21 +31,21 @@ if_both true y p q r e same = ap (λ b. if_true b (λ _. p) (λ _. r)) e ∙ sam
 if_both false y p q r e same = refl
 
 copied_from : (n a : ℕ) (before : List PlainFrame) (s : State) (f i g j : ℕ) → ((k : ℕ) → k < n → number_at before g (j + (a + k)) ≡ true)
-    → copied n before s f i g (j + a) ≡ laid (map (λ k. cell_at before g (j + k) cell.Unknown) (range_with_len a n)) s f i
+    → copies_cells n before s f i g (j + a) ≡ laid (map (λ k. cell_at before g (j + k) cell.Unknown) (range_with_len a n)) s f i
 copied_from zero a before s f i g j there = refl
 copied_from (suc n) a before s f i g j there =
     let z : j + (a + 0) ≡ j + a = omega arith in
     let next : suc (j + a) ≡ j + (a + 1) = omega arith in
     let t = with_cell s f i (cell_at before g (j + a) cell.Unknown) in
-    if_both (number_at s.now f i) (number_at before g (j + a)) _ _ (stuck s) (ap (number_at before g) (sym z) ∙ there 0 (omega arith))
-    (ap (copied n before t f (suc i) g) next
+    if_both (number_at s.now f i) (number_at before g (j + a)) _ _ (gets_stuck s) (ap (number_at before g) (sym z) ∙ there 0 (omega arith))
+    (ap (copies_cells n before t f (suc i) g) next
     ∙ copied_from n (a + 1) before t f (suc i) g j (λ k lt. (let e : j + (a + 1 + k) ≡ j + (a + suc k) = omega arith in ap (number_at before g) e ∙ there (suc k) (omega arith))))
 
 -- cells that are read and then laid down are copied
-pub copied_is : (n : ℕ) (before : List PlainFrame) (s : State) (f i g j : ℕ) → AreNumbers before g j n → copied n before s f i g j ≡ laid (cells_from before g j n) s f i
+pub copied_is : (n : ℕ) (before : List PlainFrame) (s : State) (f i g j : ℕ) → AreNumbers before g j n → copies_cells n before s f i g j ≡ laid (cells_from before g j n) s f i
 copied_is n before s f i g j numbers =
     let z : j ≡ j + 0 = omega arith in
-    ap (copied n before s f i g) z
+    ap (copies_cells n before s f i g) z
     ∙ copied_from n 0 before s f i g j (λ k lt. (let e : j + (0 + k) ≡ j + k = omega arith in ap (number_at before g) e ∙ number_there before g (j + k) (numbers.each k lt)))
 
 -- they are contents
@@ -74,7 +74,7 @@ laid_more cells s t f i k c lt is content numbers so =
     let u = with_cell t f (i + k) c in
     record {
       rest = so.rest ∙ ap (λ cs. laid cs t f (i + k)) (drop_more cells k cell.Unknown lt ∙ ap (λ x. x ∷ drop (k + 1) cells) (sym is))
-          ∙ ap (λ b. if_true b (λ _. laid (drop (k + 1) cells) u f (suc (i + k))) (λ _. stuck t)) (number_there t.now f (i + k) here)
+          ∙ ap (λ b. if_true b (λ _. laid (drop (k + 1) cells) u f (suc (i + k))) (λ _. gets_stuck t)) (number_there t.now f (i + k) here)
           ∙ ap (laid (drop (k + 1) cells) u f) next;
       numbers = λ g n h. cell_stays t.now g n f (i + k) c content (so.numbers g n h);
       kept = so.kept;

@@ -19,7 +19,7 @@ use Rattle.alma_code.specs.declared.step.Step.TheVariants as answer
 use Rattle.alma_code.specs.Carries.{IsLive}
 use Rattle.alma_code.specs.Head.{PlainHead}
 use Rattle.alma_code.specs.Layout.{FitsParam, no_param, frame_of_call}
-use Rattle.alma_code.specs.Machine.{State, Stepped, slot_of, as_argument, arguments, numbers_at, ends_in_fault, entered, answered, ended, returned, left, stuck}
+use Rattle.alma_code.specs.Machine.{State, Stepped, slot_of, as_argument, arguments, numbers_at, ends_in_fault, enters_routine, answers_with, ends_run, answers_return, state_after_leave, gets_stuck}
 use Rattle.alma_code.specs.Picture.{PlainFrame, last_frame, live_cells}
 use Rattle.alma_memory.specs.Refusals.{HasFrameRoom}
 use Rattle.alma_engine.specs.Calls.{HoldsArgument, HasArgument, HasArguments, IsArgument, GivesArguments}
@@ -39,16 +39,16 @@ given_int now param.Link n v h = absurd h
 given_place : (now : List PlainFrame) (kind : ParamKind) (n : ℕ) (p : CellPlace) → HoldsArgument now kind n (cell.Place p)
     → FitsParam (IsLive now) (λ _. IsLive now) kind n (cell.Place p) × ((s : State) (k : Cell → Stepped) → s.now ≡ now → as_argument kind n (Some (cell.Place p)) s k ≡ k (cell.Place p))
 given_place now param.Value n p h = absurd h
-given_place now param.Mix n p h = ((h.len, h.live), λ s k same. ap (λ b. if_true b (λ _. k (cell.Place p)) (λ _. stuck s)) (eq-eqb p.len 1 h.len))
-given_place now param.Place n p h = ((h.len, h.live), λ s k same. ap (λ b. if_true b (λ _. k (cell.Place p)) (λ _. stuck s)) (eq-eqb p.len n h.len))
+given_place now param.Mix n p h = ((h.len, h.live), λ s k same. ap (λ b. if_true b (λ _. k (cell.Place p)) (λ _. gets_stuck s)) (eq-eqb p.len 1 h.len))
+given_place now param.Place n p h = ((h.len, h.live), λ s k same. ap (λ b. if_true b (λ _. k (cell.Place p)) (λ _. gets_stuck s)) (eq-eqb p.len n h.len))
 given_place now param.Cells n p h = (
   (h.len, h.live),
   λ s k same.
-      ap (λ b. if_true b (λ _. k (cell.Place p)) (λ _. stuck s))
+      ap (λ b. if_true b (λ _. k (cell.Place p)) (λ _. gets_stuck s))
       (and_from (nat_eq p.len n) (numbers_at n s.now p.frame p.slot) (eq-eqb p.len n h.len) (ap (λ fs. numbers_at n fs p.frame p.slot) same ∙ h.numbers)),
 )
 given_place now param.Link n p h =
-    (h, λ s k same. ap (λ b. if_true b (λ _. k (cell.Place p)) (λ _. stuck s)) (and_from (nat_eq p.slot 0) (nat_eq p.len 0) (eq-eqb p.slot 0 h.0) (eq-eqb p.len 0 h.1)))
+    (h, λ s k same. ap (λ b. if_true b (λ _. k (cell.Place p)) (λ _. gets_stuck s)) (and_from (nat_eq p.slot 0) (nat_eq p.len 0) (eq-eqb p.slot 0 h.0) (eq-eqb p.len 0 h.1)))
 
 -- what a slot holds, as it is read
 held : (now : List PlainFrame) (p : CodeParam) (n : ℕ) (c : Cell) → HasArgument now p n → slice_get (last_frame now).cells n ≡ Some c → HoldsArgument now p.kind p.cells c
@@ -183,23 +183,23 @@ one_frame now f = length-append now (f ∷ [])
 
 -- with room the frame is entered
 pub enters_room : (s : State) (r start : ℕ) (h : PlainHead) (args : List Cell) → HasFrameRoom s.now h.declared
-    → entered s r start h args ≡ answered (answer.Called r (length s.now + 1)) (record s { at = start; now = s.now ++ frame_of_call s.now h r s.at args ∷ [] })
+    → enters_routine s r start h args ≡ answers_with (answer.Called r (length s.now + 1)) (record s { at = start; now = s.now ++ frame_of_call s.now h r s.at args ∷ [] })
 enters_room s r start h args room =
-    let cells = λ (b : Bool). if_true b (λ _. answered (answer.Called r (length s.now + 1)) (record s { at = start; now = s.now ++ frame_of_call s.now h r s.at args ∷ [] })) (λ _. ends_in_fault fault.CellsFull s) in
+    let cells = λ (b : Bool). if_true b (λ _. answers_with (answer.Called r (length s.now + 1)) (record s { at = start; now = s.now ++ frame_of_call s.now h r s.at args ∷ [] })) (λ _. ends_in_fault fault.CellsFull s) in
     ap (λ b. if_true b (λ _. cells (nat_le (live_cells s.now + h.declared) 1048576)) (λ _. ends_in_fault fault.DepthFull s)) (lt-ltb (length s.now) 10000 room.depth)
     ∙ ap cells (le-leb (live_cells s.now + h.declared) 1048576 room.cells)
 
 -- at 10,000 frames it is not
-pub enters_deep : (s : State) (r start : ℕ) (h : PlainHead) (args : List Cell) → 10000 ≤ length s.now → entered s r start h args ≡ ends_in_fault fault.DepthFull s
+pub enters_deep : (s : State) (r start : ℕ) (h : PlainHead) (args : List Cell) → 10000 ≤ length s.now → enters_routine s r start h args ≡ ends_in_fault fault.DepthFull s
 enters_deep s r start h args deep =
     ap (λ b. if_true b (λ _. if_true (nat_le (live_cells s.now + h.declared) 1048576)
-    (λ _. answered (answer.Called r (length s.now + 1)) (record s { at = start; now = s.now ++ frame_of_call s.now h r s.at args ∷ [] })) (λ _. ends_in_fault fault.CellsFull s))
+    (λ _. answers_with (answer.Called r (length s.now + 1)) (record s { at = start; now = s.now ++ frame_of_call s.now h r s.at args ∷ [] })) (λ _. ends_in_fault fault.CellsFull s))
     (λ _. ends_in_fault fault.DepthFull s)) (le-ltb (length s.now) 10000 deep)
 
 -- nor with too many cells
-pub enters_full : (s : State) (r start : ℕ) (h : PlainHead) (args : List Cell) → (length s.now < 10000) × (1048576 < live_cells s.now + h.declared) → entered s r start h args ≡ ends_in_fault fault.CellsFull s
+pub enters_full : (s : State) (r start : ℕ) (h : PlainHead) (args : List Cell) → (length s.now < 10000) × (1048576 < live_cells s.now + h.declared) → enters_routine s r start h args ≡ ends_in_fault fault.CellsFull s
 enters_full s r start h args full =
-    let cells = λ (b : Bool). if_true b (λ _. answered (answer.Called r (length s.now + 1)) (record s { at = start; now = s.now ++ frame_of_call s.now h r s.at args ∷ [] })) (λ _. ends_in_fault fault.CellsFull s) in
+    let cells = λ (b : Bool). if_true b (λ _. answers_with (answer.Called r (length s.now + 1)) (record s { at = start; now = s.now ++ frame_of_call s.now h r s.at args ∷ [] })) (λ _. ends_in_fault fault.CellsFull s) in
     ap (λ b. if_true b (λ _. cells (nat_le (live_cells s.now + h.declared) 1048576)) (λ _. ends_in_fault fault.DepthFull s)) (lt-ltb (length s.now) 10000 full.0)
     ∙ ap cells (lt-leb (live_cells s.now + h.declared) 1048576 full.1)
 
@@ -208,11 +208,11 @@ pub ruleset enters = (one_frame, enters_room, enters_deep, enters_full)
 -- ---- returns
 
 -- the last frame ends the run
-pub returns_last : (s : State) → length s.now ≡ 1 → if_true (nat_eq (length s.now) 1) (λ _. ended end.Succeeded s) (λ _. returned (left s)) ≡ ended end.Succeeded s
-returns_last s e = ap (λ b. if_true b (λ _. ended end.Succeeded s) (λ _. returned (left s))) (eq-eqb (length s.now) 1 e)
+pub returns_last : (s : State) → length s.now ≡ 1 → if_true (nat_eq (length s.now) 1) (λ _. ends_run end.Succeeded s) (λ _. answers_return (state_after_leave s)) ≡ ends_run end.Succeeded s
+returns_last s e = ap (λ b. if_true b (λ _. ends_run end.Succeeded s) (λ _. answers_return (state_after_leave s))) (eq-eqb (length s.now) 1 e)
 
 -- another is left
-pub returns_left : (s : State) → (length s.now ≡ 1 → ⊥) → if_true (nat_eq (length s.now) 1) (λ _. ended end.Succeeded s) (λ _. returned (left s)) ≡ returned (left s)
-returns_left s ne = ap (λ b. if_true b (λ _. ended end.Succeeded s) (λ _. returned (left s))) (ne_eqb (length s.now) 1 ne)
+pub returns_left : (s : State) → (length s.now ≡ 1 → ⊥) → if_true (nat_eq (length s.now) 1) (λ _. ends_run end.Succeeded s) (λ _. answers_return (state_after_leave s)) ≡ answers_return (state_after_leave s)
+returns_left s ne = ap (λ b. if_true b (λ _. ends_run end.Succeeded s) (λ _. answers_return (state_after_leave s))) (ne_eqb (length s.now) 1 ne)
 
 pub ruleset returns = (returns_last, returns_left)

@@ -7,9 +7,9 @@ use Rattle.std.proofs.lemmas.Bool.{and_from}
 use Rattle.std.proofs.Math.ListN.{get_or-map}
 use Rattle.alma_code.specs.declared.cell.ChoiceKind.{ChoiceKind}
 use Rattle.alma_code.specs.declared.cell.ChoiceKind.TheVariants as choice
-use Rattle.alma_code.specs.Carries.{IsForallAt, IsTop, kept}
+use Rattle.alma_code.specs.Carries.{IsForallAt, IsTop, held_after_keep}
 use Rattle.alma_code.specs.Picture.{no_entry, entry_at, kind_at}
-use Rattle.alma_code.specs.Machine.{overlay, laid_over, keep, finish, is_kind, is_forall_at, answer_of_push, pushed, kind_of}
+use Rattle.alma_code.specs.Machine.{overlay, state_with_carry, keep, finish, is_kind, is_forall_at, answer_of_push, state_after_push, kind_of}
 use Rattle.std.proofs.lemmas.Bool.{false≢true, lt-ltb, le-ltb}
 use Rattle.std.proofs.lemmas.Option.{slice_get-get_or, get_or_from_slice_get}
 use Rattle.alma_base.specs.declared.fault.RunFault.TheVariants as fault
@@ -18,7 +18,7 @@ use Rattle.alma_code.specs.declared.cell.Cell.{Cell}
 use Rattle.alma_code.specs.declared.cell.Cell.TheVariants as cell
 use Rattle.alma_code.specs.declared.cell.CellPlace.{CellPlace}
 use Rattle.alma_code.specs.declared.step.End.TheVariants as end
-use Rattle.alma_code.specs.Machine.{State, Stepped, Going, as_place, as_mark, slot_in, link, mark, ends_in_fault, put_link, put_mark, to_link, to_mark, link_to, quiet_step, answer_of_fall, with_slot, cut_to, pop, pop_or_end, ended, answered}
+use Rattle.alma_code.specs.Machine.{State, Stepped, Going, as_place, as_mark, slot_in, link, mark, ends_in_fault, put_link, put_mark, to_link, to_mark, link_to, quiet_step, answer_of_fall, with_slot, cut_to, pop, pop_or_end, ends_run, answers_with}
 use Rattle.alma_code.specs.declared.step.Step.TheVariants as answer
 use Rattle.alma_code.specs.Picture.{PlainFrame, PlainEntry, no_frame, last_frame, cell_at, top_of, stack_after_pop}
 use Rattle.alma_code.proofs.Ready.{link_is}
@@ -111,17 +111,17 @@ cut_nothing s h le = ap (λ b. if_true b (λ _. answer_of_fall (record s { held 
 pub ruleset cuts = (cut_falls, cut_nothing)
 
 -- with no entry the run ends
-pub pop_none : (s : State) → s.held ≡ [] → pop s ≡ ended end.Failed s
+pub pop_none : (s : State) → s.held ≡ [] → pop s ≡ ends_run end.Failed s
 pop_none s none = ap (pop_or_end s) none
 
 -- the top entry is popped
 pop_to : (s : State) (held : List PlainEntry) → (held ≡ [] → ⊥) → pop_or_end s held
-    ≡ answered (answer.Popped (length s.held)) (record s { mode = Going; at = (top_of s.held).resume; now = (top_of s.held).frames; held = stack_after_pop s.held; fails = s.fails + 1 })
+    ≡ answers_with (answer.Popped (length s.held)) (record s { mode = Going; at = (top_of s.held).resume; now = (top_of s.held).frames; held = stack_after_pop s.held; fails = s.fails + 1 })
 pop_to s [] some = absurd (some refl)
 pop_to s (e ∷ rest) some = refl
 
 pub pop_some : (s : State) → (s.held ≡ [] → ⊥) → pop s
-    ≡ answered (answer.Popped (length s.held)) (record s { mode = Going; at = (top_of s.held).resume; now = (top_of s.held).frames; held = stack_after_pop s.held; fails = s.fails + 1 })
+    ≡ answers_with (answer.Popped (length s.held)) (record s { mode = Going; at = (top_of s.held).resume; now = (top_of s.held).frames; held = stack_after_pop s.held; fails = s.fails + 1 })
 pop_some s some = pop_to s s.held some
 
 pub ruleset pops = (pop_none, pop_some)
@@ -181,25 +181,25 @@ forall_kind None e = absurd (false≢true e)
 pub forall_found : (held : List PlainEntry) (h : ℕ) → is_forall_at held h ≡ true → IsForallAt held h
 forall_found held h e = forall_there held h (forall_kind (kind_at held h) e)
 
-pub overlay_yes : (s : State) (h : ℕ) → is_forall_at s.held h ≡ true → overlay s h ≡ laid_over s h
-overlay_yes s h e = ap (λ b. if_true b (λ _. laid_over s h) (λ _. s)) e
+pub overlay_yes : (s : State) (h : ℕ) → is_forall_at s.held h ≡ true → overlay s h ≡ state_with_carry s h
+overlay_yes s h e = ap (λ b. if_true b (λ _. state_with_carry s h) (λ _. s)) e
 
 pub overlay_no : (s : State) (h : ℕ) → is_forall_at s.held h ≡ false → overlay s h ≡ s
-overlay_no s h e = ap (λ b. if_true b (λ _. laid_over s h) (λ _. s)) e
+overlay_no s h e = ap (λ b. if_true b (λ _. state_with_carry s h) (λ _. s)) e
 
 pub ruleset overlays = (forall_found, overlay_yes, overlay_no)
 
 -- a Body is kept
-pub keep_is : (s : State) (h : ℕ) → kind_at s.held h ≡ Some choice.Forall → h < length s.held → kind_at s.held (length s.held) ≡ Some choice.Body → keep s h ≡ answer_of_fall (record s { held = kept s.held h s.now })
+pub keep_is : (s : State) (h : ℕ) → kind_at s.held h ≡ Some choice.Forall → h < length s.held → kind_at s.held (length s.held) ≡ Some choice.Body → keep s h ≡ answer_of_fall (record s { held = held_after_keep s.held h s.now })
 keep_is s h e lt f =
     let test : (is_forall_at s.held h && (nat_lt h (length s.held) && is_kind choice.Body (kind_at s.held (length s.held)))) ≡ true =
     and_from (is_forall_at s.held h) (nat_lt h (length s.held) && is_kind choice.Body (kind_at s.held (length s.held))) (ap (is_kind choice.Forall) e)
     (and_from (nat_lt h (length s.held)) (is_kind choice.Body (kind_at s.held (length s.held))) (lt-ltb h (length s.held) lt) (ap (is_kind choice.Body) f)) in
-    ap (λ b. if_true b (λ _. answer_of_fall (record s { held = kept s.held h s.now })) (λ _. quiet_step s)) test
+    ap (λ b. if_true b (λ _. answer_of_fall (record s { held = held_after_keep s.held h s.now })) (λ _. quiet_step s)) test
 
 -- a test that fails
 keep_out : (s : State) (h : ℕ) → (is_forall_at s.held h && (nat_lt h (length s.held) && is_kind choice.Body (kind_at s.held (length s.held)))) ≡ false → keep s h ≡ quiet_step s
-keep_out s h e = ap (λ b. if_true b (λ _. answer_of_fall (record s { held = kept s.held h s.now })) (λ _. quiet_step s)) e
+keep_out s h e = ap (λ b. if_true b (λ _. answer_of_fall (record s { held = held_after_keep s.held h s.now })) (λ _. quiet_step s)) e
 
 and_right : (a b : Bool) → b ≡ false → (a && b) ≡ false
 and_right true b e = e
@@ -222,12 +222,12 @@ keep_no_body s h ne =
 pub ruleset keeps = (forall_there, top_there, keep_is, keep_no_forall, keep_not_below, keep_no_body)
 
 -- a Done is finished
-pub finish_is : (s : State) → kind_at s.held (length s.held) ≡ Some choice.Done → finish s ≡ answer_of_fall (record (laid_over s (length s.held)) { held = take (length s.held - 1) s.held })
-finish_is s e = ap (λ o. if_true (is_kind choice.Done o) (λ _. answer_of_fall (record (laid_over s (length s.held)) { held = take (length s.held - 1) s.held })) (λ _. quiet_step s)) e
+pub finish_is : (s : State) → kind_at s.held (length s.held) ≡ Some choice.Done → finish s ≡ answer_of_fall (record (state_with_carry s (length s.held)) { held = take (length s.held - 1) s.held })
+finish_is s e = ap (λ o. if_true (is_kind choice.Done o) (λ _. answer_of_fall (record (state_with_carry s (length s.held)) { held = take (length s.held - 1) s.held })) (λ _. quiet_step s)) e
 
 -- without one nothing is
 pub finish_none : (s : State) → (kind_at s.held (length s.held) ≡ Some choice.Done → ⊥) → finish s ≡ quiet_step s
-finish_none s ne = ap (λ b. if_true b (λ _. answer_of_fall (record (laid_over s (length s.held)) { held = take (length s.held - 1) s.held })) (λ _. quiet_step s)) (other_kind choice.Done (kind_at s.held (length s.held)) ne)
+finish_none s ne = ap (λ b. if_true b (λ _. answer_of_fall (record (state_with_carry s (length s.held)) { held = take (length s.held - 1) s.held })) (λ _. quiet_step s)) (other_kind choice.Done (kind_at s.held (length s.held)) ne)
 
 pub ruleset finishes = (top_there, finish_is, finish_none)
 
@@ -236,8 +236,8 @@ pub one_more : (held : List PlainEntry) (e : PlainEntry) → length (held ++ e �
 one_more held e = length-append held (e ∷ [])
 
 -- a Forall is pushed
-pub forall_is : (s : State) (n resume : ℕ) → HasMark s.now n → to_mark (kind_of s n) s (λ _. answer_of_push (with_slot (pushed s choice.Forall resume) n (cell.Mark (length s.held + 1))))
-    ≡ answer_of_push (with_slot (pushed s choice.Forall resume) n (cell.Mark (length s.held + 1)))
-forall_is s n resume h = ap (λ o. to_mark o s (λ _. answer_of_push (with_slot (pushed s choice.Forall resume) n (cell.Mark (length s.held + 1))))) h.kind
+pub forall_is : (s : State) (n resume : ℕ) → HasMark s.now n → to_mark (kind_of s n) s (λ _. answer_of_push (with_slot (state_after_push s choice.Forall resume) n (cell.Mark (length s.held + 1))))
+    ≡ answer_of_push (with_slot (state_after_push s choice.Forall resume) n (cell.Mark (length s.held + 1)))
+forall_is s n resume h = ap (λ o. to_mark o s (λ _. answer_of_push (with_slot (state_after_push s choice.Forall resume) n (cell.Mark (length s.held + 1))))) h.kind
 
 pub ruleset foralls = (one_more, forall_is)

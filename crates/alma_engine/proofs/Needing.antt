@@ -19,7 +19,7 @@ use Rattle.alma_code.specs.declared.instr.Word.TheVariants as W
 use Rattle.alma_code.specs.Fits.{Fits, FitsMode, routines_of, IsContent, IsCell, IsPlace, IsLink, FitsSlot}
 use Rattle.alma_code.specs.Kinds.{is_number, is_place_of, is_link_of}
 use Rattle.alma_code.specs.Layout.{IsHead, RunsRise, no_param, hold_params}
-use Rattle.alma_code.specs.Machine.{Going, State, top, numbers_at, left}
+use Rattle.alma_code.specs.Machine.{Going, State, top, numbers_at, state_after_leave}
 use Rattle.alma_code.specs.Carries.{number_at}
 use Rattle.alma_code.specs.Picture.{PlainFrame, no_frame, last_frame}
 use Rattle.alma_code.specs.Plain.{PlainCode, head_at, kinds_at, start_at, end_at}
@@ -227,7 +227,7 @@ module _ (code : PlainCode) (sound : IsSound code) (r : ℕ) (s : State) (h : Re
         at = ret.at;
         behind = ret.behind;
         call = ret.call;
-        slot = number_has code sound l.caller (left s) l.ready ret.to (number_is (kind_in code l.caller ret.to) both.1);
+        slot = number_has code sound l.caller (state_after_leave s) l.ready ret.to (number_is (kind_in code l.caller ret.to) both.1);
       }
 
   -- ---- the instructions

@@ -14,7 +14,7 @@ use Rattle.alma_code.specs.declared.cell.Cell.{Cell}
 use Rattle.alma_code.specs.declared.cell.Cell.TheVariants as cell
 use Rattle.alma_code.specs.declared.cell.CellPlace.{CellPlace}
 use Rattle.alma_code.specs.Fits.{IsPosition}
-use Rattle.alma_code.specs.Machine.{State, Stepped, position, as_position, byte_or_failure, found, take_input, ends_in_fault, store, quiet_step, with_cell}
+use Rattle.alma_code.specs.Machine.{State, Stepped, position, as_position, byte_or_failure, takes_read, take_input, ends_in_fault, store, quiet_step, with_cell}
 use Rattle.alma_code.specs.Picture.{PlainFrame, no_frame, cell_at}
 use Rattle.alma_engine.specs.Inputs.{HasPosition, IsBelow}
 use Rattle.alma_engine.specs.Rows.{HasNumberIn}
@@ -109,7 +109,7 @@ position_slot now h = h.number
 pub ruleset positions = (position_is, position_held, position_slot)
 
 -- a byte is read as a number
-pub byte_read : (o : Option ℕ) (s : State) (r : Range) (p : CellPlace) (at byte : ℕ) → o ≡ Some byte → byte_or_failure s r p at o ≡ found s r p (Number (pos byte) (at + 1))
+pub byte_read : (o : Option ℕ) (s : State) (r : Range) (p : CellPlace) (at byte : ℕ) → o ≡ Some byte → byte_or_failure s r p at o ≡ takes_read s r p (Number (pos byte) (at + 1))
 byte_read o s r p at byte is = ap (byte_or_failure s r p at) is
 
 -- ---- what is taken

@@ -5,7 +5,7 @@ use Rattle.std.proofs.lemmas.Bool.{cases_eq}
 use Rattle.alma_code.specs.declared.cell.Cell.{Cell}
 use Rattle.alma_code.specs.declared.cell.Cell.TheVariants as cell
 use Rattle.alma_code.specs.Fits.{IsContent}
-use Rattle.alma_code.specs.Picture.{PlainFrame, no_frame, frame_with, written}
+use Rattle.alma_code.specs.Picture.{PlainFrame, no_frame, frame_with, frames_with_cell}
 use Rattle.alma_engine.specs.Rows.{HasNumberIn, KeepsNumbers}
 
 -- a frame has a content in a slot
@@ -29,7 +29,7 @@ content_stays frame i j c is h =
     }
 
 -- a number slot stays one
-pub cell_stays : (now : List PlainFrame) (f i g j : ℕ) (c : Cell) → IsContent c → HasNumberIn now f i → HasNumberIn (written now g j c) f i
+pub cell_stays : (now : List PlainFrame) (f i g j : ℕ) (c : Cell) → IsContent c → HasNumberIn now f i → HasNumberIn (frames_with_cell now g j c) f i
 cell_stays now f i g j c is h =
     let new : PlainFrame = frame_with (get_or now g no_frame) j c in
     let len : length (set now g new) ≡ length now = length-set now g new in
@@ -59,5 +59,5 @@ cell_stays now f i g j c is h =
     ]
 
 -- number slots stay where a number is written
-pub number_stays : (now : List PlainFrame) (g j : ℕ) (v : ℤ) → KeepsNumbers now (written now g j (cell.Int v))
+pub number_stays : (now : List PlainFrame) (g j : ℕ) (v : ℤ) → KeepsNumbers now (frames_with_cell now g j (cell.Int v))
 number_stays now g j v = λ f i h. cell_stays now f i g j (cell.Int v) tt h

@@ -17,7 +17,7 @@ use Rattle.alma_code.specs.declared.cell.Cell.TheVariants as cell
 use Rattle.alma_code.specs.declared.cell.CellPlace.{CellPlace}
 use Rattle.alma_code.specs.declared.step.Step.{Step}
 use Rattle.alma_code.specs.Fits.{IsContent}
-use Rattle.alma_code.specs.Machine.{State, Stepped, number, place, content, as_content, as_number, as_place, ends_in_fault, put_number, to_number, quiet_step, stuck, store, with_slot, with_cell}
+use Rattle.alma_code.specs.Machine.{State, Stepped, number, place, content, as_content, as_number, as_place, ends_in_fault, put_number, to_number, quiet_step, gets_stuck, store, with_slot, with_cell}
 use Rattle.alma_code.specs.Picture.{PlainFrame, no_frame, last_frame, cell_at}
 use Rattle.alma_engine.specs.View.{stepped}
 use Rattle.alma_engine.specs.Rows.{HasSlot, HasNumber, HasNumberIn, IsCells, HoldsCells, Gives, put_or_fault}
@@ -164,7 +164,7 @@ one_slot now l p h one =
 
 -- a number goes to a number slot of a frame
 pub store_is : (s : State) (f n : ℕ) (v : ℤ) (k : State → Stepped) → HasNumberIn s.now f n → store s f n v k ≡ k (with_cell s f n (cell.Int v))
-store_is s f n v k h = ap (λ o. if_true (is_number o) (λ _. k (with_cell s f n (cell.Int v))) (λ _. stuck s)) h.kind
+store_is s f n v k h = ap (λ o. if_true (is_number o) (λ _. k (with_cell s f n (cell.Int v))) (λ _. gets_stuck s)) h.kind
 
 -- ---- writes
 

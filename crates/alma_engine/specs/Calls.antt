@@ -11,7 +11,7 @@ use Rattle.alma_code.specs.declared.instr.Instr.{Instr}
 use Rattle.alma_code.specs.declared.instr.Instr.TheVariants as I
 use Rattle.alma_code.specs.Carries.{IsLive}
 use Rattle.alma_code.specs.Layout.{FitsParam, FitsParams, no_param}
-use Rattle.alma_code.specs.Machine.{State, Stepped, slot_of, as_argument, arguments, numbers_at, ends_in_fault, left, result_to}
+use Rattle.alma_code.specs.Machine.{State, Stepped, slot_of, as_argument, arguments, numbers_at, ends_in_fault, state_after_leave, result_to}
 use Rattle.alma_code.specs.Picture.{PlainFrame, last_frame, without_last}
 use Rattle.alma_code.specs.Plain.{PlainCode}
 use Rattle.alma_engine.specs.Rows.{HasNumber}
@@ -78,5 +78,5 @@ pub record CallsBack (code : PlainCode) (now : List PlainFrame) : Type 0 where
 
 -- the number goes to the slot that the instruction names, or the run ends in the fault
 abbrev pub back_or_fault : Option Instr → State → Result ℤ RunFault → Stepped
-back_or_fault o s (Ok v) = result_to o (left s) v
+back_or_fault o s (Ok v) = result_to o (state_after_leave s) v
 back_or_fault o s (Err f) = ends_in_fault f s

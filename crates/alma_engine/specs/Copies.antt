@@ -5,7 +5,7 @@ use Rattle.alma_base.specs.Choice.{if_true}
 use Rattle.alma_code.specs.declared.cell.Cell.{Cell}
 use Rattle.alma_code.specs.declared.cell.Cell.TheVariants as cell
 use Rattle.alma_code.specs.Carries.{number_at}
-use Rattle.alma_code.specs.Machine.{State, Stepped, quiet_step, stuck, with_cell}
+use Rattle.alma_code.specs.Machine.{State, Stepped, quiet_step, gets_stuck, with_cell}
 use Rattle.alma_code.specs.Picture.{PlainFrame, cell_at}
 
 -- so many cells of a frame, from one on
@@ -16,4 +16,4 @@ cells_from now frame first count = map (λ k. cell_at now frame (first + k) cell
 abbrev pub laid : List Cell → State → (frame slot : ℕ) → Stepped
 laid [] s frame slot = quiet_step s
 laid (c ∷ cells) s frame slot =
-    if_true (number_at s.now frame slot) (λ _. laid cells (with_cell s frame slot c) frame (suc slot)) (λ _. stuck s)
+    if_true (number_at s.now frame slot) (λ _. laid cells (with_cell s frame slot c) frame (suc slot)) (λ _. gets_stuck s)

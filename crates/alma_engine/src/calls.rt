@@ -5,7 +5,7 @@ ghost use Rattle.alma_code.specs.Carries.{IsLive};
 ghost use Rattle.alma_code.specs.Layout.{IsHead, FitsParams};
 ghost use Rattle.alma_base.specs.Choice.{if_true};
 ghost use Rattle.std.specs.Prelude.{nat_eq, ◌-◌, slice_get};
-ghost use Rattle.alma_code.specs.Machine.{number, arguments, entered, ended, returned, left, result_to};
+ghost use Rattle.alma_code.specs.Machine.{number, arguments, enters_routine, ends_run, answers_return, state_after_leave, result_to};
 ghost use Rattle.alma_code.specs.Picture.{last_frame};
 ghost use Rattle.alma_engine.specs.Rows.{state_of, HasNumber, KeepsOn};
 ghost use Rattle.alma_engine.specs.Calls.{HasArgument, HasArguments, GivesArgument, GivesArguments, CallsBack, back_or_fault};
@@ -67,7 +67,7 @@ impl Registers {
         requires args { FitsParams (IsLive self.old.memory.now)
             (λ routine. IsLive self.old.memory.now) (H.head head.now).params args.now }
         ensures ok { IfOk result (λ answer. stepped answer [] (state_of self.new)
-            ≡ entered (state_of self.old) routine start (H.head head.now) args.now) }
+            ≡ enters_routine (state_of self.old) routine start (H.head head.now) args.now) }
         ensures kept { IfOk result
             (λ answer. KeepsOn answer (state_of self.old) (state_of self.new)) }
         ensures refused { OnErr result (state_of self.new ≡ state_of self.old) }
@@ -96,7 +96,7 @@ impl Registers {
         ensures ok { let s = state_of self.old in IfOk result
             (λ answer. stepped answer [] (state_of self.new)
             ≡ arguments (H.head head.now).params s first
-            (λ args. entered s routine start (H.head head.now) args)) }
+            (λ args. enters_routine s routine start (H.head head.now) args)) }
         ensures kept { IfOk result
             (λ answer. KeepsOn answer (state_of self.old) (state_of self.new)) }
         ensures refused { OnErr result (state_of self.new ≡ state_of self.old) }
@@ -114,8 +114,8 @@ impl Registers {
         requires { 1 ≤ length self.old.memory.now }
         ensures ok { let s = state_of self.old in IfOk result
             (λ answer. stepped answer [] (state_of self.new)
-            ≡ if_true (nat_eq (length s.now) 1) (λ _. ended end.Succeeded s)
-            (λ _. returned (left s))) }
+            ≡ if_true (nat_eq (length s.now) 1) (λ _. ends_run end.Succeeded s)
+            (λ _. answers_return (state_after_leave s))) }
         ensures kept { IfOk result
             (λ answer. KeepsOn answer (state_of self.old) (state_of self.new)) }
         ensures refused { OnErr result (state_of self.new ≡ state_of self.old) }
@@ -134,7 +134,7 @@ impl Registers {
         ensures ok { let s = state_of self.old in IfOk result
             (λ answer. stepped answer [] (state_of self.new)
             ≡ number s value (λ v. result_to (slice_get (V.code view.now).instrs ((last_frame
-            s.now).back - 1)) (left s) v)) }
+            s.now).back - 1)) (state_after_leave s) v)) }
         ensures kept { IfOk result
             (λ answer. KeepsOn answer (state_of self.old) (state_of self.new)) }
         ensures refused { OnErr result (state_of self.new ≡ state_of self.old) }

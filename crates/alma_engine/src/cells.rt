@@ -1,6 +1,6 @@
 // The cells at places: read, stored and bound.
 ghost use Rattle.std.specs.Prelude.{◌≡◌, [], IfOk, OnErr};
-ghost use Rattle.alma_code.specs.Machine.{number, place, content, store, bound, known, is_known, quiet_step};
+ghost use Rattle.alma_code.specs.Machine.{number, place, content, store, binds_content, with_known_content, is_known, quiet_step};
 ghost use Rattle.alma_base.specs.Numbers.{bit};
 ghost use Rattle.alma_engine.specs.Rows.{state_of, HasNumber, HasNumberIn, HasOneCell, Gives, KeepsOn};
 ghost use Rattle.alma_engine.specs.View.{stepped};
@@ -72,14 +72,14 @@ impl Registers {
         requires { HasNumberIn self.old.memory.now place.frame place.slot }
         ensures ok { let s = state_of self.old in
             IfOk result (λ answer. stepped answer [] (state_of self.new)
-            ≡ content s place.frame place.slot (λ u. bound s place range.now number u)) }
+            ≡ content s place.frame place.slot (λ u. binds_content s place range.now number u)) }
         ensures kept { IfOk result
             (λ answer. KeepsOn answer (state_of self.old) (state_of self.new)) }
         ensures refused { OnErr result (state_of self.new ≡ state_of self.old) }
     {
         match self.content(place.frame, place.slot) {
-            Some(known) => {
-                if known != number {
+            Some(with_known_content) => {
+                if with_known_content != number {
                     self.mode = Mode::Failing;
                 }
                 Ok(Step::Went)
@@ -101,7 +101,7 @@ impl Registers {
         ensures ok { let s = state_of self.old in
             IfOk result (λ answer. stepped answer [] (state_of self.new)
             ≡ place s to (λ p. number s value (λ v. content s p.frame p.slot
-            (λ u. bound s p range.now v u)))) }
+            (λ u. binds_content s p range.now v u)))) }
         ensures kept { IfOk result
             (λ answer. KeepsOn answer (state_of self.old) (state_of self.new)) }
         ensures refused { OnErr result (state_of self.new ≡ state_of self.old) }

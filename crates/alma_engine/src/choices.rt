@@ -2,7 +2,7 @@
 ghost use Rattle.std.specs.Prelude.{◌≡◌, ◌≢◌, ◌+◌, ◌<◌, ◌≤◌, ◌^◌, [], length, IsOk, IfOk, OnOk, OnErr};
 ghost use Rattle.alma_code.specs.declared.cell.Cell.TheVariants as cell;
 ghost use Rattle.alma_code.specs.declared.cell.ChoiceKind.TheVariants as choice;
-ghost use Rattle.alma_code.specs.Machine.{answer_of_push, pushed, put_mark, mark, cut_to, pop, to_mark, kind_of, with_slot, is_forall_at, overlay, keep, finish};
+ghost use Rattle.alma_code.specs.Machine.{answer_of_push, state_after_push, put_mark, mark, cut_to, pop, to_mark, kind_of, with_slot, is_forall_at, overlay, keep, finish};
 ghost use Rattle.alma_engine.specs.Rows.{state_of, HasMark, KeepsOn, GivesMark};
 ghost use Rattle.alma_engine.specs.View.{stepped};
 
@@ -43,7 +43,7 @@ impl Registers {
         requires kind { kind ≢ ChoiceKind.Done }
         requires few { self.old.choices + 1 < 2 ^ 63 }
         ensures ok { IfOk result (λ answer. stepped answer [] (state_of self.new)
-            ≡ answer_of_push (pushed (state_of self.old) kind resume)) }
+            ≡ answer_of_push (state_after_push (state_of self.old) kind resume)) }
         ensures succeeds { 1 ≤ self.old.memory.choice_room → IsOk result }
         ensures kept { IfOk result
             (λ answer. KeepsOn answer (state_of self.old) (state_of self.new)) }
@@ -102,7 +102,7 @@ impl Registers {
         ensures ok { let s = state_of self.old in IfOk result
             (λ answer. stepped answer [] (state_of self.new)
             ≡ to_mark (kind_of s slot) s
-            (λ _. answer_of_push (with_slot (pushed s choice.Forall resume) slot (cell.Mark
+            (λ _. answer_of_push (with_slot (state_after_push s choice.Forall resume) slot (cell.Mark
             (length s.held + 1))))) }
         ensures kept { IfOk result
             (λ answer. KeepsOn answer (state_of self.old) (state_of self.new)) }
@@ -154,7 +154,7 @@ impl Registers {
         requires few { self.old.choices + 1 < 2 ^ 63 }
         ensures ok { let s = state_of self.old in IfOk result
             (λ answer. stepped answer [] (state_of self.new)
-            ≡ mark s slot (λ h. answer_of_push (pushed (overlay s h) choice.Body resume))) }
+            ≡ mark s slot (λ h. answer_of_push (state_after_push (overlay s h) choice.Body resume))) }
         ensures kept { IfOk result
             (λ answer. KeepsOn answer (state_of self.old) (state_of self.new)) }
         ensures refused { OnErr result (state_of self.new ≡ state_of self.old) }

@@ -1,7 +1,7 @@
 // Copies of cells.
 ghost use Rattle.std.specs.Prelude.{◌≡◌, ◌≤◌, [], All, length, IfOk, OnErr};
 ghost use Rattle.alma_code.specs.Fits.{IsContent};
-ghost use Rattle.alma_code.specs.Machine.{place, copied};
+ghost use Rattle.alma_code.specs.Machine.{place, copies_cells};
 ghost use Rattle.alma_engine.specs.Copies.{cells_from, laid};
 ghost use Rattle.alma_engine.specs.Meets.{AreNumbers};
 ghost use Rattle.alma_engine.specs.Rows.{state_of, HasCells, KeepsOn, width};
@@ -52,7 +52,7 @@ impl Registers {
         requires from { AreNumbers self.old.memory.now from.frame from.slot count }
         ensures ok { let s = state_of self.old in IfOk result (λ answer.
             stepped answer [] (state_of self.new)
-            ≡ copied count s.now s to.frame to.slot from.frame from.slot) }
+            ≡ copies_cells count s.now s to.frame to.slot from.frame from.slot) }
         ensures kept { IfOk result (λ answer. KeepsOn answer (state_of self.old)
             (state_of self.new)) }
         ensures refused { OnErr result (state_of self.new ≡ state_of self.old) }
@@ -70,7 +70,7 @@ impl Registers {
         requires alike { width self.old.memory.now to ≡ width self.old.memory.now from }
         ensures ok { let s = state_of self.old in IfOk result (λ answer.
             stepped answer [] (state_of self.new) ≡ place s to (λ p. place s from
-            (λ q. copied p.len s.now s p.frame p.slot q.frame q.slot))) }
+            (λ q. copies_cells p.len s.now s p.frame p.slot q.frame q.slot))) }
         ensures kept { IfOk result (λ answer. KeepsOn answer (state_of self.old)
             (state_of self.new)) }
         ensures refused { OnErr result (state_of self.new ≡ state_of self.old) }

@@ -2,7 +2,7 @@
 ghost use Rattle.std.specs.Prelude.{◌≡◌, ◌+◌, ◌<◌, ◌≤◌, ℕ, [], ◌∷◌, Some, None, length, get_or, IfOk, OnErr, IsOk};
 ghost use Rattle.alma_code.specs.declared.cell.Cell.TheVariants as cell;
 ghost use Rattle.alma_code.specs.Fits.{IsContent};
-ghost use Rattle.alma_code.specs.Machine.{place, equation_of_contents, equation, equations, copied, quiet_step};
+ghost use Rattle.alma_code.specs.Machine.{place, equation_of_contents, equation, equations, copies_cells, quiet_step};
 ghost use Rattle.alma_code.specs.Picture.{cell_at};
 ghost use Rattle.alma_engine.specs.Rows.{state_of, HasCells, HasOneCell, HasNumberIn, IsCells, KeepsOn, KeepsNumbers, width};
 ghost use Rattle.alma_engine.specs.Meets.{Meets, MeetsOn, AreNumbers, given};

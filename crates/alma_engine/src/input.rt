@@ -2,7 +2,7 @@
 ghost use Rattle.std.specs.Prelude.{◌≡◌, ◌<◌, ◌≤◌, ◌^◌, ℕ, [], length, slice_get, IfOk, OnErr, MatchOption};
 ghost use Rattle.alma_base.specs.Limits.{input_limit};
 ghost use Rattle.alma_base.specs.Reading.{number_from};
-ghost use Rattle.alma_code.specs.Machine.{State, Stepped, place, position, found, byte_or_failure};
+ghost use Rattle.alma_code.specs.Machine.{State, Stepped, place, position, takes_read, byte_or_failure};
 ghost use Rattle.alma_engine.specs.Rows.{state_of, HasOneCell, HasNumberIn, KeepsOn};
 ghost use Rattle.alma_engine.specs.Inputs.{HasPosition, IsBelow};
 ghost use Rattle.alma_engine.specs.View.{stepped};
@@ -15,7 +15,7 @@ use alma_code::{Cell, CellPlace, End, Step};
 #[tactic(auto, using(crate::proofs::Reading::finds))]
 fn find_number(input: &[u8], from: usize) -> ReadInt
     requires { length input.now ≤ input_limit }
-    ensures found { result ≡ number_from input.now from }
+    ensures takes_read { result ≡ number_from input.now from }
     ensures below { IsBelow result }
 {
     if from > input.len() {
@@ -28,8 +28,8 @@ fn find_number(input: &[u8], from: usize) -> ReadInt
 #[tactic(auto, using(crate::proofs::Reading::byte_read))]
 fn find_char(input: &[u8], from: usize) -> ReadInt
     requires { length input.now ≤ input_limit }
-    ensures found { (s : State) (r : Range) (p : CellPlace)
-        → byte_or_failure s r p from (slice_get input.now from) ≡ found s r p result }
+    ensures takes_read { (s : State) (r : Range) (p : CellPlace)
+        → byte_or_failure s r p from (slice_get input.now from) ≡ takes_read s r p result }
     ensures below { IsBelow result }
 {
     match input.get(from) {
@@ -59,7 +59,7 @@ impl Registers {
         requires position { HasNumberIn self.old.memory.now 0 0 }
         requires place { HasNumberIn self.old.memory.now place.frame place.slot }
         ensures ok { IfOk result (λ answer. stepped answer [] (state_of self.new)
-            ≡ found (state_of self.old) range.now place read) }
+            ≡ takes_read (state_of self.old) range.now place read) }
         ensures kept { IfOk result
             (λ answer. KeepsOn answer (state_of self.old) (state_of self.new)) }
         ensures refused { OnErr result (state_of self.new ≡ state_of self.old) }
@@ -100,7 +100,7 @@ impl Registers {
         requires to { HasOneCell self.old.memory.now to }
         ensures ok { let s = state_of self.old in IfOk result
             (λ answer. stepped answer [] (state_of self.new)
-            ≡ place s to (λ p. position s (λ n. found s range.now p (number_from input.now n)))) }
+            ≡ place s to (λ p. position s (λ n. takes_read s range.now p (number_from input.now n)))) }
         ensures kept { IfOk result
             (λ answer. KeepsOn answer (state_of self.old) (state_of self.new)) }
         ensures refused { OnErr result (state_of self.new ≡ state_of self.old) }

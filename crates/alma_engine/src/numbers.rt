@@ -3,7 +3,7 @@ ghost use Rattle.std.specs.Prelude.{◌≡◌, true, false, ◌+ℤ◌, ◌-ℤ�
 ghost use Rattle.alma_base.specs.Choice.{if_true};
 ghost use Rattle.alma_base.specs.declared.fault.RunFault.TheVariants as fault;
 ghost use Rattle.alma_base.specs.Numbers.{within, is_zero, int_eq, bit, div_down_of, mod_down_of, is_beyond};
-ghost use Rattle.alma_code.specs.Machine.{number, place, content, known, integer_result, range_check, ends_in_fault};
+ghost use Rattle.alma_code.specs.Machine.{number, place, content, with_known_content, integer_result, range_check, ends_in_fault};
 ghost use Rattle.alma_engine.specs.Rows.{HasNumber, HasCells, HasOneCell, Gives, GivesPlace, GivesNext, GivesContent, HasNumberIn};
 
 use crate::registers::Registers;
@@ -200,7 +200,7 @@ impl Registers {
     pub(crate) fn number_at(&self, from: u32) -> Result<i64, RunFault>
         requires { HasOneCell self.now.memory.now from }
         ensures { Gives self.now.memory.now (λ s k. place s from (λ p. content s p.frame p.slot
-            (λ c. known s c k))) result }
+            (λ c. with_known_content s c k))) result }
     {
         let place = self.place(from)?;
         self.content(place.frame, place.slot)

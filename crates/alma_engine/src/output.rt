@@ -4,7 +4,7 @@ ghost use Rattle.std.specs.Int.{int_rem_euclid};
 ghost use Rattle.alma_base.specs.declared.value.Value.TheVariants as kind;
 ghost use Rattle.alma_base.specs.Numbers.{is_zero};
 ghost use Rattle.alma_base.specs.Value.{value_text};
-ghost use Rattle.alma_code.specs.Machine.{number, printed, run_faults};
+ghost use Rattle.alma_code.specs.Machine.{number, prints_bytes, run_faults};
 ghost use Rattle.alma_engine.specs.Rows.{state_of, HasNumber, IsNumbered, KeepsOn};
 ghost use Rattle.alma_engine.specs.View.{stepped, PrintsOnly};
 
@@ -42,7 +42,7 @@ impl Registers {
         requires empty { bytes.old.items ≡ [] }
         ensures ok { let s = state_of self.old in
             IfOk result (λ answer. stepped answer bytes.new.items (state_of self.new)
-            ≡ number s value (λ v. printed (value_text (kind.Int v)) s)) }
+            ≡ number s value (λ v. prints_bytes (value_text (kind.Int v)) s)) }
         ensures kept { IfOk result
             (λ answer. KeepsOn answer (state_of self.old) (state_of self.new)) }
         ensures quiet { IfOk result (λ answer. PrintsOnly answer bytes.new.items) }
@@ -65,7 +65,7 @@ impl Registers {
         requires empty { bytes.old.items ≡ [] }
         ensures ok { let s = state_of self.old in
             IfOk result (λ answer. stepped answer bytes.new.items (state_of self.new)
-            ≡ number s value (λ v. printed (value_text (kind.Bool (not (is_zero v)))) s)) }
+            ≡ number s value (λ v. prints_bytes (value_text (kind.Bool (not (is_zero v)))) s)) }
         ensures kept { IfOk result
             (λ answer. KeepsOn answer (state_of self.old) (state_of self.new)) }
         ensures quiet { IfOk result (λ answer. PrintsOnly answer bytes.new.items) }
@@ -92,7 +92,7 @@ impl Registers {
         requires empty { bytes.old.items ≡ [] }
         ensures ok { let s = state_of self.old in
             IfOk result (λ answer. stepped answer bytes.new.items (state_of self.new)
-            ≡ number s value (λ v. printed (value_text (kind.Char (nat_abs (int_rem_euclid v (pos
+            ≡ number s value (λ v. prints_bytes (value_text (kind.Char (nat_abs (int_rem_euclid v (pos
             256))))) s)) }
         ensures kept { IfOk result
             (λ answer. KeepsOn answer (state_of self.old) (state_of self.new)) }

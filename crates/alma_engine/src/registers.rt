@@ -1,6 +1,6 @@
 // The state of the machine, and what ends or turns it.
 ghost use Rattle.std.specs.Prelude.{◌≡◌, [], IfOk, OnErr};
-ghost use Rattle.alma_code.specs.Machine.{ended, goes_to, fails_now, quiet_step, with_slot};
+ghost use Rattle.alma_code.specs.Machine.{ends_run, goes_to, fails_now, quiet_step, with_slot};
 ghost use Rattle.alma_engine.specs.Rows.{state_of, HasSlot, HasNumber, KeepsOn, put_or_fault};
 ghost use Rattle.alma_engine.specs.View.{stepped};
 
@@ -33,7 +33,7 @@ pub(crate) struct Registers {
 impl Registers {
     /// Ends the run.
     pub(crate) fn end(&mut self, end: End) -> Step
-        ensures step { stepped result [] (state_of self.new) ≡ ended end (state_of self.old) }
+        ensures step { stepped result [] (state_of self.new) ≡ ends_run end (state_of self.old) }
         ensures memory { self.new.memory ≡ self.old.memory }
         ensures kept { KeepsOn result (state_of self.old) (state_of self.new) }
     {

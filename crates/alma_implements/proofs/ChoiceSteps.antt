@@ -14,7 +14,7 @@ use Rattle.alma_code.specs.declared.step.Step.TheVariants as answer
 use Rattle.alma_code.specs.Picture.{PlainFrame, PlainEntry, no_entry, top_of, stack_after_pop, last_frame}
 use Rattle.alma_code.specs.Picture as picture
 use Rattle.alma_code.specs.Plain.{PlainCode}
-use Rattle.alma_code.specs.Machine.{State, Going, act, answered, step, step_in, pop_or_end, pushed, with_step_counted, quiet_step, with_slot, to_mark, as_mark, cut_to, answer_of_fall}
+use Rattle.alma_code.specs.Machine.{State, Going, act, answers_with, step, step_in, pop_or_end, state_after_push, with_step_counted, quiet_step, with_slot, to_mark, as_mark, cut_to, answer_of_fall}
 use Rattle.alma_implements.proofs.Goes.{Silently, IsFailing}
 use Rattle.alma_implements.proofs.Frames.{IsAt}
 use Rattle.alma_implements.proofs.Steps.{InstrAt, does, passed, top_written, Holds, HasKind, fail_step}
@@ -24,7 +24,7 @@ abbrev pub branch_entry : (resume : ℕ) → List PlainFrame → PlainEntry
 branch_entry resume now = record { kind = choice.Branch; resume = resume; frames = now; carry = [] }
 
 -- a pop of entries of which the last is known
-pub popped_last : (base : List PlainEntry) (e : PlainEntry) (s : State) → pop_or_end s (base ++ e ∷ []) ≡ answered (answer.Popped (length s.held))
+pub popped_last : (base : List PlainEntry) (e : PlainEntry) (s : State) → pop_or_end s (base ++ e ∷ []) ≡ answers_with (answer.Popped (length s.held))
     (record s { mode = Going; at = (top_of s.held).resume; now = (top_of s.held).frames; held = stack_after_pop s.held; fails = s.fails + 1 })
 popped_last [] e s = refl
 popped_last (b ∷ base) e s = refl
@@ -49,14 +49,14 @@ module _ (code : PlainCode) (input : List ℕ) where
     pub silently : Silently code input 1 s to
     pub is : IsAt to_at now held to
 
-  pub answered_silently : (s t : State) (a : Step) → step code input s ≡ answered a t → Silently code input 1 s t
+  pub answered_silently : (s t : State) (a : Step) → step code input s ≡ answers_with a t → Silently code input 1 s t
   answered_silently s t a e = record { steps = ap (λ x. x.state) e; silent = append-nil (step code input s).printed ∙ ap (λ x. x.printed) e }
 
   pub choose_step : (line : ℕ) (at resume : ℕ) (now : List PlainFrame) (held : List PlainEntry) (s : State) → IsAt at now held s → InstrAt code input line at (I.Choose resume) → GoesOn (at + 1) now (held ++ branch_entry resume now ∷ []) s
   unfolding act
   choose_step line at resume now held s is i = record {
-    to = pushed (passed code input s) choice.Branch resume;
-    silently = answered_silently s (pushed (passed code input s) choice.Branch resume) (answer.Chose (length (pushed (passed code input s) choice.Branch resume).held)) (does code input line at now held s (I.Choose resume) is i);
+    to = state_after_push (passed code input s) choice.Branch resume;
+    silently = answered_silently s (state_after_push (passed code input s) choice.Branch resume) (answer.Chose (length (state_after_push (passed code input s) choice.Branch resume).held)) (does code input line at now held s (I.Choose resume) is i);
     is = record {
       mode = is.mode;
       here = ap (λ a. a + 1) is.here;
@@ -77,7 +77,7 @@ module _ (code : PlainCode) (input : List ℕ) where
   pop_step resume now base u failing =
       let e = branch_entry resume now in
       let t : State = record (with_step_counted code input u) { mode = Going; at = (top_of u.held).resume; now = (top_of u.held).frames; held = stack_after_pop u.held; fails = u.fails + 1 } in
-      let is : step code input u ≡ answered (answer.Popped (length u.held)) t =
+      let is : step code input u ≡ answers_with (answer.Popped (length u.held)) t =
       ap (λ m. step_in code input m u) failing.mode ∙ ap (pop_or_end (with_step_counted code input u)) failing.entries ∙ popped_last base e (with_step_counted code input u) in
       let top : top_of u.held ≡ e = ap top_of failing.entries ∙ top_last base e in
       record {

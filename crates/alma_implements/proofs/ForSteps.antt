@@ -12,7 +12,7 @@ use Rattle.alma_code.specs.declared.cell.Cell.{Cell}
 use Rattle.alma_code.specs.declared.cell.Cell.TheVariants as cell
 use Rattle.alma_code.specs.declared.cell.SlotKind.TheVariants as slot
 use Rattle.alma_code.specs.declared.instr.Instr.TheVariants as I
-use Rattle.alma_code.specs.Picture.{PlainFrame, PlainEntry, last_frame, written}
+use Rattle.alma_code.specs.Picture.{PlainFrame, PlainEntry, last_frame, frames_with_cell}
 use Rattle.alma_code.specs.Picture as picture
 use Rattle.alma_code.specs.Plain.{PlainCode, kinds_at}
 use Rattle.alma_code.specs.Machine.{State, Stepped, step, act, number, as_number, put_number, goes_to, ends_in_fault}
@@ -157,8 +157,8 @@ module _ (p : Program) (code : PlainCode) (input : List ℕ) where
         let kind : get_or (last_frame now).kinds at_slot slot.Mark ≡ slot.Number = get_or_from_slice_get (last_frame now).kinds at_slot slot.Number slot.Mark slot_has_kind in
         let kind_there : get_or (get_or now (top v) picture.no_frame).kinds (shift_in p v (top v) + n) slot.Mark ≡ slot.Number =
         ap (λ f. get_or (get_or now f picture.no_frame).kinds (shift_in p v (top v) + n) slot.Mark) at ∙ ap (λ m. get_or (last_frame now).kinds m slot.Mark) there ∙ kind in
-        subst (λ m. Fits p code lo now (put_top v n (Number y)) (written now (length now - 1) m (cell.Int y))) there
-        (subst (λ f. Fits p code lo now (put_top v n (Number y)) (written now f (shift_in p v (top v) + n) (cell.Int y))) at
+        subst (λ m. Fits p code lo now (put_top v n (Number y)) (frames_with_cell now (length now - 1) m (cell.Int y))) there
+        (subst (λ f. Fits p code lo now (put_top v n (Number y)) (frames_with_cell now f (shift_in p v (top v) + n) (cell.Int y))) at
         (fits_put p code lo v now (top v) n y (omega (arith, stand.some)) slot_within kind_there integer stand))
 
   -- a step that writes a slot of the routine

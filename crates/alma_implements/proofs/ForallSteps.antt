@@ -12,10 +12,10 @@ use Rattle.alma_code.specs.declared.cell.ChoiceKind.TheVariants as choice
 use Rattle.alma_code.specs.declared.cell.SlotKind.TheVariants as slot
 use Rattle.alma_code.specs.declared.instr.Instr.TheVariants as I
 use Rattle.alma_code.specs.declared.step.Step.TheVariants as answer
-use Rattle.alma_code.specs.Carries.{frames_with_carry, diffs, kept, with_carry}
+use Rattle.alma_code.specs.Carries.{frames_with_carry, diffs, held_after_keep, with_carry}
 use Rattle.alma_code.specs.Picture.{PlainFrame, PlainEntry, no_entry, top_of, entry_at, kind_at, stack_after_pop, last_frame, entry_after_pop}
 use Rattle.alma_code.specs.Plain.{PlainCode}
-use Rattle.alma_code.specs.Machine.{State, Going, act, step_in, pop_or_end, pushed, answer_of_push, with_step_counted, quiet_step, with_slot, to_mark, as_mark, overlay, laid_over, keep, answer_of_fall, is_kind, is_forall_at}
+use Rattle.alma_code.specs.Machine.{State, Going, act, step_in, pop_or_end, state_after_push, answer_of_push, with_step_counted, quiet_step, with_slot, to_mark, as_mark, overlay, state_with_carry, keep, answer_of_fall, is_kind, is_forall_at}
 use Rattle.alma_implements.proofs.Goes.{IsFailing}
 use Rattle.alma_implements.proofs.Frames.{IsAt}
 use Rattle.alma_implements.proofs.Steps.{InstrAt, does, passed, top_written, Holds, HasKind}
@@ -54,7 +54,7 @@ rest_of_last base e =
 
 -- the stack after a Body on top is kept
 kept_is : (held above : List PlainEntry) (out next : ℕ) (now0 before now : List PlainFrame) (c : Carry Cell)
-    → kept ((held ++ forall_entry out now0 c ∷ above) ++ body_entry next before ∷ []) (length held + 1) now ≡ held ++ forall_entry out now0 (with_changes (diffs before now) c) ∷ above
+    → held_after_keep ((held ++ forall_entry out now0 c ∷ above) ++ body_entry next before ∷ []) (length held + 1) now ≡ held ++ forall_entry out now0 (with_changes (diffs before now) c) ∷ above
 kept_is held above out next now0 before now c =
     let whole : List PlainEntry = (held ++ forall_entry out now0 c ∷ above) ++ body_entry next before ∷ [] in
     let n : length held + 1 - 1 ≡ length held = omega arith in
@@ -80,7 +80,7 @@ module _ (code : PlainCode) (input : List ℕ) where
   unfolding act
   forall_step line at m out now held s is i kind =
       let p : State = passed code input s in
-      let t : State = with_slot (pushed p choice.Forall out) m (cell.Mark (length s.held + 1)) in
+      let t : State = with_slot (state_after_push p choice.Forall out) m (cell.Mark (length s.held + 1)) in
       record {
         to = t;
         silently = answered_silently code input s t (answer.Chose (length t.held))
@@ -101,22 +101,22 @@ module _ (code : PlainCode) (input : List ℕ) where
       let p : State = passed code input s in
       let h : ℕ = length held + 1 in
       let entries : List PlainEntry = held ++ forall_entry out now0 c ∷ above in
-      let laid : overlay p h ≡ laid_over p h =
-      ap (λ b. if_true b (λ _. laid_over p h) (λ _. p)) (ap (λ x. is_forall_at x h) is.entries ∙ forall_there held out now0 c above) in
-      let frames : (laid_over p h).now ≡ frames_with_carry now c =
+      let laid : overlay p h ≡ state_with_carry p h =
+      ap (λ b. if_true b (λ _. state_with_carry p h) (λ _. p)) (ap (λ x. is_forall_at x h) is.entries ∙ forall_there held out now0 c above) in
+      let frames : (state_with_carry p h).now ≡ frames_with_carry now c =
       ap (λ z. frames_with_carry z (entry_at s.held h).carry) is.frames ∙ ap (λ x. frames_with_carry now (entry_at x h).carry) is.entries ∙ ap (λ x. frames_with_carry now x.carry) (entry_there held (forall_entry out now0 c) above) in
-      let t : State = pushed (laid_over p h) choice.Body next in
+      let t : State = state_after_push (state_with_carry p h) choice.Body next in
       record {
         to = t;
         silently = answered_silently code input s t (answer.Chose (length t.held))
             (does code input line at now entries s (I.Overlay m next) is i
-            ∙ ap (λ o. as_mark o p (λ n. answer_of_push (pushed (overlay p n) choice.Body next))) (ap (λ z. slice_get (last_frame z).cells m) is.frames ∙ mark)
-            ∙ ap (λ x. answer_of_push (pushed x choice.Body next)) laid);
+            ∙ ap (λ o. as_mark o p (λ n. answer_of_push (state_after_push (overlay p n) choice.Body next))) (ap (λ z. slice_get (last_frame z).cells m) is.frames ∙ mark)
+            ∙ ap (λ x. answer_of_push (state_after_push x choice.Body next)) laid);
         is = record {
           mode = is.mode;
           here = ap (λ a. a + 1) is.here;
           frames = frames;
-          entries = ap (λ x. x ++ body_entry next (laid_over p h).now ∷ []) is.entries ∙ ap (λ n. entries ++ body_entry next n ∷ []) frames;
+          entries = ap (λ x. x ++ body_entry next (state_with_carry p h).now ∷ []) is.entries ∙ ap (λ n. entries ++ body_entry next n ∷ []) frames;
         };
       }
 
@@ -127,7 +127,7 @@ module _ (code : PlainCode) (input : List ℕ) where
       let p : State = passed code input s in
       let h : ℕ = length held + 1 in
       let whole : List PlainEntry = (held ++ forall_entry out now0 c ∷ above) ++ body_entry next before ∷ [] in
-      let t : State = record p { held = kept p.held h p.now } in
+      let t : State = record p { held = held_after_keep p.held h p.now } in
       let split : whole ≡ held ++ forall_entry out now0 c ∷ (above ++ body_entry next before ∷ []) = append_assoc held (forall_entry out now0 c ∷ above) (body_entry next before ∷ []) in
       let long : length whole ≡ suc (length (held ++ forall_entry out now0 c ∷ above)) = let n : length whole ≡ length (held ++ forall_entry out now0 c ∷ above) + 1 = length-append (held ++ forall_entry out now0 c ∷ above) (body_entry next before ∷ []) in omega (arith, n) in
       let inner : length (held ++ forall_entry out now0 c ∷ above) ≡ length held + suc (length above) = length-append held (forall_entry out now0 c ∷ above) in
@@ -146,7 +146,7 @@ module _ (code : PlainCode) (input : List ℕ) where
           mode = is.mode;
           here = ap (λ x. x + 1) is.here;
           frames = is.frames;
-          entries = ap (λ x. kept x h s.now) is.entries ∙ ap (kept whole h) is.frames ∙ kept_is held above out next now0 before now c;
+          entries = ap (λ x. held_after_keep x h s.now) is.entries ∙ ap (held_after_keep whole h) is.frames ∙ kept_is held above out next now0 before now c;
         };
       }
 
@@ -167,7 +167,7 @@ module _ (code : PlainCode) (input : List ℕ) where
   finish_step line at out now now0 c held s is i =
       let p : State = passed code input s in
       let whole : List PlainEntry = held ++ done_entry out now0 c ∷ [] in
-      let t : State = record (laid_over p (length p.held)) { held = take (length p.held - 1) p.held } in
+      let t : State = record (state_with_carry p (length p.held)) { held = take (length p.held - 1) p.held } in
       let long : length whole ≡ suc (length held) = let n : length whole ≡ length held + 1 = length-append held (done_entry out now0 c ∷ []) in omega (arith, n) in
       let high : length whole ≡ length held + 1 = length-append held (done_entry out now0 c ∷ []) in
       let test : is_kind choice.Done (kind_at whole (length whole)) ≡ true = ap (λ n. is_kind choice.Done (kind_at whole n)) long ∙ ap (is_kind choice.Done) (kind_there held (done_entry out now0 c) []) in

@@ -12,7 +12,7 @@ use Rattle.alma_code.specs.declared.cell.SlotKind.TheVariants as slot
 use Rattle.alma_code.specs.declared.cell.CellPlace.{CellPlace}
 use Rattle.alma_code.specs.Kinds.{is_number}
 use Rattle.alma_code.specs.Carries.{number_at}
-use Rattle.alma_code.specs.Picture.{PlainFrame, last_frame, frame_with, written, cell_at}
+use Rattle.alma_code.specs.Picture.{PlainFrame, last_frame, frame_with, frames_with_cell, cell_at}
 use Rattle.alma_code.specs.Picture as picture
 use Rattle.alma_code.specs.Plain.{PlainCode, kinds_at}
 use Rattle.alma_ir.specs.Tree.{Program, routine_at}
@@ -60,14 +60,14 @@ put_is (f ∷ v) (suc k) n c lt = ap (λ z. f ∷ z) (put_is v k n c (omega arit
 
 -- a write changes the kinds, the routine and the declared cells of no frame
 pub written_frame : (now : List PlainFrame) (f n k : ℕ) (c : Cell) → f < length now
-    → ((get_or (written now f n c) k picture.no_frame).kinds ≡ (get_or now k picture.no_frame).kinds) × ((get_or (written now f n c) k picture.no_frame).declared ≡ (get_or now k picture.no_frame).declared)
+    → ((get_or (frames_with_cell now f n c) k picture.no_frame).kinds ≡ (get_or now k picture.no_frame).kinds) × ((get_or (frames_with_cell now f n c) k picture.no_frame).declared ≡ (get_or now k picture.no_frame).declared)
 written_frame now f n k c lt = elim (cases_eq k f) [
   | inl e ↦
-      let is : get_or (written now f n c) k picture.no_frame ≡ frame_with (get_or now k picture.no_frame) n c =
-      ap (λ m. get_or (written now f n c) m picture.no_frame) e ∙ get_or-set_same now f (frame_with (get_or now f picture.no_frame) n c) picture.no_frame lt ∙ ap (λ m. frame_with (get_or now m picture.no_frame) n c) (sym e) in
+      let is : get_or (frames_with_cell now f n c) k picture.no_frame ≡ frame_with (get_or now k picture.no_frame) n c =
+      ap (λ m. get_or (frames_with_cell now f n c) m picture.no_frame) e ∙ get_or-set_same now f (frame_with (get_or now f picture.no_frame) n c) picture.no_frame lt ∙ ap (λ m. frame_with (get_or now m picture.no_frame) n c) (sym e) in
       (ap (λ g. g.kinds) is, ap (λ g. g.declared) is)
   | inr ne ↦
-      let is : get_or (written now f n c) k picture.no_frame ≡ get_or now k picture.no_frame = get_or-set_other now f k (frame_with (get_or now f picture.no_frame) n c) picture.no_frame ne in
+      let is : get_or (frames_with_cell now f n c) k picture.no_frame ≡ get_or now k picture.no_frame = get_or-set_other now f k (frame_with (get_or now f picture.no_frame) n c) picture.no_frame ne in
       (ap (λ g. g.kinds) is, ap (λ g. g.declared) is)
 ]
 
@@ -283,15 +283,15 @@ module _ (p : Program) (code : PlainCode) where
 
   -- a number that is stored in a number slot of a frame is stored in the store
   pub stand_put : (v : Store) (now : List PlainFrame) (f n : ℕ) (x : ℤ) → f < length v → n < length (get_or v f store.no_frame).cells → get_or (get_or now f picture.no_frame).kinds (shift_in p v f + n) slot.Mark ≡ slot.Number → is_integer x ≡ true
-      → StandFor p code v now → StandFor p code (put v f n (Number x)) (written now f (shift_in p v f + n) (cell.Int x))
+      → StandFor p code v now → StandFor p code (put v f n (Number x)) (frames_with_cell now f (shift_in p v f + n) (cell.Int x))
   stand_put v now f n x live there kind fits h = record {
     count = length-set now f (frame_with (get_or now f picture.no_frame) (shift_in p v f + n) (cell.Int x)) ∙ h.count ∙ sym long;
     some = omega (arith, h.some, long);
-    frames = λ k lt. same_moved v (put v f n (Number x)) (get_or (put v f n (Number x)) k store.no_frame) (get_or (written now f (shift_in p v f + n) (cell.Int x)) k picture.no_frame) (λ j. put_shift p v f n j (Number x) live)
-        (subst (λ z. SameFrame p code v (get_or z k store.no_frame) (get_or (written now f (shift_in p v f + n) (cell.Int x)) k picture.no_frame)) (sym is) (by k (omega (arith, lt, long)) (cases_eq k f)));
+    frames = λ k lt. same_moved v (put v f n (Number x)) (get_or (put v f n (Number x)) k store.no_frame) (get_or (frames_with_cell now f (shift_in p v f + n) (cell.Int x)) k picture.no_frame) (λ j. put_shift p v f n j (Number x) live)
+        (subst (λ z. SameFrame p code v (get_or z k store.no_frame) (get_or (frames_with_cell now f (shift_in p v f + n) (cell.Int x)) k picture.no_frame)) (sym is) (by k (omega (arith, lt, long)) (cases_eq k f)));
     links = λ k lt some. moved_link k (omega (arith, lt, long)) some;
     declared = λ k lt. (written_frame now f (shift_in p v f + n) k (cell.Int x) live_now).1 ∙ h.declared k (omega (arith, lt, long)) ∙ ap (λ r. (routine_at p r).declared) (sym (put_frame p v f n k (Number x) live).0);
-    places = λ k i q lt e. held_moved (length v) v (put v f n (Number x)) now (written now f (shift_in p v f + n) (cell.Int x)) k i q
+    places = λ k i q lt e. held_moved (length v) v (put v f n (Number x)) now (frames_with_cell now f (shift_in p v f + n) (cell.Int x)) k i q
         (record {
           live = omega (arith, long);
           routine = λ j a. (put_frame p v f n j (Number x) live).0;
@@ -321,16 +321,16 @@ module _ (p : Program) (code : PlainCode) where
           }
 
       by : (k : ℕ) → k < length v → (k ≡ f) ⊎ (k ≡ f → ⊥)
-          → SameFrame p code v (get_or (set v f (with_cell (get_or v f store.no_frame) n (Number x))) k store.no_frame) (get_or (written now f (shift_in p v f + n) (cell.Int x)) k picture.no_frame)
+          → SameFrame p code v (get_or (set v f (with_cell (get_or v f store.no_frame) n (Number x))) k store.no_frame) (get_or (frames_with_cell now f (shift_in p v f + n) (cell.Int x)) k picture.no_frame)
       by k lt (inl e) =
-          let right : get_or (written now f (shift_in p v f + n) (cell.Int x)) k picture.no_frame ≡ frame_with (get_or now f picture.no_frame) (shift_in p v f + n) (cell.Int x) =
-          ap (λ m. get_or (written now f (shift_in p v f + n) (cell.Int x)) m picture.no_frame) e ∙ get_or-set_same now f (frame_with (get_or now f picture.no_frame) (shift_in p v f + n) (cell.Int x)) picture.no_frame (omega (arith, live, h.count)) in
+          let right : get_or (frames_with_cell now f (shift_in p v f + n) (cell.Int x)) k picture.no_frame ≡ frame_with (get_or now f picture.no_frame) (shift_in p v f + n) (cell.Int x) =
+          ap (λ m. get_or (frames_with_cell now f (shift_in p v f + n) (cell.Int x)) m picture.no_frame) e ∙ get_or-set_same now f (frame_with (get_or now f picture.no_frame) (shift_in p v f + n) (cell.Int x)) picture.no_frame (omega (arith, live, h.count)) in
           let left : get_or (set v f (with_cell (get_or v f store.no_frame) n (Number x))) k store.no_frame ≡ with_cell (get_or v f store.no_frame) n (Number x) =
           ap (λ m. get_or (set v f (with_cell (get_or v f store.no_frame) n (Number x))) m store.no_frame) e ∙ get_or-set_same v f (with_cell (get_or v f store.no_frame) n (Number x)) store.no_frame live in
-          subst (λ g. SameFrame p code v g (get_or (written now f (shift_in p v f + n) (cell.Int x)) k picture.no_frame)) (sym left)
+          subst (λ g. SameFrame p code v g (get_or (frames_with_cell now f (shift_in p v f + n) (cell.Int x)) k picture.no_frame)) (sym left)
           (subst (SameFrame p code v (with_cell (get_or v f store.no_frame) n (Number x))) (sym right) (same_var v (get_or v f store.no_frame) (get_or now f picture.no_frame) n x there kind fits (h.frames f live)))
       by k lt (inr ne) =
-          subst (λ g. SameFrame p code v g (get_or (written now f (shift_in p v f + n) (cell.Int x)) k picture.no_frame)) (sym (get_or-set_other v f k (with_cell (get_or v f store.no_frame) n (Number x)) store.no_frame ne))
+          subst (λ g. SameFrame p code v g (get_or (frames_with_cell now f (shift_in p v f + n) (cell.Int x)) k picture.no_frame)) (sym (get_or-set_other v f k (with_cell (get_or v f store.no_frame) n (Number x)) store.no_frame ne))
           (subst (SameFrame p code v (get_or v k store.no_frame)) (sym (get_or-set_other now f k (frame_with (get_or now f picture.no_frame) (shift_in p v f + n) (cell.Int x)) picture.no_frame ne)) (h.frames k lt))
 
   -- ---- where a phrase leaves the frames
@@ -432,7 +432,7 @@ module _ (p : Program) (code : PlainCode) where
 
   -- a number stored in a slot of a routine
   pub fits_put : (lo : ℕ) (v : Store) (now : List PlainFrame) (f n : ℕ) (x : ℤ) → f < length v → n < length (get_or v f store.no_frame).cells → get_or (get_or now f picture.no_frame).kinds (shift_in p v f + n) slot.Mark ≡ slot.Number → is_integer x ≡ true
-      → StandFor p code v now → Fits p code lo now (put v f n (Number x)) (written now f (shift_in p v f + n) (cell.Int x))
+      → StandFor p code v now → Fits p code lo now (put v f n (Number x)) (frames_with_cell now f (shift_in p v f + n) (cell.Int x))
   fits_put lo v now f n x live there kind integer h = record {
     stand = stand_put v now f n x live there kind integer h;
     same_count = long;
@@ -440,13 +440,13 @@ module _ (p : Program) (code : PlainCode) where
     others = λ k lt. at k (length (get_or now k picture.no_frame).cells) (cases_eq k f);
   }
     where
-      long : length (written now f (shift_in p v f + n) (cell.Int x)) ≡ length now
+      long : length (frames_with_cell now f (shift_in p v f + n) (cell.Int x)) ≡ length now
       long = length-set now f (frame_with (get_or now f picture.no_frame) (shift_in p v f + n) (cell.Int x))
 
-      at : (k lo2 : ℕ) → (k ≡ f) ⊎ (k ≡ f → ⊥) → KeptBelow p code lo2 (get_or now k picture.no_frame) (get_or (written now f (shift_in p v f + n) (cell.Int x)) k picture.no_frame)
+      at : (k lo2 : ℕ) → (k ≡ f) ⊎ (k ≡ f → ⊥) → KeptBelow p code lo2 (get_or now k picture.no_frame) (get_or (frames_with_cell now f (shift_in p v f + n) (cell.Int x)) k picture.no_frame)
       at k lo2 (inl e) =
-          let is : get_or (written now f (shift_in p v f + n) (cell.Int x)) k picture.no_frame ≡ frame_with (get_or now k picture.no_frame) (shift_in p v k + n) (cell.Int x) =
-          ap (λ m. get_or (written now f (shift_in p v f + n) (cell.Int x)) m picture.no_frame) e ∙ get_or-set_same now f (frame_with (get_or now f picture.no_frame) (shift_in p v f + n) (cell.Int x)) picture.no_frame (omega (arith, live, h.count))
+          let is : get_or (frames_with_cell now f (shift_in p v f + n) (cell.Int x)) k picture.no_frame ≡ frame_with (get_or now k picture.no_frame) (shift_in p v k + n) (cell.Int x) =
+          ap (λ m. get_or (frames_with_cell now f (shift_in p v f + n) (cell.Int x)) m picture.no_frame) e ∙ get_or-set_same now f (frame_with (get_or now f picture.no_frame) (shift_in p v f + n) (cell.Int x)) picture.no_frame (omega (arith, live, h.count))
           ∙ ap (λ m. frame_with (get_or now m picture.no_frame) (shift_in p v m + n) (cell.Int x)) (sym e) in
           let here : n < length (get_or v k store.no_frame).cells = subst (λ m. n < length (get_or v m store.no_frame).cells) (sym e) there in
           subst (KeptBelow p code lo2 (get_or now k picture.no_frame)) (sym is)
@@ -455,10 +455,10 @@ module _ (p : Program) (code : PlainCode) where
           subst (KeptBelow p code lo2 (get_or now k picture.no_frame)) (sym (get_or-set_other now f k (frame_with (get_or now f picture.no_frame) (shift_in p v f + n) (cell.Int x)) picture.no_frame ne))
           (kept_self lo2 (get_or now k picture.no_frame))
 
-      ap_top : KeptBelow p code lo (last_frame now) (last_frame (written now f (shift_in p v f + n) (cell.Int x)))
+      ap_top : KeptBelow p code lo (last_frame now) (last_frame (frames_with_cell now f (shift_in p v f + n) (cell.Int x)))
       ap_top =
-          let last : length (written now f (shift_in p v f + n) (cell.Int x)) - 1 ≡ length now - 1 = ap (λ m. m - 1) long in
-          subst (λ m. KeptBelow p code lo (last_frame now) (get_or (written now f (shift_in p v f + n) (cell.Int x)) m picture.no_frame)) (sym last) (at (length now - 1) lo (cases_eq (length now - 1) f))
+          let last : length (frames_with_cell now f (shift_in p v f + n) (cell.Int x)) - 1 ≡ length now - 1 = ap (λ m. m - 1) long in
+          subst (λ m. KeptBelow p code lo (last_frame now) (get_or (frames_with_cell now f (shift_in p v f + n) (cell.Int x)) m picture.no_frame)) (sym last) (at (length now - 1) lo (cases_eq (length now - 1) f))
 
   -- ---- places
 

@@ -11,7 +11,7 @@ use Rattle.alma_code.specs.declared.cell.Cell.{Cell}
 use Rattle.alma_code.specs.Layout.{frame_of_call}
 use Rattle.alma_code.specs.Plain.{PlainCode, PlainRoutine, start_at}
 use Rattle.alma_ir.specs.Tree.{Program, routine_at}
-use Rattle.alma_code.specs.Machine.{State, act, as_number, result_to, returned, left, with_slot, to_number}
+use Rattle.alma_code.specs.Machine.{State, act, as_number, result_to, answers_return, state_after_leave, with_slot, to_number}
 use Rattle.alma_mean.specs.Store.{Store, without_top}
 use Rattle.alma_mean.specs.Events.{Events, NoYield, Flow, Go, Return, Fail, one, line_or}
 use Rattle.alma_mean.specs.Rows.{ArgValue, as_value, function_value, enter, frame_of}
@@ -31,14 +31,14 @@ module _ (code : PlainCode) (input : List ℕ) where
   unfolding act
   return_value_step line at a r first to n now held s is i there call kind =
       let p : State = passed code input s in
-      let t : State = with_slot (left p) to (cell.Int n) in
+      let t : State = with_slot (state_after_leave p) to (cell.Int n) in
       record {
         to = t;
         silently = answered_silently code input s t (answer.Returned (length t.now))
             (does code input line at now held s (I.ReturnValue a) is i
-            ∙ ap (λ o. as_number o p (λ v. result_to (slice_get code.instrs ((last_frame p.now).back - 1)) (left p) v)) (ap (λ z. slice_get (last_frame z).cells a) is.frames ∙ there)
-            ∙ ap (λ o. result_to o (left p) n) (ap (λ z. slice_get code.instrs ((last_frame z).back - 1)) is.frames ∙ call)
-            ∙ ap (λ o. to_number o (left p) (λ _. returned t)) (ap (λ z. slice_get (last_frame (without_last z)).kinds to) is.frames ∙ kind));
+            ∙ ap (λ o. as_number o p (λ v. result_to (slice_get code.instrs ((last_frame p.now).back - 1)) (state_after_leave p) v)) (ap (λ z. slice_get (last_frame z).cells a) is.frames ∙ there)
+            ∙ ap (λ o. result_to o (state_after_leave p) n) (ap (λ z. slice_get code.instrs ((last_frame z).back - 1)) is.frames ∙ call)
+            ∙ ap (λ o. to_number o (state_after_leave p) (λ _. answers_return t)) (ap (λ z. slice_get (last_frame (without_last z)).kinds to) is.frames ∙ kind));
         is = record {
           mode = is.mode;
           here = ap (λ z. (last_frame z).back) is.frames;

@@ -8,9 +8,9 @@ use Rattle.alma_base.specs.Choice.{if_true}
 use Rattle.alma_code.specs.declared.cell.Cell.{Cell}
 use Rattle.alma_code.specs.declared.cell.Cell.TheVariants as cell
 use Rattle.alma_code.specs.declared.cell.SlotKind.{SlotKind}
-use Rattle.alma_code.specs.Carries.{number_at, laid, frames_with_carry}
+use Rattle.alma_code.specs.Carries.{number_at, frames_with_change, frames_with_carry}
 use Rattle.alma_code.specs.Kinds.{is_number}
-use Rattle.alma_code.specs.Picture.{PlainFrame, frame_with, written, cell_at}
+use Rattle.alma_code.specs.Picture.{PlainFrame, frame_with, frames_with_cell, cell_at}
 use Rattle.alma_code.specs.Picture as picture
 use Rattle.alma_mean.specs.Store.{Store, Unknown, put, over}
 use Rattle.alma_mean.specs.Store as store
@@ -123,40 +123,40 @@ set_past [] n a past = refl
 set_past (x ∷ l) zero a past = absurd (omega (arith, past))
 set_past (x ∷ l) (suc n) a past = ap (λ z. x ∷ z) (set_past l n a (omega (arith, past)))
 
-written_form : (now : List PlainFrame) (f n k : ℕ) (c : Cell) → SameForm (get_or (written now f n c) k picture.no_frame) (get_or now k picture.no_frame)
+written_form : (now : List PlainFrame) (f n k : ℕ) (c : Cell) → SameForm (get_or (frames_with_cell now f n c) k picture.no_frame) (get_or now k picture.no_frame)
 written_form now f n k c = elim (cases_lt f (length now)) [
   | inr past ↦ subst (λ z. SameForm (get_or z k picture.no_frame) (get_or now k picture.no_frame)) (sym (set_past now f (frame_with (get_or now f picture.no_frame) n c) past)) (form_self (get_or now k picture.no_frame))
   | inl lt ↦ elim (cases_eq k f) [
     | inl e ↦
-        let is : get_or (written now f n c) k picture.no_frame ≡ frame_with (get_or now k picture.no_frame) n c =
-        ap (λ m. get_or (written now f n c) m picture.no_frame) e ∙ get_or-set_same now f (frame_with (get_or now f picture.no_frame) n c) picture.no_frame lt ∙ ap (λ m. frame_with (get_or now m picture.no_frame) n c) (sym e) in
+        let is : get_or (frames_with_cell now f n c) k picture.no_frame ≡ frame_with (get_or now k picture.no_frame) n c =
+        ap (λ m. get_or (frames_with_cell now f n c) m picture.no_frame) e ∙ get_or-set_same now f (frame_with (get_or now f picture.no_frame) n c) picture.no_frame lt ∙ ap (λ m. frame_with (get_or now m picture.no_frame) n c) (sym e) in
         subst (λ g. SameForm g (get_or now k picture.no_frame)) (sym is) (record { routine = refl; back = refl; declared = refl; kinds = refl; long = length-set (get_or now k picture.no_frame).cells n c })
     | inr ne ↦ subst (λ g. SameForm g (get_or now k picture.no_frame)) (sym (get_or-set_other now f k (frame_with (get_or now f picture.no_frame) n c) picture.no_frame ne)) (form_self (get_or now k picture.no_frame))
   ]
 ]
 
-laid_form : (now : List PlainFrame) (x : Change Cell) (k : ℕ) → SameForm (get_or (laid now x) k picture.no_frame) (get_or now k picture.no_frame)
+laid_form : (now : List PlainFrame) (x : Change Cell) (k : ℕ) → SameForm (get_or (frames_with_change now x) k picture.no_frame) (get_or now k picture.no_frame)
 laid_form now x k = by (number_at now x.frame x.slot)
   where
-    by : (b : Bool) → SameForm (get_or (if b then written now x.frame x.slot x.cell else now) k picture.no_frame) (get_or now k picture.no_frame)
+    by : (b : Bool) → SameForm (get_or (if b then frames_with_cell now x.frame x.slot x.cell else now) k picture.no_frame) (get_or now k picture.no_frame)
     by true = written_form now x.frame x.slot k x.cell
     by false = form_self (get_or now k picture.no_frame)
 
-laid_count : (now : List PlainFrame) (x : Change Cell) → length (laid now x) ≡ length now
+laid_count : (now : List PlainFrame) (x : Change Cell) → length (frames_with_change now x) ≡ length now
 laid_count now x = by (number_at now x.frame x.slot)
   where
-    by : (b : Bool) → length (if b then written now x.frame x.slot x.cell else now) ≡ length now
+    by : (b : Bool) → length (if b then frames_with_cell now x.frame x.slot x.cell else now) ≡ length now
     by true = length-set now x.frame (frame_with (get_or now x.frame picture.no_frame) x.slot x.cell)
     by false = refl
 
 pub overlaid_count : (now : List PlainFrame) (c : Carry Cell) → length (frames_with_carry now c) ≡ length now
 overlaid_count now [] = refl
-overlaid_count now (x ∷ rest) = overlaid_count (laid now x) rest ∙ laid_count now x
+overlaid_count now (x ∷ rest) = overlaid_count (frames_with_change now x) rest ∙ laid_count now x
 
 pub overlaid_form : (now : List PlainFrame) (c : Carry Cell) (k : ℕ) → SameForm (get_or (frames_with_carry now c) k picture.no_frame) (get_or now k picture.no_frame)
 overlaid_form now [] k = form_self (get_or now k picture.no_frame)
 overlaid_form now (x ∷ rest) k =
-    let a = overlaid_form (laid now x) rest k in
+    let a = overlaid_form (frames_with_change now x) rest k in
     let b = laid_form now x k in
     record { routine = a.routine ∙ b.routine; back = a.back ∙ b.back; declared = a.declared ∙ b.declared; kinds = a.kinds ∙ b.kinds; long = a.long ∙ b.long }
 
@@ -164,7 +164,7 @@ overlaid_form now (x ∷ rest) k =
 abbrev pub AreFull : List PlainFrame → Type 0
 AreFull now = (k : ℕ) → length (get_or now k picture.no_frame).cells ≡ length (get_or now k picture.no_frame).kinds
 
-laid_full : (now : List PlainFrame) (x : Change Cell) → AreFull now → AreFull (laid now x)
+laid_full : (now : List PlainFrame) (x : Change Cell) → AreFull now → AreFull (frames_with_change now x)
 laid_full now x full k = let b = laid_form now x k in b.long ∙ full k ∙ ap length (sym b.kinds)
 
 pub number_within : (now : List PlainFrame) (f s : ℕ) → AreFull now → number_at now f s ≡ true → (f < length now) × (s < length (get_or now f picture.no_frame).cells)
@@ -187,23 +187,23 @@ number_within now f s full e = (
 pub number_overlaid : (now : List PlainFrame) (c : Carry Cell) (f s : ℕ) → number_at (frames_with_carry now c) f s ≡ number_at now f s
 number_overlaid now c f s = ap (λ ks. is_number (slice_get ks s)) (overlaid_form now c f).kinds
 
-number_laid : (now : List PlainFrame) (x : Change Cell) (f s : ℕ) → number_at (laid now x) f s ≡ number_at now f s
+number_laid : (now : List PlainFrame) (x : Change Cell) (f s : ℕ) → number_at (frames_with_change now x) f s ≡ number_at now f s
 number_laid now x f s = ap (λ ks. is_number (slice_get ks s)) (laid_form now x f).kinds
 
-written_here : (now : List PlainFrame) (f n : ℕ) (c : Cell) → f < length now → n < length (get_or now f picture.no_frame).cells → cell_at (written now f n c) f n cell.Unset ≡ c
+written_here : (now : List PlainFrame) (f n : ℕ) (c : Cell) → f < length now → n < length (get_or now f picture.no_frame).cells → cell_at (frames_with_cell now f n c) f n cell.Unset ≡ c
 written_here now f n c lt there =
     ap (λ g. get_or g.cells n cell.Unset) (get_or-set_same now f (frame_with (get_or now f picture.no_frame) n c) picture.no_frame lt) ∙ get_or-set_same (get_or now f picture.no_frame).cells n c cell.Unset there
 
-laid_apart : (now : List PlainFrame) (x : Change Cell) (f s : ℕ) → (x.frame ≡ f → x.slot ≡ s → ⊥) → cell_at (laid now x) f s cell.Unset ≡ cell_at now f s cell.Unset
+laid_apart : (now : List PlainFrame) (x : Change Cell) (f s : ℕ) → (x.frame ≡ f → x.slot ≡ s → ⊥) → cell_at (frames_with_change now x) f s cell.Unset ≡ cell_at now f s cell.Unset
 laid_apart now x f s apart = by (number_at now x.frame x.slot)
   where
-    by : (b : Bool) → cell_at (if b then written now x.frame x.slot x.cell else now) f s cell.Unset ≡ cell_at now f s cell.Unset
+    by : (b : Bool) → cell_at (if b then frames_with_cell now x.frame x.slot x.cell else now) f s cell.Unset ≡ cell_at now f s cell.Unset
     by false = refl
     by true = elim (cases_lt x.frame (length now)) [
       | inr past ↦ ap (λ z. cell_at z f s cell.Unset) (set_past now x.frame (frame_with (get_or now x.frame picture.no_frame) x.slot x.cell) past)
       | inl lt ↦ elim (cases_eq f x.frame) [
         | inl e ↦
-            ap (λ m. get_or (get_or (written now x.frame x.slot x.cell) m picture.no_frame).cells s cell.Unset) e
+            ap (λ m. get_or (get_or (frames_with_cell now x.frame x.slot x.cell) m picture.no_frame).cells s cell.Unset) e
             ∙ ap (λ h. get_or h.cells s cell.Unset) (get_or-set_same now x.frame (frame_with (get_or now x.frame picture.no_frame) x.slot x.cell) picture.no_frame lt)
             ∙ get_or-set_other (get_or now x.frame picture.no_frame).cells x.slot s x.cell cell.Unset (λ z. apart (sym e) (sym z)) ∙ ap (λ m. get_or (get_or now m picture.no_frame).cells s cell.Unset) (sym e)
         | inr ne ↦ ap (λ h. get_or h.cells s cell.Unset) (get_or-set_other now x.frame f (frame_with (get_or now x.frame picture.no_frame) x.slot x.cell) picture.no_frame ne)
@@ -213,28 +213,28 @@ laid_apart now x f s apart = by (number_at now x.frame x.slot)
 -- a slot that is not for a number stays as it is
 pub overlaid_other : (now : List PlainFrame) (c : Carry Cell) (f s : ℕ) → number_at now f s ≡ false → cell_at (frames_with_carry now c) f s cell.Unset ≡ cell_at now f s cell.Unset
 overlaid_other now [] f s none = refl
-overlaid_other now (x ∷ rest) f s none = overlaid_other (laid now x) rest f s (number_laid now x f s ∙ none) ∙ by (is_same_place x.frame x.slot f s) refl
+overlaid_other now (x ∷ rest) f s none = overlaid_other (frames_with_change now x) rest f s (number_laid now x f s ∙ none) ∙ by (is_same_place x.frame x.slot f s) refl
   where
-    by : (b : Bool) → is_same_place x.frame x.slot f s ≡ b → cell_at (laid now x) f s cell.Unset ≡ cell_at now f s cell.Unset
+    by : (b : Bool) → is_same_place x.frame x.slot f s ≡ b → cell_at (frames_with_change now x) f s cell.Unset ≡ cell_at now f s cell.Unset
     by true e =
         let one = same_place_is x.frame x.slot f s e in
         let no : number_at now x.frame x.slot ≡ false = ap (λ n. number_at now n x.slot) one.0 ∙ ap (λ n. number_at now f n) one.1 ∙ none in
-        ap (λ b. cell_at (if b then written now x.frame x.slot x.cell else now) f s cell.Unset) no
+        ap (λ b. cell_at (if b then frames_with_cell now x.frame x.slot x.cell else now) f s cell.Unset) no
     by false e = laid_apart now x f s (λ a b. let z : true ≡ false = sym (ap (λ n. is_same_place n x.slot f s) a ∙ ap (λ n. is_same_place f n f s) b ∙ same_itself f s) ∙ e in absurd (cc))
 
 -- and one for a number has what is carried
 pub overlaid_cell : (now : List PlainFrame) (c : Carry Cell) (f s : ℕ) → IsRising c → AreFull now → number_at now f s ≡ true → cell_at (frames_with_carry now c) f s cell.Unset ≡ or_else (carried_at f s c) (cell_at now f s cell.Unset)
 overlaid_cell now [] f s rising full is = refl
 overlaid_cell now (x ∷ rest) f s rising full is =
-    overlaid_cell (laid now x) rest f s rising.1 (laid_full now x full) (number_laid now x f s ∙ is) ∙ by (is_same_place x.frame x.slot f s) refl
+    overlaid_cell (frames_with_change now x) rest f s rising.1 (laid_full now x full) (number_laid now x f s ∙ is) ∙ by (is_same_place x.frame x.slot f s) refl
   where
-    by : (b : Bool) → is_same_place x.frame x.slot f s ≡ b → or_else (carried_at f s rest) (cell_at (laid now x) f s cell.Unset) ≡ or_else (if_true b (λ _. Some x.cell) (λ _. carried_at f s rest)) (cell_at now f s cell.Unset)
+    by : (b : Bool) → is_same_place x.frame x.slot f s ≡ b → or_else (carried_at f s rest) (cell_at (frames_with_change now x) f s cell.Unset) ≡ or_else (if_true b (λ _. Some x.cell) (λ _. carried_at f s rest)) (cell_at now f s cell.Unset)
     by true e =
         let one = same_place_is x.frame x.slot f s e in
         let none : carried_at f s rest ≡ None = ap (λ n. carried_at n s rest) (sym one.0) ∙ ap (λ n. carried_at x.frame n rest) (sym one.1) ∙ absent_below x.frame x.slot rest rising.0 in
         let there = number_within now f s full is in
         let number : number_at now x.frame x.slot ≡ true = ap (λ n. number_at now n x.slot) one.0 ∙ ap (λ n. number_at now f n) one.1 ∙ is in
-        ap (λ o. or_else o (cell_at (laid now x) f s cell.Unset)) none ∙ ap (λ b. cell_at (if b then written now x.frame x.slot x.cell else now) f s cell.Unset) number
-        ∙ ap (λ n. cell_at (written now n x.slot x.cell) f s cell.Unset) one.0 ∙ ap (λ n. cell_at (written now f n x.cell) f s cell.Unset) one.1 ∙ written_here now f s x.cell there.0 there.1
+        ap (λ o. or_else o (cell_at (frames_with_change now x) f s cell.Unset)) none ∙ ap (λ b. cell_at (if b then frames_with_cell now x.frame x.slot x.cell else now) f s cell.Unset) number
+        ∙ ap (λ n. cell_at (frames_with_cell now n x.slot x.cell) f s cell.Unset) one.0 ∙ ap (λ n. cell_at (frames_with_cell now f n x.cell) f s cell.Unset) one.1 ∙ written_here now f s x.cell there.0 there.1
     by false e =
         ap (or_else (carried_at f s rest)) (laid_apart now x f s (λ a b. let z : true ≡ false = sym (ap (λ n. is_same_place n x.slot f s) a ∙ ap (λ n. is_same_place f n f s) b ∙ same_itself f s) ∙ e in absurd (cc)))

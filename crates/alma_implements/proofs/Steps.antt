@@ -16,18 +16,18 @@ use Rattle.alma_code.specs.declared.instr.Instr.TheVariants as I
 use Rattle.alma_code.specs.declared.step.End.TheVariants as end
 use Rattle.alma_base.specs.declared.value.Value.TheVariants as value
 use Rattle.alma_base.specs.Value.{value_text}
-use Rattle.alma_code.specs.Picture.{PlainFrame, PlainEntry, no_frame, last_frame, written, cell_at}
+use Rattle.alma_code.specs.Picture.{PlainFrame, PlainEntry, no_frame, last_frame, frames_with_cell, cell_at}
 use Rattle.alma_code.specs.Carries.{number_at}
 use Rattle.alma_code.specs.Plain.{PlainCode}
 use Rattle.alma_code.specs.Lines.{line_at}
 use Rattle.alma_implements.specs.Implements.{line_in}
-use Rattle.alma_code.specs.Machine.{Failing, Ended, State, Stepped, act, step, step_in, fetched, with_step_counted, quiet_step, ends_in_fault, fails_now, goes_to, printed, run_faults, as_fault, as_number, number, put_number, to_number, to_place, integer_result, with_slot, with_cell, place, as_place, link, link_to, slot_in, to_link, put_link, put_place, content, as_content, known, store, stuck, ended, returned, left}
+use Rattle.alma_code.specs.Machine.{Failing, Ended, State, Stepped, act, step, step_in, fetch_and_act, with_step_counted, quiet_step, ends_in_fault, fails_now, goes_to, prints_bytes, run_faults, as_fault, as_number, number, put_number, to_number, to_place, integer_result, with_slot, with_cell, place, as_place, link, link_to, slot_in, to_link, put_link, put_place, content, as_content, with_known_content, store, gets_stuck, ends_run, answers_return, state_after_leave}
 use Rattle.alma_implements.proofs.Goes.{Silently, Prints, IsOn, IsFailing}
 use Rattle.alma_implements.proofs.Frames.{IsAt}
 
 -- the frames after a write to a slot of the top one
 abbrev pub top_written : List PlainFrame → ℕ → Cell → List PlainFrame
-top_written now n c = written now (length now - 1) n c
+top_written now n c = frames_with_cell now (length now - 1) n c
 
 -- a slot of the top frame holds this cell, or is of this kind
 abbrev pub Holds : List PlainFrame → ℕ → Cell → Type 0
@@ -48,7 +48,7 @@ module _ (code : PlainCode) (input : List ℕ) where
 
   pub does : (line at : ℕ) (now : List PlainFrame) (held : List PlainEntry) (s : State) (i : Instr) → IsAt at now held s → InstrAt line at i → step code input s ≡ act code input i (passed s)
   does line at now held s i h e =
-      ap (λ m. step_in code input m s) h.mode ∙ ap (λ o. fetched code input o s) (ap (slice_get code.instrs) h.here ∙ e.instr)
+      ap (λ m. step_in code input m s) h.mode ∙ ap (λ o. fetch_and_act code input o s) (ap (slice_get code.instrs) h.here ∙ e.instr)
 
   -- a step that just goes on
   pub went_on : (s t : State) → step code input s ≡ quiet_step t → Silently code input 1 s t
@@ -239,10 +239,10 @@ module _ (code : PlainCode) (input : List ℕ) where
     HasContent q c = (number_at now q.frame q.slot ≡ true) × (cell_at now q.frame q.slot cell.Unset ≡ c)
 
     pub loads : (a b : ℕ) (q : CellPlace) (c : Cell) → InstrAt line at (I.Load a b) → Holds now b (cell.Place q) → HasContent q c
-        → step code input s ≡ as_content true c (passed s) (λ o. known (passed s) o (λ v. put_number (passed s) a v))
+        → step code input s ≡ as_content true c (passed s) (λ o. with_known_content (passed s) o (λ v. put_number (passed s) a v))
     unfolding act
     loads a b q c i hb hc =
-        let k : Option ℤ → Stepped = λ o. known (passed s) o (λ v. put_number (passed s) a v) in
+        let k : Option ℤ → Stepped = λ o. with_known_content (passed s) o (λ v. put_number (passed s) a v) in
         does line at now held s (I.Load a b) h i
         ∙ place_is now (passed s) b q (λ p. content (passed s) p.frame p.slot k) h.frames hb
         ∙ ap (λ z. as_content (number_at z q.frame q.slot) (cell_at z q.frame q.slot cell.Unset) (passed s) k) h.frames
@@ -259,7 +259,7 @@ module _ (code : PlainCode) (input : List ℕ) where
     pub record Stores (q : CellPlace) (x : ℤ) : Type 0 where
       pub to : State
       pub silently : Silently code input 1 s to
-      pub is : IsAt (at + 1) (written now q.frame q.slot (cell.Int x)) held to
+      pub is : IsAt (at + 1) (frames_with_cell now q.frame q.slot (cell.Int x)) held to
 
     pub store_step : (a b : ℕ) (q : CellPlace) (x : ℤ) → InstrAt line at (I.Store a b) → Holds now a (cell.Place q) → Holds now b (cell.Int x) → number_at now q.frame q.slot ≡ true → Stores q x
     unfolding act
@@ -268,12 +268,12 @@ module _ (code : PlainCode) (input : List ℕ) where
         does line at now held s (I.Store a b) h i
         ∙ place_is now (passed s) a q (λ p. number (passed s) b (λ v. store (passed s) p.frame p.slot v quiet_step)) h.frames ha
         ∙ number_is now (passed s) b x (λ v. store (passed s) q.frame q.slot v quiet_step) h.frames hb
-        ∙ ap (λ z. if_true (number_at z q.frame q.slot) (λ _. quiet_step (with_cell (passed s) q.frame q.slot (cell.Int x))) (λ _. stuck (passed s))) h.frames
-        ∙ ap (λ t. if_true t (λ _. quiet_step (with_cell (passed s) q.frame q.slot (cell.Int x))) (λ _. stuck (passed s))) live in
+        ∙ ap (λ z. if_true (number_at z q.frame q.slot) (λ _. quiet_step (with_cell (passed s) q.frame q.slot (cell.Int x))) (λ _. gets_stuck (passed s))) h.frames
+        ∙ ap (λ t. if_true t (λ _. quiet_step (with_cell (passed s) q.frame q.slot (cell.Int x))) (λ _. gets_stuck (passed s))) live in
         record {
           to = with_cell (passed s) q.frame q.slot (cell.Int x);
           silently = went_on s (with_cell (passed s) q.frame q.slot (cell.Int x)) e;
-          is = record { mode = h.mode; here = ap (λ n. n + 1) h.here; frames = ap (λ z. written z q.frame q.slot (cell.Int x)) h.frames; entries = h.entries };
+          is = record { mode = h.mode; here = ap (λ n. n + 1) h.here; frames = ap (λ z. frames_with_cell z q.frame q.slot (cell.Int x)) h.frames; entries = h.entries };
         }
 
     -- ---- jumps, failure, the end
@@ -353,10 +353,10 @@ module _ (code : PlainCode) (input : List ℕ) where
     pub return_ends : InstrAt line at I.Return → length now ≡ 1 → ((step code input s).state.mode ≡ Ended end.Succeeded) × ((step code input s).printed ≡ [])
     unfolding act
     return_ends i alone =
-        let e : step code input s ≡ ended end.Succeeded (passed s) =
+        let e : step code input s ≡ ends_run end.Succeeded (passed s) =
         does line at now held s I.Return h i
-        ∙ ap (λ z. if_true (nat_eq (length z) 1) (λ _. ended end.Succeeded (passed s)) (λ _. returned (left (passed s)))) h.frames
-        ∙ ap (λ n. if_true (nat_eq n 1) (λ _. ended end.Succeeded (passed s)) (λ _. returned (left (passed s)))) alone in
+        ∙ ap (λ z. if_true (nat_eq (length z) 1) (λ _. ends_run end.Succeeded (passed s)) (λ _. answers_return (state_after_leave (passed s)))) h.frames
+        ∙ ap (λ n. if_true (nat_eq n 1) (λ _. ends_run end.Succeeded (passed s)) (λ _. answers_return (state_after_leave (passed s)))) alone in
         (ap (λ x. x.state.mode) e, ap (λ x. x.printed) e)
 
     -- ---- prints
@@ -366,7 +366,7 @@ module _ (code : PlainCode) (input : List ℕ) where
       pub prints : Prints code input bytes s to
       pub is : IsAt (at + 1) now held to
 
-    pub prints_from : (bytes : List ℕ) → step code input s ≡ printed bytes (passed s) → PrintsNow bytes
+    pub prints_from : (bytes : List ℕ) → step code input s ≡ prints_bytes bytes (passed s) → PrintsNow bytes
     prints_from bytes e = record {
       to = passed s;
       prints = record { on = subst IsOn (sym h.mode) tt; leads = ap (λ x. x.state) e; printed = ap (λ x. x.printed) e };
@@ -377,19 +377,19 @@ module _ (code : PlainCode) (input : List ℕ) where
     unfolding act
     write_int_step a x i ha =
         prints_from (value_text (value.Int x))
-        (does line at now held s (I.WriteInt a) h i ∙ number_is now (passed s) a x (λ v. printed (value_text (value.Int v)) (passed s)) h.frames ha)
+        (does line at now held s (I.WriteInt a) h i ∙ number_is now (passed s) a x (λ v. prints_bytes (value_text (value.Int v)) (passed s)) h.frames ha)
 
     pub write_bool_step : (a : ℕ) (x : ℤ) → InstrAt line at (I.WriteBool a) → Holds now a (cell.Int x) → PrintsNow (value_text (value.Bool (not (is_zero x))))
     unfolding act
     write_bool_step a x i ha =
         prints_from (value_text (value.Bool (not (is_zero x))))
-        (does line at now held s (I.WriteBool a) h i ∙ number_is now (passed s) a x (λ v. printed (value_text (value.Bool (not (is_zero v)))) (passed s)) h.frames ha)
+        (does line at now held s (I.WriteBool a) h i ∙ number_is now (passed s) a x (λ v. prints_bytes (value_text (value.Bool (not (is_zero v)))) (passed s)) h.frames ha)
 
     pub write_char_step : (a : ℕ) (x : ℤ) → InstrAt line at (I.WriteChar a) → Holds now a (cell.Int x) → PrintsNow (value_text (value.Char (nat_abs (int_rem_euclid x (pos 256)))))
     unfolding act
     write_char_step a x i ha =
         prints_from (value_text (value.Char (nat_abs (int_rem_euclid x (pos 256)))))
-        (does line at now held s (I.WriteChar a) h i ∙ number_is now (passed s) a x (λ v. printed (value_text (value.Char (nat_abs (int_rem_euclid v (pos 256))))) (passed s)) h.frames ha)
+        (does line at now held s (I.WriteChar a) h i ∙ number_is now (passed s) a x (λ v. prints_bytes (value_text (value.Char (nat_abs (int_rem_euclid v (pos 256))))) (passed s)) h.frames ha)
 
     pub write_line_step : InstrAt line at I.WriteLine → PrintsNow (10 ∷ [])
     unfolding act

@@ -10,7 +10,7 @@ use Rattle.alma_code.specs.declared.cell.Cell.TheVariants as cell
 use Rattle.alma_code.specs.declared.cell.CellPlace.{CellPlace}
 use Rattle.alma_code.specs.declared.instr.Instr.TheVariants as I
 use Rattle.alma_code.specs.declared.cell.SlotKind.TheVariants as slot
-use Rattle.alma_code.specs.Picture.{PlainFrame, PlainEntry, written}
+use Rattle.alma_code.specs.Picture.{PlainFrame, PlainEntry, frames_with_cell}
 use Rattle.alma_code.specs.Picture as picture
 use Rattle.alma_code.specs.Plain.{PlainCode}
 use Rattle.alma_code.specs.Machine.{State, Going}
@@ -246,10 +246,10 @@ module _ (p : Program) (code : PlainCode) (input : List ℕ) (line : ℕ) where
       let at : sh + (c.slot + 0) ≡ sh + c.slot = omega arith in
       let there : c.slot < length (get_or v c.frame store.no_frame).cells = omega (arith, numbers.cells 0 some) in
       let kind : get_or (get_or t.now c.frame picture.no_frame).kinds (sh + c.slot) slot.Mark ≡ slot.Number = ap (λ x. get_or (get_or t.now c.frame picture.no_frame).kinds x slot.Mark) (sym at) ∙ numbers.kinds 0 some in
-      let fit : Fits p code lo t.now (put_at v c (Number n)) (written t.now c.frame (sh + c.slot) (cell.Int n)) = fits_put p code lo v t.now c.frame c.slot n numbers.frame there kind integer left.fits.stand in
-      let here : written t.now mc.frame mc.slot (cell.Int n) ≡ written t.now c.frame (sh + c.slot) (cell.Int n) = ap (λ f. written t.now f mc.slot (cell.Int n)) (sym same.frame) ∙ ap (λ x. written t.now c.frame x (cell.Int n)) (sym same.slot) in
+      let fit : Fits p code lo t.now (put_at v c (Number n)) (frames_with_cell t.now c.frame (sh + c.slot) (cell.Int n)) = fits_put p code lo v t.now c.frame c.slot n numbers.frame there kind integer left.fits.stand in
+      let here : frames_with_cell t.now mc.frame mc.slot (cell.Int n) ≡ frames_with_cell t.now c.frame (sh + c.slot) (cell.Int n) = ap (λ f. frames_with_cell t.now f mc.slot (cell.Int n)) (sym same.frame) ∙ ap (λ x. frames_with_cell t.now c.frame x (cell.Int n)) (sym same.slot) in
       let whole : Fits p code lo before (put_at v c (Number n)) w.to.now =
-      subst (Fits p code lo before (put_at v c (Number n))) (sym (w.is.frames ∙ here)) (fits_on p code lo lo v (put_at v c (Number n)) before t.now (written t.now c.frame (sh + c.slot) (cell.Int n)) (omega arith) left.fits fit) in
+      subst (Fits p code lo before (put_at v c (Number n))) (sym (w.is.frames ∙ here)) (fits_on p code lo lo v (put_at v c (Number n)) before t.now (frames_with_cell t.now c.frame (sh + c.slot) (cell.Int n)) (omega arith) left.fits fit) in
       record {
         to = w.to;
         silently = w.silently;

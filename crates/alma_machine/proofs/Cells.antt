@@ -18,8 +18,8 @@ use Rattle.alma_code.specs.declared.cell.CellPlace.{CellPlace}
 use Rattle.alma_code.specs.declared.cell.SlotKind.TheVariants as slot
 use Rattle.alma_code.specs.Carries.{number_at}
 use Rattle.alma_code.specs.Kinds.{is_number}
-use Rattle.alma_code.specs.Machine.{State, copied, with_cell, to_place, put_place, stuck, quiet_step}
-use Rattle.alma_code.specs.Picture.{PlainFrame, last_frame, frame_with, written}
+use Rattle.alma_code.specs.Machine.{State, copies_cells, with_cell, to_place, put_place, gets_stuck, quiet_step}
+use Rattle.alma_code.specs.Picture.{PlainFrame, last_frame, frame_with, frames_with_cell}
 use Rattle.alma_code.specs.Rules.{place_length, has_room}
 use Rattle.alma_code.proofs.Ranges.{offset_le}
 use Rattle.alma_machine.specs.Rows.{HasNumber, width, IsCells, with_copied}
@@ -86,7 +86,7 @@ copied_more f i j m a b =
 
 -- after m cells n more are copied
 copied_from : (f : PlainFrame) (i j n m : ℕ) (s : State) → ((k : ℕ) → k < m + n → HasNumber f (i + k)) → ((k : ℕ) → k < m + n → HasNumber f (j + k))
-    → s.now ≡ with_copied f i j m ∷ [] → copied n (f ∷ []) s 0 (i + m) 0 (j + m) ≡ quiet_step (record s { now = with_copied f i j (m + n) ∷ [] })
+    → s.now ≡ with_copied f i j m ∷ [] → copies_cells n (f ∷ []) s 0 (i + m) 0 (j + m) ≡ quiet_step (record s { now = with_copied f i j (m + n) ∷ [] })
 copied_from f i j zero m s to from same =
     let all : m ≡ m + 0 = omega arith in
     ap (λ (fs : List PlainFrame). quiet_step (record s { now = fs })) (same ∙ ap (λ x. with_copied f i j x ∷ []) all)
@@ -100,28 +100,28 @@ copied_from f i j (suc n) m s to from same =
     ∙ ap (λ o. is_number o && number_at (f ∷ []) 0 (j + m)) a.kind
     ∙ ap is_number b.kind in
     let after : t.now ≡ with_copied f i j (m + 1) ∷ [] =
-    ap (λ fs. written fs 0 (i + m) c) same ∙ ap (λ (g : PlainFrame). g ∷ []) (copied_more f i j m a.below b.below) in
+    ap (λ fs. frames_with_cell fs 0 (i + m) c) same ∙ ap (λ (g : PlainFrame). g ∷ []) (copied_more f i j m a.below b.below) in
     let next_to : suc (i + m) ≡ i + (m + 1) = omega arith in
     let next_from : suc (j + m) ≡ j + (m + 1) = omega arith in
     let all : m + 1 + n ≡ m + suc n = omega arith in
-    ap (λ x. if_true x (λ _. copied n (f ∷ []) t 0 (suc (i + m)) 0 (suc (j + m))) (λ _. stuck s)) live
-    ∙ ap (λ x. copied n (f ∷ []) t 0 x 0 (suc (j + m))) next_to
-    ∙ ap (λ x. copied n (f ∷ []) t 0 (i + (m + 1)) 0 x) next_from
+    ap (λ x. if_true x (λ _. copies_cells n (f ∷ []) t 0 (suc (i + m)) 0 (suc (j + m))) (λ _. gets_stuck s)) live
+    ∙ ap (λ x. copies_cells n (f ∷ []) t 0 x 0 (suc (j + m))) next_to
+    ∙ ap (λ x. copies_cells n (f ∷ []) t 0 (i + (m + 1)) 0 x) next_from
     ∙ copied_from f i j n (m + 1) t (λ k lt. to k (omega arith)) (λ k lt. from k (omega arith)) after
     ∙ ap (λ x. quiet_step (record s { now = with_copied f i j x ∷ [] })) all
 
 -- the cells of a place are copied to another
 pub copied_is : (f : PlainFrame) (l : ℕ) (p q : CellPlace) (s : State) → IsCells f l p → IsCells f l q → s.now ≡ f ∷ []
-    → copied p.len s.now s p.frame p.slot q.frame q.slot ≡ quiet_step (record s { now = with_copied f p.slot q.slot l ∷ [] })
+    → copies_cells p.len s.now s p.frame p.slot q.frame q.slot ≡ quiet_step (record s { now = with_copied f p.slot q.slot l ∷ [] })
 copied_is f l p q s to from same =
     let at_to : p.slot ≡ p.slot + 0 = omega arith in
     let at_from : q.slot ≡ q.slot + 0 = omega arith in
     let all : 0 + l ≡ l = omega arith in
-    ap (λ n. copied n s.now s p.frame p.slot q.frame q.slot) to.many
-    ∙ ap (λ fs. copied l fs s p.frame p.slot q.frame q.slot) same
-    ∙ ap (λ n. copied l (f ∷ []) s n p.slot q.frame q.slot) to.here
-    ∙ ap (λ n. copied l (f ∷ []) s 0 p.slot n q.slot) from.here
-    ∙ ap (λ n. copied l (f ∷ []) s 0 n 0 q.slot) at_to
-    ∙ ap (λ n. copied l (f ∷ []) s 0 (p.slot + 0) 0 n) at_from
+    ap (λ n. copies_cells n s.now s p.frame p.slot q.frame q.slot) to.many
+    ∙ ap (λ fs. copies_cells l fs s p.frame p.slot q.frame q.slot) same
+    ∙ ap (λ n. copies_cells l (f ∷ []) s n p.slot q.frame q.slot) to.here
+    ∙ ap (λ n. copies_cells l (f ∷ []) s 0 p.slot n q.slot) from.here
+    ∙ ap (λ n. copies_cells l (f ∷ []) s 0 n 0 q.slot) at_to
+    ∙ ap (λ n. copies_cells l (f ∷ []) s 0 (p.slot + 0) 0 n) at_from
     ∙ copied_from f p.slot q.slot l 0 s (λ k lt. to.each k (omega arith)) (λ k lt. from.each k (omega arith)) (same ∙ ap (λ (g : PlainFrame). g ∷ []) (copied_none f p.slot q.slot))
     ∙ ap (λ n. quiet_step (record s { now = with_copied f p.slot q.slot n ∷ [] })) all

@@ -16,7 +16,7 @@ use Rattle.alma_code.specs.Fits.{IsPlace, FitsSlot, FitsFrame, FitsMode, Fits}
 use Rattle.alma_code.specs.Kinds.{is_place}
 use Rattle.alma_code.specs.declared.step.End.TheVariants as end
 use Rattle.alma_code.specs.Layout.{RunsRise}
-use Rattle.alma_code.specs.Machine.{State, Going, Failing, step, step_in, act, fetched, with_step_counted, pop_or_end, ended}
+use Rattle.alma_code.specs.Machine.{State, Going, Failing, step, step_in, act, fetch_and_act, with_step_counted, pop_or_end, ends_run}
 use Rattle.alma_code.proofs.Runs.{first_number, start_fits, stays_fit}
 use Rattle.alma_code.specs.Picture.{PlainFrame}
 use Rattle.alma_code.specs.Plain.{PlainCode, head_at, kinds_at, start_at, end_at}
@@ -210,7 +210,7 @@ needs_at code r i sound built fits going is =
 
 -- a step of a machine that goes on is what its instruction does
 pub step_fetched : (code : PlainCode) (input : List ℕ) (s : State) (i : Instr) → s.mode ≡ Going → slice_get code.instrs s.at ≡ Some i → step code input s ≡ act code input i (record (with_step_counted code input s) { at = s.at + 1; last = s.at })
-step_fetched code input s i going is = ap (λ m. step_in code input m s) going ∙ ap (λ o. fetched code input o s) is
+step_fetched code input s i going is = ap (λ m. step_in code input m s) going ∙ ap (λ o. fetch_and_act code input o s) is
 
 -- an element that is read where there is one
 pub read_is : (xs : List Instr) (n : ℕ) (i : Instr) → n < length xs → i ≡ get_or xs n i → slice_get xs n ≡ Some i
@@ -226,7 +226,7 @@ done_is (Err fault) bytes new code s i going is h = tt
 pub ruleset taken = (in_code)
 
 -- a step of a failing machine with no entries ends it
-pub step_failing : (code : PlainCode) (input : List ℕ) (s : State) → s.mode ≡ Failing → s.held ≡ [] → step code input s ≡ ended end.Failed (with_step_counted code input s)
+pub step_failing : (code : PlainCode) (input : List ℕ) (s : State) → s.mode ≡ Failing → s.held ≡ [] → step code input s ≡ ends_run end.Failed (with_step_counted code input s)
 step_failing code input s failing none = ap (λ m. step_in code input m s) failing ∙ ap (λ held. pop_or_end (with_step_counted code input s) held) none
 
 pub ruleset steps = (step_failing)

@@ -18,7 +18,7 @@ use Rattle.alma_code.specs.Plain.{PlainCode}
 use Rattle.alma_code.specs.Carries.{number_at}
 use Rattle.alma_code.specs.Fits.{IsContent}
 use Rattle.alma_code.specs.Kinds.{is_number}
-use Rattle.alma_code.specs.Machine.{State, Stepped, number, place, content, known, as_number, as_place, as_content, ends_in_fault, put_number, put_place, to_number, to_place, store, quiet_step, stuck, with_slot, with_cell, act, as_range, range_check}
+use Rattle.alma_code.specs.Machine.{State, Stepped, number, place, content, with_known_content, as_number, as_place, as_content, ends_in_fault, put_number, put_place, to_number, to_place, store, quiet_step, gets_stuck, with_slot, with_cell, act, as_range, range_check}
 use Rattle.alma_base.specs.Choice.{if_true}
 use Rattle.alma_code.specs.Picture.{PlainFrame, last_frame, cell_at}
 use Rattle.alma_machine.specs.Rows.{HasNumber, IsCells, HoldsCells, Gives, put_or_fault}
@@ -132,7 +132,7 @@ pub ruleset limits = (beyond_up, within_up, beyond_down, within_down)
 -- ---- the cell at a place
 
 -- the content of a number slot is read as the slot is
-as_known : (c : Cell) (s : State) (k : ℤ → Stepped) → IsContent c → as_content true c s (λ o. known s o k) ≡ as_number (Some c) s k
+as_known : (c : Cell) (s : State) (k : ℤ → Stepped) → IsContent c → as_content true c s (λ o. with_known_content s o k) ≡ as_number (Some c) s k
 as_known (cell.Int v) s k h = refl
 as_known cell.Unknown s k h = refl
 as_known cell.Unset s k h = absurd h
@@ -140,10 +140,10 @@ as_known (cell.Place p) s k h = absurd h
 as_known (cell.Mark m) s k h = absurd h
 
 -- the cell at a place of the frame is read as its slot is
-known_is : (f : PlainFrame) (n : ℕ) (s : State) (k : ℤ → Stepped) → HasNumber f n → s.now ≡ f ∷ [] → content s 0 n (λ c. known s c k) ≡ number s n k
+known_is : (f : PlainFrame) (n : ℕ) (s : State) (k : ℤ → Stepped) → HasNumber f n → s.now ≡ f ∷ [] → content s 0 n (λ c. with_known_content s c k) ≡ number s n k
 known_is f n s k h same =
-    ap (λ fs. as_content (number_at fs 0 n) (cell_at fs 0 n cell.Unset) s (λ c. known s c k)) same
-    ∙ ap (λ o. as_content (is_number o) (get_or f.cells n cell.Unset) s (λ c. known s c k)) h.kind
+    ap (λ fs. as_content (number_at fs 0 n) (cell_at fs 0 n cell.Unset) s (λ c. with_known_content s c k)) same
+    ∙ ap (λ o. as_content (is_number o) (get_or f.cells n cell.Unset) s (λ c. with_known_content s c k)) h.kind
     ∙ as_known (get_or f.cells n cell.Unset) s k h.content
     ∙ ap (λ o. as_number o s k) (sym (slice_get-get_or f.cells n cell.Unset h.below))
     ∙ ap (λ fs. as_number (slice_get (last_frame fs).cells n) s k) (sym same)
@@ -155,8 +155,8 @@ one_slot f l p h one =
     subst (HasNumber f) here (h.each 0 (omega arith))
 
 -- what a place of one cell leads to is read as its slot is
-pub at_place : (f : PlainFrame) (l : ℕ) (p : CellPlace) (s : State) (k : ℤ → Stepped) → IsCells f l p → l ≡ 1 → s.now ≡ f ∷ [] → content s p.frame p.slot (λ c. known s c k) ≡ number s p.slot k
-at_place f l p s k h one same = ap (λ n. content s n p.slot (λ c. known s c k)) h.here ∙ known_is f p.slot s k (one_slot f l p h one) same
+pub at_place : (f : PlainFrame) (l : ℕ) (p : CellPlace) (s : State) (k : ℤ → Stepped) → IsCells f l p → l ≡ 1 → s.now ≡ f ∷ [] → content s p.frame p.slot (λ c. with_known_content s c k) ≡ number s p.slot k
+at_place f l p s k h one same = ap (λ n. content s n p.slot (λ c. with_known_content s c k)) h.here ∙ known_is f p.slot s k (one_slot f l p h one) same
 
 pub ruleset at_places = (one_slot, at_place)
 
@@ -179,8 +179,8 @@ pub store_is : (s : State) (f : PlainFrame) (l : ℕ) (p : CellPlace) (v : ℤ) 
 store_is s f l p v same h one =
     let there = one_slot f l p h one in
     ap (λ n. store s n p.slot v quiet_step) h.here
-    ∙ ap (λ fs. if_true (number_at fs 0 p.slot) (λ _. quiet_step (with_cell s 0 p.slot (cell.Int v))) (λ _. stuck s)) same
-    ∙ ap (λ o. if_true (is_number o) (λ _. quiet_step (with_cell s 0 p.slot (cell.Int v))) (λ _. stuck s)) there.kind
+    ∙ ap (λ fs. if_true (number_at fs 0 p.slot) (λ _. quiet_step (with_cell s 0 p.slot (cell.Int v))) (λ _. gets_stuck s)) same
+    ∙ ap (λ o. if_true (is_number o) (λ _. quiet_step (with_cell s 0 p.slot (cell.Int v))) (λ _. gets_stuck s)) there.kind
     ∙ ap (λ n. quiet_step (with_cell s n p.slot (cell.Int v))) (sym (ap (λ fs. length fs - 1) same))
     ∙ sym (put_is s f p.slot v same there)
 

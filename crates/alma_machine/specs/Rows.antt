@@ -13,7 +13,7 @@ use Rattle.alma_code.specs.declared.instr.Instr.TheVariants as I
 use Rattle.alma_code.specs.declared.step.Step.{Step}
 use Rattle.alma_code.specs.Fits.{IsContent}
 use Rattle.alma_code.specs.Kinds.{is_place}
-use Rattle.alma_code.specs.Machine.{Mode, Going, Failing, Ended, State, Stepped, number, place, put_number, put_place, copied, quiet_step, ends_in_fault}
+use Rattle.alma_code.specs.Machine.{Mode, Going, Failing, Ended, State, Stepped, number, place, put_number, put_place, copies_cells, quiet_step, ends_in_fault}
 use Rattle.alma_code.specs.Picture.{PlainFrame}
 use Rattle.alma_code.specs.Plain.{PlainCode}
 use Rattle.alma_code.specs.Rules.{place_length, has_room}
@@ -176,7 +176,7 @@ with_copied frame to from n = record frame { cells = copy_within frame.cells fro
 
 -- cells at a place are copied to another
 abbrev pub copying : State → (to from : ℕ) → Stepped
-copying s to from = place s to (λ p. place s from (λ q. copied p.len s.now s p.frame p.slot q.frame q.slot))
+copying s to from = place s to (λ p. place s from (λ q. copies_cells p.len s.now s p.frame p.slot q.frame q.slot))
 
 -- copying leads to the new frame, or ends in the fault
 abbrev pub GivesCopy : (old new : PlainFrame) → (to from : ℕ) → Result (Unit {0}) RunFault → Type 0

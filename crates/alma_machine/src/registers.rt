@@ -6,7 +6,7 @@ ghost use Rattle.alma_base.specs.declared.fault.RunFault.TheVariants as fault;
 ghost use Rattle.alma_base.specs.declared.value.Value.TheVariants as kind;
 ghost use Rattle.alma_base.specs.Numbers.{is_zero, range_size};
 ghost use Rattle.alma_base.specs.Value.{value_text};
-ghost use Rattle.alma_code.specs.Machine.{act, top, number, place, store, put_number, put_place, range_check, run_faults, quiet_step, ended, goes_to, fails_now, printed};
+ghost use Rattle.alma_code.specs.Machine.{act, top, number, place, store, put_number, put_place, range_check, run_faults, quiet_step, ends_run, goes_to, fails_now, prints_bytes};
 ghost use Rattle.alma_code.specs.Plain.{code_of};
 ghost use Rattle.alma_machine.specs.Rows.{state_of, HasNumber, HasCells, HasOneCell, HasPlace, IsNumbered, KeepsOn, Needs, copying, counted, point_or_fault, put_or_fault, width};
 ghost use Rattle.alma_machine.specs.View.{stepped, PrintsOnly};
@@ -60,7 +60,7 @@ fn print_text(text: &[u8], bytes: &mut Vec<u8>) -> Result<Step, NoMemory>
 impl Registers {
     /// Ends the run.
     pub(crate) fn end(&mut self, end: End) -> Step
-        ensures step { stepped result [] (state_of self.new) ≡ ended end (state_of self.old) }
+        ensures step { stepped result [] (state_of self.new) ≡ ends_run end (state_of self.old) }
         ensures kept { KeepsOn result (state_of self.old) (state_of self.new) }
     {
         self.mode = Mode::Ended(end);
@@ -275,7 +275,7 @@ impl Registers {
         requires empty { bytes.old.items ≡ [] }
         ensures ok { let s = state_of self.old in
             IfOk result (λ answer. stepped answer bytes.new.items (state_of self.new)
-            ≡ number s value (λ v. printed (value_text (kind.Int v)) s)) }
+            ≡ number s value (λ v. prints_bytes (value_text (kind.Int v)) s)) }
         ensures kept { IfOk result (λ answer. KeepsOn answer (state_of self.old)
             (state_of self.new)) }
         ensures quiet { IfOk result (λ answer. PrintsOnly answer bytes.new.items) }
@@ -297,7 +297,7 @@ impl Registers {
         requires empty { bytes.old.items ≡ [] }
         ensures ok { let s = state_of self.old in
             IfOk result (λ answer. stepped answer bytes.new.items (state_of self.new)
-            ≡ number s value (λ v. printed (value_text (kind.Bool (not (is_zero v)))) s)) }
+            ≡ number s value (λ v. prints_bytes (value_text (kind.Bool (not (is_zero v)))) s)) }
         ensures kept { IfOk result (λ answer. KeepsOn answer (state_of self.old)
             (state_of self.new)) }
         ensures quiet { IfOk result (λ answer. PrintsOnly answer bytes.new.items) }
@@ -319,7 +319,7 @@ impl Registers {
         requires empty { bytes.old.items ≡ [] }
         ensures ok { let s = state_of self.old in
             IfOk result (λ answer. stepped answer bytes.new.items (state_of self.new)
-            ≡ number s value (λ v. printed (value_text (kind.Char
+            ≡ number s value (λ v. prints_bytes (value_text (kind.Char
             (nat_abs (int_rem_euclid v (pos 256))))) s)) }
         ensures kept { IfOk result (λ answer. KeepsOn answer (state_of self.old)
             (state_of self.new)) }

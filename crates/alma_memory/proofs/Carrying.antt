@@ -15,7 +15,7 @@ use Rattle.alma_base.specs.Carry.{Carry, is_before, is_same_place, with_change, 
 use Rattle.alma_base.specs.Choice.{if_true}
 use Rattle.alma_code.specs.declared.cell.Cell.{Cell}
 use Rattle.alma_memory.specs.declared.carry.SlotPlace.{SlotPlace}
-use Rattle.alma_memory.specs.Carries.{change_of, listed, IsAbove, IsRising, without_place, with_cell}
+use Rattle.alma_memory.specs.Carries.{change_of, carry_of_entries, IsAbove, IsRising, without_place, with_cell}
 
 -- the order of slots: by their frames, and in a frame by their numbers
 abbrev pub slot_cmp : SlotPlace → SlotPlace → Ordering
@@ -72,22 +72,22 @@ at-same k e =
 -- ---- the entries of a map
 
 -- a choice of entries, as a choice of carries
-chosen-listed : (b s : Bool) (x y z : List (SlotPlace × Cell)) (y' z' : Carry Cell) → (s ≡ true → listed y ≡ y') → listed z ≡ z' →
-    listed (if_true b (λ _. x) (λ _. if_true s (λ _. y) (λ _. z))) ≡ if_true b (λ _. listed x) (λ _. if_true s (λ _. y') (λ _. z'))
+chosen-listed : (b s : Bool) (x y z : List (SlotPlace × Cell)) (y' z' : Carry Cell) → (s ≡ true → carry_of_entries y ≡ y') → carry_of_entries z ≡ z' →
+    carry_of_entries (if_true b (λ _. x) (λ _. if_true s (λ _. y) (λ _. z))) ≡ if_true b (λ _. carry_of_entries x) (λ _. if_true s (λ _. y') (λ _. z'))
 chosen-listed true s x y z y' z' h e = refl
 chosen-listed false true x y z y' z' h e = h refl
 chosen-listed false false x y z y' z' h e = e
 
 -- an insertion sets the cell of a place
-pub insert-listed : (es : List (SlotPlace × Cell)) (k : SlotPlace) (v : Cell) → listed (insert_entry slot_cmp es k v) ≡ with_change (change_of k v) (listed es)
+pub insert-listed : (es : List (SlotPlace × Cell)) (k : SlotPlace) (v : Cell) → carry_of_entries (insert_entry slot_cmp es k v) ≡ with_change (change_of k v) (carry_of_entries es)
 insert-listed [] k v = refl
 insert-listed (e ∷ es) k v =
     let order = ordered-by (nat_lt k.frame e.0.frame) (nat_eq k.frame e.0.frame) (nat_lt k.slot e.0.slot) (nat_eq k.slot e.0.slot)
     ((k, v) ∷ e ∷ es) ((e.0, v) ∷ es) (e ∷ insert_entry slot_cmp es k v) in
-    ap listed order
+    ap carry_of_entries order
     ∙ chosen-listed (is_before k.frame k.slot e.0.frame e.0.slot) (is_same_place k.frame k.slot e.0.frame e.0.slot)
     ((k, v) ∷ e ∷ es) ((e.0, v) ∷ es) (e ∷ insert_entry slot_cmp es k v)
-    (change_of k v ∷ listed es) (change_of e.0 e.1 ∷ with_change (change_of k v) (listed es))
+    (change_of k v ∷ carry_of_entries es) (change_of e.0 e.1 ∷ with_change (change_of k v) (carry_of_entries es))
     (λ s. let one = same-place-is k.frame k.slot e.0.frame e.0.slot s in rw (one.0, one.1) refl)
     (ap (λ rest. change_of e.0 e.1 ∷ rest) (insert-listed es k v))
 
@@ -97,39 +97,39 @@ by-test t true x y y' h e = rw h refl
 by-test t false x y y' h e = rw h e
 
 -- the same choice in a carry
-by-test-listed : (t b : Bool) (x y : List (SlotPlace × Cell)) (y' : Carry Cell) → t ≡ b → listed y ≡ y' → listed (cond t x y) ≡ if_true b (λ _. listed x) (λ _. y')
+by-test-listed : (t b : Bool) (x y : List (SlotPlace × Cell)) (y' : Carry Cell) → t ≡ b → carry_of_entries y ≡ y' → carry_of_entries (cond t x y) ≡ if_true b (λ _. carry_of_entries x) (λ _. y')
 by-test-listed t true x y y' h e = rw h refl
 by-test-listed t false x y y' h e = rw h e
 
 -- a look-up finds the cell of a place
-pub lookup-listed : (es : List (SlotPlace × Cell)) (k : SlotPlace) → lookup (is_at (slot_cmp k)) es ≡ carried_at k.frame k.slot (listed es)
+pub lookup-listed : (es : List (SlotPlace × Cell)) (k : SlotPlace) → lookup (is_at (slot_cmp k)) es ≡ carried_at k.frame k.slot (carry_of_entries es)
 lookup-listed [] k = refl
 lookup-listed (e ∷ es) k =
     by-test (is_at (slot_cmp k) e.0) (is_same_place e.0.frame e.0.slot k.frame k.slot) (Some e.1) (lookup (is_at (slot_cmp k)) es)
-    (carried_at k.frame k.slot (listed es)) (at-same k e.0) (lookup-listed es k)
+    (carried_at k.frame k.slot (carry_of_entries es)) (at-same k e.0) (lookup-listed es k)
 
 -- a removal takes a place away
-pub remove-listed : (es : List (SlotPlace × Cell)) (k : SlotPlace) → listed (remove_entry (is_at (slot_cmp k)) es) ≡ without_place k.frame k.slot (listed es)
+pub remove-listed : (es : List (SlotPlace × Cell)) (k : SlotPlace) → carry_of_entries (remove_entry (is_at (slot_cmp k)) es) ≡ without_place k.frame k.slot (carry_of_entries es)
 remove-listed [] k = refl
 remove-listed (e ∷ es) k =
     by-test-listed (is_at (slot_cmp k) e.0) (is_same_place e.0.frame e.0.slot k.frame k.slot) es (e ∷ remove_entry (is_at (slot_cmp k)) es)
-    (change_of e.0 e.1 ∷ without_place k.frame k.slot (listed es)) (at-same k e.0) (ap (λ rest. change_of e.0 e.1 ∷ rest) (remove-listed es k))
+    (change_of e.0 e.1 ∷ without_place k.frame k.slot (carry_of_entries es)) (at-same k e.0) (ap (λ rest. change_of e.0 e.1 ∷ rest) (remove-listed es k))
 
 -- a write through the map changes the cell of a place
-pub set-listed : (es : List (SlotPlace × Cell)) (k : SlotPlace) (v : Cell) → listed (set_value (is_at (slot_cmp k)) es v) ≡ with_cell k.frame k.slot v (listed es)
+pub set-listed : (es : List (SlotPlace × Cell)) (k : SlotPlace) (v : Cell) → carry_of_entries (set_value (is_at (slot_cmp k)) es v) ≡ with_cell k.frame k.slot v (carry_of_entries es)
 set-listed [] k v = refl
 set-listed (e ∷ es) k v =
     by-test-listed (is_at (slot_cmp k) e.0) (is_same_place e.0.frame e.0.slot k.frame k.slot) ((e.0, v) ∷ es) (e ∷ set_value (is_at (slot_cmp k)) es v)
-    (change_of e.0 e.1 ∷ with_cell k.frame k.slot v (listed es)) (at-same k e.0) (ap (λ rest. change_of e.0 e.1 ∷ rest) (set-listed es k v))
+    (change_of e.0 e.1 ∷ with_cell k.frame k.slot v (carry_of_entries es)) (at-same k e.0) (ap (λ rest. change_of e.0 e.1 ∷ rest) (set-listed es k v))
 
 -- the keys above a key come after its place
-above-listed : (k : SlotPlace) (es : List (SlotPlace × Cell)) → AllByRecursion (λ y. slot_cmp k y ≡ Less) (keys_of es) → IsAbove k.frame k.slot (listed es)
+above-listed : (k : SlotPlace) (es : List (SlotPlace × Cell)) → AllByRecursion (λ y. slot_cmp k y ≡ Less) (keys_of es) → IsAbove k.frame k.slot (carry_of_entries es)
 above-listed k [] h = tt
 above-listed k (e ∷ es) h =
     (less-by (nat_lt k.frame e.0.frame) (nat_eq k.frame e.0.frame) (nat_lt k.slot e.0.slot) (nat_eq k.slot e.0.slot) h.0, above-listed k es h.1)
 
 -- the entries of an ordered map rise
-pub rising-listed : (es : List (SlotPlace × Cell)) → IsStrictlySortedBy slot_cmp (keys_of es) → IsRising (listed es)
+pub rising-listed : (es : List (SlotPlace × Cell)) → IsStrictlySortedBy slot_cmp (keys_of es) → IsRising (carry_of_entries es)
 unfolding IsStrictlySortedBy
 rising-listed [] h = tt
 rising-listed (e ∷ es) h = (above-listed e.0 es h.0, rising-listed es h.1)

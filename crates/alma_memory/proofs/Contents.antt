@@ -7,10 +7,10 @@ use Rattle.alma_base.specs.Carry.{Change, Carry, is_same_place, carried_at}
 use Rattle.alma_code.specs.declared.cell.Cell.{Cell}
 use Rattle.alma_code.specs.declared.cell.Cell.TheVariants.{Unknown}
 use Rattle.alma_code.specs.Kinds.{is_number}
-use Rattle.alma_code.specs.Picture.{PlainFrame, no_frame, frame_with, written, cell_at}
+use Rattle.alma_code.specs.Picture.{PlainFrame, no_frame, frame_with, frames_with_cell, cell_at}
 use Rattle.alma_code.specs.Carries.{number_at, same_cell, diff_at}
 use Rattle.alma_memory.specs.Frames.{IsWhole, AreWhole}
-use Rattle.alma_memory.specs.Inner.Past.{frames_with_old_cells, number_in, number_of, over, changed}
+use Rattle.alma_memory.specs.Inner.Past.{frames_with_old_cells, number_in, number_of, over, change_between}
 use Rattle.alma_memory.proofs.Stores.{whole-set, whole-with, whole-at, number-slot}
 use Rattle.alma_memory.proofs.Carrying.{same-place-is}
 use Rattle.alma_memory.proofs.Rising.{if-keeps, same-itself}
@@ -44,13 +44,13 @@ number-here g s c w = choose (is_number (slice_get g.kinds s)) refl
     choose false e = refl
 
 -- a write to a place changes its number slot
-number-same : (fs : List PlainFrame) (f s : ℕ) (c : Cell) → AreWhole fs → number_of (written fs f s c) f s ≡ over (number_of fs f s) (Some c)
+number-same : (fs : List PlainFrame) (f s : ℕ) (c : Cell) → AreWhole fs → number_of (frames_with_cell fs f s c) f s ≡ over (number_of fs f s) (Some c)
 number-same [] f s c w = refl
 number-same (x ∷ fs) zero s c w = number-here x s c w.0
 number-same (x ∷ fs) (suc f) s c w = number-same fs f s c w.1
 
 -- a write to another slot
-number-other : (fs : List PlainFrame) (f s g t : ℕ) (c : Cell) → (f ≡ g → s ≡ t → ⊥) → number_of (written fs g t c) f s ≡ number_of fs f s
+number-other : (fs : List PlainFrame) (f s g t : ℕ) (c : Cell) → (f ≡ g → s ≡ t → ⊥) → number_of (frames_with_cell fs g t c) f s ≡ number_of fs f s
 number-other [] f s g t c h = refl
 number-other (x ∷ fs) zero s zero t c h =
     ap (λ d. if is_number (slice_get x.kinds s) then Some d else None) (get_or-set_other x.cells t s c Unknown (h refl))
@@ -72,11 +72,11 @@ pub number-frames_with_old_cells : (fs : List PlainFrame) (cs : Carry Cell) (f s
 number-frames_with_old_cells fs [] f s w = sym (over-none (number_of fs f s))
 number-frames_with_old_cells fs (x ∷ cs) f s w =
     let R = frames_with_old_cells fs cs in
-    let P : Option Cell → Type 0 = (λ o. number_of (written R x.frame x.slot x.cell) f s ≡ over (number_of fs f s) o) in
+    let P : Option Cell → Type 0 = (λ o. number_of (frames_with_cell R x.frame x.slot x.cell) f s ≡ over (number_of fs f s) o) in
     let rest : number_of R f s ≡ over (number_of fs f s) (carried_at f s cs) = number-frames_with_old_cells fs cs f s w in
     if-keeps P (is_same_place x.frame x.slot f s) (λ _. Some x.cell) (λ _. carried_at f s cs)
     (λ e. let one = same-place-is x.frame x.slot f s e in
-    ap (λ g. number_of (written R g x.slot x.cell) f s) one.0 ∙ (ap (λ t. number_of (written R f t x.cell) f s) one.1
+    ap (λ g. number_of (frames_with_cell R g x.slot x.cell) f s) one.0 ∙ (ap (λ t. number_of (frames_with_cell R f t x.cell) f s) one.1
     ∙ (number-same R f s x.cell (whole-frames_with_old_cells fs cs w)
     ∙ (ap (λ o. over o (Some x.cell)) rest ∙ over-over (number_of fs f s) (carried_at f s cs) x.cell))))
     (λ ns. number-other R f s x.frame x.slot x.cell
@@ -107,14 +107,14 @@ change_at frame slot (Some c) = (record { frame = frame; slot = slot; cell = c }
 -- the change at a place, by its tests
 diff-by : (p q r : Bool) (f s : ℕ) (a b : Cell) → same_cell a b ≡ r →
     (if p && (q && not r) then (record { frame = f; slot = s; cell = b }) ∷ [] else [])
-    ≡ change_at f s (changed (if p then Some a else None) (if q then Some b else None))
+    ≡ change_at f s (change_between (if p then Some a else None) (if q then Some b else None))
 diff-by false q r f s a b e = refl
 diff-by true false r f s a b e = refl
 diff-by true true true f s a b e = rw e refl
 diff-by true true false f s a b e = rw e refl
 
 -- the change at a place is what its number slot changed to
-pub diff-changed : (before now : List PlainFrame) (f s : ℕ) → diff_at before now f s ≡ change_at f s (changed (number_of before f s) (number_of now f s))
+pub diff-changed : (before now : List PlainFrame) (f s : ℕ) → diff_at before now f s ≡ change_at f s (change_between (number_of before f s) (number_of now f s))
 diff-changed before now f s =
     diff-by (number_at before f s) (number_at now f s) (same_cell (cell_at before f s Unknown) (cell_at now f s Unknown)) f s
     (cell_at before f s Unknown) (cell_at now f s Unknown) refl

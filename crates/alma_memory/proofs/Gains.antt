@@ -12,7 +12,7 @@ use Rattle.alma_code.specs.Picture.{PlainFrame, no_frame, cell_at}
 use Rattle.alma_code.specs.Carries.{number_at, differs, diff_at, slot_diffs, frame_diffs, diffs}
 use Rattle.alma_code.proofs.Cells.{same_itself}
 use Rattle.alma_memory.specs.Frames.{AreWhole}
-use Rattle.alma_memory.specs.Inner.Past.{frames_with_old_cells, number_of, over, changed, diffs_at, diffs_between, SameGain}
+use Rattle.alma_memory.specs.Inner.Past.{frames_with_old_cells, number_of, over, change_between, diffs_at, diffs_between, SameGain}
 use Rattle.alma_memory.proofs.Carrying.{same-place-is}
 use Rattle.alma_memory.proofs.Rising.{same-itself, carried-with, rising-all, same-carry}
 use Rattle.alma_memory.proofs.Stores.{number-cell, number-frame}
@@ -233,7 +233,7 @@ parts before now f s d =
     (one.0, two.0)
 
 -- a number slot that is as before did not change
-unchanged : (now : List PlainFrame) (f s : ℕ) → number_at now f s ≡ true → changed (number_of now f s) (number_of now f s) ≡ None
+unchanged : (now : List PlainFrame) (f s : ℕ) → number_at now f s ≡ true → change_between (number_of now f s) (number_of now f s) ≡ None
 unchanged now f s e = rw (e, same_itself (cell_at now f s Unknown)) refl
 
 -- a number is below another or not
@@ -252,7 +252,7 @@ shared-named n now above cs before f s l lt p w d e =
     ap (λ gs. number_of gs f s) p ∙ (number-shared n now above cs f s l lt ∙ (number-frames_with_old_cells now cs f s w
     ∙ (ap (over (number_of now f s)) (none-carried f s cs e) ∙ over-none (number_of now f s)))) in
     let none : diff_at before now f s ≡ [] =
-    diff-changed before now f s ∙ ap (change_at f s) (ap (λ o. changed o (number_of now f s)) same ∙ unchanged now f s (parts before now f s d).1) in
+    diff-changed before now f s ∙ ap (change_at f s) (ap (λ o. change_between o (number_of now f s)) same ∙ unchanged now f s (parts before now f s d).1) in
     let no : true ≡ false = sym (has-diff before now f s d) ∙ ap (has_place f s) none in
     absurd (cc)
 

@@ -4,7 +4,7 @@ use Rattle.std.proofs.lemmas.List.{take-map, map-set, get_or-map, length-map, le
 use Rattle.alma_base.specs.Carry.{Change, with_changes}
 use Rattle.alma_code.specs.declared.cell.Cell.{Cell}
 use Rattle.alma_code.specs.Picture.{PlainFrame, PlainEntry, no_entry, top_of, entry_at}
-use Rattle.alma_code.specs.Carries.{diffs, with_carry, kept}
+use Rattle.alma_code.specs.Carries.{diffs, with_carry, held_after_keep}
 use Rattle.alma_memory.specs.declared.trail.Note.{Note}
 use Rattle.alma_memory.specs.declared.trail.Entry.{Entry}
 use Rattle.alma_memory.specs.Inner.Trail.{unwind, entry_of, held_of}
@@ -25,7 +25,7 @@ pub kept-held : (h : ℕ) (trail : List Note) (fs : List PlainFrame) (es es' : L
     es' ≡ take (length es - 1) (set es (h - 1) (entry_with_changes (get_or es (h - 1) no_saved) found)) →
     IsRising (get_or es (h - 1) no_saved).carry → SameGain found (diffs (unwind (drop top.mark trail) fs) fs) →
     top ≡ get_or es (length es - 1) top → 1 ≤ h → h < length es →
-    held_of trail fs es' ≡ kept (held_of trail fs es) h fs
+    held_of trail fs es' ≡ held_after_keep (held_of trail fs es) h fs
 kept-held h trail fs es es' found top p r g t a b =
     let held : List PlainEntry = held_of trail fs es in
     let base : Entry = get_or es (h - 1) no_saved in

@@ -3,11 +3,11 @@ use Rattle.std.proofs.Common.{◌≡◌, ◌≤◌, ◌+◌, ℕ, List, [], ◌�
 use Rattle.alma_base.specs.Carry.{Carry}
 use Rattle.alma_code.specs.declared.cell.Cell.{Cell}
 use Rattle.alma_code.specs.Picture.{PlainFrame}
-use Rattle.alma_code.specs.Carries.{laid, frames_with_carry}
+use Rattle.alma_code.specs.Carries.{frames_with_change, frames_with_carry}
 use Rattle.alma_memory.specs.declared.carry.SlotPlace.{SlotPlace}
 use Rattle.alma_memory.specs.declared.trail.Note.{Note}
 use Rattle.alma_memory.specs.declared.trail.Entry.{Entry}
-use Rattle.alma_memory.specs.Carries.{change_of, listed}
+use Rattle.alma_memory.specs.Carries.{change_of, carry_of_entries}
 use Rattle.alma_memory.specs.Inner.Trail.{trail_for_entries}
 use Rattle.alma_memory.specs.Inner.Held.{Keeps, IsTrailed, HasNoteRoom, Rises}
 use Rattle.alma_memory.proofs.Trails.{rises-pop, rises-more, trail_for_entries-keeps}
@@ -18,28 +18,28 @@ keeps-then es t0 t1 t2 f0 f1 f2 a b = record { held = b.held ∙ a.held; trailed
 
 -- a carry is laid over the frames but for the rest of it
 pub record Lays (es : List Entry) (carry : Carry Cell) (rest : List (SlotPlace × Cell)) (trail after : List Note) (fs fs' : List PlainFrame) : Type 0 where
-  pub laid_so : frames_with_carry fs' (listed rest) ≡ frames_with_carry fs carry
+  pub laid_so : frames_with_carry fs' (carry_of_entries rest) ≡ frames_with_carry fs carry
   pub keeps : Keeps es trail after fs fs'
 
 -- at first all of the carry is left
 pub lays-all : (es : List Entry) (carry : Carry Cell) (rest : List (SlotPlace × Cell)) (t : List Note) (f : List PlainFrame) →
-    listed rest ≡ carry → IsTrailed es t f → Lays es carry rest t t f f
+    carry_of_entries rest ≡ carry → IsTrailed es t f → Lays es carry rest t t f f
 lays-all es carry rest t f e h = record { laid_so = ap (frames_with_carry f) e; keeps = record { held = refl; trailed = h } }
 
 -- one more cell is laid over them
 pub lays-more : (es : List Entry) (carry : Carry Cell) (rest rest' : List (SlotPlace × Cell)) (p : SlotPlace) (v : Cell) (t0 t1 t2 : List Note) (f0 f1 f2 : List PlainFrame) →
-    Lays es carry rest t0 t1 f0 f1 → rest ≡ (p, v) ∷ rest' → f2 ≡ laid f1 (change_of p v) → Keeps es t1 t2 f1 f2 → Lays es carry rest' t0 t2 f0 f2
+    Lays es carry rest t0 t1 f0 f1 → rest ≡ (p, v) ∷ rest' → f2 ≡ frames_with_change f1 (change_of p v) → Keeps es t1 t2 f1 f2 → Lays es carry rest' t0 t2 f0 f2
 lays-more es carry rest rest' p v t0 t1 t2 f0 f1 f2 l e q k =
-    let one : frames_with_carry f1 (listed rest) ≡ frames_with_carry (laid f1 (change_of p v)) (listed rest') = ap (λ xs. frames_with_carry f1 (listed xs)) e in
+    let one : frames_with_carry f1 (carry_of_entries rest) ≡ frames_with_carry (frames_with_change f1 (change_of p v)) (carry_of_entries rest') = ap (λ xs. frames_with_carry f1 (carry_of_entries xs)) e in
     record {
-      laid_so = ap (λ gs. frames_with_carry gs (listed rest')) q ∙ (sym one ∙ l.laid_so);
+      laid_so = ap (λ gs. frames_with_carry gs (carry_of_entries rest')) q ∙ (sym one ∙ l.laid_so);
       keeps = keeps-then es t0 t1 t2 f0 f1 f2 l.keeps k;
     }
 
 -- at last none is left
 pub lays-none : (es : List Entry) (carry : Carry Cell) (rest : List (SlotPlace × Cell)) (t t' : List Note) (f f' : List PlainFrame) →
     Lays es carry rest t t' f f' → rest ≡ [] → f' ≡ frames_with_carry f carry
-lays-none es carry rest t t' f f' l e = sym (ap (λ xs. frames_with_carry f' (listed xs)) e) ∙ l.laid_so
+lays-none es carry rest t t' f f' l e = sym (ap (λ xs. frames_with_carry f' (carry_of_entries xs)) e) ∙ l.laid_so
 
 -- ---- room for notes
 

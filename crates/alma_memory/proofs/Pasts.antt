@@ -4,7 +4,7 @@ use Rattle.std.proofs.lemmas.List.{get_or_read, length-append, length-set, lengt
 use Rattle.alma_base.specs.Carry.{Change, Carry, is_before, is_same_place, with_change}
 use Rattle.alma_base.specs.Choice.{if_true}
 use Rattle.alma_code.specs.declared.cell.Cell.{Cell}
-use Rattle.alma_code.specs.Picture.{PlainFrame, no_frame, frame_with, written, without_last}
+use Rattle.alma_code.specs.Picture.{PlainFrame, no_frame, frame_with, frames_with_cell, without_last}
 use Rattle.alma_memory.specs.Inner.Past.{frames_with_old_cells}
 use Rattle.alma_memory.proofs.Carrying.{same-place-is}
 use Rattle.alma_memory.proofs.Rising.{if-keeps, same-itself}
@@ -34,13 +34,13 @@ length-frames_with_old_cells fs [] = refl
 length-frames_with_old_cells fs (x ∷ cs) = length-set (frames_with_old_cells fs cs) x.frame (frame_with (get_or (frames_with_old_cells fs cs) x.frame no_frame) x.slot x.cell) ∙ length-frames_with_old_cells fs cs
 
 -- of two writes to one slot the second counts
-written-again : (fs : List PlainFrame) (f s : ℕ) (c d : Cell) → written (written fs f s c) f s d ≡ written fs f s d
+written-again : (fs : List PlainFrame) (f s : ℕ) (c d : Cell) → frames_with_cell (frames_with_cell fs f s c) f s d ≡ frames_with_cell fs f s d
 written-again [] f s c d = refl
 written-again (x ∷ fs) zero s c d = ap (λ cs. record x { cells = cs } ∷ fs) (set-set x.cells s c d)
 written-again (x ∷ fs) (suc f) s c d = ap (λ gs. x ∷ gs) (written-again fs f s c d)
 
 -- writes to two slots can be swapped
-written-apart : (fs : List PlainFrame) (f s g t : ℕ) (c d : Cell) → (f ≡ g → s ≡ t → ⊥) → written (written fs f s c) g t d ≡ written (written fs g t d) f s c
+written-apart : (fs : List PlainFrame) (f s g t : ℕ) (c d : Cell) → (f ≡ g → s ≡ t → ⊥) → frames_with_cell (frames_with_cell fs f s c) g t d ≡ frames_with_cell (frames_with_cell fs g t d) f s c
 written-apart [] f s g t c d h = refl
 written-apart (x ∷ fs) zero s zero t c d h = ap (λ cs. record x { cells = cs } ∷ fs) (set-apart c d x.cells s t (h refl))
 written-apart (x ∷ fs) zero s (suc g) t c d h = refl
@@ -48,38 +48,38 @@ written-apart (x ∷ fs) (suc f) s zero t c d h = refl
 written-apart (x ∷ fs) (suc f) s (suc g) t c d h = ap (λ gs. x ∷ gs) (written-apart fs f s g t c d (λ e. h (ap suc e)))
 
 -- a change of the carry is one more write
-pub frames_with_old_cells-with : (fs : List PlainFrame) (x : Change Cell) (cs : Carry Cell) → frames_with_old_cells fs (with_change x cs) ≡ written (frames_with_old_cells fs cs) x.frame x.slot x.cell
+pub frames_with_old_cells-with : (fs : List PlainFrame) (x : Change Cell) (cs : Carry Cell) → frames_with_old_cells fs (with_change x cs) ≡ frames_with_cell (frames_with_old_cells fs cs) x.frame x.slot x.cell
 frames_with_old_cells-with fs x [] = refl
 frames_with_old_cells-with fs x (y ∷ cs) =
-    let P : Carry Cell → Type 0 = (λ zs. frames_with_old_cells fs zs ≡ written (frames_with_old_cells fs (y ∷ cs)) x.frame x.slot x.cell) in
+    let P : Carry Cell → Type 0 = (λ zs. frames_with_old_cells fs zs ≡ frames_with_cell (frames_with_old_cells fs (y ∷ cs)) x.frame x.slot x.cell) in
     let q = is_same_place x.frame x.slot y.frame y.slot in
     if-keeps P (is_before x.frame x.slot y.frame y.slot) (λ _. x ∷ y ∷ cs) (λ _. if_true q (λ _. x ∷ cs) (λ _. y ∷ with_change x cs))
     (λ _. refl)
     (λ _. if-keeps P q (λ _. x ∷ cs) (λ _. y ∷ with_change x cs)
     (λ s. let one = same-place-is x.frame x.slot y.frame y.slot s in
-    sym (ap (λ f. written (written (frames_with_old_cells fs cs) f y.slot y.cell) x.frame x.slot x.cell) (sym one.0)
-    ∙ (ap (λ t. written (written (frames_with_old_cells fs cs) x.frame t y.cell) x.frame x.slot x.cell) (sym one.1)
+    sym (ap (λ f. frames_with_cell (frames_with_cell (frames_with_old_cells fs cs) f y.slot y.cell) x.frame x.slot x.cell) (sym one.0)
+    ∙ (ap (λ t. frames_with_cell (frames_with_cell (frames_with_old_cells fs cs) x.frame t y.cell) x.frame x.slot x.cell) (sym one.1)
     ∙ written-again (frames_with_old_cells fs cs) x.frame x.slot y.cell x.cell)))
-    (λ ns. ap (λ gs. written gs y.frame y.slot y.cell) (frames_with_old_cells-with fs x cs)
+    (λ ns. ap (λ gs. frames_with_cell gs y.frame y.slot y.cell) (frames_with_old_cells-with fs x cs)
     ∙ written-apart (frames_with_old_cells fs cs) x.frame x.slot y.frame y.slot x.cell y.cell
     (λ e d. let no : true ≡ false = sym (rw (← e, ← d) (same-itself x.frame x.slot)) ∙ ns in absurd (cc))))
 
 -- a write to one of the first frames
-pub take-written : (n : ℕ) (fs : List PlainFrame) (f s : ℕ) (c : Cell) → take n (written fs f s c) ≡ written (take n fs) f s c
+pub take-written : (n : ℕ) (fs : List PlainFrame) (f s : ℕ) (c : Cell) → take n (frames_with_cell fs f s c) ≡ frames_with_cell (take n fs) f s c
 take-written zero fs f s c = refl
 take-written (suc n) [] f s c = refl
 take-written (suc n) (x ∷ fs) zero s c = refl
 take-written (suc n) (x ∷ fs) (suc f) s c = ap (λ gs. x ∷ gs) (take-written n fs f s c)
 
 -- a write to a frame of the first list
-written-left : (xs ys : List PlainFrame) (f s : ℕ) (c : Cell) → f < length xs → written (xs ++ ys) f s c ≡ written xs f s c ++ ys
+written-left : (xs ys : List PlainFrame) (f s : ℕ) (c : Cell) → f < length xs → frames_with_cell (xs ++ ys) f s c ≡ frames_with_cell xs f s c ++ ys
 written-left [] ys f s c l = absurd (omega arith)
 written-left (x ∷ xs) ys zero s c l = refl
 written-left (x ∷ xs) ys (suc f) s c l = ap (λ gs. x ∷ gs) (written-left xs ys f s c (omega arith))
 
 -- a write to a frame of the second list
-written-right : (xs ys : List PlainFrame) (f s i : ℕ) (c : Cell) → length xs + i ≡ f → written (xs ++ ys) f s c ≡ xs ++ written ys i s c
-written-right [] ys f s i c e = let z : f ≡ i = omega (arith, e) in ap (λ g. written ys g s c) z
+written-right : (xs ys : List PlainFrame) (f s i : ℕ) (c : Cell) → length xs + i ≡ f → frames_with_cell (xs ++ ys) f s c ≡ xs ++ frames_with_cell ys i s c
+written-right [] ys f s i c e = let z : f ≡ i = omega (arith, e) in ap (λ g. frames_with_cell ys g s c) z
 written-right (x ∷ xs) ys zero s i c e = absurd (omega arith)
 written-right (x ∷ xs) ys (suc f) s i c e = ap (λ gs. x ∷ gs) (written-right xs ys f s i c (omega arith))
 
@@ -91,7 +91,7 @@ shared-length n now cs l = length-take-le n (frames_with_old_cells now cs) (rw (
 
 -- a write to a shared frame
 pub wrote-shared : (n : ℕ) (now above : List PlainFrame) (cs cs' : Carry Cell) (x : Change Cell) → n ≤ length now → x.frame < n → cs' ≡ with_change x cs →
-    take n (frames_with_old_cells now cs') ++ above ≡ written (take n (frames_with_old_cells now cs) ++ above) x.frame x.slot x.cell
+    take n (frames_with_old_cells now cs') ++ above ≡ frames_with_cell (take n (frames_with_old_cells now cs) ++ above) x.frame x.slot x.cell
 wrote-shared n now above cs cs' x l lt e =
     let len = shared-length n now cs l in
     ap (λ gs. take n gs ++ above) (ap (frames_with_old_cells now) e ∙ frames_with_old_cells-with now x cs)
@@ -99,8 +99,8 @@ wrote-shared n now above cs cs' x l lt e =
     ∙ sym (written-left (take n (frames_with_old_cells now cs)) above x.frame x.slot x.cell (omega (arith, len, lt))))
 
 -- a write to a frame above the shared ones
-pub wrote-above : (n : ℕ) (now above above' : List PlainFrame) (cs : Carry Cell) (f s : ℕ) (c : Cell) → n ≤ length now → n ≤ f → above' ≡ written above (f - n) s c →
-    take n (frames_with_old_cells now cs) ++ above' ≡ written (take n (frames_with_old_cells now cs) ++ above) f s c
+pub wrote-above : (n : ℕ) (now above above' : List PlainFrame) (cs : Carry Cell) (f s : ℕ) (c : Cell) → n ≤ length now → n ≤ f → above' ≡ frames_with_cell above (f - n) s c →
+    take n (frames_with_old_cells now cs) ++ above' ≡ frames_with_cell (take n (frames_with_old_cells now cs) ++ above) f s c
 wrote-above n now above above' cs f s c l le e =
     let len = shared-length n now cs l in
     let at : length (take n (frames_with_old_cells now cs)) + (f - n) ≡ f = omega (arith, len, le) in

@@ -9,7 +9,7 @@ use Rattle.alma_base.specs.Choice.{if_true}
 use Rattle.alma_code.specs.declared.cell.Cell.{Cell}
 use Rattle.alma_code.specs.declared.cell.Cell.TheVariants.{Unknown}
 use Rattle.alma_memory.specs.declared.carry.SlotPlace.{SlotPlace}
-use Rattle.alma_memory.specs.Carries.{change_of, listed, IsAbove, IsRising, without_place, with_cell, put_back, all_put_back, cells_before_setting}
+use Rattle.alma_memory.specs.Carries.{change_of, carry_of_entries, IsAbove, IsRising, without_place, with_cell, put_back, all_put_back, cells_before_setting}
 use Rattle.alma_memory.proofs.Carrying.{same-place-is, same-place-swap}
 
 -- ---- a choice
@@ -246,7 +246,7 @@ none-back [] cs = refl
 none-back (x ∷ xs) cs = refl
 
 -- changes of which some first ones were made are all taken back
-pub all-back : (xs ys : List (SlotPlace × Cell)) (cs : Carry Cell) → IsRising cs → all_put_back (xs ++ ys) (cells_before_setting xs cs) (with_changes (listed xs) cs) ≡ cs
+pub all-back : (xs ys : List (SlotPlace × Cell)) (cs : Carry Cell) → IsRising cs → all_put_back (xs ++ ys) (cells_before_setting xs cs) (with_changes (carry_of_entries xs) cs) ≡ cs
 all-back [] ys cs r = none-back ys cs
 all-back (x ∷ xs) ys cs r =
     ap (put_back x.0 (carried_at x.0.frame x.0.slot cs)) (all-back xs ys (with_change (change_of x.0 x.1) cs) (rising-with (change_of x.0 x.1) cs r))
@@ -270,13 +270,13 @@ changes-push (y ∷ xs) x cs = changes-push xs x (with_change y cs)
 
 -- what the place of one more change had
 pub cells_before_setting-push : (xs : List (SlotPlace × Cell)) (x : SlotPlace × Cell) (cs : Carry Cell) →
-    cells_before_setting (xs ++ x ∷ []) cs ≡ cells_before_setting xs cs ++ carried_at x.0.frame x.0.slot (with_changes (listed xs) cs) ∷ []
+    cells_before_setting (xs ++ x ∷ []) cs ≡ cells_before_setting xs cs ++ carried_at x.0.frame x.0.slot (with_changes (carry_of_entries xs) cs) ∷ []
 cells_before_setting-push [] x cs = refl
 cells_before_setting-push (y ∷ xs) x cs = ap (λ os. carried_at y.0.frame y.0.slot cs ∷ os) (cells_before_setting-push xs x (with_change (change_of y.0 y.1) cs))
 
 -- the first i of the changes are made, and what their places had is noted
 pub record IsSet (xs : List (SlotPlace × Cell)) (i : ℕ) (before now : Carry Cell) (had : List (Option Cell)) : Type 0 where
-  pub carry : now ≡ with_changes (listed (take i xs)) before
+  pub carry : now ≡ with_changes (carry_of_entries (take i xs)) before
   pub noted : had ≡ cells_before_setting (take i xs) before
 
 -- one more change is made
@@ -288,8 +288,8 @@ set-more xs i before now now' had had' o s l p q r =
     let more : take (i + 1) xs ≡ take i xs ++ x ∷ [] = take_more xs i no_change l in
     record {
       carry = p ∙ (ap (with_change (change_of x.0 x.1)) s.carry
-          ∙ (sym (changes-push (listed (take i xs)) (change_of x.0 x.1) before)
-          ∙ ap (λ ys. with_changes ys before) (sym (map-append (λ (y : SlotPlace × Cell). change_of y.0 y.1) (take i xs) (x ∷ [])) ∙ ap listed (sym more))));
+          ∙ (sym (changes-push (carry_of_entries (take i xs)) (change_of x.0 x.1) before)
+          ∙ ap (λ ys. with_changes ys before) (sym (map-append (λ (y : SlotPlace × Cell). change_of y.0 y.1) (take i xs) (x ∷ [])) ∙ ap carry_of_entries (sym more))));
       noted = r ∙ (ap (λ os. os ++ o ∷ []) s.noted
           ∙ (ap (λ y. cells_before_setting (take i xs) before ++ y ∷ []) (q ∙ ap (carried_at x.0.frame x.0.slot) s.carry)
           ∙ (sym (cells_before_setting-push (take i xs) x before) ∙ ap (λ ys. cells_before_setting ys before) (sym more))));
@@ -300,5 +300,5 @@ pub set-back : (xs : List (SlotPlace × Cell)) (i : ℕ) (before now after : Car
     IsSet xs i before now had → after ≡ all_put_back xs had now → after ≡ before
 set-back xs i before now after had r s p =
     p ∙ (ap (λ os. all_put_back xs os now) s.noted ∙ (ap (all_put_back xs (cells_before_setting (take i xs) before)) s.carry
-    ∙ (ap (λ ys. all_put_back ys (cells_before_setting (take i xs) before) (with_changes (listed (take i xs)) before)) (sym (take-append-drop i xs))
+    ∙ (ap (λ ys. all_put_back ys (cells_before_setting (take i xs) before) (with_changes (carry_of_entries (take i xs)) before)) (sym (take-append-drop i xs))
     ∙ all-back (take i xs) (drop i xs) before r)))

@@ -8,7 +8,7 @@ use Rattle.alma_code.specs.declared.cell.Cell.{Cell}
 use Rattle.alma_code.specs.declared.cell.Cell.TheVariants.{Unknown}
 use Rattle.alma_code.specs.declared.cell.SlotKind.{SlotKind}
 use Rattle.alma_code.specs.Kinds.{is_number}
-use Rattle.alma_code.specs.Picture.{PlainFrame, no_frame, frame_with, written, cell_at, without_last, last_frame, live_cells}
+use Rattle.alma_code.specs.Picture.{PlainFrame, no_frame, frame_with, frames_with_cell, cell_at, without_last, last_frame, live_cells}
 use Rattle.alma_code.specs.Carries.{number_at}
 use Rattle.alma_memory.specs.Frames.{IsWhole, AreWhole, AreLive}
 
@@ -17,7 +17,7 @@ pub live-set : (fs : List PlainFrame) (f : ℕ) (g : PlainFrame) → g.declared 
 live-set fs f g e = ap sum (map-set_same (λ h. h.declared) fs f g no_frame e)
 
 -- a write declares no cells
-pub live-written : (fs fs' : List PlainFrame) (f s : ℕ) (c : Cell) → fs' ≡ written fs f s c → live_cells fs' ≡ live_cells fs
+pub live-written : (fs fs' : List PlainFrame) (f s : ℕ) (c : Cell) → fs' ≡ frames_with_cell fs f s c → live_cells fs' ≡ live_cells fs
 live-written fs fs' f s c p = ap live_cells p ∙ live-set fs f (frame_with (get_or fs f no_frame) s c) refl
 
 -- a push declares the cells of its frame
@@ -74,7 +74,7 @@ whole-with g s c w = record {
 }
 
 -- what is live stays so at a write
-pub live-after-write : (fs : List PlainFrame) (f s : ℕ) (c : Cell) → AreLive fs → AreLive (written fs f s c)
+pub live-after-write : (fs : List PlainFrame) (f s : ℕ) (c : Cell) → AreLive fs → AreLive (frames_with_cell fs f s c)
 live-after-write fs f s c h =
     let g : PlainFrame = frame_with (get_or fs f no_frame) s c in
     record {
@@ -105,7 +105,7 @@ number-frame (g ∷ fs) (suc f) s h = let r : f < length fs = number-frame fs f 
 
 -- a write and a write of the old cell leave the frames as they were
 pub undo-written : (fs : List PlainFrame) (f s : ℕ) (c old : Cell) → f < length fs → old ≡ cell_at fs f s Unknown →
-    s < length (get_or fs f no_frame).cells → written (written fs f s c) f s old ≡ fs
+    s < length (get_or fs f no_frame).cells → frames_with_cell (frames_with_cell fs f s c) f s old ≡ fs
 undo-written fs f s c old l e k =
     let here : PlainFrame = get_or fs f no_frame in
     let g : PlainFrame = frame_with here s c in

@@ -6,13 +6,13 @@ use Rattle.alma_code.specs.declared.cell.Cell.{Cell}
 use Rattle.alma_code.specs.declared.cell.Cell.TheVariants.{Unknown}
 use Rattle.alma_code.specs.declared.cell.ChoiceKind.{ChoiceKind}
 use Rattle.alma_code.specs.declared.cell.ChoiceKind.TheVariants.{Branch, Forall, Body, Done}
-use Rattle.alma_code.specs.Picture.{PlainFrame, PlainEntry, no_frame, no_entry, frame_with, written, cell_at, top_of, kind_at, stack_after_pop, entry_after_pop, entry_of_kind_after_pop, without_last, last_frame, live_cells}
+use Rattle.alma_code.specs.Picture.{PlainFrame, PlainEntry, no_frame, no_entry, frame_with, frames_with_cell, cell_at, top_of, kind_at, stack_after_pop, entry_after_pop, entry_of_kind_after_pop, without_last, last_frame, live_cells}
 use Rattle.alma_memory.specs.declared.carry.SlotPlace.{SlotPlace}
 use Rattle.alma_memory.specs.declared.trail.Note.{Note}
 use Rattle.alma_memory.specs.declared.trail.Note.TheVariants.{Wrote, Entered, Left}
 use Rattle.alma_memory.specs.declared.trail.Entry.{Entry}
 use Rattle.alma_memory.specs.Frames.{IsWhole, AreLive}
-use Rattle.alma_memory.specs.Inner.Trail.{undo, unwind, entry_of, held_of, noted, trail_for_entries}
+use Rattle.alma_memory.specs.Inner.Trail.{undo, unwind, entry_of, held_of, trail_with_note, trail_for_entries}
 use Rattle.alma_memory.specs.Inner.Held.{Undoes, Fits, Rises, IsTrailed, Keeps, stays, stays_as}
 use Rattle.alma_memory.proofs.Stores.{live-push, live-after-write, undo-written, without-push, last-and-rest, whole-push, whole-take}
 
@@ -110,7 +110,7 @@ held-push low top trail n fs (e ∷ es) r k =
 
 -- a change that its note undoes leaves all copies as they were
 pub noted-keeps : (es : List Entry) (trail : List Note) (n : Note) (fs fs' : List PlainFrame) →
-    IsTrailed es trail fs → undo n fs' ≡ fs → Undoes n fs' → AreLive fs' → Keeps es trail (noted es trail n) fs fs'
+    IsTrailed es trail fs → undo n fs' ≡ fs → Undoes n fs' → AreLive fs' → Keeps es trail (trail_with_note es trail n) fs fs'
 noted-keeps [] trail n fs fs' t e u s = record {
   held = refl;
   trailed = record { fits = rw (t.idle refl) s; live = s; rises = t.rises; idle = t.idle };
@@ -127,28 +127,28 @@ noted-keeps (d ∷ es) trail n fs fs' t e u s = record {
 
 -- a note can be undone after its write
 pub undoes-written : (fs : List PlainFrame) (p : SlotPlace) (c old : Cell) → p.frame < length fs →
-    p.slot < length (get_or fs p.frame no_frame).cells → Undoes (Wrote p old) (written fs p.frame p.slot c)
+    p.slot < length (get_or fs p.frame no_frame).cells → Undoes (Wrote p old) (frames_with_cell fs p.frame p.slot c)
 undoes-written fs p c old l k =
     let g : PlainFrame = frame_with (get_or fs p.frame no_frame) p.slot c in
-    let wide : length (written fs p.frame p.slot c) ≡ length fs = length-set fs p.frame g in
-    let same : get_or (written fs p.frame p.slot c) p.frame no_frame ≡ g = get_or-set_same fs p.frame g no_frame l in
-    let cells : length (get_or (written fs p.frame p.slot c) p.frame no_frame).cells ≡ length (get_or fs p.frame no_frame).cells =
+    let wide : length (frames_with_cell fs p.frame p.slot c) ≡ length fs = length-set fs p.frame g in
+    let same : get_or (frames_with_cell fs p.frame p.slot c) p.frame no_frame ≡ g = get_or-set_same fs p.frame g no_frame l in
+    let cells : length (get_or (frames_with_cell fs p.frame p.slot c) p.frame no_frame).cells ≡ length (get_or fs p.frame no_frame).cells =
     ap (λ (h : PlainFrame). length h.cells) same ∙ length-set (get_or fs p.frame no_frame).cells p.slot c in
     (omega (arith, wide, l), omega (arith, cells, k))
 
 -- a noted write keeps all copies
 pub write-keeps : (es : List Entry) (trail trail' : List Note) (fs fs' : List PlainFrame) (p : SlotPlace) (c old : Cell) →
-    fs' ≡ written fs p.frame p.slot c → trail' ≡ noted es trail (Wrote p old) → old ≡ cell_at fs p.frame p.slot Unknown →
+    fs' ≡ frames_with_cell fs p.frame p.slot c → trail' ≡ trail_with_note es trail (Wrote p old) → old ≡ cell_at fs p.frame p.slot Unknown →
     p.frame < length fs → p.slot < length (get_or fs p.frame no_frame).cells → IsTrailed es trail fs → Keeps es trail trail' fs fs'
 write-keeps es trail trail' fs fs' p c old q t o l k trailed =
-    let keeps : Keeps es trail (noted es trail (Wrote p old)) fs (written fs p.frame p.slot c) =
-    noted-keeps es trail (Wrote p old) fs (written fs p.frame p.slot c) trailed
+    let keeps : Keeps es trail (trail_with_note es trail (Wrote p old)) fs (frames_with_cell fs p.frame p.slot c) =
+    noted-keeps es trail (Wrote p old) fs (frames_with_cell fs p.frame p.slot c) trailed
     (undo-written fs p.frame p.slot c old l o k) (undoes-written fs p c old l k) (live-after-write fs p.frame p.slot c trailed.live) in
     rw (q, t) keeps
 
 -- a noted entry keeps all copies
 pub enter-keeps : (es : List Entry) (trail trail' : List Note) (fs fs' : List PlainFrame) (g : PlainFrame) →
-    fs' ≡ fs ++ g ∷ [] → trail' ≡ noted es trail Entered → length fs < 10000 → live_cells fs + g.declared ≤ 1048576 → IsWhole g →
+    fs' ≡ fs ++ g ∷ [] → trail' ≡ trail_with_note es trail Entered → length fs < 10000 → live_cells fs + g.declared ≤ 1048576 → IsWhole g →
     IsTrailed es trail fs → Keeps es trail trail' fs fs'
 enter-keeps es trail trail' fs fs' g p t l m w trailed =
     let live : AreLive (fs ++ g ∷ []) = record {
@@ -157,13 +157,13 @@ enter-keeps es trail trail' fs fs' g p t l m w trailed =
       declared = rw (live-push fs g) m;
       whole = whole-push fs g w trailed.live.whole;
     } in
-    let keeps : Keeps es trail (noted es trail Entered) fs (fs ++ g ∷ []) =
+    let keeps : Keeps es trail (trail_with_note es trail Entered) fs (fs ++ g ∷ []) =
     noted-keeps es trail Entered fs (fs ++ g ∷ []) trailed (without-push fs g) tt live in
     rw (p, t) keeps
 
 -- a noted leave keeps all copies
 pub leave-keeps : (es : List Entry) (trail trail' : List Note) (fs fs' : List PlainFrame) (g : PlainFrame) →
-    fs' ≡ without_last fs → g ≡ last_frame fs → trail' ≡ noted es trail (Left g) → 2 ≤ length fs →
+    fs' ≡ without_last fs → g ≡ last_frame fs → trail' ≡ trail_with_note es trail (Left g) → 2 ≤ length fs →
     IsTrailed es trail fs → Keeps es trail trail' fs fs'
 leave-keeps es trail trail' fs fs' g p o t l trailed =
     let now = trailed.live in
@@ -176,7 +176,7 @@ leave-keeps es trail trail' fs fs' g p o t l trailed =
       declared = omega (arith, now.declared);
       whole = whole-take (length fs - 1) fs now.whole;
     } in
-    let keeps : Keeps es trail (noted es trail (Left g)) fs (without_last fs) =
+    let keeps : Keeps es trail (trail_with_note es trail (Left g)) fs (without_last fs) =
     noted-keeps es trail (Left g) fs (without_last fs) trailed whole tt live in
     rw (p, t) keeps
 

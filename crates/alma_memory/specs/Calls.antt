@@ -2,8 +2,8 @@
 use Rattle.std.specs.Prelude.{◌≡◌, ℕ, ◌-◌, ◌≤◌, List, [], ◌∷◌, ◌++◌, length, take}
 use Rattle.alma_code.specs.declared.cell.Cell.{Cell}
 use Rattle.alma_code.specs.declared.cell.ChoiceKind.{ChoiceKind}
-use Rattle.alma_code.specs.Picture.{PlainFrame, PlainEntry, written, without_last, top_of, entry_at, stack_after_pop}
-use Rattle.alma_code.specs.Carries.{frames_with_carry, kept}
+use Rattle.alma_code.specs.Picture.{PlainFrame, PlainEntry, frames_with_cell, without_last, top_of, entry_at, stack_after_pop}
+use Rattle.alma_code.specs.Carries.{frames_with_carry, held_after_keep}
 use Rattle.alma_memory.specs.Picture.{Picture}
 
 -- a call that did what it was asked for; a reader, `reserve` and a refused call are all `Nothing`
@@ -22,7 +22,7 @@ pub data Call : Type 0 where
 -- the frames after a call
 abbrev pub now_after : Call → Picture → List PlainFrame
 now_after Nothing p = p.now
-now_after (Write frame slot cell) p = written p.now frame slot cell
+now_after (Write frame slot cell) p = frames_with_cell p.now frame slot cell
 now_after (Enter frame) p = p.now ++ frame ∷ []
 now_after Leave p = without_last p.now
 now_after (Choose kind resume) p = p.now
@@ -42,7 +42,7 @@ held_after (Choose kind resume) p = p.held ++ (record { kind = kind; resume = re
 held_after Fail p = stack_after_pop p.held
 held_after (Cut height) p = take height p.held
 held_after (Overlay height) p = p.held
-held_after (Keep height) p = kept p.held height p.now
+held_after (Keep height) p = held_after_keep p.held height p.now
 held_after Finish p = take (length p.held - 1) p.held
 
 -- the call takes the first picture to the second, whatever the rooms

@@ -10,8 +10,8 @@ abbrev pub change_of : SlotPlace → Cell → Change Cell
 change_of place cell = record { frame = place.frame; slot = place.slot; cell = cell }
 
 -- the entries of a map as a carry
-abbrev pub listed : List (SlotPlace × Cell) → Carry Cell
-listed entries = map (λ entry. change_of entry.0 entry.1) entries
+abbrev pub carry_of_entries : List (SlotPlace × Cell) → Carry Cell
+carry_of_entries entries = map (λ entry. change_of entry.0 entry.1) entries
 
 -- each place of the carry comes after this one
 abbrev pub IsAbove : (frame slot : ℕ) → Carry Cell → Type 0

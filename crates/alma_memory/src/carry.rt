@@ -1,7 +1,7 @@
 // The carry of a FORALL: a finite map from slots to cells.
 ghost use Rattle.std.specs.Prelude.{◌≡◌, ◌≤◌, [], length, take, is_ok, IsOk, IfOk, OnOk, if◌then◌else◌, vec_len, vec_capacity};
 ghost use Rattle.alma_base.specs.Carry.{carried_at, with_change, with_changes};
-ghost use Rattle.alma_memory.specs.Carries.{IsRising, change_of, cells_before_setting, listed, put_back, all_put_back};
+ghost use Rattle.alma_memory.specs.Carries.{IsRising, change_of, cells_before_setting, carry_of_entries, put_back, all_put_back};
 
 use alma_base::NoMemory;
 use alma_code::Cell;
@@ -25,15 +25,15 @@ pub struct Carry {
 impl Model for Carry {
     ghost use Rattle.alma_base.specs.Carry.{Carry as CarryOf};
     ghost use Rattle.alma_code.specs.declared.cell.Cell.{Cell};
-    ghost use Rattle.alma_memory.specs.Carries.{listed};
+    ghost use Rattle.alma_memory.specs.Carries.{carry_of_entries};
 
     ghost Value = { CarryOf Cell };
 
     ghost use Rattle.alma_memory.specs.Carries.{IsRising};
 
-    ghost view = { λ c. listed c.cells.entries };
+    ghost view = { λ c. carry_of_entries c.cells.entries };
 
-    ghost invariant = { λ c. IsRising (listed c.cells.entries) };
+    ghost invariant = { λ c. IsRising (carry_of_entries c.cells.entries) };
 }
 
 impl Carry {
@@ -102,7 +102,7 @@ impl Carry {
     ) -> Result<(), NoMemory>
         requires empty { had.old.items ≡ [] }
         requires room { length changes.now ≤ vec_capacity had.old }
-        ensures carry { self.new ≡ with_changes (listed (take (vec_len had.new) changes.now))
+        ensures carry { self.new ≡ with_changes (carry_of_entries (take (vec_len had.new) changes.now))
             self.old }
         ensures had { had.new.items ≡ cells_before_setting
             (take (vec_len had.new) changes.now) self.old }
@@ -124,7 +124,7 @@ impl Carry {
     /// Sets the cells one after another, or none of them.
     pub fn set_all(&mut self, alloc: Global, changes: &[(SlotPlace, Cell)]) -> Result<(), NoMemory>
         ensures carry { self.new ≡ (if is_ok result then with_changes
-            (listed changes.now) self.old else self.old) }
+            (carry_of_entries changes.now) self.old else self.old) }
         ensures rising { OnOk result (IsRising self.old) }
     {
         let mut had = Vec::with_capacity(alloc, changes.len())?;

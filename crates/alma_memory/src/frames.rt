@@ -1,7 +1,7 @@
 // The live frames, and how many cells they declare.
 ghost use Rattle.std.specs.Prelude.{◌≡◌, ℕ, ◌+◌, ◌<◌, ◌≤◌, [], ◌∷◌, ◌++◌, length, slice_index_or, IfOk};
 ghost use Rattle.alma_base.specs.Limits.{cell_limit, frame_limit};
-ghost use Rattle.alma_code.specs.Picture.{no_frame, written, cell_at, last_frame, without_last, live_cells};
+ghost use Rattle.alma_code.specs.Picture.{no_frame, frames_with_cell, cell_at, last_frame, without_last, live_cells};
 ghost use Rattle.alma_code.specs.Carries.{number_at};
 ghost use Rattle.alma_memory.specs.Frames.{AreWhole};
 ghost use Rattle.alma_memory.specs.Inner.Past.{number_of};
@@ -104,7 +104,7 @@ impl Frames {
     pub fn write(&mut self, place: SlotPlace, cell: Cell)
         requires live { place.frame < length self.old }
         requires slot_of { place.slot < length (slice_index_or self.old place.frame no_frame).cells }
-        ensures { self.new ≡ written self.old place.frame place.slot cell }
+        ensures { self.new ≡ frames_with_cell self.old place.frame place.slot cell }
     {
         let changed = &mut self.list[place.frame as usize];
         changed.write(place.slot, cell);

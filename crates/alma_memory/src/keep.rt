@@ -1,7 +1,7 @@
 // How the carry of a FORALL gains what a body changed.
 ghost use Rattle.std.specs.Prelude.{◌≡◌, ◌-◌, ◌<◌, ◌≤◌, length, drop, set, is_ok, IfOk, OnOk, slice_index_or, if◌then◌else◌, vec_len, vec_capacity};
-ghost use Rattle.alma_code.specs.Carries.{diffs, kept};
-ghost use Rattle.alma_memory.specs.Carries.{IsRising, listed};
+ghost use Rattle.alma_code.specs.Carries.{diffs, held_after_keep};
+ghost use Rattle.alma_memory.specs.Carries.{IsRising, carry_of_entries};
 ghost use Rattle.alma_memory.specs.Inner.Gain.{no_saved, entry_with_changes};
 ghost use Rattle.alma_memory.specs.Inner.Held.{Fits, IsTrailed};
 ghost use Rattle.alma_memory.specs.Inner.Past.{SameGain};
@@ -24,7 +24,7 @@ fn changes_since(
 ) -> Result<Vec<(SlotPlace, Cell)>, NoMemory>
     requires fits { Fits trail.now frames.now }
     requires mark { mark ≤ length trail.now }
-    ensures { IfOk result (λ found. SameGain (listed found.items)
+    ensures { IfOk result (λ found. SameGain (carry_of_entries found.items)
         (diffs (unwind (drop mark trail.now) frames.now) frames.now)) }
 {
     let past = past_of(alloc, frames, trail, mark)?;
@@ -40,7 +40,7 @@ fn gain(
 ) -> Result<(), NoMemory>
     requires { at < length entries.old.items }
     ensures items { entries.new.items ≡ (if is_ok result then set entries.old.items at
-        (entry_with_changes (slice_index_or entries.old.items at no_saved) (listed changes.now))
+        (entry_with_changes (slice_index_or entries.old.items at no_saved) (carry_of_entries changes.now))
         else entries.old.items) }
     ensures rising { OnOk result (IsRising (slice_index_or entries.old.items at no_saved).carry) }
     ensures len { vec_len entries.new ≡ vec_len entries.old }
@@ -62,7 +62,7 @@ pub fn keep_top(
     requires low { 1 ≤ height }
     requires below { height < length entries.old.items }
     ensures held { held_of trail.now frames.now entries.new.items
-        ≡ (if is_ok result then kept (held_of trail.now frames.now entries.old.items) height
+        ≡ (if is_ok result then held_after_keep (held_of trail.now frames.now entries.old.items) height
         frames.now else held_of trail.now frames.now entries.old.items) }
     ensures trailed { IsTrailed entries.new.items trail.now frames.now }
     ensures len { vec_len entries.new ≤ vec_len entries.old }

@@ -1,6 +1,6 @@
 // How a carry is laid over the frames.
 ghost use Rattle.std.specs.Prelude.{◌≡◌, ◌+◌, ◌≤◌, [], ◌∷◌, ◌++◌, length, vec_len, vec_capacity};
-ghost use Rattle.alma_code.specs.Carries.{laid, frames_with_carry};
+ghost use Rattle.alma_code.specs.Carries.{frames_with_change, frames_with_carry};
 ghost use Rattle.alma_memory.specs.Carries.{change_of};
 ghost use Rattle.alma_memory.specs.Inner.Held.{HasNoteRoom, IsTrailed, Keeps};
 ghost use Rattle.alma_memory.specs.Inner.Trail.{held_of};
@@ -20,7 +20,7 @@ fn lay_one(
 )
     requires trailed { IsTrailed entries.now trail.old.items frames.old }
     requires room { HasNoteRoom entries.now 1 (vec_len trail.old) (vec_capacity trail.old) }
-    ensures frames { frames.new ≡ laid frames.old (change_of place cell) }
+    ensures frames { frames.new ≡ frames_with_change frames.old (change_of place cell) }
     ensures keeps { Keeps entries.now trail.old.items trail.new.items frames.old frames.new }
     ensures capacity { vec_capacity trail.old ≤ vec_capacity trail.new }
     ensures len { vec_len trail.new ≤ vec_len trail.old + 1 }

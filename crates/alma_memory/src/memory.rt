@@ -1,8 +1,8 @@
 // The memory of the machine, and its calls.
 ghost use Rattle.std.specs.Prelude.{◌≡◌, ◌≢◌, ◌+◌, ◌-◌, ◌<◌, ◌≤◌, [], ◌∷◌, ◌++◌, length, take, is_ok, is_some, slice_index_or, slice_get, Some, IfOk, OnOk, OnErr, IsOk, IsSome, IsNone, IfSome, IfNone, MatchResult, if◌then◌else◌, ◌↔◌};
 ghost use Rattle.alma_base.specs.Limits.{cell_limit};
-ghost use Rattle.alma_code.specs.Picture.{no_frame, written, cell_at, kind_at, last_frame, without_last, live_cells, stack_after_pop, top_of, entry_at};
-ghost use Rattle.alma_code.specs.Carries.{IsLive, IsForallAt, IsTop, kept, frames_with_carry};
+ghost use Rattle.alma_code.specs.Picture.{no_frame, frames_with_cell, cell_at, kind_at, last_frame, without_last, live_cells, stack_after_pop, top_of, entry_at};
+ghost use Rattle.alma_code.specs.Carries.{IsLive, IsForallAt, IsTop, held_after_keep, frames_with_carry};
 ghost use Rattle.alma_code.specs.Layout.{IsHead, FitsParams, start_frame, frame_of_call};
 ghost use Rattle.alma_code.specs.declared.cell.Cell.TheVariants as cell;
 ghost use Rattle.alma_memory.specs.Calls.{Choose, Cut, Enter, Fail, Finish, Keep, Leave, Makes, Nothing, Overlay, Write};
@@ -165,7 +165,7 @@ impl Memory {
     pub fn write(&mut self, frame: u32, slot: u32, cell: Cell) -> Result<(), NoMemory>
         requires live { frame < length self.old.now }
         requires slot_of { slot < length (slice_index_or self.old.now frame no_frame).cells }
-        ensures now { self.new.now ≡ (if is_ok result then written self.old.now frame slot cell else
+        ensures now { self.new.now ≡ (if is_ok result then frames_with_cell self.old.now frame slot cell else
             self.old.now) }
         ensures held { self.new.held ≡ self.old.held }
         ensures succeeds { 1 ≤ self.old.trail_room → IsOk result }
@@ -360,7 +360,7 @@ impl Memory {
         requires forall { IsForallAt self.old.held height }
         requires below { height < length self.old.held }
         ensures now { self.new.now ≡ self.old.now }
-        ensures held { self.new.held ≡ (if is_ok result then kept self.old.held height self.old.now
+        ensures held { self.new.held ≡ (if is_ok result then held_after_keep self.old.held height self.old.now
             else self.old.held) }
         ensures rooms { KeepsRooms self.old self.new }
         ensures call { Makes (if is_ok result then Keep height else Nothing) self.old self.new }

@@ -1,12 +1,12 @@
 // The frames from before some notes, known by what of the frames of now was other then.
 ghost use Rattle.std.specs.Prelude.{◌≡◌, ◌+◌, ◌<◌, ◌≤◌, ◌∷◌, [], ◌++◌, length, drop, true, IfOk, slice_index_or};
 ghost use Rattle.alma_base.specs.Limits.{frame_limit};
-ghost use Rattle.alma_code.specs.Picture.{no_frame, written, without_last};
+ghost use Rattle.alma_code.specs.Picture.{no_frame, frames_with_cell, without_last};
 ghost use Rattle.alma_code.specs.Carries.{diffs, diff_at, slot_diffs, same_cell};
-ghost use Rattle.alma_memory.specs.Carries.{listed};
+ghost use Rattle.alma_memory.specs.Carries.{carry_of_entries};
 ghost use Rattle.alma_memory.specs.Frames.{AreLive, AreWhole};
 ghost use Rattle.alma_memory.specs.Inner.Held.{Fits, Undoes};
-ghost use Rattle.alma_memory.specs.Inner.Past.{number_of, over, changed, diffs_at, diffs_between, SameGain};
+ghost use Rattle.alma_memory.specs.Inner.Past.{number_of, over, change_between, diffs_at, diffs_between, SameGain};
 ghost use Rattle.alma_memory.specs.Inner.Trail.{undo, unwind};
 
 use crate::carry::{Carry, SlotPlace};
@@ -60,7 +60,7 @@ impl<'a> Past<'a> {
             no_frame).cells }
         ensures now { self.new.now ≡ self.old.now }
         ensures before { IfOk result (λ _. self.new.before
-            ≡ written self.old.before place.frame place.slot cell) }
+            ≡ frames_with_cell self.old.before place.frame place.slot cell) }
     {
         if place.frame < self.shared {
             self.cells.set(place, cell)?;
@@ -134,7 +134,7 @@ impl<'a> Past<'a> {
     ) -> Result<(), NoMemory>
         requires before { AreWhole self.now.before }
         requires now { AreWhole self.now.now }
-        ensures { IfOk result (λ _. listed found.new.items ≡ listed found.old.items
+        ensures { IfOk result (λ _. carry_of_entries found.new.items ≡ carry_of_entries found.old.items
             ++ diff_at self.now.before self.now.now place.frame place.slot) }
     {
         if let Some(cell) = changed_to(self.number(place), self.frames.number(place)) {
@@ -152,7 +152,7 @@ impl<'a> Past<'a> {
     ) -> Result<(), NoMemory>
         requires before { AreWhole self.now.before }
         requires now { AreWhole self.now.now }
-        ensures { IfOk result (λ _. listed found.new.items ≡ listed found.old.items
+        ensures { IfOk result (λ _. carry_of_entries found.new.items ≡ carry_of_entries found.old.items
             ++ slot_diffs self.now.before self.now.now frame slots) }
     {
         for slot in 0..slots {
@@ -181,7 +181,7 @@ impl<'a> Past<'a> {
         requires now { AreWhole self.now.now }
         requires live { low + count ≤ length self.now.now }
         requires few { length self.now.now ≤ frame_limit }
-        ensures { IfOk result (λ _. listed found.new.items ≡ listed found.old.items
+        ensures { IfOk result (λ _. carry_of_entries found.new.items ≡ carry_of_entries found.old.items
             ++ diffs_between self.now.before self.now.now low count) }
     {
         for at in 0..count {
@@ -199,7 +199,7 @@ impl<'a> Past<'a> {
     ) -> Result<(), NoMemory>
         requires before { AreWhole self.now.before }
         requires now { AreWhole self.now.now }
-        ensures { IfOk result (λ _. listed found.new.items ≡ listed found.old.items
+        ensures { IfOk result (λ _. carry_of_entries found.new.items ≡ carry_of_entries found.old.items
             ++ diffs_at self.now.before self.now.now places.now) }
     {
         for (place, _) in &places.cells {
@@ -213,7 +213,7 @@ impl<'a> Past<'a> {
     pub fn changes(&self, alloc: Global) -> Result<Vec<(SlotPlace, Cell)>, NoMemory>
         requires before { AreLive self.now.before }
         requires now { AreLive self.now.now }
-        ensures { IfOk result (λ found. SameGain (listed found.items)
+        ensures { IfOk result (λ found. SameGain (carry_of_entries found.items)
             (diffs self.now.before self.now.now)) }
     {
         let mut found = Vec::new(alloc);
@@ -243,7 +243,7 @@ fn is_same_cell(a: Cell, b: Cell) -> bool
 
 // What a number slot changed to.
 fn changed_to(before: Option<Cell>, now: Option<Cell>) -> Option<Cell>
-    ensures { result ≡ changed before now }
+    ensures { result ≡ change_between before now }
 {
     match (before, now) {
         (Some(old), Some(new)) if !is_same_cell(old, new) => Some(new),

@@ -1,10 +1,10 @@
 // The trail: notes of what changed since each entry was pushed, and how they are undone.
 ghost use Rattle.std.specs.Prelude.{◌≡◌, ◌+◌, ◌-◌, ◌<◌, ◌≤◌, [], ◌∷◌, ◌++◌, length, take, drop, slice_index_or, OnOk, IsOk, IsSome, IsNone, MatchOption, MatchResult, vec_len, vec_capacity};
 ghost use Rattle.alma_base.specs.Limits.{cell_limit, frame_limit};
-ghost use Rattle.alma_code.specs.Picture.{no_frame, written, last_frame, without_last, live_cells, stack_after_pop, top_of};
+ghost use Rattle.alma_code.specs.Picture.{no_frame, frames_with_cell, last_frame, without_last, live_cells, stack_after_pop, top_of};
 ghost use Rattle.alma_memory.specs.Frames.{AreLive, IsWhole};
 ghost use Rattle.alma_memory.specs.Inner.Held.{Fits, HasNoteRoom, IsTrailed, Keeps, Undoes, stays};
-ghost use Rattle.alma_memory.specs.Inner.Trail.{held_of, noted, trail_for_entries, undo, unwind};
+ghost use Rattle.alma_memory.specs.Inner.Trail.{held_of, trail_with_note, trail_for_entries, undo, unwind};
 
 use crate::carry::{Carry, SlotPlace};
 use crate::frame::Frame;
@@ -52,7 +52,7 @@ pub fn room_for_notes(
 // Notes a change, where an entry needs it.
 fn add_note(entries: &[Entry], trail: &mut Vec<Note>, note: Note)
     requires { HasNoteRoom entries.now 1 (vec_len trail.old) (vec_capacity trail.old) }
-    ensures items { trail.new.items ≡ noted entries.now trail.old.items note }
+    ensures items { trail.new.items ≡ trail_with_note entries.now trail.old.items note }
     ensures capacity { vec_capacity trail.old ≤ vec_capacity trail.new }
     ensures len { vec_len trail.new ≤ vec_len trail.old + 1 }
 {
@@ -87,7 +87,7 @@ pub fn write_noted(
     requires room { HasNoteRoom entries.now 1 (vec_len trail.old) (vec_capacity trail.old) }
     requires live { place.frame < length frames.old }
     requires slot_of { place.slot < length (slice_index_or frames.old place.frame no_frame).cells }
-    ensures frames { frames.new ≡ written frames.old place.frame place.slot cell }
+    ensures frames { frames.new ≡ frames_with_cell frames.old place.frame place.slot cell }
     ensures keeps { Keeps entries.now trail.old.items trail.new.items frames.old frames.new }
     ensures capacity { vec_capacity trail.old ≤ vec_capacity trail.new }
     ensures len { vec_len trail.new ≤ vec_len trail.old + 1 }

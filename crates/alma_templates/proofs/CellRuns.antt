@@ -12,10 +12,10 @@ use Rattle.alma_code.specs.declared.instr.Instr.{Instr}
 use Rattle.alma_code.specs.declared.instr.Instr.TheVariants as I
 use Rattle.alma_code.specs.Lines.{line_at}
 use Rattle.alma_code.specs.Carries.{number_at}
-use Rattle.alma_code.specs.Picture.{PlainFrame, PlainEntry, cell_at, written}
+use Rattle.alma_code.specs.Picture.{PlainFrame, PlainEntry, cell_at, frames_with_cell}
 use Rattle.alma_code.specs.Picture as picture
 use Rattle.alma_code.specs.Plain.{PlainCode}
-use Rattle.alma_code.specs.Machine.{State, Stepped, Failing, act, step, quiet_step, ends_in_fault, fails_now, stuck, with_cell, as_content, place, content, store, equation_of_contents, equations, copied}
+use Rattle.alma_code.specs.Machine.{State, Stepped, Failing, act, step, quiet_step, ends_in_fault, fails_now, gets_stuck, with_cell, as_content, place, content, store, equation_of_contents, equations, copies_cells}
 use Rattle.alma_ir.specs.Tree.{Program, Desig, CopyCells, SameCells}
 use Rattle.alma_ir.specs.Checked.{desig_cells}
 use Rattle.alma_mean.specs.Store.{Store, Place, Unknown, Number, put, put_all, cells_from, cell_of, put_at, part}
@@ -69,7 +69,7 @@ module _ (p : Program) (code : PlainCode) (input : List ℕ) where
 
   copied_goes : (n lo r f i g j m s : ℕ) (v : Store) (before : List PlainFrame) (w : Store) (now : List PlainFrame) → own_end p r ≤ lo → Begins p code input r v before → Left p code input lo r before w now
       → AreNumbers p code v before (cells f i n) → AreNumbers p code v before (cells g j n) → shift_in p v f + i ≡ m → shift_in p v g + j ≡ s
-      → (t : List PlainFrame) × ((x : State) → x.now ≡ now → copied n before x f m g s ≡ quiet_step (record x { now = t })) × Left p code input lo r before (put_all w f i (cells_from v g j n)) t
+      → (t : List PlainFrame) × ((x : State) → x.now ≡ now → copies_cells n before x f m g s ≡ quiet_step (record x { now = t })) × Left p code input lo r before (put_all w f i (cells_from v g j n)) t
   copied_goes zero lo r f i g j m s v before w now behind b left to from at_to at_from = (now, (λ x e. ap (λ z. quiet_step (record x { now = z })) e), left)
   copied_goes (suc n) lo r f i g j m s v before w now behind b left to from at_to at_from =
       let a : store_of.Cell = store_of.cell_at v g j in
@@ -85,15 +85,15 @@ module _ (p : Program) (code : PlainCode) (input : List ℕ) where
       let bw = begins p code input lo r before w now left in
       let made = left_cell p code input lo r f i a c w now bw to_w.frame (first_within f i n w now to_w) (first_kind_is f i n w now to_w) (number_content p code v w a c content) to_w.free in
       let w1 : Store = put w f i a in
-      let t1 : List PlainFrame = written now f m c in
-      let left1 : Left p code input lo r now w1 t1 = subst (λ x. Left p code input lo r now w1 (written now f x c)) same_w.slot made in
+      let t1 : List PlainFrame = frames_with_cell now f m c in
+      let left1 : Left p code input lo r now w1 t1 = subst (λ x. Left p code input lo r now w1 (frames_with_cell now f x c)) same_w.slot made in
       let rest = copied_goes n lo r f (suc i) g (suc j) (suc m) (suc s) v before w1 t1 behind b (left_on p code input lo lo r before w w1 now t1 (omega arith) left left1) (numbers_next f i (suc i) n v before refl to) (numbers_next g j (suc j) n v before refl from) (omega (arith, at_to)) (omega (arith, at_from)) in (
         rest.0,
         (λ x e.
-            ap (λ z. if_true (number_at z f m && number_at before g s) (λ _. copied n before (with_cell x f m c) f (suc m) g (suc s)) (λ _. stuck x)) e
-            ∙ ap (λ t. if_true (t && number_at before g s) (λ _. copied n before (with_cell x f m c) f (suc m) g (suc s)) (λ _. stuck x)) there_w.0
-            ∙ ap (λ t. if_true t (λ _. copied n before (with_cell x f m c) f (suc m) g (suc s)) (λ _. stuck x)) there.0
-            ∙ rest.1 (with_cell x f m c) (ap (λ z. written z f m c) e)),
+            ap (λ z. if_true (number_at z f m && number_at before g s) (λ _. copies_cells n before (with_cell x f m c) f (suc m) g (suc s)) (λ _. gets_stuck x)) e
+            ∙ ap (λ t. if_true (t && number_at before g s) (λ _. copies_cells n before (with_cell x f m c) f (suc m) g (suc s)) (λ _. gets_stuck x)) there_w.0
+            ∙ ap (λ t. if_true t (λ _. copies_cells n before (with_cell x f m c) f (suc m) g (suc s)) (λ _. gets_stuck x)) there.0
+            ∙ rest.1 (with_cell x f m c) (ap (λ z. frames_with_cell z f m c) e)),
         rest.2,
       )
 
@@ -118,12 +118,12 @@ module _ (p : Program) (code : PlainCode) (input : List ℕ) where
   goes_as lo r before now run run2 e same (faults goes) = faults (λ x is. ((goes x is).0, same x is ∙ (goes x is).1))
 
   -- and one that begins by a write
-  goes_by : (lo r f m : ℕ) (c : Cell) (v : Store) (before now : List PlainFrame) (run run2 : State → Stepped) (e : Events NoYield) → ((x : State) → x.now ≡ now → run x ≡ run2 (with_cell x f m c)) → Left p code input lo r before v (written now f m c)
-      → Outcome lo r (written now f m c) (written now f m c) run2 e → Outcome lo r before now run e
+  goes_by : (lo r f m : ℕ) (c : Cell) (v : Store) (before now : List PlainFrame) (run run2 : State → Stepped) (e : Events NoYield) → ((x : State) → x.now ≡ now → run x ≡ run2 (with_cell x f m c)) → Left p code input lo r before v (frames_with_cell now f m c)
+      → Outcome lo r (frames_with_cell now f m c) (frames_with_cell now f m c) run2 e → Outcome lo r before now run e
   goes_by lo r f m c v before now run run2 e same left (passes w t goes left2) =
-      passes w t (λ x is. same x is ∙ goes (with_cell x f m c) (ap (λ z. written z f m c) is)) (left_on p code input lo lo r before v w (written now f m c) t (omega arith) left left2)
-  goes_by lo r f m c v before now run run2 e same left (fails goes) = fails (λ x is. (let z = goes (with_cell x f m c) (ap (λ z. written z f m c) is) in (z.0, same x is ∙ z.1)))
-  goes_by lo r f m c v before now run run2 e same left (faults goes) = faults (λ x is. (let z = goes (with_cell x f m c) (ap (λ z. written z f m c) is) in (z.0, same x is ∙ z.1)))
+      passes w t (λ x is. same x is ∙ goes (with_cell x f m c) (ap (λ z. frames_with_cell z f m c) is)) (left_on p code input lo lo r before v w (frames_with_cell now f m c) t (omega arith) left left2)
+  goes_by lo r f m c v before now run run2 e same left (fails goes) = fails (λ x is. (let z = goes (with_cell x f m c) (ap (λ z. frames_with_cell z f m c) is) in (z.0, same x is ∙ z.1)))
+  goes_by lo r f m c v before now run run2 e same left (faults goes) = faults (λ x is. (let z = goes (with_cell x f m c) (ap (λ z. frames_with_cell z f m c) is) in (z.0, same x is ∙ z.1)))
 
   content_of : (x : State) (now : List PlainFrame) (f m : ℕ) (c : Cell) (k : Option ℤ → Stepped) → x.now ≡ now → number_at now f m ≡ true → cell_at now f m cell.Unset ≡ c → content x f m k ≡ as_content true c x k
   content_of x now f m c k e live is =
@@ -131,7 +131,7 @@ module _ (p : Program) (code : PlainCode) (input : List ℕ) where
 
   stored : (x : State) (now : List PlainFrame) (f m : ℕ) (n : ℤ) (k : State → Stepped) → x.now ≡ now → number_at now f m ≡ true → store x f m n k ≡ k (with_cell x f m (cell.Int n))
   stored x now f m n k e live =
-      ap (λ z. if_true (number_at z f m) (λ _. k (with_cell x f m (cell.Int n))) (λ _. stuck x)) e ∙ ap (λ t. if_true t (λ _. k (with_cell x f m (cell.Int n))) (λ _. stuck x)) live
+      ap (λ z. if_true (number_at z f m) (λ _. k (with_cell x f m (cell.Int n))) (λ _. gets_stuck x)) e ∙ ap (λ t. if_true t (λ _. k (with_cell x f m (cell.Int n))) (λ _. gets_stuck x)) live
 
   matched_goes : (n lo r f i g j m s : ℕ) (v : Store) (now : List PlainFrame) → own_end p r ≤ lo → Begins p code input r v now → AreNumbers p code v now (cells f i n) → AreNumbers p code v now (cells g j n) → shift_in p v f + i ≡ m → shift_in p v g + j ≡ s
       → Outcome lo r now now (λ x. equations n x f m g s) (match_cells n v (cells f i n) (cells g j n))
@@ -166,9 +166,9 @@ module _ (p : Program) (code : PlainCode) (input : List ℕ) where
       Goal : store_of.Cell → store_of.Cell → Type 0
       Goal x y = Outcome lo r now now (λ z. equations (suc n) z f m g s) (match_cell v (cells f i (suc n)) x (cells g j (suc n)) y next)
 
-      put_left : (h k l : ℕ) (x : ℤ) → AreNumbers p code v now (cells h k (suc n)) → shift_in p v h + k ≡ l → is_integer x ≡ true → Left p code input lo r now (put v h k (Number x)) (written now h l (cell.Int x))
+      put_left : (h k l : ℕ) (x : ℤ) → AreNumbers p code v now (cells h k (suc n)) → shift_in p v h + k ≡ l → is_integer x ≡ true → Left p code input lo r now (put v h k (Number x)) (frames_with_cell now h l (cell.Int x))
       put_left h k l x numbers e integer =
-          subst (λ z. Left p code input lo r now (put v h k (Number x)) (written now h z (cell.Int x))) e
+          subst (λ z. Left p code input lo r now (put v h k (Number x)) (frames_with_cell now h z (cell.Int x))) e
           (left_put p code input lo r h k x v now numbers.frame (first_within h k n v now numbers) (first_kind_is h k n v now numbers) integer numbers.free b)
 
       decided : (t : Bool) (x y : ℤ) → int_eq x y ≡ t → ((z : State) → z.now ≡ now → equations (suc n) z f m g s ≡ if_true (int_eq x y) (λ _. rest z) (λ _. fails_now z)) → Outcome lo r now now rest (next v)
@@ -187,12 +187,12 @@ module _ (p : Program) (code : PlainCode) (input : List ℕ) where
           subst (λ c. Goal c (cell_of v (cells g j (suc n)))) (sym e) (subst (λ c. Goal (Number x) c) (sym e')
           (let left = put_left g j s x second at_second integer in
           goes_by lo r g s (cell.Int x) (put v g j (Number x)) now now (λ z. equations (suc n) z f m g s) rest (next (put v g j (Number x)))
-          (λ z at_now. runs z (cell.Int x) cell.Unknown at_now live is live' is' ∙ stored z now g s x rest at_now live') left (later (put v g j (Number x)) (written now g s (cell.Int x)) left)))
+          (λ z at_now. runs z (cell.Int x) cell.Unknown at_now live is live' is' ∙ stored z now g s x rest at_now live') left (later (put v g j (Number x)) (frames_with_cell now g s (cell.Int x)) left)))
       by (is_unknown e live is) (is_number y e' live' is' integer') later =
           subst (λ c. Goal c (cell_of v (cells g j (suc n)))) (sym e) (subst (λ c. Goal Unknown c) (sym e')
           (let left = put_left f i m y first at_first integer' in
           goes_by lo r f m (cell.Int y) (put v f i (Number y)) now now (λ z. equations (suc n) z f m g s) rest (next (put v f i (Number y)))
-          (λ z at_now. runs z cell.Unknown (cell.Int y) at_now live is live' is' ∙ stored z now f m y rest at_now live) left (later (put v f i (Number y)) (written now f m (cell.Int y)) left)))
+          (λ z at_now. runs z cell.Unknown (cell.Int y) at_now live is live' is' ∙ stored z now f m y rest at_now live) left (later (put v f i (Number y)) (frames_with_cell now f m (cell.Int y)) left)))
       by (is_unknown e live is) (is_unknown e' live' is') later =
           subst (λ c. Goal c (cell_of v (cells g j (suc n)))) (sym e) (subst (λ c. Goal Unknown c) (sym e')
           (faults (λ z at_now. (now, runs z cell.Unknown cell.Unknown at_now live is live' is' ∙ ap (λ y. ends_in_fault fault.Unknown (record z { now = y })) at_now))))
@@ -244,12 +244,12 @@ module _ (p : Program) (tables : Tables) (code : PlainCode) (input : List ℕ) (
       (λ held s is.
       let here : State = passed code input s in
       does code input line at now held s (I.CopyCells a b) is i
-      ∙ place_is code input now here a h.place (λ c. place here b (λ d. copied c.len here.now here c.frame c.slot d.frame d.slot)) is.frames h.holds
-      ∙ place_is code input now here b h2.place (λ d. copied h.place.len here.now here h.place.frame h.place.slot d.frame d.slot) is.frames h2.holds
-      ∙ ap (λ z. copied h.place.len z here h.place.frame h.place.slot h2.place.frame h2.place.slot) is.frames
-      ∙ ap (λ n. copied n now here h.place.frame h.place.slot h2.place.frame h2.place.slot) long
-      ∙ ap (λ f. copied k.size now here f h.place.slot h2.place.frame h2.place.slot) (sym h.same.frame)
-      ∙ ap (λ f. copied k.size now here m.frame h.place.slot f h2.place.slot) (sym h2.same.frame) ∙ goes.1 here is.frames)
+      ∙ place_is code input now here a h.place (λ c. place here b (λ d. copies_cells c.len here.now here c.frame c.slot d.frame d.slot)) is.frames h.holds
+      ∙ place_is code input now here b h2.place (λ d. copies_cells h.place.len here.now here h.place.frame h.place.slot d.frame d.slot) is.frames h2.holds
+      ∙ ap (λ z. copies_cells h.place.len z here h.place.frame h.place.slot h2.place.frame h2.place.slot) is.frames
+      ∙ ap (λ n. copies_cells n now here h.place.frame h.place.slot h2.place.frame h2.place.slot) long
+      ∙ ap (λ f. copies_cells k.size now here f h.place.slot h2.place.frame h2.place.slot) (sym h.same.frame)
+      ∙ ap (λ f. copies_cells k.size now here m.frame h.place.slot f h2.place.slot) (sym h2.same.frame) ∙ goes.1 here is.frames)
 
   match_ends : (at lo a b size : ℕ) (v : Store) (now : List PlainFrame) (m k : Place) → own_end p r ≤ lo → Begins p code input r v now → IsPlace p code input a size v m now → IsPlace p code input b size v k now → InstrAt code input line at (I.SameCells a b) → Ends at lo v now (match_cells m.size v m k)
   unfolding act

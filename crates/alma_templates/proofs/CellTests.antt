@@ -12,10 +12,10 @@ use Rattle.alma_code.specs.declared.cell.Cell.TheVariants as cell
 use Rattle.alma_code.specs.declared.cell.CellPlace.{CellPlace}
 use Rattle.alma_code.specs.declared.instr.Instr.TheVariants as I
 use Rattle.alma_code.specs.Carries.{number_at}
-use Rattle.alma_code.specs.Picture.{PlainFrame, PlainEntry, written, cell_at}
+use Rattle.alma_code.specs.Picture.{PlainFrame, PlainEntry, frames_with_cell, cell_at}
 use Rattle.alma_code.specs.Plain.{PlainCode}
 use Rattle.alma_code.specs.Lines.{line_at}
-use Rattle.alma_code.specs.Machine.{State, Stepped, Failing, act, step, quiet_step, ends_in_fault, fails_now, stuck, with_cell, as_range, as_content, number, place, content, bound, store, equation_of_contents, equation}
+use Rattle.alma_code.specs.Machine.{State, Stepped, Failing, act, step, quiet_step, ends_in_fault, fails_now, gets_stuck, with_cell, as_range, as_content, number, place, content, binds_content, store, equation_of_contents, equation}
 use Rattle.alma_ir.specs.Tree.{Program, Expr, Desig, Bind, Unify}
 use Rattle.alma_ir.specs.Checked.{desig_cells}
 use Rattle.alma_mean.specs.Store.{Store, Place, Unknown, Number, At, cell_of, put_at}
@@ -92,9 +92,9 @@ module _ (p : Program) (tables : Tables) (code : PlainCode) (input : List ℕ) (
           (λ held s is.
           let e : step code input s ≡ quiet_step (with_cell (passed code input s) h.place.frame h.place.slot (cell.Int x)) =
           does_it held s is ∙ ap (λ z. if_true z (λ _. store (passed code input s) h.place.frame h.place.slot x quiet_step) (λ _. ends_in_fault fault.Range (passed code input s))) in_it
-          ∙ ap (λ z. if_true (number_at z h.place.frame h.place.slot) (λ _. quiet_step (with_cell (passed code input s) h.place.frame h.place.slot (cell.Int x))) (λ _. stuck (passed code input s))) is.frames
-          ∙ ap (λ t. if_true t (λ _. quiet_step (with_cell (passed code input s) h.place.frame h.place.slot (cell.Int x))) (λ _. stuck (passed code input s))) live in
-          record { to = with_cell (passed code input s) h.place.frame h.place.slot (cell.Int x); silently = went_on code input s (with_cell (passed code input s) h.place.frame h.place.slot (cell.Int x)) e; is = record { mode = is.mode; here = ap (λ m. m + 1) is.here; frames = ap (λ z. written z h.place.frame h.place.slot (cell.Int x)) is.frames; entries = is.entries } })
+          ∙ ap (λ z. if_true (number_at z h.place.frame h.place.slot) (λ _. quiet_step (with_cell (passed code input s) h.place.frame h.place.slot (cell.Int x))) (λ _. gets_stuck (passed code input s))) is.frames
+          ∙ ap (λ t. if_true t (λ _. quiet_step (with_cell (passed code input s) h.place.frame h.place.slot (cell.Int x))) (λ _. gets_stuck (passed code input s))) live in
+          record { to = with_cell (passed code input s) h.place.frame h.place.slot (cell.Int x); silently = went_on code input s (with_cell (passed code input s) h.place.frame h.place.slot (cell.Int x)) e; is = record { mode = is.mode; here = ap (λ m. m + 1) is.here; frames = ap (λ z. frames_with_cell z h.place.frame h.place.slot (cell.Int x)) is.frames; entries = is.entries } })
           (λ t left. ends_here p code input line 7 (at + 1) lo r (put_at v a (Number x)) t (Nothing p code input) tt q (begins p code input lo r now (put_at v a (Number x)) t left) tt)
 
   -- ---- a cell against a number
@@ -102,18 +102,18 @@ module _ (p : Program) (tables : Tables) (code : PlainCode) (input : List ℕ) (
   bind_reads : (at a b n : ℕ) (c : CellPlace) (now : List PlainFrame) → InstrAt code input line at (I.Bind a b n) → Holds now a (cell.Place c) → ReadsFirst code input at b now
   unfolding act
   bind_reads at a b n c now i ha held s is =
-      (_, does code input line at now held s (I.Bind a b n) is i ∙ place_is code input now (passed code input s) a c (λ m. number (passed code input s) b (λ x. as_range (slice_get code.ranges n) (passed code input s) (λ t. content (passed code input s) m.frame m.slot (λ u. bound (passed code input s) m t x u)))) is.frames ha)
+      (_, does code input line at now held s (I.Bind a b n) is i ∙ place_is code input now (passed code input s) a c (λ m. number (passed code input s) b (λ x. as_range (slice_get code.ranges n) (passed code input s) (λ t. content (passed code input s) m.frame m.slot (λ u. binds_content (passed code input s) m t x u)))) is.frames ha)
 
   bind_does : (at a b n : ℕ) (c : CellPlace) (range : Range) (x : ℤ) (d : Cell) (now : List PlainFrame) → InstrAt code input line at (I.Bind a b n) → slice_get code.ranges n ≡ Some range → Holds now a (cell.Place c) → Holds now b (cell.Int x) → number_at now c.frame c.slot ≡ true → cell_at now c.frame c.slot cell.Unset ≡ d
-      → Does at now (λ s. as_content true d s (λ u. bound s c range x u))
+      → Does at now (λ s. as_content true d s (λ u. binds_content s c range x u))
   unfolding act
   bind_does at a b n c range x d now i has ha hb live is_d held s is =
       let here : State = passed code input s in
       does code input line at now held s (I.Bind a b n) is i
-      ∙ place_is code input now here a c (λ m. number here b (λ y. as_range (slice_get code.ranges n) here (λ t. content here m.frame m.slot (λ u. bound here m t y u)))) is.frames ha
-      ∙ number_is code input now here b x (λ y. as_range (slice_get code.ranges n) here (λ t. content here c.frame c.slot (λ u. bound here c t y u))) is.frames hb
-      ∙ ap (λ o. as_range o here (λ t. content here c.frame c.slot (λ u. bound here c t x u))) has
-      ∙ content_is code input line at now held s is c d (λ u. bound here c range x u) (live, is_d)
+      ∙ place_is code input now here a c (λ m. number here b (λ y. as_range (slice_get code.ranges n) here (λ t. content here m.frame m.slot (λ u. binds_content here m t y u)))) is.frames ha
+      ∙ number_is code input now here b x (λ y. as_range (slice_get code.ranges n) here (λ t. content here c.frame c.slot (λ u. binds_content here c t y u))) is.frames hb
+      ∙ ap (λ o. as_range o here (λ t. content here c.frame c.slot (λ u. binds_content here c t x u))) has
+      ∙ content_is code input line at now held s is c d (λ u. binds_content here c range x u) (live, is_d)
 
   bind_ends : (at lo a b size : ℕ) (v : Store) (now : List PlainFrame) (m : Place) (range : Range) (x : ℤ) → own_end p r ≤ lo → 0 < size → HasRange p tables code input below r line q range → Begins p code input r v now → IsPlace p code input a size v m now → IsValue p code input b x now
       → InstrAt code input line at (I.Bind a b (range_number tables range)) → From p code input line 8 at (at + 1) now (leaving p code input lo r now (Nothing p code input)) (bind_cell v m (cell_of v m) range x) q

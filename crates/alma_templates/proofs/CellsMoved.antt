@@ -6,7 +6,7 @@ use Rattle.alma_base.specs.Choice.{if_true}
 use Rattle.alma_code.specs.declared.cell.Cell.{Cell}
 use Rattle.alma_code.specs.declared.cell.SlotKind.TheVariants as slot
 use Rattle.alma_code.specs.Carries.{number_at}
-use Rattle.alma_code.specs.Picture.{PlainFrame, written}
+use Rattle.alma_code.specs.Picture.{PlainFrame, frames_with_cell}
 use Rattle.alma_code.specs.Plain.{PlainCode}
 use Rattle.alma_ir.specs.Tree.{Program}
 use Rattle.alma_mean.specs.Store.{Store, put}
@@ -65,14 +65,14 @@ module _ (p : Program) (code : PlainCode) (input : List ℕ) where
           absurd (omega (arith, ends, same_slot, behind, there, (stand.frames f live).slots))));
     }
 
-    pub cell_fits : Fits p code lo now (put v f i a) (written now f (shift_in p v f + i) b)
+    pub cell_fits : Fits p code lo now (put v f i a) (frames_with_cell now f (shift_in p v f + i) b)
     cell_fits =
         let is : number_at now f (shift_in p v f + i) ≡ true = kind_number p code lo v now frame_carry store_carry stand one_alike f i slot.Number live there kind in
-        subst (λ t. Fits p code lo now (put v f i a) (if t then written now f (shift_in p v f + i) b else now)) is (laid_fits p code lo v now frame_carry store_carry stand one_alike lo (omega arith))
+        subst (λ t. Fits p code lo now (put v f i a) (if t then frames_with_cell now f (shift_in p v f + i) b else now)) is (laid_fits p code lo v now frame_carry store_carry stand one_alike lo (omega arith))
 
   -- the same in words of a phrase
   pub left_cell : (lo r f i : ℕ) (a : store.Cell) (b : Cell) (v : Store) (now : List PlainFrame) → Begins p code input r v now → f < length v → i < length (get_or v f store.no_frame).cells → kind_in p code v now f i ≡ slot.Number → SameContent p v slot.Number a b → (f ≡ 0 → 0 < i)
-      → Left p code input lo r now (put v f i a) (written now f (shift_in p v f + i) b)
+      → Left p code input lo r now (put v f i a) (frames_with_cell now f (shift_in p v f + i) b)
   left_cell lo r f i a b v now begun live there kind content free =
       let fit = cell_fits lo f i a b v now begun.stand live there kind content in
-      record { fits = fit; routine = put_routine v f i a live ∙ begun.routine; sound = sound_of p code input (put v f i a) (written now f (shift_in p v f + i) b) fit.stand (put_position p code input v f i a free begun.sound.position) }
+      record { fits = fit; routine = put_routine v f i a live ∙ begun.routine; sound = sound_of p code input (put v f i a) (frames_with_cell now f (shift_in p v f + i) b) fit.stand (put_position p code input v f i a free begun.sound.position) }

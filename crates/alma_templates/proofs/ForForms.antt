@@ -9,7 +9,7 @@ use Rattle.alma_base.specs.declared.number.Range.{Range}
 use Rattle.alma_base.specs.Numbers.{is_integer, is_beyond}
 use Rattle.alma_code.specs.declared.cell.Cell.TheVariants as cell
 use Rattle.alma_code.specs.declared.instr.Instr.TheVariants as I
-use Rattle.alma_code.specs.Picture.{PlainFrame, PlainEntry, written}
+use Rattle.alma_code.specs.Picture.{PlainFrame, PlainEntry, frames_with_cell}
 use Rattle.alma_code.specs.Picture as picture
 use Rattle.alma_code.specs.declared.cell.SlotKind.TheVariants as slot
 use Rattle.alma_code.specs.Plain.{PlainCode, kinds_at}
@@ -151,8 +151,8 @@ module _ (p : Program) (tables : Tables) (code : PlainCode) (input : List ℕ) (
       let zero : sh + (a.slot + 0) ≡ sh + a.slot = omega arith in
       let kind : get_or (get_or now a.frame picture.no_frame).kinds (sh + a.slot) slot.Mark ≡ slot.Number = ap (λ n. get_or (get_or now a.frame picture.no_frame).kinds n slot.Mark) (sym zero) ∙ h.numbers.kinds 0 some_cell in
       let live = content_there p code v now a h.place b.stand h.numbers some_cell h.same in
-      let t : List PlainFrame = written now a.frame (sh + a.slot) (cell.Int x) in
-      let here : written now h.place.frame h.place.slot (cell.Int x) ≡ t = ap (λ f. written now f h.place.slot (cell.Int x)) (sym h.same.frame) ∙ ap (λ n. written now a.frame n (cell.Int x)) (sym h.same.slot) in (
+      let t : List PlainFrame = frames_with_cell now a.frame (sh + a.slot) (cell.Int x) in
+      let here : frames_with_cell now h.place.frame h.place.slot (cell.Int x) ≡ t = ap (λ f. frames_with_cell now f h.place.slot (cell.Int x)) (sym h.same.frame) ∙ ap (λ n. frames_with_cell now a.frame n (cell.Int x)) (sym h.same.slot) in (
         t,
         (λ held s is.
             let w = store_step code input line at now held s is (place_at p tables r la d) value h.place x i h.holds hx.holds live.0 in

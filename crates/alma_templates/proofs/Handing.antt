@@ -15,7 +15,7 @@ use Rattle.alma_code.specs.Kinds.{is_number}
 use Rattle.alma_code.specs.Picture.{PlainFrame, PlainEntry, last_frame, live_cells}
 use Rattle.alma_code.specs.Picture as picture
 use Rattle.alma_code.specs.Plain.{PlainCode, PlainRoutine}
-use Rattle.alma_code.specs.Machine.{State, Stepped, numbers_at, as_argument, arguments, slot_of, stuck, link_to}
+use Rattle.alma_code.specs.Machine.{State, Stepped, numbers_at, as_argument, arguments, slot_of, gets_stuck, link_to}
 use Rattle.alma_ir.specs.declared.program.ArgKind.{ArgKind}
 use Rattle.alma_ir.specs.declared.program.Param.{Param}
 use Rattle.alma_ir.specs.Tree.{Program, routine_at}
@@ -70,11 +70,11 @@ module _ (p : Program) (code : PlainCode) (input : List ℕ) where
     one_argument : (kind : ArgKind) (n : ℕ) (a : ArgValue) (c : Cell) (k : Cell → Stepped) → HandedAs p code v now kind n a c → as_argument (param_kind kind) n (Some c) s k ≡ k c
     one_argument kind n a c k (a_value x fits) = refl
     one_argument kind n a c k (mix_value x fits) = refl
-    one_argument kind n a d k (a_place q c alike) = ap (λ b. if_true b (λ _. k (cell.Place c)) (λ _. stuck s)) (eq-eqb c.len n (sym alike.same.size ∙ alike.size))
-    one_argument kind n a d k (mix_place q c alike) = ap (λ b. if_true b (λ _. k (cell.Place c)) (λ _. stuck s)) (eq-eqb c.len 1 (sym alike.same.size ∙ alike.size))
+    one_argument kind n a d k (a_place q c alike) = ap (λ b. if_true b (λ _. k (cell.Place c)) (λ _. gets_stuck s)) (eq-eqb c.len n (sym alike.same.size ∙ alike.size))
+    one_argument kind n a d k (mix_place q c alike) = ap (λ b. if_true b (λ _. k (cell.Place c)) (λ _. gets_stuck s)) (eq-eqb c.len 1 (sym alike.same.size ∙ alike.size))
     one_argument kind n a d k (some_cells q c alike) =
-        ap (λ b. if_true (b && numbers_at n s.now c.frame c.slot) (λ _. k (cell.Place c)) (λ _. stuck s)) (eq-eqb c.len n (sym alike.same.size ∙ alike.size))
-        ∙ ap (λ b. if_true b (λ _. k (cell.Place c)) (λ _. stuck s)) (ap (λ z. numbers_at n z c.frame c.slot) frames ∙ place_numbers n q c alike)
+        ap (λ b. if_true (b && numbers_at n s.now c.frame c.slot) (λ _. k (cell.Place c)) (λ _. gets_stuck s)) (eq-eqb c.len n (sym alike.same.size ∙ alike.size))
+        ∙ ap (λ b. if_true b (λ _. k (cell.Place c)) (λ _. gets_stuck s)) (ap (λ z. numbers_at n z c.frame c.slot) frames ∙ place_numbers n q c alike)
 
     slot_holds : (n : ℕ) (c : Cell) → Holds now n c → slot_of s n ≡ Some c
     slot_holds n c h = ap (λ z. slice_get (last_frame z).cells n) frames ∙ h

@@ -20,10 +20,10 @@ use Rattle.alma_code.specs.declared.instr.Instr.TheVariants as I
 use Rattle.alma_code.specs.Carries.{number_at}
 use Rattle.alma_code.specs.Kinds.{is_number}
 use Rattle.alma_code.specs.Lines.{line_at}
-use Rattle.alma_code.specs.Picture.{PlainFrame, PlainEntry, written}
+use Rattle.alma_code.specs.Picture.{PlainFrame, PlainEntry, frames_with_cell}
 use Rattle.alma_code.specs.Picture as picture
 use Rattle.alma_code.specs.Plain.{PlainCode, kinds_at}
-use Rattle.alma_code.specs.Machine.{State, Stepped, Failing, act, step, quiet_step, ends_in_fault, fails_now, stuck, with_cell, place, as_range, as_position, position, found, byte_or_failure, take_input}
+use Rattle.alma_code.specs.Machine.{State, Stepped, Failing, act, step, quiet_step, ends_in_fault, fails_now, gets_stuck, with_cell, place, as_range, as_position, position, takes_read, byte_or_failure, take_input}
 use Rattle.alma_ir.specs.declared.phrase.ReadAs.{ReadAs}
 use Rattle.alma_ir.specs.declared.phrase.ReadAs.TheVariants as read_as
 use Rattle.alma_ir.specs.Tree.{Program, Desig, Read}
@@ -153,27 +153,27 @@ module _ (p : Program) (tables : Tables) (code : PlainCode) (input : List ℕ) (
       by (cell.Mark x) e same = absurd same
 
   -- the position is set
-  left_position : (lo n : ℕ) (v : Store) (now : List PlainFrame) → n ≤ length input → Begins p code input r v now → Left p code input lo r now (set_position v n) (written now 0 0 (cell.Int (pos n)))
+  left_position : (lo n : ℕ) (v : Store) (now : List PlainFrame) → n ≤ length input → Begins p code input r v now → Left p code input lo r now (set_position v n) (frames_with_cell now 0 0 (cell.Int (pos n)))
   left_position lo n v now le b =
       let live : 0 < length v = omega (arith, b.stand.some) in
       let there = position_there p code input v b.sound.position in
       let sh : shift_in p v 0 + 0 ≡ 0 = omega (arith, ap (shift p) b.stand.main, flat) in
       let fit = cell_fits p code input lo 0 0 (Number (pos n)) (cell.Int (pos n)) v now b.stand live there (kind_there v now b) (refl, place_integer n (omega (arith, le, lawful))) in
-      let made : Left p code input lo r now (set_position v n) (written now 0 (shift_in p v 0 + 0) (cell.Int (pos n))) = record {
+      let made : Left p code input lo r now (set_position v n) (frames_with_cell now 0 (shift_in p v 0 + 0) (cell.Int (pos n))) = record {
         fits = fit;
         routine = put_routine v 0 0 (Number (pos n)) live ∙ b.routine;
-        sound = sound_of p code input (set_position v n) (written now 0 (shift_in p v 0 + 0) (cell.Int (pos n))) fit.stand (record { at = n; is = put_here v 0 0 (Number (pos n)) live there });
+        sound = sound_of p code input (set_position v n) (frames_with_cell now 0 (shift_in p v 0 + 0) (cell.Int (pos n))) fit.stand (record { at = n; is = put_here v 0 0 (Number (pos n)) live there });
       } in
-      subst (λ m. Left p code input lo r now (set_position v n) (written now 0 m (cell.Int (pos n)))) sh made
+      subst (λ m. Left p code input lo r now (set_position v n) (frames_with_cell now 0 m (cell.Int (pos n)))) sh made
 
   -- ---- a number that is taken
 
   -- the two writes
   abbrev at_zero : (behind : ℕ) → State → (State → Stepped) → Stepped
-  at_zero behind s k = if_true (number_at s.now 0 0) (λ _. k (with_cell s 0 0 (cell.Int (pos behind)))) (λ _. stuck s)
+  at_zero behind s k = if_true (number_at s.now 0 0) (λ _. k (with_cell s 0 0 (cell.Int (pos behind)))) (λ _. gets_stuck s)
 
   abbrev at_cell : CellPlace → ℤ → State → Stepped
-  at_cell c x s = if_true (number_at s.now c.frame c.slot) (λ _. quiet_step (with_cell s c.frame c.slot (cell.Int x))) (λ _. stuck s)
+  at_cell c x s = if_true (number_at s.now c.frame c.slot) (λ _. quiet_step (with_cell s c.frame c.slot (cell.Int x))) (λ _. gets_stuck s)
 
   took_ends : (at lo a size behind : ℕ) (v : Store) (now : List PlainFrame) (m : Place) (range : Range) (x : ℤ) → own_end p r ≤ lo → 0 < size → behind ≤ length input → ((z : ℤ) → within range z ≡ true → is_integer z ≡ true) → Begins p code input r v now → (h : IsPlace p code input a size v m now) → line_at code at ≡ line
       → ((held : List PlainEntry) (s : State) → IsAt at now held s → step code input s ≡ take_input (passed code input s) range h.place x behind) → Ends at lo v now (check_range range x (λ _. one (put_at (set_position v behind) m (Number x)) tt))
@@ -185,7 +185,7 @@ module _ (p : Program) (tables : Tables) (code : PlainCode) (input : List ℕ) (
           (λ held s is. faults_now code input line s fault.Range (here_too code input line at now held s is there) (steps held s is ∙ ap (λ t. if_true t (λ _. at_zero behind (passed code input s) (at_cell h.place x)) (λ _. ends_in_fault fault.Range (passed code input s))) out))
       by true in_it =
           let v1 : Store = set_position v behind in
-          let t1 : List PlainFrame = written now 0 0 (cell.Int (pos behind)) in
+          let t1 : List PlainFrame = frames_with_cell now 0 0 (cell.Int (pos behind)) in
           let left1 = left_position lo behind v now le b in
           let b1 = begins p code input lo r now v1 t1 left1 in
           let some_cell : 0 < m.size = omega (arith, some, h.sized) in
@@ -196,8 +196,8 @@ module _ (p : Program) (tables : Tables) (code : PlainCode) (input : List ℕ) (
           let kind : get_or (get_or t1 m.frame picture.no_frame).kinds (shift_in p v1 m.frame + m.slot) slot.Mark ≡ slot.Number = ap (λ n. get_or (get_or t1 m.frame picture.no_frame).kinds n slot.Mark) (sym zero_on) ∙ numbers.kinds 0 some_cell in
           let within_frame : m.slot < length (get_or v1 m.frame store.no_frame).cells = omega (arith, numbers.cells 0 some_cell) in
           let made = left_put p code input lo r m.frame m.slot x v1 t1 numbers.frame within_frame kind (inside x in_it) numbers.free b1 in
-          let t2 : List PlainFrame = written t1 h.place.frame h.place.slot (cell.Int x) in
-          let here2 : written t1 m.frame (shift_in p v1 m.frame + m.slot) (cell.Int x) ≡ t2 = ap (λ f. written t1 f (shift_in p v1 m.frame + m.slot) (cell.Int x)) same.frame ∙ ap (λ n. written t1 h.place.frame n (cell.Int x)) same.slot in
+          let t2 : List PlainFrame = frames_with_cell t1 h.place.frame h.place.slot (cell.Int x) in
+          let here2 : frames_with_cell t1 m.frame (shift_in p v1 m.frame + m.slot) (cell.Int x) ≡ t2 = ap (λ f. frames_with_cell t1 f (shift_in p v1 m.frame + m.slot) (cell.Int x)) same.frame ∙ ap (λ n. frames_with_cell t1 h.place.frame n (cell.Int x)) same.slot in
           let left2 : Left p code input lo r t1 (put_at v1 m (Number x)) t2 = subst (Left p code input lo r t1 (put_at v1 m (Number x))) here2 made in
           let sh : shift_in p v 0 + 0 ≡ 0 = omega (arith, ap (shift p) b.stand.main, flat) in
           let zero_live : number_at now 0 0 ≡ true = zero_number v now b in
@@ -205,10 +205,10 @@ module _ (p : Program) (tables : Tables) (code : PlainCode) (input : List ℕ) (
           (λ held s is.
           let here : State = passed code input s in
           steps held s is ∙ ap (λ t. if_true t (λ _. at_zero behind here (at_cell h.place x)) (λ _. ends_in_fault fault.Range here)) in_it
-          ∙ ap (λ z. if_true (number_at z 0 0) (λ _. at_cell h.place x (with_cell here 0 0 (cell.Int (pos behind)))) (λ _. stuck here)) is.frames
-          ∙ ap (λ t. if_true t (λ _. at_cell h.place x (with_cell here 0 0 (cell.Int (pos behind)))) (λ _. stuck here)) zero_live
-          ∙ ap (λ z. at_cell h.place x (record here { now = written z 0 0 (cell.Int (pos behind)) })) is.frames
-          ∙ ap (λ t. if_true t (λ _. quiet_step (record here { now = t2 })) (λ _. stuck (record here { now = t1 }))) live.0)
+          ∙ ap (λ z. if_true (number_at z 0 0) (λ _. at_cell h.place x (with_cell here 0 0 (cell.Int (pos behind)))) (λ _. gets_stuck here)) is.frames
+          ∙ ap (λ t. if_true t (λ _. at_cell h.place x (with_cell here 0 0 (cell.Int (pos behind)))) (λ _. gets_stuck here)) zero_live
+          ∙ ap (λ z. at_cell h.place x (record here { now = frames_with_cell z 0 0 (cell.Int (pos behind)) })) is.frames
+          ∙ ap (λ t. if_true t (λ _. quiet_step (record here { now = t2 })) (λ _. gets_stuck (record here { now = t1 }))) live.0)
 
   -- ---- what the step comes to
 
@@ -218,7 +218,7 @@ module _ (p : Program) (tables : Tables) (code : PlainCode) (input : List ℕ) (
       (λ held s is. (record (passed code input s) { mode = Failing }, went_on code input s (record (passed code input s) { mode = Failing }) (steps held s is), record { mode = refl; entries = is.entries }))
 
   found_ends : (f : ReadInt) (at lo a size : ℕ) (v : Store) (now : List PlainFrame) (m : Place) (range : Range) → Fits f (length input) → own_end p r ≤ lo → 0 < size → ((z : ℤ) → within range z ≡ true → is_integer z ≡ true) → Begins p code input r v now → (h : IsPlace p code input a size v m now) → line_at code at ≡ line
-      → ((held : List PlainEntry) (s : State) → IsAt at now held s → step code input s ≡ found (passed code input s) range h.place f) → Ends at lo v now (store_number v m range f)
+      → ((held : List PlainEntry) (s : State) → IsAt at now held s → step code input s ≡ takes_read (passed code input s) range h.place f) → Ends at lo v now (store_number v m range f)
   found_ends read.NoNumber at lo a size v now m range fits own_lo some inside b h there steps = fails_with at lo v now steps
   found_ends read.TooLarge at lo a size v now m range fits own_lo some inside b h there steps =
       faults_here p code input line 7 at (at + 1) now (leaving p code input lo r now (Nothing p code input)) fault.ReadRange q
@@ -227,7 +227,7 @@ module _ (p : Program) (tables : Tables) (code : PlainCode) (input : List ℕ) (
 
   -- what READ does with what it finds at the position
   abbrev read_by : ReadAs → State → Range → CellPlace → (at : ℕ) → Stepped
-  read_by read_as.Int s range c n = found s range c (number_from input n)
+  read_by read_as.Int s range c n = takes_read s range c (number_from input n)
   read_by read_as.Char s range c n = byte_or_failure s range c n (slice_get input n)
 
   -- the place, the range and the position are read
@@ -237,10 +237,10 @@ module _ (p : Program) (tables : Tables) (code : PlainCode) (input : List ℕ) (
   reads_all read_as.Int at a size v now m range has b h i held s is =
       let here : State = passed code input s in
       does code input line at now held s (I.ReadInt a (range_number tables range)) is i
-      ∙ place_is code input now here a h.place (λ c. as_range (slice_get code.ranges (range_number tables range)) here (λ t. position here (λ n. found here t c (number_from input n)))) is.frames h.holds
-      ∙ ap (λ o. as_range o here (λ t. position here (λ n. found here t h.place (number_from input n)))) has
-      ∙ ap (λ z. as_position (slice_get (get_or z 0 picture.no_frame).cells 0) here (λ n. found here range h.place (number_from input n))) is.frames
-      ∙ ap (λ o. as_position o here (λ n. found here range h.place (number_from input n))) (position_is v now b)
+      ∙ place_is code input now here a h.place (λ c. as_range (slice_get code.ranges (range_number tables range)) here (λ t. position here (λ n. takes_read here t c (number_from input n)))) is.frames h.holds
+      ∙ ap (λ o. as_range o here (λ t. position here (λ n. takes_read here t h.place (number_from input n)))) has
+      ∙ ap (λ z. as_position (slice_get (get_or z 0 picture.no_frame).cells 0) here (λ n. takes_read here range h.place (number_from input n))) is.frames
+      ∙ ap (λ o. as_position o here (λ n. takes_read here range h.place (number_from input n))) (position_is v now b)
   reads_all read_as.Char at a size v now m range has b h i held s is =
       let here : State = passed code input s in
       does code input line at now held s (I.ReadChar a (range_number tables range)) is i

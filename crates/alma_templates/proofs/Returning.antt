@@ -11,7 +11,7 @@ use Rattle.alma_code.specs.declared.instr.Instr.{Instr}
 use Rattle.alma_code.specs.declared.instr.Instr.TheVariants as I
 use Rattle.alma_code.specs.Picture.{PlainFrame, PlainEntry, last_frame}
 use Rattle.alma_code.specs.Plain.{PlainCode, start_at}
-use Rattle.alma_code.specs.Machine.{State, act, left, result_to}
+use Rattle.alma_code.specs.Machine.{State, act, state_after_leave, result_to}
 use Rattle.alma_ir.specs.declared.program.ArgKind.TheVariants as kind
 use Rattle.alma_ir.specs.declared.program.Param.{Param}
 use Rattle.alma_ir.specs.Tree.{Program, Expr, Return, no_result, some_result, routine_at}
@@ -84,23 +84,23 @@ returned_result (Some range) s n = by (within range n)
 module _ (p : Program) (tables : Tables) (code : PlainCode) (input : List ℕ) where
   -- ---- RETURN
 
-  returned_goes : (line left more m exit : ℕ) (w : Ways ℤ) (w2 : Ways NoYield) (base : List PlainEntry) (e : Events ℤ) (s : State) (r q : ℕ) → ((v : Store) (n : ℤ) (t : List PlainFrame) → w.goes v n t → w2.returns v (Some n) m t)
-      → ((v : Store) (n : Option ℤ) (a : ℕ) (t : List PlainFrame) → w.returns v n a t → w2.returns v n a t) → Goes code input line left more (Leaves m w) base e s r q → Goes code input line left more (Leaves exit w2) base (returned e) s r q
-  returned_goes line left more m exit w w2 base Fail s r q k l h = h
-  returned_goes line left more m exit w w2 base (Fault x own) s r q k l h = h
-  returned_goes line left more m exit w w2 base Cut s r q k l h = h
-  returned_goes line left more m exit w w2 base (Visit e) s r q k l h = returned_goes line left more m exit w w2 base e s (r + 32) q k l h
-  returned_goes line left more m exit w w2 base (Print bytes e) s r q k l h =
-      (h.0, h.1, h.2, h.3, h.4, h.5, h.6, returned_goes line left more m exit w w2 base e h.4 (r - suc h.0) (q - suc h.0) k l h.7)
-  returned_goes line left more m exit w w2 base (Alt v (Go n) e) s r q k l h =
-      (h.0, h.1, h.2, h.3, h.4, h.5, subst (λ a. w2.returns v (Some n) a h.1.now) (sym h.6.0) (k v n h.1.now h.6.1), λ base2 u like failing. returned_goes line left more m exit w w2 base2 e u 0 (q - h.0) k l (h.7 base2 u like failing))
-  returned_goes line left more m exit w w2 base (Alt v (events.Return n) e) s r q k l h =
-      (h.0, h.1, h.2, h.3, h.4, h.5, l v n h.1.at h.1.now h.6, λ base2 u like failing. returned_goes line left more m exit w w2 base2 e u 0 (q - h.0) k l (h.7 base2 u like failing))
+  returned_goes : (line state_after_leave more m exit : ℕ) (w : Ways ℤ) (w2 : Ways NoYield) (base : List PlainEntry) (e : Events ℤ) (s : State) (r q : ℕ) → ((v : Store) (n : ℤ) (t : List PlainFrame) → w.goes v n t → w2.returns v (Some n) m t)
+      → ((v : Store) (n : Option ℤ) (a : ℕ) (t : List PlainFrame) → w.returns v n a t → w2.returns v n a t) → Goes code input line state_after_leave more (Leaves m w) base e s r q → Goes code input line state_after_leave more (Leaves exit w2) base (returned e) s r q
+  returned_goes line state_after_leave more m exit w w2 base Fail s r q k l h = h
+  returned_goes line state_after_leave more m exit w w2 base (Fault x own) s r q k l h = h
+  returned_goes line state_after_leave more m exit w w2 base Cut s r q k l h = h
+  returned_goes line state_after_leave more m exit w w2 base (Visit e) s r q k l h = returned_goes line state_after_leave more m exit w w2 base e s (r + 32) q k l h
+  returned_goes line state_after_leave more m exit w w2 base (Print bytes e) s r q k l h =
+      (h.0, h.1, h.2, h.3, h.4, h.5, h.6, returned_goes line state_after_leave more m exit w w2 base e h.4 (r - suc h.0) (q - suc h.0) k l h.7)
+  returned_goes line state_after_leave more m exit w w2 base (Alt v (Go n) e) s r q k l h =
+      (h.0, h.1, h.2, h.3, h.4, h.5, subst (λ a. w2.returns v (Some n) a h.1.now) (sym h.6.0) (k v n h.1.now h.6.1), λ base2 u like failing. returned_goes line state_after_leave more m exit w w2 base2 e u 0 (q - h.0) k l (h.7 base2 u like failing))
+  returned_goes line state_after_leave more m exit w w2 base (Alt v (events.Return n) e) s r q k l h =
+      (h.0, h.1, h.2, h.3, h.4, h.5, l v n h.1.at h.1.now h.6, λ base2 u like failing. returned_goes line state_after_leave more m exit w w2 base2 e u 0 (q - h.0) k l (h.7 base2 u like failing))
 
   pub return_value_reads : (line at from : ℕ) (now : List PlainFrame) → InstrAt code input line at (I.ReturnValue from) → ReadsFirst code input at from now
   unfolding act
   return_value_reads line at from now i held s is =
-      ((λ v. result_to (slice_get code.instrs ((last_frame (passed code input s).now).back - 1)) (left (passed code input s)) v), does code input line at now held s (I.ReturnValue from) is i)
+      ((λ v. result_to (slice_get code.instrs ((last_frame (passed code input s).now).back - 1)) (state_after_leave (passed code input s)) v), does code input line at now held s (I.ReturnValue from) is i)
 
   module _ (below : Level) (r line q : ℕ) where
     -- a node with statements inside of it, from so many steps

@@ -6,7 +6,7 @@ use Rattle.alma_base.specs.Numbers.{is_integer}
 use Rattle.alma_code.specs.declared.cell.Cell.TheVariants as cell
 use Rattle.alma_code.specs.declared.cell.SlotKind.TheVariants as slot
 use Rattle.alma_code.specs.declared.instr.Instr.TheVariants as I
-use Rattle.alma_code.specs.Picture.{PlainFrame, PlainEntry, written}
+use Rattle.alma_code.specs.Picture.{PlainFrame, PlainEntry, frames_with_cell}
 use Rattle.alma_code.specs.Picture as picture
 use Rattle.alma_code.specs.Plain.{PlainCode}
 use Rattle.alma_code.specs.Machine.{act, number, store, quiet_step}
@@ -64,14 +64,14 @@ module _ (p : Program) (code : PlainCode) (input : List ℕ) where
   top_free from r v now variable b e = variable.free (sym b.routine ∙ ap (λ n. (get_or v n store_of.no_frame).routine) e ∙ b.stand.main)
 
   pub left_put : (lo r f i : ℕ) (x : ℤ) (v : Store) (now : List PlainFrame) → f < length v → i < length (get_or v f store_of.no_frame).cells → get_or (get_or now f picture.no_frame).kinds (shift_in p v f + i) slot.Mark ≡ slot.Number → is_integer x ≡ true → (f ≡ 0 → 0 < i)
-      → Begins p code input r v now → Left p code input lo r now (put v f i (Number x)) (written now f (shift_in p v f + i) (cell.Int x))
+      → Begins p code input r v now → Left p code input lo r now (put v f i (Number x)) (frames_with_cell now f (shift_in p v f + i) (cell.Int x))
   left_put lo r f i x v now live there kind integer free b =
-      let fit : Fits p code lo now (put v f i (Number x)) (written now f (shift_in p v f + i) (cell.Int x)) = fits_put p code lo v now f i x live there kind integer b.stand in
-      record { fits = fit; routine = put_routine v f i (Number x) live ∙ b.routine; sound = sound_after p code input lo v (put v f i (Number x)) now (written now f (shift_in p v f + i) (cell.Int x)) b.stand fit (put_places v f i x live there) (put_position p code input v f i (Number x) free) b.sound }
+      let fit : Fits p code lo now (put v f i (Number x)) (frames_with_cell now f (shift_in p v f + i) (cell.Int x)) = fits_put p code lo v now f i x live there kind integer b.stand in
+      record { fits = fit; routine = put_routine v f i (Number x) live ∙ b.routine; sound = sound_after p code input lo v (put v f i (Number x)) now (frames_with_cell now f (shift_in p v f + i) (cell.Int x)) b.stand fit (put_places v f i x live there) (put_position p code input v f i (Number x) free) b.sound }
 
   module _ {B : Type 0} (line c at exit lo r : ℕ) (v : Store) (now : List PlainFrame) (x : ℤ) (yields : Store → B → List PlainFrame → Type 0) (e : Events B) (q : ℕ) (behind : own_end p r ≤ lo) (b : Begins p code input r v now) where
     -- a number goes into a place by one step, and the phrase goes on
-    pub put_goes_on : (n size : ℕ) (a : Place) → 0 < size → (h : IsPlace p code input n size v a now) → is_integer x ≡ true → Takes p code input at (at + 1) now (written now h.place.frame h.place.slot (cell.Int x))
+    pub put_goes_on : (n size : ℕ) (a : Place) → 0 < size → (h : IsPlace p code input n size v a now) → is_integer x ≡ true → Takes p code input at (at + 1) now (frames_with_cell now h.place.frame h.place.slot (cell.Int x))
         → ((t : List PlainFrame) → Left p code input lo r now (put_at v a (Number x)) t → From p code input line c (at + 1) exit t (leaving p code input lo r t yields) e q) → From p code input line (suc c) at exit now (leaving p code input lo r now yields) e q
     put_goes_on n size a some h integer takes later =
         let sh : ℕ = shift_in p v a.frame in
@@ -79,8 +79,8 @@ module _ (p : Program) (code : PlainCode) (input : List ℕ) where
         let there : a.slot < length (get_or v a.frame store_of.no_frame).cells = omega (arith, h.numbers.cells 0 some_cell) in
         let zero : sh + (a.slot + 0) ≡ sh + a.slot = omega arith in
         let kind : get_or (get_or now a.frame picture.no_frame).kinds (sh + a.slot) slot.Mark ≡ slot.Number = ap (λ n. get_or (get_or now a.frame picture.no_frame).kinds n slot.Mark) (sym zero) ∙ h.numbers.kinds 0 some_cell in
-        let t : List PlainFrame = written now a.frame (sh + a.slot) (cell.Int x) in
-        let here : written now h.place.frame h.place.slot (cell.Int x) ≡ t = ap (λ f. written now f h.place.slot (cell.Int x)) (sym h.same.frame) ∙ ap (λ n. written now a.frame n (cell.Int x)) (sym h.same.slot) in
+        let t : List PlainFrame = frames_with_cell now a.frame (sh + a.slot) (cell.Int x) in
+        let here : frames_with_cell now h.place.frame h.place.slot (cell.Int x) ≡ t = ap (λ f. frames_with_cell now f h.place.slot (cell.Int x)) (sym h.same.frame) ∙ ap (λ n. frames_with_cell now a.frame n (cell.Int x)) (sym h.same.slot) in
         let left : Left p code input lo r now (put_at v a (Number x)) t = left_put lo r a.frame a.slot x v now h.numbers.frame there kind integer h.numbers.free b in
         step_from p code input line c at (at + 1) exit lo r (put_at v a (Number x)) now t yields e q behind
         (λ held s is. let w = takes held s is in record { to = w.to; silently = w.silently; is = record { mode = w.is.mode; here = w.is.here; frames = w.is.frames ∙ here; entries = w.is.entries } })

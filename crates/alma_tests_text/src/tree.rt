@@ -1,7 +1,8 @@
 // Spellings of trees made by hand, and depths.
 use alma_base::NoMemory;
+use alma_spell::spell;
 use alma_tree::{
-    Block, Expr, Factor, Kind, Leaf, Module, Name, Primary, Simple, Stmt, Stmts, Term, depth, spell,
+    Block, Expr, Factor, Kind, Leaf, Module, Name, Primary, Simple, Stmt, Stmts, Term, depth,
 };
 use std::alloc::Global;
 use std::test::Fail;

@@ -1,5 +1,4 @@
 pub mod Codes
 pub mod Deep
-pub mod Ends
 pub mod NumberRows
 pub mod Rows

@@ -5,6 +5,5 @@ pub mod Depth
 -- The public types: the tree that a value stands for, and the numbers of its tokens and nodes.
 pub mod View
 pub mod Numbers
--- What the contracts of private functions say, and what laws above need.
+-- What laws above need.
 pub mod Kinds
-pub mod Inner

@@ -6,10 +6,6 @@ mod kind;
 mod leaf;
 mod module;
 mod phrase;
-mod spell_module;
-mod spell_phrase;
-mod spell_type;
-mod spell_word;
 mod type_node;
 
 pub use bracket::depth;
@@ -20,5 +16,4 @@ pub use phrase::{
     AddLink, Args, Arm, Compared, Desig, Elsif, Expr, Exprs, Factor, Label, MulLink, Primary,
     Selector, Simple, Stmt, Stmts, Term,
 };
-pub use spell_module::spell;
 pub use type_node::{Arrays, Dimensions, FieldList, PlainType, TypeNode};

@@ -23,13 +23,13 @@ abbrev pub Ends : PlainCode → (input : List ℕ) → (n : ℕ) → End → Typ
 Ends code input n e = (after code input n (start code)).mode ≡ Ended e
 
 -- these prints, one after another
-abbrev pub joined : List (List ℕ) → List ℕ
-joined [] = []
-joined (bytes ∷ rest) = bytes ++ joined rest
+abbrev pub all_prints : List (List ℕ) → List ℕ
+all_prints [] = []
+all_prints (bytes ∷ rest) = bytes ++ all_prints rest
 
 -- the run of n steps makes these prints
 abbrev pub Prints : PlainCode → (input : List ℕ) → (n : ℕ) → List (List ℕ) → Type 0
-Prints code input n pieces = prints code input n (start code) ≡ joined pieces
+Prints code input n pieces = prints code input n (start code) ≡ all_prints pieces
 
 -- the state after n steps from the start
 abbrev pub state_after : PlainCode → (input : List ℕ) → (n : ℕ) → State

@@ -130,16 +130,16 @@ pub record LinksRefused : Type 0 where
   pub other_argument : Breaks (begins_with (I.Call 2 3 0)) 10 2
 
 -- a code with lines: 5 at addresses 2 and 3, none at 4 and 5, and 9 from 6 on
-abbrev pub lined : PlainCode
-lined = record outer_counted { lines = at_line 2 5 ∷ at_line 4 0 ∷ at_line 6 9 ∷ [] }
+abbrev pub code_with_lines : PlainCode
+code_with_lines = record outer_counted { lines = at_line 2 5 ∷ at_line 4 0 ∷ at_line 6 9 ∷ [] }
 
 -- which line an address has, and at which address a run ended
 pub record LinesTell : Type 0 where
-  pub before : line_of lined 1 ≡ None
-  pub first : line_of lined 2 ≡ Some 5
-  pub second : line_of lined 3 ≡ Some 5
-  pub unknown : line_of lined 4 ≡ None
-  pub last : line_of lined 12 ≡ Some 9
+  pub before : line_of code_with_lines 1 ≡ None
+  pub first : line_of code_with_lines 2 ≡ Some 5
+  pub second : line_of code_with_lines 3 ≡ Some 5
+  pub unknown : line_of code_with_lines 4 ≡ None
+  pub last : line_of code_with_lines 12 ≡ Some 9
   -- a machine that ended in a fault tells the address of the instruction
   pub fault_at : (state_after (begins_with (I.Outer 2 3 1)) [] 2).last ≡ 2
   pub none_taken : (start least).last ≡ 0

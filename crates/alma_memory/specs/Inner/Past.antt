@@ -3,7 +3,7 @@ use Rattle.std.specs.Prelude.{◌≡◌, ◌+◌, ℕ, zero, suc, List, [], ◌�
 use Rattle.alma_base.specs.Carry.{Change, Carry, with_changes}
 use Rattle.alma_code.specs.declared.cell.Cell.{Cell}
 use Rattle.alma_code.specs.declared.cell.Cell.TheVariants.{Unknown}
-use Rattle.alma_code.specs.Picture.{PlainFrame, no_frame, written}
+use Rattle.alma_code.specs.Picture.{PlainFrame, no_frame, frames_with_cell}
 use Rattle.alma_code.specs.Carries.{same_cell, diff_at, slot_diffs}
 use Rattle.alma_code.specs.Kinds.{is_number}
 use Rattle.alma_memory.specs.declared.past.Past.TheInside.{Inside}
@@ -17,7 +17,7 @@ pub record PlainPast : Type 0 where
 -- the frames with the cells of a carry, of which the first is written last
 abbrev pub frames_with_old_cells : List PlainFrame → Carry Cell → List PlainFrame
 frames_with_old_cells frames [] = frames
-frames_with_old_cells frames (x ∷ rest) = written (frames_with_old_cells frames rest) x.frame x.slot x.cell
+frames_with_old_cells frames (x ∷ rest) = frames_with_cell (frames_with_old_cells frames rest) x.frame x.slot x.cell
 
 -- the frames from before: the shared ones with their old cells, and those that stood above them
 abbrev pub before_of : Inside → List PlainFrame
@@ -38,10 +38,10 @@ over (Some cell) None = Some cell
 over (Some cell) (Some other) = Some other
 
 -- the second cell, where both are there and differ
-abbrev pub changed : Option Cell → Option Cell → Option Cell
-changed None after = None
-changed (Some cell) None = None
-changed (Some cell) (Some after) = if same_cell cell after then None else Some after
+abbrev pub change_between : Option Cell → Option Cell → Option Cell
+change_between None after = None
+change_between (Some cell) None = None
+change_between (Some cell) (Some after) = if same_cell cell after then None else Some after
 
 -- the changes at the places of a carry
 abbrev pub diffs_at : (before now : List PlainFrame) → Carry Cell → List (Change Cell)

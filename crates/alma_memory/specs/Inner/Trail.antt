@@ -1,13 +1,13 @@
 -- The trail: notes of what changed, from which each whole copy follows.
 use Rattle.std.specs.Prelude.{List, [], ◌∷◌, ◌++◌, map, drop}
-use Rattle.alma_code.specs.Picture.{PlainFrame, PlainEntry, written, without_last}
+use Rattle.alma_code.specs.Picture.{PlainFrame, PlainEntry, frames_with_cell, without_last}
 use Rattle.alma_memory.specs.declared.trail.Note.{Note}
 use Rattle.alma_memory.specs.declared.trail.Note.TheVariants.{Wrote, Entered, Left}
 use Rattle.alma_memory.specs.declared.trail.Entry.{Entry}
 
 -- the frames from before a note
 abbrev pub undo : Note → List PlainFrame → List PlainFrame
-undo (Wrote place cell) frames = written frames place.frame place.slot cell
+undo (Wrote place cell) frames = frames_with_cell frames place.frame place.slot cell
 undo Entered frames = without_last frames
 undo (Left frame) frames = frames ++ frame ∷ []
 
@@ -26,9 +26,9 @@ abbrev pub held_of : List Note → List PlainFrame → List Entry → List Plain
 held_of trail frames entries = map (entry_of trail frames) entries
 
 -- the trail after a change, which is noted where there is an entry
-abbrev pub noted : List Entry → List Note → Note → List Note
-noted [] trail note = trail
-noted (entry ∷ entries) trail note = trail ++ note ∷ []
+abbrev pub trail_with_note : List Entry → List Note → Note → List Note
+trail_with_note [] trail note = trail
+trail_with_note (entry ∷ entries) trail note = trail ++ note ∷ []
 
 -- the trail once entries are dropped: where none is left, no note is kept
 abbrev pub trail_for_entries : List Entry → List Note → List Note

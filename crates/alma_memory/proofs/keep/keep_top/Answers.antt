@@ -1,6 +1,6 @@
 use Rattle.std.proofs.Common.{◌≡◌, ◌<◌, ◌-◌, length, take, drop, get_or, set, ap, ◌∙◌, arith}
 use Rattle.alma_code.specs.Carries.{diffs}
-use Rattle.alma_memory.specs.Carries.{listed}
+use Rattle.alma_memory.specs.Carries.{carry_of_entries}
 use Rattle.alma_memory.specs.Inner.Gain.{no_saved, entry_with_changes}
 use Rattle.alma_memory.specs.Inner.Past.{SameGain}
 use Rattle.alma_memory.specs.Inner.Trail.{unwind}
@@ -17,7 +17,7 @@ pub returns-clause-held : goal.returns-clause-held
 returns-clause-held c =
     let es = c.args.entries.now.items in
     let h = c.args.height in
-    let found = listed c.as_slice.result.now in
+    let found = carry_of_entries c.as_slice.result.now in
     let rest : c.pop.new.self.items ≡ take (length es - 1) (set es (h - 1) (entry_with_changes (get_or es (h - 1) no_saved) found)) =
     c.pop.ensures.rest ∙ (ap (λ k. take (k - 1) c.gain.new.entries.items) (c.in_ok-gain.ensures.len ∙ c.args.entries.now.ok.0)
     ∙ ap (take (length es - 1)) c.in_ok-gain.ensures.items) in
@@ -32,7 +32,7 @@ pub returns-clause-trailed : goal.returns-clause-trailed
 returns-clause-trailed c =
     let es = c.args.entries.now.items in
     let h = c.args.height in
-    let found = listed c.as_slice.result.now in
+    let found = carry_of_entries c.as_slice.result.now in
     let rest : c.pop.new.self.items ≡ take (length es - 1) (set es (h - 1) (entry_with_changes (get_or es (h - 1) no_saved) found)) =
     c.pop.ensures.rest ∙ (ap (λ k. take (k - 1) c.gain.new.entries.items) (c.in_ok-gain.ensures.len ∙ c.args.entries.now.ok.0)
     ∙ ap (take (length es - 1)) c.in_ok-gain.ensures.items) in

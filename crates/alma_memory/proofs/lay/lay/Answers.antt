@@ -1,13 +1,13 @@
 use Rattle.std.proofs.Common.{◌≡◌, ◌+◌, length, ap, ◌∙◌, sym, arith, rules, vec_len, vec_capacity}
 use Rattle.std.proofs.lemmas.List.{length-map}
-use Rattle.alma_memory.specs.Carries.{listed, change_of}
+use Rattle.alma_memory.specs.Carries.{carry_of_entries, change_of}
 use Rattle.alma_memory.proofs.Lays.{lays-all, lays-more, lays-none, room-one, room-less}
 use Rattle.alma_memory.proofs.lay.lay.Goals as goal
 
 pub loop-place-init : goal.loop-place-init
 loop-place-init c =
     let all : c.into_iter-place-iterator.result ≡ c.carry.inside.cells.entries = search rules in
-    let whole : listed c.into_iter-place-iterator.result ≡ c.args.carry.now = ap listed all ∙ c.carry.view_is in
+    let whole : carry_of_entries c.into_iter-place-iterator.result ≡ c.args.carry.now = ap carry_of_entries all ∙ c.carry.view_is in
     let wide : length c.into_iter-place-iterator.result ≡ length c.args.carry.now =
     sym (length-map c.into_iter-place-iterator.result (λ entry. change_of entry.0 entry.1)) ∙ ap length whole in (
       tt,

@@ -1,5 +1,5 @@
 use Rattle.std.proofs.Common.{[], ap, sym, ◌∙◌}
-use Rattle.alma_code.specs.Machine.{act, arguments, entered}
+use Rattle.alma_code.specs.Machine.{act, arguments, enters_routine}
 use Rattle.alma_engine.specs.Rows.{state_of}
 use Rattle.alma_engine.proofs.Acting.{call_is}
 use Rattle.alma_engine.proofs.Words.{ok_is}
@@ -28,7 +28,7 @@ returns-in-Some-clause-ok g c =
     let head = g.V.Routine.Head.head c.in-Some.head in
     let r = c.in-Call.routine in
     let first = c.in-Call.first in
-    ok_is c.call.result [] (state_of c.call.new.self) (arguments head.params s first (λ args. entered s r c.start.result head args)) (act code c.args.input.now c.args.instr s) c.call.ensures.ok
-    (ap (λ start. arguments head.params s first (λ args. entered s r start head args)) c.start.ensures
+    ok_is c.call.result [] (state_of c.call.new.self) (arguments head.params s first (λ args. enters_routine s r c.start.result head args)) (act code c.args.input.now c.args.instr s) c.call.ensures.ok
+    (ap (λ start. arguments head.params s first (λ args. enters_routine s r start head args)) c.start.ensures
     ∙ call_is code c.args.input.now r first c.in-Call.to s head c.in-Some.ensures
     ∙ sym (ap (λ i. act code c.args.input.now i s) c.in-Call.is))

@@ -2,7 +2,7 @@ use Rattle.std.proofs.Common.{◌∙◌, ap, ◌+ℤ◌, ◌-ℤ◌, ◌*ℤ◌,
 use Rattle.alma_base.specs.Choice.{if_true}
 use Rattle.alma_base.specs.declared.fault.RunFault.TheVariants as fault
 use Rattle.alma_base.specs.Numbers.{is_zero, int_eq, bit, div_down_of, mod_down_of}
-use Rattle.alma_code.specs.Machine.{act, number, place, content, known, is_known, integer_result, ends_in_fault}
+use Rattle.alma_code.specs.Machine.{act, number, place, content, with_known_content, is_known, integer_result, ends_in_fault}
 use Rattle.alma_engine.proofs.Words.{gives_put}
 use Rattle.alma_engine.proofs.registers.Registers.computed.Goals as goal
 
@@ -70,7 +70,7 @@ pub returns-in-Load-clause-number : goal.returns-in-Load-clause-number
 unfolding act
 returns-in-Load-clause-number c code input s same =
     ap (λ i. act code input i s) c.in-Load.is
-    ∙ gives_put c.args.self.now.memory.now (λ s k. place s c.in-Load.from (λ p. content s p.frame p.slot (λ c. known s c k))) s c.in-Load.to c.number_at.result same c.number_at.ensures
+    ∙ gives_put c.args.self.now.memory.now (λ s k. place s c.in-Load.from (λ p. content s p.frame p.slot (λ c. with_known_content s c k))) s c.in-Load.to c.number_at.result same c.number_at.ensures
 
 pub returns-in-Known-clause-number : goal.returns-in-Known-clause-number
 unfolding act

@@ -1,12 +1,12 @@
 use Rattle.std.proofs.Common.{◌∙◌, ap}
 use Rattle.alma_base.specs.Carry.{carried_at, with_change}
-use Rattle.alma_memory.specs.Carries.{change_of, listed}
+use Rattle.alma_memory.specs.Carries.{change_of, carry_of_entries}
 use Rattle.alma_memory.proofs.Carrying.{insert-listed, lookup-listed, rising-listed}
 use Rattle.alma_memory.proofs.carry.Carry.set.Goals as goal
 
 pub returns-clause-carry : goal.returns-clause-carry
 returns-clause-carry c =
-    ap listed c.in_ok-insert.ensures.entries
+    ap carry_of_entries c.in_ok-insert.ensures.entries
     ∙ (insert-listed c.self.inside.cells.entries c.args.place c.args.cell
     ∙ ap (with_change (change_of c.args.place c.args.cell)) c.self.view_is)
 

@@ -1,6 +1,6 @@
 use Rattle.std.proofs.Common.{◌≡◌, ◌≤◌, ◌-◌, ◌++◌, ◌∙◌, ap, refl, length, min, take}
 use Rattle.alma_memory.specs.Inner.Past.{PlainPast, frames_with_old_cells, diffs_at, diffs_between}
-use Rattle.alma_memory.specs.Carries.{listed}
+use Rattle.alma_memory.specs.Carries.{carry_of_entries}
 use Rattle.alma_memory.proofs.Gains.{found-gain}
 use Rattle.alma_memory.proofs.past.Past.changes.Goals as goal
 
@@ -16,7 +16,7 @@ returns c =
     let few : c.min-count.result ≡ min (length above) (length now - shared) =
     c.min-count.ensures ∙ (ap (λ k. min k (c.len-2.result - shared)) (c.len.ensures ∙ c.self.inside.above.ok.0)
     ∙ ap (λ k. min (length above) (k - shared)) (c.len-2.ensures ∙ ap (λ (q : PlainPast). length q.now) c.self.view_is)) in
-    let found : listed c.push_frames.new.found.items ≡ diffs_at before now cells ++ diffs_between before now shared c.min-count.result =
+    let found : carry_of_entries c.push_frames.new.found.items ≡ diffs_at before now cells ++ diffs_between before now shared c.min-count.result =
     c.in_ok-push_frames.ensures ∙ ap (λ xs. xs ++ diffs_between before now shared c.min-count.result)
-    (c.in_ok-push_places.ensures ∙ ap (λ xs. listed xs ++ diffs_at before now cells) c.new-found.ensures.items) in
-    found-gain shared c.min-count.result now above cells before (listed c.push_frames.new.found.items) le few is c.requires.now.whole found
+    (c.in_ok-push_places.ensures ∙ ap (λ xs. carry_of_entries xs ++ diffs_at before now cells) c.new-found.ensures.items) in
+    found-gain shared c.min-count.result now above cells before (carry_of_entries c.push_frames.new.found.items) le few is c.requires.now.whole found

@@ -3,8 +3,8 @@ use Rattle.std.specs.Prelude.{Some}
 use Rattle.std.proofs.lemmas.List.{map-append}
 use Rattle.alma_code.specs.declared.cell.Cell.{Cell}
 use Rattle.alma_memory.specs.declared.carry.SlotPlace.{SlotPlace}
-use Rattle.alma_memory.specs.Inner.Past.{PlainPast, number_of, changed}
-use Rattle.alma_memory.specs.Carries.{listed, change_of}
+use Rattle.alma_memory.specs.Inner.Past.{PlainPast, number_of, change_between}
+use Rattle.alma_memory.specs.Carries.{carry_of_entries, change_of}
 use Rattle.alma_memory.proofs.Contents.{diff-changed, change_at}
 use Rattle.alma_memory.proofs.past.Past.push_change.Goals as goal
 
@@ -13,9 +13,9 @@ returns-in_ok-push c =
     let p = c.args.place in
     let before = c.args.self.now.before in
     let now = c.args.self.now.now in
-    let here : Some c.in-Some.cell ≡ changed (number_of before p.frame p.slot) (number_of now p.frame p.slot) =
-    c.in-Some.ensures ∙ (ap (λ o. changed o c.number-2.result) c.number.ensures
-    ∙ ap (changed (number_of before p.frame p.slot)) (c.number-2.ensures ∙ ap (λ (q : PlainPast). number_of q.now p.frame p.slot) c.self.view_is)) in
-    ap listed c.in_ok-push.ensures.items
+    let here : Some c.in-Some.cell ≡ change_between (number_of before p.frame p.slot) (number_of now p.frame p.slot) =
+    c.in-Some.ensures ∙ (ap (λ o. change_between o c.number-2.result) c.number.ensures
+    ∙ ap (change_between (number_of before p.frame p.slot)) (c.number-2.ensures ∙ ap (λ (q : PlainPast). number_of q.now p.frame p.slot) c.self.view_is)) in
+    ap carry_of_entries c.in_ok-push.ensures.items
     ∙ (map-append (λ (e : SlotPlace × Cell). change_of e.0 e.1) c.args.found.now.items ((p, c.in-Some.cell) ∷ [])
-    ∙ ap (λ xs. listed c.args.found.now.items ++ xs) (ap (change_at p.frame p.slot) here ∙ sym (diff-changed before now p.frame p.slot)))
+    ∙ ap (λ xs. carry_of_entries c.args.found.now.items ++ xs) (ap (change_at p.frame p.slot) here ∙ sym (diff-changed before now p.frame p.slot)))

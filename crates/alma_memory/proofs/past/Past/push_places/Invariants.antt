@@ -1,5 +1,5 @@
 use Rattle.std.proofs.Common.{◌≡◌, ◌++◌}
-use Rattle.alma_memory.specs.Carries.{listed}
+use Rattle.alma_memory.specs.Carries.{carry_of_entries}
 use Rattle.alma_memory.specs.Inner.Past.{diffs_at}
 use Rattle.alma_memory.proofs.past.Past.push_places.Given as goal
 
@@ -7,5 +7,5 @@ abbrev pub invariant-loop-place : goal.invariant-loop-place
 invariant-loop-place l =
     (goal.iterator-loop-place).can_next l.place-iterator
     × (goal.iterator-loop-place).is_finite l.place-iterator
-    × (listed l.found.items ++ diffs_at l.self.before l.self.now (listed l.place-iterator)
-    ≡ listed l.fn.found.items ++ diffs_at l.self.before l.self.now l.places)
+    × (carry_of_entries l.found.items ++ diffs_at l.self.before l.self.now (carry_of_entries l.place-iterator)
+    ≡ carry_of_entries l.fn.found.items ++ diffs_at l.self.before l.self.now l.places)
