@@ -7,11 +7,11 @@ ghost use Rattle.alma_tree.specs.View.{body_of, consts_of, decls_of, formal_tail
 use crate::phrase::{push_expr, push_stmts};
 use crate::type_node::{push_names, push_type_node};
 use crate::word::push;
+use alma_base::NoMemory;
 use alma_tree::{
     Block, ConstEntry, Decl, Formal, Formals, Kind, Mode, Module, Name, Params, Stmts, TypeEntry,
     VarEntry,
 };
-use alma_base::NoMemory;
 use std::alloc::Global;
 
 fn push_const_tail(trees: &[ConstEntry], out: &mut Vec<Kind>) -> Result<(), NoMemory>

@@ -6,11 +6,11 @@ ghost use Rattle.alma_tree.specs.Tree.{assign, case_stmt, commit_stmt, either_st
 ghost use Rattle.alma_tree.specs.View.{args_of, arms_of, by_of, compared_of, desigs_of, else_of, elsifs_of, exprs_of, factors_of, high_of, labels_of, orelses_of, returned_of, selectors_of, stmts_of, terms_of, view_arm, view_desig, view_expr, view_exprs, view_factor, view_label, view_primary, view_selector, view_simple, view_stmt, view_stmts, view_term};
 
 use crate::word::{add_kind, mul_kind, push, push_sign, relation_kind};
+use alma_base::NoMemory;
 use alma_tree::{
     AddLink, Args, Arm, Compared, Desig, Elsif, Expr, Exprs, Factor, Kind, Label, MulLink, Primary,
     Selector, Simple, Stmt, Stmts, Term,
 };
-use alma_base::NoMemory;
 
 #[cycle(spell)]
 pub(crate) fn push_stmts(tree: &Stmts, out: &mut Vec<Kind>) -> Result<(), NoMemory>

@@ -6,8 +6,8 @@ ghost use Rattle.alma_tree.specs.View.{arrays_of, dimensions_of, field_lists_of,
 
 use crate::phrase::push_expr;
 use crate::word::push;
-use alma_tree::{Arrays, Dimensions, FieldList, Kind, Name, Names, PlainType, TypeNode};
 use alma_base::NoMemory;
+use alma_tree::{Arrays, Dimensions, FieldList, Kind, Name, Names, PlainType, TypeNode};
 
 fn push_name_tail(trees: &[Name], out: &mut Vec<Kind>) -> Result<(), NoMemory>
     ensures pushed { OnOk result (Pushes out.old.items out.new.items

@@ -3,8 +3,8 @@ ghost use Rattle.std.specs.Prelude.{◌≡◌, ◌∷◌, OnOk};
 ghost use Rattle.alma_spell.specs.Pushed.{Pushes};
 ghost use Rattle.alma_tree.specs.Spelling as spells;
 
-use alma_tree::{AddOperator, Kind, MulOperator, Relation, Sign};
 use alma_base::NoMemory;
+use alma_tree::{AddOperator, Kind, MulOperator, Relation, Sign};
 
 pub(crate) fn push(kind: Kind, out: &mut Vec<Kind>) -> Result<(), NoMemory>
     ensures pushed { OnOk result (Pushes out.old.items out.new.items (λ rest. kind ∷ rest)) }
