@@ -1,0 +1,3 @@
+pub mod Does
+pub mod Acts
+pub mod Undoing
