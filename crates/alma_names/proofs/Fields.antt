@@ -1,16 +1,16 @@
 -- The fields of an index, and the entries of its map.
-use Rattle.std.proofs.Common.{◌≡◌, ◌≢◌, ℕ, ◌+◌, ◌<◌, ◌≤◌, List, [], ◌∷◌, ◌++◌, Option, None, Some, IfSome, Bool, true, false, cond, if◌then◌else◌, Vec, Global, length, map, slice_get, get_or, take, AllPairs, refl, ap, sym, ◌∙◌, arith, suc, zero}
+use Rattle.std.proofs.Common.{◌≡◌, ◌≢◌, ℕ, ◌<◌, ◌≤◌, List, [], ◌∷◌, ◌++◌, Option, None, Some, IfSome, Bool, true, false, cond, if◌then◌else◌, Vec, Global, length, map, slice_get, get_or, take, AllPairs, refl, ap, sym, ◌∙◌, arith, suc, zero}
 use Rattle.std.specs.Prelude.{bytes_eq}
 use Rattle.std.specs.Option.{option_map}
 use Rattle.std.specs.Map.{lookup}
-use Rattle.std.proofs.lemmas.List.{map-append, length-map}
+use Rattle.std.proofs.lemmas.List.{map-append}
 use Rattle.std.proofs.lemmas.Slice.Eq.{bytes_eq-Decides}
 use Rattle.indexmap.specs.IndexMap.{insert_entry}
 use Rattle.alma_names.specs.declared.shapes.FieldOf.{FieldOf}
 use Rattle.alma_names.specs.declared.shapes.Shape.{Shape}
 use Rattle.alma_names.specs.declared.shapes.ShapeId.{ShapeId}
 use Rattle.alma_base.specs.Limits.{cell_limit}
-use Rattle.alma_names.specs.Shapes.{PlainField, PlainShape, fields, fields_of, names_of, field_named, field_in, field_at, AllBelow, NamesOnlyBelow, HasIndex, HasCount, HasBase, HasDistinctNames, placed_shape, plain_of, table_of, first_shapes, cells_in, cell_counts}
+use Rattle.alma_names.specs.Shapes.{PlainField, PlainShape, fields, fields_of, names_of, field_named, AllBelow, NamesOnlyBelow, HasIndex, HasCount, HasBase, HasDistinctNames, placed_shape, plain_of, table_of, first_shapes, cells_in, cell_counts}
 use Rattle.alma_names.specs.Table.{IsIndexedTable, indexed_field, fields_in}
 use Rattle.alma_names.proofs.Names.{added}
 use Rattle.alma_names.proofs.Placing.{field_below, table_added, placed_names}
@@ -49,7 +49,7 @@ looked_up name [] = refl
 looked_up name (e ∷ es) =
     rw (bytes_swap e.0.items name)
     (elim (bytes_eq name e.0.items) as (λ b. option_map place_of (cond b (Some e.1) (lookup (is_named name) es)) ≡ (if b then Some (place_of e.1) else field_named name (map indexed_field es)))
-      [ true ↦ refl | false ↦ looked_up name es ])
+    [ true ↦ refl | false ↦ looked_up name es ])
 
 -- a look-up in the map of an index of the fields fs
 module _ (name : List ℕ) (es : List Entry) (fs : List PlainField) (v : map indexed_field es ≡ fs) where
@@ -91,10 +91,6 @@ name_at_is_new (f ∷ fs) (suc k) d lt h =
 pub name_is_new : (fs : List FieldOf) (k : ℕ) (f : FieldOf) → k < length fs → f ≡ get_or fs k f → AllPairs (λ a b. a ≢ b) (names_of (fields_of fs)) → field_named f.name.items (fields_of (take k fs)) ≡ None
 name_is_new fs k f lt is h = ap (λ x. field_named x.name.items (fields_of (take k fs))) is ∙ name_at_is_new fs k f lt h
 
-named_in : (name : List ℕ) (s : PlainShape) → field_named name (fields_in s) ≡ field_in name s
-named_in name (fields fs) = refl
-named_in name s = refl
-
 fields_below : (n : ℕ) (s : PlainShape) → NamesOnlyBelow n s → AllBelow n (fields_in s)
 fields_below n (fields fs) h = h
 fields_below n s h = tt
@@ -105,11 +101,7 @@ shape_of_index [] n d lt = absurd (omega arith)
 shape_of_index (s ∷ t) zero d lt = (s, refl, refl)
 shape_of_index (s ∷ t) (suc n) d lt = shape_of_index t n d (omega arith)
 
--- there is an index for each shape
-pub indexes_len : (t : List PlainShape) (cs : List ℕ) (is : List (List PlainField)) → IsIndexedTable t cs is → length is ≡ length t
-indexes_len t cs is k = ap length k.indexed ∙ length-map t fields_in
-
--- a look-up in the index of a shape
+-- a field that a look-up in the index of a shape finds has a shape from before
 module _ (t u : List PlainShape) (cs : List ℕ) (is : List (List PlainField)) (k : IsIndexedTable u cs is) (v : u ≡ t) (n : ℕ) (d : List PlainField) (lt : n < length t) (name : List ℕ) (r : Option (ℕ × ShapeId))
     (e : option_map place_of r ≡ field_named name (get_or is n d)) where
   shape : (s : PlainShape) × (slice_get t n ≡ Some s) × (get_or (map fields_in t) n d ≡ fields_in s)
@@ -117,9 +109,6 @@ module _ (t u : List PlainShape) (cs : List ℕ) (is : List (List PlainField)) (
 
   indexed : get_or is n d ≡ fields_in shape.0
   indexed = ap (λ l. get_or l n d) (k.indexed ∙ ap (map fields_in) v) ∙ shape.2
-
-  pub field_there : option_map place_of r ≡ field_at name (slice_get t n)
-  field_there = e ∙ ap (field_named name) indexed ∙ named_in name shape.0 ∙ sym (ap (field_at name) shape.1)
 
   pub field_within : IfSome r (λ f. f.1.0 < n)
   field_within = field_below n name (fields_in shape.0) r (fields_below n shape.0 (k.table.shapes n shape.0 (ap (λ w. slice_get w n) v ∙ shape.1)).names) (e ∙ ap (field_named name) indexed)

@@ -63,7 +63,8 @@ impl Model for Shapes {
 
     ghost view = { λ s. table_of s.shapes.items };
 
-    ghost invariant = { λ s. IsIndexedTable (table_of s.shapes.items) s.cells.items s.indexes.items };
+    ghost invariant = { λ s. IsIndexedTable (table_of s.shapes.items) s.cells.items
+        s.indexes.items };
 }
 
 impl Shapes {
@@ -234,8 +235,8 @@ impl Shapes {
         ensures { MatchOption result
             ((cell_limit < values_at self.now index.0) ⊎
             (cell_limit < values_at self.now index.0 * cells_at self.now element.0))
-            (λ n. (n ≡ values_at self.now index.0 * cells_at self.now element.0) × (n ≤ cell_limit)
-            × (values_at self.now index.0 ≤ cell_limit)) }
+            (λ n. (n ≡ values_at self.now index.0 * cells_at self.now element.0)
+            × (n ≤ cell_limit) × (values_at self.now index.0 ≤ cell_limit)) }
     {
         match self.values(index) {
             None => None,
