@@ -1,4 +1,5 @@
 pub mod Tables
 pub mod Placing
 pub mod Names
+pub mod Fields
 pub mod Stacks

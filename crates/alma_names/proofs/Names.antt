@@ -52,9 +52,9 @@ module _ (name : List ℕ) (at : ℕ) (es : List (Vec ℕ Global × Declaration)
       by (Some e) p = cc
 
 -- a new name goes last
-added : (eq : Vec ℕ Global → Vec ℕ Global → Bool) (key : Vec ℕ Global) (declaration : Declaration) (es : List (Vec ℕ Global × Declaration)) → lookup (eq key) es ≡ None → insert_entry eq es key declaration ≡ es ++ (key, declaration) ∷ []
-added eq key declaration [] h = refl
-added eq key declaration (e ∷ es) h = elim (eq key e.0) as (λ b. cond b (Some e.1) (lookup (eq key) es) ≡ None → (if b then (e.0, declaration) ∷ es else e ∷ insert_entry eq es key declaration) ≡ e ∷ (es ++ (key, declaration) ∷ [])) [ true ↦ λ n. absurd (cc) | false ↦ λ n. ap (λ x. e ∷ x) (added eq key declaration es n) ] h
+pub added : {X : Type 0} (eq : Vec ℕ Global → Vec ℕ Global → Bool) (key : Vec ℕ Global) (x : X) (es : List (Vec ℕ Global × X)) → lookup (eq key) es ≡ None → insert_entry eq es key x ≡ es ++ (key, x) ∷ []
+added eq key x [] h = refl
+added eq key x (e ∷ es) h = elim (eq key e.0) as (λ b. cond b (Some e.1) (lookup (eq key) es) ≡ None → (if b then (e.0, x) ∷ es else e ∷ insert_entry eq es key x) ≡ e ∷ (es ++ (key, x) ∷ [])) [ true ↦ λ n. absurd (cc) | false ↦ λ n. ap (λ r. e ∷ r) (added eq key x es n) ] h
 
 missed : (test : Vec ℕ Global → Bool) (es : List (Vec ℕ Global × Declaration)) → position test (keys_of es) ≡ None → lookup test es ≡ None
 missed test es h = by (lookup test es) refl

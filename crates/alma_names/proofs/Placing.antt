@@ -41,7 +41,7 @@ placed_below : (n : ℕ) (ds : List ℕ) (offset : ℕ) (fs : List PlainField) �
 placed_below n ds offset [] h = h
 placed_below n ds offset (f ∷ fs) h = (h.0, placed_below n ds (offset + get_or ds f.shape 0) fs h.1)
 
-placed_names : (ds : List ℕ) (offset : ℕ) (fs : List PlainField) → names_of (placed ds offset fs) ≡ names_of fs
+pub placed_names : (ds : List ℕ) (offset : ℕ) (fs : List PlainField) → names_of (placed ds offset fs) ≡ names_of fs
 placed_names ds offset [] = refl
 placed_names ds offset (f ∷ fs) = ap (λ t. f.name ∷ t) (placed_names ds (offset + get_or ds f.shape 0) fs)
 

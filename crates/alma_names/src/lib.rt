@@ -2,6 +2,7 @@
 #![tactic(auto)]
 
 mod block;
+mod index;
 mod scopes;
 mod shapes;
 

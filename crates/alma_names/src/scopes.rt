@@ -35,7 +35,8 @@ impl Model for Scopes {
 
     ghost view = { λ s. record { below = s.below.items; top = s.top } };
 
-    ghost invariant = { λ s. (s.count ≡ entries_of s.below.items) × (s.count + length s.top ≤ 2 ^ 32) };
+    ghost invariant = { λ s. (s.count ≡ entries_of s.below.items)
+        × (s.count + length s.top ≤ 2 ^ 32) };
 }
 
 impl Scopes {

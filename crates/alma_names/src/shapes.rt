@@ -4,9 +4,10 @@
 ghost use Rattle.std.specs.Prelude.{◌≡◌, ◌+◌, ◌*◌, ◌^◌, ◌<◌, ◌≤◌, ◌⊎◌, ◌≤ℤ◌, List, [], ◌∷◌, ◌++◌, Option, None, Some, IsTrue, IsFalse, length, slice_get, option_map, MatchOption, IfSome, IfOk, OnOk, OnErr};
 ghost use Rattle.alma_base.specs.Numbers.{range_size};
 ghost use Rattle.alma_base.specs.Limits.{cell_limit};
-ghost use Rattle.alma_names.specs.Shapes.{PlainShape, plain_of, fields_of, table_of, first_shapes, range_at, base_at, IsBaseFor, values_at, cells_in, cell_counts, cells_at, is_too_large, sum_of_cells, NamesOnlyBelow, HasIndex, HasCount, HasBase, HasDistinctNames, AllBelow, IsShapeAt, placed, placed_shape, field_at, field_named, Refuses};
-ghost use Rattle.alma_names.specs.Table.{IsTable, CountsUpToLimit};
+ghost use Rattle.alma_names.specs.Shapes.{PlainShape, plain_of, fields_of, table_of, first_shapes, range_at, base_at, IsBaseFor, values_at, cells_in, cell_counts, cells_at, is_too_large, sum_of_cells, NamesOnlyBelow, HasIndex, HasCount, HasBase, HasDistinctNames, AllBelow, IsShapeAt, placed, placed_shape, field_at, Refuses};
+ghost use Rattle.alma_names.specs.Table.{IsIndexedTable, CountsUpToLimit};
 
+use crate::index::FieldIndex;
 use alma_base::{CELL_LIMIT, NoMemory, Range};
 use std::alloc::Global;
 use std::marker::Model;
@@ -53,6 +54,8 @@ pub struct Shapes {
     shapes: Vec<Shape>,
     // The number of cells of each shape.
     cells: Vec<u32>,
+    // The fields of each shape.
+    indexes: Vec<FieldIndex>,
 }
 
 impl Model for Shapes {
@@ -60,7 +63,8 @@ impl Model for Shapes {
 
     ghost view = { λ s. table_of s.shapes.items };
 
-    ghost invariant = { λ s. IsTable (table_of s.shapes.items) s.cells.items };
+    ghost invariant = { λ s. IsIndexedTable (table_of s.shapes.items) s.cells.items
+        s.indexes.items };
 }
 
 impl Shapes {
@@ -76,11 +80,19 @@ impl Shapes {
         cells.push(1)?;
         cells.push(1)?;
         cells.push(1)?;
-        Ok(Shapes { shapes, cells })
+        let mut indexes = Vec::new(alloc);
+        indexes.push(FieldIndex::new(alloc))?;
+        indexes.push(FieldIndex::new(alloc))?;
+        indexes.push(FieldIndex::new(alloc))?;
+        Ok(Shapes {
+            shapes,
+            cells,
+            indexes,
+        })
     }
 
     /// Adds a shape behind the others. The offsets of its fields are set here, whatever they were.
-    pub fn add(&mut self, _alloc: Global, shape: Shape) -> Result<ShapeId, ShapeError>
+    pub fn add(&mut self, alloc: Global, shape: Shape) -> Result<ShapeId, ShapeError>
         requires room { length self.old < 2 ^ 32 }
         requires names { NamesOnlyBelow (length self.old) (plain_of shape) }
         requires index { HasIndex self.old (plain_of shape) }
@@ -100,14 +112,21 @@ impl Shapes {
             Some(cells) => {
                 let id = ShapeId(self.shapes.len() as u32);
                 let placed = self.placed(shape);
+                let Ok(index) = FieldIndex::of(alloc, &placed) else {
+                    return Err(ShapeError::Memory);
+                };
                 if self.shapes.reserve(1).is_err() {
                     return Err(ShapeError::Memory);
                 }
                 if self.cells.reserve(1).is_err() {
                     return Err(ShapeError::Memory);
                 }
+                if self.indexes.reserve(1).is_err() {
+                    return Err(ShapeError::Memory);
+                }
                 self.shapes.push(placed).unwrap();
                 self.cells.push(cells).unwrap();
+                self.indexes.push(index).unwrap();
                 Ok(id)
             }
         }
@@ -179,11 +198,7 @@ impl Shapes {
             (slice_get self.now id.0) }
         ensures within { IfSome result (λ f. f.1.0 < id.0) }
     {
-        match self.get(id) {
-            Shape::Fields { fields } => find_field(fields, name),
-            Shape::Integer | Shape::Char | Shape::Boolean => None,
-            Shape::Listed { .. } | Shape::Sub { .. } | Shape::Row { .. } => None,
-        }
+        self.indexes[id.0 as usize].find(name)
     }
 
     // The number of values of an index shape, where there are not too many.
@@ -220,8 +235,8 @@ impl Shapes {
         ensures { MatchOption result
             ((cell_limit < values_at self.now index.0) ⊎
             (cell_limit < values_at self.now index.0 * cells_at self.now element.0))
-            (λ n. (n ≡ values_at self.now index.0 * cells_at self.now element.0) × (n ≤ cell_limit)
-            × (values_at self.now index.0 ≤ cell_limit)) }
+            (λ n. (n ≡ values_at self.now index.0 * cells_at self.now element.0)
+            × (n ≤ cell_limit) × (values_at self.now index.0 ≤ cell_limit)) }
     {
         match self.values(index) {
             None => None,
@@ -301,16 +316,4 @@ fn count_values(range: Range) -> Option<u32>
             Some(above as u32 + 1)
         }
     }
-}
-
-// The offset and the shape of the field of a name.
-fn find_field(fields: &[FieldOf], name: &[u8]) -> Option<(u32, ShapeId)>
-    ensures { option_map (λ f. (f.0, f.1.0)) result ≡ field_named name.now (fields_of fields.now) }
-{
-    for field in fields {
-        if field.name.as_slice() == name {
-            return Some((field.offset, field.shape));
-        }
-    }
-    None
 }

@@ -1,7 +1,9 @@
-use Rattle.alma_names.specs.Shapes.{fields_of}
-use Rattle.alma_names.proofs.Placing.{field_below}
+use Rattle.std.proofs.Common.{◌∙◌, ap}
+use Rattle.alma_names.specs.Shapes.{field_named}
+use Rattle.alma_names.proofs.Fields.{field_within}
 use Rattle.alma_names.proofs.shapes.Shapes.field.Goals as goal
 
-pub returns-in-Fields-clause-within : goal.returns-in-Fields-clause-within
-returns-in-Fields-clause-within c =
-    field_below c.args.id.0 c.args.name.now (fields_of c.in-Fields.fields.items) c.find_field.result (rw c.in-Fields.is at c.get.ensures.sound.names) (rw c.deref.ensures.value at c.find_field.ensures)
+pub returns-clause-within : goal.returns-clause-within
+returns-clause-within c =
+    field_within c.args.self.now _ _ _ c.self.invariant c.self.view_is c.args.id.0 c.index.result.now c.requires c.args.name.now c.find.result
+    (c.find.ensures ∙ ap (field_named c.args.name.now) c.index.ensures)
