@@ -182,7 +182,8 @@ fn call_value(routine: u32, args: Vec<Arg>, up: u32) -> Meaning
 
 // ---- designators
 
-pub(crate) fn desig(located: Located) -> Desig
+/// The designator alone, without the type of its cells.
+pub fn desig(located: Located) -> Desig
     ensures { desig_of result ≡ parts.desig_of (located_of located) }
 {
     let Located {

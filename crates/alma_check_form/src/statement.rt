@@ -8,8 +8,8 @@ ghost use Rattle.alma_rules.specs.Nodes as nodes;
 ghost use Rattle.alma_check_rules.specs.Views.{scene_of, typing_in, typing_of, located_in, located_of, meaning_view, spans_in, spans_view, stmts_in, stmts_of, somewhere};
 ghost use Rattle.alma_check_build.specs.Lists.{test_in, arms_of, arms_in, cases_of, cases_in, branches_in, else_in, loop_in, guarded_in};
 
-use crate::expression::{as_test, as_value, desig};
 use alma_base::Range;
+use alma_check_build::{as_test, as_value, desig};
 use alma_check_rules::{Env, Located, Meaning, Span, Typed};
 use alma_ir::{Arm, Branch, CaseArm, Expr, Loop, ReadAs, Stmt, Test, WriteAs};
 use std::alloc::{AllocError, Global};
