@@ -3,5 +3,6 @@ if exists("current_compiler")
   finish
 endif
 let current_compiler = "alma"
-CompilerSet makeprg=alma\ compile\ %\ /dev/null
+" One machine step: the source is read whole, and hardly run.
+CompilerSet makeprg=alma\ run\ %\ --steps=1
 CompilerSet errorformat=%f:%l:%c:\ %m
