@@ -1,0 +1,5 @@
+pub mod WithLines
+pub mod Needs
+pub mod Facts
+pub mod Pieces
+pub mod Roots
