@@ -3,3 +3,4 @@ pub mod Needs
 pub mod Facts
 pub mod Pieces
 pub mod Roots
+pub mod Values
