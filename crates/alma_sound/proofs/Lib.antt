@@ -4,3 +4,4 @@ pub mod Facts
 pub mod Pieces
 pub mod Roots
 pub mod Values
+pub mod Phrases

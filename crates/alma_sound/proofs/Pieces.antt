@@ -1,5 +1,5 @@
 -- Code at an address of a routine, each instruction with what it needs: the pieces that phrases share.
-use Rattle.std.proofs.Common.{◌≡◌, ℕ, suc, ◌+◌, ◌*◌, ◌<◌, ◌≤◌, Bool, true, false, List, [], ◌∷◌, ◌++◌, length, Option, Some, None, refl, sym, ap, ◌∙◌, subst, arith}
+use Rattle.std.proofs.Common.{◌≡◌, ℕ, suc, ◌+◌, ◌*◌, ◌<◌, ◌≤◌, Bool, true, false, List, [], ◌∷◌, ◌++◌, length, Option, Some, None, ℤ, pos, negsuc, refl, sym, ap, ◌∙◌, subst, arith}
 use Rattle.std.specs.List.{AllByRecursion}
 use Rattle.std.proofs.lemmas.List.{length-append, length-map}
 use Rattle.alma_base.specs.declared.number.Range.{Range}
@@ -9,7 +9,7 @@ use Rattle.alma_code.specs.declared.instr.Instr.TheVariants as I
 use Rattle.alma_code.specs.Plain.{PlainCode, start_at, end_at}
 use Rattle.alma_ir.proofs.Each.{each_of_append}
 use Rattle.alma_templates.specs.Lined.{Lined, own, in_row, leaving, left_by}
-use Rattle.alma_templates.specs.Pieces.{begin_first, condition, guarded, chosen, first_of_two, refused, truth_code, each_body, forall_code, label_code, labels_code, last_label_code, behind_labels, case_arm}
+use Rattle.alma_templates.specs.Pieces.{begin_first, condition, guarded, chosen, first_of_two, refused, truth_code, each_body, forall_code, label_code, labels_code, last_label_code, behind_labels, case_arm, entry_code, begin_loop, bounds_code, turn_code, for_turns, some_turns}
 use Rattle.alma_templates.specs.Slots.{unless_bare}
 use Rattle.alma_sound.proofs.Needs.{HasKind, IsInside, Needs, Number, Mark}
 
@@ -190,3 +190,60 @@ module _ (code : PlainCode) (r : ℕ) where
       (record { low = omega (arith, room.low); high = omega (arith, room.high, long, longer, longest) })
       room.low (omega (arith, room.high, long, longer, longest))))
       (f (record { low = omega (arith, room.low); high = omega (arith, room.high, long, longer, longest) }))
+
+  -- ---- loops
+
+  entry_need : (by : ℤ) (from to : ℕ) → Number code r from → Number code r to → Needs code r (entry_code by from to)
+  entry_need (pos step) from to a b = (a, a, b)
+  entry_need (negsuc step) from to a b = (a, b, a)
+
+  -- the slots of a loop: counter, limit, step, and both bounds
+  pub record LoopSlots (counter limit step first last : ℕ) : Type 0 where
+    pub count : Number code r counter
+    pub bound : Number code r limit
+    pub by : Number code r step
+    pub from : Number code r first
+    pub to : Number code r last
+
+  pub for_turns_fits : (line at : ℕ) (by : ℤ) (counter limit step first last : ℕ) (turn : List Lined) → LoopSlots counter limit step first last → Fits 0 (at + 4) turn → Fits 0 at (for_turns line at by counter limit step first last turn)
+  for_turns_fits line at by counter limit step start last turn s f room =
+      let exit : ℕ = at + 4 + length turn + 2 in
+      let end : List Lined = own line (I.Step counter limit step exit ∷ I.Jump (at + 4) ∷ []) in
+      let long = length-append turn end in
+      let out : IsInside code r exit = record { low = omega (arith, room.low); high = omega (arith, room.high, long) } in
+      let top : IsInside code r (at + 4) = record { low = omega (arith, room.low); high = omega (arith, room.high, long) } in (
+        (s.count, s.from),
+        ((s.bound, s.to), (entry_need by start last s.from s.to, ((s.from, out), both turn end (f (record { low = omega (arith, room.low); high = omega (arith, room.high, long) })) ((s.count, s.bound, s.by, out), (top, tt))))),
+      )
+
+  pub some_turns_fits : (line at counter limit step first last more : ℕ) (turn : List Lined) → LoopSlots counter limit step first last → Number code r more → Fits 0 (at + 7) turn → Fits 0 at (some_turns line at counter limit step first last more turn)
+  some_turns_fits line at counter limit step start last more turn s m f room =
+      let n : ℕ = at + 7 + length turn in
+      let end : List Lined = own line (I.Jump (n + 4) ∷ I.Add counter counter step ∷ I.Jump (at + 4) ∷ I.Fail ∷ []) in
+      let long = length-append turn end in
+      let out : IsInside code r (n + 4) = record { low = omega (arith, room.low); high = omega (arith, room.high, long) } in
+      let none : IsInside code r (n + 3) = record { low = omega (arith, room.low); high = omega (arith, room.high, long) } in
+      let again : IsInside code r (n + 1) = record { low = omega (arith, room.low); high = omega (arith, room.high, long) } in
+      let inner : IsInside code r (at + 7) = record { low = omega (arith, room.low); high = omega (arith, room.high, long) } in
+      let top : IsInside code r (at + 4) = record { low = omega (arith, room.low); high = omega (arith, room.high, long) } in (
+        (s.count, s.from),
+        ((s.bound, s.to), (entry_need (pos 1) start last s.from s.to, ((s.from, none), ((m, s.count, s.bound), ((m, inner), (again,
+        both turn end (f (record { low = omega (arith, room.low); high = omega (arith, room.high, long) })) (out, ((s.count, s.count, s.by), (top, (tt, tt)))))))))),
+      )
+
+  -- a turn: the count is checked, the variable is located and set, and the body follows
+  pub turn_fits : (line at : ℕ) (check : List Instr) (locate : (at : ℕ) → List Lined) (store : Instr) (body : (at : ℕ) → List Lined) → AllByRecursion (Needs code r) check → ((at : ℕ) → Fits 0 at (locate at)) → Needs code r store
+      → ((at : ℕ) → Fits 0 at (body at)) → Fits 0 at (turn_code line at check locate store body)
+  turn_fits line at check locate store body c l s b =
+      let at1 : ℕ = at + length (own line check) in
+      let at2 : ℕ = at1 + length (locate at1) in
+      let set : List Lined = own line (store ∷ []) in
+      row 0 at (own line check) (locate at1 ++ (set ++ body (at2 + 1))) (own_fits 0 at line check c)
+      (row 0 at1 (locate at1) (set ++ body (at2 + 1)) (l at1) (row 0 at2 set (body (at2 + 1)) (own_fits 0 at2 line (store ∷ []) (s, tt)) (b (at2 + 1))))
+
+  -- the step, and both bounds
+  pub begin_fits : (spare line at step : ℕ) (by : ℤ) (from to : (at : ℕ) → List Lined) → Number code r step → ((at : ℕ) → Fits 0 at (from at)) → ((at : ℕ) → Fits 0 at (to at)) → Fits spare at (begin_loop line at step by from to)
+  begin_fits spare line at step by from to s f g =
+      let one : List Lined = from (at + 1) in
+      let two : List Lined = to (at + 1 + length one) in
+      first spare at (own line (I.Const step by ∷ []) ++ (one ++ two)) (row 0 at (own line (I.Const step by ∷ [])) (one ++ two) (own_fits 0 at line (I.Const step by ∷ []) (s, tt)) (row 0 (at + 1) one two (f (at + 1)) (g (at + 1 + length one))))
