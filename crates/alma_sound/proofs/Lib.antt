@@ -5,3 +5,4 @@ pub mod Pieces
 pub mod Roots
 pub mod Values
 pub mod Phrases
+pub mod LinkKinds
