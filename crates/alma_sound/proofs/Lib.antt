@@ -6,3 +6,5 @@ pub mod Roots
 pub mod Values
 pub mod Phrases
 pub mod LinkKinds
+pub mod Whole
+pub mod Sound

@@ -88,6 +88,33 @@ module _ (p : Program) (tables : Tables) (code : PlainCode) (checked : IsChecked
       begins (suc zero) rest more h = absurd (omega (arith, h))
       begins (suc (suc above)) rest more h = refl
 
+  -- ---- cells
+
+  numbers_there : (ks : List SlotKind) (n i : ℕ) → ((k : ℕ) → k < n → slice_get ks (i + k) ≡ Some slot.Number) → numbers_from n ks i ≡ true
+  numbers_there ks zero i h = refl
+  numbers_there ks (suc n) i h =
+      let here : i ≡ i + 0 = omega arith in
+      and_from (is_number (slice_get ks i)) (numbers_from n ks (suc i)) (ap is_number (ap (slice_get ks) here ∙ h 0 (omega arith)))
+      (numbers_there ks n (suc i) (λ k small. (let next : suc i + k ≡ i + suc k = omega arith in ap (slice_get ks) next ∙ h (suc k) (omega (arith, small)))))
+
+  numbers_of : (s from cells : ℕ) → AreVariables p code [] s from cells → numbers_from cells (kinds_at code s) (shift p s + from) ≡ true
+  numbers_of s from cells h =
+      numbers_there (kinds_at code s) cells (shift p s + from)
+      (λ k small. (let same : shift p s + from + k ≡ shift p s + (from + k) = omega arith in ap (slice_get (kinds_at code s)) same ∙ h.numbers k small))
+
+  cells_of : (s from cells : ℕ) → AreVariables p code [] s from cells → cells_in code s (shift p s + from) cells ≡ true
+  cells_of s from zero h = refl
+  cells_of s from (suc n) h =
+      and_from (is_free code s (shift p s + from)) (numbers_from (suc n) (kinds_at code s) (shift p s + from))
+      (lt-ltb 0 (s + (shift p s + from)) (positive s (shift p s + from) (λ main. let z = h.free main in omega (arith, z)))) (numbers_of s from (suc n) h)
+
+  -- a variable of the module
+  pub global_cells : (from cells : ℕ) → AreNumbers (routine_at p 0) from cells → 0 < from → cells_in code 0 from cells ≡ true
+  global_cells from cells h some =
+      let main : shift p 0 ≡ 0 = ap link_slots ((checked.nested 0 checked.body.0).body refl).0 in
+      let same : shift p 0 + from ≡ from = omega (arith, main) in
+      subst (λ n. cells_in code 0 n cells ≡ true) same (cells_of 0 from cells (w.variables 0 from cells checked.body.0 h (λ e. some)))
+
   module _ (r : ℕ) (lt : r < length p.routines) where
     abbrev pub Slots : (lo : ℕ) → List SlotKind → Type 0
     Slots lo kinds = HasSlots p code r lo kinds
@@ -108,24 +135,6 @@ module _ (p : Program) (tables : Tables) (code : PlainCode) (checked : IsChecked
     first_slot lo k rest h = record { kind = first_kind p code [] r lo k rest h; free = free lo h.behind }
 
     -- ---- variables
-
-    numbers_there : (ks : List SlotKind) (n i : ℕ) → ((k : ℕ) → k < n → slice_get ks (i + k) ≡ Some slot.Number) → numbers_from n ks i ≡ true
-    numbers_there ks zero i h = refl
-    numbers_there ks (suc n) i h =
-        let here : i ≡ i + 0 = omega arith in
-        and_from (is_number (slice_get ks i)) (numbers_from n ks (suc i)) (ap is_number (ap (slice_get ks) here ∙ h 0 (omega arith)))
-        (numbers_there ks n (suc i) (λ k small. (let next : suc i + k ≡ i + suc k = omega arith in ap (slice_get ks) next ∙ h (suc k) (omega (arith, small)))))
-
-    numbers_of : (s from cells : ℕ) → AreVariables p code [] s from cells → numbers_from cells (kinds_at code s) (shift p s + from) ≡ true
-    numbers_of s from cells h =
-        numbers_there (kinds_at code s) cells (shift p s + from)
-        (λ k small. (let same : shift p s + from + k ≡ shift p s + (from + k) = omega arith in ap (slice_get (kinds_at code s)) same ∙ h.numbers k small))
-
-    cells_of : (s from cells : ℕ) → AreVariables p code [] s from cells → cells_in code s (shift p s + from) cells ≡ true
-    cells_of s from zero h = refl
-    cells_of s from (suc n) h =
-        and_from (is_free code s (shift p s + from)) (numbers_from (suc n) (kinds_at code s) (shift p s + from))
-        (lt-ltb 0 (s + (shift p s + from)) (positive s (shift p s + from) (λ main. let z = h.free main in omega (arith, z)))) (numbers_of s from (suc n) h)
 
     pub variable : (from : ℕ) → AreVariables p code [] r from 1 → Number code r (own_slot p tables r from)
     variable from h = record {
@@ -191,10 +200,7 @@ module _ (p : Program) (tables : Tables) (code : PlainCode) (checked : IsChecked
           },
           tt,
         )
-    root_needs lo cells (root.Global from) rest h slots =
-        let main : shift p 0 ≡ 0 = ap link_slots ((checked.nested 0 checked.body.0).body refl).0 in
-        let same : shift p 0 + from ≡ from = omega (arith, main) in
-        (record { cells = cells; place = first_slot lo (slot.Place cells) rest slots; numbers = subst (λ n. cells_in code 0 n cells ≡ true) same (cells_of 0 from cells (w.variables 0 from cells checked.body.0 h.1 (λ e. h.2))) }, tt)
+    root_needs lo cells (root.Global from) rest h slots = (record { cells = cells; place = first_slot lo (slot.Place cells) rest slots; numbers = global_cells from cells h.1 h.2 }, tt)
     root_needs lo cells (root.Param from) rest h slots =
         let held = w.places r from cells lt h in
         (record { cells = cells; first = first_slot lo (slot.Place cells) rest slots; second = record { kind = held.kind; free = positive r (shift p r + from) (λ main. absurd (none main)) } }, tt)
