@@ -38,7 +38,7 @@ use Rattle.alma_templates.proofs.Whole.{routine_stands}
 use Rattle.alma_templates.proofs.Premises.{body_slots, position_kind}
 use Rattle.alma_templates.proofs.Returning.{own_long}
 use Rattle.alma_templates.proofs.Sizes.{few_slots}
-use Rattle.alma_sound.specs.Runs.{RunsFill}
+use Rattle.alma_sound.specs.Runs.{HasLongRuns}
 use Rattle.alma_sound.proofs.Facts.{body_facts}
 use Rattle.alma_sound.proofs.LinkKinds.{AllNamed, runs_named, kinds_named}
 use Rattle.alma_sound.proofs.Needs.{no_fault, last_return, last_fault}
@@ -241,7 +241,10 @@ module _ (p : Program) (code : PlainCode) (checked : IsChecked p) (is_code : IsC
   within : (r : ℕ) → r < length code.routines → r < length p.routines
   within r lt = omega (arith, lt, w.count)
 
-  module _ (few : 16 * nodes p ≤ size_limit) (fill : RunsFill code) where
+  module _ (few : 16 * nodes p ≤ size_limit) (runs : HasLongRuns p code) where
+    fill : (r : ℕ) → r < length code.routines → RunsRise 0 (head_at code r).runs (head_at code r).slots
+    fill r lt = subst (RunsRise 0 (head_at code r).runs) (sym (slots_are r (within r lt))) (runs r (within r lt)).ends
+
     table : IsTable code
     table = record {
       some = omega (arith, w.count, checked.body.0);
@@ -261,5 +264,5 @@ module _ (p : Program) (code : PlainCode) (checked : IsChecked p) (is_code : IsC
     pub is_sound : IsSound code
     is_sound = record { table = table; heads = heads; instrs = λ r at lt low high. each_instr r (within r lt) at low high }
 
-pub code_is_sound : (p : Program) (code : PlainCode) → IsChecked p → 16 * nodes p ≤ size_limit → IsCodeOf p code → RunsFill code → IsSound code
-code_is_sound p code checked few is_code fill = is_sound p code checked is_code few fill
+pub code_is_sound : (p : Program) (code : PlainCode) → IsChecked p → IsCodeOf p code → HasLongRuns p code → 16 * nodes p ≤ size_limit → IsSound code
+code_is_sound p code checked is_code runs few = is_sound p code checked is_code few runs

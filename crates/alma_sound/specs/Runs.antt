@@ -1,13 +1,10 @@
--- The runs in which the slots of a code's routines are named: what a code of a program leaves open.
-use Rattle.std.specs.Prelude.{◌≡◌, ◌<◌, ℕ, true, length}
-use Rattle.alma_code.specs.Layout.{RunsRise}
+-- The runs in which a code of a program names the slots of its routines.
+use Rattle.std.specs.Prelude.{◌<◌, ℕ, length}
 use Rattle.alma_code.specs.Plain.{PlainCode, head_at}
-use Rattle.alma_code.specs.Records.{runs_differ}
+use Rattle.alma_ir.specs.Tree.{Program}
+use Rattle.alma_implements.specs.Templates.{NamesKinds}
+use Rattle.alma_templates.specs.Slots.{routine_kinds}
 
--- the run ends of each routine rise from above 0 to the number of its slots
-abbrev pub RunsFill : PlainCode → Type 0
-RunsFill code = (r : ℕ) → r < length code.routines → RunsRise 0 (head_at code r).runs (head_at code r).slots
-
--- two runs of a routine that follow each other are of different kinds
-abbrev pub RunsDiffer : PlainCode → Type 0
-RunsDiffer code = (r : ℕ) → r < length code.routines → runs_differ (head_at code r).runs ≡ true
+-- the runs of each routine name the kinds of its slots, and each is as long as it can be
+abbrev pub HasLongRuns : Program → PlainCode → Type 0
+HasLongRuns p code = (r : ℕ) → r < length p.routines → NamesKinds (head_at code r).runs (routine_kinds p r)
