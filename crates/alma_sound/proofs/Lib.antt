@@ -8,3 +8,8 @@ pub mod Phrases
 pub mod LinkKinds
 pub mod Whole
 pub mod Sound
+pub mod Runs
+pub mod NodesAlike
+pub mod Entries
+pub mod Walks
+pub mod Counts
