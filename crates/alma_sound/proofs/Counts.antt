@@ -4,7 +4,6 @@ use Rattle.std.specs.Prelude.{sum_by, map}
 use Rattle.std.proofs.lemmas.List.{length-append, length-map}
 use Rattle.std.proofs.lemmas.List.Sums.{sum_by-cons}
 use Rattle.alma_base.specs.Limits.{size_limit}
-use Rattle.alma_code.specs.declared.head.Run.{Run}
 use Rattle.alma_code.specs.Plain.{PlainCode, PlainRoutine, head_at}
 use Rattle.alma_code.specs.Plain as plain
 use Rattle.alma_code.specs.Records.{KeepsCounts, KeepsVersion, param_count, run_count, name_count}
@@ -16,7 +15,7 @@ use Rattle.alma_templates.specs.Lined.{Lined, own}
 use Rattle.alma_templates.specs.Tables.{Tables}
 use Rattle.alma_templates.specs.Slots.{own_kinds, stmts_slots}
 use Rattle.alma_templates.specs.Templates.{stmts_code, routine_code, end_code}
-use Rattle.alma_templates.specs.Compiled.{link_params, param_named, global_named, head_for, routines_code, routines_named}
+use Rattle.alma_templates.specs.Compiled.{link_params, param_named, global_named, routines_code}
 use Rattle.alma_templates.specs.CodeOf.{IsCodeOf}
 use Rattle.alma_templates.proofs.Sizes.{code_is_short, few_slots}
 use Rattle.alma_sound.specs.Entries.{HoldsEachOnce}
@@ -25,7 +24,7 @@ use Rattle.alma_sound.proofs.Entries.{few_ranges, few_texts, few_text_bytes}
 use Rattle.alma_sound.proofs.NodesAlike.{stmts_alike}
 use Rattle.alma_sound.proofs.Runs.{routine_runs}
 use Rattle.alma_sound.proofs.Walks.{walk, records_few, walk_two, from_other, then_own, hop_few, stmts_round}
-use Rattle.alma_sound.proofs.Whole.{count, head_is}
+use Rattle.alma_sound.proofs.Whole.{count, head_is, name_is}
 
 -- ---- sums over routines
 
@@ -115,19 +114,7 @@ module _ (p : Program) (code : PlainCode) (checked : IsChecked p) (is_code : IsC
       omega (arith, each, sum_of_nodes p.routines)
 
   names_same : sum_by (λ r. length r.name) code.routines ≤ sum_by (λ r. length r.name) p.routines
-  names_same = sum_over (λ r. length r.name) (λ r. length r.name) code.routines p.routines (count p code checked is_code) (λ r lt. omega (arith, ap length (name_is r lt)))
-    where
-      names_in : (all : List (List Run)) (r at k : ℕ) → k < length all → (get_or (routines_named p is_code.tables r at all) k plain.no_routine).name ≡ (routine_at p (r + k)).name
-      names_in [] r at k lt = absurd (omega (arith, lt))
-      names_in (runs ∷ rest) r at zero lt = let e : r ≡ r + 0 = omega arith in ap (λ n. (routine_at p n).name) e
-      names_in (runs ∷ rest) r at (suc k) lt =
-          let e : suc r + k ≡ r + suc k = omega arith in
-          names_in rest (suc r) (at + length (routine_code p is_code.tables r at)) k (omega (arith, lt)) ∙ ap (λ n. (routine_at p n).name) e
-
-      name_is : (r : ℕ) → r < length code.routines → (get_or code.routines r plain.no_routine).name ≡ (routine_at p r).name
-      name_is r lt =
-          let z : 0 + r ≡ r = omega arith in
-          ap (λ c. (get_or c.routines r plain.no_routine).name) is_code.is ∙ names_in is_code.runs 0 0 r (omega (arith, there r lt, is_code.count)) ∙ ap (λ n. (routine_at p n).name) z
+  names_same = sum_over (λ r. length r.name) (λ r. length r.name) code.routines p.routines (count p code checked is_code) (λ r lt. omega (arith, ap length (name_is p code checked is_code r (there r lt))))
 
   module _ (few : 16 * nodes p ≤ size_limit) (held : HoldsEachOnce p code) (runs : HasLongRuns p code) where
     pub counts : KeepsCounts code

@@ -13,3 +13,4 @@ pub mod NodesAlike
 pub mod Entries
 pub mod Walks
 pub mod Counts
+pub mod Records

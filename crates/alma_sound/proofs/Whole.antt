@@ -42,6 +42,13 @@ module _ (p : Program) (tables : Tables) where
       let e : suc r + k ≡ r + suc k = omega arith in
       named_head rest (suc r) (at + length (routine_code p tables r at)) k (omega (arith, lt)) ∙ ap (λ n. head_for p n (get_or rest k [])) e
 
+  named_name : (all : List (List Run)) (r at k : ℕ) → k < length all → (get_or (routines_named p tables r at all) k plain.no_routine).name ≡ (routine_at p (r + k)).name
+  named_name [] r at k lt = absurd (omega (arith, lt))
+  named_name (runs ∷ rest) r at zero lt = let e : r ≡ r + 0 = omega arith in ap (λ n. (routine_at p n).name) e
+  named_name (runs ∷ rest) r at (suc k) lt =
+      let e : suc r + k ≡ r + suc k = omega arith in
+      named_name rest (suc r) (at + length (routine_code p tables r at)) k (omega (arith, lt)) ∙ ap (λ n. (routine_at p n).name) e
+
   -- each routine ends behind its code
   named_end : (all : List (List Run)) (r at k : ℕ) → k < length all
       → (get_or (routines_named p tables r at all) k plain.no_routine).code_end ≡ start_in at (routines_named p tables r at all) k + length (routine_code p tables (r + k) (start_in at (routines_named p tables r at all) k))
@@ -84,6 +91,11 @@ module _ (p : Program) (code : PlainCode) (checked : IsChecked p) (is_code : IsC
   head_is r lt =
       let z : 0 + r ≡ r = omega arith in
       ap (λ x. (get_or x r plain.no_routine).head) routines_are ∙ named_head p is_code.tables is_code.runs 0 0 r (omega (arith, lt, is_code.count)) ∙ ap (λ n. head_for p n (get_or is_code.runs r [])) z
+
+  pub name_is : (r : ℕ) → r < length p.routines → (plain.routine_at code r).name ≡ (routine_at p r).name
+  name_is r lt =
+      let z : 0 + r ≡ r = omega arith in
+      ap (λ x. (get_or x r plain.no_routine).name) routines_are ∙ named_name p is_code.tables is_code.runs 0 0 r (omega (arith, lt, is_code.count)) ∙ ap (λ n. (routine_at p n).name) z
 
   start_named : (r : ℕ) → start_in 0 named r ≡ start_at code r
   start_named r = ap (λ rs. start_in 0 rs r) (sym routines_are) ∙ sym (start_is code r)

@@ -2,15 +2,34 @@
 ghost use Rattle.std.specs.Prelude.{◌*◌, ◌≤◌};
 ghost use Rattle.alma_base.specs.Limits.{size_limit};
 ghost use Rattle.alma_code.specs.Plain.{PlainCode};
+ghost use Rattle.alma_code.specs.Records.{KeepsCounts, KeepsRecords, KeepsVersion};
 ghost use Rattle.alma_code.specs.Rules.{IsSound};
 ghost use Rattle.alma_ir.specs.Checked.{IsChecked};
 ghost use Rattle.alma_ir.specs.Count.{nodes};
 ghost use Rattle.alma_ir.specs.Tree.{Program};
+ghost use Rattle.alma_sound.specs.Entries.{HoldsEachOnce};
 ghost use Rattle.alma_sound.specs.Runs.{HasLongRuns};
 ghost use Rattle.alma_templates.specs.CodeOf.{IsCodeOf};
 
-/// The code that the templates give for a checked program, its slots named in the longest runs, is sound.
+/// The code that the templates give for a checked program is sound, where the longest runs name its slots.
 pub fn code_of_a_checked_program_is_sound()
     ensures { (p : Program) (code : PlainCode) → IsChecked p → IsCodeOf p code → HasLongRuns p code
         → 16 * nodes p ≤ size_limit → IsSound code }
+{}
+
+/// No count of it is too large for an object, where its tables hold ranges and texts of the program, each at most once.
+pub fn code_of_a_checked_program_keeps_the_counts()
+    ensures { (p : Program) (code : PlainCode) → IsChecked p → IsCodeOf p code → HasLongRuns p code
+        → HoldsEachOnce p code → 16 * nodes p ≤ size_limit → KeepsCounts code }
+{}
+
+/// Its records are as those of an object must be.
+pub fn code_of_a_checked_program_keeps_the_records()
+    ensures { (p : Program) (code : PlainCode) → IsChecked p → IsCodeOf p code → HasLongRuns p code
+        → HoldsEachOnce p code → KeepsRecords code }
+{}
+
+/// It is of version 2.
+pub fn code_of_a_program_is_of_version_2()
+    ensures { (p : Program) (code : PlainCode) → IsCodeOf p code → KeepsVersion code }
 {}
