@@ -14,3 +14,4 @@ pub mod Entries
 pub mod Walks
 pub mod Counts
 pub mod Records
+pub mod Readers
