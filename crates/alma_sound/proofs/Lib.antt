@@ -15,3 +15,5 @@ pub mod Walks
 pub mod Counts
 pub mod Records
 pub mod Readers
+pub mod ReadersAlike
+pub mod ReadsAlike

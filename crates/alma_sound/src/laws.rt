@@ -1,5 +1,5 @@
 // Laws of the code of a checked program, each as the contract of a function that does nothing.
-ghost use Rattle.std.specs.Prelude.{◌*◌, ◌≤◌};
+ghost use Rattle.std.specs.Prelude.{◌≡◌, ◌*◌, ◌≤◌};
 ghost use Rattle.alma_base.specs.Limits.{size_limit};
 ghost use Rattle.alma_code.specs.Plain.{PlainCode};
 ghost use Rattle.alma_code.specs.Records.{KeepsCounts, KeepsRecords, KeepsVersion};
@@ -8,6 +8,7 @@ ghost use Rattle.alma_ir.specs.Checked.{IsChecked};
 ghost use Rattle.alma_ir.specs.Count.{nodes};
 ghost use Rattle.alma_ir.specs.Tree.{Program};
 ghost use Rattle.alma_sound.specs.Entries.{HoldsEachOnce};
+ghost use Rattle.alma_sound.specs.Reads.{HasLabels, code_reads, program_reads};
 ghost use Rattle.alma_sound.specs.Runs.{HasLongRuns};
 ghost use Rattle.alma_templates.specs.CodeOf.{IsCodeOf};
 
@@ -32,4 +33,10 @@ pub fn code_of_a_checked_program_keeps_the_records()
 /// It is of version 2.
 pub fn code_of_a_program_is_of_version_2()
     ensures { (p : Program) (code : PlainCode) → IsCodeOf p code → KeepsVersion code }
+{}
+
+/// It holds a ReadInt or a ReadChar exactly where the program holds a READ.
+pub fn code_of_a_program_reads_where_the_program_reads()
+    ensures { (p : Program) (code : PlainCode) → IsCodeOf p code → HasLabels p
+        → code_reads code ≡ program_reads p }
 {}
