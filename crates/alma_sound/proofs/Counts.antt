@@ -1,19 +1,19 @@
 -- The code of a checked program keeps its counts.
-use Rattle.std.proofs.Common.{◌≡◌, ◌⊎◌, inl, inr, ℕ, zero, suc, ◌+◌, ◌*◌, ◌<◌, ◌≤◌, List, [], ◌∷◌, ◌++◌, length, get_or, refl, sym, ap, ◌∙◌, subst, arith}
+use Rattle.std.proofs.Common.{◌≡◌, inr, ℕ, zero, suc, ◌+◌, ◌*◌, ◌<◌, ◌≤◌, List, [], ◌∷◌, ◌++◌, length, get_or, refl, ap, ◌∙◌, arith}
 use Rattle.std.specs.Prelude.{sum_by, map}
 use Rattle.std.proofs.lemmas.List.{length-append, length-map}
 use Rattle.std.proofs.lemmas.List.Sums.{sum_by-cons}
 use Rattle.alma_base.specs.Limits.{size_limit}
 use Rattle.alma_code.specs.Plain.{PlainCode, PlainRoutine, head_at}
 use Rattle.alma_code.specs.Plain as plain
-use Rattle.alma_code.specs.Records.{KeepsCounts, KeepsVersion, param_count, run_count, name_count}
+use Rattle.alma_code.specs.Records.{KeepsCounts, KeepsVersion, param_count, run_count}
 use Rattle.alma_ir.specs.Tree.{Program, Routine, Global, routine_at, no_routine}
 use Rattle.alma_ir.specs.Checked.{IsChecked, link_slots}
-use Rattle.alma_ir.specs.Count.{nodes, routines_nodes, routine_nodes, stmts_nodes}
+use Rattle.alma_ir.specs.Count.{nodes, routines_nodes, routine_nodes}
 use Rattle.alma_ir.specs.Lines.{body_with_lines}
 use Rattle.alma_templates.specs.Lined.{Lined, own}
 use Rattle.alma_templates.specs.Tables.{Tables}
-use Rattle.alma_templates.specs.Slots.{own_kinds, stmts_slots}
+use Rattle.alma_templates.specs.Slots.{own_kinds}
 use Rattle.alma_templates.specs.Templates.{stmts_code, routine_code, end_code}
 use Rattle.alma_templates.specs.Compiled.{link_params, param_named, global_named, routines_code}
 use Rattle.alma_templates.specs.CodeOf.{IsCodeOf}

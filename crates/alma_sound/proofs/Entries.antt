@@ -1,14 +1,13 @@
 -- Tables that hold what a program names, each once, have few entries, and ranges in order.
-use Rattle.std.proofs.Common.{◌≡◌, ◌⊎◌, inl, inr, ℕ, zero, suc, ◌+◌, ◌*◌, ◌<◌, ◌≤◌, Bool, true, false, List, [], ◌∷◌, ◌++◌, length, get_or, Option, Some, None, ℤ, pos, negsuc, refl, sym, ap, ◌∙◌, subst, arith}
-use Rattle.std.specs.Prelude.{sum_by, nat_eq, ◌≤ℤ◌, int_le, ◌&&◌}
+use Rattle.std.proofs.Common.{◌≡◌, inl, inr, ℕ, zero, suc, ◌+◌, ◌*◌, ◌<◌, ◌≤◌, Bool, true, false, List, [], ◌∷◌, ◌++◌, length, get_or, Option, Some, None, ℤ, pos, negsuc, refl, sym, ap, ◌∙◌, subst, arith}
+use Rattle.std.specs.Prelude.{sum_by, nat_eq, ◌≤ℤ◌, int_le}
 use Rattle.std.specs.List.{AllByRecursion, Contains, IsDistinct, list_all}
-use Rattle.std.proofs.lemmas.Bool.{and_from, eq-eqb, true_from_ne_false}
+use Rattle.std.proofs.lemmas.Bool.{and_from, eq-eqb}
 use Rattle.std.proofs.lemmas.List.{length-append}
 use Rattle.std.proofs.lemmas.List.Sums.{sum_by-cons, sum_by-append, sum_by-le-sum_by}
 use Rattle.std.proofs.lemmas.List.Elements.{Contains-append_left, Contains-append_right, Contains-append_cases}
 use Rattle.std.proofs.lemmas.Int.{ints}
 use Rattle.std.proofs.lemmas.Map.Keys.{IsDistinct-head, IsDistinct-tail}
-use Rattle.alma_base.specs.Limits.{size_limit, record_limit, pool_limit}
 use Rattle.alma_base.specs.Numbers.{int_eq}
 use Rattle.alma_base.specs.declared.number.Range.{Range}
 use Rattle.alma_code.specs.Plain.{PlainCode}
@@ -20,7 +19,7 @@ use Rattle.alma_ir.specs.Checked.{IsChecked, IsOrdered, labels_of, ranges_of, te
 use Rattle.alma_ir.proofs.Each.{each_of_append}
 use Rattle.alma_templates.specs.Tables.{same_range, same_text}
 use Rattle.alma_templates.specs.Templates.{char_range}
-use Rattle.alma_sound.specs.Entries.{AreSome, HoldsEachOnce, of_each, program_phrases, program_ranges, program_texts, result_range, texts_of}
+use Rattle.alma_sound.specs.Entries.{HoldsEachOnce, of_each, program_phrases, program_ranges, program_texts, result_range, texts_of}
 
 -- ---- entries of a table
 

@@ -1,9 +1,9 @@
 -- What a phrase of a checked program has, of which its code is sound; with lines or without.
-use Rattle.std.proofs.Common.{◌≡◌, ℕ, ◌<◌, List, [], ◌∷◌, length, Some, sym, ap, ◌∙◌, true, false}
+use Rattle.std.proofs.Common.{◌≡◌, ℕ, ◌<◌, List, [], ◌∷◌, length, Some, sym, ◌∙◌, true, false}
 use Rattle.std.specs.Prelude.{IsNone, IsSome, slice_get}
 use Rattle.std.specs.List.{AllByRecursion}
-use Rattle.alma_ir.specs.Tree.{Program, Args, Loop, Sels, no_sels, more_sels, routine_at, TestStmt, Assign, CopyCells, If, While, Repeat, ForTo, SomeOf, Case, Either, Forall, Commit, Return, Read, WriteExpr, WriteText, WriteLine, no_result, some_result, a_loop, Value, Bind, Unify, SameCells, Seq, And, Or, Not, CallTest, Const, Load, Chain, Compare, Truth, Known, Chr, CallExpr, ByValue, ByCells, ByPlace, MixValue, MixPlace, a_desig, Field, Index}
-use Rattle.alma_ir.specs.Checked.{IsChecked, RootExists, PartsExist, CellsAgree, LoopIsApart, IsHiddenSlot, loops_of, CalleeExists, CallLeads, CallFits, LinksAgree, ArgsFit, ResultAgrees, ReturnAgrees, ArePartsOf, IsPart, sel_cells, desig_cells}
+use Rattle.alma_ir.specs.Tree.{Program, Args, Loop, Sels, no_sels, more_sels, routine_at, Assign, CopyCells, ForTo, SomeOf, Return, Read, WriteText, no_result, some_result, a_loop, Bind, Unify, SameCells, CallTest, Load, Known, Chr, CallExpr, ByValue, MixValue, a_desig, Field, Index}
+use Rattle.alma_ir.specs.Checked.{IsChecked, RootExists, PartsExist, CellsAgree, LoopIsApart, IsHiddenSlot, loops_of, CalleeExists, CallLeads, CallFits, LinksAgree, ArgsFit, ResultAgrees, ReturnAgrees, ArePartsOf, desig_cells}
 use Rattle.alma_ir.specs.declared.phrase.Root.{Root}
 use Rattle.alma_ir.specs.declared.phrase.Root.TheVariants as root
 use Rattle.alma_ir.specs.Lines.{behind, stmts_with, sels_with, args_with, body_with_lines}
@@ -11,7 +11,7 @@ use Rattle.alma_ir.specs.Phrases.{Phrase, StmtPhrase, TestPhrase, ExprPhrase, Ar
 use Rattle.alma_templates.specs.Tables.{Tables, text_number}
 use Rattle.alma_templates.specs.Templates.{char_range}
 use Rattle.alma_templates.specs.CodeOf.{HoldsRange, HoldsChecked, InTables, HoldsAllOf}
-use Rattle.alma_templates.proofs.Asked.{cells_with, sel_cells_with, args_with_fit}
+use Rattle.alma_templates.proofs.Asked.{cells_with, args_with_fit}
 use Rattle.alma_sound.proofs.WithLines.{phrase_with, stmts_stay}
 
 module _ (p : Program) (tables : Tables) (r : ℕ) where

@@ -1,5 +1,5 @@
 -- Each slot for links of a routine of a checked program is for frames of a routine that exists, and not of the module.
-use Rattle.std.proofs.Common.{◌≡◌, ℕ, zero, suc, ◌+◌, ◌-◌, ◌<◌, ◌≤◌, Bool, true, false, List, [], ◌∷◌, ◌++◌, length, replicate, Option, Some, None, refl, sym, ap, ◌∙◌, subst, arith}
+use Rattle.std.proofs.Common.{◌≡◌, ℕ, zero, suc, ◌+◌, ◌-◌, ◌<◌, Bool, true, false, List, [], ◌∷◌, ◌++◌, length, replicate, Option, Some, None, refl, arith}
 use Rattle.std.specs.Prelude.{nat_lt}
 use Rattle.std.specs.List.{AllByRecursion, list_all}
 use Rattle.std.proofs.lemmas.Bool.{lt-ltb, and_from}
@@ -14,13 +14,13 @@ use Rattle.alma_ir.specs.declared.phrase.Root.TheVariants as root
 use Rattle.alma_ir.specs.declared.program.ArgKind.{ArgKind}
 use Rattle.alma_ir.specs.declared.program.ArgKind.TheVariants as kind
 use Rattle.alma_ir.specs.declared.program.Param.{Param}
-use Rattle.alma_ir.specs.Tree.{Stmts, Stmt, Arms, CaseArms, Else, Branches, Loop, ReturnExpr, Test, Tests, Expr, Links, Args, Arg, Desig, Sels, Sel, Program, Routine, routine_at, no_stmts, more_stmts, TestStmt, Assign, CopyCells, If, While, Repeat, ForTo, SomeOf, Case, Either, Forall, Commit, Return, Read, WriteExpr, WriteText, WriteLine, no_arms, more_arms, no_cases, more_cases, no_else, else_part, no_branches, more_branches, a_loop, no_result, some_result, Value, Bind, Unify, SameCells, Seq, And, Or, Not, CallTest, no_tests, more_tests, Const, Load, Chain, Compare, Truth, Known, Chr, CallExpr, no_links, more_links, no_args, more_args, ByValue, ByCells, ByPlace, MixValue, MixPlace, a_desig, no_sels, more_sels, Field, Index}
+use Rattle.alma_ir.specs.Tree.{Stmts, Stmt, Arms, CaseArms, Else, Branches, Loop, Test, Tests, Expr, Links, Args, Arg, Desig, Sels, Sel, Program, Routine, routine_at, no_stmts, more_stmts, TestStmt, Assign, CopyCells, If, While, Repeat, ForTo, SomeOf, Case, Either, Forall, Commit, Return, Read, WriteExpr, WriteText, WriteLine, no_arms, more_arms, no_cases, more_cases, no_else, else_part, no_branches, more_branches, a_loop, no_result, some_result, Value, Bind, Unify, SameCells, Seq, And, Or, Not, CallTest, no_tests, more_tests, Const, Load, Chain, Compare, Truth, Known, Chr, CallExpr, no_links, more_links, no_args, more_args, ByValue, ByCells, ByPlace, MixValue, MixPlace, a_desig, no_sels, more_sels, Field, Index}
 use Rattle.alma_ir.specs.Lines.{body_with_lines}
-use Rattle.alma_ir.specs.Phrases.{Phrase, DesigPhrase, stmts_phrases, stmt_phrases, arms_phrases, cases_phrases, else_phrases, branches_phrases, loop_phrases, return_phrases, test_phrases, tests_phrases, expr_phrases, links_phrases, args_phrases, arg_phrases, desig_phrases, sels_phrases, sel_phrases}
+use Rattle.alma_ir.specs.Phrases.{Phrase, DesigPhrase, stmts_phrases, stmt_phrases, arms_phrases, cases_phrases, else_phrases, branches_phrases, loop_phrases, test_phrases, tests_phrases, expr_phrases, links_phrases, args_phrases, arg_phrases, desig_phrases, sels_phrases, sel_phrases}
 use Rattle.alma_ir.specs.Checked.{IsChecked, RootExists, link_slots}
 use Rattle.alma_ir.proofs.Each.{each_of_front, each_of_back, each_of_append}
 use Rattle.alma_templates.specs.Tables.{Tables}
-use Rattle.alma_templates.specs.Slots.{shift_of, chain_slots, links_if, bare, bare_desig, unless_bare, is_simple, mark_slots, handed_slots, arg_kind, call_links, root_slots, stmts_slots, stmt_slots, arms_slots, cases_slots, else_slots, branches_slots, for_slots, some_slots, return_slots, test_slots, and_slots, or_slots, expr_slots, links_slots, args_slots, arg_slots, desig_slots, sels_slots, sel_slots, param_kinds, params_kinds, link_kinds, own_kinds, routine_kinds}
+use Rattle.alma_templates.specs.Slots.{shift_of, chain_slots, links_if, bare, bare_desig, unless_bare, is_simple, mark_slots, handed_slots, arg_kind, call_links, root_slots, stmts_slots, stmt_slots, arms_slots, cases_slots, else_slots, branches_slots, for_slots, some_slots, test_slots, and_slots, or_slots, expr_slots, links_slots, args_slots, arg_slots, desig_slots, sels_slots, sel_slots, param_kinds, params_kinds, link_kinds, routine_kinds}
 use Rattle.alma_sound.proofs.Facts.{Facts, CallFacts, body_facts}
 use Rattle.alma_templates.specs.CodeOf.{HoldsAllOf}
 
@@ -276,9 +276,11 @@ module _ (p : Program) where
             let two = fine_front (desig_phrases d ++ expr_phrases from) (expr_phrases to) three in (
               tt,
               both (expr_slots p r from) (expr_slots p r to ++ (slot.Number ∷ (c ++ stmts_slots p r body))) (expr_named from (fine_back (desig_phrases d) (expr_phrases from) two))
-                  (both (expr_slots p r to) (slot.Number ∷ (c ++ stmts_slots p r body)) (expr_named to (fine_back (desig_phrases d ++ expr_phrases from) (expr_phrases to) three))
-                  (tt, both c (stmts_slots p r body) (unless_named (bare_desig d) (slot.Number ∷ desig_slots p r d) (tt, desig_named d (fine_front (desig_phrases d) (expr_phrases from) two)))
-                  (stmts_named body (fine_back ((desig_phrases d ++ expr_phrases from) ++ expr_phrases to) (stmts_phrases body) h)))),
+                  (both (expr_slots p r to) (slot.Number ∷ (c ++ stmts_slots p r body)) (expr_named to (fine_back (desig_phrases d ++ expr_phrases from) (expr_phrases to) three)) (
+                    tt,
+                    both c (stmts_slots p r body) (unless_named (bare_desig d) (slot.Number ∷ desig_slots p r d) (tt, desig_named d (fine_front (desig_phrases d) (expr_phrases from) two)))
+                        (stmts_named body (fine_back ((desig_phrases d ++ expr_phrases from) ++ expr_phrases to) (stmts_phrases body) h)),
+                  )),
             )
 
       -- ---- the whole frame

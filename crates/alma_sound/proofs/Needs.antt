@@ -13,7 +13,6 @@ use Rattle.alma_code.specs.declared.instr.Instr.{Instr}
 use Rattle.alma_code.specs.declared.instr.Instr.TheVariants as I
 use Rattle.alma_code.specs.declared.instr.Word.TheVariants as W
 use Rattle.alma_code.specs.declared.step.VerifyFault.{VerifyFault}
-use Rattle.alma_code.specs.Head.{PlainHead}
 use Rattle.alma_code.specs.Kinds.{is_number, is_place, is_place_of, is_mark, is_link, is_link_of, numbers_from}
 use Rattle.alma_code.specs.Plain.{PlainCode, head_at, start_at, end_at, kinds_at}
 use Rattle.alma_code.specs.Words.{words, four}

@@ -1,5 +1,5 @@
 -- The code of each phrase of a routine of a checked program: each instruction has what it needs, by induction over the phrases.
-use Rattle.std.proofs.Common.{◌≡◌, ℕ, zero, suc, ◌+◌, ◌*◌, ◌<◌, ◌≤◌, Bool, true, false, List, [], ◌∷◌, ◌++◌, length, Option, Some, None, ℤ, pos, refl, sym, ap, ◌∙◌, subst, arith, append_assoc}
+use Rattle.std.proofs.Common.{◌≡◌, ℕ, ◌+◌, ◌<◌, Bool, true, false, List, [], ◌∷◌, ◌++◌, length, Option, Some, None, pos, refl, sym, ap, ◌∙◌, subst, arith, append_assoc}
 use Rattle.std.specs.Prelude.{slice_get, IsNone, IsSome}
 use Rattle.std.specs.List.{AllByRecursion}
 use Rattle.std.proofs.lemmas.List.{length-append}
@@ -12,21 +12,20 @@ use Rattle.alma_code.specs.declared.instr.Instr.TheVariants as I
 use Rattle.alma_code.specs.Plain.{PlainCode, head_at}
 use Rattle.alma_ir.specs.declared.phrase.ReadAs.{ReadAs}
 use Rattle.alma_ir.specs.declared.phrase.ReadAs.TheVariants as read_as
-use Rattle.alma_ir.specs.declared.phrase.Root.{Root}
-use Rattle.alma_ir.specs.Tree.{Stmts, Stmt, Arms, CaseArms, Else, Branches, Loop, ReturnExpr, Test, Tests, Expr, Links, Args, Arg, Desig, Sels, Sel, Program, routine_at, no_stmts, more_stmts, TestStmt, Assign, CopyCells, If, While, Repeat, ForTo, SomeOf, Case, Either, Forall, Commit, Return, Read, WriteExpr, WriteText, WriteLine, no_arms, more_arms, no_cases, more_cases, no_else, else_part, no_branches, more_branches, a_loop, no_result, some_result, Value, Bind, Unify, SameCells, Seq, And, Or, Not, CallTest, no_tests, more_tests, Const, Load, Chain, Compare, Truth, Known, Chr, CallExpr, no_links, more_links, no_args, more_args, ByValue, ByCells, ByPlace, MixValue, MixPlace, a_desig, no_sels, more_sels, Field, Index}
-use Rattle.alma_ir.specs.Phrases.{Phrase, StmtPhrase, TestPhrase, ExprPhrase, ArgPhrase, DesigPhrase, SelPhrase, stmts_phrases, stmt_phrases, arms_phrases, cases_phrases, else_phrases, branches_phrases, loop_phrases, return_phrases, test_phrases, tests_phrases, expr_phrases, links_phrases, args_phrases, arg_phrases, desig_phrases, sels_phrases, sel_phrases}
+use Rattle.alma_ir.specs.Tree.{Stmts, Stmt, Arms, CaseArms, Else, Branches, Loop, Test, Tests, Expr, Links, Args, Arg, Desig, Sels, Sel, Program, routine_at, no_stmts, more_stmts, TestStmt, Assign, CopyCells, If, While, Repeat, ForTo, SomeOf, Case, Either, Forall, Commit, Return, Read, WriteExpr, WriteText, WriteLine, no_arms, more_arms, no_cases, more_cases, no_else, else_part, no_branches, more_branches, a_loop, no_result, some_result, Value, Bind, Unify, SameCells, Seq, And, Or, Not, CallTest, no_tests, more_tests, Const, Load, Chain, Compare, Truth, Known, Chr, CallExpr, no_links, more_links, no_args, more_args, ByValue, ByCells, ByPlace, MixValue, MixPlace, a_desig, no_sels, more_sels, Field, Index}
+use Rattle.alma_ir.specs.Phrases.{Phrase, StmtPhrase, stmts_phrases, stmt_phrases, arms_phrases, cases_phrases, else_phrases, branches_phrases, loop_phrases, test_phrases, tests_phrases, expr_phrases, links_phrases, args_phrases, arg_phrases, desig_phrases, sels_phrases, sel_phrases}
 use Rattle.alma_ir.specs.Checked.{IsChecked, ArePartsOf, IsPart, sel_cells, desig_cells}
 use Rattle.alma_ir.proofs.Each.{each_of_front, each_of_back, each_of_append}
-use Rattle.alma_templates.specs.Lined.{Lined, own, in_row, leaving}
+use Rattle.alma_templates.specs.Lined.{Lined, own}
 use Rattle.alma_templates.specs.Tables.{Tables, range_number, text_number}
 use Rattle.alma_templates.specs.Pieces.{condition, guarded, chosen, first_of_two, truth_code, fit_code, neg_code, op_code, cmp_code, write_code, read_code, case_arm, behind_labels, begin_loop, for_turns, some_turns, turn_code, each_body}
 use Rattle.alma_templates.specs.Slots.{bare, bare_desig, unless_bare, is_simple, mark_slots, handed_slots, call_links, root_slots, arg_kind, stmts_slots, stmt_slots, arms_slots, cases_slots, else_slots, branches_slots, for_slots, some_slots, return_slots, test_slots, and_slots, or_slots, expr_slots, links_slots, args_slots, arg_slots, desig_slots, sels_slots, sel_slots, behind_expr, behind_value, behind_desig, behind_target, behind_variable, behind_test, behind_stmts, behind_stmt, behind_condition}
 use Rattle.alma_templates.specs.Slots as slots_of
-use Rattle.alma_templates.specs.Templates.{char_range, own_slot, value_at, part_slot, behind_root, place_at, root_code, call_link_code, arguments_from, call_code, set_code, load_code, count_at, count_code, save_code, fit_result, stmts_code, stmt_code, if_code, arms_code, for_code, some_code, case_code, cases_code, else_code, either_code, branches_code, return_code, test_code, and_code, or_code, operands_code, jump_code, expr_code, links_code, args_code, arg_code, desig_code, sels_code, sel_code}
-use Rattle.alma_templates.specs.CodeOf.{HoldsRange, HoldsChecked}
+use Rattle.alma_templates.specs.Templates.{char_range, own_slot, value_at, part_slot, behind_root, place_at, root_code, call_link_code, arguments_from, call_code, set_code, load_code, count_at, count_code, fit_result, stmts_code, stmt_code, if_code, arms_code, for_code, some_code, case_code, cases_code, else_code, either_code, branches_code, test_code, and_code, or_code, operands_code, jump_code, expr_code, links_code, args_code, arg_code, desig_code, sels_code, sel_code}
+use Rattle.alma_templates.specs.CodeOf.{HoldsChecked}
 use Rattle.alma_templates.specs.Compiled.{is_function}
 use Rattle.alma_templates.proofs.Args.{same_cells}
-use Rattle.alma_sound.proofs.Facts.{Facts, CallFacts}
+use Rattle.alma_sound.proofs.Facts.{Facts}
 use Rattle.alma_sound.proofs.Needs.{HasKind, IsInside, Needs, IsRange, Number, Place, Mark}
 use Rattle.alma_sound.proofs.Pieces as pieces
 use Rattle.alma_sound.proofs.Pieces.{Room, Fits, LoopSlots}

@@ -1,17 +1,16 @@
 -- Code at an address of a routine, each instruction with what it needs: the pieces that phrases share.
-use Rattle.std.proofs.Common.{◌≡◌, ℕ, suc, ◌+◌, ◌*◌, ◌<◌, ◌≤◌, Bool, true, false, List, [], ◌∷◌, ◌++◌, length, Option, Some, None, ℤ, pos, negsuc, refl, sym, ap, ◌∙◌, subst, arith}
+use Rattle.std.proofs.Common.{◌≡◌, ℕ, ◌+◌, ◌*◌, ◌<◌, ◌≤◌, Bool, true, false, List, [], ◌∷◌, ◌++◌, length, Option, Some, None, ℤ, pos, negsuc, refl, arith}
 use Rattle.std.specs.List.{AllByRecursion}
 use Rattle.std.proofs.lemmas.List.{length-append, length-map}
 use Rattle.alma_base.specs.declared.number.Range.{Range}
-use Rattle.alma_code.specs.declared.cell.SlotKind.TheVariants as slot
 use Rattle.alma_code.specs.declared.instr.Instr.{Instr}
 use Rattle.alma_code.specs.declared.instr.Instr.TheVariants as I
 use Rattle.alma_code.specs.Plain.{PlainCode, start_at, end_at}
 use Rattle.alma_ir.proofs.Each.{each_of_append}
-use Rattle.alma_templates.specs.Lined.{Lined, own, in_row, leaving, left_by}
-use Rattle.alma_templates.specs.Pieces.{begin_first, condition, guarded, chosen, first_of_two, refused, truth_code, each_body, forall_code, label_code, labels_code, last_label_code, behind_labels, case_arm, entry_code, begin_loop, bounds_code, turn_code, for_turns, some_turns}
+use Rattle.alma_templates.specs.Lined.{Lined, own, in_row, leaving}
+use Rattle.alma_templates.specs.Pieces.{condition, guarded, chosen, first_of_two, refused, truth_code, each_body, forall_code, label_code, labels_code, behind_labels, case_arm, entry_code, begin_loop, turn_code, for_turns, some_turns}
 use Rattle.alma_templates.specs.Slots.{unless_bare}
-use Rattle.alma_sound.proofs.Needs.{HasKind, IsInside, Needs, Number, Mark}
+use Rattle.alma_sound.proofs.Needs.{IsInside, Needs, Number, Mark}
 
 module _ (code : PlainCode) (r : ℕ) where
   abbrev pub NeedsOf : Lined → Type 0
@@ -227,8 +226,25 @@ module _ (code : PlainCode) (r : ℕ) where
       let inner : IsInside code r (at + 7) = record { low = omega (arith, room.low); high = omega (arith, room.high, long) } in
       let top : IsInside code r (at + 4) = record { low = omega (arith, room.low); high = omega (arith, room.high, long) } in (
         (s.count, s.from),
-        ((s.bound, s.to), (entry_need (pos 1) start last s.from s.to, ((s.from, none), ((m, s.count, s.bound), ((m, inner), (again,
-        both turn end (f (record { low = omega (arith, room.low); high = omega (arith, room.high, long) })) (out, ((s.count, s.count, s.by), (top, (tt, tt)))))))))),
+        (
+          (s.bound, s.to),
+          (
+            entry_need (pos 1) start last s.from s.to,
+            (
+              (s.from, none),
+              (
+                (m, s.count, s.bound),
+                (
+                  (m, inner),
+                  (
+                    again,
+                    both turn end (f (record { low = omega (arith, room.low); high = omega (arith, room.high, long) })) (out, ((s.count, s.count, s.by), (top, (tt, tt)))),
+                  ),
+                ),
+              ),
+            ),
+          ),
+        ),
       )
 
   -- a turn: the count is checked, the variable is located and set, and the body follows

@@ -1,6 +1,6 @@
 -- The code of a phrase has as many instructions that read as the phrase has READs, where an arm of CASE without labels counts
 -- for none.
-use Rattle.std.proofs.Common.{◌≡◌, ℕ, zero, suc, ◌+◌, ◌*◌, ◌≤◌, Bool, true, false, List, [], ◌∷◌, ◌++◌, length, Option, Some, None, ℤ, pos, negsuc, refl, sym, ap, ◌∙◌, subst, arith}
+use Rattle.std.proofs.Common.{◌≡◌, ℕ, zero, suc, ◌+◌, Bool, true, false, List, [], ◌∷◌, ◌++◌, length, Option, Some, None, ℤ, pos, negsuc, refl, sym, arith}
 use Rattle.alma_base.specs.declared.number.Range.{Range}
 use Rattle.alma_code.specs.declared.instr.Instr.{Instr}
 use Rattle.alma_code.specs.declared.instr.Instr.TheVariants as I
@@ -15,11 +15,11 @@ use Rattle.alma_ir.specs.declared.phrase.Root.TheVariants as root
 use Rattle.alma_ir.specs.declared.phrase.WriteAs.{WriteAs}
 use Rattle.alma_ir.specs.declared.phrase.WriteAs.TheVariants as write_as
 use Rattle.alma_ir.specs.Tree.{Stmts, Stmt, Arms, CaseArms, Else, Branches, Loop, ReturnExpr, Test, Tests, Expr, Links, Args, Arg, Desig, Sels, Sel, Program, routine_at, no_stmts, more_stmts, TestStmt, Assign, CopyCells, If, While, Repeat, ForTo, SomeOf, Case, Either, Forall, Commit, Return, Read, WriteExpr, WriteText, WriteLine, no_arms, more_arms, no_cases, more_cases, no_else, else_part, no_branches, more_branches, a_loop, no_result, some_result, Value, Bind, Unify, SameCells, Seq, And, Or, Not, CallTest, no_tests, more_tests, Const, Load, Chain, Compare, Truth, Known, Chr, CallExpr, no_links, more_links, no_args, more_args, ByValue, ByCells, ByPlace, MixValue, MixPlace, a_desig, no_sels, more_sels, Field, Index}
-use Rattle.alma_templates.specs.Lined.{Lined, own, in_row, leaving, instrs_of}
-use Rattle.alma_templates.specs.Tables.{Tables, range_number, text_number, is_whole}
-use Rattle.alma_templates.specs.Pieces.{condition, guarded, chosen, first_of_two, refused, truth_code, fit_code, neg_code, op_code, cmp_code, write_code, read_code, case_arm, behind_labels, labels_code, begin_loop, bounds_code, entry_code, chain_code, link_code, unless_whole, for_turns, some_turns, turn_code, each_body, forall_code}
+use Rattle.alma_templates.specs.Lined.{Lined, own, leaving}
+use Rattle.alma_templates.specs.Tables.{Tables, range_number, is_whole}
+use Rattle.alma_templates.specs.Pieces.{condition, guarded, chosen, first_of_two, refused, fit_code, neg_code, op_code, cmp_code, write_code, read_code, case_arm, behind_labels, labels_code, begin_loop, bounds_code, entry_code, chain_code, link_code, unless_whole, for_turns, some_turns, turn_code, each_body, forall_code}
 use Rattle.alma_templates.specs.Slots.{shift_of, bare, bare_desig, unless_bare, is_simple, handed_slots, arg_slots, behind_expr, behind_value, behind_desig, behind_target, behind_variable, behind_test, behind_stmts, behind_stmt, behind_condition}
-use Rattle.alma_templates.specs.Templates.{char_range, own_slot, outer_slot, link_if, set_by, load_by, save_code, value_at, part_slot, behind_root, place_at, root_code, call_link_code, arguments_from, call_code, set_code, load_code, count_at, count_code, fit_result, stmts_code, stmt_code, if_code, arms_code, for_code, some_code, case_code, cases_code, else_code, either_code, branches_code, return_code, test_code, and_code, or_code, operands_code, jump_code, expr_code, links_code, args_code, arg_code, desig_code, sels_code, sel_code}
+use Rattle.alma_templates.specs.Templates.{char_range, own_slot, outer_slot, link_if, set_by, load_by, value_at, part_slot, behind_root, place_at, root_code, call_link_code, arguments_from, call_code, set_code, load_code, count_at, count_code, fit_result, stmts_code, stmt_code, if_code, arms_code, for_code, some_code, case_code, cases_code, else_code, either_code, branches_code, test_code, and_code, or_code, operands_code, jump_code, expr_code, links_code, args_code, arg_code, desig_code, sels_code, sel_code}
 use Rattle.alma_sound.specs.Reads.{is_read}
 
 -- ---- READs of phrases

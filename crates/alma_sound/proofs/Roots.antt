@@ -1,5 +1,5 @@
 -- What is known of the slots of a code by the templates, and roots, designators and links in it.
-use Rattle.std.proofs.Common.{◌≡◌, ◌⊎◌, inl, inr, ℕ, zero, suc, ◌+◌, ◌-◌, ◌<◌, ◌≤◌, Bool, true, false, List, [], ◌∷◌, ◌++◌, length, replicate, Option, Some, None, refl, sym, ap, ◌∙◌, subst, arith}
+use Rattle.std.proofs.Common.{◌≡◌, inl, inr, ℕ, zero, suc, ◌+◌, ◌-◌, ◌<◌, ◌≤◌, true, List, [], ◌∷◌, ◌++◌, length, replicate, Some, refl, sym, ap, ◌∙◌, subst, arith}
 use Rattle.std.specs.Prelude.{slice_get, map}
 use Rattle.std.specs.List.{AllByRecursion}
 use Rattle.std.proofs.lemmas.Bool.{lt-ltb, and_from}
@@ -16,7 +16,7 @@ use Rattle.alma_ir.specs.declared.phrase.Root.TheVariants as root
 use Rattle.alma_ir.specs.declared.program.ArgKind.{ArgKind}
 use Rattle.alma_ir.specs.declared.program.ArgKind.TheVariants as kind
 use Rattle.alma_ir.specs.declared.program.Param.{Param}
-use Rattle.alma_ir.specs.Tree.{Program, Routine, Expr, Desig, routine_at, a_desig, no_sels}
+use Rattle.alma_ir.specs.Tree.{Program, Routine, routine_at, a_desig, no_sels}
 use Rattle.alma_ir.specs.Lines.{body_with_lines}
 use Rattle.alma_ir.specs.Phrases.{DesigPhrase}
 use Rattle.alma_ir.specs.Checked.{IsChecked, AreNumbers, LeavesPosition, HoldPlace, HoldsPlace, IsHiddenSlot, IsOutside, RootExists, param_slots, slots_of_kind, link_slots, outer_at}
@@ -24,13 +24,13 @@ use Rattle.alma_ir.proofs.Each.{each_follows, each_of_append}
 use Rattle.alma_implements.proofs.Frames.{shift, own_end, HasSlots}
 use Rattle.alma_implements.proofs.ExprRows.{AreVariables, first_kind, slots_first, slots_behind}
 use Rattle.alma_templates.specs.Tables.{Tables}
-use Rattle.alma_templates.specs.Slots.{shift_of, chain_slots, link_kinds, params_kinds, routine_kinds, root_slots, stmts_slots}
+use Rattle.alma_templates.specs.Slots.{chain_slots, link_kinds, params_kinds, routine_kinds, root_slots, stmts_slots}
 use Rattle.alma_templates.specs.Pieces.{chain_code, link_code}
 use Rattle.alma_templates.specs.Templates.{own_slot, outer_slot, root_code}
 use Rattle.alma_templates.specs.CodeOf.{HoldsAllOf}
 use Rattle.alma_templates.specs.Compiled.{link_params, param_named, is_function}
 use Rattle.alma_templates.proofs.RootForms.{IsParam}
-use Rattle.alma_sound.proofs.Needs.{HasKind, IsFreeSlot, Needs, Number, Place, Mark, Link, TakesLocal, TakesGlobal, TakesOuter, TakesHeld, LeadsOn, AreAlike}
+use Rattle.alma_sound.proofs.Needs.{HasKind, Needs, Number, Link}
 
 abbrev no_input : List ℕ
 no_input = []

@@ -1,8 +1,7 @@
 -- How many runs name the slots of a routine where each is as long as it can be, and that they differ as records are to.
-use Rattle.std.proofs.Common.{◌≡◌, ℕ, zero, suc, ◌+◌, ◌-◌, ◌*◌, ◌<◌, ◌≤◌, Bool, true, false, List, [], ◌∷◌, ◌++◌, length, replicate, refl, sym, ap, ◌∙◌, subst, arith}
-use Rattle.std.specs.Prelude.{not, ◌&&◌, nat_eq}
+use Rattle.std.proofs.Common.{◌≡◌, ℕ, zero, suc, ◌+◌, ◌-◌, ◌*◌, ◌<◌, ◌≤◌, Bool, true, false, List, [], ◌∷◌, ◌++◌, length, replicate, refl, ap, subst, arith}
+use Rattle.std.specs.Prelude.{not}
 use Rattle.std.proofs.lemmas.Bool.{and_from, eq-eqb, eqb-true}
-use Rattle.std.proofs.lemmas.List.{length-append}
 use Rattle.alma_base.specs.Choice.{if_true}
 use Rattle.alma_code.specs.declared.cell.SlotKind.{SlotKind}
 use Rattle.alma_code.specs.declared.cell.SlotKind.TheVariants as slot
@@ -16,7 +15,7 @@ use Rattle.alma_ir.specs.Tree.{Program, Routine, routine_at}
 use Rattle.alma_ir.specs.Lines.{body_with_lines}
 use Rattle.alma_implements.specs.Templates.{NamesKinds}
 use Rattle.alma_implements.specs.Templates as implements
-use Rattle.alma_templates.specs.Slots.{link_kinds, param_kinds, params_kinds, own_kinds, routine_kinds, stmts_slots}
+use Rattle.alma_templates.specs.Slots.{link_kinds, param_kinds, params_kinds, routine_kinds, stmts_slots}
 
 -- ---- kinds
 

@@ -1,6 +1,6 @@
 -- The code of a checked program is sound.
-use Rattle.std.proofs.Common.{◌≡◌, ◌⊎◌, inl, inr, ℕ, zero, suc, ◌+◌, ◌-◌, ◌*◌, ◌<◌, ◌≤◌, Bool, true, false, List, [], ◌∷◌, ◌++◌, length, get_or, replicate, Option, Some, None, refl, sym, ap, ◌∙◌, subst, arith, append_assoc}
-use Rattle.std.specs.Prelude.{slice_get, not, map, ◌&&◌, nat_eq, nat_le, nat_lt, IsNone, IsSome}
+use Rattle.std.proofs.Common.{◌≡◌, ◌⊎◌, inl, inr, ℕ, zero, suc, ◌+◌, ◌-◌, ◌*◌, ◌<◌, ◌≤◌, true, false, List, [], ◌∷◌, ◌++◌, length, get_or, replicate, Option, Some, None, refl, sym, ap, ◌∙◌, subst, arith, append_assoc}
+use Rattle.std.specs.Prelude.{slice_get, not, map, nat_eq, IsNone}
 use Rattle.std.specs.List.{AllByRecursion, list_all}
 use Rattle.std.proofs.lemmas.Bool.{lt-ltb, le-leb, eq-eqb, and_from, cases_lt}
 use Rattle.std.proofs.lemmas.List.{length-append, length-replicate}
@@ -9,27 +9,25 @@ use Rattle.alma_base.specs.Limits.{size_limit, slot_limit, cell_limit}
 use Rattle.alma_base.specs.declared.number.Range.{Range}
 use Rattle.alma_code.specs.declared.cell.SlotKind.{SlotKind}
 use Rattle.alma_code.specs.declared.cell.SlotKind.TheVariants as slot
-use Rattle.alma_code.specs.declared.head.CodeParam.{CodeParam}
 use Rattle.alma_code.specs.declared.head.Run.{Run}
-use Rattle.alma_code.specs.declared.instr.Instr.{Instr}
 use Rattle.alma_code.specs.declared.instr.Instr.TheVariants as I
 use Rattle.alma_code.specs.Kinds.{is_number, is_place_of, is_link_of, numbers_from}
 use Rattle.alma_code.specs.Layout.{RunsRise, kinds_of, hold_params, holds_param}
 use Rattle.alma_code.specs.Layout as layout
 use Rattle.alma_code.specs.Plain.{PlainCode, head_at, start_at, end_at, kinds_at}
-use Rattle.alma_code.specs.Rules.{last_end, is_global, is_main, cells_in, names_routine, has_position, instr_fault, rule_1, rule_2, rule_3, IsTable, IsSound}
+use Rattle.alma_code.specs.Rules.{last_end, is_global, is_main, has_position, instr_fault, rule_1, rule_2, rule_3, IsTable, IsSound}
 use Rattle.alma_ir.specs.declared.program.ArgKind.{ArgKind}
 use Rattle.alma_ir.specs.declared.program.ArgKind.TheVariants as kind
 use Rattle.alma_ir.specs.declared.program.Param.{Param}
 use Rattle.alma_ir.specs.Tree.{Program, Routine, Global, routine_at, no_routine}
-use Rattle.alma_ir.specs.Checked.{IsChecked, IsGlobal, link_slots}
-use Rattle.alma_ir.specs.Count.{nodes, routines_nodes, routine_nodes, stmts_nodes}
+use Rattle.alma_ir.specs.Checked.{IsChecked, IsGlobal}
+use Rattle.alma_ir.specs.Count.{nodes, routines_nodes, routine_nodes}
 use Rattle.alma_ir.specs.Lines.{body_with_lines}
-use Rattle.alma_implements.proofs.Frames.{shift, own_end}
+use Rattle.alma_implements.proofs.Frames.{own_end}
 use Rattle.alma_templates.specs.Lined.{Lined, own}
 use Rattle.alma_templates.specs.Tables.{Tables}
 use Rattle.alma_templates.specs.Slots.{link_kinds, own_kinds, param_kinds, params_kinds, routine_kinds, stmts_slots}
-use Rattle.alma_templates.specs.Templates.{stmts_code, routine_code, end_code}
+use Rattle.alma_templates.specs.Templates.{stmts_code, end_code}
 use Rattle.alma_templates.specs.Compiled.{link_params, param_kind, param_named, global_named, is_function}
 use Rattle.alma_templates.specs.CodeOf.{IsCodeOf}
 use Rattle.alma_templates.specs.Stands.{Stands}
@@ -45,7 +43,7 @@ use Rattle.alma_sound.proofs.Needs.{no_fault, last_return, last_fault}
 use Rattle.alma_sound.proofs.Phrases.{stmts_fit}
 use Rattle.alma_sound.proofs.Pieces.{AllNeed}
 use Rattle.alma_sound.proofs.Roots.{Compiled, global_cells}
-use Rattle.alma_sound.proofs.Whole.{count, head_is, end_is, last_is, compiled}
+use Rattle.alma_sound.proofs.Whole.{head_is, end_is, last_is, compiled}
 
 -- ---- lists
 

@@ -1,6 +1,6 @@
 -- Where values and places stand, and what is set, read and handed over: each in a slot of its kind.
-use Rattle.std.proofs.Common.{◌≡◌, ℕ, zero, suc, ◌+◌, ◌*◌, ◌<◌, ◌≤◌, Bool, true, false, List, [], ◌∷◌, ◌++◌, length, Option, Some, None, refl, sym, ap, ◌∙◌, subst, arith}
-use Rattle.std.specs.Prelude.{slice_get, map, ◌&&◌, ◌||◌, nat_eq, IsNone, IsSome}
+use Rattle.std.proofs.Common.{◌≡◌, ℕ, zero, suc, ◌+◌, ◌<◌, Bool, true, false, List, [], ◌∷◌, ◌++◌, length, Option, Some, None, refl, ap, ◌∙◌, subst, arith}
+use Rattle.std.specs.Prelude.{slice_get, map, ◌&&◌, ◌||◌, IsNone, IsSome}
 use Rattle.std.specs.List.{AllByRecursion}
 use Rattle.std.proofs.lemmas.Bool.{lt-ltb, eq-eqb, and_from}
 use Rattle.std.proofs.lemmas.List.{length-append}
@@ -22,23 +22,21 @@ use Rattle.alma_ir.specs.declared.phrase.Root.{Root}
 use Rattle.alma_ir.specs.declared.phrase.Root.TheVariants as root
 use Rattle.alma_ir.specs.declared.phrase.WriteAs.{WriteAs}
 use Rattle.alma_ir.specs.declared.phrase.WriteAs.TheVariants as write_as
-use Rattle.alma_ir.specs.declared.program.ArgKind.{ArgKind}
-use Rattle.alma_ir.specs.declared.program.ArgKind.TheVariants as kind
 use Rattle.alma_ir.specs.declared.program.Param.{Param}
 use Rattle.alma_ir.specs.Tree.{Program, Expr, Arg, Args, Desig, Sels, Sel, routine_at, Const, Load, Chain, Compare, Truth, Known, Chr, CallExpr, no_args, more_args, ByValue, ByCells, ByPlace, MixValue, MixPlace, a_desig, no_sels, more_sels, Field, Index}
 use Rattle.alma_ir.specs.Phrases.{Phrase, DesigPhrase, stmts_phrases, expr_phrases, desig_phrases}
 use Rattle.alma_ir.specs.Checked.{IsChecked, ArgFits, ArgsFit, HasOneCellAs, sel_cells, cells_after, desig_cells, outer_at, link_slots}
 use Rattle.alma_implements.proofs.ExprRows.{AreVariables}
 use Rattle.alma_templates.specs.Tables.{Tables, range_number, is_whole}
-use Rattle.alma_templates.specs.Pieces.{op_code, cmp_code, neg_code, write_code, fit_code, unless_whole, first_argument, link_code}
+use Rattle.alma_templates.specs.Pieces.{op_code, cmp_code, neg_code, write_code, fit_code, unless_whole, first_argument}
 use Rattle.alma_templates.specs.Slots.{shift_of, chain_slots, links_if, bare, bare_desig, unless_bare, arg_kind, handed_slots, call_links, root_slots, expr_slots, desig_slots, sels_slots, sel_slots}
-use Rattle.alma_templates.specs.Templates.{own_slot, slot_or, value_at, part_slot, part_at, behind_root, place_at, link_if, call_link_code, handed, handed_from, arguments_from, call_code, set_by, set_code, load_by, load_code, count_at, count_code, save_code, fit_result}
+use Rattle.alma_templates.specs.Templates.{own_slot, slot_or, value_at, part_slot, part_at, behind_root, place_at, link_if, call_link_code, handed, handed_from, call_code, set_by, set_code, load_by, load_code}
 use Rattle.alma_templates.specs.CodeOf.{HoldsRange, HoldsChecked}
 use Rattle.alma_templates.specs.Compiled.{link_params, param_kind, param_named, is_function}
 use Rattle.alma_templates.proofs.Args.{same_cells}
 use Rattle.alma_templates.proofs.ExprForms as exprs
 use Rattle.alma_sound.proofs.Facts.{Facts, CallFacts}
-use Rattle.alma_sound.proofs.Needs.{HasKind, Needs, IsRange, Number, Place, Link, CanCall}
+use Rattle.alma_sound.proofs.Needs.{HasKind, Needs, IsRange, Number, Place, Link}
 use Rattle.alma_sound.proofs.Roots.{Compiled, Slots, front, back, free, first_slot, variable, link_needs}
 
 is_some : {A : Type 0} (o : Option A) → IsSome o → (a : A) × (o ≡ Some a)

@@ -1,19 +1,16 @@
 -- The code of a whole program: where each routine ends, what its head says, and what is known of its slots.
-use Rattle.std.proofs.Common.{◌≡◌, ℕ, zero, suc, ◌+◌, ◌<◌, ◌≤◌, List, [], ◌∷◌, ◌++◌, length, get_or, refl, sym, ap, ◌∙◌, subst, arith}
+use Rattle.std.proofs.Common.{◌≡◌, ℕ, zero, suc, ◌+◌, ◌<◌, List, [], ◌∷◌, ◌++◌, length, get_or, refl, sym, ap, ◌∙◌, arith}
 use Rattle.std.proofs.lemmas.List.{length-append, length-map}
 use Rattle.alma_code.specs.declared.head.Run.{Run}
-use Rattle.alma_code.specs.Head.{PlainHead}
-use Rattle.alma_code.specs.Layout.{kinds_of}
 use Rattle.alma_code.specs.Plain.{PlainCode, PlainRoutine, head_at, start_at, end_at}
 use Rattle.alma_code.specs.Plain as plain
 use Rattle.alma_ir.specs.Tree.{Program, routine_at}
 use Rattle.alma_ir.specs.Checked.{IsChecked}
 use Rattle.alma_templates.specs.Lined.{Lined}
 use Rattle.alma_templates.specs.Tables.{Tables}
-use Rattle.alma_templates.specs.Slots.{routine_kinds}
 use Rattle.alma_templates.specs.Templates.{routine_code}
-use Rattle.alma_templates.specs.Compiled.{head_for, routines_code, routines_named, program_code}
-use Rattle.alma_templates.specs.CodeOf.{HoldsAllOf, IsCodeOf}
+use Rattle.alma_templates.specs.Compiled.{head_for, routines_code, routines_named}
+use Rattle.alma_templates.specs.CodeOf.{IsCodeOf}
 use Rattle.alma_templates.proofs.Premises.{kinds_are, variables_are, params_are}
 use Rattle.alma_sound.proofs.Roots.{Compiled}
 
