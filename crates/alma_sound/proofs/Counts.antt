@@ -3,10 +3,10 @@ use Rattle.std.proofs.Common.{◌≡◌, inr, ℕ, zero, suc, ◌+◌, ◌*◌, 
 use Rattle.std.specs.Prelude.{sum_by, map}
 use Rattle.std.proofs.lemmas.List.{length-append, length-map}
 use Rattle.std.proofs.lemmas.List.Sums.{sum_by-cons}
-use Rattle.alma_base.specs.Limits.{size_limit}
+use Rattle.alma_base.specs.Limits.{size_limit, record_limit, pool_limit}
 use Rattle.alma_code.specs.Plain.{PlainCode, PlainRoutine, head_at}
 use Rattle.alma_code.specs.Plain as plain
-use Rattle.alma_code.specs.Records.{KeepsCounts, KeepsVersion, param_count, run_count}
+use Rattle.alma_code.specs.Records.{KeepsCounts, KeepsVersion, param_count, run_count, text_count}
 use Rattle.alma_ir.specs.Tree.{Program, Routine, Global, routine_at, no_routine}
 use Rattle.alma_ir.specs.Checked.{IsChecked, link_slots}
 use Rattle.alma_ir.specs.Count.{nodes, routines_nodes, routine_nodes}
@@ -84,7 +84,7 @@ module _ (p : Program) (tables : Tables) where
 
 module _ (p : Program) (code : PlainCode) (checked : IsChecked p) (is_code : IsCodeOf p code) where
   there : (r : ℕ) → r < length code.routines → r < length p.routines
-  there r lt = omega (arith, lt, count p code checked is_code)
+  there r lt = omega (arith, lt, count p code is_code)
 
   few_lines : length code.lines ≤ 1 + 2 * nodes p
   few_lines =
@@ -96,12 +96,12 @@ module _ (p : Program) (code : PlainCode) (checked : IsChecked p) (is_code : IsC
 
   params_few : param_count code ≤ sum_by (λ r. length r.params + link_slots r.level) p.routines
   params_few =
-      sum_over (λ r. length r.head.params) (λ r. length r.params + link_slots r.level) code.routines p.routines (count p code checked is_code)
+      sum_over (λ r. length r.head.params) (λ r. length r.params + link_slots r.level) code.routines p.routines (count p code is_code)
       (λ r lt.
       let mine : Routine = routine_at p r in
       omega (
         arith,
-        ap (λ h. length h.params) (head_is p code checked is_code r (there r lt)),
+        ap (λ h. length h.params) (head_is p code is_code r (there r lt)),
         length-append (link_params mine.level mine.outer) (map param_named mine.params),
         link_long mine.level mine.outer,
         length-map mine.params param_named,
@@ -109,30 +109,35 @@ module _ (p : Program) (code : PlainCode) (checked : IsChecked p) (is_code : IsC
 
   runs_few : HasLongRuns p code → run_count code ≤ 2 * sum_by (λ r. length r.params + link_slots r.level) p.routines + 16 * nodes p
   runs_few runs =
-      let each = sum_over (λ r. length r.head.runs) (λ r. 2 * (length r.params + link_slots r.level) + 16 * routine_nodes r) code.routines p.routines (count p code checked is_code)
+      let each = sum_over (λ r. length r.head.runs) (λ r. 2 * (length r.params + link_slots r.level) + 16 * routine_nodes r) code.routines p.routines (count p code is_code)
       (λ r lt. omega (arith, routine_runs p r (head_at code r).runs (runs r (there r lt)), few_slots p checked r (there r lt))) in
       omega (arith, each, sum_of_nodes p.routines)
 
   names_same : sum_by (λ r. length r.name) code.routines ≤ sum_by (λ r. length r.name) p.routines
-  names_same = sum_over (λ r. length r.name) (λ r. length r.name) code.routines p.routines (count p code checked is_code) (λ r lt. omega (arith, ap length (name_is p code checked is_code r (there r lt))))
+  names_same = sum_over (λ r. length r.name) (λ r. length r.name) code.routines p.routines (count p code is_code) (λ r lt. omega (arith, ap length (name_is p code is_code r (there r lt))))
 
-  module _ (few : 16 * nodes p ≤ size_limit) (held : HoldsEachOnce p code) (runs : HasLongRuns p code) where
-    pub counts : KeepsCounts code
-    counts = record {
-      routines = omega (arith, few, count p code checked is_code, few_routines p.routines);
-      globals = omega (arith, checked.limits.globals, ap (λ c. length c.globals) is_code.is, length-map p.globals global_named);
-      params = omega (arith, params_few, checked.limits.params);
-      runs = omega (arith, runs_few runs, checked.limits.params, few);
-      ranges = omega (arith, few_ranges p code held, few);
-      texts = omega (arith, few_texts p code held, few);
-      names = omega (arith, names_same, ap (λ c. sum_by (λ g. length g.name) c.globals) is_code.is, same_names p.globals, checked.limits.names);
-      text_bytes = omega (arith, few_text_bytes p code held, checked.limits.texts);
-      instrs = omega (arith, code_is_short p code checked is_code, few);
-      lines = omega (arith, few_lines, few);
-    }
+  counts : 16 * nodes p ≤ size_limit → HasLongRuns p code → length code.ranges ≤ record_limit → length code.texts ≤ record_limit → text_count code ≤ pool_limit → KeepsCounts code
+  counts few runs ranges texts bytes = record {
+    routines = omega (arith, few, count p code is_code, few_routines p.routines);
+    globals = omega (arith, checked.limits.globals, ap (λ c. length c.globals) is_code.is, length-map p.globals global_named);
+    params = omega (arith, params_few, checked.limits.params);
+    runs = omega (arith, runs_few runs, checked.limits.params, few);
+    ranges = ranges;
+    texts = texts;
+    names = omega (arith, names_same, ap (λ c. sum_by (λ g. length g.name) c.globals) is_code.is, same_names p.globals, checked.limits.names);
+    text_bytes = bytes;
+    instrs = omega (arith, code_is_short p code checked is_code, few);
+    lines = omega (arith, few_lines, few);
+  }
+
+-- where the tables are known to be small
+pub keeps_counts_by :
+    (p : Program) (code : PlainCode) → IsChecked p → IsCodeOf p code → HasLongRuns p code → length code.ranges ≤ record_limit → length code.texts ≤ record_limit → text_count code ≤ pool_limit → 16 * nodes p ≤ size_limit → KeepsCounts code
+keeps_counts_by p code checked is_code runs ranges texts bytes few = counts p code checked is_code few runs ranges texts bytes
 
 pub code_keeps_counts : (p : Program) (code : PlainCode) → IsChecked p → IsCodeOf p code → HasLongRuns p code → HoldsEachOnce p code → 16 * nodes p ≤ size_limit → KeepsCounts code
-code_keeps_counts p code checked is_code runs held few = counts p code checked is_code few held runs
+code_keeps_counts p code checked is_code runs held few =
+    counts p code checked is_code few runs (omega (arith, few_ranges p code held, few)) (omega (arith, few_texts p code held, few)) (omega (arith, few_text_bytes p code held, checked.limits.texts))
 
 pub code_keeps_version : (p : Program) (code : PlainCode) → IsCodeOf p code → KeepsVersion code
 code_keeps_version p code is_code =

@@ -84,10 +84,10 @@ number_itself : (a : ℤ) → int_eq a a ≡ true
 number_itself (pos a) = eq-eqb a a refl
 number_itself (negsuc a) = eq-eqb a a refl
 
-range_itself : (a : Range) → same_range a a ≡ true
+pub range_itself : (a : Range) → same_range a a ≡ true
 range_itself a = and_from (int_eq a.low a.low) (int_eq a.high a.high) (number_itself a.low) (number_itself a.high)
 
-text_itself : (a : List ℕ) → same_text a a ≡ true
+pub text_itself : (a : List ℕ) → same_text a a ≡ true
 text_itself [] = refl
 text_itself (a ∷ more) = and_from (nat_eq a a) (same_text more more) (eq-eqb a a refl) (text_itself more)
 

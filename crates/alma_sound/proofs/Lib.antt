@@ -17,3 +17,4 @@ pub mod Records
 pub mod Readers
 pub mod ReadersAlike
 pub mod ReadsAlike
+pub mod SuchCode

@@ -88,11 +88,11 @@ each_passes f (x ∷ xs) h = and_from (f x) (list_all f xs) (h 0 (omega arith)) 
 module _ (p : Program) (code : PlainCode) (checked : IsChecked p) (is_code : IsCodeOf p code) (runs : HasLongRuns p code) where
   routine_record : (r : ℕ) → r < length code.routines → is_routine_record (get_or code.routines r plain.no_routine) ≡ true
   routine_record r lt =
-      let there : r < length p.routines = omega (arith, lt, count p code checked is_code) in
+      let there : r < length p.routines = omega (arith, lt, count p code is_code) in
       let mine : Routine = routine_at p r in
-      and_from _ _ (ap is_name (name_is p code checked is_code r there) ∙ is_name_of mine.name (routine_name p.routines r checked.names.routines there))
+      and_from _ _ (ap is_name (name_is p code is_code r there) ∙ is_name_of mine.name (routine_name p.routines r checked.names.routines there))
       (and_from _ _
-      (ap (λ h. list_all (λ q. has_cells q.kind q.cells) h.params) (head_is p code checked is_code r there) ∙ all_cells mine.level mine.outer mine.params (checked.params r there).cells)
+      (ap (λ h. list_all (λ q. has_cells q.kind q.cells) h.params) (head_is p code is_code r there) ∙ all_cells mine.level mine.outer mine.params (checked.params r there).cells)
       (differ_is (head_at code r).runs (runs r there).longest))
 
   pub records : HoldsEachOnce p code → KeepsRecords code

@@ -19,14 +19,14 @@ use Rattle.alma_templates.specs.Slots.{link_kinds, param_kinds, params_kinds, ro
 
 -- ---- kinds
 
-kind_is : (a b : SlotKind) → same_kind a b ≡ true → a ≡ b
+pub kind_is : (a b : SlotKind) → same_kind a b ≡ true → a ≡ b
 kind_is slot.Number slot.Number e = refl
 kind_is (slot.Place m) (slot.Place n) e = ap slot.Place (eqb-true m n e)
 kind_is slot.Mark slot.Mark e = refl
 kind_is (slot.Link m) (slot.Link n) e = ap slot.Link (eqb-true m n e)
 kind_is a b e = absurd (let bad : false ≡ true = e in cc)
 
-kind_itself : (k : SlotKind) → same_kind k k ≡ true
+pub kind_itself : (k : SlotKind) → same_kind k k ≡ true
 kind_itself slot.Number = refl
 kind_itself (slot.Place n) = eq-eqb n n refl
 kind_itself slot.Mark = refl

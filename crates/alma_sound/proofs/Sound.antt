@@ -115,7 +115,7 @@ module _ (p : Program) (code : PlainCode) (checked : IsChecked p) (is_code : IsC
   tables = is_code.tables
 
   w : Compiled p is_code.tables code
-  w = compiled p code checked is_code
+  w = compiled p code is_code checked
 
   -- ---- instructions
 
@@ -124,7 +124,7 @@ module _ (p : Program) (code : PlainCode) (checked : IsChecked p) (is_code : IsC
     mine = routine_at p r
 
     pub slots_are : (head_at code r).slots ≡ length (routine_kinds p r)
-    slots_are = ap (λ h. h.slots) (head_is p code checked is_code r lt)
+    slots_are = ap (λ h. h.slots) (head_is p code is_code r lt)
 
     full : length (kinds_at code r) ≡ (head_at code r).slots
     full = ap length (w.kinds r lt) ∙ sym slots_are
@@ -153,7 +153,7 @@ module _ (p : Program) (code : PlainCode) (checked : IsChecked p) (is_code : IsC
     stands = routine_stands p tables code is_code.runs is_code.is is_code.count is_code.names r lt
 
     long : end_at code r ≡ begin + length body + 1
-    long = omega (arith, end_is p code checked is_code r lt, length-append body last)
+    long = omega (arith, end_is p code is_code r lt, length-append body last)
 
     needs : AllNeed code r body
     needs =
@@ -200,7 +200,7 @@ module _ (p : Program) (code : PlainCode) (checked : IsChecked p) (is_code : IsC
       slots_few = omega (arith, slots_are, kinds_long, few_slots p checked r lt, some_nodes p.routines r lt, few, (checked.routine_limits r lt).slots)
 
       declared_are : (head_at code r).declared ≡ mine.declared
-      declared_are = ap (λ h. h.declared) (head_is p code checked is_code r lt)
+      declared_are = ap (λ h. h.declared) (head_is p code is_code r lt)
 
       pub second : rule_2 code r ≡ true
       second =
@@ -247,7 +247,7 @@ module _ (p : Program) (code : PlainCode) (checked : IsChecked p) (is_code : IsC
     table = record {
       some = omega (arith, w.count, checked.body.0);
       rise = λ r lt. omega (arith, some_code r (within r lt));
-      last = last_is p code checked is_code;
+      last = last_is p code is_code;
       runs = λ r lt. subst (RunsRise 0 (head_at code r).runs) (sym (last_is_top 0 (head_at code r).runs (head_at code r).slots (fill r lt))) (fill r lt);
     }
 

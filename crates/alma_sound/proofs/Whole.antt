@@ -1,17 +1,20 @@
 -- The code of a whole program: where each routine ends, what its head says, and what is known of its slots.
-use Rattle.std.proofs.Common.{◌≡◌, ℕ, zero, suc, ◌+◌, ◌<◌, List, [], ◌∷◌, ◌++◌, length, get_or, refl, sym, ap, ◌∙◌, arith}
+use Rattle.std.proofs.Common.{◌≡◌, ℕ, zero, suc, ◌+◌, ◌<◌, List, [], ◌∷◌, ◌++◌, length, get_or, refl, sym, ap, ◌∙◌, subst, arith}
 use Rattle.std.proofs.lemmas.List.{length-append, length-map}
 use Rattle.alma_code.specs.declared.head.Run.{Run}
 use Rattle.alma_code.specs.Plain.{PlainCode, PlainRoutine, head_at, start_at, end_at}
 use Rattle.alma_code.specs.Plain as plain
 use Rattle.alma_ir.specs.Tree.{Program, routine_at}
 use Rattle.alma_ir.specs.Checked.{IsChecked}
+use Rattle.alma_implements.specs.Templates.{NamesKinds}
 use Rattle.alma_templates.specs.Lined.{Lined}
 use Rattle.alma_templates.specs.Tables.{Tables}
+use Rattle.alma_templates.specs.Slots.{routine_kinds}
 use Rattle.alma_templates.specs.Templates.{routine_code}
 use Rattle.alma_templates.specs.Compiled.{head_for, routines_code, routines_named}
 use Rattle.alma_templates.specs.CodeOf.{IsCodeOf}
 use Rattle.alma_templates.proofs.Premises.{kinds_are, variables_are, params_are}
+use Rattle.alma_sound.specs.Runs.{HasLongRuns}
 use Rattle.alma_sound.proofs.Roots.{Compiled}
 
 -- the address of the first instruction of a routine of these, of which the first begins at an address
@@ -71,7 +74,7 @@ module _ (p : Program) (tables : Tables) where
       let added : next + length (routines_code p tables (suc r) (length rest) next) ≡ at + length (one ++ routines_code p tables (suc r) (length rest) next) = omega (arith, long) in
       start_behind at (get_or (routines_named p tables r at (runs ∷ rest)) 0 plain.no_routine) named (length rest) ∙ z ∙ added
 
-module _ (p : Program) (code : PlainCode) (checked : IsChecked p) (is_code : IsCodeOf p code) where
+module _ (p : Program) (code : PlainCode) (is_code : IsCodeOf p code) where
   abbrev tables : Tables
   tables = is_code.tables
 
@@ -111,8 +114,8 @@ module _ (p : Program) (code : PlainCode) (checked : IsChecked p) (is_code : IsC
       let z = named_last p is_code.tables is_code.runs 0 0 in
       ap (start_at code) (count ∙ sym is_code.count) ∙ sym (start_named (length is_code.runs)) ∙ omega (arith, z, long, instrs)
 
-  pub compiled : Compiled p is_code.tables code
-  compiled = record {
+  pub compiled : IsChecked p → Compiled p is_code.tables code
+  compiled checked = record {
     count = count;
     ranges = ap (λ c. c.ranges) is_code.is;
     texts = ap (λ c. c.texts) is_code.is;
@@ -123,3 +126,7 @@ module _ (p : Program) (code : PlainCode) (checked : IsChecked p) (is_code : IsC
     variables = variables_are p is_code.tables code is_code.runs is_code.is is_code.count is_code.names checked [];
     places = params_are p is_code.tables code is_code.runs is_code.is is_code.count is_code.names checked [];
   }
+
+  -- runs that are each as long as they can be
+  pub long_runs : ((r : ℕ) → r < length p.routines → NamesKinds (get_or is_code.runs r []) (routine_kinds p r)) → HasLongRuns p code
+  long_runs h r lt = subst (λ x. NamesKinds x (routine_kinds p r)) (sym (ap (λ y. y.runs) (head_is r lt))) (h r lt)

@@ -40,3 +40,9 @@ pub fn code_of_a_program_reads_where_the_program_reads()
     ensures { (p : Program) (code : PlainCode) → IsCodeOf p code → HasLabels p
         → code_reads code ≡ program_reads p }
 {}
+
+/// Each program has a code with such runs and tables.
+pub fn each_program_has_such_a_code()
+    ensures { (p : Program) → (code : PlainCode) × IsCodeOf p code × HasLongRuns p code
+        × HoldsEachOnce p code }
+{}
