@@ -39,6 +39,6 @@ abbrev pub ArmsHaveLabels : Phrase → Type 0
 ArmsHaveLabels (StmtPhrase (Case e arms rest)) = HaveLabels arms
 ArmsHaveLabels _ = Unit {0}
 
--- each arm of each CASE of the program has a label, as those of a program that was read have
+-- each arm of each CASE of the program has a label
 abbrev pub HasLabels : Program → Type 0
 HasLabels p = EachPhrase p (λ r routine x. ArmsHaveLabels x)
