@@ -19,12 +19,9 @@ use Rattle.alma_code.specs.Plain.{PlainCode}
 use Rattle.alma_code.specs.Records.{KeepsVersion, KeepsCounts, KeepsRecords}
 use Rattle.alma_code.specs.Rules.{IsSound}
 use Rattle.alma_object.specs.declared.fault.ObjectFault.{ObjectFault}
-use Rattle.alma_object.specs.declared.view.ObjectView.{ObjectView}
-use Rattle.alma_object.specs.Header.{header_of}
 use Rattle.alma_object.specs.Object.{IsObject, object_bytes}
-use Rattle.alma_object.specs.Reading.{code_in}
-use Rattle.alma_object.specs.View.{code_of_view}
 use Rattle.alma_object.specs.Walk.{object_fault}
+use Rattle.alma_whole.specs.Bytes.{object_code}
 use Rattle.alma_lower.specs.declared.lowering.LowerError.{LowerError}
 use Rattle.alma_lower.specs.declared.lowering.LowerError.TheVariants as lower
 use Rattle.alma_implements.specs.Implements.{Implements}
@@ -38,7 +35,7 @@ use Rattle.alma_scan.specs.Places.{line_at, column_at}
 use Rattle.alma_driver.specs.Refusal.{IsRefused, IsParsed, place_of}
 use Rattle.alma_driver.specs.declared.fault.SourceFault.{SourceFault}
 use Rattle.alma_driver.specs.Ends.{lower_end, read_end, words_end, fetch_end, store_end}
-use Rattle.alma_driver.specs.Outcome.{Due, Stored, due_of, silent, storing, size_of, ProgramOutcome, ran, too_much_code, CompileOutcome, made, past_size, IsSourceEnd, refused, not_yet, IsStop, SourceOutcome, stopped, compiled, object_code, ListOutcome, listed, no_object, FileOutcome, RequestOutcome, absent, too_long, fetched, Outcome, bad_word, asks}
+use Rattle.alma_driver.specs.Outcome.{Due, Stored, due_of, silent, storing, size_of, ProgramOutcome, ran, too_much_code, CompileOutcome, made, past_size, IsSourceEnd, refused, not_yet, IsStop, SourceOutcome, stopped, compiled, ListOutcome, listed, no_object, FileOutcome, RequestOutcome, absent, too_long, fetched, Outcome, bad_word, asks}
 use Rattle.alma_driver.specs.Course.{Gains, GainsPrefix, Goes, OthersStay, Keeps, done, failed, Works, Performs}
 use Rattle.alma_driver.specs.declared.words.WordsError.{WordsError}
 use Rattle.alma_driver.specs.declared.words.WordsError.TheVariants as words
@@ -151,9 +148,9 @@ compiled_within p code too_much = by (cases_lt size_limit (size_of p))
 
 -- a program that was compiled and run
 pub goes_compiled : (p : Program) (code : PlainCode) (steps : ℕ) (a b : SinkSide) (end : End) → IsSound code → Implements code p → size_of p ≤ size_limit
-    → Goes (IsDue code steps) a b end → Goes (ProgramOutcome p steps) a b end
+    → Goes (IsDue code [] steps) a b end → Goes (ProgramOutcome p steps) a b end
 goes_compiled p code steps a b end sound implements within g =
-    goes_map (IsDue code steps) (ProgramOutcome p steps)
+    goes_map (IsDue code [] steps) (ProgramOutcome p steps)
     (λ due e. subst (λ (d : Due). ProgramOutcome p steps d) (sym e) (ran code within sound implements refl)) a b end g
 
 -- ---- listing
@@ -161,13 +158,6 @@ goes_compiled p code steps a b end sound implements within g =
 -- what is due from bytes that are listed as this code
 abbrev pub IsListed : PlainCode → Due → Type 0
 IsListed code due = due ≡ due_of Succeeded (list_text code)
-
--- the code of a view of these bytes
-pub view_code : (view : ObjectView) (bytes : List ℕ) → IsObject (code_of_view view) view.bytes.now → IsObject (code_of_view view) bytes
-    → code_of_view view ≡ object_code bytes
-view_code view bytes own is =
-    let same : view.bytes.now ≡ bytes = sym own.spelled ∙ is.spelled in
-    ap (code_in view.bytes.now) view.read ∙ ap (λ (b : List ℕ). code_in b (header_of b)) same
 
 -- an object that was listed
 pub goes_listed : (bytes : List ℕ) (code : PlainCode) (a b : SinkSide) (end : End) → object_fault bytes ≡ None → IsObject code bytes

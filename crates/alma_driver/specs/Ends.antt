@@ -17,8 +17,8 @@ use Rattle.alma_code.specs.declared.step.End.TheVariants as ended
 use Rattle.alma_code.specs.Lines.{known_line}
 use Rattle.alma_base.specs.declared.fault.RunFault.{RunFault}
 use Rattle.alma_code.specs.Machine.{Mode, Going, Failing, Ended, Stuck}
-use Rattle.alma_machine.specs.declared.machine.RunEnd.{RunEnd}
-use Rattle.alma_machine.specs.declared.machine.RunEnd.TheVariants as run
+use Rattle.alma_engine.specs.declared.machine.RunEnd.{RunEnd}
+use Rattle.alma_engine.specs.declared.machine.RunEnd.TheVariants as run
 use Rattle.alma_driver.specs.declared.words.WordsError.{WordsError}
 use Rattle.alma_driver.specs.declared.words.WordsError.TheVariants as words
 use Rattle.alma_driver.specs.declared.fault.SourceFault.{SourceFault}

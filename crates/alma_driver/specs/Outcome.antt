@@ -11,10 +11,9 @@ use Rattle.alma_code.specs.ListText.{list_text}
 use Rattle.alma_code.specs.Plain.{PlainCode}
 use Rattle.alma_code.specs.Rules.{IsSound}
 use Rattle.alma_object.specs.declared.fault.ObjectFault.{ObjectFault}
-use Rattle.alma_object.specs.Header.{header_of}
 use Rattle.alma_object.specs.Object.{IsObject}
-use Rattle.alma_object.specs.Reading.{code_in}
 use Rattle.alma_object.specs.Walk.{object_fault}
+use Rattle.alma_whole.specs.Bytes.{object_code}
 use Rattle.alma_implements.specs.Implements.{Implements, Covers, meant_end, state_after, printed_by, line_in}
 use Rattle.alma_front.specs.Source.{IsSource}
 use Rattle.alma_driver.specs.Words.{Request, Run, Compile, Listing, Asks, IsBadWord, read_by, limit_of}
@@ -53,14 +52,15 @@ storing name bytes = record { end = Succeeded; out = []; stored = Some (record {
 
 -- ---- programs
 
--- what a run of code for so many steps, without input, comes to
-abbrev pub code_due : PlainCode → (steps : ℕ) → Due
-code_due code steps = due_of (mode_end (state_after code [] steps).mode (line_in code (state_after code [] steps))) (printed_by code [] steps)
+-- what a run of code on an input for so many steps comes to
+abbrev pub code_due : PlainCode → (input : List ℕ) → (steps : ℕ) → Due
+code_due code input steps =
+    due_of (mode_end (state_after code input steps).mode (line_in code (state_after code input steps))) (printed_by code input steps)
 
 -- What a run of a program for so many steps comes to, without input: what a sound code that implements it comes to in
 -- so many steps, or the refusal of its size.
 pub data ProgramOutcome (p : Program) (steps : ℕ) (due : Due) : Type 0 where
-  ran : (code : PlainCode) → size_of p ≤ size_limit → IsSound code → Implements code p → due ≡ code_due code steps → ProgramOutcome p steps due
+  ran : (code : PlainCode) → size_of p ≤ size_limit → IsSound code → Implements code p → due ≡ code_due code [] steps → ProgramOutcome p steps due
   too_much_code : size_limit < size_of p → due ≡ silent (TooMuchCode (size_of p)) → ProgramOutcome p steps due
 
 -- What compiling a program under a name comes to: the object of a sound code that implements it is stored there, or the
@@ -97,10 +97,6 @@ pub data IsSourceEnd (source : List ℕ) (end : End) : Type 0 where
 pub data SourceOutcome (source : List ℕ) (program_outcome : Program → Due → Type 0) (due : Due) : Type 0 where
   stopped : (end : End) → IsSourceEnd source end → due ≡ silent end → SourceOutcome source program_outcome due
   compiled : (p : Program) → IsParsed source → IsSource source p → program_outcome p due → SourceOutcome source program_outcome due
-
--- the code that the bytes of an object spell
-abbrev pub object_code : List ℕ → PlainCode
-object_code bytes = code_in bytes (header_of bytes)
 
 -- What listing bytes comes to: the text of the code whose object they are, or the first fault of the format.
 pub data ListOutcome (bytes : List ℕ) (due : Due) : Type 0 where

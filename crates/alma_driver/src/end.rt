@@ -1,18 +1,17 @@
 // The ends of a call: how they come from the answers of its parts, their statuses and their texts.
 ghost use Rattle.std.specs.Prelude.{◌≡◌};
 ghost use Rattle.alma_code.specs.Lines.{line_at};
-ghost use Rattle.alma_code.specs.Plain.{code_of};
+ghost use Rattle.alma_object.specs.View.{code_of_view};
 ghost use Rattle.alma_driver.specs.Ends.{status_of, fixed_text, run_end, lower_end, read_end, words_end, fetch_end, store_end};
 
 use crate::fault::SourceFault;
 use crate::words::WordsError;
 use alma_base::{Place, RunFault};
-use alma_code::Code;
+use alma_engine::RunEnd;
 use alma_front::ReadError;
 use alma_io::{Fetch, StoreFault};
 use alma_lower::LowerError;
-use alma_machine::RunEnd;
-use alma_object::ObjectFault;
+use alma_object::{ObjectFault, ObjectView};
 
 /// How a call ends, but for what becomes of its text on err.
 #[derive(Clone, Copy, Debug, PartialEq, Eq)]
@@ -100,16 +99,13 @@ pub fn end_of(run: RunEnd, line: u32) -> End
 }
 
 /// The line of an address; 0 where none is known.
-pub fn line_of(code: &Code, at: u32) -> u32
-    ensures { result ≡ line_at (code_of code.now) at }
+pub fn line_of(view: &ObjectView<'_>, at: u32) -> u32
+    ensures { result ≡ line_at (code_of_view view.now) at }
 {
-    let mut line = 0;
-    for record in &code.lines {
-        if record.at <= at {
-            line = record.line;
-        }
+    match view.line_of(at) {
+        Some(line) => line,
+        None => 0,
     }
-    line
 }
 
 impl From<LowerError> for End {
