@@ -8,6 +8,7 @@ ghost use Rattle.alma_driver.specs.Causes.{Causes};
 
 use crate::compile::compile_source;
 use crate::end::End;
+use crate::exec::exec_object;
 use crate::list::list_object;
 use crate::report::report;
 use crate::run::run_source;
@@ -37,6 +38,7 @@ fn serve_file<F: Files, O: Sink>(
         Request::Run(_, steps) => run_source(alloc, bytes, steps, out),
         Request::Compile(_, object) => compile_source(alloc, bytes, object, files),
         Request::List(_) => list_object(alloc, bytes, out),
+        Request::Exec(_, steps) => exec_object(alloc, bytes, steps, out),
     }
 }
 

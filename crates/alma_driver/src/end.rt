@@ -7,6 +7,7 @@ ghost use Rattle.alma_driver.specs.Ends.{status_of, fixed_text, run_end, lower_e
 use crate::fault::SourceFault;
 use crate::words::WordsError;
 use alma_base::{Place, RunFault};
+use alma_code::VerifyFault;
 use alma_engine::RunEnd;
 use alma_front::ReadError;
 use alma_io::{Fetch, StoreFault};
@@ -36,11 +37,13 @@ pub enum End {
     Memory,
     /// The bytes are no object: their fault.
     BadObject(ObjectFault),
+    /// The code of the object is not sound: the first rule that it breaks, and where.
+    BadCode(VerifyFault),
     /// The source or the object is past its greatest length.
     TooLong,
     /// The size of the program, which is past the greatest.
     TooMuchCode(u64),
-    /// The source is a program of the grammar, and not of the language so far.
+    /// The source is a program of the grammar, and not of the language so far; or the code of the object reads.
     NotYet,
 }
 
@@ -59,7 +62,7 @@ impl End {
             End::ReadFault => 6,
             End::WriteFault => 7,
             End::Memory => 8,
-            End::BadObject(_) => 9,
+            End::BadObject(_) | End::BadCode(_) => 9,
             End::TooLong => 10,
             End::TooMuchCode(_) => 11,
             End::NotYet => 12,
@@ -73,7 +76,8 @@ impl End {
         match self {
             End::Succeeded | End::Failed => b"",
             End::BadWord(_) | End::Refused(_, _) => b"",
-            End::Faulted(_, _) | End::BadObject(_) | End::TooMuchCode(_) => b"",
+            End::Faulted(_, _) | End::TooMuchCode(_) => b"",
+            End::BadObject(_) | End::BadCode(_) => b"",
             End::StepsOut => b"alma: steps out\n",
             End::ReadFault => b"alma: read fault\n",
             End::WriteFault => b"alma: write fault\n",
