@@ -73,7 +73,12 @@ pub(crate) fn check(
 }
 
 /// Files with one file.
-pub(crate) fn files_with(alloc: Global, name: &str, bytes: &[u8], fails: &[u64]) -> Result<MemFiles, Fail> {
+pub(crate) fn files_with(
+    alloc: Global,
+    name: &str,
+    bytes: &[u8],
+    fails: &[u64],
+) -> Result<MemFiles, Fail> {
     let mut files = MemFiles::new(alloc, fails)?;
     files.put(alloc, name, bytes)?;
     Ok(files)

@@ -99,12 +99,7 @@ fn a_compiled_program_is_run(rt: HostRuntime) -> Result<(), Fail> {
 }
 
 // Words that are no request.
-fn check_words(
-    rt: &impl Abort,
-    alloc: Global,
-    words: &[&str],
-    err: &[u8],
-) -> Result<(), Fail> {
+fn check_words(rt: &impl Abort, alloc: Global, words: &[&str], err: &[u8]) -> Result<(), Fail> {
     let mut files = files_with(alloc, "o.obj", &FIRST, &[])?;
     let answer = Answer {
         status: 2,
@@ -119,7 +114,12 @@ fn bad_words_are_named(rt: HostRuntime) -> Result<(), Fail> {
     let alloc = rt.alloc();
     check_words(&rt, alloc, &["exec"], b"alma: bad word 2\n")?;
     check_words(&rt, alloc, &["exec", "--steps=1"], b"alma: bad word 2\n")?;
-    check_words(&rt, alloc, &["exec", "o.obj", "--steps=0"], b"alma: bad word 3\n")?;
+    check_words(
+        &rt,
+        alloc,
+        &["exec", "o.obj", "--steps=0"],
+        b"alma: bad word 3\n",
+    )?;
     let more = ["exec", "o.obj", "--steps=1", "o.obj"];
     check_words(&rt, alloc, &more, b"alma: bad word 4\n")
 }

@@ -238,7 +238,10 @@ fn a_run_ends_as_its_code_says(rt: HostRuntime) -> Result<(), Fail> {
     assert_eq!(rt; fault, Some((RunEnd::Fault(RunFault::ZeroDivide), 3)));
     let fault = outcome(rt.alloc(), &NOT_KNOWN)?;
     assert_eq!(rt; fault, Some((RunEnd::Fault(RunFault::Unknown), 2)));
-    assert_eq!(rt; outcome(rt.alloc(), &CHECK_FAILS)?, Some((RunEnd::Failed, 3)));
+    assert_eq!(rt;
+        outcome(rt.alloc(), &CHECK_FAILS)?,
+        Some((RunEnd::Failed, 3))
+    );
     assert_eq!(rt; outcome(rt.alloc(), &FAILS)?, Some((RunEnd::Failed, 2)));
     let fault = outcome(rt.alloc(), &NOT_IN_RANGE)?;
     assert_eq!(rt; fault, Some((RunEnd::Fault(RunFault::Range), 2)));
@@ -350,6 +353,9 @@ fn a_failed_alternative_leaves_no_trace(rt: HostRuntime) -> Result<(), Fail> {
     let mut out = MemSink::new(rt.alloc(), 99, 99, &[])?;
     assert_eq!(rt; machine.run(99, &mut out), RunEnd::Succeeded);
     assert_eq!(rt; out.bytes(), b"12\n".as_slice());
-    assert_eq!(rt; (machine.steps(), machine.choices(), machine.fails()), (14, 1, 1));
+    assert_eq!(rt;
+        (machine.steps(), machine.choices(), machine.fails()),
+        (14, 1, 1)
+    );
     Ok(())
 }

@@ -14,7 +14,7 @@ returns-in-Ok g c =
     let code = code_of_verified c.args.code in
     let same = c.view.ensures ∙ h.same.0 ∙ ap (λ m. m.code) c.in-Ok.ensures in
     let line : c.line_of.result ≡ line_in code c.run-end.new.self.state =
-        c.line_of.ensures ∙ ap (λ k. line_at k c.at.result) same ∙ ap (line_at code) c.at.ensures in
+    c.line_of.ensures ∙ ap (λ k. line_at k c.at.result) same ∙ ap (line_at code) c.at.ensures in
     let is : c.end_of.result ≡ run_end c.run-end.result (line_in code c.run-end.new.self.state) = c.end_of.ensures ∙ ap (run_end c.run-end.result) line in
     rw is (goes_run code c.args.input.now c.in-Ok.machine c.run-end.new.self c.args.steps c.run-end.result (sink_side (g.O.Sink.written c.args.out.now) (g.O.Sink.faults c.args.out.now))
     (sink_side (g.O.Sink.written c.run-end.new.out) (g.O.Sink.faults c.run-end.new.out)) c.in-Ok.ensures

@@ -15,12 +15,12 @@ unreachable-requires c =
 pub unreachable-requires-in-Err : goal.unreachable-requires-in-Err
 unreachable-requires-in-Err c =
     let same : code_of_view c.in-Ok.view ≡ code_of c.args.code.now =
-        c.in-Ok.ensures.code ∙ code_again (code_of c.args.code.now) c.args.bytes.now c.requires.object c.fits_fields.ensures in
+    c.in-Ok.ensures.code ∙ code_again (code_of c.args.code.now) c.args.bytes.now c.requires.object c.fits_fields.ensures in
     let no : false ≡ true = c.in-Err.ensures.complete (subst IsSound (sym same) c.requires.sound) in
     cc no
 
 pub returns : goal.returns
 returns c =
     let same : code_of_view c.in-Ok.view ≡ code_of c.args.code.now =
-        c.in-Ok.ensures.code ∙ code_again (code_of c.args.code.now) c.args.bytes.now c.requires.object c.fits_fields.ensures in
+    c.in-Ok.ensures.code ∙ code_again (code_of c.args.code.now) c.args.bytes.now c.requires.object c.fits_fields.ensures in
     ap code_of_view c.in-Ok-verify.ensures.view ∙ same
