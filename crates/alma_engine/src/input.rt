@@ -15,7 +15,7 @@ use alma_code::{Cell, CellPlace, End, Step};
 #[tactic(auto, using(crate::proofs::Reading::finds))]
 fn find_number(input: &[u8], from: usize) -> ReadInt
     requires { length input.now ≤ input_limit }
-    ensures takes_read { result ≡ number_from input.now from }
+    ensures found { result ≡ number_from input.now from }
     ensures below { IsBelow result }
 {
     if from > input.len() {
@@ -28,7 +28,7 @@ fn find_number(input: &[u8], from: usize) -> ReadInt
 #[tactic(auto, using(crate::proofs::Reading::byte_read))]
 fn find_char(input: &[u8], from: usize) -> ReadInt
     requires { length input.now ≤ input_limit }
-    ensures takes_read { (s : State) (r : Range) (p : CellPlace)
+    ensures found { (s : State) (r : Range) (p : CellPlace)
         → byte_or_failure s r p from (slice_get input.now from) ≡ takes_read s r p result }
     ensures below { IsBelow result }
 {
