@@ -7,18 +7,20 @@ use Rattle.alma_io.specs.Fronts.{AppendsFront}
 use Rattle.alma_io.specs.Causes.{Rose}
 use Rattle.alma_io.specs.Files.{Told, Missing, MayHave, MayPass}
 use Rattle.alma_ir.specs.Tree.{Program}
+use Rattle.alma_code.specs.Plain.{PlainCode}
+use Rattle.alma_whole.specs.Bytes.{object_code}
 use Rattle.alma_code.specs.Machine.{Mode, Going, Failing, Ended, Stuck}
 use Rattle.alma_implements.specs.Implements.{state_after, line_in}
 use Rattle.alma_code.specs.declared.step.End.TheVariants as code_end
-use Rattle.alma_driver.specs.Words.{Request, Run, Compile, Listing, Asks, file_of, read_by, limit_of}
+use Rattle.alma_driver.specs.Words.{Request, Run, Compile, Listing, Exec, Asks, file_of, read_by, limit_of}
 use Rattle.alma_driver.specs.Outside.{SinkSide, FilesSide, FilesStay, Outside}
 use Rattle.alma_driver.specs.Ends.{mode_end, status_of, text_of}
-use Rattle.alma_driver.specs.Outcome.{Due, Stored, ProgramOutcome, ran, too_much_code, CompileOutcome, made, past_size, IsSourceEnd, refused, not_yet, SourceOutcome, stopped, compiled, ListOutcome, listed, no_object, FileOutcome, RequestOutcome, absent, too_long, fetched, Outcome, bad_word, asks, Lacks}
+use Rattle.alma_driver.specs.Outcome.{Due, Stored, ProgramOutcome, ran, too_much_code, CompileOutcome, made, past_size, IsSourceEnd, refused, not_yet, SourceOutcome, stopped, compiled, ListOutcome, listed, no_object, CodeOutcome, executed, reading, unsound, ExecOutcome, opened, unopened, FileOutcome, RequestOutcome, absent, too_long, fetched, Outcome, bad_word, asks, Lacks}
 use Rattle.alma_driver.specs.Course.{Gains, FailsWithin, GainsPrefix, Goes, OthersStay, FailsToStore, Keeps, Stores, done, failed, Works, FailsToFetch, Performs, Reports, Answers}
 use Rattle.alma_driver.specs.Causes.{Causes, WriteFailed, WritesGrew, Become, IsStoredName}
 use Rattle.alma_driver.specs.declared.end.End.{End}
-use Rattle.alma_driver.specs.declared.end.End.TheVariants.{Succeeded, Failed, BadWord, Refused, Faulted, StepsOut, ReadFault, WriteFault, Memory, BadObject, TooLong, TooMuchCode, NotYet}
-use Rattle.alma_driver.proofs.DriverLemmas.{run_keeps, list_keeps}
+use Rattle.alma_driver.specs.declared.end.End.TheVariants.{Succeeded, Failed, BadWord, Refused, Faulted, StepsOut, ReadFault, WriteFault, Memory, BadObject, BadCode, TooLong, TooMuchCode, NotYet}
+use Rattle.alma_driver.proofs.DriverLemmas.{run_keeps, list_keeps, exec_keeps}
 use Rattle.alma_driver.proofs.WordLemmas.{one_request}
 
 -- the ways in which out may go, by the end that the call comes to
@@ -37,6 +39,7 @@ way_of P a b (Refused fault place) g = ended (λ e. absurd (omega (arith, e))) (
 way_of P a b (Faulted fault line) g = ended (λ e. absurd (omega (arith, e))) (λ e. absurd (omega (arith, e))) g.0 g.1 g.2 g.3
 way_of P a b StepsOut g = ended (λ e. absurd (omega (arith, e))) (λ e. absurd (omega (arith, e))) g.0 g.1 g.2 g.3
 way_of P a b ReadFault g = ended (λ e. absurd (omega (arith, e))) (λ e. absurd (omega (arith, e))) g.0 g.1 g.2 g.3
+way_of P a b (BadCode fault) g = ended (λ e. absurd (omega (arith, e))) (λ e. absurd (omega (arith, e))) g.0 g.1 g.2 g.3
 way_of P a b (BadObject fault) g = ended (λ e. absurd (omega (arith, e))) (λ e. absurd (omega (arith, e))) g.0 g.1 g.2 g.3
 way_of P a b TooLong g = ended (λ e. absurd (omega (arith, e))) (λ e. absurd (omega (arith, e))) g.0 g.1 g.2 g.3
 way_of P a b (TooMuchCode size) g = ended (λ e. absurd (omega (arith, e))) (λ e. absurd (omega (arith, e))) g.0 g.1 g.2 g.3
@@ -53,6 +56,7 @@ read_status StepsOut e = absurd (omega (arith, e))
 read_status ReadFault e = refl
 read_status WriteFault e = absurd (omega (arith, e))
 read_status Memory e = absurd (omega (arith, e))
+read_status (BadCode fault) e = absurd (omega (arith, e))
 read_status (BadObject fault) e = absurd (omega (arith, e))
 read_status TooLong e = absurd (omega (arith, e))
 read_status (TooMuchCode size) e = absurd (omega (arith, e))
@@ -96,10 +100,22 @@ list_reads : (bytes : List ℕ) (due : Due) → ListOutcome bytes due → due.en
 list_reads bytes due (listed clean is e) q = cc (sym (ap (λ (d : Due). d.end) e) ∙ q)
 list_reads bytes due (no_object fault is e) q = cc (sym (ap (λ (d : Due). d.end) e) ∙ q)
 
+code_reads : (code : PlainCode) (steps : ℕ) (due : Due) → CodeOutcome code steps due → due.end ≡ ReadFault → ⊥
+code_reads code steps due (executed c quiet e) q =
+    let s = state_after code [] steps in
+    run_reads s.mode (line_in code s) (sym (ap (λ (d : Due). d.end) e) ∙ q)
+code_reads code steps due (reading c some e) q = cc (sym (ap (λ (d : Due). d.end) e) ∙ q)
+code_reads code steps due (unsound fault c e) q = cc (sym (ap (λ (d : Due). d.end) e) ∙ q)
+
+exec_reads : (bytes : List ℕ) (steps : ℕ) (due : Due) → ExecOutcome bytes steps due → due.end ≡ ReadFault → ⊥
+exec_reads bytes steps due (opened c o) q = code_reads (object_code bytes) steps due o q
+exec_reads bytes steps due (unopened fault c e) q = cc (sym (ap (λ (d : Due). d.end) e) ∙ q)
+
 file_reads : (r : Request) (bytes : List ℕ) (due : Due) → FileOutcome r bytes due → due.end ≡ ReadFault → ⊥
 file_reads (Run name steps) bytes due o q = source_reads bytes (λ p. ProgramOutcome p steps) (λ p. program_reads p steps) due o q
 file_reads (Compile name object) bytes due o q = source_reads bytes (λ p. CompileOutcome p object) (λ p. compile_reads p object) due o q
 file_reads (Listing object) bytes due o q = list_reads bytes due o q
+file_reads (Exec object steps) bytes due o q = exec_reads bytes steps due o q
 
 -- a read fault is due only where the file is missing, and without a print or a store
 request_reads : (told : List ℕ → Told) (words : List (List ℕ)) (r : Request) (due : Due) → Asks words r → RequestOutcome told r due
@@ -131,6 +147,7 @@ file_succeeds : (r : Request) (bytes : List ℕ) (due : Due) (stored : Stored) �
 file_succeeds (Run name steps) bytes due stored o s = absurd (not_stored due stored (run_keeps bytes steps due o) s)
 file_succeeds (Compile name object) bytes due stored o s = source_succeeds bytes object due stored o s
 file_succeeds (Listing object) bytes due stored o s = absurd (not_stored due stored (list_keeps bytes due o) s)
+file_succeeds (Exec object steps) bytes due stored o s = absurd (not_stored due stored (exec_keeps bytes steps due o) s)
 
 request_succeeds : (told : List ℕ → Told) (r : Request) (due : Due) (stored : Stored) → RequestOutcome told r due → due.stored ≡ Some stored → due.end ≡ Succeeded
 request_succeeds told r due stored (absent none e) s = absurd (not_stored due stored (ap (λ (d : Due). d.stored) e) s)

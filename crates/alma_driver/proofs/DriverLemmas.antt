@@ -1,6 +1,7 @@
 -- From what the parts of a call ensure to how the call may go.
 use Rattle.std.proofs.Common.{◌≡◌, ◌≤◌, ◌<◌, ◌^◌, ◌∙◌, ℕ, List, [], length, ap, sym, subst, refl, inl, inr, arith}
 use Rattle.std.specs.Prelude.{◌⊎◌, Bool, true, false, Result, Ok, Err, None, Some}
+use Rattle.std.specs.List.{list_any}
 use Rattle.std.specs.Str.{bytes_eq}
 use Rattle.std.proofs.lemmas.Slice.Eq.{bytes_eq-Decides}
 use Rattle.std.proofs.lemmas.Bool.{cases_lt}
@@ -17,33 +18,32 @@ use Rattle.alma_code.specs.declared.code.Code.{Code}
 use Rattle.alma_code.specs.ListText.{list_text}
 use Rattle.alma_code.specs.Plain.{PlainCode}
 use Rattle.alma_code.specs.Records.{KeepsVersion, KeepsCounts, KeepsRecords}
-use Rattle.alma_code.specs.Rules.{IsSound}
+use Rattle.alma_code.specs.Rules.{IsSound, code_fault}
+use Rattle.alma_code.specs.declared.step.VerifyFault.{VerifyFault}
 use Rattle.alma_object.specs.declared.fault.ObjectFault.{ObjectFault}
-use Rattle.alma_object.specs.declared.view.ObjectView.{ObjectView}
-use Rattle.alma_object.specs.Header.{header_of}
 use Rattle.alma_object.specs.Object.{IsObject, object_bytes}
-use Rattle.alma_object.specs.Reading.{code_in}
-use Rattle.alma_object.specs.View.{code_of_view}
+use Rattle.alma_object.specs.View.{is_read}
 use Rattle.alma_object.specs.Walk.{object_fault}
+use Rattle.alma_whole.specs.Bytes.{object_code}
 use Rattle.alma_lower.specs.declared.lowering.LowerError.{LowerError}
 use Rattle.alma_lower.specs.declared.lowering.LowerError.TheVariants as lower
 use Rattle.alma_implements.specs.Implements.{Implements}
 use Rattle.alma_front.specs.declared.error.ReadError.{ReadError}
 use Rattle.alma_front.specs.declared.error.ReadError.TheVariants as read
 use Rattle.alma_front.specs.Source.{IsSource, IsRead}
-use Rattle.alma_driver.specs.Words.{Request, Run, Compile, Listing, Asks, Reads, read_by, limit_of}
+use Rattle.alma_driver.specs.Words.{Request, Run, Compile, Listing, Exec, Asks, Reads, read_by, limit_of}
 use Rattle.alma_driver.specs.Outside.{SinkSide, FilesSide, FilesStay}
 use Rattle.alma_base.specs.declared.place.Place.{Place}
 use Rattle.alma_scan.specs.Places.{line_at, column_at}
 use Rattle.alma_driver.specs.Refusal.{IsRefused, IsParsed, place_of}
 use Rattle.alma_driver.specs.declared.fault.SourceFault.{SourceFault}
 use Rattle.alma_driver.specs.Ends.{lower_end, read_end, words_end, fetch_end, store_end}
-use Rattle.alma_driver.specs.Outcome.{Due, Stored, due_of, silent, storing, size_of, ProgramOutcome, ran, too_much_code, CompileOutcome, made, past_size, IsSourceEnd, refused, not_yet, IsStop, SourceOutcome, stopped, compiled, object_code, ListOutcome, listed, no_object, FileOutcome, RequestOutcome, absent, too_long, fetched, Outcome, bad_word, asks}
+use Rattle.alma_driver.specs.Outcome.{Due, Stored, due_of, silent, storing, size_of, ProgramOutcome, ran, too_much_code, CompileOutcome, made, past_size, IsSourceEnd, refused, not_yet, IsStop, SourceOutcome, stopped, compiled, ListOutcome, listed, no_object, CodeOutcome, executed, reading, unsound, ExecOutcome, opened, unopened, FileOutcome, RequestOutcome, absent, too_long, fetched, Outcome, bad_word, asks}
 use Rattle.alma_driver.specs.Course.{Gains, GainsPrefix, Goes, OthersStay, Keeps, done, failed, Works, Performs}
 use Rattle.alma_driver.specs.declared.words.WordsError.{WordsError}
 use Rattle.alma_driver.specs.declared.words.WordsError.TheVariants as words
 use Rattle.alma_driver.specs.declared.end.End.{End}
-use Rattle.alma_driver.specs.declared.end.End.TheVariants.{Succeeded, Failed, BadWord, Refused, Faulted, StepsOut, ReadFault, WriteFault, Memory, BadObject, TooLong, TooMuchCode, NotYet}
+use Rattle.alma_driver.specs.declared.end.End.TheVariants.{Succeeded, Failed, BadWord, Refused, Faulted, StepsOut, ReadFault, WriteFault, Memory, BadObject, BadCode, TooLong, TooMuchCode, NotYet}
 use Rattle.alma_driver.proofs.RunLemmas.{IsDue}
 
 -- an outcome inside another
@@ -61,6 +61,7 @@ goes_map P Q f a b (Faulted fault line) g = (g.0, g.1, f g.0 g.2, g.3)
 goes_map P Q f a b StepsOut g = (g.0, g.1, f g.0 g.2, g.3)
 goes_map P Q f a b ReadFault g = (g.0, g.1, f g.0 g.2, g.3)
 goes_map P Q f a b (BadObject fault) g = (g.0, g.1, f g.0 g.2, g.3)
+goes_map P Q f a b (BadCode fault) g = (g.0, g.1, f g.0 g.2, g.3)
 goes_map P Q f a b TooLong g = (g.0, g.1, f g.0 g.2, g.3)
 goes_map P Q f a b (TooMuchCode size) g = (g.0, g.1, f g.0 g.2, g.3)
 goes_map P Q f a b NotYet g = (g.0, g.1, f g.0 g.2, g.3)
@@ -151,9 +152,9 @@ compiled_within p code too_much = by (cases_lt size_limit (size_of p))
 
 -- a program that was compiled and run
 pub goes_compiled : (p : Program) (code : PlainCode) (steps : ℕ) (a b : SinkSide) (end : End) → IsSound code → Implements code p → size_of p ≤ size_limit
-    → Goes (IsDue code steps) a b end → Goes (ProgramOutcome p steps) a b end
+    → Goes (IsDue code [] steps) a b end → Goes (ProgramOutcome p steps) a b end
 goes_compiled p code steps a b end sound implements within g =
-    goes_map (IsDue code steps) (ProgramOutcome p steps)
+    goes_map (IsDue code [] steps) (ProgramOutcome p steps)
     (λ due e. subst (λ (d : Due). ProgramOutcome p steps d) (sym e) (ran code within sound implements refl)) a b end g
 
 -- ---- listing
@@ -161,13 +162,6 @@ goes_compiled p code steps a b end sound implements within g =
 -- what is due from bytes that are listed as this code
 abbrev pub IsListed : PlainCode → Due → Type 0
 IsListed code due = due ≡ due_of Succeeded (list_text code)
-
--- the code of a view of these bytes
-pub view_code : (view : ObjectView) (bytes : List ℕ) → IsObject (code_of_view view) view.bytes.now → IsObject (code_of_view view) bytes
-    → code_of_view view ≡ object_code bytes
-view_code view bytes own is =
-    let same : view.bytes.now ≡ bytes = sym own.spelled ∙ is.spelled in
-    ap (code_in view.bytes.now) view.read ∙ ap (λ (b : List ℕ). code_in b (header_of b)) same
 
 -- an object that was listed
 pub goes_listed : (bytes : List ℕ) (code : PlainCode) (a b : SinkSide) (end : End) → object_fault bytes ≡ None → IsObject code bytes
@@ -187,6 +181,55 @@ one_listing bytes first second (listed clean is e) (no_object fault some e') = c
 one_listing bytes first second (no_object fault some e) (listed clean is e') = cc (some, clean)
 one_listing bytes first second (no_object fault some e) (no_object other some' e') =
     let same : fault ≡ other = cc (some, some') in
+    e ∙ ap (λ f. silent (BadObject f)) same ∙ sym e'
+
+-- ---- running an object
+
+-- verified code that was run
+pub goes_executed : (code : PlainCode) (steps : ℕ) (a b : SinkSide) (end : End) → code_fault code ≡ None → list_any is_read code.instrs ≡ false
+    → Goes (IsDue code [] steps) a b end → Goes (CodeOutcome code steps) a b end
+goes_executed code steps a b end clean quiet g = goes_map (IsDue code [] steps) (CodeOutcome code steps) (λ due e. executed clean quiet e) a b end g
+
+-- verified code that reads
+pub goes_reading : (code : PlainCode) (steps : ℕ) (a : SinkSide) → code_fault code ≡ None → list_any is_read code.instrs ≡ true → Goes (CodeOutcome code steps) a a NotYet
+goes_reading code steps a clean some = (silent NotYet, refl, reading clean some refl, gains_none a)
+
+-- code that is not sound
+pub goes_unsound : (code : PlainCode) (steps : ℕ) (fault : VerifyFault) (a : SinkSide) → code_fault code ≡ Some fault → Goes (CodeOutcome code steps) a a (BadCode fault)
+goes_unsound code steps fault a is = (silent (BadCode fault), refl, unsound fault is refl, gains_none a)
+
+-- an object whose code was run
+pub goes_opened : (bytes : List ℕ) (code : PlainCode) (steps : ℕ) (a b : SinkSide) (end : End) → object_fault bytes ≡ None → code ≡ object_code bytes
+    → Goes (CodeOutcome code steps) a b end → Goes (ExecOutcome bytes steps) a b end
+goes_opened bytes code steps a b end clean same g =
+    goes_map (CodeOutcome code steps) (ExecOutcome bytes steps) (λ due o. opened clean (subst (λ c. CodeOutcome c steps due) same o)) a b end g
+
+-- bytes that are none
+pub goes_unopened : (bytes : List ℕ) (steps : ℕ) (fault : ObjectFault) (a : SinkSide) → object_fault bytes ≡ Some fault
+    → Goes (ExecOutcome bytes steps) a a (BadObject fault)
+goes_unopened bytes steps fault a is = (silent (BadObject fault), refl, unopened fault is refl, gains_none a)
+
+-- running the code comes to one outcome
+one_code_run : (code : PlainCode) (steps : ℕ) (first second : Due) → CodeOutcome code steps first → CodeOutcome code steps second → first ≡ second
+one_code_run code steps first second (executed c q e) (executed c' q' e') = e ∙ sym e'
+one_code_run code steps first second (reading c q e) (reading c' q' e') = e ∙ sym e'
+one_code_run code steps first second (executed c q e) (reading c' q' e') = cc (q, q')
+one_code_run code steps first second (reading c q e) (executed c' q' e') = cc (q, q')
+one_code_run code steps first second (executed c q e) (unsound fault c' e') = cc (c, c')
+one_code_run code steps first second (unsound fault c e) (executed c' q' e') = cc (c, c')
+one_code_run code steps first second (reading c q e) (unsound fault c' e') = cc (c, c')
+one_code_run code steps first second (unsound fault c e) (reading c' q' e') = cc (c, c')
+one_code_run code steps first second (unsound fault c e) (unsound other c' e') =
+    let same : fault ≡ other = cc (c, c') in
+    e ∙ ap (λ f. silent (BadCode f)) same ∙ sym e'
+
+-- and so does running an object
+pub one_execution : (bytes : List ℕ) (steps : ℕ) (first second : Due) → ExecOutcome bytes steps first → ExecOutcome bytes steps second → first ≡ second
+one_execution bytes steps first second (opened c o) (opened c' o') = one_code_run (object_code bytes) steps first second o o'
+one_execution bytes steps first second (opened c o) (unopened fault c' e') = cc (c, c')
+one_execution bytes steps first second (unopened fault c e) (opened c' o') = cc (c, c')
+one_execution bytes steps first second (unopened fault c e) (unopened other c' e') =
+    let same : fault ≡ other = cc (c, c') in
     e ∙ ap (λ f. silent (BadObject f)) same ∙ sym e'
 
 -- ---- the files
@@ -285,6 +328,20 @@ pub list_keeps : (bytes : List ℕ) (due : Due) → ListOutcome bytes due → du
 list_keeps bytes due (listed clean is e) = ap (λ (d : Due). d.stored) e
 list_keeps bytes due (no_object fault is e) = ap (λ (d : Due). d.stored) e
 
+-- running an object stores nothing
+code_keeps : (code : PlainCode) (steps : ℕ) (due : Due) → CodeOutcome code steps due → due.stored ≡ None
+code_keeps code steps due (executed c q e) = ap (λ (d : Due). d.stored) e
+code_keeps code steps due (reading c q e) = ap (λ (d : Due). d.stored) e
+code_keeps code steps due (unsound fault c e) = ap (λ (d : Due). d.stored) e
+
+pub exec_keeps : (bytes : List ℕ) (steps : ℕ) (due : Due) → ExecOutcome bytes steps due → due.stored ≡ None
+exec_keeps bytes steps due (opened c o) = code_keeps (object_code bytes) steps due o
+exec_keeps bytes steps due (unopened fault c e) = ap (λ (d : Due). d.stored) e
+
+pub works_exec : (bytes : List ℕ) (steps : ℕ) (f : FilesSide) (a b : SinkSide) (end : End) → Goes (ExecOutcome bytes steps) a b end
+    → Works (ExecOutcome bytes steps) f f a b end
+works_exec bytes steps f a b end g = works_kept (ExecOutcome bytes steps) (exec_keeps bytes steps) f a b end g
+
 pub works_run : (source : List ℕ) (steps : ℕ) (f : FilesSide) (a b : SinkSide) (end : End) → Goes (SourceOutcome source (λ p. ProgramOutcome p steps)) a b end
     → Works (SourceOutcome source (λ p. ProgramOutcome p steps)) f f a b end
 works_run source steps f a b end g = works_kept (SourceOutcome source (λ p. ProgramOutcome p steps)) (run_keeps source steps) f a b end g
@@ -313,6 +370,7 @@ pub limit_small : (r : Request) → limit_of r < 2 ^ 62
 limit_small (Run name steps) = omega arith
 limit_small (Compile name object) = omega arith
 limit_small (Listing object) = omega arith
+limit_small (Exec object steps) = omega arith
 
 -- a fetch of this name with this limit is that of the request
 pub fetch_of : (told : List ℕ → Told) (name : List ℕ) (limit : ℕ) (r : Request) (before now : ℕ) (fault : Fetch) → name ≡ read_by r → limit ≡ limit_of r

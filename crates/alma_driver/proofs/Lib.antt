@@ -1,4 +1,3 @@
-pub mod BuiltLemmas
 pub mod CauseLemmas
 pub mod DriverLemmas
 pub mod RefusalLemmas

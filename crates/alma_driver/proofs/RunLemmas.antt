@@ -1,6 +1,6 @@
 -- What a run of compiled code comes to, step by step and by the meaning.
 use Rattle.std.proofs.Common.{◌≡◌, ◌≤◌, ◌<◌, ◌+◌, ◌*◌, ℕ, zero, suc, List, [], ◌++◌, inl, inr, ap, sym, subst, refl, ◌∙◌, arith, append_assoc}
-use Rattle.std.specs.Prelude.{◌⊎◌, Option, true}
+use Rattle.std.specs.Prelude.{◌⊎◌, Option, None, Some, true}
 use Rattle.std.specs.Io.KnownBytes.{Appends}
 use Rattle.std.proofs.lemmas.Bool.{cases_lt}
 use Rattle.alma_base.specs.Limits.{size_limit}
@@ -11,15 +11,16 @@ use Rattle.alma_mean.specs.Events.{first, visit_count}
 use Rattle.alma_mean.specs.Meaning.{ev_program}
 use Rattle.alma_code.specs.declared.step.End as code
 use Rattle.alma_code.specs.declared.step.End.TheVariants as ended
+use Rattle.alma_code.specs.Lines.{known_line}
 use Rattle.alma_code.specs.Machine.{Mode, Going, Failing, Ended, Stuck, State, start, step, after, prints}
 use Rattle.alma_code.specs.Plain.{PlainCode}
 use Rattle.alma_implements.specs.Implements.{Implements, ComesTo, HasEnded, IsEnough, state_after, printed_by, line_in}
 use Rattle.alma_implements.proofs.Enough.{is_enough}
-use Rattle.alma_machine.specs.declared.machine.RunEnd.{RunEnd}
-use Rattle.alma_machine.specs.declared.machine.RunEnd.TheVariants as run
-use Rattle.alma_machine.specs.Runs.{run_end_of, made, all_written, OnWhole, OnMemory, OnWriteFault}
-use Rattle.alma_machine.specs.View.{MachineView}
-use Rattle.alma_machine.proofs.Budget.{ended_after}
+use Rattle.alma_engine.specs.declared.machine.RunEnd.{RunEnd}
+use Rattle.alma_engine.specs.declared.machine.RunEnd.TheVariants as run
+use Rattle.alma_engine.specs.Runs.{run_end_of, made, all_written, OnWhole, OnMemory, OnWriteFault}
+use Rattle.alma_engine.specs.View.{MachineView}
+use Rattle.alma_engine.proofs.Budget.{ended_after}
 use Rattle.alma_driver.specs.Outside.{SinkSide}
 use Rattle.alma_driver.specs.Ends.{mode_end, run_end}
 use Rattle.alma_driver.specs.Outcome.{Due, due_of, code_due, size_of, MayRunOut, ProgramOutcome, ran, too_much_code, Meant, whole, front, too_large}
@@ -58,15 +59,16 @@ mode_is (Ended ended.Failed) line = refl
 mode_is (Ended (ended.Fault fault)) line = refl
 
 -- the end of a run that was not cut short is due
-end_is : (code : PlainCode) (new : State) (steps : ℕ) (answer : RunEnd) → answer ≡ run_end_of (state_after code [] steps).mode → new ≡ state_after code [] steps
-    → mode_end (state_after code [] steps).mode (line_in code (state_after code [] steps)) ≡ run_end answer (line_in code new)
-end_is code new steps answer is same =
-    let s = state_after code [] steps in
+end_is : (code : PlainCode) (input : List ℕ) (new : State) (steps : ℕ) (answer : RunEnd) → answer ≡ run_end_of (state_after code input steps).mode
+    → new ≡ state_after code input steps
+    → mode_end (state_after code input steps).mode (line_in code (state_after code input steps)) ≡ run_end answer (line_in code new)
+end_is code input new steps answer is same =
+    let s = state_after code input steps in
     mode_is s.mode (line_in code s) ∙ ap (λ r. run_end r (line_in code s)) (sym is) ∙ ap (λ t. run_end answer (line_in code t)) (sym same)
 
--- a machine at the start of the code, without input
-abbrev pub fresh : PlainCode → MachineView
-fresh code = record { code = code; input = []; state = start code; running = true; printed = [] }
+-- a machine at the start of the code, on an input
+abbrev pub fresh : PlainCode → (input : List ℕ) → MachineView
+fresh code input = record { code = code; input = input; state = start code; running = true; printed = [] }
 
 -- what a run ensures
 pub record HasRun (old new : MachineView) (steps : ℕ) (answer : RunEnd) (a b : SinkSide) : Type 0 where
@@ -79,28 +81,41 @@ pub record HasRun (old new : MachineView) (steps : ℕ) (answer : RunEnd) (a b :
   pub cause : HasCause a.faults b.faults (all_written answer)
 
 -- what is due from the code
-abbrev pub IsDue : PlainCode → (steps : ℕ) → Due → Type 0
-IsDue code steps due = due ≡ code_due code steps
+abbrev pub IsDue : PlainCode → (input : List ℕ) → (steps : ℕ) → Due → Type 0
+IsDue code input steps due = due ≡ code_due code input steps
 
 -- a run from the start goes as its code is due
-goes_fresh : (code : PlainCode) (new : MachineView) (steps : ℕ) (answer : RunEnd) (a b : SinkSide) → HasRun (fresh code) new steps answer a b
-    → Goes (IsDue code steps) a b (run_end answer (line_in code new.state))
-goes_fresh code new steps run.Succeeded a b h =
-    (code_due code steps, end_is code new.state steps run.Succeeded h.answered h.state, refl, (h.out, h.cause.ok))
-goes_fresh code new steps run.Failed a b h =
-    (code_due code steps, end_is code new.state steps run.Failed h.answered h.state, refl, (h.out, h.cause.ok))
-goes_fresh code new steps (run.Fault fault) a b h =
-    (code_due code steps, end_is code new.state steps (run.Fault fault) h.answered h.state, refl, (h.out, h.cause.ok))
-goes_fresh code new steps run.StepsOut a b h =
-    (code_due code steps, end_is code new.state steps run.StepsOut h.answered h.state, refl, (h.out, h.cause.ok))
-goes_fresh code new steps run.WriteFault a b h =
-    (code_due code steps, refl, (front_of_more a.written b.written code [] (made (fresh code) new) steps (start code) (omega (arith, h.few)) h.write_fault, (h.cause.later, h.cause.err)))
-goes_fresh code new steps run.Memory a b h =
-    (inr (code_due code steps, refl, whole_is_front a.written b.written code [] (made (fresh code) new) steps (start code) (omega (arith, h.few)) h.memory), h.cause.ok)
+goes_fresh : (code : PlainCode) (input : List ℕ) (new : MachineView) (steps : ℕ) (answer : RunEnd) (a b : SinkSide) → HasRun (fresh code input) new steps answer a b
+    → Goes (IsDue code input steps) a b (run_end answer (line_in code new.state))
+goes_fresh code input new steps run.Succeeded a b h =
+    (code_due code input steps, end_is code input new.state steps run.Succeeded h.answered h.state, refl, (h.out, h.cause.ok))
+goes_fresh code input new steps run.Failed a b h =
+    (code_due code input steps, end_is code input new.state steps run.Failed h.answered h.state, refl, (h.out, h.cause.ok))
+goes_fresh code input new steps (run.Fault fault) a b h =
+    (code_due code input steps, end_is code input new.state steps (run.Fault fault) h.answered h.state, refl, (h.out, h.cause.ok))
+goes_fresh code input new steps run.StepsOut a b h =
+    (code_due code input steps, end_is code input new.state steps run.StepsOut h.answered h.state, refl, (h.out, h.cause.ok))
+goes_fresh code input new steps run.WriteFault a b h =
+    let le : made (fresh code input) new ≤ steps = omega (arith, h.few) in
+    (code_due code input steps, refl, (front_of_more a.written b.written code input (made (fresh code input) new) steps (start code) le h.write_fault, (h.cause.later, h.cause.err)))
+goes_fresh code input new steps run.Memory a b h =
+    let le : made (fresh code input) new ≤ steps = omega (arith, h.few) in
+    (inr (code_due code input steps, refl, whole_is_front a.written b.written code input (made (fresh code input) new) steps (start code) le h.memory), h.cause.ok)
 
-pub goes_run : (code : PlainCode) (old new : MachineView) (steps : ℕ) (answer : RunEnd) (a b : SinkSide) → old ≡ fresh code → HasRun old new steps answer a b
-    → Goes (IsDue code steps) a b (run_end answer (line_in code new.state))
-goes_run code old new steps answer a b e h = goes_fresh code new steps answer a b (subst (λ (o : MachineView). HasRun o new steps answer a b) e h)
+pub goes_run : (code : PlainCode) (input : List ℕ) (old new : MachineView) (steps : ℕ) (answer : RunEnd) (a b : SinkSide) → old ≡ fresh code input
+    → HasRun old new steps answer a b → Goes (IsDue code input steps) a b (run_end answer (line_in code new.state))
+goes_run code input old new steps answer a b e h =
+    goes_fresh code input new steps answer a b (subst (λ (o : MachineView). HasRun o new steps answer a b) e h)
+
+-- a line that is known
+pub line_known : (n line : ℕ) → Some line ≡ known_line n → line ≡ n
+line_known zero line e = absurd (cc e)
+line_known (suc n) line e = cc e
+
+-- a line that is not known is 0
+pub line_unknown : (n : ℕ) → None ≡ known_line n → 0 ≡ n
+line_unknown zero e = refl
+line_unknown (suc n) e = absurd (cc e)
 
 -- ---- a run of code that implements a program
 
@@ -125,7 +140,7 @@ may_run_out code p steps enough out level uncut = by (cases_lt steps (32 * (visi
         absurd (out (subst (λ (s : State). HasEnded s.mode) (sym (ended_after code [] plenty steps (start code) e.0 many e.1)) there))
 
 -- what is due from code that implements a program is what the program means
-code_means : (p : Program) (code : PlainCode) (steps : ℕ) → Implements code p → size_of p ≤ size_limit → Meant p steps (code_due code steps)
+code_means : (p : Program) (code : PlainCode) (steps : ℕ) → Implements code p → size_of p ≤ size_limit → Meant p steps (code_due code [] steps)
 code_means p code steps implements size = by (state_after code [] steps).mode refl (implements [] (omega arith) steps)
   where
     cut : (m : Mode) → (state_after code [] steps).mode ≡ m → (HasEnded m → ⊥) → MayRunOut p steps

@@ -15,17 +15,18 @@ use Rattle.alma_lower.specs.declared.lowering.LowerError.TheVariants as lower
 use Rattle.alma_code.specs.declared.step.End as code
 use Rattle.alma_code.specs.declared.step.End.TheVariants as ended
 use Rattle.alma_code.specs.Lines.{known_line}
+use Rattle.alma_code.specs.declared.step.VerifyFault.{VerifyFault}
 use Rattle.alma_base.specs.declared.fault.RunFault.{RunFault}
 use Rattle.alma_code.specs.Machine.{Mode, Going, Failing, Ended, Stuck}
-use Rattle.alma_machine.specs.declared.machine.RunEnd.{RunEnd}
-use Rattle.alma_machine.specs.declared.machine.RunEnd.TheVariants as run
+use Rattle.alma_engine.specs.declared.machine.RunEnd.{RunEnd}
+use Rattle.alma_engine.specs.declared.machine.RunEnd.TheVariants as run
 use Rattle.alma_driver.specs.declared.words.WordsError.{WordsError}
 use Rattle.alma_driver.specs.declared.words.WordsError.TheVariants as words
 use Rattle.alma_driver.specs.declared.fault.SourceFault.{SourceFault}
 use Rattle.alma_driver.specs.declared.fault.SourceFault.TheVariants.{Lex, Syntax}
 use Rattle.alma_driver.specs.declared.end.End.{End}
 use Rattle.alma_driver.specs.declared.end.End.TheVariants.{Succeeded, Failed, BadWord, Refused, Faulted, StepsOut, ReadFault, WriteFault}
-use Rattle.alma_driver.specs.declared.end.End.TheVariants.{Memory, BadObject, TooLong, TooMuchCode, NotYet}
+use Rattle.alma_driver.specs.declared.end.End.TheVariants.{Memory, BadObject, BadCode, TooLong, TooMuchCode, NotYet}
 
 -- the status of an end
 abbrev pub status_of : End → ℕ
@@ -39,6 +40,7 @@ status_of ReadFault = 6
 status_of WriteFault = 7
 status_of Memory = 8
 status_of (BadObject fault) = 9
+status_of (BadCode fault) = 9
 status_of TooLong = 10
 status_of (TooMuchCode size) = 11
 status_of NotYet = 12
@@ -55,6 +57,7 @@ fixed_text ReadFault = codes "alma: read fault\n"
 fixed_text WriteFault = codes "alma: write fault\n"
 fixed_text Memory = codes "alma: out of memory\n"
 fixed_text (BadObject fault) = []
+fixed_text (BadCode fault) = []
 fixed_text TooLong = codes "alma: too long\n"
 fixed_text (TooMuchCode size) = []
 fixed_text NotYet = codes "alma: not yet\n"
@@ -110,12 +113,20 @@ number_text (Some number) = codes " " ++ decimal number
 abbrev pub object_text : ObjectFault → List ℕ
 object_text fault = codes "alma: object " ++ (object_fault_name fault ++ (number_text (object_fault_number fault) ++ codes "\n"))
 
+-- the text of code that is not sound, by the first rule that it breaks and where
+abbrev pub rule_line : (rule at : List ℕ) → List ℕ
+rule_line rule at = codes "alma: object Rule " ++ (rule ++ (codes " " ++ (at ++ codes "\n")))
+
+abbrev pub rule_text : VerifyFault → List ℕ
+rule_text fault = rule_line (decimal fault.rule) (decimal fault.at)
+
 -- the text of an end, where the words name this file
 abbrev pub text_of : (file : List ℕ) → End → List ℕ
 text_of file (BadWord k) = codes "alma: bad word " ++ (decimal k ++ codes "\n")
 text_of file (Refused fault place) = refusal_text file fault place
 text_of file (Faulted fault line) = fault_text fault line
 text_of file (BadObject fault) = object_text fault
+text_of file (BadCode fault) = rule_text fault
 text_of file (TooMuchCode size) = codes "alma: too much code " ++ (decimal size ++ codes "\n")
 text_of file end = fixed_text end
 

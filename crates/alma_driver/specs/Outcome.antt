@@ -1,5 +1,6 @@
 -- What a call comes to where memory is found and nothing fails, layer by layer.
-use Rattle.std.specs.Prelude.{◌≡◌, ◌<◌, ◌≤◌, ◌+◌, ◌*◌, ◌/◌, ◌⊎◌, suc, List, ℕ, [], length, Option, None, Some}
+use Rattle.std.specs.Prelude.{◌≡◌, ◌<◌, ◌≤◌, ◌+◌, ◌*◌, ◌/◌, ◌⊎◌, suc, true, false, List, ℕ, [], length, Option, None, Some}
+use Rattle.std.specs.List.{list_any}
 use Rattle.alma_base.specs.Limits.{size_limit}
 use Rattle.alma_io.specs.Files.{Told, Missing, MayHave, MayPass}
 use Rattle.alma_ir.specs.Tree.{Program}
@@ -7,22 +8,23 @@ use Rattle.alma_ir.specs.Count.{saturate, nodes}
 use Rattle.alma_mean.specs.Events.{first, end_of, visit_count, CutOff}
 use Rattle.alma_mean.specs.Meaning.{ev_program, result}
 use Rattle.alma_code.specs.declared.step.End as code
+use Rattle.alma_code.specs.declared.step.VerifyFault.{VerifyFault}
 use Rattle.alma_code.specs.ListText.{list_text}
 use Rattle.alma_code.specs.Plain.{PlainCode}
-use Rattle.alma_code.specs.Rules.{IsSound}
+use Rattle.alma_code.specs.Rules.{IsSound, code_fault}
 use Rattle.alma_object.specs.declared.fault.ObjectFault.{ObjectFault}
-use Rattle.alma_object.specs.Header.{header_of}
 use Rattle.alma_object.specs.Object.{IsObject}
-use Rattle.alma_object.specs.Reading.{code_in}
+use Rattle.alma_object.specs.View.{is_read}
 use Rattle.alma_object.specs.Walk.{object_fault}
+use Rattle.alma_whole.specs.Bytes.{object_code}
 use Rattle.alma_implements.specs.Implements.{Implements, Covers, meant_end, state_after, printed_by, line_in}
 use Rattle.alma_front.specs.Source.{IsSource}
-use Rattle.alma_driver.specs.Words.{Request, Run, Compile, Listing, Asks, IsBadWord, read_by, limit_of}
+use Rattle.alma_driver.specs.Words.{Request, Run, Compile, Listing, Exec, Asks, IsBadWord, read_by, limit_of}
 use Rattle.alma_driver.specs.Ends.{ended_end, mode_end}
 use Rattle.alma_driver.specs.Refusal.{IsRefused, IsParsed, place_of}
 use Rattle.alma_driver.specs.declared.fault.SourceFault.{SourceFault}
 use Rattle.alma_driver.specs.declared.end.End.{End}
-use Rattle.alma_driver.specs.declared.end.End.TheVariants.{Succeeded, BadWord, Refused, StepsOut, ReadFault, Memory, BadObject, TooLong, TooMuchCode, NotYet}
+use Rattle.alma_driver.specs.declared.end.End.TheVariants.{Succeeded, BadWord, Refused, StepsOut, ReadFault, Memory, BadObject, BadCode, TooLong, TooMuchCode, NotYet}
 
 -- the size of a program, by which its code is limited
 abbrev pub size_of : Program → ℕ
@@ -53,14 +55,15 @@ storing name bytes = record { end = Succeeded; out = []; stored = Some (record {
 
 -- ---- programs
 
--- what a run of code for so many steps, without input, comes to
-abbrev pub code_due : PlainCode → (steps : ℕ) → Due
-code_due code steps = due_of (mode_end (state_after code [] steps).mode (line_in code (state_after code [] steps))) (printed_by code [] steps)
+-- what a run of code on an input for so many steps comes to
+abbrev pub code_due : PlainCode → (input : List ℕ) → (steps : ℕ) → Due
+code_due code input steps =
+    due_of (mode_end (state_after code input steps).mode (line_in code (state_after code input steps))) (printed_by code input steps)
 
 -- What a run of a program for so many steps comes to, without input: what a sound code that implements it comes to in
 -- so many steps, or the refusal of its size.
 pub data ProgramOutcome (p : Program) (steps : ℕ) (due : Due) : Type 0 where
-  ran : (code : PlainCode) → size_of p ≤ size_limit → IsSound code → Implements code p → due ≡ code_due code steps → ProgramOutcome p steps due
+  ran : (code : PlainCode) → size_of p ≤ size_limit → IsSound code → Implements code p → due ≡ code_due code [] steps → ProgramOutcome p steps due
   too_much_code : size_limit < size_of p → due ≡ silent (TooMuchCode (size_of p)) → ProgramOutcome p steps due
 
 -- What compiling a program under a name comes to: the object of a sound code that implements it is stored there, or the
@@ -98,15 +101,23 @@ pub data SourceOutcome (source : List ℕ) (program_outcome : Program → Due �
   stopped : (end : End) → IsSourceEnd source end → due ≡ silent end → SourceOutcome source program_outcome due
   compiled : (p : Program) → IsParsed source → IsSource source p → program_outcome p due → SourceOutcome source program_outcome due
 
--- the code that the bytes of an object spell
-abbrev pub object_code : List ℕ → PlainCode
-object_code bytes = code_in bytes (header_of bytes)
-
 -- What listing bytes comes to: the text of the code whose object they are, or the first fault of the format.
 pub data ListOutcome (bytes : List ℕ) (due : Due) : Type 0 where
   listed : object_fault bytes ≡ None → IsObject (object_code bytes) bytes → due ≡ due_of Succeeded (list_text (object_code bytes))
       → ListOutcome bytes due
   no_object : (fault : ObjectFault) → object_fault bytes ≡ Some fault → due ≡ silent (BadObject fault) → ListOutcome bytes due
+
+-- What running code of a stranger for so many steps comes to: what it comes to in so many steps; that it reads, which is
+-- not built yet; or the first rule that it breaks.
+pub data CodeOutcome (code : PlainCode) (steps : ℕ) (due : Due) : Type 0 where
+  executed : code_fault code ≡ None → list_any is_read code.instrs ≡ false → due ≡ code_due code [] steps → CodeOutcome code steps due
+  reading : code_fault code ≡ None → list_any is_read code.instrs ≡ true → due ≡ silent NotYet → CodeOutcome code steps due
+  unsound : (fault : VerifyFault) → code_fault code ≡ Some fault → due ≡ silent (BadCode fault) → CodeOutcome code steps due
+
+-- what running the code of an object comes to; or the first fault of the format of bytes that are none
+pub data ExecOutcome (bytes : List ℕ) (steps : ℕ) (due : Due) : Type 0 where
+  opened : object_fault bytes ≡ None → CodeOutcome (object_code bytes) steps due → ExecOutcome bytes steps due
+  unopened : (fault : ObjectFault) → object_fault bytes ≡ Some fault → due ≡ silent (BadObject fault) → ExecOutcome bytes steps due
 
 -- ---- requests
 
@@ -115,6 +126,7 @@ abbrev pub FileOutcome : Request → List ℕ → Due → Type 0
 FileOutcome (Run name steps) source due = SourceOutcome source (λ p. ProgramOutcome p steps) due
 FileOutcome (Compile name object) source due = SourceOutcome source (λ p. CompileOutcome p object) due
 FileOutcome (Listing object) bytes due = ListOutcome bytes due
+FileOutcome (Exec object steps) bytes due = ExecOutcome bytes steps due
 
 -- what a request comes to, by what the files tell
 pub data RequestOutcome (told : List ℕ → Told) (request : Request) (due : Due) : Type 0 where

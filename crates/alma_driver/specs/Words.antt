@@ -42,11 +42,13 @@ GiveSteps [] steps = steps ≡ default_steps
 GiveSteps (option ∷ []) steps = IsStepsOption option steps
 GiveSteps (option ∷ other ∷ options) steps = ⊥
 
--- a request: to run a file for so many steps, to store the object of a file under a name, or to list an object
+-- a request: to run a file for so many steps, to store the object of a file under a name, to list an object, or to run one
+-- for so many steps
 pub data Request : Type 0 where
   Run : (name : List ℕ) (steps : ℕ) → Request
   Compile : (name object : List ℕ) → Request
   Listing : (object : List ℕ) → Request
+  Exec : (object : List ℕ) (steps : ℕ) → Request
 
 -- the words are this request
 abbrev pub Asks : List (List ℕ) → Request → Type 0
@@ -54,18 +56,22 @@ Asks words (Run name steps) =
     (options : List (List ℕ)) × (words ≡ codes "run" ∷ name ∷ options) × IsFileName name × GiveSteps options steps
 Asks words (Compile name object) = (words ≡ codes "compile" ∷ name ∷ object ∷ []) × IsFileName name × IsFileName object
 Asks words (Listing object) = (words ≡ codes "list" ∷ object ∷ []) × IsFileName object
+Asks words (Exec object steps) =
+    (options : List (List ℕ)) × (words ≡ codes "exec" ∷ object ∷ options) × IsFileName object × GiveSteps options steps
 
 -- the file that a request reads
 abbrev pub read_by : Request → List ℕ
 read_by (Run name steps) = name
 read_by (Compile name object) = name
 read_by (Listing object) = object
+read_by (Exec object steps) = object
 
 -- the greatest number of bytes of that file
 abbrev pub limit_of : Request → ℕ
 limit_of (Run name steps) = source_limit
 limit_of (Compile name object) = source_limit
 limit_of (Listing object) = object_limit
+limit_of (Exec object steps) = object_limit
 
 -- a request begins with these words
 abbrev pub Begins : List (List ℕ) → Type 0
@@ -93,12 +99,14 @@ abbrev pub asked : read.Request → Request
 asked (read_request.Run file steps) = Run file.now steps
 asked (read_request.Compile file object) = Compile file.now object.now
 asked (read_request.List object) = Listing object.now
+asked (read_request.Exec object steps) = Exec object.now steps
 
 -- the request is for no more steps than words may name
 abbrev pub IsWithinSteps : read.Request → Type 0
 IsWithinSteps (read_request.Run file steps) = steps ≤ greatest_steps
 IsWithinSteps (read_request.Compile file object) = Unit {0}
 IsWithinSteps (read_request.List object) = Unit {0}
+IsWithinSteps (read_request.Exec object steps) = steps ≤ greatest_steps
 
 -- What reading these words may answer: the request that they are, or the first word that cannot stand.
 abbrev pub Reads : List (List ℕ) → Result read.Request WordsError → Type 0
@@ -107,6 +115,20 @@ Reads words (Err (Bad k)) = IsBadWord words k
 Reads words (Err Memory) = ⊥
 
 -- ---- inner
+
+-- Word k, where the options begin with word 3, is the first of them that cannot stand: the first option, which names no
+-- number of steps, or what stands behind it.
+pub data IsBadOption (options : List (List ℕ)) (k : ℕ) : Type 0 where
+  no_steps : (option : List ℕ) (more : List (List ℕ)) → options ≡ option ∷ more → ((steps : ℕ) → IsStepsOption option steps → ⊥) → k ≡ 3
+      → IsBadOption options k
+  behind_steps : (option word : List ℕ) (more : List (List ℕ)) (steps : ℕ) → options ≡ option ∷ word ∷ more → IsStepsOption option steps → k ≡ 4
+      → IsBadOption options k
+
+-- what reading these options may answer: the number of steps that they give, or the first word that cannot stand
+abbrev pub ReadsSteps : List (List ℕ) → Result ℕ WordsError → Type 0
+ReadsSteps options (Ok steps) = GiveSteps options steps
+ReadsSteps options (Err (Bad k)) = IsBadOption options k
+ReadsSteps options (Err Memory) = ⊥
 
 -- no name of a file stands in front
 abbrev pub LacksName : List (List ℕ) → Type 0

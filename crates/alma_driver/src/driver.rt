@@ -8,6 +8,7 @@ ghost use Rattle.alma_driver.specs.Causes.{Causes};
 
 use crate::compile::compile_source;
 use crate::end::End;
+use crate::exec::exec_object;
 use crate::list::list_object;
 use crate::report::report;
 use crate::run::run_source;
@@ -37,6 +38,7 @@ fn serve_file<F: Files, O: Sink>(
         Request::Run(_, steps) => run_source(alloc, bytes, steps, out),
         Request::Compile(_, object) => compile_source(alloc, bytes, object, files),
         Request::List(_) => list_object(alloc, bytes, out),
+        Request::Exec(_, steps) => exec_object(alloc, bytes, steps, out),
     }
 }
 
@@ -75,9 +77,10 @@ fn perform<F: Files, O: Sink>(alloc: Global, words: &[String], files: &mut F, ou
 ///
 /// The status is 0 for success, 1 for a program that fails, 2 for a bad word, 3 for a source that is no program of the
 /// grammar, which is told with the line and the column of its fault, 4 for a fault of the run, 5 for steps that ran out, 6
-/// for a read fault, 7 for a write fault or a store that failed, 8 for want of memory, 9 for bytes that are no object, 10
-/// for a source of more than 1,048,576 bytes or an object of more than 268,435,456, 11 for a program whose size passes
-/// 4,194,304, and 12 for a program of the grammar that has a form which is not built yet.
+/// for a read fault, 7 for a write fault or a store that failed, 8 for want of memory, 9 for bytes that are no object and for
+/// an object to run whose code is not sound, 10 for a source of more than 1,048,576 bytes or an object of more than
+/// 268,435,456, 11 for a program whose size passes 4,194,304, and 12 for a program of the grammar that has a form which is
+/// not built yet, and for an object to run whose code reads.
 pub fn alma<F: Files, I: Source, O: Sink, E: Sink>(
     alloc: Global,
     words: &[String],

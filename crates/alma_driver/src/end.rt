@@ -1,18 +1,18 @@
 // The ends of a call: how they come from the answers of its parts, their statuses and their texts.
 ghost use Rattle.std.specs.Prelude.{◌≡◌};
 ghost use Rattle.alma_code.specs.Lines.{line_at};
-ghost use Rattle.alma_code.specs.Plain.{code_of};
+ghost use Rattle.alma_object.specs.View.{code_of_view};
 ghost use Rattle.alma_driver.specs.Ends.{status_of, fixed_text, run_end, lower_end, read_end, words_end, fetch_end, store_end};
 
 use crate::fault::SourceFault;
 use crate::words::WordsError;
 use alma_base::{Place, RunFault};
-use alma_code::Code;
+use alma_code::VerifyFault;
+use alma_engine::RunEnd;
 use alma_front::ReadError;
 use alma_io::{Fetch, StoreFault};
 use alma_lower::LowerError;
-use alma_machine::RunEnd;
-use alma_object::ObjectFault;
+use alma_object::{ObjectFault, ObjectView};
 
 /// How a call ends, but for what becomes of its text on err.
 #[derive(Clone, Copy, Debug, PartialEq, Eq)]
@@ -37,11 +37,13 @@ pub enum End {
     Memory,
     /// The bytes are no object: their fault.
     BadObject(ObjectFault),
+    /// The code of the object is not sound: the first rule that it breaks, and where.
+    BadCode(VerifyFault),
     /// The source or the object is past its greatest length.
     TooLong,
     /// The size of the program, which is past the greatest.
     TooMuchCode(u64),
-    /// The source is a program of the grammar, and not of the language so far.
+    /// The source is a program of the grammar, and not of the language so far; or the code of the object reads.
     NotYet,
 }
 
@@ -60,7 +62,7 @@ impl End {
             End::ReadFault => 6,
             End::WriteFault => 7,
             End::Memory => 8,
-            End::BadObject(_) => 9,
+            End::BadObject(_) | End::BadCode(_) => 9,
             End::TooLong => 10,
             End::TooMuchCode(_) => 11,
             End::NotYet => 12,
@@ -74,7 +76,8 @@ impl End {
         match self {
             End::Succeeded | End::Failed => b"",
             End::BadWord(_) | End::Refused(_, _) => b"",
-            End::Faulted(_, _) | End::BadObject(_) | End::TooMuchCode(_) => b"",
+            End::Faulted(_, _) | End::TooMuchCode(_) => b"",
+            End::BadObject(_) | End::BadCode(_) => b"",
             End::StepsOut => b"alma: steps out\n",
             End::ReadFault => b"alma: read fault\n",
             End::WriteFault => b"alma: write fault\n",
@@ -100,16 +103,13 @@ pub fn end_of(run: RunEnd, line: u32) -> End
 }
 
 /// The line of an address; 0 where none is known.
-pub fn line_of(code: &Code, at: u32) -> u32
-    ensures { result ≡ line_at (code_of code.now) at }
+pub fn line_of(view: &ObjectView<'_>, at: u32) -> u32
+    ensures { result ≡ line_at (code_of_view view.now) at }
 {
-    let mut line = 0;
-    for record in &code.lines {
-        if record.at <= at {
-            line = record.line;
-        }
+    match view.line_of(at) {
+        Some(line) => line,
+        None => 0,
     }
-    line
 }
 
 impl From<LowerError> for End {

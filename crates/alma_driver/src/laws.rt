@@ -3,7 +3,7 @@ ghost use Rattle.std.specs.Prelude.{◌≡◌, List, ℕ};
 ghost use Rattle.alma_driver.specs.Words.{Request, Asks, IsBadWord};
 ghost use Rattle.alma_driver.specs.declared.fault.SourceFault.{SourceFault};
 ghost use Rattle.alma_driver.specs.Refusal.{IsRefused, IsParsed};
-ghost use Rattle.alma_driver.specs.Outcome.{Due, ProgramOutcome, Meant, ListOutcome};
+ghost use Rattle.alma_driver.specs.Outcome.{Due, ProgramOutcome, Meant, ListOutcome, ExecOutcome};
 ghost use Rattle.alma_ir.specs.Tree.{Program};
 
 /// Words are no two requests, no two words are the first bad one, and words with a bad one are no request.
@@ -40,4 +40,10 @@ pub fn a_source_has_one_refusal()
 pub fn a_listing_has_one_outcome()
     ensures same { (bytes : List ℕ) (first second : Due) → ListOutcome bytes first
         → ListOutcome bytes second → first ≡ second }
+{}
+
+/// Running an object comes to one end and one output.
+pub fn an_execution_has_one_outcome()
+    ensures same { (bytes : List ℕ) (steps : ℕ) (first second : Due) → ExecOutcome bytes steps first
+        → ExecOutcome bytes steps second → first ≡ second }
 {}

@@ -5,6 +5,7 @@ mod check;
 mod compile;
 mod driver;
 mod end;
+mod exec;
 mod fault;
 pub mod laws;
 mod list;

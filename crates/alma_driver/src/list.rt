@@ -14,6 +14,7 @@ use alma_code::Code;
 use alma_io::{Sink, write_all};
 use alma_list::list_text;
 use alma_object::ObjectView;
+use alma_whole::open_object;
 use std::alloc::Global;
 
 // Writes a text.
@@ -58,11 +59,8 @@ pub fn list_object<O: Sink>(alloc: Global, bytes: &[u8], out: &mut O) -> End
         (sink_side (O.written out.old) (O.faults out.old))
         (sink_side (O.written out.new) (O.faults out.new)) result }
 {
-    match ObjectView::new(bytes) {
-        Ok(view) => {
-            view.keeps_object();
-            list_view(alloc, &view, out)
-        }
+    match open_object(bytes) {
+        Ok(view) => list_view(alloc, &view, out),
         Err(fault) => End::BadObject(fault),
     }
 }

@@ -4,12 +4,13 @@ ghost use Rattle.std.specs.Io.KnownBytes.{Appends};
 ghost use Rattle.alma_io.specs.Causes.{HasCause};
 ghost use Rattle.alma_io.specs.Fronts.{AppendsFront};
 ghost use Rattle.alma_driver.specs.Outside.{sink_side};
-ghost use Rattle.alma_driver.specs.Ends.{fault_text, object_text, refusal_line, refusal_text, text_of};
+ghost use Rattle.alma_driver.specs.Ends.{fault_text, object_text, refusal_line, refusal_text, rule_line, rule_text, text_of};
 ghost use Rattle.alma_driver.specs.Course.{Reports};
 
 use crate::end::End;
 use crate::fault::{SourceFault, object_fault_name, object_fault_number};
 use alma_base::{Place, RunFault, Status};
+use alma_code::VerifyFault;
 use alma_io::{Sink, WriteFault, write_all};
 use alma_object::ObjectFault;
 use itoa::Buffer;
@@ -117,6 +118,35 @@ fn write_object_fault<E: Sink>(err: &mut E, fault: ObjectFault) -> Result<(), Wr
     }
 }
 
+// Writes the line of a broken rule, by the texts in it.
+fn write_rule_line<E: Sink>(err: &mut E, rule: &[u8], at: &[u8]) -> Result<(), WriteFault>
+    ensures ok { OnOk result (Appends (E.written err.old) (E.written err.new)
+        (rule_line rule.now at.now)) }
+    ensures front { OnErr result (AppendsFront (E.written err.old) (E.written err.new)
+        (rule_line rule.now at.now)) }
+    ensures cause { HasCause (E.faults err.old) (E.faults err.new) result }
+{
+    let front = b"alma: object Rule ".as_slice();
+    let blank = b" ".as_slice();
+    let end = b"\n".as_slice();
+    write_parts(err, &[front, rule, blank, at, end])
+}
+
+// Writes the first rule that the code of an object breaks, and where.
+fn write_rule<E: Sink>(err: &mut E, fault: VerifyFault) -> Result<(), WriteFault>
+    ensures ok { OnOk result (Appends (E.written err.old) (E.written err.new)
+        (rule_text fault)) }
+    ensures front { OnErr result (AppendsFront (E.written err.old) (E.written err.new)
+        (rule_text fault)) }
+    ensures cause { HasCause (E.faults err.old) (E.faults err.new) result }
+{
+    let mut rule = Buffer::new();
+    let mut at = Buffer::new();
+    let rule = rule.format(fault.rule).as_bytes();
+    let at = at.format(fault.at).as_bytes();
+    write_rule_line(err, rule, at)
+}
+
 // Writes the text of an end, where the words name this file.
 fn write_end<E: Sink>(err: &mut E, file: &str, end: End) -> Result<(), WriteFault>
     ensures ok { OnOk result (Appends (E.written err.old) (E.written err.new)
@@ -133,6 +163,7 @@ fn write_end<E: Sink>(err: &mut E, file: &str, end: End) -> Result<(), WriteFaul
         End::Refused(fault, place) => write_refusal(err, file, fault, place),
         End::Faulted(fault, line) => write_fault(err, fault, line),
         End::BadObject(fault) => write_object_fault(err, fault),
+        End::BadCode(fault) => write_rule(err, fault),
         End::TooMuchCode(size) => {
             write_line(err, b"alma: too much code ", digits.format(size).as_bytes())
         }

@@ -1,6 +1,6 @@
 // The words of a call.
 ghost use Rattle.std.specs.Prelude.{◌≡◌, ◌∷◌, ℕ, [], ◌↔◌, codes, IsTrue, MatchOption};
-ghost use Rattle.alma_driver.specs.Words.{Reads, texts, asked, file_of, read_by, limit_of, IsFileName, LacksName, IsStepsOption, NamesSteps};
+ghost use Rattle.alma_driver.specs.Words.{Reads, ReadsSteps, texts, asked, file_of, read_by, limit_of, IsFileName, LacksName, IsStepsOption, NamesSteps};
 
 use alma_base::{OBJECT_LIMIT, SOURCE_LIMIT};
 
@@ -22,6 +22,8 @@ pub enum Request<'w> {
     Compile(&'w str, &'w str),
     /// `list OBJ`: prints the text that lists the object of this name. The object is not verified.
     List(&'w str),
+    /// `exec OBJ` or `exec OBJ --steps=N`: verifies the object of this name and runs it for at most so many steps.
+    Exec(&'w str, u64),
 }
 
 impl<'w> Request<'w> {
@@ -33,6 +35,7 @@ impl<'w> Request<'w> {
             Request::Run(file, _) => file,
             Request::Compile(file, _) => file,
             Request::List(object) => object,
+            Request::Exec(object, _) => object,
         }
     }
 
@@ -42,7 +45,7 @@ impl<'w> Request<'w> {
     {
         match self {
             Request::Run(_, _) | Request::Compile(_, _) => SOURCE_LIMIT,
-            Request::List(_) => OBJECT_LIMIT,
+            Request::List(_) | Request::Exec(_, _) => OBJECT_LIMIT,
         }
     }
 }
@@ -127,19 +130,18 @@ fn split_name(words: &[String]) -> Option<(&str, &[String])>
     }
 }
 
-// The request to run a file, by the options behind its name.
-fn read_options<'w>(name: &'w str, options: &[String]) -> Result<Request<'w>, WordsError>
-    requires { IsFileName name.now }
-    ensures { Reads (codes "run" ∷ name.now ∷ texts options.now) result }
+// The number of steps that the options behind a name give.
+fn read_steps(options: &[String]) -> Result<u64, WordsError>
+    ensures { ReadsSteps (texts options.now) result }
 {
     let Some((option, more)) = split_word(options) else {
-        return Ok(Request::Run(name, DEFAULT_STEPS));
+        return Ok(DEFAULT_STEPS);
     };
     let Some(steps) = steps_option(option) else {
         return Err(WordsError::Bad(3));
     };
     match split_word(more) {
-        None => Ok(Request::Run(name, steps)),
+        None => Ok(steps),
         Some((_word, _rest)) => Err(WordsError::Bad(4)),
     }
 }
@@ -148,9 +150,25 @@ fn read_options<'w>(name: &'w str, options: &[String]) -> Result<Request<'w>, Wo
 fn read_run(names: &[String]) -> Result<Request<'_>, WordsError>
     ensures { Reads (codes "run" ∷ texts names.now) result }
 {
-    match split_name(names) {
-        Some((name, options)) => read_options(name, options),
-        None => Err(WordsError::Bad(2)),
+    let Some((name, options)) = split_name(names) else {
+        return Err(WordsError::Bad(2));
+    };
+    match read_steps(options) {
+        Ok(steps) => Ok(Request::Run(name, steps)),
+        Err(error) => Err(error),
+    }
+}
+
+// The request to run an object, by the words behind the command.
+fn read_exec(names: &[String]) -> Result<Request<'_>, WordsError>
+    ensures { Reads (codes "exec" ∷ texts names.now) result }
+{
+    let Some((object, options)) = split_name(names) else {
+        return Err(WordsError::Bad(2));
+    };
+    match read_steps(options) {
+        Ok(steps) => Ok(Request::Exec(object, steps)),
+        Err(error) => Err(error),
     }
 }
 
@@ -208,6 +226,9 @@ pub fn read_words(words: &[String]) -> Result<Request<'_>, WordsError>
     }
     if command == "list" {
         return read_list(names);
+    }
+    if command == "exec" {
+        return read_exec(names);
     }
     Err(WordsError::Bad(1))
 }

@@ -4,6 +4,7 @@ use Rattle.std.specs.Prelude.{Option, Result, Ok, Err, OnOk, OnErr, is_err, true
 use Rattle.std.specs.Io.KnownBytes.{Appends}
 use Rattle.std.proofs.lemmas.List.{append-nil}
 use Rattle.alma_code.specs.declared.step.End.{End}
+use Rattle.alma_code.specs.declared.step.End.TheVariants as end
 use Rattle.alma_code.specs.declared.step.Step.{Step}
 use Rattle.alma_code.specs.declared.step.Step.TheVariants as answer
 use Rattle.alma_code.specs.Machine.{Mode, Going, Failing, Ended, Stuck, State, step, step_in, after, prints}
@@ -12,7 +13,7 @@ use Rattle.alma_io.specs.Fronts.{AppendsFront}
 use Rattle.alma_io.proofs.Known.{appends_trans}
 use Rattle.alma_engine.specs.declared.machine.RunEnd.{RunEnd}
 use Rattle.alma_engine.specs.declared.machine.RunEnd.TheVariants as run
-use Rattle.alma_engine.specs.Runs.{OnWhole, run_end_of, made}
+use Rattle.alma_engine.specs.Runs.{OnWhole, ShowsLast, end_of, run_end_of, made, last_print}
 use Rattle.alma_engine.specs.View.{MachineView, IsLive, ModeAfter, PrintsOnly, goes_on, stepped}
 
 module _ (code : PlainCode) (input : List ℕ) where
@@ -80,10 +81,11 @@ pub record Progress (old new : MachineView) (m : ℕ) : Type 0 where
   pub steps : new.state.steps ≡ old.state.steps + m
   pub code : new.code ≡ old.code
   pub input : new.input ≡ old.input
+  pub shown : new.printed ≡ last_print old.code old.input m old.state old.printed
 
 -- no step was made
 pub progress_none : (old : MachineView) → Progress old old 0
-progress_none old = record { state = refl; steps = omega arith; code = refl; input = refl }
+progress_none old = record { state = refl; steps = omega arith; code = refl; input = refl; shown = refl }
 
 -- what a step of this machine is for the machine at first
 step_is : (old now : MachineView) (m : ℕ) → Progress old now m → step now.code now.input now.state ≡ step old.code old.input (after old.code old.input m old.state)
@@ -98,6 +100,9 @@ progress_more old now new m a h done counted same = record {
   steps = omega (arith, h.steps);
   code = same.0 ∙ h.code;
   input = same.1 ∙ h.input;
+  shown =
+      let one : m + 1 ≡ suc m = omega arith in
+      ap (λ x. x.printed) (done ∙ step_is old now m h) ∙ sym (ap (λ k. last_print old.code old.input k old.state old.printed) one);
 }
 
 -- what was printed with one more step
@@ -146,13 +151,34 @@ on_ok (Ok done) P e h = h
 on_ok (Err fault) P e h = absurd (cc)
 
 -- the steps of a machine that only stopped are those that were made
-pub progress_stopped : (old new stopped : MachineView) (m : ℕ) → stopped.state ≡ new.state → stopped.code ≡ new.code → stopped.input ≡ new.input → Progress old new m → Progress old stopped m
-progress_stopped old new stopped m state code input h = record {
+pub progress_stopped : (old new stopped : MachineView) (m : ℕ) → stopped.state ≡ new.state → stopped.code ≡ new.code → stopped.input ≡ new.input → stopped.printed ≡ new.printed
+    → Progress old new m → Progress old stopped m
+progress_stopped old new stopped m state code input printed h = record {
   state = state ∙ h.state;
   steps = ap (λ s. s.steps) state ∙ h.steps;
   code = code ∙ h.code;
   input = input ∙ h.input;
+  shown = printed ∙ h.shown;
 }
+
+-- what a machine shows after the steps that were made, by their count
+pub shows : (old new : MachineView) (m : ℕ) → Progress old new m → new.printed ≡ last_print old.code old.input (made old new) old.state old.printed
+shows old new m h = h.shown ∙ ap (λ k. last_print old.code old.input k old.state old.printed) (sym (made_is old new m h))
+
+-- so says each answer but want of memory
+pub shows_last : (result : RunEnd) (shown last : List ℕ) → (result ≡ run.Memory → ⊥) → shown ≡ last → ShowsLast result shown last
+shows_last run.Succeeded shown last h e = e
+shows_last run.Failed shown last h e = e
+shows_last (run.Fault fault) shown last h e = e
+shows_last run.StepsOut shown last h e = e
+shows_last run.WriteFault shown last h e = e
+shows_last run.Memory shown last h e = absurd (h refl)
+
+-- an end is no want of memory
+pub end_is_whole : (e : End) → end_of e ≡ run.Memory → ⊥
+end_is_whole end.Succeeded h = cc h
+end_is_whole end.Failed h = cc h
+end_is_whole (end.Fault fault) h = cc h
 
 -- a step that is not the last goes on
 pub goes_unless : (a : Step) → ((e : End) → a ≡ answer.Done e → ⊥) → goes_on a ≡ true

@@ -1,8 +1,9 @@
 -- What a run with a budget answers.
-use Rattle.std.specs.Prelude.{ℕ, ◌-◌, Bool, true, false, Result, Ok, Err}
+use Rattle.std.specs.Prelude.{◌≡◌, ℕ, zero, suc, ◌-◌, List, [], Bool, true, false, Result, Ok, Err}
 use Rattle.alma_code.specs.declared.step.End.{End}
 use Rattle.alma_code.specs.declared.step.End.TheVariants as end
-use Rattle.alma_code.specs.Machine.{Mode, Going, Failing, Ended, Stuck}
+use Rattle.alma_code.specs.Plain.{PlainCode}
+use Rattle.alma_code.specs.Machine.{Mode, Going, Failing, Ended, Stuck, State, step, after}
 use Rattle.alma_engine.specs.declared.machine.RunEnd.{RunEnd}
 use Rattle.alma_engine.specs.declared.machine.RunEnd.TheVariants as run
 use Rattle.alma_engine.specs.View.{MachineView}
@@ -23,6 +24,20 @@ run_end_of Stuck = run.StepsOut
 -- the steps that were made between two moments
 abbrev pub made : MachineView → MachineView → ℕ
 made old new = new.state.steps - old.state.steps
+
+-- what the last of so many steps printed; what was shown before where there is none
+abbrev pub last_print : PlainCode → (input : List ℕ) → (steps : ℕ) → State → (shown : List ℕ) → List ℕ
+last_print code input zero s shown = shown
+last_print code input (suc before) s shown = (step code input (after code input before s)).printed
+
+-- a machine shows what the last step printed, and nothing where a step found no memory
+abbrev pub ShowsLast : RunEnd → (shown last : List ℕ) → Type 0
+ShowsLast run.Memory shown last = shown ≡ []
+ShowsLast run.Succeeded shown last = shown ≡ last
+ShowsLast run.Failed shown last = shown ≡ last
+ShowsLast (run.Fault fault) shown last = shown ≡ last
+ShowsLast run.StepsOut shown last = shown ≡ last
+ShowsLast run.WriteFault shown last = shown ≡ last
 
 -- the answer is that the steps ran out
 abbrev pub is_steps_out : RunEnd → Bool

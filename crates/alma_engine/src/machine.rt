@@ -12,7 +12,7 @@ ghost use Rattle.alma_engine.specs.View.{stepped, runs_after, ModeAfter, PrintsO
 ghost use Rattle.alma_engine.specs.Stands.{Stands};
 ghost use Rattle.alma_io.specs.Causes.{HasCause};
 ghost use Rattle.alma_io.specs.Fronts.{AppendsFront};
-ghost use Rattle.alma_engine.specs.Runs.{end_of, run_end_of, is_steps_out, all_written, made, OnWhole, OnStepsOut, OnWriteFault, OnMemory};
+ghost use Rattle.alma_engine.specs.Runs.{ShowsLast, last_print, end_of, run_end_of, is_steps_out, all_written, made, OnWhole, OnStepsOut, OnWriteFault, OnMemory};
 ghost use Rattle.std.specs.Io.KnownBytes.{Appends};
 
 use crate::codes::CodeView;
@@ -357,6 +357,8 @@ impl<'b, 'i> Machine<'b, 'i> {
         ensures write_fault { OnWriteFault result
             (AppendsFront (K.written out.old) (K.written out.new) (prints self.old.code
             self.old.input (made self.old self.new) self.old.state)) }
+        ensures printed { ShowsLast result self.new.printed (last_print self.old.code self.old.input
+            (made self.old self.new) self.old.state self.old.printed) }
         ensures cause { HasCause (K.faults out.old) (K.faults out.new) (all_written result) }
         ensures running { self.new.running ≡ is_steps_out result }
         ensures same { (self.new.code ≡ self.old.code) × (self.new.input ≡ self.old.input) }

@@ -2,6 +2,10 @@
 #![tactic(auto)]
 
 #[cfg(test)]
+mod call;
+#[cfg(test)]
+mod exec;
+#[cfg(test)]
 mod object;
 #[cfg(test)]
 mod objects;

@@ -1,86 +1,11 @@
 // The commands `compile` and `list`, over the fakes in memory.
 ghost use Rattle.std.specs.Prelude.{◌<◌};
 
+use crate::call::{Answer, READ_FAULT, SUCCESS, WRITE_FAULT, check, check_on, files_with};
 use crate::object::{FIRST, SECOND};
-use alma_base::Status;
-use alma_driver::alma;
-use alma_io::{MemFiles, MemSink, MemSource};
 use std::alloc::Global;
 use std::process::Abort;
 use std::test::Fail;
-
-/// What a call comes to.
-#[derive(Clone, Copy)]
-struct Answer<'s> {
-    status: u8,
-    out: &'s [u8],
-    err: &'s [u8],
-}
-
-const SUCCESS: Answer = Answer {
-    status: 0,
-    out: b"",
-    err: b"",
-};
-
-const READ_FAULT: Answer = Answer {
-    status: 6,
-    out: b"",
-    err: b"alma: read fault\n",
-};
-
-const WRITE_FAULT: Answer = Answer {
-    status: 7,
-    out: b"",
-    err: b"alma: write fault\n",
-};
-
-// The words as the program takes them.
-fn words_of(alloc: Global, words: &[&str]) -> Result<Vec<String>, Fail> {
-    let mut found = Vec::new(alloc);
-    for word in words {
-        found.push(String::from_str(alloc, word)?)?;
-    }
-    Ok(found)
-}
-
-// Runs the program on these words. Out takes at most seven bytes in one write, and the writes of this list fail.
-fn check_on(
-    rt: &impl Abort,
-    alloc: Global,
-    files: &mut MemFiles,
-    words: &[&str],
-    fails: &[u64],
-    answer: &Answer<'_>,
-) -> Result<(), Fail> {
-    let words = words_of(alloc, words)?;
-    let mut input = MemSource::new(alloc, b"", 1, &[])?;
-    let mut out = MemSink::new(alloc, 10000, 7, fails)?;
-    let mut err = MemSink::new(alloc, 1000, 7, &[])?;
-    let status = alma(alloc, &words, files, &mut input, &mut out, &mut err);
-    assert_eq!(rt; status, Status(answer.status));
-    assert_eq!(rt; out.bytes(), answer.out);
-    assert_eq!(rt; err.bytes(), answer.err);
-    Ok(())
-}
-
-// The same where nothing fails.
-fn check(
-    rt: &impl Abort,
-    alloc: Global,
-    files: &mut MemFiles,
-    words: &[&str],
-    answer: &Answer<'_>,
-) -> Result<(), Fail> {
-    check_on(rt, alloc, files, words, &[], answer)
-}
-
-// Files with one file.
-fn files_with(alloc: Global, name: &str, bytes: &[u8], fails: &[u64]) -> Result<MemFiles, Fail> {
-    let mut files = MemFiles::new(alloc, fails)?;
-    files.put(alloc, name, bytes)?;
-    Ok(files)
-}
 
 const EMPTY: &[u8] = b"MODULE A; END A.";
 

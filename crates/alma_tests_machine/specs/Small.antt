@@ -10,7 +10,7 @@ abbrev pub small_code : List Instr → PlainCode
 small_code instrs = record {
   version = 1;
   routines = record {
-    name = [];
+    name = codes "A";
     head = record {
       slots = 13;
       declared = 2;

@@ -1,14 +1,14 @@
-// The machine, run on small codes.
-ghost use Rattle.std.specs.Prelude.{◌≡◌, ◌<◌, ◌^◌, length, IfOk};
+// The machine, run on the verified objects of small codes.
+ghost use Rattle.std.specs.Prelude.{◌≡◌, ◌≤◌, ◌<◌, ◌^◌, length, IfOk};
 ghost use Rattle.alma_code.specs.Plain.{code_of};
-ghost use Rattle.alma_code.specs.Rules.{IsSound};
-ghost use Rattle.alma_machine.specs.Built.{HasOnlyBuilt};
 ghost use Rattle.alma_tests_machine.specs.Small.{small_code};
 
 use alma_base::{NoMemory, Range, RunFault};
 use alma_code::{Code, Instr, RoutineHead, Run, SlotKind};
+use alma_engine::{Machine, RunEnd, Step};
 use alma_io::MemSink;
-use alma_machine::{Machine, RunEnd, Step};
+use alma_object::{ObjectView, encode};
+use alma_verify::{Verified, verify};
 use std::alloc::Global;
 use std::test::Fail;
 
@@ -181,7 +181,7 @@ fn small(alloc: Global, instrs: &[Instr]) -> Result<Code, NoMemory>
     })?;
     let mut routines = Vec::new(alloc);
     routines.push(RoutineHead {
-        name: Vec::new(alloc),
+        name: Vec::from_slice(alloc, b"A")?,
         slots: 13,
         declared: 2,
         kinds,
@@ -202,53 +202,61 @@ fn small(alloc: Global, instrs: &[Instr]) -> Result<Code, NoMemory>
     })
 }
 
-// The same of a sound code.
-fn body(alloc: Global, instrs: &[Instr]) -> Result<Code, NoMemory>
-    requires short { length instrs.now < 2 ^ 32 }
-    requires sound { IsSound (small_code instrs.now) }
-    requires built { HasOnlyBuilt (small_code instrs.now) }
-    ensures sound { IfOk result (λ code. IsSound (code_of code)) }
-    ensures built { IfOk result (λ code. HasOnlyBuilt (code_of code)) }
+// Its object.
+fn object(alloc: Global, instrs: &[Instr]) -> Result<Vec<u8>, NoMemory>
+    requires { length instrs.now ≤ 99 }
 {
-    small(alloc, instrs)
+    let code = small(alloc, instrs)?;
+    encode(alloc, &code)
 }
 
-// How a run of the code ends, and in how many steps.
-fn outcome(alloc: Global, instrs: &[Instr]) -> Result<(RunEnd, u64), NoMemory>
-    requires short { length instrs.now < 2 ^ 32 }
-    requires sound { IsSound (small_code instrs.now) }
-    requires built { HasOnlyBuilt (small_code instrs.now) }
+// The verified view of an object; none where it is refused.
+fn opened(bytes: &[u8]) -> Option<Verified<'_>> {
+    let view = ObjectView::new(bytes).ok()?;
+    verify(view).ok()
+}
+
+// How a run of the code ends, and in how many steps; nothing where its object is refused.
+fn outcome(alloc: Global, instrs: &[Instr]) -> Result<Option<(RunEnd, u64)>, NoMemory>
+    requires { length instrs.now ≤ 99 }
 {
-    let code = body(alloc, instrs)?;
-    let mut machine = Machine::new(alloc, &code, b"")?;
+    let object = object(alloc, instrs)?;
+    let Some(code) = opened(&object) else {
+        return Ok(None);
+    };
+    let mut machine = Machine::new(alloc, code, b"")?;
     let mut out = MemSink::new(alloc, 99, 99, &[])?;
     let end = machine.run(99, &mut out);
-    Ok((end, machine.steps()))
+    Ok(Some((end, machine.steps())))
 }
 
 #[test]
 fn a_run_ends_as_its_code_says(rt: HostRuntime) -> Result<(), Fail> {
     let fault = outcome(rt.alloc(), &TOO_LARGE)?;
-    assert_eq!(rt; fault, (RunEnd::Fault(RunFault::Overflow), 3));
+    assert_eq!(rt; fault, Some((RunEnd::Fault(RunFault::Overflow), 3)));
     let fault = outcome(rt.alloc(), &BY_ZERO)?;
-    assert_eq!(rt; fault, (RunEnd::Fault(RunFault::ZeroDivide), 3));
+    assert_eq!(rt; fault, Some((RunEnd::Fault(RunFault::ZeroDivide), 3)));
     let fault = outcome(rt.alloc(), &NOT_KNOWN)?;
-    assert_eq!(rt; fault, (RunEnd::Fault(RunFault::Unknown), 2));
-    assert_eq!(rt; outcome(rt.alloc(), &CHECK_FAILS)?, (RunEnd::Failed, 3));
-    assert_eq!(rt; outcome(rt.alloc(), &FAILS)?, (RunEnd::Failed, 2));
+    assert_eq!(rt; fault, Some((RunEnd::Fault(RunFault::Unknown), 2)));
+    assert_eq!(rt;
+        outcome(rt.alloc(), &CHECK_FAILS)?,
+        Some((RunEnd::Failed, 3))
+    );
+    assert_eq!(rt; outcome(rt.alloc(), &FAILS)?, Some((RunEnd::Failed, 2)));
     let fault = outcome(rt.alloc(), &NOT_IN_RANGE)?;
-    assert_eq!(rt; fault, (RunEnd::Fault(RunFault::Range), 2));
+    assert_eq!(rt; fault, Some((RunEnd::Fault(RunFault::Range), 2)));
     let fault = outcome(rt.alloc(), &NO_PART)?;
-    assert_eq!(rt; fault, (RunEnd::Fault(RunFault::Index), 3));
+    assert_eq!(rt; fault, Some((RunEnd::Fault(RunFault::Index), 3)));
     let counted = outcome(rt.alloc(), &COUNTS_DOWN)?;
-    assert_eq!(rt; counted, (RunEnd::Succeeded, 5));
+    assert_eq!(rt; counted, Some((RunEnd::Succeeded, 5)));
     Ok(())
 }
 
 #[test]
 fn parts_are_copied_and_a_loop_counts(rt: HostRuntime) -> Result<(), Fail> {
-    let code = body(rt.alloc(), &PARTS)?;
-    let mut machine = Machine::new(rt.alloc(), &code, b"")?;
+    let object = object(rt.alloc(), &PARTS)?;
+    let code = opened(&object).ok_or("sound")?;
+    let mut machine = Machine::new(rt.alloc(), code, b"")?;
     let mut out = MemSink::new(rt.alloc(), 99, 99, &[])?;
     let end = machine.run(99, &mut out);
     assert_eq!(rt; end, RunEnd::Fault(RunFault::NoCase));
@@ -259,9 +267,10 @@ fn parts_are_copied_and_a_loop_counts(rt: HostRuntime) -> Result<(), Fail> {
 
 #[test]
 fn steps_run_out_at_each_budget_below_the_whole(rt: HostRuntime) -> Result<(), Fail> {
-    let code = body(rt.alloc(), &COUNT)?;
+    let object = object(rt.alloc(), &COUNT)?;
+    let code = opened(&object).ok_or("sound")?;
     for budget in 0..31 {
-        let mut machine = Machine::new(rt.alloc(), &code, b"")?;
+        let mut machine = Machine::new(rt.alloc(), code, b"")?;
         let mut out = MemSink::new(rt.alloc(), 99, 99, &[])?;
         assert_eq!(rt; machine.run(budget, &mut out), RunEnd::StepsOut);
         assert_eq!(rt; machine.steps(), budget);
@@ -276,10 +285,11 @@ fn steps_run_out_at_each_budget_below_the_whole(rt: HostRuntime) -> Result<(), F
 
 #[test]
 fn a_write_fault_stops_the_machine(rt: HostRuntime) -> Result<(), Fail> {
-    let code = body(rt.alloc(), &COUNT)?;
+    let object = object(rt.alloc(), &COUNT)?;
+    let code = opened(&object).ok_or("sound")?;
     let written: [&[u8]; 4] = [b"", b"1", b"12", b"123"];
     for (k, bytes) in written.iter().enumerate() {
-        let mut machine = Machine::new(rt.alloc(), &code, b"")?;
+        let mut machine = Machine::new(rt.alloc(), code, b"")?;
         let mut out = MemSink::new(rt.alloc(), 99, 99, &[k as u64 + 1])?;
         assert_eq!(rt; machine.run(99, &mut out), RunEnd::WriteFault);
         assert_eq!(rt; out.bytes(), *bytes);
@@ -290,8 +300,9 @@ fn a_write_fault_stops_the_machine(rt: HostRuntime) -> Result<(), Fail> {
 
 #[test]
 fn the_print_of_the_last_step_is_there(rt: HostRuntime) -> Result<(), Fail> {
-    let code = body(rt.alloc(), &COUNT)?;
-    let mut machine = Machine::new(rt.alloc(), &code, b"")?;
+    let object = object(rt.alloc(), &COUNT)?;
+    let code = opened(&object).ok_or("sound")?;
+    let mut machine = Machine::new(rt.alloc(), code, b"")?;
     let prints: [(u64, &[u8]); 4] = [(10, b"1"), (18, b"2"), (26, b"3"), (30, b"FALSE")];
     for step in 1..32 {
         assert!(rt; machine.is_running());
@@ -306,5 +317,45 @@ fn the_print_of_the_last_step_is_there(rt: HostRuntime) -> Result<(), Fail> {
     }
     assert!(rt; !machine.is_running());
     assert_eq!(rt; (machine.choices(), machine.fails()), (0, 0));
+    Ok(())
+}
+
+// Binds the cell of slot 1 to 1, prints it and fails; and then binds it to 2, prints it and ends, in 14 steps.
+const TWO_WAYS: [Instr; 13] = [
+    Instr::Local { to: 5, first: 1 },
+    Instr::Choose { resume: 7 },
+    Instr::Const { to: 2, value: 1 },
+    Instr::Bind {
+        place: 5,
+        value: 2,
+        range: 0,
+    },
+    Instr::Load { to: 3, from: 5 },
+    Instr::WriteInt { value: 3 },
+    Instr::Fail,
+    Instr::Const { to: 2, value: 2 },
+    Instr::Bind {
+        place: 5,
+        value: 2,
+        range: 0,
+    },
+    Instr::Load { to: 3, from: 5 },
+    Instr::WriteInt { value: 3 },
+    Instr::WriteLine,
+    Instr::Return,
+];
+
+#[test]
+fn a_failed_alternative_leaves_no_trace(rt: HostRuntime) -> Result<(), Fail> {
+    let object = object(rt.alloc(), &TWO_WAYS)?;
+    let code = opened(&object).ok_or("sound")?;
+    let mut machine = Machine::new(rt.alloc(), code, b"")?;
+    let mut out = MemSink::new(rt.alloc(), 99, 99, &[])?;
+    assert_eq!(rt; machine.run(99, &mut out), RunEnd::Succeeded);
+    assert_eq!(rt; out.bytes(), b"12\n".as_slice());
+    assert_eq!(rt;
+        (machine.steps(), machine.choices(), machine.fails()),
+        (14, 1, 1)
+    );
     Ok(())
 }

@@ -1,5 +1,5 @@
 use Rattle.alma_driver.specs.Outside.{files_side, sink_side}
-use Rattle.alma_driver.proofs.DriverLemmas.{works_run, works_list}
+use Rattle.alma_driver.proofs.DriverLemmas.{works_run, works_list, works_exec}
 use Rattle.alma_driver.proofs.driver.serve_file.Goals as goal
 
 pub run_source-requires-clause-short : goal.run_source-requires-clause-short
@@ -25,3 +25,13 @@ returns-in-List-clause-course g c =
     (files_side (g.F.Files.told c.args.files.now) (g.F.Files.fetch_faults c.args.files.now) (g.F.Files.store_faults c.args.files.now))
     (sink_side (g.O.Sink.written c.args.out.now) (g.O.Sink.faults c.args.out.now))
     (sink_side (g.O.Sink.written c.list_object.new.out) (g.O.Sink.faults c.list_object.new.out)) c.list_object.result c.list_object.ensures)
+
+pub exec_object-requires : goal.exec_object-requires
+exec_object-requires g c = rw c.in-Exec.is at c.requires.steps
+
+pub returns-in-Exec-clause-course : goal.returns-in-Exec-clause-course
+returns-in-Exec-clause-course g c =
+    rw c.in-Exec.is (works_exec c.args.bytes.now c.in-Exec.steps
+    (files_side (g.F.Files.told c.args.files.now) (g.F.Files.fetch_faults c.args.files.now) (g.F.Files.store_faults c.args.files.now))
+    (sink_side (g.O.Sink.written c.args.out.now) (g.O.Sink.faults c.args.out.now))
+    (sink_side (g.O.Sink.written c.exec_object.new.out) (g.O.Sink.faults c.exec_object.new.out)) c.exec_object.result c.exec_object.ensures)

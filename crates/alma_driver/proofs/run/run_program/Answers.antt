@@ -1,12 +1,8 @@
 use Rattle.alma_code.specs.Plain.{code_of}
 use Rattle.alma_ir.specs.View.{program_of}
 use Rattle.alma_driver.specs.Outside.{sink_side}
-use Rattle.alma_driver.proofs.BuiltLemmas.{made_is_built}
 use Rattle.alma_driver.proofs.DriverLemmas.{unlowered, compiled_within, goes_compiled, goes_refused}
 use Rattle.alma_driver.proofs.run.run_program.Goals as goal
-
-pub run_code-requires-clause-built : goal.run_code-requires-clause-built
-run_code-requires-clause-built g c = made_is_built (code_of c.in-Ok.code) c.in-Ok.ensures.forms
 
 pub returns-in-Ok : goal.returns-in-Ok
 returns-in-Ok g c =

@@ -6,7 +6,7 @@ use Rattle.alma_code.specs.Machine.{after, prints}
 use Rattle.alma_engine.specs.Rows.{state_of}
 use Rattle.alma_engine.specs.Runs.{run_end_of, made}
 use Rattle.alma_engine.specs.View.{MachineView}
-use Rattle.alma_engine.proofs.Budget.{progress_more, progress_stopped, prints_then, made_is, on_whole, finished, goes_unless, out_more, out_front, on_ok, on_err}
+use Rattle.alma_engine.proofs.Budget.{progress_more, progress_stopped, shows, shows_last, end_is_whole, prints_then, made_is, on_whole, finished, goes_unless, out_more, out_front, on_ok, on_err}
 use Rattle.alma_verify.specs.Verified.{code_of_verified}
 use Rattle.alma_engine.proofs.machine.Machine.run.Goals as goal
 
@@ -49,7 +49,7 @@ returns-then-is_err-clause-made g c =
     let inside = c.self.inside in
     let stopped : MachineView = record { code = code_of_verified inside.code; input = inside.input.now; state = state_of inside.registers; running = false; printed = inside.printed.items } in
     let p = progress_more old c.loop-made.self c.step.new.self m c.in-Ok.step c.loop-made.invariant.progress c.in-Ok.ensures.step c.in-Ok.ensures.counted c.in-Ok.ensures.same in
-    let q = progress_stopped old c.step.new.self stopped (m + 1) (ap (λ x. x.state) c.self.view_is) (ap (λ x. x.code) c.self.view_is) (ap (λ x. x.input) c.self.view_is) p in
+    let q = progress_stopped old c.step.new.self stopped (m + 1) (ap (λ x. x.state) c.self.view_is) (ap (λ x. x.code) c.self.view_is) (ap (λ x. x.input) c.self.view_is) (ap (λ x. x.printed) c.self.view_is) p in
     q.state ∙ ap (λ k. after old.code old.input k old.state) (sym (made_is old stopped (m + 1) q))
 
 pub returns-then-is_err-clause-write_fault : goal.returns-then-is_err-clause-write_fault
@@ -59,7 +59,7 @@ returns-then-is_err-clause-write_fault g c =
     let inside = c.self.inside in
     let stopped : MachineView = record { code = code_of_verified inside.code; input = inside.input.now; state = state_of inside.registers; running = false; printed = inside.printed.items } in
     let p = progress_more old c.loop-made.self c.step.new.self m c.in-Ok.step c.loop-made.invariant.progress c.in-Ok.ensures.step c.in-Ok.ensures.counted c.in-Ok.ensures.same in
-    let q = progress_stopped old c.step.new.self stopped (m + 1) (ap (λ x. x.state) c.self.view_is) (ap (λ x. x.code) c.self.view_is) (ap (λ x. x.input) c.self.view_is) p in
+    let q = progress_stopped old c.step.new.self stopped (m + 1) (ap (λ x. x.state) c.self.view_is) (ap (λ x. x.code) c.self.view_is) (ap (λ x. x.input) c.self.view_is) (ap (λ x. x.printed) c.self.view_is) p in
     let failed : is_err c.write_all.result ≡ true = search rules in
     let front = on_err c.write_all.result (AppendsFront (g.K.Sink.written c.loop-made.out) (g.K.Sink.written c.write_all.new.sink) c.printed.result.now) failed c.write_all.ensures.front in
     out_front (g.K.Sink.written c.args.out.now) (g.K.Sink.written c.loop-made.out) (g.K.Sink.written c.write_all.new.sink) (prints old.code old.input m old.state) c.printed.result.now
@@ -86,3 +86,20 @@ loop-made-preserved g c =
       quiet = quiet ∙ c.loop-made.invariant.quiet;
       running = c.in-Ok.ensures.running ∙ goes_unless c.in-Ok.step c.in_default-step.not-Done;
     }
+
+pub returns-in-Done-clause-printed : goal.returns-in-Done-clause-printed
+returns-in-Done-clause-printed g c =
+    let old = c.args.self.now in
+    let m = c.loop-made.made in
+    let p = progress_more old c.loop-made.self c.step.new.self m c.in-Ok.step c.loop-made.invariant.progress c.in-Ok.ensures.step c.in-Ok.ensures.counted c.in-Ok.ensures.same in
+    shows_last c.from.result _ _ (λ e. end_is_whole c.in-Done.end (sym c.from.ensures ∙ e)) (shows old c.step.new.self (m + 1) p)
+
+pub returns-then-is_err-clause-printed : goal.returns-then-is_err-clause-printed
+returns-then-is_err-clause-printed g c =
+    let old = c.args.self.now in
+    let m = c.loop-made.made in
+    let inside = c.self.inside in
+    let stopped : MachineView = record { code = code_of_verified inside.code; input = inside.input.now; state = state_of inside.registers; running = false; printed = inside.printed.items } in
+    let p = progress_more old c.loop-made.self c.step.new.self m c.in-Ok.step c.loop-made.invariant.progress c.in-Ok.ensures.step c.in-Ok.ensures.counted c.in-Ok.ensures.same in
+    let q = progress_stopped old c.step.new.self stopped (m + 1) (ap (λ x. x.state) c.self.view_is) (ap (λ x. x.code) c.self.view_is) (ap (λ x. x.input) c.self.view_is) (ap (λ x. x.printed) c.self.view_is) p in
+    shows old stopped (m + 1) q

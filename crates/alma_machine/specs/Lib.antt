@@ -1,4 +1,0 @@
-pub mod Built
-pub mod Rows
-pub mod Runs
-pub mod View
