@@ -3,13 +3,13 @@ _alma() {
   local word=${COMP_WORDS[COMP_CWORD]}
   COMPREPLY=()
   if [ "$COMP_CWORD" -eq 1 ]; then
-    mapfile -t COMPREPLY < <(compgen -W "run compile list --help --version" -- "$word")
+    mapfile -t COMPREPLY < <(compgen -W "run compile list exec --help --version" -- "$word")
     return
   fi
   case ${COMP_WORDS[1]},$COMP_CWORD in
   run,2 | compile,2) mapfile -t COMPREPLY < <(compgen -o plusdirs -f -X '!*.al' -- "$word") ;;
-  run,3) mapfile -t COMPREPLY < <(compgen -W "--steps=" -- "$word") && compopt -o nospace ;;
-  compile,3 | list,2) mapfile -t COMPREPLY < <(compgen -f -- "$word") ;;
+  run,3 | exec,3) mapfile -t COMPREPLY < <(compgen -W "--steps=" -- "$word") && compopt -o nospace ;;
+  compile,3 | list,2 | exec,2) mapfile -t COMPREPLY < <(compgen -f -- "$word") ;;
   esac
 }
 complete -o filenames -F _alma alma ./alma
