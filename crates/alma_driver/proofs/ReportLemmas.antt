@@ -7,7 +7,7 @@ use Rattle.alma_base.specs.Fault.{run_fault_text}
 use Rattle.alma_base.specs.declared.fault.RunFault.{RunFault}
 use Rattle.alma_code.specs.Lines.{known_line}
 use Rattle.alma_object.specs.declared.fault.ObjectFault.{ObjectFault}
-use Rattle.alma_driver.specs.Ends.{line_text, fault_text, object_fault_name, object_fault_number, number_text, object_text}
+use Rattle.alma_driver.specs.Ends.{line_text, fault_text, object_fault_name, object_fault_number, number_text, object_text, rule_line}
 use Rattle.std.specs.Borrow.{Bor}
 use Rattle.std.specs.Io.KnownBytes.{Appends}
 use Rattle.alma_io.specs.Fronts.{AppendsFront}
@@ -49,6 +49,13 @@ known_parts fault (suc k) front name middle number end some f n m d e =
     ∙ ap (λ x. codes "alma: fault " ++ (run_fault_text fault ++ (codes " line " ++ (x ++ (end ++ []))))) d
     ∙ ap (λ x. codes "alma: fault " ++ (run_fault_text fault ++ (codes " line " ++ (decimal (suc k) ++ (x ++ []))))) e
     ∙ ap (λ x. codes "alma: fault " ++ (run_fault_text fault ++ x)) (sym (append_assoc (codes " line ") (decimal (suc k)) (codes "\n")))
+
+-- the parts of the text of a broken rule
+pub rule_parts : (front rule middle at end : List ℕ) → front ≡ codes "alma: object Rule " → middle ≡ codes " " → end ≡ codes "\n"
+    → front ++ (rule ++ (middle ++ (at ++ (end ++ [])))) ≡ rule_line rule at
+rule_parts front rule middle at end f m e =
+    ap (λ x. x ++ (rule ++ (middle ++ (at ++ (end ++ []))))) f ∙ ap (λ x. codes "alma: object Rule " ++ (rule ++ (x ++ (at ++ (end ++ []))))) m
+    ∙ ap (λ x. codes "alma: object Rule " ++ (rule ++ (codes " " ++ (at ++ (x ++ []))))) e
 
 -- the parts of the text of an object's fault without a number
 pub numberless_parts : (fault : ObjectFault) (front name end : List ℕ) → object_fault_number fault ≡ None → front ≡ codes "alma: object " → name ≡ object_fault_name fault
