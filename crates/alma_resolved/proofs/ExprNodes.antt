@@ -25,8 +25,10 @@ use Rattle.alma_rules.specs.Parts.{Meaning, a_place, plain, a_test, Typing, valu
 use Rattle.alma_rules.specs.ExprRules.{Use, as_variable, as_value, as_procedure, is_equation, relation_rules, unlike, Operand, operand_rules, no_operand, other_sort, logical_operand, arithmetic_operand, not_test, chain_rules, not_rules, index_rules, other_index, wants_arguments, has_formals, Argument, other, of_bad, of_variable, argument_rules, argument_rules_of, not_fitting, is_var, other_type, call_rules, other_count, not_variable, name_rules, constant_rules}
 use Rattle.alma_rules.specs.Nodes.{cons_operand, not_typing, sum_at, product_at, chain_at}
 use Rattle.alma_rules.specs.Decls.{param_kind}
-use Rattle.alma_resolved.proofs.Fits.{Place, own, Calls, Laid, laid_nil, laid_cons, laid_join, laid_wide, laid_one, laid_both, laid_outside, When, when_some, when_none, when_all, when_map, when_then, when_both, when_node, when_unless, when_unless_none, when_weaker}
-use Rattle.alma_resolved.proofs.Scenes.{no_fault, no_fault_alone, no_faults_left, no_faults_right, or_left, or_right, and_false, not_false, same_number, clash, CalleeFits, FormalFits, FormalsFit, ResultFits, FoundFits, Env, env_inside, MeaningFits, TypingFits, value_laid, test_laid, no_place_fits, wide_meaning, base_simple, simple_too, LocatedFits, located_laid, selected}
+use Rattle.alma_resolved.specs.Fits.{Place, own, Calls, Laid}
+use Rattle.alma_resolved.proofs.Fits.{laid_nil, laid_cons, laid_join, laid_wide, laid_one, laid_both, laid_outside, When, when_some, when_none, when_all, when_map, when_then, when_both, when_node, when_unless, when_unless_none, when_weaker}
+use Rattle.alma_resolved.specs.Scenes.{CalleeFits, FormalFits, FormalsFit, ResultFits, FoundFits, SceneFits}
+use Rattle.alma_resolved.proofs.Scenes.{no_fault, no_fault_alone, no_faults_left, no_faults_right, or_left, or_right, and_false, not_false, same_number, clash, env_inside, MeaningFits, TypingFits, value_laid, test_laid, no_place_fits, wide_meaning, base_simple, simple_too, LocatedFits, located_laid, selected}
 
 pub typing_le : {k : Place} {s : Scene} {lo hi : ℕ} {t : Typing} → TypingFits k s lo hi t → lo ≤ hi
 typing_le {k} {s} {lo} {hi} {t} h = go t.meaning h.meaning
@@ -40,20 +42,20 @@ pub typing_wide : {k : Place} {s : Scene} {lo hi : ℕ} {t : Typing} (low high :
 typing_wide {k} {s} {lo} {hi} {t} low high a b h = record { meaning = wide_meaning k s lo hi low high t.shape t.meaning a b h.meaning }
 
 -- another simple type
-reshaped : {k : Place} {s : Scene} (e : Env k s) (lo hi a b : ℕ) (m : Meaning) → is_structured s a ≡ false → is_structured s b ≡ false → MeaningFits k s lo hi a m → MeaningFits k s lo hi b m
+reshaped : {k : Place} {s : Scene} (e : SceneFits k s) (lo hi a b : ℕ) (m : Meaning) → is_structured s a ≡ false → is_structured s b ≡ false → MeaningFits k s lo hi a m → MeaningFits k s lo hi b m
 reshaped e lo hi a b (a_place d) p q h = (h.0, h.1 ∙ (e.table.simple a p ∙ sym (e.table.simple b q)))
 reshaped e lo hi a b (plain x) p q h = (h.0, q)
 reshaped e lo hi a b (a_test t) p q h = (h.0, q)
 
 -- ---- relations
 
-compare_fits : {k : Place} {s : Scene} (e : Env k s) {lo mid hi : ℕ} (how : Cmp) (a b : Typing) → is_structured s a.shape ≡ false → is_structured s b.shape ≡ false
+compare_fits : {k : Place} {s : Scene} (e : SceneFits k s) {lo mid hi : ℕ} (how : Cmp) (a b : Typing) → is_structured s a.shape ≡ false → is_structured s b.shape ≡ false
     → TypingFits k s lo mid a → TypingFits k s mid hi b → MeaningFits k s lo hi 2 (plain (ir.Compare how (value_of a.meaning) (value_of b.meaning)))
 unfolding expr_phrases
 compare_fits e how a b p q g h =
     (laid_cons (ExprPhrase (ir.Compare how (value_of a.meaning) (value_of b.meaning))) tt (laid_join (value_laid e p g) (value_laid e q h)), e.table.firsts 2 (omega arith))
 
-equation_fits : {k : Place} {s : Scene} (e : Env k s) (lo mid hi : ℕ) (a b : Typing) → base s a.shape ≡ base s b.shape → (l r : Meaning)
+equation_fits : {k : Place} {s : Scene} (e : SceneFits k s) (lo mid hi : ℕ) (a b : Typing) → base s a.shape ≡ base s b.shape → (l r : Meaning)
     → MeaningFits k s lo mid a.shape l → MeaningFits k s mid hi b.shape r → MeaningFits k s lo hi 2 (equation_of s a b l r)
 unfolding expr_phrases
 equation_fits {k} {s} e lo mid hi a b same (a_place d) (a_place x) g h = go (is_structured s a.shape) refl
@@ -95,7 +97,7 @@ equation_fits e lo mid hi a b same (a_test t) (a_test u) g h = (
   e.table.firsts 2 (omega arith),
 )
 
-related_fits : {k : Place} {s : Scene} (e : Env k s) {lo mid hi : ℕ} (r : Relation) (p : Typing × Typing) → TypingFits k s lo mid p.0 → TypingFits k s mid hi p.1 → unlike s r p ≡ false
+related_fits : {k : Place} {s : Scene} (e : SceneFits k s) {lo mid hi : ℕ} (r : Relation) (p : Typing × Typing) → TypingFits k s lo mid p.0 → TypingFits k s mid hi p.1 → unlike s r p ≡ false
     → MeaningFits k s lo hi 2 (relation_of s r p)
 related_fits {k} {s} e {lo} {mid} {hi} r p g h u = go r (and_false (is_structured s p.0.shape) (not (is_equation r)) (or_right (not (nat_eq (base s p.0.shape) (base s p.1.shape))) (is_structured s p.0.shape && not (is_equation r)) u))
   where
@@ -120,7 +122,7 @@ related_fits {k} {s} e {lo} {mid} {hi} r p g h u = go r (and_false (is_structure
     go relations.Greater f = other_fits compares.Greater f
     go relations.GreaterEq f = other_fits compares.GreaterEq f
 
-pub relation_fits : {k : Place} {s : Scene} (e : Env k s) {lo mid hi : ℕ} (r : Relation) (v : Option (Typing × Typing)) → When v (λ p. TypingFits k s lo mid p.0 × TypingFits k s mid hi p.1)
+pub relation_fits : {k : Place} {s : Scene} (e : SceneFits k s) {lo mid hi : ℕ} (r : Relation) (v : Option (Typing × Typing)) → When v (λ p. TypingFits k s lo mid p.0 × TypingFits k s mid hi p.1)
     → When (option_map (related s r) (unless (relation_rules s r v) v)) (TypingFits k s lo hi)
 relation_fits {k} {s} e {lo} {mid} {hi} r v h =
     when_map {P = λ p. MeaningFits k s lo hi 2 (relation_of s r p)} (related s r)
@@ -137,7 +139,7 @@ pub no_operands : (k : Place) (s : Scene) (n : ℕ) → OperandsFit k s n n []
 unfolding expr_phrases
 no_operands k s n = record { links = laid_nil k s.inside n n (omega arith); tests = laid_nil k s.inside n n (omega arith) }
 
-pub operands_fit : {k : Place} {s : Scene} (e : Env k s) {lo mid hi : ℕ} (o : Operator) (p : Typing × Operands) → is_structured s p.0.shape ≡ false → TypingFits k s lo mid p.0 → OperandsFit k s mid hi p.1
+pub operands_fit : {k : Place} {s : Scene} (e : SceneFits k s) {lo mid hi : ℕ} (o : Operator) (p : Typing × Operands) → is_structured s p.0.shape ≡ false → TypingFits k s lo mid p.0 → OperandsFit k s mid hi p.1
     → OperandsFit k s lo hi (cons_operand o p)
 unfolding expr_phrases
 operands_fit {k} {s} e {lo} {mid} {hi} (arithmetic op) p simple g h = record { links = laid_join (value_laid e simple g) h.links; tests = laid_join (test_laid e simple g) h.tests }
@@ -155,17 +157,17 @@ pub and_joins : (k : Place) → Joins k ir.And
 unfolding expr_phrases Joins
 and_joins k i lo hi t ts h = laid_cons (TestPhrase (ir.And (ir.more_tests t ts))) tt h
 
-pub chain_simple : {k : Place} {s : Scene} (e : Env k s) (xs : Operands) → is_structured s (chain_shape xs) ≡ false
+pub chain_simple : {k : Place} {s : Scene} (e : SceneFits k s) (xs : Operands) → is_structured s (chain_shape xs) ≡ false
 chain_simple e [] = e.table.firsts 0 (omega arith)
 chain_simple e ((arithmetic op, t) ∷ rest) = e.table.firsts 0 (omega arith)
 chain_simple e ((logical, t) ∷ rest) = e.table.firsts 2 (omega arith)
 
-arithmetic_fits : {k : Place} {s : Scene} (e : Env k s) {lo mid hi : ℕ} (sign : Option Sign) (p : Typing × Operands) → is_structured s p.0.shape ≡ false → TypingFits k s lo mid p.0 → OperandsFit k s mid hi p.1
+arithmetic_fits : {k : Place} {s : Scene} (e : SceneFits k s) {lo mid hi : ℕ} (sign : Option Sign) (p : Typing × Operands) → is_structured s p.0.shape ≡ false → TypingFits k s lo mid p.0 → OperandsFit k s mid hi p.1
     → MeaningFits k s lo hi (chain_shape p.1) (plain (arithmetic_of sign p))
 unfolding expr_phrases
 arithmetic_fits e sign p simple g h = (laid_cons (ExprPhrase (arithmetic_of sign p)) tt (laid_join (value_laid e simple g) h.links), chain_simple e p.1)
 
-chain_meaning : {k : Place} {s : Scene} (e : Env k s) {lo mid hi : ℕ} (join : ir.Tests → ir.Test) → Joins k join → (sign : Option Sign) (first : Typing) (xs : Operands) → is_structured s first.shape ≡ false
+chain_meaning : {k : Place} {s : Scene} (e : SceneFits k s) {lo mid hi : ℕ} (join : ir.Tests → ir.Test) → Joins k join → (sign : Option Sign) (first : Typing) (xs : Operands) → is_structured s first.shape ≡ false
     → TypingFits k s lo mid first → OperandsFit k s mid hi xs → MeaningFits k s lo hi (chain_shape xs) (chain_of join sign (first, xs))
 unfolding expr_phrases Joins
 chain_meaning {k} {s} e {lo} {mid} {hi} join joins (Some signs.Plus) first [] simple g h =
@@ -177,7 +179,7 @@ chain_meaning e join joins sign first ((arithmetic op, t) ∷ rest) simple g h =
 chain_meaning {k} {s} e {lo} {mid} {hi} join joins sign first ((logical, t) ∷ rest) simple g h =
     (joins s.inside lo hi (test_of first.meaning) (tests_of ((logical, t) ∷ rest)) (laid_join (test_laid e simple g) h.tests), e.table.firsts 2 (omega arith))
 
-pub chain_fits : {k : Place} {s : Scene} (e : Env k s) {lo mid hi : ℕ} (join : ir.Tests → ir.Test) → Joins k join → (o : Operand) (sign : Option Sign) (l : Bool) (v : Option (Typing × Operands))
+pub chain_fits : {k : Place} {s : Scene} (e : SceneFits k s) {lo mid hi : ℕ} (join : ir.Tests → ir.Test) → Joins k join → (o : Operand) (sign : Option Sign) (l : Bool) (v : Option (Typing × Operands))
     → When v (λ p. (TypingFits k s lo mid p.0 × (is_structured s p.0.shape ≡ false)) × OperandsFit k s mid hi p.1)
     → When (option_map (chained join sign) (unless (chain_rules s join o sign l v) v)) (λ t. TypingFits k s lo hi t × (is_structured s t.shape ≡ false))
 chain_fits {k} {s} e {lo} {mid} {hi} join joins o sign l v h =
@@ -199,7 +201,7 @@ or_true_right : (a b : Bool) → b ≡ true → (a || b) ≡ true
 or_true_right true b h = refl
 or_true_right false b h = h
 
-pub term_fits : {k : Place} {s : Scene} (e : Env k s) {lo hi : ℕ} (o : Operand) (v : Option Typing) → When v (TypingFits k s lo hi) → When (unless (operand_rules s o v) v) (TermFits k s o lo hi)
+pub term_fits : {k : Place} {s : Scene} (e : SceneFits k s) {lo hi : ℕ} (o : Operand) (v : Option Typing) → When v (TypingFits k s lo hi) → When (unless (operand_rules s o v) v) (TermFits k s o lo hi)
 term_fits {k} {s} e {lo} {hi} o v h = when_node (operand_rules s o) v h (λ t g q. made t g
     (or_right (other_sort o) (no_operand s o t) (no_fault_alone (other_sort o || no_operand s o t) fault.TypeMismatch (no_faults_right (when (logical_operand o.operator && not_test s t) fault.NotTest) _ q))))
   where
@@ -212,7 +214,7 @@ term_fits {k} {s} e {lo} {hi} o v h = when_node (operand_rules s o) v h (λ t g 
     }
 
 -- NOT
-pub not_fits : {k : Place} {s : Scene} (e : Env k s) {lo hi : ℕ} (o : Operand) (v : Option Typing) → When v (TypingFits k (inside_of s) lo hi) → (rules : Option Typing → List CheckFault)
+pub not_fits : {k : Place} {s : Scene} (e : SceneFits k s) {lo hi : ℕ} (o : Operand) (v : Option Typing) → When v (TypingFits k (inside_of s) lo hi) → (rules : Option Typing → List CheckFault)
     → (tests : Option Typing → List CheckFault) → ((t : Typing) → tests (Some t) ≡ [] → is_structured s t.shape ≡ false)
     → When (unless (rules (option_map not_typing (unless (tests v) v))) (option_map not_typing (unless (tests v) v))) (TermFits k s o lo hi)
 unfolding expr_phrases
@@ -250,7 +252,7 @@ free as_value = false
 free as_variable = true
 free as_procedure = true
 
-pub name_fits : {k : Place} {s : Scene} (e : Env k s) (n : ℕ) (sel : Bool) (w : Use) (f : Found) → FoundFits k s f → When (unless (name_rules f (denoted s f)) (denoted s f)) (DenotedFits k s (flag w sel f) n n)
+pub name_fits : {k : Place} {s : Scene} (e : SceneFits k s) (n : ℕ) (sel : Bool) (w : Use) (f : Found) → FoundFits k s f → When (unless (name_rules f (denoted s f)) (denoted s f)) (DenotedFits k s (flag w sel f) n n)
 name_fits e n sel w absent h = when_none
 name_fits e n sel w bad h = when_none
 name_fits e n sel w (constant shape v) h = when_some _ (record { is = (h, omega arith) })
@@ -266,7 +268,7 @@ name_fits {k} {s} e n sel as_value (routine q up (Some x)) h = when_some _ (reco
 name_fits {k} {s} e n sel as_procedure (routine q up (Some x)) h = when_some _ (record { is = (h, omega arith, λ i. absurd (let bad : true ≡ false = i in cc)) })
 
 -- a field
-pub field_fits : {k : Place} {s : Scene} (e : Env k s) {c : Bool} {lo hi : ℕ} (name : List ℕ) (d : Denoted) → DenotedFits k s c lo hi d → When (select_field s name d) (DenotedFits k s c lo hi)
+pub field_fits : {k : Place} {s : Scene} (e : SceneFits k s) {c : Bool} {lo hi : ℕ} (name : List ℕ) (d : Denoted) → DenotedFits k s c lo hi d → When (select_field s name d) (DenotedFits k s c lo hi)
 unfolding sel_phrases
 field_fits {k} {s} e {c} {lo} {hi} name (a_variable l) h = by (field_of s name l) refl
   where
@@ -280,7 +282,7 @@ field_fits e name (a_routine q up x) h = when_some _ h
 field_fits e name no_array h = when_some _ h
 
 -- an index
-pub index_fits : {k : Place} {s : Scene} (e : Env k s) {c : Bool} {lo mid hi : ℕ} (d : Option Denoted) (i : Option Typing) → When d (DenotedFits k s c lo mid) → When i (TypingFits k s mid hi)
+pub index_fits : {k : Place} {s : Scene} (e : SceneFits k s) {c : Bool} {lo mid hi : ℕ} (d : Option Denoted) (i : Option Typing) → When d (DenotedFits k s c lo mid) → When i (TypingFits k s mid hi)
     → When (select_index s d (unless (index_rules s d i) i)) (DenotedFits k s c lo hi)
 unfolding sel_phrases
 index_fits e None i h g = when_none
@@ -335,7 +337,7 @@ bare_args s [] [] e h = tt
 bare_args s [] (q ∷ qs) e h = absurd h
 bare_args s (f ∷ fs) qs e h = absurd (cc)
 
-bare_call : {k : Place} {s : Scene} (e : Env k s) {lo hi : ℕ} (q up : ℕ) (x : Heading) → CalleeFits k s q up x → lo ≤ hi → wants_arguments x ≡ false → MeaningFits k s lo hi 2 (a_test (ir.CallTest q ir.no_args up))
+bare_call : {k : Place} {s : Scene} (e : SceneFits k s) {lo hi : ℕ} (q up : ℕ) (x : Heading) → CalleeFits k s q up x → lo ≤ hi → wants_arguments x ≡ false → MeaningFits k s lo hi 2 (a_test (ir.CallTest q ir.no_args up))
 unfolding test_phrases
 bare_call {k} {s} e {lo} {hi} q up x h le w = (
   laid_cons (TestPhrase (ir.CallTest q ir.no_args up))
@@ -344,7 +346,7 @@ bare_call {k} {s} e {lo} {hi} q up x h le w = (
   e.table.firsts 2 (omega arith),
 )
 
-pub typing_fits : {k : Place} {s : Scene} (e : Env k s) {lo hi : ℕ} (d : Denoted) → DenotedFits k s false lo hi d → When (typing_in d) (TypingFits k s lo hi)
+pub typing_fits : {k : Place} {s : Scene} (e : SceneFits k s) {lo hi : ℕ} (d : Denoted) → DenotedFits k s false lo hi d → When (typing_in d) (TypingFits k s lo hi)
 unfolding expr_phrases
 typing_fits {k} {s} e {lo} {hi} (a_constant shape v) h = when_some _ (record { meaning = (laid_cons (ExprPhrase (ir.Const v)) tt (laid_nil k s.inside lo hi h.is.1), h.is.0) })
 typing_fits {k} {s} e {lo} {hi} (a_variable l) h = when_some _ (record { meaning = (located_laid h.is, h.is.left) })
@@ -367,17 +369,17 @@ KindFits of_bad m = ⊥
 abbrev pub ArgumentFits : Place → Scene → (lo hi : ℕ) → Param → ir.Arg → Type 0
 ArgumentFits k s lo hi q a = Laid k s.inside lo hi (arg_phrases a) × ArgFits q a
 
-place_cells : {k : Place} {s : Scene} (e : Env k s) (d : ir.Desig) (a b n : ℕ) → desig_cells d ≡ cells s a → n ≡ cells s b → base s a ≡ base s b → desig_cells d ≡ n
+place_cells : {k : Place} {s : Scene} (e : SceneFits k s) (d : ir.Desig) (a b n : ℕ) → desig_cells d ≡ cells s a → n ≡ cells s b → base s a ≡ base s b → desig_cells d ≡ n
 place_cells e d a b n p q same = p ∙ (e.table.same a b same ∙ sym q)
 
-same_shape : {k : Place} {s : Scene} (e : Env k s) (d : ir.Desig) (a b n : ℕ) → desig_cells d ≡ cells s a → n ≡ cells s b → a ≡ b → desig_cells d ≡ n
+same_shape : {k : Place} {s : Scene} (e : SceneFits k s) (d : ir.Desig) (a b n : ℕ) → desig_cells d ≡ cells s a → n ≡ cells s b → a ≡ b → desig_cells d ≡ n
 same_shape {k} {s} e d a b n p q same = p ∙ (ap (cells s) same ∙ sym q)
 
 -- an argument that is no place, of a type that is not compatible with a structured one
-not_fitting_simple : {k : Place} {s : Scene} (e : Env k s) (f : FormalOf) (t : Typing) → not_fitting s f t ≡ false → is_structured s t.shape ≡ false → is_structured s f.shape ≡ false
+not_fitting_simple : {k : Place} {s : Scene} (e : SceneFits k s) (f : FormalOf) (t : Typing) → not_fitting s f t ≡ false → is_structured s t.shape ≡ false → is_structured s f.shape ≡ false
 not_fitting_simple {k} {s} e f t n simple = simple_too e t.shape f.shape (same_number (base s t.shape) (base s f.shape) n) simple
 
-fitting_simple : {k : Place} {s : Scene} (e : Env k s) (f : FormalOf) (t : Typing) → not_fitting s f t ≡ false → is_structured s f.shape ≡ false → is_structured s t.shape ≡ false
+fitting_simple : {k : Place} {s : Scene} (e : SceneFits k s) (f : FormalOf) (t : Typing) → not_fitting s f t ≡ false → is_structured s f.shape ≡ false → is_structured s t.shape ≡ false
 fitting_simple {k} {s} e f t n simple = simple_too e f.shape t.shape (sym (same_number (base s t.shape) (base s f.shape) n)) simple
 
 -- the rules of a designator and of another argument
@@ -403,7 +405,7 @@ rules_say s f other t (plain x) h q = other_says s f t q
 rules_say s f other t (a_test x) h q = other_says s f t q
 rules_say s f of_bad t m h q = absurd h
 
-simple_fits : {k : Place} {s : Scene} (e : Env k s) {lo hi : ℕ} (mode : Option Mode) (shape : ℕ) (q : Param) (t : Typing) → is_structured s shape ≡ false → q.kind ≡ param_kind false mode → q.cells ≡ cells s shape
+simple_fits : {k : Place} {s : Scene} (e : SceneFits k s) {lo hi : ℕ} (mode : Option Mode) (shape : ℕ) (q : Param) (t : Typing) → is_structured s shape ≡ false → q.kind ≡ param_kind false mode → q.cells ≡ cells s shape
     → (m : Meaning) → MeaningFits k s lo hi t.shape m → RulesSay s (record { mode = mode; shape = shape }) t m → ArgumentFits k s lo hi q (simple_argument s mode shape m)
 unfolding expr_phrases
 simple_fits {k} {s} e None shape q t simple kind size (a_place d) h r =
@@ -422,7 +424,7 @@ simple_fits {k} {s} e (Some modes.Mix) shape q t simple kind size (plain x) h r 
 simple_fits {k} {s} e (Some modes.Mix) shape q t simple kind size (a_test x) h r =
     (laid_cons (ArgPhrase (ir.MixValue (ir.Truth x) (range s shape))) (e.table.ordered shape) (laid_cons (ExprPhrase (ir.Truth x)) tt h.0), kind)
 
-structured_fits : {k : Place} {s : Scene} (e : Env k s) {lo hi : ℕ} (mode : Option Mode) (shape : ℕ) (q : Param) (t : Typing) → is_structured s shape ≡ true → q.kind ≡ param_kind true mode → q.cells ≡ cells s shape
+structured_fits : {k : Place} {s : Scene} (e : SceneFits k s) {lo hi : ℕ} (mode : Option Mode) (shape : ℕ) (q : Param) (t : Typing) → is_structured s shape ≡ true → q.kind ≡ param_kind true mode → q.cells ≡ cells s shape
     → (m : Meaning) → MeaningFits k s lo hi t.shape m → RulesSay s (record { mode = mode; shape = shape }) t m → ArgumentFits k s lo hi q (structured_argument mode m)
 unfolding expr_phrases
 structured_fits {k} {s} e None shape q t rough kind size (a_place d) h r =
@@ -436,7 +438,7 @@ structured_fits {k} {s} e mode shape q t rough kind size (plain x) h r =
 structured_fits {k} {s} e mode shape q t rough kind size (a_test x) h r =
     clash (is_structured s shape) rough (not_fitting_simple e (record { mode = mode; shape = shape }) t r.1 h.1)
 
-pub argument_fits : {k : Place} {s : Scene} (e : Env k s) {lo hi : ℕ} (f : FormalOf) (q : Param) → FormalFits s f q → (kind : Argument) (v : Option Typing)
+pub argument_fits : {k : Place} {s : Scene} (e : SceneFits k s) {lo hi : ℕ} (f : FormalOf) (q : Param) → FormalFits s f q → (kind : Argument) (v : Option Typing)
     → When v (λ t. TypingFits k s lo hi t × KindFits kind t.meaning) → When (option_map (argument_of s (Some f)) (unless (argument_rules s (Some f) kind v) v)) (ArgumentFits k s lo hi q)
 argument_fits {k} {s} e {lo} {hi} f q fits kind v h =
     when_map {P = λ t. TypingFits k s lo hi t × RulesSay s f t t.meaning} (argument_of s (Some f)) (when_node (argument_rules s (Some f) kind) v h (λ t g r. (g.0, rules_say s f kind t t.meaning g.1 r)))
@@ -465,7 +467,7 @@ ArgsAre k s lo hi count fs args = (qs : List Param) → FormalsFit s fs qs → c
 pub record ArgumentsFit (k : Place) (s : Scene) (lo hi count : ℕ) (fs : List FormalOf) (args : ir.Args) : Type 0 where
   pub are : ArgsAre k s lo hi count fs args
 
-call_is : {k : Place} {s : Scene} (e : Env k s) {lo hi : ℕ} (c : Callee) (args : ir.Args) → CalleeFits k s c.number c.up c.heading → (o : Option ℕ) → ResultFits s o (routine_at k.program c.number)
+call_is : {k : Place} {s : Scene} (e : SceneFits k s) {lo hi : ℕ} (c : Callee) (args : ir.Args) → CalleeFits k s c.number c.up c.heading → (o : Option ℕ) → ResultFits s o (routine_at k.program c.number)
     → Laid k s.inside lo hi (args_phrases args) → ArgsFit (routine_at k.program c.number).params args → TypingFits k s lo hi (call_typing c o args)
 unfolding expr_phrases
 call_is e c args h None r laid fit =
@@ -473,7 +475,7 @@ call_is e c args h None r laid fit =
 call_is e c args h (Some shape) r laid fit =
     record { meaning = (laid_cons (ExprPhrase (ir.CallExpr c.number args c.up)) (r.0, (h.some, h.exists, h.links, fit)) laid, r.1) }
 
-pub called_fits : {k : Place} {s : Scene} (e : Env k s) {lo mid hi : ℕ} (c : Option Callee) (count : ℕ) (args : Option ir.Args) → When c (CalleeIs k s lo mid)
+pub called_fits : {k : Place} {s : Scene} (e : SceneFits k s) {lo mid hi : ℕ} (c : Option Callee) (count : ℕ) (args : Option ir.Args) → When c (CalleeIs k s lo mid)
     → ((x : Callee) → c ≡ Some x → When args (ArgumentsFit k s mid hi count x.heading.formals))
     → When (option_map called (unless (call_rules s c count (both_of c args)) (both_of c args))) (TypingFits k s lo hi)
 called_fits {k} {s} e {lo} {mid} {hi} None count args h g = when_map {P = λ p. ⊥} called (when_unless_none (call_rules s None count None)) (λ p b. absurd b)

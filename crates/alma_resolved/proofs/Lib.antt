@@ -4,3 +4,4 @@ pub mod ExprNodes
 pub mod StmtNodes
 pub mod Exact
 pub mod Walks
+pub mod Lookups

@@ -17,7 +17,9 @@ use Rattle.alma_rules.specs.Judged.{when}
 use Rattle.alma_rules.specs.Scene.{Scene, Heading, FormalOf, Returns, nothing, a_value, Found, absent, bad, constant, named, variable, routine, found, in_constant, inside_of, base, cells, range, is_structured, row_of}
 use Rattle.alma_rules.specs.Parts.{Meaning, a_place, plain, a_test, Typing, value_of, test_of, no_place, Located, desig_of, with_sel, Denoted, a_constant, a_variable, a_routine, no_array}
 use Rattle.alma_rules.specs.Decls.{param_kind}
-use Rattle.alma_resolved.proofs.Fits.{Place, own, RootFits, Laid, laid_nil, laid_cons, laid_join, laid_wide, laid_one, laid_outside, When}
+use Rattle.alma_resolved.specs.Fits.{Place, own, RootFits, Laid}
+use Rattle.alma_resolved.specs.Scenes.{TableFits, FormalFits, FormalsFit, ResultFits, CalleeFits, FoundFits, ReturnsFit, ReturnsSimple, SceneFits}
+use Rattle.alma_resolved.proofs.Fits.{laid_nil, laid_cons, laid_join, laid_wide, laid_one, laid_outside, When}
 
 -- ---- tests
 
@@ -60,72 +62,7 @@ pub clash : {A : Type 0} (b : Bool) → b ≡ true → b ≡ false → A
 clash true p q = absurd (cc)
 clash false p q = absurd (cc)
 
--- ---- the table of shapes
-
-abbrev pub structured_in : List PlainShape → ℕ → Bool
-structured_in t a = not (is_some (range_at t a))
-
--- what the table says of each number, one of a shape or not
-pub record TableFits (t : List PlainShape) : Type 0 where
-  pub simple : (a : ℕ) → structured_in t a ≡ false → cells_at t a ≡ 1
-  pub rows : (a i e : ℕ) → option_and_then row_of (slice_get t a) ≡ Some (i, e) → range_size (unwrap_or (range_at t i) whole_range) * cells_at t e ≤ cells_at t a
-  pub indices : (a i e : ℕ) → option_and_then row_of (slice_get t a) ≡ Some (i, e) → structured_in t i ≡ false
-  pub fields : (name : List ℕ) (a o f : ℕ) → field_at name (slice_get t a) ≡ Some (o, f) → o + cells_at t f ≤ cells_at t a
-  pub alike : (a b : ℕ) → base_at t a ≡ base_at t b → structured_in t a ≡ structured_in t b
-  pub same : (a b : ℕ) → base_at t a ≡ base_at t b → cells_at t a ≡ cells_at t b
-  pub basic : (a : ℕ) → base_at t a < 3 → structured_in t a ≡ false
-  pub firsts : (a : ℕ) → a < 3 → structured_in t a ≡ false
-  pub ordered : (a : ℕ) → IsOrdered (unwrap_or (range_at t a) whole_range)
-
--- ---- names
-
--- a formal and the parameter that it makes
-abbrev pub FormalFits : Scene → FormalOf → Param → Type 0
-FormalFits s f q = (q.kind ≡ param_kind (is_structured s f.shape) f.mode) × (q.cells ≡ cells s f.shape)
-
-abbrev pub FormalsFit : Scene → List FormalOf → List Param → Type 0
-FormalsFit s [] [] = Unit {0}
-FormalsFit s [] (q ∷ qs) = ⊥
-FormalsFit s (f ∷ fs) [] = ⊥
-FormalsFit s (f ∷ fs) (q ∷ qs) = FormalFits s f q × FormalsFit s fs qs
-
-abbrev pub ResultFits : Scene → Option ℕ → Routine → Type 0
-ResultFits s None x = IsNone x.result
-ResultFits s (Some shape) x = IsSome x.result × (is_structured s shape ≡ false)
-
-pub record CalleeFits (k : Place) (s : Scene) (q up : ℕ) (h : Heading) : Type 0 where
-  pub some : 0 < q
-  pub exists : q < length k.program.routines
-  pub links : LinksAgree k.program k.number (own k) q up
-  pub result : ResultFits s h.result (routine_at k.program q)
-  pub formals : FormalsFit s h.formals (routine_at k.program q).params
-
-abbrev pub FoundFits : Place → Scene → Found → Type 0
-FoundFits k s absent = Unit {0}
-FoundFits k s bad = Unit {0}
-FoundFits k s (constant shape v) = is_structured s shape ≡ false
-FoundFits k s (named shape) = Unit {0}
-FoundFits k s (variable shape root) = RootFits k root (cells s shape)
-FoundFits k s (routine q up None) = Unit {0}
-FoundFits k s (routine q up (Some h)) = CalleeFits k s q up h
-
-abbrev pub ReturnsFit : Routine → Returns → Type 0
-ReturnsFit x nothing = IsNone x.result
-ReturnsFit x (a_value shape) = IsSome x.result
-
--- a function gives a simple value
-abbrev pub ReturnsSimple : Scene → Returns → Type 0
-ReturnsSimple s nothing = Unit {0}
-ReturnsSimple s (a_value None) = ⊥
-ReturnsSimple s (a_value (Some shape)) = is_structured s shape ≡ false
-
-pub record Env (k : Place) (s : Scene) : Type 0 where
-  pub table : TableFits s.shapes
-  pub names : (name : tree.Name) → FoundFits k s (found s name)
-  pub returns : ReturnsFit (own k) s.returns
-  pub result : ReturnsSimple s s.returns
-
-pub env_constant : (k : Place) (s : Scene) → Env k s → Env k (in_constant s)
+pub env_constant : (k : Place) (s : Scene) → SceneFits k s → SceneFits k (in_constant s)
 env_constant k s e = record { table = e.table; names = λ name. go (found s name) (e.names name); returns = e.returns; result = by s.returns e.result }
   where
     by : (r : Returns) → ReturnsSimple s r → ReturnsSimple (in_constant s) r
@@ -152,7 +89,7 @@ env_constant k s e = record { table = e.table; names = λ name. go (found s name
         same_formals (f ∷ fs) [] h = h
         same_formals (f ∷ fs) (q ∷ qs) h = (h.0, same_formals fs qs h.1)
 
-pub env_inside : (k : Place) (s : Scene) → Env k s → Env k (inside_of s)
+pub env_inside : (k : Place) (s : Scene) → SceneFits k s → SceneFits k (inside_of s)
 env_inside k s e = record { table = e.table; names = λ name. go (found s name) (e.names name); returns = e.returns; result = by s.returns e.result }
   where
     by : (r : Returns) → ReturnsSimple s r → ReturnsSimple (inside_of s) r
@@ -189,27 +126,27 @@ MeaningFits k s lo hi shape (a_test t) = Laid k s.inside lo hi (test_phrases t) 
 pub record TypingFits (k : Place) (s : Scene) (lo hi : ℕ) (t : Typing) : Type 0 where
   pub meaning : MeaningFits k s lo hi t.shape t.meaning
 
-value_in : (k : Place) (s : Scene) (e : Env k s) (lo hi shape : ℕ) (m : Meaning) → is_structured s shape ≡ false → MeaningFits k s lo hi shape m → Laid k s.inside lo hi (expr_phrases (value_of m))
+value_in : (k : Place) (s : Scene) (e : SceneFits k s) (lo hi shape : ℕ) (m : Meaning) → is_structured s shape ≡ false → MeaningFits k s lo hi shape m → Laid k s.inside lo hi (expr_phrases (value_of m))
 unfolding expr_phrases
 value_in k s e lo hi shape (a_place d) simple h = laid_cons (ExprPhrase (ir.Load d)) (h.1 ∙ e.table.simple shape simple) h.0
 value_in k s e lo hi shape (plain x) simple h = h.0
 value_in k s e lo hi shape (a_test t) simple h = laid_cons (ExprPhrase (ir.Truth t)) tt h.0
 
 -- a value of a simple type
-pub value_laid : {k : Place} {s : Scene} {lo hi : ℕ} {t : Typing} → Env k s → is_structured s t.shape ≡ false → TypingFits k s lo hi t → Laid k s.inside lo hi (expr_phrases (value_of t.meaning))
+pub value_laid : {k : Place} {s : Scene} {lo hi : ℕ} {t : Typing} → SceneFits k s → is_structured s t.shape ≡ false → TypingFits k s lo hi t → Laid k s.inside lo hi (expr_phrases (value_of t.meaning))
 value_laid {k} {s} {lo} {hi} {t} e simple h = value_in k s e lo hi t.shape t.meaning simple h.meaning
 
-test_in : (k : Place) (s : Scene) (e : Env k s) (lo hi shape : ℕ) (m : Meaning) → is_structured s shape ≡ false → MeaningFits k s lo hi shape m → Laid k s.inside lo hi (test_phrases (test_of m))
+test_in : (k : Place) (s : Scene) (e : SceneFits k s) (lo hi shape : ℕ) (m : Meaning) → is_structured s shape ≡ false → MeaningFits k s lo hi shape m → Laid k s.inside lo hi (test_phrases (test_of m))
 unfolding expr_phrases
 test_in k s e lo hi shape (a_place d) simple h = laid_cons (TestPhrase (ir.Value (ir.Load d))) tt (value_in k s e lo hi shape (a_place d) simple h)
 test_in k s e lo hi shape (plain x) simple h = laid_cons (TestPhrase (ir.Value x)) tt h.0
 test_in k s e lo hi shape (a_test t) simple h = h.0
 
-pub test_laid : {k : Place} {s : Scene} {lo hi : ℕ} {t : Typing} → Env k s → is_structured s t.shape ≡ false → TypingFits k s lo hi t → Laid k s.inside lo hi (test_phrases (test_of t.meaning))
+pub test_laid : {k : Place} {s : Scene} {lo hi : ℕ} {t : Typing} → SceneFits k s → is_structured s t.shape ≡ false → TypingFits k s lo hi t → Laid k s.inside lo hi (test_phrases (test_of t.meaning))
 test_laid {k} {s} {lo} {hi} {t} e simple h = test_in k s e lo hi t.shape t.meaning simple h.meaning
 
 -- in parentheses
-pub no_place_fits : (k : Place) (s : Scene) (e : Env k s) (lo hi shape : ℕ) (m : Meaning) → is_structured s shape ≡ false → MeaningFits k s lo hi shape m → MeaningFits k s lo hi shape (no_place m)
+pub no_place_fits : (k : Place) (s : Scene) (e : SceneFits k s) (lo hi shape : ℕ) (m : Meaning) → is_structured s shape ≡ false → MeaningFits k s lo hi shape m → MeaningFits k s lo hi shape (no_place m)
 no_place_fits k s e lo hi shape (a_place d) simple h = (value_in k s e lo hi shape (a_place d) simple h, simple)
 no_place_fits k s e lo hi shape (plain x) simple h = h
 no_place_fits k s e lo hi shape (a_test t) simple h = h
@@ -220,10 +157,10 @@ wide_meaning k s lo hi low high shape (plain x) a b h = (laid_wide low high a b 
 wide_meaning k s lo hi low high shape (a_test t) a b h = (laid_wide low high a b h.0, h.1)
 
 -- the base of a type tells
-pub base_simple : {k : Place} {s : Scene} (e : Env k s) (a n : ℕ) → n < 3 → nat_eq (base s a) n ≡ true → is_structured s a ≡ false
+pub base_simple : {k : Place} {s : Scene} (e : SceneFits k s) (a n : ℕ) → n < 3 → nat_eq (base s a) n ≡ true → is_structured s a ≡ false
 base_simple {k} {s} e a n lt h = let same : base s a ≡ n = eqb-true (base s a) n h in e.table.basic a (omega (arith, same, lt))
 
-pub simple_too : {k : Place} {s : Scene} (e : Env k s) (a b : ℕ) → base s a ≡ base s b → is_structured s a ≡ false → is_structured s b ≡ false
+pub simple_too : {k : Place} {s : Scene} (e : SceneFits k s) (a b : ℕ) → base s a ≡ base s b → is_structured s a ≡ false → is_structured s b ≡ false
 simple_too {k} {s} e a b same simple = sym (e.table.alike a b same) ∙ simple
 
 -- ---- designators

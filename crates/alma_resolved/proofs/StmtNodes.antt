@@ -21,8 +21,10 @@ use Rattle.alma_rules.specs.Parts.{Meaning, a_place, plain, a_test, Typing, valu
 use Rattle.alma_rules.specs.ExprRules.{test_rules, not_test, structured, no_integer}
 use Rattle.alma_rules.specs.StmtRules.{assign_rules, unlike_sides, loop_name_rules, loop_rules, bad_loop, other_base, by_rules, zero_step, case_rules, other_label, ends_with, is_above, low_above_high, label_twice, label_rules, return_rules, other_result, other_form, read_rules, unreadable, write_rules, unwritable}
 use Rattle.alma_rules.specs.Nodes.{constant_in, loop_of, one_case, cons_span, arm_of, joined_cases, text_rules, if_of, arms_of, with_line, item_of, text_item}
-use Rattle.alma_resolved.proofs.Fits.{Place, own, Fits, LoopFits, Laid, laid_nil, laid_cons, laid_join, laid_wide, laid_one, laid_both, laid_outside, laid_stays, laid_leaves, When, when_is, when_some, when_none, when_all, when_map, when_then, when_both, when_node, when_unless, when_unless_none, when_weaker}
-use Rattle.alma_resolved.proofs.Scenes.{no_fault, no_fault_alone, no_faults_left, no_faults_right, or_left, or_right, and_false, not_false, same_number, clash, FoundFits, ReturnsFit, ReturnsSimple, Env, MeaningFits, TypingFits, value_laid, test_laid, base_simple, simple_too, LocatedFits, located_laid}
+use Rattle.alma_resolved.specs.Fits.{Place, own, Fits, LoopFits, Laid}
+use Rattle.alma_resolved.proofs.Fits.{laid_nil, laid_cons, laid_join, laid_wide, laid_one, laid_both, laid_outside, laid_stays, laid_leaves, When, when_is, when_some, when_none, when_all, when_map, when_then, when_both, when_node, when_unless, when_unless_none, when_weaker}
+use Rattle.alma_resolved.specs.Scenes.{FoundFits, ReturnsFit, ReturnsSimple, SceneFits}
+use Rattle.alma_resolved.proofs.Scenes.{no_fault, no_fault_alone, no_faults_left, no_faults_right, or_left, or_right, and_false, not_false, same_number, clash, MeaningFits, TypingFits, value_laid, test_laid, base_simple, simple_too, LocatedFits, located_laid}
 use Rattle.alma_resolved.proofs.ExprNodes.{typing_le, typing_wide}
 
 -- ---- statements in a row
@@ -45,7 +47,7 @@ no_stmts_fit k i n = laid_nil k i n n (omega arith)
 
 -- ---- assignment, conditions
 
-assigned_fits : {k : Place} {s : Scene} (e : Env k s) {lo mid hi : ℕ} (l : Located) (shape : ℕ) → base s l.shape ≡ base s shape → LocatedFits k s lo mid l → (m : Meaning) → MeaningFits k s mid hi shape m
+assigned_fits : {k : Place} {s : Scene} (e : SceneFits k s) {lo mid hi : ℕ} (l : Located) (shape : ℕ) → base s l.shape ≡ base s shape → LocatedFits k s lo mid l → (m : Meaning) → MeaningFits k s mid hi shape m
     → Laid k s.inside lo hi (stmt_phrases (assigned_to s l m))
 unfolding stmts_phrases
 assigned_fits {k} {s} e {lo} {mid} {hi} l shape same p (a_place d) h = by (is_structured s l.shape) refl
@@ -61,7 +63,7 @@ assigned_fits {k} {s} e {lo} {mid} {hi} l shape same p (a_test x) h =
     laid_cons (StmtPhrase (ir.Assign (desig_of l) (ir.Truth x) (range s l.shape))) (p.left ∙ e.table.simple l.shape (simple_too e shape l.shape (sym same) h.1), e.table.ordered l.shape)
     (laid_join (located_laid p) (laid_cons (ExprPhrase (ir.Truth x)) tt h.0))
 
-pub assign_fits : {k : Place} {s : Scene} (e : Env k s) {lo mid hi : ℕ} (v : Option (Located × Typing)) → When v (λ p. LocatedFits k s lo mid p.0 × TypingFits k s mid hi p.1)
+pub assign_fits : {k : Place} {s : Scene} (e : SceneFits k s) {lo mid hi : ℕ} (v : Option (Located × Typing)) → When v (λ p. LocatedFits k s lo mid p.0 × TypingFits k s mid hi p.1)
     → When (option_map (assigned s) (unless (assign_rules s v) v)) (λ x. Laid k s.inside lo hi (stmts_phrases x))
 assign_fits {k} {s} e {lo} {mid} {hi} v h =
     when_map {P = λ p. Laid k s.inside lo hi (stmt_phrases (assigned_to s p.0 p.1.meaning))} (assigned s)
@@ -69,17 +71,17 @@ assign_fits {k} {s} e {lo} {mid} {hi} v h =
     (λ p g. one_fits (assigned_to s p.0 p.1.meaning) g)
 
 -- an expression of base BOOLEAN
-pub boolean_simple : {k : Place} {s : Scene} (e : Env k s) (t : Typing) → test_rules s (Some t) ≡ [] → is_structured s t.shape ≡ false
+pub boolean_simple : {k : Place} {s : Scene} (e : SceneFits k s) (t : Typing) → test_rules s (Some t) ≡ [] → is_structured s t.shape ≡ false
 boolean_simple {k} {s} e t q = base_simple e t.shape 2 (omega arith) (not_false (has_boolean s t.shape) (no_fault_alone (not_test s t) fault.NotTest q))
 
-pub condition_fits : {k : Place} {s : Scene} (e : Env k s) {lo hi : ℕ} (v : Option Typing) → When v (TypingFits k s lo hi)
+pub condition_fits : {k : Place} {s : Scene} (e : SceneFits k s) {lo hi : ℕ} (v : Option Typing) → When v (TypingFits k s lo hi)
     → When (option_map (λ t. test_of t.meaning) (unless (test_rules s v) v)) (λ t. Laid k s.inside lo hi (test_phrases t))
 condition_fits {k} {s} e {lo} {hi} v h =
     when_map {P = λ t. Laid k s.inside lo hi (test_phrases (test_of t.meaning))} (λ t. test_of t.meaning) (when_node (test_rules s) v h (λ t g q. test_laid e (boolean_simple e t q) g)) (λ t g. g)
 
 -- ---- loops
 
-loop_name : {k : Place} {s : Scene} (e : Env k s) (n : ℕ) (f : Found) → FoundFits k s f → When (option_and_then located_in (denoted s f)) (LocatedFits k s n n)
+loop_name : {k : Place} {s : Scene} (e : SceneFits k s) (n : ℕ) (f : Found) → FoundFits k s f → When (option_and_then located_in (denoted s f)) (LocatedFits k s n n)
 unfolding sels_phrases
 loop_name e n absent h = when_none
 loop_name e n bad h = when_none
@@ -89,7 +91,7 @@ loop_name {k} {s} e n (variable shape root) h = when_some _ (record { root = h; 
 loop_name e n (routine q up None) h = when_none
 loop_name e n (routine q up (Some x)) h = when_none
 
-pub loop_name_fits : {k : Place} {s : Scene} (e : Env k s) (n : ℕ) (f : Found) → FoundFits k s f
+pub loop_name_fits : {k : Place} {s : Scene} (e : SceneFits k s) (n : ℕ) (f : Found) → FoundFits k s f
     → When (unless (loop_name_rules s f (option_and_then located_in (denoted s f))) (option_and_then located_in (denoted s f))) (LocatedFits k s n n)
 loop_name_fits {k} {s} e n f h = when_node (loop_name_rules s f) (option_and_then located_in (denoted s f)) (loop_name e n f h) (λ l g q. g)
 
@@ -120,7 +122,7 @@ pub record LoopIs (k : Place) (s : Scene) (lo hi : ℕ) (l : ir.Loop) : Type 0 w
   pub loop : LoopFits lo hi l
   pub laid : Laid k s.inside lo hi (loop_phrases l)
 
-loop_made : {k : Place} {s : Scene} (e : Env k s) (n m1 m2 m3 m4 : ℕ) (l : Located) (a b : Typing) (z : ℤ) (x : ir.Stmts) → LocatedFits k s (n + 2) (n + 2) l → TypingFits k s (n + 2) m1 a → TypingFits k s m1 m2 b
+loop_made : {k : Place} {s : Scene} (e : SceneFits k s) (n m1 m2 m3 m4 : ℕ) (l : Located) (a b : Typing) (z : ℤ) (x : ir.Stmts) → LocatedFits k s (n + 2) (n + 2) l → TypingFits k s (n + 2) m1 a → TypingFits k s m1 m2 b
     → (z ≡ pos 0 → ⊥) × (m2 ≤ m3) → Laid k s.inside m3 m4 (stmts_phrases x) → bad_loop s (Some a) (Some b) l ≡ false → LoopIs k s n m4 (loop_of s n (l, (a, (b, (z, x)))))
 unfolding stmts_phrases
 loop_made {k} {s} e n m1 m2 m3 m4 l a b z x hl ha hb hz hx q =
@@ -134,7 +136,7 @@ loop_made {k} {s} e n m1 m2 m3 m4 l a b z x hl ha hb hz hx q =
       laid = laid_wide n m4 (omega arith) (omega arith) whole;
     }
 
-pub loop_fits : {k : Place} {s : Scene} (e : Env k s) (n m1 m2 m3 m4 : ℕ) (va : Option Located) (vb vc : Option Typing) (vd : Option ℤ) (vx : Option ir.Stmts) → When va (LocatedFits k s (n + 2) (n + 2))
+pub loop_fits : {k : Place} {s : Scene} (e : SceneFits k s) (n m1 m2 m3 m4 : ℕ) (va : Option Located) (vb vc : Option Typing) (vd : Option ℤ) (vx : Option ir.Stmts) → When va (LocatedFits k s (n + 2) (n + 2))
     → When vb (TypingFits k s (n + 2) m1) → When vc (TypingFits k s m1 m2) → When vd (λ z. (z ≡ pos 0 → ⊥) × (m2 ≤ m3)) → When vx (λ x. Laid k s.inside m3 m4 (stmts_phrases x))
     → When (option_map (loop_of s n) (unless (loop_rules s va vb vc (both_of va (both_of vb (both_of vc (both_of vd vx))))) (both_of va (both_of vb (both_of vc (both_of vd vx)))))) (LoopIs k s n m4)
 loop_fits {k} {s} e n m1 m2 m3 m4 None vb vc vd vx ha hb hc hd hx =
@@ -289,7 +291,7 @@ label_ordered s (Some z) x y p q c =
     and_false (ends_with s (x, y)) (is_above x.constant y.constant) q (eq-eqb (base s x.shape) (base s y.shape) (sym low ∙ high))
 
 -- a label with both ends
-pub label_fits : {k : Place} {s : Scene} (e : Env k s) {lo mid hi : ℕ} (case : Option Typing) (earlier : List Span) (x y : Option Typing) → When x (λ t. lo ≤ mid) → When y (λ t. mid ≤ hi)
+pub label_fits : {k : Place} {s : Scene} (e : SceneFits k s) {lo mid hi : ℕ} (case : Option Typing) (earlier : List Span) (x y : Option Typing) → When x (λ t. lo ≤ mid) → When y (λ t. mid ≤ hi)
     → When (option_and_then (span_of s) (unless (label_rules s case earlier (span_of s) x y (both_of x y)) (both_of x y))) (SpanFits s case lo hi)
 label_fits {k} {s} e {lo} {mid} {hi} case earlier None y h g = when_then {P = λ p. ⊥} (span_of s) (when_unless_none (label_rules {A = Typing × Typing} s case earlier (span_of s) None y None)) (λ p b. absurd b)
 label_fits {k} {s} e {lo} {mid} {hi} case earlier (Some x) None h g = when_then {P = λ p. ⊥} (span_of s) (when_unless_none (label_rules {A = Typing × Typing} s case earlier (span_of s) (Some x) None None)) (λ p b. absurd b)
@@ -316,7 +318,7 @@ arms_when h g = when_map joined_cases (when_both h g) (λ p x. arms_join p.0 p.1
 abbrev pub case_of : Typing × (ir.CaseArms × ir.Else) → ir.Stmt
 case_of p = ir.Case (value_of p.0.meaning) p.1.0 p.1.1
 
-pub case_fits : {k : Place} {s : Scene} (e : Env k s) {lo mid m2 hi : ℕ} (v : Option Typing) (w : Option (ir.CaseArms × ir.Else)) → When v (TypingFits k s lo mid)
+pub case_fits : {k : Place} {s : Scene} (e : SceneFits k s) {lo mid m2 hi : ℕ} (v : Option Typing) (w : Option (ir.CaseArms × ir.Else)) → When v (TypingFits k s lo mid)
     → When w (λ p. ArmsFit k s v mid m2 p.0 × Laid k s.inside m2 hi (else_phrases p.1))
     → When (option_map case_of (unless (case_rules s v (both_of v w)) (both_of v w))) (λ x. Laid k s.inside lo hi (stmt_phrases x))
 unfolding stmts_phrases
@@ -339,7 +341,7 @@ bare_form : (k : Place) (s : Scene) (r : Returns) → ReturnsFit (own k) r → o
 bare_form k s nothing h q = h
 bare_form k s (a_value shape) h q = absurd (let bad : true ≡ false = q in cc)
 
-return_simple : {k : Place} {s : Scene} (e : Env k s) (r : Returns) (t : Typing) → other_result s r t ≡ false → other_form true r ≡ false → ReturnsSimple s r → is_structured s t.shape ≡ false
+return_simple : {k : Place} {s : Scene} (e : SceneFits k s) (r : Returns) (t : Typing) → other_result s r t ≡ false → other_form true r ≡ false → ReturnsSimple s r → is_structured s t.shape ≡ false
 return_simple e nothing t q f h = absurd (let bad : true ≡ false = f in cc)
 return_simple e (a_value None) t q f h = absurd h
 return_simple {k} {s} e (a_value (Some shape)) t q f h = simple_too e shape t.shape (same_number (base s shape) (base s t.shape) q) h
@@ -347,7 +349,7 @@ return_simple {k} {s} e (a_value (Some shape)) t q f h = simple_too e shape t.sh
 abbrev return_of : Typing → ir.Stmt
 return_of t = ir.Return (ir.some_result (value_of t.meaning))
 
-pub return_fits : {k : Place} {s : Scene} (e : Env k s) {lo hi : ℕ} (v : Option Typing) → When v (TypingFits k s lo hi) → When (option_map return_of (unless (return_rules s true v) v)) (λ x. Laid k s.inside lo hi (stmt_phrases x))
+pub return_fits : {k : Place} {s : Scene} (e : SceneFits k s) {lo hi : ℕ} (v : Option Typing) → When v (TypingFits k s lo hi) → When (option_map return_of (unless (return_rules s true v) v)) (λ x. Laid k s.inside lo hi (stmt_phrases x))
 unfolding stmts_phrases
 return_fits {k} {s} e {lo} {hi} v h =
     when_map {P = λ t. Laid k s.inside lo hi (stmt_phrases (return_of t))} return_of (when_node (return_rules s true) v h (λ t g q. made t g q)) (λ t g. g)
@@ -359,7 +361,7 @@ return_fits {k} {s} e {lo} {hi} v h =
         laid_cons (StmtPhrase (return_of t)) (no_fault_alone s.inside fault.JumpOut (no_faults_right (when (other_result s s.returns t) fault.TypeMismatch ++ when (other_form true s.returns) fault.ReturnForm) _ q), return_form k s s.returns e.returns form)
         (value_laid e (return_simple e s.returns t (no_fault (other_result s s.returns t) fault.TypeMismatch _ l).0 form e.result) g)
 
-pub bare_return_fits : {k : Place} {s : Scene} (e : Env k s) (n : ℕ) (t : Typing) → When (option_map (λ t. ir.Return ir.no_result) (unless (return_rules s false None) (Some t))) (λ x. Laid k s.inside n n (stmt_phrases x))
+pub bare_return_fits : {k : Place} {s : Scene} (e : SceneFits k s) (n : ℕ) (t : Typing) → When (option_map (λ t. ir.Return ir.no_result) (unless (return_rules s false None) (Some t))) (λ x. Laid k s.inside n n (stmt_phrases x))
 unfolding stmts_phrases
 bare_return_fits {k} {s} e n t = when_map {P = λ t. Laid k s.inside n n (stmt_phrases (ir.Return ir.no_result))} (λ t. ir.Return ir.no_result) (when_unless (return_rules s false None) t (λ q. made q)) (λ t g. g)
   where
@@ -373,21 +375,21 @@ true_of_or true b h = inl refl
 true_of_or false true h = inr refl
 true_of_or false false h = absurd (let bad : true ≡ false = h in cc)
 
-readable_simple : {k : Place} {s : Scene} (e : Env k s) (shape : ℕ) → not (has_integer s shape || has_char s shape) ≡ false → is_structured s shape ≡ false
+readable_simple : {k : Place} {s : Scene} (e : SceneFits k s) (shape : ℕ) → not (has_integer s shape || has_char s shape) ≡ false → is_structured s shape ≡ false
 readable_simple {k} {s} e shape q = by (true_of_or (has_integer s shape) (has_char s shape) q)
   where
     by : (has_integer s shape ≡ true) ⊎ (has_char s shape ≡ true) → is_structured s shape ≡ false
     by (inl h) = base_simple e shape 0 (omega arith) h
     by (inr h) = base_simple e shape 1 (omega arith) h
 
-writable_simple : {k : Place} {s : Scene} (e : Env k s) (shape : ℕ) → not (has_integer s shape || has_char s shape || has_boolean s shape) ≡ false → is_structured s shape ≡ false
+writable_simple : {k : Place} {s : Scene} (e : SceneFits k s) (shape : ℕ) → not (has_integer s shape || has_char s shape || has_boolean s shape) ≡ false → is_structured s shape ≡ false
 writable_simple {k} {s} e shape q = by (true_of_or (has_integer s shape || has_char s shape) (has_boolean s shape) q)
   where
     by : ((has_integer s shape || has_char s shape) ≡ true) ⊎ (has_boolean s shape ≡ true) → is_structured s shape ≡ false
     by (inl h) = readable_simple e shape (ap not h)
     by (inr h) = base_simple e shape 2 (omega arith) h
 
-pub read_fits : {k : Place} {s : Scene} (e : Env k s) {lo hi : ℕ} (v : Option Located) → When v (LocatedFits k s lo hi) → When (option_map (read_stmts s) (unless (read_rules s v) v)) (λ x. Laid k s.inside lo hi (stmts_phrases x))
+pub read_fits : {k : Place} {s : Scene} (e : SceneFits k s) {lo hi : ℕ} (v : Option Located) → When v (LocatedFits k s lo hi) → When (option_map (read_stmts s) (unless (read_rules s v) v)) (λ x. Laid k s.inside lo hi (stmts_phrases x))
 unfolding stmts_phrases
 read_fits {k} {s} e {lo} {hi} v h =
     when_map {P = λ l. Laid k s.inside lo hi (stmts_phrases (read_stmts s l))} (read_stmts s) (when_node (read_rules s) v h (λ l g q. made l g (readable_simple e l.shape (no_fault_alone (unreadable s l) fault.BadRead q)))) (λ l g. g)
@@ -395,7 +397,7 @@ read_fits {k} {s} e {lo} {hi} v h =
     made : (l : Located) → LocatedFits k s lo hi l → is_structured s l.shape ≡ false → Laid k s.inside lo hi (stmts_phrases (read_stmts s l))
     made l g simple = laid_one (laid_cons (StmtPhrase (ir.Read (desig_of l) (read_as s l.shape) (range s l.shape))) (g.left ∙ e.table.simple l.shape simple, e.table.ordered l.shape) (located_laid g))
 
-pub write_fits : {k : Place} {s : Scene} (e : Env k s) {lo hi : ℕ} (v : Option Typing) → When v (TypingFits k s lo hi) → When (option_map (write_stmts s) (unless (write_rules s v) v)) (λ x. Laid k s.inside lo hi (stmts_phrases x))
+pub write_fits : {k : Place} {s : Scene} (e : SceneFits k s) {lo hi : ℕ} (v : Option Typing) → When v (TypingFits k s lo hi) → When (option_map (write_stmts s) (unless (write_rules s v) v)) (λ x. Laid k s.inside lo hi (stmts_phrases x))
 unfolding stmts_phrases
 write_fits {k} {s} e {lo} {hi} v h =
     when_map {P = λ t. Laid k s.inside lo hi (stmts_phrases (write_stmts s t))} (write_stmts s) (when_node (write_rules s) v h (λ t g q. made t g (writable_simple e t.shape (no_fault_alone (unwritable s t) fault.BadWrite q)))) (λ t g. g)
@@ -407,7 +409,7 @@ pub text_fits : {k : Place} (s : Scene) (n : ℕ) (text : List ℕ) → When (un
 unfolding stmts_phrases
 text_fits {k} s n text = when_unless (text_rules s (Some (one_stmt (ir.WriteText text)))) (one_stmt (ir.WriteText text)) (λ q. laid_one (laid_cons (StmtPhrase (ir.WriteText text)) tt (laid_nil k s.inside n n (omega arith))))
 
-pub item_fits : {k : Place} {s : Scene} (e : Env k s) (n node : ℕ) (o : Option (ℕ × ℕ)) (j : Judged Typing) → When j.value (TypingFits k s n j.next)
+pub item_fits : {k : Place} {s : Scene} (e : SceneFits k s) (n node : ℕ) (o : Option (ℕ × ℕ)) (j : Judged Typing) → When j.value (TypingFits k s n j.next)
     → When (item_of s n node o j).value (λ x. Laid k s.inside n (item_of s n node o j).next (stmts_phrases x))
 item_fits {k} {s} e n node None j h = write_fits e j.value h
 item_fits {k} {s} e n node (Some l) j h = by (nat_eq (length (literal_at s l.1)) 1)
