@@ -4,4 +4,6 @@ pub mod ExprNodes
 pub mod StmtNodes
 pub mod Exact
 pub mod Walks
+pub mod Checks
 pub mod Lookups
+pub mod TypesSound

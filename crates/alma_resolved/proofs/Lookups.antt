@@ -182,32 +182,34 @@ IsPlain entry.Bad = ⊥
 abbrev pub grown : Scene → List PlainShape → List DeclaredName → Scene
 grown s u ds = record s { shapes = s.shapes ++ u; blocks = record { below = s.blocks.below; top = s.blocks.top ++ ds } }
 
--- a scene with more shapes, and with more names on top, none of them Bad or a routine
-pub record Grown (s t : Scene) : Type 0 where
+-- a scene with more shapes, and with more names on top, visible from a token on, none of them Bad or a routine
+pub record Grown (lo : ℕ) (s t : Scene) : Type 0 where
   pub shapes : List PlainShape
   pub names : List DeclaredName
   pub plain : AllByRecursion (λ d. IsPlain d.entry) names
+  pub behind : AllByRecursion (λ d. lo ≤ d.from) names
   pub is : t ≡ grown s shapes names
 
-pub grown_same : (s : Scene) → Grown s s
-grown_same s = record { shapes = []; names = []; plain = tt; is = same }
+pub grown_same : (lo : ℕ) (s : Scene) → Grown lo s s
+grown_same lo s = record { shapes = []; names = []; plain = tt; behind = tt; is = same }
   where
     same : s ≡ grown s [] []
     same = rw (append-nil s.shapes, append-nil s.blocks.top) refl
 
-pub grown_twice : {s t u : Scene} → Grown s t → Grown t u → Grown s u
-grown_twice {s} {t} {u} a b = record {
+pub grown_twice : {lo : ℕ} {s t u : Scene} → Grown lo s t → Grown lo t u → Grown lo s u
+grown_twice {lo} {s} {t} {u} a b = record {
   shapes = a.shapes ++ b.shapes;
   names = a.names ++ b.names;
   plain = each_of_append (λ d. IsPlain d.entry) a.names b.names a.plain b.plain;
+  behind = each_of_append (λ d. lo ≤ d.from) a.names b.names a.behind b.behind;
   is = b.is ∙ (ap (λ x. grown x b.shapes b.names) a.is ∙ again);
 }
   where
     again : grown (grown s a.shapes a.names) b.shapes b.names ≡ grown s (a.shapes ++ b.shapes) (a.names ++ b.names)
     again = rw (append_assoc s.shapes a.shapes b.shapes, append_assoc s.blocks.top a.names b.names) refl
 
-pub grown_each : (P : ℕ → Entry → Type 0) → ((n : ℕ) (e : Entry) → IsPlain e → P n e) → {s t : Scene} → Grown s t → Each P s → Each P t
-grown_each P f {s} {t} g h = subst (λ x. Each P x) (sym g.is) (each_more P 0 s.blocks.below s.blocks.top g.names h (each_follows (λ d. IsPlain d.entry) (λ d. (m : ℕ) → P m d.entry) (λ d k m. f m d.entry k) g.names g.plain))
+pub grown_each : (P : ℕ → Entry → Type 0) → ((n : ℕ) (e : Entry) → IsPlain e → P n e) → {lo : ℕ} {s t : Scene} → Grown lo s t → Each P s → Each P t
+grown_each P f {lo} {s} {t} g h = subst (λ x. Each P x) (sym g.is) (each_more P 0 s.blocks.below s.blocks.top g.names h (each_follows (λ d. IsPlain d.entry) (λ d. (m : ℕ) → P m d.entry) (λ d k m. f m d.entry k) g.names g.plain))
 
 pub plain_not_bad : (n : ℕ) (e : Entry) → IsPlain e → NotBad n e
 plain_not_bad n (entry.Constant shape v) h = tt
@@ -217,12 +219,12 @@ plain_not_bad n (entry.Routine r) h = tt
 plain_not_bad n entry.Bad h = h
 
 -- a name is declared, or it is not the first of its name
-pub grown_declared : (s : Scene) (name : tree.Name) (from : ℕ) (e : Entry) → IsPlain e → Grown s (declared s name from e)
-grown_declared s name from e h = by (is_first s name)
+pub grown_declared : {lo : ℕ} (s : Scene) (name : tree.Name) (from : ℕ) (e : Entry) → IsPlain e → lo ≤ from → Grown lo s (declared s name from e)
+grown_declared {lo} s name from e h le = by (is_first s name)
   where
-    by : (c : Bool) → Grown s (if c then record s { blocks = with_declared s.blocks (record { name = text_at s name.token; from = from; entry = e }) } else s)
-    by true = record { shapes = []; names = record { name = text_at s name.token; from = from; entry = e } ∷ []; plain = (h, tt); is = rw (append-nil s.shapes) refl }
-    by false = grown_same s
+    by : (c : Bool) → Grown lo s (if c then record s { blocks = with_declared s.blocks (record { name = text_at s name.token; from = from; entry = e }) } else s)
+    by true = record { shapes = []; names = record { name = text_at s name.token; from = from; entry = e } ∷ []; plain = (h, tt); behind = (le, tt); is = rw (append-nil s.shapes) refl }
+    by false = grown_same lo s
 
-pub grown_shape : (s : Scene) (x : PlainShape) → Grown s (record s { shapes = s.shapes ++ x ∷ [] })
-grown_shape s x = record { shapes = x ∷ []; names = []; plain = tt; is = rw (append-nil s.blocks.top) refl }
+pub grown_shape : (lo : ℕ) (s : Scene) (x : PlainShape) → Grown lo s (record s { shapes = s.shapes ++ x ∷ [] })
+grown_shape lo s x = record { shapes = x ∷ []; names = []; plain = tt; behind = tt; is = rw (append-nil s.blocks.top) refl }
