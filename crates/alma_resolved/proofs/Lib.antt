@@ -6,4 +6,5 @@ pub mod Exact
 pub mod Walks
 pub mod Checks
 pub mod Lookups
+pub mod Later
 pub mod TypesSound

@@ -61,7 +61,7 @@ in_range P n id (b ∷ bs) top h lt = by (nat_lt id (length b)) refl (λ l. in_r
         back l (nat_lt id (length b + entries_of bs)) (nat_lt (id - length b) (entries_of bs)) refl refl (rest l)
 
 -- a place that is seen is one of the block
-seen_in : (name : List ℕ) (at : ℕ) (b : List DeclaredName) (i : ℕ) → seen name at b ≡ Some i → i < length b
+pub seen_in : (name : List ℕ) (at : ℕ) (b : List DeclaredName) (i : ℕ) → seen name at b ≡ Some i → i < length b
 seen_in name at b i e = by (place name b) e
   where
     visible_in : (j : ℕ) (d : Option DeclaredName) → slice_get b j ≡ d → (if is_visible at d then Some j else None) ≡ Some i → i < length b
@@ -76,7 +76,7 @@ seen_in name at b i e = by (place name b) e
     by None e = absurd (cc)
     by (Some j) e = visible_in j (slice_get b j) refl e
 
-from_in : (name : List ℕ) (at n : ℕ) (bs : List (List DeclaredName)) (id : ℕ) → visible_from name at n bs ≡ Some id → id < n + entries_of bs
+pub from_in : (name : List ℕ) (at n : ℕ) (bs : List (List DeclaredName)) (id : ℕ) → visible_from name at n bs ≡ Some id → id < n + entries_of bs
 from_in name at n [] id e = absurd (cc)
 from_in name at n (b ∷ bs) id e = by (visible_from name at (n + length b) bs) (seen name at b) refl refl e (λ x q. from_in name at (n + length b) bs x q)
   where
