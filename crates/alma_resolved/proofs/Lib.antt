@@ -8,3 +8,4 @@ pub mod Checks
 pub mod Lookups
 pub mod Later
 pub mod TypesSound
+pub mod HeadsSound

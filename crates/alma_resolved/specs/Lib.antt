@@ -1,3 +1,4 @@
 pub mod Fits
 pub mod Scenes
 pub mod Keeps
+pub mod Stand
