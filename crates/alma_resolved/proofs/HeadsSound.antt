@@ -239,3 +239,21 @@ head_each P plain s r n params result b t h =
     by : (d : List CheckFault) → Each P (headed (read_formals (first_frame s r params b) (formals_of params)) result).frame.scene → Each P (with_depth d n (headed (read_formals (first_frame s r params b) (formals_of params)) result)).frame.scene
     by [] h = h
     by (x ∷ xs) h = h
+
+formals_grown : (f : Frame) (xs : List tree.Formal) → FormalsThere f xs → Grown 0 f.scene (read_formals f xs).scene
+unfolding FormalsThere
+formals_grown f [] t = grown_same 0 f.scene
+formals_grown f (x ∷ xs) t =
+    grown_twice (params_grown f (x.type_name.token + 1) x.mode (read_type_name f.scene x.type_name).value (all_names x.names) t.0) (formals_grown (formal_in f x (read_type_name f.scene x.type_name)) xs t.1)
+
+-- a heading leaves the headings that were read
+pub head_headings : (s : Scene) (r n : ℕ) (params : Option tree.Params) (result : Option tree.Name) (b : tree.Block) → HeadThere s r params result b → (read_heading s r n params result b).frame.scene.headings ≡ (first_frame s r params b).scene.headings
+head_headings s r n params result b t = by (too_deep s) ∙ (result_same result ∙ ap (λ x. x.headings) (formals_grown (first_frame s r params b) (formals_of params) t.formals).is)
+  where
+    by : (d : List CheckFault) → (with_depth d n (headed (read_formals (first_frame s r params b) (formals_of params)) result)).frame.scene.headings ≡ (headed (read_formals (first_frame s r params b) (formals_of params)) result).frame.scene.headings
+    by [] = refl
+    by (x ∷ xs) = refl
+
+    result_same : (o : Option tree.Name) → (headed (read_formals (first_frame s r params b) (formals_of params)) o).frame.scene.headings ≡ (read_formals (first_frame s r params b) (formals_of params)).scene.headings
+    result_same None = refl
+    result_same (Some name) = refl

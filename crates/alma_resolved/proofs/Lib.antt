@@ -9,3 +9,5 @@ pub mod Lookups
 pub mod Later
 pub mod TypesSound
 pub mod HeadsSound
+pub mod DeclsSound
+pub mod ModuleSound

@@ -16,7 +16,7 @@ use Rattle.alma_rules.specs.Types.{declared}
 use Rattle.alma_rules.proofs.Sound.{IsKnown, NoBad}
 
 -- a fact of each entry, with the number of its block
-pub AllFrom : (ℕ → Entry → Type 0) → ℕ → List (List DeclaredName) → List DeclaredName → Type 0
+unfoldable pub AllFrom : (ℕ → Entry → Type 0) → ℕ → List (List DeclaredName) → List DeclaredName → Type 0
 AllFrom P n [] top = AllByRecursion (λ d. P n d.entry) top
 AllFrom P n (b ∷ bs) top = AllByRecursion (λ d. P n d.entry) b × AllFrom P (n + 1) bs top
 
