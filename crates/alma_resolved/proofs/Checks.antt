@@ -1,15 +1,15 @@
 -- A phrase that fits keeps each condition on phrases.
-use Rattle.std.proofs.Common.{◌≡◌, ℕ, suc, ◌+◌, ◌<◌, ◌≤◌, pos, Bool, List, Option, Some, arith}
+use Rattle.std.proofs.Common.{◌≡◌, ℕ, ◌≤◌, Bool, Some, arith}
 use Rattle.std.specs.List.{AllByRecursion}
 use Rattle.alma_ir.specs.declared.phrase.Root.TheVariants as root
-use Rattle.alma_ir.specs.Tree.{Program, Loop, routine_at, Assign, CopyCells, ForTo, SomeOf, Case, Either, Forall, Commit, Return, Read, no_branches, a_loop, no_result, some_result, Bind, Unify, SameCells, Seq, Or, CallTest, no_tests, Load, Known, CallExpr, ByValue, MixValue, a_desig, Index, Stmts}
+use Rattle.alma_ir.specs.Tree.{routine_at, Assign, CopyCells, ForTo, SomeOf, Case, Either, Forall, Commit, Return, Read, no_branches, a_loop, no_result, some_result, Bind, Unify, SameCells, Seq, Or, CallTest, no_tests, Load, Known, CallExpr, ByValue, MixValue, a_desig, Index, Stmts}
 use Rattle.alma_ir.specs.Phrases.{Phrase, StmtPhrase, TestPhrase, ExprPhrase, ArgPhrase, DesigPhrase, SelPhrase, stmts_phrases}
 use Rattle.alma_ir.specs.Checked.{RootExists, PartsExist, CellsAgree, RangesOrdered, HasStep, loops_of, CalleeExists, ResultAgrees, CallLeads, CallFits, HasChoice, ReturnAgrees, ReturnsStay, AreNumbers, outer_at}
 use Rattle.alma_ir.proofs.Each.{each_follows}
 use Rattle.alma_rules.specs.Numbered as tree
 use Rattle.alma_rules.specs.Scene.{Scene}
 use Rattle.alma_rules.specs.Walk.{judge_stmts}
-use Rattle.alma_resolved.specs.Fits.{Place, Fits, InFrame, LoopFits, Laid}
+use Rattle.alma_resolved.specs.Fits.{Place, Fits, InFrame, Laid}
 use Rattle.alma_resolved.specs.Scenes.{SceneFits}
 use Rattle.alma_resolved.specs.Keeps.{KeepsPhrase}
 use Rattle.alma_resolved.proofs.Fits.{when_is}

@@ -1,8 +1,7 @@
 -- Declarations: where no rule is broken, no entry is Bad, and all headings of a block are there behind its declarations.
-use Rattle.std.proofs.Common.{◌≡◌, ◌≢◌, ℕ, zero, suc, ◌+◌, ◌<◌, ◌≤◌, ◌⊎◌, inl, inr, ℤ, Bool, true, false, List, [], ◌∷◌, ◌++◌, length, get_or, set, Option, None, Some, refl, sym, ap, ◌∙◌, subst, arith, append_assoc, append-nil}
-use Rattle.std.specs.Prelude.{option_map, nat_eq, if◌then◌else◌}
+use Rattle.std.proofs.Common.{◌≡◌, ◌≢◌, ℕ, ◌+◌, ◌≤◌, ◌⊎◌, inl, inr, ℤ, Bool, true, false, List, [], ◌∷◌, ◌++◌, length, get_or, set, Option, None, Some, refl, sym, ap, ◌∙◌, subst, arith, append_assoc, append-nil}
+use Rattle.std.specs.Prelude.{nat_eq, if◌then◌else◌}
 use Rattle.std.specs.List.{AllByRecursion}
-use Rattle.std.proofs.lemmas.Bool.{eqb-true}
 use Rattle.std.proofs.lemmas.Bool.Decides.{eqb_tells}
 use Rattle.std.proofs.lemmas.List.{get_or-set_same, get_or-set_other, length-set}
 use Rattle.alma_base.specs.Choice.{if_true}
@@ -16,16 +15,15 @@ use Rattle.alma_rules.specs.Numbered as tree
 use Rattle.alma_rules.specs.Judged.{broken_at}
 use Rattle.alma_rules.specs.Scene.{Scene, Heading, Returns, is_first, in_constant, text_at}
 use Rattle.alma_rules.specs.Parts.{Typing}
-use Rattle.alma_rules.specs.Walk.{judge_expr}
 use Rattle.alma_rules.specs.Types.{declared, redeclared, read_constant, read_type, all_names, last_token, type_names}
 use Rattle.alma_rules.specs.Places.{width, mark_expr, mark_type}
 use Rattle.alma_rules.specs.Decls.{Frame, with_faults, with_scene, limited, constant_entry, constant_from, constant_in, read_consts, type_entry, type_in, read_types, variable_access, with_variable, variable_in, variables_in, variables_of, read_vars, const_names, type_entry_names, var_names, decl_names, decls_names, block_names, with_texts, block_routines, decls_routines, decl_routines, with_routine, with_routines, with_block, read_heading, heading_in, read_decl, read_decls}
 use Rattle.alma_rules.proofs.Sound.{IsThere, IsTyped, nil_left, nil_right}
-use Rattle.alma_resolved.specs.Stand.{IsBefore, DeclsStand, DeclStands, BlockStands}
-use Rattle.alma_resolved.proofs.Lookups.{AllFrom, Each, NotBad, HeadingThere, IsPlain, Grown, grown, grown_same, grown_twice, grown_each, grown_declared, plain_not_bad, each_new_block, each_more}
-use Rattle.alma_resolved.proofs.TypesSound.{From, from_front, from_back, last_from, Good, type_good, typed_good}
+use Rattle.alma_resolved.specs.Stand.{DeclsStand, DeclStands}
+use Rattle.alma_resolved.proofs.Lookups.{Each, NotBad, HeadingThere, IsPlain, Grown, grown, grown_same, grown_twice, grown_each, grown_declared, plain_not_bad, each_new_block, each_more}
+use Rattle.alma_resolved.proofs.TypesSound.{From, from_front, from_back, last_from, type_good, typed_good}
 use Rattle.alma_resolved.proofs.Later.{Outer, extended_more, all_extended_self}
-use Rattle.alma_resolved.proofs.HeadsSound.{first_frame, HeadThere, head_later, head_sound}
+use Rattle.alma_resolved.proofs.HeadsSound.{HeadThere, head_later, head_sound}
 
 -- ---- scenes that move
 
@@ -82,7 +80,7 @@ consts_grown lo f [] b h e = grown_same lo f.scene
 consts_grown lo f (x ∷ xs) b h e =
     let q = nil_right _ _ (consts_quiet (constant_in f x (read_constant f.scene x.value)) xs e) in
     let g : Grown lo f.scene (constant_in f x (read_constant f.scene x.value)).scene =
-        grown_declared f.scene x.name (x.name.token + 3 + width (mark_expr x.value)) (constant_entry (read_constant f.scene x.value).value) (constant_plain f.scene _ (typed_good f.scene h x.value q)) (omega (arith, b.0)) in
+    grown_declared f.scene x.name (x.name.token + 3 + width (mark_expr x.value)) (constant_entry (read_constant f.scene x.value).value) (constant_plain f.scene _ (typed_good f.scene h x.value q)) (omega (arith, b.0)) in
     grown_twice g (consts_grown lo (constant_in f x (read_constant f.scene x.value)) xs b.1 (grown_each NotBad plain_not_bad g h) e)
 
 types_quiet : (f : Frame) (xs : List tree.TypeEntry) → (read_types f xs).faults ≡ [] → f.faults ≡ []
@@ -99,7 +97,7 @@ types_grown lo f (x ∷ xs) b h e =
     let q = nil_right _ _ (types_quiet (type_in f x (read_type f.scene x.type_node)) xs e) in
     let r = type_good lo f.scene h x.type_node (from_front lo (type_names x.type_node) (type_entry_names xs) b.1) q in
     let g : Grown lo f.scene (type_in f x (read_type f.scene x.type_node)).scene =
-        grown_twice r.grown (grown_declared (read_type f.scene x.type_node).scene x.name (x.name.token + 3 + width (mark_type x.type_node)) (type_entry (read_type f.scene x.type_node).value) (type_plain _ r.there) (omega (arith, b.0))) in
+    grown_twice r.grown (grown_declared (read_type f.scene x.type_node).scene x.name (x.name.token + 3 + width (mark_type x.type_node)) (type_entry (read_type f.scene x.type_node).value) (type_plain _ r.there) (omega (arith, b.0))) in
     grown_twice g (types_grown lo (type_in f x (read_type f.scene x.type_node)) xs (from_back lo (type_names x.type_node) (type_entry_names xs) b.1) (grown_each NotBad plain_not_bad g h) e)
 
 -- ---- variables
@@ -153,7 +151,7 @@ vars_grown lo f (x ∷ xs) b h e =
     let last : lo ≤ last_token x.names.first x.names.more + 2 = last_from lo x.names.first x.names.more (from_front lo (all_names x.names) (type_names x.type_node) front) in
     let r = type_good lo f.scene h x.type_node (from_back lo (all_names x.names) (type_names x.type_node) front) q in
     let g : Grown lo f.scene (variables_of f x (read_type f.scene x.type_node)).scene =
-        grown_twice r.grown (variables_grown lo (with_scene f (read_type f.scene x.type_node).scene) (vars_from x) (read_type f.scene x.type_node).value (all_names x.names) (omega (arith, last)) r.there) in
+    grown_twice r.grown (variables_grown lo (with_scene f (read_type f.scene x.type_node).scene) (vars_from x) (read_type f.scene x.type_node).value (all_names x.names) (omega (arith, last)) r.there) in
     grown_twice g (vars_grown lo (variables_of f x (read_type f.scene x.type_node)) xs (from_back lo (all_names x.names ++ type_names x.type_node) (var_names xs) b) (grown_each NotBad plain_not_bad g h) e)
 
 -- ---- a new block

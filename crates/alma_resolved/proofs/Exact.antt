@@ -1,7 +1,6 @@
 -- An expression is exactly a designator of a variable, or it means no place.
-use Rattle.std.proofs.Common.{◌≡◌, ℕ, zero, suc, ◌+◌, ◌<◌, ◌≤◌, ◌⊎◌, inl, inr, ℤ, pos, Bool, true, false, List, [], ◌∷◌, ◌++◌, length, Option, None, Some, refl, sym, ap, ◌∙◌, subst, arith}
-use Rattle.std.specs.Prelude.{option_map, option_and_then, slice_get, nat_eq, if◌then◌else◌}
-use Rattle.alma_base.specs.declared.fault.CheckFault.{CheckFault}
+use Rattle.std.proofs.Common.{◌≡◌, ℕ, Bool, true, false, List, [], ◌∷◌, Option, None, Some, refl, sym, ap, subst}
+use Rattle.std.specs.Prelude.{option_map, option_and_then}
 use Rattle.alma_tree.specs.declared.leaf.Relation.{Relation}
 use Rattle.alma_tree.specs.declared.leaf.Relation.TheVariants as relations
 use Rattle.alma_tree.specs.declared.leaf.Sign.{Sign}
@@ -10,12 +9,12 @@ use Rattle.alma_tree.specs.declared.leaf.AddOperator.{AddOperator}
 use Rattle.alma_tree.specs.declared.leaf.MulOperator.{MulOperator}
 use Rattle.alma_ir.specs.Tree as ir
 use Rattle.alma_rules.specs.Numbered as tree
-use Rattle.alma_rules.specs.Judged.{Judged, unless, both_of, at_node, with, with_some, both, and_then}
-use Rattle.alma_rules.specs.Scene.{Scene, Heading, Found, absent, bad, constant, named, variable, routine, found, inside_of, text_at, is_structured, row_at, literal_at}
-use Rattle.alma_rules.specs.Parts.{Meaning, a_place, plain, a_test, Typing, value_of, no_place, without_place, boolean_typing, Denoted, a_constant, a_variable, a_routine, no_array, denoted, field_of, field_part, select_field, select_in, select_index, typing_in, called, Callee, callee_in, call_typing, related, relation_of, equation_of, compare_of, Operator, arithmetic, logical, Operands, add_operator, mul_operator, desig_of, chain_of, chained}
+use Rattle.alma_rules.specs.Judged.{Judged, unless, both_of, both, and_then}
+use Rattle.alma_rules.specs.Scene.{Scene, Found, absent, bad, constant, named, variable, routine, found, inside_of, text_at, row_at, literal_at}
+use Rattle.alma_rules.specs.Parts.{Meaning, a_place, plain, a_test, Typing, no_place, without_place, boolean_typing, Denoted, a_constant, a_variable, a_routine, no_array, denoted, field_of, field_part, select_field, select_in, select_index, typing_in, called, Callee, callee_in, call_typing, related, relation_of, equation_of, Operator, arithmetic, logical, Operands, add_operator, mul_operator, desig_of, chain_of, chained}
 use Rattle.alma_rules.specs.ExprRules.{as_value, as_procedure, exactly, alone, argument_desig, argument_kind_of, literal_rules, not_rules, chain_rules, call_rules, Argument, other, of_bad, of_variable, argument_kind, argument_found, Operand, operand_rules, index_rules, name_rules, desig_rules}
-use Rattle.alma_rules.specs.Nodes.{is_selected, indexed, judge_name, or_sequence, in_parens, as_sequence, known_typing, ord_typing, chr_typing, not_typing, called_at, chain_at, cons_operand, any_and, any_or, argument_count, formals_of, operand_behind, first_mul, first_add, sum_at, product_at}
-use Rattle.alma_rules.specs.Walk.{judge_expr, judge_simple, judge_term, judge_terms, judge_factor, judge_factors, judge_primary, judge_desig, judge_selectors, judge_selector, judge_indices, judge_index_tail, judge_only, judge_stmts, judge_arguments}
+use Rattle.alma_rules.specs.Nodes.{is_selected, indexed, judge_name, or_sequence, in_parens, as_sequence, known_typing, ord_typing, chr_typing, not_typing, cons_operand, any_and, any_or, argument_count, formals_of, operand_behind, first_mul, first_add, sum_at, product_at}
+use Rattle.alma_rules.specs.Walk.{judge_expr, judge_term, judge_terms, judge_factor, judge_factors, judge_primary, judge_desig, judge_selectors, judge_selector, judge_indices, judge_index_tail, judge_only, judge_stmts, judge_arguments}
 use Rattle.alma_resolved.proofs.Fits.{When, when_some, when_none, when_all, when_map, when_then, when_both, when_node, when_weaker}
 use Rattle.alma_resolved.proofs.ExprNodes.{KindFits}
 
@@ -209,7 +208,7 @@ primary_other s n (tree.literal k t) e = when_node (literal_rules s (literal_at 
 primary_other s n (tree.named k d tree.no_args) e = absurd (cc)
 primary_other s n (tree.named k d tree.empty_args) e = called_other s (option_and_then callee_in (judge_desig s n as_procedure d).value) 0 (Some ir.no_args)
 primary_other s n (tree.named k d (tree.args items)) e = called_other s (option_and_then callee_in (judge_desig s n as_procedure d).value) (argument_count items)
-      (judge_arguments s (judge_desig s n as_procedure d).next (formals_of (option_and_then callee_in (judge_desig s n as_procedure d).value)) items).value
+    (judge_arguments s (judge_desig s n as_procedure d).next (formals_of (option_and_then callee_in (judge_desig s n as_procedure d).value)) items).value
 primary_other s n (tree.paren k body) e = by (judge_only s n body)
   where
     by : (o : Option (Judged Typing)) → When (or_sequence o (in_parens s k) (λ u. as_sequence s k (judge_stmts (inside_of s) n body))).value TypingNoPlace

@@ -1,9 +1,8 @@
 -- What the nodes of expressions make of parts that fit.
-use Rattle.std.proofs.Common.{◌≡◌, ℕ, zero, suc, ◌+◌, ◌*◌, ◌<◌, ◌≤◌, ℤ, pos, Bool, true, false, List, [], ◌∷◌, ◌++◌, length, Option, None, Some, refl, sym, ap, ◌∙◌, subst, arith}
-use Rattle.std.specs.Prelude.{not, is_some, ◌&&◌, ◌||◌, nat_eq, slice_get, option_map, option_and_then, if◌then◌else◌}
+use Rattle.std.proofs.Common.{◌≡◌, ℕ, ◌≤◌, Bool, true, false, List, [], ◌∷◌, ◌++◌, length, Option, None, Some, refl, sym, ap, ◌∙◌, subst, arith}
+use Rattle.std.specs.Prelude.{not, is_some, ◌&&◌, ◌||◌, nat_eq, option_map, if◌then◌else◌}
 use Rattle.alma_base.specs.declared.fault.CheckFault.{CheckFault}
 use Rattle.alma_base.specs.declared.fault.CheckFault.TheVariants as fault
-use Rattle.alma_base.specs.Numbers.{whole_range}
 use Rattle.alma_tree.specs.declared.leaf.Relation.{Relation}
 use Rattle.alma_tree.specs.declared.leaf.Relation.TheVariants as relations
 use Rattle.alma_tree.specs.declared.leaf.Sign.{Sign}
@@ -12,23 +11,21 @@ use Rattle.alma_tree.specs.declared.leaf.Mode.{Mode}
 use Rattle.alma_tree.specs.declared.leaf.Mode.TheVariants as modes
 use Rattle.alma_ir.specs.declared.phrase.Cmp.{Cmp}
 use Rattle.alma_ir.specs.declared.phrase.Cmp.TheVariants as compares
-use Rattle.alma_ir.specs.declared.phrase.Op.{Op}
 use Rattle.alma_ir.specs.declared.program.Param.{Param}
-use Rattle.alma_ir.specs.declared.program.ArgKind.TheVariants as kinds
 use Rattle.alma_ir.specs.Tree as ir
 use Rattle.alma_ir.specs.Tree.{routine_at}
-use Rattle.alma_ir.specs.Phrases.{Phrase, StmtPhrase, ExprPhrase, TestPhrase, ArgPhrase, DesigPhrase, SelPhrase, expr_phrases, test_phrases, tests_phrases, links_phrases, desig_phrases, sels_phrases, sel_phrases, arg_phrases, args_phrases, stmts_phrases}
-use Rattle.alma_ir.specs.Checked.{desig_cells, ArgFits, ArgsFit, IsPart}
-use Rattle.alma_rules.specs.Judged.{Judged, unless, both_of, when, holds, at_node, both, with}
-use Rattle.alma_rules.specs.Scene.{Scene, Heading, FormalOf, Found, absent, bad, constant, named, variable, routine, inside_of, base, cells, range, is_structured, has_integer, has_boolean, row_at}
-use Rattle.alma_rules.specs.Parts.{Meaning, a_place, plain, a_test, Typing, value_of, test_of, no_place, integer_typing, char_typing, boolean_typing, Located, desig_of, Denoted, a_constant, a_variable, a_routine, no_array, denoted, field_of, field_part, select_field, element_part, select_in, select_index, typing_in, located_in, callee_in, Callee, call_typing, called, argument_of, simple_argument, structured_argument, related, relation_of, equation_of, compare_of, Operator, arithmetic, logical, Operands, links_of, tests_of, chain_of, chain_shape, chained, arithmetic_of}
-use Rattle.alma_rules.specs.ExprRules.{Use, as_variable, as_value, as_procedure, is_equation, relation_rules, unlike, Operand, operand_rules, no_operand, other_sort, logical_operand, arithmetic_operand, not_test, chain_rules, not_rules, index_rules, other_index, wants_arguments, has_formals, Argument, other, of_bad, of_variable, argument_rules, argument_rules_of, not_fitting, is_var, other_type, call_rules, other_count, not_variable, name_rules, constant_rules}
-use Rattle.alma_rules.specs.Nodes.{cons_operand, not_typing, sum_at, product_at, chain_at}
+use Rattle.alma_ir.specs.Phrases.{ExprPhrase, TestPhrase, ArgPhrase, SelPhrase, expr_phrases, test_phrases, tests_phrases, links_phrases, sels_phrases, sel_phrases, arg_phrases, args_phrases}
+use Rattle.alma_ir.specs.Checked.{desig_cells, ArgFits, ArgsFit}
+use Rattle.alma_rules.specs.Judged.{unless, both_of, when}
+use Rattle.alma_rules.specs.Scene.{Scene, Heading, FormalOf, Found, absent, bad, constant, named, variable, routine, inside_of, base, cells, range, is_structured, has_integer, row_at}
+use Rattle.alma_rules.specs.Parts.{Meaning, a_place, plain, a_test, Typing, value_of, test_of, Denoted, a_constant, a_variable, a_routine, no_array, denoted, field_of, field_part, select_field, select_in, select_index, typing_in, located_in, callee_in, Callee, call_typing, called, argument_of, simple_argument, structured_argument, related, relation_of, equation_of, Operator, arithmetic, logical, Operands, links_of, tests_of, chain_of, chain_shape, chained, arithmetic_of}
+use Rattle.alma_rules.specs.ExprRules.{Use, as_variable, as_value, as_procedure, is_equation, relation_rules, unlike, Operand, operand_rules, no_operand, other_sort, logical_operand, arithmetic_operand, not_test, chain_rules, index_rules, other_index, wants_arguments, has_formals, Argument, other, of_bad, of_variable, argument_rules, argument_rules_of, not_fitting, is_var, other_type, call_rules, other_count, not_variable, name_rules}
+use Rattle.alma_rules.specs.Nodes.{cons_operand, not_typing}
 use Rattle.alma_rules.specs.Decls.{param_kind}
-use Rattle.alma_resolved.specs.Fits.{Place, own, Calls, Laid}
-use Rattle.alma_resolved.proofs.Fits.{laid_nil, laid_cons, laid_join, laid_wide, laid_one, laid_both, laid_outside, When, when_some, when_none, when_all, when_map, when_then, when_both, when_node, when_unless, when_unless_none, when_weaker}
+use Rattle.alma_resolved.specs.Fits.{Place, Laid}
+use Rattle.alma_resolved.proofs.Fits.{laid_nil, laid_cons, laid_join, laid_wide, laid_both, laid_outside, When, when_some, when_none, when_map, when_node, when_unless, when_unless_none}
 use Rattle.alma_resolved.specs.Scenes.{CalleeFits, FormalFits, FormalsFit, ResultFits, FoundFits, SceneFits}
-use Rattle.alma_resolved.proofs.Scenes.{no_fault, no_fault_alone, no_faults_left, no_faults_right, or_left, or_right, and_false, not_false, same_number, clash, env_inside, MeaningFits, TypingFits, value_laid, test_laid, no_place_fits, wide_meaning, base_simple, simple_too, LocatedFits, located_laid, selected}
+use Rattle.alma_resolved.proofs.Scenes.{no_fault, no_fault_alone, no_faults_right, or_left, or_right, and_false, not_false, same_number, clash, env_inside, MeaningFits, TypingFits, value_laid, test_laid, no_place_fits, wide_meaning, base_simple, simple_too, LocatedFits, located_laid, selected}
 
 pub typing_le : {k : Place} {s : Scene} {lo hi : ℕ} {t : Typing} → TypingFits k s lo hi t → lo ≤ hi
 typing_le {k} {s} {lo} {hi} {t} h = go t.meaning h.meaning
@@ -274,9 +271,11 @@ field_fits {k} {s} e {c} {lo} {hi} name (a_variable l) h = by (field_of s name l
   where
     by : (o : Option (ℕ × ℕ)) → field_of s name l ≡ o → When (option_map (field_part s l) o) (DenotedFits k s c lo hi)
     by None i = when_none
-    by (Some p) i = when_some _ (record { is =
-        selected l p.1 (ir.Field p.0 (cells s p.1)) h.is (e.table.fields name l.shape p.0 p.1 i) refl
-        (laid_cons (SelPhrase (ir.Field p.0 (cells s p.1))) tt (laid_nil k s.inside hi hi (omega arith))) })
+    by (Some p) i = when_some _ (record {
+      is =
+          selected l p.1 (ir.Field p.0 (cells s p.1)) h.is (e.table.fields name l.shape p.0 p.1 i) refl
+          (laid_cons (SelPhrase (ir.Field p.0 (cells s p.1))) tt (laid_nil k s.inside hi hi (omega arith)));
+    })
 field_fits e name (a_constant shape v) h = when_some _ h
 field_fits e name (a_routine q up x) h = when_some _ h
 field_fits e name no_array h = when_some _ h
@@ -300,9 +299,11 @@ index_fits {k} {s} e {c} {lo} {mid} {hi} (Some (a_variable l)) (Some t) h g = by
   where
     with_row : (r : ℕ × ℕ) → row_at s l.shape ≡ Some r → (fs : List CheckFault) → (fs ≡ [] → other_index s (Some r) t ≡ false) → When (select_in s l (Some r) (unless fs (Some t))) (DenotedFits k s c lo hi)
     with_row r i (f ∷ fs) q = when_none
-    with_row r i [] q = when_some _ (record { is = selected l r.1 (ir.Index (value_of t.meaning) (range s r.0) (cells s r.1)) h.gives.is (e.table.rows l.shape r.0 r.1 i) refl
-        (laid_cons (SelPhrase (ir.Index (value_of t.meaning) (range s r.0) (cells s r.1))) (e.table.ordered r.0)
-        (value_laid e (simple_too e r.0 t.shape (same_number (base s r.0) (base s t.shape) (q refl)) (e.table.indices l.shape r.0 r.1 i)) g.gives)) })
+    with_row r i [] q = when_some _ (record {
+      is = selected l r.1 (ir.Index (value_of t.meaning) (range s r.0) (cells s r.1)) h.gives.is (e.table.rows l.shape r.0 r.1 i) refl
+          (laid_cons (SelPhrase (ir.Index (value_of t.meaning) (range s r.0) (cells s r.1))) (e.table.ordered r.0)
+          (value_laid e (simple_too e r.0 t.shape (same_number (base s r.0) (base s t.shape) (q refl)) (e.table.indices l.shape r.0 r.1 i)) g.gives));
+    })
 
     no_row : (fs : List CheckFault) → When (select_in s l None (unless fs (Some t))) (DenotedFits k s c lo hi)
     no_row fs = when_some _ (record { is = tt })

@@ -1,16 +1,14 @@
 -- Lists of phrases that fit a place of a program, and facts of values that there may not be.
-use Rattle.std.proofs.Common.{◌≡◌, ℕ, zero, suc, ◌+◌, ◌<◌, ◌≤◌, ℤ, pos, Bool, true, false, List, [], ◌∷◌, ◌++◌, length, Option, None, Some, refl, sym, ap, ◌∙◌, subst, arith}
-use Rattle.std.specs.Prelude.{option_map, option_and_then, IsSome, IsNone}
+use Rattle.std.proofs.Common.{◌≡◌, ℕ, ◌<◌, ◌≤◌, Bool, true, false, List, [], ◌∷◌, ◌++◌, Option, None, Some, refl, subst, arith}
+use Rattle.std.specs.Prelude.{option_map, option_and_then}
 use Rattle.std.specs.List.{AllByRecursion}
 use Rattle.alma_base.specs.declared.fault.CheckFault.{CheckFault}
-use Rattle.alma_ir.specs.declared.phrase.Root.{Root}
-use Rattle.alma_ir.specs.declared.phrase.Root.TheVariants as root
-use Rattle.alma_ir.specs.Tree.{Program, Routine, Loop, Args, Desig, ReturnExpr, routine_at, Assign, CopyCells, ForTo, SomeOf, Case, Either, Forall, Commit, Return, Read, no_branches, a_loop, no_result, some_result, Bind, Unify, SameCells, Seq, Or, CallTest, no_tests, Load, Known, CallExpr, ByValue, MixValue, a_desig, Index}
-use Rattle.alma_ir.specs.Phrases.{Phrase, StmtPhrase, TestPhrase, ExprPhrase, ArgPhrase, DesigPhrase, SelPhrase, loop_phrases}
-use Rattle.alma_ir.specs.Checked.{loops_of, IsOutside, HoldsPlace, HoldPlace, LeavesPosition, LeadOut, outer_at, desig_cells, ArePartsOf, labels_of, IsOrdered, LoopLeaves, LinksAgree, ArgsFit, HaveNoReturn, IsNoReturn}
+use Rattle.alma_ir.specs.Tree.{Loop, ForTo, SomeOf, Return, a_loop}
+use Rattle.alma_ir.specs.Phrases.{Phrase, StmtPhrase}
+use Rattle.alma_ir.specs.Checked.{loops_of, LoopLeaves, IsNoReturn}
 use Rattle.alma_ir.proofs.Each.{each_of_append, each_follows}
 use Rattle.alma_rules.specs.Judged.{unless, both_of}
-use Rattle.alma_resolved.specs.Fits.{Place, own, LoopFits, Fits, Laid}
+use Rattle.alma_resolved.specs.Fits.{Place, LoopFits, Fits, Laid}
 
 loop_wider : (lo hi low high : ℕ) (l : Loop) → low ≤ lo → hi ≤ high → LoopFits lo hi l → LoopFits low high l
 loop_wider lo hi low high (a_loop d range counter limit from to by body) p q h =

@@ -1,20 +1,19 @@
 -- Headings: where no rule is broken each type is there, and it is there again where the heading is read in a later scene.
-use Rattle.std.proofs.Common.{◌≡◌, ℕ, zero, suc, ◌+◌, ◌<◌, ◌≤◌, ◌⊎◌, inl, inr, Bool, true, false, List, [], ◌∷◌, ◌++◌, length, Option, None, Some, refl, sym, ap, ◌∙◌, subst, arith}
+use Rattle.std.proofs.Common.{◌≡◌, ℕ, ◌+◌, ◌<◌, Bool, true, false, List, [], ◌∷◌, ◌++◌, Option, None, Some, refl, sym, ap, ◌∙◌, subst, arith}
 use Rattle.std.specs.Prelude.{option_map, option_and_then, if◌then◌else◌}
 use Rattle.std.specs.List.{AllByRecursion}
 use Rattle.alma_base.specs.Choice.{if_true}
 use Rattle.alma_base.specs.declared.fault.CheckFault.{CheckFault}
-use Rattle.alma_base.specs.declared.fault.CheckFault.TheVariants as fault
 use Rattle.alma_tree.specs.declared.leaf.Mode.{Mode}
 use Rattle.alma_names.specs.declared.block.Entry.{Entry}
 use Rattle.alma_names.specs.declared.block.Entry.TheVariants as entry
 use Rattle.alma_names.specs.Blocks.{shape_id}
 use Rattle.alma_ir.proofs.Each.{each_of_append, each_of_front, each_of_back}
 use Rattle.alma_rules.specs.Numbered as tree
-use Rattle.alma_rules.specs.Judged.{Broken, broken_at, unless, unbroken, when}
+use Rattle.alma_rules.specs.Judged.{Broken, broken_at, unless, unbroken}
 use Rattle.alma_rules.specs.Scene.{Scene, Heading, FormalOf, Returns, nothing, a_value, Found, absent, bad, constant, named, variable, routine, found, is_first, is_structured}
-use Rattle.alma_rules.specs.Types.{Reading, reading_at, declared, redeclared, type_name_rules, shape_in, read_type_name, all_names}
-use Rattle.alma_rules.specs.Decls.{Frame, with_faults, with_scene, limited, passes_limit, with_block, param_access, param_kind, with_param, with_formal, param_in, params_in, formal_in, read_formals, formals_of, formal_names, result_rules, too_deep, Headed, all_formals, heading_with, proper_heading, function_heading, with_returns, headed_function, headed, with_depth, new_frame, read_heading}
+use Rattle.alma_rules.specs.Types.{declared, redeclared, type_name_rules, shape_in, read_type_name, all_names}
+use Rattle.alma_rules.specs.Decls.{Frame, with_faults, limited, with_block, param_access, param_kind, with_param, param_in, params_in, formal_in, read_formals, formals_of, formal_names, result_rules, too_deep, all_formals, heading_with, function_heading, headed, with_depth, new_frame, read_heading}
 use Rattle.alma_rules.proofs.Sound.{IsThere, nil_left, nil_right}
 use Rattle.alma_resolved.specs.Stand.{formal_types, result_types}
 use Rattle.alma_resolved.proofs.Lookups.{Each, NotBad, HeadingThere, IsPlain, Grown, grown_same, grown_twice, grown_each, grown_declared, plain_not_bad}
@@ -57,7 +56,7 @@ param_scene f from mode shape name = by (is_first f.scene name) refl
   where
     by : (c : Bool) → is_first f.scene name ≡ c
         → (if_true c (λ u. limited name (with_param f name from mode shape (param_kind (is_structured f.scene shape) mode))) (λ u. with_faults f (broken_at name.node (redeclared f.scene name)))).scene
-            ≡ declared f.scene name from (entry.Variable (shape_id shape) (param_access mode f.slots))
+        ≡ declared f.scene name from (entry.Variable (shape_id shape) (param_access mode f.slots))
     by true e = refl
     by false e = declared_not f.scene name from (entry.Variable (shape_id shape) (param_access mode f.slots)) e
 
@@ -126,7 +125,7 @@ formals_later lo f g [] h lt t = (tt, h)
 formals_later lo f g (x ∷ xs) h lt t =
     let there = later_there lo f.scene g.scene h x.type_name lt.0 t.0 in
     let rest = formals_later lo (formal_in f x (read_type_name f.scene x.type_name)) (formal_in g x (read_type_name g.scene x.type_name)) xs
-        (params_later lo f g (x.type_name.token + 1) x.mode (read_type_name f.scene x.type_name).value (read_type_name g.scene x.type_name).value (all_names x.names) t.0 there h) lt.1 t.1 in
+    (params_later lo f g (x.type_name.token + 1) x.mode (read_type_name f.scene x.type_name).value (read_type_name g.scene x.type_name).value (all_names x.names) t.0 there h) lt.1 t.1 in
     ((there, rest.0), rest.1)
 
 formals_quiet : (f : Frame) (xs : List tree.Formal) → (read_formals f xs).faults ≡ [] → f.faults ≡ []
@@ -138,9 +137,11 @@ unfolding FormalsThere
 formals_there f [] e h = tt
 formals_there f (x ∷ xs) e h =
     let q = nil_right (params_in f (x.type_name.token + 1) x.mode (read_type_name f.scene x.type_name).value (all_names x.names)).faults _ (formals_quiet (formal_in f x (read_type_name f.scene x.type_name)) xs e) in
-    let g = type_name_good 0 f.scene h x.type_name q in
-    (g.there, formals_there (formal_in f x (read_type_name f.scene x.type_name)) xs e
-        (grown_each NotBad plain_not_bad (params_grown f (x.type_name.token + 1) x.mode (read_type_name f.scene x.type_name).value (all_names x.names) g.there) h))
+    let g = type_name_good 0 f.scene h x.type_name q in (
+      g.there,
+      formals_there (formal_in f x (read_type_name f.scene x.type_name)) xs e
+          (grown_each NotBad plain_not_bad (params_grown f (x.type_name.token + 1) x.mode (read_type_name f.scene x.type_name).value (all_names x.names) g.there) h),
+    )
 
 formals_all : (f : Frame) (xs : List tree.Formal) → FormalsThere f xs → AllThere f.formals → AllThere (read_formals f xs).formals
 unfolding FormalsThere
@@ -218,7 +219,7 @@ head_sound s r n params result b h e = by (too_deep s) e
         let q = headed_quiet (read_formals (first_frame s r params b) (formals_of params)) result e in
         let t = formals_there (first_frame s r params b) (formals_of params) q h in
         let g = headed_sound (read_formals (first_frame s r params b) (formals_of params)) result e (formals_all (first_frame s r params b) (formals_of params) t tt)
-            (formals_each NotBad plain_not_bad (first_frame s r params b) (formals_of params) t h) in
+        (formals_each NotBad plain_not_bad (first_frame s r params b) (formals_of params) t h) in
         (g.0, record { formals = t; result_there = g.1 })
 
     by : (d : List CheckFault) → (with_depth d n (headed (read_formals (first_frame s r params b) (formals_of params)) result)).frame.faults ≡ []

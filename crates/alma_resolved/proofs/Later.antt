@@ -1,14 +1,14 @@
 -- Two scenes of which the second has more names in its blocks, all visible later: a type's name means the same type in both.
-use Rattle.std.proofs.Common.{◌≡◌, ℕ, zero, suc, ◌+◌, ◌-◌, ◌<◌, ◌≤◌, Bool, true, false, List, [], ◌∷◌, ◌++◌, length, Option, None, Some, refl, sym, ap, ◌∙◌, subst, arith}
+use Rattle.std.proofs.Common.{◌≡◌, ℕ, suc, ◌+◌, ◌-◌, ◌<◌, ◌≤◌, Bool, true, false, List, [], ◌∷◌, ◌++◌, length, Option, None, Some, refl, sym, ap, ◌∙◌, subst, arith}
 use Rattle.std.specs.Prelude.{cond, not, nat_eq, nat_lt, nat_le, slice_get, option_map, option_and_then, position, bytes_eq, if◌then◌else◌}
 use Rattle.std.specs.List.{AllByRecursion, prefix_len}
 use Rattle.std.proofs.lemmas.Bool.{ltb-true, ltb-false, leb-true}
 use Rattle.alma_names.specs.declared.block.Entry.{Entry}
 use Rattle.alma_names.specs.declared.block.Entry.TheVariants as entry
-use Rattle.alma_names.specs.Blocks.{DeclaredName, place, is_visible, visible_place, seen, entry_in}
+use Rattle.alma_names.specs.Blocks.{DeclaredName, is_visible, visible_place, seen, entry_in}
 use Rattle.alma_names.specs.Scopes.{Blocks, entries_of, or_else, visible_from, visible, entry_below, entry_at, level_of, with_declared}
 use Rattle.alma_rules.specs.Numbered as tree
-use Rattle.alma_rules.specs.Scene.{Scene, Found, absent, bad, constant, named, variable, routine, found, found_at, found_as, text_at, text_of, is_first, first_token, Returns}
+use Rattle.alma_rules.specs.Scene.{Scene, found, found_at, found_as, text_at, text_of, is_first, first_token, Returns}
 use Rattle.alma_rules.specs.Types.{shape_in, declared}
 use Rattle.alma_rules.specs.Decls.{with_texts, with_routine, with_routines, with_block, decl_routines, decls_names}
 use Rattle.alma_resolved.proofs.Lookups.{seen_in, from_in}

@@ -11,3 +11,4 @@ pub mod TypesSound
 pub mod HeadsSound
 pub mod DeclsSound
 pub mod ModuleSound
+pub mod Rises

@@ -1,5 +1,5 @@
 -- Names in a scene: what holds of each entry of its blocks holds of what a name is found to be; and scenes with more declared.
-use Rattle.std.proofs.Common.{◌≡◌, ℕ, zero, suc, ◌+◌, ◌-◌, ◌<◌, ◌≤◌, ◌⊎◌, inl, inr, Bool, true, false, List, [], ◌∷◌, ◌++◌, length, Option, None, Some, refl, sym, ap, ◌∙◌, subst, arith, append_assoc, append-nil}
+use Rattle.std.proofs.Common.{◌≡◌, ℕ, zero, suc, ◌+◌, ◌-◌, ◌<◌, ◌≤◌, Bool, true, false, List, [], ◌∷◌, ◌++◌, length, Option, None, Some, refl, sym, ap, ◌∙◌, subst, arith, append_assoc, append-nil}
 use Rattle.std.specs.Prelude.{get_or, nat_lt, slice_get, option_map, option_and_then, if◌then◌else◌}
 use Rattle.std.specs.List.{AllByRecursion}
 use Rattle.std.proofs.lemmas.Option.{slice_get_within}
@@ -8,10 +8,10 @@ use Rattle.alma_names.specs.declared.block.Entry.{Entry}
 use Rattle.alma_names.specs.declared.block.Entry.TheVariants as entry
 use Rattle.alma_names.specs.Shapes.{PlainShape}
 use Rattle.alma_names.specs.Blocks.{DeclaredName, place, is_visible, visible_place, seen, entry_in}
-use Rattle.alma_names.specs.Scopes.{Blocks, entries_of, with_new_block, with_declared, or_else, visible_from, visible, entry_below, entry_at, level_from, level_of}
+use Rattle.alma_names.specs.Scopes.{Blocks, entries_of, with_declared, or_else, visible_from, visible, entry_below, entry_at, level_from, level_of}
 use Rattle.alma_ir.proofs.Each.{each_of_append, each_follows}
 use Rattle.alma_rules.specs.Numbered as tree
-use Rattle.alma_rules.specs.Scene.{Scene, Heading, Found, absent, bad, constant, named, variable, routine, found, found_at, found_as, heading_of, in_constant, level, text_at, is_first}
+use Rattle.alma_rules.specs.Scene.{Scene, Heading, Found, absent, routine, found, found_at, found_as, heading_of, in_constant, level, text_at, is_first}
 use Rattle.alma_rules.specs.Types.{declared}
 use Rattle.alma_rules.proofs.Sound.{IsKnown, NoBad}
 

@@ -1,27 +1,24 @@
 -- Blocks and the module: where no rule is broken there is a resolved program.
-use Rattle.std.proofs.Common.{◌≡◌, ℕ, zero, suc, ◌+◌, ◌-◌, ◌<◌, ◌≤◌, ◌⊎◌, inl, inr, Bool, true, false, List, [], ◌∷◌, ◌++◌, length, get_or, replicate, Option, None, Some, refl, sym, ap, ◌∙◌, subst, arith}
-use Rattle.std.specs.Prelude.{option_map, if◌then◌else◌}
-use Rattle.std.specs.List.{AllByRecursion}
+use Rattle.std.proofs.Common.{◌≡◌, ℕ, ◌+◌, ◌-◌, ◌≤◌, ◌⊎◌, inl, inr, List, [], ◌∷◌, ◌++◌, length, get_or, Option, None, Some, refl, sym, ap, ◌∙◌, subst, arith}
+use Rattle.std.specs.Prelude.{option_map}
 use Rattle.std.proofs.lemmas.List.{length-replicate}
-use Rattle.alma_base.specs.declared.fault.CheckFault.{CheckFault}
 use Rattle.alma_scan.specs.Tokens.{Lexeme}
 use Rattle.alma_names.specs.declared.block.Entry.{Entry}
 use Rattle.alma_names.specs.declared.block.Entry.TheVariants as entry
 use Rattle.alma_names.specs.Shapes.{PlainShape}
 use Rattle.alma_ir.specs.Tree as ir
 use Rattle.alma_rules.specs.Numbered as tree
-use Rattle.alma_rules.specs.Judged.{Judged, Broken, broken_at, unbroken, both_of}
+use Rattle.alma_rules.specs.Judged.{Broken, unbroken}
 use Rattle.alma_rules.specs.Scene.{Scene, Heading, nothing}
-use Rattle.alma_rules.specs.Walk.{judge_stmts}
-use Rattle.alma_rules.specs.Decls.{Frame, with_block, block_routines, decls_routines, decl_routines, formal_names, formals_of, too_deep, headed, with_depth, read_formals, read_heading, read_decls, new_frame}
-use Rattle.alma_rules.specs.Modules.{judge_body, routine_at, Bodied, bodied_both, ended, frame_of, with_shapes, judge_block, judge_bodies, judge_decl, first_scene, module_frame, judge_module, program_of, broken, resolved, resolved_in, cons_routine, joined_routines, body_lines}
+use Rattle.alma_rules.specs.Decls.{Frame, with_block, block_routines, decls_routines, decl_routines, formal_names, formals_of, read_heading, read_decls}
+use Rattle.alma_rules.specs.Modules.{judge_body, frame_of, with_shapes, judge_block, judge_bodies, judge_decl, first_scene, module_frame, judge_module, program_of, broken, resolved, cons_routine, joined_routines, body_lines}
 use Rattle.alma_rules.proofs.Sound.{IsThere, Sound, nil_left, nil_right, both_there, map_there}
 use Rattle.alma_rules.proofs.SoundWalk.{stmts_sound}
-use Rattle.alma_resolved.specs.Stand.{IsBefore, DeclsStand, DeclStands, BlockStands}
-use Rattle.alma_resolved.proofs.Lookups.{AllFrom, Each, NotBad, Headed, HeadingThere, IsPlain, Grown, plain_not_bad, each_follows_from, sound_body}
-use Rattle.alma_resolved.proofs.Later.{Outer, all_extended_self, extended_self}
-use Rattle.alma_resolved.proofs.HeadsSound.{first_frame, HeadThere, head_later, head_each, head_headings}
-use Rattle.alma_resolved.proofs.DeclsSound.{IsProc, IsProcHere, IsProcIn, block_each, block_headings, Moved, moved_each, from_zero, ProcThere, ProcsThere, DeclsRead, decls_read}
+use Rattle.alma_resolved.specs.Stand.{DeclsStand, DeclStands, BlockStands}
+use Rattle.alma_resolved.proofs.Lookups.{AllFrom, Each, NotBad, Headed, HeadingThere, IsPlain, each_follows_from, sound_body}
+use Rattle.alma_resolved.proofs.Later.{all_extended_self, extended_self}
+use Rattle.alma_resolved.proofs.HeadsSound.{HeadThere, head_later, head_each, head_headings}
+use Rattle.alma_resolved.proofs.DeclsSound.{IsProc, block_each, block_headings, moved_each, from_zero, ProcThere, ProcsThere, DeclsRead, decls_read}
 use Rattle.alma_rules.specs.Decls.{decls_names}
 
 -- no entry is Bad, and each routine has its heading, or is one of the declarations
@@ -120,7 +117,7 @@ mutual
   block_there f r name outer end (tree.block n decls body) hs same e h stand room =
       let front = nil_left _ (judge_body (read_decls f r decls) body).faults e in
       let d = decls_read f r decls (nil_left _ (judge_bodies (read_decls f r decls).scene r decls).faults front)
-          (each_follows_from (Awaits hs r decls) NotBad (awaits_not_bad hs r decls) 0 f.scene.blocks.below f.scene.blocks.top h) stand (omega (arith, room, ap (λ y. length y) same)) in
+      (each_follows_from (Awaits hs r decls) NotBad (awaits_not_bad hs r decls) 0 f.scene.blocks.below f.scene.blocks.top h) stand (omega (arith, room, ap (λ y. length y) same)) in
       let headed = all_headed f r decls hs same h d in
       let inner = bodies_there (read_decls f r decls).scene r decls (nil_right (read_decls f r decls).faults _ front) headed d.heads stand (omega (arith, room, d.long, ap (λ y. length y) same)) in
       map_there (cons_routine (read_decls f r decls) name outer (judge_body (read_decls f r decls) body).next (body_lines (read_decls f r decls).scene end body)) _

@@ -1,25 +1,19 @@
 -- What a scene is to have, so that what is judged in it fits a place of a program; and what values and designators keep.
-use Rattle.std.proofs.Common.{◌≡◌, ℕ, zero, suc, ◌+◌, ◌*◌, ◌<◌, ◌≤◌, ℤ, Bool, true, false, List, [], ◌∷◌, ◌++◌, length, Option, None, Some, refl, sym, ap, ◌∙◌, subst, arith, append_assoc}
-use Rattle.std.specs.Prelude.{not, is_some, ◌&&◌, ◌||◌, nat_eq, slice_get, option_map, option_and_then, unwrap_or, IsSome, IsNone}
+use Rattle.std.proofs.Common.{◌≡◌, ℕ, ◌<◌, ◌≤◌, Bool, true, false, List, [], ◌∷◌, ◌++◌, Option, None, Some, refl, sym, ap, ◌∙◌, subst, arith, append_assoc}
+use Rattle.std.specs.Prelude.{not, ◌&&◌, ◌||◌, nat_eq}
 use Rattle.std.proofs.lemmas.Bool.{eqb-true}
-use Rattle.alma_base.specs.Numbers.{range_size, whole_range}
 use Rattle.alma_base.specs.declared.fault.CheckFault.{CheckFault}
-use Rattle.alma_base.specs.declared.fault.CheckFault.TheVariants as fault
-use Rattle.alma_names.specs.Shapes.{PlainShape, range_at, base_at, cells_at, field_at}
-use Rattle.alma_ir.specs.declared.phrase.Root.{Root}
 use Rattle.alma_ir.specs.declared.program.Param.{Param}
 use Rattle.alma_ir.specs.Tree as ir
 use Rattle.alma_ir.specs.Tree.{Routine, routine_at}
-use Rattle.alma_ir.specs.Phrases.{Phrase, ExprPhrase, TestPhrase, DesigPhrase, SelPhrase, expr_phrases, test_phrases, desig_phrases, sels_phrases, sel_phrases}
-use Rattle.alma_ir.specs.Checked.{desig_cells, cells_after, sel_cells, IsPart, ArePartsOf, IsOrdered, LinksAgree}
-use Rattle.alma_rules.specs.Numbered as tree
+use Rattle.alma_ir.specs.Phrases.{ExprPhrase, TestPhrase, DesigPhrase, expr_phrases, test_phrases, desig_phrases, sels_phrases, sel_phrases}
+use Rattle.alma_ir.specs.Checked.{desig_cells, cells_after, sel_cells, IsPart, ArePartsOf}
 use Rattle.alma_rules.specs.Judged.{when}
-use Rattle.alma_rules.specs.Scene.{Scene, Heading, FormalOf, Returns, nothing, a_value, Found, absent, bad, constant, named, variable, routine, found, in_constant, inside_of, base, cells, range, is_structured, row_of}
-use Rattle.alma_rules.specs.Parts.{Meaning, a_place, plain, a_test, Typing, value_of, test_of, no_place, Located, desig_of, with_sel, Denoted, a_constant, a_variable, a_routine, no_array}
-use Rattle.alma_rules.specs.Decls.{param_kind}
-use Rattle.alma_resolved.specs.Fits.{Place, own, RootFits, Laid}
-use Rattle.alma_resolved.specs.Scenes.{TableFits, FormalFits, FormalsFit, ResultFits, CalleeFits, FoundFits, ReturnsFit, ReturnsSimple, SceneFits}
-use Rattle.alma_resolved.proofs.Fits.{laid_nil, laid_cons, laid_join, laid_wide, laid_one, laid_outside, When}
+use Rattle.alma_rules.specs.Scene.{Scene, FormalOf, Returns, nothing, a_value, Found, absent, bad, constant, named, variable, routine, found, in_constant, inside_of, base, cells, is_structured}
+use Rattle.alma_rules.specs.Parts.{Meaning, a_place, plain, a_test, Typing, value_of, test_of, no_place, Located, desig_of, with_sel}
+use Rattle.alma_resolved.specs.Fits.{Place, RootFits, Laid}
+use Rattle.alma_resolved.specs.Scenes.{FormalsFit, ResultFits, FoundFits, ReturnsSimple, SceneFits}
+use Rattle.alma_resolved.proofs.Fits.{laid_cons, laid_join, laid_wide, laid_one}
 
 -- ---- tests
 

@@ -1,31 +1,28 @@
 -- What the nodes of statements make of parts that fit.
-use Rattle.std.proofs.Common.{◌≡◌, ℕ, zero, suc, ◌+◌, ◌*◌, ◌<◌, ◌≤◌, ◌⊎◌, inl, inr, ℤ, pos, negsuc, Bool, true, false, List, [], ◌∷◌, ◌++◌, length, Option, None, Some, refl, sym, ap, ◌∙◌, subst, arith, append_assoc}
-use Rattle.std.specs.Prelude.{not, is_some, ◌&&◌, ◌||◌, ◌≤ℤ◌, nat_eq, int_lt, option_map, option_and_then, if◌then◌else◌, IsSome, IsNone}
+use Rattle.std.proofs.Common.{◌≡◌, ℕ, zero, suc, ◌+◌, ◌≤◌, ◌⊎◌, inl, inr, ℤ, pos, negsuc, Bool, true, false, List, [], ◌++◌, length, Option, None, Some, refl, sym, ap, ◌∙◌, subst, arith, append_assoc}
+use Rattle.std.specs.Prelude.{not, ◌||◌, nat_eq, option_map, option_and_then, if◌then◌else◌, IsSome, IsNone}
 use Rattle.std.specs.List.{AllByRecursion}
 use Rattle.std.proofs.lemmas.Int.{ints}
 use Rattle.std.proofs.lemmas.Bool.{eq-eqb}
-use Rattle.alma_base.specs.declared.fault.CheckFault.{CheckFault}
 use Rattle.alma_base.specs.declared.fault.CheckFault.TheVariants as fault
-use Rattle.alma_base.specs.declared.number.Range.{Range}
 use Rattle.alma_base.specs.Numbers.{is_zero}
 use Rattle.alma_base.specs.Choice.{if_true}
 use Rattle.alma_ir.specs.Tree as ir
 use Rattle.alma_ir.specs.Tree.{routine_at}
-use Rattle.alma_ir.specs.Phrases.{Phrase, StmtPhrase, ExprPhrase, TestPhrase, DesigPhrase, expr_phrases, test_phrases, desig_phrases, sels_phrases, stmts_phrases, stmt_phrases, arms_phrases, cases_phrases, else_phrases, branches_phrases, loop_phrases}
-use Rattle.alma_ir.specs.Checked.{desig_cells, labels_of, IsOrdered, loops_of, LoopLeaves}
+use Rattle.alma_ir.specs.Phrases.{StmtPhrase, ExprPhrase, TestPhrase, test_phrases, sels_phrases, stmts_phrases, stmt_phrases, arms_phrases, cases_phrases, else_phrases, branches_phrases, loop_phrases}
+use Rattle.alma_ir.specs.Checked.{labels_of, IsOrdered}
 use Rattle.alma_ir.proofs.Each.{each_of_front, each_of_back, each_of_append}
-use Rattle.alma_rules.specs.Numbered as tree
-use Rattle.alma_rules.specs.Judged.{Judged, unless, both_of, when, holds, at_node, both, with, with_some, fine}
-use Rattle.alma_rules.specs.Scene.{Scene, Returns, nothing, a_value, Found, absent, bad, constant, named, variable, routine, in_constant, inside_of, literal_at, base, cells, range, is_structured, has_integer, has_char, has_boolean}
-use Rattle.alma_rules.specs.Parts.{Meaning, a_place, plain, a_test, Typing, value_of, test_of, Located, desig_of, Denoted, denoted, located_in, one_stmt, append_stmts, joined_stmts, assigned, assigned_to, read_stmts, read_as, write_stmts, write_as, Span, span_of, span_from, ranges_of, append_cases}
+use Rattle.alma_rules.specs.Judged.{Judged, unless, both_of, when, holds, at_node, with, fine}
+use Rattle.alma_rules.specs.Scene.{Scene, Returns, nothing, a_value, Found, absent, bad, constant, named, variable, routine, literal_at, base, range, is_structured, has_integer, has_char, has_boolean}
+use Rattle.alma_rules.specs.Parts.{Meaning, a_place, plain, a_test, Typing, value_of, test_of, Located, desig_of, denoted, located_in, one_stmt, append_stmts, assigned, assigned_to, read_stmts, read_as, write_stmts, write_as, Span, span_of, span_from, ranges_of, append_cases}
 use Rattle.alma_rules.specs.ExprRules.{test_rules, not_test, structured, no_integer}
 use Rattle.alma_rules.specs.StmtRules.{assign_rules, unlike_sides, loop_name_rules, loop_rules, bad_loop, other_base, by_rules, zero_step, case_rules, other_label, ends_with, is_above, low_above_high, label_twice, label_rules, return_rules, other_result, other_form, read_rules, unreadable, write_rules, unwritable}
-use Rattle.alma_rules.specs.Nodes.{constant_in, loop_of, one_case, cons_span, arm_of, joined_cases, text_rules, if_of, arms_of, with_line, item_of, text_item}
-use Rattle.alma_resolved.specs.Fits.{Place, own, Fits, LoopFits, Laid}
-use Rattle.alma_resolved.proofs.Fits.{laid_nil, laid_cons, laid_join, laid_wide, laid_one, laid_both, laid_outside, laid_stays, laid_leaves, When, when_is, when_some, when_none, when_all, when_map, when_then, when_both, when_node, when_unless, when_unless_none, when_weaker}
+use Rattle.alma_rules.specs.Nodes.{constant_in, loop_of, cons_span, arm_of, joined_cases, text_rules, if_of, arms_of, with_line, item_of}
+use Rattle.alma_resolved.specs.Fits.{Place, own, LoopFits, Laid}
+use Rattle.alma_resolved.proofs.Fits.{laid_nil, laid_cons, laid_join, laid_wide, laid_one, laid_outside, laid_stays, laid_leaves, When, when_is, when_some, when_none, when_all, when_map, when_then, when_both, when_node, when_unless, when_unless_none}
 use Rattle.alma_resolved.specs.Scenes.{FoundFits, ReturnsFit, ReturnsSimple, SceneFits}
-use Rattle.alma_resolved.proofs.Scenes.{no_fault, no_fault_alone, no_faults_left, no_faults_right, or_left, or_right, and_false, not_false, same_number, clash, MeaningFits, TypingFits, value_laid, test_laid, base_simple, simple_too, LocatedFits, located_laid}
-use Rattle.alma_resolved.proofs.ExprNodes.{typing_le, typing_wide}
+use Rattle.alma_resolved.proofs.Scenes.{no_fault, no_fault_alone, no_faults_left, no_faults_right, or_left, or_right, and_false, not_false, same_number, MeaningFits, TypingFits, value_laid, test_laid, base_simple, simple_too, LocatedFits, located_laid}
+use Rattle.alma_resolved.proofs.ExprNodes.{typing_le}
 
 -- ---- statements in a row
 
@@ -418,4 +415,3 @@ item_fits {k} {s} e n node (Some l) j h = by (nat_eq (length (literal_at s l.1))
         (λ x. Laid k s.inside n (if_true b (λ _. with (write_stmts s) (at_node node (write_rules s) j)) (λ _. at_node l.0 (text_rules s) (fine n (one_stmt (ir.WriteText (literal_at s l.1)))))).next (stmts_phrases x))
     by true = write_fits e j.value h
     by false = text_fits s n (literal_at s l.1)
-

@@ -1,24 +1,24 @@
 -- Types: where no name is Bad and no rule is broken, each type has a shape, and no name that it declares is Bad.
-use Rattle.std.proofs.Common.{◌≡◌, ℕ, zero, suc, ◌+◌, ◌≤◌, ◌⊎◌, inl, inr, ℤ, pos, Bool, true, false, List, [], ◌∷◌, ◌++◌, length, Option, None, Some, refl, sym, ap, ◌∙◌, subst, arith}
-use Rattle.std.specs.Prelude.{not, ◌&&◌, option_map, option_and_then}
+use Rattle.std.proofs.Common.{◌≡◌, ℕ, ◌+◌, ◌≤◌, ◌⊎◌, inl, inr, ℤ, pos, Bool, true, false, List, [], ◌∷◌, ◌++◌, length, Option, None, Some, refl, sym, ap, ◌∙◌, subst, arith}
+use Rattle.std.specs.Prelude.{not, ◌&&◌, option_map}
 use Rattle.std.specs.List.{AllByRecursion}
 use Rattle.alma_base.specs.Choice.{if_true}
 use Rattle.alma_base.specs.declared.fault.CheckFault.{CheckFault}
 use Rattle.alma_base.specs.declared.fault.CheckFault.TheVariants as fault
 use Rattle.alma_names.specs.declared.block.Entry.{Entry}
 use Rattle.alma_names.specs.declared.block.Entry.TheVariants as entry
-use Rattle.alma_names.specs.Shapes.{PlainShape, PlainField, listed, sub, row, fields, is_too_large, placed_shape, cell_counts}
+use Rattle.alma_names.specs.Shapes.{PlainShape, listed, sub, row, fields, is_too_large, placed_shape, cell_counts}
 use Rattle.alma_names.specs.Blocks.{shape_id}
 use Rattle.alma_ir.proofs.Each.{each_of_front, each_of_back}
 use Rattle.alma_rules.specs.Numbered as tree
-use Rattle.alma_rules.specs.Judged.{Broken, Judged, broken_at, unless, unbroken, both_of, when, holds}
-use Rattle.alma_rules.specs.Scene.{Scene, Found, absent, bad, constant, named, variable, routine, found, found_as, base, is_first, in_constant, level, heading_of}
+use Rattle.alma_rules.specs.Judged.{Broken, broken_at, unless, both_of, when}
+use Rattle.alma_rules.specs.Scene.{Scene, found_as, base, is_first, in_constant}
 use Rattle.alma_rules.specs.Parts.{Typing}
 use Rattle.alma_rules.specs.Walk.{judge_expr}
-use Rattle.alma_rules.specs.Types.{Reading, gives, reading_at, reading_both, reading_then, reading_with, changed, reading_change, reading_of, read_constant, declared, redeclared, redeclared_all, type_name_rules, shape_in, read_type_name, Formed, formed, too_large, index_type_rules, subrange_rules, size_rules, add_shape, row_on, rows_on, rows_of, number_in, subrange_from, subrange_of, all_first, last_token, value_entry, declare_values, listed_in, read_listed, all_names, redeclared_fields, fields_with, fields_of_type, joined_fields, record_of, field_names, joined_indices, cons_index, index_at, read_type, read_arrays, read_dimension_tail, read_dimensions, read_plains, read_plain, read_fields, read_field_tail, type_names, arrays_names, dimension_tail_names, dimensions_names, plains_names, plain_names, fields_names, field_tail_names}
-use Rattle.alma_rules.proofs.Sound.{IsThere, NoBad, Typed, IsTyped, nil_left, nil_right, quiet, both_there, map_there, unless_there}
+use Rattle.alma_rules.specs.Types.{Reading, gives, reading_at, reading_both, reading_then, reading_with, changed, reading_change, read_constant, declared, redeclared_all, type_name_rules, shape_in, read_type_name, Formed, formed, too_large, index_type_rules, subrange_rules, size_rules, add_shape, row_on, rows_on, rows_of, number_in, subrange_from, subrange_of, all_first, last_token, declare_values, listed_in, read_listed, all_names, redeclared_fields, fields_with, fields_of_type, joined_fields, record_of, field_names, joined_indices, cons_index, index_at, read_type, read_arrays, read_dimension_tail, read_dimensions, read_plains, read_plain, read_fields, read_field_tail, type_names, arrays_names, dimension_tail_names, dimensions_names, plains_names, plain_names, fields_names, field_tail_names}
+use Rattle.alma_rules.proofs.Sound.{IsThere, Typed, IsTyped, nil_left, nil_right, quiet, both_there, map_there, unless_there}
 use Rattle.alma_rules.proofs.SoundWalk.{expr_typed}
-use Rattle.alma_resolved.proofs.Lookups.{Each, found_each, NotBad, sound_constant, IsPlain, Grown, grown_same, grown_twice, grown_each, grown_declared, grown_shape, plain_not_bad}
+use Rattle.alma_resolved.proofs.Lookups.{Each, found_each, NotBad, sound_constant, Grown, grown_same, grown_twice, grown_each, grown_declared, grown_shape, plain_not_bad}
 
 -- names from a token on
 abbrev pub From : ℕ → List tree.Name → Type 0

@@ -1,29 +1,25 @@
 -- The walk: what is judged in a scene that fits a place of a program fits it.
-use Rattle.std.proofs.Common.{◌≡◌, ℕ, zero, suc, ◌+◌, ◌<◌, ◌≤◌, ℤ, pos, Bool, true, false, List, [], ◌∷◌, ◌++◌, length, Option, None, Some, refl, sym, ap, ◌∙◌, subst, arith}
-use Rattle.std.specs.Prelude.{option_map, option_and_then, slice_get, drop, nat_eq, option_to_list}
-use Rattle.alma_base.specs.Choice.{if_true}
-use Rattle.alma_base.specs.declared.fault.CheckFault.{CheckFault}
+use Rattle.std.proofs.Common.{◌≡◌, ℕ, ◌+◌, ◌≤◌, ℤ, pos, Bool, true, false, List, [], ◌∷◌, length, Option, None, Some, refl, ◌∙◌, subst, arith}
+use Rattle.std.specs.Prelude.{option_map, option_and_then}
 use Rattle.alma_base.specs.declared.fault.CheckFault.TheVariants as fault
-use Rattle.alma_tree.specs.declared.leaf.Relation.{Relation}
 use Rattle.alma_tree.specs.declared.leaf.Sign.{Sign}
 use Rattle.alma_ir.specs.declared.program.Param.{Param}
 use Rattle.alma_ir.specs.Tree as ir
-use Rattle.alma_ir.specs.Phrases.{Phrase, StmtPhrase, ExprPhrase, TestPhrase, expr_phrases, test_phrases, stmts_phrases, stmt_phrases, arms_phrases, cases_phrases, else_phrases, branches_phrases, args_phrases, arg_phrases}
+use Rattle.alma_ir.specs.Phrases.{ExprPhrase, expr_phrases, stmts_phrases, stmt_phrases, arms_phrases, else_phrases, branches_phrases, args_phrases}
 use Rattle.alma_ir.specs.Checked.{ArgsFit}
 use Rattle.alma_rules.specs.Numbered as tree
-use Rattle.alma_rules.specs.Judged.{Judged, unless, both_of, at_node, with, with_some, both, and_then, fine, when}
-use Rattle.alma_rules.specs.Scene.{Scene, FormalOf, Found, found, in_constant, inside_of, text_at, literal_at, is_structured, has_integer}
-use Rattle.alma_rules.specs.Parts.{Meaning, a_place, plain, a_test, Typing, value_of, test_of, Located, Denoted, located_in, typing_in, callee_in, Callee, argument_of, Operator, add_operator, mul_operator, Operands, chained, joined_stmts, assigned, Span, span_of, one_stmt, read_stmts, write_stmts, select_field, boolean_typing, without_place, desig_of}
-use Rattle.alma_rules.specs.ExprRules.{Use, as_variable, as_value, as_procedure, desig_rules, field_rules, array_rules, Operand, alone, operand_rules, chain_rules, not_rules, literal_rules, simple_rules, known_rules, chr_rules, test_rules, argument_rules, argument_kind, call_rules, constant_rules, sequence_rules, structured, structured_place, no_integer, no_constant, not_variable, not_procedure, Argument}
-use Rattle.alma_rules.specs.StmtRules.{assign_rules, write_rules}
-use Rattle.alma_rules.specs.Nodes.{judge_name, is_selected, indexed, literal_typing, known_typing, ord_typing, chr_typing, not_typing, formals_of, argument_count, expr_count, cons_arg, cons_operand, operand_behind, first_add, first_mul, sum_at, product_at, chain_at, any_or, any_and, if_of, arms_of, loop_of, cons_span, arm_of, joined_cases, with_line, item_literal, item_of, text_item, in_parens, as_sequence, or_sequence, only_of}
+use Rattle.alma_rules.specs.Judged.{Judged, unless, both, when}
+use Rattle.alma_rules.specs.Scene.{Scene, FormalOf, Found, found, inside_of, text_at, literal_at, is_structured, has_integer}
+use Rattle.alma_rules.specs.Parts.{plain, a_test, Typing, value_of, Located, Denoted, located_in, typing_in, callee_in, Callee, argument_of, add_operator, mul_operator, Operands, joined_stmts, Span, select_field, boolean_typing, without_place, desig_of}
+use Rattle.alma_rules.specs.ExprRules.{Use, as_variable, as_value, as_procedure, desig_rules, field_rules, array_rules, Operand, alone, not_rules, literal_rules, simple_rules, known_rules, chr_rules, test_rules, argument_rules, argument_kind, sequence_rules, structured, structured_place, no_integer, no_constant, not_variable, not_procedure, Argument}
+use Rattle.alma_rules.specs.Nodes.{judge_name, is_selected, indexed, known_typing, ord_typing, chr_typing, formals_of, argument_count, expr_count, cons_arg, cons_operand, operand_behind, first_add, first_mul, sum_at, product_at, any_or, any_and, if_of, arms_of, arm_of, with_line, item_literal, in_parens, as_sequence, or_sequence, only_of}
 use Rattle.alma_rules.specs.Walk.{judge_stmts, judge_stmt_tail, judge_stmt, judge_elsifs, judge_else, judge_by, judge_arm, judge_arm_tail, judge_label, judge_high, judge_labels, judge_case_else, judge_orelses, judge_returned, judge_reads, judge_items, judge_item_tail, judge_line_items, judge_expr, judge_compared, judge_simple, judge_terms, judge_term, judge_factors, judge_factor, judge_primary, judge_only, judge_value, judge_arguments, judge_argument_tail, judge_desig, judge_selectors, judge_selector, judge_indices, judge_index_tail}
-use Rattle.alma_resolved.specs.Fits.{Place, own, Laid}
-use Rattle.alma_resolved.proofs.Fits.{laid_nil, laid_cons, laid_join, laid_wide, laid_one, laid_outside, laid_stays, When, when_is, when_some, when_none, when_all, when_pair, when_map, when_then, when_both, when_node, when_unless, when_weaker}
+use Rattle.alma_resolved.specs.Fits.{Place, Laid}
+use Rattle.alma_resolved.proofs.Fits.{laid_nil, laid_cons, laid_join, When, when_is, when_some, when_all, when_pair, when_map, when_then, when_both, when_node, when_weaker}
 use Rattle.alma_resolved.specs.Scenes.{FormalFits, FormalsFit, SceneFits}
-use Rattle.alma_resolved.proofs.Scenes.{no_fault, no_fault_alone, no_faults_left, not_false, env_constant, env_inside, MeaningFits, TypingFits, LocatedFits, value_laid, test_laid, no_place_fits, base_simple, located_laid}
+use Rattle.alma_resolved.proofs.Scenes.{no_fault, no_fault_alone, no_faults_left, not_false, env_constant, env_inside, TypingFits, LocatedFits, value_laid, no_place_fits, base_simple, located_laid}
 use Rattle.alma_resolved.proofs.ExprNodes.{typing_le, typing_wide, relation_fits, OperandsFit, no_operands, operands_fit, or_joins, and_joins, chain_fits, TermFits, term_simple, term_fits, not_fits, DenotedFits, flag, free, name_fits, field_fits, index_fits, located_fits, typing_fits, KindFits, ArgumentFits, argument_fits, callee_fits, ArgumentsFit, called_fits}
-use Rattle.alma_resolved.proofs.StmtNodes.{joined_fit, one_fits, no_stmts_fit, assign_fits, boolean_simple, condition_fits, loop_name_fits, step_fits, one_step, loop_fits, for_fits, some_fits, test_stmt, if_fits, arms_fit, while_fits, repeat_fits, either_fits, branches_fit, forall_fits, commit_fits, sequence_fits, no_arms_laid, no_branches_laid, no_else_laid, else_laid, line_fits, one_when, item_fits, ArmsFit, SpansFit, SpanFits, arms_when, no_arms_fit, arm_fits, label_fits, spans_when, case_fits, return_fits, bare_return_fits, read_fits}
+use Rattle.alma_resolved.proofs.StmtNodes.{joined_fit, no_stmts_fit, assign_fits, boolean_simple, condition_fits, loop_name_fits, step_fits, one_step, loop_fits, for_fits, some_fits, test_stmt, if_fits, arms_fit, while_fits, repeat_fits, either_fits, branches_fit, forall_fits, commit_fits, sequence_fits, no_arms_laid, no_branches_laid, no_else_laid, else_laid, line_fits, one_when, item_fits, ArmsFit, SpansFit, SpanFits, arms_when, no_arms_fit, arm_fits, label_fits, spans_when, case_fits, return_fits, bare_return_fits, read_fits}
 use Rattle.alma_resolved.proofs.Exact.{kind_fits}
 
 -- ---- nodes with their judged parts

@@ -1,10 +1,10 @@
 -- What a phrase of a routine's body keeps where the program is given: the conditions of alma_ir on one phrase, all in one, with the
 -- slots of its loops.
-use Rattle.std.specs.Prelude.{◌≡◌, ℕ, suc, ◌+◌, ◌<◌, ◌≤◌, ℤ, pos, Bool, false, List, length, IsSome, IsNone}
+use Rattle.std.specs.Prelude.{◌≡◌, ℕ, suc, ◌+◌, ◌<◌, ◌≤◌, pos, Bool, false, List, length, IsSome, IsNone}
 use Rattle.std.specs.List.{AllByRecursion}
 use Rattle.alma_ir.specs.declared.phrase.Root.{Root}
 use Rattle.alma_ir.specs.declared.phrase.Root.TheVariants as root
-use Rattle.alma_ir.specs.Tree.{Program, Routine, Loop, Args, Desig, ReturnExpr, routine_at, Assign, CopyCells, ForTo, SomeOf, Case, Either, Forall, Commit, Return, Read, no_branches, a_loop, no_result, some_result, Bind, Unify, SameCells, Seq, Or, CallTest, no_tests, Load, Known, CallExpr, ByValue, MixValue, a_desig, Index}
+use Rattle.alma_ir.specs.Tree.{Program, Routine, Loop, Args, ReturnExpr, routine_at, Assign, CopyCells, ForTo, SomeOf, Case, Either, Forall, Commit, Return, Read, no_branches, a_loop, no_result, some_result, Bind, Unify, SameCells, Seq, Or, CallTest, no_tests, Load, Known, CallExpr, ByValue, MixValue, a_desig, Index}
 use Rattle.alma_ir.specs.Phrases.{Phrase, StmtPhrase, TestPhrase, ExprPhrase, ArgPhrase, DesigPhrase, SelPhrase, loop_phrases}
 use Rattle.alma_ir.specs.Checked.{loops_of, IsOutside, HoldsPlace, HoldPlace, LeavesPosition, LeadOut, outer_at, desig_cells, ArePartsOf, labels_of, IsOrdered, LoopLeaves, LinksAgree, ArgsFit, HaveNoReturn}
 

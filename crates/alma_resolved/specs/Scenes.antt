@@ -1,19 +1,12 @@
 -- What a scene keeps in which a body is judged: its table of shapes, and what each name in it stands for, in a place of a program.
 use Rattle.std.specs.Prelude.{◌≡◌, ℕ, ◌+◌, ◌*◌, ◌<◌, ◌≤◌, Bool, false, List, [], ◌∷◌, length, Option, None, Some, not, is_some, slice_get, option_and_then, unwrap_or, IsSome, IsNone}
 use Rattle.alma_base.specs.Numbers.{range_size, whole_range}
-use Rattle.alma_base.specs.declared.fault.CheckFault.{CheckFault}
-use Rattle.alma_base.specs.declared.fault.CheckFault.TheVariants as fault
 use Rattle.alma_names.specs.Shapes.{PlainShape, range_at, base_at, cells_at, field_at}
-use Rattle.alma_ir.specs.declared.phrase.Root.{Root}
 use Rattle.alma_ir.specs.declared.program.Param.{Param}
-use Rattle.alma_ir.specs.Tree as ir
 use Rattle.alma_ir.specs.Tree.{Routine, routine_at}
-use Rattle.alma_ir.specs.Phrases.{Phrase, ExprPhrase, TestPhrase, DesigPhrase, SelPhrase, expr_phrases, test_phrases, desig_phrases, sels_phrases, sel_phrases}
-use Rattle.alma_ir.specs.Checked.{desig_cells, cells_after, sel_cells, IsPart, ArePartsOf, IsOrdered, LinksAgree}
+use Rattle.alma_ir.specs.Checked.{IsOrdered, LinksAgree}
 use Rattle.alma_rules.specs.Numbered as tree
-use Rattle.alma_rules.specs.Judged.{when}
-use Rattle.alma_rules.specs.Scene.{Scene, Heading, FormalOf, Returns, nothing, a_value, Found, absent, bad, constant, named, variable, routine, found, in_constant, inside_of, base, cells, range, is_structured, row_of}
-use Rattle.alma_rules.specs.Parts.{Meaning, a_place, plain, a_test, Typing, value_of, test_of, no_place, Located, desig_of, with_sel, Denoted, a_constant, a_variable, a_routine, no_array}
+use Rattle.alma_rules.specs.Scene.{Scene, Heading, FormalOf, Returns, nothing, a_value, Found, absent, bad, constant, named, variable, routine, found, cells, is_structured, row_of}
 use Rattle.alma_rules.specs.Decls.{param_kind}
 use Rattle.alma_resolved.specs.Fits.{Place, own, RootFits}
 
