@@ -12,3 +12,4 @@ pub mod HeadsSound
 pub mod DeclsSound
 pub mod ModuleSound
 pub mod Rises
+pub mod Slots
