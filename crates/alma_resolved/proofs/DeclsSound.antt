@@ -208,6 +208,57 @@ routines_headings s r (tree.more_decl d rest) = routines_headings (with_routine 
 pub block_headings : (s : Scene) (r : ℕ) (returns : Returns) (names : List tree.Name) (b : tree.Block) → (with_block s r returns names b).headings ≡ s.headings
 block_headings s r returns names (tree.block n decls body) = routines_headings _ (r + 1) decls
 
+routines_routine : (s : Scene) (r : ℕ) (x : tree.DeclTail) → (with_routines s r x).routine ≡ s.routine
+routines_routine s r tree.no_decl = refl
+routines_routine s r (tree.more_decl d rest) = routines_routine (with_routine s r d) (r + decl_routines d) rest ∙ by d
+  where
+    first : (name : tree.Name) (c : Bool) → (if c then record s { blocks = with_declared s.blocks (record { name = text_at s name.token; from = 0; entry = entry.Routine r }) } else s).routine ≡ s.routine
+    first name true = refl
+    first name false = refl
+
+    by : (d : tree.Decl) → (with_routine s r d).routine ≡ s.routine
+    by (tree.const_decl n xs) = refl
+    by (tree.type_decl n xs) = refl
+    by (tree.var_decl n xs) = refl
+    by (tree.procedure n name params result b end_name) = first name (is_first s name)
+
+pub block_routine : (s : Scene) (r : ℕ) (returns : Returns) (names : List tree.Name) (b : tree.Block) → (with_block s r returns names b).routine ≡ r
+block_routine s r returns names (tree.block n decls body) = routines_routine _ (r + 1) decls
+
+routines_returns : (s : Scene) (r : ℕ) (x : tree.DeclTail) → (with_routines s r x).returns ≡ s.returns
+routines_returns s r tree.no_decl = refl
+routines_returns s r (tree.more_decl d rest) = routines_returns (with_routine s r d) (r + decl_routines d) rest ∙ by d
+  where
+    first : (name : tree.Name) (c : Bool) → (if c then record s { blocks = with_declared s.blocks (record { name = text_at s name.token; from = 0; entry = entry.Routine r }) } else s).returns ≡ s.returns
+    first name true = refl
+    first name false = refl
+
+    by : (d : tree.Decl) → (with_routine s r d).returns ≡ s.returns
+    by (tree.const_decl n xs) = refl
+    by (tree.type_decl n xs) = refl
+    by (tree.var_decl n xs) = refl
+    by (tree.procedure n name params result b end_name) = first name (is_first s name)
+
+pub block_returns : (s : Scene) (r : ℕ) (returns : Returns) (names : List tree.Name) (b : tree.Block) → (with_block s r returns names b).returns ≡ returns
+block_returns s r returns names (tree.block n decls body) = routines_returns _ (r + 1) decls
+
+routines_below : (s : Scene) (r : ℕ) (x : tree.DeclTail) → (with_routines s r x).blocks.below ≡ s.blocks.below
+routines_below s r tree.no_decl = refl
+routines_below s r (tree.more_decl d rest) = routines_below (with_routine s r d) (r + decl_routines d) rest ∙ by d
+  where
+    first : (name : tree.Name) (c : Bool) → (if c then record s { blocks = with_declared s.blocks (record { name = text_at s name.token; from = 0; entry = entry.Routine r }) } else s).blocks.below ≡ s.blocks.below
+    first name true = refl
+    first name false = refl
+
+    by : (d : tree.Decl) → (with_routine s r d).blocks.below ≡ s.blocks.below
+    by (tree.const_decl n xs) = refl
+    by (tree.type_decl n xs) = refl
+    by (tree.var_decl n xs) = refl
+    by (tree.procedure n name params result b end_name) = first name (is_first s name)
+
+pub block_below : (s : Scene) (r : ℕ) (returns : Returns) (names : List tree.Name) (b : tree.Block) → (with_block s r returns names b).blocks.below ≡ s.blocks.below ++ s.blocks.top ∷ []
+block_below s r returns names (tree.block n decls body) = routines_below _ (r + 1) decls
+
 -- ---- all declarations
 
 decl_quiet : (f : Frame) (r : ℕ) (d : tree.Decl) → (read_decl f r d).faults ≡ [] → f.faults ≡ []

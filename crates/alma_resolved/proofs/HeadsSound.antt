@@ -1,16 +1,17 @@
 -- Headings: where no rule is broken each type is there, and it is there again where the heading is read in a later scene.
-use Rattle.std.proofs.Common.{◌≡◌, ℕ, ◌+◌, ◌<◌, Bool, true, false, List, [], ◌∷◌, ◌++◌, Option, None, Some, refl, sym, ap, ◌∙◌, subst, arith}
-use Rattle.std.specs.Prelude.{option_map, option_and_then, if◌then◌else◌}
+use Rattle.std.proofs.Common.{◌≡◌, ℕ, ◌+◌, ◌-◌, ◌<◌, Bool, true, false, List, [], ◌∷◌, ◌++◌, Option, None, Some, refl, sym, ap, ◌∙◌, subst, arith}
+use Rattle.std.specs.Prelude.{nat_le, option_map, option_and_then, if◌then◌else◌}
 use Rattle.std.specs.List.{AllByRecursion}
 use Rattle.alma_base.specs.Choice.{if_true}
 use Rattle.alma_base.specs.declared.fault.CheckFault.{CheckFault}
+use Rattle.alma_base.specs.declared.fault.CheckFault.TheVariants as fault
 use Rattle.alma_tree.specs.declared.leaf.Mode.{Mode}
 use Rattle.alma_names.specs.declared.block.Entry.{Entry}
 use Rattle.alma_names.specs.declared.block.Entry.TheVariants as entry
 use Rattle.alma_names.specs.Blocks.{shape_id}
 use Rattle.alma_ir.proofs.Each.{each_of_append, each_of_front, each_of_back}
 use Rattle.alma_rules.specs.Numbered as tree
-use Rattle.alma_rules.specs.Judged.{Broken, broken_at, unless, unbroken}
+use Rattle.alma_rules.specs.Judged.{Broken, broken_at, unless, unbroken, when}
 use Rattle.alma_rules.specs.Scene.{Scene, Heading, FormalOf, Returns, nothing, a_value, Found, absent, bad, constant, named, variable, routine, found, is_first, is_structured}
 use Rattle.alma_rules.specs.Types.{declared, redeclared, type_name_rules, shape_in, read_type_name, all_names}
 use Rattle.alma_rules.specs.Decls.{Frame, with_faults, limited, with_block, param_access, param_kind, with_param, param_in, params_in, formal_in, read_formals, formals_of, formal_names, result_rules, too_deep, all_formals, heading_with, function_heading, headed, with_depth, new_frame, read_heading}
@@ -18,7 +19,7 @@ use Rattle.alma_rules.proofs.Sound.{IsThere, nil_left, nil_right}
 use Rattle.alma_resolved.specs.Stand.{formal_types, result_types}
 use Rattle.alma_resolved.proofs.Lookups.{Each, NotBad, HeadingThere, IsPlain, Grown, grown_same, grown_twice, grown_each, grown_declared, plain_not_bad}
 use Rattle.alma_resolved.proofs.TypesSound.{type_name_good}
-use Rattle.alma_resolved.proofs.Later.{Later, Outer, later_type, later_declared, block_later}
+use Rattle.alma_resolved.proofs.Later.{Later, Outer, later_type, later_declared, block_later, all_extended_length}
 
 -- ---- the name of a type
 
@@ -162,6 +163,7 @@ first_frame s r params b = new_frame (with_block s r nothing (formal_names (form
 pub record HeadThere (s : Scene) (r : ℕ) (params : Option tree.Params) (result : Option tree.Name) (b : tree.Block) : Type 0 where
   pub formals : FormalsThere (first_frame s r params b) (formals_of params)
   pub result_there : ResultThere (read_formals (first_frame s r params b) (formals_of params)).scene result
+  pub shallow : too_deep s ≡ []
 
 result_later : (lo : ℕ) (s t : Scene) (o : Option tree.Name) → Later lo s t → AllByRecursion (λ x. x.token < lo) (result_types o) → ResultThere s o → ResultThere t o
 result_later lo s t None h lt g = tt
@@ -174,7 +176,11 @@ head_later lo s t r params result b h lt g =
     let front = each_of_front (λ (x : tree.Name). x.token < lo) (formal_types (formals_of params)) (result_types result) lt in
     let back = each_of_back (λ (x : tree.Name). x.token < lo) (formal_types (formals_of params)) (result_types result) lt in
     let both = formals_later lo (first_frame s r params b) (first_frame t r params b) (formals_of params) (block_later lo s t r nothing (formal_names (formals_of params)) b h) front g.formals in
-    record { formals = both.0; result_there = result_later lo _ _ result both.1 back g.result_there }
+    record {
+      formals = both.0;
+      result_there = result_later lo _ _ result both.1 back g.result_there;
+      shallow = subst (λ n. when (nat_le 8 (n - 1)) fault.NestedProcedure ≡ []) (all_extended_length lo s.blocks.below t.blocks.below h.below) g.shallow;
+    }
 
 -- a heading in which no rule is broken
 there_all : (xs : List (Option FormalOf)) → AllThere xs → IsThere (all_formals xs)
@@ -212,20 +218,20 @@ abbrev pub HeadSound : Scene → (r n : ℕ) → Option tree.Params → Option t
 HeadSound s r n params result b = HeadingThere (read_heading s r n params result b).heading × HeadThere s r params result b
 
 pub head_sound : (s : Scene) (r n : ℕ) (params : Option tree.Params) (result : Option tree.Name) (b : tree.Block) → Each NotBad (first_frame s r params b).scene → (read_heading s r n params result b).frame.faults ≡ [] → HeadSound s r n params result b
-head_sound s r n params result b h e = by (too_deep s) e
+head_sound s r n params result b h e = by (too_deep s) refl e
   where
-    made : (headed (read_formals (first_frame s r params b) (formals_of params)) result).frame.faults ≡ [] → HeadingThere (headed (read_formals (first_frame s r params b) (formals_of params)) result).heading × HeadThere s r params result b
-    made e =
+    made : too_deep s ≡ [] → (headed (read_formals (first_frame s r params b) (formals_of params)) result).frame.faults ≡ [] → HeadingThere (headed (read_formals (first_frame s r params b) (formals_of params)) result).heading × HeadThere s r params result b
+    made i e =
         let q = headed_quiet (read_formals (first_frame s r params b) (formals_of params)) result e in
         let t = formals_there (first_frame s r params b) (formals_of params) q h in
         let g = headed_sound (read_formals (first_frame s r params b) (formals_of params)) result e (formals_all (first_frame s r params b) (formals_of params) t tt)
         (formals_each NotBad plain_not_bad (first_frame s r params b) (formals_of params) t h) in
-        (g.0, record { formals = t; result_there = g.1 })
+        (g.0, record { formals = t; result_there = g.1; shallow = i })
 
-    by : (d : List CheckFault) → (with_depth d n (headed (read_formals (first_frame s r params b) (formals_of params)) result)).frame.faults ≡ []
+    by : (d : List CheckFault) → too_deep s ≡ d → (with_depth d n (headed (read_formals (first_frame s r params b) (formals_of params)) result)).frame.faults ≡ []
         → HeadingThere (with_depth d n (headed (read_formals (first_frame s r params b) (formals_of params)) result)).heading × HeadThere s r params result b
-    by [] e = made e
-    by (x ∷ xs) e = absurd (let q : broken_at n (x ∷ xs) ≡ [] = nil_right (headed (read_formals (first_frame s r params b) (formals_of params)) result).frame.faults _ e in cc)
+    by [] i e = made i e
+    by (x ∷ xs) i e = absurd (let q : broken_at n (x ∷ xs) ≡ [] = nil_right (headed (read_formals (first_frame s r params b) (formals_of params)) result).frame.faults _ e in cc)
 
 -- the scene of a heading, with its parameters
 headed_scene : (P : ℕ → Entry → Type 0) (f : Frame) (o : Option tree.Name) → Each P f.scene → Each P (headed f o).frame.scene
@@ -256,5 +262,29 @@ head_headings s r n params result b t = by (too_deep s) ∙ (result_same result 
     by (x ∷ xs) = refl
 
     result_same : (o : Option tree.Name) → (headed (read_formals (first_frame s r params b) (formals_of params)) o).frame.scene.headings ≡ (read_formals (first_frame s r params b) (formals_of params)).scene.headings
+    result_same None = refl
+    result_same (Some name) = refl
+
+-- and the number of its routine
+pub head_routine : (s : Scene) (r n : ℕ) (params : Option tree.Params) (result : Option tree.Name) (b : tree.Block) → HeadThere s r params result b → (read_heading s r n params result b).frame.scene.routine ≡ (first_frame s r params b).scene.routine
+head_routine s r n params result b t = by (too_deep s) ∙ (result_same result ∙ ap (λ x. x.routine) (formals_grown (first_frame s r params b) (formals_of params) t.formals).is)
+  where
+    by : (d : List CheckFault) → (with_depth d n (headed (read_formals (first_frame s r params b) (formals_of params)) result)).frame.scene.routine ≡ (headed (read_formals (first_frame s r params b) (formals_of params)) result).frame.scene.routine
+    by [] = refl
+    by (x ∷ xs) = refl
+
+    result_same : (o : Option tree.Name) → (headed (read_formals (first_frame s r params b) (formals_of params)) o).frame.scene.routine ≡ (read_formals (first_frame s r params b) (formals_of params)).scene.routine
+    result_same None = refl
+    result_same (Some name) = refl
+
+-- and the blocks round it
+pub head_below : (s : Scene) (r n : ℕ) (params : Option tree.Params) (result : Option tree.Name) (b : tree.Block) → HeadThere s r params result b → (read_heading s r n params result b).frame.scene.blocks.below ≡ (first_frame s r params b).scene.blocks.below
+head_below s r n params result b t = by (too_deep s) ∙ (result_same result ∙ ap (λ x. x.blocks.below) (formals_grown (first_frame s r params b) (formals_of params) t.formals).is)
+  where
+    by : (d : List CheckFault) → (with_depth d n (headed (read_formals (first_frame s r params b) (formals_of params)) result)).frame.scene.blocks.below ≡ (headed (read_formals (first_frame s r params b) (formals_of params)) result).frame.scene.blocks.below
+    by [] = refl
+    by (x ∷ xs) = refl
+
+    result_same : (o : Option tree.Name) → (headed (read_formals (first_frame s r params b) (formals_of params)) o).frame.scene.blocks.below ≡ (read_formals (first_frame s r params b) (formals_of params)).scene.blocks.below
     result_same None = refl
     result_same (Some name) = refl

@@ -324,3 +324,10 @@ block_later lo s t r returns names (tree.block n decls body) h = routines_later 
   below = all_extended_push lo s.blocks.below t.blocks.below s.blocks.top t.blocks.top h.below h.top;
   top = tt;
 })
+
+pub all_extended_length : (lo : ℕ) (xs ys : List (List DeclaredName)) → AllExtended lo xs ys → length xs ≡ length ys
+unfolding AllExtended
+all_extended_length lo [] [] h = refl
+all_extended_length lo [] (y ∷ ys) h = absurd h
+all_extended_length lo (x ∷ xs) [] h = absurd h
+all_extended_length lo (x ∷ xs) (y ∷ ys) h = ap suc (all_extended_length lo xs ys h.1)

@@ -13,3 +13,4 @@ pub mod DeclsSound
 pub mod ModuleSound
 pub mod Rises
 pub mod Slots
+pub mod FramesKept

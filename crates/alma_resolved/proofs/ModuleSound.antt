@@ -22,7 +22,7 @@ use Rattle.alma_resolved.proofs.DeclsSound.{IsProc, block_each, block_headings, 
 use Rattle.alma_rules.specs.Decls.{decls_names}
 
 -- no entry is Bad, and each routine has its heading, or is one of the declarations
-abbrev Awaits : List (Option Heading) → ℕ → tree.DeclTail → ℕ → Entry → Type 0
+abbrev pub Awaits : List (Option Heading) → ℕ → tree.DeclTail → ℕ → Entry → Type 0
 Awaits hs r x n (entry.Constant shape v) = Unit {0}
 Awaits hs r x n (entry.Named shape) = Unit {0}
 Awaits hs r x n (entry.Variable shape a) = Unit {0}
@@ -57,7 +57,7 @@ headed_awaits hs r x n (entry.Variable shape a) h = tt
 headed_awaits hs r x n (entry.Routine q) h = inl h
 headed_awaits hs r x n entry.Bad h = h
 
-awaits_not_bad : (hs : List (Option Heading)) (r : ℕ) (x : tree.DeclTail) (n : ℕ) (e : Entry) → Awaits hs r x n e → NotBad n e
+pub awaits_not_bad : (hs : List (Option Heading)) (r : ℕ) (x : tree.DeclTail) (n : ℕ) (e : Entry) → Awaits hs r x n e → NotBad n e
 awaits_not_bad hs r x n (entry.Constant shape v) h = tt
 awaits_not_bad hs r x n (entry.Named shape) h = tt
 awaits_not_bad hs r x n (entry.Variable shape a) h = tt
@@ -65,7 +65,7 @@ awaits_not_bad hs r x n (entry.Routine q) h = tt
 awaits_not_bad hs r x n entry.Bad h = h
 
 -- behind the declarations all headings are there
-all_headed : (f : Frame) (r : ℕ) (x : tree.DeclTail) (hs : List (Option Heading)) → f.scene.headings ≡ hs → Each (Awaits hs r x) f.scene → DeclsRead f r x (read_decls f r x) → Each (Headed (read_decls f r x).scene.headings) (read_decls f r x).scene
+pub all_headed : (f : Frame) (r : ℕ) (x : tree.DeclTail) (hs : List (Option Heading)) → f.scene.headings ≡ hs → Each (Awaits hs r x) f.scene → DeclsRead f r x (read_decls f r x) → Each (Headed (read_decls f r x).scene.headings) (read_decls f r x).scene
 all_headed f r x hs same h d =
     moved_each (Headed (read_decls f r x).scene.headings) (headed_plain (read_decls f r x).scene.headings) (d.moved 0 (from_zero (decls_names x)))
     (each_follows_from (Awaits hs r x) (Headed (read_decls f r x).scene.headings) by 0 f.scene.blocks.below f.scene.blocks.top h)
@@ -79,7 +79,7 @@ all_headed f r x hs same h d =
     by n entry.Bad h = h
 
 -- procedures in a scene with more shapes
-procs_shapes : (s : Scene) (u : List PlainShape) (r : ℕ) (x : tree.DeclTail) → DeclsStand x → ProcsThere s r x → ProcsThere (with_shapes s u) r x
+pub procs_shapes : (s : Scene) (u : List PlainShape) (r : ℕ) (x : tree.DeclTail) → DeclsStand x → ProcsThere s r x → ProcsThere (with_shapes s u) r x
 unfolding DeclsStand ProcsThere
 procs_shapes s u r tree.no_decl stand h = tt
 procs_shapes s u r (tree.more_decl d rest) stand h = (by d stand.0 h.0, procs_shapes s u (r + decl_routines d) rest stand.1 h.1)
@@ -101,7 +101,7 @@ abbrev pub AwaitsIn : List (Option Heading) → ℕ → tree.Block → Scene →
 AwaitsIn hs r (tree.block n decls body) s = Each (Awaits hs r decls) s
 
 -- the scene of a heading, with the routines of its block
-opened : (s : Scene) (r n : ℕ) (params : Option tree.Params) (result : Option tree.Name) (b : tree.Block) → Each (Headed s.headings) s → HeadThere s r params result b → AwaitsIn s.headings (r + 1) b (read_heading s r n params result b).frame.scene
+pub opened : (s : Scene) (r n : ℕ) (params : Option tree.Params) (result : Option tree.Name) (b : tree.Block) → Each (Headed s.headings) s → HeadThere s r params result b → AwaitsIn s.headings (r + 1) b (read_heading s r n params result b).frame.scene
 opened s r n params result (tree.block m decls body) h p =
     head_each (Awaits s.headings (r + 1) decls) (awaits_plain s.headings (r + 1) decls) s r n params result (tree.block m decls body) p
     (block_each (Awaits s.headings (r + 1) decls) s r nothing (formal_names (formals_of params)) (tree.block m decls body)
@@ -145,7 +145,7 @@ first_fine : (hs : List (Option Heading)) (r : ℕ) (x : tree.DeclTail) (source 
 unfolding AllFrom
 first_fine hs r x source tokens m = (tt, (tt, (tt, (tt, (tt, tt)))))
 
-block_opened : (source : List ℕ) (tokens : List Lexeme) (m : tree.Module) (b : tree.Block) → AwaitsIn (first_scene source tokens m).headings 1 b (with_block (first_scene source tokens m) 0 nothing [] b)
+pub block_opened : (source : List ℕ) (tokens : List Lexeme) (m : tree.Module) (b : tree.Block) → AwaitsIn (first_scene source tokens m).headings 1 b (with_block (first_scene source tokens m) 0 nothing [] b)
 block_opened source tokens m (tree.block n decls body) =
     let one : 0 + 1 ≡ 1 = omega arith in
     block_each (Awaits (first_scene source tokens m).headings 1 decls) (first_scene source tokens m) 0 nothing [] (tree.block n decls body) (first_fine (first_scene source tokens m).headings 1 decls source tokens m)

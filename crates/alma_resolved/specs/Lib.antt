@@ -2,3 +2,4 @@ pub mod Fits
 pub mod Scenes
 pub mod Keeps
 pub mod Stand
+pub mod Frames

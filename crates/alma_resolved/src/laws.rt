@@ -12,6 +12,7 @@ ghost use Rattle.alma_resolved.specs.Fits.{Place, Laid};
 ghost use Rattle.alma_resolved.specs.Scenes.{SceneFits};
 ghost use Rattle.alma_resolved.specs.Keeps.{KeepsPhrase};
 ghost use Rattle.alma_resolved.specs.Stand.{BlockStands};
+ghost use Rattle.alma_resolved.specs.Frames.{KeepsFrames};
 
 /// A body with a resolved part, judged in a scene that fits its place in a program, fits that place: each of its phrases does,
 /// and its loops have the hidden slots from the given one on, those of a loop inside another apart from that other's.
@@ -44,4 +45,13 @@ pub fn trees_with_a_program_are_unbroken()
 pub fn trees_have_one_program()
     ensures { (source : List ℕ) (tokens : List Lexeme) (m : tree.Module) (p q : Program) → resolved source tokens m ≡ Some p →
         resolved source tokens m ≡ Some q → p ≡ q }
+{}
+
+/// In a resolved program routine 0 takes nothing and gives nothing and has a slot; each routine has its parameters first and has
+/// at least as many slots as declared cells; and the routines stand inside one another as their levels say, eight deep at most.
+pub fn resolved_program_keeps_its_frames()
+    ensures {
+        (source : List ℕ) (tokens : List Lexeme) (m : tree.Module) (p : Program) → BlockStands m.block →
+        resolved source tokens m ≡ Some p → KeepsFrames p
+    }
 {}
