@@ -82,7 +82,7 @@ pub record Parts {A B C : Type 0} (v : Option A) (w : Option B) (f : A × B → 
   pub has_second : w ≡ Some second
   pub is : f (first, second) ≡ z
 
-parts : {A B C : Type 0} (v : Option A) (w : Option B) (f : A × B → C) (z : C) → option_map f (both_of v w) ≡ Some z → Parts v w f z
+pub parts : {A B C : Type 0} (v : Option A) (w : Option B) (f : A × B → C) (z : C) → option_map f (both_of v w) ≡ Some z → Parts v w f z
 parts None w f z e = absurd (cc)
 parts (Some x) None f z e = absurd (cc)
 parts (Some x) (Some y) f z e = record { first = x; second = y; has_first = refl; has_second = refl; is = cc }
@@ -104,7 +104,7 @@ pub record Stands (p : Program) (k l outer : ℕ) : Type 0 where
   pub above : 0 < k → l ≡ suc (routine_at p outer).level
   pub few : l ≤ 8
 
-body_up : (g : Frame) (body : Option tree.Stmts) → g.slots ≤ (judge_body g body).next
+pub body_up : (g : Frame) (body : Option tree.Stmts) → g.slots ≤ (judge_body g body).next
 body_up g None = omega arith
 body_up g (Some x) = (stmts_up g.scene g.slots x).le
 

@@ -14,3 +14,4 @@ pub mod ModuleSound
 pub mod Rises
 pub mod Slots
 pub mod FramesKept
+pub mod GlobalsKept

@@ -4,6 +4,7 @@ ghost use Rattle.std.specs.List.{AllByRecursion};
 ghost use Rattle.alma_scan.specs.Tokens.{Lexeme};
 ghost use Rattle.alma_ir.specs.Tree.{Program, Stmts, routine_at};
 ghost use Rattle.alma_ir.specs.Phrases.{stmts_phrases};
+ghost use Rattle.alma_ir.specs.Checked.{IsGlobal};
 ghost use Rattle.alma_rules.specs.Numbered as tree;
 ghost use Rattle.alma_rules.specs.Scene.{Scene};
 ghost use Rattle.alma_rules.specs.Modules.{broken, resolved};
@@ -53,5 +54,13 @@ pub fn resolved_program_keeps_its_frames()
     ensures {
         (source : List ℕ) (tokens : List Lexeme) (m : tree.Module) (p : Program) → BlockStands m.block →
         resolved source tokens m ≡ Some p → KeepsFrames p
+    }
+{}
+
+/// The variables of the module are number slots of routine 0 of the resolved program, and leave out the input position.
+pub fn resolved_program_has_its_globals()
+    ensures {
+        (source : List ℕ) (tokens : List Lexeme) (m : tree.Module) (p : Program) → BlockStands m.block →
+        resolved source tokens m ≡ Some p → AllByRecursion (IsGlobal p) p.globals
     }
 {}
