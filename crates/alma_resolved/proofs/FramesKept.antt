@@ -1,5 +1,5 @@
 -- The routines of a resolved program have their parameters first, and stand inside one another as their levels say.
-use Rattle.std.proofs.Common.{◌≡◌, ℕ, zero, suc, ◌+◌, ◌-◌, ◌<◌, ◌≤◌, ◌⊎◌, inl, inr, Bool, true, false, List, [], ◌∷◌, ◌++◌, length, get_or, Option, None, Some, refl, sym, ap, ◌∙◌, subst, arith, append_assoc}
+use Rattle.std.proofs.Common.{◌≡◌, ℕ, zero, suc, ◌+◌, ◌-◌, ◌<◌, ◌≤◌, Bool, true, false, List, [], ◌∷◌, ◌++◌, length, get_or, Option, None, Some, refl, sym, ap, ◌∙◌, subst, arith, append_assoc}
 use Rattle.std.specs.Prelude.{option_map, nat_le, sum_by, IsNone}
 use Rattle.std.specs.List.{AllByRecursion}
 use Rattle.std.proofs.lemmas.Bool.{leb-false}
@@ -8,23 +8,22 @@ use Rattle.alma_base.specs.declared.fault.CheckFault.TheVariants as fault
 use Rattle.alma_scan.specs.Tokens.{Lexeme}
 use Rattle.alma_ir.specs.Tree as ir
 use Rattle.alma_ir.specs.Tree.{Program, Routine, no_routine, routine_at}
-use Rattle.alma_ir.specs.Checked.{EachRoutine, HasBody, BodyTakesNothing, ParamsFirst, DeclaredFits, IsNested, AreLaidOut, HasOneCellAs, param_slots}
+use Rattle.alma_ir.specs.Checked.{AreLaidOut, HasOneCellAs, param_slots}
 use Rattle.alma_names.specs.Blocks.{DeclaredName}
 use Rattle.alma_rules.specs.Numbered as tree
-use Rattle.alma_rules.specs.Judged.{Judged, Broken, unbroken, both_of, when}
+use Rattle.alma_rules.specs.Judged.{Broken, unbroken, both_of, when}
 use Rattle.alma_rules.specs.Scene.{Scene, Heading, Returns, nothing, a_value, level}
-use Rattle.alma_rules.specs.Decls.{Frame, with_block, block_routines, decls_routines, decl_routines, formal_names, formals_of, too_deep, read_heading, read_decls}
-use Rattle.alma_rules.specs.Modules.{result_in, judge_body, routine_of, Bodied, frame_of, with_shapes, judge_block, judge_bodies, judge_decl, first_scene, module_frame, judge_module, program_of, broken, resolved, cons_routine, joined_routines, body_lines}
-use Rattle.alma_rules.specs.Modules as modules
-use Rattle.alma_rules.proofs.Sound.{IsThere, nil_left, nil_right}
+use Rattle.alma_rules.specs.Decls.{Frame, block_routines, decls_routines, decl_routines, formal_names, formals_of, too_deep, read_heading, read_decls}
+use Rattle.alma_rules.specs.Modules.{result_in, judge_body, routine_of, frame_of, with_shapes, judge_block, judge_bodies, judge_decl, first_scene, module_frame, judge_module, program_of, broken, resolved, cons_routine, joined_routines, body_lines}
+use Rattle.alma_rules.proofs.Sound.{nil_left, nil_right}
 use Rattle.alma_resolved.specs.Stand.{DeclsStand, DeclStands, BlockStands}
 use Rattle.alma_resolved.specs.Frames.{KeepsRoutine, KeepsFrames}
 use Rattle.alma_resolved.proofs.Lookups.{Each, NotBad, Headed, each_follows_from}
-use Rattle.alma_resolved.proofs.HeadsSound.{HeadThere, head_headings, head_routine, head_below}
-use Rattle.alma_resolved.proofs.DeclsSound.{block_headings, block_routine, block_returns, block_below, Moved, from_zero, ProcThere, ProcsThere, DeclsRead, decls_read}
+use Rattle.alma_resolved.proofs.HeadsSound.{head_headings, head_routine, head_below}
+use Rattle.alma_resolved.proofs.DeclsSound.{block_headings, block_routine, block_returns, block_below, Moved, from_zero, ProcThere, ProcsThere, decls_read}
 use Rattle.alma_resolved.proofs.ModuleSound.{Awaits, AwaitsIn, awaits_not_bad, all_headed, procs_shapes, opened, block_opened, resolved_unbroken}
 use Rattle.alma_resolved.proofs.Rises.{stmts_up}
-use Rattle.alma_resolved.proofs.Slots.{ParamsLaid, head_laid, Steps, decls_steps}
+use Rattle.alma_resolved.proofs.Slots.{head_laid, Steps, decls_steps}
 use Rattle.alma_rules.specs.Decls.{decls_names}
 
 -- ---- routines by their numbers
@@ -177,11 +176,11 @@ mutual
   block_keeps p f r k l name outer end (tree.block n decls body) hs rs same e h stand room starts next number deep at value numbered =
       let front = nil_left _ (judge_body (read_decls f r decls) body).faults e in
       let d = decls_read f r decls (nil_left _ (judge_bodies (read_decls f r decls).scene r decls).faults front)
-          (each_follows_from (Awaits hs r decls) NotBad (awaits_not_bad hs r decls) 0 f.scene.blocks.below f.scene.blocks.top h) stand (omega (arith, room, ap (λ y. length y) same)) in
+      (each_follows_from (Awaits hs r decls) NotBad (awaits_not_bad hs r decls) 0 f.scene.blocks.below f.scene.blocks.top h) stand (omega (arith, room, ap (λ y. length y) same)) in
       let headed = all_headed f r decls hs same h d in
       let moved = d.moved 0 (from_zero (decls_names decls)) in
       let v = parts (judge_bodies (read_decls f r decls).scene r decls).value (judge_body (read_decls f r decls) body).value
-          (cons_routine (read_decls f r decls) name outer (judge_body (read_decls f r decls) body).next (body_lines (read_decls f r decls).scene end body)) rs value in
+      (cons_routine (read_decls f r decls) name outer (judge_body (read_decls f r decls) body).next (body_lines (read_decls f r decls).scene end body)) rs value in
       let down : length (read_decls f r decls).scene.blocks.below ≡ suc l = ap (λ y. length y) (moved_below moved) ∙ deep in
       let flat : level (read_decls f r decls).scene ≡ l = level_is (read_decls f r decls).scene l down in
       let one = routine_keeps p k l outer f (read_decls f r decls) name (judge_body (read_decls f r decls) body).next (body_lines (read_decls f r decls).scene end body) v.second starts (decls_steps f r decls) at flat (body_up (read_decls f r decls) body) in
@@ -199,7 +198,7 @@ mutual
       let all : Numbered p r (v.first ++ v.second) = subst (λ ys. Numbered p r ys) (sym v.is) numbered in
       let one = decl_keeps p s r k l d (decls_names rest) v.first (nil_left (judge_decl s r d).faults _ e) h there.0 stand.0 (omega (arith, room)) number deep some own up v.has_first (numbered_front p r v.first v.second all) in
       let more = bodies_keep p (with_shapes s (judge_decl s r d).shapes) (r + decl_routines d) k l rest v.second (nil_right (judge_decl s r d).faults _ e) h (procs_shapes s (judge_decl s r d).shapes (r + decl_routines d) rest stand.1 there.1) stand.1 (omega (arith, room))
-          number deep some own (omega (arith, up)) v.has_second (numbered_back p r (r + decl_routines d) v.first v.second (omega (arith, one.long)) all) in
+      number deep some own (omega (arith, up)) v.has_second (numbered_back p r (r + decl_routines d) v.first v.second (omega (arith, one.long)) all) in
       join_result p r (r + decl_routines d) (decl_routines d) (decls_routines rest) v.first v.second rs refl one more v.is
 
   decl_keeps : (p : Program) (s : Scene) (r k l : ℕ) (d : tree.Decl) (names : List tree.Name) (rs : List Routine) → (judge_decl s r d).faults ≡ [] → Each (Headed s.headings) s → ProcThere s r d → DeclStands d names → r + decl_routines d ≤ length s.headings
@@ -229,7 +228,7 @@ block_some : (f : Frame) (r : ℕ) (name : tree.Name) (outer end : ℕ) (x : tre
 unfolding judge_block
 block_some f r name outer end (tree.block n decls body) rs value =
     let v = parts (judge_bodies (read_decls f r decls).scene r decls).value (judge_body (read_decls f r decls) body).value
-        (cons_routine (read_decls f r decls) name outer (judge_body (read_decls f r decls) body).next (body_lines (read_decls f r decls).scene end body)) rs value in
+    (cons_routine (read_decls f r decls) name outer (judge_body (read_decls f r decls) body).next (body_lines (read_decls f r decls).scene end body)) rs value in
     by rs v.is
   where
     by : {x : Routine} {xs : List Routine} (ys : List Routine) → x ∷ xs ≡ ys → 0 < length ys
@@ -250,10 +249,10 @@ unfolding judge_block DeclsStand block_routines
 block_takes f r name outer end (tree.block n decls body) hs rs same e h stand room none returns value =
     let front = nil_left _ (judge_body (read_decls f r decls) body).faults e in
     let d = decls_read f r decls (nil_left _ (judge_bodies (read_decls f r decls).scene r decls).faults front)
-        (each_follows_from (Awaits hs r decls) NotBad (awaits_not_bad hs r decls) 0 f.scene.blocks.below f.scene.blocks.top h) stand (omega (arith, room, ap (λ y. length y) same)) in
+    (each_follows_from (Awaits hs r decls) NotBad (awaits_not_bad hs r decls) 0 f.scene.blocks.below f.scene.blocks.top h) stand (omega (arith, room, ap (λ y. length y) same)) in
     let moved = d.moved 0 (from_zero (decls_names decls)) in
     let v = parts (judge_bodies (read_decls f r decls).scene r decls).value (judge_body (read_decls f r decls) body).value
-        (cons_routine (read_decls f r decls) name outer (judge_body (read_decls f r decls) body).next (body_lines (read_decls f r decls).scene end body)) rs value in
+    (cons_routine (read_decls f r decls) name outer (judge_body (read_decls f r decls) body).next (body_lines (read_decls f r decls).scene end body)) rs value in
     subst (λ ys. TakesNothing (get_or ys 0 no_routine)) v.is
     ((decls_steps f r decls).params ∙ none, nothing_given (read_decls f r decls).scene (read_decls f r decls).scene.returns (ap (λ x. x.returns) moved.is ∙ returns))
 
@@ -282,7 +281,7 @@ made_frames source tokens m rs stand e value =
     let r = module_keeps source tokens m rs stand e value in
     let some : 0 < length rs = block_some (module_frame source tokens m) 1 m.name 0 (m.end_name.token - 1) m.block rs value in
     let keeps : (i : ℕ) → i < length rs → KeepsRoutine (program_of source tokens m rs) i (get_or rs i no_routine) =
-        λ i lt. subst (λ j. KeepsRoutine (program_of source tokens m rs) j (get_or rs i no_routine)) (omega arith) (each_at (KeepsRoutine (program_of source tokens m rs)) 0 i rs r.each lt) in
+    λ i lt. subst (λ j. KeepsRoutine (program_of source tokens m rs) j (get_or rs i no_routine)) (omega arith) (each_at (KeepsRoutine (program_of source tokens m rs)) 0 i rs r.each lt) in
     let first : (get_or rs 0 no_routine).declared < (get_or rs 0 no_routine).slots = (keeps 0 some).declared.body refl in
     record { body = (some, omega (arith, first)); body_takes_nothing = module_takes source tokens m rs stand e value; routines = keeps }
 

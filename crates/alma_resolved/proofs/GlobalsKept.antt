@@ -1,5 +1,5 @@
 -- The variables of the module are number slots of routine 0.
-use Rattle.std.proofs.Common.{◌≡◌, ℕ, suc, ◌+◌, ◌-◌, ◌<◌, ◌≤◌, Bool, true, false, List, [], ◌∷◌, ◌++◌, length, get_or, Option, None, Some, refl, sym, ap, ◌∙◌, subst, arith}
+use Rattle.std.proofs.Common.{◌≡◌, ℕ, ◌+◌, ◌-◌, ◌<◌, ◌≤◌, Bool, true, false, List, [], ◌∷◌, get_or, Option, None, Some, refl, sym, subst, arith}
 use Rattle.std.specs.Prelude.{option_map}
 use Rattle.std.specs.List.{AllByRecursion}
 use Rattle.alma_base.specs.Choice.{if_true}
@@ -16,7 +16,7 @@ use Rattle.alma_rules.specs.Decls.{Frame, with_faults, with_scene, limited, cons
 use Rattle.alma_rules.specs.Modules.{judge_body, judge_block, judge_bodies, judge_module, cons_routine, body_lines, module_frame, block_variables, program_of, broken, resolved}
 use Rattle.alma_resolved.specs.Stand.{BlockStands}
 use Rattle.alma_resolved.specs.Frames.{KeepsFrames}
-use Rattle.alma_resolved.proofs.FramesKept.{Parts, parts, body_up, program_keeps_frames}
+use Rattle.alma_resolved.proofs.FramesKept.{parts, body_up, program_keeps_frames}
 
 -- the variables lie in the frame, behind slot 0
 record VarsLie (f : Frame) : Type 0 where
@@ -75,7 +75,7 @@ block_lies : (f : Frame) (r : ℕ) (name : tree.Name) (outer end : ℕ) (x : tre
 unfolding judge_block
 block_lies f r name outer end (tree.block n decls body) rs h value =
     let v = parts (judge_bodies (read_decls f r decls).scene r decls).value (judge_body (read_decls f r decls) body).value
-        (cons_routine (read_decls f r decls) name outer (judge_body (read_decls f r decls) body).next (body_lines (read_decls f r decls).scene end body)) rs value in
+    (cons_routine (read_decls f r decls) name outer (judge_body (read_decls f r decls) body).next (body_lines (read_decls f r decls).scene end body)) rs value in
     let up : (read_decls f r decls).slots ≤ (judge_body (read_decls f r decls) body).next = body_up (read_decls f r decls) body in
     subst (λ ys. Lie (read_decls f r decls).variables (get_or ys 0 no_routine)) v.is
     (each_follows (λ (g : Global). (0 < g.slot) × (g.slot + g.cells ≤ (read_decls f r decls).slots)) (λ (g : Global). (0 < g.slot) × (g.slot + g.cells ≤ (judge_body (read_decls f r decls) body).next))

@@ -1,13 +1,13 @@
 -- The slots of a frame: parameters first, in order, and then variables.
-use Rattle.std.proofs.Common.{◌≡◌, ℕ, zero, suc, ◌+◌, ◌-◌, ◌<◌, ◌≤◌, Bool, true, false, List, [], ◌∷◌, ◌++◌, length, get_or, Option, None, Some, refl, sym, ap, ◌∙◌, subst, arith}
-use Rattle.std.specs.Prelude.{not, is_some, slice_get, option_and_then, sum_by, if◌then◌else◌}
+use Rattle.std.proofs.Common.{◌≡◌, ℕ, zero, suc, ◌+◌, ◌<◌, ◌≤◌, Bool, true, false, List, [], ◌∷◌, ◌++◌, length, get_or, Option, None, Some, refl, sym, ap, ◌∙◌, arith}
+use Rattle.std.specs.Prelude.{not, is_some, slice_get, option_and_then, sum_by}
 use Rattle.std.specs.List.{AllByRecursion}
 use Rattle.std.proofs.lemmas.List.{length-append, get_or_append_left}
 use Rattle.std.proofs.lemmas.List.Sums.{sum_by-cons}
 use Rattle.alma_base.specs.Choice.{if_true}
 use Rattle.alma_tree.specs.declared.leaf.Mode.{Mode}
 use Rattle.alma_tree.specs.declared.leaf.Mode.TheVariants as modes
-use Rattle.alma_names.specs.Shapes.{PlainShape, integer, char, boolean, listed, sub, row, fields, range_of, range_at, cells_in, cell_counts, cell_counts_from, cells_at}
+use Rattle.alma_names.specs.Shapes.{PlainShape, integer, char, boolean, listed, sub, row, fields, range_of, range_at, cells_in, cell_counts, cell_counts_from}
 use Rattle.alma_ir.specs.declared.program.ArgKind.{ArgKind}
 use Rattle.alma_ir.specs.declared.program.ArgKind.TheVariants as kinds
 use Rattle.alma_ir.specs.declared.program.Param.{Param}

@@ -51,16 +51,12 @@ pub fn trees_have_one_program()
 /// In a resolved program routine 0 takes nothing and gives nothing and has a slot; each routine has its parameters first and has
 /// at least as many slots as declared cells; and the routines stand inside one another as their levels say, eight deep at most.
 pub fn resolved_program_keeps_its_frames()
-    ensures {
-        (source : List ℕ) (tokens : List Lexeme) (m : tree.Module) (p : Program) → BlockStands m.block →
-        resolved source tokens m ≡ Some p → KeepsFrames p
-    }
+    ensures { (source : List ℕ) (tokens : List Lexeme) (m : tree.Module) (p : Program) → BlockStands m.block →
+        resolved source tokens m ≡ Some p → KeepsFrames p }
 {}
 
 /// The variables of the module are number slots of routine 0 of the resolved program, and leave out the input position.
 pub fn resolved_program_has_its_globals()
-    ensures {
-        (source : List ℕ) (tokens : List Lexeme) (m : tree.Module) (p : Program) → BlockStands m.block →
-        resolved source tokens m ≡ Some p → AllByRecursion (IsGlobal p) p.globals
-    }
+    ensures { (source : List ℕ) (tokens : List Lexeme) (m : tree.Module) (p : Program) → BlockStands m.block →
+        resolved source tokens m ≡ Some p → AllByRecursion (IsGlobal p) p.globals }
 {}
