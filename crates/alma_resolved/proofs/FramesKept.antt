@@ -1,6 +1,6 @@
 -- The routines of a resolved program have their parameters first, and stand inside one another as their levels say.
 use Rattle.std.proofs.Common.{◌≡◌, ℕ, zero, suc, ◌+◌, ◌-◌, ◌<◌, ◌≤◌, Bool, true, false, List, [], ◌∷◌, ◌++◌, length, get_or, Option, None, Some, refl, sym, ap, ◌∙◌, subst, arith, append_assoc}
-use Rattle.std.specs.Prelude.{option_map, nat_le, sum_by, IsNone}
+use Rattle.std.specs.Prelude.{map, option_map, nat_le, sum_by, IsNone}
 use Rattle.std.specs.List.{AllByRecursion}
 use Rattle.std.proofs.lemmas.Bool.{leb-false}
 use Rattle.std.proofs.lemmas.List.{length-append, length-replicate}
@@ -12,7 +12,8 @@ use Rattle.alma_ir.specs.Checked.{AreLaidOut, HasOneCellAs, param_slots}
 use Rattle.alma_names.specs.Blocks.{DeclaredName}
 use Rattle.alma_rules.specs.Numbered as tree
 use Rattle.alma_rules.specs.Judged.{Broken, unbroken, both_of, when}
-use Rattle.alma_rules.specs.Scene.{Scene, Heading, Returns, nothing, a_value, level}
+use Rattle.alma_rules.specs.Scene.{Scene, Heading, Returns, nothing, a_value, level, line_of}
+use Rattle.alma_rules.specs.Places.{width, stmt_tokens, mark_stmts}
 use Rattle.alma_rules.specs.Decls.{Frame, block_routines, decls_routines, decl_routines, formal_names, formals_of, too_deep, read_heading, read_decls}
 use Rattle.alma_rules.specs.Modules.{result_in, judge_body, routine_of, frame_of, with_shapes, judge_block, judge_bodies, judge_decl, first_scene, module_frame, judge_module, program_of, broken, resolved, cons_routine, joined_routines, body_lines}
 use Rattle.alma_rules.proofs.Sound.{nil_left, nil_right}
@@ -107,9 +108,18 @@ pub body_up : (g : Frame) (body : Option tree.Stmts) → g.slots ≤ (judge_body
 body_up g None = omega arith
 body_up g (Some x) = (stmts_up g.scene g.slots x).le
 
+each_positive : (s : Scene) (ts : List ℕ) → AllByRecursion (λ x. 0 < x) (map (line_of s) ts)
+each_positive s [] = tt
+each_positive s (t ∷ ts) = (omega arith, each_positive s ts)
+
+-- the lines of a body are lines
+lines_positive : (s : Scene) (end : ℕ) (body : Option tree.Stmts) → AllByRecursion (λ x. 0 < x) (body_lines s end body)
+lines_positive s end None = tt
+lines_positive s end (Some body) = each_positive s (stmt_tokens (mark_stmts body (end - width (mark_stmts body))).marks)
+
 routine_keeps : (p : Program) (k l outer : ℕ) (f g : Frame) (name : tree.Name) (slots : ℕ) (lines : List ℕ) (body : ir.Stmts) → Starts k f → Steps f g → Stands p k l outer → level g.scene ≡ l → g.slots ≤ slots
-    → KeepsRoutine p k (routine_of g name outer slots lines body)
-routine_keeps p k l outer f g name slots lines body h s at same le = record {
+    → AllByRecursion (λ x. 0 < x) lines → KeepsRoutine p k (routine_of g name outer slots lines body)
+routine_keeps p k l outer f g name slots lines body h s at same le positive = record {
   params = record {
     laid_out = subst (AreLaidOut 0) (sym s.params) h.laid;
     fit = omega (arith, ap (λ ps. sum_by param_slots ps) s.params, h.sum, s.le, le);
@@ -117,6 +127,8 @@ routine_keeps p k l outer f g name slots lines body h s at same le = record {
   };
   declared = record { within = omega (arith, h.declared, s.le, s.same, le); body = λ e. let b : f.declared < f.slots = h.body e in omega (arith, b, s.le, s.same, le) };
   nested = record { body = λ e. (same ∙ (at.body e).0, (at.body e).1); exists = at.exists; above = λ e. same ∙ at.above e; few = omega (arith, same, at.few) };
+  line = omega arith;
+  lines = positive;
 }
 
 -- ---- scenes
@@ -183,7 +195,8 @@ mutual
       (cons_routine (read_decls f r decls) name outer (judge_body (read_decls f r decls) body).next (body_lines (read_decls f r decls).scene end body)) rs value in
       let down : length (read_decls f r decls).scene.blocks.below ≡ suc l = ap (λ y. length y) (moved_below moved) ∙ deep in
       let flat : level (read_decls f r decls).scene ≡ l = level_is (read_decls f r decls).scene l down in
-      let one = routine_keeps p k l outer f (read_decls f r decls) name (judge_body (read_decls f r decls) body).next (body_lines (read_decls f r decls).scene end body) v.second starts (decls_steps f r decls) at flat (body_up (read_decls f r decls) body) in
+      let one = routine_keeps p k l outer f (read_decls f r decls) name (judge_body (read_decls f r decls) body).next (body_lines (read_decls f r decls).scene end body) v.second starts (decls_steps f r decls) at flat (body_up (read_decls f r decls) body)
+          (lines_positive (read_decls f r decls).scene end body) in
       let num = first_numbered p k r (routine_of (read_decls f r decls) name outer (judge_body (read_decls f r decls) body).next (body_lines (read_decls f r decls).scene end body) v.second) v.first rs next v.is numbered in
       let own : (routine_at p k).level ≡ l = ap (λ y. y.level) num.0 ∙ flat in
       cons_result p k r (decls_routines decls) (routine_of (read_decls f r decls) name outer (judge_body (read_decls f r decls) body).next (body_lines (read_decls f r decls).scene end body) v.second) v.first rs next one
