@@ -196,7 +196,7 @@ mutual
       let down : length (read_decls f r decls).scene.blocks.below ≡ suc l = ap (λ y. length y) (moved_below moved) ∙ deep in
       let flat : level (read_decls f r decls).scene ≡ l = level_is (read_decls f r decls).scene l down in
       let one = routine_keeps p k l outer f (read_decls f r decls) name (judge_body (read_decls f r decls) body).next (body_lines (read_decls f r decls).scene end body) v.second starts (decls_steps f r decls) at flat (body_up (read_decls f r decls) body)
-          (lines_positive (read_decls f r decls).scene end body) in
+      (lines_positive (read_decls f r decls).scene end body) in
       let num = first_numbered p k r (routine_of (read_decls f r decls) name outer (judge_body (read_decls f r decls) body).next (body_lines (read_decls f r decls).scene end body) v.second) v.first rs next v.is numbered in
       let own : (routine_at p k).level ≡ l = ap (λ y. y.level) num.0 ∙ flat in
       cons_result p k r (decls_routines decls) (routine_of (read_decls f r decls) name outer (judge_body (read_decls f r decls) body).next (body_lines (read_decls f r decls).scene end body) v.second) v.first rs next one

@@ -49,7 +49,8 @@ pub fn trees_have_one_program()
 {}
 
 /// In a resolved program routine 0 takes nothing and gives nothing and has a slot; each routine has its parameters first and has
-/// at least as many slots as declared cells; and the routines stand inside one another as their levels say, eight deep at most.
+/// at least as many slots as declared cells; the routines stand inside one another as their levels say, eight deep at most; and
+/// their lines are lines.
 pub fn resolved_program_keeps_its_frames()
     ensures { (source : List ℕ) (tokens : List Lexeme) (m : tree.Module) (p : Program) → BlockStands m.block →
         resolved source tokens m ≡ Some p → KeepsFrames p }
