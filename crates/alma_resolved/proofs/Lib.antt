@@ -1,0 +1,17 @@
+pub mod Fits
+pub mod Scenes
+pub mod ExprNodes
+pub mod StmtNodes
+pub mod Exact
+pub mod Walks
+pub mod Checks
+pub mod Lookups
+pub mod Later
+pub mod TypesSound
+pub mod HeadsSound
+pub mod DeclsSound
+pub mod ModuleSound
+pub mod Rises
+pub mod Slots
+pub mod FramesKept
+pub mod GlobalsKept

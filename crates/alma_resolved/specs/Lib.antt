@@ -1,0 +1,5 @@
+pub mod Fits
+pub mod Scenes
+pub mod Keeps
+pub mod Stand
+pub mod Frames
