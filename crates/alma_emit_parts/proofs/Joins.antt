@@ -29,7 +29,7 @@ abbrev Pass : Type 0
 Pass = (ls : List ℕ) → List ℕ
 
 pub nothing : (a : Front) → Adds a a (λ at lo ls. []) (λ ls. []) (λ ls. ls)
-nothing a = record { instrs = sym (append-nil a.code); taken = sym (append-nil a.kinds); next_slot = omega arith; left = refl }
+nothing a = record { instrs = sym (append-nil a.code); taken = sym (append-nil a.kinds); next_slot = omega arith; left = refl; whole = refl }
 
 pub then_adds : (a b c : Front) (f g : Code) (k l : Slots) (p q : Pass) → Adds a b f k p → Adds b c g l q
     → Adds a c (λ at lo ls. f at lo ls ++ g (at + length (f at lo ls)) (lo + length (k ls)) (p ls)) (λ ls. k ls ++ l (p ls)) (λ ls. q (p ls))
@@ -48,6 +48,7 @@ then_adds a b c f g k l p q h j =
       taken = j.taken ∙ ap (λ y. y ++ l b.lines) h.taken ∙ ap (λ n. (a.kinds ++ k ls) ++ l n) h.left ∙ append_assoc a.kinds (k ls) (l (p ls));
       next_slot = omega (arith, j.next_slot, h.next_slot, ap (λ n. length (l n)) h.left, length-append (k ls) (l (p ls)));
       left = j.left ∙ ap q h.left;
+      whole = j.whole ∙ h.whole;
     }
 
 -- the same, said in another way
@@ -58,6 +59,7 @@ adds_as a b f g k l p q h e d c = record {
   taken = h.taken ∙ ap (λ y. a.kinds ++ y) d;
   next_slot = h.next_slot ∙ ap (λ y. a.next + length y) d;
   left = h.left ∙ c;
+  whole = h.whole;
 }
 
 -- ---- code alone, and slots alone
@@ -68,6 +70,7 @@ code_code a b c xs ys h j = record {
   taken = j.taken ∙ h.taken;
   next_slot = j.next_slot ∙ h.next_slot;
   left = j.left ∙ h.left;
+  whole = j.whole ∙ h.whole;
 }
 
 pub code_adds : (a b c : Front) (xs : List Lined) (g : Code) (l : Slots) (q : Pass) → Codes a b xs → Adds b c g l q → Adds a c (λ at lo ls. xs ++ g (at + length xs) lo ls) l q
@@ -84,6 +87,7 @@ code_adds a b c xs g l q h j =
       taken = j.taken ∙ ap (λ y. y ++ l b.lines) h.taken ∙ ap (λ n. a.kinds ++ l n) h.left;
       next_slot = omega (arith, j.next_slot, h.next_slot, ap (λ n. length (l n)) h.left);
       left = j.left ∙ ap q h.left;
+      whole = j.whole ∙ h.whole;
     }
 
 pub adds_code : (a b c : Front) (f : Code) (k : Slots) (p : Pass) (xs : List Lined) → Adds a b f k p → Codes b c xs → Adds a c (λ at lo ls. f at lo ls ++ xs) k p
@@ -92,10 +96,11 @@ adds_code a b c f k p xs h j = record {
   taken = j.taken ∙ h.taken;
   next_slot = j.next_slot ∙ h.next_slot;
   left = j.left ∙ h.left;
+  whole = j.whole ∙ h.whole;
 }
 
 pub only_code : (a b : Front) (xs : List Lined) → Codes a b xs → Adds a b (λ at lo ls. xs) (λ ls. []) (λ ls. ls)
-only_code a b xs h = record { instrs = h.instrs; taken = h.taken ∙ sym (append-nil a.kinds); next_slot = omega (arith, h.next_slot); left = h.left }
+only_code a b xs h = record { instrs = h.instrs; taken = h.taken ∙ sym (append-nil a.kinds); next_slot = omega (arith, h.next_slot); left = h.left; whole = h.whole }
 
 pub slot_adds : (a b c : Front) (kind : SlotKind) (g : Code) (l : Slots) (q : Pass) → Takes a b kind → Adds b c g l q → Adds a c (λ at lo ls. g at (lo + 1) ls) (λ ls. kind ∷ l ls) q
 slot_adds a b c kind g l q h j = record {
@@ -107,6 +112,7 @@ slot_adds a b c kind g l q h j = record {
   taken = j.taken ∙ ap (λ y. y ++ l b.lines) h.taken ∙ ap (λ n. (a.kinds ++ kind ∷ []) ++ l n) h.left ∙ append_assoc a.kinds (kind ∷ []) (l a.lines);
   next_slot = omega (arith, j.next_slot, h.next_slot, ap (λ n. length (l n)) h.left);
   left = j.left ∙ ap q h.left;
+  whole = j.whole ∙ h.whole;
 }
 
 pub adds_slot : (a b c : Front) (f : Code) (k : Slots) (p : Pass) (kind : SlotKind) → Adds a b f k p → Takes b c kind → Adds a c f (λ ls. k ls ++ kind ∷ []) p
@@ -115,10 +121,11 @@ adds_slot a b c f k p kind h j = record {
   taken = j.taken ∙ ap (λ y. y ++ kind ∷ []) h.taken ∙ append_assoc a.kinds (k a.lines) (kind ∷ []);
   next_slot = omega (arith, j.next_slot, h.next_slot, length-append (k a.lines) (kind ∷ []));
   left = j.left ∙ h.left;
+  whole = j.whole ∙ h.whole;
 }
 
 pub only_slot : (a b : Front) (kind : SlotKind) → Takes a b kind → Adds a b (λ at lo ls. []) (λ ls. kind ∷ []) (λ ls. ls)
-only_slot a b kind h = record { instrs = h.instrs ∙ sym (append-nil a.code); taken = h.taken; next_slot = h.next_slot; left = h.left }
+only_slot a b kind h = record { instrs = h.instrs ∙ sym (append-nil a.code); taken = h.taken; next_slot = h.next_slot; left = h.left; whole = h.whole }
 
 -- the address and the slot behind
 pub address_behind : (a b : Front) (f : Code) (k : Slots) (p : Pass) → Adds a b f k p → length b.code ≡ length a.code + length (f (length a.code) a.next a.lines)
@@ -250,4 +257,24 @@ filled a b c d k l p q aim h g target beyond x y z is =
       taken = z.taken ∙ all.taken;
       next_slot = z.next_slot ∙ all.next_slot;
       left = z.left ∙ all.left;
+      whole = z.whole ∙ all.whole;
     }
+
+-- a target that is aimed with nothing behind
+pub closed : (a b c : Front) (k : Slots) (p : Pass) (aim : ℕ → List Lined → List Lined) (h : ℕ → Code) (target : ℕ) → Holes a b aim h k p → Changes b c (aim target) → Adds a c (h target) k p
+closed a b c k p aim h target x y = record {
+  instrs = y.instrs ∙ ap (aim target) (sym (append-nil b.code)) ∙ x.fills target [] ∙ append-nil (a.code ++ h target (length a.code) a.next a.lines);
+  taken = y.taken ∙ x.all.taken;
+  next_slot = y.next_slot ∙ x.all.next_slot;
+  left = y.left ∙ x.all.left;
+  whole = y.whole ∙ x.all.whole;
+}
+
+-- one instruction whose target is aimed behind what follows
+pub over : (a b c d : Front) (line at target : ℕ) (i : Instr) (g : Code) (l : Slots) (q : Pass) (beyond : ℕ → ℕ) → at ≡ length a.code → with_target i 0 ≡ i → Codes a b (own line (i ∷ []))
+    → Adds b c g l q → Changes c d (λ xs. aimed xs at target) → target ≡ beyond (length c.code)
+    → Adds a d (λ at lo ls. own line (with_target i (beyond (at + 1 + length (g (at + 1) lo ls))) ∷ []) ++ g (at + 1) lo ls) l q
+over a b c d line at target i g l q beyond here same h j k is =
+    let same_slot : a.next + 0 ≡ a.next = omega arith in
+    adds_as a d _ _ _ _ _ _ (filled a b c d _ _ _ _ (λ to xs. aimed xs at to) _ g target beyond (hole_put a b line at i here same h) j k is)
+    (ap (λ n. own line (with_target i (beyond (length a.code + 1 + length (g (length a.code + 1) n a.lines))) ∷ []) ++ g (length a.code + 1) n a.lines) same_slot) refl refl

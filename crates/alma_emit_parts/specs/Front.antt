@@ -21,15 +21,16 @@ pub record Around : Type 0 where
 unfoldable pub around : Scene → Around
 around s = record { program = program_of s.program.now; tables = tables_of s.numbers.now; routine = s.routine }
 
--- the code so far, the next slot, the kinds of the slots so far, and the lines that are still to be handed out
+-- the code so far, the next slot, the kinds of the slots so far, the lines that are still to be handed out, and all lines
 pub record Front : Type 0 where
   pub code : List Lined
   pub next : ℕ
   pub kinds : List SlotKind
   pub lines : List ℕ
+  pub all_lines : List ℕ
 
 unfoldable pub front : Work → Front
-front w = record { code = made w.emit; next = w.emit.next; kinds = w.emit.kinds.items; lines = drop w.handed w.lines.items }
+front w = record { code = made w.emit; next = w.emit.next; kinds = w.emit.kinds.items; lines = drop w.handed w.lines.items; all_lines = w.lines.items }
 
 -- b is a with this code behind its own, given its address, the next slot and the lines; with these slots; and
 -- with the lines that are left
@@ -38,6 +39,7 @@ pub record Adds (a b : Front) (code : (at lo : ℕ) → (ls : List ℕ) → List
   pub taken : b.kinds ≡ a.kinds ++ slots a.lines
   pub next_slot : b.next ≡ a.next + length (slots a.lines)
   pub left : b.lines ≡ pass a.lines
+  pub whole : b.all_lines ≡ a.all_lines
 
 -- b is a with this code behind its own
 pub record Codes (a b : Front) (code : List Lined) : Type 0 where
@@ -45,6 +47,7 @@ pub record Codes (a b : Front) (code : List Lined) : Type 0 where
   pub taken : b.kinds ≡ a.kinds
   pub next_slot : b.next ≡ a.next
   pub left : b.lines ≡ a.lines
+  pub whole : b.all_lines ≡ a.all_lines
 
 -- b is a with one slot more
 pub record Takes (a b : Front) (kind : SlotKind) : Type 0 where
@@ -52,6 +55,7 @@ pub record Takes (a b : Front) (kind : SlotKind) : Type 0 where
   pub taken : b.kinds ≡ a.kinds ++ kind ∷ []
   pub next_slot : b.next ≡ a.next + 1
   pub left : b.lines ≡ a.lines
+  pub whole : b.all_lines ≡ a.all_lines
 
 -- b is a with its code changed
 pub record Changes (a b : Front) (change : List Lined → List Lined) : Type 0 where
@@ -59,6 +63,7 @@ pub record Changes (a b : Front) (change : List Lined → List Lined) : Type 0 w
   pub taken : b.kinds ≡ a.kinds
   pub next_slot : b.next ≡ a.next
   pub left : b.lines ≡ a.lines
+  pub whole : b.all_lines ≡ a.all_lines
 
 -- Code with a target that is still to be aimed, which is 0 until then; whatever stands behind, the change aims it.
 pub record Holes (a b : Front) (aim : (to : ℕ) → List Lined → List Lined) (code : (none at lo : ℕ) → (ls : List ℕ) → List Lined) (slots : (ls : List ℕ) → List SlotKind) (pass : (ls : List ℕ) → List ℕ) : Type 0 where
@@ -71,6 +76,7 @@ pub record EndsEach (a b : Front) (line mark inner overlay : ℕ) : Type 0 where
   pub taken : b.kinds ≡ a.kinds
   pub next_slot : b.next ≡ a.next
   pub left : b.lines ≡ a.lines
+  pub whole : b.all_lines ≡ a.all_lines
 
 -- behind a FORALL: its finish, at which it is aimed
 pub record EndsForall (a b : Front) (line forall : ℕ) : Type 0 where
@@ -78,6 +84,7 @@ pub record EndsForall (a b : Front) (line forall : ℕ) : Type 0 where
   pub taken : b.kinds ≡ a.kinds
   pub next_slot : b.next ≡ a.next
   pub left : b.lines ≡ a.lines
+  pub whole : b.all_lines ≡ a.all_lines
 
 -- the range of the result of the routine
 abbrev pub result_of : Around → Option Range

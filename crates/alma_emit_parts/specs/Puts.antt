@@ -1,19 +1,19 @@
 -- What each phrase adds where it is emitted: its code and slots by the templates, with the lines that it is given.
-use Rattle.std.specs.Prelude.{◌≡◌, ℕ, ◌+◌, List, [], ◌∷◌, ◌++◌, length, drop, Option, Some, None}
+use Rattle.std.specs.Prelude.{◌≡◌, ℕ, zero, suc, ◌+◌, List, [], ◌∷◌, ◌++◌, length, drop, Option, Some, None}
 use Rattle.alma_base.specs.declared.number.Range.{Range}
 use Rattle.alma_code.specs.declared.cell.SlotKind.{SlotKind}
 use Rattle.alma_code.specs.declared.cell.SlotKind.TheVariants as slot
 use Rattle.alma_code.specs.declared.instr.Instr.{Instr}
 use Rattle.alma_code.specs.declared.instr.Instr.TheVariants as I
-use Rattle.alma_ir.specs.Tree.{Stmts, Stmt, Arms, CaseArms, Else, Branches, Loop, ReturnExpr, Test, Tests, Expr, Links, Args, Arg, Desig, Sels, Sel}
+use Rattle.alma_ir.specs.Tree.{Stmts, Stmt, Arms, CaseArms, Else, Branches, Loop, ReturnExpr, Test, Tests, Expr, Links, Args, Arg, Desig, Sels, Sel, no_args, more_args}
 use Rattle.alma_ir.specs.Phrases.{Phrase, stmts_phrases, stmt_phrases, arms_phrases, cases_phrases, else_phrases, branches_phrases, loop_phrases, return_phrases, test_phrases, tests_phrases, expr_phrases, links_phrases, args_phrases, arg_phrases, desig_phrases, sels_phrases, sel_phrases}
 use Rattle.alma_ir.specs.Lines.{behind, stmts_with, stmt_with, arms_with, cases_with, else_with, branches_with, loop_with, return_with, test_with, tests_with, expr_with, links_with, args_with, arg_with, desig_with, sels_with, sel_with}
 use Rattle.alma_emit_parts.specs.declared.stand.Stand.{Stand}
 use Rattle.alma_emit_parts.specs.declared.stand.Stand.TheVariants as stands
 use Rattle.alma_emit_parts.specs.Front.{Around, Front, Adds, Holes}
 use Rattle.alma_templates.specs.Lined.{Lined, own, in_row}
-use Rattle.alma_templates.specs.Slots.{bare_desig, bare, unless_bare, is_simple, mark_slots, handed_slots, call_links, stmts_slots, stmt_slots, arms_slots, cases_slots, else_slots, branches_slots, for_slots, some_slots, return_slots, test_slots, and_slots, or_slots, expr_slots, links_slots, args_slots, arg_slots, desig_slots, sels_slots, sel_slots}
-use Rattle.alma_templates.specs.Pieces.{condition}
+use Rattle.alma_templates.specs.Slots.{shift_of, bare_desig, bare, unless_bare, is_simple, mark_slots, handed_slots, call_links, stmts_slots, stmt_slots, arms_slots, cases_slots, else_slots, behind_condition, branches_slots, for_slots, some_slots, return_slots, test_slots, and_slots, or_slots, expr_slots, links_slots, args_slots, arg_slots, desig_slots, sels_slots, sel_slots}
+use Rattle.alma_templates.specs.Pieces.{condition, guarded, first_of_two, chosen, behind_labels, case_arm, first_argument}
 use Rattle.alma_templates.specs.Templates as T
 
 -- ---- variables, by slot or by place
@@ -31,6 +31,21 @@ module _ (s : Around) where
   -- the slot in which a value that is used at once stands
   abbrev pub value_slot : (lo : ℕ) → Expr → ℕ
   value_slot lo e = T.value_at s.program s.tables s.routine lo e
+
+  -- the slot of the first of what is handed over at a call
+  abbrev pub first_slot : (called up lo : ℕ) → Args → ℕ
+  first_slot called up lo args = first_argument (T.handed s.program s.tables s.routine called args) (T.handed_from s.program s.tables s.routine (shift_of s.program called) up lo)
+
+-- the slot of the link that is handed over, where one is
+abbrev pub link_slot : (shift up lo : ℕ) → Option ℕ
+link_slot zero up lo = None
+link_slot (suc one) up lo = Some (lo + up)
+
+-- the slot of the first of what is handed over: the link, or the first argument, or 0 where nothing is
+abbrev pub first_of_call : Option ℕ → Args → (to : ℕ) → ℕ
+first_of_call (Some slot) args to = slot
+first_of_call None no_args to = 0
+first_of_call None (more_args a rest) to = to
 
 -- a number goes to a variable, and the number of a variable into a slot
 abbrev pub set_instr : Stand → (value : ℕ) → Instr
@@ -132,3 +147,21 @@ pub record PutsBranches (s : Around) (line exit : ℕ) (a b : Front) (branches :
 pub record PutsGuard (s : Around) (line : ℕ) (a b : Front) (aim : (to : ℕ) → List Lined → List Lined) (t : Test) : Type 0 where
   pub all : Holes a b aim (λ none at lo ls. condition (is_simple (test_with t ls)) line at lo none (λ at lo none. T.jump_code s.program s.tables s.routine line at lo none (test_with t ls)) (λ at lo. T.test_code s.program s.tables s.routine line at lo (test_with t ls)))
       (λ ls. mark_slots (is_simple (test_with t ls)) ++ test_slots s.program s.routine (test_with t ls)) (behind (test_phrases t))
+
+-- a condition and what is done where it has an alternative; else the code goes on so far behind that
+pub record PutsGuarded (s : Around) (line skip : ℕ) (a b : Front) (t : Test) (body : Stmts) : Type 0 where
+  pub all : Adds a b (λ at lo ls. guarded at skip (λ none. condition (is_simple (test_with t ls)) line at lo none (λ at lo none. T.jump_code s.program s.tables s.routine line at lo none (test_with t ls)) (λ at lo. T.test_code s.program s.tables s.routine line at lo (test_with t ls)))
+      (λ next. T.stmts_code s.program s.tables s.routine next (behind_condition s.program s.routine lo (test_with t ls)) (stmts_with body (behind (test_phrases t) ls))))
+      (λ ls. (mark_slots (is_simple (test_with t ls)) ++ test_slots s.program s.routine (test_with t ls)) ++ stmts_slots s.program s.routine (stmts_with body (behind (test_phrases t) ls))) (λ ls. behind (stmts_phrases body) (behind (test_phrases t) ls))
+
+-- an operand of OR that is not the last
+pub record PutsFirst (s : Around) (line : ℕ) (a b : Front) (t : Test) : Type 0 where
+  pub all : Adds a b (λ at lo ls. first_of_two line (at + 2) lo (T.test_code s.program s.tables s.routine line (at + 2) (lo + 1) (test_with t ls))) (λ ls. slot.Mark ∷ test_slots s.program s.routine (test_with t ls)) (behind (test_phrases t))
+
+-- a branch of EITHER that is not the last
+pub record PutsChosen (s : Around) (line : ℕ) (a b : Front) (body : Stmts) : Type 0 where
+  pub all : Adds a b (λ at lo ls. chosen line (at + 1) (T.stmts_code s.program s.tables s.routine (at + 1) lo (stmts_with body ls))) (λ ls. stmts_slots s.program s.routine (stmts_with body ls)) (behind (stmts_phrases body))
+
+-- an arm of CASE that has a label
+pub record PutsCaseArm (s : Around) (line value bound : ℕ) (a b : Front) (label : Range) (rest : List Range) (body : Stmts) : Type 0 where
+  pub all : Adds a b (λ at lo ls. case_arm line value bound at label rest (T.stmts_code s.program s.tables s.routine (behind_labels at rest) lo (stmts_with body ls))) (λ ls. stmts_slots s.program s.routine (stmts_with body ls)) (behind (stmts_phrases body))

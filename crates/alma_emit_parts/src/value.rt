@@ -1,5 +1,6 @@
 // Instructions on numbers.
-ghost use Rattle.std.specs.Prelude.{◌≡◌, ◌++◌, ◌∷◌, [], IfOk, OnOk};
+ghost use Rattle.std.specs.Prelude.{◌≡◌, ◌++◌, ◌∷◌, [], length, IfOk, OnOk};
+ghost use Rattle.alma_code.specs.declared.instr.Instr.TheVariants as instr;
 ghost use Rattle.alma_templates.specs.Lined.{own};
 ghost use Rattle.alma_templates.specs.Pieces as pieces;
 ghost use Rattle.alma_templates.specs.Tables.{is_whole};
@@ -135,4 +136,34 @@ pub fn put_result_fit(
         Some(range) => put_fit(work, scene, line, range, value),
         None => Ok(()),
     }
+}
+
+/// A condition as a number, behind the jump where it has no alternative, which is aimed at the last instruction.
+pub fn put_truth(work: &mut Work, line: u32, to: u32) -> Result<(), NoMemory>
+    ensures { OnOk result (Codes (front work.old) (front work.new)
+        (pieces.truth_code line to (length (front work.old).code))) }
+{
+    let behind = work.behind(3)?;
+    work.put(line, Instr::Const { to, value: 1 })?;
+    work.put(line, Instr::Jump { to: behind })?;
+    work.put(line, Instr::Const { to, value: 0 })?;
+    Ok(())
+}
+
+/// A call of a function behind its mark, and the cut.
+pub fn put_function(
+    work: &mut Work,
+    line: u32,
+    mark: u32,
+    routine: u32,
+    first: u32,
+    to: u32,
+) -> Result<(), NoMemory>
+    ensures { OnOk result (Codes (front work.old) (front work.new) (own line
+        (instr.Mark mark ∷ instr.Call routine first to ∷ instr.Cut mark ∷ []))) }
+{
+    work.put(line, Instr::Mark { to: mark })?;
+    work.put(line, Instr::Call { routine, first, to })?;
+    work.put(line, Instr::Cut { mark })?;
+    Ok(())
 }

@@ -37,6 +37,14 @@ impl Work {
         self.emit.slot(kind)
     }
 
+    /// The number of the next slot.
+    #[tactic(auto, unfolding(crate::specs::Front::front))]
+    pub fn next(&self) -> u32
+        ensures { result ≡ (front self.now).next }
+    {
+        self.emit.next
+    }
+
     /// The address of the next instruction.
     #[tactic(auto, unfolding(crate::specs::Front::front))]
     pub fn here(&self) -> Result<u32, NoMemory>
@@ -62,6 +70,7 @@ impl Work {
         ensures next { (front self.new).next ≡ (front self.old).next }
         ensures kinds { (front self.new).kinds ≡ (front self.old).kinds }
         ensures lines { (front self.new).lines ≡ drop 1 (front self.old).lines }
+        ensures whole { (front self.new).all_lines ≡ (front self.old).all_lines }
     {
         if self.handed >= self.lines.len() {
             return 0;
@@ -69,5 +78,41 @@ impl Work {
         let line = self.lines[self.handed];
         self.handed += 1;
         line
+    }
+    /// How many lines are handed out.
+    #[tactic(auto, unfolding(crate::specs::Front::front))]
+    pub fn position(&self) -> usize
+        ensures { (front self.now).lines ≡ drop result (front self.now).all_lines }
+    {
+        self.handed
+    }
+
+    /// Goes on with the lines behind so many.
+    #[tactic(auto, unfolding(crate::specs::Front::front))]
+    pub fn go_to(&mut self, handed: usize)
+        ensures code { (front self.new).code ≡ (front self.old).code }
+        ensures next { (front self.new).next ≡ (front self.old).next }
+        ensures kinds { (front self.new).kinds ≡ (front self.old).kinds }
+        ensures lines { (front self.new).lines ≡ drop handed (front self.old).all_lines }
+        ensures whole { (front self.new).all_lines ≡ (front self.old).all_lines }
+    {
+        self.handed = handed;
+    }
+
+    /// The address so far behind the next instruction.
+    pub fn behind(&self, skip: u32) -> Result<u32, NoMemory>
+        ensures { IfOk result (λ at. at ≡ length (front self.now).code + skip) }
+    {
+        self.here()?.checked_add(skip).ok_or(NoMemory)
+    }
+
+    /// Aims the jump at an address so far behind the next instruction.
+    pub fn aim_behind(&mut self, at: u32, skip: u32) -> Result<(), NoMemory>
+        ensures { OnOk result (Changes (front self.old) (front self.new)
+            (λ xs. aimed xs at (length (front self.old).code + skip))) }
+    {
+        let target = self.behind(skip)?;
+        self.aim(at, target);
+        Ok(())
     }
 }
