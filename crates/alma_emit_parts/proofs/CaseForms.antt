@@ -32,10 +32,6 @@ module _ (s : Around) (line : ℕ) where
 
   -- ---- an arm
 
-  labels_long : (value bound at hit miss miss2 : ℕ) (label : Range) (rest : List Range) → length (labels_code value bound at hit miss label rest) ≡ length (labels_code value bound at hit miss2 label rest)
-  labels_long value bound at hit miss miss2 label [] = refl
-  labels_long value bound at hit miss miss2 label (label2 ∷ rest) = ap (λ n. 7 + n) (labels_long value bound (at + 7) hit miss miss2 label2 rest)
-
   own_long : (xs : List Instr) → length (own line xs) ≡ length xs
   own_long [] = refl
   own_long (x ∷ xs) = ap suc (own_long xs)

@@ -12,3 +12,4 @@ pub mod Beginning
 pub mod Calling
 pub mod CaseForms
 pub mod LoopForms
+pub mod LabelForms

@@ -16,7 +16,7 @@ use Rattle.alma_ir.proofs.LinesBack.{behind_two}
 use Rattle.alma_emit_parts.specs.declared.stand.Stand.{Stand}
 use Rattle.alma_emit_parts.specs.Front.{Around, Front, Adds, Codes, Takes, Changes, Holes}
 use Rattle.alma_emit_parts.specs.Puts.{PutsExpr, PutsTarget, PutsStmts, PutsStmt, stand_of, set_instr, inside}
-use Rattle.alma_emit_parts.proofs.Joins.{nothing, then_adds, adds_as, code_code, code_adds, adds_code, only_code, slot_adds, adds_slot, only_slot, filled, own_two, address_behind}
+use Rattle.alma_emit_parts.proofs.Joins.{nothing, then_adds, adds_as, code_code, code_adds, adds_code, only_code, slot_adds, adds_slot, only_slot, filled, hole_put, own_two, address_behind, address_after}
 use Rattle.alma_emit_parts.proofs.StmtForms.{set_is}
 use Rattle.alma_templates.specs.Lined.{Lined, own, in_row}
 use Rattle.alma_templates.specs.Slots.{bare_desig, unless_bare, expr_slots, desig_slots, stmts_slots}
@@ -189,3 +189,84 @@ module _ (s : Around) (line : ℕ) where
           ∙ ap (λ z. whole own_counter own_limit (a.next + 1) (a.next + 1 + length kf) place a.next (next + 4 + length final + 2) z) top0
           ∙ ap (λ z. begin ++ (own line (bounds_code by own_counter own_limit (a.next + 1) (a.next + 1 + length kf) z) ++ (final ++ done))) far)
           (ap (λ l. slot.Number ∷ l) (append_assoc kf kt _)) (four_behind x from to body ls0) }
+
+  -- ---- SOME
+
+  pub some_put : (a a1 b c d e e1 f f1 f2 g h i j k l l1 m m1 n : Front) (step first last more jump choice top far over up target count counter limit : ℕ) (stand : Stand) (x : Desig) (range : Range) (counts limits : ℕ) (from to : Expr) (by : ℤ) (body : Stmts)
+      → counter ≡ T.own_slot s.program s.tables s.routine counts → limit ≡ T.own_slot s.program s.tables s.routine limits
+      → Turns a a1 (behind (desig_phrases x) a.lines) → Takes a1 b slot.Number → step ≡ a1.next → Codes b c (own line (I.Const step (pos 1) ∷ [])) → PutsExpr s line c d from → first ≡ c.next → PutsExpr s line d e to → last ≡ d.next
+      → Takes e e1 slot.Number → more ≡ e.next
+      → Holes e1 f (λ to xs. aimed xs jump to) (λ empty at lo ls. own line (bounds_code (pos 1) counter limit first last empty)) (λ ls. []) (λ ls. ls)
+      → top ≡ length f.code → far ≡ top + 3 → Codes f f1 (own line (I.Less more counter limit ∷ I.JumpZero more far ∷ [])) → choice ≡ length f1.code → Codes f1 f2 (own line (I.Choose 0 ∷ [])) → Turns f2 g a.lines
+      → PutsCount range counter g h (desig_with x g.lines) → count ≡ count_of counter g.next (desig_with x g.lines) → PutsTarget s line h i x → stand ≡ stand_of s h.next (desig_with x h.lines)
+      → Codes i j (own line (set_instr stand count ∷ [])) → Turns j k e.lines → PutsStmts s k l body → up ≡ length l.code + 1 → Changes l l1 (λ xs. aimed xs choice up) → over ≡ length l.code + 4
+      → Codes l1 m (own line (I.Jump over ∷ I.Add counter counter step ∷ I.Jump top ∷ [])) → Changes m m1 (λ xs. aimed xs jump target) → target ≡ length m.code → Codes m1 n (own line (I.Fail ∷ [])) → PutsStmt s line a n (SomeOf (a_loop x range counts limits from to by body))
+  unfolding stmts_with stmts_phrases
+  some_put a a1 b c d e e1 f f1 f2 g h i j k l l1 m m1 n step first last more jump choice top far over up target count counter limit stand x range counts limits from to by body cis lis t h1 is h2 p is2 q is3 tm ism bounds ist isf cl here ch t2 cnt is4 tgt is5 st t3 bd isu chu iso cd chm is8 cf =
+      let ls0 = a.lines in
+      let ls1 = behind (desig_phrases x) ls0 in
+      let ls2 = behind (expr_phrases from) ls1 in
+      let ls3 = behind (expr_phrases to) ls2 in
+      let u = desig_with x ls0 in
+      let kf = expr_slots s.program s.routine (expr_with from ls1) in
+      let kt = expr_slots s.program s.routine (expr_with to ls2) in
+      let before = turned a a1 e ls1 _ _ _ t (bounds_put a1 b c d e step first last (pos 1) from to h1 is h2 p is2 q is3) in
+      let front = adds_slot a e e1 _ _ _ _ before tm in
+      let t4 : Turns j k ls3 = record { instrs = t3.instrs; taken = t3.taken; next_slot = t3.next_slot; left = t3.left ∙ before.left; whole = t3.whole } in
+      let turn_of = turned f2 g l ls0 _ _ _ t2 (turn_put g h i j k l ls3 x body range counter count stand cnt is4 tgt is5 st t4 bd) in
+      let chosen = filled f1 f2 l l1 _ _ _ _ _ _ _ up (λ n. n + 1) (hole_put f1 f2 line choice (I.Choose 0) here refl ch) turn_of chu isu in
+      let inner = code_adds f f1 m _ _ _ _ cl (adds_code f1 l1 m _ _ _ _ chosen cd) in
+      let whole_of = then_adds a e1 m1 _ _ _ _ _ _ front (filled e1 f m m1 _ _ _ _ _ _ _ target (λ n. n) bounds inner chm is8) in
+      let all = adds_code a m1 n _ _ _ _ whole_of cf in
+      let at = length a.code in
+      let c0 : c.next ≡ a.next + 1 = h2.next_slot ∙ h1.next_slot ∙ ap (λ n. n + 1) t.next_slot in
+      let cl1 : c.lines ≡ ls1 = h2.left ∙ h1.left ∙ t.left in
+      let first0 : first ≡ a.next + 1 = is2 ∙ c0 in
+      let last0 : last ≡ a.next + 1 + length kf = is3 ∙ p.all.next_slot ∙ ap (λ n. n + length (expr_slots s.program s.routine (expr_with from c.lines))) c0 ∙ ap (λ n. a.next + 1 + length (expr_slots s.program s.routine (expr_with from n))) cl1 in
+      let step0 : step ≡ a.next = is ∙ t.next_slot in
+      let spare = a.next + 1 + length kf + length kt in
+      let more0 : more ≡ spare = omega (arith, ism, before.next_slot, length-append kf kt) in
+      let begin = begin_loop line at a.next (pos 1) (λ at. T.expr_code s.program s.tables s.routine line at (a.next + 1) (expr_with from ls1)) (λ at. T.expr_code s.program s.tables s.routine line at (a.next + 1 + length kf) (expr_with to ls2)) in
+      let next = at + length begin in
+      let low = a.next + length ((slot.Number ∷ (kf ++ kt)) ++ slot.Number ∷ []) + 0 + 0 in
+      let low0 : low ≡ spare + 1 = omega (arith, length-append (kf ++ kt) (slot.Number ∷ []), length-append kf kt) in
+      let turn : (counter at lo : ℕ) → List Lined = λ counter at lo. turn_code line at (T.count_code s.program s.tables s.routine (bare_desig u) range counter lo) (λ at. unless_bare (bare_desig u) (T.desig_code s.program s.tables s.routine line at (lo + 1) u))
+          (T.set_code s.program s.tables s.routine (lo + 1) (count_of counter lo u) u) (λ at. T.stmts_code s.program s.tables s.routine at (lo + length (unless_bare (bare_desig u) (slot.Number ∷ desig_slots s.program s.routine u))) (stmts_with body ls3)) in
+      let two : (counter limit more far : ℕ) → List Lined = λ counter limit more far. own line (I.Less more counter limit ∷ I.JumpZero more far ∷ []) in
+      let three : (counter step over top : ℕ) → List Lined = λ counter step over top. own line (I.Jump over ∷ I.Add counter counter step ∷ I.Jump top ∷ []) in
+      let fail = own line (I.Fail ∷ []) in
+      let body_of : (counter limit more step low at far over top : ℕ) → List Lined = λ counter limit more step low at far over top.
+          two counter limit more far ++ ((own line (I.Choose (at + length (turn counter at low) + 1) ∷ []) ++ turn counter at low) ++ three counter step over top) in
+      let whole : (counter limit first last more step low at far over top : ℕ) → List Lined = λ counter limit first last more step low at far over top.
+          (begin ++ (own line (bounds_code (pos 1) counter limit first last (next + 4 + length (body_of counter limit more step low at far over top))) ++ body_of counter limit more step low at far over top)) ++ fail in
+      let own_counter = T.own_slot s.program s.tables s.routine counts in
+      let own_limit = T.own_slot s.program s.tables s.routine limits in
+      let f0 : length f.code ≡ next + 4 = address_behind e1 f _ _ _ bounds.all ∙ ap (λ n. n + 4) (address_behind a e1 _ _ _ front) in
+      let f10 : length f1.code ≡ next + 4 + 2 = address_after f f1 _ cl ∙ ap (λ n. n + 2) f0 in
+      let f20 : length f2.code ≡ next + 4 + 2 + 1 = address_after f1 f2 _ ch ∙ ap (λ n. n + 1) f10 in
+      let fn : f2.next ≡ low = ch.next_slot ∙ cl.next_slot ∙ bounds.all.next_slot ∙ ap (λ n. n + 0) front.next_slot ∙ sym (add-zero (a.next + length ((slot.Number ∷ (kf ++ kt)) ++ slot.Number ∷ []) + 0)) in
+      let at7 : next + 4 + 2 + 1 ≡ next + 7 = omega arith in
+      let final = turn own_counter (next + 7) (spare + 1) in
+      let l0 : length l.code ≡ next + 7 + length final = address_behind f2 l _ _ _ turn_of ∙ ap (λ n. n + length (turn counter (length f2.code) f2.next)) (f20 ∙ at7) ∙ ap (λ n. next + 7 + length (turn counter n f2.next)) (f20 ∙ at7)
+          ∙ ap (λ n. next + 7 + length (turn counter (next + 7) n)) (fn ∙ low0) ∙ ap (λ n. next + 7 + length (turn n (next + 7) (spare + 1))) cis in
+      let top0 : top ≡ next + 4 = ist ∙ f0 in
+      let far0 : far ≡ next + 7 = omega (arith, isf, top0) in
+      let over0 : over ≡ next + 7 + length final + 4 = iso ∙ ap (λ n. n + 4) l0 in
+      let done = body_of own_counter own_limit spare a.next (spare + 1) (next + 7) (next + 7) (next + 7 + length final + 4) (next + 4) in
+      let four = three own_counter a.next (next + 7 + length final + 4) (next + 4) in
+      let ends : next + 4 + length done ≡ next + 7 + length final + 3 = omega (arith, length-append final four) in
+      let pre : ℕ → List Lined = λ empty. own line (bounds_code (pos 1) own_counter own_limit (a.next + 1) (a.next + 1 + length kf) empty ++ (I.Less spare own_counter own_limit ∷ I.JumpZero spare (next + 7) ∷ I.Choose (next + 7 + length final + 1) ∷ [])) in
+      record { all = adds_as a n _ _ _ _ _ _ all
+          (ap (λ z. whole z limit first last more step low (next + 4 + 2 + 1) far over top) cis ∙ ap (λ z. whole own_counter z first last more step low (next + 4 + 2 + 1) far over top) lis
+          ∙ ap (λ z. whole own_counter own_limit z last more step low (next + 4 + 2 + 1) far over top) first0 ∙ ap (λ z. whole own_counter own_limit (a.next + 1) z more step low (next + 4 + 2 + 1) far over top) last0
+          ∙ ap (λ z. whole own_counter own_limit (a.next + 1) (a.next + 1 + length kf) z step low (next + 4 + 2 + 1) far over top) more0
+          ∙ ap (λ z. whole own_counter own_limit (a.next + 1) (a.next + 1 + length kf) spare z low (next + 4 + 2 + 1) far over top) step0
+          ∙ ap (λ z. whole own_counter own_limit (a.next + 1) (a.next + 1 + length kf) spare a.next z (next + 4 + 2 + 1) far over top) low0
+          ∙ ap (λ z. whole own_counter own_limit (a.next + 1) (a.next + 1 + length kf) spare a.next (spare + 1) z far over top) at7
+          ∙ ap (λ z. whole own_counter own_limit (a.next + 1) (a.next + 1 + length kf) spare a.next (spare + 1) (next + 7) z over top) far0
+          ∙ ap (λ z. whole own_counter own_limit (a.next + 1) (a.next + 1 + length kf) spare a.next (spare + 1) (next + 7) (next + 7) z top) over0
+          ∙ ap (λ z. whole own_counter own_limit (a.next + 1) (a.next + 1 + length kf) spare a.next (spare + 1) (next + 7) (next + 7) (next + 7 + length final + 4) z) top0
+          ∙ ap (λ z. (begin ++ (own line (bounds_code (pos 1) own_counter own_limit (a.next + 1) (a.next + 1 + length kf) z) ++ done)) ++ fail) ends
+          ∙ append_assoc begin (pre (next + 7 + length final + 3) ++ (final ++ four)) fail
+          ∙ ap (λ l. begin ++ (pre (next + 7 + length final + 3) ++ l)) (append_assoc final four fail))
+          (ap (λ l. slot.Number ∷ l) (append_assoc (kf ++ kt) (slot.Number ∷ []) _ ∙ append_assoc kf kt _)) (four_behind x from to body ls0) }

@@ -1,13 +1,21 @@
 // The bounds of loops.
 ghost use Rattle.std.specs.Prelude.{◌≡◌, ◌∷◌, [], IfOk, OnOk};
+ghost use Rattle.alma_code.specs.declared.cell.SlotKind.TheVariants as slot;
+ghost use Rattle.alma_ir.specs.View.{desig_of};
+ghost use Rattle.alma_templates.specs.Slots.{bare_desig, unless_bare};
+ghost use Rattle.alma_templates.specs.Templates.{count_at, count_code};
 ghost use Rattle.alma_choice.specs.Emitted.{aimed};
 ghost use Rattle.alma_templates.specs.Lined.{own};
 ghost use Rattle.alma_templates.specs.Pieces as pieces;
-ghost use Rattle.alma_emit_parts.specs.Front.{front, Holes};
+ghost use Rattle.alma_emit_parts.specs.Front.{around, front, Adds, Holes};
 
+use crate::scene::Scene;
+use crate::stand::own_stand;
+use crate::value::put_fit;
 use crate::work::Work;
-use alma_base::NoMemory;
-use alma_code::Instr;
+use alma_base::{NoMemory, Range};
+use alma_code::{Instr, SlotKind};
+use alma_ir::Desig;
 
 /// The slots of a loop: of its count and of its limit, and those in which the bounds were put first.
 #[derive(Clone, Copy)]
@@ -72,4 +80,38 @@ pub fn put_bounds(work: &mut Work, line: u32, by: i64, bounds: Bounds) -> Result
             to: 0,
         },
     )
+}
+
+/// The count of a turn, checked against the range of the variable; its slot. A variable that is set in its own slot has it
+/// in that of the counter, any other in a slot of the turn's own, since the code that locates it stands between.
+pub fn put_count(
+    work: &mut Work,
+    scene: &Scene<'_>,
+    line: u32,
+    desig: &Desig,
+    range: Range,
+    counter: u32,
+) -> Result<u32, NoMemory>
+    ensures count { IfOk result (λ count. count ≡ count_at (around scene.now).program
+        (around scene.now).tables (around scene.now).routine (bare_desig (desig_of desig.now))
+        counter (front work.old).next) }
+    ensures puts { OnOk result (Adds (front work.old) (front work.new)
+        (λ at lo ls. own line (count_code (around scene.now).program (around scene.now).tables
+        (around scene.now).routine (bare_desig (desig_of desig.now)) range counter lo))
+        (λ ls. unless_bare (bare_desig (desig_of desig.now)) (slot.Number ∷ [])) (λ ls. ls)) }
+{
+    if own_stand(scene, desig)?.is_some() {
+        put_fit(work, scene, line, range, counter)?;
+        return Ok(counter);
+    }
+    let count = work.slot(SlotKind::Number)?;
+    work.put(
+        line,
+        Instr::Move {
+            to: count,
+            from: counter,
+        },
+    )?;
+    put_fit(work, scene, line, range, count)?;
+    Ok(count)
 }

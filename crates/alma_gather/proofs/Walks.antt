@@ -144,3 +144,7 @@ desig_walked a b x ys h = record { extends = h.extends; held = (tt, h.held); int
 
 pub sel_walked : (a b : Seen) (x : Sel) (ys : List Phrase) → InTables b.tables (SelPhrase x) → Walked a b ys → Walked a b (SelPhrase x ∷ ys)
 sel_walked a b x ys named h = record { extends = h.extends; held = (named, h.held); integers = (tt, h.integers); count = h.count }
+
+-- a range or a text that was added before a walk stands in the tables behind it
+pub range_kept : (a b : Seen) (ys : List Phrase) (range : Range) → Walked a b ys → HoldsRange a.tables range → HoldsRange b.tables range
+range_kept a b ys range h there = range_stays a.tables b.tables range h.extends there
