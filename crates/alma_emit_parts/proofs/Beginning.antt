@@ -44,6 +44,7 @@ hole_among a b line at before after i slots code kinds next lines whole here sam
     own_parts : (f : List Instr) (y : Instr) → own line (f ++ (y ∷ after a.next)) ≡ own line f ++ (record { line = line; instr = y } ∷ own line (after a.next))
     own_parts [] y = refl
     own_parts (z ∷ f) y = ap (λ l. record { line = line; instr = z } ∷ l) (own_parts f y)
+
     own_long : (f : List Instr) → length (own line f) ≡ length f
     own_long [] = refl
     own_long (z ∷ f) = ap suc (own_long f)

@@ -31,7 +31,7 @@ module _ (s : Around) (line : ℕ) where
   number_put : (a b c d : Front) (to value : ℕ) (e : Expr) (range : Range) → PutsValue s line a b e → value ≡ value_slot s a.next (expr_with e a.lines)
       → Codes b c (own line (fit_code s.tables range value)) → Codes c d (own line (I.Move to value ∷ []))
       → Adds a d (λ at lo ls. unless_bare (bare (expr_with e ls)) (T.expr_code s.program s.tables s.routine line at lo (expr_with e ls)) ++ own line (fit_code s.tables range (value_slot s lo (expr_with e ls)) ++ (I.Move to (value_slot s lo (expr_with e ls)) ∷ [])))
-        (λ ls. unless_bare (bare (expr_with e ls)) (expr_slots s.program s.routine (expr_with e ls))) (behind (expr_phrases e))
+      (λ ls. unless_bare (bare (expr_with e ls)) (expr_slots s.program s.routine (expr_with e ls))) (behind (expr_phrases e))
   number_put a b c d to value e range h is j k =
       let u = expr_with e a.lines in
       let code = unless_bare (bare u) (T.expr_code s.program s.tables s.routine line (length a.code) a.next u) in
@@ -50,7 +50,7 @@ module _ (s : Around) (line : ℕ) where
 
   place_put : (a b c : Front) (to place : ℕ) (x : Desig) → PutsDesig s line a b x → place ≡ T.place_at s.program s.tables s.routine a.next (desig_with x a.lines) → Codes b c (own line (I.Same to place ∷ []))
       → Adds a c (λ at lo ls. T.desig_code s.program s.tables s.routine line at lo (desig_with x ls) ++ own line (I.Same to (T.place_at s.program s.tables s.routine lo (desig_with x ls)) ∷ []))
-        (λ ls. desig_slots s.program s.routine (desig_with x ls)) (behind (desig_phrases x))
+      (λ ls. desig_slots s.program s.routine (desig_with x ls)) (behind (desig_phrases x))
   place_put a b c to place x h is j =
       let code = T.desig_code s.program s.tables s.routine line (length a.code) a.next (desig_with x a.lines) in
       adds_as a c _ _ _ _ _ _ (adds_code a b c _ _ _ _ h.all j) (ap (λ n. code ++ own line (I.Same to n ∷ [])) is) refl refl
@@ -80,10 +80,12 @@ module _ (s : Around) (line : ℕ) where
       let link = own line (T.call_link_code s.program s.tables s.routine called up a.next) in
       let at = length a.code + length link in
       let code : (to at lo : ℕ) → List Lined = λ to at lo. link ++ T.args_code s.program s.tables s.routine line at to lo u in
-      record { all = adds_as a d _ _ _ _ _ _ (then_adds a b d _ _ _ _ _ _ h (then_adds b c d _ _ _ _ _ _ t j.all))
-          (ap (λ n. code to n (a.next + length links + length (handed_slots args))) (add-zero at) ∙ ap (λ n. code n at (a.next + length links + length (handed_slots args))) there
-          ∙ ap (λ k. code first at (first + length k)) (sym (same_handed args ls)))
-          (ap (λ k. links ++ (k ++ args_slots s.program s.routine u)) (sym (same_handed args ls))) refl }
+      record {
+        all = adds_as a d _ _ _ _ _ _ (then_adds a b d _ _ _ _ _ _ h (then_adds b c d _ _ _ _ _ _ t j.all))
+            (ap (λ n. code to n (a.next + length links + length (handed_slots args))) (add-zero at) ∙ ap (λ n. code n at (a.next + length links + length (handed_slots args))) there
+            ∙ ap (λ k. code first at (first + length k)) (sym (same_handed args ls)))
+            (ap (λ k. links ++ (k ++ args_slots s.program s.routine u)) (sym (same_handed args ls))) refl;
+      }
 
   pub call_test_put : (a b c : Front) (called up first : ℕ) (args : Args) → PutsHanded s line called up a b args → first ≡ first_slot s called up a.next args → Codes b c (own line (I.Call called first 0 ∷ []))
       → PutsTest s line a c (CallTest called args up)
@@ -109,10 +111,12 @@ module _ (s : Around) (line : ℕ) where
       let front : ℕ → ℕ = λ lo. T.arguments_from s.program s.tables s.routine called up lo in
       let code : ℕ → List Lined = λ lo. in_row at (link lo) (λ next. T.args_code s.program s.tables s.routine line next (front lo) (front lo + length (handed_slots u)) u) in
       let there : first ≡ first_slot s called up (a.next + 2) u = is3 ∙ ap (λ n. first_slot s called up n args) low2
-          ∙ ap (λ k. first_argument (shift_of s.program called + length k) (T.handed_from s.program s.tables s.routine (shift_of s.program called) up (a.next + 2))) (sym (same_handed args ls)) in
-      record { all = adds_as a e _ _ _ _ _ _ (slot_adds a b e _ _ _ _ h (slot_adds b c e _ _ _ _ t (adds_code c d e _ _ _ _ j.all k)))
-          (ap (λ lo. code lo ++ own line (I.Mark mark ∷ I.Call called first to ∷ I.Cut mark ∷ [])) low
-          ∙ ap (λ n. code (a.next + 2) ++ own line (I.Mark n ∷ I.Call called first to ∷ I.Cut n ∷ [])) mine
-          ∙ ap (λ n. code (a.next + 2) ++ own line (I.Mark (a.next + 1) ∷ I.Call called n to ∷ I.Cut (a.next + 1) ∷ [])) there
-          ∙ ap (λ n. code (a.next + 2) ++ own line (I.Mark (a.next + 1) ∷ I.Call called (first_slot s called up (a.next + 2) u) n ∷ I.Cut (a.next + 1) ∷ [])) is)
-          refl refl }
+      ∙ ap (λ k. first_argument (shift_of s.program called + length k) (T.handed_from s.program s.tables s.routine (shift_of s.program called) up (a.next + 2))) (sym (same_handed args ls)) in
+      record {
+        all = adds_as a e _ _ _ _ _ _ (slot_adds a b e _ _ _ _ h (slot_adds b c e _ _ _ _ t (adds_code c d e _ _ _ _ j.all k)))
+            (ap (λ lo. code lo ++ own line (I.Mark mark ∷ I.Call called first to ∷ I.Cut mark ∷ [])) low
+            ∙ ap (λ n. code (a.next + 2) ++ own line (I.Mark n ∷ I.Call called first to ∷ I.Cut n ∷ [])) mine
+            ∙ ap (λ n. code (a.next + 2) ++ own line (I.Mark (a.next + 1) ∷ I.Call called n to ∷ I.Cut (a.next + 1) ∷ [])) there
+            ∙ ap (λ n. code (a.next + 2) ++ own line (I.Mark (a.next + 1) ∷ I.Call called (first_slot s called up (a.next + 2) u) n ∷ I.Cut (a.next + 1) ∷ [])) is)
+            refl refl;
+      }

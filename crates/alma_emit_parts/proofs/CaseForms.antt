@@ -53,11 +53,13 @@ module _ (s : Around) (line : ℕ) where
       let code : (hit miss next lo : ℕ) → List Lined = λ hit miss next lo. own line (labels_code value bound at hit miss label rest) ++ T.stmts_code s.program s.tables s.routine next lo x in
       let here = at + length (own line (labels_code value bound at hit 0 label rest)) in
       let body_code : (next lo : ℕ) → List Lined = λ next lo. T.stmts_code s.program s.tables s.routine next lo x in
-      record { all = adds_as a d _ _ _ _ _ _ (filled a b c d _ _ _ _ aim _ _ target (λ n. n + 1) h j.all k is2)
-      (ap (λ lo. own line (labels_code value bound at hit (here + length (body_code here lo) + 1) label rest) ++ body_code here lo) (add-zero a.next)
-      ∙ ap (λ n. own line (labels_code value bound at hit (n + length (body_code n a.next) + 1) label rest) ++ body_code n a.next) (count 0)
-      ∙ ap (λ h. own line (labels_code value bound at h (behind_labels at rest + length (body_code (behind_labels at rest) a.next) + 1) label rest) ++ body_code (behind_labels at rest) a.next) is)
-      refl refl }
+      record {
+        all = adds_as a d _ _ _ _ _ _ (filled a b c d _ _ _ _ aim _ _ target (λ n. n + 1) h j.all k is2)
+            (ap (λ lo. own line (labels_code value bound at hit (here + length (body_code here lo) + 1) label rest) ++ body_code here lo) (add-zero a.next)
+            ∙ ap (λ n. own line (labels_code value bound at hit (n + length (body_code n a.next) + 1) label rest) ++ body_code n a.next) (count 0)
+            ∙ ap (λ h. own line (labels_code value bound at h (behind_labels at rest + length (body_code (behind_labels at rest) a.next) + 1) label rest) ++ body_code (behind_labels at rest) a.next) is)
+            refl refl;
+      }
 
   -- ---- arms behind the first that has a label
 
@@ -94,8 +96,8 @@ module _ (s : Around) (line : ℕ) where
   pub first_case_put : (a b c d e f : Front) (value bound exit target : ℕ) (label : Range) (labels : List Range) (body : Stmts) (arms : CaseArms) (rest : Else) → PutsCaseArm s line value bound a b label labels body
       → exit ≡ length b.code → Codes b c (own line (I.Jump 0 ∷ [])) → PutsCases s line value bound exit c d arms → PutsElse s line d e rest → Changes e f (λ xs. aimed xs exit target) → target ≡ length e.code
       → Adds a f (λ at lo ls. T.case_code s.program s.tables s.routine line value bound at lo (cases_with (more_cases (label ∷ labels) body arms) ls) (λ next lo. T.else_code s.program s.tables s.routine line next lo (else_with rest (behind (cases_phrases arms) (behind (stmts_phrases body) ls)))))
-        (λ ls. cases_slots s.program s.routine (cases_with (more_cases (label ∷ labels) body arms) ls) ++ else_slots s.program s.routine (else_with rest (behind (cases_phrases arms) (behind (stmts_phrases body) ls))))
-        (λ ls. behind (else_phrases rest) (behind (cases_phrases arms) (behind (stmts_phrases body) ls)))
+      (λ ls. cases_slots s.program s.routine (cases_with (more_cases (label ∷ labels) body arms) ls) ++ else_slots s.program s.routine (else_with rest (behind (cases_phrases arms) (behind (stmts_phrases body) ls))))
+      (λ ls. behind (else_phrases rest) (behind (cases_phrases arms) (behind (stmts_phrases body) ls)))
   unfolding stmts_with stmts_phrases
   first_case_put a b c d e f value bound exit target label labels body arms rest h here j k l m is =
       let ls = a.lines in

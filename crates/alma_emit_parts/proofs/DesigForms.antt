@@ -94,10 +94,12 @@ module _ (s : Around) (line : ℕ) where
       let mine = T.part_slot s.program s.tables s.routine a.next (sel_with x a.lines) in
       let first = T.sel_code s.program s.tables s.routine line (length a.code) from a.next (sel_with x a.lines) in
       let all = then_adds a b c _ _ _ _ _ _ h.all j.all in
-      record { all = adds_as a c _ _ _ _ _ _ all
-          (ap (λ n. first ++ T.sels_code s.program s.tables s.routine line (length a.code + length first) n (a.next + length (sel_slots s.program s.routine (sel_with x a.lines))) (sels_with rest ls)) is
-          ∙ ap (λ n. first ++ T.sels_code s.program s.tables s.routine line (length a.code + length first) mine n (sels_with rest ls)) (sym (part_last a.next (sel_with x a.lines))))
-          refl (sym (behind_two (sel_phrases x) (sels_phrases rest) a.lines)) }
+      record {
+        all = adds_as a c _ _ _ _ _ _ all
+            (ap (λ n. first ++ T.sels_code s.program s.tables s.routine line (length a.code + length first) n (a.next + length (sel_slots s.program s.routine (sel_with x a.lines))) (sels_with rest ls)) is
+            ∙ ap (λ n. first ++ T.sels_code s.program s.tables s.routine line (length a.code + length first) mine n (sels_with rest ls)) (sym (part_last a.next (sel_with x a.lines))))
+            refl (sym (behind_two (sel_phrases x) (sels_phrases rest) a.lines));
+      }
 
   -- the place of the last part
   pub parts_on : (from lo : ℕ) (ls : List ℕ) (x : Sel) (rest : Sels)
@@ -120,9 +122,11 @@ module _ (s : Around) (line : ℕ) where
   index_put a b c d from index to number e range cells h is t is2 is3 j =
       let y = expr_with e a.lines in
       let code = unless_bare (bare y) (T.expr_code s.program s.tables s.routine line (length a.code) a.next y) in
-      record { all = adds_as a d _ _ _ _ _ _ (adds_code a c d _ _ _ _ (adds_slot a b c _ _ _ _ h.all t) j)
-          (ap (λ n. code ++ own line (I.Index n from index number ∷ [])) (is2 ∙ h.all.next_slot) ∙ ap (λ n. code ++ own line (I.Index (a.next + length (unless_bare (bare y) (expr_slots s.program s.routine y))) from n number ∷ [])) is
-          ∙ ap (λ n. code ++ own line (I.Index (a.next + length (unless_bare (bare y) (expr_slots s.program s.routine y))) from (value_slot s a.next y) n ∷ [])) is3) refl refl }
+      record {
+        all = adds_as a d _ _ _ _ _ _ (adds_code a c d _ _ _ _ (adds_slot a b c _ _ _ _ h.all t) j)
+            (ap (λ n. code ++ own line (I.Index n from index number ∷ [])) (is2 ∙ h.all.next_slot) ∙ ap (λ n. code ++ own line (I.Index (a.next + length (unless_bare (bare y) (expr_slots s.program s.routine y))) from n number ∷ [])) is
+            ∙ ap (λ n. code ++ own line (I.Index (a.next + length (unless_bare (bare y) (expr_slots s.program s.routine y))) from (value_slot s a.next y) n ∷ [])) is3) refl refl;
+      }
 
   pub index_part : (a b : Front) (e : Expr) (range : Range) (cells to : ℕ) → PutsValue s line a b e → to ≡ b.next → to ≡ T.part_slot s.program s.tables s.routine a.next (sel_with (Index e range cells) a.lines)
   unfolding stmts_with

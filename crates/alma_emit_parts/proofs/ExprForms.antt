@@ -31,19 +31,23 @@ module _ (s : Around) (line : ℕ) where
   -- ---- values that are used at once
 
   pub own_value_put : (a : Front) (e : Expr) (from : ℕ) → bare e ≡ Some from → PutsValue s line a a e
-  own_value_put a e from h = record { all = adds_as a a _ _ _ _ _ _ (nothing a)
-      (sym (ap (λ o. unless_bare o (T.expr_code s.program s.tables s.routine line (length a.code) a.next (expr_with e a.lines))) (own_expr e a.lines ∙ h)))
-      (sym (ap (λ o. unless_bare o (expr_slots s.program s.routine (expr_with e a.lines))) (own_expr e a.lines ∙ h)))
-      (sym (own_expr_passes e from a.lines h)) }
+  own_value_put a e from h = record {
+    all = adds_as a a _ _ _ _ _ _ (nothing a)
+        (sym (ap (λ o. unless_bare o (T.expr_code s.program s.tables s.routine line (length a.code) a.next (expr_with e a.lines))) (own_expr e a.lines ∙ h)))
+        (sym (ap (λ o. unless_bare o (expr_slots s.program s.routine (expr_with e a.lines))) (own_expr e a.lines ∙ h)))
+        (sym (own_expr_passes e from a.lines h));
+  }
 
   pub own_value_slot : (lo : ℕ) (ls : List ℕ) (e : Expr) (from : ℕ) → bare e ≡ Some from → value_slot s lo (expr_with e ls) ≡ T.own_slot s.program s.tables s.routine from
   own_value_slot lo ls e from h = ap (λ o. T.slot_or s.program s.tables s.routine o lo) (own_expr e ls ∙ h)
 
   pub made_value_put : (a b : Front) (e : Expr) → bare e ≡ None → PutsExpr s line a b e → PutsValue s line a b e
-  made_value_put a b e h j = record { all = adds_as a b _ _ _ _ _ _ j.all
-      (sym (ap (λ o. unless_bare o (T.expr_code s.program s.tables s.routine line (length a.code) a.next (expr_with e a.lines))) (own_expr e a.lines ∙ h)))
-      (sym (ap (λ o. unless_bare o (expr_slots s.program s.routine (expr_with e a.lines))) (own_expr e a.lines ∙ h)))
-      refl }
+  made_value_put a b e h j = record {
+    all = adds_as a b _ _ _ _ _ _ j.all
+        (sym (ap (λ o. unless_bare o (T.expr_code s.program s.tables s.routine line (length a.code) a.next (expr_with e a.lines))) (own_expr e a.lines ∙ h)))
+        (sym (ap (λ o. unless_bare o (expr_slots s.program s.routine (expr_with e a.lines))) (own_expr e a.lines ∙ h)))
+        refl;
+  }
 
   pub made_value_slot : (lo : ℕ) (ls : List ℕ) (e : Expr) → bare e ≡ None → value_slot s lo (expr_with e ls) ≡ lo
   made_value_slot lo ls e h = ap (λ o. T.slot_or s.program s.tables s.routine o lo) (own_expr e ls ∙ h)
@@ -51,16 +55,20 @@ module _ (s : Around) (line : ℕ) where
   -- ---- variables
 
   pub own_target_put : (a : Front) (d : Desig) (from : ℕ) → bare_desig d ≡ Some from → PutsTarget s line a a d
-  own_target_put a d from h = record { all = adds_as a a _ _ _ _ _ _ (nothing a)
-      (sym (ap (λ o. unless_bare o (T.desig_code s.program s.tables s.routine line (length a.code) a.next (desig_with d a.lines))) (own_desig d a.lines ∙ h)))
-      (sym (ap (λ o. unless_bare o (desig_slots s.program s.routine (desig_with d a.lines))) (own_desig d a.lines ∙ h)))
-      (sym (own_desig_passes d from a.lines h)) }
+  own_target_put a d from h = record {
+    all = adds_as a a _ _ _ _ _ _ (nothing a)
+        (sym (ap (λ o. unless_bare o (T.desig_code s.program s.tables s.routine line (length a.code) a.next (desig_with d a.lines))) (own_desig d a.lines ∙ h)))
+        (sym (ap (λ o. unless_bare o (desig_slots s.program s.routine (desig_with d a.lines))) (own_desig d a.lines ∙ h)))
+        (sym (own_desig_passes d from a.lines h));
+  }
 
   pub made_target_put : (a b : Front) (d : Desig) → bare_desig d ≡ None → PutsDesig s line a b d → PutsTarget s line a b d
-  made_target_put a b d h j = record { all = adds_as a b _ _ _ _ _ _ j.all
-      (sym (ap (λ o. unless_bare o (T.desig_code s.program s.tables s.routine line (length a.code) a.next (desig_with d a.lines))) (own_desig d a.lines ∙ h)))
-      (sym (ap (λ o. unless_bare o (desig_slots s.program s.routine (desig_with d a.lines))) (own_desig d a.lines ∙ h)))
-      refl }
+  made_target_put a b d h j = record {
+    all = adds_as a b _ _ _ _ _ _ j.all
+        (sym (ap (λ o. unless_bare o (T.desig_code s.program s.tables s.routine line (length a.code) a.next (desig_with d a.lines))) (own_desig d a.lines ∙ h)))
+        (sym (ap (λ o. unless_bare o (desig_slots s.program s.routine (desig_with d a.lines))) (own_desig d a.lines ∙ h)))
+        refl;
+  }
 
   pub own_stand_of : (lo : ℕ) (ls : List ℕ) (d : Desig) (from : ℕ) → bare_desig d ≡ Some from → stand_of s lo (desig_with d ls) ≡ stand_by s (Some from) 0
   own_stand_of lo ls d from h = ap (λ o. stand_by s o (T.place_at s.program s.tables s.routine lo (desig_with d ls))) (own_desig d ls ∙ h)
@@ -81,9 +89,11 @@ module _ (s : Around) (line : ℕ) where
       let y = desig_with x ls in
       let same : stand_of s b.next (desig_with x b.lines) ≡ stand_of s (a.next + 1) y = ap (λ n. stand_of s n (desig_with x b.lines)) h.next_slot ∙ ap (λ n. stand_of s (a.next + 1) (desig_with x n)) h.left in
       let instr : load_instr stand to ≡ T.load_code s.program s.tables s.routine a.next y = ap (λ n. load_instr n to) (is2 ∙ same) ∙ ap (load_instr (stand_of s (a.next + 1) y)) is
-          ∙ load_by (bare_desig y) a.next (T.place_at s.program s.tables s.routine (a.next + 1) y) y refl in
-      record { all = adds_as a d _ _ _ _ _ _ (slot_adds a b d _ _ _ _ h (adds_code b c d _ _ _ _ j.all k))
-          (ap (λ i. unless_bare (bare_desig y) (T.desig_code s.program s.tables s.routine line (length a.code) (a.next + 1) y) ++ own line (i ∷ [])) instr) refl refl }
+      ∙ load_by (bare_desig y) a.next (T.place_at s.program s.tables s.routine (a.next + 1) y) y refl in
+      record {
+        all = adds_as a d _ _ _ _ _ _ (slot_adds a b d _ _ _ _ h (adds_code b c d _ _ _ _ j.all k))
+            (ap (λ i. unless_bare (bare_desig y) (T.desig_code s.program s.tables s.routine line (length a.code) (a.next + 1) y) ++ own line (i ∷ [])) instr) refl refl;
+      }
 
   -- ---- operators
 
@@ -97,9 +107,11 @@ module _ (s : Around) (line : ℕ) where
   links_put a b c d to operand op e rest h is j k =
       let all = then_adds a c d _ _ _ _ _ _ (adds_code a b c _ _ _ _ h.all j) k.all in
       let value = unless_bare (bare (expr_with e a.lines)) (T.expr_code s.program s.tables s.routine line (length a.code) a.next (expr_with e a.lines)) in
-      record { all = adds_as a d _ _ _ _ _ _ all
-          (ap (λ n. in_row (length a.code) (value ++ own line (op_code op to n ∷ [])) (λ next. T.links_code s.program s.tables s.routine line next to (a.next + length (unless_bare (bare (expr_with e a.lines)) (expr_slots s.program s.routine (expr_with e a.lines)))) (links_with rest (behind (expr_phrases e) a.lines)))) is)
-          refl (sym (behind_two (expr_phrases e) (links_phrases rest) a.lines)) }
+      record {
+        all = adds_as a d _ _ _ _ _ _ all
+            (ap (λ n. in_row (length a.code) (value ++ own line (op_code op to n ∷ [])) (λ next. T.links_code s.program s.tables s.routine line next to (a.next + length (unless_bare (bare (expr_with e a.lines)) (expr_slots s.program s.routine (expr_with e a.lines)))) (links_with rest (behind (expr_phrases e) a.lines)))) is)
+            refl (sym (behind_two (expr_phrases e) (links_phrases rest) a.lines));
+      }
 
   pub chain_put : (a b c d : Front) (to : ℕ) (negated : Bool) (e : Expr) (links : Links) → PutsExpr s line a b e → to ≡ a.next → Codes b c (own line (neg_code negated to))
       → PutsLinks s line to c d links → PutsExpr s line a d (Chain negated e links)
@@ -107,9 +119,11 @@ module _ (s : Around) (line : ℕ) where
   chain_put a b c d to negated e links h is j k =
       let all = then_adds a c d _ _ _ _ _ _ (adds_code a b c _ _ _ _ h.all j) k.all in
       let first = T.expr_code s.program s.tables s.routine line (length a.code) a.next (expr_with e a.lines) in
-      record { all = adds_as a d _ _ _ _ _ _ all
-          (ap (λ n. in_row (length a.code) (first ++ own line (neg_code negated n)) (λ next. T.links_code s.program s.tables s.routine line next n (a.next + length (expr_slots s.program s.routine (expr_with e a.lines))) (links_with links (behind (expr_phrases e) a.lines)))) is)
-          refl (sym (behind_two (expr_phrases e) (links_phrases links) a.lines)) }
+      record {
+        all = adds_as a d _ _ _ _ _ _ all
+            (ap (λ n. in_row (length a.code) (first ++ own line (neg_code negated n)) (λ next. T.links_code s.program s.tables s.routine line next n (a.next + length (expr_slots s.program s.routine (expr_with e a.lines))) (links_with links (behind (expr_phrases e) a.lines)))) is)
+            refl (sym (behind_two (expr_phrases e) (links_phrases links) a.lines));
+      }
 
   pub compare_put : (a b c d : Front) (to other : ℕ) (how : Cmp) (x y : Expr) → PutsExpr s line a b x → to ≡ a.next → PutsValue s line b c y → other ≡ value_slot s b.next (expr_with y b.lines)
       → Codes c d (own line (cmp_code how to other)) → PutsExpr s line a d (Compare how x y)
@@ -129,8 +143,10 @@ module _ (s : Around) (line : ℕ) where
       let y = desig_with x a.lines in
       let there : place ≡ T.place_at s.program s.tables s.routine (a.next + 1) y = is2 ∙ ap (λ n. T.place_at s.program s.tables s.routine n (desig_with x b.lines)) h.next_slot ∙ ap (λ n. T.place_at s.program s.tables s.routine (a.next + 1) (desig_with x n)) h.left in
       let code = T.desig_code s.program s.tables s.routine line (length a.code) (a.next + 1) y in
-      record { all = adds_as a d _ _ _ _ _ _ (slot_adds a b d _ _ _ _ h (adds_code b c d _ _ _ _ j.all k))
-          (ap (λ n. code ++ own line (I.Known n place ∷ [])) is ∙ ap (λ n. code ++ own line (I.Known a.next n ∷ [])) there) refl refl }
+      record {
+        all = adds_as a d _ _ _ _ _ _ (slot_adds a b d _ _ _ _ h (adds_code b c d _ _ _ _ j.all k))
+            (ap (λ n. code ++ own line (I.Known n place ∷ [])) is ∙ ap (λ n. code ++ own line (I.Known a.next n ∷ [])) there) refl refl;
+      }
 
   pub chr_put : (a b c : Front) (e : Expr) (to range : ℕ) → PutsExpr s line a b e → to ≡ a.next → range ≡ range_number s.tables T.char_range
       → Codes b c (own line (I.InRange to range ∷ [])) → PutsExpr s line a c (Chr e)

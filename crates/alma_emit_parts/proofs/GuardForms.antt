@@ -36,10 +36,12 @@ module _ (s : Around) (line : ℕ) where
       let t = test_with (Value e) a.lines in
       let easy : is_simple t ≡ true = simple_test (Value e) a.lines ∙ simple in
       let code = unless_bare (bare (expr_with e a.lines)) (T.expr_code s.program s.tables s.routine line (length a.code) a.next (expr_with e a.lines)) in
-      record { all = holes_as a c _ _ _ _ _ _ _ (adds_holes a b c _ _ _ _ _ _ _ h.all (hole_put b c line jump (I.JumpZero value 0) here refl j))
-          (λ to. ap (λ n. code ++ own line (I.JumpZero n to ∷ [])) is
-          ∙ sym (ap (λ x. condition x line (length a.code) a.next to (λ at lo none. T.jump_code s.program s.tables s.routine line at lo none t) (λ at lo. T.test_code s.program s.tables s.routine line at lo t)) easy))
-          (append-nil _ ∙ sym (ap (λ x. mark_slots x ++ test_slots s.program s.routine t) easy)) refl }
+      record {
+        all = holes_as a c _ _ _ _ _ _ _ (adds_holes a b c _ _ _ _ _ _ _ h.all (hole_put b c line jump (I.JumpZero value 0) here refl j))
+            (λ to. ap (λ n. code ++ own line (I.JumpZero n to ∷ [])) is
+            ∙ sym (ap (λ x. condition x line (length a.code) a.next to (λ at lo none. T.jump_code s.program s.tables s.routine line at lo none t) (λ at lo. T.test_code s.program s.tables s.routine line at lo t)) easy))
+            (append-nil _ ∙ sym (ap (λ x. mark_slots x ++ test_slots s.program s.routine t) easy)) refl;
+      }
 
   pub barrier_guard : (a b c d : Front) (t : Test) (mark : ℕ) (aim : ℕ → List Lined → List Lined) → is_simple t ≡ false → Holes a b aim (λ none at lo ls. begin_first line lo none) (λ ls. slot.Mark ∷ []) (λ ls. ls)
       → mark ≡ a.next → PutsTest s line b c t → Codes c d (own line (I.Cut mark ∷ [])) → PutsGuard s line a d aim t
@@ -47,10 +49,12 @@ module _ (s : Around) (line : ℕ) where
       let u = test_with t a.lines in
       let hard : is_simple u ≡ false = simple_test t a.lines ∙ simple in
       let inner = T.test_code s.program s.tables s.routine line (length a.code + 2) (a.next + 1) u in
-      record { all = holes_as a d _ _ _ _ _ _ _ (holes_code a c d _ _ _ _ _ (holes_adds a b c _ _ _ _ _ _ _ h j.all) k)
-          (λ to. append_assoc (begin_first line a.next to) inner (own line (I.Cut mark ∷ [])) ∙ ap (λ n. begin_first line a.next to ++ (inner ++ own line (I.Cut n ∷ []))) is
-          ∙ sym (ap (λ x. condition x line (length a.code) a.next to (λ at lo none. T.jump_code s.program s.tables s.routine line at lo none u) (λ at lo. T.test_code s.program s.tables s.routine line at lo u)) hard))
-          (sym (ap (λ x. mark_slots x ++ test_slots s.program s.routine u) hard)) refl }
+      record {
+        all = holes_as a d _ _ _ _ _ _ _ (holes_code a c d _ _ _ _ _ (holes_adds a b c _ _ _ _ _ _ _ h j.all) k)
+            (λ to. append_assoc (begin_first line a.next to) inner (own line (I.Cut mark ∷ [])) ∙ ap (λ n. begin_first line a.next to ++ (inner ++ own line (I.Cut n ∷ []))) is
+            ∙ sym (ap (λ x. condition x line (length a.code) a.next to (λ at lo none. T.jump_code s.program s.tables s.routine line at lo none u) (λ at lo. T.test_code s.program s.tables s.routine line at lo u)) hard))
+            (sym (ap (λ x. mark_slots x ++ test_slots s.program s.routine u) hard)) refl;
+      }
 
   -- a condition and what is done where it has an alternative; else the code goes on so far behind that
   abbrev pub guarded_code : (skip at lo : ℕ) → Test → Stmts → List Lined
@@ -63,8 +67,10 @@ module _ (s : Around) (line : ℕ) where
       let x = stmts_with body (behind (test_phrases t) a.lines) in
       let at = length a.code in
       let lo : a.next + length (condition_slots u) ≡ behind_condition s.program s.routine a.next u = omega (arith, length-append (mark_slots (is_simple u)) (test_slots s.program s.routine u)) in
-      record { all = adds_as a d _ _ _ _ _ _ (filled a b c d _ _ _ _ aim _ _ target (λ n. n + skip) h.all j.all k is)
-          (ap (λ n. guarded at skip (λ none. condition_code none at a.next u) (λ next. T.stmts_code s.program s.tables s.routine next n x)) lo) refl refl }
+      record {
+        all = adds_as a d _ _ _ _ _ _ (filled a b c d _ _ _ _ aim _ _ target (λ n. n + skip) h.all j.all k is)
+            (ap (λ n. guarded at skip (λ none. condition_code none at a.next u) (λ next. T.stmts_code s.program s.tables s.routine next n x)) lo) refl refl;
+      }
 
   -- ---- IF
 
@@ -109,7 +115,9 @@ module _ (s : Around) (line : ℕ) where
       let m = mark_slots (is_simple u) in
       let l = test_slots s.program s.routine u in
       let n = stmts_slots s.program s.routine x in
-      record { all = adds_as a f _ _ _ _ _ _ (then_adds a e f _ _ _ _ _ _ (adds_code a d e _ _ _ _ h.all j) k.all)
-          (ap (λ low. first ++ T.arms_code s.program s.tables s.routine line exit (length a.code + length first) low z (λ next behind. [])) (four_long a.next m l n))
-          (four_slots m l n (arms_slots s.program s.routine z))
-          (sym (behind_two (test_phrases t ++ stmts_phrases body) (arms_phrases rest) ls ∙ ap (behind (arms_phrases rest)) (behind_two (test_phrases t) (stmts_phrases body) ls))) }
+      record {
+        all = adds_as a f _ _ _ _ _ _ (then_adds a e f _ _ _ _ _ _ (adds_code a d e _ _ _ _ h.all j) k.all)
+            (ap (λ low. first ++ T.arms_code s.program s.tables s.routine line exit (length a.code + length first) low z (λ next behind. [])) (four_long a.next m l n))
+            (four_slots m l n (arms_slots s.program s.routine z))
+            (sym (behind_two (test_phrases t ++ stmts_phrases body) (arms_phrases rest) ls ∙ ap (behind (arms_phrases rest)) (behind_two (test_phrases t) (stmts_phrases body) ls)));
+      }

@@ -48,14 +48,16 @@ module _ (s : Around) (line : ℕ) where
       let code : List Lined → List Lined = λ c. first ++ (own line (I.Jump (jump + 1 + length c) ∷ []) ++ c) in
       let out : exit ≡ jump = here ∙ address_behind a d _ _ _ x.all in
       let all = then_adds a d h _ _ _ _ _ _ x.all (over d e g h line exit target (I.Jump 0) _ _ _ (λ n. n) here refl j (then_adds e f g _ _ _ _ _ _ k.all l.all) m is) in
-      record { all = adds_as a h _ _ _ _ _ _ all
-          (ap (λ n. code (inner n (a.next + length ((mm ++ kk) ++ nn)))) out ∙ ap (λ n. code (inner jump n)) (four_long s line a.next mm kk nn) ∙ ap code (sym (arms_split s line jump (jump + 1) low y otherwise))
-          ∙ ap (λ m. code (T.arms_code s.program s.tables s.routine line jump (jump + 1) low y (λ next lo. T.stmts_code s.program s.tables s.routine next lo (stmts_with rest m)))) lines)
-          (append_assoc (mm ++ kk) nn _ ∙ append_assoc mm kk _ ∙ ap (λ c. mm ++ c) (ap (λ c. kk ++ c) (sym (append_assoc nn (arms_slots s.program s.routine y) (stmts_slots s.program s.routine z))) ∙ sym (append_assoc kk (nn ++ arms_slots s.program s.routine y) (stmts_slots s.program s.routine z)))
-          ∙ sym (append_assoc mm (kk ++ (nn ++ arms_slots s.program s.routine y)) (stmts_slots s.program s.routine z))
-          ∙ ap (λ m. (mm ++ (kk ++ (nn ++ arms_slots s.program s.routine y))) ++ stmts_slots s.program s.routine (stmts_with rest m)) lines)
-          (sym (behind_two ((test_phrases t ++ stmts_phrases body) ++ arms_phrases arms) (stmts_phrases rest) ls
-          ∙ ap (behind (stmts_phrases rest)) (behind_two (test_phrases t ++ stmts_phrases body) (arms_phrases arms) ls ∙ ap (behind (arms_phrases arms)) (behind_two (test_phrases t) (stmts_phrases body) ls)))) }
+      record {
+        all = adds_as a h _ _ _ _ _ _ all
+            (ap (λ n. code (inner n (a.next + length ((mm ++ kk) ++ nn)))) out ∙ ap (λ n. code (inner jump n)) (four_long s line a.next mm kk nn) ∙ ap code (sym (arms_split s line jump (jump + 1) low y otherwise))
+            ∙ ap (λ m. code (T.arms_code s.program s.tables s.routine line jump (jump + 1) low y (λ next lo. T.stmts_code s.program s.tables s.routine next lo (stmts_with rest m)))) lines)
+            (append_assoc (mm ++ kk) nn _ ∙ append_assoc mm kk _ ∙ ap (λ c. mm ++ c) (ap (λ c. kk ++ c) (sym (append_assoc nn (arms_slots s.program s.routine y) (stmts_slots s.program s.routine z))) ∙ sym (append_assoc kk (nn ++ arms_slots s.program s.routine y) (stmts_slots s.program s.routine z)))
+            ∙ sym (append_assoc mm (kk ++ (nn ++ arms_slots s.program s.routine y)) (stmts_slots s.program s.routine z))
+            ∙ ap (λ m. (mm ++ (kk ++ (nn ++ arms_slots s.program s.routine y))) ++ stmts_slots s.program s.routine (stmts_with rest m)) lines)
+            (sym (behind_two ((test_phrases t ++ stmts_phrases body) ++ arms_phrases arms) (stmts_phrases rest) ls
+            ∙ ap (behind (stmts_phrases rest)) (behind_two (test_phrases t ++ stmts_phrases body) (arms_phrases arms) ls ∙ ap (behind (arms_phrases arms)) (behind_two (test_phrases t) (stmts_phrases body) ls))));
+      }
 
   pub while_put : (a b c d : Front) (top : ℕ) (t : Test) (body : Stmts) → top ≡ length a.code + 1 → Codes a b (own line (I.Jump top ∷ [])) → PutsGuarded s line 1 b c t body → Codes c d (own line (I.Jump top ∷ []))
       → PutsStmt s line a d (While t body)
@@ -64,10 +66,12 @@ module _ (s : Around) (line : ℕ) where
       let ls = a.lines in
       let at = length a.code in
       let inner = guarded_code s line 1 (at + 1) a.next (test_with t ls) (stmts_with body (behind (test_phrases t) ls)) in
-      record { all = adds_as a d _ _ _ _ _ _ (code_adds a b d _ _ _ _ h (adds_code b c d _ _ _ _ j.all k))
-          (ap (λ n. own line (I.Jump n ∷ []) ++ (inner ++ own line (I.Jump n ∷ []))) is)
-          (append_assoc (mark_slots (is_simple (test_with t ls))) (test_slots s.program s.routine (test_with t ls)) _)
-          (sym (behind_two (test_phrases t) (stmts_phrases body) ls)) }
+      record {
+        all = adds_as a d _ _ _ _ _ _ (code_adds a b d _ _ _ _ h (adds_code b c d _ _ _ _ j.all k))
+            (ap (λ n. own line (I.Jump n ∷ []) ++ (inner ++ own line (I.Jump n ∷ []))) is)
+            (append_assoc (mark_slots (is_simple (test_with t ls))) (test_slots s.program s.routine (test_with t ls)) _)
+            (sym (behind_two (test_phrases t) (stmts_phrases body) ls));
+      }
 
   pub repeat_put : (a b c d : Front) (top : ℕ) (aim : ℕ → List Lined → List Lined) (body : Stmts) (t : Test) → top ≡ length a.code → PutsStmts s a b body → PutsGuard s line b c aim t → Changes c d (aim top)
       → PutsStmt s line a d (Repeat body t)
@@ -76,9 +80,11 @@ module _ (s : Around) (line : ℕ) where
       let ls = a.lines in
       let x = stmts_with body ls in
       let first = T.stmts_code s.program s.tables s.routine (length a.code) a.next x in
-      record { all = adds_as a d _ _ _ _ _ _ (then_adds a b d _ _ _ _ _ _ h.all (closed b c d _ _ aim _ top j.all k))
-          (ap (λ n. first ++ condition_code s line n (length a.code + length first) (a.next + length (stmts_slots s.program s.routine x)) (test_with t (behind (stmts_phrases body) ls))) is)
-          refl (sym (behind_two (stmts_phrases body) (test_phrases t) ls)) }
+      record {
+        all = adds_as a d _ _ _ _ _ _ (then_adds a b d _ _ _ _ _ _ h.all (closed b c d _ _ aim _ top j.all k))
+            (ap (λ n. first ++ condition_code s line n (length a.code + length first) (a.next + length (stmts_slots s.program s.routine x)) (test_with t (behind (stmts_phrases body) ls))) is)
+            refl (sym (behind_two (stmts_phrases body) (test_phrases t) ls));
+      }
 
   pub truth_put : (a b c d e : Front) (to target jump : ℕ) (aim : ℕ → List Lined → List Lined) (t : Test) → Takes a b slot.Number → to ≡ a.next → PutsGuard s line b c aim t → Changes c d (aim target)
       → target ≡ length c.code + 2 → jump ≡ length d.code + 3 → Codes d e (own line (I.Const to (pos 1) ∷ I.Jump jump ∷ I.Const to (pos 0) ∷ [])) → PutsExpr s line a e (Truth t)
@@ -99,8 +105,10 @@ module _ (s : Around) (line : ℕ) where
       let jumps : jump ≡ at + length (cond target) + 3 = omega (arith, is3, address_behind b d _ _ _ guard, at2, ap length mine2) in
       let whole = guarded at 2 (λ none. cond none) (λ next. []) in
       let done : cond target ≡ whole = ap cond far ∙ sym (append-nil (cond (at + length (cond 0) + 0 + 2))) in
-      record { all = adds_as a e _ _ _ _ _ _ all
-          (ap (λ n. cond target ++ own line (I.Const to (pos 1) ∷ I.Jump n ∷ I.Const to (pos 0) ∷ [])) jumps
-          ∙ ap (λ n. cond target ++ own line (I.Const n (pos 1) ∷ I.Jump (at + length (cond target) + 3) ∷ I.Const n (pos 0) ∷ [])) is
-          ∙ ap (λ c. c ++ own line (I.Const a.next (pos 1) ∷ I.Jump (at + length c + 3) ∷ I.Const a.next (pos 0) ∷ [])) done)
-          refl refl }
+      record {
+        all = adds_as a e _ _ _ _ _ _ all
+            (ap (λ n. cond target ++ own line (I.Const to (pos 1) ∷ I.Jump n ∷ I.Const to (pos 0) ∷ [])) jumps
+            ∙ ap (λ n. cond target ++ own line (I.Const n (pos 1) ∷ I.Jump (at + length (cond target) + 3) ∷ I.Const n (pos 0) ∷ [])) is
+            ∙ ap (λ c. c ++ own line (I.Const a.next (pos 1) ∷ I.Jump (at + length c + 3) ∷ I.Const a.next (pos 0) ∷ [])) done)
+            refl refl;
+      }

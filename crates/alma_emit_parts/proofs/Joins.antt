@@ -238,7 +238,7 @@ holes_as a b k l p q aim h g x e d c = record {
 pub filled : (a b c d : Front) (k l : Slots) (p q : Pass) (aim : ℕ → List Lined → List Lined) (h : ℕ → Code) (g : Code) (target : ℕ) (beyond : ℕ → ℕ)
     → Holes a b aim h k p → Adds b c g l q → Changes c d (aim target) → target ≡ beyond (length c.code)
     → Adds a d (λ at lo ls. h (beyond (at + length (h 0 at lo ls) + length (g (at + length (h 0 at lo ls)) (lo + length (k ls)) (p ls)))) at lo ls ++ g (at + length (h 0 at lo ls)) (lo + length (k ls)) (p ls))
-      (λ ls. k ls ++ l (p ls)) (λ ls. q (p ls))
+    (λ ls. k ls ++ l (p ls)) (λ ls. q (p ls))
 filled a b c d k l p q aim h g target beyond x y z is =
     let at = length a.code in
     let lo = a.next in

@@ -49,7 +49,7 @@ module _ (s : Around) (line : ℕ) where
   pub bounds_put : (a b c d e : Front) (step first last : ℕ) (by : ℤ) (from to : Expr) → Takes a b slot.Number → step ≡ a.next → Codes b c (own line (I.Const step by ∷ []))
       → PutsExpr s line c d from → first ≡ c.next → PutsExpr s line d e to → last ≡ d.next
       → Adds a e (λ at lo ls. begin_loop line at lo by (λ at. T.expr_code s.program s.tables s.routine line at (lo + 1) (expr_with from ls)) (λ at. T.expr_code s.program s.tables s.routine line at (lo + 1 + length (expr_slots s.program s.routine (expr_with from ls))) (expr_with to (behind (expr_phrases from) ls))))
-        (λ ls. slot.Number ∷ (expr_slots s.program s.routine (expr_with from ls) ++ expr_slots s.program s.routine (expr_with to (behind (expr_phrases from) ls)))) (λ ls. behind (expr_phrases to) (behind (expr_phrases from) ls))
+      (λ ls. slot.Number ∷ (expr_slots s.program s.routine (expr_with from ls) ++ expr_slots s.program s.routine (expr_with to (behind (expr_phrases from) ls)))) (λ ls. behind (expr_phrases to) (behind (expr_phrases from) ls))
   bounds_put a b c d e step first last by from to h is j k is2 l is3 =
       let ls = a.lines in
       let at = length a.code + 1 in
@@ -86,8 +86,8 @@ module _ (s : Around) (line : ℕ) where
   pub turn_put : (a b c d e f : Front) (ls : List ℕ) (x : Desig) (body : Stmts) (range : Range) (counter count : ℕ) (stand : Stand) → PutsCount range counter a b (desig_with x a.lines) → count ≡ count_of counter a.next (desig_with x a.lines)
       → PutsTarget s line b c x → stand ≡ stand_of s b.next (desig_with x b.lines) → Codes c d (own line (set_instr stand count ∷ [])) → Turns d e ls → PutsStmts s e f body
       → Adds a f (λ at lo ms. turn_code line at (T.count_code s.program s.tables s.routine (bare_desig (desig_with x ms)) range counter lo) (λ at. unless_bare (bare_desig (desig_with x ms)) (T.desig_code s.program s.tables s.routine line at (lo + 1) (desig_with x ms)))
-          (T.set_code s.program s.tables s.routine (lo + 1) (count_of counter lo (desig_with x ms)) (desig_with x ms)) (λ at. T.stmts_code s.program s.tables s.routine at (lo + length (unless_bare (bare_desig (desig_with x ms)) (slot.Number ∷ desig_slots s.program s.routine (desig_with x ms)))) (stmts_with body ls)))
-        (λ ms. unless_bare (bare_desig (desig_with x ms)) (slot.Number ∷ desig_slots s.program s.routine (desig_with x ms)) ++ stmts_slots s.program s.routine (stmts_with body ls)) (λ ms. behind (stmts_phrases body) ls)
+      (T.set_code s.program s.tables s.routine (lo + 1) (count_of counter lo (desig_with x ms)) (desig_with x ms)) (λ at. T.stmts_code s.program s.tables s.routine at (lo + length (unless_bare (bare_desig (desig_with x ms)) (slot.Number ∷ desig_slots s.program s.routine (desig_with x ms)))) (stmts_with body ls)))
+      (λ ms. unless_bare (bare_desig (desig_with x ms)) (slot.Number ∷ desig_slots s.program s.routine (desig_with x ms)) ++ stmts_slots s.program s.routine (stmts_with body ls)) (λ ms. behind (stmts_phrases body) ls)
   turn_put a b c d e f ls x body range counter count stand h is j is2 k t l =
       let ms = a.lines in
       let u = desig_with x ms in
@@ -112,7 +112,7 @@ module _ (s : Around) (line : ℕ) where
       let far : at + length ((check ++ place) ++ store) ≡ at + length check + length place + 1 = omega (arith, length-append (check ++ place) store, length-append check place) in
       adds_as a f _ _ _ _ _ _ all
       (ap (λ c. ((check ++ c) ++ own line (set_instr stand count ∷ [])) ++ body_code (at + length ((check ++ c) ++ own line (set_instr stand count ∷ []))) (a.next + length (k1 ++ k2)))
-          (locate_code o low (a.next + 1) (λ low. T.desig_code s.program s.tables s.routine line (at + length check) low u) (one_slot o a.next))
+      (locate_code o low (a.next + 1) (λ low. T.desig_code s.program s.tables s.routine line (at + length check) low u) (one_slot o a.next))
       ∙ ap (λ i. ((check ++ place) ++ own line (i ∷ [])) ++ body_code (at + length ((check ++ place) ++ own line (i ∷ []))) (a.next + length (k1 ++ k2))) instr
       ∙ ap (λ n. ((check ++ place) ++ store) ++ body_code n (a.next + length (k1 ++ k2))) far
       ∙ ap (λ n. ((check ++ place) ++ store) ++ body_code (at + length check + length place + 1) n) under
@@ -165,10 +165,10 @@ module _ (s : Around) (line : ℕ) where
       let low = a.next + length (slot.Number ∷ (kf ++ kt)) + 0 in
       let place = a.next + 1 + length kf + length kt in
       let turn : (counter lo : ℕ) → List Lined = λ counter lo. turn_code line (next + 4) (T.count_code s.program s.tables s.routine (bare_desig u) range counter lo) (λ at. unless_bare (bare_desig u) (T.desig_code s.program s.tables s.routine line at (lo + 1) u))
-          (T.set_code s.program s.tables s.routine (lo + 1) (count_of counter lo u) u) (λ at. T.stmts_code s.program s.tables s.routine at (lo + length (unless_bare (bare_desig u) (slot.Number ∷ desig_slots s.program s.routine u))) (stmts_with body ls3)) in
+      (T.set_code s.program s.tables s.routine (lo + 1) (count_of counter lo u) u) (λ at. T.stmts_code s.program s.tables s.routine at (lo + length (unless_bare (bare_desig u) (slot.Number ∷ desig_slots s.program s.routine u))) (stmts_with body ls3)) in
       let ends : (counter limit step out top : ℕ) → List Lined = λ counter limit step out top. own line (I.Step counter limit step out ∷ I.Jump top ∷ []) in
       let tl : (at lo : ℕ) → List Lined = λ at lo. turn_code line at (T.count_code s.program s.tables s.routine (bare_desig u) range counter lo) (λ at. unless_bare (bare_desig u) (T.desig_code s.program s.tables s.routine line at (lo + 1) u))
-          (T.set_code s.program s.tables s.routine (lo + 1) (count_of counter lo u) u) (λ at. T.stmts_code s.program s.tables s.routine at (lo + length (unless_bare (bare_desig u) (slot.Number ∷ desig_slots s.program s.routine u))) (stmts_with body ls3)) in
+      (T.set_code s.program s.tables s.routine (lo + 1) (count_of counter lo u) u) (λ at. T.stmts_code s.program s.tables s.routine at (lo + length (unless_bare (bare_desig u) (slot.Number ∷ desig_slots s.program s.routine u))) (stmts_with body ls3)) in
       let f0 : length f.code ≡ next + 4 = address_behind e f _ _ _ bounds.all ∙ ap (λ n. n + 4) (address_behind a e _ _ _ before) in
       let fn : f.next ≡ low = bounds.all.next_slot ∙ ap (λ n. n + 0) before.next_slot in
       let low0 : low ≡ place = behind_bounds a.next kf kt in
@@ -176,19 +176,21 @@ module _ (s : Around) (line : ℕ) where
       let own_counter = T.own_slot s.program s.tables s.routine counts in
       let own_limit = T.own_slot s.program s.tables s.routine limits in
       let whole : (counter limit first last low step out top : ℕ) → List Lined = λ counter limit first last low step out top.
-          begin ++ (own line (bounds_code by counter limit first last (next + 4 + length (turn counter low ++ ends counter limit step out top))) ++ (turn counter low ++ ends counter limit step out top)) in
+      begin ++ (own line (bounds_code by counter limit first last (next + 4 + length (turn counter low ++ ends counter limit step out top))) ++ (turn counter low ++ ends counter limit step out top)) in
       let final = turn own_counter place in
       let out0 : out ≡ next + 4 + length final + 2 = is7 ∙ ap (λ n. n + 2) (l0 ∙ ap (λ n. next + 4 + length (turn counter n)) low0 ∙ ap (λ n. next + 4 + length (turn n place)) cis) in
       let top0 : top ≡ next + 4 = is6 ∙ f0 in
       let done = ends own_counter own_limit a.next (next + 4 + length final + 2) (next + 4) in
       let far : next + 4 + length (final ++ done) ≡ next + 4 + length final + 2 = omega (arith, length-append final done) in
-      record { all = adds_as a n _ _ _ _ _ _ all
-          (ap (λ z. whole z limit first last low step out top) cis ∙ ap (λ z. whole own_counter z first last low step out top) lis ∙ ap (λ z. whole own_counter own_limit z last low step out top) first0
-          ∙ ap (λ z. whole own_counter own_limit (a.next + 1) z low step out top) last0 ∙ ap (λ z. whole own_counter own_limit (a.next + 1) (a.next + 1 + length kf) z step out top) low0
-          ∙ ap (λ z. whole own_counter own_limit (a.next + 1) (a.next + 1 + length kf) place z out top) step0 ∙ ap (λ z. whole own_counter own_limit (a.next + 1) (a.next + 1 + length kf) place a.next z top) out0
-          ∙ ap (λ z. whole own_counter own_limit (a.next + 1) (a.next + 1 + length kf) place a.next (next + 4 + length final + 2) z) top0
-          ∙ ap (λ z. begin ++ (own line (bounds_code by own_counter own_limit (a.next + 1) (a.next + 1 + length kf) z) ++ (final ++ done))) far)
-          (ap (λ l. slot.Number ∷ l) (append_assoc kf kt _)) (four_behind x from to body ls0) }
+      record {
+        all = adds_as a n _ _ _ _ _ _ all
+            (ap (λ z. whole z limit first last low step out top) cis ∙ ap (λ z. whole own_counter z first last low step out top) lis ∙ ap (λ z. whole own_counter own_limit z last low step out top) first0
+            ∙ ap (λ z. whole own_counter own_limit (a.next + 1) z low step out top) last0 ∙ ap (λ z. whole own_counter own_limit (a.next + 1) (a.next + 1 + length kf) z step out top) low0
+            ∙ ap (λ z. whole own_counter own_limit (a.next + 1) (a.next + 1 + length kf) place z out top) step0 ∙ ap (λ z. whole own_counter own_limit (a.next + 1) (a.next + 1 + length kf) place a.next z top) out0
+            ∙ ap (λ z. whole own_counter own_limit (a.next + 1) (a.next + 1 + length kf) place a.next (next + 4 + length final + 2) z) top0
+            ∙ ap (λ z. begin ++ (own line (bounds_code by own_counter own_limit (a.next + 1) (a.next + 1 + length kf) z) ++ (final ++ done))) far)
+            (ap (λ l. slot.Number ∷ l) (append_assoc kf kt _)) (four_behind x from to body ls0);
+      }
 
   -- ---- SOME
 
@@ -231,14 +233,14 @@ module _ (s : Around) (line : ℕ) where
       let low = a.next + length ((slot.Number ∷ (kf ++ kt)) ++ slot.Number ∷ []) + 0 + 0 in
       let low0 : low ≡ spare + 1 = omega (arith, length-append (kf ++ kt) (slot.Number ∷ []), length-append kf kt) in
       let turn : (counter at lo : ℕ) → List Lined = λ counter at lo. turn_code line at (T.count_code s.program s.tables s.routine (bare_desig u) range counter lo) (λ at. unless_bare (bare_desig u) (T.desig_code s.program s.tables s.routine line at (lo + 1) u))
-          (T.set_code s.program s.tables s.routine (lo + 1) (count_of counter lo u) u) (λ at. T.stmts_code s.program s.tables s.routine at (lo + length (unless_bare (bare_desig u) (slot.Number ∷ desig_slots s.program s.routine u))) (stmts_with body ls3)) in
+      (T.set_code s.program s.tables s.routine (lo + 1) (count_of counter lo u) u) (λ at. T.stmts_code s.program s.tables s.routine at (lo + length (unless_bare (bare_desig u) (slot.Number ∷ desig_slots s.program s.routine u))) (stmts_with body ls3)) in
       let two : (counter limit more far : ℕ) → List Lined = λ counter limit more far. own line (I.Less more counter limit ∷ I.JumpZero more far ∷ []) in
       let three : (counter step over top : ℕ) → List Lined = λ counter step over top. own line (I.Jump over ∷ I.Add counter counter step ∷ I.Jump top ∷ []) in
       let fail = own line (I.Fail ∷ []) in
       let body_of : (counter limit more step low at far over top : ℕ) → List Lined = λ counter limit more step low at far over top.
-          two counter limit more far ++ ((own line (I.Choose (at + length (turn counter at low) + 1) ∷ []) ++ turn counter at low) ++ three counter step over top) in
+      two counter limit more far ++ ((own line (I.Choose (at + length (turn counter at low) + 1) ∷ []) ++ turn counter at low) ++ three counter step over top) in
       let whole : (counter limit first last more step low at far over top : ℕ) → List Lined = λ counter limit first last more step low at far over top.
-          (begin ++ (own line (bounds_code (pos 1) counter limit first last (next + 4 + length (body_of counter limit more step low at far over top))) ++ body_of counter limit more step low at far over top)) ++ fail in
+      (begin ++ (own line (bounds_code (pos 1) counter limit first last (next + 4 + length (body_of counter limit more step low at far over top))) ++ body_of counter limit more step low at far over top)) ++ fail in
       let own_counter = T.own_slot s.program s.tables s.routine counts in
       let own_limit = T.own_slot s.program s.tables s.routine limits in
       let f0 : length f.code ≡ next + 4 = address_behind e1 f _ _ _ bounds.all ∙ ap (λ n. n + 4) (address_behind a e1 _ _ _ front) in
@@ -248,7 +250,7 @@ module _ (s : Around) (line : ℕ) where
       let at7 : next + 4 + 2 + 1 ≡ next + 7 = omega arith in
       let final = turn own_counter (next + 7) (spare + 1) in
       let l0 : length l.code ≡ next + 7 + length final = address_behind f2 l _ _ _ turn_of ∙ ap (λ n. n + length (turn counter (length f2.code) f2.next)) (f20 ∙ at7) ∙ ap (λ n. next + 7 + length (turn counter n f2.next)) (f20 ∙ at7)
-          ∙ ap (λ n. next + 7 + length (turn counter (next + 7) n)) (fn ∙ low0) ∙ ap (λ n. next + 7 + length (turn n (next + 7) (spare + 1))) cis in
+      ∙ ap (λ n. next + 7 + length (turn counter (next + 7) n)) (fn ∙ low0) ∙ ap (λ n. next + 7 + length (turn n (next + 7) (spare + 1))) cis in
       let top0 : top ≡ next + 4 = ist ∙ f0 in
       let far0 : far ≡ next + 7 = omega (arith, isf, top0) in
       let over0 : over ≡ next + 7 + length final + 4 = iso ∙ ap (λ n. n + 4) l0 in
@@ -256,17 +258,19 @@ module _ (s : Around) (line : ℕ) where
       let four = three own_counter a.next (next + 7 + length final + 4) (next + 4) in
       let ends : next + 4 + length done ≡ next + 7 + length final + 3 = omega (arith, length-append final four) in
       let pre : ℕ → List Lined = λ empty. own line (bounds_code (pos 1) own_counter own_limit (a.next + 1) (a.next + 1 + length kf) empty ++ (I.Less spare own_counter own_limit ∷ I.JumpZero spare (next + 7) ∷ I.Choose (next + 7 + length final + 1) ∷ [])) in
-      record { all = adds_as a n _ _ _ _ _ _ all
-          (ap (λ z. whole z limit first last more step low (next + 4 + 2 + 1) far over top) cis ∙ ap (λ z. whole own_counter z first last more step low (next + 4 + 2 + 1) far over top) lis
-          ∙ ap (λ z. whole own_counter own_limit z last more step low (next + 4 + 2 + 1) far over top) first0 ∙ ap (λ z. whole own_counter own_limit (a.next + 1) z more step low (next + 4 + 2 + 1) far over top) last0
-          ∙ ap (λ z. whole own_counter own_limit (a.next + 1) (a.next + 1 + length kf) z step low (next + 4 + 2 + 1) far over top) more0
-          ∙ ap (λ z. whole own_counter own_limit (a.next + 1) (a.next + 1 + length kf) spare z low (next + 4 + 2 + 1) far over top) step0
-          ∙ ap (λ z. whole own_counter own_limit (a.next + 1) (a.next + 1 + length kf) spare a.next z (next + 4 + 2 + 1) far over top) low0
-          ∙ ap (λ z. whole own_counter own_limit (a.next + 1) (a.next + 1 + length kf) spare a.next (spare + 1) z far over top) at7
-          ∙ ap (λ z. whole own_counter own_limit (a.next + 1) (a.next + 1 + length kf) spare a.next (spare + 1) (next + 7) z over top) far0
-          ∙ ap (λ z. whole own_counter own_limit (a.next + 1) (a.next + 1 + length kf) spare a.next (spare + 1) (next + 7) (next + 7) z top) over0
-          ∙ ap (λ z. whole own_counter own_limit (a.next + 1) (a.next + 1 + length kf) spare a.next (spare + 1) (next + 7) (next + 7) (next + 7 + length final + 4) z) top0
-          ∙ ap (λ z. (begin ++ (own line (bounds_code (pos 1) own_counter own_limit (a.next + 1) (a.next + 1 + length kf) z) ++ done)) ++ fail) ends
-          ∙ append_assoc begin (pre (next + 7 + length final + 3) ++ (final ++ four)) fail
-          ∙ ap (λ l. begin ++ (pre (next + 7 + length final + 3) ++ l)) (append_assoc final four fail))
-          (ap (λ l. slot.Number ∷ l) (append_assoc (kf ++ kt) (slot.Number ∷ []) _ ∙ append_assoc kf kt _)) (four_behind x from to body ls0) }
+      record {
+        all = adds_as a n _ _ _ _ _ _ all
+            (ap (λ z. whole z limit first last more step low (next + 4 + 2 + 1) far over top) cis ∙ ap (λ z. whole own_counter z first last more step low (next + 4 + 2 + 1) far over top) lis
+            ∙ ap (λ z. whole own_counter own_limit z last more step low (next + 4 + 2 + 1) far over top) first0 ∙ ap (λ z. whole own_counter own_limit (a.next + 1) z more step low (next + 4 + 2 + 1) far over top) last0
+            ∙ ap (λ z. whole own_counter own_limit (a.next + 1) (a.next + 1 + length kf) z step low (next + 4 + 2 + 1) far over top) more0
+            ∙ ap (λ z. whole own_counter own_limit (a.next + 1) (a.next + 1 + length kf) spare z low (next + 4 + 2 + 1) far over top) step0
+            ∙ ap (λ z. whole own_counter own_limit (a.next + 1) (a.next + 1 + length kf) spare a.next z (next + 4 + 2 + 1) far over top) low0
+            ∙ ap (λ z. whole own_counter own_limit (a.next + 1) (a.next + 1 + length kf) spare a.next (spare + 1) z far over top) at7
+            ∙ ap (λ z. whole own_counter own_limit (a.next + 1) (a.next + 1 + length kf) spare a.next (spare + 1) (next + 7) z over top) far0
+            ∙ ap (λ z. whole own_counter own_limit (a.next + 1) (a.next + 1 + length kf) spare a.next (spare + 1) (next + 7) (next + 7) z top) over0
+            ∙ ap (λ z. whole own_counter own_limit (a.next + 1) (a.next + 1 + length kf) spare a.next (spare + 1) (next + 7) (next + 7) (next + 7 + length final + 4) z) top0
+            ∙ ap (λ z. (begin ++ (own line (bounds_code (pos 1) own_counter own_limit (a.next + 1) (a.next + 1 + length kf) z) ++ done)) ++ fail) ends
+            ∙ append_assoc begin (pre (next + 7 + length final + 3) ++ (final ++ four)) fail
+            ∙ ap (λ l. begin ++ (pre (next + 7 + length final + 3) ++ l)) (append_assoc final four fail))
+            (ap (λ l. slot.Number ∷ l) (append_assoc (kf ++ kt) (slot.Number ∷ []) _ ∙ append_assoc kf kt _)) (four_behind x from to body ls0);
+      }

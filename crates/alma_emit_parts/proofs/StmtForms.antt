@@ -99,11 +99,13 @@ module _ (s : Around) (line : ℕ) where
       let v = expr_with y ls in
       let there : value ≡ value_slot s lo v = is2 ∙ ap (λ n. value_slot s n (expr_with y b.lines)) h.all.next_slot ∙ ap (λ n. value_slot s lo (expr_with y n)) h.all.left in
       let both = in_row (length a.code) (unless_bare (bare_desig u) (T.desig_code s.program s.tables s.routine line (length a.code) a.next u)) (λ next. unless_bare (bare v) (T.expr_code s.program s.tables s.routine line next lo v)) in
-      record { all = adds_as a e _ _ _ _ _ _ (adds_code a c e _ _ _ _ (then_adds a b c _ _ _ _ _ _ h.all j.all) (code_code c d e _ _ k l))
-          (ap (λ i. both ++ (own line (fit_code s.tables range value) ++ own line (i ∷ []))) (ap (λ n. set_instr n value) is ∙ set_is a.next value u)
-          ∙ ap (λ l. both ++ l) (sym (own_two line (fit_code s.tables range value) (T.set_code s.program s.tables s.routine a.next value u ∷ [])))
-          ∙ ap (λ n. both ++ own line (fit_code s.tables range n ++ (T.set_code s.program s.tables s.routine a.next n u ∷ []))) there)
-          refl (sym (behind_two (desig_phrases x) (expr_phrases y) a.lines)) }
+      record {
+        all = adds_as a e _ _ _ _ _ _ (adds_code a c e _ _ _ _ (then_adds a b c _ _ _ _ _ _ h.all j.all) (code_code c d e _ _ k l))
+            (ap (λ i. both ++ (own line (fit_code s.tables range value) ++ own line (i ∷ []))) (ap (λ n. set_instr n value) is ∙ set_is a.next value u)
+            ∙ ap (λ l. both ++ l) (sym (own_two line (fit_code s.tables range value) (T.set_code s.program s.tables s.routine a.next value u ∷ [])))
+            ∙ ap (λ n. both ++ own line (fit_code s.tables range n ++ (T.set_code s.program s.tables s.routine a.next n u ∷ []))) there)
+            refl (sym (behind_two (desig_phrases x) (expr_phrases y) a.lines));
+      }
 
   pub copy_put : (a b c d : Front) (x y : Desig) (place place2 : ℕ) → PutsDesig s line a b x → place ≡ T.place_at s.program s.tables s.routine a.next (desig_with x a.lines)
       → PutsDesig s line b c y → place2 ≡ T.place_at s.program s.tables s.routine b.next (desig_with y b.lines) → Codes c d (own line (I.CopyCells place place2 ∷ [])) → PutsStmt s line a d (CopyCells x y)
@@ -115,8 +117,10 @@ module _ (s : Around) (line : ℕ) where
   unfolding stmts_with stmts_phrases
   commit_put a b c d e mark body h is j k l =
       let inner = T.stmts_code s.program s.tables s.routine (length a.code + 1) (a.next + 1) (stmts_with body a.lines) in
-      record { all = adds_as a e _ _ _ _ _ _ (slot_adds a b e _ _ _ _ h (code_adds b c e _ _ _ _ j (adds_code c d e _ _ _ _ k.all l)))
-          (ap (λ n. own line (I.Mark n ∷ []) ++ (inner ++ own line (I.Cut n ∷ []))) is) refl refl }
+      record {
+        all = adds_as a e _ _ _ _ _ _ (slot_adds a b e _ _ _ _ h (code_adds b c e _ _ _ _ j (adds_code c d e _ _ _ _ k.all l)))
+            (ap (λ n. own line (I.Mark n ∷ []) ++ (inner ++ own line (I.Cut n ∷ []))) is) refl refl;
+      }
 
   pub return_put : (a b : Front) → Codes a b (own line (I.Return ∷ [])) → PutsStmt s line a b (Return no_result)
   unfolding stmts_with stmts_phrases
@@ -129,16 +133,20 @@ module _ (s : Around) (line : ℕ) where
       let u = expr_with e a.lines in
       let code = unless_bare (bare u) (T.expr_code s.program s.tables s.routine line (length a.code) a.next u) in
       let fit : ℕ → List Instr = λ n. T.fit_result s.program s.tables s.routine (result_of s) n in
-      record { all = adds_as a d _ _ _ _ _ _ (adds_code a b d _ _ _ _ h.all (code_code b c d _ _ j k))
-          (ap (λ l. code ++ l) (sym (own_two line (fit value) (I.ReturnValue value ∷ []))) ∙ ap (λ n. code ++ own line (fit n ++ (I.ReturnValue n ∷ []))) is) refl refl }
+      record {
+        all = adds_as a d _ _ _ _ _ _ (adds_code a b d _ _ _ _ h.all (code_code b c d _ _ j k))
+            (ap (λ l. code ++ l) (sym (own_two line (fit value) (I.ReturnValue value ∷ []))) ∙ ap (λ n. code ++ own line (fit n ++ (I.ReturnValue n ∷ []))) is) refl refl;
+      }
 
   pub read_put : (a b c : Front) (x : Desig) (how : ReadAs) (range : Range) (place number : ℕ) → PutsDesig s line a b x → place ≡ T.place_at s.program s.tables s.routine a.next (desig_with x a.lines)
       → number ≡ range_number s.tables range → Codes b c (own line (read_code how place number ∷ [])) → PutsStmt s line a c (Read x how range)
   unfolding stmts_with stmts_phrases
   read_put a b c x how range place number h is is2 j =
       let code = T.desig_code s.program s.tables s.routine line (length a.code) a.next (desig_with x a.lines) in
-      record { all = adds_as a c _ _ _ _ _ _ (adds_code a b c _ _ _ _ h.all j)
-          (ap (λ n. code ++ own line (read_code how n number ∷ [])) is ∙ ap (λ n. code ++ own line (read_code how (T.place_at s.program s.tables s.routine a.next (desig_with x a.lines)) n ∷ [])) is2) refl refl }
+      record {
+        all = adds_as a c _ _ _ _ _ _ (adds_code a b c _ _ _ _ h.all j)
+            (ap (λ n. code ++ own line (read_code how n number ∷ [])) is ∙ ap (λ n. code ++ own line (read_code how (T.place_at s.program s.tables s.routine a.next (desig_with x a.lines)) n ∷ [])) is2) refl refl;
+      }
 
   pub write_put : (a b c : Front) (e : Expr) (how : WriteAs) (value : ℕ) → PutsValue s line a b e → value ≡ value_slot s a.next (expr_with e a.lines) → Codes b c (own line (write_code how value ∷ [])) → PutsStmt s line a c (WriteExpr e how)
   unfolding stmts_with stmts_phrases
@@ -188,9 +196,11 @@ module _ (s : Around) (line : ℕ) where
       let low = a.next + length (stmts_slots s.program s.routine (stmts_with body ls)) in
       let out : exit ≡ jump = here ∙ address_behind a b _ _ _ h.all in
       let code : List Lined → List Lined = λ c. first ++ (own line (I.Jump (jump + 1 + length c) ∷ []) ++ c) in
-      record { all = adds_as a e _ _ _ _ _ _ (then_adds a b e _ _ _ _ _ _ h.all (over b c d e line exit target (I.Jump 0) _ _ _ (λ n. n) here refl j k.all m is))
-          (ap (λ x. code (T.branches_code s.program s.tables s.routine line x (jump + 1) low (branches_with (more_branches body2 rest) (behind (stmts_phrases body) ls)))) out)
-          refl (sym (behind_two (stmts_phrases body) (branches_phrases (more_branches body2 rest)) ls)) }
+      record {
+        all = adds_as a e _ _ _ _ _ _ (then_adds a b e _ _ _ _ _ _ h.all (over b c d e line exit target (I.Jump 0) _ _ _ (λ n. n) here refl j k.all m is))
+            (ap (λ x. code (T.branches_code s.program s.tables s.routine line x (jump + 1) low (branches_with (more_branches body2 rest) (behind (stmts_phrases body) ls)))) out)
+            refl (sym (behind_two (stmts_phrases body) (branches_phrases (more_branches body2 rest)) ls));
+      }
 
   -- ---- FORALL
 
@@ -231,7 +241,9 @@ module _ (s : Around) (line : ℕ) where
       let first = T.stmts_code s.program s.tables s.routine at (a.next + 1) u in
       let low = a.next + 1 + length (stmts_slots s.program s.routine u) in
       let parts : ℕ → List Lined = λ mark. in_row at first (λ next. each_body line (next + 2) mark low (T.stmts_code s.program s.tables s.routine (next + 2) (low + 1) v)) in
-      record { all = adds_as a g _ _ _ _ _ _ all
-          (ap (λ n. (begin_forall line a.next (at + length (parts n)) ++ parts n) ++ own line (I.Finish ∷ [])) is
-          ∙ append_assoc (begin_forall line a.next (at + length (parts a.next))) (parts a.next) (own line (I.Finish ∷ [])))
-          refl (sym (behind_two (stmts_phrases x) (stmts_phrases y) ls)) }
+      record {
+        all = adds_as a g _ _ _ _ _ _ all
+            (ap (λ n. (begin_forall line a.next (at + length (parts n)) ++ parts n) ++ own line (I.Finish ∷ [])) is
+            ∙ append_assoc (begin_forall line a.next (at + length (parts a.next))) (parts a.next) (own line (I.Finish ∷ [])))
+            refl (sym (behind_two (stmts_phrases x) (stmts_phrases y) ls));
+      }

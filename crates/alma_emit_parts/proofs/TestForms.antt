@@ -45,10 +45,12 @@ module _ (s : Around) (line : ℕ) where
       let lo = a.next + length (desig_slots s.program s.routine (desig_with x a.lines)) in
       let there : value ≡ value_slot s lo (expr_with e ls) = is2 ∙ ap (λ n. value_slot s n (expr_with e b.lines)) h.all.next_slot ∙ ap (λ n. value_slot s lo (expr_with e n)) h.all.left in
       let both = in_row (length a.code) (T.desig_code s.program s.tables s.routine line (length a.code) a.next (desig_with x a.lines)) (λ next. unless_bare (bare (expr_with e ls)) (T.expr_code s.program s.tables s.routine line next lo (expr_with e ls))) in
-      record { all = adds_as a d _ _ _ _ _ _ (adds_code a c d _ _ _ _ (then_adds a b c _ _ _ _ _ _ h.all j.all) k)
-          (ap (λ n. both ++ own line (I.Bind n value number ∷ [])) is ∙ ap (λ n. both ++ own line (I.Bind (place_of a.next (desig_with x a.lines)) n number ∷ [])) there
-          ∙ ap (λ n. both ++ own line (I.Bind (place_of a.next (desig_with x a.lines)) (value_slot s lo (expr_with e ls)) n ∷ [])) is3)
-          refl (sym (behind_two (desig_phrases x) (expr_phrases e) a.lines)) }
+      record {
+        all = adds_as a d _ _ _ _ _ _ (adds_code a c d _ _ _ _ (then_adds a b c _ _ _ _ _ _ h.all j.all) k)
+            (ap (λ n. both ++ own line (I.Bind n value number ∷ [])) is ∙ ap (λ n. both ++ own line (I.Bind (place_of a.next (desig_with x a.lines)) n number ∷ [])) there
+            ∙ ap (λ n. both ++ own line (I.Bind (place_of a.next (desig_with x a.lines)) (value_slot s lo (expr_with e ls)) n ∷ [])) is3)
+            refl (sym (behind_two (desig_phrases x) (expr_phrases e) a.lines));
+      }
 
   pub bind_right_put : (a b c d : Front) (x : Desig) (e : Expr) (range : Range) (place value number : ℕ) → PutsExpr s line a b e → value ≡ a.next
       → PutsDesig s line b c x → place ≡ place_of b.next (desig_with x b.lines) → number ≡ range_number s.tables range → Codes c d (own line (I.Bind place value number ∷ []))
@@ -59,16 +61,18 @@ module _ (s : Around) (line : ℕ) where
       let lo = a.next + length (expr_slots s.program s.routine (expr_with e a.lines)) in
       let there : place ≡ place_of lo (desig_with x ls) = is2 ∙ ap (λ n. place_of n (desig_with x b.lines)) h.all.next_slot ∙ ap (λ n. place_of lo (desig_with x n)) h.all.left in
       let both = in_row (length a.code) (T.expr_code s.program s.tables s.routine line (length a.code) a.next (expr_with e a.lines)) (λ next. T.desig_code s.program s.tables s.routine line next lo (desig_with x ls)) in
-      record { all = adds_as a d _ _ _ _ _ _ (adds_code a c d _ _ _ _ (then_adds a b c _ _ _ _ _ _ h.all j.all) k)
-          (ap (λ n. both ++ own line (I.Bind place n number ∷ [])) is ∙ ap (λ n. both ++ own line (I.Bind n a.next number ∷ [])) there ∙ ap (λ n. both ++ own line (I.Bind (place_of lo (desig_with x ls)) a.next n ∷ [])) is3)
-          refl (behind_swap x e a.lines) }
+      record {
+        all = adds_as a d _ _ _ _ _ _ (adds_code a c d _ _ _ _ (then_adds a b c _ _ _ _ _ _ h.all j.all) k)
+            (ap (λ n. both ++ own line (I.Bind place n number ∷ [])) is ∙ ap (λ n. both ++ own line (I.Bind n a.next number ∷ [])) there ∙ ap (λ n. both ++ own line (I.Bind (place_of lo (desig_with x ls)) a.next n ∷ [])) is3)
+            refl (behind_swap x e a.lines);
+      }
 
   -- two designators, and an instruction on both places
   pub two_places : (a b c d : Front) (x y : Desig) (place place2 : ℕ) (instr : (place place2 : ℕ) → Instr) → PutsDesig s line a b x → place ≡ place_of a.next (desig_with x a.lines)
       → PutsDesig s line b c y → place2 ≡ place_of b.next (desig_with y b.lines) → Codes c d (own line (instr place place2 ∷ []))
       → Adds a d (λ at lo ls. in_row at (T.desig_code s.program s.tables s.routine line at lo (desig_with x ls)) (λ next. T.desig_code s.program s.tables s.routine line next (lo + length (desig_slots s.program s.routine (desig_with x ls))) (desig_with y (behind (desig_phrases x) ls)))
-        ++ own line (instr (place_of lo (desig_with x ls)) (place_of (lo + length (desig_slots s.program s.routine (desig_with x ls))) (desig_with y (behind (desig_phrases x) ls))) ∷ []))
-        (λ ls. desig_slots s.program s.routine (desig_with x ls) ++ desig_slots s.program s.routine (desig_with y (behind (desig_phrases x) ls))) (λ ls. behind (desig_phrases x ++ desig_phrases y) ls)
+      ++ own line (instr (place_of lo (desig_with x ls)) (place_of (lo + length (desig_slots s.program s.routine (desig_with x ls))) (desig_with y (behind (desig_phrases x) ls))) ∷ []))
+      (λ ls. desig_slots s.program s.routine (desig_with x ls) ++ desig_slots s.program s.routine (desig_with y (behind (desig_phrases x) ls))) (λ ls. behind (desig_phrases x ++ desig_phrases y) ls)
   two_places a b c d x y place place2 instr h is j is2 k =
       let ls = behind (desig_phrases x) a.lines in
       let lo = a.next + length (desig_slots s.program s.routine (desig_with x a.lines)) in
@@ -83,8 +87,10 @@ module _ (s : Around) (line : ℕ) where
       → Codes c d (own line (I.Unify place number place2 number2 ∷ [])) → PutsTest s line a d (Unify x range y range2)
   unfolding stmts_with stmts_phrases
   unify_put a b c d x y range range2 place place2 number number2 h is j is2 is3 is4 k =
-      record { all = two_places a b c d x y place place2 (λ m n. I.Unify m (range_number s.tables range) n (range_number s.tables range2)) h is j is2
-          (subst (λ n. Codes c d (own line (I.Unify place (range_number s.tables range) place2 n ∷ []))) is4 (subst (λ n. Codes c d (own line (I.Unify place n place2 number2 ∷ []))) is3 k)) }
+      record {
+        all = two_places a b c d x y place place2 (λ m n. I.Unify m (range_number s.tables range) n (range_number s.tables range2)) h is j is2
+            (subst (λ n. Codes c d (own line (I.Unify place (range_number s.tables range) place2 n ∷ []))) is4 (subst (λ n. Codes c d (own line (I.Unify place n place2 number2 ∷ []))) is3 k));
+      }
 
   pub same_put : (a b c d : Front) (x y : Desig) (place place2 : ℕ) → PutsDesig s line a b x → place ≡ place_of a.next (desig_with x a.lines)
       → PutsDesig s line b c y → place2 ≡ place_of b.next (desig_with y b.lines) → Codes c d (own line (I.SameCells place place2 ∷ [])) → PutsTest s line a d (SameCells x y)
@@ -113,7 +119,7 @@ module _ (s : Around) (line : ℕ) where
   pub marked : (a b c d e : Front) (t : Test) (mark target : ℕ) (aim : ℕ → List Lined → List Lined) (behind_it : List Instr) (beyond : ℕ → ℕ) → Holes a b aim (λ none at lo ls. begin_first line lo none) (λ ls. slot.Mark ∷ []) (λ ls. ls)
       → mark ≡ a.next → PutsTest s line b c t → Codes c d (own line (I.Cut mark ∷ behind_it)) → Changes d e (aim target) → target ≡ beyond (length d.code)
       → Adds a e (λ at lo ls. let inner : List Lined = T.test_code s.program s.tables s.routine line (at + 2) (lo + 1) (test_with t ls) ++ own line (I.Cut lo ∷ behind_it) in begin_first line lo (beyond (at + 2 + length inner)) ++ inner)
-        (λ ls. slot.Mark ∷ test_slots s.program s.routine (test_with t ls)) (behind (test_phrases t))
+      (λ ls. slot.Mark ∷ test_slots s.program s.routine (test_with t ls)) (behind (test_phrases t))
   marked a b c d e t mark target aim behind_it beyond h is j k m is2 =
       let inner = T.test_code s.program s.tables s.routine line (length a.code + 2) (a.next + 1) (test_with t a.lines) in
       adds_as a e _ _ _ _ _ _ (filled a b d e _ _ _ _ aim _ _ target beyond h (adds_code b c d _ _ _ _ j.all k) m is2)
@@ -127,8 +133,10 @@ module _ (s : Around) (line : ℕ) where
       let inner = T.test_code s.program s.tables s.routine line (length a.code + 2) (a.next + 1) (test_with t a.lines) in
       let ends = own line (I.Cut a.next ∷ I.Fail ∷ []) in
       let far : length a.code + 2 + length (inner ++ ends) ≡ length a.code + 2 + length inner + 2 = omega (arith, length-append inner ends) in
-      record { all = adds_as a e _ _ _ _ _ _ (marked a b c d e t mark target aim (I.Fail ∷ []) (λ n. n) h is j k m is2)
-          (ap (λ n. begin_first line a.next n ++ (inner ++ ends)) far) refl refl }
+      record {
+        all = adds_as a e _ _ _ _ _ _ (marked a b c d e t mark target aim (I.Fail ∷ []) (λ n. n) h is j k m is2)
+            (ap (λ n. begin_first line a.next n ++ (inner ++ ends)) far) refl refl;
+      }
 
   pub first_put : (a b c d e : Front) (t : Test) (mark target : ℕ) (aim : ℕ → List Lined → List Lined) → Holes a b aim (λ none at lo ls. begin_first line lo none) (λ ls. slot.Mark ∷ []) (λ ls. ls)
       → mark ≡ a.next → PutsTest s line b c t → Codes c d (own line (I.Cut mark ∷ [])) → Changes d e (aim target) → target ≡ length d.code + 1 → PutsFirst s line a e t
@@ -158,9 +166,11 @@ module _ (s : Around) (line : ℕ) where
       let first = first_of_two line (length a.code + 2) a.next (T.test_code s.program s.tables s.routine line (length a.code + 2) (a.next + 1) (test_with t ls)) ++ own line (I.Jump exit ∷ []) in
       let n = test_slots s.program s.routine (test_with t ls) in
       let low : a.next + length (slot.Mark ∷ n) ≡ a.next + 1 + length n = omega arith in
-      record { all = adds_as a d _ _ _ _ _ _ (then_adds a c d _ _ _ _ _ _ (adds_code a b c _ _ _ _ h.all j) k.all)
-          (ap (λ m. first ++ T.operands_code s.program s.tables s.routine line exit (length a.code + length first) m (tests_with (more_tests t2 rest) (behind (test_phrases t) ls))) low)
-          refl (sym (behind_two (test_phrases t) (tests_phrases (more_tests t2 rest)) ls)) }
+      record {
+        all = adds_as a d _ _ _ _ _ _ (then_adds a c d _ _ _ _ _ _ (adds_code a b c _ _ _ _ h.all j) k.all)
+            (ap (λ m. first ++ T.operands_code s.program s.tables s.routine line exit (length a.code + length first) m (tests_with (more_tests t2 rest) (behind (test_phrases t) ls))) low)
+            refl (sym (behind_two (test_phrases t) (tests_phrases (more_tests t2 rest)) ls));
+      }
 
   pub or_put : (a b c d e : Front) (exit target : ℕ) (t t2 : Test) (rest : Tests) → PutsFirst s line a b t → exit ≡ length b.code → Codes b c (own line (I.Jump 0 ∷ [])) → PutsOperands s line exit c d (more_tests t2 rest)
       → Changes d e (λ xs. aimed xs exit target) → target ≡ length d.code → PutsTest s line a e (Or (more_tests t (more_tests t2 rest)))
@@ -174,6 +184,8 @@ module _ (s : Around) (line : ℕ) where
       let out : exit ≡ jump = here ∙ address_behind a b _ _ _ h.all in
       let code : List Lined → List Lined = λ c. first ++ (own line (I.Jump (jump + 1 + length c) ∷ []) ++ c) in
       let others : (exit lo : ℕ) → List Lined = λ exit lo. T.operands_code s.program s.tables s.routine line exit (jump + 1) lo (tests_with (more_tests t2 rest) (behind (test_phrases t) ls)) in
-      record { all = adds_as a e _ _ _ _ _ _ (then_adds a b e _ _ _ _ _ _ h.all (over b c d e line exit target (I.Jump 0) _ _ _ (λ n. n) here refl j k.all m is))
-          (ap (λ x. code (others x (a.next + length (slot.Mark ∷ n)))) out ∙ ap (λ x. code (others jump x)) low)
-          refl (sym (behind_two (test_phrases t) (tests_phrases (more_tests t2 rest)) ls)) }
+      record {
+        all = adds_as a e _ _ _ _ _ _ (then_adds a b e _ _ _ _ _ _ h.all (over b c d e line exit target (I.Jump 0) _ _ _ (λ n. n) here refl j k.all m is))
+            (ap (λ x. code (others x (a.next + length (slot.Mark ∷ n)))) out ∙ ap (λ x. code (others jump x)) low)
+            refl (sym (behind_two (test_phrases t) (tests_phrases (more_tests t2 rest)) ls));
+      }

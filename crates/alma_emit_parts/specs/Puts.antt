@@ -18,7 +18,6 @@ use Rattle.alma_templates.specs.Templates as T
 
 -- ---- variables, by slot or by place
 
-
 module _ (s : Around) where
   -- a variable of the routine stands in its own slot, any other by the place that its code makes
   abbrev pub stand_by : Option ℕ → (place : ℕ) → Stand

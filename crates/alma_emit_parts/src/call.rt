@@ -93,12 +93,6 @@ pub fn first_handed(link: Option<u32>, args: &[Arg], to: u32) -> u32
 {
     match link {
         Some(slot) => slot,
-        None => {
-            if args.is_empty() {
-                0
-            } else {
-                to
-            }
-        }
+        None => { if args.is_empty() { 0 } else { to } }
     }
 }

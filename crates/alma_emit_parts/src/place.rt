@@ -13,12 +13,7 @@ use alma_code::{Instr, SlotKind};
 use alma_ir::Root;
 
 /// Links to the frames on the way so many links up; the slot of the last.
-pub fn put_links(
-    work: &mut Work,
-    scene: &Scene<'_>,
-    line: u32,
-    links: u32,
-) -> Result<u32, NoMemory>
+pub fn put_links(work: &mut Work, scene: &Scene<'_>, line: u32, links: u32) -> Result<u32, NoMemory>
     ensures slot { IfOk result (λ slot. slot ≡ (front work.old).next + links) }
     ensures puts { OnOk result (Adds (front work.old) (front work.new)
         (λ at lo ls. own line (link_code lo links))
