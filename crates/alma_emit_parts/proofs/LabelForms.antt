@@ -1,15 +1,16 @@
 -- The labels of an arm of CASE: two jumps of each are aimed at one address.
-use Rattle.std.proofs.Common.{◌≡◌, ℕ, ℤ, ◌+◌, List, [], ◌∷◌, ◌++◌, length, refl, sym, ap, ◌∙◌, subst, arith, append_assoc, length-append}
+use Rattle.std.proofs.Common.{◌≡◌, ℕ, ℤ, ◌+◌, ◌<◌, List, [], ◌∷◌, ◌++◌, length, refl, sym, ap, ◌∙◌, subst, arith, append_assoc, length-append}
 use Rattle.std.proofs.lemmas.List.{append-nil}
 use Rattle.alma_base.specs.declared.number.Range.{Range}
 use Rattle.alma_code.specs.declared.instr.Instr.{Instr}
 use Rattle.alma_code.specs.declared.instr.Instr.TheVariants as I
 use Rattle.alma_choice.specs.Emitted.{aimed}
 use Rattle.alma_choice.proofs.Aiming.{aim_between}
+use Rattle.alma_emit_parts.specs.Puts.{all_labels}
 use Rattle.alma_emit_parts.specs.Front.{Front, Adds, Codes, Changes, Holes}
-use Rattle.alma_emit_parts.proofs.Joins.{code_code, adds_code, closed, only_code, address_after, address_behind}
+use Rattle.alma_emit_parts.proofs.Joins.{code_code, adds_code, code_holes, holes_as, own_two, closed, only_code, address_after, address_behind}
 use Rattle.alma_templates.specs.Lined.{Lined, own}
-use Rattle.alma_templates.specs.Pieces.{last_label_code, label_code}
+use Rattle.alma_templates.specs.Pieces.{last_label_code, label_code, labels_code}
 
 -- six instructions, of which the third and the last are aimed
 pub label_holes : (a b c d e f g : Front) (line value bound test low high : ℕ) (label : Range) (least most : ℤ) → test ≡ bound + 1 → least ≡ label.low → most ≡ label.high
@@ -66,3 +67,11 @@ label_done a b c d e line value bound hit low high behind label h is x y j =
       left = all.left;
       whole = all.whole;
     }
+
+-- a label, and then the others
+pub more_labels : (a b c : Front) (line value bound hit : ℕ) (aim : ℕ → List Lined → List Lined) (label : Range) (rest : List Range) → 0 < length rest → Codes a b (own line (label_code value bound (length a.code) hit label))
+    → Holes b c aim (λ none at lo ls. own line (all_labels value bound at hit none rest)) (λ ls. []) (λ ls. ls) → Holes a c aim (λ none at lo ls. own line (all_labels value bound at hit none (label ∷ rest))) (λ ls. []) (λ ls. ls)
+more_labels a b c line value bound hit aim label [] some h j = absurd (omega (arith, some))
+more_labels a b c line value bound hit aim label (label2 ∷ rest) some h j =
+    holes_as a c _ _ _ _ _ _ _ (code_holes a b c _ _ _ aim _ h j)
+    (λ to. sym (own_two line (label_code value bound (length a.code) hit label) (labels_code value bound (length a.code + 7) hit to label2 rest))) refl refl

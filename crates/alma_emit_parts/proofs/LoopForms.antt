@@ -14,7 +14,7 @@ use Rattle.alma_ir.specs.Phrases.{stmts_phrases, stmt_phrases, expr_phrases, des
 use Rattle.alma_ir.specs.Lines.{behind, stmts_with, stmt_with, expr_with, desig_with}
 use Rattle.alma_ir.proofs.LinesBack.{behind_two}
 use Rattle.alma_emit_parts.specs.declared.stand.Stand.{Stand}
-use Rattle.alma_emit_parts.specs.Front.{Around, Front, Adds, Codes, Takes, Changes, Holes}
+use Rattle.alma_emit_parts.specs.Front.{Around, Front, Adds, Codes, Takes, Changes, Holes, Turns}
 use Rattle.alma_emit_parts.specs.Puts.{PutsExpr, PutsTarget, PutsStmts, PutsStmt, stand_of, set_instr, inside}
 use Rattle.alma_emit_parts.proofs.Joins.{nothing, then_adds, adds_as, code_code, code_adds, adds_code, only_code, slot_adds, adds_slot, only_slot, filled, hole_put, own_two, address_behind, address_after}
 use Rattle.alma_emit_parts.proofs.StmtForms.{set_is}
@@ -22,14 +22,6 @@ use Rattle.alma_templates.specs.Lined.{Lined, own, in_row}
 use Rattle.alma_templates.specs.Slots.{bare_desig, unless_bare, expr_slots, desig_slots, stmts_slots}
 use Rattle.alma_templates.specs.Pieces.{fit_code, bounds_code, begin_loop, turn_code, for_turns, some_turns}
 use Rattle.alma_templates.specs.Templates as T
-
--- b is a with other lines to be handed out
-pub record Turns (a b : Front) (ls : List ℕ) : Type 0 where
-  pub instrs : b.code ≡ a.code
-  pub taken : b.kinds ≡ a.kinds
-  pub next_slot : b.next ≡ a.next
-  pub left : b.lines ≡ ls
-  pub whole : b.all_lines ≡ a.all_lines
 
 module _ (s : Around) (line : ℕ) where
   -- from other lines on

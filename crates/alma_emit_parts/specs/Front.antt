@@ -89,3 +89,11 @@ pub record EndsForall (a b : Front) (line forall : ℕ) : Type 0 where
 -- the range of the result of the routine
 abbrev pub result_of : Around → Option Range
 result_of s = (routine_at s.program s.routine).result
+
+-- b is a with other lines to be handed out
+pub record Turns (a b : Front) (ls : List ℕ) : Type 0 where
+  pub instrs : b.code ≡ a.code
+  pub taken : b.kinds ≡ a.kinds
+  pub next_slot : b.next ≡ a.next
+  pub left : b.lines ≡ ls
+  pub whole : b.all_lines ≡ a.all_lines

@@ -13,7 +13,7 @@ use Rattle.alma_emit_parts.specs.declared.stand.Stand.TheVariants as stands
 use Rattle.alma_emit_parts.specs.Front.{Around, Front, Adds, Holes}
 use Rattle.alma_templates.specs.Lined.{Lined, own, in_row}
 use Rattle.alma_templates.specs.Slots.{shift_of, bare_desig, bare, unless_bare, is_simple, mark_slots, handed_slots, call_links, stmts_slots, stmt_slots, arms_slots, cases_slots, else_slots, behind_condition, branches_slots, for_slots, some_slots, return_slots, test_slots, and_slots, or_slots, expr_slots, links_slots, args_slots, arg_slots, desig_slots, sels_slots, sel_slots}
-use Rattle.alma_templates.specs.Pieces.{condition, guarded, first_of_two, chosen, behind_labels, case_arm, first_argument}
+use Rattle.alma_templates.specs.Pieces.{condition, guarded, first_of_two, chosen, labels_code, behind_labels, case_arm, first_argument}
 use Rattle.alma_templates.specs.Templates as T
 
 -- ---- variables, by slot or by place
@@ -59,6 +59,11 @@ load_instr (stands.Placed place) to = I.Load to place
 abbrev pub first_of : List Instr → Instr
 first_of [] = I.Fail
 first_of (i ∷ rest) = i
+
+-- the labels of an arm of CASE
+abbrev pub all_labels : (value bound at hit miss : ℕ) → List Range → List Instr
+all_labels value bound at hit miss [] = []
+all_labels value bound at hit miss (label ∷ rest) = labels_code value bound at hit miss label rest
 
 -- the phrases inside a statement
 abbrev pub inside : Stmt → List Phrase

@@ -1,5 +1,6 @@
 // The bounds of loops.
 ghost use Rattle.std.specs.Prelude.{◌≡◌, ◌∷◌, [], IfOk, OnOk};
+ghost use Rattle.alma_code.specs.declared.instr.Instr.TheVariants as instr;
 ghost use Rattle.alma_code.specs.declared.cell.SlotKind.TheVariants as slot;
 ghost use Rattle.alma_ir.specs.View.{desig_of};
 ghost use Rattle.alma_templates.specs.Slots.{bare_desig, unless_bare};
@@ -7,7 +8,7 @@ ghost use Rattle.alma_templates.specs.Templates.{count_at, count_code};
 ghost use Rattle.alma_choice.specs.Emitted.{aimed};
 ghost use Rattle.alma_templates.specs.Lined.{own};
 ghost use Rattle.alma_templates.specs.Pieces as pieces;
-ghost use Rattle.alma_emit_parts.specs.Front.{around, front, Adds, Holes};
+ghost use Rattle.alma_emit_parts.specs.Front.{around, front, Adds, Codes, Holes};
 
 use crate::scene::Scene;
 use crate::stand::own_stand;
@@ -114,4 +115,83 @@ pub fn put_count(
     )?;
     put_fit(work, scene, line, range, count)?;
     Ok(count)
+}
+
+/// The end of a turn of FOR: the step, which leaves the loop after the last, and the jump to the next turn.
+pub fn put_step(
+    work: &mut Work,
+    line: u32,
+    bounds: Bounds,
+    by: u32,
+    out: u32,
+    top: u32,
+) -> Result<(), NoMemory>
+    ensures { OnOk result (Codes (front work.old) (front work.new) (own line
+        (instr.Step bounds.counter bounds.limit by out ∷ instr.Jump top ∷ []))) }
+{
+    work.put(
+        line,
+        Instr::Step {
+            counter: bounds.counter,
+            limit: bounds.limit,
+            by,
+            out,
+        },
+    )?;
+    work.put(line, Instr::Jump { to: top })?;
+    Ok(())
+}
+
+/// The front of a turn of SOME: whether there are more turns behind it; in the last, the choice that follows is left out.
+pub fn put_more(
+    work: &mut Work,
+    line: u32,
+    more: u32,
+    bounds: Bounds,
+    turn: u32,
+) -> Result<(), NoMemory>
+    ensures { OnOk result (Codes (front work.old) (front work.new) (own line
+        (instr.Less more bounds.counter bounds.limit ∷ instr.JumpZero more turn ∷ []))) }
+{
+    work.put(
+        line,
+        Instr::Less {
+            to: more,
+            left: bounds.counter,
+            right: bounds.limit,
+        },
+    )?;
+    work.put(
+        line,
+        Instr::JumpZero {
+            value: more,
+            to: turn,
+        },
+    )?;
+    Ok(())
+}
+
+/// The end of a turn of SOME: over the rest, and the count of the next turn, at which the choice goes on.
+pub fn put_next(
+    work: &mut Work,
+    line: u32,
+    over: u32,
+    counter: u32,
+    step: u32,
+    top: u32,
+) -> Result<(), NoMemory>
+    ensures { OnOk result (Codes (front work.old) (front work.new) (own line
+        (instr.Jump over ∷ instr.Add counter counter step ∷ instr.Jump top ∷ []))) }
+{
+    work.put(line, Instr::Jump { to: over })?;
+    work.put(
+        line,
+        Instr::Add {
+            to: counter,
+            left: counter,
+            right: step,
+        },
+    )?;
+    work.put(line, Instr::Jump { to: top })?;
+    Ok(())
 }

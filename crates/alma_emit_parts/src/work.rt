@@ -4,7 +4,7 @@ ghost use Rattle.alma_code.specs.declared.cell.SlotKind.TheVariants as slot;
 ghost use Rattle.alma_base.specs.Limits.{instr_limit};
 ghost use Rattle.alma_choice.specs.Emitted.{aimed};
 ghost use Rattle.alma_templates.specs.Lined.{own};
-ghost use Rattle.alma_emit_parts.specs.Front.{front, Codes, Takes, Changes};
+ghost use Rattle.alma_emit_parts.specs.Front.{front, Codes, Takes, Changes, Turns};
 
 use alma_base::NoMemory;
 use alma_choice::Emit;
@@ -113,6 +113,16 @@ impl Work {
     {
         let target = self.behind(skip)?;
         self.aim(at, target);
+        Ok(())
+    }
+
+    /// Passes so many lines.
+    #[tactic(auto, unfolding(crate::specs::Front::front))]
+    pub fn pass(&mut self, count: usize) -> Result<(), NoMemory>
+        ensures { OnOk result (Turns (front self.old) (front self.new)
+            (drop count (front self.old).lines)) }
+    {
+        self.handed = self.handed.checked_add(count).ok_or(NoMemory)?;
         Ok(())
     }
 }
