@@ -1,0 +1,40 @@
+-- Code with a jump aimed late.
+use Rattle.std.proofs.Common.{◌≡◌, ℕ, zero, suc, ◌+◌, ◌<◌, ◌≤◌, List, [], ◌∷◌, ◌++◌, length, map, get_or, refl, sym, ap, ◌∙◌, arith, append_assoc, length-append}
+use Rattle.std.specs.Prelude.{slice_set}
+use Rattle.std.proofs.lemmas.List.{length-map}
+use Rattle.alma_code.specs.declared.cell.SlotKind.{SlotKind}
+use Rattle.alma_code.specs.declared.instr.Instr.{Instr}
+use Rattle.alma_choice.specs.declared.emit.Emit.{Emit}
+use Rattle.alma_templates.specs.Lined.{Lined, own}
+use Rattle.alma_choice.specs.Emitted.{lined, made, with_target, aimed, Appends, Aims}
+
+-- an instruction of the code is written anew with its target
+pub aimed_in : (xs : List (Instr × ℕ)) (at to : ℕ) (d : Instr × ℕ) → at < length xs
+    → map lined (slice_set xs at (with_target (get_or xs at d).0 to, (get_or xs at d).1)) ≡ aimed (map lined xs) at to
+aimed_in [] at to d lt = absurd (omega (arith, lt))
+aimed_in (x ∷ xs) zero to d lt = refl
+aimed_in (x ∷ xs) (suc at) to d lt = ap (λ l. lined x ∷ l) (aimed_in xs at to d (omega (arith, lt)))
+
+-- behind the code there is nothing to be aimed
+pub aimed_out : (xs : List Lined) (at to : ℕ) → length xs ≤ at → aimed xs at to ≡ xs
+aimed_out [] at to le = refl
+aimed_out (x ∷ xs) zero to le = absurd (omega (arith, le))
+aimed_out (x ∷ xs) (suc at) to le = ap (λ l. x ∷ l) (aimed_out xs at to (omega (arith, le)))
+
+-- the jump that stands between two parts
+pub aim_between : (xs : List Lined) (x : Lined) (ys : List Lined) (to : ℕ)
+    → aimed (xs ++ x ∷ ys) (length xs) to ≡ xs ++ record { line = x.line; instr = with_target x.instr to } ∷ ys
+aim_between [] x ys to = refl
+aim_between (z ∷ xs) x ys to = ap (λ l. z ∷ l) (aim_between xs x ys to)
+
+-- one after another
+pub append_then : (a b c : Emit) (f g : List Lined) (k l : List SlotKind) → Appends a b f k → Appends b c g l → Appends a c (f ++ g) (k ++ l)
+append_then a b c f g k l h j = record {
+  instrs = j.instrs ∙ ap (λ x. x ++ g) h.instrs ∙ append_assoc (made a) f g;
+  kinds = j.kinds ∙ ap (λ x. x ++ l) h.kinds ∙ append_assoc a.kinds.items k l;
+  next = omega (arith, h.next, j.next, length-append k l);
+}
+
+-- the code is as long as its instructions
+pub made_long : (e : Emit) → length (made e) ≡ length e.code.items
+made_long e = length-map e.code.items lined

@@ -1,0 +1,195 @@
+// Instructions with their lines, slots, and jumps that are aimed late.
+ghost use Rattle.std.specs.Prelude.{◌≡◌, ℕ, ◌+◌, List, [], ◌∷◌, ◌++◌, ◌≤◌, length, IfOk, OnOk};
+ghost use Rattle.alma_code.specs.declared.instr.Instr.TheVariants as instr;
+ghost use Rattle.alma_code.specs.declared.cell.SlotKind.TheVariants as slot;
+ghost use Rattle.alma_templates.specs.Lined.{own};
+ghost use Rattle.alma_templates.specs.Pieces as pieces;
+ghost use Rattle.alma_base.specs.Limits.{instr_limit};
+ghost use Rattle.alma_choice.specs.Emitted.{made, with_target, aimed, Appends, Aims, EndsEach, EndsForall};
+
+use alma_base::{INSTR_LIMIT, NoMemory, SLOT_LIMIT};
+use alma_code::{Instr, SlotKind};
+use std::alloc::Global;
+
+/// The instructions of one code, each with its line, the number of the next slot of the routine in hand, and the kinds of
+/// the slots that were taken, over all routines in order.
+#[derive(Drop)]
+pub struct Emit {
+    pub code: Vec<(Instr, u32)>,
+    pub next: u32,
+    pub kinds: Vec<SlotKind>,
+}
+
+impl Emit {
+    /// No code and no slots yet.
+    pub fn new(alloc: Global) -> Emit
+        ensures code { result.code.items ≡ [] }
+        ensures kinds { result.kinds.items ≡ [] }
+        ensures next { result.next ≡ 0 }
+    {
+        Emit {
+            code: Vec::new(alloc),
+            next: 0,
+            kinds: Vec::new(alloc),
+        }
+    }
+
+    /// Begins a routine that has so many slots before those that it takes here.
+    pub fn start(&mut self, slots: u32)
+        ensures code { self.new.code.items ≡ self.old.code.items }
+        ensures kinds { self.new.kinds.items ≡ self.old.kinds.items }
+        ensures next { self.new.next ≡ slots }
+    {
+        self.next = slots;
+    }
+
+    /// One more instruction, and its address. At the limit of instructions this is NoMemory.
+    pub fn put(&mut self, line: u32, instr: Instr) -> Result<u32, NoMemory>
+        ensures address { IfOk result (λ at. at ≡ length (made self.old)) }
+        ensures puts { OnOk result (Appends self.old self.new (own line (instr ∷ [])) []) }
+    {
+        if self.code.len() >= INSTR_LIMIT as usize {
+            return Err(NoMemory);
+        }
+        let at = self.code.len() as u32;
+        self.code.push((instr, line))?;
+        Ok(at)
+    }
+
+    /// One more slot, and its number. At the limit of slots this is NoMemory.
+    pub fn slot(&mut self, kind: SlotKind) -> Result<u32, NoMemory>
+        ensures slot { IfOk result (λ slot. slot ≡ self.old.next) }
+        ensures puts { OnOk result (Appends self.old self.new [] (kind ∷ [])) }
+    {
+        if self.next >= SLOT_LIMIT {
+            return Err(NoMemory);
+        }
+        let slot = self.next;
+        self.kinds.push(kind)?;
+        self.next += 1;
+        Ok(slot)
+    }
+
+    /// The address of the next instruction.
+    pub fn here(&self) -> Result<u32, NoMemory>
+        ensures address { IfOk result (λ at. at ≡ length (made self.now)) }
+        ensures small { IfOk result (λ at. at ≤ instr_limit) }
+    {
+        if self.code.len() > INSTR_LIMIT as usize {
+            return Err(NoMemory);
+        }
+        Ok(self.code.len() as u32)
+    }
+
+    /// Sets the target of the jump at an address.
+    pub fn aim(&mut self, at: u32, target: u32)
+        ensures aims { Aims self.old self.new at target }
+    {
+        if at as usize >= self.code.len() {
+            return;
+        }
+        let (jump, line) = self.code[at as usize];
+        self.code[at as usize] = (aimed_at(jump, target), line);
+    }
+
+    /// The front of a phrase of which the first alternative is taken: its mark, and the address of the choice, which is
+    /// still to be aimed where the code goes on without an alternative. `Cut` of the mark goes behind the phrase.
+    pub fn begin_first(&mut self, line: u32) -> Result<(u32, u32), NoMemory>
+        ensures mark { IfOk result (λ r. r.0 ≡ self.old.next) }
+        ensures choice { IfOk result (λ r. r.1 ≡ length (made self.old) + 1) }
+        ensures puts { OnOk result (Appends self.old self.new
+            (pieces.begin_first line self.old.next 0) (slot.Mark ∷ [])) }
+    {
+        let mark = self.slot(SlotKind::Mark)?;
+        self.put(line, Instr::Mark { to: mark })?;
+        let choice = self.put(line, Instr::Choose { resume: 0 })?;
+        Ok((mark, choice))
+    }
+
+    /// The front of FORALL: its mark, and its address, which is still to be aimed.
+    pub fn begin_forall(&mut self, line: u32) -> Result<(u32, u32), NoMemory>
+        ensures mark { IfOk result (λ r. r.0 ≡ self.old.next) }
+        ensures forall { IfOk result (λ r. r.1 ≡ length (made self.old)) }
+        ensures puts { OnOk result (Appends self.old self.new
+            (pieces.begin_forall line self.old.next 0) (slot.Mark ∷ [])) }
+    {
+        let mark = self.slot(SlotKind::Mark)?;
+        let forall = self.put(line, Instr::Forall { mark, resume: 0 })?;
+        Ok((mark, forall))
+    }
+
+    /// Behind the alternative of the first part of FORALL: the mark of the body, and the address of the overlay, which is
+    /// still to be aimed.
+    pub fn begin_each(&mut self, line: u32, mark: u32) -> Result<(u32, u32), NoMemory>
+        ensures inner { IfOk result (λ r. r.0 ≡ self.old.next) }
+        ensures overlay { IfOk result (λ r. r.1 ≡ length (made self.old)) }
+        ensures puts { OnOk result (Appends self.old self.new
+            (pieces.begin_each line mark self.old.next 0) (slot.Mark ∷ [])) }
+    {
+        let inner = self.slot(SlotKind::Mark)?;
+        let overlay = self.put(line, Instr::Overlay { mark, resume: 0 })?;
+        self.put(line, Instr::Mark { to: inner })?;
+        Ok((inner, overlay))
+    }
+
+    /// Behind the body of FORALL.
+    pub fn end_each(
+        &mut self,
+        line: u32,
+        mark: u32,
+        inner: u32,
+        overlay: u32,
+    ) -> Result<(), NoMemory>
+        ensures ends { OnOk result (EndsEach self.old self.new line mark inner overlay) }
+    {
+        self.put(line, Instr::Cut { mark: inner })?;
+        self.put(line, Instr::Keep { mark })?;
+        let next = self.here()?;
+        self.aim(overlay, next);
+        self.put(line, Instr::Fail)?;
+        Ok(())
+    }
+
+    /// Behind both parts of FORALL.
+    pub fn end_forall(&mut self, line: u32, forall: u32) -> Result<(), NoMemory>
+        ensures ends { OnOk result (EndsForall self.old self.new line forall) }
+    {
+        let next = self.here()?;
+        self.aim(forall, next);
+        self.put(line, Instr::Finish)?;
+        Ok(())
+    }
+
+    /// The instructions with their lines, and the kinds of the slots.
+    pub fn finish(self) -> (Vec<(Instr, u32)>, Vec<SlotKind>)
+        ensures code { result.0 ≡ self.code }
+        ensures kinds { result.1 ≡ self.kinds }
+    {
+        (self.code, self.kinds)
+    }
+}
+
+// The same jump to another address.
+fn aimed_at(jump: Instr, to: u32) -> Instr
+    ensures { result ≡ with_target jump to }
+{
+    match jump {
+        Instr::Jump { .. } => Instr::Jump { to },
+        Instr::JumpZero { value, .. } => Instr::JumpZero { value, to },
+        Instr::Choose { .. } => Instr::Choose { resume: to },
+        Instr::Forall { mark, .. } => Instr::Forall { mark, resume: to },
+        Instr::Overlay { mark, .. } => Instr::Overlay { mark, resume: to },
+        Instr::Step {
+            counter,
+            limit,
+            by,
+            ..
+        } => Instr::Step {
+            counter,
+            limit,
+            by,
+            out: to,
+        },
+        other => other,
+    }
+}

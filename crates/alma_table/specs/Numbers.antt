@@ -1,0 +1,25 @@
+-- The tables that numbers in memory stand for.
+use Rattle.std.specs.Prelude.{◌≡◌, ℤ, ℕ, List, ◌++◌, map, Vec}
+use Rattle.std.specs.Global.{Global}
+use Rattle.alma_base.specs.declared.number.Range.{Range}
+use Rattle.alma_table.specs.declared.numbers.Numbers.{Numbers}
+use Rattle.alma_templates.specs.Tables.{Tables}
+
+-- a range that is kept as its two ends
+abbrev pub range_of : ℤ × ℤ → Range
+range_of ends = record { low = ends.0; high = ends.1 }
+
+-- a text in memory
+abbrev pub text_of : Vec ℕ Global → List ℕ
+text_of text = text.items
+
+-- the tables, each in the order in which its entries came
+abbrev pub tables_of : Numbers → Tables
+tables_of n = record { ranges = map range_of n.ranges.keys; texts = map text_of n.texts.keys }
+
+-- the tables b are a with more behind
+pub record Extends (a b : Tables) : Type 0 where
+  pub more_ranges : List Range
+  pub more_texts : List (List ℕ)
+  pub ranges : b.ranges ≡ a.ranges ++ more_ranges
+  pub texts : b.texts ≡ a.texts ++ more_texts
