@@ -362,7 +362,8 @@ fn comparison(relation: Relation) -> Cmp
 
 fn compare(alloc: Global, cmp: Cmp, left: Meaning, right: Meaning) -> Result<Meaning, AllocError>
     ensures { IfOk result (λ m. meaning_view m ≡ parts.plain
-        (ir.Compare cmp (parts.value_of (meaning_view left)) (parts.value_of (meaning_view right)))) }
+        (ir.Compare cmp (parts.value_of (meaning_view left))
+        (parts.value_of (meaning_view right)))) }
 {
     let first = Box::new(alloc, as_value(alloc, left)?)?;
     let second = Box::new(alloc, as_value(alloc, right)?)?;
@@ -372,7 +373,8 @@ fn compare(alloc: Global, cmp: Cmp, left: Meaning, right: Meaning) -> Result<Mea
 // An equation with exactly one designator binds it; one of two unifies them, or their cells.
 fn equation(alloc: Global, env: &Env, left: Typed, right: Typed) -> Result<Meaning, AllocError>
     ensures { IfOk result (λ m. meaning_view m ≡ parts.equation_of (scene_of env.now somewhere)
-        (typing_of left) (typing_of right) (meaning_view left.meaning) (meaning_view right.meaning)) }
+        (typing_of left) (typing_of right) (meaning_view left.meaning)
+        (meaning_view right.meaning)) }
 {
     let first = left.shape;
     let second = right.shape;

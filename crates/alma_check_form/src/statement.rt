@@ -363,7 +363,8 @@ pub fn bare_return(alloc: Global) -> Result<Option<Vec<Stmt>>, AllocError>
 /// RETURN with an expression.
 pub fn returned(alloc: Global, typed: Option<Typed>) -> Result<Option<Vec<Stmt>>, AllocError>
     ensures { IfOk result (λ v. stmts_in v ≡ option_map parts.one_stmt
-        (option_map (λ t. ir.Return (ir.some_result (parts.value_of t.meaning))) (typing_in typed))) }
+        (option_map (λ t. ir.Return (ir.some_result (parts.value_of t.meaning)))
+        (typing_in typed))) }
 {
     match typed {
         None => Ok(None),

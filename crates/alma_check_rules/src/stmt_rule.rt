@@ -125,7 +125,8 @@ fn zero_step(env: &Env, typed: &Option<Typed>) -> bool
 
 /// The step behind BY.
 pub fn pass_by(env: &Env, node: u32, typed: &Option<Typed>) -> Result<(), Stop>
-    ensures { Passes node (rules.by_rules (scene_of env.now somewhere) (typing_in typed.now)) result }
+    ensures { Passes node (rules.by_rules (scene_of env.now somewhere)
+        (typing_in typed.now)) result }
 {
     if no_integer(env, typed) {
         return Err(Stop::Fault(CheckFault::TypeMismatch, node));

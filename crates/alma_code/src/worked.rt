@@ -99,7 +99,8 @@ pub fn equation_faults()
 pub fn cells_are_equated()
     ensures sound { code_fault cells_equated ≡ None }
     ensures ends { Ends cells_equated [] 10 end.Succeeded }
-    ensures prints { Prints cells_equated [] 10 (decimal 1 ∷ decimal 2 ∷ decimal 1 ∷ decimal 2 ∷ []) }
+    ensures prints { Prints cells_equated [] 10
+        (decimal 1 ∷ decimal 2 ∷ decimal 1 ∷ decimal 2 ∷ []) }
 {}
 
 /// A MIX argument that is a place goes by reference, and one that is a number has a cell of its own.
@@ -164,7 +165,8 @@ pub fn loop_goes_to_its_limit()
 #[tactic(auto, using(crate::proofs::Computed::values_are_printed_sound, crate::proofs::Computed::values_are_printed_prints))]
 pub fn values_are_printed()
     ensures sound { code_fault values_print ≡ None }
-    ensures prints { Prints values_print [] 6 (signed_decimal (negsuc 0) ∷ (255 ∷ []) ∷ codes "TRUE" ∷ (10 ∷ []) ∷ []) }
+    ensures prints { Prints values_print [] 6
+        (signed_decimal (negsuc 0) ∷ (255 ∷ []) ∷ codes "TRUE" ∷ (10 ∷ []) ∷ []) }
 {}
 
 /// A quotient is rounded down, and the remainder is what it leaves.
@@ -313,8 +315,10 @@ pub fn bytes_are_read()
 #[tactic(auto, using(crate::proofs::Computed::range_leaves_input_fault, crate::proofs::Computed::range_leaves_input_position, crate::proofs::Computed::range_leaves_input_moved))]
 pub fn range_leaves_input()
     ensures fault { Ends small_read (codes "5") 2 (end.Fault fault.Range) }
-    ensures position { cell_at (state_after small_read (codes "5") 2).now 0 0 cell.Unset ≡ cell.Int (pos 0) }
-    ensures moved { cell_at (state_after small_read (codes "2") 2).now 0 0 cell.Unset ≡ cell.Int (pos 1) }
+    ensures position { cell_at (state_after small_read (codes "5") 2).now 0 0 cell.Unset
+        ≡ cell.Int (pos 0) }
+    ensures moved { cell_at (state_after small_read (codes "2") 2).now 0 0 cell.Unset
+        ≡ cell.Int (pos 1) }
 {}
 
 /// Where there is no entry for them, Finish, Keep and Cut do nothing, and an Overlay pushes its Body all the same.

@@ -31,8 +31,10 @@ fn write_parts<E: Sink>(err: &mut E, parts: &[&[u8]]) -> Result<(), WriteFault>
 
 // Writes a line of two parts.
 fn write_line<E: Sink>(err: &mut E, front: &[u8], back: &[u8]) -> Result<(), WriteFault>
-    ensures ok { OnOk result (Appends (E.written err.old) (E.written err.new) (front.now ++ (back.now ++ codes "\n"))) }
-    ensures front { OnErr result (AppendsFront (E.written err.old) (E.written err.new) (front.now ++ (back.now ++ codes "\n"))) }
+    ensures ok { OnOk result (Appends (E.written err.old) (E.written err.new)
+        (front.now ++ (back.now ++ codes "\n"))) }
+    ensures front { OnErr result (AppendsFront (E.written err.old) (E.written err.new)
+        (front.now ++ (back.now ++ codes "\n"))) }
     ensures cause { HasCause (E.faults err.old) (E.faults err.new) result }
 {
     write_parts(err, &[front, back, b"\n".as_slice()])

@@ -100,7 +100,8 @@ impl Registers {
         requires to { HasOneCell self.old.memory.now to }
         ensures ok { let s = state_of self.old in IfOk result
             (λ answer. stepped answer [] (state_of self.new)
-            ≡ place s to (λ p. position s (λ n. takes_read s range.now p (number_from input.now n)))) }
+            ≡ place s to (λ p. position s
+            (λ n. takes_read s range.now p (number_from input.now n)))) }
         ensures kept { IfOk result
             (λ answer. KeepsOn answer (state_of self.old) (state_of self.new)) }
         ensures refused { OnErr result (state_of self.new ≡ state_of self.old) }

@@ -169,7 +169,8 @@ fn op_instr(op: Op, to: u32, right: u32) -> Instr
 
 // A comparison of the numbers in two slots.
 fn emit_cmp(emit: &mut Emit, line: u32, cmp: Cmp, to: u32, other: u32) -> Result<(), NoMemory>
-    ensures puts { OnOk result (Appends emit.old emit.new (λ at lo. cmp_code line cmp to other) []) }
+    ensures puts { OnOk result (Appends emit.old emit.new
+        (λ at lo. cmp_code line cmp to other) []) }
     ensures few { OnOk result (emitted_count emit.new ≤ emitted_count emit.old + 2) }
 {
     match cmp {

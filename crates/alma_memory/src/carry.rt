@@ -102,7 +102,8 @@ impl Carry {
     ) -> Result<(), NoMemory>
         requires empty { had.old.items ≡ [] }
         requires room { length changes.now ≤ vec_capacity had.old }
-        ensures carry { self.new ≡ with_changes (carry_of_entries (take (vec_len had.new) changes.now))
+        ensures carry { self.new ≡ with_changes
+            (carry_of_entries (take (vec_len had.new) changes.now))
             self.old }
         ensures had { had.new.items ≡ cells_before_setting
             (take (vec_len had.new) changes.now) self.old }

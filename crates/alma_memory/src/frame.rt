@@ -25,7 +25,13 @@ impl Model for Frame {
 
     ghost Value = { PlainFrame };
 
-    ghost view = { λ f. record { routine = f.routine; back = f.back; declared = f.declared; kinds = f.kinds.items; cells = f.cells.items } };
+    ghost view = { λ f. record {
+      routine = f.routine;
+      back = f.back;
+      declared = f.declared;
+      kinds = f.kinds.items;
+      cells = f.cells.items;
+    } };
 }
 
 impl Frame {

@@ -76,7 +76,8 @@ impl Frames {
 
     pub fn cell(&self, place: SlotPlace) -> Cell
         requires live { place.frame < length self.now }
-        requires slot_of { place.slot < length (slice_index_or self.now place.frame no_frame).cells }
+        requires slot_of { place.slot < length
+            (slice_index_or self.now place.frame no_frame).cells }
         ensures { result ≡ cell_at self.now place.frame place.slot cell.Unknown }
     {
         self.at(place.frame).cell(place.slot)
@@ -103,7 +104,8 @@ impl Frames {
 
     pub fn write(&mut self, place: SlotPlace, cell: Cell)
         requires live { place.frame < length self.old }
-        requires slot_of { place.slot < length (slice_index_or self.old place.frame no_frame).cells }
+        requires slot_of { place.slot < length
+            (slice_index_or self.old place.frame no_frame).cells }
         ensures { self.new ≡ frames_with_cell self.old place.frame place.slot cell }
     {
         let changed = &mut self.list[place.frame as usize];

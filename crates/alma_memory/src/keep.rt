@@ -40,7 +40,8 @@ fn gain(
 ) -> Result<(), NoMemory>
     requires { at < length entries.old.items }
     ensures items { entries.new.items ≡ (if is_ok result then set entries.old.items at
-        (entry_with_changes (slice_index_or entries.old.items at no_saved) (carry_of_entries changes.now))
+        (entry_with_changes (slice_index_or entries.old.items at no_saved)
+        (carry_of_entries changes.now))
         else entries.old.items) }
     ensures rising { OnOk result (IsRising (slice_index_or entries.old.items at no_saved).carry) }
     ensures len { vec_len entries.new ≡ vec_len entries.old }
@@ -62,7 +63,8 @@ pub fn keep_top(
     requires low { 1 ≤ height }
     requires below { height < length entries.old.items }
     ensures held { held_of trail.now frames.now entries.new.items
-        ≡ (if is_ok result then held_after_keep (held_of trail.now frames.now entries.old.items) height
+        ≡ (if is_ok result then held_after_keep
+        (held_of trail.now frames.now entries.old.items) height
         frames.now else held_of trail.now frames.now entries.old.items) }
     ensures trailed { IsTrailed entries.new.items trail.now frames.now }
     ensures len { vec_len entries.new ≤ vec_len entries.old }

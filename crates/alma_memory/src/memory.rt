@@ -165,7 +165,8 @@ impl Memory {
     pub fn write(&mut self, frame: u32, slot: u32, cell: Cell) -> Result<(), NoMemory>
         requires live { frame < length self.old.now }
         requires slot_of { slot < length (slice_index_or self.old.now frame no_frame).cells }
-        ensures now { self.new.now ≡ (if is_ok result then frames_with_cell self.old.now frame slot cell else
+        ensures now { self.new.now ≡ (if is_ok result then frames_with_cell self.old.now frame
+            slot cell else
             self.old.now) }
         ensures held { self.new.held ≡ self.old.held }
         ensures succeeds { 1 ≤ self.old.trail_room → IsOk result }
@@ -360,7 +361,8 @@ impl Memory {
         requires forall { IsForallAt self.old.held height }
         requires below { height < length self.old.held }
         ensures now { self.new.now ≡ self.old.now }
-        ensures held { self.new.held ≡ (if is_ok result then held_after_keep self.old.held height self.old.now
+        ensures held { self.new.held ≡ (if is_ok result then held_after_keep self.old.held height
+            self.old.now
             else self.old.held) }
         ensures rooms { KeepsRooms self.old self.new }
         ensures call { Makes (if is_ok result then Keep height else Nothing) self.old self.new }

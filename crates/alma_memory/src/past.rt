@@ -134,7 +134,8 @@ impl<'a> Past<'a> {
     ) -> Result<(), NoMemory>
         requires before { AreWhole self.now.before }
         requires now { AreWhole self.now.now }
-        ensures { IfOk result (λ _. carry_of_entries found.new.items ≡ carry_of_entries found.old.items
+        ensures { IfOk result (λ _. carry_of_entries found.new.items
+            ≡ carry_of_entries found.old.items
             ++ diff_at self.now.before self.now.now place.frame place.slot) }
     {
         if let Some(cell) = changed_to(self.number(place), self.frames.number(place)) {
@@ -152,7 +153,8 @@ impl<'a> Past<'a> {
     ) -> Result<(), NoMemory>
         requires before { AreWhole self.now.before }
         requires now { AreWhole self.now.now }
-        ensures { IfOk result (λ _. carry_of_entries found.new.items ≡ carry_of_entries found.old.items
+        ensures { IfOk result (λ _. carry_of_entries found.new.items
+            ≡ carry_of_entries found.old.items
             ++ slot_diffs self.now.before self.now.now frame slots) }
     {
         for slot in 0..slots {
@@ -181,7 +183,8 @@ impl<'a> Past<'a> {
         requires now { AreWhole self.now.now }
         requires live { low + count ≤ length self.now.now }
         requires few { length self.now.now ≤ frame_limit }
-        ensures { IfOk result (λ _. carry_of_entries found.new.items ≡ carry_of_entries found.old.items
+        ensures { IfOk result (λ _. carry_of_entries found.new.items
+            ≡ carry_of_entries found.old.items
             ++ diffs_between self.now.before self.now.now low count) }
     {
         for at in 0..count {
@@ -199,7 +202,8 @@ impl<'a> Past<'a> {
     ) -> Result<(), NoMemory>
         requires before { AreWhole self.now.before }
         requires now { AreWhole self.now.now }
-        ensures { IfOk result (λ _. carry_of_entries found.new.items ≡ carry_of_entries found.old.items
+        ensures { IfOk result (λ _. carry_of_entries found.new.items
+            ≡ carry_of_entries found.old.items
             ++ diffs_at self.now.before self.now.now places.now) }
     {
         for (place, _) in &places.cells {

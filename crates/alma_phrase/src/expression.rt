@@ -30,7 +30,8 @@ pub fn expr<'t, 's>(
     at: Cursor<'t, 's>,
     depth: u32,
 ) -> Result<(Expr, Cursor<'t, 's>), Fault<'t, 's>>
-    ensures read { MatchResult result (λ t. Reads (spell_expr (view_expr t.0)) (number_expr t.0) expr_parts depth depth (position_of at.entry) (position_of t.1))
+    ensures read { MatchResult result (λ t. Reads (spell_expr (view_expr t.0))
+        (number_expr t.0) expr_parts depth depth (position_of at.entry) (position_of t.1))
         (λ e. Fails e expr_parts depth (position_of at.entry)) }
 {
     let (left, at) = simple(alloc, at, depth)?;
@@ -46,8 +47,10 @@ fn expr_from<'t, 's>(
     depth: u32,
 ) -> Result<(Expr, Cursor<'t, 's>), Fault<'t, 's>>
     ensures read { MatchResult result
-        (λ t. Extends (spell_simple (view_simple left)) (number_simple left) (λ o. compared_part ∷ o)
-        (spell_expr (view_expr t.0)) (number_expr t.0) depth (position_of at.entry) (position_of t.1))
+        (λ t. Extends (spell_simple (view_simple left)) (number_simple left)
+        (λ o. compared_part ∷ o)
+        (spell_expr (view_expr t.0)) (number_expr t.0) depth (position_of at.entry)
+        (position_of t.1))
         (λ e. Fails e (λ o. compared_part ∷ o) depth (position_of at.entry)) }
 {
     let ((right, node), at) = numbered(compared(alloc, at, depth))?;
@@ -61,7 +64,8 @@ fn compared<'t, 's>(
     depth: u32,
 ) -> Result<(Option<Box<Compared>>, Cursor<'t, 's>), Fault<'t, 's>>
     ensures read { MatchResult result
-        (λ t. Reads (spell_compared (compared_of t.0)) (numbers_of_compared t.0) (λ o. compared_part ∷ o) depth depth (position_of at.entry) (position_of t.1))
+        (λ t. Reads (spell_compared (compared_of t.0)) (numbers_of_compared t.0)
+        (λ o. compared_part ∷ o) depth depth (position_of at.entry) (position_of t.1))
         (λ e. Fails e (λ o. compared_part ∷ o) depth (position_of at.entry)) }
 {
     let Some((relation, at)) = at.relation() else {
@@ -78,7 +82,8 @@ fn simple<'t, 's>(
     at: Cursor<'t, 's>,
     depth: u32,
 ) -> Result<(Simple, Cursor<'t, 's>), Fault<'t, 's>>
-    ensures read { MatchResult result (λ t. Reads (spell_simple (view_simple t.0)) (number_simple t.0) simple_parts depth depth (position_of at.entry) (position_of t.1))
+    ensures read { MatchResult result (λ t. Reads (spell_simple (view_simple t.0))
+        (number_simple t.0) simple_parts depth depth (position_of at.entry) (position_of t.1))
         (λ e. Fails e simple_parts depth (position_of at.entry)) }
 {
     let (sign, at) = at.sign();
@@ -97,7 +102,8 @@ fn simple_from<'t, 's>(
 ) -> Result<(Simple, Cursor<'t, 's>), Fault<'t, 's>>
     ensures read { MatchResult result
         (λ t. Extends (spell_signed sign first) (number_signed sign first) (λ o. term_tail ∷ o)
-        (spell_simple (view_simple t.0)) (number_simple t.0) depth (position_of at.entry) (position_of t.1))
+        (spell_simple (view_simple t.0)) (number_simple t.0) depth (position_of at.entry)
+        (position_of t.1))
         (λ e. Fails e (λ o. term_tail ∷ o) depth (position_of at.entry)) }
 {
     let ((more, node), at) = numbered(terms(alloc, at, depth))?;
@@ -120,7 +126,8 @@ fn terms<'t, 's>(
     depth: u32,
 ) -> Result<(Vec<AddLink>, Cursor<'t, 's>), Fault<'t, 's>>
     ensures read { MatchResult result
-        (λ t. Reads (spell_term_tail (terms_of t.0.items)) (numbers_of_terms t.0.items) (λ o. term_tail ∷ o) depth depth (position_of at.entry) (position_of t.1))
+        (λ t. Reads (spell_term_tail (terms_of t.0.items)) (numbers_of_terms t.0.items)
+        (λ o. term_tail ∷ o) depth depth (position_of at.entry) (position_of t.1))
         (λ e. Fails e (λ o. term_tail ∷ o) depth (position_of at.entry)) }
 {
     let mut more = Vec::new(alloc);
@@ -138,7 +145,8 @@ fn term<'t, 's>(
     at: Cursor<'t, 's>,
     depth: u32,
 ) -> Result<(Term, Cursor<'t, 's>), Fault<'t, 's>>
-    ensures read { MatchResult result (λ t. Reads (spell_term (view_term t.0)) (number_term t.0) term_parts depth depth (position_of at.entry) (position_of t.1))
+    ensures read { MatchResult result (λ t. Reads (spell_term (view_term t.0))
+        (number_term t.0) term_parts depth depth (position_of at.entry) (position_of t.1))
         (λ e. Fails e term_parts depth (position_of at.entry)) }
 {
     let (first, at) = factor(alloc, at, depth)?;
@@ -154,8 +162,10 @@ fn term_from<'t, 's>(
     depth: u32,
 ) -> Result<(Term, Cursor<'t, 's>), Fault<'t, 's>>
     ensures read { MatchResult result
-        (λ t. Extends (spell_factor (view_factor first)) (number_factor first) (λ o. factor_tail ∷ o)
-        (spell_term (view_term t.0)) (number_term t.0) depth (position_of at.entry) (position_of t.1))
+        (λ t. Extends (spell_factor (view_factor first)) (number_factor first)
+        (λ o. factor_tail ∷ o)
+        (spell_term (view_term t.0)) (number_term t.0) depth (position_of at.entry)
+        (position_of t.1))
         (λ e. Fails e (λ o. factor_tail ∷ o) depth (position_of at.entry)) }
 {
     let ((more, node), at) = numbered(factors(alloc, at, depth))?;
@@ -169,7 +179,8 @@ fn factors<'t, 's>(
     depth: u32,
 ) -> Result<(Vec<MulLink>, Cursor<'t, 's>), Fault<'t, 's>>
     ensures read { MatchResult result
-        (λ t. Reads (spell_factor_tail (factors_of t.0.items)) (numbers_of_factors t.0.items) (λ o. factor_tail ∷ o) depth depth (position_of at.entry) (position_of t.1))
+        (λ t. Reads (spell_factor_tail (factors_of t.0.items)) (numbers_of_factors t.0.items)
+        (λ o. factor_tail ∷ o) depth depth (position_of at.entry) (position_of t.1))
         (λ e. Fails e (λ o. factor_tail ∷ o) depth (position_of at.entry)) }
 {
     let mut more = Vec::new(alloc);
@@ -188,7 +199,8 @@ fn factor<'t, 's>(
     depth: u32,
 ) -> Result<(Factor, Cursor<'t, 's>), Fault<'t, 's>>
     ensures read { MatchResult result
-        (λ t. Reads (spell_factor (view_factor t.0)) (number_factor t.0) (λ o. factor_part ∷ o) depth depth (position_of at.entry) (position_of t.1))
+        (λ t. Reads (spell_factor (view_factor t.0)) (number_factor t.0)
+        (λ o. factor_part ∷ o) depth depth (position_of at.entry) (position_of t.1))
         (λ e. Fails e (λ o. factor_part ∷ o) depth (position_of at.entry)) }
 {
     if let Some(after) = at.skip(Kind::Not) {
@@ -208,7 +220,8 @@ fn primary<'t, 's>(
     depth: u32,
 ) -> Result<(Primary, Cursor<'t, 's>), Fault<'t, 's>>
     ensures read { MatchResult result
-        (λ t. Reads (spell_primary (view_primary t.0)) (number_primary t.0) (λ o. primary_part ∷ o) depth depth (position_of at.entry) (position_of t.1))
+        (λ t. Reads (spell_primary (view_primary t.0)) (number_primary t.0)
+        (λ o. primary_part ∷ o) depth depth (position_of at.entry) (position_of t.1))
         (λ e. Fails e (λ o. primary_part ∷ o) depth (position_of at.entry)) }
 {
     match at.primary_form()? {
@@ -227,7 +240,8 @@ fn primary<'t, 's>(
 
 fn number<'t, 's>(at: Cursor<'t, 's>) -> Result<(Primary, Cursor<'t, 's>), Fault<'t, 's>>
     ensures read { MatchResult result
-        (λ t. (d : ℕ) → Reads (spell_primary (view_primary t.0)) (number_primary t.0) (λ o. one kinds.Number ∷ o) d d (position_of at.entry) (position_of t.1))
+        (λ t. (d : ℕ) → Reads (spell_primary (view_primary t.0)) (number_primary t.0)
+        (λ o. one kinds.Number ∷ o) d d (position_of at.entry) (position_of t.1))
         (λ e. (d : ℕ) → Fails e (λ o. one kinds.Number ∷ o) d (position_of at.entry)) }
 {
     let after = at.expect(Kind::Number)?;
@@ -243,7 +257,8 @@ fn number<'t, 's>(at: Cursor<'t, 's>) -> Result<(Primary, Cursor<'t, 's>), Fault
 
 fn literal<'t, 's>(at: Cursor<'t, 's>) -> Result<(Primary, Cursor<'t, 's>), Fault<'t, 's>>
     ensures read { MatchResult result
-        (λ t. (d : ℕ) → Reads (spell_primary (view_primary t.0)) (number_primary t.0) (λ o. one kinds.Literal ∷ o) d d (position_of at.entry) (position_of t.1))
+        (λ t. (d : ℕ) → Reads (spell_primary (view_primary t.0)) (number_primary t.0)
+        (λ o. one kinds.Literal ∷ o) d d (position_of at.entry) (position_of t.1))
         (λ e. (d : ℕ) → Fails e (λ o. one kinds.Literal ∷ o) d (position_of at.entry)) }
 {
     let after = at.expect(Kind::Literal)?;
@@ -267,7 +282,8 @@ fn named<'t, 's>(
 ) -> Result<(Primary, Cursor<'t, 's>), Fault<'t, 's>>
     ensures read { MatchResult result
         (λ t. Extends (spell_desig (view_desig desig)) (number_desig desig) (λ o. args_part ∷ o)
-        (spell_primary (view_primary t.0)) (number_primary t.0) depth (position_of at.entry) (position_of t.1))
+        (spell_primary (view_primary t.0)) (number_primary t.0) depth (position_of at.entry)
+        (position_of t.1))
         (λ e. Fails e (λ o. args_part ∷ o) depth (position_of at.entry)) }
 {
     let (args, at) = args(alloc, at, depth)?;
@@ -281,7 +297,8 @@ fn paren<'t, 's>(
     at: Cursor<'t, 's>,
     depth: u32,
 ) -> Result<(Primary, Cursor<'t, 's>), Fault<'t, 's>>
-    ensures read { MatchResult result (λ t. Reads (spell_primary (view_primary t.0)) (number_primary t.0) paren_parts depth depth (position_of at.entry) (position_of t.1))
+    ensures read { MatchResult result (λ t. Reads (spell_primary (view_primary t.0))
+        (number_primary t.0) paren_parts depth depth (position_of at.entry) (position_of t.1))
         (λ e. Fails e paren_parts depth (position_of at.entry)) }
 {
     let (at, inner) = at.open(Kind::OpenParen, depth)?;
@@ -296,7 +313,8 @@ fn known<'t, 's>(
     at: Cursor<'t, 's>,
     depth: u32,
 ) -> Result<(Primary, Cursor<'t, 's>), Fault<'t, 's>>
-    ensures read { MatchResult result (λ t. Reads (spell_primary (view_primary t.0)) (number_primary t.0) known_parts depth depth (position_of at.entry) (position_of t.1))
+    ensures read { MatchResult result (λ t. Reads (spell_primary (view_primary t.0))
+        (number_primary t.0) known_parts depth depth (position_of at.entry) (position_of t.1))
         (λ e. Fails e known_parts depth (position_of at.entry)) }
 {
     let at = at.expect(Kind::Known)?;
@@ -311,7 +329,8 @@ fn ord<'t, 's>(
     at: Cursor<'t, 's>,
     depth: u32,
 ) -> Result<(Primary, Cursor<'t, 's>), Fault<'t, 's>>
-    ensures read { MatchResult result (λ t. Reads (spell_primary (view_primary t.0)) (number_primary t.0) ord_parts depth depth (position_of at.entry) (position_of t.1))
+    ensures read { MatchResult result (λ t. Reads (spell_primary (view_primary t.0))
+        (number_primary t.0) ord_parts depth depth (position_of at.entry) (position_of t.1))
         (λ e. Fails e ord_parts depth (position_of at.entry)) }
 {
     let at = at.expect(Kind::Ord)?;
@@ -327,7 +346,8 @@ fn chr<'t, 's>(
     at: Cursor<'t, 's>,
     depth: u32,
 ) -> Result<(Primary, Cursor<'t, 's>), Fault<'t, 's>>
-    ensures read { MatchResult result (λ t. Reads (spell_primary (view_primary t.0)) (number_primary t.0) chr_parts depth depth (position_of at.entry) (position_of t.1))
+    ensures read { MatchResult result (λ t. Reads (spell_primary (view_primary t.0))
+        (number_primary t.0) chr_parts depth depth (position_of at.entry) (position_of t.1))
         (λ e. Fails e chr_parts depth (position_of at.entry)) }
 {
     let at = at.expect(Kind::Chr)?;
@@ -343,7 +363,8 @@ pub fn args<'t, 's>(
     at: Cursor<'t, 's>,
     depth: u32,
 ) -> Result<(Option<Args>, Cursor<'t, 's>), Fault<'t, 's>>
-    ensures read { MatchResult result (λ t. Reads (spell_args (args_of t.0)) (numbers_of_args t.0) (λ o. args_part ∷ o) depth depth (position_of at.entry) (position_of t.1))
+    ensures read { MatchResult result (λ t. Reads (spell_args (args_of t.0)) (numbers_of_args t.0)
+        (λ o. args_part ∷ o) depth depth (position_of at.entry) (position_of t.1))
         (λ e. Fails e (λ o. args_part ∷ o) depth (position_of at.entry)) }
 {
     if at.is_at(Kind::OpenParen) {
@@ -362,7 +383,8 @@ fn args_values<'t, 's>(
     depth: u32,
 ) -> Result<(Option<Exprs>, Cursor<'t, 's>), Fault<'t, 's>>
     ensures read { MatchResult result
-        (λ t. Reads (spell_inside_args (inside_of t.0)) (number_inside_args t.0) (λ o. args_inside ∷ o) depth (pred depth) (position_of at.entry) (position_of t.1))
+        (λ t. Reads (spell_inside_args (inside_of t.0)) (number_inside_args t.0)
+        (λ o. args_inside ∷ o) depth (pred depth) (position_of at.entry) (position_of t.1))
         (λ e. Fails e (λ o. args_inside ∷ o) depth (position_of at.entry)) }
 {
     if let Some(after) = at.skip(Kind::CloseParen) {
@@ -378,7 +400,8 @@ pub fn exprs<'t, 's>(
     at: Cursor<'t, 's>,
     depth: u32,
 ) -> Result<(Exprs, Cursor<'t, 's>), Fault<'t, 's>>
-    ensures read { MatchResult result (λ t. Reads (spell_exprs (view_exprs t.0)) (number_exprs t.0) exprs_parts depth depth (position_of at.entry) (position_of t.1))
+    ensures read { MatchResult result (λ t. Reads (spell_exprs (view_exprs t.0))
+        (number_exprs t.0) exprs_parts depth depth (position_of at.entry) (position_of t.1))
         (λ e. Fails e exprs_parts depth (position_of at.entry)) }
 {
     let (first, at) = expr(alloc, at, depth)?;
@@ -394,7 +417,8 @@ fn expr_list<'t, 's>(
     depth: u32,
 ) -> Result<(Vec<Expr>, Cursor<'t, 's>), Fault<'t, 's>>
     ensures read { MatchResult result
-        (λ t. Reads (spell_expr_tail (exprs_of t.0.items)) (numbers_of_exprs t.0.items) (λ o. expr_tail ∷ o) depth depth (position_of at.entry) (position_of t.1))
+        (λ t. Reads (spell_expr_tail (exprs_of t.0.items)) (numbers_of_exprs t.0.items)
+        (λ o. expr_tail ∷ o) depth depth (position_of at.entry) (position_of t.1))
         (λ e. Fails e (λ o. expr_tail ∷ o) depth (position_of at.entry)) }
 {
     let mut more = Vec::new(alloc);
@@ -412,7 +436,8 @@ pub fn desig<'t, 's>(
     at: Cursor<'t, 's>,
     depth: u32,
 ) -> Result<(Desig, Cursor<'t, 's>), Fault<'t, 's>>
-    ensures read { MatchResult result (λ t. Reads (spell_desig (view_desig t.0)) (number_desig t.0) desig_parts depth depth (position_of at.entry) (position_of t.1))
+    ensures read { MatchResult result (λ t. Reads (spell_desig (view_desig t.0))
+        (number_desig t.0) desig_parts depth depth (position_of at.entry) (position_of t.1))
         (λ e. Fails e desig_parts depth (position_of at.entry)) }
 {
     let (name, at) = at.name()?;
@@ -448,9 +473,11 @@ fn selector<'t, 's>(
     depth: u32,
 ) -> Result<(Selector, Cursor<'t, 's>), Fault<'t, 's>>
     ensures read { MatchResult result
-        (λ t. Reads (spell_selector (view_selector t.0)) (number_selector t.0) (selector_form_parts form) depth depth (position_of at.entry) (position_of t.1))
+        (λ t. Reads (spell_selector (view_selector t.0)) (number_selector t.0)
+        (selector_form_parts form) depth depth (position_of at.entry) (position_of t.1))
         (λ e. Fails e (selector_form_parts form) depth (position_of at.entry)) }
-    ensures shorter { IfOk result (λ t. length (position_of t.1).kinds < length (position_of at.entry).kinds) }
+    ensures shorter { IfOk result (λ t. length (position_of t.1).kinds
+        < length (position_of at.entry).kinds) }
 {
     match form {
         SelectorForm::Field => field(at),
@@ -460,9 +487,11 @@ fn selector<'t, 's>(
 
 fn field<'t, 's>(at: Cursor<'t, 's>) -> Result<(Selector, Cursor<'t, 's>), Fault<'t, 's>>
     ensures read { MatchResult result
-        (λ t. (d : ℕ) → Reads (spell_selector (view_selector t.0)) (number_selector t.0) field_parts d d (position_of at.entry) (position_of t.1))
+        (λ t. (d : ℕ) → Reads (spell_selector (view_selector t.0))
+        (number_selector t.0) field_parts d d (position_of at.entry) (position_of t.1))
         (λ e. (d : ℕ) → Fails e field_parts d (position_of at.entry)) }
-    ensures shorter { IfOk result (λ t. length (position_of t.1).kinds < length (position_of at.entry).kinds) }
+    ensures shorter { IfOk result (λ t. length (position_of t.1).kinds
+        < length (position_of at.entry).kinds) }
 {
     let at = at.expect(Kind::Dot)?;
     let (name, at) = at.name()?;
@@ -476,9 +505,11 @@ fn index<'t, 's>(
     at: Cursor<'t, 's>,
     depth: u32,
 ) -> Result<(Selector, Cursor<'t, 's>), Fault<'t, 's>>
-    ensures read { MatchResult result (λ t. Reads (spell_selector (view_selector t.0)) (number_selector t.0) index_parts depth depth (position_of at.entry) (position_of t.1))
+    ensures read { MatchResult result (λ t. Reads (spell_selector (view_selector t.0))
+        (number_selector t.0) index_parts depth depth (position_of at.entry) (position_of t.1))
         (λ e. Fails e index_parts depth (position_of at.entry)) }
-    ensures shorter { IfOk result (λ t. length (position_of t.1).kinds < length (position_of at.entry).kinds) }
+    ensures shorter { IfOk result (λ t. length (position_of t.1).kinds
+        < length (position_of at.entry).kinds) }
 {
     let (at, inner) = at.open(Kind::OpenBracket, depth)?;
     let ((indices, node), at) = numbered(followed_by(exprs(alloc, at, inner), Kind::CloseBracket))?;
@@ -494,9 +525,12 @@ pub fn desig_value<'t, 's>(
     depth: u32,
 ) -> Result<(Expr, Cursor<'t, 's>), Fault<'t, 's>>
     ensures read { MatchResult result
-        (λ t. Extends (spell_desig (view_desig desig)) (number_desig desig) (λ o. args_part ∷ factor_tail ∷ term_tail ∷ compared_part ∷ o)
-        (spell_expr (view_expr t.0)) (number_expr t.0) depth (position_of at.entry) (position_of t.1))
-        (λ e. Fails e (λ o. args_part ∷ factor_tail ∷ term_tail ∷ compared_part ∷ o) depth (position_of at.entry)) }
+        (λ t. Extends (spell_desig (view_desig desig)) (number_desig desig)
+        (λ o. args_part ∷ factor_tail ∷ term_tail ∷ compared_part ∷ o)
+        (spell_expr (view_expr t.0)) (number_expr t.0) depth (position_of at.entry)
+        (position_of t.1))
+        (λ e. Fails e (λ o. args_part ∷ factor_tail ∷ term_tail ∷ compared_part ∷ o) depth
+        (position_of at.entry)) }
 {
     let (primary, at) = named(alloc, desig, at, depth)?;
     let (node, at) = at.count()?;

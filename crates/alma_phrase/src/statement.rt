@@ -25,7 +25,8 @@ pub fn stmts<'t, 's>(
     at: Cursor<'t, 's>,
     depth: u32,
 ) -> Result<(Stmts, Cursor<'t, 's>), Fault<'t, 's>>
-    ensures read { MatchResult result (λ t. Reads (spell_stmts (view_stmts t.0)) (number_stmts t.0) stmts_parts depth depth (position_of at.entry) (position_of t.1))
+    ensures read { MatchResult result (λ t. Reads (spell_stmts (view_stmts t.0))
+        (number_stmts t.0) stmts_parts depth depth (position_of at.entry) (position_of t.1))
         (λ e. Fails e stmts_parts depth (position_of at.entry)) }
 {
     let (first, at) = stmt(alloc, at, depth)?;
@@ -41,7 +42,8 @@ fn stmt_list<'t, 's>(
     depth: u32,
 ) -> Result<(Vec<Stmt>, Cursor<'t, 's>), Fault<'t, 's>>
     ensures read { MatchResult result
-        (λ t. Reads (spell_stmt_tail (stmts_of t.0.items)) (numbers_of_stmts t.0.items) (λ o. stmt_tail ∷ o) depth depth (position_of at.entry) (position_of t.1))
+        (λ t. Reads (spell_stmt_tail (stmts_of t.0.items)) (numbers_of_stmts t.0.items)
+        (λ o. stmt_tail ∷ o) depth depth (position_of at.entry) (position_of t.1))
         (λ e. Fails e (λ o. stmt_tail ∷ o) depth (position_of at.entry)) }
 {
     let mut more = Vec::new(alloc);
@@ -59,7 +61,8 @@ fn stmt<'t, 's>(
     at: Cursor<'t, 's>,
     depth: u32,
 ) -> Result<(Stmt, Cursor<'t, 's>), Fault<'t, 's>>
-    ensures read { MatchResult result (λ t. Reads (spell_stmt (view_stmt t.0)) (number_stmt t.0) (λ o. stmt_part ∷ o) depth depth (position_of at.entry) (position_of t.1))
+    ensures read { MatchResult result (λ t. Reads (spell_stmt (view_stmt t.0)) (number_stmt t.0)
+        (λ o. stmt_part ∷ o) depth depth (position_of at.entry) (position_of t.1))
         (λ e. Fails e (λ o. stmt_part ∷ o) depth (position_of at.entry)) }
 {
     match at.stmt_form() {
@@ -84,7 +87,8 @@ fn stmt<'t, 's>(
 
 fn nothing<'t, 's>(at: Cursor<'t, 's>) -> Result<(Stmt, Cursor<'t, 's>), Fault<'t, 's>>
     ensures read { MatchResult result
-        (λ t. (d : ℕ) → Reads (spell_stmt (view_stmt t.0)) (number_stmt t.0) (λ o. o) d d (position_of at.entry) (position_of t.1))
+        (λ t. (d : ℕ) → Reads (spell_stmt (view_stmt t.0)) (number_stmt t.0) (λ o. o) d d
+        (position_of at.entry) (position_of t.1))
         (λ e. (d : ℕ) → Fails e (λ o. o) d (position_of at.entry)) }
 {
     let (node, at) = at.count()?;
@@ -98,7 +102,8 @@ fn desig_stmt<'t, 's>(
     at: Cursor<'t, 's>,
     depth: u32,
 ) -> Result<(Stmt, Cursor<'t, 's>), Fault<'t, 's>>
-    ensures read { MatchResult result (λ t. Reads (spell_stmt (view_stmt t.0)) (number_stmt t.0) desig_stmt_parts depth depth (position_of at.entry) (position_of t.1))
+    ensures read { MatchResult result (λ t. Reads (spell_stmt (view_stmt t.0))
+        (number_stmt t.0) desig_stmt_parts depth depth (position_of at.entry) (position_of t.1))
         (λ e. Fails e desig_stmt_parts depth (position_of at.entry)) }
 {
     let (desig, at) = desig(alloc, at, depth)?;
@@ -119,8 +124,10 @@ fn assign<'t, 's>(
     depth: u32,
 ) -> Result<(Stmt, Cursor<'t, 's>), Fault<'t, 's>>
     ensures read { MatchResult result
-        (λ t. Extends (spell_desig (view_desig target)) (number_desig target) (λ o. one kinds.Assign ∷ expr_parts o)
-        (spell_stmt (view_stmt t.0)) (number_stmt t.0) depth (position_of at.entry) (position_of t.1))
+        (λ t. Extends (spell_desig (view_desig target)) (number_desig target)
+        (λ o. one kinds.Assign ∷ expr_parts o)
+        (spell_stmt (view_stmt t.0)) (number_stmt t.0) depth (position_of at.entry)
+        (position_of t.1))
         (λ e. Fails e (λ o. one kinds.Assign ∷ expr_parts o) depth (position_of at.entry)) }
 {
     let at = at.expect(Kind::Assign)?;
@@ -141,7 +148,8 @@ fn value_stmt<'t, 's>(
     at: Cursor<'t, 's>,
     depth: u32,
 ) -> Result<(Stmt, Cursor<'t, 's>), Fault<'t, 's>>
-    ensures read { MatchResult result (λ t. Reads (spell_stmt (view_stmt t.0)) (number_stmt t.0) expr_parts depth depth (position_of at.entry) (position_of t.1))
+    ensures read { MatchResult result (λ t. Reads (spell_stmt (view_stmt t.0))
+        (number_stmt t.0) expr_parts depth depth (position_of at.entry) (position_of t.1))
         (λ e. Fails e expr_parts depth (position_of at.entry)) }
 {
     let ((value, node), at) = numbered(expr(alloc, at, depth))?;
@@ -154,7 +162,8 @@ fn if_stmt<'t, 's>(
     at: Cursor<'t, 's>,
     depth: u32,
 ) -> Result<(Stmt, Cursor<'t, 's>), Fault<'t, 's>>
-    ensures read { MatchResult result (λ t. Reads (spell_stmt (view_stmt t.0)) (number_stmt t.0) if_parts depth depth (position_of at.entry) (position_of t.1))
+    ensures read { MatchResult result (λ t. Reads (spell_stmt (view_stmt t.0))
+        (number_stmt t.0) if_parts depth depth (position_of at.entry) (position_of t.1))
         (λ e. Fails e if_parts depth (position_of at.entry)) }
 {
     let (at, inner) = at.open(Kind::If, depth)?;
@@ -181,7 +190,8 @@ fn elsif_list<'t, 's>(
     depth: u32,
 ) -> Result<(Vec<Elsif>, Cursor<'t, 's>), Fault<'t, 's>>
     ensures read { MatchResult result
-        (λ t. Reads (spell_elsif_tail (elsifs_of t.0.items)) (numbers_of_elsifs t.0.items) (λ o. elsif_tail ∷ o) depth depth (position_of at.entry) (position_of t.1))
+        (λ t. Reads (spell_elsif_tail (elsifs_of t.0.items)) (numbers_of_elsifs t.0.items)
+        (λ o. elsif_tail ∷ o) depth depth (position_of at.entry) (position_of t.1))
         (λ e. Fails e (λ o. elsif_tail ∷ o) depth (position_of at.entry)) }
 {
     let mut more = Vec::new(alloc);
@@ -201,7 +211,8 @@ fn otherwise<'t, 's>(
     at: Cursor<'t, 's>,
     depth: u32,
 ) -> Result<(Option<Stmts>, Cursor<'t, 's>), Fault<'t, 's>>
-    ensures read { MatchResult result (λ t. Reads (spell_else (else_of t.0)) (numbers_of_else t.0) (λ o. else_part ∷ o) depth depth (position_of at.entry) (position_of t.1))
+    ensures read { MatchResult result (λ t. Reads (spell_else (else_of t.0)) (numbers_of_else t.0)
+        (λ o. else_part ∷ o) depth depth (position_of at.entry) (position_of t.1))
         (λ e. Fails e (λ o. else_part ∷ o) depth (position_of at.entry)) }
 {
     let Some(at) = at.skip(Kind::Else) else {
@@ -217,7 +228,8 @@ fn while_stmt<'t, 's>(
     at: Cursor<'t, 's>,
     depth: u32,
 ) -> Result<(Stmt, Cursor<'t, 's>), Fault<'t, 's>>
-    ensures read { MatchResult result (λ t. Reads (spell_stmt (view_stmt t.0)) (number_stmt t.0) while_parts depth depth (position_of at.entry) (position_of t.1))
+    ensures read { MatchResult result (λ t. Reads (spell_stmt (view_stmt t.0))
+        (number_stmt t.0) while_parts depth depth (position_of at.entry) (position_of t.1))
         (λ e. Fails e while_parts depth (position_of at.entry)) }
 {
     let (at, inner) = at.open(Kind::While, depth)?;
@@ -232,7 +244,8 @@ fn repeat_stmt<'t, 's>(
     at: Cursor<'t, 's>,
     depth: u32,
 ) -> Result<(Stmt, Cursor<'t, 's>), Fault<'t, 's>>
-    ensures read { MatchResult result (λ t. Reads (spell_stmt (view_stmt t.0)) (number_stmt t.0) repeat_parts depth depth (position_of at.entry) (position_of t.1))
+    ensures read { MatchResult result (λ t. Reads (spell_stmt (view_stmt t.0))
+        (number_stmt t.0) repeat_parts depth depth (position_of at.entry) (position_of t.1))
         (λ e. Fails e repeat_parts depth (position_of at.entry)) }
 {
     let (at, inner) = at.open(Kind::Repeat, depth)?;
@@ -247,7 +260,8 @@ fn for_stmt<'t, 's>(
     at: Cursor<'t, 's>,
     depth: u32,
 ) -> Result<(Stmt, Cursor<'t, 's>), Fault<'t, 's>>
-    ensures read { MatchResult result (λ t. Reads (spell_stmt (view_stmt t.0)) (number_stmt t.0) for_parts depth depth (position_of at.entry) (position_of t.1))
+    ensures read { MatchResult result (λ t. Reads (spell_stmt (view_stmt t.0))
+        (number_stmt t.0) for_parts depth depth (position_of at.entry) (position_of t.1))
         (λ e. Fails e for_parts depth (position_of at.entry)) }
 {
     let (at, inner) = at.open(Kind::For, depth)?;
@@ -276,7 +290,8 @@ fn step<'t, 's>(
     at: Cursor<'t, 's>,
     depth: u32,
 ) -> Result<(Option<Expr>, Cursor<'t, 's>), Fault<'t, 's>>
-    ensures read { MatchResult result (λ t. Reads (spell_by (by_of t.0)) (numbers_of_by t.0) (λ o. by_part ∷ o) depth depth (position_of at.entry) (position_of t.1))
+    ensures read { MatchResult result (λ t. Reads (spell_by (by_of t.0)) (numbers_of_by t.0)
+        (λ o. by_part ∷ o) depth depth (position_of at.entry) (position_of t.1))
         (λ e. Fails e (λ o. by_part ∷ o) depth (position_of at.entry)) }
 {
     let Some(at) = at.skip(Kind::By) else {
@@ -292,7 +307,8 @@ fn some_stmt<'t, 's>(
     at: Cursor<'t, 's>,
     depth: u32,
 ) -> Result<(Stmt, Cursor<'t, 's>), Fault<'t, 's>>
-    ensures read { MatchResult result (λ t. Reads (spell_stmt (view_stmt t.0)) (number_stmt t.0) some_parts depth depth (position_of at.entry) (position_of t.1))
+    ensures read { MatchResult result (λ t. Reads (spell_stmt (view_stmt t.0))
+        (number_stmt t.0) some_parts depth depth (position_of at.entry) (position_of t.1))
         (λ e. Fails e some_parts depth (position_of at.entry)) }
 {
     let (at, inner) = at.open(Kind::Some, depth)?;
@@ -318,7 +334,8 @@ fn case_stmt<'t, 's>(
     at: Cursor<'t, 's>,
     depth: u32,
 ) -> Result<(Stmt, Cursor<'t, 's>), Fault<'t, 's>>
-    ensures read { MatchResult result (λ t. Reads (spell_stmt (view_stmt t.0)) (number_stmt t.0) case_parts depth depth (position_of at.entry) (position_of t.1))
+    ensures read { MatchResult result (λ t. Reads (spell_stmt (view_stmt t.0))
+        (number_stmt t.0) case_parts depth depth (position_of at.entry) (position_of t.1))
         (λ e. Fails e case_parts depth (position_of at.entry)) }
 {
     let (at, inner) = at.open(Kind::Case, depth)?;
@@ -345,7 +362,8 @@ fn arm<'t, 's>(
     at: Cursor<'t, 's>,
     depth: u32,
 ) -> Result<(Arm, Cursor<'t, 's>), Fault<'t, 's>>
-    ensures read { MatchResult result (λ t. Reads (spell_arm (view_arm t.0)) (number_arm t.0) (λ o. arm_part ∷ o) depth depth (position_of at.entry) (position_of t.1))
+    ensures read { MatchResult result (λ t. Reads (spell_arm (view_arm t.0)) (number_arm t.0)
+        (λ o. arm_part ∷ o) depth depth (position_of at.entry) (position_of t.1))
         (λ e. Fails e (λ o. arm_part ∷ o) depth (position_of at.entry)) }
 {
     if at.begins_expr() {
@@ -361,7 +379,8 @@ fn labelled_arm<'t, 's>(
     at: Cursor<'t, 's>,
     depth: u32,
 ) -> Result<(Arm, Cursor<'t, 's>), Fault<'t, 's>>
-    ensures read { MatchResult result (λ t. Reads (spell_arm (view_arm t.0)) (number_arm t.0) labelled_parts depth depth (position_of at.entry) (position_of t.1))
+    ensures read { MatchResult result (λ t. Reads (spell_arm (view_arm t.0))
+        (number_arm t.0) labelled_parts depth depth (position_of at.entry) (position_of t.1))
         (λ e. Fails e labelled_parts depth (position_of at.entry)) }
 {
     let (first, at) = label(alloc, at, depth)?;
@@ -384,7 +403,8 @@ fn arm_list<'t, 's>(
     mut at: Cursor<'t, 's>,
     depth: u32,
 ) -> Result<(Vec<Arm>, Cursor<'t, 's>), Fault<'t, 's>>
-    ensures read { MatchResult result (λ t. Reads (spell_arm_tail (arms_of t.0.items)) (numbers_of_arms t.0.items)
+    ensures read { MatchResult result (λ t. Reads (spell_arm_tail (arms_of t.0.items))
+        (numbers_of_arms t.0.items)
         (λ o. arm_tail ∷ o) depth depth (position_of at.entry) (position_of t.1))
         (λ e. Fails e (λ o. arm_tail ∷ o) depth (position_of at.entry)) }
 {
@@ -403,7 +423,8 @@ fn label<'t, 's>(
     at: Cursor<'t, 's>,
     depth: u32,
 ) -> Result<(Label, Cursor<'t, 's>), Fault<'t, 's>>
-    ensures read { MatchResult result (λ t. Reads (spell_label (view_label t.0)) (number_label t.0) label_parts depth depth (position_of at.entry) (position_of t.1))
+    ensures read { MatchResult result (λ t. Reads (spell_label (view_label t.0))
+        (number_label t.0) label_parts depth depth (position_of at.entry) (position_of t.1))
         (λ e. Fails e label_parts depth (position_of at.entry)) }
 {
     let (low, at) = expr(alloc, at, depth)?;
@@ -417,7 +438,8 @@ fn high<'t, 's>(
     at: Cursor<'t, 's>,
     depth: u32,
 ) -> Result<(Option<Expr>, Cursor<'t, 's>), Fault<'t, 's>>
-    ensures read { MatchResult result (λ t. Reads (spell_high (high_of t.0)) (numbers_of_high t.0) (λ o. high_part ∷ o) depth depth (position_of at.entry) (position_of t.1))
+    ensures read { MatchResult result (λ t. Reads (spell_high (high_of t.0)) (numbers_of_high t.0)
+        (λ o. high_part ∷ o) depth depth (position_of at.entry) (position_of t.1))
         (λ e. Fails e (λ o. high_part ∷ o) depth (position_of at.entry)) }
 {
     let Some(at) = at.skip(Kind::DotDot) else {
@@ -434,7 +456,8 @@ fn label_list<'t, 's>(
     depth: u32,
 ) -> Result<(Vec<Label>, Cursor<'t, 's>), Fault<'t, 's>>
     ensures read { MatchResult result
-        (λ t. Reads (spell_label_tail (labels_of t.0.items)) (numbers_of_labels t.0.items) (λ o. label_tail ∷ o) depth depth (position_of at.entry) (position_of t.1))
+        (λ t. Reads (spell_label_tail (labels_of t.0.items)) (numbers_of_labels t.0.items)
+        (λ o. label_tail ∷ o) depth depth (position_of at.entry) (position_of t.1))
         (λ e. Fails e (λ o. label_tail ∷ o) depth (position_of at.entry)) }
 {
     let mut more = Vec::new(alloc);
@@ -452,7 +475,8 @@ fn either_stmt<'t, 's>(
     at: Cursor<'t, 's>,
     depth: u32,
 ) -> Result<(Stmt, Cursor<'t, 's>), Fault<'t, 's>>
-    ensures read { MatchResult result (λ t. Reads (spell_stmt (view_stmt t.0)) (number_stmt t.0) either_parts depth depth (position_of at.entry) (position_of t.1))
+    ensures read { MatchResult result (λ t. Reads (spell_stmt (view_stmt t.0))
+        (number_stmt t.0) either_parts depth depth (position_of at.entry) (position_of t.1))
         (λ e. Fails e either_parts depth (position_of at.entry)) }
 {
     let (at, inner) = at.open(Kind::Either, depth)?;
@@ -468,7 +492,8 @@ fn orelse_list<'t, 's>(
     depth: u32,
 ) -> Result<(Vec<Stmts>, Cursor<'t, 's>), Fault<'t, 's>>
     ensures read { MatchResult result
-        (λ t. Reads (spell_orelse_tail (orelses_of t.0.items)) (numbers_of_orelses t.0.items) (λ o. orelse_tail ∷ o) depth depth (position_of at.entry) (position_of t.1))
+        (λ t. Reads (spell_orelse_tail (orelses_of t.0.items)) (numbers_of_orelses t.0.items)
+        (λ o. orelse_tail ∷ o) depth depth (position_of at.entry) (position_of t.1))
         (λ e. Fails e (λ o. orelse_tail ∷ o) depth (position_of at.entry)) }
 {
     let mut more = Vec::new(alloc);
@@ -486,7 +511,8 @@ fn forall_stmt<'t, 's>(
     at: Cursor<'t, 's>,
     depth: u32,
 ) -> Result<(Stmt, Cursor<'t, 's>), Fault<'t, 's>>
-    ensures read { MatchResult result (λ t. Reads (spell_stmt (view_stmt t.0)) (number_stmt t.0) forall_parts depth depth (position_of at.entry) (position_of t.1))
+    ensures read { MatchResult result (λ t. Reads (spell_stmt (view_stmt t.0))
+        (number_stmt t.0) forall_parts depth depth (position_of at.entry) (position_of t.1))
         (λ e. Fails e forall_parts depth (position_of at.entry)) }
 {
     let (at, inner) = at.open(Kind::Forall, depth)?;
@@ -501,7 +527,8 @@ fn commit_stmt<'t, 's>(
     at: Cursor<'t, 's>,
     depth: u32,
 ) -> Result<(Stmt, Cursor<'t, 's>), Fault<'t, 's>>
-    ensures read { MatchResult result (λ t. Reads (spell_stmt (view_stmt t.0)) (number_stmt t.0) commit_parts depth depth (position_of at.entry) (position_of t.1))
+    ensures read { MatchResult result (λ t. Reads (spell_stmt (view_stmt t.0))
+        (number_stmt t.0) commit_parts depth depth (position_of at.entry) (position_of t.1))
         (λ e. Fails e commit_parts depth (position_of at.entry)) }
 {
     let (at, inner) = at.open(Kind::Commit, depth)?;
@@ -515,7 +542,8 @@ fn return_stmt<'t, 's>(
     at: Cursor<'t, 's>,
     depth: u32,
 ) -> Result<(Stmt, Cursor<'t, 's>), Fault<'t, 's>>
-    ensures read { MatchResult result (λ t. Reads (spell_stmt (view_stmt t.0)) (number_stmt t.0) return_parts depth depth (position_of at.entry) (position_of t.1))
+    ensures read { MatchResult result (λ t. Reads (spell_stmt (view_stmt t.0))
+        (number_stmt t.0) return_parts depth depth (position_of at.entry) (position_of t.1))
         (λ e. Fails e return_parts depth (position_of at.entry)) }
 {
     let at = at.expect(Kind::Return)?;
@@ -530,7 +558,8 @@ fn returned<'t, 's>(
     depth: u32,
 ) -> Result<(Option<Expr>, Cursor<'t, 's>), Fault<'t, 's>>
     ensures read { MatchResult result
-        (λ t. Reads (spell_returned (returned_of t.0)) (numbers_of_returned t.0) (λ o. returned_part ∷ o) depth depth (position_of at.entry) (position_of t.1))
+        (λ t. Reads (spell_returned (returned_of t.0)) (numbers_of_returned t.0)
+        (λ o. returned_part ∷ o) depth depth (position_of at.entry) (position_of t.1))
         (λ e. Fails e (λ o. returned_part ∷ o) depth (position_of at.entry)) }
 {
     if at.begins_expr() {
@@ -546,7 +575,8 @@ fn read_stmt<'t, 's>(
     at: Cursor<'t, 's>,
     depth: u32,
 ) -> Result<(Stmt, Cursor<'t, 's>), Fault<'t, 's>>
-    ensures read { MatchResult result (λ t. Reads (spell_stmt (view_stmt t.0)) (number_stmt t.0) read_parts depth depth (position_of at.entry) (position_of t.1))
+    ensures read { MatchResult result (λ t. Reads (spell_stmt (view_stmt t.0))
+        (number_stmt t.0) read_parts depth depth (position_of at.entry) (position_of t.1))
         (λ e. Fails e read_parts depth (position_of at.entry)) }
 {
     let at = at.expect(Kind::Read)?;
@@ -563,7 +593,8 @@ fn desig_list<'t, 's>(
     depth: u32,
 ) -> Result<(Vec<Desig>, Cursor<'t, 's>), Fault<'t, 's>>
     ensures read { MatchResult result
-        (λ t. Reads (spell_desig_tail (desigs_of t.0.items)) (numbers_of_desigs t.0.items) (λ o. desig_tail ∷ o) depth depth (position_of at.entry) (position_of t.1))
+        (λ t. Reads (spell_desig_tail (desigs_of t.0.items)) (numbers_of_desigs t.0.items)
+        (λ o. desig_tail ∷ o) depth depth (position_of at.entry) (position_of t.1))
         (λ e. Fails e (λ o. desig_tail ∷ o) depth (position_of at.entry)) }
 {
     let mut more = Vec::new(alloc);
@@ -581,7 +612,8 @@ fn write_stmt<'t, 's>(
     at: Cursor<'t, 's>,
     depth: u32,
 ) -> Result<(Stmt, Cursor<'t, 's>), Fault<'t, 's>>
-    ensures read { MatchResult result (λ t. Reads (spell_stmt (view_stmt t.0)) (number_stmt t.0) write_parts depth depth (position_of at.entry) (position_of t.1))
+    ensures read { MatchResult result (λ t. Reads (spell_stmt (view_stmt t.0))
+        (number_stmt t.0) write_parts depth depth (position_of at.entry) (position_of t.1))
         (λ e. Fails e write_parts depth (position_of at.entry)) }
 {
     let at = at.expect(Kind::Write)?;
@@ -596,7 +628,8 @@ fn writeln_stmt<'t, 's>(
     at: Cursor<'t, 's>,
     depth: u32,
 ) -> Result<(Stmt, Cursor<'t, 's>), Fault<'t, 's>>
-    ensures read { MatchResult result (λ t. Reads (spell_stmt (view_stmt t.0)) (number_stmt t.0) writeln_parts depth depth (position_of at.entry) (position_of t.1))
+    ensures read { MatchResult result (λ t. Reads (spell_stmt (view_stmt t.0))
+        (number_stmt t.0) writeln_parts depth depth (position_of at.entry) (position_of t.1))
         (λ e. Fails e writeln_parts depth (position_of at.entry)) }
 {
     let at = at.expect(Kind::Writeln)?;

@@ -18,7 +18,8 @@ pub fn code_has_its_lines()
 /// fault with the line of its statement.
 #[tactic(auto, using(crate::proofs::Law::code_implements))]
 pub fn code_of_a_checked_program_implements_it()
-    ensures { (p : Program) (code : PlainCode) → IsChecked p → IsOfIntegers p → IsCodeOf p code → Implements code p }
+    ensures { (p : Program) (code : PlainCode) → IsChecked p → IsOfIntegers p → IsCodeOf p code
+        → Implements code p }
 {}
 
 /// Each program has such a code.
@@ -30,5 +31,6 @@ pub fn each_program_has_a_code()
 /// The code that the templates give for a checked program has at most 16 instructions for each node of the program.
 #[tactic(auto, using(crate::proofs::Sizes::code_is_short))]
 pub fn code_of_a_checked_program_is_short()
-    ensures { (p : Program) (code : PlainCode) → IsChecked p → IsCodeOf p code → length code.instrs ≤ 16 * nodes p }
+    ensures { (p : Program) (code : PlainCode) → IsChecked p → IsCodeOf p code → length code.instrs
+        ≤ 16 * nodes p }
 {}
