@@ -1,0 +1,5 @@
+pub mod Tells
+pub mod ShapeSteps
+pub mod FieldSteps
+pub mod SubSteps
+pub mod ListedSteps

@@ -1,0 +1,3 @@
+pub mod Told
+pub mod Tables
+pub mod Fields

@@ -1,0 +1,38 @@
+-- What the tables of shapes take, and the names of an enumeration.
+use Rattle.std.specs.Global.{Global}
+use Rattle.std.specs.Prelude.{ℕ, Bool, true, false, List, [], ◌∷◌, map, slice_get, Option, None, Some, Vec}
+use Rattle.alma_names.specs.Shapes.{PlainShape, PlainField, is_index}
+use Rattle.alma_rules.specs.Numbered as tree
+use Rattle.alma_rules.specs.Types.{Formed, formed, too_large}
+
+-- a truth that a test shows
+abbrev pub Shows : Bool → Type 0 → Type 0
+Shows true P = P
+Shows false P = Unit {0}
+
+-- a shape of the table that may index an array
+abbrev pub may_index_as : Option PlainShape → Bool
+may_index_as None = false
+may_index_as (Some s) = is_index s
+
+abbrev pub may_index : List PlainShape → ℕ → Bool
+may_index t i = may_index_as (slice_get t i)
+
+-- the fields of these names with these shapes
+abbrev pub field_view : Vec ℕ Global × ℕ → PlainField
+field_view e = record { name = e.0.items; offset = 0; shape = e.1 }
+
+abbrev pub fields_view : List (Vec ℕ Global × ℕ) → List PlainField
+fields_view es = map field_view es
+
+-- ---- enumerations
+
+-- the shape, where it is not past a limit
+abbrev pub shape_of_formed : Formed → Option ℕ
+shape_of_formed (formed shape) = Some shape
+shape_of_formed too_large = None
+
+-- the token of the last of some names, or one before them
+abbrev pub last_of : ℕ → List tree.Name → ℕ
+last_of token [] = token
+last_of token (x ∷ xs) = last_of x.token xs

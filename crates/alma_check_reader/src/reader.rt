@@ -1,0 +1,105 @@
+// An environment to which declarations are added.
+ghost use Rattle.std.specs.Prelude.{◌≡◌, ◌<◌, OnOk, IfOk, length};
+ghost use Rattle.alma_names.specs.Shapes.{plain_of, NamesOnlyBelow, HasIndex, HasCount, HasBase, HasDistinctNames};
+ghost use Rattle.alma_rules.specs.Scene as scenes;
+ghost use Rattle.alma_rules.specs.Scene.{Scene};
+ghost use Rattle.alma_rules.specs.Types as types;
+ghost use Rattle.alma_rules.specs.View.{view_name};
+ghost use Rattle.alma_check_rules.specs.Views.{scene_of, somewhere};
+ghost use Rattle.alma_check_reader.specs.Told.{IsCounted, formed_of};
+
+use crate::reading::Formed;
+use alma_base::NoMemory;
+use alma_check_rules::Env;
+use alma_names::{DeclareError, Entry, Shape, ShapeError};
+use alma_tree::Name;
+use std::alloc::Global;
+use std::marker::Model;
+
+/// An environment whose names are counted, so that it is known when their numbers run out.
+#[derive(Drop)]
+pub struct Reader<'e, 's> {
+    env: Env<'e, 's>,
+    // The number of names in each block below the top one.
+    below: Vec<usize>,
+    // The number of names in the top block.
+    top: usize,
+    // The number of names in all blocks.
+    all: usize,
+}
+
+impl<'e, 's> Model for Reader<'e, 's> {
+    ghost Value = { Scene };
+
+    ghost view = { λ r. scene_of r.env somewhere };
+
+    ghost invariant = { λ r. IsCounted r.below.items r.top r.all r.env.scopes };
+}
+
+impl<'e, 's> Reader<'e, 's> {
+    /// The environment as it is.
+    pub fn env(&self) -> &Env<'e, 's>
+        ensures { scene_of result.now somewhere ≡ self.now }
+    {
+        &self.env
+    }
+
+    /// Whether a name is the first of its spelling in the text of its block.
+    pub fn is_first(&self, name: &Name) -> bool
+        ensures { result ≡ scenes.is_first self.now (view_name name.now) }
+    {
+        match self.env.declares.get(self.env.text(name.token)) {
+            Some(token) => *token == name.token,
+            None => true,
+        }
+    }
+
+    /// Declares a name in the top block, where it is the first of its spelling in the text of the block.
+    pub fn declare(
+        &mut self,
+        alloc: Global,
+        name: &Name,
+        from: u32,
+        entry: Entry,
+    ) -> Result<(), NoMemory>
+        ensures { OnOk result (self.new ≡ types.declared
+            self.old (view_name name.now) from entry) }
+    {
+        if !self.is_first(name) {
+            return Ok(());
+        }
+        if self.all > u32::MAX as usize {
+            return Err(NoMemory);
+        }
+        let text = self.env.text(name.token);
+        match self.env.scopes.declare(alloc, text, from, entry) {
+            Ok(_id) => {
+                self.top += 1;
+                self.all += 1;
+                Ok(())
+            }
+            Err(DeclareError::Twice(_)) | Err(DeclareError::Memory) => Err(NoMemory),
+        }
+    }
+
+    /// Adds a shape to the table, where it is not past a limit.
+    pub fn add(&mut self, alloc: Global, shape: Shape) -> Result<Formed, NoMemory>
+        requires names { NamesOnlyBelow (length self.old.shapes) (plain_of shape) }
+        requires index { HasIndex self.old.shapes (plain_of shape) }
+        requires count { HasCount (plain_of shape) }
+        requires base { HasBase self.old.shapes (plain_of shape) }
+        requires fields { HasDistinctNames (plain_of shape) }
+
+        ensures { IfOk result (λ f. (self.new, formed_of f) ≡ types.add_shape
+            self.old (plain_of shape)) }
+    {
+        if self.env.shapes.len() > u32::MAX as usize {
+            return Err(NoMemory);
+        }
+        match self.env.shapes.add(alloc, shape) {
+            Ok(id) => Ok(Formed::Shape(id.0)),
+            Err(ShapeError::TooLarge) => Ok(Formed::TooLarge),
+            Err(ShapeError::Memory) => Err(NoMemory),
+        }
+    }
+}

@@ -1,0 +1,98 @@
+// What is handed over at a call.
+ghost use Rattle.std.specs.Prelude.{◌≡◌, [], IfOk, OnOk};
+ghost use Rattle.alma_ir.specs.Checked.{sel_cells};
+ghost use Rattle.alma_ir.specs.View.{arg_of, args_list, desig_of, sel_of};
+ghost use Rattle.alma_templates.specs.Lined.{own};
+ghost use Rattle.alma_templates.specs.Slots.{arg_kind, call_links, desig_cells, handed_slots, shift_of};
+ghost use Rattle.alma_templates.specs.Templates.{call_link_code};
+ghost use Rattle.alma_emit_parts.specs.Front.{around, front, Adds};
+ghost use Rattle.alma_emit_parts.specs.Puts.{link_slot, first_of_call};
+
+use crate::place::put_links;
+use crate::scene::Scene;
+use crate::work::Work;
+use alma_base::NoMemory;
+use alma_code::SlotKind;
+use alma_ir::{Arg, Desig, Sel};
+
+/// The link that is handed over to a routine of level 2 or more, and its slot.
+pub fn put_call_link(
+    work: &mut Work,
+    scene: &Scene<'_>,
+    line: u32,
+    called: u32,
+    up: u32,
+) -> Result<Option<u32>, NoMemory>
+    ensures link { IfOk result (λ link. link ≡ link_slot (shift_of (around scene.now).program called)
+        up (front work.old).next) }
+    ensures puts { OnOk result (Adds (front work.old) (front work.new)
+        (λ at lo ls. own line (call_link_code (around scene.now).program (around scene.now).tables
+        (around scene.now).routine called up lo))
+        (λ ls. call_links (around scene.now).program (around scene.now).routine called up)
+        (λ ls. ls)) }
+{
+    if scene.shift(called) == 0 {
+        return Ok(None);
+    }
+    Ok(Some(put_links(work, scene, line, up)?))
+}
+
+// The cells of the place that a designator names.
+#[tactic(auto, using(crate::proofs::Calling::cells_one))]
+fn cells_of(desig: &Desig) -> u32
+    ensures { result ≡ desig_cells (desig_of desig.now) }
+{
+    let mut cells = desig.cells;
+    for sel in &desig.sels {
+        cells = part_cells(sel);
+    }
+    cells
+}
+
+// The cells of the part that a selector takes.
+#[tactic(auto, using(alma_ir::proofs::Views::viewed))]
+fn part_cells(sel: &Sel) -> u32
+    ensures { result ≡ sel_cells (sel_of sel.now) }
+{
+    match sel {
+        Sel::Field(_, cells) => *cells,
+        Sel::Index(_, _, cells) => *cells,
+    }
+}
+
+// The kind of the slot in which an argument is handed over.
+#[tactic(auto, using(alma_ir::proofs::Views::viewed))]
+fn kind_of(arg: &Arg) -> SlotKind
+    ensures { result ≡ arg_kind (arg_of arg.now) }
+{
+    match arg {
+        Arg::Value(_, _) => SlotKind::Number,
+        Arg::MixValue(_, _) => SlotKind::Number,
+        Arg::Cells(desig) => SlotKind::Place(cells_of(desig)),
+        Arg::Place(desig) => SlotKind::Place(cells_of(desig)),
+        Arg::MixPlace(desig) => SlotKind::Place(cells_of(desig)),
+    }
+}
+
+/// The slots in which the arguments are handed over; the first.
+pub fn take_handed(work: &mut Work, args: &[Arg]) -> Result<u32, NoMemory>
+    ensures first { IfOk result (λ first. first ≡ (front work.old).next) }
+    ensures puts { OnOk result (Adds (front work.old) (front work.new) (λ at lo ls. [])
+        (λ ls. handed_slots (args_list args.now)) (λ ls. ls)) }
+{
+    let first = work.next();
+    for arg in args {
+        work.slot(kind_of(arg))?;
+    }
+    Ok(first)
+}
+
+/// The slot of the first of what is handed over: the link, or the first argument, or 0 where nothing is.
+pub fn first_handed(link: Option<u32>, args: &[Arg], to: u32) -> u32
+    ensures { result ≡ first_of_call link (args_list args.now) to }
+{
+    match link {
+        Some(slot) => slot,
+        None => { if args.is_empty() { 0 } else { to } }
+    }
+}

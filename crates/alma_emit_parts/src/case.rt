@@ -1,0 +1,107 @@
+// The labels of an arm of CASE.
+ghost use Rattle.std.specs.Prelude.{◌≡◌, ◌+◌, ◌∷◌, [], IfOk, OnOk, length};
+ghost use Rattle.alma_code.specs.declared.cell.SlotKind.TheVariants as slot;
+ghost use Rattle.alma_choice.specs.Emitted.{aimed};
+ghost use Rattle.alma_templates.specs.Lined.{own};
+ghost use Rattle.alma_templates.specs.Pieces as pieces;
+ghost use Rattle.alma_emit_parts.specs.Front.{front, Adds, Codes, Holes};
+
+use crate::work::Work;
+use alma_base::{NoMemory, Range};
+use alma_code::{Instr, SlotKind};
+
+/// What the labels of an arm need: the slot of the value, and two slots for the ends of a label and for the test of one.
+#[derive(Clone, Copy)]
+pub struct Labels {
+    pub value: u32,
+    pub bound: u32,
+    pub test: u32,
+}
+
+/// The two jumps of the last label, which are to be aimed where the number lies in none.
+#[derive(Clone, Copy)]
+pub struct Miss {
+    pub low: u32,
+    pub high: u32,
+}
+
+/// The two slots for the labels of a CASE.
+pub fn take_labels(work: &mut Work, value: u32) -> Result<Labels, NoMemory>
+    ensures value { IfOk result (λ labels. labels.value ≡ value) }
+    ensures bound { IfOk result (λ labels. labels.bound ≡ (front work.old).next) }
+    ensures test { IfOk result (λ labels. labels.test ≡ labels.bound + 1) }
+    ensures puts { OnOk result (Adds (front work.old) (front work.new) (λ at lo ls. [])
+        (λ ls. slot.Number ∷ slot.Number ∷ []) (λ ls. ls)) }
+{
+    let bound = work.slot(SlotKind::Number)?;
+    let test = work.slot(SlotKind::Number)?;
+    Ok(Labels { value, bound, test })
+}
+
+/// A label that is the last of its arm: the code goes on where the number lies in it, and else by one of two jumps.
+pub fn put_last_label(
+    work: &mut Work,
+    line: u32,
+    labels: Labels,
+    label: Range,
+) -> Result<Miss, NoMemory>
+    ensures { labels.test ≡ labels.bound + 1 → IfOk result (λ miss. Holes (front work.old)
+        (front work.new) (λ to xs. aimed (aimed xs miss.low to) miss.high to)
+        (λ none at lo ls. own line (pieces.last_label_code labels.value labels.bound none label))
+        (λ ls. []) (λ ls. ls)) }
+{
+    let Labels { value, bound, test } = labels;
+    work.put(
+        line,
+        Instr::Const {
+            to: bound,
+            value: label.low,
+        },
+    )?;
+    work.put(
+        line,
+        Instr::LessEq {
+            to: test,
+            left: bound,
+            right: value,
+        },
+    )?;
+    let low = work.put(line, Instr::JumpZero { value: test, to: 0 })?;
+    work.put(
+        line,
+        Instr::Const {
+            to: bound,
+            value: label.high,
+        },
+    )?;
+    work.put(
+        line,
+        Instr::LessEq {
+            to: test,
+            left: value,
+            right: bound,
+        },
+    )?;
+    let high = work.put(line, Instr::JumpZero { value: test, to: 0 })?;
+    Ok(Miss { low, high })
+}
+
+/// A label that is not the last of its arm: goes to `hit` where the number lies in it, else on behind.
+pub fn put_label(
+    work: &mut Work,
+    line: u32,
+    labels: Labels,
+    hit: u32,
+    label: Range,
+) -> Result<(), NoMemory>
+    ensures { labels.test ≡ labels.bound + 1 → OnOk result (Codes (front work.old) (front work.new)
+        (own line (pieces.label_code labels.value labels.bound (length (front work.old).code) hit
+        label))) }
+{
+    let miss = put_last_label(work, line, labels, label)?;
+    let behind = work.behind(1)?;
+    work.aim(miss.low, behind);
+    work.aim(miss.high, behind);
+    work.put(line, Instr::Jump { to: hit })?;
+    Ok(())
+}

@@ -1,0 +1,64 @@
+// The pieces of choices.
+ghost use Rattle.std.specs.Prelude.{◌≡◌, ◌∷◌, [], IfOk, OnOk};
+ghost use Rattle.alma_code.specs.declared.cell.SlotKind.TheVariants as slot;
+ghost use Rattle.alma_choice.specs.Emitted.{aimed};
+ghost use Rattle.alma_templates.specs.Pieces as pieces;
+ghost use Rattle.alma_emit_parts.specs.Front.{front, Holes, EndsEach, EndsForall};
+
+use crate::work::Work;
+use alma_base::NoMemory;
+
+/// The front of a phrase of which the first alternative is taken: its mark, and the choice that is to be aimed.
+#[tactic(auto, unfolding(crate::specs::Front::front))]
+pub fn begin_first(work: &mut Work, line: u32) -> Result<(u32, u32), NoMemory>
+    ensures mark { IfOk result (λ r. r.0 ≡ (front work.old).next) }
+    ensures holes { IfOk result (λ r. Holes (front work.old) (front work.new)
+        (λ to xs. aimed xs r.1 to) (λ none at lo ls. pieces.begin_first line lo none)
+        (λ ls. slot.Mark ∷ []) (λ ls. ls)) }
+{
+    work.emit.begin_first(line)
+}
+
+/// The front of FORALL: its mark, and its address, which is to be aimed.
+#[tactic(auto, unfolding(crate::specs::Front::front))]
+pub fn begin_forall(work: &mut Work, line: u32) -> Result<(u32, u32), NoMemory>
+    ensures mark { IfOk result (λ r. r.0 ≡ (front work.old).next) }
+    ensures holes { IfOk result (λ r. Holes (front work.old) (front work.new)
+        (λ to xs. aimed xs r.1 to) (λ none at lo ls. pieces.begin_forall line lo none)
+        (λ ls. slot.Mark ∷ []) (λ ls. ls)) }
+{
+    work.emit.begin_forall(line)
+}
+
+/// What goes between the parts of FORALL: the mark of the body, and the overlay that is to be aimed.
+#[tactic(auto, unfolding(crate::specs::Front::front))]
+pub fn begin_each(work: &mut Work, line: u32, mark: u32) -> Result<(u32, u32), NoMemory>
+    ensures mark { IfOk result (λ r. r.0 ≡ (front work.old).next) }
+    ensures holes { IfOk result (λ r. Holes (front work.old) (front work.new)
+        (λ to xs. aimed xs r.1 to) (λ none at lo ls. pieces.begin_each line mark lo none)
+        (λ ls. slot.Mark ∷ []) (λ ls. ls)) }
+{
+    work.emit.begin_each(line, mark)
+}
+
+/// Behind the body of FORALL, where the overlay is aimed.
+#[tactic(auto, unfolding(crate::specs::Front::front))]
+pub fn end_each(
+    work: &mut Work,
+    line: u32,
+    mark: u32,
+    inner: u32,
+    overlay: u32,
+) -> Result<(), NoMemory>
+    ensures { OnOk result (EndsEach (front work.old) (front work.new) line mark inner overlay) }
+{
+    work.emit.end_each(line, mark, inner, overlay)
+}
+
+/// Behind FORALL, where it is aimed itself.
+#[tactic(auto, unfolding(crate::specs::Front::front))]
+pub fn end_forall(work: &mut Work, line: u32, forall: u32) -> Result<(), NoMemory>
+    ensures { OnOk result (EndsForall (front work.old) (front work.new) line forall) }
+{
+    work.emit.end_forall(line, forall)
+}

@@ -1,0 +1,4 @@
+pub mod NumberLemmas
+pub mod NameLemmas
+pub mod SettingLemmas
+pub mod WordLemmas

@@ -1,0 +1,4 @@
+-- Definitions of contracts between the functions of this crate; no reader above it has to believe them.
+pub mod Commands
+pub mod Settings
+pub mod Names

@@ -1,0 +1,11 @@
+//! What the words of a call ask for.
+#![tactic(auto)]
+
+mod command;
+pub mod laws;
+mod number;
+mod options;
+mod setting;
+mod words;
+
+pub use words::{Request, WordsError, file_word, read_words};
