@@ -3,6 +3,7 @@ ghost use Rattle.std.specs.Prelude.{◌<◌};
 
 use alma_code::{Head, Instr, Run, SlotKind};
 use alma_object::{ObjectFault, ObjectView, encode};
+use std::alloc::Global;
 use std::test::Fail;
 
 // An object of version 1 with one routine, `A`, whose code is Return.
@@ -138,4 +139,38 @@ fn a_code_that_is_copied_has_the_same_object(rt: HostRuntime) -> Result<(), Fail
     let object = encode(rt.alloc(), &code).ok().ok_or("memory")?;
     assert_eq!(rt; object.as_slice(), SECOND.as_slice());
     Ok(())
+}
+
+// Whether the bytes are no object, or the object of the code that is read of them.
+fn is_one_spelling(alloc: Global, bytes: &[u8]) -> bool {
+    let Ok(view) = ObjectView::new(bytes) else {
+        return true;
+    };
+    let Ok(code) = view.to_code(alloc) else {
+        return false;
+    };
+    match encode(alloc, &code) {
+        Ok(object) => object.as_slice() == bytes,
+        Err(_) => false,
+    }
+}
+
+// How many values of a byte give bytes that are another object's spelling.
+fn other_spellings(alloc: Global, at: usize) -> usize
+    requires { at < 104 }
+{
+    let mut count: usize = 0;
+    for byte in 0..=255 {
+        if !is_one_spelling(alloc, &with_byte(at, byte)) {
+            count = count.saturating_add(1);
+        }
+    }
+    count
+}
+
+#[test]
+fn each_byte_with_each_value(rt: HostRuntime) {
+    for at in 0..104 {
+        assert_eq!(rt; other_spellings(rt.alloc(), at), 0);
+    }
 }

@@ -1,0 +1,74 @@
+// A case: a call of the program, and what it must answer.
+use crate::call::call;
+use alma_base::NoMemory;
+use alma_io::MemFiles;
+use hex::FromHexError;
+use serde::Deserialize;
+use std::alloc::{AllocError, Global};
+use std::collections::BTreeMap;
+use thiserror::Error;
+
+/// Why a case was not run.
+#[derive(Clone, Copy, Debug, Error)]
+pub enum CaseError {
+    #[error("a text is not hexadecimal")]
+    Text,
+    #[error("out of memory")]
+    Memory,
+}
+
+impl From<NoMemory> for CaseError {
+    fn from(_: NoMemory) -> CaseError {
+        CaseError::Memory
+    }
+}
+
+impl From<AllocError> for CaseError {
+    fn from(_: AllocError) -> CaseError {
+        CaseError::Memory
+    }
+}
+
+impl From<FromHexError> for CaseError {
+    fn from(error: FromHexError) -> CaseError {
+        match error {
+            FromHexError::OutOfMemory => CaseError::Memory,
+            _ => CaseError::Text,
+        }
+    }
+}
+
+/// A call of `alma` and its answer. Files, input and what is printed are bytes in hexadecimal.
+#[derive(Drop, Deserialize)]
+pub struct Case {
+    pub name: String,
+    words: Vec<String>,
+    files: BTreeMap<String, String>,
+    input: String,
+    status: u8,
+    out: String,
+    err: String,
+}
+
+impl Case {
+    // The files that are there.
+    fn files(&self, alloc: Global) -> Result<MemFiles, CaseError> {
+        let mut files = MemFiles::new(alloc, &[])?;
+        for (name, text) in &self.files {
+            files.put(alloc, name, &hex::decode(alloc, text.as_bytes())?)?;
+        }
+        Ok(files)
+    }
+
+    /// Whether the program answers the call as it must.
+    pub fn is_answered(&self, alloc: Global) -> Result<bool, CaseError> {
+        let mut files = self.files(alloc)?;
+        let input = hex::decode(alloc, self.input.as_bytes())?;
+        let answer = call(alloc, &self.words, &mut files, &input)?;
+        Ok(
+            answer.status == self.status
+                && hex::encode(alloc, answer.out.bytes())? == self.out
+                && hex::encode(alloc, answer.err.bytes())? == self.err,
+        )
+    }
+}

@@ -1,0 +1,59 @@
+//! Runs files of cases, which lie where it runs: each line is a call of the program with what it must answer, in JSON.
+#![tactic(auto)]
+
+mod call;
+mod case;
+
+use alma_io::{Files, StdFiles};
+use anyhow::{Result, anyhow};
+use call::status_past_limit;
+use case::Case;
+use std::alloc::Global;
+
+const NAMES: [&str; 2] = ["objects.jsonl", "final-exec.jsonl"];
+
+// The most bytes of a file of cases.
+const LIMIT: usize = 16_777_216;
+
+// How many cases a file has, and how many of them are not answered as they must be.
+#[derive(Clone, Copy)]
+struct Count {
+    all: usize,
+    differ: usize,
+}
+
+fn main(rt: HostRuntime) -> Result<()> {
+    let alloc = rt.alloc();
+    let mut files = StdFiles::new(&rt);
+    for name in NAMES {
+        let Ok(text) = files.fetch(alloc, name, LIMIT) else {
+            return Err(anyhow!("cannot read a file of cases"));
+        };
+        let count = run_cases(&rt, &text)?;
+        println!(rt; "{name}: {} cases, {} differ", count.all, count.differ)?;
+    }
+    for more in 0..2 {
+        let Ok(status) = status_past_limit(alloc, more) else {
+            return Err(anyhow!("out of memory"));
+        };
+        println!(rt; "list of a file of {more} bytes past the limit: {status}")?;
+    }
+    Ok(())
+}
+
+// Runs the case of each line, and prints the names of those that are not answered as they must be.
+fn run_cases(rt: &HostRuntime, text: &[u8]) -> Result<Count> {
+    let mut count = Count { all: 0, differ: 0 };
+    for line in text.split(|byte| *byte == b'\n') {
+        if line.is_empty() {
+            continue;
+        }
+        let case: Case = serde_json::from_slice(rt.alloc(), line)?;
+        count.all = count.all.saturating_add(1);
+        if !case.is_answered(rt.alloc())? {
+            count.differ = count.differ.saturating_add(1);
+            println!(rt; "{}", case.name)?;
+        }
+    }
+    Ok(count)
+}
