@@ -4,6 +4,7 @@ complete -c alma -n __fish_use_subcommand -a run -d 'compile a source and run it
 complete -c alma -n __fish_use_subcommand -a compile -d 'compile a source and store its object'
 complete -c alma -n __fish_use_subcommand -a list -d 'print the text of an object'
 complete -c alma -n __fish_use_subcommand -a exec -d 'verify an object and run it'
+complete -c alma -n __fish_use_subcommand -a help -d 'print the commands, or what a fault means'
 complete -c alma -n __fish_use_subcommand -l help -d 'print the commands'
 complete -c alma -n __fish_use_subcommand -l version -d 'print which program runs'
 complete -c alma -n '__fish_seen_subcommand_from run compile' -a '(__fish_complete_suffix .al)'
