@@ -1,77 +1,89 @@
 -- What an instruction is that is none of those before it.
-use Rattle.std.proofs.Common.{◌≡◌, ℕ, List, refl}
+use Rattle.std.proofs.Common.{◌≡◌, ℕ, ℤ, refl}
 use Rattle.std.specs.Prelude.{false}
 use Rattle.alma_code.specs.declared.instr.Instr.{Instr}
 use Rattle.alma_code.specs.declared.instr.Instr.TheVariants as I
-use Rattle.alma_code.specs.Picture.{PlainFrame}
-use Rattle.alma_code.specs.Plain.{PlainCode}
-use Rattle.alma_engine.specs.Needs.{Needs, Computes, prints, is_control_form, is_place_form, is_cell_form, is_choice_form, is_call_form, is_read_form, is_link_form}
+use Rattle.alma_engine.specs.Needs.{is_first_form, is_control_form, is_place_form, is_cell_form, is_choice_form, is_call_form, is_read_form, is_link_form}
 
--- an instruction of numbers, where it is of no other form
-pub computes_else : (code : PlainCode) (f : List PlainFrame) (i : Instr) → Needs code f i → prints i ≡ false → is_control_form i ≡ false → is_place_form i ≡ false → is_cell_form i ≡ false → is_choice_form i ≡ false → is_call_form i ≡ false → is_read_form i ≡ false → is_link_form i ≡ false → Computes f i
-unfolding Needs Computes prints is_control_form is_place_form is_cell_form is_choice_form is_call_form is_read_form is_link_form
-computes_else code f (I.Const a v) n h h1 h2 h3 h4 h5 h6 h7 = n
-computes_else code f (I.Move a b) n h h1 h2 h3 h4 h5 h6 h7 = n
-computes_else code f (I.Add a b c) n h h1 h2 h3 h4 h5 h6 h7 = n
-computes_else code f (I.Sub a b c) n h h1 h2 h3 h4 h5 h6 h7 = n
-computes_else code f (I.Mul a b c) n h h1 h2 h3 h4 h5 h6 h7 = n
-computes_else code f (I.Div a b c) n h h1 h2 h3 h4 h5 h6 h7 = n
-computes_else code f (I.Mod a b c) n h h1 h2 h3 h4 h5 h6 h7 = n
-computes_else code f (I.Neg a b) n h h1 h2 h3 h4 h5 h6 h7 = n
-computes_else code f (I.Equal a b c) n h h1 h2 h3 h4 h5 h6 h7 = n
-computes_else code f (I.Less a b c) n h h1 h2 h3 h4 h5 h6 h7 = n
-computes_else code f (I.LessEq a b c) n h h1 h2 h3 h4 h5 h6 h7 = n
-computes_else code f (I.Flip a b) n h h1 h2 h3 h4 h5 h6 h7 = n
-computes_else code f (I.Load a b) n h h1 h2 h3 h4 h5 h6 h7 = n
-computes_else code f (I.Known a b) n h h1 h2 h3 h4 h5 h6 h7 = n
-computes_else code f (I.InRange value range) n h h1 h2 h3 h4 h5 h6 h7 = absurd (cc)
-computes_else code f (I.Jump to) n h h1 h2 h3 h4 h5 h6 h7 = absurd (cc)
-computes_else code f (I.JumpZero value to) n h h1 h2 h3 h4 h5 h6 h7 = absurd (cc)
-computes_else code f (I.Check value) n h h1 h2 h3 h4 h5 h6 h7 = absurd (cc)
-computes_else code f I.Fail n h h1 h2 h3 h4 h5 h6 h7 = absurd (cc)
-computes_else code f (I.Fault number) n h h1 h2 h3 h4 h5 h6 h7 = absurd (cc)
-computes_else code f (I.Step counter limit by out) n h h1 h2 h3 h4 h5 h6 h7 = absurd (cc)
-computes_else code f (I.Local to first) n h h1 h2 h3 h4 h5 h6 h7 = absurd (cc)
-computes_else code f (I.Global to first) n h h1 h2 h3 h4 h5 h6 h7 = absurd (cc)
-computes_else code f (I.Same to from) n h h1 h2 h3 h4 h5 h6 h7 = absurd (cc)
-computes_else code f (I.Field to from offset) n h h1 h2 h3 h4 h5 h6 h7 = absurd (cc)
-computes_else code f (I.Index to from index range) n h h1 h2 h3 h4 h5 h6 h7 = absurd (cc)
-computes_else code f (I.Store to from) n h h1 h2 h3 h4 h5 h6 h7 = absurd (cc)
-computes_else code f (I.Bind to value range) n h h1 h2 h3 h4 h5 h6 h7 = absurd (cc)
-computes_else code f (I.Unify left first right second) n h h1 h2 h3 h4 h5 h6 h7 = absurd (cc)
-computes_else code f (I.CopyCells to from) n h h1 h2 h3 h4 h5 h6 h7 = absurd (cc)
-computes_else code f (I.SameCells left right) n h h1 h2 h3 h4 h5 h6 h7 = absurd (cc)
-computes_else code f (I.Mark to) n h h1 h2 h3 h4 h5 h6 h7 = absurd (cc)
-computes_else code f (I.Cut mark) n h h1 h2 h3 h4 h5 h6 h7 = absurd (cc)
-computes_else code f (I.Choose resume) n h h1 h2 h3 h4 h5 h6 h7 = absurd (cc)
-computes_else code f (I.Forall mark resume) n h h1 h2 h3 h4 h5 h6 h7 = absurd (cc)
-computes_else code f (I.Overlay mark resume) n h h1 h2 h3 h4 h5 h6 h7 = absurd (cc)
-computes_else code f (I.Keep mark) n h h1 h2 h3 h4 h5 h6 h7 = absurd (cc)
-computes_else code f I.Finish n h h1 h2 h3 h4 h5 h6 h7 = absurd (cc)
-computes_else code f (I.Call routine first to) n h h1 h2 h3 h4 h5 h6 h7 = absurd (cc)
-computes_else code f I.Return n h h1 h2 h3 h4 h5 h6 h7 = absurd (cc)
-computes_else code f (I.ReturnValue value) n h h1 h2 h3 h4 h5 h6 h7 = absurd (cc)
-computes_else code f (I.ReadInt place range) n h h1 h2 h3 h4 h5 h6 h7 = absurd (cc)
-computes_else code f (I.ReadChar place range) n h h1 h2 h3 h4 h5 h6 h7 = absurd (cc)
-computes_else code f (I.Own to) n h h1 h2 h3 h4 h5 h6 h7 = absurd (cc)
-computes_else code f (I.Chain to link slot) n h h1 h2 h3 h4 h5 h6 h7 = absurd (cc)
-computes_else code f (I.Outer to link first) n h h1 h2 h3 h4 h5 h6 h7 = absurd (cc)
-computes_else code f (I.OuterSame to link slot) n h h1 h2 h3 h4 h5 h6 h7 = absurd (cc)
-computes_else code f (I.WriteInt a) n h h1 h2 h3 h4 h5 h6 h7 = absurd (cc)
-computes_else code f (I.WriteChar a) n h h1 h2 h3 h4 h5 h6 h7 = absurd (cc)
-computes_else code f (I.WriteBool a) n h h1 h2 h3 h4 h5 h6 h7 = absurd (cc)
-computes_else code f (I.WriteText a) n h h1 h2 h3 h4 h5 h6 h7 = absurd (cc)
-computes_else code f I.WriteLine n h h1 h2 h3 h4 h5 h6 h7 = absurd (cc)
+-- each instruction is of some form
+pub form_is_some : (i : Instr) → is_first_form i ≡ false → is_control_form i ≡ false → is_place_form i ≡ false → is_cell_form i ≡ false → is_choice_form i ≡ false → is_call_form i ≡ false → is_read_form i ≡ false → is_link_form i ≡ false → ⊥
+unfolding is_first_form is_control_form is_place_form is_cell_form is_choice_form is_call_form is_read_form is_link_form
+form_is_some (I.Const a v) h h1 h2 h3 h4 h5 h6 h7 = absurd (cc)
+form_is_some (I.Move a b) h h1 h2 h3 h4 h5 h6 h7 = absurd (cc)
+form_is_some (I.Add a b c) h h1 h2 h3 h4 h5 h6 h7 = absurd (cc)
+form_is_some (I.Sub a b c) h h1 h2 h3 h4 h5 h6 h7 = absurd (cc)
+form_is_some (I.Mul a b c) h h1 h2 h3 h4 h5 h6 h7 = absurd (cc)
+form_is_some (I.Div a b c) h h1 h2 h3 h4 h5 h6 h7 = absurd (cc)
+form_is_some (I.Mod a b c) h h1 h2 h3 h4 h5 h6 h7 = absurd (cc)
+form_is_some (I.Neg a b) h h1 h2 h3 h4 h5 h6 h7 = absurd (cc)
+form_is_some (I.Equal a b c) h h1 h2 h3 h4 h5 h6 h7 = absurd (cc)
+form_is_some (I.Less a b c) h h1 h2 h3 h4 h5 h6 h7 = absurd (cc)
+form_is_some (I.LessEq a b c) h h1 h2 h3 h4 h5 h6 h7 = absurd (cc)
+form_is_some (I.Flip a b) h h1 h2 h3 h4 h5 h6 h7 = absurd (cc)
+form_is_some (I.Load a b) h h1 h2 h3 h4 h5 h6 h7 = absurd (cc)
+form_is_some (I.Known a b) h h1 h2 h3 h4 h5 h6 h7 = absurd (cc)
+form_is_some (I.InRange value range) h h1 h2 h3 h4 h5 h6 h7 = absurd (cc)
+form_is_some (I.Jump to) h h1 h2 h3 h4 h5 h6 h7 = absurd (cc)
+form_is_some (I.JumpZero value to) h h1 h2 h3 h4 h5 h6 h7 = absurd (cc)
+form_is_some (I.Check value) h h1 h2 h3 h4 h5 h6 h7 = absurd (cc)
+form_is_some I.Fail h h1 h2 h3 h4 h5 h6 h7 = absurd (cc)
+form_is_some (I.Fault number) h h1 h2 h3 h4 h5 h6 h7 = absurd (cc)
+form_is_some (I.Step counter limit by out) h h1 h2 h3 h4 h5 h6 h7 = absurd (cc)
+form_is_some (I.Local to first) h h1 h2 h3 h4 h5 h6 h7 = absurd (cc)
+form_is_some (I.Global to first) h h1 h2 h3 h4 h5 h6 h7 = absurd (cc)
+form_is_some (I.Same to from) h h1 h2 h3 h4 h5 h6 h7 = absurd (cc)
+form_is_some (I.Field to from offset) h h1 h2 h3 h4 h5 h6 h7 = absurd (cc)
+form_is_some (I.Index to from index range) h h1 h2 h3 h4 h5 h6 h7 = absurd (cc)
+form_is_some (I.Store to from) h h1 h2 h3 h4 h5 h6 h7 = absurd (cc)
+form_is_some (I.Bind to value range) h h1 h2 h3 h4 h5 h6 h7 = absurd (cc)
+form_is_some (I.Unify left first right second) h h1 h2 h3 h4 h5 h6 h7 = absurd (cc)
+form_is_some (I.CopyCells to from) h h1 h2 h3 h4 h5 h6 h7 = absurd (cc)
+form_is_some (I.SameCells left right) h h1 h2 h3 h4 h5 h6 h7 = absurd (cc)
+form_is_some (I.Mark to) h h1 h2 h3 h4 h5 h6 h7 = absurd (cc)
+form_is_some (I.Cut mark) h h1 h2 h3 h4 h5 h6 h7 = absurd (cc)
+form_is_some (I.Choose resume) h h1 h2 h3 h4 h5 h6 h7 = absurd (cc)
+form_is_some (I.Forall mark resume) h h1 h2 h3 h4 h5 h6 h7 = absurd (cc)
+form_is_some (I.Overlay mark resume) h h1 h2 h3 h4 h5 h6 h7 = absurd (cc)
+form_is_some (I.Keep mark) h h1 h2 h3 h4 h5 h6 h7 = absurd (cc)
+form_is_some I.Finish h h1 h2 h3 h4 h5 h6 h7 = absurd (cc)
+form_is_some (I.Call routine first to) h h1 h2 h3 h4 h5 h6 h7 = absurd (cc)
+form_is_some I.Return h h1 h2 h3 h4 h5 h6 h7 = absurd (cc)
+form_is_some (I.ReturnValue value) h h1 h2 h3 h4 h5 h6 h7 = absurd (cc)
+form_is_some (I.ReadInt place range) h h1 h2 h3 h4 h5 h6 h7 = absurd (cc)
+form_is_some (I.ReadChar place range) h h1 h2 h3 h4 h5 h6 h7 = absurd (cc)
+form_is_some (I.Own to) h h1 h2 h3 h4 h5 h6 h7 = absurd (cc)
+form_is_some (I.Chain to link slot) h h1 h2 h3 h4 h5 h6 h7 = absurd (cc)
+form_is_some (I.Outer to link first) h h1 h2 h3 h4 h5 h6 h7 = absurd (cc)
+form_is_some (I.OuterSame to link slot) h h1 h2 h3 h4 h5 h6 h7 = absurd (cc)
+form_is_some (I.WriteInt a) h h1 h2 h3 h4 h5 h6 h7 = absurd (cc)
+form_is_some (I.WriteChar a) h h1 h2 h3 h4 h5 h6 h7 = absurd (cc)
+form_is_some (I.WriteBool a) h h1 h2 h3 h4 h5 h6 h7 = absurd (cc)
+form_is_some (I.WriteText a) h h1 h2 h3 h4 h5 h6 h7 = absurd (cc)
+form_is_some I.WriteLine h h1 h2 h3 h4 h5 h6 h7 = absurd (cc)
 
--- an instruction that does not print
-pub quiet_else : (i : Instr) → ((a : ℕ) → i ≡ I.WriteInt a → ⊥) → ((a : ℕ) → i ≡ I.WriteChar a → ⊥) → ((a : ℕ) → i ≡ I.WriteBool a → ⊥) → ((a : ℕ) → i ≡ I.WriteText a → ⊥) → (i ≡ I.WriteLine → ⊥) → prints i ≡ false
-unfolding prints
-quiet_else (I.WriteInt a) not _ _ _ _ = absurd (not a refl)
-quiet_else (I.WriteChar a) _ not _ _ _ = absurd (not a refl)
-quiet_else (I.WriteBool a) _ _ not _ _ = absurd (not a refl)
-quiet_else (I.WriteText a) _ _ _ not _ = absurd (not a refl)
-quiet_else I.WriteLine _ _ _ _ not = absurd (not refl)
-quiet_else i _ _ _ _ _ = refl
+-- an instruction that does not print, and is none of numbers
+pub later_else : (i : Instr) → ((a : ℕ) → i ≡ I.WriteInt a → ⊥) → ((a : ℕ) → i ≡ I.WriteChar a → ⊥) → ((a : ℕ) → i ≡ I.WriteBool a → ⊥) → ((a : ℕ) → i ≡ I.WriteText a → ⊥) → (i ≡ I.WriteLine → ⊥) → ((a : ℕ) (v : ℤ) → i ≡ I.Const a v → ⊥) → ((a b : ℕ) → i ≡ I.Move a b → ⊥) → ((a b c : ℕ) → i ≡ I.Add a b c → ⊥) → ((a b c : ℕ) → i ≡ I.Sub a b c → ⊥) → ((a b c : ℕ) → i ≡ I.Mul a b c → ⊥) → ((a b c : ℕ) → i ≡ I.Div a b c → ⊥) → ((a b c : ℕ) → i ≡ I.Mod a b c → ⊥) → ((a b : ℕ) → i ≡ I.Neg a b → ⊥) → ((a b c : ℕ) → i ≡ I.Equal a b c → ⊥) → ((a b c : ℕ) → i ≡ I.Less a b c → ⊥) → ((a b c : ℕ) → i ≡ I.LessEq a b c → ⊥) → ((a b : ℕ) → i ≡ I.Flip a b → ⊥) → ((a b : ℕ) → i ≡ I.Load a b → ⊥) → ((a b : ℕ) → i ≡ I.Known a b → ⊥) → is_first_form i ≡ false
+unfolding is_first_form
+later_else (I.WriteInt a) not _ _ _ _ _ _ _ _ _ _ _ _ _ _ _ _ _ _ = absurd (not a refl)
+later_else (I.WriteChar a) _ not _ _ _ _ _ _ _ _ _ _ _ _ _ _ _ _ _ = absurd (not a refl)
+later_else (I.WriteBool a) _ _ not _ _ _ _ _ _ _ _ _ _ _ _ _ _ _ _ = absurd (not a refl)
+later_else (I.WriteText a) _ _ _ not _ _ _ _ _ _ _ _ _ _ _ _ _ _ _ = absurd (not a refl)
+later_else I.WriteLine _ _ _ _ not _ _ _ _ _ _ _ _ _ _ _ _ _ _ = absurd (not refl)
+later_else (I.Const a v) _ _ _ _ _ not _ _ _ _ _ _ _ _ _ _ _ _ _ = absurd (not a v refl)
+later_else (I.Move a b) _ _ _ _ _ _ not _ _ _ _ _ _ _ _ _ _ _ _ = absurd (not a b refl)
+later_else (I.Add a b c) _ _ _ _ _ _ _ not _ _ _ _ _ _ _ _ _ _ _ = absurd (not a b c refl)
+later_else (I.Sub a b c) _ _ _ _ _ _ _ _ not _ _ _ _ _ _ _ _ _ _ = absurd (not a b c refl)
+later_else (I.Mul a b c) _ _ _ _ _ _ _ _ _ not _ _ _ _ _ _ _ _ _ = absurd (not a b c refl)
+later_else (I.Div a b c) _ _ _ _ _ _ _ _ _ _ not _ _ _ _ _ _ _ _ = absurd (not a b c refl)
+later_else (I.Mod a b c) _ _ _ _ _ _ _ _ _ _ _ not _ _ _ _ _ _ _ = absurd (not a b c refl)
+later_else (I.Neg a b) _ _ _ _ _ _ _ _ _ _ _ _ not _ _ _ _ _ _ = absurd (not a b refl)
+later_else (I.Equal a b c) _ _ _ _ _ _ _ _ _ _ _ _ _ not _ _ _ _ _ = absurd (not a b c refl)
+later_else (I.Less a b c) _ _ _ _ _ _ _ _ _ _ _ _ _ _ not _ _ _ _ = absurd (not a b c refl)
+later_else (I.LessEq a b c) _ _ _ _ _ _ _ _ _ _ _ _ _ _ _ not _ _ _ = absurd (not a b c refl)
+later_else (I.Flip a b) _ _ _ _ _ _ _ _ _ _ _ _ _ _ _ _ not _ _ = absurd (not a b refl)
+later_else (I.Load a b) _ _ _ _ _ _ _ _ _ _ _ _ _ _ _ _ _ not _ = absurd (not a b refl)
+later_else (I.Known a b) _ _ _ _ _ _ _ _ _ _ _ _ _ _ _ _ _ _ not = absurd (not a b refl)
+later_else i _ _ _ _ _ _ _ _ _ _ _ _ _ _ _ _ _ _ _ = refl
 
 -- an instruction of no form of a room
 pub control_else : (i : Instr) → ((value range : ℕ) → i ≡ I.InRange value range → ⊥) → ((to : ℕ) → i ≡ I.Jump to → ⊥) → ((value to : ℕ) → i ≡ I.JumpZero value to → ⊥) → ((value : ℕ) → i ≡ I.Check value → ⊥) → (i ≡ I.Fail → ⊥) → ((number : ℕ) → i ≡ I.Fault number → ⊥) → ((counter limit by out : ℕ) → i ≡ I.Step counter limit by out → ⊥) → is_control_form i ≡ false

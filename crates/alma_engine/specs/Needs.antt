@@ -71,14 +71,28 @@ Needs code f (I.OuterSame to link slot) = HasPlace f to × HasLink f link × Lea
 Needs code f (I.CopyCells to from) = HasCells f to × HasCells f from × (width f to ≡ width f from)
 Needs code f i = Computes f i
 
--- the instruction prints
-unfoldable pub prints : Instr → Bool
-prints (I.WriteInt value) = true
-prints (I.WriteChar value) = true
-prints (I.WriteBool value) = true
-prints (I.WriteText text) = true
-prints I.WriteLine = true
-prints _ = false
+-- an instruction that prints, or of the room of numbers
+unfoldable pub is_first_form : Instr → Bool
+is_first_form (I.WriteInt value) = true
+is_first_form (I.WriteChar value) = true
+is_first_form (I.WriteBool value) = true
+is_first_form (I.WriteText text) = true
+is_first_form I.WriteLine = true
+is_first_form (I.Const to value) = true
+is_first_form (I.Move to from) = true
+is_first_form (I.Add to left right) = true
+is_first_form (I.Sub to left right) = true
+is_first_form (I.Mul to left right) = true
+is_first_form (I.Div to left right) = true
+is_first_form (I.Mod to left right) = true
+is_first_form (I.Neg to from) = true
+is_first_form (I.Equal to left right) = true
+is_first_form (I.Less to left right) = true
+is_first_form (I.LessEq to left right) = true
+is_first_form (I.Flip to from) = true
+is_first_form (I.Load to from) = true
+is_first_form (I.Known to of) = true
+is_first_form _ = false
 
 -- an instruction of the room of jumps, tests and counted loops
 unfoldable pub is_control_form : Instr → Bool

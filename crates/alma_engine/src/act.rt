@@ -3,7 +3,7 @@ ghost use Rattle.std.specs.Prelude.{false, ◌≡◌, ◌+◌, ◌^◌, ◌<◌,
 ghost use Rattle.alma_base.specs.Limits.{input_limit};
 ghost use Rattle.alma_code.specs.Machine.{State, act};
 ghost use Rattle.alma_code.specs.Plain.{PlainCode};
-ghost use Rattle.alma_engine.specs.Needs.{Computes, Needs, prints, is_control_form, is_place_form, is_cell_form, is_choice_form, is_call_form, is_read_form, is_link_form};
+ghost use Rattle.alma_engine.specs.Needs.{Computes, Needs, is_first_form, is_control_form, is_place_form, is_cell_form, is_choice_form, is_call_form, is_read_form, is_link_form};
 ghost use Rattle.alma_engine.specs.Rows.{state_of, HasNumber, KeepsOn, put_or_fault};
 ghost use Rattle.alma_engine.specs.View.{stepped, PrintsOnly};
 
@@ -72,6 +72,23 @@ impl Registers {
                 None => unreachable!(),
             },
             Instr::WriteLine => print_text(b"\n", bytes),
+            Instr::Const { .. }
+            | Instr::Move { .. }
+            | Instr::Add { .. }
+            | Instr::Sub { .. }
+            | Instr::Mul { .. }
+            | Instr::Div { .. }
+            | Instr::Mod { .. }
+            | Instr::Neg { .. }
+            | Instr::Equal { .. }
+            | Instr::Less { .. }
+            | Instr::LessEq { .. }
+            | Instr::Flip { .. }
+            | Instr::Load { .. }
+            | Instr::Known { .. } => {
+                let (to, number) = self.computed(instr);
+                self.put(to, number)
+            }
             _ => self.act_control(view, instr, input),
         }
     }
@@ -85,7 +102,7 @@ impl Registers {
         input: &[u8],
     ) -> Result<Step, NoMemory>
         requires needs { Needs (V.code view.now) self.old.memory.now instr }
-        requires quiet { prints instr ≡ false }
+        requires later { is_first_form instr ≡ false }
         requires few { self.old.choices + 1 < 2 ^ 63 }
         requires lawful { length input.now ≤ input_limit }
         ensures ok { IfOk result (λ answer. stepped answer [] (state_of self.new)
@@ -124,7 +141,7 @@ impl Registers {
         input: &[u8],
     ) -> Result<Step, NoMemory>
         requires needs { Needs (V.code view.now) self.old.memory.now instr }
-        requires quiet { prints instr ≡ false }
+        requires later { is_first_form instr ≡ false }
         requires no_control { is_control_form instr ≡ false }
         requires few { self.old.choices + 1 < 2 ^ 63 }
         requires lawful { length input.now ≤ input_limit }
@@ -174,7 +191,7 @@ impl Registers {
         input: &[u8],
     ) -> Result<Step, NoMemory>
         requires needs { Needs (V.code view.now) self.old.memory.now instr }
-        requires quiet { prints instr ≡ false }
+        requires later { is_first_form instr ≡ false }
         requires no_control { is_control_form instr ≡ false }
         requires no_place { is_place_form instr ≡ false }
         requires few { self.old.choices + 1 < 2 ^ 63 }
@@ -220,7 +237,7 @@ impl Registers {
         input: &[u8],
     ) -> Result<Step, NoMemory>
         requires needs { Needs (V.code view.now) self.old.memory.now instr }
-        requires quiet { prints instr ≡ false }
+        requires later { is_first_form instr ≡ false }
         requires no_control { is_control_form instr ≡ false }
         requires no_place { is_place_form instr ≡ false }
         requires no_cell { is_cell_form instr ≡ false }
@@ -254,7 +271,7 @@ impl Registers {
         input: &[u8],
     ) -> Result<Step, NoMemory>
         requires needs { Needs (V.code view.now) self.old.memory.now instr }
-        requires quiet { prints instr ≡ false }
+        requires later { is_first_form instr ≡ false }
         requires no_control { is_control_form instr ≡ false }
         requires no_place { is_place_form instr ≡ false }
         requires no_cell { is_cell_form instr ≡ false }
@@ -288,7 +305,7 @@ impl Registers {
         input: &[u8],
     ) -> Result<Step, NoMemory>
         requires needs { Needs (V.code view.now) self.old.memory.now instr }
-        requires quiet { prints instr ≡ false }
+        requires later { is_first_form instr ≡ false }
         requires no_control { is_control_form instr ≡ false }
         requires no_place { is_place_form instr ≡ false }
         requires no_cell { is_cell_form instr ≡ false }
@@ -325,7 +342,7 @@ impl Registers {
         input: &[u8],
     ) -> Result<Step, NoMemory>
         requires needs { Needs (V.code view.now) self.old.memory.now instr }
-        requires quiet { prints instr ≡ false }
+        requires later { is_first_form instr ≡ false }
         requires no_control { is_control_form instr ≡ false }
         requires no_place { is_place_form instr ≡ false }
         requires no_cell { is_cell_form instr ≡ false }
@@ -358,36 +375,7 @@ impl Registers {
                 let spot = self.outer_whole(link, slot);
                 self.point(to, spot)
             }
-            _ => self.act_numbers(view, instr, input),
+            _ => unreachable!(),
         }
-    }
-
-    // What computes a number for a slot.
-    fn act_numbers<V: CodeView>(
-        &mut self,
-        view: &V,
-        instr: Instr,
-        input: &[u8],
-    ) -> Result<Step, NoMemory>
-        requires needs { Needs (V.code view.now) self.old.memory.now instr }
-        requires quiet { prints instr ≡ false }
-        requires no_control { is_control_form instr ≡ false }
-        requires no_place { is_place_form instr ≡ false }
-        requires no_cell { is_cell_form instr ≡ false }
-        requires no_choice { is_choice_form instr ≡ false }
-        requires no_call { is_call_form instr ≡ false }
-        requires no_read { is_read_form instr ≡ false }
-        requires no_link { is_link_form instr ≡ false }
-        requires few { self.old.choices + 1 < 2 ^ 63 }
-        requires lawful { length input.now ≤ input_limit }
-        ensures ok { IfOk result (λ answer. stepped answer [] (state_of self.new)
-            ≡ act (V.code view.now) input.now instr (state_of self.old)) }
-        ensures kept { IfOk result
-            (λ answer. KeepsOn answer (state_of self.old) (state_of self.new)) }
-        ensures quiet { IfOk result (λ answer. PrintsOnly answer []) }
-        ensures refused { OnErr result (state_of self.new ≡ state_of self.old) }
-    {
-        let (to, number) = self.computed(instr);
-        self.put(to, number)
     }
 }

@@ -19,7 +19,7 @@ use crate::codes::CodeView;
 use crate::registers::{Mode, Registers};
 use alma_base::{NoMemory, RunFault};
 use alma_code::{End, Step};
-use alma_io::{Sink, write_all};
+use alma_io::{Sink, WriteFault, write_all};
 use alma_memory::Memory;
 use alma_object::{ObjectView, RoutineView};
 use alma_verify::Verified;
@@ -117,6 +117,20 @@ pub(crate) fn advance<V: CodeView>(
             Ok(registers.pop())
         }
         Mode::Ended(_) => unreachable!(),
+    }
+}
+
+// Writes what a step printed; the sink is called only where it printed.
+fn write_printed<K: Sink>(step: Step, printed: &[u8], out: &mut K) -> Result<(), WriteFault>
+    requires quiet { PrintsOnly step printed.now }
+    ensures ok { OnOk result (Appends (K.written out.old) (K.written out.new) printed.now) }
+    ensures front { OnErr result
+        (AppendsFront (K.written out.old) (K.written out.new) printed.now) }
+    ensures cause { HasCause (K.faults out.old) (K.faults out.new) result }
+{
+    match step {
+        Step::Printed => write_all(out, printed),
+        _ => Ok(()),
     }
 }
 
@@ -371,7 +385,7 @@ impl<'b, 'i> Machine<'b, 'i> {
             if let Step::Done(end) = step {
                 return RunEnd::from(end);
             }
-            if write_all(out, self.printed()).is_err() {
+            if write_printed(step, self.printed(), out).is_err() {
                 self.running = false;
                 return RunEnd::WriteFault;
             }

@@ -61,6 +61,7 @@ impl Registers {
     }
 
     /// Puts a cell into a slot of the top frame.
+    #[inline(always)]
     pub(crate) fn write(&mut self, to: u32, cell: Cell) -> Result<Step, NoMemory>
         requires { HasSlot self.old.memory.now to }
         ensures ok { IfOk result (λ answer. stepped answer [] (state_of self.new)

@@ -60,9 +60,9 @@ returns-then-is_err-clause-write_fault g c =
     let stopped : MachineView = record { code = code_of_verified inside.code; input = inside.input.now; state = state_of inside.registers; running = false; printed = inside.printed.items } in
     let p = progress_more old c.loop-made.self c.step.new.self m c.in-Ok.step c.loop-made.invariant.progress c.in-Ok.ensures.step c.in-Ok.ensures.counted c.in-Ok.ensures.same in
     let q = progress_stopped old c.step.new.self stopped (m + 1) (ap (λ x. x.state) c.self.view_is) (ap (λ x. x.code) c.self.view_is) (ap (λ x. x.input) c.self.view_is) (ap (λ x. x.printed) c.self.view_is) p in
-    let failed : is_err c.write_all.result ≡ true = search rules in
-    let front = on_err c.write_all.result (AppendsFront (g.K.Sink.written c.loop-made.out) (g.K.Sink.written c.write_all.new.sink) c.printed.result.now) failed c.write_all.ensures.front in
-    out_front (g.K.Sink.written c.args.out.now) (g.K.Sink.written c.loop-made.out) (g.K.Sink.written c.write_all.new.sink) (prints old.code old.input m old.state) c.printed.result.now
+    let failed : is_err c.write_printed.result ≡ true = search rules in
+    let front = on_err c.write_printed.result (AppendsFront (g.K.Sink.written c.loop-made.out) (g.K.Sink.written c.write_printed.new.out) c.printed.result.now) failed c.write_printed.ensures.front in
+    out_front (g.K.Sink.written c.args.out.now) (g.K.Sink.written c.loop-made.out) (g.K.Sink.written c.write_printed.new.out) (prints old.code old.input m old.state) c.printed.result.now
     (prints old.code old.input (made old stopped) old.state) c.loop-made.invariant.out front
     (ap (λ k. prints old.code old.input k old.state) (made_is old stopped (m + 1) q)
     ∙ prints_then old c.loop-made.self c.step.new.self m c.in-Ok.step c.loop-made.invariant.progress c.in-Ok.ensures.step
@@ -73,13 +73,13 @@ loop-made-preserved g c =
     let old = c.args.self.now in
     let m = c.loop-made.made in
     let p = progress_more old c.loop-made.self c.step.new.self m c.in-Ok.step c.loop-made.invariant.progress c.in-Ok.ensures.step c.in-Ok.ensures.counted c.in-Ok.ensures.same in
-    let written : is_err c.write_all.result ≡ false = search rules in
-    let out = on_ok c.write_all.result (Appends (g.K.Sink.written c.loop-made.out) (g.K.Sink.written c.write_all.new.sink) c.printed.result.now) written c.write_all.ensures.ok in
-    let quiet = on_ok c.write_all.result (g.K.Sink.faults c.write_all.new.sink ≡ g.K.Sink.faults c.loop-made.out) written c.write_all.ensures.cause.ok in
+    let written : is_err c.write_printed.result ≡ false = search rules in
+    let out = on_ok c.write_printed.result (Appends (g.K.Sink.written c.loop-made.out) (g.K.Sink.written c.write_printed.new.out) c.printed.result.now) written c.write_printed.ensures.ok in
+    let quiet = on_ok c.write_printed.result (g.K.Sink.faults c.write_printed.new.out ≡ g.K.Sink.faults c.loop-made.out) written c.write_printed.ensures.cause.ok in
     record {
       within = omega arith;
       progress = p;
-      out = out_more (g.K.Sink.written c.args.out.now) (g.K.Sink.written c.loop-made.out) (g.K.Sink.written c.write_all.new.sink) (prints old.code old.input m old.state) c.printed.result.now
+      out = out_more (g.K.Sink.written c.args.out.now) (g.K.Sink.written c.loop-made.out) (g.K.Sink.written c.write_printed.new.out) (prints old.code old.input m old.state) c.printed.result.now
           (prints old.code old.input (m + 1) old.state) c.loop-made.invariant.out out
           (prints_then old c.loop-made.self c.step.new.self m c.in-Ok.step c.loop-made.invariant.progress c.in-Ok.ensures.step
           ∙ ap (λ bytes. prints old.code old.input m old.state ++ bytes) (sym c.printed.ensures));

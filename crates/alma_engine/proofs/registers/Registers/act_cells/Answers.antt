@@ -6,7 +6,7 @@ act_choices-requires g c =
     let d = c.in_default in
     record {
       needs = c.requires.needs;
-      quiet = c.requires.quiet;
+      later = c.requires.later;
       no_control = c.requires.no_control;
       no_place = c.requires.no_place;
       no_cell = cell_else c.args.instr d.not-Store d.not-Bind d.not-Unify d.not-CopyCells d.not-SameCells;

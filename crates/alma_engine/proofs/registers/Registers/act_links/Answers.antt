@@ -1,19 +1,8 @@
-use Rattle.alma_engine.proofs.Others.{link_else}
+use Rattle.alma_engine.proofs.Others.{form_is_some, link_else}
 use Rattle.alma_engine.proofs.registers.Registers.act_links.Goals as goal
 
-pub act_numbers-requires : goal.act_numbers-requires
-act_numbers-requires g c =
+pub unreachable-requires : goal.unreachable-requires
+unreachable-requires g c =
     let d = c.in_default in
-    record {
-      needs = c.requires.needs;
-      quiet = c.requires.quiet;
-      no_control = c.requires.no_control;
-      no_place = c.requires.no_place;
-      no_cell = c.requires.no_cell;
-      no_choice = c.requires.no_choice;
-      no_call = c.requires.no_call;
-      no_read = c.requires.no_read;
-      no_link = link_else c.args.instr d.not-Own d.not-Chain d.not-Outer d.not-OuterSame;
-      few = c.requires.few;
-      lawful = c.requires.lawful;
-    }
+    let r = c.requires in
+    form_is_some c.args.instr r.later r.no_control r.no_place r.no_cell r.no_choice r.no_call r.no_read (link_else c.args.instr d.not-Own d.not-Chain d.not-Outer d.not-OuterSame)

@@ -6,7 +6,7 @@ act_cells-requires g c =
     let d = c.in_default in
     record {
       needs = c.requires.needs;
-      quiet = c.requires.quiet;
+      later = c.requires.later;
       no_control = c.requires.no_control;
       no_place = place_else c.args.instr d.not-Local d.not-Global d.not-Same d.not-Field d.not-Index;
       few = c.requires.few;
