@@ -253,7 +253,7 @@ const COUNTED: [Counted; 2] = [
         answer: Answer {
             status: 4,
             out: b"1",
-            err: b"steps 12 choices 0 fails 0\nalma: fault ZeroDivide line 2\n",
+            err: b"steps 14 choices 0 fails 0\nalma: fault ZeroDivide line 2\n",
         },
     },
 ];
