@@ -13,7 +13,7 @@ _alma() {
   fi
   case ${COMP_WORDS[1]},$COMP_CWORD in
   run,2 | compile,2) mapfile -t COMPREPLY < <(compgen -o plusdirs -f -X '!*.al' -- "$word") ;;
-  run,3 | exec,3) mapfile -t COMPREPLY < <(compgen -W "--steps=" -- "$word") && compopt -o nospace ;;
+  run,[34] | exec,[34]) mapfile -t COMPREPLY < <(compgen -W "--steps= --stats" -- "$word") && compopt -o nospace ;;
   help,2) mapfile -t COMPREPLY < <(compgen -W "$(_alma_faults)" -- "$word") ;;
   compile,3 | list,2 | exec,2) mapfile -t COMPREPLY < <(compgen -f -- "$word") ;;
   esac

@@ -9,4 +9,5 @@ complete -c alma -n __fish_use_subcommand -l help -d 'print the commands'
 complete -c alma -n __fish_use_subcommand -l version -d 'print which program runs'
 complete -c alma -n '__fish_seen_subcommand_from run compile' -a '(__fish_complete_suffix .al)'
 complete -c alma -n '__fish_seen_subcommand_from run exec' -l steps -x -d 'the greatest number of machine steps'
+complete -c alma -n '__fish_seen_subcommand_from run exec' -l stats -d 'tell the counts of the run'
 complete -c alma -n '__fish_seen_subcommand_from list exec' -F

@@ -1,11 +1,16 @@
 -- From what the parts of a call ensure to how the call may go.
-use Rattle.std.proofs.Common.{◌≡◌, ◌≤◌, ◌<◌, ◌^◌, ◌∙◌, ℕ, List, [], length, ap, sym, subst, refl, inl, inr, arith}
-use Rattle.std.specs.Prelude.{◌⊎◌, Bool, true, false, Result, Ok, Err, None, Some}
-use Rattle.std.specs.List.{list_any}
+use Rattle.std.proofs.lemmas.List.{append-nil}
+use Rattle.std.proofs.Common.{◌+◌, ◌++◌, ◌≡◌, ◌≤◌, ◌<◌, ◌^◌, ◌∙◌, ℕ, List, [], length, ap, sym, subst, refl, inl, inr, arith}
+use Rattle.std.specs.Prelude.{◌⊎◌, Bool, true, false, Option, Result, Ok, Err, None, Some}
+use Rattle.std.specs.Global.{Vec}
 use Rattle.std.specs.Str.{bytes_eq}
 use Rattle.std.proofs.lemmas.Slice.Eq.{bytes_eq-Decides}
 use Rattle.std.proofs.lemmas.Bool.{cases_lt}
-use Rattle.alma_base.specs.Limits.{size_limit}
+use Rattle.alma_base.specs.Limits.{size_limit, input_limit}
+use Rattle.std.specs.Io.KnownBytes.{Consumes, IsAtEnd}
+use Rattle.alma_io.specs.Whole.{MayHaveMore, LosesAtMost, HasReadCause}
+use Rattle.alma_io.specs.declared.whole.ReadAll.{ReadAll}
+use Rattle.alma_io.specs.declared.whole.ReadAll.TheVariants as reading
 use Rattle.alma_io.specs.Causes.{Rose}
 use Rattle.alma_io.specs.Files.{Told, MayHave, NowHas, IsFetched, IsStored}
 use Rattle.alma_io.specs.declared.files.Fetch.{Fetch}
@@ -22,7 +27,6 @@ use Rattle.alma_code.specs.Rules.{IsSound, code_fault}
 use Rattle.alma_code.specs.declared.step.VerifyFault.{VerifyFault}
 use Rattle.alma_object.specs.declared.fault.ObjectFault.{ObjectFault}
 use Rattle.alma_object.specs.Object.{IsObject, object_bytes}
-use Rattle.alma_object.specs.View.{is_read}
 use Rattle.alma_object.specs.Walk.{object_fault}
 use Rattle.alma_whole.specs.Bytes.{object_code}
 use Rattle.alma_lower.specs.declared.lowering.LowerError.{LowerError}
@@ -31,17 +35,18 @@ use Rattle.alma_implements.specs.Implements.{Implements}
 use Rattle.alma_front.specs.declared.error.ReadError.{ReadError}
 use Rattle.alma_front.specs.declared.error.ReadError.TheVariants as read
 use Rattle.alma_front.specs.Source.{IsSource, IsRead}
-use Rattle.alma_driver.specs.Words.{Request, Run, Compile, Listing, Exec, Asks, Reads, read_by, limit_of}
-use Rattle.alma_driver.specs.Outside.{SinkSide, FilesSide, FilesStay}
+use Rattle.alma_words.specs.Words.{Request, Check, Compile, Listing, Run, Exec, Trace, Sample, Asks, Reads}
+use Rattle.alma_driver.specs.Words.{is_built, read_by, limit_of}
+use Rattle.alma_driver.specs.Outside.{SinkSide, SourceSide, FilesSide, FilesStay}
 use Rattle.alma_base.specs.declared.place.Place.{Place}
 use Rattle.alma_scan.specs.Places.{line_at, column_at}
 use Rattle.alma_driver.specs.Refusal.{IsRefused, IsParsed, place_of}
 use Rattle.alma_driver.specs.declared.fault.SourceFault.{SourceFault}
-use Rattle.alma_driver.specs.Ends.{lower_end, read_end, words_end, fetch_end, store_end}
-use Rattle.alma_driver.specs.Outcome.{Due, Stored, due_of, silent, storing, size_of, ProgramOutcome, ran, too_much_code, CompileOutcome, made, past_size, IsSourceEnd, refused, not_yet, IsStop, SourceOutcome, stopped, compiled, ListOutcome, listed, no_object, CodeOutcome, executed, reading, unsound, ExecOutcome, opened, unopened, FileOutcome, RequestOutcome, absent, too_long, fetched, Outcome, bad_word, asks}
-use Rattle.alma_driver.specs.Course.{Gains, GainsPrefix, Goes, OthersStay, Keeps, done, failed, Works, Performs}
-use Rattle.alma_driver.specs.declared.words.WordsError.{WordsError}
-use Rattle.alma_driver.specs.declared.words.WordsError.TheVariants as words
+use Rattle.alma_driver.specs.Ends.{lower_end, read_end, words_end, fetch_end, store_end, input_end}
+use Rattle.alma_driver.specs.Outcome.{Due, Stored, due_of, silent, storing, has_read, code_due, long_input, MayBeLeft, InputOutcome, unread, taken, past_input, size_of, ProgramOutcome, ran, too_much_code, CompileOutcome, made, past_size, IsSourceEnd, refused, not_yet, IsStop, SourceOutcome, stopped, compiled, ListOutcome, listed, no_object, CodeOutcome, executed, unsound, ExecOutcome, opened, unopened, FileOutcome, RequestOutcome, absent, past_limit, fetched, Outcome, bad_word, unbuilt, asks}
+use Rattle.alma_driver.specs.Course.{Gains, GainsPrefix, Goes, OthersStay, Keeps, done, failed, Works, Takes, Moves, MayRead, ReadsOnly, FailsToRead, Runs, Serves, Performs}
+use Rattle.alma_words.specs.declared.words.WordsError.{WordsError}
+use Rattle.alma_words.specs.declared.words.WordsError.TheVariants as words
 use Rattle.alma_driver.specs.declared.end.End.{End}
 use Rattle.alma_driver.specs.declared.end.End.TheVariants.{Succeeded, Failed, BadWord, Refused, Faulted, StepsOut, ReadFault, WriteFault, Memory, BadObject, BadCode, TooLong, TooMuchCode, NotYet}
 use Rattle.alma_driver.proofs.RunLemmas.{IsDue}
@@ -53,12 +58,12 @@ goes_map P Q f a b Memory g = (halted g.0, g.1) where
   halted : GainsPrefix P a b → GainsPrefix Q a b
   halted (inl h) = inl h
   halted (inr h) = inr (h.0, f h.0 h.1, h.2)
-goes_map P Q f a b Succeeded g = (g.0, g.1, f g.0 g.2, g.3)
-goes_map P Q f a b Failed g = (g.0, g.1, f g.0 g.2, g.3)
+goes_map P Q f a b (Succeeded counts) g = (g.0, g.1, f g.0 g.2, g.3)
+goes_map P Q f a b (Failed counts) g = (g.0, g.1, f g.0 g.2, g.3)
 goes_map P Q f a b (BadWord k) g = (g.0, g.1, f g.0 g.2, g.3)
 goes_map P Q f a b (Refused fault place) g = (g.0, g.1, f g.0 g.2, g.3)
-goes_map P Q f a b (Faulted fault line) g = (g.0, g.1, f g.0 g.2, g.3)
-goes_map P Q f a b StepsOut g = (g.0, g.1, f g.0 g.2, g.3)
+goes_map P Q f a b (Faulted fault line counts) g = (g.0, g.1, f g.0 g.2, g.3)
+goes_map P Q f a b (StepsOut counts) g = (g.0, g.1, f g.0 g.2, g.3)
 goes_map P Q f a b ReadFault g = (g.0, g.1, f g.0 g.2, g.3)
 goes_map P Q f a b (BadObject fault) g = (g.0, g.1, f g.0 g.2, g.3)
 goes_map P Q f a b (BadCode fault) g = (g.0, g.1, f g.0 g.2, g.3)
@@ -73,6 +78,92 @@ gains_none a = (appends_none a.written, refl)
 -- memory was wanted before the first print
 pub goes_starved : (P : Due → Type 0) (a : SinkSide) → Goes P a a Memory
 goes_starved P a = (inl (appends_none a.written), refl)
+
+-- ---- the input
+
+-- where the input is not read it stays
+takes_none : (due : Due) (i : SourceSide) → due.reads ≡ false → Takes due.reads i i
+takes_none due i e = subst (λ (r : Bool). Takes r i i) (sym e) refl
+
+-- a call that leaves the input
+pub runs_still : (P : Due → Type 0) → ((due : Due) → P due → due.reads ≡ false) → (i : SourceSide) (a b : SinkSide) (end : End) → Goes P a b end → Runs P i i a b end
+runs_still P none i a b end g = inr (inl refl, goes_map P (Moves P i i) (λ due o. (o, takes_none due i (none due o))) a b end g)
+
+-- memory was wanted before the input was read
+pub runs_starved : (P : Due → Type 0) (i : SourceSide) (a : SinkSide) → Runs P i i a a Memory
+runs_starved P i a = inr (inl refl, goes_starved (Moves P i i) a)
+
+-- what may be read by one outcome may be by another
+may_read_map : (P Q : Due → Type 0) → ((due : Due) → P due → Q due) → MayRead P → MayRead Q
+may_read_map P Q f m = (m.0, f m.0 m.1, m.2)
+
+fails_map : (P Q : Due → Type 0) → ((due : Due) → P due → Q due) → (i j : SourceSide) (a b : SinkSide) (end : End) → FailsToRead P i j a b end → FailsToRead Q i j a b end
+fails_map P Q f i j a b end h = (h.0, may_read_map P Q f h.1, h.2, h.3, h.4)
+
+reads_map : (P Q : Due → Type 0) → ((due : Due) → P due → Q due) → (i j : SourceSide) → ReadsOnly P i j → ReadsOnly Q i j
+reads_map P Q f i j (inl e) = inl e
+reads_map P Q f i j (inr h) = inr (may_read_map P Q f h.0, h.1)
+
+moves_map : (P Q : Due → Type 0) → ((due : Due) → P due → Q due) → (i j : SourceSide) (due : Due) → Moves P i j due → Moves Q i j due
+moves_map P Q f i j due m = (f due m.0, m.1)
+
+-- a run inside another
+pub runs_map : (P Q : Due → Type 0) → ((due : Due) → P due → Q due) → (i j : SourceSide) (a b : SinkSide) (end : End) → Runs P i j a b end → Runs Q i j a b end
+runs_map P Q f i j a b end (inl h) = inl (fails_map P Q f i j a b end h)
+runs_map P Q f i j a b end (inr h) = inr (reads_map P Q f i j h.0, goes_map (Moves P i j) (Moves Q i j) (moves_map P Q f i j) a b end h.1)
+
+-- code that does not read was run
+pub runs_unread : (code : PlainCode) (steps : ℕ) (stats : Bool) (i : SourceSide) (a b : SinkSide) (end : End) → has_read code ≡ false
+    → Goes (IsDue code [] steps stats) a b end → Runs (InputOutcome i.left code steps stats) i i a b end
+runs_unread code steps stats i a b end quiet g =
+    inr (
+      inl refl,
+      goes_map (IsDue code [] steps stats) (Moves (InputOutcome i.left code steps stats) i i)
+          (λ due e. (unread quiet e, takes_none due i (ap (λ (d : Due). d.reads) e ∙ quiet))) a b end g,
+    )
+
+-- what is read to the end is what was left
+was_left : (old new : Option (List ℕ)) (bytes : List ℕ) → Consumes old new bytes → IsAtEnd new → MayBeLeft old bytes
+was_left None new bytes c e = tt
+was_left (Some xs) None bytes c e = absurd c
+was_left (Some xs) (Some ys) bytes c e = c ∙ ap (λ z. bytes ++ z) e ∙ append-nil bytes
+
+-- code that reads has an outcome that reads
+reading_due : (left : Option (List ℕ)) (code : PlainCode) (steps : ℕ) (stats : Bool) → has_read code ≡ true → MayRead (InputOutcome left code steps stats)
+reading_due None code steps stats q = (code_due code [] steps stats, taken [] q tt (omega arith) refl, q)
+reading_due (Some bytes) code steps stats q = by (cases_lt input_limit (length bytes))
+  where
+    by : (input_limit < length bytes) ⊎ (length bytes ≤ input_limit) → MayRead (InputOutcome (Some bytes) code steps stats)
+    by (inl past) = (long_input, past_input q past refl, refl)
+    by (inr short) = (code_due code bytes steps stats, taken bytes q refl short refl, q)
+
+-- code that reads was run on all that was left
+pub runs_taken : (code : PlainCode) (steps : ℕ) (stats : Bool) (i j : SourceSide) (bytes : List ℕ) (a b : SinkSide) (end : End) → has_read code ≡ true
+    → Consumes i.left j.left bytes → IsAtEnd j.left → length bytes ≤ input_limit → j.faults ≡ i.faults
+    → Goes (IsDue code bytes steps stats) a b end → Runs (InputOutcome i.left code steps stats) i j a b end
+runs_taken code steps stats i j bytes a b end q c e short same g =
+    let loses : LosesAtMost i.left j.left (input_limit + 1) = (bytes, c, omega (arith, short)) in
+    let left = was_left i.left j.left bytes c e in
+    inr (
+      inr (reading_due i.left code steps stats q, (loses, same)),
+      goes_map (IsDue code bytes steps stats) (Moves (InputOutcome i.left code steps stats) i j)
+          (λ due d. (taken bytes q left short d, subst (λ (r : Bool). Takes r i j) (sym (ap (λ (x : Due). x.reads) d ∙ q)) (loses, same))) a b end g,
+    )
+
+-- what reading the input answers where it gives no bytes
+abbrev not_read : ReadAll → Result (Vec ℕ) ReadAll
+not_read error = Err error
+
+-- an input that was not read
+pub runs_lost : (code : PlainCode) (steps : ℕ) (stats : Bool) (i j : SourceSide) (error : ReadAll) (a : SinkSide) → has_read code ≡ true
+    → LosesAtMost i.left j.left (input_limit + 1) → HasReadCause i.faults j.faults (Err error) → (not_read error ≡ not_read reading.TooLong → MayHaveMore i.left input_limit)
+    → Runs (InputOutcome i.left code steps stats) i j a a (input_end error)
+runs_lost code steps stats i j reading.Fault a q loses cause more =
+    inl (refl, reading_due i.left code steps stats q, loses, (cause.0, cause.1), gains_none a)
+runs_lost code steps stats i j reading.TooLong a q loses cause more =
+    inr (inr (reading_due i.left code steps stats q, (loses, cause)), (long_input, refl, (past_input q (more refl) refl, (loses, cause)), gains_none a))
+runs_lost code steps stats i j reading.Memory a q loses cause more =
+    inr (inr (reading_due i.left code steps stats q, (loses, cause)), goes_starved (Moves (InputOutcome i.left code steps stats) i j) a)
 
 -- ---- sources
 
@@ -93,21 +184,21 @@ stop_unread source read.NotYet parsed h = inr (not_yet parsed h refl)
 stop_unread source read.Memory parsed h = inl refl
 
 -- a call that stops there comes to its end without a print
-goes_source_end : (source : List ℕ) (P : Program → Due → Type 0) (a : SinkSide) (end : End) → IsSourceEnd source end → Goes (SourceOutcome source P) a a end
-goes_source_end source P a end (refused fault offset h e) =
-    subst (Goes (SourceOutcome source P) a a) (sym e)
-    (silent (Refused fault (place_of source offset)), refl, stopped (Refused fault (place_of source offset)) (refused fault offset h refl) refl, gains_none a)
-goes_source_end source P a end (not_yet parsed none e) =
-    subst (Goes (SourceOutcome source P) a a) (sym e) (silent NotYet, refl, stopped NotYet (not_yet parsed none refl) refl, gains_none a)
+runs_source_end : (source : List ℕ) (P : Program → Due → Type 0) (i : SourceSide) (a : SinkSide) (end : End) → IsSourceEnd source end → Runs (SourceOutcome source P) i i a a end
+runs_source_end source P i a end (refused fault offset h e) =
+    subst (Runs (SourceOutcome source P) i i a a) (sym e)
+    (inr (inl refl, (silent (Refused fault (place_of source offset)), refl, (stopped (Refused fault (place_of source offset)) (refused fault offset h refl) refl, refl), gains_none a)))
+runs_source_end source P i a end (not_yet parsed none e) =
+    subst (Runs (SourceOutcome source P) i i a a) (sym e) (inr (inl refl, (silent NotYet, refl, (stopped NotYet (not_yet parsed none refl) refl, refl), gains_none a)))
 
-pub goes_stopped : (source : List ℕ) (P : Program → Due → Type 0) (a : SinkSide) (end : End) → IsStop source end → Goes (SourceOutcome source P) a a end
-goes_stopped source P a end (inl e) = subst (Goes (SourceOutcome source P) a a) (sym e) (goes_starved (SourceOutcome source P) a)
-goes_stopped source P a end (inr h) = goes_source_end source P a end h
+pub runs_stopped : (source : List ℕ) (P : Program → Due → Type 0) (i : SourceSide) (a : SinkSide) (end : End) → IsStop source end → Runs (SourceOutcome source P) i i a a end
+runs_stopped source P i a end (inl e) = subst (Runs (SourceOutcome source P) i i a a) (sym e) (runs_starved (SourceOutcome source P) i a)
+runs_stopped source P i a end (inr h) = runs_source_end source P i a end h
 
 -- a source whose program was run
-pub goes_read : (source : List ℕ) (P : Program → Due → Type 0) (p : Program) (a b : SinkSide) (end : End) → IsParsed source → IsSource source p → Goes (P p) a b end
-    → Goes (SourceOutcome source P) a b end
-goes_read source P p a b end parsed is g = goes_map (P p) (SourceOutcome source P) (λ due o. compiled p parsed is o) a b end g
+pub runs_read : (source : List ℕ) (P : Program → Due → Type 0) (p : Program) (i j : SourceSide) (a b : SinkSide) (end : End) → IsParsed source → IsSource source p
+    → Runs (P p) i j a b end → Runs (SourceOutcome source P) i j a b end
+runs_read source P p i j a b end parsed is g = runs_map (P p) (SourceOutcome source P) (λ due o. compiled p parsed is o) i j a b end g
 
 -- ---- compiling
 
@@ -136,10 +227,13 @@ unlowered p (lower.TooMuchCode n) too_much within = by (cases_lt size_limit (siz
 unlowered p lower.Memory too_much within = starved refl
 
 -- a program that was not compiled
-pub goes_refused : (p : Program) (steps : ℕ) (error : LowerError) (a : SinkSide) → IsUnlowered p error → Goes (ProgramOutcome p steps) a a (lower_end error)
-goes_refused p steps error a (large past e) =
-    subst (Goes (ProgramOutcome p steps) a a) (sym e) (silent (TooMuchCode (size_of p)), refl, too_much_code past refl, gains_none a)
-goes_refused p steps error a (starved e) = subst (Goes (ProgramOutcome p steps) a a) (sym e) (goes_starved (ProgramOutcome p steps) a)
+pub runs_refused : (p : Program) (steps : ℕ) (stats : Bool) (error : LowerError) (i : SourceSide) (a : SinkSide) → IsUnlowered p error
+    → Runs (ProgramOutcome i.left p steps stats) i i a a (lower_end error)
+runs_refused p steps stats error i a (large past e) =
+    subst (Runs (ProgramOutcome i.left p steps stats) i i a a) (sym e)
+    (inr (inl refl, (silent (TooMuchCode (size_of p)), refl, (too_much_code past refl, refl), gains_none a)))
+runs_refused p steps stats error i a (starved e) =
+    subst (Runs (ProgramOutcome i.left p steps stats) i i a a) (sym e) (runs_starved (ProgramOutcome i.left p steps stats) i a)
 
 -- a program that was compiled is within its greatest size
 pub compiled_within : (p : Program) (code : Code) → (size_limit < size_of p → lowered code ≡ not_lowered (lower.TooMuchCode (size_of p)))
@@ -151,24 +245,23 @@ compiled_within p code too_much = by (cases_lt size_limit (size_of p))
     by (inr small) = small
 
 -- a program that was compiled and run
-pub goes_compiled : (p : Program) (code : PlainCode) (steps : ℕ) (a b : SinkSide) (end : End) → IsSound code → Implements code p → size_of p ≤ size_limit
-    → Goes (IsDue code [] steps) a b end → Goes (ProgramOutcome p steps) a b end
-goes_compiled p code steps a b end sound implements within g =
-    goes_map (IsDue code [] steps) (ProgramOutcome p steps)
-    (λ due e. subst (λ (d : Due). ProgramOutcome p steps d) (sym e) (ran code within sound implements refl)) a b end g
+pub runs_compiled : (p : Program) (code : PlainCode) (steps : ℕ) (stats : Bool) (i j : SourceSide) (a b : SinkSide) (end : End) → IsSound code → Implements code p
+    → size_of p ≤ size_limit → Runs (InputOutcome i.left code steps stats) i j a b end → Runs (ProgramOutcome i.left p steps stats) i j a b end
+runs_compiled p code steps stats i j a b end sound implements within g =
+    runs_map (InputOutcome i.left code steps stats) (ProgramOutcome i.left p steps stats) (λ due o. ran code within sound implements o) i j a b end g
 
 -- ---- listing
 
 -- what is due from bytes that are listed as this code
 abbrev pub IsListed : PlainCode → Due → Type 0
-IsListed code due = due ≡ due_of Succeeded (list_text code)
+IsListed code due = due ≡ due_of (Succeeded None) (list_text code)
 
 -- an object that was listed
 pub goes_listed : (bytes : List ℕ) (code : PlainCode) (a b : SinkSide) (end : End) → object_fault bytes ≡ None → IsObject code bytes
     → code ≡ object_code bytes → Goes (IsListed code) a b end → Goes (ListOutcome bytes) a b end
 goes_listed bytes code a b end clean is same g =
     goes_map (IsListed code) (ListOutcome bytes)
-    (λ due e. listed clean (subst (λ c. IsObject c bytes) same is) (e ∙ ap (λ c. due_of Succeeded (list_text c)) same)) a b end g
+    (λ due e. listed clean (subst (λ c. IsObject c bytes) same is) (e ∙ ap (λ c. due_of (Succeeded None) (list_text c)) same)) a b end g
 
 -- bytes that are no object
 pub goes_not_listed : (bytes : List ℕ) (fault : ObjectFault) (a : SinkSide) → object_fault bytes ≡ Some fault → Goes (ListOutcome bytes) a a (BadObject fault)
@@ -186,49 +279,60 @@ one_listing bytes first second (no_object fault some e) (no_object other some' e
 -- ---- running an object
 
 -- verified code that was run
-pub goes_executed : (code : PlainCode) (steps : ℕ) (a b : SinkSide) (end : End) → code_fault code ≡ None → list_any is_read code.instrs ≡ false
-    → Goes (IsDue code [] steps) a b end → Goes (CodeOutcome code steps) a b end
-goes_executed code steps a b end clean quiet g = goes_map (IsDue code [] steps) (CodeOutcome code steps) (λ due e. executed clean quiet e) a b end g
-
--- verified code that reads
-pub goes_reading : (code : PlainCode) (steps : ℕ) (a : SinkSide) → code_fault code ≡ None → list_any is_read code.instrs ≡ true → Goes (CodeOutcome code steps) a a NotYet
-goes_reading code steps a clean some = (silent NotYet, refl, reading clean some refl, gains_none a)
+pub runs_executed : (code : PlainCode) (steps : ℕ) (stats : Bool) (i j : SourceSide) (a b : SinkSide) (end : End) → code_fault code ≡ None
+    → Runs (InputOutcome i.left code steps stats) i j a b end → Runs (CodeOutcome i.left code steps stats) i j a b end
+runs_executed code steps stats i j a b end clean g =
+    runs_map (InputOutcome i.left code steps stats) (CodeOutcome i.left code steps stats) (λ due o. executed clean o) i j a b end g
 
 -- code that is not sound
-pub goes_unsound : (code : PlainCode) (steps : ℕ) (fault : VerifyFault) (a : SinkSide) → code_fault code ≡ Some fault → Goes (CodeOutcome code steps) a a (BadCode fault)
-goes_unsound code steps fault a is = (silent (BadCode fault), refl, unsound fault is refl, gains_none a)
+pub runs_unsound : (code : PlainCode) (steps : ℕ) (stats : Bool) (fault : VerifyFault) (i : SourceSide) (a : SinkSide) → code_fault code ≡ Some fault
+    → Runs (CodeOutcome i.left code steps stats) i i a a (BadCode fault)
+runs_unsound code steps stats fault i a is = inr (inl refl, (silent (BadCode fault), refl, (unsound fault is refl, refl), gains_none a))
 
 -- an object whose code was run
-pub goes_opened : (bytes : List ℕ) (code : PlainCode) (steps : ℕ) (a b : SinkSide) (end : End) → object_fault bytes ≡ None → code ≡ object_code bytes
-    → Goes (CodeOutcome code steps) a b end → Goes (ExecOutcome bytes steps) a b end
-goes_opened bytes code steps a b end clean same g =
-    goes_map (CodeOutcome code steps) (ExecOutcome bytes steps) (λ due o. opened clean (subst (λ c. CodeOutcome c steps due) same o)) a b end g
+pub runs_opened : (bytes : List ℕ) (code : PlainCode) (steps : ℕ) (stats : Bool) (i j : SourceSide) (a b : SinkSide) (end : End) → object_fault bytes ≡ None
+    → code ≡ object_code bytes → Runs (CodeOutcome i.left code steps stats) i j a b end → Runs (ExecOutcome i.left bytes steps stats) i j a b end
+runs_opened bytes code steps stats i j a b end clean same g =
+    runs_map (CodeOutcome i.left code steps stats) (ExecOutcome i.left bytes steps stats)
+    (λ due o. opened clean (subst (λ c. CodeOutcome i.left c steps stats due) same o)) i j a b end g
 
 -- bytes that are none
-pub goes_unopened : (bytes : List ℕ) (steps : ℕ) (fault : ObjectFault) (a : SinkSide) → object_fault bytes ≡ Some fault
-    → Goes (ExecOutcome bytes steps) a a (BadObject fault)
-goes_unopened bytes steps fault a is = (silent (BadObject fault), refl, unopened fault is refl, gains_none a)
+pub runs_unopened : (bytes : List ℕ) (steps : ℕ) (stats : Bool) (fault : ObjectFault) (i : SourceSide) (a : SinkSide) → object_fault bytes ≡ Some fault
+    → Runs (ExecOutcome i.left bytes steps stats) i i a a (BadObject fault)
+runs_unopened bytes steps stats fault i a is = inr (inl refl, (silent (BadObject fault), refl, (unopened fault is refl, refl), gains_none a))
 
--- running the code comes to one outcome
-one_code_run : (code : PlainCode) (steps : ℕ) (first second : Due) → CodeOutcome code steps first → CodeOutcome code steps second → first ≡ second
-one_code_run code steps first second (executed c q e) (executed c' q' e') = e ∙ sym e'
-one_code_run code steps first second (reading c q e) (reading c' q' e') = e ∙ sym e'
-one_code_run code steps first second (executed c q e) (reading c' q' e') = cc (q, q')
-one_code_run code steps first second (reading c q e) (executed c' q' e') = cc (q, q')
-one_code_run code steps first second (executed c q e) (unsound fault c' e') = cc (c, c')
-one_code_run code steps first second (unsound fault c e) (executed c' q' e') = cc (c, c')
-one_code_run code steps first second (reading c q e) (unsound fault c' e') = cc (c, c')
-one_code_run code steps first second (unsound fault c e) (reading c' q' e') = cc (c, c')
-one_code_run code steps first second (unsound fault c e) (unsound other c' e') =
+-- running code on an input that is told comes to one outcome
+one_input : (input : List ℕ) (code : PlainCode) (steps : ℕ) (stats : Bool) (first second : Due) → InputOutcome (Some input) code steps stats first
+    → InputOutcome (Some input) code steps stats second → first ≡ second
+one_input input code steps stats first second (unread q e) (unread q' e') = e ∙ sym e'
+one_input input code steps stats first second (unread q e) (taken bytes q' l s e') = cc (q, q')
+one_input input code steps stats first second (unread q e) (past_input q' m e') = cc (q, q')
+one_input input code steps stats first second (taken bytes q l s e) (unread q' e') = cc (q, q')
+one_input input code steps stats first second (taken bytes q l s e) (taken other q' l' s' e') =
+    e ∙ ap (λ z. code_due code z steps stats) (sym l ∙ l') ∙ sym e'
+one_input input code steps stats first second (taken bytes q l s e) (past_input q' m e') =
+    absurd (omega (arith, m, s, ap length l))
+one_input input code steps stats first second (past_input q m e) (unread q' e') = cc (q, q')
+one_input input code steps stats first second (past_input q m e) (taken bytes q' l s e') =
+    absurd (omega (arith, m, s, ap length l))
+one_input input code steps stats first second (past_input q m e) (past_input q' m' e') = e ∙ sym e'
+
+one_code_run : (input : List ℕ) (code : PlainCode) (steps : ℕ) (stats : Bool) (first second : Due) → CodeOutcome (Some input) code steps stats first
+    → CodeOutcome (Some input) code steps stats second → first ≡ second
+one_code_run input code steps stats first second (executed c o) (executed c' o') = one_input input code steps stats first second o o'
+one_code_run input code steps stats first second (executed c o) (unsound fault c' e') = cc (c, c')
+one_code_run input code steps stats first second (unsound fault c e) (executed c' o') = cc (c, c')
+one_code_run input code steps stats first second (unsound fault c e) (unsound other c' e') =
     let same : fault ≡ other = cc (c, c') in
     e ∙ ap (λ f. silent (BadCode f)) same ∙ sym e'
 
 -- and so does running an object
-pub one_execution : (bytes : List ℕ) (steps : ℕ) (first second : Due) → ExecOutcome bytes steps first → ExecOutcome bytes steps second → first ≡ second
-one_execution bytes steps first second (opened c o) (opened c' o') = one_code_run (object_code bytes) steps first second o o'
-one_execution bytes steps first second (opened c o) (unopened fault c' e') = cc (c, c')
-one_execution bytes steps first second (unopened fault c e) (opened c' o') = cc (c, c')
-one_execution bytes steps first second (unopened fault c e) (unopened other c' e') =
+pub one_execution : (input bytes : List ℕ) (steps : ℕ) (stats : Bool) (first second : Due) → ExecOutcome (Some input) bytes steps stats first
+    → ExecOutcome (Some input) bytes steps stats second → first ≡ second
+one_execution input bytes steps stats first second (opened c o) (opened c' o') = one_code_run input (object_code bytes) steps stats first second o o'
+one_execution input bytes steps stats first second (opened c o) (unopened fault c' e') = cc (c, c')
+one_execution input bytes steps stats first second (unopened fault c e) (opened c' o') = cc (c, c')
+one_execution input bytes steps stats first second (unopened fault c e) (unopened other c' e') =
     let same : fault ≡ other = cc (c, c') in
     e ∙ ap (λ f. silent (BadObject f)) same ∙ sym e'
 
@@ -248,7 +352,7 @@ stored_as name bytes = record { name = name; bytes = bytes }
 
 -- bytes that were stored
 pub works_stored : (f f' : FilesSide) (name bytes : List ℕ) (a : SinkSide) → OthersStay f f' name → NowHas (f.told name) (f'.told name) bytes
-    → f'.store_faults ≡ f.store_faults → Works (IsStoring name bytes) f f' a a Succeeded
+    → f'.store_faults ≡ f.store_faults → Works (IsStoring name bytes) f f' a a (Succeeded None)
 works_stored f f' name bytes a others now same = inr (done (storing name bytes) (stored_as name bytes) refl refl (gains_none a) (others, now, same) refl)
 
 -- files of which one tells what it told, and the others too
@@ -306,48 +410,77 @@ pub works_read : (source : List ℕ) (P : Program → Due → Type 0) (p : Progr
     → Works (P p) f f' a b end → Works (SourceOutcome source P) f f' a b end
 works_read source P p f f' a b end parsed is w = works_map (P p) (SourceOutcome source P) (λ due o. compiled p parsed is o) f f' a b end w
 
--- ---- what keeps the files
+-- ---- what keeps the files, and what leaves the input
 
--- an outcome that stores nothing keeps the files
-pub works_kept : (P : Due → Type 0) → ((due : Due) → P due → due.stored ≡ None) → (f : FilesSide) (a b : SinkSide) (end : End) → Goes P a b end → Works P f f a b end
-works_kept P none f a b end g = inl (files_same f, goes_map P (Keeps P) (λ due o. (o, none due o)) a b end g)
+-- a run that may read the input serves a request, where nothing is stored
+pub serves_run : (P : Due → Type 0) → ((due : Due) → P due → due.stored ≡ None) → (f : FilesSide) (i j : SourceSide) (a b : SinkSide) (end : End)
+    → Runs P i j a b end → Serves P f f i j a b end
+serves_run P none f i j a b end (inl h) = inl (files_same f, h)
+serves_run P none f i j a b end (inr h) =
+    inr (h.0, inl (files_same f, goes_map (Moves P i j) (Keeps (Moves P i j)) (λ due m. (m, none due m.0)) a b end h.1))
 
--- what is due is this, and so what it stores
-stored_is : (due other : Due) → due ≡ other → other.stored ≡ None → due.stored ≡ None
-stored_is due other e h = ap (λ (d : Due). d.stored) e ∙ h
+-- a course that leaves the input
+pub serves_still : (P : Due → Type 0) → ((due : Due) → P due → due.reads ≡ false) → (f f' : FilesSide) (i : SourceSide) (a b : SinkSide) (end : End)
+    → Works P f f' a b end → Serves P f f' i i a b end
+serves_still P none f f' i a b end w = inr (inl refl, works_map P (Moves P i i) (λ due o. (o, takes_none due i (none due o))) f f' a b end w)
 
-program_keeps : (p : Program) (steps : ℕ) (due : Due) → ProgramOutcome p steps due → due.stored ≡ None
-program_keeps p steps due (ran code size sound implements e) = ap (λ (d : Due). d.stored) e
-program_keeps p steps due (too_much_code size e) = ap (λ (d : Due). d.stored) e
+input_keeps : (left : Option (List ℕ)) (code : PlainCode) (steps : ℕ) (stats : Bool) (due : Due) → InputOutcome left code steps stats due → due.stored ≡ None
+input_keeps left code steps stats due (unread q e) = ap (λ (d : Due). d.stored) e
+input_keeps left code steps stats due (taken bytes q l s e) = ap (λ (d : Due). d.stored) e
+input_keeps left code steps stats due (past_input q m e) = ap (λ (d : Due). d.stored) e
 
-pub run_keeps : (source : List ℕ) (steps : ℕ) (due : Due) → SourceOutcome source (λ p. ProgramOutcome p steps) due → due.stored ≡ None
-run_keeps source steps due (stopped end h e) = ap (λ (d : Due). d.stored) e
-run_keeps source steps due (compiled p parsed is o) = program_keeps p steps due o
+program_keeps : (left : Option (List ℕ)) (p : Program) (steps : ℕ) (stats : Bool) (due : Due) → ProgramOutcome left p steps stats due → due.stored ≡ None
+program_keeps left p steps stats due (ran code size sound implements o) = input_keeps left code steps stats due o
+program_keeps left p steps stats due (too_much_code size e) = ap (λ (d : Due). d.stored) e
+
+pub run_keeps : (left : Option (List ℕ)) (source : List ℕ) (steps : ℕ) (stats : Bool) (due : Due) → SourceOutcome source (λ p. ProgramOutcome left p steps stats) due
+    → due.stored ≡ None
+run_keeps left source steps stats due (stopped end h e) = ap (λ (d : Due). d.stored) e
+run_keeps left source steps stats due (compiled p parsed is o) = program_keeps left p steps stats due o
 
 pub list_keeps : (bytes : List ℕ) (due : Due) → ListOutcome bytes due → due.stored ≡ None
 list_keeps bytes due (listed clean is e) = ap (λ (d : Due). d.stored) e
 list_keeps bytes due (no_object fault is e) = ap (λ (d : Due). d.stored) e
 
+list_still : (bytes : List ℕ) (due : Due) → ListOutcome bytes due → due.reads ≡ false
+list_still bytes due (listed clean is e) = ap (λ (d : Due). d.reads) e
+list_still bytes due (no_object fault is e) = ap (λ (d : Due). d.reads) e
+
+program_still : (p : Program) (object : List ℕ) (due : Due) → CompileOutcome p object due → due.reads ≡ false
+program_still p object due (made code bytes size sound implements is e) = ap (λ (d : Due). d.reads) e
+program_still p object due (past_size size e) = ap (λ (d : Due). d.reads) e
+
+compile_still : (source object : List ℕ) (due : Due) → SourceOutcome source (λ p. CompileOutcome p object) due → due.reads ≡ false
+compile_still source object due (stopped end h e) = ap (λ (d : Due). d.reads) e
+compile_still source object due (compiled p parsed is o) = program_still p object due o
+
 -- running an object stores nothing
-code_keeps : (code : PlainCode) (steps : ℕ) (due : Due) → CodeOutcome code steps due → due.stored ≡ None
-code_keeps code steps due (executed c q e) = ap (λ (d : Due). d.stored) e
-code_keeps code steps due (reading c q e) = ap (λ (d : Due). d.stored) e
-code_keeps code steps due (unsound fault c e) = ap (λ (d : Due). d.stored) e
+code_keeps : (left : Option (List ℕ)) (code : PlainCode) (steps : ℕ) (stats : Bool) (due : Due) → CodeOutcome left code steps stats due → due.stored ≡ None
+code_keeps left code steps stats due (executed c o) = input_keeps left code steps stats due o
+code_keeps left code steps stats due (unsound fault c e) = ap (λ (d : Due). d.stored) e
 
-pub exec_keeps : (bytes : List ℕ) (steps : ℕ) (due : Due) → ExecOutcome bytes steps due → due.stored ≡ None
-exec_keeps bytes steps due (opened c o) = code_keeps (object_code bytes) steps due o
-exec_keeps bytes steps due (unopened fault c e) = ap (λ (d : Due). d.stored) e
+pub exec_keeps : (left : Option (List ℕ)) (bytes : List ℕ) (steps : ℕ) (stats : Bool) (due : Due) → ExecOutcome left bytes steps stats due → due.stored ≡ None
+exec_keeps left bytes steps stats due (opened c o) = code_keeps left (object_code bytes) steps stats due o
+exec_keeps left bytes steps stats due (unopened fault c e) = ap (λ (d : Due). d.stored) e
 
-pub works_exec : (bytes : List ℕ) (steps : ℕ) (f : FilesSide) (a b : SinkSide) (end : End) → Goes (ExecOutcome bytes steps) a b end
-    → Works (ExecOutcome bytes steps) f f a b end
-works_exec bytes steps f a b end g = works_kept (ExecOutcome bytes steps) (exec_keeps bytes steps) f a b end g
+pub serves_exec : (bytes : List ℕ) (steps : ℕ) (stats : Bool) (f : FilesSide) (i j : SourceSide) (a b : SinkSide) (end : End)
+    → Runs (ExecOutcome i.left bytes steps stats) i j a b end → Serves (ExecOutcome i.left bytes steps stats) f f i j a b end
+serves_exec bytes steps stats f i j a b end g = serves_run (ExecOutcome i.left bytes steps stats) (exec_keeps i.left bytes steps stats) f i j a b end g
 
-pub works_run : (source : List ℕ) (steps : ℕ) (f : FilesSide) (a b : SinkSide) (end : End) → Goes (SourceOutcome source (λ p. ProgramOutcome p steps)) a b end
-    → Works (SourceOutcome source (λ p. ProgramOutcome p steps)) f f a b end
-works_run source steps f a b end g = works_kept (SourceOutcome source (λ p. ProgramOutcome p steps)) (run_keeps source steps) f a b end g
+pub serves_source : (source : List ℕ) (steps : ℕ) (stats : Bool) (f : FilesSide) (i j : SourceSide) (a b : SinkSide) (end : End)
+    → Runs (SourceOutcome source (λ p. ProgramOutcome i.left p steps stats)) i j a b end
+    → Serves (SourceOutcome source (λ p. ProgramOutcome i.left p steps stats)) f f i j a b end
+serves_source source steps stats f i j a b end g =
+    serves_run (SourceOutcome source (λ p. ProgramOutcome i.left p steps stats)) (run_keeps i.left source steps stats) f i j a b end g
 
-pub works_list : (bytes : List ℕ) (f : FilesSide) (a b : SinkSide) (end : End) → Goes (ListOutcome bytes) a b end → Works (ListOutcome bytes) f f a b end
-works_list bytes f a b end g = works_kept (ListOutcome bytes) (list_keeps bytes) f a b end g
+pub serves_list : (bytes : List ℕ) (f : FilesSide) (i : SourceSide) (a b : SinkSide) (end : End) → Goes (ListOutcome bytes) a b end
+    → Serves (ListOutcome bytes) f f i i a b end
+serves_list bytes f i a b end g = serves_run (ListOutcome bytes) (list_keeps bytes) f i i a b end (runs_still (ListOutcome bytes) (list_still bytes) i a b end g)
+
+pub serves_compile : (source object : List ℕ) (f f' : FilesSide) (i : SourceSide) (a b : SinkSide) (end : End)
+    → Works (SourceOutcome source (λ p. CompileOutcome p object)) f f' a b end → Serves (SourceOutcome source (λ p. CompileOutcome p object)) f f' i i a b end
+serves_compile source object f f' i a b end w =
+    serves_still (SourceOutcome source (λ p. CompileOutcome p object)) (compile_still source object) f f' i a b end w
 
 -- a source without a program keeps the files
 source_end_keeps : (source : List ℕ) (P : Program → Due → Type 0) (a : SinkSide) (end : End) → IsSourceEnd source end → Goes (Keeps (SourceOutcome source P)) a a end
@@ -367,10 +500,13 @@ works_stopped source P f a end (inr h) = inl (files_same f, source_end_keeps sou
 
 -- a fetch may have this limit
 pub limit_small : (r : Request) → limit_of r < 2 ^ 62
-limit_small (Run name steps) = omega arith
+limit_small (Check name) = omega arith
 limit_small (Compile name object) = omega arith
 limit_small (Listing object) = omega arith
-limit_small (Exec object steps) = omega arith
+limit_small (Run name steps stats) = omega arith
+limit_small (Exec object steps stats) = omega arith
+limit_small (Trace name steps watch) = omega arith
+limit_small (Sample lines) = omega arith
 
 -- a fetch of this name with this limit is that of the request
 pub fetch_of : (told : List ℕ → Told) (name : List ℕ) (limit : ℕ) (r : Request) (before now : ℕ) (fault : Fetch) → name ≡ read_by r → limit ≡ limit_of r
@@ -379,31 +515,66 @@ fetch_of told name limit r before now fault e l h =
     subst (λ (n : List ℕ). IsFetched (told n) (limit_of r) before now (Err fault)) e
     (subst (λ (k : ℕ). IsFetched (told name) k before now (Err fault)) l h)
 
+-- a request without a print or a store, where the input stays
+serves_silent : (P : Due → Type 0) (f f' : FilesSide) (i : SourceSide) (a : SinkSide) (end : End) → FilesStay f f' → Goes (Keeps (Moves P i i)) a a end
+    → Serves P f f' i i a a end
+serves_silent P f f' i a end s g = inr (inl refl, inl (s, g))
+
 -- a file that was not fetched
-pub performs_unfetched : (f f' : FilesSide) (r : Request) (fault : Fetch) (a : SinkSide) → FilesStay f f'
-    → IsFetched (f.told (read_by r)) (limit_of r) f.fetch_faults f'.fetch_faults (Err fault) → Performs (RequestOutcome f.told r) f f' a a (fetch_end fault)
-performs_unfetched f f' r fetch.Absent a s h =
-    inr (h.1, inl (s, (silent ReadFault, refl, (absent h.0 refl, refl), gains_none a)))
-performs_unfetched f f' r fetch.Failed a s h = inl (refl, (h.0, h.1), s, gains_none a)
-performs_unfetched f f' r fetch.TooLong a s h = inr (h.1, inl (s, (silent TooLong, refl, (too_long h.0 refl, refl), gains_none a)))
-performs_unfetched f f' r fetch.Memory a s h = inr (h, inl (s, goes_starved (Keeps (RequestOutcome f.told r)) a))
+pub performs_unfetched : (f f' : FilesSide) (r : Request) (fault : Fetch) (i : SourceSide) (a : SinkSide) → FilesStay f f'
+    → IsFetched (f.told (read_by r)) (limit_of r) f.fetch_faults f'.fetch_faults (Err fault) → Performs (RequestOutcome f.told i.left r) f f' i i a a (fetch_end fault)
+performs_unfetched f f' r fetch.Absent i a s h =
+    inr (h.1, serves_silent (RequestOutcome f.told i.left r) f f' i a ReadFault s (silent ReadFault, refl, ((absent h.0 refl, refl), refl), gains_none a))
+performs_unfetched f f' r fetch.Failed i a s h = inl ((refl, (h.0, h.1), s, gains_none a), refl)
+performs_unfetched f f' r fetch.TooLong i a s h =
+    inr (h.1, serves_silent (RequestOutcome f.told i.left r) f f' i a TooLong s (silent TooLong, refl, ((past_limit h.0 refl, refl), refl), gains_none a))
+performs_unfetched f f' r fetch.Memory i a s h =
+    inr (h, serves_silent (RequestOutcome f.told i.left r) f f' i a Memory s (goes_starved (Keeps (Moves (RequestOutcome f.told i.left r) i i)) a))
+
+-- a request inside another
+serves_map : (P Q : Due → Type 0) → ((due : Due) → P due → Q due) → (f f' : FilesSide) (i j : SourceSide) (a b : SinkSide) (end : End)
+    → Serves P f f' i j a b end → Serves Q f f' i j a b end
+serves_map P Q g f f' i j a b end (inl h) = inl (h.0, fails_map P Q g i j a b end h.1)
+serves_map P Q g f f' i j a b end (inr h) = inr (reads_map P Q g i j h.0, works_map (Moves P i j) (Moves Q i j) (moves_map P Q g i j) f f' a b end h.1)
+
+-- a request behind a fetch, which leaves the files
+serves_after : (P : Due → Type 0) (f m f' : FilesSide) (i j : SourceSide) (a b : SinkSide) (end : End) → FilesStay f m → Serves P m f' i j a b end
+    → Serves P f f' i j a b end
+serves_after P f m f' i j a b end s (inl h) = inl ((λ name. h.0.0 name ∙ s.0 name, h.0.1 ∙ s.1), h.1)
+serves_after P f m f' i j a b end s (inr h) = inr (h.0, works_after (Moves P i j) f m f' a b end s h.1)
 
 -- a file that was fetched
-pub performs_fetched : (f m f' : FilesSide) (r : Request) (bytes : List ℕ) (a b : SinkSide) (end : End) → FilesStay f m
+pub performs_fetched : (f m f' : FilesSide) (r : Request) (bytes : List ℕ) (i j : SourceSide) (a b : SinkSide) (end : End) → FilesStay f m
     → MayHave (f.told (read_by r)) bytes → length bytes ≤ limit_of r → m.fetch_faults ≡ f.fetch_faults → f'.fetch_faults ≡ m.fetch_faults
-    → Works (FileOutcome r bytes) m f' a b end → Performs (RequestOutcome f.told r) f f' a b end
-performs_fetched f m f' r bytes a b end s has short q q' w =
-    inr (q' ∙ q, works_map (FileOutcome r bytes) (RequestOutcome f.told r) (λ due o. fetched bytes has short o) f f' a b end (works_after (FileOutcome r bytes) f m f' a b end s w))
+    → Serves (FileOutcome i.left r bytes) m f' i j a b end → Performs (RequestOutcome f.told i.left r) f f' i j a b end
+performs_fetched f m f' r bytes i j a b end s has short q q' w =
+    inr (
+      q' ∙ q,
+      serves_map (FileOutcome i.left r bytes) (RequestOutcome f.told i.left r) (λ due o. fetched bytes has short o) f f' i j a b end
+          (serves_after (FileOutcome i.left r bytes) f m f' i j a b end s w),
+    )
 
 -- words that are no request
-pub performs_bad : (words : List (List ℕ)) (f : FilesSide) (error : WordsError) (a : SinkSide)
-    → Reads words (Err error) → Performs (Outcome words f.told) f f a a (words_end error)
-performs_bad ws f (words.Bad k) a h = inr (refl, inl (files_same f, (silent (BadWord k), refl, (bad_word k h refl, refl), gains_none a)))
-performs_bad ws f words.Memory a h = absurd h
+pub performs_bad : (words : List (List ℕ)) (f : FilesSide) (error : WordsError) (i : SourceSide) (a : SinkSide)
+    → Reads words (Err error) → Performs (Outcome words f.told i.left) f f i i a a (words_end error)
+performs_bad ws f (words.Bad k) i a h =
+    inr (refl, serves_silent (Outcome ws f.told i.left) f f i a (BadWord k) (files_same f) (silent (BadWord k), refl, ((bad_word k h refl, refl), refl), gains_none a))
+performs_bad ws f words.Memory i a h =
+    inr (refl, serves_silent (Outcome ws f.told i.left) f f i a Memory (files_same f) (goes_starved (Keeps (Moves (Outcome ws f.told i.left) i i)) a))
+
+-- words that are a request which is not built
+pub performs_unbuilt : (words : List (List ℕ)) (request : Request) (f : FilesSide) (i : SourceSide) (a : SinkSide) → Asks words request
+    → is_built request ≡ false → Performs (Outcome words f.told i.left) f f i i a a (BadWord 1)
+performs_unbuilt words request f i a h none =
+    inr (
+      refl,
+      serves_silent (Outcome words f.told i.left) f f i a (BadWord 1) (files_same f)
+          (silent (BadWord 1), refl, ((unbuilt request h none refl, refl), refl), gains_none a),
+    )
 
 -- words that are a request
-pub performs_asked : (words : List (List ℕ)) (request : Request) (f f' : FilesSide) (a b : SinkSide) (end : End)
-    → Asks words request → Performs (RequestOutcome f.told request) f f' a b end → Performs (Outcome words f.told) f f' a b end
-performs_asked words request f f' a b end h (inl p) = inl p
-performs_asked words request f f' a b end h (inr p) =
-    inr (p.0, works_map (RequestOutcome f.told request) (Outcome words f.told) (λ due o. asks request h o) f f' a b end p.1)
+pub performs_asked : (words : List (List ℕ)) (request : Request) (f f' : FilesSide) (i j : SourceSide) (a b : SinkSide) (end : End)
+    → Asks words request → is_built request ≡ true → Performs (RequestOutcome f.told i.left request) f f' i j a b end → Performs (Outcome words f.told i.left) f f' i j a b end
+performs_asked words request f f' i j a b end h built (inl p) = inl p
+performs_asked words request f f' i j a b end h built (inr p) =
+    inr (p.0, serves_map (RequestOutcome f.told i.left request) (Outcome words f.told i.left) (λ due o. asks request h built o) f f' i j a b end p.1)

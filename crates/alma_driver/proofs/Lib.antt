@@ -3,4 +3,3 @@ pub mod DriverLemmas
 pub mod RefusalLemmas
 pub mod ReportLemmas
 pub mod RunLemmas
-pub mod WordLemmas

@@ -2,12 +2,12 @@
 use Rattle.std.proofs.Common.{◌≡◌, ◌<◌, ◌+◌, ℕ, zero, suc, List, [], ◌++◌, refl, length, take, drop, get_or, ap, sym, ◌∙◌, add-one, append_assoc, drop-cons}
 use Rattle.std.proofs.lemmas.List.{take-append-drop}
 use Rattle.std.proofs.lemmas.List.Concat.{flat_map-append}
-use Rattle.std.specs.Prelude.{Option, None, Some, flat_map, codes, decimal}
+use Rattle.std.specs.Prelude.{Option, None, Some, Result, Ok, Err, OnOk, OnErr, flat_map, codes, decimal}
 use Rattle.alma_base.specs.Fault.{run_fault_text}
 use Rattle.alma_base.specs.declared.fault.RunFault.{RunFault}
 use Rattle.alma_code.specs.Lines.{known_line}
 use Rattle.alma_object.specs.declared.fault.ObjectFault.{ObjectFault}
-use Rattle.alma_driver.specs.Ends.{line_text, fault_text, object_fault_name, object_fault_number, number_text, object_text, rule_line}
+use Rattle.alma_driver.specs.Ends.{line_text, fault_text, object_fault_name, object_fault_number, number_text, object_text, rule_line, counts_line}
 use Rattle.std.specs.Borrow.{Bor}
 use Rattle.std.specs.Io.KnownBytes.{Appends}
 use Rattle.alma_io.specs.Fronts.{AppendsFront}
@@ -76,3 +76,29 @@ numbered_parts fault number front name middle digits end some f n m d e =
     ∙ ap (λ x. codes "alma: object " ++ (object_fault_name fault ++ (codes " " ++ (decimal number ++ (x ++ []))))) e
     ∙ ap (λ x. codes "alma: object " ++ (object_fault_name fault ++ x)) (sym (append_assoc (codes " ") (decimal number) (codes "\n")))
     ∙ ap (λ k. codes "alma: object " ++ (object_fault_name fault ++ (number_text k ++ codes "\n"))) (sym some)
+
+-- the parts of the line of counts
+pub counts_parts : (first steps second choices third fails end : List ℕ) → first ≡ codes "steps " → second ≡ codes " choices " → third ≡ codes " fails " → end ≡ codes "\n"
+    → first ++ (steps ++ (second ++ (choices ++ (third ++ (fails ++ (end ++ [])))))) ≡ counts_line steps choices fails
+counts_parts first steps second choices third fails end f s t e =
+    ap (λ x. x ++ (steps ++ (second ++ (choices ++ (third ++ (fails ++ (end ++ []))))))) f
+    ∙ ap (λ x. codes "steps " ++ (steps ++ (x ++ (choices ++ (third ++ (fails ++ (end ++ []))))))) s
+    ∙ ap (λ x. codes "steps " ++ (steps ++ (codes " choices " ++ (choices ++ (x ++ (fails ++ (end ++ []))))))) t
+    ∙ ap (λ x. codes "steps " ++ (steps ++ (codes " choices " ++ (choices ++ (codes " fails " ++ (fails ++ (x ++ []))))))) e
+
+-- bytes that are out, and then all of more
+pub ok_then : {T E : Type 0} (r : Result T E) (a b c : Option (List ℕ)) (bytes more : List ℕ) → Appends a b bytes → OnOk r (Appends b c more)
+    → OnOk r (Appends a c (bytes ++ more))
+ok_then (Ok v) a b c bytes more h k = appends_trans a b c bytes more h k
+ok_then (Err e) a b c bytes more h k = tt
+
+-- bytes that are out, and then a prefix of more
+pub front_then : {T E : Type 0} (r : Result T E) (a b c : Option (List ℕ)) (bytes more : List ℕ) → Appends a b bytes → OnErr r (AppendsFront b c more)
+    → OnErr r (AppendsFront a c (bytes ++ more))
+front_then (Ok v) a b c bytes more h k = tt
+front_then (Err e) a b c bytes more h x =
+    (bytes ++ x.0, x.1, ap (λ z. bytes ++ z) x.2 ∙ sym (append_assoc bytes x.0 x.1), appends_trans a b c bytes x.0 h x.3)
+
+-- a prefix of bytes is one of these and more
+pub front_more : (a b : Option (List ℕ)) (bytes more : List ℕ) → AppendsFront a b bytes → AppendsFront a b (bytes ++ more)
+front_more a b bytes more x = (x.0, x.1 ++ more, ap (λ z. z ++ more) x.2 ∙ append_assoc x.0 x.1 more, x.3)

@@ -1,10 +1,12 @@
 -- How a call that comes to an outcome may go: to its end, or into a fault or want of memory.
-use Rattle.std.specs.Prelude.{◌≡◌, ◌≢◌, ◌⊎◌, List, ℕ, [], None, Some}
+use Rattle.std.specs.Prelude.{◌≡◌, ◌≢◌, ◌⊎◌, ◌+◌, Bool, true, false, List, ℕ, [], None, Some}
+use Rattle.alma_base.specs.Limits.{input_limit}
 use Rattle.std.specs.Io.KnownBytes.{Appends}
 use Rattle.alma_io.specs.Files.{NowHas}
 use Rattle.alma_io.specs.Fronts.{AppendsFront}
-use Rattle.alma_driver.specs.Words.{file_of}
-use Rattle.alma_driver.specs.Outside.{SinkSide, FilesSide, Outside, HasRisen, FilesStay}
+use Rattle.alma_io.specs.Whole.{LosesAtMost}
+use Rattle.alma_words.specs.Words.{file_of}
+use Rattle.alma_driver.specs.Outside.{SinkSide, SourceSide, FilesSide, Outside, HasRisen, FilesStay}
 use Rattle.alma_driver.specs.Ends.{status_of, text_of}
 use Rattle.alma_driver.specs.Outcome.{Due, Stored, Outcome}
 use Rattle.alma_driver.specs.declared.end.End.{End}
@@ -30,6 +32,36 @@ abbrev pub Goes : (Due → Type 0) → SinkSide → SinkSide → End → Type 0
 Goes outcome old new WriteFault = (due : Due) × outcome due × FailsWithin old new due.out
 Goes outcome old new Memory = GainsPrefix outcome old new × (new.faults ≡ old.faults)
 Goes outcome old new end = (due : Due) × (due.end ≡ end) × outcome due × Gains old new due.out
+
+-- ---- the input
+
+-- where it is read no more is lost than its limit and one byte, and it did not fail; else it stays
+abbrev pub Takes : (reads : Bool) → SourceSide → SourceSide → Type 0
+Takes false old new = new ≡ old
+Takes true old new = LosesAtMost old.left new.left (input_limit + 1) × (new.faults ≡ old.faults)
+
+-- what is due is this, and the input is read where it says so
+abbrev pub Moves : (Due → Type 0) → SourceSide → SourceSide → Due → Type 0
+Moves outcome input input' due = outcome due × Takes due.reads input input'
+
+-- an outcome reads the input
+abbrev pub MayRead : (Due → Type 0) → Type 0
+MayRead outcome = (due : Due) × outcome due × (due.reads ≡ true)
+
+-- the input stays, or an outcome reads it
+abbrev pub ReadsOnly : (Due → Type 0) → SourceSide → SourceSide → Type 0
+ReadsOnly outcome input input' = (input' ≡ input) ⊎ (MayRead outcome × Takes true input input')
+
+-- an outcome reads the input, and that failed; nothing was written
+abbrev pub FailsToRead : (Due → Type 0) → SourceSide → SourceSide → SinkSide → SinkSide → End → Type 0
+FailsToRead outcome input input' out out' end =
+    (end ≡ ReadFault) × MayRead outcome × LosesAtMost input.left input'.left (input_limit + 1) × HasRisen input.faults input'.faults × Gains out out' []
+
+-- How a call may come to this end, by what becomes of the input and of out: the input failed; or it did not, and it was
+-- read where what is due says so, and, where memory ran out, only where an outcome reads it.
+abbrev pub Runs : (Due → Type 0) → SourceSide → SourceSide → SinkSide → SinkSide → End → Type 0
+Runs outcome input input' out out' end =
+    FailsToRead outcome input input' out out' end ⊎ (ReadsOnly outcome input input' × Goes (Moves outcome input input') out out' end)
 
 -- ---- the files
 
@@ -68,10 +100,17 @@ abbrev pub FailsToFetch : FilesSide → FilesSide → SinkSide → SinkSide → 
 FailsToFetch files files' out out' end =
     (end ≡ ReadFault) × HasRisen files.fetch_faults files'.fetch_faults × FilesStay files files' × Gains out out' []
 
--- How a call may come to this end: a fetch failed; or none did.
-abbrev pub Performs : (Due → Type 0) → FilesSide → FilesSide → SinkSide → SinkSide → End → Type 0
-Performs outcome files files' out out' end =
-    FailsToFetch files files' out out' end ⊎ ((files'.fetch_faults ≡ files.fetch_faults) × Works outcome files files' out out' end)
+-- How a call may come to this end where no fetch failed: the input failed, and the files stay; or it did not.
+abbrev pub Serves : (Due → Type 0) → FilesSide → FilesSide → SourceSide → SourceSide → SinkSide → SinkSide → End → Type 0
+Serves outcome files files' input input' out out' end =
+    (FilesStay files files' × FailsToRead outcome input input' out out' end)
+    ⊎ (ReadsOnly outcome input input' × Works (Moves outcome input input') files files' out out' end)
+
+-- How a call may come to this end: a fetch failed, and the input stays; or none did.
+abbrev pub Performs : (Due → Type 0) → FilesSide → FilesSide → SourceSide → SourceSide → SinkSide → SinkSide → End → Type 0
+Performs outcome files files' input input' out out' end =
+    (FailsToFetch files files' out out' end × (input' ≡ input))
+    ⊎ ((files'.fetch_faults ≡ files.fetch_faults) × Serves outcome files files' input input' out out' end)
 
 -- How an end is reported, where the words name this file: err gained its text, and its status is answered; or err failed
 -- within the text.
@@ -83,6 +122,5 @@ Reports file end old new status =
 -- How a call with these words may change what is outside, and which status it may answer.
 pub record Answers (words : List (List ℕ)) (before after : Outside) (status : ℕ) : Type 0 where
   pub end : End
-  pub performed : Performs (Outcome words before.files.told) before.files after.files before.out after.out end
+  pub performed : Performs (Outcome words before.files.told before.input.left) before.files after.files before.input after.input before.out after.out end
   pub reported : Reports (file_of words) end before.err after.err status
-  pub input : after.input ≡ before.input

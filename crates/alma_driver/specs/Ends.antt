@@ -1,5 +1,5 @@
 -- The ends of a call: their statuses and their texts.
-use Rattle.std.specs.Prelude.{List, ℕ, [], ◌++◌, codes, decimal, Option, Some, None}
+use Rattle.std.specs.Prelude.{Bool, true, false, List, ℕ, [], ◌++◌, codes, decimal, Option, Some, None}
 use Rattle.alma_base.specs.Fault.{lex_fault_text, syntax_fault_text, run_fault_text}
 use Rattle.alma_base.specs.declared.place.Place.{Place}
 use Rattle.alma_io.specs.declared.files.Fetch.{Fetch}
@@ -17,25 +17,28 @@ use Rattle.alma_code.specs.declared.step.End.TheVariants as ended
 use Rattle.alma_code.specs.Lines.{known_line}
 use Rattle.alma_code.specs.declared.step.VerifyFault.{VerifyFault}
 use Rattle.alma_base.specs.declared.fault.RunFault.{RunFault}
-use Rattle.alma_code.specs.Machine.{Mode, Going, Failing, Ended, Stuck}
+use Rattle.alma_code.specs.Machine.{Mode, Going, Failing, Ended, Stuck, State}
 use Rattle.alma_engine.specs.declared.machine.RunEnd.{RunEnd}
 use Rattle.alma_engine.specs.declared.machine.RunEnd.TheVariants as run
-use Rattle.alma_driver.specs.declared.words.WordsError.{WordsError}
-use Rattle.alma_driver.specs.declared.words.WordsError.TheVariants as words
+use Rattle.alma_io.specs.declared.whole.ReadAll.{ReadAll}
+use Rattle.alma_io.specs.declared.whole.ReadAll.TheVariants as whole
+use Rattle.alma_words.specs.declared.words.WordsError.{WordsError}
+use Rattle.alma_words.specs.declared.words.WordsError.TheVariants as words
 use Rattle.alma_driver.specs.declared.fault.SourceFault.{SourceFault}
 use Rattle.alma_driver.specs.declared.fault.SourceFault.TheVariants.{Lex, Syntax}
+use Rattle.alma_driver.specs.declared.end.Counts.{Counts}
 use Rattle.alma_driver.specs.declared.end.End.{End}
 use Rattle.alma_driver.specs.declared.end.End.TheVariants.{Succeeded, Failed, BadWord, Refused, Faulted, StepsOut, ReadFault, WriteFault}
 use Rattle.alma_driver.specs.declared.end.End.TheVariants.{Memory, BadObject, BadCode, TooLong, TooMuchCode, NotYet}
 
 -- the status of an end
 abbrev pub status_of : End → ℕ
-status_of Succeeded = 0
-status_of Failed = 1
+status_of (Succeeded counts) = 0
+status_of (Failed counts) = 1
 status_of (BadWord k) = 2
 status_of (Refused fault place) = 3
-status_of (Faulted fault line) = 4
-status_of StepsOut = 5
+status_of (Faulted fault line counts) = 4
+status_of (StepsOut counts) = 5
 status_of ReadFault = 6
 status_of WriteFault = 7
 status_of Memory = 8
@@ -45,14 +48,14 @@ status_of TooLong = 10
 status_of (TooMuchCode size) = 11
 status_of NotYet = 12
 
--- the text of an end, but for what names a word, a place, a fault or a size
+-- the text of an end, but for what names a word, a place, a fault, a size or counts
 abbrev pub fixed_text : End → List ℕ
-fixed_text Succeeded = []
-fixed_text Failed = []
+fixed_text (Succeeded counts) = []
+fixed_text (Failed counts) = []
 fixed_text (BadWord k) = []
 fixed_text (Refused fault place) = []
-fixed_text (Faulted fault line) = []
-fixed_text StepsOut = codes "alma: steps out\n"
+fixed_text (Faulted fault line counts) = []
+fixed_text (StepsOut counts) = codes "alma: steps out\n"
 fixed_text ReadFault = codes "alma: read fault\n"
 fixed_text WriteFault = codes "alma: write fault\n"
 fixed_text Memory = codes "alma: out of memory\n"
@@ -120,37 +123,70 @@ rule_line rule at = codes "alma: object Rule " ++ (rule ++ (codes " " ++ (at ++ 
 abbrev pub rule_text : VerifyFault → List ℕ
 rule_text fault = rule_line (decimal fault.rule) (decimal fault.at)
 
--- the text of an end, where the words name this file
-abbrev pub text_of : (file : List ℕ) → End → List ℕ
-text_of file (BadWord k) = codes "alma: bad word " ++ (decimal k ++ codes "\n")
-text_of file (Refused fault place) = refusal_text file fault place
-text_of file (Faulted fault line) = fault_text fault line
-text_of file (BadObject fault) = object_text fault
-text_of file (BadCode fault) = rule_text fault
-text_of file (TooMuchCode size) = codes "alma: too much code " ++ (decimal size ++ codes "\n")
-text_of file end = fixed_text end
+-- the line of counts
+abbrev pub counts_line : (steps choices fails : List ℕ) → List ℕ
+counts_line steps choices fails =
+    codes "steps " ++ (steps ++ (codes " choices " ++ (choices ++ (codes " fails " ++ (fails ++ codes "\n")))))
 
--- the end of a call whose run ended, with the line of the last instruction
-abbrev pub ended_end : code.End → (line : ℕ) → End
-ended_end ended.Succeeded line = Succeeded
-ended_end ended.Failed line = Failed
-ended_end (ended.Fault fault) line = Faulted fault line
+-- the same where there are counts
+abbrev pub counts_text : Option Counts → List ℕ
+counts_text None = []
+counts_text (Some counts) = counts_line (decimal counts.steps) (decimal counts.choices) (decimal counts.fails)
+
+-- the counts that an end tells
+abbrev pub counts_with : End → Option Counts
+counts_with (Succeeded counts) = counts
+counts_with (Failed counts) = counts
+counts_with (Faulted fault line counts) = counts
+counts_with (StepsOut counts) = counts
+counts_with end = None
+
+-- the text of an end behind its counts, where the words name this file
+abbrev pub end_text : (file : List ℕ) → End → List ℕ
+end_text file (BadWord k) = codes "alma: bad word " ++ (decimal k ++ codes "\n")
+end_text file (Refused fault place) = refusal_text file fault place
+end_text file (Faulted fault line counts) = fault_text fault line
+end_text file (BadObject fault) = object_text fault
+end_text file (BadCode fault) = rule_text fault
+end_text file (TooMuchCode size) = codes "alma: too much code " ++ (decimal size ++ codes "\n")
+end_text file end = fixed_text end
+
+-- the text of an end: counts come first
+abbrev pub text_of : (file : List ℕ) → End → List ℕ
+text_of file end = counts_text (counts_with end) ++ end_text file end
+
+-- the counts of a state, where they are asked for
+abbrev pub counts_in : (stats : Bool) → State → Option Counts
+counts_in false s = None
+counts_in true s = Some (record { steps = s.steps; choices = s.choices; fails = s.fails })
+
+-- the end of a call whose run ended, with the line of the last instruction, and counts
+abbrev pub ended_end : code.End → (line : ℕ) → Option Counts → End
+ended_end ended.Succeeded line counts = Succeeded counts
+ended_end ended.Failed line counts = Failed counts
+ended_end (ended.Fault fault) line counts = Faulted fault line counts
 
 -- the end of a call whose run is left in this mode
-abbrev pub mode_end : Mode → (line : ℕ) → End
-mode_end (Ended end) line = ended_end end line
-mode_end Going line = StepsOut
-mode_end Failing line = StepsOut
-mode_end Stuck line = StepsOut
+abbrev pub mode_end : Mode → (line : ℕ) → Option Counts → End
+mode_end (Ended end) line counts = ended_end end line counts
+mode_end Going line counts = StepsOut counts
+mode_end Failing line counts = StepsOut counts
+mode_end Stuck line counts = StepsOut counts
 
 -- the end of a call by the answer of its run
-abbrev pub run_end : RunEnd → (line : ℕ) → End
-run_end run.Succeeded line = Succeeded
-run_end run.Failed line = Failed
-run_end (run.Fault fault) line = Faulted fault line
-run_end run.StepsOut line = StepsOut
-run_end run.WriteFault line = WriteFault
-run_end run.Memory line = Memory
+abbrev pub run_end : RunEnd → (line : ℕ) → Option Counts → End
+run_end run.Succeeded line counts = Succeeded counts
+run_end run.Failed line counts = Failed counts
+run_end (run.Fault fault) line counts = Faulted fault line counts
+run_end run.StepsOut line counts = StepsOut counts
+run_end run.WriteFault line counts = WriteFault
+run_end run.Memory line counts = Memory
+
+-- the end of a call whose input was not read
+abbrev pub input_end : ReadAll → End
+input_end whole.Fault = ReadFault
+input_end whole.TooLong = TooLong
+input_end whole.Memory = Memory
 
 -- the end of a program that was not compiled
 abbrev pub lower_end : LowerError → End

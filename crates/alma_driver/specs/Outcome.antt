@@ -1,8 +1,9 @@
 -- What a call comes to where memory is found and nothing fails, layer by layer.
-use Rattle.std.specs.Prelude.{◌≡◌, ◌<◌, ◌≤◌, ◌+◌, ◌*◌, ◌/◌, ◌⊎◌, suc, true, false, List, ℕ, [], length, Option, None, Some}
+use Rattle.std.specs.Prelude.{◌≡◌, ◌<◌, ◌≤◌, ◌+◌, ◌*◌, ◌/◌, ◌⊎◌, suc, Bool, true, false, List, ℕ, [], length, Option, None, Some}
 use Rattle.std.specs.List.{list_any}
-use Rattle.alma_base.specs.Limits.{size_limit}
+use Rattle.alma_base.specs.Limits.{size_limit, input_limit}
 use Rattle.alma_io.specs.Files.{Told, Missing, MayHave, MayPass}
+use Rattle.alma_io.specs.Whole.{MayHaveMore}
 use Rattle.alma_ir.specs.Tree.{Program}
 use Rattle.alma_ir.specs.Count.{saturate, nodes}
 use Rattle.alma_mean.specs.Events.{first, end_of, visit_count, CutOff}
@@ -11,6 +12,7 @@ use Rattle.alma_code.specs.declared.step.End as code
 use Rattle.alma_code.specs.declared.step.VerifyFault.{VerifyFault}
 use Rattle.alma_code.specs.ListText.{list_text}
 use Rattle.alma_code.specs.Plain.{PlainCode}
+use Rattle.alma_code.specs.Machine.{State}
 use Rattle.alma_code.specs.Rules.{IsSound, code_fault}
 use Rattle.alma_object.specs.declared.fault.ObjectFault.{ObjectFault}
 use Rattle.alma_object.specs.Object.{IsObject}
@@ -19,10 +21,12 @@ use Rattle.alma_object.specs.Walk.{object_fault}
 use Rattle.alma_whole.specs.Bytes.{object_code}
 use Rattle.alma_implements.specs.Implements.{Implements, Covers, meant_end, state_after, printed_by, line_in}
 use Rattle.alma_front.specs.Source.{IsSource}
-use Rattle.alma_driver.specs.Words.{Request, Run, Compile, Listing, Exec, Asks, IsBadWord, read_by, limit_of}
-use Rattle.alma_driver.specs.Ends.{ended_end, mode_end}
+use Rattle.alma_words.specs.Words.{Request, Check, Compile, Listing, Run, Exec, Trace, Sample, Asks, IsBadWord}
+use Rattle.alma_driver.specs.Words.{is_built, read_by, limit_of}
+use Rattle.alma_driver.specs.Ends.{ended_end, mode_end, counts_in}
 use Rattle.alma_driver.specs.Refusal.{IsRefused, IsParsed, place_of}
 use Rattle.alma_driver.specs.declared.fault.SourceFault.{SourceFault}
+use Rattle.alma_driver.specs.declared.end.Counts.{Counts}
 use Rattle.alma_driver.specs.declared.end.End.{End}
 use Rattle.alma_driver.specs.declared.end.End.TheVariants.{Succeeded, BadWord, Refused, StepsOut, ReadFault, Memory, BadObject, BadCode, TooLong, TooMuchCode, NotYet}
 
@@ -35,15 +39,16 @@ pub record Stored : Type 0 where
   pub name : List ℕ
   pub bytes : List ℕ
 
--- what is due from a call: its end, the bytes that it writes to out, and what it stores
+-- what is due from a call: its end, the bytes that it writes to out, what it stores, and whether it reads the input
 pub record Due : Type 0 where
   pub end : End
   pub out : List ℕ
   pub stored : Option Stored
+  pub reads : Bool
 
--- an end with these bytes on out, and nothing stored
+-- an end with these bytes on out, where nothing is stored and the input stays
 abbrev pub due_of : End → List ℕ → Due
-due_of end out = record { end = end; out = out; stored = None }
+due_of end out = record { end = end; out = out; stored = None; reads = false }
 
 -- an end without a print
 abbrev pub silent : End → Due
@@ -51,20 +56,52 @@ silent end = due_of end []
 
 -- success without a print, where these bytes are stored under this name
 abbrev pub storing : (name bytes : List ℕ) → Due
-storing name bytes = record { end = Succeeded; out = []; stored = Some (record { name = name; bytes = bytes }) }
+storing name bytes = record { end = Succeeded None; out = []; stored = Some (record { name = name; bytes = bytes }); reads = false }
+
+-- ---- code and its input
+
+-- an instruction of the code reads
+abbrev pub has_read : PlainCode → Bool
+has_read code = list_any is_read code.instrs
+
+-- the end of code in a state, with the counts where they are asked for
+abbrev pub code_end : PlainCode → (stats : Bool) → State → End
+code_end code stats s = mode_end s.mode (line_in code s) (counts_in stats s)
+
+-- what a run of code on an input for so many steps comes to
+abbrev pub code_due : PlainCode → (input : List ℕ) → (steps : ℕ) → (stats : Bool) → Due
+code_due code input steps stats = record {
+  end = code_end code stats (state_after code input steps);
+  out = printed_by code input steps;
+  stored = None;
+  reads = has_read code;
+}
+
+-- what is left of the input may be these bytes
+abbrev pub MayBeLeft : Option (List ℕ) → List ℕ → Type 0
+MayBeLeft None bytes = Unit {0}
+MayBeLeft (Some left) bytes = left ≡ bytes
+
+-- an input that was read and is too long
+abbrev pub long_input : Due
+long_input = record { end = TooLong; out = []; stored = None; reads = true }
+
+-- What a run of code comes to, by what is left of the input: where the code reads, the whole input is read before its
+-- first step, and may be too long; where it does not, it runs on an empty one.
+pub data InputOutcome (left : Option (List ℕ)) (code : PlainCode) (steps : ℕ) (stats : Bool) (due : Due) : Type 0 where
+  unread : has_read code ≡ false → due ≡ code_due code [] steps stats → InputOutcome left code steps stats due
+  taken : (input : List ℕ) → has_read code ≡ true → MayBeLeft left input → length input ≤ input_limit → due ≡ code_due code input steps stats
+      → InputOutcome left code steps stats due
+  past_input : has_read code ≡ true → MayHaveMore left input_limit → due ≡ long_input → InputOutcome left code steps stats due
 
 -- ---- programs
 
--- what a run of code on an input for so many steps comes to
-abbrev pub code_due : PlainCode → (input : List ℕ) → (steps : ℕ) → Due
-code_due code input steps =
-    due_of (mode_end (state_after code input steps).mode (line_in code (state_after code input steps))) (printed_by code input steps)
-
--- What a run of a program for so many steps comes to, without input: what a sound code that implements it comes to in
--- so many steps, or the refusal of its size.
-pub data ProgramOutcome (p : Program) (steps : ℕ) (due : Due) : Type 0 where
-  ran : (code : PlainCode) → size_of p ≤ size_limit → IsSound code → Implements code p → due ≡ code_due code [] steps → ProgramOutcome p steps due
-  too_much_code : size_limit < size_of p → due ≡ silent (TooMuchCode (size_of p)) → ProgramOutcome p steps due
+-- What a run of a program for so many steps comes to: what a sound code that implements it comes to in so many steps, or
+-- the refusal of its size.
+pub data ProgramOutcome (left : Option (List ℕ)) (p : Program) (steps : ℕ) (stats : Bool) (due : Due) : Type 0 where
+  ran : (code : PlainCode) → size_of p ≤ size_limit → IsSound code → Implements code p → InputOutcome left code steps stats due
+      → ProgramOutcome left p steps stats due
+  too_much_code : size_limit < size_of p → due ≡ silent (TooMuchCode (size_of p)) → ProgramOutcome left p steps stats due
 
 -- What compiling a program under a name comes to: the object of a sound code that implements it is stored there, or the
 -- refusal of its size.
@@ -76,18 +113,29 @@ pub data CompileOutcome (p : Program) (object : List ℕ) (due : Due) : Type 0 w
 -- ---- the same by the meaning alone
 
 -- So many steps may not be enough for the meaning of the program: at 32 steps for each visit, and 32 more, they would be.
-abbrev pub MayRunOut : Program → (steps : ℕ) → Type 0
-MayRunOut p steps =
-    (level : ℕ) → (end_of (first (ev_program level p [])) ≡ CutOff → ⊥) → steps < 32 * (visit_count (first (ev_program level p [])) + 1)
+abbrev pub MayRunOut : Program → (input : List ℕ) → (steps : ℕ) → Type 0
+MayRunOut p input steps =
+    (level : ℕ) → (end_of (first (ev_program level p input)) ≡ CutOff → ⊥) → steps < 32 * (visit_count (first (ev_program level p input)) + 1)
 
--- What the meaning of a program says of such a run: its result, a fault at the line where it comes, or a front of its
--- prints that covers one visit for each 32 steps; or the refusal of its size.
-pub data Meant (p : Program) (steps : ℕ) (due : Due) : Type 0 where
-  whole : (printed : List ℕ) (end : code.End) (line : ℕ) → size_of p ≤ size_limit → result (suc steps) p [] ≡ (printed, meant_end end line)
-      → due ≡ due_of (ended_end end line) printed → Meant p steps due
-  front : (printed : List ℕ) → size_of p ≤ size_limit → Covers (first (ev_program (suc steps) p [])) printed (steps / 32)
-      → MayRunOut p steps → due ≡ due_of StepsOut printed → Meant p steps due
-  too_large : size_limit < size_of p → due ≡ silent (TooMuchCode (size_of p)) → Meant p steps due
+-- What the meaning of a program says of such a run on an input: its result, a fault at the line where it comes, or a front
+-- of its prints that covers one visit for each 32 steps.
+pub data MeansOn (p : Program) (input : List ℕ) (steps : ℕ) (due : Due) : Type 0 where
+  whole : (printed : List ℕ) (end : code.End) (line : ℕ) (counts : Option Counts) → result (suc steps) p input ≡ (printed, meant_end end line)
+      → due.end ≡ ended_end end line counts → due.out ≡ printed → MeansOn p input steps due
+  front : (printed : List ℕ) (counts : Option Counts) → Covers (first (ev_program (suc steps) p input)) printed (steps / 32)
+      → MayRunOut p input steps → due.end ≡ StepsOut counts → due.out ≡ printed → MeansOn p input steps due
+
+-- the input on which a run goes, by whether it is read
+abbrev pub IsTaken : Option (List ℕ) → (reads : Bool) → List ℕ → Type 0
+IsTaken left false input = input ≡ []
+IsTaken left true input = MayBeLeft left input × (length input ≤ input_limit)
+
+-- What it says by what is left of the input: the program runs on that, or, where it is not read, on an empty input; or the
+-- input is too long; or the refusal of its size.
+pub data Meant (left : Option (List ℕ)) (p : Program) (steps : ℕ) (due : Due) : Type 0 where
+  meant_on : (input : List ℕ) → size_of p ≤ size_limit → IsTaken left due.reads input → MeansOn p input steps due → Meant left p steps due
+  too_long : size_of p ≤ size_limit → MayHaveMore left input_limit → due ≡ long_input → Meant left p steps due
+  too_large : size_limit < size_of p → due ≡ silent (TooMuchCode (size_of p)) → Meant left p steps due
 
 -- ---- sources and objects
 
@@ -103,46 +151,48 @@ pub data SourceOutcome (source : List ℕ) (program_outcome : Program → Due �
 
 -- What listing bytes comes to: the text of the code whose object they are, or the first fault of the format.
 pub data ListOutcome (bytes : List ℕ) (due : Due) : Type 0 where
-  listed : object_fault bytes ≡ None → IsObject (object_code bytes) bytes → due ≡ due_of Succeeded (list_text (object_code bytes))
+  listed : object_fault bytes ≡ None → IsObject (object_code bytes) bytes → due ≡ due_of (Succeeded None) (list_text (object_code bytes))
       → ListOutcome bytes due
   no_object : (fault : ObjectFault) → object_fault bytes ≡ Some fault → due ≡ silent (BadObject fault) → ListOutcome bytes due
 
--- What running code of a stranger for so many steps comes to: what it comes to in so many steps; that it reads, which is
--- not built yet; or the first rule that it breaks.
-pub data CodeOutcome (code : PlainCode) (steps : ℕ) (due : Due) : Type 0 where
-  executed : code_fault code ≡ None → list_any is_read code.instrs ≡ false → due ≡ code_due code [] steps → CodeOutcome code steps due
-  reading : code_fault code ≡ None → list_any is_read code.instrs ≡ true → due ≡ silent NotYet → CodeOutcome code steps due
-  unsound : (fault : VerifyFault) → code_fault code ≡ Some fault → due ≡ silent (BadCode fault) → CodeOutcome code steps due
+-- What running code of a stranger for so many steps comes to: what it comes to in so many steps, or the first rule that it breaks.
+pub data CodeOutcome (left : Option (List ℕ)) (code : PlainCode) (steps : ℕ) (stats : Bool) (due : Due) : Type 0 where
+  executed : code_fault code ≡ None → InputOutcome left code steps stats due → CodeOutcome left code steps stats due
+  unsound : (fault : VerifyFault) → code_fault code ≡ Some fault → due ≡ silent (BadCode fault) → CodeOutcome left code steps stats due
 
 -- what running the code of an object comes to; or the first fault of the format of bytes that are none
-pub data ExecOutcome (bytes : List ℕ) (steps : ℕ) (due : Due) : Type 0 where
-  opened : object_fault bytes ≡ None → CodeOutcome (object_code bytes) steps due → ExecOutcome bytes steps due
-  unopened : (fault : ObjectFault) → object_fault bytes ≡ Some fault → due ≡ silent (BadObject fault) → ExecOutcome bytes steps due
+pub data ExecOutcome (left : Option (List ℕ)) (bytes : List ℕ) (steps : ℕ) (stats : Bool) (due : Due) : Type 0 where
+  opened : object_fault bytes ≡ None → CodeOutcome left (object_code bytes) steps stats due → ExecOutcome left bytes steps stats due
+  unopened : (fault : ObjectFault) → object_fault bytes ≡ Some fault → due ≡ silent (BadObject fault) → ExecOutcome left bytes steps stats due
 
 -- ---- requests
 
--- what a request comes to, by the bytes of the file that it reads
-abbrev pub FileOutcome : Request → List ℕ → Due → Type 0
-FileOutcome (Run name steps) source due = SourceOutcome source (λ p. ProgramOutcome p steps) due
-FileOutcome (Compile name object) source due = SourceOutcome source (λ p. CompileOutcome p object) due
-FileOutcome (Listing object) bytes due = ListOutcome bytes due
-FileOutcome (Exec object steps) bytes due = ExecOutcome bytes steps due
+-- what a request comes to, by what is left of the input and the bytes of the file that it reads; none that is not built
+abbrev pub FileOutcome : Option (List ℕ) → Request → List ℕ → Due → Type 0
+FileOutcome left (Check name) source due = ⊥
+FileOutcome left (Compile name object) source due = SourceOutcome source (λ p. CompileOutcome p object) due
+FileOutcome left (Listing object) bytes due = ListOutcome bytes due
+FileOutcome left (Run name steps stats) source due = SourceOutcome source (λ p. ProgramOutcome left p steps stats) due
+FileOutcome left (Exec object steps stats) bytes due = ExecOutcome left bytes steps stats due
+FileOutcome left (Trace name steps watch) source due = ⊥
+FileOutcome left (Sample lines) source due = ⊥
 
 -- what a request comes to, by what the files tell
-pub data RequestOutcome (told : List ℕ → Told) (request : Request) (due : Due) : Type 0 where
-  absent : told (read_by request) ≡ Missing → due ≡ silent ReadFault → RequestOutcome told request due
-  too_long : MayPass (told (read_by request)) (limit_of request) → due ≡ silent TooLong → RequestOutcome told request due
-  fetched : (bytes : List ℕ) → MayHave (told (read_by request)) bytes → length bytes ≤ limit_of request → FileOutcome request bytes due
-      → RequestOutcome told request due
+pub data RequestOutcome (told : List ℕ → Told) (left : Option (List ℕ)) (request : Request) (due : Due) : Type 0 where
+  absent : told (read_by request) ≡ Missing → due ≡ silent ReadFault → RequestOutcome told left request due
+  past_limit : MayPass (told (read_by request)) (limit_of request) → due ≡ silent TooLong → RequestOutcome told left request due
+  fetched : (bytes : List ℕ) → MayHave (told (read_by request)) bytes → length bytes ≤ limit_of request → FileOutcome left request bytes due
+      → RequestOutcome told left request due
 
--- what words come to, by what the files tell
-pub data Outcome (words : List (List ℕ)) (told : List ℕ → Told) (due : Due) : Type 0 where
-  bad_word : (k : ℕ) → IsBadWord words k → due ≡ silent (BadWord k) → Outcome words told due
-  asks : (request : Request) → Asks words request → RequestOutcome told request due → Outcome words told due
+-- what words come to, by what the files tell and what is left of the input
+pub data Outcome (words : List (List ℕ)) (told : List ℕ → Told) (left : Option (List ℕ)) (due : Due) : Type 0 where
+  bad_word : (k : ℕ) → IsBadWord words k → due ≡ silent (BadWord k) → Outcome words told left due
+  unbuilt : (request : Request) → Asks words request → is_built request ≡ false → due ≡ silent (BadWord 1) → Outcome words told left due
+  asks : (request : Request) → Asks words request → is_built request ≡ true → RequestOutcome told left request due → Outcome words told left due
 
 -- the words ask to read a file that is told to be missing
 abbrev pub Lacks : List (List ℕ) → (List ℕ → Told) → Type 0
-Lacks words told = (request : Request) × Asks words request × (told (read_by request) ≡ Missing)
+Lacks words told = (request : Request) × Asks words request × (is_built request ≡ true) × (told (read_by request) ≡ Missing)
 
 -- ---- inner: how the reading of a source may stop
 

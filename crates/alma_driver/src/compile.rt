@@ -30,7 +30,7 @@ fn store_object<F: Files>(alloc: Global, object: &str, bytes: &[u8], files: &mut
         out out result }
 {
     match files.store(alloc, object, bytes) {
-        Ok(()) => End::Succeeded,
+        Ok(()) => End::Succeeded(None),
         Err(fault) => End::from(fault),
     }
 }

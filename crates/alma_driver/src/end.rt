@@ -2,34 +2,42 @@
 ghost use Rattle.std.specs.Prelude.{◌≡◌};
 ghost use Rattle.alma_code.specs.Lines.{line_at};
 ghost use Rattle.alma_object.specs.View.{code_of_view};
-ghost use Rattle.alma_driver.specs.Ends.{status_of, fixed_text, run_end, lower_end, read_end, words_end, fetch_end, store_end};
+ghost use Rattle.alma_driver.specs.Ends.{status_of, counts_with, fixed_text, run_end, input_end, lower_end, read_end, words_end, fetch_end, store_end};
 
 use crate::fault::SourceFault;
-use crate::words::WordsError;
 use alma_base::{Place, RunFault};
 use alma_code::VerifyFault;
 use alma_engine::RunEnd;
 use alma_front::ReadError;
-use alma_io::{Fetch, StoreFault};
+use alma_io::{Fetch, ReadAll, StoreFault};
 use alma_lower::LowerError;
 use alma_object::{ObjectFault, ObjectView};
+use alma_words::WordsError;
+
+/// What a run counted: the steps that it made, the choice entries that it pushed, and those that it popped.
+#[derive(Clone, Copy, Debug, PartialEq, Eq)]
+pub struct Counts {
+    pub steps: u64,
+    pub choices: u64,
+    pub fails: u64,
+}
 
 /// How a call ends, but for what becomes of its text on err.
 #[derive(Clone, Copy, Debug, PartialEq, Eq)]
 pub enum End {
-    /// The program succeeded.
-    Succeeded,
+    /// The call succeeded; with the counts of its run, where they are asked for.
+    Succeeded(Option<Counts>),
     /// The program failed.
-    Failed,
+    Failed(Option<Counts>),
     /// The first word, from 1, that cannot stand where it is, or one more than there are.
     BadWord(usize),
     /// The source is no program of the grammar: its fault, and the place of it.
     Refused(SourceFault, Place),
     /// The run stopped in a fault, at this line; 0 where none is known.
-    Faulted(RunFault, u32),
+    Faulted(RunFault, u32, Option<Counts>),
     /// All steps were made, and the run was not at its end.
-    StepsOut,
-    /// The file is missing, or a fetch failed.
+    StepsOut(Option<Counts>),
+    /// The file is missing, or a fetch or a read of the input failed.
     ReadFault,
     /// A write or a store failed.
     WriteFault,
@@ -39,11 +47,11 @@ pub enum End {
     BadObject(ObjectFault),
     /// The code of the object is not sound: the first rule that it breaks, and where.
     BadCode(VerifyFault),
-    /// The source or the object is past its greatest length.
+    /// The source, the object or the input is past its greatest length.
     TooLong,
     /// The size of the program, which is past the greatest.
     TooMuchCode(u64),
-    /// The source is a program of the grammar, and not of the language so far; or the code of the object reads.
+    /// The source is a program of the grammar, and not of the language so far.
     NotYet,
 }
 
@@ -53,12 +61,12 @@ impl End {
         ensures { result ≡ status_of self }
     {
         match self {
-            End::Succeeded => 0,
-            End::Failed => 1,
+            End::Succeeded(_) => 0,
+            End::Failed(_) => 1,
             End::BadWord(_) => 2,
             End::Refused(_, _) => 3,
-            End::Faulted(_, _) => 4,
-            End::StepsOut => 5,
+            End::Faulted(_, _, _) => 4,
+            End::StepsOut(_) => 5,
             End::ReadFault => 6,
             End::WriteFault => 7,
             End::Memory => 8,
@@ -69,16 +77,29 @@ impl End {
         }
     }
 
-    /// The text on err, but for that of an end which names a word, a place, a fault or a size.
+    /// The counts that it tells.
+    pub fn counts(self) -> Option<Counts>
+        ensures { result ≡ counts_with self }
+    {
+        match self {
+            End::Succeeded(counts) => counts,
+            End::Failed(counts) => counts,
+            End::Faulted(_, _, counts) => counts,
+            End::StepsOut(counts) => counts,
+            _ => None,
+        }
+    }
+
+    /// The text on err behind counts, but for that of an end which names a word, a place, a fault, a size or counts.
     pub fn fixed_text(self) -> &'static [u8]
         ensures { result.now ≡ fixed_text self }
     {
         match self {
-            End::Succeeded | End::Failed => b"",
+            End::Succeeded(_) | End::Failed(_) => b"",
             End::BadWord(_) | End::Refused(_, _) => b"",
-            End::Faulted(_, _) | End::TooMuchCode(_) => b"",
+            End::Faulted(_, _, _) | End::TooMuchCode(_) => b"",
             End::BadObject(_) | End::BadCode(_) => b"",
-            End::StepsOut => b"alma: steps out\n",
+            End::StepsOut(_) => b"alma: steps out\n",
             End::ReadFault => b"alma: read fault\n",
             End::WriteFault => b"alma: write fault\n",
             End::Memory => b"alma: out of memory\n",
@@ -88,15 +109,15 @@ impl End {
     }
 }
 
-/// The end of a call by the answer of its run, and the line of the last instruction.
-pub fn end_of(run: RunEnd, line: u32) -> End
-    ensures { result ≡ run_end run line }
+/// The end of a call by the answer of its run, the line of the last instruction, and counts.
+pub fn end_of(run: RunEnd, line: u32, counts: Option<Counts>) -> End
+    ensures { result ≡ run_end run line counts }
 {
     match run {
-        RunEnd::Succeeded => End::Succeeded,
-        RunEnd::Failed => End::Failed,
-        RunEnd::Fault(fault) => End::Faulted(fault, line),
-        RunEnd::StepsOut => End::StepsOut,
+        RunEnd::Succeeded => End::Succeeded(counts),
+        RunEnd::Failed => End::Failed(counts),
+        RunEnd::Fault(fault) => End::Faulted(fault, line, counts),
+        RunEnd::StepsOut => End::StepsOut(counts),
         RunEnd::WriteFault => End::WriteFault,
         RunEnd::Memory => End::Memory,
     }
@@ -109,6 +130,18 @@ pub fn line_of(view: &ObjectView<'_>, at: u32) -> u32
     match view.line_of(at) {
         Some(line) => line,
         None => 0,
+    }
+}
+
+impl From<ReadAll> for End {
+    ghost from_gives = { λ error end. end ≡ input_end error };
+
+    fn from(error: ReadAll) -> Self {
+        match error {
+            ReadAll::Fault => End::ReadFault,
+            ReadAll::TooLong => End::TooLong,
+            ReadAll::Memory => End::Memory,
+        }
     }
 }
 

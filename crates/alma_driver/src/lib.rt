@@ -1,4 +1,4 @@
-//! The words of a call, and all that the program does.
+//! All that the program does.
 #![tactic(auto)]
 
 mod check;
@@ -7,12 +7,12 @@ mod driver;
 mod end;
 mod exec;
 mod fault;
+mod input;
 pub mod laws;
 mod list;
 mod load;
 mod report;
 mod run;
-mod words;
+mod task;
 
 pub use driver::alma;
-pub use words::{Request, WordsError, read_words};

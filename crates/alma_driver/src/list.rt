@@ -1,5 +1,5 @@
 // The command `list`.
-ghost use Rattle.std.specs.Prelude.{◌≡◌};
+ghost use Rattle.std.specs.Prelude.{◌≡◌, None};
 ghost use Rattle.alma_code.specs.ListText.{list_text as list_text_of};
 ghost use Rattle.alma_code.specs.Plain.{code_of};
 ghost use Rattle.alma_object.specs.View.{code_of_view};
@@ -19,19 +19,19 @@ use std::alloc::Global;
 
 // Writes a text.
 fn write_text<O: Sink>(text: &[u8], out: &mut O) -> End
-    ensures { Goes (λ due. due ≡ due_of Succeeded text.now)
+    ensures { Goes (λ due. due ≡ due_of (Succeeded None) text.now)
         (sink_side (O.written out.old) (O.faults out.old))
         (sink_side (O.written out.new) (O.faults out.new)) result }
 {
     match write_all(out, text) {
-        Ok(()) => End::Succeeded,
+        Ok(()) => End::Succeeded(None),
         Err(_) => End::WriteFault,
     }
 }
 
 // Writes the text that lists a code.
 fn list_code<O: Sink>(alloc: Global, code: &Code, out: &mut O) -> End
-    ensures { Goes (λ due. due ≡ due_of Succeeded (list_text_of (code_of code.now)))
+    ensures { Goes (λ due. due ≡ due_of (Succeeded None) (list_text_of (code_of code.now)))
         (sink_side (O.written out.old) (O.faults out.old))
         (sink_side (O.written out.new) (O.faults out.new)) result }
 {
@@ -43,7 +43,7 @@ fn list_code<O: Sink>(alloc: Global, code: &Code, out: &mut O) -> End
 
 // Writes the text that lists the code of a view.
 fn list_view<O: Sink>(alloc: Global, view: &ObjectView<'_>, out: &mut O) -> End
-    ensures { Goes (λ due. due ≡ due_of Succeeded (list_text_of (code_of_view view.now)))
+    ensures { Goes (λ due. due ≡ due_of (Succeeded None) (list_text_of (code_of_view view.now)))
         (sink_side (O.written out.old) (O.faults out.old))
         (sink_side (O.written out.new) (O.faults out.new)) result }
 {

@@ -1,13 +1,13 @@
 // What a call says on err at its end.
-ghost use Rattle.std.specs.Prelude.{◌++◌, codes, flat_map, OnOk, OnErr};
+ghost use Rattle.std.specs.Prelude.{◌++◌, codes, flat_map, OnOk, OnErr, Some};
 ghost use Rattle.std.specs.Io.KnownBytes.{Appends};
 ghost use Rattle.alma_io.specs.Causes.{HasCause};
 ghost use Rattle.alma_io.specs.Fronts.{AppendsFront};
 ghost use Rattle.alma_driver.specs.Outside.{sink_side};
-ghost use Rattle.alma_driver.specs.Ends.{fault_text, object_text, refusal_line, refusal_text, rule_line, rule_text, text_of};
+ghost use Rattle.alma_driver.specs.Ends.{counts_line, counts_text, end_text, fault_text, object_text, refusal_line, refusal_text, rule_line, rule_text, text_of};
 ghost use Rattle.alma_driver.specs.Course.{Reports};
 
-use crate::end::End;
+use crate::end::{Counts, End};
 use crate::fault::{SourceFault, object_fault_name, object_fault_number};
 use alma_base::{Place, RunFault, Status};
 use alma_code::VerifyFault;
@@ -149,12 +149,64 @@ fn write_rule<E: Sink>(err: &mut E, fault: VerifyFault) -> Result<(), WriteFault
     write_rule_line(err, rule, at)
 }
 
-// Writes the text of an end, where the words name this file.
-fn write_end<E: Sink>(err: &mut E, file: &str, end: End) -> Result<(), WriteFault>
+// Writes the line of counts, by the texts in it.
+fn write_counts_line<E: Sink>(
+    err: &mut E,
+    steps: &[u8],
+    choices: &[u8],
+    fails: &[u8],
+) -> Result<(), WriteFault>
     ensures ok { OnOk result (Appends (E.written err.old) (E.written err.new)
-        (text_of file.now end)) }
+        (counts_line steps.now choices.now fails.now)) }
     ensures front { OnErr result (AppendsFront (E.written err.old) (E.written err.new)
-        (text_of file.now end)) }
+        (counts_line steps.now choices.now fails.now)) }
+    ensures cause { HasCause (E.faults err.old) (E.faults err.new) result }
+{
+    let first = b"steps ".as_slice();
+    let second = b" choices ".as_slice();
+    let third = b" fails ".as_slice();
+    let end = b"\n".as_slice();
+    write_parts(err, &[first, steps, second, choices, third, fails, end])
+}
+
+// Writes counts.
+fn write_known_counts<E: Sink>(err: &mut E, counts: Counts) -> Result<(), WriteFault>
+    ensures ok { OnOk result (Appends (E.written err.old) (E.written err.new)
+        (counts_text (Some counts))) }
+    ensures front { OnErr result (AppendsFront (E.written err.old) (E.written err.new)
+        (counts_text (Some counts))) }
+    ensures cause { HasCause (E.faults err.old) (E.faults err.new) result }
+{
+    let mut steps = Buffer::new();
+    let mut choices = Buffer::new();
+    let mut fails = Buffer::new();
+    let steps = steps.format(counts.steps).as_bytes();
+    let choices = choices.format(counts.choices).as_bytes();
+    let fails = fails.format(counts.fails).as_bytes();
+    write_counts_line(err, steps, choices, fails)
+}
+
+// Writes the line of counts, where there are any.
+#[tactic(auto, using(alma_io::proofs::Known::appends_none))]
+fn write_counts<E: Sink>(err: &mut E, counts: Option<Counts>) -> Result<(), WriteFault>
+    ensures ok { OnOk result (Appends (E.written err.old) (E.written err.new)
+        (counts_text counts)) }
+    ensures front { OnErr result (AppendsFront (E.written err.old) (E.written err.new)
+        (counts_text counts)) }
+    ensures cause { HasCause (E.faults err.old) (E.faults err.new) result }
+{
+    match counts {
+        Some(counts) => write_known_counts(err, counts),
+        None => Ok(()),
+    }
+}
+
+// Writes the text of an end behind its counts, where the words name this file.
+fn write_text<E: Sink>(err: &mut E, file: &str, end: End) -> Result<(), WriteFault>
+    ensures ok { OnOk result (Appends (E.written err.old) (E.written err.new)
+        (end_text file.now end)) }
+    ensures front { OnErr result (AppendsFront (E.written err.old) (E.written err.new)
+        (end_text file.now end)) }
     ensures cause { HasCause (E.faults err.old) (E.faults err.new) result }
 {
     let mut digits = Buffer::new();
@@ -163,13 +215,27 @@ fn write_end<E: Sink>(err: &mut E, file: &str, end: End) -> Result<(), WriteFaul
             write_line(err, b"alma: bad word ", digits.format(word).as_bytes())
         }
         End::Refused(fault, place) => write_refusal(err, file, fault, place),
-        End::Faulted(fault, line) => write_fault(err, fault, line),
+        End::Faulted(fault, line, _) => write_fault(err, fault, line),
         End::BadObject(fault) => write_object_fault(err, fault),
         End::BadCode(fault) => write_rule(err, fault),
         End::TooMuchCode(size) => {
             write_line(err, b"alma: too much code ", digits.format(size).as_bytes())
         }
         _ => write_all(err, end.fixed_text()),
+    }
+}
+
+// Writes counts, where an end has them, and its text.
+fn write_end<E: Sink>(err: &mut E, file: &str, end: End) -> Result<(), WriteFault>
+    ensures ok { OnOk result (Appends (E.written err.old) (E.written err.new)
+        (text_of file.now end)) }
+    ensures front { OnErr result (AppendsFront (E.written err.old) (E.written err.new)
+        (text_of file.now end)) }
+    ensures cause { HasCause (E.faults err.old) (E.faults err.new) result }
+{
+    match write_counts(err, end.counts()) {
+        Ok(()) => write_text(err, file, end),
+        Err(fault) => Err(fault),
     }
 }
 

@@ -32,8 +32,8 @@ pub(crate) const WRITE_FAULT: Answer = Answer {
     err: b"alma: write fault\n",
 };
 
-// The words as the program takes them.
-fn words_of(alloc: Global, words: &[&str]) -> Result<Vec<String>, Fail> {
+/// The words as the program takes them.
+pub(crate) fn words_of(alloc: Global, words: &[&str]) -> Result<Vec<String>, Fail> {
     let mut found = Vec::new(alloc);
     for word in words {
         found.push(String::from_str(alloc, word)?)?;

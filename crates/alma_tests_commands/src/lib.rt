@@ -6,6 +6,8 @@ mod call;
 #[cfg(test)]
 mod exec;
 #[cfg(test)]
+mod input;
+#[cfg(test)]
 mod object;
 #[cfg(test)]
 mod objects;

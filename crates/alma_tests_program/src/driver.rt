@@ -620,7 +620,7 @@ struct Words {
     answer: Answer<'static>,
 }
 
-const WORDS: [Words; 22] = [
+const WORDS: [Words; 24] = [
     Words {
         words: &[],
         answer: BAD_WORD_1,
@@ -631,6 +631,14 @@ const WORDS: [Words; 22] = [
     },
     Words {
         words: &["check", "a.al"],
+        answer: BAD_WORD_1,
+    },
+    Words {
+        words: &["trace", "a.al"],
+        answer: BAD_WORD_1,
+    },
+    Words {
+        words: &["sample", "1"],
         answer: BAD_WORD_1,
     },
     Words {
@@ -655,7 +663,7 @@ const WORDS: [Words; 22] = [
     },
     Words {
         words: &["run", "a.al", "--stats", "b"],
-        answer: BAD_WORD_3,
+        answer: BAD_WORD_4,
     },
     Words {
         words: &["run", "a.al", "--steps=0"],

@@ -1,4 +1,3 @@
-use Rattle.std.proofs.Common.{refl}
 use Rattle.alma_driver.proofs.CauseLemmas.{causes_of}
 use Rattle.alma_driver.proofs.driver.alma.Goals as goal
 
@@ -7,5 +6,4 @@ returns-clause-causes g c = causes_of _ _ _ _ (record {
   end = c.perform-end.result;
   performed = c.perform-end.ensures;
   reported = rw c.file_word.ensures at c.report.ensures;
-  input = refl;
 })

@@ -1,37 +1,39 @@
-use Rattle.alma_driver.specs.Outside.{files_side, sink_side}
-use Rattle.alma_driver.proofs.DriverLemmas.{works_run, works_list, works_exec}
+use Rattle.alma_driver.specs.Outside.{files_side, source_side, sink_side}
+use Rattle.alma_driver.proofs.DriverLemmas.{serves_source, serves_compile, serves_list, serves_exec}
 use Rattle.alma_driver.proofs.driver.serve_file.Goals as goal
 
 pub run_source-requires-clause-short : goal.run_source-requires-clause-short
 run_source-requires-clause-short g c = rw c.in-Run.is at c.requires.short
 
 pub run_source-requires-clause-few : goal.run_source-requires-clause-few
-run_source-requires-clause-few g c = rw c.in-Run.is at c.requires.steps
+run_source-requires-clause-few g c = rw c.in-Run.is at c.requires.within
 
 pub returns-in-Run-clause-course : goal.returns-in-Run-clause-course
 returns-in-Run-clause-course g c =
-    rw c.in-Run.is (works_run c.args.bytes.now c.in-Run.steps
-    (files_side (g.F.Files.told c.args.files.now) (g.F.Files.fetch_faults c.args.files.now) (g.F.Files.store_faults c.args.files.now))
-    (sink_side (g.O.Sink.written c.args.out.now) (g.O.Sink.faults c.args.out.now))
+    rw c.in-Run.is (serves_source c.args.bytes.now c.in-Run.steps c.in-Run.stats
+    (files_side (g.F.Files.told c.args.files.now) (g.F.Files.fetch_faults c.args.files.now) (g.F.Files.store_faults c.args.files.now)) (source_side (g.I.Source.left c.args.input.now) (g.I.Source.faults c.args.input.now))
+    (source_side (g.I.Source.left c.run_source.new.input) (g.I.Source.faults c.run_source.new.input)) (sink_side (g.O.Sink.written c.args.out.now) (g.O.Sink.faults c.args.out.now))
     (sink_side (g.O.Sink.written c.run_source.new.out) (g.O.Sink.faults c.run_source.new.out)) c.run_source.result c.run_source.ensures)
 
 pub returns-in-Compile-clause-course : goal.returns-in-Compile-clause-course
 returns-in-Compile-clause-course g c =
-    rw c.in-Compile.is (c.compile_source.ensures.course (sink_side (g.O.Sink.written c.args.out.now) (g.O.Sink.faults c.args.out.now)))
+    rw c.in-Compile.is (serves_compile c.args.bytes.now c.in-Compile.object.now
+    (files_side (g.F.Files.told c.args.files.now) (g.F.Files.fetch_faults c.args.files.now) (g.F.Files.store_faults c.args.files.now))
+    (files_side (g.F.Files.told c.compile_source.new.files) (g.F.Files.fetch_faults c.compile_source.new.files) (g.F.Files.store_faults c.compile_source.new.files)) (source_side (g.I.Source.left c.args.input.now) (g.I.Source.faults c.args.input.now)) (sink_side (g.O.Sink.written c.args.out.now) (g.O.Sink.faults c.args.out.now)) (sink_side (g.O.Sink.written c.args.out.now) (g.O.Sink.faults c.args.out.now))
+    c.compile_source.result (c.compile_source.ensures.course (sink_side (g.O.Sink.written c.args.out.now) (g.O.Sink.faults c.args.out.now))))
 
 pub returns-in-List-clause-course : goal.returns-in-List-clause-course
 returns-in-List-clause-course g c =
-    rw c.in-List.is (works_list c.args.bytes.now
-    (files_side (g.F.Files.told c.args.files.now) (g.F.Files.fetch_faults c.args.files.now) (g.F.Files.store_faults c.args.files.now))
-    (sink_side (g.O.Sink.written c.args.out.now) (g.O.Sink.faults c.args.out.now))
+    rw c.in-List.is (serves_list c.args.bytes.now
+    (files_side (g.F.Files.told c.args.files.now) (g.F.Files.fetch_faults c.args.files.now) (g.F.Files.store_faults c.args.files.now)) (source_side (g.I.Source.left c.args.input.now) (g.I.Source.faults c.args.input.now)) (sink_side (g.O.Sink.written c.args.out.now) (g.O.Sink.faults c.args.out.now))
     (sink_side (g.O.Sink.written c.list_object.new.out) (g.O.Sink.faults c.list_object.new.out)) c.list_object.result c.list_object.ensures)
 
 pub exec_object-requires : goal.exec_object-requires
-exec_object-requires g c = rw c.in-Exec.is at c.requires.steps
+exec_object-requires g c = rw c.in-Exec.is at c.requires.within
 
 pub returns-in-Exec-clause-course : goal.returns-in-Exec-clause-course
 returns-in-Exec-clause-course g c =
-    rw c.in-Exec.is (works_exec c.args.bytes.now c.in-Exec.steps
-    (files_side (g.F.Files.told c.args.files.now) (g.F.Files.fetch_faults c.args.files.now) (g.F.Files.store_faults c.args.files.now))
-    (sink_side (g.O.Sink.written c.args.out.now) (g.O.Sink.faults c.args.out.now))
+    rw c.in-Exec.is (serves_exec c.args.bytes.now c.in-Exec.steps c.in-Exec.stats
+    (files_side (g.F.Files.told c.args.files.now) (g.F.Files.fetch_faults c.args.files.now) (g.F.Files.store_faults c.args.files.now)) (source_side (g.I.Source.left c.args.input.now) (g.I.Source.faults c.args.input.now))
+    (source_side (g.I.Source.left c.exec_object.new.input) (g.I.Source.faults c.exec_object.new.input)) (sink_side (g.O.Sink.written c.args.out.now) (g.O.Sink.faults c.args.out.now))
     (sink_side (g.O.Sink.written c.exec_object.new.out) (g.O.Sink.faults c.exec_object.new.out)) c.exec_object.result c.exec_object.ensures)
