@@ -10,7 +10,12 @@ use call::status_past_limit;
 use case::Case;
 use std::alloc::Global;
 
-const NAMES: [&str; 3] = ["faults.jsonl", "objects.jsonl", "final-exec.jsonl"];
+const NAMES: [&str; 4] = [
+    "faults.jsonl",
+    "words.jsonl",
+    "objects.jsonl",
+    "final-exec.jsonl",
+];
 
 // The most bytes of a file of cases.
 const LIMIT: usize = 16_777_216;
