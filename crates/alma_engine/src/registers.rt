@@ -76,7 +76,6 @@ impl Registers {
     }
 
     /// Puts a number into a slot, or ends the run in its fault.
-    #[inline(always)]
     #[tactic(auto, using(crate::proofs::Words::puts))]
     pub(crate) fn put(&mut self, to: u32, number: Result<i64, RunFault>) -> Result<Step, NoMemory>
         requires { HasNumber self.old.memory.now to }
