@@ -23,6 +23,7 @@ fn is_same(kind: SlotKind, other: SlotKind) -> bool
 pub fn runs_of(alloc: Global, kinds: &[SlotKind]) -> Result<Vec<Run>, NoMemory>
     requires room { length kinds.now ≤ slot_limit }
     ensures names { IfOk result (λ runs. NamesKinds runs.items kinds.now) }
+    ensures few { IfOk result (λ runs. length runs.items ≤ length kinds.now) }
 {
     if kinds.is_empty() {
         return Ok(Vec::new(alloc));

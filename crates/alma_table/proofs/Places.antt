@@ -11,7 +11,7 @@ use Rattle.std.proofs.lemmas.List.Sums.{prefix_len-le-length}
 use Rattle.alma_base.specs.Numbers as alma
 use Rattle.alma_base.specs.declared.number.Range.{Range}
 use Rattle.alma_templates.specs.Tables.{first_place, counted, same_range, same_text}
-use Rattle.alma_table.specs.Numbers.{range_of}
+use Rattle.alma_table.specs.Numbers.{range_of, with_entry}
 
 module _ {K R : Type 0} (f : K → R) (same : R → R → Bool) (a : R) (t : K → Bool) (agrees : (k : K) → t k ≡ same (f k) a) where
   pub place_is : (ks : List K) → position_or_len t ks ≡ first_place same (map f ks) a
@@ -44,6 +44,20 @@ module _ {K R : Type 0} (f : K → R) (same : R → R → Bool) (a : R) (t : K �
           → slice_get (map f (k ∷ ks)) (counted b (first_place same (map f ks) a)) ≡ Some a
       by true e e2 any later = ap Some (is (f k) e)
       by false e e2 any later = later (sym (ap (λ x. x || list_any t ks) (e2 ∙ e)) ∙ any)
+
+  any_is : (ks : List K) → list_any t ks ≡ list_any (λ x. same x a) (map f ks)
+  any_is [] = refl
+  any_is (k ∷ ks) = ap (λ x. x || list_any t ks) (agrees k) ∙ ap (λ x. same (f k) a || x) (any_is ks)
+
+  -- what an insertion makes of the entries
+  pub entered : (ks : List K) (k : K) → f k ≡ a → map f (if list_any t ks then ks else ks ++ k ∷ []) ≡ with_entry same (map f ks) a
+  entered ks k e = by (list_any t ks) (list_any (λ x. same x a) (map f ks)) (any_is ks)
+    where
+      by : (b b2 : Bool) → b ≡ b2 → map f (if b then ks else ks ++ k ∷ []) ≡ (if b2 then map f ks else map f ks ++ a ∷ [])
+      by true true is = refl
+      by false false is = map-append f ks (k ∷ []) ∙ ap (λ x. map f ks ++ x ∷ []) e
+      by true false is = absurd (cc)
+      by false true is = absurd (cc)
 
 any_last : {K : Type 0} (t : K → Bool) (ks : List K) (k : K) → t k ≡ true → list_any t (ks ++ k ∷ []) ≡ true
 any_last t [] k e = ap (λ x. x || false) e
@@ -116,6 +130,9 @@ range_is a b e =
     let low : a.low ≡ b.low = same_number a.low b.low z.0 in
     let high : a.high ≡ b.high = same_number a.high b.high z.1 in
     ap (λ n. record { low = n; high = a.high }) low ∙ ap (λ n. record { low = b.low; high = n }) high
+
+pub ends_are : (range : Range) (low high : ℤ) → low ≡ range.low → high ≡ range.high → range_of (low, high) ≡ range
+ends_are range low high is is2 = ap (λ n. record { low = n; high = high }) is ∙ ap (λ n. record { low = range.low; high = n }) is2
 
 pub ends_themselves : (low high : ℤ) → (int_eq low low && int_eq high high) ≡ true
 ends_themselves low high = ap (λ x. x && int_eq high high) ((Decides-int_eq low low).1 refl) ∙ (Decides-int_eq high high).1 refl

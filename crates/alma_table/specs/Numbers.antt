@@ -1,5 +1,6 @@
 -- The tables that numbers in memory stand for.
-use Rattle.std.specs.Prelude.{◌≡◌, ℤ, ℕ, List, ◌++◌, map, Vec}
+use Rattle.std.specs.Prelude.{◌≡◌, ℤ, ℕ, Bool, List, [], ◌∷◌, ◌++◌, map, Vec, if◌then◌else◌}
+use Rattle.std.specs.List.{list_any}
 use Rattle.std.specs.Global.{Global}
 use Rattle.alma_base.specs.declared.number.Range.{Range}
 use Rattle.alma_table.specs.declared.numbers.Numbers.{Numbers}
@@ -23,3 +24,7 @@ pub record Extends (a b : Tables) : Type 0 where
   pub more_texts : List (List ℕ)
   pub ranges : b.ranges ≡ a.ranges ++ more_ranges
   pub texts : b.texts ≡ a.texts ++ more_texts
+
+-- entries with one more behind them, where none of them is the same
+abbrev pub with_entry : {R : Type 0} → (R → R → Bool) → List R → R → List R
+with_entry same entries r = if list_any (λ x. same x r) entries then entries else entries ++ r ∷ []

@@ -1,7 +1,7 @@
 // The ranges and the texts of a code, each with its number.
 ghost use Rattle.std.specs.Prelude.{◌≡◌, ◌<◌, [], map, slice_get, Some, IfOk, OnOk};
-ghost use Rattle.alma_templates.specs.Tables.{range_number, text_number};
-ghost use Rattle.alma_table.specs.Numbers.{range_of, text_of, tables_of, Extends};
+ghost use Rattle.alma_templates.specs.Tables.{range_number, text_number, same_range, same_text};
+ghost use Rattle.alma_table.specs.Numbers.{range_of, text_of, tables_of, Extends, with_entry};
 
 use alma_base::{NoMemory, RECORD_LIMIT, Range};
 use indexmap::IndexSet;
@@ -53,6 +53,9 @@ impl Numbers {
         ensures held { OnOk result (slice_get (tables_of self.new).ranges
             (range_number (tables_of self.new) range) ≡ Some range) }
         ensures extends { OnOk result (Extends (tables_of self.old) (tables_of self.new)) }
+        ensures ranges { OnOk result ((tables_of self.new).ranges ≡ with_entry same_range
+            (tables_of self.old).ranges range) }
+        ensures texts { OnOk result ((tables_of self.new).texts ≡ (tables_of self.old).texts) }
     {
         self.ranges.insert((range.low, range.high))?;
         Ok(())
@@ -63,6 +66,9 @@ impl Numbers {
         ensures held { OnOk result (slice_get (tables_of self.new).texts
             (text_number (tables_of self.new) text.now) ≡ Some text.now) }
         ensures extends { OnOk result (Extends (tables_of self.old) (tables_of self.new)) }
+        ensures ranges { OnOk result ((tables_of self.new).ranges ≡ (tables_of self.old).ranges) }
+        ensures texts { OnOk result ((tables_of self.new).texts ≡ with_entry same_text
+            (tables_of self.old).texts text.now) }
     {
         self.texts.insert(text.to_vec(alloc)?)?;
         Ok(())

@@ -1,4 +1,4 @@
-use Rattle.std.proofs.Common.{rules, ◌≡◌, ◌<◌, [], ◌∷◌, ◌++◌, take, length, sym, ap, ◌∙◌, subst, arith, get_or, refl}
+use Rattle.std.proofs.Common.{rules, ◌≡◌, ◌<◌, [], ◌∷◌, ◌++◌, take, length, sym, ap, ◌∙◌, subst, arith, get_or, refl, length-append}
 use Rattle.std.proofs.Math.Seq.{take-length}
 use Rattle.alma_code.specs.declared.cell.SlotKind.TheVariants as slot
 use Rattle.std.specs.Prelude.{Vec, List}
@@ -30,7 +30,8 @@ returns c =
     let l = c.loop-i in
     let some : 0 < length c.args.kinds.now = search rules in
     let whole : l.i ≡ length c.args.kinds.now = omega (arith, c.loop-i-test.false, l.auto.i-end, some) in
+    let closed = subst (Opens l.runs.items l.latest) (ap (λ n. take n c.args.kinds.now) whole ∙ take-length c.args.kinds.now) l.invariant in
     record {
-      names = subst (λ r. NamesKinds r c.args.kinds.now) (sym c.in_ok-push-2.ensures.items)
-          (opens_closed l.runs.items l.latest _ (subst (Opens l.runs.items l.latest) (ap (λ n. take n c.args.kinds.now) whole ∙ take-length c.args.kinds.now) l.invariant));
+      names = subst (λ r. NamesKinds r c.args.kinds.now) (sym c.in_ok-push-2.ensures.items) (opens_closed l.runs.items l.latest _ closed);
+      few = omega (arith, closed.few, closed.ends, ap length c.in_ok-push-2.ensures.items, length-append l.runs.items (l.latest ∷ []));
     }

@@ -4,7 +4,7 @@ use Rattle.std.proofs.lemmas.Int.{to_z-of_z}
 use Rattle.std.proofs.lemmas.List.{append-nil}
 use Rattle.alma_templates.specs.Tables.{same_range}
 use Rattle.alma_table.specs.Numbers.{range_of}
-use Rattle.alma_table.proofs.Places.{held_there, ends_agree, any_inserted, ends_themselves, range_is, inserted, inserted_is}
+use Rattle.alma_table.proofs.Places.{held_there, ends_agree, any_inserted, ends_themselves, range_is, inserted, inserted_is, entered, ends_are}
 use Rattle.alma_table.proofs.numbers.Numbers.add_range.Goals as goal
 
 pub returns-clause-held : goal.returns-clause-held
@@ -21,3 +21,10 @@ returns-clause-extends c = record {
   ranges = ap (map range_of) c.in_ok-insert.ensures.keys ∙ inserted_is range_of _ c.args.self.now.ranges.keys (to_z w64 (of_z w64 c.args.range.low), to_z w64 (of_z w64 c.args.range.high));
   texts = sym (append-nil _);
 }
+
+pub returns-clause-ranges : goal.returns-clause-ranges
+returns-clause-ranges c =
+    let low : to_z w64 (of_z w64 c.args.range.low) ≡ c.args.range.low = to_z-of_z w64 c.args.range.low (search rules) in
+    let high : to_z w64 (of_z w64 c.args.range.high) ≡ c.args.range.high = to_z-of_z w64 c.args.range.high (search rules) in
+    ap (map range_of) c.in_ok-insert.ensures.keys
+    ∙ entered range_of same_range c.args.range _ (ends_agree c.args.range _ _ low high) c.args.self.now.ranges.keys _ (ends_are c.args.range _ _ low high)

@@ -5,7 +5,7 @@ use Rattle.std.specs.List.{list_any}
 use Rattle.std.proofs.lemmas.List.{append-nil}
 use Rattle.alma_templates.specs.Tables.{same_text}
 use Rattle.alma_table.specs.Numbers.{text_of}
-use Rattle.alma_table.proofs.Places.{held_there, bytes_agree, any_inserted, bytes_themselves, text_is, inserted, inserted_is}
+use Rattle.alma_table.proofs.Places.{held_there, bytes_agree, any_inserted, bytes_themselves, text_is, inserted, inserted_is, entered}
 use Rattle.alma_table.proofs.numbers.Numbers.add_text.Goals as goal
 
 pub returns-clause-held : goal.returns-clause-held
@@ -28,3 +28,10 @@ returns-clause-extends c =
       ranges = sym (append-nil _);
       texts = ap (map text_of) c.in_ok-insert.ensures.keys ∙ inserted_is text_of there keys key;
     }
+
+pub returns-clause-texts : goal.returns-clause-texts
+returns-clause-texts c =
+    let key = c.in_ok-to_vec.field-0 in
+    let same : key.items ≡ c.args.text.now = c.in_ok-to_vec.ensures.items_if_clones_equal (λ x y e. e) in
+    ap (map text_of) c.in_ok-insert.ensures.keys
+    ∙ entered text_of same_text c.args.text.now (λ k. pointwise nat_eq key.items k.items) (λ k. ap (λ t. pointwise nat_eq t k.items) same ∙ bytes_agree c.args.text.now k.items) c.args.self.now.texts.keys key same
