@@ -1,0 +1,4 @@
+pub mod Onward
+pub mod Standing
+pub mod Constants
+pub mod Tables
