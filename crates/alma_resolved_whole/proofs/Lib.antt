@@ -2,3 +2,11 @@ pub mod Onward
 pub mod Standing
 pub mod Constants
 pub mod Tables
+pub mod Entries
+pub mod TypesKeep
+pub mod FramesKeep
+pub mod HeadsKeep
+pub mod HeadScenes
+pub mod ParamsKeep
+pub mod DeclsKeep
+pub mod Fitting

@@ -172,7 +172,7 @@ first_keeps = record { firsts = by; each = shapes }
 -- ---- such a table fits
 
 -- a shape and its base
-base_structured : (t : List PlainShape) (a : ℕ) → TableKeeps t → structured_in t a ≡ structured_in t (base_at t a)
+pub base_structured : (t : List PlainShape) (a : ℕ) → TableKeeps t → structured_in t a ≡ structured_in t (base_at t a)
 base_structured t a h = by (slice_get t a) refl
   where
     by : (o : Option PlainShape) → slice_get t a ≡ o → not (is_some (option_and_then range_of o)) ≡ structured_in t (unwrap_or (option_map (base_of a) o) a)
@@ -228,14 +228,14 @@ row_fits t a i e h = by (slice_get t a) refl
 
 named_fits : (t : List PlainShape) (n : ℕ) (name : List ℕ) (fs : List PlainField) (o f : ℕ) → AllByRecursion (FieldKeeps t n) fs → field_named name fs ≡ Some (o, f) → (f < length t) × (o + cells_at t f ≤ n)
 named_fits t n name [] o f h e = absurd (cc)
-named_fits t n name (x ∷ xs) o f h e = by (bytes_eq x.name name) e
+named_fits t n name (x ∷ xs) o f h e = by (bytes_eq x.name name) e (λ p. named_fits t n name xs o f h.1 p)
   where
-    by : (c : Bool) → (if c then Some (x.offset, x.shape) else field_named name xs) ≡ Some (o, f) → (f < length t) × (o + cells_at t f ≤ n)
-    by true p =
+    by : (c : Bool) → (if c then Some (x.offset, x.shape) else field_named name xs) ≡ Some (o, f) → (field_named name xs ≡ Some (o, f) → (f < length t) × (o + cells_at t f ≤ n)) → (f < length t) × (o + cells_at t f ≤ n)
+    by true p rest =
         let first : x.offset ≡ o = ap (λ (y : Option (ℕ × ℕ)). (unwrap_or y (0, 0)).0) p in
         let second : x.shape ≡ f = ap (λ (y : Option (ℕ × ℕ)). (unwrap_or y (0, 0)).1) p in
         subst (λ m. (m < length t) × (o + cells_at t m ≤ n)) second (subst (λ m. (x.shape < length t) × (m + cells_at t x.shape ≤ n)) first h.0)
-    by false p = named_fits t n name xs o f h.1 p
+    by false p rest = rest p
 
 field_fits : (t : List PlainShape) (name : List ℕ) (a o f : ℕ) → TableKeeps t → field_at name (slice_get t a) ≡ Some (o, f) → o + cells_at t f ≤ cells_at t a
 field_fits t name a o f h = by (slice_get t a) refl
