@@ -10,3 +10,4 @@ pub mod HeadScenes
 pub mod ParamsKeep
 pub mod DeclsKeep
 pub mod Fitting
+pub mod BlocksMade
