@@ -163,34 +163,33 @@ block_own p f r k name outer end (tree.block n decls body) hs rs same e h stand 
     }
 
 -- the procedures of a block stand inside its routine
-mutual
-  unfolding judge_block DeclsStand decls_routines ProcsThere IsProc
+proc_or : (p : Program) (s : Scene) (r : ℕ) (d : tree.Decl) (rest : tree.DeclTail) (q : ℕ) → IsProcHere r d q ⊎ IsProc (r + decl_routines d) rest q → (IsProcHere r d q → ProcAt p s.routine q) → (IsProc (r + decl_routines d) rest q → ProcAt p s.routine q)
+    → ProcAt p s.routine q
+proc_or p s r d rest q (inl j) f g = f j
+proc_or p s r d rest q (inr j) f g = g j
 
-  pub procs_at : (p : Program) (s : Scene) (r : ℕ) (x : tree.DeclTail) (rs : List Routine) → (judge_bodies s r x).faults ≡ [] → Each (Headed s.headings) s → ProcsThere s r x → DeclsStand x → r + decls_routines x ≤ length s.headings
-      → 0 < r → (judge_bodies s r x).value ≡ Some rs → Numbered p r rs → (q : ℕ) → IsProc r x q → ProcAt p s.routine q
-  procs_at p s r tree.no_decl rs e h there stand room up value numbered q i = absurd i
-  procs_at p s r (tree.more_decl d rest) rs e h there stand room up value numbered q i =
-      let v = parts (judge_decl s r d).value (judge_bodies (with_shapes s (judge_decl s r d).shapes) (r + decl_routines d) rest).value joined_routines rs value in
-      let all : Numbered p r (v.first ++ v.second) = subst (λ ys. Numbered p r ys) (sym v.is) numbered in
-      proc_or p s r d rest q i
-      (λ j. proc_at p s r d (decls_names rest) v.first (nil_left (judge_decl s r d).faults _ e) h there.0 stand.0 (omega (arith, room)) up v.has_first (numbered_front p r v.first v.second all) q j)
-      (λ j. procs_at p (with_shapes s (judge_decl s r d).shapes) (r + decl_routines d) rest v.second (nil_right (judge_decl s r d).faults _ e) h (procs_shapes s (judge_decl s r d).shapes (r + decl_routines d) rest stand.1 there.1) stand.1 (omega (arith, room))
-      (omega (arith, up)) v.has_second (numbered_back p r (r + decl_routines d) v.first v.second (omega (arith, decl_count s r d v.first v.has_first)) all) q j)
+proc_at : (p : Program) (s : Scene) (r : ℕ) (d : tree.Decl) (names : List tree.Name) (rs : List Routine) → (judge_decl s r d).faults ≡ [] → Each (Headed s.headings) s → ProcThere s r d → DeclStands d names → r + decl_routines d ≤ length s.headings
+    → 0 < r → (judge_decl s r d).value ≡ Some rs → Numbered p r rs → (q : ℕ) → IsProcHere r d q → ProcAt p s.routine q
+unfolding judge_block DeclsStand decls_routines ProcsThere IsProc
+proc_at p s r (tree.const_decl n xs) names rs e h there stand room up value numbered q i = absurd i
+proc_at p s r (tree.type_decl n xs) names rs e h there stand room up value numbered q i = absurd i
+proc_at p s r (tree.var_decl n xs) names rs e h there stand room up value numbered q i = absurd i
+proc_at p s r (tree.procedure n name params result b end_name) names rs e h there stand room up value numbered q i =
+    let own = block_own p (frame_of (read_heading s r n params result b)) (r + 1) r name s.routine (end_name.token - 1) b s.headings rs (head_headings s r n params result b there ∙ block_headings s r nothing (formal_names (formals_of params)) b)
+    (nil_left _ _ e) (opened s r n params result b h there) stand.1 (omega (arith, room)) refl value numbered in
+    subst (λ j. ProcAt p s.routine j) (sym i) (record { some = up; exists = own.exists; outer = own.outer_is })
 
-  proc_or : (p : Program) (s : Scene) (r : ℕ) (d : tree.Decl) (rest : tree.DeclTail) (q : ℕ) → IsProcHere r d q ⊎ IsProc (r + decl_routines d) rest q → (IsProcHere r d q → ProcAt p s.routine q) → (IsProc (r + decl_routines d) rest q → ProcAt p s.routine q)
-      → ProcAt p s.routine q
-  proc_or p s r d rest q (inl j) f g = f j
-  proc_or p s r d rest q (inr j) f g = g j
-
-  proc_at : (p : Program) (s : Scene) (r : ℕ) (d : tree.Decl) (names : List tree.Name) (rs : List Routine) → (judge_decl s r d).faults ≡ [] → Each (Headed s.headings) s → ProcThere s r d → DeclStands d names → r + decl_routines d ≤ length s.headings
-      → 0 < r → (judge_decl s r d).value ≡ Some rs → Numbered p r rs → (q : ℕ) → IsProcHere r d q → ProcAt p s.routine q
-  proc_at p s r (tree.const_decl n xs) names rs e h there stand room up value numbered q i = absurd i
-  proc_at p s r (tree.type_decl n xs) names rs e h there stand room up value numbered q i = absurd i
-  proc_at p s r (tree.var_decl n xs) names rs e h there stand room up value numbered q i = absurd i
-  proc_at p s r (tree.procedure n name params result b end_name) names rs e h there stand room up value numbered q i =
-      let own = block_own p (frame_of (read_heading s r n params result b)) (r + 1) r name s.routine (end_name.token - 1) b s.headings rs (head_headings s r n params result b there ∙ block_headings s r nothing (formal_names (formals_of params)) b)
-      (nil_left _ _ e) (opened s r n params result b h there) stand.1 (omega (arith, room)) refl value numbered in
-      subst (λ j. ProcAt p s.routine j) (sym i) (record { some = up; exists = own.exists; outer = own.outer_is })
+pub procs_at : (p : Program) (s : Scene) (r : ℕ) (x : tree.DeclTail) (rs : List Routine) → (judge_bodies s r x).faults ≡ [] → Each (Headed s.headings) s → ProcsThere s r x → DeclsStand x → r + decls_routines x ≤ length s.headings
+    → 0 < r → (judge_bodies s r x).value ≡ Some rs → Numbered p r rs → (q : ℕ) → IsProc r x q → ProcAt p s.routine q
+unfolding judge_block DeclsStand decls_routines ProcsThere IsProc
+procs_at p s r tree.no_decl rs e h there stand room up value numbered q i = absurd i
+procs_at p s r (tree.more_decl d rest) rs e h there stand room up value numbered q i =
+    let v = parts (judge_decl s r d).value (judge_bodies (with_shapes s (judge_decl s r d).shapes) (r + decl_routines d) rest).value joined_routines rs value in
+    let all : Numbered p r (v.first ++ v.second) = subst (λ ys. Numbered p r ys) (sym v.is) numbered in
+    proc_or p s r d rest q i
+    (λ j. proc_at p s r d (decls_names rest) v.first (nil_left (judge_decl s r d).faults _ e) h there.0 stand.0 (omega (arith, room)) up v.has_first (numbered_front p r v.first v.second all) q j)
+    (λ j. procs_at p (with_shapes s (judge_decl s r d).shapes) (r + decl_routines d) rest v.second (nil_right (judge_decl s r d).faults _ e) h (procs_shapes s (judge_decl s r d).shapes (r + decl_routines d) rest stand.1 there.1) stand.1 (omega (arith, room))
+    (omega (arith, up)) v.has_second (numbered_back p r (r + decl_routines d) v.first v.second (omega (arith, decl_count s r d v.first v.has_first)) all) q j)
 
 pub block_procs : (p : Program) (f : Frame) (r k : ℕ) (name : tree.Name) (outer end : ℕ) (x : tree.Block) (hs : List (Option Heading)) (rs : List Routine) → f.scene.headings ≡ hs → (judge_block f r name outer end x).faults ≡ []
     → AwaitsIn hs r x f.scene → BlockStands x → r + block_routines x ≤ length hs → k + 1 ≡ r → f.scene.routine ≡ k → (judge_block f r name outer end x).value ≡ Some rs → Numbered p k rs
@@ -212,12 +211,12 @@ block_procs p f r k name outer end (tree.block n decls body) hs rs same e h stan
 
 given_result : (s t : Scene) (r : ℕ) (params : Option tree.Params) (result : Option tree.Name) (b : tree.Block) (x : Routine) → HeadThere s r params result b
     → x.result ≡ result_in t (returns_of (read_formals (first_frame s r params b) (formals_of params)).scene result) → ResultGiven result x
-given_result s t r params None b x there e = subst (λ y. IsNone y) (sym e) tt
+given_result s t r params None b x there e = subst (λ y. IsNone y) (sym e) refl
 given_result s t r params (Some name) b x there e = by (read_type_name (read_formals (first_frame s r params b) (formals_of params)).scene name).value there.result_there e
   where
     by : (o : Option ℕ) → IsThere o → x.result ≡ result_in t (a_value o) → IsSome x.result
     by None i q = absurd i
-    by (Some v) i q = subst (λ y. IsSome y) (sym q) tt
+    by (Some v) i q = subst (λ y. IsSome y) (sym q) refl
 
 mutual
   unfolding judge_block DeclsStand decls_routines ProcsThere

@@ -11,3 +11,6 @@ pub mod ParamsKeep
 pub mod DeclsKeep
 pub mod Fitting
 pub mod BlocksMade
+pub mod Entering
+pub mod BlocksKeep
+pub mod Programs

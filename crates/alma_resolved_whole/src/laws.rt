@@ -1,11 +1,24 @@
 // Laws of resolved programs as a whole, each as the contract of a function that does nothing.
-ghost use Rattle.std.specs.Prelude.{ℕ};
+ghost use Rattle.std.specs.Prelude.{◌≡◌, ℕ, List, Some};
 ghost use Rattle.alma_tree.specs.declared.module.Module.{Module};
 ghost use Rattle.alma_tree.specs.Numbers.{IsNumbered};
+ghost use Rattle.alma_scan.specs.Tokens.{Lexeme};
+ghost use Rattle.alma_ir.specs.Tree.{Program};
+ghost use Rattle.alma_rules.specs.Numbered as tree;
 ghost use Rattle.alma_rules.specs.View.{view_module};
+ghost use Rattle.alma_rules.specs.Modules.{resolved};
 ghost use Rattle.alma_resolved.specs.Stand.{BlockStands};
+ghost use Rattle.alma_resolved_whole.specs.Whole.{ProgramFits};
 
 /// In a tree as the parser numbers it each heading stands before what is declared behind it.
 pub fn trees_of_the_parser_stand_so()
     ensures { (m : Module) (tokens : ℕ) → IsNumbered m tokens → BlockStands (view_module m).block }
+{}
+
+/// Each routine of a resolved program fits: its phrases fit its place, its loops have hidden slots of their own behind its frame,
+/// and the ranges of its heading are in order.
+pub fn resolved_programs_fit()
+    ensures { (source : List ℕ) (tokens : List Lexeme) (m : tree.Module) (p : Program)
+        → BlockStands m.block →
+        resolved source tokens m ≡ Some p → ProgramFits p }
 {}

@@ -1,7 +1,4 @@
 use Rattle.alma_resolved_whole.proofs.Standing.{numbered_stands}
-use Rattle.alma_resolved_whole.proofs.BlocksMade.{procs_given}
-use Rattle.alma_resolved_whole.proofs.Fitting.{scene_fits}
-use Rattle.alma_resolved_whole.proofs.ParamsKeep.{formals_keep}
 use Rattle.alma_resolved_whole.proofs.laws.trees_of_the_parser_stand_so.Goals as goal
 
 pub returns : goal.returns
