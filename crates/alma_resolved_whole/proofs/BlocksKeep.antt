@@ -270,10 +270,10 @@ mutual
       let f = frame_of (read_heading s r n params result b) in
       let headings = head_headings s r n params result b there ∙ block_headings s r nothing (formal_names (formals_of params)) b in
       let quiet = nil_left _ _ e in
-      let open = opened s r n params result b h there in
+      let awaits = opened s r n params result b h there in
       let routine = head_routine s r n params result b there ∙ block_routine s r nothing (formal_names (formals_of params)) b in
-      let own = block_own p f (r + 1) r name s.routine (end_name.token - 1) b s.headings rs headings quiet open stand.1 (omega (arith, room)) refl value numbered in
-      let procs = block_procs p f (r + 1) r name s.routine (end_name.token - 1) b s.headings rs headings quiet open stand.1 (omega (arith, room)) refl routine value numbered in
+      let own = block_own p f (r + 1) r name s.routine (end_name.token - 1) b s.headings rs headings quiet awaits stand.1 (omega (arith, room)) refl value numbered in
+      let procs = block_procs p f (r + 1) r name s.routine (end_name.token - 1) b s.headings rs headings quiet awaits stand.1 (omega (arith, room)) refl routine value numbered in
       let outer : (routine_at p r).outer ≡ k = own.outer_is ∙ number in
       let keeps = all.routines r own.exists in
       let level : (routine_at p r).level ≡ suc c = keeps.nested.above up ∙ (ap (λ q. suc (routine_at p q).level) outer ∙ ap suc sits.level) in
@@ -288,5 +288,5 @@ mutual
       let simple : ReturnsSimple f.scene f.scene.returns = subst (λ y. ReturnsSimple f.scene y) (sym (head_returns s r n params result b)) (head_simple s r n params result b there (plain u long)) in
       let head = heading_some (get_or t.headings r None) (read r refl) in
       let ordered = formals_ordered u head.0.formals (routine_at p r).params (keep.heads r head.0 head.1).formals in
-      block_good p ends all f (r + 1) r (suc c) name s.routine (end_name.token - 1) b s.headings rs headings quiet open stand.1 (omega (arith, room)) refl frame
+      block_good p ends all f (r + 1) r (suc c) name s.routine (end_name.token - 1) b s.headings rs headings quiet awaits stand.1 (omega (arith, room)) refl frame
       (record { level = level; outside = λ i. absurd (omega (arith, i)); module_level = λ i. absurd (omega (arith, i, up)) }) routine (head_inside s r n params result b ∙ inside) simple ordered value numbered ended

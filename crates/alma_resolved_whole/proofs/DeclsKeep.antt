@@ -194,12 +194,14 @@ decl_keeps k c f t r (tree.const_decl n xs) rest e h stand room le frame given m
 decl_keeps k c f t r (tree.type_decl n xs) rest e h stand room le frame given more same = record { frame = types_keep k c f xs frame; plain = tt }
 decl_keeps k c f t r (tree.var_decl n xs) rest e h stand room le frame given more same = record { frame = vars_keep k c f xs frame le; plain = tt }
 decl_keeps k c f t r (tree.procedure n name params result b end_name) rest e h stand room le frame given more same =
+    let below : r < length f.scene.headings = omega (arith, room) in
+    let rise : f.slots ≤ (heading_in f r name (read_heading f.scene r n params result b)).slots = omega arith in
     let sound : HeadSound f.scene r n params result b = head_sound f.scene r n params result b (block_each NotBad f.scene r nothing (formal_names (formals_of params)) b h (λ q i m. tt)) (nil_right _ _ e) in
     let moved = moved_twice (moved_headings stand.0.0 f.scene (set f.scene.headings r (read_heading f.scene r n params result b).heading)) (more.moved stand.0.0 stand.0.2) in
     let outer : Outer stand.0.0 f.scene t = subst (λ x. Outer stand.0.0 f.scene x) (sym same) (moved_outer moved) in
     let long : Longer f.scene t = subst (λ x. Longer f.scene x) (sym same) (longer_moved moved) in
-    let g : HeadOnward k c f t r n params result b = head_onward k c f t stand.0.0 r n params result b frame.scene (omega (arith, room)) outer long stand.0.1 sound.0 given in
-    record { frame = frame_scene (heading_in f r name (read_heading f.scene r n params result b)) frame (omega arith) g.scene; plain = g.plain }
+    let g : HeadOnward k c f t r n params result b = head_onward k c f t stand.0.0 r n params result b frame.scene below outer long stand.0.1 sound.0 given in
+    record { frame = frame_scene (heading_in f r name (read_heading f.scene r n params result b)) frame rise g.scene; plain = g.plain }
 
 pub decls_keep : (k : Place) (c : ℕ) (f : Frame) (r : ℕ) (x : tree.DeclTail) → (read_decls f r x).faults ≡ [] → Each NotBad f.scene → DeclsStand x → r + decls_routines x ≤ length f.scene.headings
     → (read_decls f r x).slots ≤ k.ends k.number → FrameKeeps k c f → ProcsGiven k.program (read_decls f r x).scene r x → DeclsKeep k c r x (read_decls f r x)

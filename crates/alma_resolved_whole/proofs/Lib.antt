@@ -14,3 +14,6 @@ pub mod BlocksMade
 pub mod Entering
 pub mod BlocksKeep
 pub mod Programs
+pub mod Conditions
+pub mod Tallies
+pub mod Counts

@@ -8,6 +8,7 @@ ghost use Rattle.alma_rules.specs.Numbered as tree;
 ghost use Rattle.alma_rules.specs.View.{view_module};
 ghost use Rattle.alma_rules.specs.Modules.{resolved};
 ghost use Rattle.alma_resolved.specs.Stand.{BlockStands};
+ghost use Rattle.alma_ir.specs.Checked.{EachRoutine, HasLines, NamesSpelled, KeepsLimits, RoutineKeepsLimits, IsChecked};
 ghost use Rattle.alma_resolved_whole.specs.Whole.{ProgramFits};
 
 /// In a tree as the parser numbers it each heading stands before what is declared behind it.
@@ -21,4 +22,13 @@ pub fn resolved_programs_fit()
     ensures { (source : List ℕ) (tokens : List Lexeme) (m : tree.Module) (p : Program)
         → BlockStands m.block →
         resolved source tokens m ≡ Some p → ProgramFits p }
+{}
+
+/// A resolved program is checked, where it has as many lines as statements, its names are spelled and it keeps the limits.
+pub fn a_resolved_program_is_checked()
+    ensures { (source : List ℕ) (tokens : List Lexeme) (m : tree.Module) (p : Program)
+        → BlockStands m.block →
+        resolved source tokens m ≡ Some p → EachRoutine p (λ r routine. HasLines routine)
+        → NamesSpelled p → KeepsLimits p →
+        EachRoutine p (λ r routine. RoutineKeepsLimits routine) → IsChecked p }
 {}
