@@ -42,7 +42,7 @@ pub record Tally (n : ℕ) (xs : List Phrase) : Type 0 where
   pub labels : AllByRecursion LabelsHere xs
 
 count_apart : (xs ys : List Phrase) → stmt_count (xs ++ ys) ≡ stmt_count xs + stmt_count ys
-count_apart [] ys = refl
+count_apart [] ys = omega arith
 count_apart (StmtPhrase x ∷ xs) ys = omega (arith, count_apart xs ys)
 count_apart (TestPhrase x ∷ xs) ys = count_apart xs ys
 count_apart (ExprPhrase x ∷ xs) ys = count_apart xs ys
