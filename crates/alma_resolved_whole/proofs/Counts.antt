@@ -59,23 +59,23 @@ tally_is {xs} a b e h = record { count = h.count ∙ e; labels = h.labels }
 pub tally_join : {a b : ℕ} {xs ys : List Phrase} → Tally a xs → Tally b ys → Tally (a + b) (xs ++ ys)
 tally_join {a} {b} {xs} {ys} h k = record { count = omega (arith, count_apart xs ys, h.count, k.count); labels = each_of_append LabelsHere xs ys h.labels k.labels }
 
-pub tally_stmt : {n : ℕ} {xs : List Phrase} (x : ir.Stmt) → LabelsHere (StmtPhrase x) → Tally n xs → Tally (1 + n) (StmtPhrase x ∷ xs)
-tally_stmt x l h = record { count = omega (arith, h.count); labels = (l, h.labels) }
+pub stmt_more : {n : ℕ} {xs : List Phrase} (x : ir.Stmt) → LabelsHere (StmtPhrase x) → Tally n xs → Tally (1 + n) (StmtPhrase x ∷ xs)
+stmt_more x l h = record { count = omega (arith, h.count); labels = (l, h.labels) }
 
-pub tally_test : {n : ℕ} {xs : List Phrase} (x : ir.Test) → Tally n xs → Tally n (TestPhrase x ∷ xs)
-tally_test x h = record { count = h.count; labels = (tt, h.labels) }
+pub test_more : {n : ℕ} {xs : List Phrase} (x : ir.Test) → Tally n xs → Tally n (TestPhrase x ∷ xs)
+test_more x h = record { count = h.count; labels = (tt, h.labels) }
 
-tally_expr : {n : ℕ} {xs : List Phrase} (x : ir.Expr) → Tally n xs → Tally n (ExprPhrase x ∷ xs)
-tally_expr x h = record { count = h.count; labels = (tt, h.labels) }
+pub expr_more : {n : ℕ} {xs : List Phrase} (x : ir.Expr) → Tally n xs → Tally n (ExprPhrase x ∷ xs)
+expr_more x h = record { count = h.count; labels = (tt, h.labels) }
 
-tally_arg : {n : ℕ} {xs : List Phrase} (x : ir.Arg) → Tally n xs → Tally n (ArgPhrase x ∷ xs)
-tally_arg x h = record { count = h.count; labels = (tt, h.labels) }
+arg_more : {n : ℕ} {xs : List Phrase} (x : ir.Arg) → Tally n xs → Tally n (ArgPhrase x ∷ xs)
+arg_more x h = record { count = h.count; labels = (tt, h.labels) }
 
-tally_desig : {n : ℕ} {xs : List Phrase} (x : ir.Desig) → Tally n xs → Tally n (DesigPhrase x ∷ xs)
-tally_desig x h = record { count = h.count; labels = (tt, h.labels) }
+pub desig_more : {n : ℕ} {xs : List Phrase} (x : ir.Desig) → Tally n xs → Tally n (DesigPhrase x ∷ xs)
+desig_more x h = record { count = h.count; labels = (tt, h.labels) }
 
-tally_sel : {n : ℕ} {xs : List Phrase} (x : ir.Sel) → Tally n xs → Tally n (SelPhrase x ∷ xs)
-tally_sel x h = record { count = h.count; labels = (tt, h.labels) }
+sel_more : {n : ℕ} {xs : List Phrase} (x : ir.Sel) → Tally n xs → Tally n (SelPhrase x ∷ xs)
+sel_more x h = record { count = h.count; labels = (tt, h.labels) }
 
 -- with nothing behind
 pub tally_alone : {n : ℕ} {xs : List Phrase} → Tally n xs → Tally n (xs ++ [])
@@ -93,17 +93,17 @@ pub record TypingTally (n : ℕ) (t : Typing) : Type 0 where
 
 value_in : (n : ℕ) (m : Meaning) → MeaningTally n m → Tally n (expr_phrases (value_of m))
 unfolding expr_phrases
-value_in n (a_place d) h = tally_expr (ir.Load d) h
+value_in n (a_place d) h = expr_more (ir.Load d) h
 value_in n (plain e) h = h
-value_in n (a_test t) h = tally_expr (ir.Truth t) h
+value_in n (a_test t) h = expr_more (ir.Truth t) h
 
 pub value_tally : {n : ℕ} {t : Typing} → TypingTally n t → Tally n (expr_phrases (value_of t.meaning))
 value_tally {n} {t} h = value_in n t.meaning h.is
 
 test_in : (n : ℕ) (m : Meaning) → MeaningTally n m → Tally n (test_phrases (test_of m))
 unfolding expr_phrases
-test_in n (a_place d) h = tally_test (ir.Value (ir.Load d)) (tally_expr (ir.Load d) h)
-test_in n (plain e) h = tally_test (ir.Value e) h
+test_in n (a_place d) h = test_more (ir.Value (ir.Load d)) (expr_more (ir.Load d) h)
+test_in n (plain e) h = test_more (ir.Value e) h
 test_in n (a_test t) h = h
 
 pub test_tally : {n : ℕ} {t : Typing} → TypingTally n t → Tally n (test_phrases (test_of t.meaning))
@@ -115,7 +115,7 @@ place_tally {n} {t} d e h = subst (λ m. MeaningTally n m) e h.is
 
 no_place_in : (n : ℕ) (m : Meaning) → MeaningTally n m → MeaningTally n (no_place m)
 unfolding expr_phrases
-no_place_in n (a_place d) h = tally_expr (ir.Load d) h
+no_place_in n (a_place d) h = expr_more (ir.Load d) h
 no_place_in n (plain e) h = h
 no_place_in n (a_test t) h = h
 
@@ -127,26 +127,26 @@ typing_is {t} a b e h = subst (λ n. TypingTally n t) e h
 
 pub constant_tally : (shape : ℕ) (o : Option ℤ) (v : ℤ) → TypingTally 0 (record { shape = shape; constant = o; meaning = plain (ir.Const v) })
 unfolding expr_phrases
-constant_tally shape o v = record { is = tally_expr (ir.Const v) tally_nil }
+constant_tally shape o v = record { is = expr_more (ir.Const v) tally_nil }
 
 pub seq_tally : {n : ℕ} (x : ir.Stmts) → Tally n (stmts_phrases x) → TypingTally n (boolean_typing (a_test (ir.Seq x)))
 unfolding expr_phrases
-seq_tally x h = record { is = tally_test (ir.Seq x) h }
+seq_tally x h = record { is = test_more (ir.Seq x) h }
 
 pub known_tally : {n : ℕ} (l : Located) → Tally n (desig_phrases (desig_of l)) → TypingTally n (known_typing l)
 unfolding expr_phrases
-known_tally l h = record { is = tally_expr (ir.Known (desig_of l)) h }
+known_tally l h = record { is = expr_more (ir.Known (desig_of l)) h }
 
 pub ord_tally : {n : ℕ} (t : Typing) → TypingTally n t → TypingTally n (ord_typing t)
 ord_tally t h = record { is = value_tally h }
 
 pub chr_tally : {n : ℕ} (t : Typing) → TypingTally n t → TypingTally n (chr_typing t)
 unfolding expr_phrases
-chr_tally t h = record { is = tally_expr (ir.Chr (value_of t.meaning)) (value_tally h) }
+chr_tally t h = record { is = expr_more (ir.Chr (value_of t.meaning)) (value_tally h) }
 
 pub not_tally : {n : ℕ} (t : Typing) → TypingTally n t → TypingTally n (not_typing t)
 unfolding expr_phrases
-not_tally t h = record { is = tally_test (ir.Not (test_of t.meaning)) (test_tally h) }
+not_tally t h = record { is = test_more (ir.Not (test_of t.meaning)) (test_tally h) }
 
 -- ---- designators
 
@@ -200,7 +200,7 @@ sels_with n m sels x h k = subst (λ ys. Tally (n + m) ys) (sym (phrases_with se
 
 field_part_tally : (s : Scene) (f : Found) (n : ℕ) (l : Located) (p : ℕ × ℕ) → IsVariable f × Tally n (sels_phrases l.sels) → DenotedTally f n (field_part s l p)
 unfolding expr_phrases
-field_part_tally s f n l p h = record { is = (h.0, tally_is (n + 0) n (omega arith) (sels_with n 0 l.sels _ h.1 (tally_sel _ tally_nil))) }
+field_part_tally s f n l p h = record { is = (h.0, tally_is (n + 0) n (omega arith) (sels_with n 0 l.sels _ h.1 (sel_more _ tally_nil))) }
 
 pub field_tally : (s : Scene) (f : Found) (n : ℕ) (name : List ℕ) (d : Denoted) → DenotedTally f n d → When (select_field s name d) (DenotedTally f n)
 field_tally s f n name (a_variable l) h = when_map {P = λ p. Unit {0}} (field_part s l) (anything (field_of s name l)) (λ p g. field_part_tally s f n l p h.is)
@@ -210,7 +210,7 @@ field_tally s f n name no_array h = when_some _ h
 
 element_tally : (s : Scene) (f : Found) (n m : ℕ) (l : Located) (r : ℕ × ℕ) (t : Typing) → IsVariable f × Tally n (sels_phrases l.sels) → TypingTally m t → DenotedTally f (n + m) (element_part s l r t)
 unfolding expr_phrases
-element_tally s f n m l r t h g = record { is = (h.0, sels_with n m l.sels _ h.1 (tally_sel _ (value_tally g))) }
+element_tally s f n m l r t h g = record { is = (h.0, sels_with n m l.sels _ h.1 (sel_more _ (value_tally g))) }
 
 pub index_tally : (s : Scene) (f : Found) (n m : ℕ) (d : Option Denoted) (i : Option Typing) → When d (DenotedTally f n) → When i (TypingTally m) → When (select_index s d i) (DenotedTally f (n + m))
 index_tally s f n m None i h g = when_none
@@ -280,9 +280,9 @@ constant_end s w f n v d h q = by f (there d h) (no_fault (no_constant (in_const
 
 pub typing_tally : (n : ℕ) (d : Denoted) → DesigTally n d → When (typing_in d) (TypingTally n)
 unfolding expr_phrases
-typing_tally n (a_constant shape v) h = when_some _ (record { is = tally_expr (ir.Const v) (tally_is 0 n h.is tally_nil) })
-typing_tally n (a_variable l) h = when_some _ (record { is = tally_desig (desig_of l) h.is })
-typing_tally n (a_routine q up x) h = when_some _ (record { is = tally_test (ir.CallTest q ir.no_args up) (tally_is 0 n h.is tally_nil) })
+typing_tally n (a_constant shape v) h = when_some _ (record { is = expr_more (ir.Const v) (tally_is 0 n h.is tally_nil) })
+typing_tally n (a_variable l) h = when_some _ (record { is = desig_more (desig_of l) h.is })
+typing_tally n (a_routine q up x) h = when_some _ (record { is = test_more (ir.CallTest q ir.no_args up) (tally_is 0 n h.is tally_nil) })
 typing_tally n no_array h = when_none
 
 abbrev pub LocatedTally : ℕ → Located → Type 0
@@ -291,7 +291,7 @@ LocatedTally n l = Tally n (desig_phrases (desig_of l))
 pub located_tally : (n : ℕ) (d : Denoted) → DesigTally n d → When (located_in d) (LocatedTally n)
 unfolding expr_phrases
 located_tally n (a_constant shape v) h = when_none
-located_tally n (a_variable l) h = when_some _ (tally_desig (desig_of l) h.is)
+located_tally n (a_variable l) h = when_some _ (desig_more (desig_of l) h.is)
 located_tally n (a_routine q up x) h = when_none
 located_tally n no_array h = when_none
 
@@ -305,31 +305,31 @@ callee_tally n no_array h = when_none
 
 pub call_tally : (n m : ℕ) (c : Callee) (o : Option ℕ) (args : ir.Args) → 0 ≡ n → Tally m (args_phrases args) → TypingTally (n + m) (call_typing c o args)
 unfolding expr_phrases
-call_tally n m c None args e h = record { is = tally_is m (n + m) (omega (arith, e)) (tally_test (ir.CallTest c.number args c.up) h) }
-call_tally n m c (Some shape) args e h = record { is = tally_is m (n + m) (omega (arith, e)) (tally_expr (ir.CallExpr c.number args c.up) h) }
+call_tally n m c None args e h = record { is = tally_is m (n + m) (omega (arith, e)) (test_more (ir.CallTest c.number args c.up) h) }
+call_tally n m c (Some shape) args e h = record { is = tally_is m (n + m) (omega (arith, e)) (expr_more (ir.CallExpr c.number args c.up) h) }
 
 simple_arg : (s : Scene) (n : ℕ) (mode : Option Mode) (shape : ℕ) (m : Meaning) → MeaningTally n m → Tally n (arg_phrases (simple_argument s mode shape m))
 unfolding expr_phrases
-simple_arg s n None shape m h = tally_arg _ (value_in n m h)
-simple_arg s n (Some modes.Var) shape (a_place d) h = tally_arg _ h
-simple_arg s n (Some modes.Var) shape (plain e) h = tally_arg _ h
-simple_arg s n (Some modes.Var) shape (a_test t) h = tally_arg _ (tally_expr _ h)
-simple_arg s n (Some modes.Mix) shape (a_place d) h = tally_arg _ h
-simple_arg s n (Some modes.Mix) shape (plain e) h = tally_arg _ h
-simple_arg s n (Some modes.Mix) shape (a_test t) h = tally_arg _ (tally_expr _ h)
+simple_arg s n None shape m h = arg_more _ (value_in n m h)
+simple_arg s n (Some modes.Var) shape (a_place d) h = arg_more _ h
+simple_arg s n (Some modes.Var) shape (plain e) h = arg_more _ h
+simple_arg s n (Some modes.Var) shape (a_test t) h = arg_more _ (expr_more _ h)
+simple_arg s n (Some modes.Mix) shape (a_place d) h = arg_more _ h
+simple_arg s n (Some modes.Mix) shape (plain e) h = arg_more _ h
+simple_arg s n (Some modes.Mix) shape (a_test t) h = arg_more _ (expr_more _ h)
 
 structured_arg : (n : ℕ) (mode : Option Mode) (m : Meaning) → MeaningTally n m → Tally n (arg_phrases (structured_argument mode m))
 unfolding expr_phrases
-structured_arg n None (a_place d) h = tally_arg _ h
-structured_arg n (Some m) (a_place d) h = tally_arg _ h
-structured_arg n None (plain e) h = tally_arg _ h
-structured_arg n (Some m) (plain e) h = tally_arg _ h
-structured_arg n None (a_test t) h = tally_arg _ (tally_expr _ h)
-structured_arg n (Some m) (a_test t) h = tally_arg _ (tally_expr _ h)
+structured_arg n None (a_place d) h = arg_more _ h
+structured_arg n (Some m) (a_place d) h = arg_more _ h
+structured_arg n None (plain e) h = arg_more _ h
+structured_arg n (Some m) (plain e) h = arg_more _ h
+structured_arg n None (a_test t) h = arg_more _ (expr_more _ h)
+structured_arg n (Some m) (a_test t) h = arg_more _ (expr_more _ h)
 
 pub argument_tally : (s : Scene) (n : ℕ) (f : Option FormalOf) (t : Typing) → TypingTally n t → Tally n (arg_phrases (argument_of s f t))
 unfolding expr_phrases
-argument_tally s n None t h = tally_arg _ (value_tally h)
+argument_tally s n None t h = arg_more _ (value_tally h)
 argument_tally s n (Some f) t h = by (is_structured s f.shape)
   where
     by : (b : Bool) → Tally n (arg_phrases (if b then structured_argument f.mode t.meaning else simple_argument s f.mode f.shape t.meaning))
@@ -351,24 +351,24 @@ unfolding expr_phrases
 related_tally s n m relations.Equal p h g = record { is = by p.0.meaning p.1.meaning h.is g.is }
   where
     two : (b : Bool) (d e : ir.Desig) (r1 r2 : Range) → Tally n (desig_phrases d) → Tally m (desig_phrases e) → Tally (n + m) (test_phrases (if b then ir.SameCells d e else ir.Unify d r1 e r2))
-    two true d e r1 r2 h g = tally_test _ (tally_join h g)
-    two false d e r1 r2 h g = tally_test _ (tally_join h g)
+    two true d e r1 r2 h g = test_more _ (tally_join h g)
+    two false d e r1 r2 h g = test_more _ (tally_join h g)
 
     by : (a b : Meaning) → MeaningTally n a → MeaningTally m b → MeaningTally (n + m) (equation_of s p.0 p.1 a b)
     by (a_place d) (a_place e) h g = two (is_structured s p.0.shape) d e (range s p.0.shape) (range s p.1.shape) h g
-    by (a_place d) (plain e) h g = tally_test _ (tally_join h g)
-    by (a_place d) (a_test e) h g = tally_test _ (tally_join h (tally_expr _ g))
-    by (plain e) (a_place d) h g = tally_is (m + n) (n + m) (omega arith) (tally_test _ (tally_join g h))
-    by (a_test e) (a_place d) h g = tally_is (m + n) (n + m) (omega arith) (tally_test _ (tally_join g (tally_expr _ h)))
-    by (plain e) (plain x) h g = tally_expr _ (tally_join h g)
-    by (plain e) (a_test x) h g = tally_expr _ (tally_join h (tally_expr _ g))
-    by (a_test e) (plain x) h g = tally_expr _ (tally_join (tally_expr _ h) g)
-    by (a_test e) (a_test x) h g = tally_expr _ (tally_join (tally_expr _ h) (tally_expr _ g))
-related_tally s n m relations.Unequal p h g = record { is = tally_expr _ (tally_join (value_tally h) (value_tally g)) }
-related_tally s n m relations.Less p h g = record { is = tally_expr _ (tally_join (value_tally h) (value_tally g)) }
-related_tally s n m relations.LessEq p h g = record { is = tally_expr _ (tally_join (value_tally h) (value_tally g)) }
-related_tally s n m relations.Greater p h g = record { is = tally_expr _ (tally_join (value_tally h) (value_tally g)) }
-related_tally s n m relations.GreaterEq p h g = record { is = tally_expr _ (tally_join (value_tally h) (value_tally g)) }
+    by (a_place d) (plain e) h g = test_more _ (tally_join h g)
+    by (a_place d) (a_test e) h g = test_more _ (tally_join h (expr_more _ g))
+    by (plain e) (a_place d) h g = tally_is (m + n) (n + m) (omega arith) (test_more _ (tally_join g h))
+    by (a_test e) (a_place d) h g = tally_is (m + n) (n + m) (omega arith) (test_more _ (tally_join g (expr_more _ h)))
+    by (plain e) (plain x) h g = expr_more _ (tally_join h g)
+    by (plain e) (a_test x) h g = expr_more _ (tally_join h (expr_more _ g))
+    by (a_test e) (plain x) h g = expr_more _ (tally_join (expr_more _ h) g)
+    by (a_test e) (a_test x) h g = expr_more _ (tally_join (expr_more _ h) (expr_more _ g))
+related_tally s n m relations.Unequal p h g = record { is = expr_more _ (tally_join (value_tally h) (value_tally g)) }
+related_tally s n m relations.Less p h g = record { is = expr_more _ (tally_join (value_tally h) (value_tally g)) }
+related_tally s n m relations.LessEq p h g = record { is = expr_more _ (tally_join (value_tally h) (value_tally g)) }
+related_tally s n m relations.Greater p h g = record { is = expr_more _ (tally_join (value_tally h) (value_tally g)) }
+related_tally s n m relations.GreaterEq p h g = record { is = expr_more _ (tally_join (value_tally h) (value_tally g)) }
 
 -- ---- sums and products
 
@@ -427,10 +427,10 @@ chain_meaning : (join : ir.Tests → ir.Test) → Joins join → (sign : Option 
 unfolding expr_phrases
 chain_meaning join j None sort n m first [] h g = let none = (no_links_left sort m g).count in (typing_is n (n + m) (omega (arith, none)) h).is
 chain_meaning join j (Some signs.Plus) sort n m first [] h g = let none = (no_links_left sort m g).count in no_place_in (n + m) first.meaning (typing_is n (n + m) (omega (arith, none)) h).is
-chain_meaning join j (Some signs.Minus) sort n m first [] h g = tally_expr _ (tally_join (value_tally h) (no_links_left sort m g))
-chain_meaning join j sign sort n m first ((arithmetic op, t) ∷ rest) h g = tally_expr _ (tally_join (value_tally h) (g.links g.kind))
+chain_meaning join j (Some signs.Minus) sort n m first [] h g = expr_more _ (tally_join (value_tally h) (no_links_left sort m g))
+chain_meaning join j sign sort n m first ((arithmetic op, t) ∷ rest) h g = expr_more _ (tally_join (value_tally h) (g.links g.kind))
 chain_meaning join j sign sort n m first ((logical, t) ∷ rest) h g =
-    subst (λ ys. Tally (n + m) ys) (sym (j.is (ir.more_tests (test_of first.meaning) (tests_of ((logical, t) ∷ rest))))) (tally_test _ (tally_join (test_tally h) (g.tests g.kind)))
+    subst (λ ys. Tally (n + m) ys) (sym (j.is (ir.more_tests (test_of first.meaning) (tests_of ((logical, t) ∷ rest))))) (test_more _ (tally_join (test_tally h) (g.tests g.kind)))
 
 pub chain_tally : (s : Scene) (join : ir.Tests → ir.Test) → Joins join → (o : Operand) (sign : Option Sign) (l sort : Bool) (n m : ℕ) (v : Option (Typing × Operands)) → When v (λ p. TypingTally n p.0 × OperandsTally sort m p.1)
     → When (option_map (chained join sign) (unless (chain_rules s join o sign l v) v)) (TermTally o (n + m))

@@ -17,3 +17,7 @@ pub mod Programs
 pub mod Conditions
 pub mod Tallies
 pub mod Counts
+pub mod Counting
+pub mod Lined
+pub mod Spelled
+pub mod Naming

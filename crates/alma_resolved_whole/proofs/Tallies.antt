@@ -156,7 +156,7 @@ unfoldable mutual
   pub tally_only : tree.Stmts → Option ℕ
   tally_only (tree.stmts n x rest) = only_tally rest (tally_value x)
 
-  tally_value : tree.Stmt → Option ℕ
+  pub tally_value : tree.Stmt → Option ℕ
   tally_value (tree.value n e) = Some (tally_expr e)
   tally_value x = None
 

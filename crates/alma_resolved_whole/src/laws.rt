@@ -24,11 +24,18 @@ pub fn resolved_programs_fit()
         resolved source tokens m ≡ Some p → ProgramFits p }
 {}
 
-/// A resolved program is checked, where it has as many lines as statements, its names are spelled and it keeps the limits.
+/// Each routine of a resolved program has as many lines as its body has statements, at any depth.
+pub fn resolved_programs_have_their_lines()
+    ensures { (source : List ℕ) (tokens : List Lexeme) (m : tree.Module) (p : Program)
+        → BlockStands m.block →
+        resolved source tokens m ≡ Some p → EachRoutine p (λ r routine. HasLines routine) }
+{}
+
+/// A resolved program is checked, where its names are spelled and it keeps the limits.
 pub fn a_resolved_program_is_checked()
     ensures { (source : List ℕ) (tokens : List Lexeme) (m : tree.Module) (p : Program)
         → BlockStands m.block →
-        resolved source tokens m ≡ Some p → EachRoutine p (λ r routine. HasLines routine)
-        → NamesSpelled p → KeepsLimits p →
-        EachRoutine p (λ r routine. RoutineKeepsLimits routine) → IsChecked p }
+        resolved source tokens m ≡ Some p → NamesSpelled p → KeepsLimits p
+        → EachRoutine p (λ r routine. RoutineKeepsLimits routine) →
+        IsChecked p }
 {}
