@@ -89,8 +89,12 @@ mutual
   bodies_ends_count : (s : Scene) (r : ℕ) (x : tree.DeclTail) → length (bodies_ends s r x) ≡ decls_routines x
   bodies_ends_count s r tree.no_decl = refl
   bodies_ends_count s r (tree.more_decl d rest) =
-      omega (arith, length-append (decl_ends s r d) (bodies_ends (with_shapes s (judge_decl s r d).shapes) (r + decl_routines d) rest), decl_ends_count s r d,
-      bodies_ends_count (with_shapes s (judge_decl s r d).shapes) (r + decl_routines d) rest)
+      omega (
+        arith,
+        length-append (decl_ends s r d) (bodies_ends (with_shapes s (judge_decl s r d).shapes) (r + decl_routines d) rest),
+        decl_ends_count s r d,
+        bodies_ends_count (with_shapes s (judge_decl s r d).shapes) (r + decl_routines d) rest,
+      )
 
   decl_ends_count : (s : Scene) (r : ℕ) (d : tree.Decl) → length (decl_ends s r d) ≡ decl_routines d
   decl_ends_count s r (tree.const_decl n xs) = refl

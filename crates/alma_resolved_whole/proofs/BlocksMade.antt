@@ -74,8 +74,13 @@ mutual
   bodies_count s r tree.no_decl rs value = none_made rs (cc)
   bodies_count s r (tree.more_decl d rest) rs value =
       let v = parts (judge_decl s r d).value (judge_bodies (with_shapes s (judge_decl s r d).shapes) (r + decl_routines d) rest).value joined_routines rs value in
-      omega (arith, ap (λ (ys : List Routine). length ys) v.is, length-append v.first v.second, decl_count s r d v.first v.has_first,
-      bodies_count (with_shapes s (judge_decl s r d).shapes) (r + decl_routines d) rest v.second v.has_second)
+      omega (
+        arith,
+        ap (λ (ys : List Routine). length ys) v.is,
+        length-append v.first v.second,
+        decl_count s r d v.first v.has_first,
+        bodies_count (with_shapes s (judge_decl s r d).shapes) (r + decl_routines d) rest v.second v.has_second,
+      )
 
   pub decl_count : (s : Scene) (r : ℕ) (d : tree.Decl) (rs : List Routine) → (judge_decl s r d).value ≡ Some rs → length rs ≡ decl_routines d
   decl_count s r (tree.const_decl n xs) rs value = none_made rs (cc)

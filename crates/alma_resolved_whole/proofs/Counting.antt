@@ -282,9 +282,6 @@ paren_quiet s k m None (Some n) j h = absurd h
 paren_quiet s k m (Some i) None j h = absurd h
 paren_quiet s k m (Some i) (Some n) j h = when_map {P = λ t. n ≡ 0} without_place (when_node (simple_rules (in_constant s)) i.value h (λ t y q. y)) (λ t y. y)
 
-broken_call : (s : Scene) (c : Option Callee) (count : ℕ) (v : Option (Callee × ir.Args)) (n : ℕ) → When (option_map called (unless (call_rules (in_constant s) c count v) v)) (λ t. n ≡ 0)
-broken_call s c count v n = when_map {P = λ x. ⊥} called (when_node {P = λ x. Unit {0}} {Q = λ x. ⊥} (call_rules (in_constant s) c count) v (anything v) (λ x y q. absurd (cc))) (λ x y. absurd y)
-
 -- ---- calls
 
 called_tally : (s : Scene) (n m count : ℕ) (c : Option Callee) (args : Option ir.Args) → When c (λ x. 0 ≡ n) → When args (λ y. Tally m (args_phrases y))
@@ -473,7 +470,7 @@ mutual
       (when_both (when_weaker (term_counts s n (first_add None (tree.more_term o t rest)) first) (λ x g. g.typing)) (terms_count s _ (first_add None (tree.more_term o t rest)).sort (tree.more_term o t rest)))) (λ x g. g.typing)
   simple_counts s n (tree.simple k (Some sign) first tree.no_term) =
       when_weaker (chain_tally s ir.Or or_joins alone (Some sign) (any_or tree.no_term) (first_add (Some sign) tree.no_term).sort (tally_term first) 0 _
-      (when_both (when_weaker (term_counts s n (first_add (Some sign) tree.no_term) first) (λ x g. g.typing)) (terms_count s _ (first_add (Some sign) tree.no_term).sort tree.no_term))) (λ x g. g.typing)
+      (when_both (when_weaker (term_counts s n (first_add (Some sign) tree.no_term) first) (λ x g. g.typing)) (terms_count s (judge_term s n (first_add (Some sign) tree.no_term) first).next (first_add (Some sign) tree.no_term).sort tree.no_term))) (λ x g. g.typing)
   simple_counts s n (tree.simple k (Some sign) first (tree.more_term o t rest)) =
       when_weaker (chain_tally s ir.Or or_joins alone (Some sign) (any_or (tree.more_term o t rest)) (first_add (Some sign) (tree.more_term o t rest)).sort (tally_term first) (tally_terms (tree.more_term o t rest)) _
       (when_both (when_weaker (term_counts s n (first_add (Some sign) (tree.more_term o t rest)) first) (λ x g. g.typing)) (terms_count s _ (first_add (Some sign) (tree.more_term o t rest)).sort (tree.more_term o t rest)))) (λ x g. g.typing)
@@ -568,8 +565,7 @@ mutual
 
   expr_quiet : (s : Scene) (n : ℕ) (x : tree.Expr) → When (judge_expr (in_constant s) n x).value (λ t. tally_expr x ≡ 0)
   expr_quiet s n (tree.expr k left tree.no_relation) = when_weaker (simple_quiet s n left) (λ t g. omega (arith, g))
-  expr_quiet s n (tree.expr k left (tree.compared r right)) =
-      when_map {P = λ x. ⊥} (related (in_constant s) r) (when_node {P = λ x. Unit {0}} {Q = λ x. ⊥} (relation_rules (in_constant s) r) _ (anything _) (λ x y q. absurd (cc))) (λ x y. absurd y)
+  expr_quiet s n (tree.expr k left (tree.compared r right)) = when_none
 
   simple_quiet : (s : Scene) (n : ℕ) (x : tree.Simple) → When (judge_simple (in_constant s) n x).value (λ t. tally_simple x ≡ 0)
   simple_quiet s n (tree.simple k None first tree.no_term) =
@@ -579,7 +575,7 @@ mutual
       (when_both (term_quiet s n (first_add None (tree.more_term o t rest)) first) (terms_quiet s _ (first_add None (tree.more_term o t rest)).sort (tree.more_term o t rest)))
   simple_quiet s n (tree.simple k (Some sign) first tree.no_term) =
       quiet_chain (tally_term first) 0 (chained ir.Or (Some sign)) (chain_rules (in_constant s) ir.Or alone (Some sign) (any_or tree.no_term)) _
-      (when_both (term_quiet s n (first_add (Some sign) tree.no_term) first) (terms_quiet s _ (first_add (Some sign) tree.no_term).sort tree.no_term))
+      (when_both (term_quiet s n (first_add (Some sign) tree.no_term) first) (terms_quiet s (judge_term (in_constant s) n (first_add (Some sign) tree.no_term) first).next (first_add (Some sign) tree.no_term).sort tree.no_term))
   simple_quiet s n (tree.simple k (Some sign) first (tree.more_term o t rest)) =
       quiet_chain (tally_term first) (tally_terms (tree.more_term o t rest)) (chained ir.Or (Some sign)) (chain_rules (in_constant s) ir.Or alone (Some sign) (any_or (tree.more_term o t rest))) _
       (when_both (term_quiet s n (first_add (Some sign) (tree.more_term o t rest)) first) (terms_quiet s _ (first_add (Some sign) (tree.more_term o t rest)).sort (tree.more_term o t rest)))
@@ -602,17 +598,17 @@ mutual
       when_map {P = λ p. (tally_factor f ≡ 0) × (tally_factors rest ≡ 0)} (cons_operand (mul_operator o)) (when_both (factor_quiet s n (operand_behind sort (mul_operator o)) f) (factors_quiet s _ sort rest)) (λ p g. omega (arith, g.0, g.1))
 
   factor_quiet : (s : Scene) (n : ℕ) (o : Operand) (x : tree.Factor) → When (judge_factor (in_constant s) n o x).value (λ t. tally_factor x ≡ 0)
-  factor_quiet s n o (tree.not_factor k p) = when_node {P = λ x. Unit {0}} (not_rules (in_constant s) o) _ (anything _) (λ x y q. absurd (cc))
+  factor_quiet s n o (tree.not_factor k p) = when_none
   factor_quiet s n o (tree.factor k p) = when_node (operand_rules (in_constant s) o) _ (primary_quiet s n p) (λ t g q. g)
 
   primary_quiet : (s : Scene) (n : ℕ) (x : tree.Primary) → When (judge_primary (in_constant s) n x).value (λ t. tally_primary x ≡ 0)
   primary_quiet s n (tree.number k t) = when_some _ refl
   primary_quiet s n (tree.literal k t) = only_some _ refl
   primary_quiet s n (tree.named k d tree.no_args) = when_then {P = λ x. tally_desig d ≡ 0} typing_in (desig_quiet s n as_value d) (λ x g. only_some (typing_in x) (omega (arith, g)))
-  primary_quiet s n (tree.named k d tree.empty_args) = broken_call s _ 0 _ (tally_desig d + 0)
-  primary_quiet s n (tree.named k d (tree.args items)) = broken_call s _ (argument_count items) _ (tally_desig d + tally_exprs items)
+  primary_quiet s n (tree.named k d tree.empty_args) = when_none
+  primary_quiet s n (tree.named k d (tree.args items)) = when_none
   primary_quiet s n (tree.paren k body) = paren_quiet s k (tally_stmts body) (judge_only (in_constant s) n body) (tally_only body) (judge_stmts (inside_of (in_constant s)) n body) (only_quiet s n body)
-  primary_quiet s n (tree.known k d) = when_map {P = λ x. ⊥} known_typing (when_node {P = λ x. Unit {0}} {Q = λ x. ⊥} (known_rules (in_constant s)) _ (anything _) (λ x y q. absurd (cc))) (λ x y. absurd y)
+  primary_quiet s n (tree.known k d) = when_none
   primary_quiet s n (tree.ord k e) = when_map {P = λ t. tally_expr e ≡ 0} ord_typing (when_node (simple_rules (in_constant s)) _ (expr_quiet s n e) (λ t g q. g)) (λ t g. g)
   primary_quiet s n (tree.chr k e) = when_map {P = λ t. tally_expr e ≡ 0} chr_typing (when_node (chr_rules (in_constant s)) _ (expr_quiet s n e) (λ t g q. g)) (λ t g. g)
 

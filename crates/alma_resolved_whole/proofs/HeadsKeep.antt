@@ -447,11 +447,12 @@ function_made t f name h m e = by (read_type_name f.scene name).value refl e
     made v [] None p q i e = absurd (cc)
     made v [] (Some gs) p q i e =
         let same : heading_with f (Some v) gs ≡ h = cc in
-        let plain : structured_in f.scene.shapes v ≡ false = simple v p in
-        (subst (λ (x : Heading). FormalsKeep t x.formals f.params) same (m.fit (nil_left f.faults _ p) gs q),
-         (v, ap (λ (x : Heading). x.result) (sym same), subst (λ x. structured_in x v ≡ false) m.shapes plain),
-         λ w j. let one : v ≡ w = ap (λ (x : Option ℕ). unwrap_or x 0) (sym i ∙ j) in subst (λ x. structured_in f.scene.shapes x ≡ false) one plain,
-         record { list = gs; is = q })
+        let plain : structured_in f.scene.shapes v ≡ false = simple v p in (
+          subst (λ (x : Heading). FormalsKeep t x.formals f.params) same (m.fit (nil_left f.faults _ p) gs q),
+          (v, ap (λ (x : Heading). x.result) (sym same), subst (λ x. structured_in x v ≡ false) m.shapes plain),
+          λ w j. let one : v ≡ w = ap (λ (x : Option ℕ). unwrap_or x 0) (sym i ∙ j) in subst (λ x. structured_in f.scene.shapes x ≡ false) one plain,
+          record { list = gs; is = q },
+        )
     made v (b ∷ bs) o p q i e = absurd (cc)
 
     by : (o : Option ℕ) → (read_type_name f.scene name).value ≡ o

@@ -21,3 +21,5 @@ pub mod Counting
 pub mod Lined
 pub mod Spelled
 pub mod Naming
+pub mod Named
+pub mod TreeNames

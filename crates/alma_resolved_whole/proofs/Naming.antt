@@ -118,6 +118,9 @@ names_named x = naming_both _ _ _ _ (numbered.view_name x.first ∷ []) _ (name_
 
 -- ---- types
 
+is_spelled : (f : Step) (sp : List Kind → List Kind) (xs : List tree.Name) → Naming f sp xs → Spelled f sp
+is_spelled f sp xs h = h.spelled
+
 mutual
   type_spelled : (x : dy.TypeNode) → Spelled (number.number_type x) (spell.spell_type_node (view.view_type_node x))
   type_spelled (dy.TypeNode' n dims p) = spelled_then _ _ _ _ (arrays_spelled dims) (spelled_then _ _ _ _ (plain_spelled p) (spelled_node n))
@@ -153,9 +156,6 @@ mutual
   field_lists_spelled : {n : _} (x : dq.Row_of-FieldList n) → Spelled (number.number_field_lists x) (spell.spell_field_list_tail (view.view_field_lists x))
   field_lists_spelled dq.end_of-FieldList = spelled_stay
   field_lists_spelled (dq.more_of-FieldList f rest) = spelled_then _ _ _ _ (spelled_token kinds.Semicolon) (spelled_then _ _ _ _ (field_list_spelled f) (field_lists_spelled rest))
-
-  is_spelled : (f : Step) (sp : List Kind → List Kind) (xs : List tree.Name) → Naming f sp xs → Spelled f sp
-  is_spelled f sp xs h = h.spelled
 
 -- ---- declarations
 

@@ -199,4 +199,3 @@ list_stmts_up (s ∷ rest) = up_then _ _ up_token (up_then _ _ (stmt_up s) (list
 
 pub stmts_up : (x : ds.Stmts) → Up (number.number_stmts x)
 stmts_up s = up_then _ _ (stmt_up s.first.value) (up_then _ _ (list_stmts_up s.more.items) (up_node s.node))
-

@@ -54,9 +54,10 @@ unfolding Lists
 both f g xs ys p q at b h =
     let m : (mid : Cursor) × (f at ≡ Some mid) × (g mid ≡ Some b) = parts (f at) g b h in
     let l = p at m.0 m.1 in
-    let r = q m.0 b m.2 in
-    (omega (arith, l.0, r.0),
-     each_of_append (λ (x : tree.Name). (at.token ≤ x.token) × (x.token < b.token)) xs ys (wider at.token m.0.token at.token b.token xs (omega arith) r.0 l.1) (wider m.0.token b.token at.token b.token ys l.0 (omega arith) r.1))
+    let r = q m.0 b m.2 in (
+      omega (arith, l.0, r.0),
+      each_of_append (λ (x : tree.Name). (at.token ≤ x.token) × (x.token < b.token)) xs ys (wider at.token m.0.token at.token b.token xs (omega arith) r.0 l.1) (wider m.0.token b.token at.token b.token ys l.0 (omega arith) r.1),
+    )
 
 -- names behind a phrase, and names in front of one
 after : (f g : Step) (ys : List tree.Name) → Up f → Lists g ys → Lists (f >> g) ys
@@ -78,11 +79,12 @@ both_in_two f g h xs ys zs p q r at b e =
     let n : (mid : Cursor) × (g m.0 ≡ Some mid) × (h mid ≡ Some b) = parts (g m.0) h b m.2 in
     let i = p at m.0 m.1 in
     let j = q m.0 n.0 n.1 in
-    let k = r n.0 b n.2 in
-    (omega (arith, i.0, j.0, k.0),
-     each_of_append (λ (x : tree.Name). (at.token ≤ x.token) × (x.token < b.token)) (xs ++ ys) zs
-     (each_of_append (λ (x : tree.Name). (at.token ≤ x.token) × (x.token < b.token)) xs ys (wider at.token m.0.token at.token b.token xs (omega arith) (omega (arith, j.0, k.0)) i.1)
-     (wider m.0.token n.0.token at.token b.token ys i.0 k.0 j.1)) (wider n.0.token b.token at.token b.token zs (omega (arith, i.0, j.0)) (omega arith) k.1))
+    let k = r n.0 b n.2 in (
+      omega (arith, i.0, j.0, k.0),
+      each_of_append (λ (x : tree.Name). (at.token ≤ x.token) × (x.token < b.token)) (xs ++ ys) zs
+          (each_of_append (λ (x : tree.Name). (at.token ≤ x.token) × (x.token < b.token)) xs ys (wider at.token m.0.token at.token b.token xs (omega arith) (omega (arith, j.0, k.0)) i.1)
+          (wider m.0.token n.0.token at.token b.token ys i.0 k.0 j.1)) (wider n.0.token b.token at.token b.token zs (omega (arith, i.0, j.0)) (omega arith) k.1),
+    )
 
 -- ---- names
 
@@ -306,8 +308,8 @@ unfolding Holds
 numbered_stands m tokens h =
     let block : Holds (number.number_block m.block) (BlockStands (view.view_block m.block)) = block_holds _ _ m.block.node (view.decls_of m.block.decls.items) (view.body_of m.block.body) (list_holds m.block.decls.items) in
     let all : Holds (number.number_module m) (BlockStands (view.view_block m.block)) =
-        holds_back _ token (number.number_name m.name >> token >> number.number_block m.block >> token >> number.number_name m.end_name >> token >> node m.node)
-        (holds_back _ (number.number_name m.name) (token >> number.number_block m.block >> token >> number.number_name m.end_name >> token >> node m.node)
-        (holds_back _ token (number.number_block m.block >> token >> number.number_name m.end_name >> token >> node m.node)
-        (holds_front _ (number.number_block m.block) (token >> number.number_name m.end_name >> token >> node m.node) block))) in
+    holds_back _ token (number.number_name m.name >> token >> number.number_block m.block >> token >> number.number_name m.end_name >> token >> node m.node)
+    (holds_back _ (number.number_name m.name) (token >> number.number_block m.block >> token >> number.number_name m.end_name >> token >> node m.node)
+    (holds_back _ token (number.number_block m.block >> token >> number.number_name m.end_name >> token >> node m.node)
+    (holds_front _ (number.number_block m.block) (token >> number.number_name m.end_name >> token >> node m.node) block))) in
     all (record { token = 0; node = 0 }) (record { token = tokens; node = h.0 }) h.1

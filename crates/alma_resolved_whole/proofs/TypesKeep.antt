@@ -201,7 +201,7 @@ listed_keep k c s names from some h = by (all_first s names)
         let g = values_keep k c t from (Some (length s.shapes)) 0 names one simple in
         let first : Longer s t = record { tail = listed (length names) ∷ []; is = refl } in
         let there : length s.shapes < length (declare_values t from (Some (length s.shapes)) 0 names).shapes =
-            omega (arith, ap (λ (x : List PlainShape). length x) g.more.is, length-append t.shapes g.more.tail, length-append s.shapes (listed (length names) ∷ [])) in
+        omega (arith, ap (λ (x : List PlainShape). length x) g.more.is, length-append t.shapes g.more.tail, length-append s.shapes (listed (length names) ∷ [])) in
         record { scene = g.scene; more = longer_twice first g.more; value = when_some (formed (length s.shapes)) there }
 
     add : (b : Bool) → ReadKeeps k c s IsFormed (listed_in [] from names (if_true {A = Scene × Formed} b (λ u. (s, too_large)) (λ u. (record s { shapes = s.shapes ++ listed (length names) ∷ [] }, formed (length s.shapes)))))

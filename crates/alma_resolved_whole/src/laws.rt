@@ -9,7 +9,7 @@ ghost use Rattle.alma_rules.specs.View.{view_module};
 ghost use Rattle.alma_rules.specs.Modules.{resolved};
 ghost use Rattle.alma_resolved.specs.Stand.{BlockStands};
 ghost use Rattle.alma_ir.specs.Checked.{EachRoutine, HasLines, NamesSpelled, KeepsLimits, RoutineKeepsLimits, IsChecked};
-ghost use Rattle.alma_resolved_whole.specs.Whole.{ProgramFits};
+ghost use Rattle.alma_resolved_whole.specs.Whole.{ProgramFits, IsTreeOf};
 
 /// In a tree as the parser numbers it each heading stands before what is declared behind it.
 pub fn trees_of_the_parser_stand_so()
@@ -31,11 +31,18 @@ pub fn resolved_programs_have_their_lines()
         resolved source tokens m ≡ Some p → EachRoutine p (λ r routine. HasLines routine) }
 {}
 
-/// A resolved program is checked, where its names are spelled and it keeps the limits.
+/// The names of the resolved program of a source's tree are spelled as names.
+pub fn resolved_programs_have_their_names()
+    ensures { (source : List ℕ) (tokens : List Lexeme) (m : Module) (p : Program)
+        → IsTreeOf source tokens m →
+        resolved source tokens (view_module m) ≡ Some p → NamesSpelled p }
+{}
+
+/// The resolved program of a source's tree is checked, where it keeps the limits.
 pub fn a_resolved_program_is_checked()
-    ensures { (source : List ℕ) (tokens : List Lexeme) (m : tree.Module) (p : Program)
-        → BlockStands m.block →
-        resolved source tokens m ≡ Some p → NamesSpelled p → KeepsLimits p
+    ensures { (source : List ℕ) (tokens : List Lexeme) (m : Module) (p : Program)
+        → IsTreeOf source tokens m →
+        resolved source tokens (view_module m) ≡ Some p → KeepsLimits p
         → EachRoutine p (λ r routine. RoutineKeepsLimits routine) →
         IsChecked p }
 {}
