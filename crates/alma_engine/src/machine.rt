@@ -250,6 +250,13 @@ impl<'b, 'i> Machine<'b, 'i> {
         }
     }
 
+    /// While it is running, its code is sound and its state fits it.
+    pub fn keeps_standing(&self)
+        ensures { self.now.running ≡ true → Stands self.now.code self.now.state }
+    {
+        let _ = &self.running;
+    }
+
     /// Whether the machine can make a step.
     pub fn is_running(&self) -> bool
         ensures { result ≡ self.now.running }
