@@ -1,0 +1,4 @@
+pub mod Cuts
+pub mod Places
+pub mod Resolved
+pub mod Traced

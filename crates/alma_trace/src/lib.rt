@@ -1,0 +1,11 @@
+//! The text that traces a run: a line for each step that has one, and the values of watched places at choices and fails.
+#![tactic(auto)]
+
+pub mod laws;
+mod line;
+mod step;
+mod tracer;
+mod watch;
+
+pub use tracer::trace;
+pub use watch::Watch;
