@@ -34,12 +34,12 @@ unrelated n (tree.simple m None (tree.term k (tree.factor i p) tree.no_factor) t
 pub expr_related : (e : de.Expr) (b : Box dc.Compared Global) → (de.out-Expr e).right ≡ Some b → only_primary (view.view_expr e) ≡ None
 expr_related e b h =
     ap only_primary (rows.expr_is e) ∙ ap (λ r. only_primary (tree.expr (de.out-Expr e).node (view.view_simple (de.out-Expr e).left) (view.compared_of r))) h
-    ∙ related _ _ _ _
+    ∙ related (de.out-Expr e).node _ _ _
 
 pub expr_unrelated : (e : de.Expr) → (de.out-Expr e).right ≡ None → only_primary (view.view_expr e) ≡ simple_alone (view.view_simple (de.out-Expr e).left)
 expr_unrelated e h =
     ap only_primary (rows.expr_is e) ∙ ap (λ r. only_primary (tree.expr (de.out-Expr e).node (view.view_simple (de.out-Expr e).left) (view.compared_of r))) h
-    ∙ unrelated _ _
+    ∙ unrelated (de.out-Expr e).node _
 
 -- ---- sums
 pub simple_one : (t : di.Simple) → one_term (di.out-Simple t).sign (view.terms_of (di.out-Simple t).more.items) ≡ true
