@@ -1,6 +1,5 @@
 use Rattle.alma_ir.specs.View.{program_of}
 use Rattle.alma_front.proofs.LawsChecked.{source_checked}
-use Rattle.alma_front.proofs.LawsForms.{source_built}
 use Rattle.alma_driver.specs.Outside.{files_side}
 use Rattle.alma_driver.specs.Outcome.{CompileOutcome}
 use Rattle.alma_driver.proofs.DriverLemmas.{works_read, works_stopped}
@@ -8,9 +7,6 @@ use Rattle.alma_driver.proofs.compile.compile_source.Goals as goal
 
 pub compile_program-requires-clause-checked : goal.compile_program-requires-clause-checked
 compile_program-requires-clause-checked g c = source_checked c.args.source.now (program_of c.in-Ok.program) c.requires.short c.in-Ok.ensures.program
-
-pub compile_program-requires-clause-built : goal.compile_program-requires-clause-built
-compile_program-requires-clause-built g c = source_built c.args.source.now (program_of c.in-Ok.program) c.in-Ok.ensures.program
 
 pub returns-in-Ok-clause-course : goal.returns-in-Ok-clause-course
 returns-in-Ok-clause-course g c = λ out.

@@ -1,6 +1,5 @@
 use Rattle.alma_ir.specs.View.{program_of}
 use Rattle.alma_front.proofs.LawsChecked.{source_checked}
-use Rattle.alma_front.proofs.LawsForms.{source_built}
 use Rattle.alma_driver.specs.Outside.{sink_side, source_side}
 use Rattle.alma_driver.specs.Outcome.{ProgramOutcome}
 use Rattle.alma_driver.proofs.DriverLemmas.{runs_read, runs_stopped}
@@ -8,9 +7,6 @@ use Rattle.alma_driver.proofs.run.run_source.Goals as goal
 
 pub run_program-requires-clause-checked : goal.run_program-requires-clause-checked
 run_program-requires-clause-checked g c = source_checked c.args.source.now (program_of c.in-Ok.program) c.requires.short c.in-Ok.ensures.program
-
-pub run_program-requires-clause-built : goal.run_program-requires-clause-built
-run_program-requires-clause-built g c = source_built c.args.source.now (program_of c.in-Ok.program) c.in-Ok.ensures.program
 
 pub returns-in-Ok : goal.returns-in-Ok
 returns-in-Ok g c =
