@@ -1,7 +1,7 @@
 -- Names and the places of globals.
-use Rattle.std.proofs.Common.{◌≡◌, ◌∙◌, ℕ, zero, suc, ◌+◌, ◌<◌, ◌≤◌, Bool, true, false, List, [], ◌∷◌, length, get_or, drop, drop-cons, map, ap, sym, subst, arith, refl, bytes_eq, nat_eq}
-use Rattle.std.specs.Prelude.{◌&&◌, Option, Some, None, MatchOption, not, nat_lt, option_map, slice_get, unwrap_or}
-use Rattle.std.specs.List.{All, list_all}
+use Rattle.std.proofs.Common.{◌≡◌, ◌∙◌, ℕ, zero, suc, ◌+◌, ◌<◌, ◌≤◌, Bool, true, false, List, [], ◌∷◌, length, get_or, drop, drop-cons, ap, sym, subst, arith, refl, bytes_eq, nat_eq}
+use Rattle.std.specs.Prelude.{◌&&◌, Option, Some, None, MatchOption, not, nat_lt, slice_get}
+use Rattle.std.specs.List.{list_all}
 use Rattle.std.proofs.lemmas.Bool.{and_parts}
 use Rattle.std.proofs.lemmas.Option.{slice_get_within, get_or_from_slice_get}
 use Rattle.std.proofs.lemmas.List.{at_drop_all}
@@ -12,9 +12,7 @@ use Rattle.alma_code.specs.Kinds.{numbers_from}
 use Rattle.alma_code.specs.Plain.{PlainCode, PlainGlobal, head_at, kinds_at, start_at, end_at}
 use Rattle.alma_code.specs.Rules.{IsSound, cells_in, is_free, is_global, is_main}
 use Rattle.alma_code.specs.TraceText.{same_name}
-use Rattle.alma_trace.specs.declared.watch.Watch.{Watch}
-use Rattle.alma_trace.specs.Places.{IsWithin}
-use Rattle.alma_trace.specs.Resolved.{IsResolved, ResolvedAreOfModule, place_of_name}
+use Rattle.alma_trace.specs.Resolved.{ResolvedAreOfModule, place_of_name}
 
 -- names are alike where their bytes are
 pub same_is : (a b : List ℕ) → bytes_eq a b ≡ same_name a b
