@@ -35,7 +35,9 @@ pub fn check_if(
     elsifs: &[Elsif],
     otherwise: &Option<Stmts>,
 ) -> Result<Option<Vec<IrStmt>>, Stop>
-    ensures { Answers (walk.judge_stmt (scene_of env.now place) slot.old (tree.if_stmt node (view.view_expr test.now) (view.view_stmts then.now) (view.elsifs_of elsifs.now) (view.else_of otherwise.now))) stmts_of slot.new result }
+    ensures { Answers (walk.judge_stmt (scene_of env.now place) slot.old
+        (tree.if_stmt node (view.view_expr test.now) (view.view_stmts then.now)
+        (view.elsifs_of elsifs.now) (view.else_of otherwise.now))) stmts_of slot.new result }
 {
     let first = check_guarded(alloc, env, place, slot, test, then);
     let arms = add_guarded(Some(Vec::new(alloc)), first)?;
@@ -53,7 +55,10 @@ fn check_guarded(
     test: &Expr,
     then: &Stmts,
 ) -> Result<Option<Arm>, Stop>
-    ensures { Answers (and_then (nodes.condition_at (scene_of env.now place) (view.view_expr test.now) (walk.judge_expr (scene_of env.now place) slot.old (view.view_expr test.now))) (λ m. walk.judge_stmts (scene_of env.now place) m (view.view_stmts then.now))) guarded_of slot.new result }
+    ensures { Answers (and_then (nodes.condition_at (scene_of env.now place)
+        (view.view_expr test.now) (walk.judge_expr (scene_of env.now place) slot.old
+        (view.view_expr test.now))) (λ m. walk.judge_stmts (scene_of env.now place) m
+        (view.view_stmts then.now))) guarded_of slot.new result }
 {
     let test = check_condition(alloc, env, place, slot, test)?;
     let body = check_stmts(alloc, env, place, slot, then);
@@ -69,7 +74,9 @@ fn check_elsifs(
     kept: Option<Vec<Arm>>,
     elsifs: &[Elsif],
 ) -> Result<Option<Vec<Arm>>, Stop>
-    ensures { Answers (onward_arms (arms_in kept) (walk.judge_elsifs (scene_of env.now place) slot.old (view.elsifs_of elsifs.now))) arms_of slot.new result }
+    ensures { Answers (onward_arms (arms_in kept)
+        (walk.judge_elsifs (scene_of env.now place) slot.old (view.elsifs_of elsifs.now))) arms_of
+        slot.new result }
 {
     let mut kept = kept;
     for elsif in elsifs {
@@ -87,7 +94,8 @@ fn check_else(
     slot: &mut u32,
     otherwise: &Option<Stmts>,
 ) -> Result<Option<Vec<IrStmt>>, Stop>
-    ensures { Answers (walk.judge_else (scene_of env.now place) slot.old (view.else_of otherwise.now)) stmts_of slot.new result }
+    ensures { Answers (walk.judge_else (scene_of env.now place) slot.old
+        (view.else_of otherwise.now)) stmts_of slot.new result }
 {
     match otherwise {
         None => Ok(nothing(alloc)),
@@ -106,7 +114,9 @@ pub fn check_while(
     test: &Expr,
     body: &Stmts,
 ) -> Result<Option<Vec<IrStmt>>, Stop>
-    ensures { Answers (walk.judge_stmt (scene_of env.now place) slot.old (tree.while_stmt node (view.view_expr test.now) (view.view_stmts body.now))) stmts_of slot.new result }
+    ensures { Answers (walk.judge_stmt (scene_of env.now place) slot.old
+        (tree.while_stmt node (view.view_expr test.now) (view.view_stmts body.now))) stmts_of
+        slot.new result }
 {
     let test = check_condition(alloc, env, place, slot, test)?;
     let body = check_stmts(alloc, env, place, slot, body);
@@ -124,7 +134,9 @@ pub fn check_repeat(
     body: &Stmts,
     test: &Expr,
 ) -> Result<Option<Vec<IrStmt>>, Stop>
-    ensures { Answers (walk.judge_stmt (scene_of env.now place) slot.old (tree.repeat_stmt node (view.view_stmts body.now) (view.view_expr test.now))) stmts_of slot.new result }
+    ensures { Answers (walk.judge_stmt (scene_of env.now place) slot.old
+        (tree.repeat_stmt node (view.view_stmts body.now) (view.view_expr test.now))) stmts_of
+        slot.new result }
 {
     let body = check_stmts(alloc, env, place, slot, body)?;
     let test = check_condition(alloc, env, place, slot, test);

@@ -33,7 +33,8 @@ pub fn check_named(
     desig: &Desig,
     args: &Option<Args>,
 ) -> Result<Option<Typed>, Stop>
-    ensures { Answers (judge_primary (scene_of env.now place) slot.old (tree.named node (view_desig desig.now) (tree_args args.now))) typing_of slot.new result }
+    ensures { Answers (judge_primary (scene_of env.now place) slot.old
+        (tree.named node (view_desig desig.now) (tree_args args.now))) typing_of slot.new result }
 {
     match args {
         None => {
@@ -54,7 +55,9 @@ fn check_call(
     desig: &Desig,
     values: &Option<Exprs>,
 ) -> Result<Option<Typed>, Stop>
-    ensures { Answers (judge_primary (scene_of env.now place) slot.old (tree.named node (view_desig desig.now) (args_values values.now))) typing_of slot.new result }
+    ensures { Answers (judge_primary (scene_of env.now place) slot.old
+        (tree.named node (view_desig desig.now) (args_values values.now))) typing_of
+        slot.new result }
 {
     let found = check_desig(alloc, env, place, slot, Use::Procedure, desig);
     let callee = join_callee(env, found)?;
@@ -76,7 +79,9 @@ fn check_arguments(
     callee: Option<Callee>,
     values: &Exprs,
 ) -> Result<Option<Vec<Arg>>, Stop>
-    ensures { Answers (judge_arguments (scene_of env.now place) slot.old (nodes.formals_of (callee_in (headings_in env.now) callee)) (view_exprs values.now)) args_of slot.new result }
+    ensures { Answers (judge_arguments (scene_of env.now place) slot.old
+        (nodes.formals_of (callee_in (headings_in env.now) callee)) (view_exprs values.now)) args_of
+        slot.new result }
 {
     let formal = formal_of(env, callee, 0);
     let first = check_argument(alloc, env, place, slot, formal, &values.first);
@@ -94,7 +99,10 @@ fn check_argument_tail(
     kept: Option<Vec<Arg>>,
     more: &[Expr],
 ) -> Result<Option<Vec<Arg>>, Stop>
-    ensures { Answers (onward_args (args_in kept) (judge_argument_tail (scene_of env.now place) slot.old (drop 1 (nodes.formals_of (callee_in (headings_in env.now) callee))) (exprs_of more.now))) args_of slot.new result }
+    ensures { Answers (onward_args (args_in kept)
+        (judge_argument_tail (scene_of env.now place) slot.old
+        (drop 1 (nodes.formals_of (callee_in (headings_in env.now) callee))) (exprs_of more.now)))
+        args_of slot.new result }
 {
     let mut kept = kept;
     let mut index = 0;
@@ -116,7 +124,10 @@ fn check_argument(
     formal: Option<Formal>,
     value: &Expr,
 ) -> Result<Option<Arg>, Stop>
-    ensures { Answers (nodes.judged_argument (scene_of env.now place) (option_map formal_view formal) (view_expr value.now) (judge_expr (scene_of env.now place) slot.old (view_expr value.now))) arg_of slot.new result }
+    ensures { Answers (nodes.judged_argument (scene_of env.now place)
+        (option_map formal_view formal) (view_expr value.now)
+        (judge_expr (scene_of env.now place) slot.old (view_expr value.now))) arg_of
+        slot.new result }
 {
     let kind = argument_kind(env, value)?;
     let typed = check_expr(alloc, env, place, slot, value);

@@ -40,7 +40,9 @@ pub fn check_case(
     more: &[Arm],
     otherwise: &Option<Stmts>,
 ) -> Result<Option<Vec<IrStmt>>, Stop>
-    ensures { Answers (walk.judge_stmt (scene_of env.now place) slot.old (tree.case_stmt node (view.view_expr value.now) (view.view_arm first.now) (view.arms_of more.now) (view.else_of otherwise.now))) stmts_of slot.new result }
+    ensures { Answers (walk.judge_stmt (scene_of env.now place) slot.old
+        (tree.case_stmt node (view.view_expr value.now) (view.view_arm first.now)
+        (view.arms_of more.now) (view.else_of otherwise.now))) stmts_of slot.new result }
 {
     let typed = check_expr(alloc, env, place, slot, value)?;
     let arms = check_arms(alloc, env, place, slot, &typed, first, more);
@@ -59,7 +61,8 @@ fn check_arms(
     first: &Arm,
     more: &[Arm],
 ) -> Result<Option<Vec<CaseArm>>, Stop>
-    ensures { Answers (arms_judged (scene_of env.now place) slot.old (typing_in case.now) (view.view_arm first.now) (view.arms_of more.now)) cases_of slot.new result }
+    ensures { Answers (arms_judged (scene_of env.now place) slot.old (typing_in case.now)
+        (view.view_arm first.now) (view.arms_of more.now)) cases_of slot.new result }
 {
     let mut spans: Vec<Span> = Vec::new(alloc);
     let mut arms = check_arm(alloc, env, place, slot, case, &mut spans, first)?;
@@ -80,8 +83,11 @@ fn check_arm(
     spans: &mut Vec<Span>,
     arm: &Arm,
 ) -> Result<Option<Vec<CaseArm>>, Stop>
-    ensures judged { Answers (walk.judge_arm (scene_of env.now place) slot.old (typing_in case.now) (spans_view spans.old.items) (view.view_arm arm.now)).arm cases_of slot.new result }
-    ensures spans { OnOk result (spans_view spans.new.items ≡ spans_view spans.old.items ++ (walk.judge_arm (scene_of env.now place) slot.old (typing_in case.now) (spans_view spans.old.items) (view.view_arm arm.now)).spans) }
+    ensures judged { Answers (walk.judge_arm (scene_of env.now place) slot.old (typing_in case.now)
+        (spans_view spans.old.items) (view.view_arm arm.now)).arm cases_of slot.new result }
+    ensures spans { OnOk result (spans_view spans.new.items
+        ≡ spans_view spans.old.items ++ (walk.judge_arm (scene_of env.now place) slot.old
+        (typing_in case.now) (spans_view spans.old.items) (view.view_arm arm.now)).spans) }
 {
     match arm {
         Arm::Empty { .. } => Ok(Some(Vec::new(alloc))),
@@ -108,7 +114,8 @@ fn check_case_else(
     slot: &mut u32,
     otherwise: &Option<Stmts>,
 ) -> Result<Option<Option<Vec<IrStmt>>>, Stop>
-    ensures { Answers (walk.judge_case_else (scene_of env.now place) slot.old (view.else_of otherwise.now)) else_option slot.new result }
+    ensures { Answers (walk.judge_case_else (scene_of env.now place) slot.old
+        (view.else_of otherwise.now)) else_option slot.new result }
 {
     match otherwise {
         None => Ok(Some(None)),
@@ -130,8 +137,11 @@ fn check_labels(
     first: &Label,
     more: &[Label],
 ) -> Result<Option<Vec<Span>>, Stop>
-    ensures judged { Answers (labels_judged (scene_of env.now place) slot.old (typing_in case.now) (spans_view spans.old.items) (view.view_label first.now) (view.labels_of more.now)) spans_of slot.new result }
-    ensures spans { IfOk result (λ v. Grown (spans_view spans.old.items) (spans_in v) (spans_view spans.new.items)) }
+    ensures judged { Answers (labels_judged (scene_of env.now place) slot.old (typing_in case.now)
+        (spans_view spans.old.items) (view.view_label first.now) (view.labels_of more.now)) spans_of
+        slot.new result }
+    ensures spans { IfOk result (λ v. Grown (spans_view spans.old.items) (spans_in v)
+        (spans_view spans.new.items)) }
 {
     let span = check_label(alloc, env, place, slot, case, spans, first);
     let mut labels = add_label(Some(Vec::new(alloc)), spans, span)?;
@@ -152,7 +162,8 @@ fn check_label(
     spans: &[Span],
     label: &Label,
 ) -> Result<Option<Span>, Stop>
-    ensures { Answers (walk.judge_label (scene_of env.now place) slot.old (typing_in case.now) (spans_view spans.now) (view.view_label label.now)) span_view slot.new result }
+    ensures { Answers (walk.judge_label (scene_of env.now place) slot.old (typing_in case.now)
+        (spans_view spans.now) (view.view_label label.now)) span_view slot.new result }
 {
     let within = Place {
         constant: true,

@@ -32,7 +32,9 @@ pub fn check_either(
     first: &Stmts,
     more: &[Stmts],
 ) -> Result<Option<Vec<IrStmt>>, Stop>
-    ensures { Answers (walk.judge_stmt (scene_of env.now place) slot.old (tree.either_stmt node (view.view_stmts first.now) (view.orelses_of more.now))) stmts_of slot.new result }
+    ensures { Answers (walk.judge_stmt (scene_of env.now place) slot.old
+        (tree.either_stmt node (view.view_stmts first.now) (view.orelses_of more.now))) stmts_of
+        slot.new result }
 {
     let first = check_stmts(alloc, env, place, slot, first);
     let branches = add_branch(Some(Vec::new(alloc)), first)?;
@@ -49,7 +51,9 @@ fn check_orelses(
     kept: Option<Vec<Branch>>,
     more: &[Stmts],
 ) -> Result<Option<Vec<Branch>>, Stop>
-    ensures { Answers (onward_branches (branches_in kept) (walk.judge_orelses (scene_of env.now place) slot.old (view.orelses_of more.now))) branches_of slot.new result }
+    ensures { Answers (onward_branches (branches_in kept)
+        (walk.judge_orelses (scene_of env.now place) slot.old (view.orelses_of more.now)))
+        branches_of slot.new result }
 {
     let mut kept = kept;
     for body in more {
@@ -70,7 +74,9 @@ pub fn check_forall(
     choice: &Stmts,
     body: &Stmts,
 ) -> Result<Option<Vec<IrStmt>>, Stop>
-    ensures { Answers (walk.judge_stmt (scene_of env.now place) slot.old (tree.forall_stmt node (view.view_stmts choice.now) (view.view_stmts body.now))) stmts_of slot.new result }
+    ensures { Answers (walk.judge_stmt (scene_of env.now place) slot.old
+        (tree.forall_stmt node (view.view_stmts choice.now) (view.view_stmts body.now))) stmts_of
+        slot.new result }
 {
     let within = Place {
         constant: place.constant,
@@ -91,7 +97,8 @@ pub fn check_commit(
     node: u32,
     body: &Stmts,
 ) -> Result<Option<Vec<IrStmt>>, Stop>
-    ensures { Answers (walk.judge_stmt (scene_of env.now place) slot.old (tree.commit_stmt node (view.view_stmts body.now))) stmts_of slot.new result }
+    ensures { Answers (walk.judge_stmt (scene_of env.now place) slot.old
+        (tree.commit_stmt node (view.view_stmts body.now))) stmts_of slot.new result }
 {
     let within = Place {
         constant: place.constant,

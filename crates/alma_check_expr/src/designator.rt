@@ -24,7 +24,8 @@ pub fn check_desig(
     wanted: Use,
     desig: &Desig,
 ) -> Result<Option<Denoted>, Stop>
-    ensures { Answers (judge_desig (scene_of env.now place) slot.old (use_view wanted) (view_desig desig.now)) (denoted_of (headings_in env.now)) slot.new result }
+    ensures { Answers (judge_desig (scene_of env.now place) slot.old (use_view wanted)
+        (view_desig desig.now)) (denoted_of (headings_in env.now)) slot.new result }
 {
     let found = env.found(&desig.name)?;
     let start = check_found(alloc, env, desig.name.node, found)?;
@@ -49,7 +50,9 @@ fn check_selectors(
     start: Option<Denoted>,
     more: &[Selector],
 ) -> Result<Option<Denoted>, Stop>
-    ensures { Answers (judge_selectors (scene_of env.now place) (of_value slot.old (denoted_in (headings_in env.now) start)) (selectors_of more.now)) (denoted_of (headings_in env.now)) slot.new result }
+    ensures { Answers (judge_selectors (scene_of env.now place)
+        (of_value slot.old (denoted_in (headings_in env.now) start)) (selectors_of more.now))
+        (denoted_of (headings_in env.now)) slot.new result }
 {
     let mut found = start;
     for selector in more {
@@ -67,7 +70,9 @@ fn check_selector(
     found: Option<Denoted>,
     selector: &Selector,
 ) -> Result<Option<Denoted>, Stop>
-    ensures { Answers (judge_selector (scene_of env.now place) (of_value slot.old (denoted_in (headings_in env.now) found)) (view_selector selector.now)) (denoted_of (headings_in env.now)) slot.new result }
+    ensures { Answers (judge_selector (scene_of env.now place)
+        (of_value slot.old (denoted_in (headings_in env.now) found)) (view_selector selector.now))
+        (denoted_of (headings_in env.now)) slot.new result }
 {
     match selector {
         Selector::Field { node, name } => join_field(env, *node, env.text(name.token), found),
@@ -87,7 +92,9 @@ fn check_indices(
     found: Option<Denoted>,
     indices: &Exprs,
 ) -> Result<Option<Denoted>, Stop>
-    ensures { Answers (judge_indices (scene_of env.now place) (of_value slot.old (denoted_in (headings_in env.now) found)) (view_exprs indices.now)) (denoted_of (headings_in env.now)) slot.new result }
+    ensures { Answers (judge_indices (scene_of env.now place)
+        (of_value slot.old (denoted_in (headings_in env.now) found)) (view_exprs indices.now))
+        (denoted_of (headings_in env.now)) slot.new result }
 {
     let mut part = check_index(alloc, env, place, slot, found, &indices.first)?;
     for index in &indices.more {
@@ -105,7 +112,11 @@ fn check_index(
     found: Option<Denoted>,
     index: &Expr,
 ) -> Result<Option<Denoted>, Stop>
-    ensures { Answers (nodes.indexed (scene_of env.now place) (of_value slot.old (denoted_in (headings_in env.now) found)) (tree.expr_node (view_expr index.now)) (judge_expr (scene_of env.now place) slot.old (view_expr index.now))) (denoted_of (headings_in env.now)) slot.new result }
+    ensures { Answers (nodes.indexed (scene_of env.now place)
+        (of_value slot.old (denoted_in (headings_in env.now) found))
+        (tree.expr_node (view_expr index.now))
+        (judge_expr (scene_of env.now place) slot.old (view_expr index.now)))
+        (denoted_of (headings_in env.now)) slot.new result }
 {
     let typed = check_expr(alloc, env, place, slot, index);
     join_index(alloc, env, index.node, found, typed)

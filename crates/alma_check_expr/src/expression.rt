@@ -29,7 +29,8 @@ pub fn check_expr(
     slot: &mut u32,
     expr: &Expr,
 ) -> Result<Option<Typed>, Stop>
-    ensures { Answers (judge_expr (scene_of env.now place) slot.old (view_expr expr.now)) typing_of slot.new result }
+    ensures { Answers (judge_expr (scene_of env.now place) slot.old (view_expr expr.now)) typing_of
+        slot.new result }
 {
     let left = check_simple(alloc, env, place, slot, &expr.left)?;
     match &expr.right {
@@ -49,7 +50,8 @@ fn check_simple(
     slot: &mut u32,
     simple: &Simple,
 ) -> Result<Option<Typed>, Stop>
-    ensures { Answers (judge_simple (scene_of env.now place) slot.old (view_simple simple.now)) typing_of slot.new result }
+    ensures { Answers (judge_simple (scene_of env.now place) slot.old (view_simple simple.now))
+        typing_of slot.new result }
 {
     let operand = first_add(simple.sign, &simple.more);
     let first = check_term(alloc, env, place, slot, operand, &simple.first)?;
@@ -75,7 +77,8 @@ fn check_terms(
     sort: bool,
     more: &[AddLink],
 ) -> Result<Option<Vec<Behind>>, Stop>
-    ensures { Answers (judge_terms (scene_of env.now place) slot.old sort (terms_of more.now)) operands_of slot.new result }
+    ensures { Answers (judge_terms (scene_of env.now place) slot.old sort (terms_of more.now))
+        operands_of slot.new result }
 {
     let mut kept: Option<Vec<Behind>> = Some(Vec::new(alloc));
     for link in more {
@@ -96,7 +99,8 @@ fn check_term(
     operand: Operand,
     term: &Term,
 ) -> Result<Option<Typed>, Stop>
-    ensures { Answers (judge_term (scene_of env.now place) slot.old (operand_view operand) (view_term term.now)) typing_of slot.new result }
+    ensures { Answers (judge_term (scene_of env.now place) slot.old (operand_view operand)
+        (view_term term.now)) typing_of slot.new result }
 {
     let inner = first_mul(&term.more);
     let first = check_factor(alloc, env, place, slot, inner, &term.first)?;
@@ -115,7 +119,8 @@ fn check_factors(
     sort: bool,
     more: &[MulLink],
 ) -> Result<Option<Vec<Behind>>, Stop>
-    ensures { Answers (judge_factors (scene_of env.now place) slot.old sort (factors_of more.now)) operands_of slot.new result }
+    ensures { Answers (judge_factors (scene_of env.now place) slot.old sort (factors_of more.now))
+        operands_of slot.new result }
 {
     let mut kept: Option<Vec<Behind>> = Some(Vec::new(alloc));
     for link in more {
@@ -136,7 +141,8 @@ fn check_factor(
     operand: Operand,
     factor: &Factor,
 ) -> Result<Option<Typed>, Stop>
-    ensures { Answers (judge_factor (scene_of env.now place) slot.old (operand_view operand) (view_factor factor.now)) typing_of slot.new result }
+    ensures { Answers (judge_factor (scene_of env.now place) slot.old (operand_view operand)
+        (view_factor factor.now)) typing_of slot.new result }
 {
     match factor {
         Factor::Not { node, primary } => {
@@ -174,7 +180,8 @@ fn check_primary(
     slot: &mut u32,
     primary: &Primary,
 ) -> Result<Option<Typed>, Stop>
-    ensures { Answers (judge_primary (scene_of env.now place) slot.old (view_primary primary.now)) typing_of slot.new result }
+    ensures { Answers (judge_primary (scene_of env.now place) slot.old (view_primary primary.now))
+        typing_of slot.new result }
 {
     match primary {
         Primary::Number { node: _, number } => check_number(env, number.token),

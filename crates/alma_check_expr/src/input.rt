@@ -37,7 +37,8 @@ pub fn check_return(
     node: u32,
     value: &Option<Expr>,
 ) -> Result<Option<Vec<IrStmt>>, Stop>
-    ensures { Answers (walk.judge_stmt (scene_of env.now place) slot.old (tree.return_stmt node (view.returned_of value.now))) stmts_of slot.new result }
+    ensures { Answers (walk.judge_stmt (scene_of env.now place) slot.old
+        (tree.return_stmt node (view.returned_of value.now))) stmts_of slot.new result }
 {
     match value {
         None => check_bare_return(alloc, env, place, node),
@@ -59,7 +60,9 @@ pub fn check_read(
     first: &Desig,
     more: &[Desig],
 ) -> Result<Option<Vec<IrStmt>>, Stop>
-    ensures { Answers (walk.judge_stmt (scene_of env.now place) slot.old (tree.read_stmt node (view.view_desig first.now) (view.desigs_of more.now))) stmts_of slot.new result }
+    ensures { Answers (walk.judge_stmt (scene_of env.now place) slot.old
+        (tree.read_stmt node (view.view_desig first.now) (view.desigs_of more.now))) stmts_of
+        slot.new result }
 {
     let first = check_read_one(alloc, env, place, slot, first)?;
     check_reads(alloc, env, place, slot, first, more)
@@ -74,7 +77,9 @@ fn check_reads(
     kept: Option<Vec<IrStmt>>,
     more: &[Desig],
 ) -> Result<Option<Vec<IrStmt>>, Stop>
-    ensures { Answers (onward_stmts (stmts_in kept) (walk.judge_reads (scene_of env.now place) slot.old (view.desigs_of more.now))) stmts_of slot.new result }
+    ensures { Answers (onward_stmts (stmts_in kept)
+        (walk.judge_reads (scene_of env.now place) slot.old (view.desigs_of more.now))) stmts_of
+        slot.new result }
 {
     let mut kept = kept;
     for desig in more {
@@ -92,7 +97,9 @@ fn check_read_one(
     slot: &mut u32,
     desig: &Desig,
 ) -> Result<Option<Vec<IrStmt>>, Stop>
-    ensures { Answers (nodes.read_at (scene_of env.now place) (view.view_desig desig.now) (walk.judge_desig (scene_of env.now place) slot.old rules.as_variable (view.view_desig desig.now))) stmts_of slot.new result }
+    ensures { Answers (nodes.read_at (scene_of env.now place) (view.view_desig desig.now)
+        (walk.judge_desig (scene_of env.now place) slot.old rules.as_variable
+        (view.view_desig desig.now))) stmts_of slot.new result }
 {
     let located = check_place(alloc, env, place, slot, desig);
     join_read(alloc, env, desig.node, located)
@@ -108,7 +115,8 @@ pub fn check_write(
     node: u32,
     items: &Exprs,
 ) -> Result<Option<Vec<IrStmt>>, Stop>
-    ensures { Answers (walk.judge_stmt (scene_of env.now place) slot.old (tree.write_stmt node (view.view_exprs items.now))) stmts_of slot.new result }
+    ensures { Answers (walk.judge_stmt (scene_of env.now place) slot.old
+        (tree.write_stmt node (view.view_exprs items.now))) stmts_of slot.new result }
 {
     check_items(alloc, env, place, slot, items)
 }
@@ -121,7 +129,8 @@ fn check_items(
     slot: &mut u32,
     items: &Exprs,
 ) -> Result<Option<Vec<IrStmt>>, Stop>
-    ensures { Answers (walk.judge_items (scene_of env.now place) slot.old (view.view_exprs items.now)) stmts_of slot.new result }
+    ensures { Answers (walk.judge_items (scene_of env.now place) slot.old
+        (view.view_exprs items.now)) stmts_of slot.new result }
 {
     let first = check_item(alloc, env, place, slot, &items.first)?;
     check_item_tail(alloc, env, place, slot, first, &items.more)
@@ -136,7 +145,9 @@ fn check_item_tail(
     kept: Option<Vec<IrStmt>>,
     more: &[Expr],
 ) -> Result<Option<Vec<IrStmt>>, Stop>
-    ensures { Answers (onward_stmts (stmts_in kept) (walk.judge_item_tail (scene_of env.now place) slot.old (view.exprs_of more.now))) stmts_of slot.new result }
+    ensures { Answers (onward_stmts (stmts_in kept)
+        (walk.judge_item_tail (scene_of env.now place) slot.old (view.exprs_of more.now))) stmts_of
+        slot.new result }
 {
     let mut kept = kept;
     for item in more {
@@ -154,7 +165,10 @@ fn check_item(
     slot: &mut u32,
     item: &Expr,
 ) -> Result<Option<Vec<IrStmt>>, Stop>
-    ensures { Answers (nodes.item_of (scene_of env.now place) slot.old (tree.expr_node (view.view_expr item.now)) (nodes.item_literal (view.view_expr item.now)) (walk.judge_expr (scene_of env.now place) slot.old (view.view_expr item.now))) stmts_of slot.new result }
+    ensures { Answers (nodes.item_of (scene_of env.now place) slot.old
+        (tree.expr_node (view.view_expr item.now)) (nodes.item_literal (view.view_expr item.now))
+        (walk.judge_expr (scene_of env.now place) slot.old (view.view_expr item.now))) stmts_of
+        slot.new result }
 {
     match item_text(env, item) {
         None => {
@@ -175,7 +189,8 @@ pub fn check_writeln(
     node: u32,
     items: &Option<Args>,
 ) -> Result<Option<Vec<IrStmt>>, Stop>
-    ensures { Answers (walk.judge_stmt (scene_of env.now place) slot.old (tree.writeln_stmt node (view.args_of items.now))) stmts_of slot.new result }
+    ensures { Answers (walk.judge_stmt (scene_of env.now place) slot.old
+        (tree.writeln_stmt node (view.args_of items.now))) stmts_of slot.new result }
 {
     match items {
         None => join_line(Ok(nothing(alloc))),
@@ -194,7 +209,8 @@ fn check_line_items(
     slot: &mut u32,
     values: &Option<Exprs>,
 ) -> Result<Option<Vec<IrStmt>>, Stop>
-    ensures { Answers (walk.judge_line_items (scene_of env.now place) slot.old (view.args_values values.now)) stmts_of slot.new result }
+    ensures { Answers (walk.judge_line_items (scene_of env.now place) slot.old
+        (view.args_values values.now)) stmts_of slot.new result }
 {
     match values {
         None => Ok(nothing(alloc)),

@@ -25,7 +25,8 @@ pub fn check_parens(
     node: u32,
     body: &Stmts,
 ) -> Result<Option<Typed>, Stop>
-    ensures { Answers (judge_primary (scene_of env.now place) slot.old (tree.paren node (view_stmts body.now))) typing_of slot.new result }
+    ensures { Answers (judge_primary (scene_of env.now place) slot.old
+        (tree.paren node (view_stmts body.now))) typing_of slot.new result }
 {
     if !body.more.is_empty() {
         return check_sequence(alloc, env, place, slot, node, body);
@@ -48,7 +49,9 @@ fn check_sequence(
     node: u32,
     body: &Stmts,
 ) -> Result<Option<Typed>, Stop>
-    ensures { Answers (nodes.as_sequence (scene_of env.now place) node (judge_stmts (inside_of (scene_of env.now place)) slot.old (view_stmts body.now))) typing_of slot.new result }
+    ensures { Answers (nodes.as_sequence (scene_of env.now place) node
+        (judge_stmts (inside_of (scene_of env.now place)) slot.old (view_stmts body.now))) typing_of
+        slot.new result }
 {
     let within = Place {
         constant: place.constant,

@@ -38,7 +38,8 @@ pub fn check_stmts(
     slot: &mut u32,
     stmts: &Stmts,
 ) -> Result<Option<Vec<IrStmt>>, Stop>
-    ensures { Answers (walk.judge_stmts (scene_of env.now place) slot.old (view.view_stmts stmts.now)) stmts_of slot.new result }
+    ensures { Answers (walk.judge_stmts (scene_of env.now place) slot.old
+        (view.view_stmts stmts.now)) stmts_of slot.new result }
 {
     let first = check_stmt(alloc, env, place, slot, &stmts.first)?;
     check_more(alloc, env, place, slot, first, &stmts.more)
@@ -53,7 +54,9 @@ fn check_more(
     kept: Option<Vec<IrStmt>>,
     more: &[Stmt],
 ) -> Result<Option<Vec<IrStmt>>, Stop>
-    ensures { Answers (onward_stmts (stmts_in kept) (walk.judge_stmt_tail (scene_of env.now place) slot.old (view.stmts_of more.now))) stmts_of slot.new result }
+    ensures { Answers (onward_stmts (stmts_in kept)
+        (walk.judge_stmt_tail (scene_of env.now place) slot.old (view.stmts_of more.now))) stmts_of
+        slot.new result }
 {
     let mut kept = kept;
     for stmt in more {
@@ -71,7 +74,8 @@ fn check_stmt(
     slot: &mut u32,
     stmt: &Stmt,
 ) -> Result<Option<Vec<IrStmt>>, Stop>
-    ensures { Answers (walk.judge_stmt (scene_of env.now place) slot.old (view.view_stmt stmt.now)) stmts_of slot.new result }
+    ensures { Answers (walk.judge_stmt (scene_of env.now place) slot.old (view.view_stmt stmt.now))
+        stmts_of slot.new result }
 {
     match stmt {
         Stmt::Nothing { .. } => Ok(nothing(alloc)),
@@ -146,7 +150,9 @@ fn check_assign(
     target: &Desig,
     value: &Expr,
 ) -> Result<Option<Vec<IrStmt>>, Stop>
-    ensures { Answers (walk.judge_stmt (scene_of env.now place) slot.old (tree.assign node (view.view_desig target.now) (view.view_expr value.now))) stmts_of slot.new result }
+    ensures { Answers (walk.judge_stmt (scene_of env.now place) slot.old
+        (tree.assign node (view.view_desig target.now) (view.view_expr value.now))) stmts_of
+        slot.new result }
 {
     let located = check_place(alloc, env, place, slot, target)?;
     let typed = check_expr(alloc, env, place, slot, value);
@@ -162,7 +168,9 @@ pub fn check_place(
     slot: &mut u32,
     desig: &Desig,
 ) -> Result<Option<Located>, Stop>
-    ensures { Answers (with_some parts.located_in (walk.judge_desig (scene_of env.now place) slot.old rules.as_variable (view.view_desig desig.now))) located_of slot.new result }
+    ensures { Answers (with_some parts.located_in
+        (walk.judge_desig (scene_of env.now place) slot.old rules.as_variable
+        (view.view_desig desig.now))) located_of slot.new result }
 {
     let found = check_desig(alloc, env, place, slot, Use::Variable, desig);
     join_place(env, found)
@@ -177,7 +185,9 @@ pub fn check_condition(
     slot: &mut u32,
     test: &Expr,
 ) -> Result<Option<Test>, Stop>
-    ensures { Answers (nodes.condition_at (scene_of env.now place) (view.view_expr test.now) (walk.judge_expr (scene_of env.now place) slot.old (view.view_expr test.now))) test_of slot.new result }
+    ensures { Answers (nodes.condition_at (scene_of env.now place) (view.view_expr test.now)
+        (walk.judge_expr (scene_of env.now place) slot.old (view.view_expr test.now))) test_of
+        slot.new result }
 {
     let typed = check_expr(alloc, env, place, slot, test);
     join_condition(env, test.node, typed)
@@ -192,7 +202,8 @@ fn check_value(
     node: u32,
     value: &Expr,
 ) -> Result<Option<Vec<IrStmt>>, Stop>
-    ensures { Answers (walk.judge_stmt (scene_of env.now place) slot.old (tree.value node (view.view_expr value.now))) stmts_of slot.new result }
+    ensures { Answers (walk.judge_stmt (scene_of env.now place) slot.old
+        (tree.value node (view.view_expr value.now))) stmts_of slot.new result }
 {
     let test = check_condition(alloc, env, place, slot, value);
     join_test(alloc, test)

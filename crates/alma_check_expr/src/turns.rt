@@ -38,7 +38,10 @@ pub fn check_for(
     by: &Option<Expr>,
     body: &Stmts,
 ) -> Result<Option<Vec<IrStmt>>, Stop>
-    ensures { Answers (walk.judge_stmt (scene_of env.now place) slot.old (tree.for_stmt node (view.view_name variable.now) (view.view_expr from.now) (view.view_expr to.now) (view.by_of by.now) (view.view_stmts body.now))) stmts_of slot.new result }
+    ensures { Answers (walk.judge_stmt (scene_of env.now place) slot.old
+        (tree.for_stmt node (view.view_name variable.now) (view.view_expr from.now)
+        (view.view_expr to.now) (view.by_of by.now) (view.view_stmts body.now))) stmts_of
+        slot.new result }
 {
     let counter = take_loop(slot)?;
     let found = check_loop_name(env, place, variable)?;
@@ -59,7 +62,8 @@ fn check_by(
     slot: &mut u32,
     by: &Option<Expr>,
 ) -> Result<Option<i64>, Stop>
-    ensures { Answers (walk.judge_by (scene_of env.now place) slot.old (view.by_of by.now)) (λ v. v) slot.new result }
+    ensures { Answers (walk.judge_by (scene_of env.now place) slot.old (view.by_of by.now))
+        (λ v. v) slot.new result }
 {
     match by {
         None => Ok(Some(1)),
@@ -87,7 +91,9 @@ pub fn check_some(
     to: &Expr,
     body: &Stmts,
 ) -> Result<Option<Vec<IrStmt>>, Stop>
-    ensures { Answers (walk.judge_stmt (scene_of env.now place) slot.old (tree.some_stmt node (view.view_name variable.now) (view.view_expr from.now) (view.view_expr to.now) (view.view_stmts body.now))) stmts_of slot.new result }
+    ensures { Answers (walk.judge_stmt (scene_of env.now place) slot.old
+        (tree.some_stmt node (view.view_name variable.now) (view.view_expr from.now)
+        (view.view_expr to.now) (view.view_stmts body.now))) stmts_of slot.new result }
 {
     let counter = take_loop(slot)?;
     let found = check_loop_name(env, place, variable)?;

@@ -7,6 +7,7 @@ use Rattle.alma_walk.proofs.Cases as cases
 use Rattle.alma_check_expr.proofs.Begins.{stops_as, node_is, err_if, err_on, on_ok}
 use Rattle.alma_check_expr.proofs.Calls as calls
 use Rattle.alma_check_expr.proofs.Calls.{args_last}
+use Rattle.alma_check_expr.proofs.Empty.{empty_by, some_by}
 use Rattle.alma_check_expr.proofs.Items as items
 use Rattle.alma_check_expr.proofs.Labels.{settled, spans_count, labels_begin, labels_turn, arms_turn, grown_begin, of_ok}
 use Rattle.alma_check_expr.proofs.Loops as loops
@@ -245,9 +246,13 @@ pub parens::check_sequence-returns : goal.parens::check_sequence-returns
 parens::check_sequence-returns t c =
     c.join_sequence.ensures (walk.judge_stmts (inside_of (scene_of c.args.env.now c.args.place)) c.args.slot.now (view.view_stmts c.args.body.now)) _ c.check_stmts-stmts.ensures
 
+pub parens::check_parens-returns-then-not-is_empty : goal.parens::check_parens-returns-then-not-is_empty
+parens::check_parens-returns-then-not-is_empty t c =
+    rw (exprs.paren_more (scene_of c.args.env.now c.args.place) c.args.slot.now c.args.node c.args.body.now (some_by c.args.body.now.more.items (sym c.is_empty.ensures ∙ c.if-not-is_empty.true))) c.check_sequence.ensures
+
 pub parens::check_parens-returns-in-Value : goal.parens::check_parens-returns-in-Value
 parens::check_parens-returns-in-Value t c =
-    rw (exprs.paren_value (scene_of c.args.env.now c.args.place) c.args.slot.now c.args.node c.in-Value.node c.args.body.now c.in-Value.value ? (sym c.deref.ensures ∙ c.in-Value.is)) (c.join_parens.ensures _ _ c.check_expr-typed.ensures)
+    rw (exprs.paren_value (scene_of c.args.env.now c.args.place) c.args.slot.now c.args.node c.in-Value.node c.args.body.now c.in-Value.value (empty_by c.args.body.now.more.items (sym c.is_empty.ensures ∙ c.if-not-is_empty.false)) (sym c.deref.ensures ∙ c.in-Value.is)) (c.join_parens.ensures _ _ c.check_expr-typed.ensures)
 
 -- ---- Statements
 
@@ -569,11 +574,12 @@ call::check_arguments-returns t c =
     (rw c.deref-2.ensures.value at c.check_argument_tail.ensures)
 
 pub call::check_argument_tail-loop-value-preserved : goal.call::check_argument_tail-loop-value-preserved
-call::check_argument_tail-loop-value-preserved t c =
-    (omega arith,
-    c.loop-value.invariant.1 ∙ ap (onward_args (args_in c.loop-value.kept)) (calls.arguments_turn (scene_of c.args.env.now c.args.place) c.loop-value.slot c.loop-value.value-index (nodes.formals_of (callee_in (headings_in c.args.env.now) c.args.callee)) c.args.more.now c.value-item.result (option_map formal_view c.formal_of-formal.result) c.loop-value-test.true c.value-item.is (c.formal_of-formal.ensures ∙ ap (λ i. slice_get (nodes.formals_of (callee_in (headings_in c.args.env.now) c.args.callee)) (i + 1)) c.loop-value.invariant.0))
-    ∙ c.in_ok-add_argument.ensures (calls.argument (scene_of c.args.env.now c.args.place) c.loop-value.slot (option_map formal_view c.formal_of-formal.result) c.value-item.result) _
-    (λ m. walk.judge_argument_tail (scene_of c.args.env.now c.args.place) m (drop (c.loop-value.value-index + 1 + 1) (nodes.formals_of (callee_in (headings_in c.args.env.now) c.args.callee))) (view.exprs_of (drop (c.loop-value.value-index + 1) c.args.more.now))) c.check_argument-arg.ensures)
+call::check_argument_tail-loop-value-preserved t c = (
+  omega arith,
+  c.loop-value.invariant.1 ∙ ap (onward_args (args_in c.loop-value.kept)) (calls.arguments_turn (scene_of c.args.env.now c.args.place) c.loop-value.slot c.loop-value.value-index (nodes.formals_of (callee_in (headings_in c.args.env.now) c.args.callee)) c.args.more.now c.value-item.result (option_map formal_view c.formal_of-formal.result) c.loop-value-test.true c.value-item.is (c.formal_of-formal.ensures ∙ ap (λ i. slice_get (nodes.formals_of (callee_in (headings_in c.args.env.now) c.args.callee)) (i + 1)) c.loop-value.invariant.0))
+      ∙ c.in_ok-add_argument.ensures (calls.argument (scene_of c.args.env.now c.args.place) c.loop-value.slot (option_map formal_view c.formal_of-formal.result) c.value-item.result) _
+      (λ m. walk.judge_argument_tail (scene_of c.args.env.now c.args.place) m (drop (c.loop-value.value-index + 1 + 1) (nodes.formals_of (callee_in (headings_in c.args.env.now) c.args.callee))) (view.exprs_of (drop (c.loop-value.value-index + 1) c.args.more.now))) c.check_argument-arg.ensures,
+)
 
 pub call::check_argument_tail-returns-in_err-add_argument : goal.call::check_argument_tail-returns-in_err-add_argument
 call::check_argument_tail-returns-in_err-add_argument t c =
@@ -772,17 +778,19 @@ case::check_labels-returns-in_err-labels t c = record {
 
 pub case::check_labels-loop-label-init : goal.case::check_labels-loop-label-init
 case::check_labels-loop-label-init t c =
-    let new = c.in_ok-labels.ensures.earlier (walk.judge_label (scene_of c.args.env.now c.args.place) c.args.slot.now (typing_in c.args.case.now) (spans_view c.args.spans.now.items) (view.view_label c.args.first.now)) c.check_label-span.new.slot (rw c.deref.ensures.value at c.check_label-span.ensures) in
-    (labels_begin (scene_of c.args.env.now c.args.place) c.args.slot.now (typing_in c.args.case.now) (spans_view c.args.spans.now.items) _ (view.view_label c.args.first.now) (view.labels_of c.args.more.now) (spans_in (Some c.new.result)) (ap (λ l. Some (spans_view l)) c.new.ensures.items) new
-    ∙ c.in_ok-labels.ensures.judged (walk.judge_label (scene_of c.args.env.now c.args.place) c.args.slot.now (typing_in c.args.case.now) (spans_view c.args.spans.now.items) (view.view_label c.args.first.now)) c.check_label-span.new.slot (λ m. walk.judge_labels (scene_of c.args.env.now c.args.place) m (typing_in c.args.case.now) _ (view.labels_of c.args.more.now)) (rw c.deref.ensures.value at c.check_label-span.ensures),
-    c.in_ok-labels.ensures.grown (spans_view c.args.spans.now.items) (grown_begin (spans_view c.args.spans.now.items) (spans_in (Some c.new.result)) (ap (λ l. Some (spans_view l)) c.new.ensures.items)))
+    let new = c.in_ok-labels.ensures.earlier (walk.judge_label (scene_of c.args.env.now c.args.place) c.args.slot.now (typing_in c.args.case.now) (spans_view c.args.spans.now.items) (view.view_label c.args.first.now)) c.check_label-span.new.slot (rw c.deref.ensures.value at c.check_label-span.ensures) in (
+      labels_begin (scene_of c.args.env.now c.args.place) c.args.slot.now (typing_in c.args.case.now) (spans_view c.args.spans.now.items) _ (view.view_label c.args.first.now) (view.labels_of c.args.more.now) (spans_in (Some c.new.result)) (ap (λ l. Some (spans_view l)) c.new.ensures.items) new
+          ∙ c.in_ok-labels.ensures.judged (walk.judge_label (scene_of c.args.env.now c.args.place) c.args.slot.now (typing_in c.args.case.now) (spans_view c.args.spans.now.items) (view.view_label c.args.first.now)) c.check_label-span.new.slot (λ m. walk.judge_labels (scene_of c.args.env.now c.args.place) m (typing_in c.args.case.now) _ (view.labels_of c.args.more.now)) (rw c.deref.ensures.value at c.check_label-span.ensures),
+      c.in_ok-labels.ensures.grown (spans_view c.args.spans.now.items) (grown_begin (spans_view c.args.spans.now.items) (spans_in (Some c.new.result)) (ap (λ l. Some (spans_view l)) c.new.ensures.items)),
+    )
 
 pub case::check_labels-loop-label-preserved : goal.case::check_labels-loop-label-preserved
 case::check_labels-loop-label-preserved t c =
-    let new = c.in_ok-add_label.ensures.earlier (walk.judge_label (scene_of c.args.env.now c.args.place) c.loop-label.slot (typing_in c.args.case.now) (spans_view c.loop-label.spans.items) (view.view_label c.label-item.result)) c.check_label-span-in-loop-label.new.slot (rw c.deref-in-loop-label.ensures.value at c.check_label-span-in-loop-label.ensures) in
-    (c.loop-label.invariant.0 ∙ ap (onward_spans (spans_in c.loop-label.labels)) (labels_turn (scene_of c.args.env.now c.args.place) c.loop-label.slot c.loop-label.label-index (typing_in c.args.case.now) (spans_view c.loop-label.spans.items) _ c.args.more.now c.label-item.result c.loop-label-test.true c.label-item.is new)
-    ∙ c.in_ok-add_label.ensures.judged (walk.judge_label (scene_of c.args.env.now c.args.place) c.loop-label.slot (typing_in c.args.case.now) (spans_view c.loop-label.spans.items) (view.view_label c.label-item.result)) c.check_label-span-in-loop-label.new.slot (λ m. walk.judge_labels (scene_of c.args.env.now c.args.place) m (typing_in c.args.case.now) _ (view.labels_of (drop (c.loop-label.label-index + 1) c.args.more.now))) (rw c.deref-in-loop-label.ensures.value at c.check_label-span-in-loop-label.ensures),
-    c.in_ok-add_label.ensures.grown (spans_view c.args.spans.now.items) c.loop-label.invariant.1)
+    let new = c.in_ok-add_label.ensures.earlier (walk.judge_label (scene_of c.args.env.now c.args.place) c.loop-label.slot (typing_in c.args.case.now) (spans_view c.loop-label.spans.items) (view.view_label c.label-item.result)) c.check_label-span-in-loop-label.new.slot (rw c.deref-in-loop-label.ensures.value at c.check_label-span-in-loop-label.ensures) in (
+      c.loop-label.invariant.0 ∙ ap (onward_spans (spans_in c.loop-label.labels)) (labels_turn (scene_of c.args.env.now c.args.place) c.loop-label.slot c.loop-label.label-index (typing_in c.args.case.now) (spans_view c.loop-label.spans.items) _ c.args.more.now c.label-item.result c.loop-label-test.true c.label-item.is new)
+          ∙ c.in_ok-add_label.ensures.judged (walk.judge_label (scene_of c.args.env.now c.args.place) c.loop-label.slot (typing_in c.args.case.now) (spans_view c.loop-label.spans.items) (view.view_label c.label-item.result)) c.check_label-span-in-loop-label.new.slot (λ m. walk.judge_labels (scene_of c.args.env.now c.args.place) m (typing_in c.args.case.now) _ (view.labels_of (drop (c.loop-label.label-index + 1) c.args.more.now))) (rw c.deref-in-loop-label.ensures.value at c.check_label-span-in-loop-label.ensures),
+      c.in_ok-add_label.ensures.grown (spans_view c.args.spans.now.items) c.loop-label.invariant.1,
+    )
 
 pub case::check_labels-returns-in_err-add_label : goal.case::check_labels-returns-in_err-add_label
 case::check_labels-returns-in_err-add_label t c = record {
