@@ -8,7 +8,7 @@ use Rattle.alma_ir.specs.Tree as ir
 use Rattle.alma_rules.specs.declared.error.Stop.{Stop}
 use Rattle.alma_rules.specs.declared.error.Stop.TheVariants.{Fault, Memory}
 use Rattle.alma_rules.specs.Numbered as tree
-use Rattle.alma_rules.specs.Judged.{Judged, of_value, broken_at, both, both_of, when, at_node}
+use Rattle.alma_rules.specs.Judged.{Judged, of_value, broken_at, both, both_of, at_node}
 use Rattle.alma_rules.specs.Answers.{Stops}
 use Rattle.alma_rules.specs.Scene.{Scene}
 use Rattle.alma_rules.specs.Parts as parts

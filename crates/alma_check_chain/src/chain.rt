@@ -28,7 +28,9 @@ fn join_chain(
     first: Option<Typed>,
     rest: Option<Vec<Behind>>,
 ) -> Result<Option<Typed>, Stop>
-    ensures { (m : ℕ) → Answers (nodes.chain_at (scene_of env.now place) (join_view join) (operand_view operand) node sign logical (of_value m (both_of (typing_in first) (operands_in rest)))) typing_of m result }
+    ensures { (m : ℕ) → Answers (nodes.chain_at (scene_of env.now place) (join_view join)
+        (operand_view operand) node sign logical
+        (of_value m (both_of (typing_in first) (operands_in rest)))) typing_of m result }
 {
     if place.constant && logical {
         return Err(Stop::Fault(CheckFault::NotConst, node));
@@ -64,7 +66,8 @@ pub fn join_sum(
     rest: Result<Option<Vec<Behind>>, Stop>,
 ) -> Result<Option<Typed>, Stop>
     ensures { (j : Judged parts.Operands) (n m : ℕ) → Answers j operands_of m rest
-        → Answers (nodes.sum_at (scene_of env.now place) node sign (terms_of more.now) (both (of_value n (typing_in first)) j)) typing_of m result }
+        → Answers (nodes.sum_at (scene_of env.now place) node sign (terms_of more.now)
+        (both (of_value n (typing_in first)) j)) typing_of m result }
 {
     let rest = rest?;
     if is_one_term(sign, more) {
@@ -108,7 +111,8 @@ pub fn join_product(
     rest: Result<Option<Vec<Behind>>, Stop>,
 ) -> Result<Option<Typed>, Stop>
     ensures { (j : Judged parts.Operands) (n m : ℕ) → Answers j operands_of m rest
-        → Answers (nodes.product_at (scene_of env.now place) (operand_view operand) node (factors_of more.now) (both (of_value n (typing_in first)) j)) typing_of m result }
+        → Answers (nodes.product_at (scene_of env.now place) (operand_view operand) node
+        (factors_of more.now) (both (of_value n (typing_in first)) j)) typing_of m result }
 {
     let rest = rest?;
     if is_one_factor(more) {

@@ -1,5 +1,5 @@
 -- What an expression alone is, part by part.
-use Rattle.std.proofs.Common.{◌≡◌, ℕ, Box, Global, Option, None, Some, refl, ap, ◌∙◌}
+use Rattle.std.proofs.Common.{◌≡◌, ℕ, Box, Global, None, Some, refl, ap, ◌∙◌}
 use Rattle.std.specs.Prelude.{true, false}
 use Rattle.alma_tree.specs.declared.phrase.Expr as de
 use Rattle.alma_tree.specs.declared.phrase.Compared as dc

@@ -1,5 +1,5 @@
 -- What an expression exactly is, step by step.
-use Rattle.std.proofs.Common.{◌≡◌, ℕ, Vec, Global, List, [], ◌∷◌, Option, None, Some, refl, sym, ap, ◌∙◌}
+use Rattle.std.proofs.Common.{◌≡◌, ℕ, Option, None, Some, refl}
 use Rattle.std.specs.Prelude.{option_and_then}
 use Rattle.alma_tree.specs.declared.phrase.Args as dg
 use Rattle.alma_tree.specs.declared.phrase.Exprs as dx

@@ -1,6 +1,5 @@
 -- What an expression exactly is.
-use Rattle.std.specs.Prelude.{ℕ, Bool, true, false, nat_eq, length, List, Option, None, Some, if◌then◌else◌}
-use Rattle.alma_tree.specs.declared.leaf.Sign.{Sign}
+use Rattle.std.specs.Prelude.{ℕ, nat_eq, length, List, Option, None, Some, if◌then◌else◌}
 use Rattle.alma_rules.specs.Scene.{Scene, literal_at}
 use Rattle.alma_rules.specs.Numbered as tree
 

@@ -86,7 +86,8 @@ fn named_of(expr: &Expr) -> Option<&Desig>
 }
 
 fn found_kind(env: &Env, found: Found) -> Argument
-    ensures { argument_view result ≡ rules.argument_found (scene_of env.now somewhere) (found_view (headings_in env.now) found) }
+    ensures { argument_view result ≡ rules.argument_found (scene_of env.now somewhere)
+        (found_view (headings_in env.now) found) }
 {
     match found {
         Found::Absent | Found::Bad => Argument::OfBad,
@@ -101,7 +102,8 @@ fn found_kind(env: &Env, found: Found) -> Argument
 
 /// Whether an argument is exactly a designator, and whether of a variable.
 pub fn argument_kind(env: &Env, expr: &Expr) -> Result<Argument, AllocError>
-    ensures { IfOk result (λ k. argument_view k ≡ rules.argument_kind (scene_of env.now somewhere) (view_expr expr.now)) }
+    ensures { IfOk result (λ k. argument_view k
+        ≡ rules.argument_kind (scene_of env.now somewhere) (view_expr expr.now)) }
 {
     match named_of(expr) {
         None => Ok(Argument::Other),
@@ -135,7 +137,9 @@ fn item_literal(expr: &Expr) -> Option<(u32, u32)>
 
 /// The number and the bytes of a literal that is a whole item of WRITE and no CHAR.
 pub fn item_text<'s>(env: &Env<'_, 's>, expr: &Expr) -> Option<(u32, &'s [u8])>
-    ensures { option_map (λ t. (t.0, t.1.now)) result ≡ option_and_then (text_of (scene_of env.now somewhere)) (nodes.item_literal (view_expr expr.now)) }
+    ensures { option_map (λ t. (t.0, t.1.now)) result
+        ≡ option_and_then (text_of (scene_of env.now somewhere))
+        (nodes.item_literal (view_expr expr.now)) }
 {
     match item_literal(expr) {
         None => None,
@@ -152,7 +156,8 @@ pub fn item_text<'s>(env: &Env<'_, 's>, expr: &Expr) -> Option<(u32, &'s [u8])>
 
 /// The formal of an argument by its place, where the routine has one there.
 pub fn formal_of(env: &Env, callee: Option<Callee>, index: usize) -> Option<Formal>
-    ensures { option_map formal_view result ≡ slice_get (nodes.formals_of (callee_in (headings_in env.now) callee)) index }
+    ensures { option_map formal_view result
+        ≡ slice_get (nodes.formals_of (callee_in (headings_in env.now) callee)) index }
 {
     match callee {
         None => None,

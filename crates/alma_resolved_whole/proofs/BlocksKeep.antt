@@ -3,6 +3,7 @@ use Rattle.std.proofs.Common.{◌≡◌, inl, inr, ℕ, zero, suc, ◌+◌, ◌-
 use Rattle.std.specs.Prelude.{sum_by, option_map, unwrap_or, IsSome, IsNone}
 use Rattle.std.specs.List.{AllByRecursion}
 use Rattle.alma_base.specs.declared.number.Range.{Range}
+use Rattle.alma_base.specs.Limits.{cell_limit}
 use Rattle.alma_base.specs.Numbers.{whole_range}
 use Rattle.alma_names.specs.Shapes.{PlainShape, range_at}
 use Rattle.alma_ir.specs.declared.program.Param.{Param}
@@ -30,9 +31,10 @@ use Rattle.alma_resolved.proofs.FramesKept.{parts, body_up}
 use Rattle.alma_resolved.proofs.Slots.{decls_steps}
 use Rattle.alma_resolved_whole.specs.Whole.{place, RoutineFits}
 use Rattle.alma_resolved_whole.proofs.Tables.{TableKeeps, simple_still, ordered_at}
-use Rattle.alma_resolved_whole.proofs.Entries.{owner, RoutineKeeps, FormalsKeep, SceneKeeps, keeps_shapes, Longer, longer_same, longer_twice}
+use Rattle.alma_resolved_whole.proofs.Entries.{cells_declared, owner, RoutineKeeps, FormalsKeep, SceneKeeps, keeps_shapes, Longer, longer_same, longer_twice}
 use Rattle.alma_resolved_whole.proofs.FramesKeep.{FrameKeeps}
 use Rattle.alma_resolved_whole.proofs.HeadsKeep.{HeadPlain}
+use Rattle.alma_resolved_whole.proofs.HeadCells.{head_cells, decls_small}
 use Rattle.alma_resolved_whole.proofs.HeadScenes.{Steady, formals_same, block_same, head_shapes, head_inside, returns_of, head_returns}
 use Rattle.alma_resolved_whole.proofs.DeclsKeep.{longer_moved, ProcPlain, ProcsPlain, decls_keep}
 use Rattle.alma_resolved_whole.proofs.Fitting.{Sits, scene_fits}
@@ -197,9 +199,9 @@ mutual
 
   pub block_good : (p : Program) (ends : ℕ → ℕ) → KeepsFrames p → (f : Frame) (r k c : ℕ) (name : tree.Name) (outer end : ℕ) (x : tree.Block) (hs : List (Option Heading)) (rs : List Routine) → f.scene.headings ≡ hs
       → (judge_block f r name outer end x).faults ≡ [] → AwaitsIn hs r x f.scene → BlockStands x → r + block_routines x ≤ length hs → k + 1 ≡ r → FrameKeeps (place p ends k) c f → Sits (place p ends k) c
-      → f.scene.routine ≡ k → f.scene.inside ≡ false → ReturnsSimple f.scene f.scene.returns → AllByRecursion (λ q. IsOrdered q.range) (routine_at p k).params
+      → f.scene.routine ≡ k → f.scene.inside ≡ false → ReturnsSimple f.scene f.scene.returns → AllByRecursion (λ q. IsOrdered q.range) (routine_at p k).params → f.declared ≤ cell_limit
       → (judge_block f r name outer end x).value ≡ Some rs → Numbered p k rs → EndsAt ends k (block_ends f r x) → Good p ends k rs (judge_block f r name outer end x).shapes
-  block_good p ends all f r k c name outer end (tree.block n decls body) hs rs same e h stand room next frame sits number inside simple ordered value numbered ended =
+  block_good p ends all f r k c name outer end (tree.block n decls body) hs rs same e h stand room next frame sits number inside simple ordered few value numbered ended =
       let pl = place p ends k in
       let g = read_decls f r decls in
       let front = nil_left _ (judge_body (read_decls f r decls) body).faults e in
@@ -228,6 +230,7 @@ mutual
         params = omega (arith, ap (λ qs. sum_by param_slots qs) own_params, frame.params, rise, ended.0);
         position = λ i. let some : 0 < f.slots = frame.position i in omega (arith, some, rise, ended.0);
         body = subst (λ m. Laid (place p ends k) false m (judge_body (read_decls f r decls) body).next (stmts_phrases v.second)) (sym ended.0) laid;
+        cells = decls_small f r decls quiet few;
         heads = record {
           params = subst (λ qs. AllByRecursion (λ q. IsOrdered q.range) qs) own_params ordered;
           result = result_ordered own (read_decls f r decls).scene (read_decls f r decls).scene.returns keep.frame.scene.table refl;
@@ -291,6 +294,7 @@ mutual
       let frame = head_frame (place p ends k) c r n s params result b outer keep proc_keeps own.params keeps.params.laid_out up (ends_first ends f (r + 1) r b ended) in
       let simple : ReturnsSimple f.scene f.scene.returns = subst (λ y. ReturnsSimple f.scene y) (sym (head_returns s r n params result b)) (head_simple s r n params result b there (plain u long)) in
       let head = heading_some (get_or t.headings r None) (read r refl) in
+      let few : f.declared ≤ cell_limit = omega (arith, head_cells s r n params result b, ap (λ qs. sum_by cells_declared qs) own.params, (keep.heads r head.0 head.1).small) in
       let ordered = formals_ordered u head.0.formals (routine_at p r).params (keep.heads r head.0 head.1).formals in
       block_good p ends all f (r + 1) r (suc c) name s.routine (end_name.token - 1) b s.headings rs headings quiet awaits stand.1 (omega (arith, room)) refl frame
-      (record { level = level; outside = λ i. absurd (omega (arith, i)); module_level = λ i. absurd (omega (arith, i, up)) }) routine (head_inside s r n params result b ∙ inside) simple ordered value numbered ended
+      (record { level = level; outside = λ i. absurd (omega (arith, i)); module_level = λ i. absurd (omega (arith, i, up)) }) routine (head_inside s r n params result b ∙ inside) simple ordered few value numbered ended

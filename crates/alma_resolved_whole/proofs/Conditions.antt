@@ -7,13 +7,13 @@ use Rattle.alma_ir.specs.declared.program.Param.{Param}
 use Rattle.alma_ir.specs.declared.phrase.Root.TheVariants as root
 use Rattle.alma_ir.specs.Tree.{Program, Routine, Global, Loop, ForTo, SomeOf, a_loop, a_desig, routine_at}
 use Rattle.alma_ir.specs.Phrases.{Phrase, StmtPhrase, DesigPhrase, stmts_phrases}
-use Rattle.alma_ir.specs.Checked.{EachRoutine, EachPhrase, RootExists, PartsExist, CellsAgree, RangesOrdered, HasStep, CalleeExists, ResultAgrees, CallLeads, CallFits, HasChoice, ReturnAgrees, ReturnsStay, AreLaidOut, param_slots, IsOutside, loops_of, RootLeaves, IsHiddenSlot, LoopIsApart, NamesSpelled, KeepsLimits, RoutineKeepsLimits, IsGlobal, HasLines, IsChecked}
+use Rattle.alma_ir.specs.Checked.{EachRoutine, EachPhrase, RootExists, PartsExist, CellsAgree, RangesOrdered, HasStep, CalleeExists, ResultAgrees, CallLeads, CallFits, HasChoice, ReturnAgrees, ReturnsStay, AreLaidOut, param_slots, IsOutside, loops_of, RootLeaves, IsHiddenSlot, LoopIsApart, NamesSpelled, KeepsLimits, IsGlobal, HasLines, IsChecked}
 use Rattle.alma_ir.proofs.Each.{each_follows}
 use Rattle.alma_resolved.specs.Fits.{LoopFits, Fits}
 use Rattle.alma_resolved.specs.Frames.{KeepsFrames}
 use Rattle.alma_resolved.specs.Keeps.{KeepsPhrase}
 use Rattle.alma_resolved.proofs.Checks.{phrase_keeps}
-use Rattle.alma_resolved_whole.specs.Whole.{place, RoutineFits, ProgramFits}
+use Rattle.alma_resolved_whole.specs.Whole.{KeepsSlots, place, RoutineFits, ProgramFits}
 
 -- ---- phrases
 
@@ -62,9 +62,9 @@ loops_apart p all h r x lt f = tt
 
 -- ---- all conditions
 
-pub fits_checked : (p : Program) → KeepsFrames p → AllByRecursion (IsGlobal p) p.globals → ProgramFits p → EachRoutine p (λ r routine. HasLines routine) → NamesSpelled p → KeepsLimits p → EachRoutine p (λ r routine. RoutineKeepsLimits routine)
+pub fits_checked : (p : Program) → KeepsFrames p → AllByRecursion (IsGlobal p) p.globals → ProgramFits p → EachRoutine p (λ r routine. HasLines routine) → NamesSpelled p → KeepsLimits p → EachRoutine p (λ r routine. KeepsSlots routine)
     → IsChecked p
-fits_checked p all globals h lines names limits routine_limits = record {
+fits_checked p all globals h lines names limits slots = record {
   body = all.body;
   body_takes_nothing = all.body_takes_nothing;
   params = λ r lt. (all.routines r lt).params;
@@ -88,5 +88,5 @@ fits_checked p all globals h lines names limits routine_limits = record {
   lines = lines;
   names = names;
   limits = limits;
-  routine_limits = routine_limits;
+  routine_limits = λ r lt. record { declared = (h.routines r lt).cells; slots = slots r lt };
 }

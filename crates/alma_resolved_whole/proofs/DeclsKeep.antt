@@ -1,6 +1,6 @@
 -- All declarations of a block keep its scene: each heading that is read is that of its routine in the program.
 use Rattle.std.proofs.Common.{◌≡◌, ◌≢◌, ◌⊎◌, inl, inr, ℕ, suc, ◌+◌, ◌<◌, ◌≤◌, Bool, true, false, List, [], ◌∷◌, ◌++◌, length, get_or, set, Option, None, Some, refl, sym, ap, ◌∙◌, subst, arith}
-use Rattle.std.specs.Prelude.{nat_eq, IsSome, IsNone}
+use Rattle.std.specs.Prelude.{nat_eq, sum_by, IsSome, IsNone}
 use Rattle.std.specs.List.{AllByRecursion}
 use Rattle.std.proofs.lemmas.Bool.Decides.{eqb_tells}
 use Rattle.std.proofs.lemmas.List.{get_or-set_same, get_or-set_other}
@@ -8,6 +8,7 @@ use Rattle.alma_base.specs.Choice.{if_true}
 use Rattle.alma_names.specs.declared.block.Entry.{Entry}
 use Rattle.alma_names.specs.declared.block.Entry.TheVariants as entry
 use Rattle.alma_names.specs.Shapes.{PlainShape}
+use Rattle.alma_base.specs.Limits.{cell_limit}
 use Rattle.alma_ir.specs.Tree.{Program, Routine, routine_at}
 use Rattle.alma_rules.specs.Numbered as tree
 use Rattle.alma_rules.specs.Judged.{broken_at}
@@ -25,47 +26,11 @@ use Rattle.alma_resolved.proofs.HeadsSound.{HeadSound, head_sound}
 use Rattle.alma_resolved.proofs.DeclsSound.{Moved, moved_each, moved_outer, moved_twice, moved_headings, block_each, from_zero, DeclsRead, decls_read}
 use Rattle.alma_resolved.proofs.Slots.{decls_steps}
 use Rattle.alma_resolved_whole.proofs.Tables.{TableKeeps}
-use Rattle.alma_resolved_whole.proofs.Entries.{EntryKeeps, FormalsKeep, ResultKeeps, HeadKeeps, HeadsKeep, SceneKeeps, Longer, longer_twice}
+use Rattle.alma_resolved_whole.proofs.Entries.{cells_declared, EntryKeeps, FormalsKeep, ResultKeeps, HeadKeeps, HeadsKeep, SceneKeeps, Longer, longer_twice}
 use Rattle.alma_resolved_whole.proofs.FramesKeep.{FrameKeeps, frame_scene, consts_keep, types_keep, vars_keep}
+use Rattle.alma_resolved_whole.proofs.Quiet.{decls_quiet}
+use Rattle.alma_resolved_whole.proofs.HeadCells.{head_small}
 use Rattle.alma_resolved_whole.proofs.HeadsKeep.{NamedKeeps, HeadPlain, ResultMade, HeadMade, head_made, head_params_later, head_plain_later}
-
--- ---- what is broken stays broken
-
-consts_quiet : (f : Frame) (xs : List tree.ConstEntry) → (read_consts f xs).faults ≡ [] → f.faults ≡ []
-consts_quiet f [] e = e
-consts_quiet f (x ∷ xs) e = nil_left _ _ (nil_left _ _ (consts_quiet (constant_in f x (read_constant f.scene x.value)) xs e))
-
-types_quiet : (f : Frame) (xs : List tree.TypeEntry) → (read_types f xs).faults ≡ [] → f.faults ≡ []
-types_quiet f [] e = e
-types_quiet f (x ∷ xs) e = nil_left _ _ (nil_left _ _ (types_quiet (type_in f x (read_type f.scene x.type_node)) xs e))
-
-variable_quiet : (f : Frame) (from : ℕ) (o : Option ℕ) (name : tree.Name) → (variable_in f from o name).faults ≡ [] → f.faults ≡ []
-variable_quiet f from None name e = nil_left f.faults _ e
-variable_quiet f from (Some shape) name e = by (is_first f.scene name) e
-  where
-    by : (b : Bool) → (if_true b (λ u. limited name (with_variable f name from shape)) (λ u. with_faults f (broken_at name.node (redeclared f.scene name)))).faults ≡ [] → f.faults ≡ []
-    by true e = nil_left f.faults _ e
-    by false e = nil_left f.faults _ e
-
-variables_quiet : (f : Frame) (from : ℕ) (o : Option ℕ) (xs : List tree.Name) → (variables_in f from o xs).faults ≡ [] → f.faults ≡ []
-variables_quiet f from o [] e = e
-variables_quiet f from o (x ∷ xs) e = variable_quiet f from o x (variables_quiet (variable_in f from o x) from o xs e)
-
-vars_quiet : (f : Frame) (xs : List tree.VarEntry) → (read_vars f xs).faults ≡ [] → f.faults ≡ []
-vars_quiet f [] e = e
-vars_quiet f (x ∷ xs) e =
-    variables_quiet (with_scene f (read_type f.scene x.type_node).scene) (last_token x.names.first x.names.more + 3 + width (mark_type x.type_node)) (read_type f.scene x.type_node).value (all_names x.names)
-    (nil_left _ _ (vars_quiet (variables_of f x (read_type f.scene x.type_node)) xs e))
-
-decl_quiet : (f : Frame) (r : ℕ) (d : tree.Decl) → (read_decl f r d).faults ≡ [] → f.faults ≡ []
-decl_quiet f r (tree.const_decl n xs) e = consts_quiet f xs e
-decl_quiet f r (tree.type_decl n xs) e = types_quiet f xs e
-decl_quiet f r (tree.var_decl n xs) e = vars_quiet f xs e
-decl_quiet f r (tree.procedure n name params result b end_name) e = nil_left _ _ (nil_left _ _ e)
-
-decls_quiet : (f : Frame) (r : ℕ) (x : tree.DeclTail) → (read_decls f r x).faults ≡ [] → f.faults ≡ []
-decls_quiet f r tree.no_decl e = e
-decls_quiet f r (tree.more_decl d rest) e = decl_quiet f r d (decls_quiet (read_decl f r d) (r + decl_routines d) rest e)
 
 -- ---- routines of the program and their headings
 
@@ -167,6 +132,7 @@ head_onward k c f t lo r n params result b h room outer long before there given 
         record {
           formals = subst (λ qs. FormalsKeep f.scene.shapes x.formals qs) (sym (given.params_given ∙ late)) m.formals;
           result = result_keeps f.scene.shapes result x.result (routine_at k.program r) m.result_made given.result_given;
+          small = subst (λ qs. sum_by cells_declared qs ≤ cell_limit) (sym (given.params_given ∙ late)) (head_small f.scene r n params result b x e);
         }
 
 -- ---- all declarations

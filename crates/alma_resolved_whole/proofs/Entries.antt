@@ -1,6 +1,6 @@
 -- What a scene keeps whose phrases belong to a routine of a program: its table, and what each name declared in it stands for.
 use Rattle.std.proofs.Common.{◌≡◌, ℕ, zero, suc, ◌+◌, ◌-◌, ◌<◌, ◌≤◌, Bool, true, false, List, [], ◌∷◌, ◌++◌, length, Option, None, Some, refl, sym, ap, ◌∙◌, subst, arith, append_assoc, append-nil, length-append}
-use Rattle.std.specs.Prelude.{get_or, if◌then◌else◌, IsSome, IsNone}
+use Rattle.std.specs.Prelude.{get_or, sum_by, if◌then◌else◌, IsSome, IsNone}
 use Rattle.std.specs.List.{AllByRecursion}
 use Rattle.alma_names.specs.declared.block.Access.{Access}
 use Rattle.alma_names.specs.declared.block.Access.TheVariants as access
@@ -9,6 +9,9 @@ use Rattle.alma_names.specs.declared.block.Entry.TheVariants as entry
 use Rattle.alma_names.specs.Shapes.{PlainShape, cells_at}
 use Rattle.alma_names.specs.Blocks.{DeclaredName}
 use Rattle.alma_names.specs.Scopes.{with_declared}
+use Rattle.alma_base.specs.Limits.{cell_limit}
+use Rattle.alma_ir.specs.declared.program.ArgKind.{ArgKind}
+use Rattle.alma_ir.specs.declared.program.ArgKind.TheVariants as kinds
 use Rattle.alma_ir.specs.declared.program.Param.{Param}
 use Rattle.alma_ir.specs.Tree.{Program, Routine, routine_at}
 use Rattle.alma_ir.specs.Checked.{HoldPlace, IsOrdered, outer_at}
@@ -49,6 +52,16 @@ EntryKeeps k c t n (entry.Variable shape a) = (shape.0 < length t) × (n ≤ suc
 EntryKeeps k c t n (entry.Routine q) = (n ≤ suc c) × RoutineKeeps k c n q
 EntryKeeps k c t n entry.Bad = Unit {0}
 
+-- the declared cells of a parameter: one where it stands for a place
+abbrev pub cells_of_kind : ArgKind → (cells : ℕ) → ℕ
+cells_of_kind kinds.Value n = n
+cells_of_kind kinds.Cells n = n
+cells_of_kind kinds.Place n = 1
+cells_of_kind kinds.Mix n = 1
+
+abbrev pub cells_declared : Param → ℕ
+cells_declared q = cells_of_kind q.kind q.cells
+
 -- a formal and the parameter that it makes
 pub record FormalKeeps (t : List PlainShape) (f : FormalOf) (q : Param) : Type 0 where
   pub there : f.shape < length t
@@ -71,6 +84,7 @@ ResultKeeps t (Some shape) x = IsSome x.result × (structured_in t shape ≡ fal
 pub record HeadKeeps (p : Program) (t : List PlainShape) (q : ℕ) (h : Heading) : Type 0 where
   pub formals : FormalsKeep t h.formals (routine_at p q).params
   pub result : ResultKeeps t h.result (routine_at p q)
+  pub small : sum_by cells_declared (routine_at p q).params ≤ cell_limit
 
 -- each heading that was read is that of its routine
 abbrev pub HeadsKeep : Program → Scene → Type 0
@@ -111,7 +125,7 @@ result_still t u None x h = h
 result_still t u (Some shape) x h = (h.0, simple_still t u shape h.1)
 
 pub head_still : (p : Program) (t u : List PlainShape) (q : ℕ) (h : Heading) → HeadKeeps p t q h → HeadKeeps p (t ++ u) q h
-head_still p t u q h g = record { formals = formals_still t u h.formals (routine_at p q).params g.formals; result = result_still t u h.result (routine_at p q) g.result }
+head_still p t u q h g = record { formals = formals_still t u h.formals (routine_at p q).params g.formals; result = result_still t u h.result (routine_at p q) g.result; small = g.small }
 
 pub keeps_shapes : {k : Place} {c : ℕ} {s : Scene} (u : List PlainShape) → SceneKeeps k c s → TableKeeps (s.shapes ++ u) → SceneKeeps k c (record s { shapes = s.shapes ++ u })
 keeps_shapes {k} {c} {s} u h t = record {

@@ -23,3 +23,5 @@ pub mod Spelled
 pub mod Naming
 pub mod Named
 pub mod TreeNames
+pub mod Quiet
+pub mod HeadCells

@@ -125,7 +125,7 @@ made_good source tokens m rs stand e value all =
     } in
     let simple : ReturnsSimple f.scene f.scene.returns = subst (λ y. ReturnsSimple f.scene y) (sym (block_returns (first_scene source tokens m) 0 nothing [] m.block)) tt in
     block_good p ends all f 1 0 0 m.name 0 (m.end_name.token - 1) m.block (first_scene source tokens m).headings rs headings quiet (block_opened source tokens m m.block) stand (module_room source tokens m) (omega arith) frame
-    (record { level = level; outside = λ i. refl; module_level = λ i. refl }) number (block_inside (first_scene source tokens m) 0 nothing [] m.block) simple (subst (λ qs. AllByRecursion (λ q. IsOrdered q.range) qs) (sym none) tt) value numbered
+    (record { level = level; outside = λ i. refl; module_level = λ i. refl }) number (block_inside (first_scene source tokens m) 0 nothing [] m.block) simple (subst (λ qs. AllByRecursion (λ q. IsOrdered q.range) qs) (sym none) tt) (omega arith) value numbered
     (ends_all ends 0 [] (block_ends f 1 m.block) (block_ends f 1 m.block) refl (λ q. refl) refl)
 
 made_fits : (source : List ℕ) (tokens : List Lexeme) (m : tree.Module) (rs : List Routine) → BlockStands m.block → broken source tokens m ≡ [] → (judge_module source tokens m).value ≡ Some rs → KeepsFrames (program_of source tokens m rs)

@@ -1,6 +1,7 @@
 -- What each routine of a resolved program keeps of its frame: hidden slots of loops behind it, and phrases that fit its place.
 use Rattle.std.specs.Prelude.{◌≡◌, ℕ, ◌+◌, ◌<◌, ◌≤◌, false, List, length, map, sum_by}
 use Rattle.std.specs.List.{AllByRecursion}
+use Rattle.alma_base.specs.Limits.{cell_limit, routine_slot_limit}
 use Rattle.alma_tree.specs.declared.kind.Kind.{Kind}
 use Rattle.alma_tree.specs.declared.module.Module.{Module}
 use Rattle.alma_tree.specs.Numbers.{IsNumbered}
@@ -9,7 +10,7 @@ use Rattle.alma_tree.specs.View.{view_module}
 use Rattle.alma_scan.specs.Tokens.{Lexeme, Tokens}
 use Rattle.alma_ir.specs.Tree.{Program, Routine, routine_at}
 use Rattle.alma_ir.specs.Phrases.{stmts_phrases}
-use Rattle.alma_ir.specs.Checked.{EachRoutine, param_slots, HeadRangesOrdered}
+use Rattle.alma_ir.specs.Checked.{EachRoutine, param_slots, link_slots, HeadRangesOrdered}
 use Rattle.alma_resolved.specs.Fits.{Place, Laid}
 
 -- the place of a routine, where the frame of each ends
@@ -20,6 +21,7 @@ place p ends q = record { program = p; number = q; ends = ends }
 pub record RoutineFits (p : Program) (ends : ℕ → ℕ) (q : ℕ) (x : Routine) : Type 0 where
   pub params : sum_by param_slots x.params ≤ ends q
   pub position : q ≡ 0 → 0 < ends q
+  pub cells : x.declared ≤ cell_limit
   pub body : Laid (place p ends q) false (ends q) x.slots (stmts_phrases x.body)
   pub heads : HeadRangesOrdered x
 
@@ -29,6 +31,10 @@ pub record ProgramFits (p : Program) : Type 0 where
   pub within : (q : ℕ) → ends q ≤ (routine_at p q).slots
   pub routines : EachRoutine p (RoutineFits p ends)
   pub globals : AllByRecursion (λ g. g.slot + g.cells ≤ ends 0) p.globals
+
+-- the slots of a routine are within their limit, with one for its link
+abbrev pub KeepsSlots : Routine → Type 0
+KeepsSlots x = x.slots + link_slots x.level ≤ routine_slot_limit
 
 -- ---- the tree of a source
 

@@ -8,8 +8,8 @@ ghost use Rattle.alma_rules.specs.Numbered as tree;
 ghost use Rattle.alma_rules.specs.View.{view_module};
 ghost use Rattle.alma_rules.specs.Modules.{resolved};
 ghost use Rattle.alma_resolved.specs.Stand.{BlockStands};
-ghost use Rattle.alma_ir.specs.Checked.{EachRoutine, HasLines, NamesSpelled, KeepsLimits, RoutineKeepsLimits, IsChecked};
-ghost use Rattle.alma_resolved_whole.specs.Whole.{ProgramFits, IsTreeOf};
+ghost use Rattle.alma_ir.specs.Checked.{EachRoutine, HasLines, NamesSpelled, KeepsLimits, IsChecked};
+ghost use Rattle.alma_resolved_whole.specs.Whole.{ProgramFits, IsTreeOf, KeepsSlots};
 
 /// In a tree as the parser numbers it each heading stands before what is declared behind it.
 pub fn trees_of_the_parser_stand_so()
@@ -38,11 +38,11 @@ pub fn resolved_programs_have_their_names()
         resolved source tokens (view_module m) ≡ Some p → NamesSpelled p }
 {}
 
-/// The resolved program of a source's tree is checked, where it keeps the limits.
+/// The resolved program of a source's tree is checked, where it keeps the limits on the whole and on slots.
 pub fn a_resolved_program_is_checked()
     ensures { (source : List ℕ) (tokens : List Lexeme) (m : Module) (p : Program)
         → IsTreeOf source tokens m →
         resolved source tokens (view_module m) ≡ Some p → KeepsLimits p
-        → EachRoutine p (λ r routine. RoutineKeepsLimits routine) →
+        → EachRoutine p (λ r routine. KeepsSlots routine) →
         IsChecked p }
 {}

@@ -1,4 +1,5 @@
 pub mod Lines
 pub mod Naming
+pub mod Resolving
 pub mod Standing
 pub mod Telling

@@ -1,9 +1,8 @@
 -- Watches by the names of globals.
-use Rattle.std.proofs.Common.{◌≡◌, ◌∙◌, ◌+◌, ◌<◌, ℕ, zero, suc, List, [], ◌∷◌, ◌++◌, length, map, flat_map, ap, sym, arith, refl}
-use Rattle.std.specs.Prelude.{Option, Some, None, Bool, true, false, codes}
+use Rattle.std.proofs.Common.{◌≡◌, ◌∙◌, ◌+◌, ℕ, zero, suc, List, [], ◌∷◌, ◌++◌, map, flat_map, ap, arith, refl}
+use Rattle.std.specs.Prelude.{Option, Some, Bool, true, false, codes}
 use Rattle.std.specs.List.{All}
 use Rattle.std.specs.Fmt.{decimal}
-use Rattle.std.proofs.lemmas.List.{append-nil}
 use Rattle.alma_base.specs.Choice.{if_true}
 use Rattle.alma_code.specs.declared.step.End.{End}
 use Rattle.alma_code.specs.declared.step.End.TheVariants as end
@@ -15,9 +14,9 @@ use Rattle.alma_code.specs.Picture.{PlainFrame}
 use Rattle.alma_code.specs.Plain.{PlainCode, PlainGlobal}
 use Rattle.alma_code.specs.TraceText.{same_name, value_of_name, watched_words, step_words, unless_done, trace_lines, cells_text}
 use Rattle.alma_trace.specs.declared.watch.Watch.{Watch}
-use Rattle.alma_trace.specs.Places.{value_at, watch_word, watch_words}
+use Rattle.alma_trace.specs.Places.{value_at, watch_words}
 use Rattle.alma_trace.specs.Resolved.{IsResolved, TracesAreTheTraceText, place_of_name}
-use Rattle.alma_trace.specs.Traced.{traced_words, shown_words, run_lines, steps_end}
+use Rattle.alma_trace.specs.Traced.{traced_words, run_lines, steps_end}
 
 -- a choice of a value is a value of the choice
 by_test : (frames : List PlainFrame) (b : Bool) (here : ℕ × ℕ) (else : Option (ℕ × ℕ))

@@ -1,5 +1,5 @@
 -- What a running machine's memory has.
-use Rattle.std.proofs.Common.{◌≡◌, ◌∙◌, ℕ, ◌^◌, ◌<◌, ◌≤◌, List, length, get_or, ap, subst, sym, arith, refl}
+use Rattle.std.proofs.Common.{◌≡◌, ◌∙◌, ◌^◌, ◌<◌, ◌≤◌, List, length, get_or, ap, subst, sym, arith, refl}
 use Rattle.alma_code.specs.Fits.{FitsFrame, routines_of}
 use Rattle.alma_code.specs.Machine.{State}
 use Rattle.alma_code.specs.Picture.{PlainFrame, no_frame}

@@ -1,6 +1,6 @@
 -- The text of a run, step after step.
-use Rattle.std.proofs.Common.{◌≡◌, ℕ, zero, suc, ◌+◌, ◌-◌, ◌<◌, ◌≤◌, List, [], ◌∷◌, ◌++◌, flat_map, refl, sym, ap, ◌∙◌, subst, arith, append_assoc, zero-add}
-use Rattle.std.specs.Prelude.{Option, Result, Ok, Err, OnOk, OnErr, IfErr, true, false, nat_eq}
+use Rattle.std.proofs.Common.{◌≡◌, ℕ, suc, ◌+◌, ◌-◌, ◌<◌, List, [], ◌++◌, flat_map, refl, sym, ap, ◌∙◌, arith, append_assoc, zero-add}
+use Rattle.std.specs.Prelude.{Option, true, nat_eq}
 use Rattle.std.specs.Io.KnownBytes.{Appends}
 use Rattle.std.proofs.lemmas.Bool.{eq-eqb}
 use Rattle.std.proofs.lemmas.Grind.{flat_map-append}
@@ -10,16 +10,15 @@ use Rattle.alma_code.specs.declared.step.End.{End}
 use Rattle.alma_code.specs.declared.step.Step.{Step}
 use Rattle.alma_code.specs.declared.step.Step.TheVariants as answer
 use Rattle.alma_code.specs.ListText.{text_line}
-use Rattle.alma_code.specs.Machine.{State, Stepped, step, after}
-use Rattle.alma_code.specs.Plain.{PlainCode}
+use Rattle.alma_code.specs.Machine.{Mode, Going, Failing, Ended, Stuck, State, Stepped, step, after}
 use Rattle.alma_code.specs.TraceText.{unless_done}
 use Rattle.alma_engine.proofs.Budget.{Progress, made_is, out_front}
 use Rattle.alma_engine.specs.declared.machine.RunEnd.{RunEnd}
 use Rattle.alma_engine.specs.declared.machine.RunEnd.TheVariants as run
-use Rattle.alma_engine.specs.Runs.{made}
-use Rattle.alma_engine.specs.View.{MachineView, goes_on, stepped}
+use Rattle.alma_engine.specs.Runs.{OnWriteFault, made}
+use Rattle.alma_engine.specs.View.{MachineView, IsLive, ModeAfter, goes_on, stepped}
 use Rattle.alma_io.specs.Fronts.{AppendsFront}
-use Rattle.alma_trace.specs.Cuts.{IsCut, OnCut}
+use Rattle.alma_trace.specs.Cuts.{IsCut, OnCut, can_go}
 use Rattle.alma_trace.specs.declared.watch.Watch.{Watch}
 use Rattle.alma_trace.specs.Traced.{traced_words, step_text, steps_end, run_lines, traced, traced_within}
 
@@ -179,3 +178,30 @@ on_cut run.StepsOut P h p = absurd h
 pub front_behind : (a b c : Option (List ℕ)) (xs ys rest zs : List ℕ) → Appends a b xs → AppendsFront b c ys → zs ≡ xs ++ (ys ++ rest) → AppendsFront a c zs
 front_behind a b c xs ys rest zs h (front, more, is, k) e =
     out_front a b c xs (ys ++ rest) zs h (front, more ++ rest, ap (λ (z : List ℕ). z ++ rest) is ∙ append_assoc front more rest, k) e
+
+-- what holds holds where the sink failed
+pub on_write_fault : (end : RunEnd) (P : Type 0) → P → OnWriteFault end P
+on_write_fault run.WriteFault P p = p
+on_write_fault run.Memory P p = tt
+on_write_fault run.Succeeded P p = tt
+on_write_fault run.Failed P p = tt
+on_write_fault (run.Fault fault) P p = tt
+on_write_fault run.StepsOut P p = tt
+
+-- a live machine can make a step
+pub live_can_go : (mode : Mode) → IsLive mode → true ≡ can_go mode
+live_can_go Going h = refl
+live_can_go Failing h = refl
+live_can_go (Ended end) h = absurd h
+live_can_go Stuck h = absurd h
+
+-- after a step that goes on, and after no other
+pub goes_can_go : (a : Step) (mode : Mode) → ModeAfter a mode → goes_on a ≡ can_go mode
+goes_can_go (answer.Done e) mode h = sym (ap can_go h)
+goes_can_go answer.Went mode h = live_can_go mode h
+goes_can_go (answer.Chose height) mode h = live_can_go mode h
+goes_can_go (answer.Popped height) mode h = live_can_go mode h
+goes_can_go (answer.Cut height) mode h = live_can_go mode h
+goes_can_go (answer.Called routine frames) mode h = live_can_go mode h
+goes_can_go (answer.Returned frames) mode h = live_can_go mode h
+goes_can_go answer.Printed mode h = live_can_go mode h

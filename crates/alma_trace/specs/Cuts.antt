@@ -1,7 +1,8 @@
 -- Runs that are cut short.
+use Rattle.std.specs.Prelude.{Bool, true, false, Result, Ok, Err}
+use Rattle.alma_code.specs.Machine.{Mode, Going, Failing, Ended, Stuck}
 use Rattle.alma_engine.specs.declared.machine.RunEnd.{RunEnd}
 use Rattle.alma_engine.specs.declared.machine.RunEnd.TheVariants as run
-use Rattle.std.specs.Prelude.{Result, Ok, Err}
 
 -- a fault of the sink or a want of memory
 abbrev pub IsCut : RunEnd → Type 0
@@ -25,3 +26,10 @@ OnCut run.StepsOut p = Unit {0}
 abbrev pub cut_of : Result (Unit {0}) RunEnd → RunEnd
 cut_of (Ok done) = run.StepsOut
 cut_of (Err end) = end
+
+-- a machine in this mode can make a step
+abbrev pub can_go : Mode → Bool
+can_go Going = true
+can_go Failing = true
+can_go (Ended end) = false
+can_go Stuck = false

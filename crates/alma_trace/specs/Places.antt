@@ -1,5 +1,5 @@
 -- Watched places and what is shown of them.
-use Rattle.std.specs.Prelude.{ℕ, zero, suc, ◌+◌, ◌≤◌, List, [], ◌∷◌, ◌++◌, map, length, get_or, codes, Option, Some, None, MatchOption}
+use Rattle.std.specs.Prelude.{ℕ, zero, suc, ◌+◌, ◌<◌, ◌≤◌, List, [], ◌∷◌, ◌++◌, map, length, get_or, codes, Option, Some, None, MatchOption}
 use Rattle.std.specs.List.{All}
 use Rattle.alma_code.specs.Picture.{PlainFrame, no_frame}
 use Rattle.alma_code.specs.Plain.{PlainCode, kinds_at}
@@ -19,9 +19,9 @@ watch_word frames watch = watch.name.now ++ 61 ∷ value_at frames watch.at
 abbrev pub watch_words : List PlainFrame → List Watch → List (List ℕ)
 watch_words frames watches = map (watch_word frames) watches
 
--- a watched place is of so many slots
+-- a watched place is of so many slots; one of no cells may stand anywhere
 abbrev pub IsWithin : (slots : ℕ) → Watch → Type 0
-IsWithin slots watch = MatchOption watch.at (Unit {0}) (λ place. place.0 + place.1 ≤ slots)
+IsWithin slots watch = MatchOption watch.at (Unit {0}) (λ place. 0 < place.1 → place.0 + place.1 ≤ slots)
 
 -- each watched place is of slots of the frame of the module
 abbrev pub AreOfModule : PlainCode → List Watch → Type 0

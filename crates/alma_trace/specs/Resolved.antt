@@ -4,8 +4,10 @@ use Rattle.std.specs.List.{All}
 use Rattle.alma_base.specs.Choice.{if_true}
 use Rattle.alma_code.specs.Machine.{start}
 use Rattle.alma_code.specs.Plain.{PlainCode, PlainGlobal}
+use Rattle.alma_code.specs.Rules.{IsSound}
 use Rattle.alma_code.specs.TraceText.{same_name, trace_text}
 use Rattle.alma_trace.specs.declared.watch.Watch.{Watch}
+use Rattle.alma_trace.specs.Places.{AreOfModule}
 use Rattle.alma_trace.specs.Traced.{traced}
 
 -- the place of the first global with a name, where there is one
@@ -23,3 +25,7 @@ abbrev pub TracesAreTheTraceText : PlainCode → (input : List ℕ) → Type 0
 TracesAreTheTraceText code input =
     (watches : List Watch) (steps : ℕ) → All (IsResolved code) watches
     → traced code input watches steps (start code) ≡ trace_text code input (map (λ watch. watch.name.now) watches) steps
+
+-- in a sound code such watches are of slots of the frame of the module
+abbrev pub ResolvedAreOfModule : PlainCode → Type 0
+ResolvedAreOfModule code = (watches : List Watch) → IsSound code → All (IsResolved code) watches → AreOfModule code watches

@@ -3,9 +3,11 @@
 
 pub mod laws;
 mod line;
+mod resolve;
 mod step;
 mod tracer;
 mod watch;
 
+pub use resolve::watches;
 pub use tracer::trace;
 pub use watch::Watch;

@@ -1,5 +1,5 @@
 // Words of a line.
-ghost use Rattle.std.specs.Prelude.{◌≡◌, ◌∷◌, ◌++◌, [], map, flat_map, decimal, OnOk};
+ghost use Rattle.std.specs.Prelude.{◌≡◌, ◌∷◌, ◌++◌, [], decimal, OnOk};
 ghost use Rattle.alma_code.specs.ListText.{text_line};
 
 use alma_base::NoMemory;

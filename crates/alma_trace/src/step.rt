@@ -1,5 +1,5 @@
 // The line of a step.
-ghost use Rattle.std.specs.Prelude.{◌≡◌, ◌∷◌, ◌++◌, [], true, flat_map, codes, decimal, OnOk};
+ghost use Rattle.std.specs.Prelude.{◌≡◌, ◌∷◌, [], true, flat_map, codes, decimal, OnOk};
 ghost use Rattle.alma_code.specs.ListText.{text_line};
 ghost use Rattle.alma_code.specs.Plain.{routine_at};
 ghost use Rattle.alma_code.specs.TraceText.{end_words};

@@ -3,11 +3,11 @@ ghost use Rattle.std.specs.Prelude.{◌≡◌, ◌+◌, ◌^◌, ◌<◌, ◌≤
 ghost use Rattle.std.specs.Io.KnownBytes.{Appends};
 ghost use Rattle.alma_code.specs.ListText.{text_line};
 ghost use Rattle.alma_code.specs.Machine.{after};
-ghost use Rattle.alma_engine.specs.Runs.{run_end_of, is_steps_out, all_written, made, OnWhole, OnStepsOut};
+ghost use Rattle.alma_engine.specs.Runs.{run_end_of, is_steps_out, all_written, made, OnWhole, OnStepsOut, OnWriteFault};
 ghost use Rattle.alma_engine.specs.View.{goes_on};
 ghost use Rattle.alma_io.specs.Causes.{HasCause};
 ghost use Rattle.alma_io.specs.Fronts.{AppendsFront};
-ghost use Rattle.alma_trace.specs.Cuts.{IsCut, OnCut, cut_of};
+ghost use Rattle.alma_trace.specs.Cuts.{IsCut, OnCut, can_go, cut_of};
 ghost use Rattle.alma_trace.specs.Places.{AreOfModule};
 ghost use Rattle.alma_trace.specs.Traced.{step_text, steps_end, traced, traced_within};
 
@@ -93,6 +93,7 @@ pub fn trace<K: Sink>(
     ensures front { OnCut result (AppendsFront (K.written out.old) (K.written out.new)
         (traced_within machine.old.code machine.old.input watches.now (made machine.old machine.new)
         budget machine.old.state)) }
+    ensures stopped { OnWriteFault result (machine.new.running ≡ can_go machine.new.state.mode) }
     ensures cause { HasCause (K.faults out.old) (K.faults out.new) (all_written result) }
     ensures same { (machine.new.code ≡ machine.old.code)
         × (machine.new.input ≡ machine.old.input) }

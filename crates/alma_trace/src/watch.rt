@@ -44,9 +44,10 @@ fn push_comma(line: &mut Vec<u8>, index: u32) -> Result<(), NoMemory>
 // Appends the cells of a place of frame 0.
 fn push_cells(line: &mut Vec<u8>, memory: &Memory, slot: u32, cells: u32) -> Result<(), NoMemory>
     requires live { 0 < length memory.now.now }
-    requires within { slot + cells ≤ main_slots memory.now.now }
+    requires within { 0 < cells → slot + cells ≤ main_slots memory.now.now }
     requires few { main_slots memory.now.now < 2 ^ 32 }
-    ensures { OnOk result (line.new.items ≡ line.old.items ++ cells_text memory.now.now slot cells) }
+    ensures { OnOk result
+        (line.new.items ≡ line.old.items ++ cells_text memory.now.now slot cells) }
 {
     for k in 0..cells {
         push_comma(line, k)?;
@@ -58,7 +59,8 @@ fn push_cells(line: &mut Vec<u8>, memory: &Memory, slot: u32, cells: u32) -> Res
 // Appends the value of a watched place.
 fn push_value(line: &mut Vec<u8>, memory: &Memory, at: Option<(u32, u32)>) -> Result<(), NoMemory>
     requires live { 0 < length memory.now.now }
-    requires within { MatchOption at (Unit {0}) (λ place. place.0 + place.1 ≤ main_slots memory.now.now) }
+    requires within { MatchOption at (Unit {0})
+        (λ place. 0 < place.1 → place.0 + place.1 ≤ main_slots memory.now.now) }
     requires few { main_slots memory.now.now < 2 ^ 32 }
     ensures { OnOk result (line.new.items ≡ line.old.items ++ value_at memory.now.now at) }
 {

@@ -1,11 +1,8 @@
-use Rattle.std.proofs.Common.{refl, sym, ap, ◌∙◌}
-use Rattle.alma_rules.specs.Judged.{Judged, of_value, both, both_of, at_node}
-use Rattle.alma_rules.specs.View.{terms_of, factors_of}
-use Rattle.alma_rules.specs.Parts as parts
-use Rattle.alma_rules.specs.ExprRules as rules
-use Rattle.alma_rules.specs.Nodes as nodes
+use Rattle.std.proofs.Common.{sym, ◌∙◌}
+use Rattle.alma_rules.specs.Judged.{of_value, both}
+use Rattle.alma_rules.specs.View.{factors_of}
 use Rattle.alma_check_rules.specs.Views.{scene_of, typing_in, typing_of, operand_view, operands_in}
-use Rattle.alma_walk.proofs.Judging.{passed, answers_as, both_fine, with_fine, node_stops, node_fine}
+use Rattle.alma_walk.proofs.Judging.{passed, answers_as}
 use Rattle.alma_check_chain.proofs.Chains as chains
 use Rattle.alma_check_chain.proofs.chain.join_product.Goals as goal
 

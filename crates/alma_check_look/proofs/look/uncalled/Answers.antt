@@ -1,4 +1,3 @@
-use Rattle.std.proofs.Common.{None}
 use Rattle.alma_rules.specs.View as view
 use Rattle.alma_check_look.proofs.Exact.{called_not}
 use Rattle.alma_check_look.proofs.look.uncalled.Goals as goal

@@ -5,10 +5,11 @@ use Rattle.alma_code.specs.Machine.{State, after}
 use Rattle.alma_code.specs.Plain.{PlainCode}
 use Rattle.alma_code.specs.TraceText.{unless_done}
 use Rattle.alma_engine.specs.Runs.{run_end_of, made}
+use Rattle.alma_trace.specs.Cuts.{can_go}
 use Rattle.alma_engine.proofs.Budget.{progress_more, made_is, on_whole, finished, goes_unless, live_is_out, out_more, out_front}
 use Rattle.alma_io.specs.Fronts.{AppendsFront}
 use Rattle.alma_trace.specs.Traced.{step_text, steps_end, traced, traced_within}
-use Rattle.alma_trace.proofs.Telling.{text_of, end_within, end_whole, front_more, text_more, text_whole, text_out, within_now, within_then, on_cut, front_behind}
+use Rattle.alma_trace.proofs.Telling.{text_of, end_within, end_whole, front_more, text_more, text_whole, text_out, within_now, within_then, on_cut, on_write_fault, live_can_go, goes_can_go, front_behind}
 use Rattle.alma_trace.proofs.tracer.trace.Goals as goal
 
 pub returns-in-Err-clause-made : goal.returns-in-Err-clause-made
@@ -124,3 +125,14 @@ returns-clause-out g c =
     out_more (g.K.Sink.written c.args.out.now) (g.K.Sink.written c.loop-made.out) (g.K.Sink.written c.tell_steps_end.new.out) (text_of old watches m) (flat_map text_line steps_end)
     (traced old.code old.input watches c.args.budget old.state) c.loop-made.invariant.out c.in_default-tell_steps_end.ensures.ok
     (ap (λ n. traced old.code old.input watches n old.state) (sym all) ∙ text_out old watches m c.loop-made.invariant.front)
+
+pub returns-in-Err-clause-stopped : goal.returns-in-Err-clause-stopped
+returns-in-Err-clause-stopped g c =
+    on_write_fault c.in-Err.cut (c.step.new.self.running ≡ can_go c.step.new.self.state.mode)
+    (c.in-Ok.ensures.running ∙ goes_can_go c.in-Ok.step c.step.new.self.state.mode c.in-Ok.ensures.mode)
+
+pub returns-in-Err-tell_steps_end-clause-stopped : goal.returns-in-Err-tell_steps_end-clause-stopped
+returns-in-Err-tell_steps_end-clause-stopped g c =
+    let now = c.loop-made.machine in
+    on_write_fault c.in-Err-tell_steps_end.cut (now.running ≡ can_go now.state.mode)
+    (c.loop-made.invariant.running ∙ live_can_go now.state.mode (c.keeps_standing.ensures c.loop-made.invariant.running).live)
