@@ -1,0 +1,56 @@
+// The code of a whole program.
+ghost use Rattle.std.specs.Prelude.{◌≡◌, ◌*◌, ◌<◌, ◌≤◌, ℕ, length, IfOk};
+ghost use Rattle.alma_base.specs.Limits.{size_limit};
+ghost use Rattle.alma_code.specs.Plain.{code_of};
+ghost use Rattle.alma_code.specs.Records.{KeepsCounts, KeepsRecords, KeepsVersion};
+ghost use Rattle.alma_code.specs.Rules.{IsSound};
+ghost use Rattle.alma_implements.specs.Implements.{Implements};
+ghost use Rattle.alma_ir.specs.Checked.{IsChecked};
+ghost use Rattle.alma_ir.specs.Count.{saturate, nodes};
+ghost use Rattle.alma_ir.specs.View.{program_of};
+ghost use Rattle.alma_sound.specs.Reads.{HasLabels, code_reads, program_reads};
+
+use crate::compiled::compiled;
+use alma_base::{NoMemory, SIZE_LIMIT};
+use alma_code::Code;
+use alma_ir::{Program, size};
+use std::alloc::Global;
+use thiserror::Error;
+
+/// Why a program has no code.
+#[derive(Clone, Copy, Debug, PartialEq, Eq, Error)]
+pub enum LowerError {
+    /// The size of the program, which passes 4,194,304.
+    #[error("too much code: {0}")]
+    TooMuchCode(u64),
+    #[error("no memory")]
+    Memory,
+}
+
+/// A code that implements the program: a machine on it does what the program means, each fault at the line of its
+/// statement.
+pub fn lower(alloc: Global, program: &Program) -> Result<Code, LowerError>
+    requires checked { IsChecked (program_of program.now) }
+    ensures implements { IfOk result (λ code. Implements (code_of code) (program_of program.now)) }
+    ensures sound { IfOk result (λ code. IsSound (code_of code)) }
+    ensures version { IfOk result (λ code. KeepsVersion (code_of code)) }
+    ensures counts { IfOk result (λ code. KeepsCounts (code_of code)) }
+    ensures records { IfOk result (λ code. KeepsRecords (code_of code)) }
+    ensures reads { IfOk result (λ code. HasLabels (program_of program.now) → code_reads
+        (code_of code) ≡ program_reads (program_of program.now)) }
+    ensures few { IfOk result (λ code. length (code_of code).instrs ≤ 16 * nodes
+        (program_of program.now)) }
+    ensures too_much { let size = saturate (16 * nodes (program_of program.now)) in size_limit
+        < size → result ≡ Err (LowerError.TooMuchCode size) }
+    ensures within { let size = saturate (16 * nodes (program_of program.now)) in size ≤ size_limit
+        → (n : ℕ) → result ≡ Err (LowerError.TooMuchCode n) → ⊥ }
+{
+    let size = size(program);
+    if size > SIZE_LIMIT {
+        return Err(LowerError::TooMuchCode(size));
+    }
+    match compiled(alloc, program) {
+        Ok(code) => Ok(code),
+        Err(NoMemory) => Err(LowerError::Memory),
+    }
+}
