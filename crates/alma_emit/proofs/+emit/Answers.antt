@@ -411,9 +411,9 @@ designator::emit_sels-returns t c =
 
 pub designator::emit_index-returns : goal.designator::emit_index-returns
 designator::emit_index-returns t c = record {
-      part = index_part (around c.args.scene.now) c.args.line _ _ _ _ _ _ c.in_ok-index.ensures.puts c.in_ok-to.ensures.slot;
-      puts = index_put (around c.args.scene.now) c.args.line _ _ _ _ _ _ _ _ _ _ _ c.in_ok-index.ensures.puts c.in_ok-index.ensures.value c.in_ok-to.ensures.takes c.in_ok-to.ensures.slot c.in_ok-range.ensures c.in_ok-put.ensures.codes;
-    }
+  part = index_part (around c.args.scene.now) c.args.line _ _ _ _ _ _ c.in_ok-index.ensures.puts c.in_ok-to.ensures.slot;
+  puts = index_put (around c.args.scene.now) c.args.line _ _ _ _ _ _ _ _ _ _ _ c.in_ok-index.ensures.puts c.in_ok-index.ensures.value c.in_ok-to.ensures.takes c.in_ok-to.ensures.slot c.in_ok-range.ensures c.in_ok-put.ensures.codes;
+}
 
 pub expression::emit_links-loop-link-init : goal.expression::emit_links-loop-link-init
 expression::emit_links-loop-link-init t c = λ e h. h
@@ -506,37 +506,43 @@ loops::emit_bounds-returns t c =
 
 pub loops::emit_turn-returns : goal.loops::emit_turn-returns
 loops::emit_turn-returns t c =
-    record { puts = on_ok c.emit_stmts.result (λ h. record {
-      b = _;
-      c = _;
-      d = _;
-      e = _;
-      count = _;
-      stand = _;
-      checked = count_lined (around c.args.scene.now) c.args.line _ _ c.args.each.now.range c.args.counter (desig_of c.args.each.now.var) c.in_ok-count.ensures.puts;
-      count_slot = count_at_lined (around c.args.scene.now) c.args.line (front c.args.work.now) c.args.counter _ (desig_of c.args.each.now.var) c.in_ok-count.ensures.count;
-      located = c.in_ok-stand.ensures.puts;
-      stands = c.in_ok-stand.ensures.stand;
-      set = codes_is _ _ c.args.line _ _ c.set.ensures c.in_ok-put.ensures.codes;
-      code = c.go_to.ensures.code;
-      kinds = c.go_to.ensures.kinds;
-      next = c.go_to.ensures.next;
-      lines = c.go_to.ensures.lines;
-      whole = c.go_to.ensures.whole;
-      body_put = stmts_is (around c.args.scene.now) 0 _ _ _ _ (ap stmts_list c.deref.ensures.value) h;
-    }) c.emit_stmts.ensures.puts }
+    record {
+      puts = on_ok c.emit_stmts.result (λ h. record {
+        b = _;
+        c = _;
+        d = _;
+        e = _;
+        count = _;
+        stand = _;
+        checked = count_lined (around c.args.scene.now) c.args.line _ _ c.args.each.now.range c.args.counter (desig_of c.args.each.now.var) c.in_ok-count.ensures.puts;
+        count_slot = count_at_lined (around c.args.scene.now) c.args.line (front c.args.work.now) c.args.counter _ (desig_of c.args.each.now.var) c.in_ok-count.ensures.count;
+        located = c.in_ok-stand.ensures.puts;
+        stands = c.in_ok-stand.ensures.stand;
+        set = codes_is _ _ c.args.line _ _ c.set.ensures c.in_ok-put.ensures.codes;
+        code = c.go_to.ensures.code;
+        kinds = c.go_to.ensures.kinds;
+        next = c.go_to.ensures.next;
+        lines = c.go_to.ensures.lines;
+        whole = c.go_to.ensures.whole;
+        body_put = stmts_is (around c.args.scene.now) 0 _ _ _ _ (ap stmts_list c.deref.ensures.value) h;
+      }) c.emit_stmts.ensures.puts;
+    }
 
 pub loops::emit_for-returns : goal.loops::emit_for-returns
 loops::emit_for-returns t c =
     let e = c.args.each.now in
     let same : to_z w64 (of_z w64 e.by) ≡ e.by = to_z-of_z w64 e.by (search rules) in
-    record { puts = on_ok c.aim_behind.result (λ h. stmt_is (around c.args.scene.now) c.args.line _ _ _ _ (ap (λ b. tree.ForTo (tree.a_loop (desig_of e.var) e.range e.counter e.limit (expr_of e.from) (expr_of e.to) b (stmts_list e.body.items))) same) (for_joined (around c.args.scene.now) c.args.line _ _ _ _ _ _ _ _ _ _ _ _ _ _ _ _ _ _ _ _ _ _ _ _ _ _ c.in_ok-step.ensures.counter c.in_ok-step.ensures.limit c.position-before.ensures c.in_ok-pass_desig.ensures c.in_ok-step.ensures.puts c.position-after.ensures
-      c.in_ok-jump.ensures c.in_ok-top.ensures.address c.go_to.ensures.code c.go_to.ensures.kinds c.go_to.ensures.next c.go_to.ensures.lines c.go_to.ensures.whole c.in_ok-emit_turn.ensures.puts c.in_ok-out.ensures c.in_ok-put_step.ensures h)) c.aim_behind.ensures }
+    record {
+      puts = on_ok c.aim_behind.result (λ h. stmt_is (around c.args.scene.now) c.args.line _ _ _ _ (ap (λ b. tree.ForTo (tree.a_loop (desig_of e.var) e.range e.counter e.limit (expr_of e.from) (expr_of e.to) b (stmts_list e.body.items))) same) (for_joined (around c.args.scene.now) c.args.line _ _ _ _ _ _ _ _ _ _ _ _ _ _ _ _ _ _ _ _ _ _ _ _ _ _ c.in_ok-step.ensures.counter c.in_ok-step.ensures.limit c.position-before.ensures c.in_ok-pass_desig.ensures c.in_ok-step.ensures.puts c.position-after.ensures
+          c.in_ok-jump.ensures c.in_ok-top.ensures.address c.go_to.ensures.code c.go_to.ensures.kinds c.go_to.ensures.next c.go_to.ensures.lines c.go_to.ensures.whole c.in_ok-emit_turn.ensures.puts c.in_ok-out.ensures c.in_ok-put_step.ensures h)) c.aim_behind.ensures;
+    }
 
 pub loops::emit_some-returns : goal.loops::emit_some-returns
-loops::emit_some-returns t c = record { puts = some_joined (around c.args.scene.now) c.args.line _ _ _ _ _ _ _ _ _ _ _ _ _ _ _ _ _ _ _ _ _ _ _ _ _ _ _ _ _ _ _ _ _ _ c.in_ok-step.ensures.counter c.in_ok-step.ensures.limit c.position-before.ensures c.in_ok-pass_desig.ensures c.in_ok-step.ensures.puts c.position-after.ensures
+loops::emit_some-returns t c = record {
+  puts = some_joined (around c.args.scene.now) c.args.line _ _ _ _ _ _ _ _ _ _ _ _ _ _ _ _ _ _ _ _ _ _ _ _ _ _ _ _ _ _ _ _ _ _ c.in_ok-step.ensures.counter c.in_ok-step.ensures.limit c.position-before.ensures c.in_ok-pass_desig.ensures c.in_ok-step.ensures.puts c.position-after.ensures
       c.in_ok-more.ensures.takes c.in_ok-more.ensures.slot c.in_ok-jump.ensures c.in_ok-top.ensures.address c.in_ok-turn.ensures c.in_ok-put_more.ensures c.in_ok-choice.ensures.address c.in_ok-choice.ensures.codes c.go_to.ensures.code c.go_to.ensures.kinds c.go_to.ensures.next c.go_to.ensures.lines c.go_to.ensures.whole
-      c.in_ok-emit_turn.ensures.puts c.in_ok-over.ensures c.in_ok-aim_behind.ensures c.in_ok-put_next.ensures c.in_ok-aim_behind-2.ensures c.in_ok-put.ensures.codes }
+      c.in_ok-emit_turn.ensures.puts c.in_ok-over.ensures c.in_ok-aim_behind.ensures c.in_ok-put_next.ensures c.in_ok-aim_behind-2.ensures c.in_ok-put.ensures.codes;
+}
 
 pub expression::emit_expr-emit_load-requires : goal.expression::emit_expr-emit_load-requires
 expression::emit_expr-emit_load-requires t c =
