@@ -1,9 +1,1 @@
-pub mod Emits
-pub mod EmitsBody
-pub mod EmitsFor
-pub mod EmitsCase
-pub mod Made
-pub mod RunLemmas
-pub mod Tables
-pub mod Unlined
-pub mod Walks
+pub mod Finishing

@@ -1,0 +1,5 @@
+pub mod Said
+pub mod Arms
+pub mod Rows
+pub mod Sizes
+pub mod Turns

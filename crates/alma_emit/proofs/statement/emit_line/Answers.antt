@@ -1,0 +1,6 @@
+use Rattle.alma_emit_parts.specs.Front.{around}
+use Rattle.alma_emit_parts.proofs.StmtForms.{line_put}
+use Rattle.alma_emit.proofs.statement.emit_line.Goals as goal
+
+pub returns : goal.returns
+returns c = record { puts = line_put (around c.args.scene.now) c.args.line _ _ c.in_ok-put.ensures.codes }

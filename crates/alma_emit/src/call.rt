@@ -1,0 +1,168 @@
+// The code of calls and of their arguments.
+ghost use Rattle.std.specs.Prelude.{◌≡◌, ◌+◌, IfOk, OnOk};
+ghost use Rattle.alma_ir.specs.View.{arg_of, args_list, desig_of, expr_of};
+ghost use Rattle.alma_ir.specs.Tree as tree;
+ghost use Rattle.alma_emit_parts.specs.Front.{around, front};
+ghost use Rattle.alma_emit_parts.specs.Puts.{PutsExpr, PutsArgs, PutsArg, PutsHanded, PutsTest, first_slot};
+
+use crate::designator::emit_desig;
+use crate::expression::emit_value;
+use alma_base::{NoMemory, Range};
+use alma_code::{Instr, SlotKind};
+use alma_emit_parts::{
+    Scene, Work, first_handed, put_call_link, put_fit, put_function, take_handed,
+};
+use alma_ir::{Arg, Call, Desig, Expr};
+
+// The link and the arguments of a call; the slot of the first of them, or 0 where nothing is handed over.
+#[cycle(emit)]
+fn emit_call(
+    work: &mut Work,
+    scene: &Scene<'_>,
+    line: u32,
+    called: u32,
+    up: u32,
+    args: &[Arg],
+) -> Result<u32, NoMemory>
+    ensures first { IfOk result (λ first. first ≡ first_slot (around scene.now) called up
+        (front work.old).next (args_list args.now)) }
+    ensures puts { OnOk result (PutsHanded (around scene.now) line called up
+        (front work.old) (front work.new) (args_list args.now)) }
+{
+    let link = put_call_link(work, scene, line, called, up)?;
+    let to = take_handed(work, args)?;
+    emit_args(work, scene, line, to, args)?;
+    Ok(first_handed(link, args, to))
+}
+
+// Arguments, into the slots from one on.
+#[cycle(emit)]
+fn emit_args(
+    work: &mut Work,
+    scene: &Scene<'_>,
+    line: u32,
+    to: u32,
+    args: &[Arg],
+) -> Result<(), NoMemory>
+    ensures puts { OnOk result (PutsArgs (around scene.now) line to
+        (front work.old) (front work.new) (args_list args.now)) }
+{
+    let mut slot = to;
+    for arg in args {
+        emit_arg(work, scene, line, slot, arg)?;
+        slot = slot_behind(slot)?;
+    }
+    Ok(())
+}
+
+// The slot behind a slot.
+fn slot_behind(slot: u32) -> Result<u32, NoMemory>
+    ensures { IfOk result (λ next. next ≡ slot + 1) }
+{
+    slot.checked_add(1).ok_or(NoMemory)
+}
+
+// An argument, into a slot.
+#[cycle(emit)]
+fn emit_arg(
+    work: &mut Work,
+    scene: &Scene<'_>,
+    line: u32,
+    to: u32,
+    arg: &Arg,
+) -> Result<(), NoMemory>
+    ensures puts { OnOk result (PutsArg (around scene.now) line to
+        (front work.old) (front work.new) (arg_of arg.now)) }
+{
+    match arg {
+        Arg::Value(value, range) => emit_number(work, scene, line, to, value, *range),
+        Arg::MixValue(value, range) => emit_number(work, scene, line, to, value, *range),
+        Arg::Cells(desig) => emit_place(work, scene, line, to, desig),
+        Arg::Place(desig) => emit_place(work, scene, line, to, desig),
+        Arg::MixPlace(desig) => emit_place(work, scene, line, to, desig),
+    }
+}
+
+// A number, into a slot.
+#[cycle(emit)]
+fn emit_number(
+    work: &mut Work,
+    scene: &Scene<'_>,
+    line: u32,
+    to: u32,
+    value: &Expr,
+    range: Range,
+) -> Result<(), NoMemory>
+    ensures puts { OnOk result (PutsArg (around scene.now) line to
+        (front work.old) (front work.new) (tree.ByValue (expr_of value.now) range)) }
+    ensures mix { OnOk result (PutsArg (around scene.now) line to
+        (front work.old) (front work.new) (tree.MixValue (expr_of value.now) range)) }
+{
+    let from = emit_value(work, scene, line, value)?;
+    put_fit(work, scene, line, range, from)?;
+    work.put(line, Instr::Move { to, from })?;
+    Ok(())
+}
+
+// A place, into a slot.
+#[cycle(emit)]
+fn emit_place(
+    work: &mut Work,
+    scene: &Scene<'_>,
+    line: u32,
+    to: u32,
+    desig: &Desig,
+) -> Result<(), NoMemory>
+    ensures cells { OnOk result (PutsArg (around scene.now) line to
+        (front work.old) (front work.new) (tree.ByCells (desig_of desig.now))) }
+    ensures puts { OnOk result (PutsArg (around scene.now) line to
+        (front work.old) (front work.new) (tree.ByPlace (desig_of desig.now))) }
+    ensures mix { OnOk result (PutsArg (around scene.now) line to
+        (front work.old) (front work.new) (tree.MixPlace (desig_of desig.now))) }
+{
+    let from = emit_desig(work, scene, line, desig)?;
+    work.put(line, Instr::Same { to, from })?;
+    Ok(())
+}
+
+// A call of a procedure.
+#[cycle(emit)]
+pub(crate) fn emit_call_test(
+    work: &mut Work,
+    scene: &Scene<'_>,
+    line: u32,
+    call: &Call,
+) -> Result<(), NoMemory>
+    ensures puts { OnOk result (PutsTest (around scene.now) line
+        (front work.old) (front work.new) (tree.CallTest call.now.routine (args_list call.now.args.items) call.now.up)) }
+{
+    let first = emit_call(work, scene, line, call.routine, call.up, &call.args)?;
+    work.put(
+        line,
+        Instr::Call {
+            routine: call.routine,
+            first,
+            to: 0,
+        },
+    )?;
+    Ok(())
+}
+
+// A call of a function, and the slot of its result.
+#[cycle(emit)]
+pub(crate) fn emit_call_value(
+    work: &mut Work,
+    scene: &Scene<'_>,
+    line: u32,
+    call: &Call,
+) -> Result<u32, NoMemory>
+    ensures slot { IfOk result (λ slot. slot ≡ (front work.old).next) }
+    ensures puts { OnOk result (PutsExpr (around scene.now) line
+        (front work.old) (front work.new) (tree.CallExpr call.now.routine (args_list call.now.args.items) call.now.up)) }
+{
+    let to = work.slot(SlotKind::Number)?;
+    let mark = work.slot(SlotKind::Mark)?;
+    let first = emit_call(work, scene, line, call.routine, call.up, &call.args)?;
+    put_function(work, line, mark, call.routine, first, to)?;
+    Ok(to)
+}

@@ -1,0 +1,166 @@
+// The code of CASE.
+ghost use Rattle.std.specs.Prelude.{◌≡◌, ◌+◌, OnOk};
+ghost use Rattle.alma_ir.specs.View.{cases_list, else_option, expr_of, stmts_list};
+ghost use Rattle.alma_ir.specs.Tree as tree;
+ghost use Rattle.alma_ir.specs.Tree.{CaseArms};
+ghost use Rattle.alma_emit_parts.specs.Front.{around, front, Front};
+ghost use Rattle.alma_emit_parts.specs.Puts.{PutsStmt, PutsCases, PutsElse};
+ghost use Rattle.alma_emit.specs.Cases.{PutsAllArms, PutsArmOf};
+
+use crate::expression::emit_expr;
+use crate::label::put_labels;
+use crate::pass::{pass_stmts, pass_unlabelled};
+use crate::statement::emit_stmts;
+use alma_base::NoMemory;
+use alma_code::Instr;
+use alma_emit_parts::{Labels, Scene, Work, take_labels};
+use alma_ir::{CaseArm, Expr, Stmt};
+
+// The number of the fault NoCase.
+const NO_CASE: u32 = 5;
+
+// CASE.
+#[cycle(emit)]
+pub(crate) fn emit_case(
+    work: &mut Work,
+    scene: &Scene<'_>,
+    line: u32,
+    value: &Expr,
+    arms: &[CaseArm],
+    rest: &Option<Vec<Stmt>>,
+) -> Result<(), NoMemory>
+    ensures puts { OnOk result (PutsStmt (around scene.now) line
+        (front work.old) (front work.new) (tree.Case (expr_of value.now) (cases_list arms.now) (else_option rest.now))) }
+{
+    let value = emit_expr(work, scene, line, value)?;
+    let labels = take_labels(work, value)?;
+    emit_all_arms(work, scene, line, labels, arms, rest)
+}
+
+// The arms of CASE, of which those before the first that has a label have no code.
+#[cycle(emit)]
+fn emit_all_arms(
+    work: &mut Work,
+    scene: &Scene<'_>,
+    line: u32,
+    labels: Labels,
+    arms: &[CaseArm],
+    rest: &Option<Vec<Stmt>>,
+) -> Result<(), NoMemory>
+    ensures puts { labels.test ≡ labels.bound + 1 → OnOk result (PutsAllArms (around scene.now) line
+        labels.value labels.bound (front work.old) (front work.new) (cases_list arms.now)
+        (else_option rest.now)) }
+{
+    let first = pass_unlabelled(work, arms)?;
+    if first >= arms.len() {
+        return emit_else(work, scene, line, rest);
+    }
+    emit_labelled(work, scene, line, labels, &arms[first..], rest)
+}
+
+// The arms of CASE, of which the first has a label: it leaves over all, the others by its jump.
+#[cycle(emit)]
+fn emit_labelled(
+    work: &mut Work,
+    scene: &Scene<'_>,
+    line: u32,
+    labels: Labels,
+    arms: &[CaseArm],
+    rest: &Option<Vec<Stmt>>,
+) -> Result<(), NoMemory>
+    ensures puts { labels.test ≡ labels.bound + 1 → OnOk result (PutsAllArms (around scene.now) line
+        labels.value labels.bound (front work.old) (front work.new) (cases_list arms.now)
+        (else_option rest.now)) }
+{
+    if arms.is_empty() {
+        return Err(NoMemory);
+    }
+    emit_case_arm(work, scene, line, labels, &arms[0])?;
+    let exit = work.put(line, Instr::Jump { to: 0 })?;
+    emit_cases(work, scene, line, labels, exit, &arms[1..])?;
+    emit_else(work, scene, line, rest)?;
+    work.aim_behind(exit, 0)
+}
+
+// The arms of CASE behind the first that has a label.
+#[cycle(emit)]
+fn emit_cases(
+    work: &mut Work,
+    scene: &Scene<'_>,
+    line: u32,
+    labels: Labels,
+    exit: u32,
+    arms: &[CaseArm],
+) -> Result<(), NoMemory>
+    ensures puts { labels.test ≡ labels.bound + 1 → OnOk result (PutsCases (around scene.now) line
+        labels.value labels.bound exit (front work.old) (front work.new) (cases_list arms.now)) }
+{
+    for arm in arms {
+        emit_next_arm(work, scene, line, labels, exit, arm)?;
+    }
+    Ok(())
+}
+
+// An arm of CASE behind the first that has a label.
+#[cycle(emit)]
+fn emit_next_arm(
+    work: &mut Work,
+    scene: &Scene<'_>,
+    line: u32,
+    labels: Labels,
+    exit: u32,
+    arm: &CaseArm,
+) -> Result<(), NoMemory>
+    ensures puts { labels.test ≡ labels.bound + 1 → OnOk result ((c : Front) (rest : CaseArms)
+        → PutsCases (around scene.now) line labels.value labels.bound exit (front work.new) c rest
+        → PutsCases (around scene.now) line labels.value labels.bound exit (front work.old) c
+        (tree.more_cases arm.now.labels.items (stmts_list arm.now.body.items) rest)) }
+{
+    if arm.labels.is_empty() {
+        return pass_stmts(work, &arm.body);
+    }
+    emit_case_arm(work, scene, line, labels, arm)?;
+    work.put(line, Instr::Jump { to: exit })?;
+    Ok(())
+}
+
+// An arm of CASE that has a label.
+#[cycle(emit)]
+fn emit_case_arm(
+    work: &mut Work,
+    scene: &Scene<'_>,
+    line: u32,
+    labels: Labels,
+    arm: &CaseArm,
+) -> Result<(), NoMemory>
+    ensures puts { labels.test ≡ labels.bound + 1 → OnOk result (PutsArmOf (around scene.now) line
+        labels.value labels.bound (front work.old) (front work.new) arm.now.labels.items
+        (stmts_list arm.now.body.items)) }
+{
+    let miss = put_labels(work, line, labels, &arm.labels)?;
+    emit_stmts(work, scene, &arm.body)?;
+    let behind = work.behind(1)?;
+    work.aim(miss.low, behind);
+    work.aim(miss.high, behind);
+    Ok(())
+}
+
+// The ELSE part of CASE.
+#[cycle(emit)]
+fn emit_else(
+    work: &mut Work,
+    scene: &Scene<'_>,
+    line: u32,
+    rest: &Option<Vec<Stmt>>,
+) -> Result<(), NoMemory>
+    ensures puts { OnOk result (PutsElse (around scene.now) line
+        (front work.old) (front work.new) (else_option rest.now)) }
+{
+    match rest {
+        Some(body) => emit_stmts(work, scene, body),
+        None => {
+            work.put(line, Instr::Fault { number: NO_CASE })?;
+            Ok(())
+        }
+    }
+}

@@ -1,0 +1,79 @@
+// The code of conditions.
+ghost use Rattle.std.specs.Prelude.{◌≡◌, true, false, IfOk, OnOk};
+ghost use Rattle.alma_ir.specs.View.{test_of};
+ghost use Rattle.alma_choice.specs.Emitted.{aimed};
+ghost use Rattle.alma_templates.specs.Slots.{is_simple};
+ghost use Rattle.alma_emit_parts.specs.Front.{around, front};
+ghost use Rattle.alma_emit_parts.specs.Puts.{PutsGuard};
+
+use crate::expression::emit_value;
+use crate::test::emit_test;
+use alma_base::NoMemory;
+use alma_code::Instr;
+use alma_emit_parts::{Scene, Work, begin_first, is_simple};
+use alma_ir::Test;
+
+// A condition; the address of the jump where it has no alternative, which is still to be aimed.
+#[cycle(emit)]
+pub(crate) fn emit_guard(
+    work: &mut Work,
+    scene: &Scene<'_>,
+    line: u32,
+    test: &Test,
+) -> Result<u32, NoMemory>
+    ensures guard { IfOk result (λ jump. PutsGuard (around scene.now) line (front work.old)
+        (front work.new) (λ to xs. aimed xs jump to) (test_of test.now)) }
+{
+    if is_plain(test) {
+        emit_simple(work, scene, line, test)
+    } else {
+        emit_barrier(work, scene, line, test)
+    }
+}
+
+// Whether a condition is tested by a jump.
+#[tactic(auto, using(alma_ir::proofs::Views::viewed))]
+fn is_plain(test: &Test) -> bool
+    ensures { result ≡ is_simple (test_of test.now) }
+{
+    match test {
+        Test::Value(value) => is_simple(value),
+        Test::Bind(_, _, _, _) => false,
+        Test::Unify(_, _, _, _) => false,
+        Test::SameCells(_, _) => false,
+        Test::Seq(_) => false,
+        Test::And(_) => false,
+        Test::Or(_) => false,
+        Test::Not(_) => false,
+        Test::Call(_) => false,
+    }
+}
+
+// A condition that is tested by a jump.
+#[cycle(emit)]
+fn emit_simple(work: &mut Work, scene: &Scene<'_>, line: u32, test: &Test) -> Result<u32, NoMemory>
+    ensures guard { is_simple (test_of test.now) ≡ true → IfOk result (λ jump. PutsGuard
+        (around scene.now) line (front work.old) (front work.new) (λ to xs. aimed xs jump to)
+        (test_of test.now)) }
+{
+    match test {
+        Test::Value(value) => {
+            let value = emit_value(work, scene, line, value)?;
+            work.put(line, Instr::JumpZero { value, to: 0 })
+        }
+        _ => Err(NoMemory),
+    }
+}
+
+// A condition behind a mark, of which the first alternative is taken.
+#[cycle(emit)]
+fn emit_barrier(work: &mut Work, scene: &Scene<'_>, line: u32, test: &Test) -> Result<u32, NoMemory>
+    ensures guard { is_simple (test_of test.now) ≡ false → IfOk result (λ jump. PutsGuard
+        (around scene.now) line (front work.old) (front work.new) (λ to xs. aimed xs jump to)
+        (test_of test.now)) }
+{
+    let (mark, choice) = begin_first(work, line)?;
+    emit_test(work, scene, line, test)?;
+    work.put(line, Instr::Cut { mark })?;
+    Ok(choice)
+}

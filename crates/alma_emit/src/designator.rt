@@ -1,0 +1,149 @@
+// The code of designators.
+ghost use Rattle.std.specs.Prelude.{◌≡◌, IfOk, OnOk};
+ghost use Rattle.alma_ir.specs.View.{desig_of, expr_of, sel_of, sels_list};
+ghost use Rattle.alma_ir.specs.Lines.{desig_with, sels_with, sel_with};
+ghost use Rattle.alma_ir.specs.Tree as tree;
+ghost use Rattle.alma_templates.specs.Templates.{place_at, part_at, part_slot};
+ghost use Rattle.alma_emit_parts.specs.Front.{around, front};
+ghost use Rattle.alma_emit_parts.specs.Puts.{PutsDesig, PutsTarget, PutsSels, PutsSel, stand_of};
+
+use crate::expression::emit_value;
+use alma_base::{NoMemory, Range};
+use alma_code::{Instr, SlotKind};
+use alma_emit_parts::{Scene, Stand, Work, own_stand, put_root};
+use alma_ir::{Desig, Expr, Sel};
+
+// The place of a designator.
+#[cycle(emit)]
+pub(crate) fn emit_desig(
+    work: &mut Work,
+    scene: &Scene<'_>,
+    line: u32,
+    desig: &Desig,
+) -> Result<u32, NoMemory>
+    ensures place { IfOk result (λ place. place ≡ place_at (around scene.now).program
+        (around scene.now).tables (around scene.now).routine (front work.old).next (desig_with
+        (desig_of desig.now) (front work.old).lines)) }
+    ensures puts { OnOk result (PutsDesig (around scene.now) line
+        (front work.old) (front work.new) (desig_of desig.now)) }
+{
+    let to = work.slot(SlotKind::Place(desig.cells))?;
+    put_root(work, scene, line, to, desig.root)?;
+    emit_sels(work, scene, line, to, &desig.sels)
+}
+
+// Where a variable stands that is read or written.
+#[cycle(emit)]
+pub(crate) fn emit_target(
+    work: &mut Work,
+    scene: &Scene<'_>,
+    line: u32,
+    desig: &Desig,
+) -> Result<Stand, NoMemory>
+    ensures stand { IfOk result (λ stand. stand ≡ stand_of (around scene.now)
+        (front work.old).next (desig_with (desig_of desig.now) (front work.old).lines)) }
+    ensures puts { OnOk result (PutsTarget (around scene.now) line
+        (front work.old) (front work.new) (desig_of desig.now)) }
+{
+    match own_stand(scene, desig)? {
+        Some(slot) => Ok(Stand::Own(slot)),
+        None => Ok(Stand::Placed(emit_desig(work, scene, line, desig)?)),
+    }
+}
+
+// Selectors, from a place on; the place of the last part.
+#[cycle(emit)]
+fn emit_sels(
+    work: &mut Work,
+    scene: &Scene<'_>,
+    line: u32,
+    from: u32,
+    sels: &[Sel],
+) -> Result<u32, NoMemory>
+    ensures place { IfOk result (λ place. place ≡ part_at (around scene.now).program
+        (around scene.now).tables (around scene.now).routine from (front work.old).next (sels_with
+        (sels_list sels.now) (front work.old).lines)) }
+    ensures puts { OnOk result (PutsSels (around scene.now) line from
+        (front work.old) (front work.new) (sels_list sels.now)) }
+{
+    let mut place = from;
+    for sel in sels {
+        place = emit_sel(work, scene, line, place, sel)?;
+    }
+    Ok(place)
+}
+
+// A selector; the place of its part.
+#[cycle(emit)]
+fn emit_sel(
+    work: &mut Work,
+    scene: &Scene<'_>,
+    line: u32,
+    from: u32,
+    sel: &Sel,
+) -> Result<u32, NoMemory>
+    ensures part { IfOk result (λ part. part ≡ part_slot (around scene.now).program
+        (around scene.now).tables (around scene.now).routine (front work.old).next (sel_with
+        (sel_of sel.now) (front work.old).lines)) }
+    ensures puts { OnOk result (PutsSel (around scene.now) line from
+        (front work.old) (front work.new) (sel_of sel.now)) }
+{
+    match sel {
+        Sel::Field(offset, cells) => emit_field(work, scene, line, from, *offset, *cells),
+        Sel::Index(index, range, cells) => {
+            emit_index(work, scene, line, from, index, *range, *cells)
+        }
+    }
+}
+
+// A field.
+fn emit_field(
+    work: &mut Work,
+    scene: &Scene<'_>,
+    line: u32,
+    from: u32,
+    offset: u32,
+    cells: u32,
+) -> Result<u32, NoMemory>
+    ensures part { IfOk result (λ part. part ≡ part_slot (around scene.now).program
+        (around scene.now).tables (around scene.now).routine (front work.old).next (sel_with
+        (tree.Field offset cells) (front work.old).lines)) }
+    ensures puts { OnOk result (PutsSel (around scene.now) line from
+        (front work.old) (front work.new) (tree.Field offset cells)) }
+{
+    let to = work.slot(SlotKind::Place(cells))?;
+    work.put(line, Instr::Field { to, from, offset })?;
+    Ok(to)
+}
+
+// An element of an array.
+#[cycle(emit)]
+fn emit_index(
+    work: &mut Work,
+    scene: &Scene<'_>,
+    line: u32,
+    from: u32,
+    index: &Expr,
+    range: Range,
+    cells: u32,
+) -> Result<u32, NoMemory>
+    ensures part { IfOk result (λ part. part ≡ part_slot (around scene.now).program
+        (around scene.now).tables (around scene.now).routine (front work.old).next (sel_with
+        (tree.Index (expr_of index.now) range cells) (front work.old).lines)) }
+    ensures puts { OnOk result (PutsSel (around scene.now) line from
+        (front work.old) (front work.new) (tree.Index (expr_of index.now) range cells)) }
+{
+    let index = emit_value(work, scene, line, index)?;
+    let to = work.slot(SlotKind::Place(cells))?;
+    let range = scene.range_number(range)?;
+    work.put(
+        line,
+        Instr::Index {
+            to,
+            from,
+            index,
+            range,
+        },
+    )?;
+    Ok(to)
+}

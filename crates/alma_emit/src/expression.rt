@@ -1,0 +1,186 @@
+// The code of expressions.
+ghost use Rattle.std.specs.Prelude.{◌≡◌, IfOk, OnOk};
+ghost use Rattle.alma_ir.specs.View.{desig_of, expr_of, test_of, links_list};
+ghost use Rattle.alma_ir.specs.Lines.{expr_with};
+ghost use Rattle.alma_ir.specs.Tree as tree;
+ghost use Rattle.alma_emit_parts.specs.Front.{around, front};
+ghost use Rattle.alma_emit_parts.specs.Puts.{PutsExpr, PutsValue, PutsLinks, value_slot};
+
+use crate::call::emit_call_value;
+use crate::condition::emit_guard;
+use crate::designator::{emit_desig, emit_target};
+use alma_base::{NoMemory, Range};
+use alma_code::{Instr, SlotKind};
+use alma_emit_parts::{Scene, Work, op_instr, own_value, put_cmp, put_neg, put_truth};
+use alma_ir::{Cmp, Desig, Expr, Link, Test};
+
+// The numbers of CHAR.
+const CHARS: Range = Range { low: 0, high: 255 };
+
+// An expression, and the slot of its number.
+#[cycle(emit)]
+pub(crate) fn emit_expr(
+    work: &mut Work,
+    scene: &Scene<'_>,
+    line: u32,
+    expr: &Expr,
+) -> Result<u32, NoMemory>
+    ensures slot { IfOk result (λ slot. slot ≡ (front work.old).next) }
+    ensures puts { OnOk result (PutsExpr (around scene.now) line
+        (front work.old) (front work.new) (expr_of expr.now)) }
+{
+    match expr {
+        Expr::Const(value) => emit_const(work, scene, line, *value),
+        Expr::Load(desig) => emit_load(work, scene, line, desig),
+        Expr::Chain(negated, first, links) => {
+            emit_chain(work, scene, line, *negated, first, links)
+        }
+        Expr::Compare(cmp, left, right) => emit_compare(work, scene, line, *cmp, left, right),
+        Expr::Truth(test) => emit_truth(work, scene, line, test),
+        Expr::Known(desig) => emit_known(work, scene, line, desig),
+        Expr::Chr(inner) => emit_chr(work, scene, line, inner),
+        Expr::Call(call) => emit_call_value(work, scene, line, call),
+    }
+}
+
+// A number.
+fn emit_const(work: &mut Work, scene: &Scene<'_>, line: u32, value: i64) -> Result<u32, NoMemory>
+    ensures slot { IfOk result (λ slot. slot ≡ (front work.old).next) }
+    ensures puts { OnOk result (PutsExpr (around scene.now) line
+        (front work.old) (front work.new) (tree.Const value)) }
+{
+    let to = work.slot(SlotKind::Number)?;
+    work.put(line, Instr::Const { to, value })?;
+    Ok(to)
+}
+
+// The number of a variable.
+#[cycle(emit)]
+fn emit_load(work: &mut Work, scene: &Scene<'_>, line: u32, desig: &Desig) -> Result<u32, NoMemory>
+    ensures slot { IfOk result (λ slot. slot ≡ (front work.old).next) }
+    ensures puts { OnOk result (PutsExpr (around scene.now) line
+        (front work.old) (front work.new) (tree.Load (desig_of desig.now))) }
+{
+    let to = work.slot(SlotKind::Number)?;
+    let stand = emit_target(work, scene, line, desig)?;
+    work.put(line, stand.load(to))?;
+    Ok(to)
+}
+
+// A first operand, its sign, and operators with their operands.
+#[cycle(emit)]
+fn emit_chain(
+    work: &mut Work,
+    scene: &Scene<'_>,
+    line: u32,
+    negated: bool,
+    first: &Expr,
+    links: &[Link],
+) -> Result<u32, NoMemory>
+    ensures slot { IfOk result (λ slot. slot ≡ (front work.old).next) }
+    ensures puts { OnOk result (PutsExpr (around scene.now) line
+        (front work.old) (front work.new) (tree.Chain negated (expr_of first.now) (links_list links.now))) }
+{
+    let to = emit_expr(work, scene, line, first)?;
+    put_neg(work, line, negated, to)?;
+    emit_links(work, scene, line, to, links)?;
+    Ok(to)
+}
+
+// Operators and their operands, from left to right.
+#[cycle(emit)]
+fn emit_links(
+    work: &mut Work,
+    scene: &Scene<'_>,
+    line: u32,
+    to: u32,
+    links: &[Link],
+) -> Result<(), NoMemory>
+    ensures puts { OnOk result (PutsLinks (around scene.now) line to
+        (front work.old) (front work.new) (links_list links.now)) }
+{
+    for link in links {
+        let operand = emit_value(work, scene, line, &link.operand)?;
+        work.put(line, op_instr(link.op, to, operand))?;
+    }
+    Ok(())
+}
+
+// A comparison.
+#[cycle(emit)]
+fn emit_compare(
+    work: &mut Work,
+    scene: &Scene<'_>,
+    line: u32,
+    cmp: Cmp,
+    left: &Expr,
+    right: &Expr,
+) -> Result<u32, NoMemory>
+    ensures slot { IfOk result (λ slot. slot ≡ (front work.old).next) }
+    ensures puts { OnOk result (PutsExpr (around scene.now) line
+        (front work.old) (front work.new) (tree.Compare cmp (expr_of left.now) (expr_of right.now))) }
+{
+    let to = emit_expr(work, scene, line, left)?;
+    let other = emit_value(work, scene, line, right)?;
+    put_cmp(work, line, cmp, to, other)?;
+    Ok(to)
+}
+
+// A test as a number.
+#[cycle(emit)]
+fn emit_truth(work: &mut Work, scene: &Scene<'_>, line: u32, test: &Test) -> Result<u32, NoMemory>
+    ensures slot { IfOk result (λ slot. slot ≡ (front work.old).next) }
+    ensures puts { OnOk result (PutsExpr (around scene.now) line
+        (front work.old) (front work.new) (tree.Truth (test_of test.now))) }
+{
+    let to = work.slot(SlotKind::Number)?;
+    let jump = emit_guard(work, scene, line, test)?;
+    work.aim_behind(jump, 2)?;
+    put_truth(work, line, to)?;
+    Ok(to)
+}
+
+// KNOWN.
+#[cycle(emit)]
+fn emit_known(work: &mut Work, scene: &Scene<'_>, line: u32, desig: &Desig) -> Result<u32, NoMemory>
+    ensures slot { IfOk result (λ slot. slot ≡ (front work.old).next) }
+    ensures puts { OnOk result (PutsExpr (around scene.now) line
+        (front work.old) (front work.new) (tree.Known (desig_of desig.now))) }
+{
+    let to = work.slot(SlotKind::Number)?;
+    let of = emit_desig(work, scene, line, desig)?;
+    work.put(line, Instr::Known { to, of })?;
+    Ok(to)
+}
+
+// CHR.
+#[cycle(emit)]
+fn emit_chr(work: &mut Work, scene: &Scene<'_>, line: u32, inner: &Expr) -> Result<u32, NoMemory>
+    ensures slot { IfOk result (λ slot. slot ≡ (front work.old).next) }
+    ensures puts { OnOk result (PutsExpr (around scene.now) line
+        (front work.old) (front work.new) (tree.Chr (expr_of inner.now))) }
+{
+    let value = emit_expr(work, scene, line, inner)?;
+    let range = scene.range_number(CHARS)?;
+    work.put(line, Instr::InRange { value, range })?;
+    Ok(value)
+}
+
+// A value that is used at once: a variable of the routine stands for itself.
+#[cycle(emit)]
+pub(crate) fn emit_value(
+    work: &mut Work,
+    scene: &Scene<'_>,
+    line: u32,
+    expr: &Expr,
+) -> Result<u32, NoMemory>
+    ensures value { IfOk result (λ value. value ≡ value_slot (around scene.now)
+        (front work.old).next (expr_with (expr_of expr.now) (front work.old).lines)) }
+    ensures puts { OnOk result (PutsValue (around scene.now) line
+        (front work.old) (front work.new) (expr_of expr.now)) }
+{
+    match own_value(scene, expr)? {
+        Some(slot) => Ok(slot),
+        None => emit_expr(work, scene, line, expr),
+    }
+}

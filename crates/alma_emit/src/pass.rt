@@ -1,0 +1,48 @@
+// Lines that are passed over: those of statements that are emitted elsewhere, or not at all.
+ghost use Rattle.std.specs.Prelude.{◌≡◌, ℕ, drop, length, IfOk, OnOk};
+ghost use Rattle.alma_ir.specs.Lines.{behind};
+ghost use Rattle.alma_ir.specs.Phrases.{desig_phrases, stmts_phrases};
+ghost use Rattle.alma_ir.specs.Tree.{Else};
+ghost use Rattle.alma_ir.specs.View.{cases_list, desig_of, stmts_list};
+ghost use Rattle.alma_emit_parts.specs.Front.{Around, Front, front, Turns};
+ghost use Rattle.alma_emit.specs.Cases.{PutsAllArms};
+
+use alma_base::NoMemory;
+use alma_emit_parts::Work;
+use alma_ir::{CaseArm, Desig, Stmt};
+use alma_passed::{desig_inside, stmts_inside};
+
+// Passes the lines of the statements inside a designator.
+pub(crate) fn pass_desig(work: &mut Work, desig: &Desig) -> Result<(), NoMemory>
+    ensures { OnOk result (Turns (front work.old) (front work.new)
+        (behind (desig_phrases (desig_of desig.now)) (front work.old).lines)) }
+{
+    let count = desig_inside(desig)?;
+    work.pass(count)
+}
+
+// Passes the lines of statements.
+pub(crate) fn pass_stmts(work: &mut Work, body: &[Stmt]) -> Result<(), NoMemory>
+    ensures { OnOk result (Turns (front work.old) (front work.new)
+        (behind (stmts_phrases (stmts_list body.now)) (front work.old).lines)) }
+{
+    let count = stmts_inside(body)?;
+    work.pass(count)
+}
+
+// Passes the arms of CASE before the first that has a label; its place.
+pub(crate) fn pass_unlabelled(work: &mut Work, arms: &[CaseArm]) -> Result<usize, NoMemory>
+    ensures { IfOk result (λ first. (s : Around) (line value bound : ℕ) (c : Front) (rest : Else)
+        → PutsAllArms s line value bound (front work.new) c (cases_list (drop first arms.now)) rest
+        → PutsAllArms s line value bound (front work.old) c (cases_list arms.now) rest) }
+{
+    let mut first = 0;
+    for arm in arms {
+        if !arm.labels.is_empty() {
+            return Ok(first);
+        }
+        pass_stmts(work, &arm.body)?;
+        first += 1;
+    }
+    Ok(first)
+}

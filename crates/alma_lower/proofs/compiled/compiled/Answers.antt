@@ -1,0 +1,20 @@
+use Rattle.std.proofs.Common.{refl, ◌∙◌, ap}
+use Rattle.alma_ir.specs.View.{program_of}
+use Rattle.alma_templates.specs.Lined as lines
+use Rattle.alma_lower.proofs.Finishing.{is_code_of, has_long_runs, holds_each_once}
+use Rattle.alma_lower.proofs.compiled.compiled.Goals as goal
+
+pub returns-clause-code : goal.returns-clause-code
+returns-clause-code c =
+    let made = c.in_ok-lower_routines.ensures in
+    is_code_of (program_of c.args.program.now) _ _ refl made.heads c.in_ok-globals_of.ensures c.in_ok-all_ranges.ensures c.in_ok-all_texts.ensures (c.in_ok-instrs_of.ensures ∙ ap lines.instrs_of made.code) (c.in_ok-lines_of.ensures ∙ ap lines.lines_of made.code) c.in_ok-gather.ensures.holds
+
+pub returns-clause-runs : goal.returns-clause-runs
+returns-clause-runs c =
+    let made = c.in_ok-lower_routines.ensures in
+    has_long_runs (program_of c.args.program.now) _ _ refl made.heads c.in_ok-globals_of.ensures c.in_ok-all_ranges.ensures c.in_ok-all_texts.ensures (c.in_ok-instrs_of.ensures ∙ ap lines.instrs_of made.code) (c.in_ok-lines_of.ensures ∙ ap lines.lines_of made.code) c.in_ok-gather.ensures.holds
+
+pub returns-clause-once : goal.returns-clause-once
+returns-clause-once c =
+    let made = c.in_ok-lower_routines.ensures in
+    holds_each_once (program_of c.args.program.now) _ _ refl made.heads c.in_ok-globals_of.ensures c.in_ok-all_ranges.ensures c.in_ok-all_texts.ensures (c.in_ok-instrs_of.ensures ∙ ap lines.instrs_of made.code) (c.in_ok-lines_of.ensures ∙ ap lines.lines_of made.code) c.in_ok-gather.ensures.ranges c.in_ok-gather.ensures.texts
