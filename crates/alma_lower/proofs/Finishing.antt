@@ -26,7 +26,7 @@ module _ (p : Program) (t : Tables) (code : PlainCode) (version : code.version �
       ∙ ap (λ x. record { version = 2; routines = routines_named p t 0 0 (runs_in code.routines); globals = map global_named p.globals; ranges = t.ranges; texts = t.texts; instrs = x; lines = code.lines }) instrs
       ∙ ap (λ x. record { version = 2; routines = routines_named p t 0 0 (runs_in code.routines); globals = map global_named p.globals; ranges = t.ranges; texts = t.texts; instrs = instrs_of all; lines = x }) lines
 
-  abbrev pub is_code_of : HoldsAllOf p t → IsCodeOf p code
+  pub is_code_of : HoldsAllOf p t → IsCodeOf p code
   is_code_of held = record {
     tables = t;
     held = held;

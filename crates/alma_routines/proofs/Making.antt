@@ -120,7 +120,7 @@ get_front [] ys d i lt = absurd (omega (arith, lt))
 get_front (x ∷ xs) ys d zero lt = refl
 get_front (x ∷ xs) ys d (suc i) lt = get_front xs ys d i (omega (arith, lt))
 
-length_runs : (made : List PlainRoutine) → length (runs_in made) ≡ length made
+pub length_runs : (made : List PlainRoutine) → length (runs_in made) ≡ length made
 length_runs [] = refl
 length_runs (x ∷ made) = ap suc (length_runs made)
 

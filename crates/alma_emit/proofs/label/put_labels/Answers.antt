@@ -1,4 +1,4 @@
-use Rattle.std.proofs.Common.{◌≡◌, ◌∙◌, suc, ◌+◌, ◌-◌, ◌*◌, ◌<◌, [], ◌∷◌, pos, length, drop, get_or, refl, ap, sym, subst, arith, length-drop, drop-cons, add-one}
+use Rattle.std.proofs.Common.{◌≡◌, ◌∙◌, suc, ◌+◌, ◌-◌, ◌*◌, ◌<◌, ◌≤◌, [], ◌∷◌, pos, length, drop, get_or, refl, ap, sym, subst, arith, length-drop, drop-cons, add-one}
 use Rattle.std.proofs.Math.ListN.{drop_of_length-le}
 use Rattle.alma_base.specs.declared.number.Range.{Range}
 use Rattle.alma_choice.specs.Emitted.{aimed}
@@ -31,8 +31,9 @@ returns-clause-holes c = λ test.
     let xs = c.args.ranges.now in
     let at : l.i ≡ length xs - 1 = omega (arith, c.loop-i-test.false, c.loop-i.auto.i-end) in
     let lt : length xs - 1 < length xs = omega (arith, some_elements _ c.if-is_empty.ensures) in
-    let none : drop (suc (length xs - 1)) xs ≡ [] = drop_of_length-le xs (omega arith) in
+    let le : length xs ≤ suc (length xs - 1) = omega arith in
+    let none : drop (suc (length xs - 1)) xs ≡ [] = drop_of_length-le xs le in
     let one : drop l.i xs ≡ get_or xs (length xs - 1) no_range ∷ [] = ap (λ n. drop n xs) at ∙ drop-cons xs (length xs - 1) no_range lt ∙ ap (λ ys. get_or xs (length xs - 1) no_range ∷ ys) none in
     if_ok c.put_last_label.result (λ miss h. holes_as _ _ _ _ _ _ (λ to xs. aimed (aimed xs miss.low to) miss.high to) _ _
     (l.invariant test _ (λ to xs. aimed (aimed xs miss.low to) miss.high to) (subst (λ z. Holes (front l.work) (front c.put_last_label.new.work) (λ to xs. aimed (aimed xs miss.low to) miss.high to) (λ none at lo ls. own c.args.line (all_labels c.args.labels.value c.args.labels.bound at c.in_ok-hit.hit none z)) (λ ls. []) (λ ls. ls)) (sym one) h))
-    (λ to. ap (λ n. own c.args.line (all_labels c.args.labels.value c.args.labels.bound _ n to xs)) c.in_ok-hit.ensures) refl refl) (c.put_last_label.ensures test)
+    (λ to. ap (λ n. own c.args.line (all_labels c.args.labels.value c.args.labels.bound (length (front c.args.work.now).code) n to xs)) c.in_ok-hit.ensures) refl refl) (c.put_last_label.ensures test)

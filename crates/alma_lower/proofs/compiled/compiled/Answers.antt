@@ -6,15 +6,15 @@ use Rattle.alma_lower.proofs.compiled.compiled.Goals as goal
 
 pub returns-clause-code : goal.returns-clause-code
 returns-clause-code c =
-    let made = c.in_ok-lower_routines.ensures in
-    is_code_of (program_of c.args.program.now) _ _ refl made.heads c.in_ok-globals_of.ensures c.in_ok-all_ranges.ensures c.in_ok-all_texts.ensures (c.in_ok-instrs_of.ensures ∙ ap lines.instrs_of made.code) (c.in_ok-lines_of.ensures ∙ ap lines.lines_of made.code) c.in_ok-gather.ensures.holds
+    let made = c.in_ok-made.ensures in
+    is_code_of (program_of c.args.program.now) _ _ refl made.heads c.in_ok-globals.ensures c.in_ok-ranges.ensures c.in_ok-texts.ensures (c.in_ok-code.ensures ∙ ap lines.instrs_of made.code) (c.in_ok-lines.ensures ∙ ap lines.lines_of made.code) c.in_ok-numbers.ensures.holds
 
 pub returns-clause-runs : goal.returns-clause-runs
 returns-clause-runs c =
-    let made = c.in_ok-lower_routines.ensures in
-    has_long_runs (program_of c.args.program.now) _ _ refl made.heads c.in_ok-globals_of.ensures c.in_ok-all_ranges.ensures c.in_ok-all_texts.ensures (c.in_ok-instrs_of.ensures ∙ ap lines.instrs_of made.code) (c.in_ok-lines_of.ensures ∙ ap lines.lines_of made.code) c.in_ok-gather.ensures.holds
+    let made = c.in_ok-made.ensures in
+    has_long_runs (program_of c.args.program.now) _ _ refl made.heads c.in_ok-globals.ensures c.in_ok-ranges.ensures c.in_ok-texts.ensures (c.in_ok-code.ensures ∙ ap lines.instrs_of made.code) (c.in_ok-lines.ensures ∙ ap lines.lines_of made.code) c.in_ok-numbers.ensures.holds
 
 pub returns-clause-once : goal.returns-clause-once
 returns-clause-once c =
-    let made = c.in_ok-lower_routines.ensures in
-    holds_each_once (program_of c.args.program.now) _ _ refl made.heads c.in_ok-globals_of.ensures c.in_ok-all_ranges.ensures c.in_ok-all_texts.ensures (c.in_ok-instrs_of.ensures ∙ ap lines.instrs_of made.code) (c.in_ok-lines_of.ensures ∙ ap lines.lines_of made.code) c.in_ok-gather.ensures.ranges c.in_ok-gather.ensures.texts
+    let made = c.in_ok-made.ensures in
+    holds_each_once (program_of c.args.program.now) _ _ refl made.heads c.in_ok-globals.ensures c.in_ok-ranges.ensures c.in_ok-texts.ensures (c.in_ok-code.ensures ∙ ap lines.instrs_of made.code) (c.in_ok-lines.ensures ∙ ap lines.lines_of made.code) c.in_ok-numbers.ensures.ranges c.in_ok-numbers.ensures.texts

@@ -10,12 +10,12 @@ use Rattle.alma_templates.proofs.Sizes.{code_is_short}
 use Rattle.alma_lower.proofs.lowering.lower.Goals as goal
 
 pub returns-in-Ok-clause-implements : goal.returns-in-Ok-clause-implements
-returns-in-Ok-clause-implements c = code_implements _ _ c.requires c.in-Ok.ensures.integers c.in-Ok.ensures.code
+returns-in-Ok-clause-implements c = code_implements _ _ c.requires.checked c.in-Ok.ensures.integers c.in-Ok.ensures.code
 
 pub returns-in-Ok-clause-sound : goal.returns-in-Ok-clause-sound
 returns-in-Ok-clause-sound c =
     let small : 16 * nodes (program_of c.args.program.now) ≤ 4194304 = omega (arith, c.if-size-gt-SIZE_LIMIT.false, c.size-size.ensures) in
-    code_is_sound _ _ c.requires c.in-Ok.ensures.code c.in-Ok.ensures.runs small
+    code_is_sound _ _ c.requires.checked c.in-Ok.ensures.code c.in-Ok.ensures.runs small
 
 pub returns-in-Ok-clause-version : goal.returns-in-Ok-clause-version
 returns-in-Ok-clause-version c = code_keeps_version _ _ c.in-Ok.ensures.code
@@ -23,13 +23,13 @@ returns-in-Ok-clause-version c = code_keeps_version _ _ c.in-Ok.ensures.code
 pub returns-in-Ok-clause-counts : goal.returns-in-Ok-clause-counts
 returns-in-Ok-clause-counts c =
     let small : 16 * nodes (program_of c.args.program.now) ≤ 4194304 = omega (arith, c.if-size-gt-SIZE_LIMIT.false, c.size-size.ensures) in
-    code_keeps_counts _ _ c.requires c.in-Ok.ensures.code c.in-Ok.ensures.runs c.in-Ok.ensures.once small
+    code_keeps_counts _ _ c.requires.checked c.in-Ok.ensures.code c.in-Ok.ensures.runs c.in-Ok.ensures.once small
 
 pub returns-in-Ok-clause-records : goal.returns-in-Ok-clause-records
-returns-in-Ok-clause-records c = code_keeps_records _ _ c.requires c.in-Ok.ensures.code c.in-Ok.ensures.runs c.in-Ok.ensures.once
+returns-in-Ok-clause-records c = code_keeps_records _ _ c.requires.checked c.in-Ok.ensures.code c.in-Ok.ensures.runs c.in-Ok.ensures.once
 
 pub returns-in-Ok-clause-reads : goal.returns-in-Ok-clause-reads
 returns-in-Ok-clause-reads c = λ labels. reads_alike _ _ c.in-Ok.ensures.code labels
 
 pub returns-in-Ok-clause-few : goal.returns-in-Ok-clause-few
-returns-in-Ok-clause-few c = code_is_short _ _ c.requires c.in-Ok.ensures.code
+returns-in-Ok-clause-few c = code_is_short _ _ c.requires.checked c.in-Ok.ensures.code
