@@ -1,8 +1,7 @@
 -- Labels of CASE, as alma_sound asks for them.
-use Rattle.std.proofs.Common.{◌≡◌, ℕ, zero, suc, ◌<◌, List, [], ◌∷◌, length, get_or, Some, arith}
-use Rattle.std.specs.List.{AllByRecursion}
+use Rattle.std.proofs.Common.{◌≡◌, ℕ, List, [], ◌∷◌, Some}
 use Rattle.alma_scan.specs.Tokens.{Lexeme}
-use Rattle.alma_ir.specs.Tree.{CaseArms, no_cases, more_cases, Case, Program, Routine, no_routine, routine_at}
+use Rattle.alma_ir.specs.Tree.{CaseArms, no_cases, more_cases, Case, Program, routine_at}
 use Rattle.alma_ir.specs.Phrases.{Phrase, StmtPhrase, stmts_phrases}
 use Rattle.alma_ir.proofs.Each.{each_follows}
 use Rattle.alma_rules.specs.Numbered as tree

@@ -1,6 +1,6 @@
 -- The bodies of all routines of a resolved program fit their places.
-use Rattle.std.proofs.Common.{◌≡◌, inl, inr, ℕ, zero, suc, ◌+◌, ◌-◌, ◌<◌, ◌≤◌, Bool, true, false, List, [], ◌∷◌, ◌++◌, length, get_or, Option, None, Some, refl, sym, ap, ◌∙◌, subst, arith, append_assoc, length-append}
-use Rattle.std.specs.Prelude.{sum_by, option_map, unwrap_or, IsSome, IsNone}
+use Rattle.std.proofs.Common.{◌≡◌, inl, inr, ℕ, zero, suc, ◌+◌, ◌-◌, ◌<◌, ◌≤◌, false, List, [], ◌∷◌, ◌++◌, length, get_or, Option, None, Some, refl, sym, ap, ◌∙◌, subst, arith, append_assoc, length-append}
+use Rattle.std.specs.Prelude.{sum_by, unwrap_or, IsSome, IsNone}
 use Rattle.std.specs.List.{AllByRecursion}
 use Rattle.alma_base.specs.declared.number.Range.{Range}
 use Rattle.alma_base.specs.Limits.{cell_limit}
@@ -10,7 +10,7 @@ use Rattle.alma_ir.specs.declared.program.Param.{Param}
 use Rattle.alma_ir.specs.Tree as ir
 use Rattle.alma_ir.specs.Tree.{Program, Routine, no_routine, routine_at}
 use Rattle.alma_ir.specs.Phrases.{stmts_phrases}
-use Rattle.alma_ir.specs.Checked.{param_slots, IsOrdered, HeadRangesOrdered, outer_at}
+use Rattle.alma_ir.specs.Checked.{param_slots, IsOrdered, outer_at}
 use Rattle.alma_rules.specs.Numbered as tree
 use Rattle.alma_rules.specs.Scene.{Scene, Heading, FormalOf, Returns, nothing, a_value}
 use Rattle.alma_rules.specs.Types.{read_type_name}
@@ -35,7 +35,7 @@ use Rattle.alma_resolved_whole.proofs.Entries.{cells_declared, owner, RoutineKee
 use Rattle.alma_resolved_whole.proofs.FramesKeep.{FrameKeeps}
 use Rattle.alma_resolved_whole.proofs.HeadsKeep.{HeadPlain}
 use Rattle.alma_resolved_whole.proofs.HeadCells.{head_cells, decls_small}
-use Rattle.alma_resolved_whole.proofs.HeadScenes.{Steady, formals_same, block_same, head_shapes, head_inside, returns_of, head_returns}
+use Rattle.alma_resolved_whole.proofs.HeadScenes.{formals_same, block_same, head_shapes, head_inside, returns_of, head_returns}
 use Rattle.alma_resolved_whole.proofs.DeclsKeep.{longer_moved, ProcPlain, ProcsPlain, decls_keep}
 use Rattle.alma_resolved_whole.proofs.Fitting.{Sits, scene_fits}
 use Rattle.alma_resolved_whole.proofs.BlocksMade.{Numbered, numbered_front, numbered_back, first_numbered, decl_count, decl_long, moved_routine, moved_returns, moved_inside, block_own, block_procs, procs_given}

@@ -1,25 +1,24 @@
 -- What the blocks of a tree make: as many routines as they have procedures, each inside the one round it, with the parameters of its heading.
-use Rattle.std.proofs.Common.{◌≡◌, ◌⊎◌, inl, inr, ℕ, zero, suc, ◌+◌, ◌-◌, ◌<◌, ◌≤◌, List, [], ◌∷◌, ◌++◌, length, get_or, Option, None, Some, refl, sym, ap, ◌∙◌, subst, arith, append_assoc, length-append}
-use Rattle.std.specs.Prelude.{option_map, IsSome, IsNone}
+use Rattle.std.proofs.Common.{◌≡◌, ◌⊎◌, inl, inr, ℕ, ◌+◌, ◌-◌, ◌<◌, ◌≤◌, List, [], ◌∷◌, ◌++◌, length, get_or, Option, None, Some, refl, sym, ap, ◌∙◌, subst, arith, append_assoc, length-append}
+use Rattle.std.specs.Prelude.{IsSome, IsNone}
 use Rattle.alma_names.specs.Shapes.{PlainShape}
-use Rattle.alma_ir.specs.Tree as ir
 use Rattle.alma_ir.specs.Tree.{Program, Routine, no_routine, routine_at}
 use Rattle.alma_rules.specs.Numbered as tree
-use Rattle.alma_rules.specs.Scene.{Scene, Heading, Returns, nothing, a_value}
+use Rattle.alma_rules.specs.Scene.{Scene, Heading, nothing, a_value}
 use Rattle.alma_rules.specs.Types.{read_type_name}
 use Rattle.alma_rules.specs.Decls.{Frame, block_routines, decls_routines, decl_routines, decls_names, formal_names, formals_of, read_formals, read_heading, read_decls}
 use Rattle.alma_rules.specs.Modules.{result_in, judge_body, routine_of, frame_of, with_shapes, judge_block, judge_bodies, judge_decl, cons_routine, joined_routines, body_lines}
 use Rattle.alma_rules.proofs.Sound.{IsThere, nil_left, nil_right}
 use Rattle.alma_resolved.specs.Stand.{DeclsStand, DeclStands, BlockStands}
 use Rattle.alma_resolved.proofs.Lookups.{Each, NotBad, Headed, each_follows_from}
-use Rattle.alma_resolved.proofs.HeadsSound.{HeadThere, first_frame, head_headings, head_routine}
-use Rattle.alma_resolved.proofs.DeclsSound.{Moved, block_headings, block_routine, from_zero, IsProcHere, IsProc, IsProcIn, ProcThere, ProcsThere, decls_read}
+use Rattle.alma_resolved.proofs.HeadsSound.{HeadThere, first_frame, head_headings}
+use Rattle.alma_resolved.proofs.DeclsSound.{Moved, block_headings, from_zero, IsProcHere, IsProc, IsProcIn, ProcThere, ProcsThere, decls_read}
 use Rattle.alma_resolved.proofs.ModuleSound.{Awaits, AwaitsIn, awaits_not_bad, all_headed, procs_shapes, opened}
 use Rattle.alma_resolved.proofs.FramesKept.{parts}
 use Rattle.alma_resolved.proofs.Slots.{decls_steps}
 use Rattle.alma_resolved_whole.proofs.Entries.{Longer, longer_same, longer_twice}
 use Rattle.alma_resolved_whole.proofs.HeadScenes.{head_shapes, returns_of, head_returns}
-use Rattle.alma_resolved_whole.proofs.DeclsKeep.{longer_moved, ResultGiven, HeadGiven, ProcGiven, ProcsGiven}
+use Rattle.alma_resolved_whole.proofs.DeclsKeep.{longer_moved, ResultGiven, ProcGiven, ProcsGiven}
 
 -- ---- routines by their numbers
 

@@ -1,5 +1,5 @@
 -- A program that fits keeps the conditions of alma_ir on phrases, loops and the ranges of headings.
-use Rattle.std.proofs.Common.{◌≡◌, ◌⊎◌, inl, inr, ℕ, suc, ◌+◌, ◌<◌, ◌≤◌, Bool, false, List, [], ◌∷◌, length, refl, sym, ap, ◌∙◌, subst, arith}
+use Rattle.std.proofs.Common.{inr, ℕ, ◌+◌, ◌<◌, ◌≤◌, Bool, false, List, [], ◌∷◌, length, ap, arith}
 use Rattle.std.specs.Prelude.{sum_by}
 use Rattle.std.specs.List.{AllByRecursion}
 use Rattle.std.proofs.lemmas.List.Sums.{sum_by-cons}
@@ -13,7 +13,7 @@ use Rattle.alma_resolved.specs.Fits.{LoopFits, Fits}
 use Rattle.alma_resolved.specs.Frames.{KeepsFrames}
 use Rattle.alma_resolved.specs.Keeps.{KeepsPhrase}
 use Rattle.alma_resolved.proofs.Checks.{phrase_keeps}
-use Rattle.alma_resolved_whole.specs.Whole.{KeepsSlots, place, RoutineFits, ProgramFits}
+use Rattle.alma_resolved_whole.specs.Whole.{KeepsSlots, place, ProgramFits}
 
 -- ---- phrases
 

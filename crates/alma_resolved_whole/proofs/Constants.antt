@@ -1,15 +1,15 @@
 -- An expression with a constant value is of a simple type, where each constant that has a name is.
-use Rattle.std.proofs.Common.{◌≡◌, ℕ, ◌<◌, ℤ, Bool, true, false, List, [], ◌∷◌, Option, None, Some, refl, arith}
-use Rattle.std.specs.Prelude.{option_map, option_and_then}
+use Rattle.std.proofs.Common.{◌≡◌, ℕ, ◌<◌, ℤ, false, List, [], ◌∷◌, Option, None, Some, arith}
+use Rattle.std.specs.Prelude.{option_map}
 use Rattle.alma_tree.specs.declared.leaf.Sign.{Sign}
 use Rattle.alma_ir.specs.Tree as ir
 use Rattle.alma_rules.specs.Numbered as tree
-use Rattle.alma_rules.specs.Judged.{Judged, unless, both_of, and_then}
+use Rattle.alma_rules.specs.Judged.{Judged, unless, both_of}
 use Rattle.alma_rules.specs.Scene.{Scene, Found, absent, bad, constant, named, variable, routine, found, is_structured, inside_of, text_at, row_at, literal_at}
-use Rattle.alma_rules.specs.Parts.{a_test, Typing, without_place, boolean_typing, Denoted, a_constant, a_variable, a_routine, no_array, denoted, field_of, field_part, select_field, select_in, select_index, typing_in, called, Callee, callee_in, call_typing, related, Operator, arithmetic, logical, Operands, chain_shape, chained}
-use Rattle.alma_rules.specs.ExprRules.{Use, as_value, as_procedure, alone, literal_rules, not_rules, call_rules, Operand, operand_rules, field_rules, array_rules, simple_rules, name_rules, desig_rules}
-use Rattle.alma_rules.specs.Nodes.{is_selected, indexed, judge_name, only_of, or_sequence, in_parens, as_sequence, known_typing, ord_typing, chr_typing, not_typing, argument_count, formals_of, first_mul, first_add}
-use Rattle.alma_rules.specs.Walk.{judge_expr, judge_compared, judge_simple, judge_term, judge_terms, judge_factor, judge_factors, judge_primary, judge_desig, judge_selectors, judge_selector, judge_indices, judge_index_tail, judge_only, judge_value, judge_stmts, judge_arguments}
+use Rattle.alma_rules.specs.Parts.{a_test, Typing, without_place, boolean_typing, Denoted, a_constant, a_variable, a_routine, no_array, denoted, field_of, field_part, select_field, select_in, select_index, typing_in, called, Callee, call_typing, related, arithmetic, logical, Operands, chain_shape, chained}
+use Rattle.alma_rules.specs.ExprRules.{Use, as_value, alone, literal_rules, not_rules, Operand, operand_rules, field_rules, array_rules, simple_rules, name_rules, desig_rules}
+use Rattle.alma_rules.specs.Nodes.{is_selected, indexed, judge_name, only_of, or_sequence, in_parens, as_sequence, known_typing, ord_typing, chr_typing, not_typing, first_add}
+use Rattle.alma_rules.specs.Walk.{judge_expr, judge_simple, judge_term, judge_factor, judge_primary, judge_desig, judge_selectors, judge_selector, judge_indices, judge_index_tail, judge_only, judge_value, judge_stmts}
 use Rattle.alma_resolved.proofs.Fits.{When, when_some, when_none, when_map, when_then, when_node}
 
 -- a constant that a name stands for is of a simple type

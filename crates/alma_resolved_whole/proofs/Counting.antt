@@ -1,25 +1,22 @@
 -- As many statements are among the phrases of a body as the walk over its tokens marks, and each arm of a CASE among them has a label.
-use Rattle.std.proofs.Common.{◌≡◌, ℕ, suc, ◌+◌, ℤ, pos, Bool, true, false, List, [], ◌∷◌, ◌++◌, length, Option, None, Some, refl, sym, ap, ◌∙◌, subst, arith, append_assoc}
-use Rattle.std.specs.Prelude.{nat_eq, option_map, option_and_then, slice_get, drop, option_to_list, if◌then◌else◌}
-use Rattle.std.specs.List.{AllByRecursion}
+use Rattle.std.proofs.Common.{◌≡◌, ℕ, ◌+◌, ℤ, pos, Bool, true, false, List, [], ◌∷◌, ◌++◌, length, Option, None, Some, refl, sym, ap, ◌∙◌, subst, arith, append_assoc}
+use Rattle.std.specs.Prelude.{nat_eq, option_map, option_and_then, slice_get, if◌then◌else◌}
 use Rattle.alma_base.specs.Choice.{if_true}
 use Rattle.alma_base.specs.declared.fault.CheckFault.{CheckFault}
-use Rattle.alma_base.specs.declared.number.Range.{Range}
-use Rattle.alma_tree.specs.declared.leaf.Sign.{Sign}
 use Rattle.alma_ir.specs.Tree as ir
-use Rattle.alma_ir.specs.Phrases.{Phrase, StmtPhrase, stmts_phrases, stmt_phrases, arms_phrases, cases_phrases, else_phrases, branches_phrases, loop_phrases, return_phrases, test_phrases, expr_phrases, arg_phrases, args_phrases, desig_phrases}
+use Rattle.alma_ir.specs.Phrases.{stmts_phrases, stmt_phrases, arms_phrases, cases_phrases, else_phrases, branches_phrases, loop_phrases, test_phrases, expr_phrases, arg_phrases, args_phrases}
 use Rattle.alma_rules.specs.Numbered as tree
-use Rattle.alma_rules.specs.Judged.{Judged, fine, at_node, with, unless, both_of, both, and_then}
+use Rattle.alma_rules.specs.Judged.{Judged, fine, at_node, with, unless, both_of}
 use Rattle.alma_rules.specs.Scene.{Scene, FormalOf, Found, absent, bad, constant, named, variable, routine, found, is_structured, range, in_constant, inside_of, text_at, literal_at}
 use Rattle.alma_rules.specs.Parts.{Meaning, a_place, plain, a_test, Typing, value_of, test_of, without_place, boolean_typing, Located, desig_of, Denoted, denoted, select_field, located_in, typing_in, callee_in, argument_of, Callee, called, Operands, joined_stmts, append_stmts, one_stmt, assigned, assigned_to, read_as, read_stmts, write_as, write_stmts, chained, Span, span_of, ranges_of, append_cases, related, add_operator, mul_operator}
 use Rattle.alma_rules.specs.ExprRules.{Use, as_variable, as_value, as_procedure, desig_rules, field_rules, array_rules, index_rules, Operand, alone, operand_rules, not_rules, chain_rules, literal_rules, simple_rules, known_rules, chr_rules, sequence_rules, relation_rules, test_rules, call_rules, argument_rules, argument_kind, constant_rules}
 use Rattle.alma_rules.specs.StmtRules.{assign_rules, loop_name_rules, loop_rules, by_rules, case_rules, label_rules, return_rules, read_rules, write_rules}
-use Rattle.alma_rules.specs.Nodes.{judge_name, is_selected, indexed, literal_typing, in_parens, as_sequence, or_sequence, only_of, known_typing, ord_typing, chr_typing, not_typing, formals_of, argument_count, called_at, judged_argument, cons_arg, cons_operand, operand_behind, first_add, first_mul, any_or, any_and, one, condition_at, if_of, arms_of, loop_variable, loop_of, loop_at, constant_in, step_at, label_at, cons_span, arm_of, Armed, joined_cases, case_at, read_at, return_at, no_result, bare_return_at, with_line, item_literal, text_rules, item_of}
-use Rattle.alma_rules.specs.Walk.{judge_stmts, judge_stmt_tail, judge_stmt, judge_elsifs, judge_else, judge_by, judge_arm, judge_arm_tail, judge_label, judge_high, judge_labels, judge_case_else, judge_orelses, judge_returned, judge_reads, judge_items, judge_item_tail, judge_line_items, judge_expr, judge_compared, judge_simple, judge_terms, judge_term, judge_factors, judge_factor, judge_primary, judge_only, judge_value, judge_arguments, judge_argument_tail, judge_desig, judge_selectors, judge_selector, judge_indices, judge_index_tail}
+use Rattle.alma_rules.specs.Nodes.{judge_name, indexed, in_parens, as_sequence, or_sequence, only_of, known_typing, ord_typing, chr_typing, not_typing, argument_count, cons_arg, cons_operand, operand_behind, first_add, first_mul, any_or, any_and, if_of, arms_of, loop_variable, loop_of, loop_at, constant_in, cons_span, arm_of, joined_cases, with_line, item_literal, text_rules, item_of}
+use Rattle.alma_rules.specs.Walk.{judge_stmts, judge_stmt_tail, judge_stmt, judge_elsifs, judge_else, judge_by, judge_arm, judge_arm_tail, judge_label, judge_high, judge_labels, judge_case_else, judge_orelses, judge_returned, judge_reads, judge_items, judge_item_tail, judge_line_items, judge_expr, judge_simple, judge_terms, judge_term, judge_factors, judge_factor, judge_primary, judge_only, judge_value, judge_arguments, judge_argument_tail, judge_desig, judge_selectors, judge_selector, judge_indices, judge_index_tail}
 use Rattle.alma_resolved.proofs.Fits.{When, when_some, when_none, when_map, when_then, when_both, when_node, when_weaker}
 use Rattle.alma_resolved.proofs.Scenes.{no_faults_right}
-use Rattle.alma_resolved_whole.proofs.Tallies.{only_tally, first_tally, tally_stmts, tally_stmt_tail, tally_stmt, tally_elsifs, tally_else, tally_by, tally_orelses, tally_returned, tally_desigs, tally_arm, tally_arms, tally_label, tally_high, tally_labels, tally_expr, tally_compared, tally_simple, tally_terms, tally_term, tally_factors, tally_factor, tally_primary, tally_args, tally_exprs, tally_expr_tail, tally_items, tally_item_tail, tally_line_items, tally_desig, tally_selectors, tally_selector, tally_only, tally_value}
-use Rattle.alma_resolved_whole.proofs.Counts.{LabelsIn, LabelsHere, Tally, tally_nil, tally_is, tally_join, stmt_more, expr_more, desig_more, tally_alone, MeaningTally, TypingTally, value_tally, test_tally, without_tally, typing_is, constant_tally, seq_tally, known_tally, ord_tally, chr_tally, not_tally, DenotedTally, denoted_is, name_tally, field_tally, index_tally, DesigTally, bare_end, selected_end, constant_end, typing_tally, LocatedTally, located_tally, callee_tally, call_tally, argument_tally, args_none, args_more, related_tally, OperandsTally, TermTally, operand_sort, operands_none, operands_more, and_joins, or_joins, chain_tally, first_tally_of}
+use Rattle.alma_resolved_whole.proofs.Tallies.{only_tally, first_tally, tally_stmts, tally_stmt_tail, tally_stmt, tally_elsifs, tally_else, tally_by, tally_orelses, tally_returned, tally_desigs, tally_arm, tally_arms, tally_label, tally_high, tally_labels, tally_expr, tally_simple, tally_terms, tally_term, tally_factors, tally_factor, tally_primary, tally_exprs, tally_expr_tail, tally_items, tally_item_tail, tally_line_items, tally_desig, tally_selectors, tally_selector, tally_only, tally_value}
+use Rattle.alma_resolved_whole.proofs.Counts.{LabelsIn, Tally, tally_nil, tally_is, tally_join, stmt_more, expr_more, desig_more, tally_alone, MeaningTally, TypingTally, value_tally, test_tally, without_tally, typing_is, constant_tally, seq_tally, known_tally, ord_tally, chr_tally, not_tally, DenotedTally, denoted_is, name_tally, field_tally, index_tally, DesigTally, bare_end, selected_end, constant_end, typing_tally, LocatedTally, located_tally, callee_tally, call_tally, argument_tally, args_none, args_more, related_tally, OperandsTally, TermTally, operand_sort, operands_none, operands_more, and_joins, or_joins, chain_tally, first_tally_of}
 
 anything : {A : Type 0} (v : Option A) → When v (λ x. Unit {0})
 anything None = when_none

@@ -1,8 +1,7 @@
 -- How many statements there are among the phrases of expressions and designators, and that each arm of a CASE among them has a label.
-use Rattle.std.proofs.Common.{◌≡◌, ℕ, suc, ◌+◌, ℤ, Bool, true, false, List, [], ◌∷◌, ◌++◌, Option, None, Some, refl, sym, ap, ◌∙◌, subst, arith, append_assoc}
-use Rattle.std.specs.Prelude.{not, ◌&&◌, ◌||◌, option_map, option_and_then, if◌then◌else◌}
+use Rattle.std.proofs.Common.{◌≡◌, ℕ, ◌+◌, ℤ, Bool, true, false, List, [], ◌∷◌, ◌++◌, Option, None, Some, refl, sym, ◌∙◌, subst, arith}
+use Rattle.std.specs.Prelude.{◌&&◌, ◌||◌, option_map, if◌then◌else◌}
 use Rattle.std.specs.List.{AllByRecursion}
-use Rattle.alma_base.specs.declared.fault.CheckFault.{CheckFault}
 use Rattle.alma_base.specs.declared.fault.CheckFault.TheVariants as fault
 use Rattle.alma_base.specs.declared.number.Range.{Range}
 use Rattle.alma_tree.specs.declared.leaf.Relation.{Relation}
@@ -15,14 +14,13 @@ use Rattle.alma_ir.specs.Tree as ir
 use Rattle.alma_ir.specs.Phrases.{Phrase, StmtPhrase, TestPhrase, ExprPhrase, ArgPhrase, DesigPhrase, SelPhrase, expr_phrases, test_phrases, tests_phrases, links_phrases, args_phrases, arg_phrases, desig_phrases, sels_phrases, sel_phrases, stmts_phrases}
 use Rattle.alma_ir.specs.Lines.{stmt_count}
 use Rattle.alma_ir.proofs.Each.{each_of_append}
-use Rattle.alma_rules.specs.Numbered as tree
-use Rattle.alma_rules.specs.Judged.{Judged, unless, both_of, when, holds}
+use Rattle.alma_rules.specs.Judged.{unless, both_of, when, holds}
 use Rattle.alma_rules.specs.Scene.{Scene, FormalOf, Found, absent, bad, constant, named, variable, routine, row_at, is_structured, range, in_constant}
-use Rattle.alma_rules.specs.Parts.{Meaning, a_place, plain, a_test, Typing, value_of, test_of, no_place, without_place, boolean_typing, Located, desig_of, with_sel, Denoted, a_constant, a_variable, a_routine, no_array, denoted, field_of, field_part, select_field, element_part, select_in, select_index, located_in, typing_in, Callee, callee_in, simple_argument, structured_argument, argument_of, call_typing, called, equation_of, relation_of, related, compare_of, Operator, arithmetic, logical, is_logical, Operands, links_of, tests_of, arithmetic_of, is_minus, chain_of, chained}
-use Rattle.alma_rules.specs.ExprRules.{Use, no_constant, not_variable, not_procedure, name_rules, desig_rules, Operand, other_sort, no_operand, not_test, logical_operand, operand_rules, chain_rules, call_rules, known_rules, simple_rules, chr_rules}
-use Rattle.alma_rules.specs.Nodes.{is_selected, known_typing, ord_typing, chr_typing, not_typing, cons_operand, operand_behind, cons_arg}
-use Rattle.alma_resolved.proofs.Fits.{When, when_some, when_none, when_all, when_map, when_then, when_both, when_node, when_weaker}
-use Rattle.alma_resolved.proofs.Scenes.{no_fault, no_fault_alone, no_faults_left, no_faults_right, or_left, phrases_with}
+use Rattle.alma_rules.specs.Parts.{Meaning, a_place, plain, a_test, Typing, value_of, test_of, no_place, without_place, boolean_typing, Located, desig_of, with_sel, Denoted, a_constant, a_variable, a_routine, no_array, denoted, field_of, field_part, select_field, element_part, select_in, select_index, located_in, typing_in, Callee, callee_in, simple_argument, structured_argument, argument_of, call_typing, equation_of, related, Operator, arithmetic, logical, Operands, links_of, tests_of, chain_of, chained}
+use Rattle.alma_rules.specs.ExprRules.{Use, no_constant, not_variable, not_procedure, name_rules, desig_rules, Operand, other_sort, no_operand, not_test, logical_operand, operand_rules, chain_rules}
+use Rattle.alma_rules.specs.Nodes.{known_typing, ord_typing, chr_typing, not_typing, cons_operand, operand_behind, cons_arg}
+use Rattle.alma_resolved.proofs.Fits.{When, when_some, when_none, when_map, when_node}
+use Rattle.alma_resolved.proofs.Scenes.{no_fault, no_fault_alone, no_faults_left, or_left, phrases_with}
 
 -- ---- phrases
 

@@ -1,23 +1,19 @@
 -- All declarations of a block keep its scene: each heading that is read is that of its routine in the program.
-use Rattle.std.proofs.Common.{◌≡◌, ◌≢◌, ◌⊎◌, inl, inr, ℕ, suc, ◌+◌, ◌<◌, ◌≤◌, Bool, true, false, List, [], ◌∷◌, ◌++◌, length, get_or, set, Option, None, Some, refl, sym, ap, ◌∙◌, subst, arith}
+use Rattle.std.proofs.Common.{◌≡◌, ◌≢◌, ◌⊎◌, inl, inr, ℕ, ◌+◌, ◌<◌, ◌≤◌, true, false, List, [], ◌++◌, length, get_or, set, Option, None, Some, refl, sym, ap, ◌∙◌, subst, arith}
 use Rattle.std.specs.Prelude.{nat_eq, sum_by, IsSome, IsNone}
 use Rattle.std.specs.List.{AllByRecursion}
 use Rattle.std.proofs.lemmas.Bool.Decides.{eqb_tells}
 use Rattle.std.proofs.lemmas.List.{get_or-set_same, get_or-set_other}
-use Rattle.alma_base.specs.Choice.{if_true}
 use Rattle.alma_names.specs.declared.block.Entry.{Entry}
 use Rattle.alma_names.specs.declared.block.Entry.TheVariants as entry
 use Rattle.alma_names.specs.Shapes.{PlainShape}
 use Rattle.alma_base.specs.Limits.{cell_limit}
 use Rattle.alma_ir.specs.Tree.{Program, Routine, routine_at}
 use Rattle.alma_rules.specs.Numbered as tree
-use Rattle.alma_rules.specs.Judged.{broken_at}
-use Rattle.alma_rules.specs.Scene.{Scene, Heading, nothing, is_first}
-use Rattle.alma_rules.specs.Places.{width, mark_type}
-use Rattle.alma_rules.specs.Types.{redeclared, read_constant, read_type, all_names, last_token}
-use Rattle.alma_rules.specs.Decls.{Frame, with_faults, with_scene, limited, constant_in, read_consts, type_in, read_types, with_variable, variable_in, variables_in, variables_of, read_vars, decl_names, decls_names, decls_routines, decl_routines, formal_names, formals_of, read_heading, heading_in, read_decl, read_decls}
+use Rattle.alma_rules.specs.Scene.{Scene, Heading, nothing}
+use Rattle.alma_rules.specs.Decls.{Frame, decls_names, decls_routines, decl_routines, formal_names, formals_of, read_heading, heading_in, read_decl, read_decls}
 use Rattle.alma_rules.specs.Modules.{with_shapes}
-use Rattle.alma_rules.proofs.Sound.{nil_left, nil_right}
+use Rattle.alma_rules.proofs.Sound.{nil_right}
 use Rattle.alma_resolved.specs.Stand.{formal_types, result_types, DeclsStand, DeclStands}
 use Rattle.alma_resolved.specs.Fits.{Place}
 use Rattle.alma_resolved.proofs.Lookups.{Each, NotBad, HeadingThere, each_follows_from, plain_not_bad}
@@ -25,12 +21,11 @@ use Rattle.alma_resolved.proofs.Later.{Outer}
 use Rattle.alma_resolved.proofs.HeadsSound.{HeadSound, head_sound}
 use Rattle.alma_resolved.proofs.DeclsSound.{Moved, moved_each, moved_outer, moved_twice, moved_headings, block_each, from_zero, DeclsRead, decls_read}
 use Rattle.alma_resolved.proofs.Slots.{decls_steps}
-use Rattle.alma_resolved_whole.proofs.Tables.{TableKeeps}
 use Rattle.alma_resolved_whole.proofs.Entries.{cells_declared, EntryKeeps, FormalsKeep, ResultKeeps, HeadKeeps, HeadsKeep, SceneKeeps, Longer, longer_twice}
 use Rattle.alma_resolved_whole.proofs.FramesKeep.{FrameKeeps, frame_scene, consts_keep, types_keep, vars_keep}
 use Rattle.alma_resolved_whole.proofs.Quiet.{decls_quiet}
 use Rattle.alma_resolved_whole.proofs.HeadCells.{head_small}
-use Rattle.alma_resolved_whole.proofs.HeadsKeep.{NamedKeeps, HeadPlain, ResultMade, HeadMade, head_made, head_params_later, head_plain_later}
+use Rattle.alma_resolved_whole.proofs.HeadsKeep.{NamedKeeps, HeadPlain, ResultMade, head_made, head_params_later, head_plain_later}
 
 -- ---- routines of the program and their headings
 

@@ -1,7 +1,6 @@
 -- The scene of a procedure's block: what the scene round it keeps, and the procedures and parameters of its own.
-use Rattle.std.proofs.Common.{◌≡◌, ◌⊎◌, inl, inr, ℕ, zero, suc, ◌+◌, ◌-◌, ◌<◌, ◌≤◌, Bool, List, [], ◌∷◌, ◌++◌, length, get_or, Option, None, Some, refl, sym, ap, ◌∙◌, subst, arith, append-nil, length-append}
+use Rattle.std.proofs.Common.{◌≡◌, inl, inr, ℕ, zero, suc, ◌+◌, ◌-◌, ◌<◌, ◌≤◌, List, [], ◌∷◌, ◌++◌, get_or, Option, None, Some, refl, sym, ap, ◌∙◌, subst, arith, append-nil, length-append}
 use Rattle.std.specs.Prelude.{sum_by, replicate}
-use Rattle.std.specs.List.{AllByRecursion}
 use Rattle.alma_base.specs.declared.fault.CheckFault.{CheckFault}
 use Rattle.alma_scan.specs.Tokens.{Lexeme}
 use Rattle.alma_names.specs.declared.block.Access.{Access}
@@ -10,22 +9,20 @@ use Rattle.alma_names.specs.declared.block.Entry.{Entry}
 use Rattle.alma_names.specs.declared.block.Entry.TheVariants as entry
 use Rattle.alma_names.specs.Shapes.{cells_at}
 use Rattle.alma_names.specs.Scopes.{with_new_block}
-use Rattle.alma_ir.specs.declared.program.Param.{Param}
-use Rattle.alma_ir.specs.Tree.{Program, routine_at}
+use Rattle.alma_ir.specs.Tree.{routine_at}
 use Rattle.alma_ir.specs.Checked.{HoldPlace, AreLaidOut, param_slots, outer_at}
 use Rattle.alma_rules.specs.Numbered as tree
 use Rattle.alma_rules.specs.Scene.{Scene, Heading, Returns, nothing, a_value}
 use Rattle.alma_rules.specs.Types.{read_type_name}
-use Rattle.alma_rules.specs.Decls.{Frame, with_block, with_routine, with_routines, with_texts, block_routines, decl_routines, block_names, decls_names, formal_names, formals_of, read_formals, too_deep, headed, with_depth, new_frame, read_heading}
-use Rattle.alma_rules.specs.Modules.{frame_of, first_scene, module_frame}
+use Rattle.alma_rules.specs.Decls.{Frame, with_block, with_routine, with_routines, with_texts, block_routines, decl_routines, decls_names, formal_names, formals_of, read_formals, too_deep, headed, with_depth, read_heading}
+use Rattle.alma_rules.specs.Modules.{frame_of, first_scene}
 use Rattle.alma_resolved.specs.Fits.{Place, InFrame}
-use Rattle.alma_resolved.specs.Frames.{KeepsRoutine}
 use Rattle.alma_resolved.proofs.Lookups.{AllFrom, each_follows_from, each_new_block}
 use Rattle.alma_resolved.proofs.HeadsSound.{first_frame}
 use Rattle.alma_resolved.proofs.DeclsSound.{IsProcHere, IsProc, IsProcIn}
 use Rattle.alma_resolved.proofs.Slots.{head_laid}
 use Rattle.alma_resolved_whole.proofs.Tables.{first_keeps}
-use Rattle.alma_resolved_whole.proofs.Entries.{owner, AccessKeeps, RoutineKeeps, EntryKeeps, HeadKeeps, SceneKeeps, keeps_declared}
+use Rattle.alma_resolved_whole.proofs.Entries.{owner, AccessKeeps, RoutineKeeps, EntryKeeps, SceneKeeps, keeps_declared}
 use Rattle.alma_resolved_whole.proofs.FramesKeep.{FrameKeeps}
 use Rattle.alma_resolved_whole.proofs.HeadsKeep.{head_params}
 use Rattle.alma_resolved_whole.proofs.ParamsKeep.{AllLaid, formals_keep}

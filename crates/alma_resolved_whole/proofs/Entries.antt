@@ -1,7 +1,6 @@
 -- What a scene keeps whose phrases belong to a routine of a program: its table, and what each name declared in it stands for.
-use Rattle.std.proofs.Common.{◌≡◌, ℕ, zero, suc, ◌+◌, ◌-◌, ◌<◌, ◌≤◌, Bool, true, false, List, [], ◌∷◌, ◌++◌, length, Option, None, Some, refl, sym, ap, ◌∙◌, subst, arith, append_assoc, append-nil, length-append}
+use Rattle.std.proofs.Common.{◌≡◌, ℕ, suc, ◌+◌, ◌-◌, ◌<◌, ◌≤◌, Bool, true, false, List, [], ◌∷◌, ◌++◌, length, Option, None, Some, refl, sym, ap, ◌∙◌, subst, arith, append_assoc, append-nil, length-append}
 use Rattle.std.specs.Prelude.{get_or, sum_by, if◌then◌else◌, IsSome, IsNone}
-use Rattle.std.specs.List.{AllByRecursion}
 use Rattle.alma_names.specs.declared.block.Access.{Access}
 use Rattle.alma_names.specs.declared.block.Access.TheVariants as access
 use Rattle.alma_names.specs.declared.block.Entry.{Entry}
@@ -16,7 +15,7 @@ use Rattle.alma_ir.specs.declared.program.Param.{Param}
 use Rattle.alma_ir.specs.Tree.{Program, Routine, routine_at}
 use Rattle.alma_ir.specs.Checked.{HoldPlace, IsOrdered, outer_at}
 use Rattle.alma_rules.specs.Numbered as tree
-use Rattle.alma_rules.specs.Scene.{Scene, Heading, FormalOf, Found, absent, bad, constant, named, variable, routine, found, found_as, is_first, text_at, in_constant}
+use Rattle.alma_rules.specs.Scene.{Scene, Heading, FormalOf, found_as, is_first, text_at, in_constant}
 use Rattle.alma_rules.specs.Types.{declared}
 use Rattle.alma_rules.specs.Decls.{param_kind}
 use Rattle.alma_resolved.specs.Fits.{Place, InFrame}

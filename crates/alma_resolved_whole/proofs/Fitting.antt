@@ -11,8 +11,7 @@ use Rattle.alma_ir.specs.declared.phrase.Root.TheVariants as root
 use Rattle.alma_ir.specs.declared.program.Param.{Param}
 use Rattle.alma_ir.specs.Tree.{Routine, routine_at}
 use Rattle.alma_ir.specs.Checked.{HoldPlace, outer_at}
-use Rattle.alma_rules.specs.Numbered as tree
-use Rattle.alma_rules.specs.Scene.{Scene, Heading, FormalOf, Returns, found, found_as, root_from, heading_of, routine}
+use Rattle.alma_rules.specs.Scene.{Scene, Heading, FormalOf, found_as, root_from, heading_of, routine}
 use Rattle.alma_resolved.specs.Fits.{Place, own, InFrame, RootFits}
 use Rattle.alma_resolved.specs.Scenes.{FormalsFit, ResultFits, CalleeFits, FoundFits, ReturnsFit, ReturnsSimple, SceneFits}
 use Rattle.alma_resolved.proofs.Lookups.{found_each}

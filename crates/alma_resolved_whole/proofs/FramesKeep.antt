@@ -1,17 +1,14 @@
 -- Constants, types and variables of a block keep its scene: each variable has slots of its frame.
-use Rattle.std.proofs.Common.{◌≡◌, ◌⊎◌, inl, inr, ℕ, zero, suc, ◌+◌, ◌-◌, ◌<◌, ◌≤◌, ℤ, Bool, true, false, List, [], ◌∷◌, ◌++◌, length, Option, None, Some, refl, sym, ap, ◌∙◌, subst, arith, length-append}
+use Rattle.std.proofs.Common.{◌≡◌, inl, ℕ, zero, suc, ◌+◌, ◌-◌, ◌<◌, ◌≤◌, ℤ, Bool, true, false, List, [], ◌∷◌, length, Option, None, Some, refl, sym, ap, subst, arith, length-append}
 use Rattle.std.specs.Prelude.{nat_eq, sum_by, if◌then◌else◌}
 use Rattle.std.specs.List.{AllByRecursion}
 use Rattle.std.proofs.lemmas.Bool.{eqb-true}
 use Rattle.std.proofs.lemmas.List.Sums.{sum_by-cons}
 use Rattle.alma_base.specs.Choice.{if_true}
-use Rattle.alma_names.specs.declared.block.Access.{Access}
 use Rattle.alma_names.specs.declared.block.Access.TheVariants as access
-use Rattle.alma_names.specs.declared.block.Entry.{Entry}
 use Rattle.alma_names.specs.declared.block.Entry.TheVariants as entry
 use Rattle.alma_names.specs.Shapes.{PlainShape}
 use Rattle.alma_names.specs.Blocks.{shape_id}
-use Rattle.alma_names.specs.Scopes.{with_declared}
 use Rattle.alma_ir.specs.declared.program.ArgKind.{ArgKind}
 use Rattle.alma_ir.specs.declared.program.ArgKind.TheVariants as kinds
 use Rattle.alma_ir.specs.declared.program.Param.{Param}
@@ -19,15 +16,15 @@ use Rattle.alma_ir.specs.Tree.{routine_at}
 use Rattle.alma_ir.specs.Checked.{AreLaidOut, param_slots, slots_of_kind, HoldsPlace, IsOutside, outer_at}
 use Rattle.alma_rules.specs.Numbered as tree
 use Rattle.alma_rules.specs.Judged.{broken_at}
-use Rattle.alma_rules.specs.Scene.{Scene, cells, is_first, text_at}
+use Rattle.alma_rules.specs.Scene.{Scene, cells, is_first}
 use Rattle.alma_rules.specs.Parts.{Typing}
 use Rattle.alma_rules.specs.Places.{width, mark_expr, mark_type}
-use Rattle.alma_rules.specs.Types.{Reading, declared, redeclared, read_constant, read_type, all_names, last_token}
+use Rattle.alma_rules.specs.Types.{declared, redeclared, read_constant, read_type, all_names, last_token}
 use Rattle.alma_rules.specs.Decls.{Frame, with_faults, with_scene, limited, constant_entry, constant_from, constant_in, read_consts, type_entry, type_in, read_types, variable_access, with_variable, variable_in, variables_in, variables_of, read_vars}
 use Rattle.alma_resolved.specs.Fits.{Place, InFrame}
 use Rattle.alma_resolved.proofs.Fits.{When, when_weaker}
-use Rattle.alma_resolved_whole.proofs.Entries.{AccessKeeps, EntryKeeps, SceneKeeps, keeps_declared, Longer, longer_same, longer_twice, longer_declared}
-use Rattle.alma_resolved_whole.proofs.TypesKeep.{IsShape, IsValue, ReadKeeps, constant_keeps, type_keeps}
+use Rattle.alma_resolved_whole.proofs.Entries.{AccessKeeps, EntryKeeps, SceneKeeps, keeps_declared, Longer, longer_same, longer_declared}
+use Rattle.alma_resolved_whole.proofs.TypesKeep.{IsShape, IsValue, constant_keeps, type_keeps}
 
 -- ---- where a frame stands
 

@@ -1,6 +1,6 @@
 -- Declared cells: those of a frame are within the limit where no rule is broken, and those of parameters are known from them.
-use Rattle.std.proofs.Common.{◌≡◌, ℕ, ◌+◌, ◌≤◌, Bool, true, false, List, [], ◌∷◌, ◌++◌, Option, None, Some, refl, sym, ap, ◌∙◌, subst, arith}
-use Rattle.std.specs.Prelude.{nat_lt, not, sum_by, option_map, option_and_then}
+use Rattle.std.proofs.Common.{◌≡◌, ℕ, ◌+◌, ◌≤◌, Bool, true, false, List, [], ◌∷◌, ◌++◌, Option, None, Some, refl, sym, ◌∙◌, arith}
+use Rattle.std.specs.Prelude.{nat_lt, sum_by, option_map, option_and_then}
 use Rattle.std.proofs.lemmas.Bool.{ltb-false}
 use Rattle.std.proofs.lemmas.List.Sums.{sum_by-cons}
 use Rattle.alma_base.specs.Choice.{if_true}
@@ -10,12 +10,10 @@ use Rattle.alma_base.specs.declared.fault.CheckFault.{CheckFault}
 use Rattle.alma_base.specs.declared.fault.CheckFault.TheVariants as fault
 use Rattle.alma_tree.specs.declared.leaf.Mode.{Mode}
 use Rattle.alma_tree.specs.declared.leaf.Mode.TheVariants as modes
-use Rattle.alma_ir.specs.declared.program.ArgKind.{ArgKind}
-use Rattle.alma_ir.specs.declared.program.ArgKind.TheVariants as kinds
 use Rattle.alma_ir.specs.declared.program.Param.{Param}
 use Rattle.alma_rules.specs.Numbered as tree
-use Rattle.alma_rules.specs.Judged.{Broken, broken_at, unbroken, when}
-use Rattle.alma_rules.specs.Scene.{Scene, Heading, FormalOf, cells, range, is_first, is_structured}
+use Rattle.alma_rules.specs.Judged.{Broken, broken_at, unbroken}
+use Rattle.alma_rules.specs.Scene.{Scene, Heading, cells, range, is_first, is_structured}
 use Rattle.alma_rules.specs.Places.{width, mark_type}
 use Rattle.alma_rules.specs.Types.{redeclared, read_constant, read_type, read_type_name, all_names, last_token}
 use Rattle.alma_rules.specs.Decls.{Frame, with_faults, with_scene, limited, passes_limit, constant_in, read_consts, type_in, read_types, with_variable, variable_in, variables_in, variables_of, read_vars, declared_cells, param_kind, with_param, param_in, params_in, formal_in, read_formals, formals_of, too_deep, all_formals, heading_with, function_heading, result_rules, headed, with_depth, read_heading, read_decl, read_decls, decl_routines}
@@ -24,7 +22,7 @@ use Rattle.alma_rules.proofs.Sound.{nil_left, nil_right, quiet}
 use Rattle.alma_resolved.proofs.Scenes.{no_fault_alone}
 use Rattle.alma_resolved.proofs.HeadsSound.{first_frame}
 use Rattle.alma_resolved_whole.proofs.Entries.{cells_declared}
-use Rattle.alma_resolved_whole.proofs.Quiet.{variable_quiet, variables_quiet, vars_quiet, decls_quiet}
+use Rattle.alma_resolved_whole.proofs.Quiet.{variables_quiet, vars_quiet, decls_quiet}
 
 -- ---- parameters
 

@@ -1,6 +1,6 @@
 -- Headings: a heading fits the parameters that it makes, and makes the same ones where it is read again in a later scene.
-use Rattle.std.proofs.Common.{◌≡◌, ℕ, suc, ◌+◌, ◌-◌, ◌<◌, ◌≤◌, Bool, true, false, List, [], ◌∷◌, ◌++◌, length, Option, None, Some, refl, sym, ap, ◌∙◌, subst, arith, append_assoc, append-nil, length-append}
-use Rattle.std.specs.Prelude.{not, nat_eq, nat_le, slice_get, option_map, option_and_then, unwrap_or, if◌then◌else◌}
+use Rattle.std.proofs.Common.{◌≡◌, ℕ, ◌+◌, ◌<◌, Bool, true, false, List, [], ◌∷◌, ◌++◌, length, Option, None, Some, refl, sym, ap, ◌∙◌, subst, append_assoc, append-nil}
+use Rattle.std.specs.Prelude.{not, nat_eq, slice_get, option_map, option_and_then, unwrap_or, if◌then◌else◌}
 use Rattle.std.specs.List.{AllByRecursion}
 use Rattle.alma_base.specs.Choice.{if_true}
 use Rattle.alma_base.specs.Numbers.{whole_range}
@@ -14,24 +14,24 @@ use Rattle.alma_names.specs.Blocks.{shape_id}
 use Rattle.alma_names.specs.Scopes.{with_declared}
 use Rattle.alma_ir.specs.declared.program.Param.{Param}
 use Rattle.alma_ir.specs.Checked.{IsOrdered}
-use Rattle.alma_ir.proofs.Each.{each_of_append, each_of_front, each_of_back}
+use Rattle.alma_ir.proofs.Each.{each_of_front, each_of_back}
 use Rattle.alma_rules.specs.Numbered as tree
 use Rattle.alma_rules.specs.Judged.{Broken, broken_at, unless, unbroken, when}
-use Rattle.alma_rules.specs.Scene.{Scene, Heading, FormalOf, Returns, nothing, a_value, Found, absent, bad, constant, named, variable, routine, found, found_as, is_first, first_token, text_at, text_of, is_structured}
+use Rattle.alma_rules.specs.Scene.{Scene, Heading, FormalOf, Returns, nothing, Found, absent, bad, constant, named, variable, routine, found, found_as, is_first, first_token, text_at, text_of, is_structured}
 use Rattle.alma_rules.specs.Types.{declared, redeclared, type_name_rules, shape_in, read_type_name, all_names}
 use Rattle.alma_rules.specs.Decls.{Frame, with_faults, limited, with_block, with_routine, with_routines, decl_routines, passes_limit, param_access, param_kind, with_param, param_in, params_in, formal_in, read_formals, formals_of, formal_names, structured_result, result_rules, too_deep, all_formals, heading_with, function_heading, proper_heading, headed, with_depth, new_frame, read_heading}
 use Rattle.alma_rules.specs.Decls as decls
 use Rattle.alma_rules.proofs.Sound.{IsThere, nil_left, nil_right, quiet}
 use Rattle.alma_resolved.specs.Scenes.{structured_in}
 use Rattle.alma_resolved.specs.Stand.{formal_types, result_types}
-use Rattle.alma_resolved.proofs.Fits.{When, when_some, when_none, when_is, when_node}
+use Rattle.alma_resolved.proofs.Fits.{When, when_some, when_none, when_node}
 use Rattle.alma_resolved.proofs.Scenes.{no_fault_alone}
-use Rattle.alma_resolved.proofs.Lookups.{Each, found_each, each_more, each_new_block, each_follows_from}
+use Rattle.alma_resolved.proofs.Lookups.{Each, found_each, each_more}
 use Rattle.alma_resolved.proofs.Later.{Later, Outer, later_type, later_declared, block_later}
 use Rattle.alma_resolved.proofs.HeadsSound.{TypeThere, first_frame}
-use Rattle.alma_resolved.proofs.DeclsSound.{IsProcIn, block_each}
+use Rattle.alma_resolved.proofs.DeclsSound.{block_each}
 use Rattle.alma_resolved_whole.proofs.Tables.{TableKeeps, structured_still, simple_still, range_still, cells_more, ordered_at}
-use Rattle.alma_resolved_whole.proofs.Entries.{Longer, longer_same, longer_declared, FormalKeeps, FormalsKeep}
+use Rattle.alma_resolved_whole.proofs.Entries.{Longer, FormalKeeps, FormalsKeep}
 use Rattle.alma_resolved_whole.proofs.TypesKeep.{IsShape}
 
 -- ---- names of types

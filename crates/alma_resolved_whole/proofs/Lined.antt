@@ -1,5 +1,5 @@
 -- Each routine of a resolved program has as many lines as statements, and each arm of its CASEs has a label.
-use Rattle.std.proofs.Common.{◌≡◌, ℕ, zero, suc, ◌+◌, ◌-◌, ◌<◌, List, [], ◌∷◌, ◌++◌, length, get_or, Option, None, Some, refl, sym, ap, ◌∙◌, subst, arith}
+use Rattle.std.proofs.Common.{◌≡◌, ℕ, zero, suc, ◌+◌, ◌-◌, ◌<◌, List, [], ◌∷◌, length, get_or, Option, None, Some, refl, sym, ap, ◌∙◌, subst, arith}
 use Rattle.std.specs.Prelude.{map, option_map}
 use Rattle.std.specs.List.{AllByRecursion}
 use Rattle.alma_scan.specs.Tokens.{Lexeme}
@@ -13,7 +13,7 @@ use Rattle.alma_rules.specs.Judged.{Broken, unbroken}
 use Rattle.alma_rules.specs.Scene.{Scene, line_of}
 use Rattle.alma_rules.specs.Places.{width, stmt_tokens, mark_stmts}
 use Rattle.alma_rules.specs.Decls.{Frame, decl_routines, read_heading, read_decls}
-use Rattle.alma_rules.specs.Modules.{judge_body, routine_of, frame_of, with_shapes, judge_block, judge_bodies, judge_decl, module_frame, judge_module, program_of, broken, resolved, cons_routine, joined_routines, body_lines}
+use Rattle.alma_rules.specs.Modules.{judge_body, frame_of, with_shapes, judge_block, judge_bodies, judge_decl, module_frame, judge_module, program_of, broken, resolved, cons_routine, joined_routines, body_lines}
 use Rattle.alma_resolved.specs.Frames.{KeepsFrames}
 use Rattle.alma_resolved.proofs.Fits.{when_is}
 use Rattle.alma_resolved.proofs.FramesKept.{parts}

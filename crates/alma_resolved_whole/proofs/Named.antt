@@ -1,6 +1,6 @@
 -- The names of a resolved program are those of Name tokens, and so are spelled as names.
-use Rattle.std.proofs.Common.{◌≡◌, ℕ, zero, suc, ◌+◌, ◌-◌, ℤ, Bool, true, false, List, [], ◌∷◌, ◌++◌, length, Option, None, Some, refl, sym, ap, ◌∙◌, subst, arith}
-use Rattle.std.specs.Prelude.{IsTrue, map, not, slice_get, option_map, bytes_eq, if◌then◌else◌}
+use Rattle.std.proofs.Common.{◌≡◌, ℕ, zero, suc, ◌+◌, ◌-◌, ℤ, Bool, true, false, List, [], ◌∷◌, ◌++◌, length, Option, None, Some, refl, sym, ap, ◌∙◌, subst}
+use Rattle.std.specs.Prelude.{IsTrue, map, slice_get, option_map, bytes_eq, if◌then◌else◌}
 use Rattle.std.specs.List.{AllByRecursion}
 use Rattle.alma_base.specs.Choice.{if_true}
 use Rattle.alma_base.specs.Bytes.{is_word_byte}
@@ -21,8 +21,7 @@ use Rattle.alma_ir.specs.Checked.{IsName, NamesSpelled}
 use Rattle.alma_ir.proofs.Each.{each_of_append, each_of_front, each_of_back}
 use Rattle.alma_rules.specs.Numbered as tree
 use Rattle.alma_rules.specs.Judged.{Broken, broken_at, unbroken}
-use Rattle.alma_rules.specs.Scene.{Scene, Returns, nothing, is_first, is_structured, text_of, text_at, base, cells}
-use Rattle.alma_rules.specs.Parts.{Typing}
+use Rattle.alma_rules.specs.Scene.{Scene, nothing, is_first, is_structured, text_of, text_at, base, cells}
 use Rattle.alma_rules.specs.Places.{width, mark_expr, mark_type}
 use Rattle.alma_rules.specs.Types.{Reading, changed, reading_both, read_constant, declared, redeclared, redeclared_all, read_type_name, Formed, formed, too_large, add_shape, row_on, rows_on, rows_of, subrange_from, subrange_of, all_first, last_token, value_entry, declare_values, listed_in, read_listed, all_names, joined_fields, record_of, field_names, reading_with, read_type, read_arrays, read_dimension_tail, read_dimensions, read_plains, read_plain, read_fields, read_field_tail}
 use Rattle.alma_rules.specs.Decls.{Frame, with_faults, with_scene, limited, constant_entry, constant_in, read_consts, type_entry, type_in, read_types, variable_access, with_variable, variable_in, variables_in, variables_of, read_vars, param_kind, with_param, param_in, params_in, formal_in, read_formals, formals_of, too_deep, headed, with_depth, read_heading, read_decl, read_decls, decl_routines}

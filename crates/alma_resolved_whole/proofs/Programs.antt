@@ -1,18 +1,17 @@
 -- A resolved program fits: each of its routines does, and its variables stand in the frame of routine 0.
-use Rattle.std.proofs.Common.{◌≡◌, ℕ, zero, suc, ◌+◌, ◌-◌, ◌<◌, ◌≤◌, Bool, true, false, List, [], ◌∷◌, ◌++◌, length, get_or, Option, None, Some, refl, sym, ap, ◌∙◌, subst, arith}
+use Rattle.std.proofs.Common.{◌≡◌, ℕ, zero, suc, ◌+◌, ◌-◌, ◌<◌, ◌≤◌, Bool, true, false, List, [], ◌∷◌, length, get_or, Option, None, Some, refl, sym, ap, ◌∙◌, subst, arith}
 use Rattle.std.specs.Prelude.{nat_lt, sum_by, option_map}
 use Rattle.std.specs.List.{AllByRecursion}
 use Rattle.std.proofs.lemmas.Bool.{ltb-true, ltb-false}
 use Rattle.std.proofs.lemmas.List.{length-replicate}
 use Rattle.alma_base.specs.Choice.{if_true}
 use Rattle.alma_scan.specs.Tokens.{Lexeme}
-use Rattle.alma_ir.specs.declared.program.Param.{Param}
 use Rattle.alma_ir.specs.Tree.{Program, Routine, Global, no_routine, routine_at}
 use Rattle.alma_ir.specs.Checked.{AreLaidOut, param_slots, IsOrdered}
 use Rattle.alma_ir.proofs.Each.{each_of_append, each_follows}
 use Rattle.alma_rules.specs.Numbered as tree
 use Rattle.alma_rules.specs.Judged.{Broken, broken_at, unbroken}
-use Rattle.alma_rules.specs.Scene.{Heading, Returns, nothing, cells, text_at, is_first}
+use Rattle.alma_rules.specs.Scene.{Heading, nothing, cells, text_at, is_first}
 use Rattle.alma_rules.specs.Types.{redeclared, read_type, read_constant, all_names, last_token}
 use Rattle.alma_rules.specs.Places.{width, mark_type}
 use Rattle.alma_rules.specs.Decls.{Frame, with_faults, with_scene, limited, constant_in, read_consts, type_in, read_types, with_variable, variable_in, variables_in, variables_of, read_vars, read_decl, read_decls, block_routines, decl_routines}
@@ -28,9 +27,9 @@ use Rattle.alma_resolved_whole.specs.Whole.{place, RoutineFits, ProgramFits}
 use Rattle.alma_resolved_whole.proofs.Entries.{RoutineKeeps}
 use Rattle.alma_resolved_whole.proofs.FramesKeep.{FrameKeeps}
 use Rattle.alma_resolved_whole.proofs.HeadScenes.{block_inside}
-use Rattle.alma_resolved_whole.proofs.BlocksMade.{Numbered, numbered_all, block_count, block_procs}
+use Rattle.alma_resolved_whole.proofs.BlocksMade.{numbered_all, block_count, block_procs}
 use Rattle.alma_resolved_whole.proofs.Entering.{module_scene}
-use Rattle.alma_resolved_whole.proofs.BlocksKeep.{block_ends, EndsAt, ends_all, ends_count, EachFrom, each_at, Good, owner_self, block_good}
+use Rattle.alma_resolved_whole.proofs.BlocksKeep.{block_ends, EndsAt, ends_all, ends_count, each_at, Good, owner_self, block_good}
 
 -- ---- the variables of the module
 

@@ -6,7 +6,7 @@ use Rattle.alma_rules.specs.Judged.{broken_at}
 use Rattle.alma_rules.specs.Scene.{is_first}
 use Rattle.alma_rules.specs.Places.{width, mark_type}
 use Rattle.alma_rules.specs.Types.{redeclared, read_constant, read_type, all_names, last_token}
-use Rattle.alma_rules.specs.Decls.{Frame, with_faults, with_scene, limited, constant_in, read_consts, type_in, read_types, with_variable, variable_in, variables_in, variables_of, read_vars, read_heading, read_decl, read_decls, decl_routines}
+use Rattle.alma_rules.specs.Decls.{Frame, with_faults, with_scene, limited, constant_in, read_consts, type_in, read_types, with_variable, variable_in, variables_in, variables_of, read_vars, read_decl, read_decls, decl_routines}
 use Rattle.alma_rules.proofs.Sound.{nil_left}
 
 consts_quiet : (f : Frame) (xs : List tree.ConstEntry) → (read_consts f xs).faults ≡ [] → f.faults ≡ []

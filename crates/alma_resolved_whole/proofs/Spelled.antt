@@ -1,12 +1,11 @@
 -- A numbered tree names the tokens of its spelling: each leaf that is a Name is one of that kind.
-use Rattle.std.proofs.Common.{◌≡◌, ℕ, zero, suc, ◌+◌, List, [], ◌∷◌, Bool, true, false, Option, None, Some, refl, sym, ap, ◌∙◌, subst, arith}
-use Rattle.std.specs.Prelude.{nat_eq, drop, slice_get}
+use Rattle.std.proofs.Common.{◌≡◌, ℕ, zero, suc, List, [], ◌∷◌, Bool, true, false, Option, None, Some, sym, ap, ◌∙◌}
+use Rattle.std.specs.Prelude.{nat_eq, drop}
 use Rattle.alma_tree.specs.declared.kind.Kind.{Kind}
 use Rattle.alma_tree.specs.declared.kind.Kind.TheVariants as kinds
 use Rattle.alma_tree.specs.declared.leaf.Sign.{Sign}
 use Rattle.alma_tree.specs.declared.leaf.Sign.TheVariants as signs
 use Rattle.alma_tree.specs.declared.leaf.Name.{Name}
-use Rattle.alma_tree.specs.declared.phrase.Stmts as ds
 use Rattle.alma_tree.specs.declared.phrase.Stmt as dt
 use Rattle.alma_tree.specs.declared.phrase.Elsif as df
 use Rattle.alma_tree.specs.declared.phrase.Arm as da

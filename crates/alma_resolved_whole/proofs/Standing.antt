@@ -1,5 +1,5 @@
 -- In a tree as the parser numbers it, each heading stands before what is declared behind it.
-use Rattle.std.proofs.Common.{◌≡◌, ℕ, suc, ◌<◌, ◌≤◌, List, [], ◌∷◌, ◌++◌, Bool, true, false, Option, None, Some, refl, sym, ap, subst, arith, append_assoc}
+use Rattle.std.proofs.Common.{◌≡◌, ℕ, suc, ◌<◌, ◌≤◌, List, [], ◌∷◌, ◌++◌, Bool, true, false, Option, None, Some, refl, sym, subst, arith, append_assoc}
 use Rattle.std.specs.Prelude.{nat_eq}
 use Rattle.std.specs.List.{AllByRecursion}
 use Rattle.std.proofs.lemmas.Bool.{eqb-true}
@@ -22,10 +22,10 @@ use Rattle.alma_tree.specs.declared.module.Formal.{Formal}
 use Rattle.alma_tree.specs.declared.module.Module.{Module}
 use Rattle.alma_tree.specs.Numbers as number
 use Rattle.alma_tree.specs.Numbers.{Cursor, Step, where_so, token, node, leaf, stay, and_then, ◌>>◌}
-use Rattle.alma_ir.proofs.Each.{each_of_append, each_follows, each_of_front, each_of_back}
+use Rattle.alma_ir.proofs.Each.{each_of_append, each_follows}
 use Rattle.alma_rules.specs.Numbered as tree
 use Rattle.alma_rules.specs.View as view
-use Rattle.alma_rules.specs.Types.{type_names, arrays_names, dimension_tail_names, dimensions_names, plains_names, plain_names, fields_names, field_tail_names, all_names}
+use Rattle.alma_rules.specs.Types.{type_names, arrays_names, dimension_tail_names, plains_names, plain_names, fields_names, field_tail_names, all_names}
 use Rattle.alma_rules.specs.Decls.{const_names, type_entry_names, var_names, decl_names, decls_names, formals_of}
 use Rattle.alma_resolved.specs.Stand.{formal_types, result_types, BlockStands, DeclsStand, DeclStands}
 use Rattle.alma_resolved_whole.proofs.Onward.{Up, same_token, parts, up_stay, up_token, up_node, up_then, name_up, expr_up, stmt_up, list_stmts_up}

@@ -1,14 +1,13 @@
 -- Tables of shapes as declarations make them: what each shape keeps, so that the table fits.
-use Rattle.std.proofs.Common.{◌≡◌, ◌⊎◌, inl, inr, ℕ, zero, suc, ◌+◌, ◌*◌, ◌<◌, ◌≤◌, ℤ, pos, Bool, true, false, List, [], ◌∷◌, ◌++◌, length, get_or, Option, None, Some, refl, sym, ap, ◌∙◌, subst, arith, append_assoc, append-nil, length-append}
+use Rattle.std.proofs.Common.{◌≡◌, ◌⊎◌, inl, inr, ℕ, zero, suc, ◌+◌, ◌*◌, ◌<◌, ◌≤◌, Bool, true, false, List, [], ◌∷◌, ◌++◌, length, get_or, Option, None, Some, refl, sym, ap, ◌∙◌, subst, arith, append_assoc, append-nil, length-append}
 use Rattle.std.specs.Prelude.{not, is_some, slice_get, option_map, option_and_then, unwrap_or, bytes_eq, if◌then◌else◌}
 use Rattle.std.specs.List.{AllByRecursion}
 use Rattle.std.proofs.lemmas.Int.{ints}
 use Rattle.std.proofs.lemmas.Option.{slice_get_within}
-use Rattle.std.proofs.lemmas.List.{get_or_append_left}
 use Rattle.std.proofs.Math.Seq.{get_or-append_seam}
 use Rattle.alma_base.specs.declared.number.Range.{Range}
 use Rattle.alma_base.specs.Numbers.{range_size, whole_range}
-use Rattle.alma_names.specs.Shapes.{PlainShape, PlainField, integer, char, boolean, listed, sub, row, fields, range_of, range_at, base_of, base_at, size_of, values_at, sum_of_cells, cells_in, cell_counts, cells_at, placed, placed_shape, field_named, field_at, first_shapes}
+use Rattle.alma_names.specs.Shapes.{PlainShape, PlainField, integer, char, boolean, listed, sub, row, fields, range_of, range_at, base_of, base_at, size_of, values_at, sum_of_cells, cells_in, cell_counts, cells_at, placed, field_named, field_at, first_shapes}
 use Rattle.alma_names.proofs.Tables.{counts_push, counts_len, cells_still}
 use Rattle.alma_ir.specs.Checked.{IsOrdered}
 use Rattle.alma_ir.proofs.Each.{each_follows}

@@ -1,8 +1,8 @@
 -- How many statements of the resolved program a phrase of a tree stands for, and that the walk over its tokens marks as many.
-use Rattle.std.proofs.Common.{◌≡◌, ℕ, suc, ◌+◌, List, [], ◌∷◌, ◌++◌, length, Option, None, Some, refl, sym, ap, ◌∙◌, subst, arith}
+use Rattle.std.proofs.Common.{◌≡◌, ℕ, ◌+◌, List, [], ◌∷◌, ◌++◌, length, Option, None, Some, refl, arith}
 use Rattle.alma_tree.specs.declared.leaf.Sign.{Sign}
 use Rattle.alma_rules.specs.Numbered as tree
-use Rattle.alma_rules.specs.Places.{Mark, node_at, stmt_at, Step, stay, token, ◌>>◌, followed, marked_node, whole, statement, statement_of, from_here, mark_name, mark_sign, first_step, only_step, stmt_tokens, mark_stmts, mark_stmt_tail, mark_stmt, mark_elsifs, mark_else, mark_by, mark_orelses, mark_returned, mark_desigs, mark_arm, mark_arms, mark_label, mark_high, mark_labels, mark_expr, mark_compared, mark_simple, mark_terms, mark_term, mark_factors, mark_factor, mark_primary, mark_only, mark_value, mark_args, mark_exprs, mark_expr_tail, mark_items, mark_item_tail, mark_line_items, mark_desig, mark_selectors, mark_selector}
+use Rattle.alma_rules.specs.Places.{Mark, node_at, stmt_at, Step, stay, token, ◌>>◌, whole, statement, statement_of, from_here, mark_name, mark_sign, first_step, only_step, stmt_tokens, mark_stmts, mark_stmt_tail, mark_stmt, mark_elsifs, mark_else, mark_by, mark_orelses, mark_returned, mark_desigs, mark_arm, mark_arms, mark_label, mark_high, mark_labels, mark_expr, mark_compared, mark_simple, mark_terms, mark_term, mark_factors, mark_factor, mark_primary, mark_only, mark_value, mark_args, mark_exprs, mark_expr_tail, mark_items, mark_item_tail, mark_line_items, mark_desig, mark_selectors, mark_selector}
 
 -- ---- how many
 

@@ -1,6 +1,6 @@
 -- Types keep the table of shapes, and what the names that they declare stand for.
-use Rattle.std.proofs.Common.{◌≡◌, ℕ, suc, ◌+◌, ◌<◌, ◌≤◌, ℤ, pos, Bool, true, false, List, [], ◌∷◌, ◌++◌, length, Option, None, Some, refl, sym, ap, ◌∙◌, subst, arith, append_assoc, append-nil, length-append}
-use Rattle.std.specs.Prelude.{not, ◌&&◌, ◌||◌, nat_eq, is_some, option_map}
+use Rattle.std.proofs.Common.{◌≡◌, ℕ, ◌+◌, ◌<◌, ℤ, pos, Bool, true, false, List, [], ◌∷◌, ◌++◌, length, Option, None, Some, refl, sym, ap, ◌∙◌, subst, arith, length-append}
+use Rattle.std.specs.Prelude.{not, nat_eq, is_some, option_map}
 use Rattle.std.specs.List.{AllByRecursion}
 use Rattle.std.proofs.lemmas.Int.{ints}
 use Rattle.alma_base.specs.Choice.{if_true}
@@ -8,23 +8,22 @@ use Rattle.alma_base.specs.declared.fault.CheckFault.{CheckFault}
 use Rattle.alma_base.specs.declared.fault.CheckFault.TheVariants as fault
 use Rattle.alma_names.specs.declared.block.Entry.{Entry}
 use Rattle.alma_names.specs.declared.block.Entry.TheVariants as entry
-use Rattle.alma_names.specs.Shapes.{PlainShape, PlainField, listed, sub, row, fields, base_at, is_too_large, placed_shape, cell_counts}
+use Rattle.alma_names.specs.Shapes.{PlainShape, PlainField, listed, sub, row, fields, is_too_large, placed_shape, cell_counts}
 use Rattle.alma_names.specs.Blocks.{shape_id}
 use Rattle.alma_ir.proofs.Each.{each_of_append, each_follows}
 use Rattle.alma_rules.specs.Numbered as tree
-use Rattle.alma_rules.specs.Judged.{Broken, broken_at, unless, unbroken, both_of, when, holds}
-use Rattle.alma_rules.specs.Scene.{Scene, found, found_as, base, is_structured, is_first, in_constant}
+use Rattle.alma_rules.specs.Judged.{Broken, when}
+use Rattle.alma_rules.specs.Scene.{Scene, found, found_as, base, is_structured, in_constant}
 use Rattle.alma_rules.specs.Parts.{Typing}
 use Rattle.alma_rules.specs.StmtRules.{is_above}
-use Rattle.alma_rules.specs.Walk.{judge_expr}
-use Rattle.alma_rules.specs.Types.{Reading, gives, reading_at, reading_both, reading_then, reading_with, changed, reading_change, read_constant, declared, redeclared_all, type_name_rules, shape_in, read_type_name, Formed, formed, too_large, bad_index, index_type_rules, other_bounds, no_subrange, subrange_rules, is_past, size_rules, add_shape, row_on, rows_on, rows_of, number_in, subrange_from, subrange_of, all_first, last_token, value_entry, declare_values, listed_in, read_listed, all_names, redeclared_fields, fields_with, fields_of_type, joined_fields, record_of, field_names, joined_indices, cons_index, index_at, read_type, read_arrays, read_dimension_tail, read_dimensions, read_plains, read_plain, read_fields, read_field_tail}
+use Rattle.alma_rules.specs.Types.{Reading, gives, reading_at, reading_both, reading_with, changed, reading_change, read_constant, declared, redeclared_all, type_name_rules, shape_in, read_type_name, Formed, formed, too_large, bad_index, index_type_rules, other_bounds, no_subrange, subrange_rules, is_past, size_rules, add_shape, row_on, rows_on, rows_of, number_in, subrange_from, subrange_of, all_first, last_token, declare_values, listed_in, read_listed, all_names, redeclared_fields, fields_with, fields_of_type, joined_fields, record_of, field_names, joined_indices, cons_index, index_at, read_type, read_arrays, read_dimension_tail, read_dimensions, read_plains, read_plain, read_fields, read_field_tail}
 use Rattle.alma_resolved.specs.Fits.{Place}
 use Rattle.alma_resolved.specs.Scenes.{structured_in}
 use Rattle.alma_resolved.proofs.Lookups.{found_each}
 use Rattle.alma_resolved.proofs.Fits.{When, when_some, when_none, when_map, when_both, when_node, when_weaker}
 use Rattle.alma_resolved.proofs.Scenes.{no_fault, no_fault_alone, or_right, and_false, not_false}
-use Rattle.alma_resolved_whole.proofs.Tables.{TableKeeps, FieldsThere, structured_still, simple_still, row_keeps, record_keeps, sub_keeps, listed_keeps, last_range, base_structured}
-use Rattle.alma_resolved_whole.proofs.Constants.{Plainly, expr_plainly}
+use Rattle.alma_resolved_whole.proofs.Tables.{TableKeeps, FieldsThere, simple_still, row_keeps, record_keeps, sub_keeps, listed_keeps, last_range, base_structured}
+use Rattle.alma_resolved_whole.proofs.Constants.{expr_plainly}
 use Rattle.alma_resolved_whole.proofs.Entries.{EntryKeeps, SceneKeeps, keeps_shapes, keeps_declared, Longer, longer_same, longer_twice, longer_declared, keeps_simples}
 
 -- ---- what is read
