@@ -134,7 +134,8 @@ pub(crate) fn emit_call_test(
     call: &Call,
 ) -> Result<(), NoMemory>
     ensures puts { OnOk result (PutsTest (around scene.now) line
-        (front work.old) (front work.new) (tree.CallTest call.now.routine (args_list call.now.args.items) call.now.up)) }
+        (front work.old) (front work.new)
+        (tree.CallTest call.now.routine (args_list call.now.args.items) call.now.up)) }
 {
     let first = emit_call(work, scene, line, call.routine, call.up, &call.args)?;
     work.put(
@@ -158,7 +159,8 @@ pub(crate) fn emit_call_value(
 ) -> Result<u32, NoMemory>
     ensures slot { IfOk result (λ slot. slot ≡ (front work.old).next) }
     ensures puts { OnOk result (PutsExpr (around scene.now) line
-        (front work.old) (front work.new) (tree.CallExpr call.now.routine (args_list call.now.args.items) call.now.up)) }
+        (front work.old) (front work.new)
+        (tree.CallExpr call.now.routine (args_list call.now.args.items) call.now.up)) }
 {
     let to = work.slot(SlotKind::Number)?;
     let mark = work.slot(SlotKind::Mark)?;

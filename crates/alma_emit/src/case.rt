@@ -30,7 +30,8 @@ pub(crate) fn emit_case(
     rest: &Option<Vec<Stmt>>,
 ) -> Result<(), NoMemory>
     ensures puts { OnOk result (PutsStmt (around scene.now) line
-        (front work.old) (front work.new) (tree.Case (expr_of value.now) (cases_list arms.now) (else_option rest.now))) }
+        (front work.old) (front work.new)
+        (tree.Case (expr_of value.now) (cases_list arms.now) (else_option rest.now))) }
 {
     let value = emit_expr(work, scene, line, value)?;
     let labels = take_labels(work, value)?;

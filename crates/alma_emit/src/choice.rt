@@ -82,7 +82,8 @@ pub(crate) fn emit_forall(
     second: &[Stmt],
 ) -> Result<(), NoMemory>
     ensures puts { OnOk result (PutsStmt (around scene.now) line
-        (front work.old) (front work.new) (tree.Forall (stmts_list first.now) (stmts_list second.now))) }
+        (front work.old) (front work.new)
+        (tree.Forall (stmts_list first.now) (stmts_list second.now))) }
 {
     let (mark, forall) = begin_forall(work, line)?;
     emit_stmts(work, scene, first)?;

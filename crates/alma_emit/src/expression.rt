@@ -79,7 +79,8 @@ fn emit_chain(
 ) -> Result<u32, NoMemory>
     ensures slot { IfOk result (λ slot. slot ≡ (front work.old).next) }
     ensures puts { OnOk result (PutsExpr (around scene.now) line
-        (front work.old) (front work.new) (tree.Chain negated (expr_of first.now) (links_list links.now))) }
+        (front work.old) (front work.new)
+        (tree.Chain negated (expr_of first.now) (links_list links.now))) }
 {
     let to = emit_expr(work, scene, line, first)?;
     put_neg(work, line, negated, to)?;
@@ -118,7 +119,8 @@ fn emit_compare(
 ) -> Result<u32, NoMemory>
     ensures slot { IfOk result (λ slot. slot ≡ (front work.old).next) }
     ensures puts { OnOk result (PutsExpr (around scene.now) line
-        (front work.old) (front work.new) (tree.Compare cmp (expr_of left.now) (expr_of right.now))) }
+        (front work.old) (front work.new)
+        (tree.Compare cmp (expr_of left.now) (expr_of right.now))) }
 {
     let to = emit_expr(work, scene, line, left)?;
     let other = emit_value(work, scene, line, right)?;

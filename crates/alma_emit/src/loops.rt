@@ -121,7 +121,8 @@ fn emit_turn(
     after: usize,
 ) -> Result<(), NoMemory>
     ensures puts { OnOk result (PutsTurn (around scene.now) line after each.now.range counter
-        (front work.old) (front work.new) (desig_of each.now.var) (stmts_list each.now.body.items)) }
+        (front work.old) (front work.new) (desig_of each.now.var)
+        (stmts_list each.now.body.items)) }
 {
     let count = put_count(work, scene, line, &each.var, each.range, counter)?;
     let stand = emit_target(work, scene, line, &each.var)?;

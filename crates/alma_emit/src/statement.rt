@@ -70,7 +70,8 @@ fn emit_assign(
     range: Range,
 ) -> Result<(), NoMemory>
     ensures puts { OnOk result (PutsStmt (around scene.now) line
-        (front work.old) (front work.new) (tree.Assign (desig_of desig.now) (expr_of value.now) range)) }
+        (front work.old) (front work.new)
+        (tree.Assign (desig_of desig.now) (expr_of value.now) range)) }
 {
     let stand = emit_target(work, scene, line, desig)?;
     let value = emit_value(work, scene, line, value)?;
@@ -89,7 +90,8 @@ fn emit_copy(
     from: &Desig,
 ) -> Result<(), NoMemory>
     ensures puts { OnOk result (PutsStmt (around scene.now) line
-        (front work.old) (front work.new) (tree.CopyCells (desig_of desig.now) (desig_of from.now))) }
+        (front work.old) (front work.new)
+        (tree.CopyCells (desig_of desig.now) (desig_of from.now))) }
 {
     let to = emit_desig(work, scene, line, desig)?;
     let from = emit_desig(work, scene, line, from)?;

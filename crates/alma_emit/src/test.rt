@@ -65,7 +65,8 @@ fn emit_bind(
     left: bool,
 ) -> Result<(), NoMemory>
     ensures puts { OnOk result (PutsTest (around scene.now) line
-        (front work.old) (front work.new) (tree.Bind (desig_of desig.now) (expr_of value.now) range left)) }
+        (front work.old) (front work.new)
+        (tree.Bind (desig_of desig.now) (expr_of value.now) range left)) }
 {
     if left {
         emit_bind_left(work, scene, line, desig, value, range)
@@ -85,7 +86,8 @@ fn emit_bind_left(
     range: Range,
 ) -> Result<(), NoMemory>
     ensures puts { OnOk result (PutsTest (around scene.now) line
-        (front work.old) (front work.new) (tree.Bind (desig_of desig.now) (expr_of value.now) range true)) }
+        (front work.old) (front work.new)
+        (tree.Bind (desig_of desig.now) (expr_of value.now) range true)) }
 {
     let place = emit_desig(work, scene, line, desig)?;
     let value = emit_value(work, scene, line, value)?;
@@ -112,7 +114,8 @@ fn emit_bind_right(
     range: Range,
 ) -> Result<(), NoMemory>
     ensures puts { OnOk result (PutsTest (around scene.now) line
-        (front work.old) (front work.new) (tree.Bind (desig_of desig.now) (expr_of value.now) range false)) }
+        (front work.old) (front work.new)
+        (tree.Bind (desig_of desig.now) (expr_of value.now) range false)) }
 {
     let value = emit_expr(work, scene, line, value)?;
     let place = emit_desig(work, scene, line, desig)?;
@@ -140,7 +143,8 @@ fn emit_unify(
     right_range: Range,
 ) -> Result<(), NoMemory>
     ensures puts { OnOk result (PutsTest (around scene.now) line
-        (front work.old) (front work.new) (tree.Unify (desig_of left.now) left_range (desig_of right.now) right_range)) }
+        (front work.old) (front work.new)
+        (tree.Unify (desig_of left.now) left_range (desig_of right.now) right_range)) }
 {
     let left = emit_desig(work, scene, line, left)?;
     let right = emit_desig(work, scene, line, right)?;
@@ -168,7 +172,8 @@ fn emit_same_cells(
     right: &Desig,
 ) -> Result<(), NoMemory>
     ensures puts { OnOk result (PutsTest (around scene.now) line
-        (front work.old) (front work.new) (tree.SameCells (desig_of left.now) (desig_of right.now))) }
+        (front work.old) (front work.new)
+        (tree.SameCells (desig_of left.now) (desig_of right.now))) }
 {
     let left = emit_desig(work, scene, line, left)?;
     let right = emit_desig(work, scene, line, right)?;

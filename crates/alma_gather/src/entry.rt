@@ -11,7 +11,8 @@ use std::alloc::Global;
 
 // A range by its number.
 pub fn add_range(numbers: &mut Numbers, range: Range) -> Result<(), NoMemory>
-    ensures names { OnOk result (Names (tables_of numbers.old) (tables_of numbers.new) (range ∷ []) []) }
+    ensures names { OnOk result (Names (tables_of numbers.old) (tables_of numbers.new)
+        (range ∷ []) []) }
     ensures integers { HasIntegerEnds range }
 {
     numbers.add_range(range)
@@ -26,7 +27,8 @@ fn holds_all(range: Range) -> bool
 
 // A range that is only checked, which is not named where it holds all numbers.
 pub fn add_checked(numbers: &mut Numbers, range: Range) -> Result<(), NoMemory>
-    ensures names { OnOk result (Names (tables_of numbers.old) (tables_of numbers.new) (checked range) []) }
+    ensures names { OnOk result (Names (tables_of numbers.old) (tables_of numbers.new)
+        (checked range) []) }
 {
     if holds_all(range) {
         return Ok(());
@@ -36,7 +38,8 @@ pub fn add_checked(numbers: &mut Numbers, range: Range) -> Result<(), NoMemory>
 
 // A text.
 pub fn add_text(alloc: Global, numbers: &mut Numbers, text: &[u8]) -> Result<(), NoMemory>
-    ensures names { OnOk result (Names (tables_of numbers.old) (tables_of numbers.new) [] (text.now ∷ [])) }
+    ensures names { OnOk result (Names (tables_of numbers.old) (tables_of numbers.new) []
+        (text.now ∷ [])) }
 {
     numbers.add_text(alloc, text)
 }

@@ -17,10 +17,13 @@ use std::alloc::Global;
 /// The numbers of all ranges and texts that the code of a program names. The numbers in the program are of INTEGER, as those of each program
 /// in memory are.
 pub fn gather(alloc: Global, program: &Program) -> Result<Numbers, NoMemory>
-    ensures holds { IfOk result (λ numbers. HoldsAllOf (program_of program.now) (tables_of numbers)) }
-    ensures ranges { IfOk result (λ numbers. AreSome same_range (program_ranges (program_of program.now))
+    ensures holds { IfOk result (λ numbers. HoldsAllOf (program_of program.now)
+        (tables_of numbers)) }
+    ensures ranges { IfOk result (λ numbers. AreSome same_range
+        (program_ranges (program_of program.now))
         (tables_of numbers).ranges) }
-    ensures texts { IfOk result (λ numbers. AreSome same_text (program_texts (program_of program.now))
+    ensures texts { IfOk result (λ numbers. AreSome same_text
+        (program_texts (program_of program.now))
         (tables_of numbers).texts) }
     ensures integers { IfOk result (λ numbers. IsOfIntegers (program_of program.now)) }
 {

@@ -17,7 +17,8 @@ const CHARS: Range = Range { low: 0, high: 255 };
 // Statements.
 #[cycle(walk)]
 pub fn walk_stmts(alloc: Global, numbers: &mut Numbers, body: &[Stmt]) -> Result<(), NoMemory>
-    ensures { OnOk result (Walked (tables_of numbers.old) (tables_of numbers.new) (stmts_phrases (stmts_list body.now))) }
+    ensures { OnOk result (Walked (tables_of numbers.old) (tables_of numbers.new)
+        (stmts_phrases (stmts_list body.now))) }
 {
     for stmt in body {
         walk_stmt(alloc, numbers, stmt)?;
@@ -28,7 +29,8 @@ pub fn walk_stmts(alloc: Global, numbers: &mut Numbers, body: &[Stmt]) -> Result
 // A statement and those inside it.
 #[cycle(walk)]
 fn walk_stmt(alloc: Global, numbers: &mut Numbers, stmt: &Stmt) -> Result<(), NoMemory>
-    ensures { OnOk result (Walked (tables_of numbers.old) (tables_of numbers.new) (stmt_phrases (stmt_of stmt.now))) }
+    ensures { OnOk result (Walked (tables_of numbers.old) (tables_of numbers.new)
+        (stmt_phrases (stmt_of stmt.now))) }
 {
     match stmt {
         Stmt::Test(test) => walk_test(alloc, numbers, test),
@@ -89,7 +91,8 @@ fn walk_stmt(alloc: Global, numbers: &mut Numbers, stmt: &Stmt) -> Result<(), No
 // What RETURN gives.
 #[cycle(walk)]
 fn walk_return(alloc: Global, numbers: &mut Numbers, value: &Option<Expr>) -> Result<(), NoMemory>
-    ensures { OnOk result (Walked (tables_of numbers.old) (tables_of numbers.new) (return_phrases (return_option value.now))) }
+    ensures { OnOk result (Walked (tables_of numbers.old) (tables_of numbers.new)
+        (return_phrases (return_option value.now))) }
 {
     match value {
         Some(value) => walk_expr(alloc, numbers, value),
@@ -100,7 +103,8 @@ fn walk_return(alloc: Global, numbers: &mut Numbers, value: &Option<Expr>) -> Re
 // The arms of IF.
 #[cycle(walk)]
 fn walk_arms(alloc: Global, numbers: &mut Numbers, arms: &[Arm]) -> Result<(), NoMemory>
-    ensures { OnOk result (Walked (tables_of numbers.old) (tables_of numbers.new) (arms_phrases (arms_list arms.now))) }
+    ensures { OnOk result (Walked (tables_of numbers.old) (tables_of numbers.new)
+        (arms_phrases (arms_list arms.now))) }
 {
     for arm in arms {
         walk_test(alloc, numbers, &arm.cond)?;
@@ -112,7 +116,8 @@ fn walk_arms(alloc: Global, numbers: &mut Numbers, arms: &[Arm]) -> Result<(), N
 // The arms of CASE.
 #[cycle(walk)]
 fn walk_cases(alloc: Global, numbers: &mut Numbers, arms: &[CaseArm]) -> Result<(), NoMemory>
-    ensures { OnOk result (Walked (tables_of numbers.old) (tables_of numbers.new) (cases_phrases (cases_list arms.now))) }
+    ensures { OnOk result (Walked (tables_of numbers.old) (tables_of numbers.new)
+        (cases_phrases (cases_list arms.now))) }
 {
     for arm in arms {
         walk_stmts(alloc, numbers, &arm.body)?;
@@ -123,7 +128,8 @@ fn walk_cases(alloc: Global, numbers: &mut Numbers, arms: &[CaseArm]) -> Result<
 // The branches of EITHER.
 #[cycle(walk)]
 fn walk_branches(alloc: Global, numbers: &mut Numbers, branches: &[Branch]) -> Result<(), NoMemory>
-    ensures { OnOk result (Walked (tables_of numbers.old) (tables_of numbers.new) (branches_phrases (branches_list branches.now))) }
+    ensures { OnOk result (Walked (tables_of numbers.old) (tables_of numbers.new)
+        (branches_phrases (branches_list branches.now))) }
 {
     for branch in branches {
         walk_stmts(alloc, numbers, &branch.body)?;
@@ -134,7 +140,8 @@ fn walk_branches(alloc: Global, numbers: &mut Numbers, branches: &[Branch]) -> R
 // The parts of FOR and SOME.
 #[cycle(walk)]
 fn walk_loop(alloc: Global, numbers: &mut Numbers, each: &Loop) -> Result<(), NoMemory>
-    ensures { OnOk result (Walked (tables_of numbers.old) (tables_of numbers.new) (loop_phrases (loop_of each.now))) }
+    ensures { OnOk result (Walked (tables_of numbers.old) (tables_of numbers.new)
+        (loop_phrases (loop_of each.now))) }
 {
     walk_desig(alloc, numbers, &each.var)?;
     walk_expr(alloc, numbers, &each.from)?;
@@ -145,7 +152,8 @@ fn walk_loop(alloc: Global, numbers: &mut Numbers, each: &Loop) -> Result<(), No
 // The operands of AND or OR.
 #[cycle(walk)]
 fn walk_tests(alloc: Global, numbers: &mut Numbers, tests: &[Test]) -> Result<(), NoMemory>
-    ensures { OnOk result (Walked (tables_of numbers.old) (tables_of numbers.new) (tests_phrases (tests_list tests.now))) }
+    ensures { OnOk result (Walked (tables_of numbers.old) (tables_of numbers.new)
+        (tests_phrases (tests_list tests.now))) }
 {
     for test in tests {
         walk_test(alloc, numbers, test)?;
@@ -156,7 +164,8 @@ fn walk_tests(alloc: Global, numbers: &mut Numbers, tests: &[Test]) -> Result<()
 // A test.
 #[cycle(walk)]
 fn walk_test(alloc: Global, numbers: &mut Numbers, test: &Test) -> Result<(), NoMemory>
-    ensures { OnOk result (Walked (tables_of numbers.old) (tables_of numbers.new) (test_phrases (test_of test.now))) }
+    ensures { OnOk result (Walked (tables_of numbers.old) (tables_of numbers.new)
+        (test_phrases (test_of test.now))) }
 {
     match test {
         Test::Value(value) => walk_expr(alloc, numbers, value),
@@ -186,7 +195,8 @@ fn walk_test(alloc: Global, numbers: &mut Numbers, test: &Test) -> Result<(), No
 // An expression.
 #[cycle(walk)]
 fn walk_expr(alloc: Global, numbers: &mut Numbers, expr: &Expr) -> Result<(), NoMemory>
-    ensures { OnOk result (Walked (tables_of numbers.old) (tables_of numbers.new) (expr_phrases (expr_of expr.now))) }
+    ensures { OnOk result (Walked (tables_of numbers.old) (tables_of numbers.new)
+        (expr_phrases (expr_of expr.now))) }
 {
     match expr {
         Expr::Const(value) => {
@@ -215,7 +225,8 @@ fn walk_expr(alloc: Global, numbers: &mut Numbers, expr: &Expr) -> Result<(), No
 // Operators with their operands.
 #[cycle(walk)]
 fn walk_links(alloc: Global, numbers: &mut Numbers, links: &[Link]) -> Result<(), NoMemory>
-    ensures { OnOk result (Walked (tables_of numbers.old) (tables_of numbers.new) (links_phrases (links_list links.now))) }
+    ensures { OnOk result (Walked (tables_of numbers.old) (tables_of numbers.new)
+        (links_phrases (links_list links.now))) }
 {
     for link in links {
         walk_expr(alloc, numbers, &link.operand)?;
@@ -226,7 +237,8 @@ fn walk_links(alloc: Global, numbers: &mut Numbers, links: &[Link]) -> Result<()
 // Arguments.
 #[cycle(walk)]
 fn walk_args(alloc: Global, numbers: &mut Numbers, args: &[Arg]) -> Result<(), NoMemory>
-    ensures { OnOk result (Walked (tables_of numbers.old) (tables_of numbers.new) (args_phrases (args_list args.now))) }
+    ensures { OnOk result (Walked (tables_of numbers.old) (tables_of numbers.new)
+        (args_phrases (args_list args.now))) }
 {
     for arg in args {
         walk_arg(alloc, numbers, arg)?;
@@ -237,7 +249,8 @@ fn walk_args(alloc: Global, numbers: &mut Numbers, args: &[Arg]) -> Result<(), N
 // An argument.
 #[cycle(walk)]
 fn walk_arg(alloc: Global, numbers: &mut Numbers, arg: &Arg) -> Result<(), NoMemory>
-    ensures { OnOk result (Walked (tables_of numbers.old) (tables_of numbers.new) (arg_phrases (arg_of arg.now))) }
+    ensures { OnOk result (Walked (tables_of numbers.old) (tables_of numbers.new)
+        (arg_phrases (arg_of arg.now))) }
 {
     match arg {
         Arg::Value(value, range) => {
@@ -257,7 +270,8 @@ fn walk_arg(alloc: Global, numbers: &mut Numbers, arg: &Arg) -> Result<(), NoMem
 // A designator.
 #[cycle(walk)]
 fn walk_desig(alloc: Global, numbers: &mut Numbers, desig: &Desig) -> Result<(), NoMemory>
-    ensures { OnOk result (Walked (tables_of numbers.old) (tables_of numbers.new) (desig_phrases (desig_of desig.now))) }
+    ensures { OnOk result (Walked (tables_of numbers.old) (tables_of numbers.new)
+        (desig_phrases (desig_of desig.now))) }
 {
     walk_sels(alloc, numbers, &desig.sels)
 }
@@ -265,7 +279,8 @@ fn walk_desig(alloc: Global, numbers: &mut Numbers, desig: &Desig) -> Result<(),
 // Selectors.
 #[cycle(walk)]
 fn walk_sels(alloc: Global, numbers: &mut Numbers, sels: &[Sel]) -> Result<(), NoMemory>
-    ensures { OnOk result (Walked (tables_of numbers.old) (tables_of numbers.new) (sels_phrases (sels_list sels.now))) }
+    ensures { OnOk result (Walked (tables_of numbers.old) (tables_of numbers.new)
+        (sels_phrases (sels_list sels.now))) }
 {
     for sel in sels {
         walk_sel(alloc, numbers, sel)?;
@@ -276,7 +291,8 @@ fn walk_sels(alloc: Global, numbers: &mut Numbers, sels: &[Sel]) -> Result<(), N
 // A selector.
 #[cycle(walk)]
 fn walk_sel(alloc: Global, numbers: &mut Numbers, sel: &Sel) -> Result<(), NoMemory>
-    ensures { OnOk result (Walked (tables_of numbers.old) (tables_of numbers.new) (sel_phrases (sel_of sel.now))) }
+    ensures { OnOk result (Walked (tables_of numbers.old) (tables_of numbers.new)
+        (sel_phrases (sel_of sel.now))) }
 {
     match sel {
         Sel::Field(_, _) => Ok(()),

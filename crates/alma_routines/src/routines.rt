@@ -58,7 +58,8 @@ fn scene_at<'p>(
     numbers: &'p Numbers,
     routine: usize,
 ) -> Result<Scene<'p>, NoMemory>
-    ensures { IfOk result (λ scene. around scene ≡ around_at (program_of program.now) (tables_of numbers.now) routine) }
+    ensures { IfOk result (λ scene. around scene
+        ≡ around_at (program_of program.now) (tables_of numbers.now) routine) }
 {
     if routine > u32::MAX as usize {
         return Err(NoMemory);
