@@ -1,9 +1,7 @@
-//! What public calls answer, and what is printed. Tests alone, of the code: resolved programs, codes, lowering.
+//! What public calls answer, and what is printed. Tests alone, of the code: resolved programs and codes.
 #![tactic(auto)]
 
 #[cfg(test)]
 mod code;
 #[cfg(test)]
 mod ir;
-#[cfg(test)]
-mod lower;
