@@ -37,6 +37,7 @@ module _ (p : Program) (t : Tables) (code : PlainCode) (version : code.version �
   }
 
   pub has_long_runs : HoldsAllOf p t → HasLongRuns p code
+  unfolding is_code_of
   has_long_runs held = long_runs p code (is_code_of held) heads.names
 
   pub holds_each_once : AreSome same_range (program_ranges p) t.ranges → AreSome same_text (program_texts p) t.texts → HoldsEachOnce p code
