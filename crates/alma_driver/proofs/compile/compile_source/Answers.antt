@@ -5,8 +5,8 @@ use Rattle.alma_driver.specs.Outcome.{CompileOutcome}
 use Rattle.alma_driver.proofs.DriverLemmas.{works_read, works_stopped}
 use Rattle.alma_driver.proofs.compile.compile_source.Goals as goal
 
-pub compile_program-requires-clause-checked : goal.compile_program-requires-clause-checked
-compile_program-requires-clause-checked g c = source_checked c.args.source.now (program_of c.in-Ok.program) c.requires.short c.in-Ok.ensures.program
+pub compile_program-requires : goal.compile_program-requires
+compile_program-requires g c = record { checked = source_checked c.args.source.now (program_of c.in-Ok.program) c.requires.short c.in-Ok.ensures.program }
 
 pub returns-in-Ok-clause-course : goal.returns-in-Ok-clause-course
 returns-in-Ok-clause-course g c = λ out.
