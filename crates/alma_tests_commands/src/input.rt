@@ -244,7 +244,7 @@ const COUNTED: [Counted; 2] = [
         answer: Answer {
             status: 0,
             out: b"012",
-            err: b"steps 58 choices 0 fails 0\n",
+            err: b"steps 38 choices 0 fails 0\n",
         },
     },
     Counted {
@@ -253,7 +253,7 @@ const COUNTED: [Counted; 2] = [
         answer: Answer {
             status: 4,
             out: b"1",
-            err: b"steps 14 choices 0 fails 0\nalma: fault ZeroDivide line 2\n",
+            err: b"steps 8 choices 0 fails 0\nalma: fault ZeroDivide line 2\n",
         },
     },
 ];

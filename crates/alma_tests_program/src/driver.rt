@@ -333,24 +333,24 @@ const COURSES: [Course; 4] = [
     },
     Course {
         source: b"MODULE A; VAR x: INTEGER; BEGIN x := 1; WRITE(x); x := x + 2; WRITE(x) END A.",
-        steps: 16,
+        steps: 9,
         status: 0,
         out: b"13",
-        prints_at: &[6, 15],
+        prints_at: &[3, 8],
     },
     Course {
         source: b"MODULE A; VAR x: INTEGER; BEGIN x := 0; WHILE x < 2 DO WRITE(x); x := x + 1 END END A.",
-        steps: 42,
+        steps: 28,
         status: 0,
         out: b"01",
-        prints_at: &[12, 28],
+        prints_at: &[8, 18],
     },
     Course {
         source: b"MODULE A; VAR x: INTEGER; BEGIN x := 0; IF x < 1 THEN WRITE(1) ELSE WRITE(2) END; FALSE END A.",
-        steps: 16,
+        steps: 12,
         status: 1,
         out: b"1",
-        prints_at: &[11],
+        prints_at: &[8],
     },
 ];
 
@@ -399,7 +399,7 @@ fn steps_run_out_between_any_two_instructions(rt: HostRuntime) -> Result<(), Fai
 #[test]
 fn a_loop_without_end_runs_out_of_steps(rt: HostRuntime) -> Result<(), Fail> {
     let alloc = rt.alloc();
-    let ones = vec![in alloc; b'1'; 166]?;
+    let ones = vec![in alloc; b'1'; 200]?;
     let call = Call {
         words: &["run", "a.al", "--steps=1000"],
         source: b"MODULE A; BEGIN WHILE TRUE DO WRITE(1) END END A.",
