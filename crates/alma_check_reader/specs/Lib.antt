@@ -1,3 +1,4 @@
 pub mod Told
 pub mod Tables
 pub mod Fields
+pub mod Outermost

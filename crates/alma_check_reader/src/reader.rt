@@ -1,18 +1,22 @@
 // An environment to which declarations are added.
 ghost use Rattle.std.specs.Prelude.{◌≡◌, ◌<◌, OnOk, IfOk, length};
 ghost use Rattle.alma_names.specs.Shapes.{plain_of, NamesOnlyBelow, HasIndex, HasCount, HasBase, HasDistinctNames};
+ghost use Rattle.alma_scan.specs.Scanned.{lexemes};
 ghost use Rattle.alma_rules.specs.Scene as scenes;
 ghost use Rattle.alma_rules.specs.Scene.{Scene};
 ghost use Rattle.alma_rules.specs.Types as types;
 ghost use Rattle.alma_rules.specs.View.{view_name};
 ghost use Rattle.alma_check_rules.specs.Views.{scene_of, somewhere};
 ghost use Rattle.alma_check_reader.specs.Told.{IsCounted, formed_of};
+ghost use Rattle.alma_check_reader.specs.Outermost.{outermost};
 
 use crate::reading::Formed;
 use alma_base::NoMemory;
-use alma_check_rules::Env;
-use alma_names::{DeclareError, Entry, Shape, ShapeError};
+use alma_check_rules::{Env, Returns};
+use alma_names::{DeclareError, Entry, Scopes, Shape, ShapeError, Shapes};
+use alma_scan::Token;
 use alma_tree::Name;
+use indexmap::IndexMap;
 use std::alloc::Global;
 use std::marker::Model;
 
@@ -37,6 +41,34 @@ impl<'e, 's> Model for Reader<'e, 's> {
 }
 
 impl<'e, 's> Reader<'e, 's> {
+    /// Where nothing is declared but the names that stand outside each module, with no heading yet.
+    pub fn new(
+        alloc: Global,
+        source: &'e [u8],
+        tokens: &'e [Token<'s>],
+    ) -> Result<Reader<'e, 's>, NoMemory>
+        ensures { IfOk result (λ reader. reader ≡ outermost source.now (lexemes tokens.now)) }
+    {
+        let shapes = Shapes::new(alloc)?;
+        let scopes = Scopes::new(alloc)?;
+        let env = Env {
+            source,
+            tokens,
+            shapes,
+            scopes,
+            headings: Vec::new(alloc),
+            declares: IndexMap::new(alloc),
+            routine: 0,
+            returns: Returns::Nothing,
+        };
+        Ok(Reader {
+            env,
+            below: Vec::new(alloc),
+            top: 5,
+            all: 5,
+        })
+    }
+
     /// The environment as it is.
     pub fn env(&self) -> &Env<'e, 's>
         ensures { scene_of result.now somewhere ≡ self.now }

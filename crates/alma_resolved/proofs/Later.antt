@@ -10,7 +10,7 @@ use Rattle.alma_names.specs.Scopes.{Blocks, entries_of, or_else, visible_from, v
 use Rattle.alma_rules.specs.Numbered as tree
 use Rattle.alma_rules.specs.Scene.{Scene, found, found_at, found_as, text_at, text_of, is_first, first_token, Returns}
 use Rattle.alma_rules.specs.Types.{shape_in, declared}
-use Rattle.alma_rules.specs.Decls.{with_texts, with_routine, with_routines, with_block, decl_routines, decls_names}
+use Rattle.alma_rules.specs.Decls.{with_text, texts_behind, with_texts, with_routine, with_routines, with_block, decl_routines, decls_names}
 use Rattle.alma_resolved.proofs.Lookups.{seen_in, from_in}
 
 -- the entry of a name that is visible in a block
@@ -301,9 +301,13 @@ later_declared lo s t name from a b k h = by (is_first s name) (is_first t name)
     by true false e = absurd (cc)
     by false true e = absurd (cc)
 
+texts_same : (s t : Scene) (ds : List (List ℕ × ℕ)) (xs : List tree.Name) → s.tokens ≡ t.tokens → texts_behind s ds xs ≡ texts_behind t ds xs
+texts_same s t ds [] h = refl
+texts_same s t ds (x ∷ xs) h =
+    ap (λ y. texts_behind s (with_text ds y x.token) xs) (same_text s t x.token h) ∙ texts_same s t (with_text ds (text_at t x.token) x.token) xs h
+
 same_texts : (s t : Scene) (xs : List tree.Name) → s.tokens ≡ t.tokens → with_texts s xs ≡ with_texts t xs
-same_texts s t [] h = refl
-same_texts s t (x ∷ xs) h = ap (λ y. (y, x.token) ∷ with_texts s xs) (same_text s t x.token h) ∙ ap (λ ys. (text_at t x.token, x.token) ∷ ys) (same_texts s t xs h)
+same_texts s t xs h = texts_same s t [] xs h
 
 routines_later : (lo : ℕ) (s t : Scene) (r : ℕ) (x : tree.DeclTail) → Later lo s t → Later lo (with_routines s r x) (with_routines t r x)
 routines_later lo s t r tree.no_decl h = h

@@ -1,5 +1,5 @@
 -- Declarations and headings: the rules broken in them, and what they declare.
-use Rattle.std.specs.Prelude.{ℕ, ◌+◌, ℤ, Bool, true, false, nat_lt, nat_le, nat_eq, if◌then◌else◌, List, [], ◌∷◌, ◌++◌, set, Option, None, Some, option_map, option_and_then}
+use Rattle.std.specs.Prelude.{ℕ, ◌+◌, ℤ, Bool, true, false, ◌||◌, nat_lt, nat_le, nat_eq, if◌then◌else◌, List, [], ◌∷◌, ◌++◌, set, bytes_eq, Option, None, Some, option_map, option_and_then}
 use Rattle.alma_base.specs.declared.fault.CheckFault.{CheckFault}
 use Rattle.alma_base.specs.declared.fault.CheckFault.TheVariants as fault
 use Rattle.alma_base.specs.Choice.{if_true}
@@ -151,9 +151,20 @@ abbrev pub formal_names : List tree.Formal → List tree.Name
 formal_names [] = []
 formal_names (x ∷ xs) = all_names x.names ++ formal_names xs
 
+-- names by their texts, each with the token of its first declaration
+abbrev pub has_text : List ℕ → List (List ℕ × ℕ) → Bool
+has_text text [] = false
+has_text text (d ∷ ds) = bytes_eq text d.0 || has_text text ds
+
+abbrev pub with_text : List (List ℕ × ℕ) → (text : List ℕ) → (token : ℕ) → List (List ℕ × ℕ)
+with_text ds text token = if has_text text ds then ds else ds ++ (text, token) ∷ []
+
+abbrev pub texts_behind : Scene → List (List ℕ × ℕ) → List tree.Name → List (List ℕ × ℕ)
+texts_behind s ds [] = ds
+texts_behind s ds (x ∷ xs) = texts_behind s (with_text ds (text_at s x.token) x.token) xs
+
 abbrev pub with_texts : Scene → List tree.Name → List (List ℕ × ℕ)
-with_texts s [] = []
-with_texts s (x ∷ xs) = (text_at s x.token, x.token) ∷ with_texts s xs
+with_texts s xs = texts_behind s [] xs
 
 -- ---- routines
 

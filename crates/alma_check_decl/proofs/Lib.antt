@@ -1,0 +1,6 @@
+mod Whole
+mod Constants
+mod TypeRows
+mod TypeTokens
+mod TypeSteps
+mod All

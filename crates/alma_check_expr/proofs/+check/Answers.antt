@@ -1,0 +1,823 @@
+use Rattle.std.proofs.Common.{◌≡◌, ℕ, ◌+◌, List, [], ◌∷◌, ◌++◌, Option, None, Some, drop, refl, sym, subst, ap, ◌∙◌, arith}
+use Rattle.std.specs.Prelude.{slice_get, option_map, option_to_list}
+use Rattle.alma_tree.specs.declared.phrase.Label as dl
+use Rattle.alma_ir.specs.View.{cases_list}
+use Rattle.alma_walk.specs.Arms.{arms_judged}
+use Rattle.alma_walk.proofs.Cases as cases
+use Rattle.alma_check_expr.proofs.Begins.{stops_as, node_is, err_if, err_on, on_ok}
+use Rattle.alma_check_expr.proofs.Calls as calls
+use Rattle.alma_check_expr.proofs.Calls.{args_last}
+use Rattle.alma_check_expr.proofs.Empty.{empty_by, some_by}
+use Rattle.alma_check_expr.proofs.Items as items
+use Rattle.alma_check_expr.proofs.Labels.{settled, spans_count, labels_begin, labels_turn, arms_turn, grown_begin, of_ok}
+use Rattle.alma_check_expr.proofs.Loops as loops
+use Rattle.alma_check_expr.proofs.Same.{kind_same}
+use Rattle.alma_tree.specs.declared.phrase.Compared as dc
+use Rattle.alma_tree.specs.declared.phrase.Exprs as dx
+use Rattle.alma_ir.specs.Tree as ir
+use Rattle.alma_ir.specs.View.{test_of, arg_of, args_list}
+use Rattle.alma_rules.specs.Numbered as tree
+use Rattle.alma_rules.specs.View as view
+use Rattle.alma_rules.specs.Judged.{Judged, fine, of_value}
+use Rattle.alma_rules.specs.Answers.{Stops}
+use Rattle.alma_rules.specs.Scene.{inside_of, in_constant}
+use Rattle.alma_rules.specs.Parts as parts
+use Rattle.alma_rules.specs.ExprRules as rules
+use Rattle.alma_rules.specs.Nodes as nodes
+use Rattle.alma_rules.specs.Walk as walk
+use Rattle.alma_check_rules.specs.Views.{scene_of, headings_in, found_view, use_view, operand_view, operator_view, typing_of, denoted_of, denoted_in, located_of, callee_in, callee_of, operands_of, operands_in, args_of, args_in, stmts_of, stmts_in, typing_in, formal_view, span_view, spans_view, spans_of, spans_in}
+use Rattle.alma_check_build.specs.Lists.{guarded_of, arms_of, arms_in, branches_of, branches_in, cases_of, cases_in}
+use Rattle.alma_walk.proofs.Judging.{stops_more, passed, no_memory, answers_as}
+use Rattle.alma_walk.proofs.Onwards.{first_fine, onward_begin, onward_end, nothing_behind}
+use Rattle.alma_walk.proofs.Rows as rows
+use Rattle.alma_walk.proofs.Exprs as exprs
+use Rattle.alma_walk.proofs.Desigs as desigs
+use Rattle.alma_walk.proofs.Stmts as stmts
+use Rattle.alma_walk.proofs.Turns as turns
+use Rattle.alma_walk.specs.Appends.{append_args, append_arms, append_branches}
+use Rattle.alma_check_join.specs.Onward.{onward_operands, onward_args, onward_stmts, onward_arms, onward_cases, onward_branches, onward_spans}
+use Rattle.alma_check_expr.proofs.+check.Goals as goal
+
+-- ---- Expressions
+
+pub expression::check_expr-returns-in_err-left : goal.expression::check_expr-returns-in_err-left
+expression::check_expr-returns-in_err-left t c =
+    passed _ typing_of _ _ _ c.from_residual.ensures.1
+    (exprs.expr_stops (scene_of c.args.env.now c.args.place) c.args.slot.now c.args.expr.now _ c.in_err-left.ensures)
+
+pub expression::check_expr-returns-in-None : goal.expression::check_expr-returns-in-None
+expression::check_expr-returns-in-None t c =
+    rw (exprs.expr_alone (scene_of c.args.env.now c.args.place) c.args.slot.now c.args.expr.now c.in-None.is) c.in_ok-left.ensures
+
+pub expression::check_expr-returns-in-Some : goal.expression::check_expr-returns-in-Some
+expression::check_expr-returns-in-Some t c =
+    rw (exprs.expr_pair (scene_of c.args.env.now c.args.place) c.args.slot.now c.args.expr.now c.in-Some.compared c.in-Some.is, c.in_ok-left.ensures)
+    (rw (c.deref.ensures, c.deref-in-Some.ensures) at (c.join_relation.ensures (walk.judge_simple (scene_of c.args.env.now c.args.place) c.check_simple.new.slot (view.view_simple (dc.out-Compared c.deref.result.now).right)) c.check_simple.new.slot c.check_simple-right.new.slot c.check_simple-right.ensures))
+
+pub expression::check_simple-returns-in_err-first : goal.expression::check_simple-returns-in_err-first
+expression::check_simple-returns-in_err-first t c =
+    passed _ typing_of _ _ _ c.from_residual.ensures.1
+    (exprs.simple_stops (scene_of c.args.env.now c.args.place) c.args.slot.now c.args.simple.now (operand_view c.first_add-operand.result) _ (rw c.deref.ensures.value at c.first_add-operand.ensures) (rw c.deref-2.ensures at c.in_err-first.ensures))
+
+pub expression::check_simple-returns : goal.expression::check_simple-returns
+expression::check_simple-returns t c =
+    exprs.simple_fine (scene_of c.args.env.now c.args.place) c.args.slot.now c.args.simple.now (operand_view c.first_add-operand.result) typing_of _ _ _ _ (rw c.deref.ensures.value at c.first_add-operand.ensures) (rw c.deref-2.ensures at c.in_ok-first.ensures)
+    (c.join_sum.ensures _ _ _ c.check_terms-rest.ensures)
+
+pub expression::check_terms-loop-link-init : goal.expression::check_terms-loop-link-init
+expression::check_terms-loop-link-init t c =
+    sym (onward_begin (λ (x y : parts.Operands). x ++ y) [] (walk.judge_terms (scene_of c.args.env.now c.args.place) c.args.slot.now c.args.sort (view.terms_of c.args.more.now)) (λ b. refl))
+
+pub expression::check_terms-loop-link-preserved : goal.expression::check_terms-loop-link-preserved
+expression::check_terms-loop-link-preserved t c =
+    c.loop-link.invariant ∙ ap (onward_operands (operands_in c.loop-link.kept)) (exprs.terms_next (scene_of c.args.env.now c.args.place) c.loop-link.slot c.loop-link.link-index c.args.sort c.args.more.now c.link-item.result (operator_view c.add_operator-operator.result) (operand_view c.behind-operand.result) c.loop-link-test.true c.link-item.is c.add_operator-operator.ensures c.behind-operand.ensures)
+    ∙ c.in_ok-add_operand.ensures _ _ (λ m. walk.judge_terms (scene_of c.args.env.now c.args.place) m c.args.sort (view.terms_of (drop (c.loop-link.link-index + 1) c.args.more.now))) c.check_term-typed.ensures
+
+pub expression::check_terms-returns-in_err-add_operand : goal.expression::check_terms-returns-in_err-add_operand
+expression::check_terms-returns-in_err-add_operand t c =
+    passed _ operands_of _ _ _ c.from_residual.ensures.1
+    (subst (λ (j : Judged parts.Operands). Stops j.faults _) (sym (c.loop-link.invariant ∙ ap (onward_operands (operands_in c.loop-link.kept)) (exprs.terms_next (scene_of c.args.env.now c.args.place) c.loop-link.slot c.loop-link.link-index c.args.sort c.args.more.now c.link-item.result (operator_view c.add_operator-operator.result) (operand_view c.behind-operand.result) c.loop-link-test.true c.link-item.is c.add_operator-operator.ensures c.behind-operand.ensures)))
+    (c.in_err-add_operand.ensures _ _ (λ m. walk.judge_terms (scene_of c.args.env.now c.args.place) m c.args.sort (view.terms_of (drop (c.loop-link.link-index + 1) c.args.more.now))) c.check_term-typed.ensures))
+
+pub expression::check_terms-returns : goal.expression::check_terms-returns
+expression::check_terms-returns t c =
+    c.loop-link.invariant ∙ ap (onward_operands (operands_in c.loop-link.kept)) (exprs.terms_end (scene_of c.args.env.now c.args.place) c.loop-link.slot c.loop-link.link-index c.args.sort c.args.more.now c.loop-link-test.false)
+    ∙ onward_end (λ (x y : parts.Operands). x ++ y) [] (operands_in c.loop-link.kept) c.loop-link.slot nothing_behind
+
+pub expression::check_term-returns-in_err-first : goal.expression::check_term-returns-in_err-first
+expression::check_term-returns-in_err-first t c =
+    passed _ typing_of _ _ _ c.from_residual.ensures.1
+    (exprs.term_stops (scene_of c.args.env.now c.args.place) c.args.slot.now (operand_view c.args.operand) c.args.term.now (operand_view c.first_mul-inner.result) _ (rw c.deref.ensures.value at c.first_mul-inner.ensures) c.in_err-first.ensures)
+
+pub expression::check_term-returns : goal.expression::check_term-returns
+expression::check_term-returns t c =
+    exprs.term_fine (scene_of c.args.env.now c.args.place) c.args.slot.now (operand_view c.args.operand) c.args.term.now (operand_view c.first_mul-inner.result) typing_of _ _ _ _ (rw c.deref.ensures.value at c.first_mul-inner.ensures) c.in_ok-first.ensures
+    (c.join_product.ensures _ _ _ c.check_factors-rest.ensures)
+
+pub expression::check_factors-loop-link-init : goal.expression::check_factors-loop-link-init
+expression::check_factors-loop-link-init t c =
+    sym (onward_begin (λ (x y : parts.Operands). x ++ y) [] (walk.judge_factors (scene_of c.args.env.now c.args.place) c.args.slot.now c.args.sort (view.factors_of c.args.more.now)) (λ b. refl))
+
+pub expression::check_factors-loop-link-preserved : goal.expression::check_factors-loop-link-preserved
+expression::check_factors-loop-link-preserved t c =
+    c.loop-link.invariant ∙ ap (onward_operands (operands_in c.loop-link.kept)) (exprs.factors_next (scene_of c.args.env.now c.args.place) c.loop-link.slot c.loop-link.link-index c.args.sort c.args.more.now c.link-item.result (operator_view c.mul_operator-operator.result) (operand_view c.behind-operand.result) c.loop-link-test.true c.link-item.is c.mul_operator-operator.ensures c.behind-operand.ensures)
+    ∙ c.in_ok-add_operand.ensures _ _ (λ m. walk.judge_factors (scene_of c.args.env.now c.args.place) m c.args.sort (view.factors_of (drop (c.loop-link.link-index + 1) c.args.more.now))) c.check_factor-typed.ensures
+
+pub expression::check_factors-returns-in_err-add_operand : goal.expression::check_factors-returns-in_err-add_operand
+expression::check_factors-returns-in_err-add_operand t c =
+    passed _ operands_of _ _ _ c.from_residual.ensures.1
+    (subst (λ (j : Judged parts.Operands). Stops j.faults _) (sym (c.loop-link.invariant ∙ ap (onward_operands (operands_in c.loop-link.kept)) (exprs.factors_next (scene_of c.args.env.now c.args.place) c.loop-link.slot c.loop-link.link-index c.args.sort c.args.more.now c.link-item.result (operator_view c.mul_operator-operator.result) (operand_view c.behind-operand.result) c.loop-link-test.true c.link-item.is c.mul_operator-operator.ensures c.behind-operand.ensures)))
+    (c.in_err-add_operand.ensures _ _ (λ m. walk.judge_factors (scene_of c.args.env.now c.args.place) m c.args.sort (view.factors_of (drop (c.loop-link.link-index + 1) c.args.more.now))) c.check_factor-typed.ensures))
+
+pub expression::check_factors-returns : goal.expression::check_factors-returns
+expression::check_factors-returns t c =
+    c.loop-link.invariant ∙ ap (onward_operands (operands_in c.loop-link.kept)) (exprs.factors_end (scene_of c.args.env.now c.args.place) c.loop-link.slot c.loop-link.link-index c.args.sort c.args.more.now c.loop-link-test.false)
+    ∙ onward_end (λ (x y : parts.Operands). x ++ y) [] (operands_in c.loop-link.kept) c.loop-link.slot nothing_behind
+
+pub expression::check_factor-returns-in-Not : goal.expression::check_factor-returns-in-Not
+expression::check_factor-returns-in-Not t c =
+    rw (c.in-Not.is, exprs.not_at (scene_of c.args.env.now c.args.place) c.args.slot.now (operand_view c.args.operand) c.in-Not.node c.in-Not.primary)
+    (rw c.primary_number-inner.ensures at (c.join_not.ensures (walk.judge_primary (inside_of (scene_of c.args.env.now c.args.place)) c.args.slot.now (view.view_primary c.in-Not.primary)) c.check_primary-typed.new.slot c.check_primary-typed.ensures))
+
+pub expression::check_factor-returns-in-Plain : goal.expression::check_factor-returns-in-Plain
+expression::check_factor-returns-in-Plain t c =
+    rw (c.in-Plain.is, exprs.plain_at (scene_of c.args.env.now c.args.place) c.args.slot.now (operand_view c.args.operand) c.in-Plain.node c.in-Plain.primary)
+    (c.join_factor.ensures (walk.judge_primary (scene_of c.args.env.now c.args.place) c.args.slot.now (view.view_primary c.in-Plain.primary)) c.check_primary-typed-in-Plain.new.slot c.check_primary-typed-in-Plain.ensures)
+
+pub expression::check_primary-returns-in-Number : goal.expression::check_primary-returns-in-Number
+expression::check_primary-returns-in-Number t c =
+    rw (c.in-Number.is, exprs.number_is (scene_of c.args.env.now c.args.place) c.args.slot.now c.in-Number.node c.in-Number.number.token) (c.check_number.ensures c.args.slot.now)
+
+pub expression::check_primary-returns-in-Literal : goal.expression::check_primary-returns-in-Literal
+expression::check_primary-returns-in-Literal t c =
+    rw (c.in-Literal.is, exprs.literal_is (scene_of c.args.env.now c.args.place) c.args.slot.now c.in-Literal.node c.in-Literal.literal.token) (c.check_literal.ensures c.args.slot.now)
+
+pub expression::check_primary-returns-in-Desig : goal.expression::check_primary-returns-in-Desig
+expression::check_primary-returns-in-Desig t c =
+    rw (c.in-Desig.is, rows.named_is c.in-Desig.node c.in-Desig.desig c.in-Desig.args) c.check_named.ensures
+
+pub expression::check_primary-returns-in-Paren : goal.expression::check_primary-returns-in-Paren
+expression::check_primary-returns-in-Paren t c =
+    rw (c.in-Paren.is, rows.paren_is c.in-Paren.node c.in-Paren.body) (rw c.deref.ensures at c.check_parens.ensures)
+
+pub expression::check_primary-returns-in-Known : goal.expression::check_primary-returns-in-Known
+expression::check_primary-returns-in-Known t c =
+    rw (c.in-Known.is, rows.known_is c.in-Known.node c.in-Known.desig, exprs.known_at (scene_of c.args.env.now c.args.place) c.args.slot.now c.in-Known.node (view.view_desig c.in-Known.desig)) (c.join_known.ensures _ _ c.check_desig-found.ensures)
+
+pub expression::check_primary-returns-in-Ord : goal.expression::check_primary-returns-in-Ord
+expression::check_primary-returns-in-Ord t c =
+    rw (c.in-Ord.is, rows.ord_is c.in-Ord.node c.in-Ord.value, exprs.ord_at (scene_of c.args.env.now c.args.place) c.args.slot.now c.in-Ord.node (view.view_expr c.in-Ord.value.value)) (rw c.deref-in-Ord.ensures at (c.join_ord.ensures _ _ c.check_expr-typed.ensures))
+
+pub expression::check_primary-returns-in-Chr : goal.expression::check_primary-returns-in-Chr
+expression::check_primary-returns-in-Chr t c =
+    rw (c.in-Chr.is, rows.chr_is c.in-Chr.node c.in-Chr.value, exprs.chr_at (scene_of c.args.env.now c.args.place) c.args.slot.now c.in-Chr.node (view.view_expr c.in-Chr.value.value)) (rw c.deref-in-Chr.ensures at (c.join_chr.ensures _ _ c.check_expr-typed-in-Chr.ensures))
+
+-- ---- Designators
+
+pub designator::check_desig-returns-in_err-start : goal.designator::check_desig-returns-in_err-start
+designator::check_desig-returns-in_err-start t c =
+    passed _ (denoted_of (headings_in c.args.env.now)) _ _ _ c.from_residual-in_err-start.ensures.1
+    (desigs.desig_stops (scene_of c.args.env.now c.args.place) c.args.slot.now (use_view c.args.wanted) c.args.desig.now (found_view (headings_in c.args.env.now) c.in_ok-found.found) _ c.in_ok-found.ensures (c.in_err-start.ensures c.args.slot.now))
+
+pub designator::check_desig-returns-in_err-found : goal.designator::check_desig-returns-in_err-found
+designator::check_desig-returns-in_err-found t c =
+    no_memory _ (denoted_of (headings_in c.args.env.now)) _ _ c.from_residual.ensures.1
+
+pub designator::check_desig-returns : goal.designator::check_desig-returns
+designator::check_desig-returns t c =
+    rw (desigs.desig_fine (scene_of c.args.env.now c.args.place) c.args.slot.now (use_view c.args.wanted) c.args.desig.now (found_view (headings_in c.args.env.now) c.in_ok-found.found) c.args.slot.now (denoted_in (headings_in c.args.env.now) c.in_ok-start.start) c.in_ok-found.ensures (c.in_ok-start.ensures c.args.slot.now))
+    (c.join_desig.ensures (walk.judge_selectors (scene_of c.args.env.now c.args.place) (of_value c.args.slot.now (denoted_in (headings_in c.args.env.now) c.in_ok-start.start)) (view.selectors_of c.args.desig.now.more.items)) _ (rw c.deref.ensures.value at c.check_selectors-part.ensures))
+
+pub designator::check_selectors-loop-selector-preserved : goal.designator::check_selectors-loop-selector-preserved
+designator::check_selectors-loop-selector-preserved t c =
+    c.loop-selector.invariant ∙ (desigs.selectors_next (scene_of c.args.env.now c.args.place) (of_value c.loop-selector.slot (denoted_in (headings_in c.args.env.now) c.loop-selector.found)) c.loop-selector.selector-index c.args.more.now c.selector-item.result c.loop-selector-test.true c.selector-item.is)
+    ∙ ap (λ (j : Judged parts.Denoted). walk.judge_selectors (scene_of c.args.env.now c.args.place) j (view.selectors_of (drop (c.loop-selector.selector-index + 1) c.args.more.now))) c.in_ok-check_selector.ensures
+
+pub designator::check_selectors-returns-in_err-check_selector : goal.designator::check_selectors-returns-in_err-check_selector
+designator::check_selectors-returns-in_err-check_selector t c =
+    passed _ (denoted_of (headings_in c.args.env.now)) _ _ _ c.from_residual.ensures.1
+    (subst (λ (j : Judged parts.Denoted). Stops j.faults _) (sym (c.loop-selector.invariant ∙ (desigs.selectors_next (scene_of c.args.env.now c.args.place) (of_value c.loop-selector.slot (denoted_in (headings_in c.args.env.now) c.loop-selector.found)) c.loop-selector.selector-index c.args.more.now c.selector-item.result c.loop-selector-test.true c.selector-item.is)))
+    (desigs.selectors_stops (scene_of c.args.env.now c.args.place) (view.selectors_of (drop (c.loop-selector.selector-index + 1) c.args.more.now)) _ _ c.in_err-check_selector.ensures))
+
+pub designator::check_selectors-returns : goal.designator::check_selectors-returns
+designator::check_selectors-returns t c =
+    c.loop-selector.invariant ∙ desigs.selectors_end (scene_of c.args.env.now c.args.place) (of_value c.loop-selector.slot (denoted_in (headings_in c.args.env.now) c.loop-selector.found)) c.loop-selector.selector-index c.args.more.now c.loop-selector-test.false
+
+pub designator::check_selector-returns-in-Field : goal.designator::check_selector-returns-in-Field
+designator::check_selector-returns-in-Field t c =
+    rw (c.in-Field.is, desigs.field_at_is (scene_of c.args.env.now c.args.place) (of_value c.args.slot.now (denoted_in (headings_in c.args.env.now) c.args.found)) c.in-Field.node (view.view_name c.in-Field.name)) (rw c.text.ensures at (c.join_field.ensures c.args.slot.now))
+
+pub designator::check_selector-returns-in-Index : goal.designator::check_selector-returns-in-Index
+designator::check_selector-returns-in-Index t c =
+    rw (c.in-Index.is, desigs.index_at_is (scene_of c.args.env.now c.args.place) (of_value c.args.slot.now (denoted_in (headings_in c.args.env.now) c.args.found)) c.in-Index.node (view.view_exprs c.in-Index.indices)) (c.join_array.ensures _ _ c.check_indices-part.ensures)
+
+pub designator::check_indices-returns-in_err-part : goal.designator::check_indices-returns-in_err-part
+designator::check_indices-returns-in_err-part t c =
+    passed _ (denoted_of (headings_in c.args.env.now)) _ _ _ c.from_residual.ensures.1
+    (rw (desigs.indices_at (scene_of c.args.env.now c.args.place) (of_value c.args.slot.now (denoted_in (headings_in c.args.env.now) c.args.found)) c.args.indices.now) (desigs.index_tail_stops (scene_of c.args.env.now c.args.place) _ _ _ (rw c.deref.ensures at c.in_err-part.ensures)))
+
+pub designator::check_indices-loop-index-init : goal.designator::check_indices-loop-index-init
+designator::check_indices-loop-index-init t c =
+    desigs.indices_at (scene_of c.args.env.now c.args.place) (of_value c.args.slot.now (denoted_in (headings_in c.args.env.now) c.args.found)) c.args.indices.now ∙ ap (λ (j : Judged parts.Denoted). walk.judge_index_tail (scene_of c.args.env.now c.args.place) j (view.exprs_of (dx.out-Exprs c.args.indices.now).more.items)) (rw c.deref.ensures at c.in_ok-part.ensures)
+
+pub designator::check_indices-loop-index-preserved : goal.designator::check_indices-loop-index-preserved
+designator::check_indices-loop-index-preserved t c =
+    c.loop-index.invariant ∙ (desigs.index_next (scene_of c.args.env.now c.args.place) (of_value c.loop-index.slot (denoted_in (headings_in c.args.env.now) c.loop-index.part)) c.loop-index.index-index (dx.out-Exprs c.args.indices.now).more.items c.index-item.result c.loop-index-test.true c.index-item.is) ∙ ap (λ (j : Judged parts.Denoted). walk.judge_index_tail (scene_of c.args.env.now c.args.place) j (view.exprs_of (drop (c.loop-index.index-index + 1) (dx.out-Exprs c.args.indices.now).more.items))) c.in_ok-check_index.ensures
+
+pub designator::check_indices-returns-in_err-check_index : goal.designator::check_indices-returns-in_err-check_index
+designator::check_indices-returns-in_err-check_index t c =
+    passed _ (denoted_of (headings_in c.args.env.now)) _ _ _ c.from_residual-in_err-check_index.ensures.1
+    (subst (λ (j : Judged parts.Denoted). Stops j.faults _) (sym (c.loop-index.invariant ∙ (desigs.index_next (scene_of c.args.env.now c.args.place) (of_value c.loop-index.slot (denoted_in (headings_in c.args.env.now) c.loop-index.part)) c.loop-index.index-index (dx.out-Exprs c.args.indices.now).more.items c.index-item.result c.loop-index-test.true c.index-item.is))) (desigs.index_tail_stops (scene_of c.args.env.now c.args.place) (view.exprs_of (drop (c.loop-index.index-index + 1) (dx.out-Exprs c.args.indices.now).more.items)) _ _ c.in_err-check_index.ensures))
+
+pub designator::check_indices-returns : goal.designator::check_indices-returns
+designator::check_indices-returns t c =
+    c.loop-index.invariant ∙ desigs.index_end (scene_of c.args.env.now c.args.place) (of_value c.loop-index.slot (denoted_in (headings_in c.args.env.now) c.loop-index.part)) c.loop-index.index-index (dx.out-Exprs c.args.indices.now).more.items c.loop-index-test.false
+
+pub designator::check_index-returns : goal.designator::check_index-returns
+designator::check_index-returns t c =
+    c.join_index.ensures (walk.judge_expr (scene_of c.args.env.now c.args.place) c.args.slot.now (view.view_expr c.args.index.now)) c.args.slot.now _ c.check_expr-typed.ensures
+
+-- ---- Calls
+
+pub call::check_named-returns-in-None : goal.call::check_named-returns-in-None
+call::check_named-returns-in-None t c =
+    rw (c.in-None.is, exprs.value_at (scene_of c.args.env.now c.args.place) c.args.slot.now c.args.node (view.view_desig c.args.desig.now)) (c.join_value.ensures _ _ c.check_desig-found.ensures)
+
+pub call::check_named-returns-in-Some : goal.call::check_named-returns-in-Some
+call::check_named-returns-in-Some t c =
+    rw c.in-Some.is c.check_call.ensures
+
+pub call::check_call-returns-in_err-callee : goal.call::check_call-returns-in_err-callee
+call::check_call-returns-in_err-callee t c =
+    passed _ typing_of _ _ _ c.from_residual.ensures.1
+    (exprs.call_stops (scene_of c.args.env.now c.args.place) c.args.slot.now c.args.node (view.view_desig c.args.desig.now) c.args.values.now _ (c.in_err-callee.ensures _ _ c.check_desig-found.ensures))
+
+pub call::check_call-returns-in-None : goal.call::check_call-returns-in-None
+call::check_call-returns-in-None t c =
+    rw (c.in-None.is, exprs.call_none (scene_of c.args.env.now c.args.place) c.args.slot.now c.args.node _ (view.view_desig c.args.desig.now) (callee_in (headings_in c.args.env.now) c.in_ok-callee.callee) (c.in_ok-callee.ensures (walk.judge_desig (scene_of c.args.env.now c.args.place) c.args.slot.now rules.as_procedure (view.view_desig c.args.desig.now)) _ c.check_desig-found.ensures)) (c.join_call.ensures (fine c.check_desig-found.new.slot ir.no_args) _ _ (ap (λ a. of_value c.check_desig-found.new.slot (Some (args_list a))) (sym c.new.ensures.items)))
+
+pub call::check_call-returns-in-Some : goal.call::check_call-returns-in-Some
+call::check_call-returns-in-Some t c =
+    rw (c.in-Some.is, exprs.call_some (scene_of c.args.env.now c.args.place) c.args.slot.now c.args.node _ (view.view_desig c.args.desig.now) (view.view_exprs c.in-Some.values) (callee_in (headings_in c.args.env.now) c.in_ok-callee.callee) (c.in_ok-callee.ensures (walk.judge_desig (scene_of c.args.env.now c.args.place) c.args.slot.now rules.as_procedure (view.view_desig c.args.desig.now)) _ c.check_desig-found.ensures), calls.count_at (scene_of c.args.env.now c.args.place) c.in-Some.values, sym c.len.ensures) (c.join_call.ensures _ _ _ c.check_arguments-args.ensures)
+
+-- ---- Parens
+
+pub parens::check_sequence-returns : goal.parens::check_sequence-returns
+parens::check_sequence-returns t c =
+    c.join_sequence.ensures (walk.judge_stmts (inside_of (scene_of c.args.env.now c.args.place)) c.args.slot.now (view.view_stmts c.args.body.now)) _ c.check_stmts-stmts.ensures
+
+pub parens::check_parens-returns-then-not-is_empty : goal.parens::check_parens-returns-then-not-is_empty
+parens::check_parens-returns-then-not-is_empty t c =
+    rw (exprs.paren_more (scene_of c.args.env.now c.args.place) c.args.slot.now c.args.node c.args.body.now (some_by c.args.body.now.more.items (sym c.is_empty.ensures ∙ c.if-not-is_empty.true))) c.check_sequence.ensures
+
+pub parens::check_parens-returns-in-Value : goal.parens::check_parens-returns-in-Value
+parens::check_parens-returns-in-Value t c =
+    rw (exprs.paren_value (scene_of c.args.env.now c.args.place) c.args.slot.now c.args.node c.in-Value.node c.args.body.now c.in-Value.value (empty_by c.args.body.now.more.items (sym c.is_empty.ensures ∙ c.if-not-is_empty.false)) (sym c.deref.ensures ∙ c.in-Value.is)) (c.join_parens.ensures _ _ c.check_expr-typed.ensures)
+
+-- ---- Statements
+
+pub sequence::check_stmt-returns-in-Assign : goal.sequence::check_stmt-returns-in-Assign
+sequence::check_stmt-returns-in-Assign t c =
+    rw (c.in-Assign.is, rows.assign_is c.in-Assign.node c.in-Assign.target c.in-Assign.value) c.check_assign.ensures
+
+pub sequence::check_stmt-returns-in-If : goal.sequence::check_stmt-returns-in-If
+sequence::check_stmt-returns-in-If t c =
+    rw (c.in-If.is, rows.if_is c.in-If.node c.in-If.test c.in-If.then c.in-If.elsifs c.in-If.otherwise) (rw (c.deref.ensures.value) at c.check_if.ensures)
+
+pub sequence::check_stmt-returns-in-While : goal.sequence::check_stmt-returns-in-While
+sequence::check_stmt-returns-in-While t c =
+    rw (c.in-While.is, rows.while_is c.in-While.node c.in-While.test c.in-While.body) c.check_while.ensures
+
+pub sequence::check_stmt-returns-in-Repeat : goal.sequence::check_stmt-returns-in-Repeat
+sequence::check_stmt-returns-in-Repeat t c =
+    rw (c.in-Repeat.is, rows.repeat_is c.in-Repeat.node c.in-Repeat.body c.in-Repeat.test) c.check_repeat.ensures
+
+pub sequence::check_stmt-returns-in-For : goal.sequence::check_stmt-returns-in-For
+sequence::check_stmt-returns-in-For t c =
+    rw (c.in-For.is, rows.for_is c.in-For.node c.in-For.variable c.in-For.from c.in-For.to c.in-For.by c.in-For.body) c.check_for.ensures
+
+pub sequence::check_stmt-returns-in-Some : goal.sequence::check_stmt-returns-in-Some
+sequence::check_stmt-returns-in-Some t c =
+    rw (c.in-Some.is, rows.some_is c.in-Some.node c.in-Some.variable c.in-Some.from c.in-Some.to c.in-Some.body) c.check_some.ensures
+
+pub sequence::check_stmt-returns-in-Case : goal.sequence::check_stmt-returns-in-Case
+sequence::check_stmt-returns-in-Case t c =
+    rw (c.in-Case.is, rows.case_is c.in-Case.node c.in-Case.value c.in-Case.first c.in-Case.more c.in-Case.otherwise) (rw (c.deref-in-Case.ensures, c.deref-in-Case-2.ensures.value) at c.check_case.ensures)
+
+pub sequence::check_stmt-returns-in-Either : goal.sequence::check_stmt-returns-in-Either
+sequence::check_stmt-returns-in-Either t c =
+    rw (c.in-Either.is, rows.either_is c.in-Either.node c.in-Either.first c.in-Either.more) (rw (c.deref-in-Either.ensures.value) at c.check_either.ensures)
+
+pub sequence::check_stmt-returns-in-Forall : goal.sequence::check_stmt-returns-in-Forall
+sequence::check_stmt-returns-in-Forall t c =
+    rw (c.in-Forall.is, rows.forall_is c.in-Forall.node c.in-Forall.choice c.in-Forall.body) c.check_forall.ensures
+
+pub sequence::check_stmt-returns-in-Commit : goal.sequence::check_stmt-returns-in-Commit
+sequence::check_stmt-returns-in-Commit t c =
+    rw (c.in-Commit.is, rows.commit_is c.in-Commit.node c.in-Commit.body) c.check_commit.ensures
+
+pub sequence::check_stmt-returns-in-Return : goal.sequence::check_stmt-returns-in-Return
+sequence::check_stmt-returns-in-Return t c =
+    rw (c.in-Return.is, rows.return_is c.in-Return.node c.in-Return.value) c.check_return.ensures
+
+pub sequence::check_stmt-returns-in-Read : goal.sequence::check_stmt-returns-in-Read
+sequence::check_stmt-returns-in-Read t c =
+    rw (c.in-Read.is, rows.read_is c.in-Read.node c.in-Read.first c.in-Read.more) (rw (c.deref-in-Read.ensures.value) at c.check_read.ensures)
+
+pub sequence::check_stmt-returns-in-Writeln : goal.sequence::check_stmt-returns-in-Writeln
+sequence::check_stmt-returns-in-Writeln t c =
+    rw (c.in-Writeln.is, rows.writeln_is c.in-Writeln.node c.in-Writeln.items) c.check_writeln.ensures
+
+pub sequence::check_stmt-returns-in-Nothing : goal.sequence::check_stmt-returns-in-Nothing
+sequence::check_stmt-returns-in-Nothing t c =
+    rw (c.in-Nothing.is, stmts.nothing_at (scene_of c.args.env.now c.args.place) c.args.slot.now c.in-Nothing.node) (ap (of_value c.args.slot.now) (sym c.nothing.ensures))
+
+pub sequence::check_stmt-returns-in-Value : goal.sequence::check_stmt-returns-in-Value
+sequence::check_stmt-returns-in-Value t c =
+    rw c.in-Value.is c.check_value.ensures
+
+pub sequence::check_stmt-returns-in-Write : goal.sequence::check_stmt-returns-in-Write
+sequence::check_stmt-returns-in-Write t c =
+    rw c.in-Write.is c.check_write.ensures
+
+pub sequence::check_stmts-returns-in_err-first : goal.sequence::check_stmts-returns-in_err-first
+sequence::check_stmts-returns-in_err-first t c =
+    passed _ stmts_of _ _ _ c.from_residual.ensures.1
+    (stmts.stmts_stops (scene_of c.args.env.now c.args.place) c.args.slot.now c.args.stmts.now _ (rw c.deref.ensures at c.in_err-first.ensures))
+
+pub sequence::check_stmts-returns : goal.sequence::check_stmts-returns
+sequence::check_stmts-returns t c =
+    answers_as _ _ stmts_of _ _ (stmts.stmts_fine (scene_of c.args.env.now c.args.place) c.args.slot.now c.args.stmts.now _ _ (rw c.deref.ensures at c.in_ok-first.ensures)) (rw c.deref-2.ensures.value at c.check_more.ensures)
+
+pub sequence::check_more-loop-stmt-preserved : goal.sequence::check_more-loop-stmt-preserved
+sequence::check_more-loop-stmt-preserved t c =
+    c.loop-stmt.invariant ∙ ap (onward_stmts (stmts_in c.loop-stmt.kept)) (stmts.stmts_next (scene_of c.args.env.now c.args.place) c.loop-stmt.slot c.loop-stmt.stmt-index c.args.more.now c.stmt-item.result c.loop-stmt-test.true c.stmt-item.is)
+    ∙ c.in_ok-add_stmts.ensures _ _ (λ m. walk.judge_stmt_tail (scene_of c.args.env.now c.args.place) m (view.stmts_of (drop (c.loop-stmt.stmt-index + 1) c.args.more.now))) c.check_stmt-next.ensures
+
+pub sequence::check_more-returns-in_err-add_stmts : goal.sequence::check_more-returns-in_err-add_stmts
+sequence::check_more-returns-in_err-add_stmts t c =
+    passed _ stmts_of _ _ _ c.from_residual.ensures.1
+    (subst (λ (j : Judged _). Stops j.faults _) (sym (c.loop-stmt.invariant ∙ ap (onward_stmts (stmts_in c.loop-stmt.kept)) (stmts.stmts_next (scene_of c.args.env.now c.args.place) c.loop-stmt.slot c.loop-stmt.stmt-index c.args.more.now c.stmt-item.result c.loop-stmt-test.true c.stmt-item.is))) (c.in_err-add_stmts.ensures _ _ (λ m. walk.judge_stmt_tail (scene_of c.args.env.now c.args.place) m (view.stmts_of (drop (c.loop-stmt.stmt-index + 1) c.args.more.now))) c.check_stmt-next.ensures))
+
+pub sequence::check_more-returns : goal.sequence::check_more-returns
+sequence::check_more-returns t c =
+    c.loop-stmt.invariant ∙ ap (onward_stmts (stmts_in c.loop-stmt.kept)) (stmts.stmts_end (scene_of c.args.env.now c.args.place) c.loop-stmt.slot c.loop-stmt.stmt-index c.args.more.now c.loop-stmt-test.false)
+    ∙ onward_end parts.append_stmts ir.no_stmts (stmts_in c.loop-stmt.kept) c.loop-stmt.slot stmts.stmts_last
+
+pub input::check_reads-loop-desig-preserved : goal.input::check_reads-loop-desig-preserved
+input::check_reads-loop-desig-preserved t c =
+    c.loop-desig.invariant ∙ ap (onward_stmts (stmts_in c.loop-desig.kept)) (stmts.reads_next (scene_of c.args.env.now c.args.place) c.loop-desig.slot c.loop-desig.desig-index c.args.more.now c.desig-item.result c.loop-desig-test.true c.desig-item.is)
+    ∙ c.in_ok-add_stmts.ensures _ _ (λ m. walk.judge_reads (scene_of c.args.env.now c.args.place) m (view.desigs_of (drop (c.loop-desig.desig-index + 1) c.args.more.now))) c.check_read_one-next.ensures
+
+pub input::check_reads-returns-in_err-add_stmts : goal.input::check_reads-returns-in_err-add_stmts
+input::check_reads-returns-in_err-add_stmts t c =
+    passed _ stmts_of _ _ _ c.from_residual.ensures.1
+    (subst (λ (j : Judged _). Stops j.faults _) (sym (c.loop-desig.invariant ∙ ap (onward_stmts (stmts_in c.loop-desig.kept)) (stmts.reads_next (scene_of c.args.env.now c.args.place) c.loop-desig.slot c.loop-desig.desig-index c.args.more.now c.desig-item.result c.loop-desig-test.true c.desig-item.is))) (c.in_err-add_stmts.ensures _ _ (λ m. walk.judge_reads (scene_of c.args.env.now c.args.place) m (view.desigs_of (drop (c.loop-desig.desig-index + 1) c.args.more.now))) c.check_read_one-next.ensures))
+
+pub input::check_reads-returns : goal.input::check_reads-returns
+input::check_reads-returns t c =
+    c.loop-desig.invariant ∙ ap (onward_stmts (stmts_in c.loop-desig.kept)) (stmts.reads_end (scene_of c.args.env.now c.args.place) c.loop-desig.slot c.loop-desig.desig-index c.args.more.now c.loop-desig-test.false)
+    ∙ onward_end parts.append_stmts ir.no_stmts (stmts_in c.loop-desig.kept) c.loop-desig.slot stmts.stmts_last
+
+pub input::check_item_tail-loop-item-preserved : goal.input::check_item_tail-loop-item-preserved
+input::check_item_tail-loop-item-preserved t c =
+    c.loop-item.invariant ∙ ap (onward_stmts (stmts_in c.loop-item.kept)) (stmts.items_next (scene_of c.args.env.now c.args.place) c.loop-item.slot c.loop-item.item-index c.args.more.now c.item-item.result c.loop-item-test.true c.item-item.is)
+    ∙ c.in_ok-add_stmts.ensures _ _ (λ m. walk.judge_item_tail (scene_of c.args.env.now c.args.place) m (view.exprs_of (drop (c.loop-item.item-index + 1) c.args.more.now))) c.check_item-next.ensures
+
+pub input::check_item_tail-returns-in_err-add_stmts : goal.input::check_item_tail-returns-in_err-add_stmts
+input::check_item_tail-returns-in_err-add_stmts t c =
+    passed _ stmts_of _ _ _ c.from_residual.ensures.1
+    (subst (λ (j : Judged _). Stops j.faults _) (sym (c.loop-item.invariant ∙ ap (onward_stmts (stmts_in c.loop-item.kept)) (stmts.items_next (scene_of c.args.env.now c.args.place) c.loop-item.slot c.loop-item.item-index c.args.more.now c.item-item.result c.loop-item-test.true c.item-item.is))) (c.in_err-add_stmts.ensures _ _ (λ m. walk.judge_item_tail (scene_of c.args.env.now c.args.place) m (view.exprs_of (drop (c.loop-item.item-index + 1) c.args.more.now))) c.check_item-next.ensures))
+
+pub input::check_item_tail-returns : goal.input::check_item_tail-returns
+input::check_item_tail-returns t c =
+    c.loop-item.invariant ∙ ap (onward_stmts (stmts_in c.loop-item.kept)) (stmts.items_end (scene_of c.args.env.now c.args.place) c.loop-item.slot c.loop-item.item-index c.args.more.now c.loop-item-test.false)
+    ∙ onward_end parts.append_stmts ir.no_stmts (stmts_in c.loop-item.kept) c.loop-item.slot stmts.stmts_last
+
+pub branch::check_elsifs-loop-elsif-preserved : goal.branch::check_elsifs-loop-elsif-preserved
+branch::check_elsifs-loop-elsif-preserved t c =
+    c.loop-elsif.invariant ∙ ap (onward_arms (arms_in c.loop-elsif.kept)) (stmts.elsifs_next (scene_of c.args.env.now c.args.place) c.loop-elsif.slot c.loop-elsif.elsif-index c.args.elsifs.now c.elsif-item.result c.loop-elsif-test.true c.elsif-item.is)
+    ∙ c.in_ok-add_guarded.ensures _ _ (λ m. walk.judge_elsifs (scene_of c.args.env.now c.args.place) m (view.elsifs_of (drop (c.loop-elsif.elsif-index + 1) c.args.elsifs.now))) c.check_guarded-arm.ensures
+
+pub branch::check_elsifs-returns-in_err-add_guarded : goal.branch::check_elsifs-returns-in_err-add_guarded
+branch::check_elsifs-returns-in_err-add_guarded t c =
+    passed _ arms_of _ _ _ c.from_residual.ensures.1
+    (subst (λ (j : Judged _). Stops j.faults _) (sym (c.loop-elsif.invariant ∙ ap (onward_arms (arms_in c.loop-elsif.kept)) (stmts.elsifs_next (scene_of c.args.env.now c.args.place) c.loop-elsif.slot c.loop-elsif.elsif-index c.args.elsifs.now c.elsif-item.result c.loop-elsif-test.true c.elsif-item.is))) (c.in_err-add_guarded.ensures _ _ (λ m. walk.judge_elsifs (scene_of c.args.env.now c.args.place) m (view.elsifs_of (drop (c.loop-elsif.elsif-index + 1) c.args.elsifs.now))) c.check_guarded-arm.ensures))
+
+pub branch::check_elsifs-returns : goal.branch::check_elsifs-returns
+branch::check_elsifs-returns t c =
+    c.loop-elsif.invariant ∙ ap (onward_arms (arms_in c.loop-elsif.kept)) (stmts.elsifs_end (scene_of c.args.env.now c.args.place) c.loop-elsif.slot c.loop-elsif.elsif-index c.args.elsifs.now c.loop-elsif-test.false)
+    ∙ onward_end append_arms ir.no_arms (arms_in c.loop-elsif.kept) c.loop-elsif.slot (stmts.arms_last (scene_of c.args.env.now c.args.place))
+
+pub choice::check_orelses-loop-body-preserved : goal.choice::check_orelses-loop-body-preserved
+choice::check_orelses-loop-body-preserved t c =
+    c.loop-body.invariant ∙ ap (onward_branches (branches_in c.loop-body.kept)) (stmts.orelses_next (scene_of c.args.env.now c.args.place) c.loop-body.slot c.loop-body.body-index c.args.more.now c.body-item.result c.loop-body-test.true c.body-item.is)
+    ∙ c.in_ok-add_branch.ensures _ _ (λ m. walk.judge_orelses (scene_of c.args.env.now c.args.place) m (view.orelses_of (drop (c.loop-body.body-index + 1) c.args.more.now))) c.check_stmts-stmts.ensures
+
+pub choice::check_orelses-returns-in_err-add_branch : goal.choice::check_orelses-returns-in_err-add_branch
+choice::check_orelses-returns-in_err-add_branch t c =
+    passed _ branches_of _ _ _ c.from_residual.ensures.1
+    (subst (λ (j : Judged _). Stops j.faults _) (sym (c.loop-body.invariant ∙ ap (onward_branches (branches_in c.loop-body.kept)) (stmts.orelses_next (scene_of c.args.env.now c.args.place) c.loop-body.slot c.loop-body.body-index c.args.more.now c.body-item.result c.loop-body-test.true c.body-item.is))) (c.in_err-add_branch.ensures _ _ (λ m. walk.judge_orelses (scene_of c.args.env.now c.args.place) m (view.orelses_of (drop (c.loop-body.body-index + 1) c.args.more.now))) c.check_stmts-stmts.ensures))
+
+pub choice::check_orelses-returns : goal.choice::check_orelses-returns
+choice::check_orelses-returns t c =
+    c.loop-body.invariant ∙ ap (onward_branches (branches_in c.loop-body.kept)) (stmts.orelses_end (scene_of c.args.env.now c.args.place) c.loop-body.slot c.loop-body.body-index c.args.more.now c.loop-body-test.false)
+    ∙ onward_end append_branches ir.no_branches (branches_in c.loop-body.kept) c.loop-body.slot (stmts.branches_last (scene_of c.args.env.now c.args.place))
+
+pub sequence::check_assign-returns-in_err-located : goal.sequence::check_assign-returns-in_err-located
+sequence::check_assign-returns-in_err-located t c =
+    passed _ stmts_of _ _ _ c.from_residual.ensures.1
+    (stmts.assign_stops (scene_of c.args.env.now c.args.place) c.args.slot.now c.args.node (view.view_desig c.args.target.now) (view.view_expr c.args.value.now) _ c.in_err-located.ensures)
+
+pub sequence::check_assign-returns : goal.sequence::check_assign-returns
+sequence::check_assign-returns t c =
+    stmts.assign_fine (scene_of c.args.env.now c.args.place) c.args.slot.now c.args.node (view.view_desig c.args.target.now) (view.view_expr c.args.value.now) stmts_of _ _ _ _ c.in_ok-located.ensures (c.join_assign.ensures _ _ _ c.check_expr-typed.ensures)
+
+pub sequence::check_place-returns : goal.sequence::check_place-returns
+sequence::check_place-returns t c =
+    c.join_place.ensures (walk.judge_desig (scene_of c.args.env.now c.args.place) c.args.slot.now rules.as_variable (view.view_desig c.args.desig.now)) _ c.check_desig-found.ensures
+
+pub sequence::check_condition-returns : goal.sequence::check_condition-returns
+sequence::check_condition-returns t c =
+    c.join_condition.ensures (walk.judge_expr (scene_of c.args.env.now c.args.place) c.args.slot.now (view.view_expr c.args.test.now)) _ c.check_expr-typed.ensures
+
+pub sequence::check_value-returns : goal.sequence::check_value-returns
+sequence::check_value-returns t c =
+    rw (stmts.value_at (scene_of c.args.env.now c.args.place) c.args.slot.now c.args.node (view.view_expr c.args.value.now)) (c.join_test.ensures _ _ c.check_condition-test.ensures)
+
+pub branch::check_guarded-returns-in_err-test : goal.branch::check_guarded-returns-in_err-test
+branch::check_guarded-returns-in_err-test t c =
+    passed _ guarded_of _ _ _ c.from_residual.ensures.1
+    (stops_more (nodes.condition_at (scene_of c.args.env.now c.args.place) (view.view_expr c.args.test.now) (walk.judge_expr (scene_of c.args.env.now c.args.place) c.args.slot.now (view.view_expr c.args.test.now))).faults _ _ c.in_err-test.ensures)
+
+pub branch::check_guarded-returns : goal.branch::check_guarded-returns
+branch::check_guarded-returns t c =
+    first_fine (λ (j : Judged (ir.Test × ir.Stmts)). j) _ (nodes.condition_at (scene_of c.args.env.now c.args.place) (view.view_expr c.args.test.now) (walk.judge_expr (scene_of c.args.env.now c.args.place) c.args.slot.now (view.view_expr c.args.test.now))) (λ m. walk.judge_stmts (scene_of c.args.env.now c.args.place) m (view.view_stmts c.args.then.now)) guarded_of _ _ _ _ refl c.in_ok-test.ensures (c.join_guarded.ensures _ _ _ c.check_stmts-body.ensures)
+
+pub branch::check_while-returns-in_err-test : goal.branch::check_while-returns-in_err-test
+branch::check_while-returns-in_err-test t c =
+    passed _ stmts_of _ _ _ c.from_residual.ensures.1
+    (stmts.while_stops (scene_of c.args.env.now c.args.place) c.args.slot.now c.args.node (view.view_expr c.args.test.now) (view.view_stmts c.args.body.now) _ c.in_err-test.ensures)
+
+pub branch::check_while-returns : goal.branch::check_while-returns
+branch::check_while-returns t c =
+    stmts.while_fine (scene_of c.args.env.now c.args.place) c.args.slot.now c.args.node (view.view_expr c.args.test.now) (view.view_stmts c.args.body.now) stmts_of _ _ _ _ c.in_ok-test.ensures (c.join_while.ensures _ _ _ c.check_stmts-body.ensures)
+
+pub branch::check_repeat-returns-in_err-body : goal.branch::check_repeat-returns-in_err-body
+branch::check_repeat-returns-in_err-body t c =
+    passed _ stmts_of _ _ _ c.from_residual.ensures.1
+    (stmts.repeat_stops (scene_of c.args.env.now c.args.place) c.args.slot.now c.args.node (view.view_stmts c.args.body.now) (view.view_expr c.args.test.now) _ c.in_err-body.ensures)
+
+pub branch::check_repeat-returns : goal.branch::check_repeat-returns
+branch::check_repeat-returns t c =
+    stmts.repeat_fine (scene_of c.args.env.now c.args.place) c.args.slot.now c.args.node (view.view_stmts c.args.body.now) (view.view_expr c.args.test.now) stmts_of _ _ _ _ c.in_ok-body.ensures (c.join_repeat.ensures _ _ _ c.check_condition-test.ensures)
+
+pub choice::check_forall-returns-in_err-choice : goal.choice::check_forall-returns-in_err-choice
+choice::check_forall-returns-in_err-choice t c =
+    passed _ stmts_of _ _ _ c.from_residual.ensures.1
+    (stmts.forall_stops (scene_of c.args.env.now c.args.place) c.args.slot.now c.args.node (view.view_stmts c.args.choice.now) (view.view_stmts c.args.body.now) _ c.in_err-choice.ensures)
+
+pub choice::check_forall-returns : goal.choice::check_forall-returns
+choice::check_forall-returns t c =
+    stmts.forall_fine (scene_of c.args.env.now c.args.place) c.args.slot.now c.args.node (view.view_stmts c.args.choice.now) (view.view_stmts c.args.body.now) stmts_of _ _ _ _ c.in_ok-choice.ensures (c.join_forall.ensures _ _ _ c.check_stmts-body.ensures)
+
+pub choice::check_commit-returns : goal.choice::check_commit-returns
+choice::check_commit-returns t c =
+    rw (stmts.commit_at (scene_of c.args.env.now c.args.place) c.args.slot.now c.args.node (view.view_stmts c.args.body.now)) (c.join_commit.ensures _ _ c.check_stmts-body.ensures)
+
+-- ---- IF, EITHER, RETURN, READ, WRITE, BY
+
+pub branch::check_if-returns-in_err-arms : goal.branch::check_if-returns-in_err-arms
+branch::check_if-returns-in_err-arms t c =
+    passed _ stmts_of _ _ _ c.from_residual.ensures.1
+    (stmts.if_stops (scene_of c.args.env.now c.args.place) c.args.slot.now c.args.node (view.view_expr c.args.test.now) (view.view_stmts c.args.then.now) (view.elsifs_of c.args.elsifs.now) (view.else_of c.args.otherwise.now) _ (c.in_err-arms.ensures (stmts.guarded (scene_of c.args.env.now c.args.place) c.args.slot.now (view.view_expr c.args.test.now) (view.view_stmts c.args.then.now)) _ (λ m. walk.judge_elsifs (scene_of c.args.env.now c.args.place) m (view.elsifs_of c.args.elsifs.now)) c.check_guarded-first.ensures))
+
+pub branch::check_if-returns-in_err-arms-2 : goal.branch::check_if-returns-in_err-arms-2
+branch::check_if-returns-in_err-arms-2 t c =
+    passed _ stmts_of _ _ _ c.from_residual-in_err-arms-2.ensures.1
+    (stmts.if_arms_stops (scene_of c.args.env.now c.args.place) c.args.slot.now c.args.node (view.view_expr c.args.test.now) (view.view_stmts c.args.then.now) (view.elsifs_of c.args.elsifs.now) (view.else_of c.args.otherwise.now) _ (arms_in c.in_ok-arms.arms) _ (c.in_ok-arms.ensures (stmts.guarded (scene_of c.args.env.now c.args.place) c.args.slot.now (view.view_expr c.args.test.now) (view.view_stmts c.args.then.now)) _ (λ m. walk.judge_elsifs (scene_of c.args.env.now c.args.place) m (view.elsifs_of c.args.elsifs.now)) c.check_guarded-first.ensures) c.in_err-arms-2.ensures)
+
+pub branch::check_if-returns : goal.branch::check_if-returns
+branch::check_if-returns t c =
+    stmts.if_fine (scene_of c.args.env.now c.args.place) c.args.slot.now c.args.node (view.view_expr c.args.test.now) (view.view_stmts c.args.then.now) (view.elsifs_of c.args.elsifs.now) (view.else_of c.args.otherwise.now) _ _ _ (arms_in c.in_ok-arms.arms) (arms_in c.in_ok-arms-2.arms) stmts_of _ (c.in_ok-arms.ensures (stmts.guarded (scene_of c.args.env.now c.args.place) c.args.slot.now (view.view_expr c.args.test.now) (view.view_stmts c.args.then.now)) _ (λ m. walk.judge_elsifs (scene_of c.args.env.now c.args.place) m (view.elsifs_of c.args.elsifs.now)) c.check_guarded-first.ensures) c.in_ok-arms-2.ensures
+    (c.join_if.ensures _ _ _ c.check_else-other.ensures)
+
+pub branch::check_else-returns-in-None : goal.branch::check_else-returns-in-None
+branch::check_else-returns-in-None t c =
+    rw (c.in-None.is, stmts.else_none (scene_of c.args.env.now c.args.place) c.args.slot.now) (ap (of_value c.args.slot.now) (sym c.nothing.ensures))
+
+pub branch::check_else-returns-in-Some : goal.branch::check_else-returns-in-Some
+branch::check_else-returns-in-Some t c =
+    rw (c.in-Some.is, stmts.else_some (scene_of c.args.env.now c.args.place) c.args.slot.now (view.view_stmts c.in-Some.body)) c.check_stmts.ensures
+
+pub choice::check_either-returns-in_err-branches : goal.choice::check_either-returns-in_err-branches
+choice::check_either-returns-in_err-branches t c =
+    passed _ stmts_of _ _ _ c.from_residual.ensures.1 (stmts.either_stops (scene_of c.args.env.now c.args.place) c.args.slot.now c.args.node (view.view_stmts c.args.first.now) (view.orelses_of c.args.more.now) _ (c.in_err-branches.ensures (walk.judge_stmts (scene_of c.args.env.now c.args.place) c.args.slot.now (view.view_stmts c.args.first.now)) _ (λ m. walk.judge_orelses (scene_of c.args.env.now c.args.place) m (view.orelses_of c.args.more.now)) c.check_stmts-first.ensures))
+
+pub choice::check_either-returns : goal.choice::check_either-returns
+choice::check_either-returns t c =
+    rw (stmts.either_whole (scene_of c.args.env.now c.args.place) c.args.slot.now c.args.node (view.view_stmts c.args.first.now) (view.orelses_of c.args.more.now)) (c.join_either.ensures _ _ (answers_as _ _ branches_of _ _ (c.in_ok-branches.ensures (walk.judge_stmts (scene_of c.args.env.now c.args.place) c.args.slot.now (view.view_stmts c.args.first.now)) _ (λ m. walk.judge_orelses (scene_of c.args.env.now c.args.place) m (view.orelses_of c.args.more.now)) c.check_stmts-first.ensures) c.check_orelses-branches.ensures))
+
+pub input::check_return-returns-in-None : goal.input::check_return-returns-in-None
+input::check_return-returns-in-None t c =
+    rw (c.in-None.is, stmts.bare_return_is (scene_of c.args.env.now c.args.place) c.args.slot.now c.args.node) (c.check_bare_return.ensures c.args.slot.now)
+
+pub input::check_return-returns-in-Some : goal.input::check_return-returns-in-Some
+input::check_return-returns-in-Some t c =
+    rw (c.in-Some.is, stmts.return_is (scene_of c.args.env.now c.args.place) c.args.slot.now c.args.node (view.view_expr c.in-Some.value)) (c.join_return.ensures _ _ c.check_expr-typed.ensures)
+
+pub input::check_read_one-returns : goal.input::check_read_one-returns
+input::check_read_one-returns t c =
+    c.join_read.ensures _ _ c.check_place-located.ensures
+
+pub input::check_read-returns-in_err-first : goal.input::check_read-returns-in_err-first
+input::check_read-returns-in_err-first t c =
+    passed _ stmts_of _ _ _ c.from_residual.ensures.1
+    (stmts.read_stops (scene_of c.args.env.now c.args.place) c.args.slot.now c.args.node (view.view_desig c.args.first.now) (view.desigs_of c.args.more.now) _ c.in_err-first.ensures)
+
+pub input::check_read-returns : goal.input::check_read-returns
+input::check_read-returns t c =
+    answers_as _ _ stmts_of _ _ (stmts.read_fine (scene_of c.args.env.now c.args.place) c.args.slot.now c.args.node (view.view_desig c.args.first.now) (view.desigs_of c.args.more.now) _ _ c.in_ok-first.ensures) c.check_reads.ensures
+
+pub input::check_write-returns : goal.input::check_write-returns
+input::check_write-returns t c =
+    rw (stmts.write_is (scene_of c.args.env.now c.args.place) c.args.slot.now c.args.node (view.view_exprs c.args.items.now)) c.check_items.ensures
+
+pub input::check_items-returns-in_err-first : goal.input::check_items-returns-in_err-first
+input::check_items-returns-in_err-first t c =
+    passed _ stmts_of _ _ _ c.from_residual.ensures.1
+    (stmts.items_stops (scene_of c.args.env.now c.args.place) c.args.slot.now c.args.items.now _ (rw c.deref.ensures at c.in_err-first.ensures))
+
+pub input::check_items-returns : goal.input::check_items-returns
+input::check_items-returns t c =
+    answers_as _ _ stmts_of _ _ (stmts.items_fine (scene_of c.args.env.now c.args.place) c.args.slot.now c.args.items.now _ _ (rw c.deref.ensures at c.in_ok-first.ensures)) (rw c.deref-2.ensures.value at c.check_item_tail.ensures)
+
+pub input::check_writeln-returns-in-None : goal.input::check_writeln-returns-in-None
+input::check_writeln-returns-in-None t c =
+    rw (c.in-None.is, stmts.writeln_is (scene_of c.args.env.now c.args.place) c.args.slot.now c.args.node tree.no_args) (c.join_line.ensures _ c.args.slot.now (stmts.line_none (scene_of c.args.env.now c.args.place) c.args.slot.now ∙ ap (of_value c.args.slot.now) (sym c.nothing.ensures)))
+
+pub input::check_writeln-returns-in-Some : goal.input::check_writeln-returns-in-Some
+input::check_writeln-returns-in-Some t c =
+    rw (c.in-Some.is, stmts.writeln_is (scene_of c.args.env.now c.args.place) c.args.slot.now c.args.node _) (c.join_line.ensures _ _ c.check_line_items-stmts.ensures)
+
+pub input::check_line_items-returns-in-None : goal.input::check_line_items-returns-in-None
+input::check_line_items-returns-in-None t c =
+    rw (c.in-None.is, stmts.line_empty (scene_of c.args.env.now c.args.place) c.args.slot.now) (ap (of_value c.args.slot.now) (sym c.nothing.ensures))
+
+pub input::check_line_items-returns-in-Some : goal.input::check_line_items-returns-in-Some
+input::check_line_items-returns-in-Some t c =
+    rw (c.in-Some.is, stmts.line_some (scene_of c.args.env.now c.args.place) c.args.slot.now (view.view_exprs c.in-Some.values)) c.check_items.ensures
+
+pub turns::check_by-returns-in-None : goal.turns::check_by-returns-in-None
+turns::check_by-returns-in-None t c =
+    rw (c.in-None.is, stmts.by_none (scene_of c.args.env.now c.args.place) c.args.slot.now) refl
+
+pub turns::check_by-returns-in-Some : goal.turns::check_by-returns-in-Some
+turns::check_by-returns-in-Some t c =
+    rw (c.in-Some.is, stmts.by_some (scene_of c.args.env.now c.args.place) c.args.slot.now (view.view_expr c.in-Some.by)) (c.join_step.ensures _ _ c.check_expr-typed.ensures)
+
+-- ---- arguments
+
+pub call::check_arguments-returns-in_err-kept : goal.call::check_arguments-returns-in_err-kept
+call::check_arguments-returns-in_err-kept t c =
+    passed _ args_of _ _ _ c.from_residual.ensures.1
+    (stops_as _ _ _ (calls.arguments_begin (scene_of c.args.env.now c.args.place) c.args.slot.now (nodes.formals_of (callee_in (headings_in c.args.env.now) c.args.callee)) c.args.values.now (option_map formal_view c.formal_of-formal.result) (args_in (Some c.new.result)) c.formal_of-formal.ensures (ap (λ l. Some (args_list l)) c.new.ensures.items))
+    (c.in_err-kept.ensures (calls.argument (scene_of c.args.env.now c.args.place) c.args.slot.now (option_map formal_view c.formal_of-formal.result) (dx.out-Exprs c.args.values.now).first.value) _
+    (λ m. walk.judge_argument_tail (scene_of c.args.env.now c.args.place) m (drop 1 (nodes.formals_of (callee_in (headings_in c.args.env.now) c.args.callee))) (view.exprs_of (dx.out-Exprs c.args.values.now).more.items)) (rw c.deref.ensures at c.check_argument-first.ensures)))
+
+pub call::check_arguments-returns : goal.call::check_arguments-returns
+call::check_arguments-returns t c =
+    answers_as _ _ args_of _ _
+    (calls.arguments_begin (scene_of c.args.env.now c.args.place) c.args.slot.now (nodes.formals_of (callee_in (headings_in c.args.env.now) c.args.callee)) c.args.values.now (option_map formal_view c.formal_of-formal.result) (args_in (Some c.new.result)) c.formal_of-formal.ensures (ap (λ l. Some (args_list l)) c.new.ensures.items)
+    ∙ c.in_ok-kept.ensures (calls.argument (scene_of c.args.env.now c.args.place) c.args.slot.now (option_map formal_view c.formal_of-formal.result) (dx.out-Exprs c.args.values.now).first.value) _
+    (λ m. walk.judge_argument_tail (scene_of c.args.env.now c.args.place) m (drop 1 (nodes.formals_of (callee_in (headings_in c.args.env.now) c.args.callee))) (view.exprs_of (dx.out-Exprs c.args.values.now).more.items)) (rw c.deref.ensures at c.check_argument-first.ensures))
+    (rw c.deref-2.ensures.value at c.check_argument_tail.ensures)
+
+pub call::check_argument_tail-loop-value-preserved : goal.call::check_argument_tail-loop-value-preserved
+call::check_argument_tail-loop-value-preserved t c = (
+  omega arith,
+  c.loop-value.invariant.1 ∙ ap (onward_args (args_in c.loop-value.kept)) (calls.arguments_turn (scene_of c.args.env.now c.args.place) c.loop-value.slot c.loop-value.value-index (nodes.formals_of (callee_in (headings_in c.args.env.now) c.args.callee)) c.args.more.now c.value-item.result (option_map formal_view c.formal_of-formal.result) c.loop-value-test.true c.value-item.is (c.formal_of-formal.ensures ∙ ap (λ i. slice_get (nodes.formals_of (callee_in (headings_in c.args.env.now) c.args.callee)) (i + 1)) c.loop-value.invariant.0))
+      ∙ c.in_ok-add_argument.ensures (calls.argument (scene_of c.args.env.now c.args.place) c.loop-value.slot (option_map formal_view c.formal_of-formal.result) c.value-item.result) _
+      (λ m. walk.judge_argument_tail (scene_of c.args.env.now c.args.place) m (drop (c.loop-value.value-index + 1 + 1) (nodes.formals_of (callee_in (headings_in c.args.env.now) c.args.callee))) (view.exprs_of (drop (c.loop-value.value-index + 1) c.args.more.now))) c.check_argument-arg.ensures,
+)
+
+pub call::check_argument_tail-returns-in_err-add_argument : goal.call::check_argument_tail-returns-in_err-add_argument
+call::check_argument_tail-returns-in_err-add_argument t c =
+    passed _ args_of _ _ _ c.from_residual.ensures.1
+    (stops_as _ _ _ (c.loop-value.invariant.1 ∙ ap (onward_args (args_in c.loop-value.kept)) (calls.arguments_turn (scene_of c.args.env.now c.args.place) c.loop-value.slot c.loop-value.value-index (nodes.formals_of (callee_in (headings_in c.args.env.now) c.args.callee)) c.args.more.now c.value-item.result (option_map formal_view c.formal_of-formal.result) c.loop-value-test.true c.value-item.is (c.formal_of-formal.ensures ∙ ap (λ i. slice_get (nodes.formals_of (callee_in (headings_in c.args.env.now) c.args.callee)) (i + 1)) c.loop-value.invariant.0)))
+    (c.in_err-add_argument.ensures (calls.argument (scene_of c.args.env.now c.args.place) c.loop-value.slot (option_map formal_view c.formal_of-formal.result) c.value-item.result) _
+    (λ m. walk.judge_argument_tail (scene_of c.args.env.now c.args.place) m (drop (c.loop-value.value-index + 1 + 1) (nodes.formals_of (callee_in (headings_in c.args.env.now) c.args.callee))) (view.exprs_of (drop (c.loop-value.value-index + 1) c.args.more.now))) c.check_argument-arg.ensures))
+
+pub call::check_argument_tail-returns : goal.call::check_argument_tail-returns
+call::check_argument_tail-returns t c =
+    c.loop-value.invariant.1 ∙ ap (onward_args (args_in c.loop-value.kept)) (exprs.arguments_end (scene_of c.args.env.now c.args.place) c.loop-value.slot c.loop-value.value-index _ c.args.more.now c.loop-value-test.false)
+    ∙ onward_end append_args ir.no_args (args_in c.loop-value.kept) c.loop-value.slot args_last
+
+pub call::check_argument-returns-in_err-kind : goal.call::check_argument-returns-in_err-kind
+call::check_argument-returns-in_err-kind t c = no_memory _ arg_of _ _ c.from_residual.ensures.1
+
+pub call::check_argument-returns : goal.call::check_argument-returns
+call::check_argument-returns t c =
+    rw (node_is c.args.value.now, kind_same c.args.env.now c.args.place (view.view_expr c.args.value.now), sym c.in_ok-kind.ensures)
+    (c.join_argument.ensures (walk.judge_expr (scene_of c.args.env.now c.args.place) c.args.slot.now (view.view_expr c.args.value.now)) _ c.check_expr-typed.ensures)
+
+-- ---- items
+
+pub input::check_item-returns-in-None : goal.input::check_item-returns-in-None
+input::check_item-returns-in-None t c =
+    rw (items.item_plain (scene_of c.args.env.now c.args.place) c.args.slot.now (tree.expr_node (view.view_expr c.args.item.now)) (walk.judge_expr (scene_of c.args.env.now c.args.place) c.args.slot.now (view.view_expr c.args.item.now)) (nodes.item_literal (view.view_expr c.args.item.now)) (sym c.in-None.ensures), node_is c.args.item.now)
+    (c.join_item.ensures _ _ c.check_expr-typed.ensures)
+
+pub input::check_item-returns-in-Some : goal.input::check_item-returns-in-Some
+input::check_item-returns-in-Some t c =
+    rw (items.item_text (scene_of c.args.env.now c.args.place) c.args.slot.now (tree.expr_node (view.view_expr c.args.item.now)) (walk.judge_expr (scene_of c.args.env.now c.args.place) c.args.slot.now (view.view_expr c.args.item.now)) (nodes.item_literal (view.view_expr c.args.item.now)) _ (sym c.in-Some.ensures))
+    (c.check_text.ensures c.args.slot.now)
+
+-- ---- FOR and SOME
+
+pub turns::check_for-returns-in_err-counter : goal.turns::check_for-returns-in_err-counter
+turns::check_for-returns-in_err-counter t c =
+    passed _ stmts_of _ _ _ c.from_residual.ensures.1 (rw c.in_err-counter.ensures tt)
+
+pub turns::check_for-returns-in_err-found : goal.turns::check_for-returns-in_err-found
+turns::check_for-returns-in_err-found t c =
+    passed _ stmts_of _ _ _ c.from_residual-in_err-found.ensures.1
+    (turns.for_name_stops (scene_of c.args.env.now c.args.place) c.args.slot.now c.args.node (view.view_name c.args.variable.now) (view.view_expr c.args.from.now) (view.view_expr c.args.to.now) (view.by_of c.args.by.now) (view.view_stmts c.args.body.now) _
+    (loops.variable_stops c.args.env.now c.args.place c.args.slot.now c.args.node c.args.variable.now _ c.in_err-found.ensures))
+
+pub turns::check_for-returns-in_err-low : goal.turns::check_for-returns-in_err-low
+turns::check_for-returns-in_err-low t c =
+    passed _ stmts_of _ _ _ c.from_residual-in_err-low.ensures.1
+    (loops.for_low_stops c.args.env.now c.args.place c.args.slot.now c.args.node c.args.variable.now (view.view_expr c.args.from.now) (view.view_expr c.args.to.now) (view.by_of c.args.by.now) (view.view_stmts c.args.body.now)
+    c.in_ok-found.found c.take_loop.new.slot _ c.in_ok-counter.ensures.1 (loops.variable_is c.args.env.now c.args.place c.args.slot.now c.args.node c.args.variable.now c.in_ok-found.found c.in_ok-found.ensures.0 c.in_ok-found.ensures.1) c.in_err-low.ensures)
+
+pub turns::check_for-returns-in_err-bounds : goal.turns::check_for-returns-in_err-bounds
+turns::check_for-returns-in_err-bounds t c =
+    passed _ stmts_of _ _ _ c.from_residual-in_err-bounds.ensures.1
+    (loops.for_high_stops c.args.env.now c.args.place c.args.slot.now c.args.node c.args.variable.now (view.view_expr c.args.from.now) (view.view_expr c.args.to.now) (view.by_of c.args.by.now) (view.view_stmts c.args.body.now)
+    c.in_ok-found.found c.take_loop.new.slot _ _ _ c.in_ok-counter.ensures.1 (loops.variable_is c.args.env.now c.args.place c.args.slot.now c.args.node c.args.variable.now c.in_ok-found.found c.in_ok-found.ensures.0 c.in_ok-found.ensures.1) c.in_ok-low.ensures
+    (c.in_err-bounds.ensures (walk.judge_expr (scene_of c.args.env.now c.args.place) c.check_expr.new.slot (view.view_expr c.args.to.now)) _ c.check_expr-high.ensures))
+
+pub turns::check_for-returns-in_err-turns : goal.turns::check_for-returns-in_err-turns
+turns::check_for-returns-in_err-turns t c =
+    let b = c.in_ok-bounds.ensures (walk.judge_expr (scene_of c.args.env.now c.args.place) c.check_expr.new.slot (view.view_expr c.args.to.now)) c.check_expr-high.new.slot c.check_expr-high.ensures in
+    passed _ stmts_of _ _ _ c.from_residual-in_err-turns.ensures.1
+    (loops.for_by_stops c.args.env.now c.args.place c.args.slot.now c.args.node c.args.variable.now (view.view_expr c.args.from.now) (view.view_expr c.args.to.now) (view.by_of c.args.by.now) (view.view_stmts c.args.body.now)
+    c.in_ok-found.found c.take_loop.new.slot _ _ _ c.in_ok-bounds.bounds _ c.in_ok-counter.ensures.1 (loops.variable_is c.args.env.now c.args.place c.args.slot.now c.args.node c.args.variable.now c.in_ok-found.found c.in_ok-found.ensures.0 c.in_ok-found.ensures.1) c.in_ok-low.ensures b.1
+    (c.in_err-turns.ensures (walk.judge_by (scene_of c.args.env.now c.args.place) c.check_expr-high.new.slot (view.by_of c.args.by.now)) _ c.check_by-step.ensures))
+
+pub turns::check_for-returns : goal.turns::check_for-returns
+turns::check_for-returns t c =
+    let b = c.in_ok-bounds.ensures (walk.judge_expr (scene_of c.args.env.now c.args.place) c.check_expr.new.slot (view.view_expr c.args.to.now)) c.check_expr-high.new.slot c.check_expr-high.ensures in
+    let y = c.in_ok-turns.ensures (walk.judge_by (scene_of c.args.env.now c.args.place) c.check_expr-high.new.slot (view.by_of c.args.by.now)) c.check_by-step.new.slot c.check_by-step.ensures in
+    loops.for_joined c.args.env.now c.args.place c.args.slot.now c.args.node c.args.variable.now (view.view_expr c.args.from.now) (view.view_expr c.args.to.now) (view.by_of c.args.by.now) (view.view_stmts c.args.body.now)
+    c.in_ok-found.found c.in_ok-counter.counter c.take_loop.new.slot c.check_expr.new.slot c.check_expr-high.new.slot c.check_by-step.new.slot _ _ c.in_ok-bounds.bounds c.in_ok-turns.turns _
+    c.in_ok-counter.ensures.0 c.in_ok-counter.ensures.1 (loops.variable_is c.args.env.now c.args.place c.args.slot.now c.args.node c.args.variable.now c.in_ok-found.found c.in_ok-found.ensures.0 c.in_ok-found.ensures.1) c.in_ok-low.ensures b.0 b.1 y.0 y.1 y.2
+    (c.join_for.ensures (walk.judge_stmts (scene_of c.args.env.now c.args.place) c.check_by-step.new.slot (view.view_stmts c.args.body.now)) c.args.slot.now c.check_expr.new.slot c.check_expr-high.new.slot c.check_by-step.new.slot _ c.check_stmts-body.ensures)
+
+pub turns::check_some-returns-in_err-counter : goal.turns::check_some-returns-in_err-counter
+turns::check_some-returns-in_err-counter t c =
+    passed _ stmts_of _ _ _ c.from_residual.ensures.1 (rw c.in_err-counter.ensures tt)
+
+pub turns::check_some-returns-in_err-found : goal.turns::check_some-returns-in_err-found
+turns::check_some-returns-in_err-found t c =
+    passed _ stmts_of _ _ _ c.from_residual-in_err-found.ensures.1
+    (turns.some_name_stops (scene_of c.args.env.now c.args.place) c.args.slot.now c.args.node (view.view_name c.args.variable.now) (view.view_expr c.args.from.now) (view.view_expr c.args.to.now) (view.view_stmts c.args.body.now) _
+    (loops.variable_stops c.args.env.now c.args.place c.args.slot.now c.args.node c.args.variable.now _ c.in_err-found.ensures))
+
+pub turns::check_some-returns-in_err-low : goal.turns::check_some-returns-in_err-low
+turns::check_some-returns-in_err-low t c =
+    passed _ stmts_of _ _ _ c.from_residual-in_err-low.ensures.1
+    (loops.some_low_stops c.args.env.now c.args.place c.args.slot.now c.args.node c.args.variable.now (view.view_expr c.args.from.now) (view.view_expr c.args.to.now) (view.view_stmts c.args.body.now)
+    c.in_ok-found.found c.take_loop.new.slot _ c.in_ok-counter.ensures.1 (loops.variable_is c.args.env.now c.args.place c.args.slot.now c.args.node c.args.variable.now c.in_ok-found.found c.in_ok-found.ensures.0 c.in_ok-found.ensures.1) c.in_err-low.ensures)
+
+pub turns::check_some-returns-in_err-bounds : goal.turns::check_some-returns-in_err-bounds
+turns::check_some-returns-in_err-bounds t c =
+    passed _ stmts_of _ _ _ c.from_residual-in_err-bounds.ensures.1
+    (loops.some_high_stops c.args.env.now c.args.place c.args.slot.now c.args.node c.args.variable.now (view.view_expr c.args.from.now) (view.view_expr c.args.to.now) (view.view_stmts c.args.body.now)
+    c.in_ok-found.found c.take_loop.new.slot _ _ _ c.in_ok-counter.ensures.1 (loops.variable_is c.args.env.now c.args.place c.args.slot.now c.args.node c.args.variable.now c.in_ok-found.found c.in_ok-found.ensures.0 c.in_ok-found.ensures.1) c.in_ok-low.ensures
+    (c.in_err-bounds.ensures (walk.judge_expr (scene_of c.args.env.now c.args.place) c.check_expr.new.slot (view.view_expr c.args.to.now)) _ c.check_expr-high.ensures))
+
+pub turns::check_some-returns : goal.turns::check_some-returns
+turns::check_some-returns t c =
+    let b = c.in_ok-bounds.ensures (walk.judge_expr (scene_of c.args.env.now c.args.place) c.check_expr.new.slot (view.view_expr c.args.to.now)) c.check_expr-high.new.slot c.check_expr-high.ensures in
+    loops.some_joined c.args.env.now c.args.place c.args.slot.now c.args.node c.args.variable.now (view.view_expr c.args.from.now) (view.view_expr c.args.to.now) (view.view_stmts c.args.body.now)
+    c.in_ok-found.found c.in_ok-counter.counter c.take_loop.new.slot c.check_expr.new.slot c.check_expr-high.new.slot _ _ c.in_ok-bounds.bounds _
+    c.in_ok-counter.ensures.0 c.in_ok-counter.ensures.1 (loops.variable_is c.args.env.now c.args.place c.args.slot.now c.args.node c.args.variable.now c.in_ok-found.found c.in_ok-found.ensures.0 c.in_ok-found.ensures.1) c.in_ok-low.ensures b.0 b.1
+    (c.join_some.ensures (walk.judge_stmts (scene_of c.args.env.now c.args.place) c.check_expr-high.new.slot (view.view_stmts c.args.body.now)) c.args.slot.now c.check_expr.new.slot c.check_expr-high.new.slot _ c.check_stmts-body.ensures)
+
+-- ---- CASE
+
+pub case::check_case-returns-in_err-typed : goal.case::check_case-returns-in_err-typed
+case::check_case-returns-in_err-typed t c =
+    passed _ stmts_of _ _ _ c.from_residual.ensures.1
+    (cases.case_stops (scene_of c.args.env.now c.args.place) c.args.slot.now c.args.node (view.view_expr c.args.value.now) (view.view_arm c.args.first.now) (view.arms_of c.args.more.now) (view.else_of c.args.otherwise.now) _ c.in_err-typed.ensures)
+
+pub case::check_case-returns-in_err-case : goal.case::check_case-returns-in_err-case
+case::check_case-returns-in_err-case t c =
+    passed _ stmts_of _ _ _ c.from_residual-in_err-case.ensures.1
+    (cases.case_arms_stops (scene_of c.args.env.now c.args.place) c.args.slot.now c.args.node (view.view_expr c.args.value.now) (view.view_arm c.args.first.now) (view.arms_of c.args.more.now) (view.else_of c.args.otherwise.now) _ _ _ c.in_ok-typed.ensures
+    (c.in_err-case.ensures (arms_judged (scene_of c.args.env.now c.args.place) c.check_expr.new.slot (typing_in c.in_ok-typed.typed) (view.view_arm c.args.first.now) (view.arms_of c.args.more.now)) _ c.check_arms-arms.ensures))
+
+pub case::check_case-returns : goal.case::check_case-returns
+case::check_case-returns t c =
+    let a = c.in_ok-case.ensures (arms_judged (scene_of c.args.env.now c.args.place) c.check_expr.new.slot (typing_in c.in_ok-typed.typed) (view.view_arm c.args.first.now) (view.arms_of c.args.more.now)) c.check_arms-arms.new.slot c.check_arms-arms.ensures in
+    cases.case_fine (scene_of c.args.env.now c.args.place) c.args.slot.now c.args.node (view.view_expr c.args.value.now) (view.view_arm c.args.first.now) (view.arms_of c.args.more.now) (view.else_of c.args.otherwise.now)
+    c.check_expr.new.slot c.check_arms-arms.new.slot _ (typing_in c.in_ok-typed.typed) (cases_in c.in_ok-case.case.arms) stmts_of _ c.in_ok-typed.ensures a.1
+    (rw a.0 at (c.join_case.ensures (walk.judge_case_else (scene_of c.args.env.now c.args.place) c.check_arms-arms.new.slot (view.else_of c.args.otherwise.now)) c.check_expr.new.slot c.check_arms-arms.new.slot _ c.check_case_else-other.ensures))
+
+pub case::check_case_else-returns-in-None : goal.case::check_case_else-returns-in-None
+case::check_case_else-returns-in-None t c =
+    rw (c.in-None.is, stmts.case_else_none (scene_of c.args.env.now c.args.place) c.args.slot.now) refl
+
+pub case::check_case_else-returns-in-Some : goal.case::check_case_else-returns-in-Some
+case::check_case_else-returns-in-Some t c =
+    rw (c.in-Some.is, stmts.case_else_some (scene_of c.args.env.now c.args.place) c.args.slot.now (view.view_stmts c.in-Some.body)) (c.join_else.ensures _ _ c.check_stmts-stmts.ensures)
+
+pub case::check_arms-returns-in_err-arms : goal.case::check_arms-returns-in_err-arms
+case::check_arms-returns-in_err-arms t c =
+    passed _ cases_of _ _ _ c.from_residual.ensures.1
+    (cases.arms_stops (scene_of c.args.env.now c.args.place) c.args.slot.now (typing_in c.args.case.now) (view.view_arm c.args.first.now) (view.arms_of c.args.more.now) _ (rw c.new-spans.ensures.items at c.in_err-arms.ensures.judged))
+
+pub case::check_arms-loop-arm-init : goal.case::check_arms-loop-arm-init
+case::check_arms-loop-arm-init t c =
+    cases.arms_fine (scene_of c.args.env.now c.args.place) c.args.slot.now (typing_in c.args.case.now) (view.view_arm c.args.first.now) (view.arms_of c.args.more.now) c.check_arm.new.slot (cases_in c.in_ok-arms.arms) (spans_view c.check_arm.new.spans.items)
+    (rw c.new-spans.ensures.items at c.in_ok-arms.ensures.judged) (rw c.new-spans.ensures.items at c.in_ok-arms.ensures.spans)
+
+pub case::check_arms-loop-arm-preserved : goal.case::check_arms-loop-arm-preserved
+case::check_arms-loop-arm-preserved t c =
+    let new = of_ok c.check_arm-next.result _ c.in_ok-add_cases.ensures.all_judged c.check_arm-next.ensures.spans in
+    c.loop-arm.invariant ∙ ap (onward_cases (cases_in c.loop-arm.arms)) (arms_turn (scene_of c.args.env.now c.args.place) c.loop-arm.slot c.loop-arm.arm-index (typing_in c.args.case.now) (spans_view c.loop-arm.spans.items) (spans_view c.check_arm-next.new.spans.items) c.args.more.now c.arm-item.result c.loop-arm-test.true c.arm-item.is new)
+    ∙ c.in_ok-add_cases.ensures.judged (walk.judge_arm (scene_of c.args.env.now c.args.place) c.loop-arm.slot (typing_in c.args.case.now) (spans_view c.loop-arm.spans.items) (view.view_arm c.arm-item.result)).arm _
+    (λ m. walk.judge_arm_tail (scene_of c.args.env.now c.args.place) m (typing_in c.args.case.now) (spans_view c.check_arm-next.new.spans.items) (view.arms_of (drop (c.loop-arm.arm-index + 1) c.args.more.now))) c.check_arm-next.ensures.judged
+
+pub case::check_arms-returns-in_err-add_cases : goal.case::check_arms-returns-in_err-add_cases
+case::check_arms-returns-in_err-add_cases t c =
+    passed _ cases_of _ _ _ c.from_residual-in_err-add_cases.ensures.1
+    (stops_as _ _ _ (c.loop-arm.invariant ∙ ap (onward_cases (cases_in c.loop-arm.arms)) (arms_turn (scene_of c.args.env.now c.args.place) c.loop-arm.slot c.loop-arm.arm-index (typing_in c.args.case.now) (spans_view c.loop-arm.spans.items) _ c.args.more.now c.arm-item.result c.loop-arm-test.true c.arm-item.is refl))
+    (c.in_err-add_cases.ensures.judged (walk.judge_arm (scene_of c.args.env.now c.args.place) c.loop-arm.slot (typing_in c.args.case.now) (spans_view c.loop-arm.spans.items) (view.view_arm c.arm-item.result)).arm _
+    (λ m. walk.judge_arm_tail (scene_of c.args.env.now c.args.place) m (typing_in c.args.case.now) (spans_view c.loop-arm.spans.items ++ (walk.judge_arm (scene_of c.args.env.now c.args.place) c.loop-arm.slot (typing_in c.args.case.now) (spans_view c.loop-arm.spans.items) (view.view_arm c.arm-item.result)).spans) (view.arms_of (drop (c.loop-arm.arm-index + 1) c.args.more.now))) c.check_arm-next.ensures.judged))
+
+pub case::check_arms-returns : goal.case::check_arms-returns
+case::check_arms-returns t c =
+    c.loop-arm.invariant ∙ ap (onward_cases (cases_in c.loop-arm.arms)) (cases.arms_end (scene_of c.args.env.now c.args.place) c.loop-arm.slot c.loop-arm.arm-index (typing_in c.args.case.now) (spans_view c.loop-arm.spans.items) c.args.more.now c.loop-arm-test.false)
+    ∙ onward_end parts.append_cases ir.no_cases (cases_in c.loop-arm.arms) c.loop-arm.slot cases.cases_last
+
+pub case::check_arm-returns-in-Empty : goal.case::check_arm-returns-in-Empty
+case::check_arm-returns-in-Empty t c = record {
+  judged = rw (c.in-Empty.is, cases.empty_arm_is (scene_of c.args.env.now c.args.place) c.args.slot.now _ (typing_in c.args.case.now) (spans_view c.args.spans.now.items)) (ap (λ l. of_value c.args.slot.now (Some (cases_list l))) (sym c.new.ensures.items));
+  spans = rw (c.in-Empty.is, cases.empty_spans (scene_of c.args.env.now c.args.place) c.args.slot.now _ (typing_in c.args.case.now) (spans_view c.args.spans.now.items)) (sym (nothing_behind (spans_view c.args.spans.now.items)));
+}
+
+pub case::check_arm-returns-in_err-labels-in-Labelled : goal.case::check_arm-returns-in_err-labels-in-Labelled
+case::check_arm-returns-in_err-labels-in-Labelled t c = record {
+  judged = passed _ cases_of _ _ _ c.from_residual.ensures.1
+      (rw (c.in-Labelled.is, rows.labelled_is _ c.in-Labelled.first c.in-Labelled.more c.in-Labelled.body)
+      (cases.arm_stops (scene_of c.args.env.now c.args.place) c.args.slot.now _ (typing_in c.args.case.now) (spans_view c.args.spans.now.items) (view.view_label c.in-Labelled.first) (view.labels_of c.in-Labelled.more.items) (view.view_stmts c.in-Labelled.body) _ (rw c.deref.ensures.value at c.in_err-labels-in-Labelled.ensures.judged)));
+  spans = err_on _ _ _ c.from_residual.ensures.1;
+}
+
+pub case::check_arm-returns-in_ok-labels-in-Labelled : goal.case::check_arm-returns-in_ok-labels-in-Labelled
+case::check_arm-returns-in_ok-labels-in-Labelled t c = record {
+  judged = rw (c.in-Labelled.is, rows.labelled_is _ c.in-Labelled.first c.in-Labelled.more c.in-Labelled.body)
+      (rw (cases.arm_fine (scene_of c.args.env.now c.args.place) c.args.slot.now _ (typing_in c.args.case.now) (spans_view c.args.spans.now.items) (view.view_label c.in-Labelled.first) (view.labels_of c.in-Labelled.more.items) (view.view_stmts c.in-Labelled.body) c.check_labels.new.slot (spans_in c.in_ok-labels-in-Labelled.labels) (rw c.deref.ensures.value at c.in_ok-labels-in-Labelled.ensures.judged))
+      (c.join_arm.ensures (walk.judge_stmts (scene_of c.args.env.now c.args.place) c.check_labels.new.slot (view.view_stmts c.in-Labelled.body)) c.check_labels.new.slot _ c.check_stmts-body.ensures));
+  spans = on_ok _ _ (rw (c.in-Labelled.is, rows.labelled_is _ c.in-Labelled.first c.in-Labelled.more c.in-Labelled.body)
+      (rw (cases.arm_spans (scene_of c.args.env.now c.args.place) c.args.slot.now _ (typing_in c.args.case.now) (spans_view c.args.spans.now.items) (view.view_label c.in-Labelled.first) (view.labels_of c.in-Labelled.more.items) (view.view_stmts c.in-Labelled.body) c.check_labels.new.slot (spans_in c.in_ok-labels-in-Labelled.labels) (rw c.deref.ensures.value at c.in_ok-labels-in-Labelled.ensures.judged))
+      (settled (spans_view c.args.spans.now.items) (spans_view c.check_labels.new.spans.items) (spans_view c.settle.new.spans.items) c.len-before.result c.in_ok-labels-in-Labelled.labels (c.len-before.ensures ∙ sym (spans_count c.args.spans.now.items)) c.in_ok-labels-in-Labelled.ensures.spans c.settle.ensures)));
+}
+
+pub case::check_labels-returns-in_err-labels : goal.case::check_labels-returns-in_err-labels
+case::check_labels-returns-in_err-labels t c = record {
+  judged = passed _ spans_of _ _ _ c.from_residual.ensures.1
+      (stops_as _ _ _ (labels_begin (scene_of c.args.env.now c.args.place) c.args.slot.now (typing_in c.args.case.now) (spans_view c.args.spans.now.items) _ (view.view_label c.args.first.now) (view.labels_of c.args.more.now) (spans_in (Some c.new.result)) (ap (λ l. Some (spans_view l)) c.new.ensures.items) refl)
+      (c.in_err-labels.ensures.judged (walk.judge_label (scene_of c.args.env.now c.args.place) c.args.slot.now (typing_in c.args.case.now) (spans_view c.args.spans.now.items) (view.view_label c.args.first.now)) _
+      (λ m. walk.judge_labels (scene_of c.args.env.now c.args.place) m (typing_in c.args.case.now) ((spans_view c.args.spans.now.items) ++ option_to_list (walk.judge_label (scene_of c.args.env.now c.args.place) c.args.slot.now (typing_in c.args.case.now) (spans_view c.args.spans.now.items) (view.view_label c.args.first.now)).value) (view.labels_of c.args.more.now)) (rw c.deref.ensures.value at c.check_label-span.ensures)));
+  spans = err_if _ _ _ c.from_residual.ensures.1;
+}
+
+pub case::check_labels-loop-label-init : goal.case::check_labels-loop-label-init
+case::check_labels-loop-label-init t c =
+    let new = c.in_ok-labels.ensures.earlier (walk.judge_label (scene_of c.args.env.now c.args.place) c.args.slot.now (typing_in c.args.case.now) (spans_view c.args.spans.now.items) (view.view_label c.args.first.now)) c.check_label-span.new.slot (rw c.deref.ensures.value at c.check_label-span.ensures) in (
+      labels_begin (scene_of c.args.env.now c.args.place) c.args.slot.now (typing_in c.args.case.now) (spans_view c.args.spans.now.items) _ (view.view_label c.args.first.now) (view.labels_of c.args.more.now) (spans_in (Some c.new.result)) (ap (λ l. Some (spans_view l)) c.new.ensures.items) new
+          ∙ c.in_ok-labels.ensures.judged (walk.judge_label (scene_of c.args.env.now c.args.place) c.args.slot.now (typing_in c.args.case.now) (spans_view c.args.spans.now.items) (view.view_label c.args.first.now)) c.check_label-span.new.slot (λ m. walk.judge_labels (scene_of c.args.env.now c.args.place) m (typing_in c.args.case.now) _ (view.labels_of c.args.more.now)) (rw c.deref.ensures.value at c.check_label-span.ensures),
+      c.in_ok-labels.ensures.grown (spans_view c.args.spans.now.items) (grown_begin (spans_view c.args.spans.now.items) (spans_in (Some c.new.result)) (ap (λ l. Some (spans_view l)) c.new.ensures.items)),
+    )
+
+pub case::check_labels-loop-label-preserved : goal.case::check_labels-loop-label-preserved
+case::check_labels-loop-label-preserved t c =
+    let new = c.in_ok-add_label.ensures.earlier (walk.judge_label (scene_of c.args.env.now c.args.place) c.loop-label.slot (typing_in c.args.case.now) (spans_view c.loop-label.spans.items) (view.view_label c.label-item.result)) c.check_label-span-in-loop-label.new.slot (rw c.deref-in-loop-label.ensures.value at c.check_label-span-in-loop-label.ensures) in (
+      c.loop-label.invariant.0 ∙ ap (onward_spans (spans_in c.loop-label.labels)) (labels_turn (scene_of c.args.env.now c.args.place) c.loop-label.slot c.loop-label.label-index (typing_in c.args.case.now) (spans_view c.loop-label.spans.items) _ c.args.more.now c.label-item.result c.loop-label-test.true c.label-item.is new)
+          ∙ c.in_ok-add_label.ensures.judged (walk.judge_label (scene_of c.args.env.now c.args.place) c.loop-label.slot (typing_in c.args.case.now) (spans_view c.loop-label.spans.items) (view.view_label c.label-item.result)) c.check_label-span-in-loop-label.new.slot (λ m. walk.judge_labels (scene_of c.args.env.now c.args.place) m (typing_in c.args.case.now) _ (view.labels_of (drop (c.loop-label.label-index + 1) c.args.more.now))) (rw c.deref-in-loop-label.ensures.value at c.check_label-span-in-loop-label.ensures),
+      c.in_ok-add_label.ensures.grown (spans_view c.args.spans.now.items) c.loop-label.invariant.1,
+    )
+
+pub case::check_labels-returns-in_err-add_label : goal.case::check_labels-returns-in_err-add_label
+case::check_labels-returns-in_err-add_label t c = record {
+  judged = passed _ spans_of _ _ _ c.from_residual-in_err-add_label.ensures.1
+      (stops_as _ _ _ (c.loop-label.invariant.0 ∙ ap (onward_spans (spans_in c.loop-label.labels)) (labels_turn (scene_of c.args.env.now c.args.place) c.loop-label.slot c.loop-label.label-index (typing_in c.args.case.now) (spans_view c.loop-label.spans.items) _ c.args.more.now c.label-item.result c.loop-label-test.true c.label-item.is refl))
+      (c.in_err-add_label.ensures.judged (walk.judge_label (scene_of c.args.env.now c.args.place) c.loop-label.slot (typing_in c.args.case.now) (spans_view c.loop-label.spans.items) (view.view_label c.label-item.result)) _ (λ m. walk.judge_labels (scene_of c.args.env.now c.args.place) m (typing_in c.args.case.now) ((spans_view c.loop-label.spans.items) ++ option_to_list (walk.judge_label (scene_of c.args.env.now c.args.place) c.loop-label.slot (typing_in c.args.case.now) (spans_view c.loop-label.spans.items) (view.view_label c.label-item.result)).value) (view.labels_of (drop (c.loop-label.label-index + 1) c.args.more.now))) (rw c.deref-in-loop-label.ensures.value at c.check_label-span-in-loop-label.ensures)));
+  spans = err_if _ _ _ c.from_residual-in_err-add_label.ensures.1;
+}
+
+pub case::check_labels-returns : goal.case::check_labels-returns
+case::check_labels-returns t c = record {
+  judged = c.loop-label.invariant.0 ∙ ap (onward_spans (spans_in c.loop-label.labels)) (cases.labels_end (scene_of c.args.env.now c.args.place) c.loop-label.slot c.loop-label.label-index (typing_in c.args.case.now) (spans_view c.loop-label.spans.items) c.args.more.now c.loop-label-test.false)
+      ∙ onward_end (λ (x y : List parts.Span). x ++ y) [] (spans_in c.loop-label.labels) c.loop-label.slot nothing_behind;
+  spans = c.loop-label.invariant.1;
+}
+
+pub case::check_label-returns-in-None : goal.case::check_label-returns-in-None
+case::check_label-returns-in-None t c =
+    rw (cases.label_one (scene_of c.args.env.now c.args.place) c.args.slot.now (typing_in c.args.case.now) (spans_view c.args.spans.now) c.args.label.now c.in-None.is)
+    (c.join_single.ensures (walk.judge_expr (in_constant (scene_of c.args.env.now c.args.place)) c.args.slot.now (view.view_expr (dl.out-Label c.args.label.now).low)) _ c.check_expr-low.ensures)
+
+pub case::check_label-returns-in_err-low-in-Some : goal.case::check_label-returns-in_err-low-in-Some
+case::check_label-returns-in_err-low-in-Some t c =
+    passed _ span_view _ _ _ c.from_residual.ensures.1
+    (cases.label_two_stops (scene_of c.args.env.now c.args.place) c.args.slot.now (typing_in c.args.case.now) (spans_view c.args.spans.now) c.args.label.now c.in-Some.high _ c.in-Some.is c.in_err-low-in-Some.ensures)
+
+pub case::check_label-returns-in_ok-low-in-Some : goal.case::check_label-returns-in_ok-low-in-Some
+case::check_label-returns-in_ok-low-in-Some t c =
+    rw (cases.label_two (scene_of c.args.env.now c.args.place) c.args.slot.now (typing_in c.args.case.now) (spans_view c.args.spans.now) c.args.label.now c.in-Some.high _ _ c.in-Some.is c.in_ok-low-in-Some.ensures)
+    (c.join_label.ensures (walk.judge_expr (in_constant (scene_of c.args.env.now c.args.place)) c.check_expr.new.slot (view.view_expr c.in-Some.high)) c.check_expr.new.slot _ c.check_expr-high.ensures)

@@ -1,0 +1,135 @@
+// Designators as values, and calls with their arguments.
+ghost use Rattle.std.specs.Prelude.{◌≡◌, option_map, drop, slice_get, IfOk};
+ghost use Rattle.alma_ir.specs.View.{arg_of};
+ghost use Rattle.alma_rules.specs.Numbered as tree;
+ghost use Rattle.alma_rules.specs.View.{view_desig, view_expr, view_exprs, exprs_of, args_values};
+ghost use Rattle.alma_rules.specs.View.{args_of as tree_args};
+ghost use Rattle.alma_rules.specs.Answers.{Answers};
+ghost use Rattle.alma_rules.specs.Judged.{with_some};
+ghost use Rattle.alma_rules.specs.Parts as parts;
+ghost use Rattle.alma_rules.specs.ExprRules as rules;
+ghost use Rattle.alma_rules.specs.Nodes as nodes;
+ghost use Rattle.alma_rules.specs.Walk.{judge_expr, judge_primary, judge_desig, judge_arguments, judge_argument_tail};
+ghost use Rattle.alma_check_rules.specs.Views.{scene_of, headings_in, typing_of, callee_of, callee_in, formal_view, args_of, args_in};
+ghost use Rattle.alma_check_join.specs.Onward.{onward_args};
+
+use crate::designator::check_desig;
+use crate::expression::check_expr;
+use alma_check_join::{add_argument, join_argument, join_call, join_callee, join_value};
+use alma_check_look::{argument_kind, formal_of};
+use alma_check_rules::{Callee, Env, Formal, Place, Typed, Use};
+use alma_ir::Arg;
+use alma_rules::Stop;
+use alma_tree::{Args, Desig, Expr, Exprs};
+use std::alloc::Global;
+
+#[cycle(check)]
+pub fn check_named(
+    alloc: Global,
+    env: &Env,
+    place: Place,
+    slot: &mut u32,
+    node: u32,
+    desig: &Desig,
+    args: &Option<Args>,
+) -> Result<Option<Typed>, Stop>
+    ensures { Answers (judge_primary (scene_of env.now place) slot.old
+        (tree.named node (view_desig desig.now) (tree_args args.now))) typing_of slot.new result }
+{
+    match args {
+        None => {
+            let found = check_desig(alloc, env, place, slot, Use::Value, desig);
+            join_value(alloc, env, found)
+        }
+        Some(args) => check_call(alloc, env, place, slot, node, desig, &args.values),
+    }
+}
+
+#[cycle(check)]
+fn check_call(
+    alloc: Global,
+    env: &Env,
+    place: Place,
+    slot: &mut u32,
+    node: u32,
+    desig: &Desig,
+    values: &Option<Exprs>,
+) -> Result<Option<Typed>, Stop>
+    ensures { Answers (judge_primary (scene_of env.now place) slot.old
+        (tree.named node (view_desig desig.now) (args_values values.now))) typing_of
+        slot.new result }
+{
+    let found = check_desig(alloc, env, place, slot, Use::Procedure, desig);
+    let callee = join_callee(env, found)?;
+    match values {
+        None => join_call(env, place, node, callee, 0, Ok(Some(Vec::new(alloc)))),
+        Some(values) => {
+            let args = check_arguments(alloc, env, place, slot, callee, values);
+            join_call(env, place, node, callee, 1 + values.more.len(), args)
+        }
+    }
+}
+
+#[cycle(check)]
+fn check_arguments(
+    alloc: Global,
+    env: &Env,
+    place: Place,
+    slot: &mut u32,
+    callee: Option<Callee>,
+    values: &Exprs,
+) -> Result<Option<Vec<Arg>>, Stop>
+    ensures { Answers (judge_arguments (scene_of env.now place) slot.old
+        (nodes.formals_of (callee_in (headings_in env.now) callee)) (view_exprs values.now)) args_of
+        slot.new result }
+{
+    let formal = formal_of(env, callee, 0);
+    let first = check_argument(alloc, env, place, slot, formal, &values.first);
+    let kept = add_argument(Some(Vec::new(alloc)), first)?;
+    check_argument_tail(alloc, env, place, slot, callee, kept, &values.more)
+}
+
+#[cycle(check)]
+fn check_argument_tail(
+    alloc: Global,
+    env: &Env,
+    place: Place,
+    slot: &mut u32,
+    callee: Option<Callee>,
+    kept: Option<Vec<Arg>>,
+    more: &[Expr],
+) -> Result<Option<Vec<Arg>>, Stop>
+    ensures { Answers (onward_args (args_in kept)
+        (judge_argument_tail (scene_of env.now place) slot.old
+        (drop 1 (nodes.formals_of (callee_in (headings_in env.now) callee))) (exprs_of more.now)))
+        args_of slot.new result }
+{
+    let mut kept = kept;
+    let mut index = 0;
+    for value in more {
+        index += 1;
+        let formal = formal_of(env, callee, index);
+        let arg = check_argument(alloc, env, place, slot, formal, value);
+        kept = add_argument(kept, arg)?;
+    }
+    Ok(kept)
+}
+
+#[cycle(check)]
+fn check_argument(
+    alloc: Global,
+    env: &Env,
+    place: Place,
+    slot: &mut u32,
+    formal: Option<Formal>,
+    value: &Expr,
+) -> Result<Option<Arg>, Stop>
+    ensures { Answers (nodes.judged_argument (scene_of env.now place)
+        (option_map formal_view formal) (view_expr value.now)
+        (judge_expr (scene_of env.now place) slot.old (view_expr value.now))) arg_of
+        slot.new result }
+{
+    let kind = argument_kind(env, value)?;
+    let typed = check_expr(alloc, env, place, slot, value);
+    join_argument(alloc, env, value.node, formal, kind, typed)
+}
