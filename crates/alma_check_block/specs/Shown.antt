@@ -1,0 +1,45 @@
+-- What the code's frame of a routine shows of the frame that the rules speak of.
+use Rattle.std.specs.Prelude.{ℕ, List, Option, option_map, map}
+use Rattle.alma_ir.specs.declared.program.Param.{Param}
+use Rattle.alma_ir.specs.Tree as ir
+use Rattle.alma_ir.specs.View.{global_of}
+use Rattle.alma_rules.specs.Judged.{Broken}
+use Rattle.alma_rules.specs.Scene.{Scene, FormalOf}
+use Rattle.alma_rules.specs.Answers.{first}
+use Rattle.alma_rules.specs.Decls as rules
+use Rattle.alma_check_rules.specs.Views.{formal_view}
+use Rattle.alma_check_reader.specs.Told.{fault_of}
+use Rattle.alma_check_block.specs.declared.frame.Frame.{Frame}
+
+-- what is told of a frame: its first broken rule, and all the rest of it
+pub record ToldFrame : Type 0 where
+  pub fault : Option Broken
+  pub scene : Scene
+  pub slots : ℕ
+  pub declared : ℕ
+  pub params : List Param
+  pub formals : List (Option FormalOf)
+  pub variables : List ir.Global
+
+abbrev pub told_frame : rules.Frame → ToldFrame
+told_frame f = record {
+  fault = first f.faults;
+  scene = f.scene;
+  slots = f.slots;
+  declared = f.declared;
+  params = f.params;
+  formals = f.formals;
+  variables = f.variables;
+}
+
+-- the code's frame, with the scene of its reader
+abbrev pub shown : Scene → Frame → ToldFrame
+shown s x = record {
+  fault = fault_of x.fault;
+  scene = s;
+  slots = x.slots;
+  declared = x.declared;
+  params = x.params.items;
+  formals = map (λ o. option_map formal_view o) x.formals.items;
+  variables = map global_of x.variables.items;
+}
