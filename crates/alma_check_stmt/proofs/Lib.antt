@@ -1,0 +1,4 @@
+pub mod Stays
+pub mod Headings
+pub mod Gathering
+pub mod Routines
