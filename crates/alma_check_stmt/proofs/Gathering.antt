@@ -108,7 +108,7 @@ better_four : (f a b c : Option Broken) → better f (better (better a b) c) ≡
 better_four f a b c = better_assoc f (better a b) c ∙ ap (λ x. better x c) (better_assoc f a b)
 
 -- a block, of which the rules broken in its declarations are gathered first
-block_gathered : (t : Stage) (g : Frame) (name : tree.Name) (outer end k l : ℕ) (i : Bodied) (body : Option tree.Stmts) (j : Judged ir.Stmts) (faults : List Broken) → t.next + k ≡ t.next + 1 + l
+pub block_gathered : (t : Stage) (g : Frame) (name : tree.Name) (outer end k l : ℕ) (i : Bodied) (body : Option tree.Stmts) (j : Judged ir.Stmts) (faults : List Broken) → t.next + k ≡ t.next + 1 + l
     → gathered t k (record { faults = g.faults ++ i.faults ++ j.faults ++ faults; shapes = i.shapes; value = (routine_at g name outer end i body j).value })
     ≡ with_least (record (gathered (with_least (counted t) g.faults) l (routine_at (quiet g) name outer end i body j)) { scene = with_shapes t.scene i.shapes }) faults
 block_gathered t g name outer end k l i body j faults n =
@@ -119,7 +119,7 @@ block_gathered t g name outer end k l i body j faults n =
     (ap (λ f. unless_broken (better t.fault f) (joined_lists t.routines v)) e ∙ masked_procedure t.fault (least g.faults) (least (i.faults ++ j.faults)) (least faults) t.routines v)
     n refl
 
-body_quiet : (g : Frame) (body : Option tree.Stmts) → judge_body (record g { faults = [] }) body ≡ judge_body g body
+pub body_quiet : (g : Frame) (body : Option tree.Stmts) → judge_body (record g { faults = [] }) body ≡ judge_body g body
 body_quiet g None = refl
 body_quiet g (Some body) = refl
 

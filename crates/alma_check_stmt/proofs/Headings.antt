@@ -181,7 +181,7 @@ closed_by s t shapes hs g h =
 abbrev pub inner_frame : Scene → (r n : ℕ) → Option tree.Params → Option tree.Name → (m : ℕ) → tree.DeclTail → Option tree.Stmts → Frame
 inner_frame s r n params result m decls body = read_decls (frame_of (read_heading s r n params result (tree.block m decls body))) (r + 1) decls
 
-heading_ground : (s : Scene) (r n : ℕ) (params : Option tree.Params) (result : Option tree.Name) (b : tree.Block) → ground (read_heading s r n params result b).frame.scene ≡ record (ground s) { below = s.blocks.below ++ s.blocks.top ∷ [] }
+pub heading_ground : (s : Scene) (r n : ℕ) (params : Option tree.Params) (result : Option tree.Name) (b : tree.Block) → ground (read_heading s r n params result b).frame.scene ≡ record (ground s) { below = s.blocks.below ++ s.blocks.top ∷ [] }
 heading_ground s r n params result b = head_same ground ground_steady s r n params result b
 
 pub heading_empty : (s : Scene) (r n : ℕ) (params : Option tree.Params) (result : Option tree.Name) (b : tree.Block) (a k : ℕ) → AreEmpty s.headings a k → AreEmpty (read_heading s r n params result b).frame.scene.headings a k

@@ -1,3 +1,4 @@
 pub mod Gathered
 pub mod Shown
 pub mod Lined
+pub mod Whole

@@ -1,10 +1,10 @@
 // How far a module is checked.
-ghost use Rattle.std.specs.Prelude.{◌≡◌, ◌+◌, [], Some, OnOk};
+ghost use Rattle.std.specs.Prelude.{◌≡◌, [], Some, None, OnOk};
 ghost use Rattle.alma_rules.specs.Judged as judged;
 ghost use Rattle.alma_rules.specs.Scene.{Scene};
 ghost use Rattle.alma_check_reader.specs.Told.{broken_of, fault_of};
 ghost use Rattle.alma_check_stmt.specs.Gathered.{stage, with_fault, counted, better};
-ghost use Rattle.alma_check_stmt.specs.Shown.{stand, routines_in};
+ghost use Rattle.alma_check_stmt.specs.Shown.{stand};
 
 use alma_base::{CheckFault, NoMemory};
 use alma_check_reader::Broken;
@@ -79,12 +79,12 @@ fn better(first: Option<Broken>, second: Option<Broken>) -> Option<Broken>
     }
 }
 
-/// Where no routine is checked yet, with a rule that may be broken.
-pub fn nothing_checked(alloc: Global, fault: Option<Broken>) -> Checked
-    ensures { (s : Scene) → stand result s ≡ stage (fault_of fault) (Some []) 1 s }
+/// Where no routine is checked yet, and no rule is broken.
+pub fn nothing_checked(alloc: Global) -> Checked
+    ensures { (s : Scene) → stand result s ≡ stage None (Some []) 1 s }
 {
     Checked {
-        fault,
+        fault: None,
         routines: Vec::new(alloc),
         is_bad: false,
         next: 1,

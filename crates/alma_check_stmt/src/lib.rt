@@ -4,7 +4,7 @@
 mod body;
 mod checked;
 mod line;
+mod module;
+mod routine;
 
-
-
-
+pub use module::check;

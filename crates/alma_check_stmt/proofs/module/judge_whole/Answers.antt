@@ -1,0 +1,38 @@
+use Rattle.std.proofs.Common.{◌≡◌, List, [], ◌∙◌, ap, map}
+use Rattle.alma_scan.specs.Scanned.{lexemes}
+use Rattle.alma_ir.specs.View.{global_of}
+use Rattle.alma_rules.specs.Scene.{Scene, nothing, text_at}
+use Rattle.alma_rules.specs.Decls.{with_block, new_frame}
+use Rattle.alma_rules.specs.View as view
+use Rattle.alma_check_reader.specs.Told.{fault_of}
+use Rattle.alma_check_block.specs.Shown.{ToldFrame}
+use Rattle.alma_check_stmt.specs.Gathered.{Stage}
+use Rattle.alma_check_stmt.specs.Shown.{stand, frame_in, routines_in}
+use Rattle.alma_check_stmt.proofs.Checking.{frame_told, no_fault}
+use Rattle.alma_check_stmt.proofs.Wholes.{module_ready, module_by}
+use Rattle.alma_check_stmt.proofs.module.judge_whole.Goals as goal
+
+pub check_block-requires-clause-ready : goal.check_block-requires-clause-ready
+check_block-requires-clause-ready c =
+    let m = c.args.module.now in
+    module_ready c.args.source.now (lexemes c.args.tokens.now) m.node (view.view_name m.name) m.block.node (view.decls_of m.block.decls.items) (view.body_of m.block.body) (view.view_name m.end_name)
+    c.in_ok-lines.lines c.open_block.new.reader c.nothing_checked-checked.result.next c.requires.rising c.in_ok-lines.ensures
+    (c.in_ok-open_block.ensures.opened ∙ ap (λ (s : Scene). with_block s 0 nothing [] (view.view_block m.block)) c.in_ok-reader.ensures)
+    (ap (λ (y : Stage). y.next) (c.nothing_checked-checked.ensures c.open_block.new.reader))
+
+pub check_block-requires-clause-quiet : goal.check_block-requires-clause-quiet
+check_block-requires-clause-quiet c = no_fault c.new_frame-frame.result.fault (ap (λ (t : ToldFrame). t.fault) (c.new_frame-frame.ensures c.open_block.new.reader))
+
+pub returns : goal.returns
+returns c =
+    let m = c.args.module.now in
+    module_by c.args.source.now (lexemes c.args.tokens.now) m.node (view.view_name m.name) m.block.node (view.decls_of m.block.decls.items) (view.body_of m.block.body) (view.view_name m.end_name)
+    c.open_block.new.reader c.check_block.new.reader (frame_in c.open_block.new.reader c.new_frame-frame.result) (stand c.nothing_checked-checked.result c.open_block.new.reader) c.nothing_checked-checked.result.next
+    c.check_block.new.checked.next c.check_end.new.checked.next (fault_of c.check_block.new.checked.fault) (fault_of c.check_end.new.checked.fault) (routines_in c.check_block.new.checked) (routines_in c.check_end.new.checked)
+    (map global_of c.check_block.new.frame.variables.items) c.in_ok-name.name.items
+    (c.in_ok-open_block.ensures.opened ∙ ap (λ (s : Scene). with_block s 0 nothing [] (view.view_block m.block)) c.in_ok-reader.ensures)
+    (frame_told c.open_block.new.reader c.new_frame-frame.result (new_frame c.open_block.new.reader 1) (c.new_frame-frame.ensures c.open_block.new.reader))
+    (ap (λ (y : Stage). y.next) (c.nothing_checked-checked.ensures c.open_block.new.reader))
+    (c.nothing_checked-checked.ensures c.open_block.new.reader)
+    (rw c.saturating_sub.ensures at c.in_ok-check_block.ensures.stands) c.check_end.ensures c.in_ok-check_block.ensures.variables
+    (c.in_ok-name.ensures.items_if_clones_equal (λ x y e. e) ∙ (c.text.ensures ∙ ap (λ s. text_at s m.name.token) c.env.ensures))

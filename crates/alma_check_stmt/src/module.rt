@@ -1,0 +1,144 @@
+// The whole check.
+ghost use Rattle.std.specs.Prelude.{◌≡◌, ◌≤◌, ℕ, List, length, map, IfOk};
+ghost use Rattle.alma_base.specs.Limits.{source_limit};
+ghost use Rattle.alma_scan.specs.Tokens.{Lexeme};
+ghost use Rattle.alma_scan.specs.Scanned.{lexemes};
+ghost use Rattle.alma_ir.specs.View.{program_of, global_of};
+ghost use Rattle.alma_ir.specs.Checked.{IsChecked};
+ghost use Rattle.alma_rules.specs.View.{view_module};
+ghost use Rattle.alma_rules.specs.Answers.{Resolves};
+ghost use Rattle.alma_rules.specs.Modules as modules;
+ghost use Rattle.alma_rules.specs.Rising.{IsRising};
+ghost use Rattle.alma_resolved_whole.specs.Whole.{IsTreeOf};
+ghost use Rattle.alma_check_reader.specs.Told.{fault_of};
+ghost use Rattle.alma_check_stmt.specs.Shown.{routines_in};
+ghost use Rattle.alma_check_stmt.specs.Whole.{IsJudged};
+
+use crate::body::Site;
+use crate::checked::{Checked, nothing_checked};
+use crate::line::Lines;
+use crate::routine::{check_block, check_end};
+use alma_base::NoMemory;
+use alma_check_block::{count_routines, new_frame, open_block};
+use alma_check_marks::first_token_of;
+use alma_check_reader::{Broken, Reader};
+use alma_ir::Program;
+use alma_resolved_limits::laws::a_resolved_program_of_a_short_source_is_checked;
+use alma_rules::CheckError;
+use alma_scan::Token;
+use alma_tree::Module;
+use std::alloc::Global;
+
+// What is found of a module: its name, its variables, and how it is checked.
+#[derive(Drop)]
+struct Whole {
+    name: Vec<u8>,
+    globals: Vec<alma_ir::Global>,
+    checked: Checked,
+}
+
+// The outermost reader, with room for the headings of all routines.
+fn outermost<'e, 's>(
+    alloc: Global,
+    module: &Module,
+    tokens: &'e [Token<'s>],
+    source: &'e [u8],
+) -> Result<Reader<'e, 's>, NoMemory>
+    ensures { IfOk result (λ reader. reader ≡ modules.first_scene source.now
+        (lexemes tokens.now) (view_module module.now)) }
+{
+    let Some(inside) = count_routines(&module.block) else {
+        return Err(NoMemory);
+    };
+    let Some(all) = inside.checked_add(1) else {
+        return Err(NoMemory);
+    };
+    Reader::new(alloc, source, tokens, all)
+}
+
+// Judges a module.
+fn judge_whole(
+    alloc: Global,
+    module: &Module,
+    tokens: &[Token<'_>],
+    source: &[u8],
+) -> Result<Whole, NoMemory>
+    requires rising { IsRising (view_module module.now) }
+    requires short { length source.now ≤ source_limit }
+    ensures { IfOk result (λ w. IsJudged source.now (lexemes tokens.now) (view_module module.now)
+        (fault_of w.checked.fault) (routines_in w.checked) w.name.items
+        (map global_of w.globals.items)) }
+{
+    let lines = Lines::new(alloc, source)?;
+    let mut reader = outermost(alloc, module, tokens, source)?;
+    let mut frame = new_frame(alloc, 1);
+    let mut checked = nothing_checked(alloc);
+    open_block(alloc, &mut reader, 0, &None, &module.block)?;
+    let site = Site {
+        name: &module.name,
+        outer: 0,
+        end: module.end_name.token.saturating_sub(1),
+    };
+    check_block(alloc, &mut reader, &mut checked, &lines, &mut frame, site, &module.block)?;
+    check_end(&reader, &mut checked, &module.name, &module.end_name);
+    let name = reader.env().text(module.name.token).to_vec(alloc)?;
+    Ok(Whole {
+        name,
+        globals: frame.variables,
+        checked,
+    })
+}
+
+// The least of the broken rules, with the first token of its node.
+fn broken_rule(alloc: Global, module: &Module, broken: Broken) -> CheckError
+    ensures { (source : List ℕ) (tokens : List Lexeme)
+        → modules.check_fault source tokens (view_module module.now) ≡ fault_of (Some broken)
+        → Resolves source tokens (view_module module.now) program_of (Err result) }
+{
+    match first_token_of(alloc, module, broken.node) {
+        Ok(token) => CheckError::Fault(broken.fault, broken.node, token as usize),
+        Err(NoMemory) => CheckError::Memory,
+    }
+}
+
+// The resolved program, or the least of the broken rules. Where no rule is broken no routine is Bad, so that this is not said to be
+// want of memory then.
+fn finish(alloc: Global, module: &Module, whole: Whole) -> Result<Program, CheckError>
+    ensures { (source : List ℕ) (tokens : List Lexeme) → IsJudged source tokens
+        (view_module module.now) (fault_of whole.checked.fault) (routines_in whole.checked)
+        whole.name.items (map global_of whole.globals.items)
+        → Resolves source tokens (view_module module.now) program_of result }
+{
+    if let Some(broken) = whole.checked.fault {
+        return Err(broken_rule(alloc, module, broken));
+    }
+    if whole.checked.is_bad {
+        return Err(CheckError::Memory);
+    }
+    Ok(Program {
+        name: whole.name,
+        globals: whole.globals,
+        routines: whole.checked.routines,
+    })
+}
+
+/// Checks the tree of a source: gives the resolved program where no rule is broken, and else the least of the broken rules with the
+/// first token of its node.
+pub fn check(
+    alloc: Global,
+    module: &Module,
+    tokens: &[Token<'_>],
+    source: &[u8],
+) -> Result<Program, CheckError>
+    requires tree { IsTreeOf source.now (lexemes tokens.now) module.now }
+    requires short { length source.now ≤ source_limit }
+    ensures resolves { Resolves source.now (lexemes tokens.now) (view_module module.now) program_of
+        result }
+    ensures checked { IfOk result (λ p. IsChecked (program_of p)) }
+{
+    a_resolved_program_of_a_short_source_is_checked();
+    match judge_whole(alloc, module, tokens, source) {
+        Err(NoMemory) => Err(CheckError::Memory),
+        Ok(whole) => finish(alloc, module, whole),
+    }
+}
