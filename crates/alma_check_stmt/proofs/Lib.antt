@@ -5,3 +5,4 @@ pub mod Routines
 pub mod Own
 pub mod Checking
 pub mod Wholes
+pub mod Sizes

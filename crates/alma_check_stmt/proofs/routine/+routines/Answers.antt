@@ -2,7 +2,7 @@ use Rattle.std.proofs.Common.{arith, ◌≡◌, ◌+◌, ◌-◌, ◌∙◌, ap,
 use Rattle.std.specs.Prelude.{OnOk}
 use denote.Param.Weighed.{at_most}
 use Rattle.alma_tree.specs.declared.module.Decl as dh
-use Rattle.alma_tree.specs.declared.module.Decl.TheViews as views
+
 use Rattle.alma_rules.specs.Numbered as tree
 use Rattle.alma_rules.specs.View as view
 use Rattle.alma_rules.specs.Decls as frames
@@ -13,6 +13,7 @@ use Rattle.alma_check_stmt.specs.Shown.{stand, frame_in, routines_in}
 use Rattle.alma_check_stmt.proofs.Gathering.{decls_first, through_const, through_type, through_var}
 use Rattle.alma_check_stmt.proofs.Routines.{procedure_is, inside_ready, block_ready, declared_ready, first_of, rest_of, decls_next, decls_end, declared_by, is_open, procedure_by}
 use Rattle.alma_check_stmt.proofs.Headings.{inner_frame}
+use Rattle.alma_check_stmt.proofs.Sizes.{procedure_size}
 use Rattle.alma_check_stmt.proofs.Checking.{on_ok, shown_in, block_checked, inner_read, cleared_by}
 use Rattle.alma_check_stmt.proofs.routine.+routines.Goals as goal
 
@@ -86,7 +87,7 @@ check_procedure-returns t c =
 
 pub check_decl-check_procedure-requires : goal.check_decl-check_procedure-requires
 check_decl-check_procedure-requires t c = (
-  (let h = views.sized-Procedure in let k = dh.size_is-Decl c.args.decl.now in ?),
+  omega (arith, c.decreases, ap dh.size-Decl c.in-Procedure.is, procedure_size c.in-Procedure.node c.in-Procedure.name c.in-Procedure.params c.in-Procedure.result c.in-Procedure.block c.in-Procedure.end_name),
     (let p = c.in-Procedure in
     inside_ready c.args.lines.now c.args.reader.now c.args.checked.now.next p.node (view.view_name p.name) (view.params_of p.params) (view.result_of p.result) p.block.node (view.decls_of p.block.decls.items) (view.body_of p.block.body) (view.view_name p.end_name)
     (subst (λ (d : tree.Decl). AreReady c.args.lines.now c.args.reader.now c.args.checked.now.next (tree.more_decl d tree.no_decl)) (ap view.view_decl p.is ∙ procedure_is p.node p.name p.params p.result p.block p.end_name) c.requires.ready)),
