@@ -62,12 +62,8 @@ abbrev pub count_name : Counts numbered.Name
 count_name = with_token (λ t. close (name_of t))
 
 -- where the step finds the numbers that it wants, counting gives the value, and comes to the same cursor
-pub Makes : {A : Type 0} → Step → Counts A → A → Type 0
-Makes f r x = (at b : Cursor) → f at ≡ Some b → r at ≡ (x, b)
-
-pub made : {A : Type 0} (f : Step) (r : Counts A) (x : A) → Makes f r x → (at b : Cursor) → f at ≡ Some b → r at ≡ (x, b)
-unfolding Makes
-made f r x h = h
+pub record Makes {A : Type 0} (f : Step) (r : Counts A) (x : A) : Type 0 where
+  pub so : (at b : Cursor) → f at ≡ Some b → r at ≡ (x, b)
 
 some_is : (a b : Cursor) → Some a ≡ Some b → a ≡ b
 some_is a b h = ap (λ (o : Option Cursor). get o) h
@@ -81,57 +77,61 @@ parts None g b h = absurd (cc)
 parts (Some c) g b h = (c, refl, h)
 
 pub stays : {A : Type 0} (x : A) → Makes stay (give x) x
-unfolding Makes give
-stays x at b h = ap (λ (c : Cursor). (x, c)) (some_is at b h)
+unfolding give
+stays x = record { so = λ at b h. ap (λ (c : Cursor). (x, c)) (some_is at b h) }
 
 pub one_token : {A : Type 0} (x : A) → Makes token (skip (give x)) x
-unfolding Makes give skip
-one_token x at b h = ap (λ (c : Cursor). (x, c)) (some_is (past at) b h)
+unfolding give skip
+one_token x = record { so = λ at b h. ap (λ (c : Cursor). (x, c)) (some_is (past at) b h) }
 
 pub closes : {A : Type 0} (n : ℕ) (k : ℕ → A) → Makes (number.node n) (close k) (k n)
-unfolding Makes close
-closes n k at b h = go (nat_eq n at.node) (eqb_tells n at.node) h
+unfolding close
+closes n k = record { so = λ at b h. go at b (nat_eq n at.node) (eqb_tells n at.node) h }
   where
-    end : Cursor
-    end = record { token = at.token; node = suc at.node }
+    end : Cursor → Cursor
+    end at = record { token = at.token; node = suc at.node }
 
-    go : (t : Bool) → ((t ≡ true) × (n ≡ at.node)) ⊎ ((t ≡ false) × (n ≡ at.node → ⊥)) → where_so t end ≡ Some b → close k at ≡ (k n, b)
-    go true (inl p) h = ap (λ (m : ℕ). (k m, end)) (sym p.1) ∙ ap (λ (c : Cursor). (k n, c)) (some_is end b h)
-    go true (inr p) h = absurd (cc)
-    go false p h = absurd (cc)
+    go : (at b : Cursor) (t : Bool) → ((t ≡ true) × (n ≡ at.node)) ⊎ ((t ≡ false) × (n ≡ at.node → ⊥)) → where_so t (end at) ≡ Some b
+        → close k at ≡ (k n, b)
+    go at b true (inl p) h = ap (λ (m : ℕ). (k m, end at)) (sym p.1) ∙ ap (λ (c : Cursor). (k n, c)) (some_is (end at) b h)
+    go at b true (inr p) h = absurd (cc)
+    go at b false p h = absurd (cc)
 
-pub behind_token : {A : Type 0} (g : Step) (r : Counts A) (x : A) → Makes g r x → Makes (token >> g) (skip r) x
-unfolding Makes skip
-behind_token g r x dg at b h = dg (past at) b h
+pub behind_token : {A : Type 0} {g : Step} {r : Counts A} {x : A} → Makes g r x → Makes (token >> g) (skip r) x
+unfolding skip
+behind_token d = record { so = λ at b h. d.so (past at) b h }
 
-pub behind_leaf : {A : Type 0} (t : ℕ) (g : Step) (r : ℕ → Counts A) (x : A) → Makes g (r t) x → Makes (leaf t >> g) (with_token r) x
-unfolding Makes with_token
-behind_leaf t g r x dg at b h = go (nat_eq t at.token) (eqb_tells t at.token) h
+pub behind_leaf : {A : Type 0} (t : ℕ) {g : Step} (r : ℕ → Counts A) {x : A} → Makes g (r t) x → Makes (leaf t >> g) (with_token r) x
+unfolding with_token
+behind_leaf t {g = g} r {x = x} d = record { so = λ at b h. go at b (nat_eq t at.token) (eqb_tells t at.token) h }
   where
-    go : (q : Bool) → ((q ≡ true) × (t ≡ at.token)) ⊎ ((q ≡ false) × (t ≡ at.token → ⊥)) → and_then (where_so q (past at)) g ≡ Some b → r at.token (past at) ≡ (x, b)
-    go true (inl p) h = ap (λ (m : ℕ). r m (past at)) (sym p.1) ∙ dg (past at) b h
-    go true (inr p) h = absurd (cc)
-    go false p h = absurd (cc)
+    go : (at b : Cursor) (q : Bool) → ((q ≡ true) × (t ≡ at.token)) ⊎ ((q ≡ false) × (t ≡ at.token → ⊥)) → and_then (where_so q (past at)) g ≡ Some b
+        → r at.token (past at) ≡ (x, b)
+    go at b true (inl p) h = ap (λ (m : ℕ). r m (past at)) (sym p.1) ∙ d.so (past at) b h
+    go at b true (inr p) h = absurd (cc)
+    go at b false p h = absurd (cc)
 
-pub both : {A B : Type 0} (f g : Step) (r : Counts A) (k : A → Counts B) (x : A) (y : B) → Makes f r x → Makes g (k x) y → Makes (f >> g) (bind r k) y
-unfolding Makes bind
-both f g r k x y df dg at b h =
-    let p : (mid : Cursor) × (f at ≡ Some mid) × (g mid ≡ Some b) = parts (f at) g b h in
-    ap (λ (q : _ × Cursor). k q.0 q.1) (df at p.0 p.1) ∙ dg p.0 b p.2
+-- a part, and what comes behind it
+pub both : {A B : Type 0} {f g : Step} {r : Counts A} (k : A → Counts B) {x : A} {y : B} → Makes f r x → Makes g (k x) y → Makes (f >> g) (bind r k) y
+unfolding bind
+both {A = A} {f = f} {g = g} k {y = y} d e = record {
+  so = λ at b h. let p : (mid : Cursor) × (f at ≡ Some mid) × (g mid ≡ Some b) = parts (f at) g b h in
+  ap (λ (q : A × Cursor). k q.0 q.1) (d.so at p.0 p.1) ∙ e.so p.0 b p.2
+}
 
-pub last : {A B : Type 0} (f : Step) (k : A → B) (r : Counts A) (x : A) → Makes f r x → Makes f (map k r) (k x)
-unfolding Makes map
-last f k r x df at b h = ap (λ (q : _ × Cursor). (k q.0, q.1)) (df at b h)
+pub last : {A B : Type 0} {f : Step} (k : A → B) {r : Counts A} {x : A} → Makes f r x → Makes f (map k r) (k x)
+unfolding map
+last {A = A} k d = record { so = λ at b h. ap (λ (q : A × Cursor). (k q.0, q.1)) (d.so at b h) }
 
-pub behind_sign : {A : Type 0} (s : Option Sign) (g : Step) (r : Counts A) (x : A) → Makes g r x → Makes (number_sign s >> g) (past_sign s r) x
-unfolding Makes past_sign skip
-behind_sign None g r x dg at b h = dg at b h
-behind_sign (Some s) g r x dg at b h = dg (past at) b h
+pub behind_sign : {A : Type 0} (s : Option Sign) {g : Step} {r : Counts A} {x : A} → Makes g r x → Makes (number_sign s >> g) (past_sign s r) x
+unfolding past_sign skip
+behind_sign None d = record { so = λ at b h. d.so at b h }
+behind_sign (Some s) d = record { so = λ at b h. d.so (past at) b h }
 
-pub behind_mode : {A : Type 0} (m : Option Mode) (g : Step) (r : Counts A) (x : A) → Makes g r x → Makes (number_mode m >> g) (past_mode m r) x
-unfolding Makes past_mode skip
-behind_mode None g r x dg at b h = dg at b h
-behind_mode (Some m) g r x dg at b h = dg (past at) b h
+pub behind_mode : {A : Type 0} (m : Option Mode) {g : Step} {r : Counts A} {x : A} → Makes g r x → Makes (number_mode m >> g) (past_mode m r) x
+unfolding past_mode skip
+behind_mode None d = record { so = λ at b h. d.so at b h }
+behind_mode (Some m) d = record { so = λ at b h. d.so (past at) b h }
 
 pub name_made : (l : Name) → Makes (number_name l) count_name (view.view_name l)
-name_made l = behind_leaf l.token _ _ _ (closes l.node (name_of l.token))
+name_made l = behind_leaf l.token _ (closes l.node _)
