@@ -1,4 +1,4 @@
 -- for a check of all lemmas
-use Rattle.alma_numbered.proofs.Steps.{name_made}
+use Rattle.alma_numbered.proofs.Phrases.{stmt_made}
 
-pub ruleset everything = (name_made)
+pub ruleset everything = (stmt_made)

@@ -1,3 +1,4 @@
 pub mod Steps
 pub mod Recount
+pub mod Phrases
 pub mod All
