@@ -116,7 +116,7 @@ pub both : {A B : Type 0} {f g : Step} {r : Counts A} (k : A → Counts B) {x : 
 unfolding bind
 both {A = A} {f = f} {g = g} k {y = y} d e = record {
   so = λ at b h. let p : (mid : Cursor) × (f at ≡ Some mid) × (g mid ≡ Some b) = parts (f at) g b h in
-  ap (λ (q : A × Cursor). k q.0 q.1) (d.so at p.0 p.1) ∙ e.so p.0 b p.2
+      ap (λ (q : A × Cursor). k q.0 q.1) (d.so at p.0 p.1) ∙ e.so p.0 b p.2;
 }
 
 pub last : {A B : Type 0} {f : Step} (k : A → B) {r : Counts A} {x : A} → Makes f r x → Makes f (map k r) (k x)
