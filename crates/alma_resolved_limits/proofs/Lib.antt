@@ -1,3 +1,4 @@
 pub mod Weights
 pub mod LoopSlots
 pub mod Prints
+pub mod Printing
