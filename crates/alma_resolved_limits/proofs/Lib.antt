@@ -2,3 +2,5 @@ pub mod Weights
 pub mod LoopSlots
 pub mod Prints
 pub mod Printing
+pub mod DeclWeights
+pub mod Sizes
