@@ -4,3 +4,4 @@ pub mod Prints
 pub mod Printing
 pub mod DeclWeights
 pub mod Sizes
+pub mod FrameLimits
