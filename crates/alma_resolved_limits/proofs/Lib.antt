@@ -5,3 +5,4 @@ pub mod Printing
 pub mod DeclWeights
 pub mod Sizes
 pub mod FrameLimits
+pub mod Routines
