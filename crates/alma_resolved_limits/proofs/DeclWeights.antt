@@ -1,5 +1,5 @@
 -- What the declarations of a tree weigh: the names of variables, parameters and procedures, and the bodies.
-use Rattle.std.proofs.Common.{◌≡◌, ℕ, ◌+◌, ◌≤◌, List, [], ◌∷◌, Option, None, Some, arith}
+use Rattle.std.proofs.Common.{ℕ, ◌+◌, ◌≤◌, List, [], ◌∷◌, Option, None, Some, arith}
 use Rattle.alma_tree.specs.declared.leaf.Name.{Name}
 use Rattle.alma_tree.specs.declared.leaf.Names.{Names}
 use Rattle.alma_tree.specs.declared.phrase.Stmts as ds

@@ -1,21 +1,19 @@
 -- The texts that a body prints have no more bytes than the literals of its tree.
-use Rattle.std.proofs.Common.{◌≡◌, ℕ, ◌+◌, ℤ, pos, Bool, true, false, List, [], ◌∷◌, ◌++◌, length, Option, None, Some, refl, sym, ap, ◌∙◌, subst, arith, append_assoc}
+use Rattle.std.proofs.Common.{◌≡◌, ℕ, ◌+◌, ℤ, pos, Bool, true, false, List, [], ◌++◌, length, Option, None, Some, refl, sym, ap, ◌∙◌, subst, arith, append_assoc}
 use Rattle.std.specs.Prelude.{nat_eq, option_map, option_and_then, slice_get, if◌then◌else◌}
 use Rattle.alma_base.specs.Choice.{if_true}
-use Rattle.alma_base.specs.declared.fault.CheckFault.{CheckFault}
 use Rattle.alma_ir.specs.Tree as ir
 use Rattle.alma_ir.specs.Phrases.{stmts_phrases, stmt_phrases, arms_phrases, cases_phrases, else_phrases, branches_phrases, loop_phrases, test_phrases, expr_phrases, arg_phrases, args_phrases}
 use Rattle.alma_rules.specs.Numbered as tree
 use Rattle.alma_rules.specs.Judged.{Judged, fine, at_node, with, unless, both_of}
-use Rattle.alma_rules.specs.Scene.{Scene, FormalOf, Found, absent, bad, constant, named, variable, routine, found, is_structured, range, in_constant, inside_of, text_at, literal_at}
-use Rattle.alma_rules.specs.Parts.{Meaning, a_place, plain, a_test, Typing, value_of, test_of, without_place, boolean_typing, Located, desig_of, Denoted, denoted, select_field, located_in, typing_in, callee_in, argument_of, Callee, called, Operands, joined_stmts, append_stmts, one_stmt, assigned, assigned_to, read_as, read_stmts, write_as, write_stmts, chained, Span, span_of, ranges_of, append_cases, related, add_operator, mul_operator}
-use Rattle.alma_rules.specs.ExprRules.{Use, as_variable, as_value, as_procedure, desig_rules, field_rules, array_rules, index_rules, Operand, alone, operand_rules, not_rules, chain_rules, literal_rules, simple_rules, known_rules, chr_rules, sequence_rules, relation_rules, test_rules, call_rules, argument_rules, argument_kind, constant_rules}
-use Rattle.alma_rules.specs.StmtRules.{assign_rules, loop_name_rules, loop_rules, by_rules, case_rules, label_rules, return_rules, read_rules, write_rules}
-use Rattle.alma_rules.specs.Nodes.{judge_name, indexed, in_parens, as_sequence, or_sequence, only_of, known_typing, ord_typing, chr_typing, not_typing, argument_count, cons_arg, cons_operand, operand_behind, first_add, first_mul, any_or, any_and, if_of, arms_of, loop_variable, loop_of, loop_at, constant_in, cons_span, arm_of, joined_cases, with_line, item_literal, text_rules, item_of}
-use Rattle.alma_rules.specs.Walk.{judge_stmts, judge_stmt_tail, judge_stmt, judge_elsifs, judge_else, judge_by, judge_arm, judge_arm_tail, judge_label, judge_high, judge_labels, judge_case_else, judge_orelses, judge_returned, judge_reads, judge_items, judge_item_tail, judge_line_items, judge_expr, judge_simple, judge_terms, judge_term, judge_factors, judge_factor, judge_primary, judge_only, judge_value, judge_arguments, judge_argument_tail, judge_desig, judge_selectors, judge_selector, judge_indices, judge_index_tail}
+use Rattle.alma_rules.specs.Scene.{Scene, FormalOf, Found, absent, bad, constant, named, variable, routine, found, is_structured, range, inside_of, text_at, literal_at}
+use Rattle.alma_rules.specs.Parts.{Meaning, a_place, plain, a_test, Typing, value_of, test_of, without_place, boolean_typing, Located, desig_of, Denoted, denoted, select_field, located_in, typing_in, callee_in, argument_of, Callee, called, joined_stmts, append_stmts, one_stmt, assigned, assigned_to, read_as, read_stmts, write_as, write_stmts, Span, append_cases, related, add_operator, mul_operator}
+use Rattle.alma_rules.specs.ExprRules.{Use, as_variable, as_value, as_procedure, desig_rules, field_rules, array_rules, index_rules, Operand, alone, operand_rules, not_rules, literal_rules, simple_rules, known_rules, chr_rules, sequence_rules, relation_rules, test_rules, call_rules, argument_rules, argument_kind}
+use Rattle.alma_rules.specs.StmtRules.{assign_rules, loop_name_rules, loop_rules, case_rules, return_rules, read_rules, write_rules}
+use Rattle.alma_rules.specs.Nodes.{judge_name, indexed, in_parens, as_sequence, or_sequence, only_of, known_typing, ord_typing, chr_typing, not_typing, argument_count, cons_arg, cons_operand, operand_behind, first_add, first_mul, any_or, any_and, if_of, arms_of, loop_variable, loop_of, loop_at, arm_of, joined_cases, with_line, item_literal, text_rules, item_of}
+use Rattle.alma_rules.specs.Walk.{judge_stmts, judge_stmt_tail, judge_stmt, judge_elsifs, judge_else, judge_by, judge_arm, judge_arm_tail, judge_case_else, judge_orelses, judge_returned, judge_reads, judge_items, judge_item_tail, judge_line_items, judge_expr, judge_simple, judge_terms, judge_term, judge_factors, judge_factor, judge_primary, judge_only, judge_value, judge_arguments, judge_argument_tail, judge_desig, judge_selectors, judge_selector, judge_indices, judge_index_tail}
 use Rattle.alma_resolved.proofs.Fits.{When, when_some, when_none, when_map, when_then, when_both, when_node, when_weaker}
-use Rattle.alma_resolved.proofs.Scenes.{no_faults_right}
-use Rattle.std.specs.Prelude.{take, drop, sum_by, ◌-◌, ◌≤◌}
+use Rattle.std.specs.Prelude.{drop, ◌-◌, ◌≤◌}
 use Rattle.std.proofs.lemmas.List.{length-take, length-drop}
 use Rattle.std.proofs.lemmas.List.Sums.{sum_by-cons}
 use Rattle.alma_scan.specs.Tokens.{Lexeme}
@@ -24,7 +22,8 @@ use Rattle.alma_ir.specs.Checked.{text_bytes}
 use Rattle.alma_rules.specs.Scene.{text_of, between}
 use Rattle.alma_rules.specs.Nodes.{is_selected}
 use Rattle.alma_resolved_limits.proofs.Weights.{weigh_args, weigh_arm, weigh_arms, weigh_by, weigh_desig, weigh_desigs, weigh_else, weigh_elsifs, weigh_expr, weigh_expr_tail, weigh_exprs, weigh_factor, weigh_factors, weigh_label, weigh_labels, weigh_orelses, weigh_primary, weigh_returned, weigh_selector, weigh_selectors, weigh_simple, weigh_stmt, weigh_stmt_tail, weigh_stmts, weigh_term, weigh_terms}
-use Rattle.alma_resolved_limits.proofs.Prints.{Prints, prints_nil, prints_up, prints_join, stmt_more, expr_more, desig_more, prints_alone, MeaningPrints, TypingPrints, value_prints, test_prints, without_prints, typing_up, constant_prints, seq_prints, known_prints, ord_prints, chr_prints, not_prints, anything, DenotedPrints, denoted_up, name_prints, field_prints, index_prints, typing_prints, LocatedPrints, located_prints, call_prints, argument_prints, args_none, args_more, related_prints, OperandsPrint, operands_none, operands_more, and_joins, or_joins, chain_prints, first_of}
+use Rattle.alma_resolved_limits.proofs.Prints.{Prints, prints_nil, prints_up, prints_join, stmt_more, expr_more, desig_more, prints_alone, MeaningPrints, TypingPrints, value_prints, test_prints, without_prints, typing_up, constant_prints, seq_prints, known_prints, ord_prints, chr_prints, not_prints, anything, DenotedPrints, denoted_up, name_prints, field_prints, index_prints, typing_prints, LocatedPrints, located_prints, call_prints, argument_prints, args_none, args_more, related_prints, OperandsPrint, operands_none, operands_more, chain_prints}
+use Rattle.alma_resolved_whole.proofs.Counts.{and_joins, or_joins, first_tally_of}
 
 -- ---- statements
 
@@ -413,7 +412,7 @@ mutual
 
   simple_print : (s : Scene) (n : ℕ) (x : tree.Simple) → When (judge_simple s n x).value (TypingPrints (weigh_simple (weight_in s) x))
   simple_print s n (tree.simple k None first tree.no_term) =
-      when_weaker (first_of _ (term_print s n (first_add None tree.no_term) first)) (λ t g. typing_up (weigh_term (weight_in s) first) (weigh_term (weight_in s) first + 0) (omega arith) g)
+      when_weaker (first_tally_of _ (term_print s n (first_add None tree.no_term) first)) (λ t g. typing_up (weigh_term (weight_in s) first) (weigh_term (weight_in s) first + 0) (omega arith) g)
   simple_print s n (tree.simple k None first (tree.more_term o t rest)) =
       chain_prints s ir.Or or_joins alone None (any_or (tree.more_term o t rest)) (weigh_term (weight_in s) first) (weigh_terms (weight_in s) (tree.more_term o t rest)) _
       (when_both (term_print s n (first_add None (tree.more_term o t rest)) first) (terms_print s _ (first_add None (tree.more_term o t rest)).sort (tree.more_term o t rest)))
@@ -432,7 +431,7 @@ mutual
 
   term_print : (s : Scene) (n : ℕ) (o : Operand) (x : tree.Term) → When (judge_term s n o x).value (TypingPrints (weigh_term (weight_in s) x))
   term_print s n o (tree.term k first tree.no_factor) =
-      when_node (operand_rules s o) _ (first_of _ (factor_print s n alone first)) (λ t g q. typing_up (weigh_factor (weight_in s) first) (weigh_factor (weight_in s) first + 0) (omega arith) g)
+      when_node (operand_rules s o) _ (first_tally_of _ (factor_print s n alone first)) (λ t g q. typing_up (weigh_factor (weight_in s) first) (weigh_factor (weight_in s) first + 0) (omega arith) g)
   term_print s n o (tree.term k first (tree.more_factor m f rest)) =
       chain_prints s ir.And and_joins o None (any_and (tree.more_factor m f rest)) (weigh_factor (weight_in s) first) (weigh_factors (weight_in s) (tree.more_factor m f rest)) _
       (when_both (factor_print s n (first_mul (tree.more_factor m f rest)) first) (factors_print s _ (first_mul (tree.more_factor m f rest)).sort (tree.more_factor m f rest)))

@@ -12,13 +12,14 @@ use Rattle.alma_tree.specs.declared.leaf.Mode.TheVariants as modes
 use Rattle.alma_ir.specs.Tree as ir
 use Rattle.alma_ir.specs.Phrases.{Phrase, StmtPhrase, TestPhrase, ExprPhrase, ArgPhrase, DesigPhrase, SelPhrase, expr_phrases, test_phrases, tests_phrases, links_phrases, args_phrases, arg_phrases, desig_phrases, sels_phrases, sel_phrases, stmts_phrases}
 use Rattle.alma_ir.specs.Checked.{text_bytes}
-use Rattle.alma_rules.specs.Judged.{unless, both_of}
+use Rattle.alma_rules.specs.Judged.{unless}
 use Rattle.alma_rules.specs.Scene.{Scene, FormalOf, Found, absent, bad, constant, named, variable, routine, row_at, is_structured, range}
 use Rattle.alma_rules.specs.Parts.{Meaning, a_place, plain, a_test, Typing, value_of, test_of, no_place, without_place, boolean_typing, Located, desig_of, with_sel, Denoted, a_constant, a_variable, a_routine, no_array, denoted, field_of, field_part, select_field, element_part, select_in, select_index, located_in, typing_in, Callee, simple_argument, structured_argument, argument_of, call_typing, equation_of, related, Operator, arithmetic, logical, Operands, links_of, tests_of, chain_of, chained}
 use Rattle.alma_rules.specs.ExprRules.{name_rules, Operand, chain_rules}
 use Rattle.alma_rules.specs.Nodes.{known_typing, ord_typing, chr_typing, not_typing, cons_operand, cons_arg}
 use Rattle.alma_resolved.proofs.Fits.{When, when_some, when_none, when_map, when_node}
 use Rattle.alma_resolved.proofs.Scenes.{phrases_with}
+use Rattle.alma_resolved_whole.proofs.Counts.{Joins}
 
 -- ---- phrases
 
@@ -296,18 +297,6 @@ unfolding expr_phrases
 operands_more (arithmetic op) n m p h g = record { links = prints_join (value_prints h) g.links; tests = prints_join (test_prints h) g.tests }
 operands_more logical n m p h g = record { links = prints_up m (n + m) (omega arith) g.links; tests = prints_join (test_prints h) g.tests }
 
--- AND or OR of tests
-pub record Joins (join : ir.Tests → ir.Test) : Type 0 where
-  pub is : (ts : ir.Tests) → test_phrases (join ts) ≡ TestPhrase (join ts) ∷ tests_phrases ts
-
-pub and_joins : Joins ir.And
-unfolding expr_phrases
-and_joins = record { is = λ ts. refl }
-
-pub or_joins : Joins ir.Or
-unfolding expr_phrases
-or_joins = record { is = λ ts. refl }
-
 chain_meaning : (join : ir.Tests → ir.Test) → Joins join → (sign : Option Sign) (n m : ℕ) (first : Typing) (xs : Operands) → TypingPrints n first → OperandsPrint m xs → MeaningPrints (n + m) (chain_of join sign (first, xs))
 unfolding expr_phrases
 chain_meaning join j None n m first [] h g = meaning_up n (n + m) first.meaning (omega arith) h.is
@@ -322,8 +311,3 @@ pub chain_prints : (s : Scene) (join : ir.Tests → ir.Test) → Joins join → 
 chain_prints s join j o sign l n m v h =
     when_map {P = λ p. TypingPrints n p.0 × OperandsPrint m p.1} (chained join sign) (when_node (chain_rules s join o sign l) v h (λ p g q. g))
     (λ p g. record { is = chain_meaning join j sign n m p.0 p.1 g.0 g.1 })
-
-pub first_of : {A B : Type 0} {P : A → Type 0} {v : Option A} (w : Option B) → When v P → When (option_map (λ p. p.0) (both_of v w)) P
-first_of {A} {B} {P} {v = None} w h = when_none
-first_of {A} {B} {P} {v = Some x} None h = when_none
-first_of {A} {B} {P} {v = Some x} (Some y) h = when_some x h.gives

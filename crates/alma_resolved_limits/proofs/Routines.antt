@@ -1,9 +1,9 @@
 -- The routines of a resolved program: their parameters, names, texts and slots are paid by what the tree weighs.
-use Rattle.std.proofs.Common.{◌≡◌, ℕ, zero, suc, ◌+◌, ◌*◌, ◌-◌, ◌<◌, ◌≤◌, get_or, List, [], ◌∷◌, ◌++◌, length, Option, None, Some, refl, sym, ap, ◌∙◌, subst, arith}
+use Rattle.std.proofs.Common.{◌≡◌, ℕ, zero, suc, ◌+◌, ◌*◌, ◌-◌, ◌<◌, ◌≤◌, get_or, List, [], ◌∷◌, ◌++◌, length, Option, None, Some, refl, ap, ◌∙◌, subst, arith}
 use Rattle.std.specs.Prelude.{sum_by, option_map}
 use Rattle.std.specs.List.{AllByRecursion}
 use Rattle.std.proofs.lemmas.List.Sums.{sum_by-cons, sum_by-append}
-use Rattle.alma_base.specs.Limits.{source_limit, cell_limit, record_limit, pool_limit, routine_slot_limit}
+use Rattle.alma_base.specs.Limits.{source_limit}
 use Rattle.alma_tree.specs.declared.module.Module.{Module}
 use Rattle.alma_scan.specs.Tokens.{Lexeme}
 use Rattle.alma_ir.specs.Tree as ir
@@ -17,7 +17,7 @@ use Rattle.alma_rules.specs.Judged.{Broken, unbroken}
 use Rattle.alma_rules.specs.Scene.{Scene, nothing, level, text_at}
 use Rattle.alma_rules.specs.Decls.{Frame, decl_routines, formals_of, read_heading, read_decls}
 use Rattle.alma_rules.specs.Modules.{judge_body, routine_of, frame_of, with_shapes, judge_block, judge_bodies, judge_decl, first_scene, module_frame, judge_module, block_variables, program_of, broken, resolved, cons_routine, joined_routines, body_lines}
-use Rattle.alma_resolved.proofs.Fits.{When, when_is}
+use Rattle.alma_resolved.proofs.Fits.{when_is}
 use Rattle.alma_resolved.proofs.FramesKept.{parts}
 use Rattle.alma_resolved.proofs.Slots.{decls_steps}
 use Rattle.alma_resolved_whole.specs.Whole.{IsTreeOf, KeepsSlots, ProgramFits}
@@ -28,7 +28,7 @@ use Rattle.alma_resolved_limits.proofs.Prints.{Prints, prints_nil}
 use Rattle.alma_resolved_limits.proofs.Printing.{sizes, stmts_print}
 use Rattle.alma_resolved_limits.proofs.DeclWeights.{weigh_formals, weigh_body, weigh_block, weigh_decls, weigh_decl, weigh_module, numbered_weighs}
 use Rattle.alma_resolved_limits.proofs.Sizes.{ones_within, sizes_within}
-use Rattle.alma_resolved_limits.proofs.FrameLimits.{Holds, decls_hold, head_few, head_slots}
+use Rattle.alma_resolved_limits.proofs.FrameLimits.{decls_hold, head_few, head_slots}
 
 -- ---- what routines hold
 
