@@ -1,9 +1,10 @@
 // Parameters.
-ghost use Rattle.std.specs.Prelude.{◌≡◌, ◌+◌, Some, OnOk};
+ghost use Rattle.std.specs.Prelude.{◌≡◌, Some, None, OnOk};
+ghost use Rattle.alma_rules.specs.Scene.{is_structured};
 ghost use Rattle.alma_rules.specs.Types as types;
 ghost use Rattle.alma_rules.specs.Decls as rules;
 ghost use Rattle.alma_rules.specs.View as view;
-ghost use Rattle.alma_check_block.specs.Shown.{shown, told_frame};
+ghost use Rattle.alma_check_block.specs.Shown.{shown, told_frame, param_shaped};
 
 use crate::entry::enter_name;
 use crate::frame::Frame;
@@ -98,6 +99,29 @@ fn push_param(
     reader.declare(alloc, name, from, Entry::Variable(ShapeId(shape), access))
 }
 
+// A parameter whose type is not Bad, apart from its formal.
+fn place_param(
+    alloc: Global,
+    reader: &mut Reader,
+    frame: &mut Frame,
+    name: &Name,
+    from: u32,
+    mode: Option<Mode>,
+    shape: u32,
+) -> Result<(), NoMemory>
+    ensures { (f : rules.Frame) → shown reader.old frame.old ≡ told_frame f
+        → OnOk result (shown reader.new frame.new ≡ told_frame (param_shaped f from mode shape
+        (view.view_name name.now))) }
+{
+    if reader.is_first(name) {
+        push_param(alloc, reader, frame, name, from, mode, shape)?;
+        frame.limit(name);
+    } else {
+        frame.add_fault(redeclared(reader, name));
+    }
+    Ok(())
+}
+
 // A parameter whose type is not Bad.
 fn declare_shaped(
     alloc: Global,
@@ -112,12 +136,7 @@ fn declare_shaped(
         → OnOk result (shown reader.new frame.new ≡ told_frame (rules.param_in f from mode
         (Some shape) (view.view_name name.now))) }
 {
-    if reader.is_first(name) {
-        push_param(alloc, reader, frame, name, from, mode, shape)?;
-        frame.limit(name);
-    } else {
-        frame.add_fault(redeclared(reader, name));
-    }
+    place_param(alloc, reader, frame, name, from, mode, shape)?;
     frame.formals.push(Some(alma_check_rules::Formal { mode, shape }))?;
     Ok(())
 }

@@ -1,11 +1,12 @@
 // Headings.
-ghost use Rattle.std.specs.Prelude.{◌≡◌, List, map, option_map, OnOk, IfOk};
+ghost use Rattle.std.specs.Prelude.{◌≡◌, ℕ, List, Some, option_map, OnOk, IfOk};
+ghost use Rattle.alma_base.specs.declared.fault.CheckFault.{CheckFault as Rule};
 ghost use Rattle.alma_rules.specs.Judged.{broken_at, unbroken};
 ghost use Rattle.alma_rules.specs.Scene.{Scene};
 ghost use Rattle.alma_rules.specs.Answers.{first};
 ghost use Rattle.alma_rules.specs.Decls as rules;
 ghost use Rattle.alma_rules.specs.View as view;
-ghost use Rattle.alma_check_rules.specs.Views.{formal_view, heading_view};
+ghost use Rattle.alma_check_rules.specs.Views.{heading_view};
 ghost use Rattle.alma_check_reader.specs.Told.{fault_of};
 ghost use Rattle.alma_check_reader.specs.Around.{outer_of};
 ghost use Rattle.alma_check_block.specs.Shown.{shown, told_frame, formals_view, formals_in};
@@ -151,10 +152,10 @@ fn at_depth(
     deep: Option<Broken>,
     heading: Option<Heading>,
 ) -> Option<Heading>
-    ensures frame { (s : Scene) (h : rules.Headed) (faults : List CheckFault) (node : ℕ)
+    ensures frame { (s : Scene) (h : rules.Headed) (faults : List Rule) (node : ℕ)
         → shown s frame.old ≡ told_frame h.frame → fault_of deep ≡ first (broken_at node faults)
         → shown s frame.new ≡ told_frame (rules.with_depth faults node h).frame }
-    ensures heading { (h : rules.Headed) (faults : List CheckFault) (node : ℕ)
+    ensures heading { (h : rules.Headed) (faults : List Rule) (node : ℕ)
         → option_map heading_view heading ≡ h.heading
         → fault_of deep ≡ first (broken_at node faults)
         → option_map heading_view result ≡ (rules.with_depth faults node h).heading }

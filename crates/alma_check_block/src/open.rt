@@ -1,5 +1,5 @@
 // Routines that a block declares, and the block itself as it begins.
-ghost use Rattle.std.specs.Prelude.{◌≡◌, IfSome, OnOk, IfOk};
+ghost use Rattle.std.specs.Prelude.{◌≡◌, ◌+◌, IfSome, OnOk, IfOk};
 ghost use Rattle.alma_rules.specs.Scene.{nothing};
 ghost use Rattle.alma_rules.specs.Decls as rules;
 ghost use Rattle.alma_rules.specs.View as view;
