@@ -16,6 +16,10 @@ use Rattle.alma_walk.proofs.Rows as rows
 pub begun : {A B : Type 0} (join : A → B → B) (nil : A) (xs : Option A) (j : Judged B) → ((b : B) → join nil b ≡ b) → xs ≡ Some nil → j ≡ onward join xs j
 begun join nil xs j same h = rw h (sym (onward_begin join nil j same))
 
+-- what is said of a list that begins
+pub from_nothing : {A B C : Type 0} (join : A → B → C) (nil : A) (xs : Option A) (j : Judged B) (k : Judged C) → xs ≡ Some nil → onward join xs j ≡ k → onward join (Some nil) j ≡ k
+from_nothing join nil xs j k h is = ap (λ (v : Option _). onward join v j) (sym h) ∙ is
+
 -- another way to say what is judged, where it stops
 pub stops_as : {A : Type 0} (j k : Judged A) (e : Stop) → j ≡ k → Stops k.faults e → Stops j.faults e
 stops_as {A} j k e is h = subst (λ (i : Judged A). Stops i.faults e) (sym is) h

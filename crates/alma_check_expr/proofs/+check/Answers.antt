@@ -4,7 +4,7 @@ use Rattle.alma_tree.specs.declared.phrase.Label as dl
 use Rattle.alma_ir.specs.View.{cases_list}
 use Rattle.alma_walk.specs.Arms.{arms_judged}
 use Rattle.alma_walk.proofs.Cases as cases
-use Rattle.alma_check_expr.proofs.Begins.{stops_as, node_is, err_if, err_on, on_ok}
+use Rattle.alma_check_expr.proofs.Begins.{from_nothing, stops_as, node_is, err_if, err_on, on_ok}
 use Rattle.alma_check_expr.proofs.Calls as calls
 use Rattle.alma_check_expr.proofs.Calls.{args_last}
 use Rattle.alma_check_expr.proofs.Empty.{empty_by, some_by}
@@ -15,7 +15,7 @@ use Rattle.alma_check_expr.proofs.Same.{kind_same}
 use Rattle.alma_tree.specs.declared.phrase.Compared as dc
 use Rattle.alma_tree.specs.declared.phrase.Exprs as dx
 use Rattle.alma_ir.specs.Tree as ir
-use Rattle.alma_ir.specs.View.{test_of, arg_of, args_list}
+use Rattle.alma_ir.specs.View.{test_of, arg_of, args_list, arms_list, branches_list}
 use Rattle.alma_rules.specs.Numbered as tree
 use Rattle.alma_rules.specs.View as view
 use Rattle.alma_rules.specs.Judged.{Judged, fine, of_value}
@@ -332,12 +332,12 @@ sequence::check_stmts-returns t c =
 pub sequence::check_more-loop-stmt-preserved : goal.sequence::check_more-loop-stmt-preserved
 sequence::check_more-loop-stmt-preserved t c =
     c.loop-stmt.invariant ∙ ap (onward_stmts (stmts_in c.loop-stmt.kept)) (stmts.stmts_next (scene_of c.args.env.now c.args.place) c.loop-stmt.slot c.loop-stmt.stmt-index c.args.more.now c.stmt-item.result c.loop-stmt-test.true c.stmt-item.is)
-    ∙ c.in_ok-add_stmts.ensures _ _ (λ m. walk.judge_stmt_tail (scene_of c.args.env.now c.args.place) m (view.stmts_of (drop (c.loop-stmt.stmt-index + 1) c.args.more.now))) c.check_stmt-next.ensures
+    ∙ c.in_ok-kept.ensures _ _ (λ m. walk.judge_stmt_tail (scene_of c.args.env.now c.args.place) m (view.stmts_of (drop (c.loop-stmt.stmt-index + 1) c.args.more.now))) c.check_stmt-next.ensures
 
-pub sequence::check_more-returns-in_err-add_stmts : goal.sequence::check_more-returns-in_err-add_stmts
-sequence::check_more-returns-in_err-add_stmts t c =
+pub sequence::check_more-returns-in_err-kept : goal.sequence::check_more-returns-in_err-kept
+sequence::check_more-returns-in_err-kept t c =
     passed _ stmts_of _ _ _ c.from_residual.ensures.1
-    (subst (λ (j : Judged _). Stops j.faults _) (sym (c.loop-stmt.invariant ∙ ap (onward_stmts (stmts_in c.loop-stmt.kept)) (stmts.stmts_next (scene_of c.args.env.now c.args.place) c.loop-stmt.slot c.loop-stmt.stmt-index c.args.more.now c.stmt-item.result c.loop-stmt-test.true c.stmt-item.is))) (c.in_err-add_stmts.ensures _ _ (λ m. walk.judge_stmt_tail (scene_of c.args.env.now c.args.place) m (view.stmts_of (drop (c.loop-stmt.stmt-index + 1) c.args.more.now))) c.check_stmt-next.ensures))
+    (stops_as _ _ _ (c.loop-stmt.invariant ∙ ap (onward_stmts (stmts_in c.loop-stmt.kept)) (stmts.stmts_next (scene_of c.args.env.now c.args.place) c.loop-stmt.slot c.loop-stmt.stmt-index c.args.more.now c.stmt-item.result c.loop-stmt-test.true c.stmt-item.is)) (c.in_err-kept.ensures _ _ (λ m. walk.judge_stmt_tail (scene_of c.args.env.now c.args.place) m (view.stmts_of (drop (c.loop-stmt.stmt-index + 1) c.args.more.now))) c.check_stmt-next.ensures))
 
 pub sequence::check_more-returns : goal.sequence::check_more-returns
 sequence::check_more-returns t c =
@@ -347,12 +347,12 @@ sequence::check_more-returns t c =
 pub input::check_reads-loop-desig-preserved : goal.input::check_reads-loop-desig-preserved
 input::check_reads-loop-desig-preserved t c =
     c.loop-desig.invariant ∙ ap (onward_stmts (stmts_in c.loop-desig.kept)) (stmts.reads_next (scene_of c.args.env.now c.args.place) c.loop-desig.slot c.loop-desig.desig-index c.args.more.now c.desig-item.result c.loop-desig-test.true c.desig-item.is)
-    ∙ c.in_ok-add_stmts.ensures _ _ (λ m. walk.judge_reads (scene_of c.args.env.now c.args.place) m (view.desigs_of (drop (c.loop-desig.desig-index + 1) c.args.more.now))) c.check_read_one-next.ensures
+    ∙ c.in_ok-kept.ensures _ _ (λ m. walk.judge_reads (scene_of c.args.env.now c.args.place) m (view.desigs_of (drop (c.loop-desig.desig-index + 1) c.args.more.now))) c.check_read_one-next.ensures
 
-pub input::check_reads-returns-in_err-add_stmts : goal.input::check_reads-returns-in_err-add_stmts
-input::check_reads-returns-in_err-add_stmts t c =
+pub input::check_reads-returns-in_err-kept : goal.input::check_reads-returns-in_err-kept
+input::check_reads-returns-in_err-kept t c =
     passed _ stmts_of _ _ _ c.from_residual.ensures.1
-    (subst (λ (j : Judged _). Stops j.faults _) (sym (c.loop-desig.invariant ∙ ap (onward_stmts (stmts_in c.loop-desig.kept)) (stmts.reads_next (scene_of c.args.env.now c.args.place) c.loop-desig.slot c.loop-desig.desig-index c.args.more.now c.desig-item.result c.loop-desig-test.true c.desig-item.is))) (c.in_err-add_stmts.ensures _ _ (λ m. walk.judge_reads (scene_of c.args.env.now c.args.place) m (view.desigs_of (drop (c.loop-desig.desig-index + 1) c.args.more.now))) c.check_read_one-next.ensures))
+    (stops_as _ _ _ (c.loop-desig.invariant ∙ ap (onward_stmts (stmts_in c.loop-desig.kept)) (stmts.reads_next (scene_of c.args.env.now c.args.place) c.loop-desig.slot c.loop-desig.desig-index c.args.more.now c.desig-item.result c.loop-desig-test.true c.desig-item.is)) (c.in_err-kept.ensures _ _ (λ m. walk.judge_reads (scene_of c.args.env.now c.args.place) m (view.desigs_of (drop (c.loop-desig.desig-index + 1) c.args.more.now))) c.check_read_one-next.ensures))
 
 pub input::check_reads-returns : goal.input::check_reads-returns
 input::check_reads-returns t c =
@@ -362,12 +362,12 @@ input::check_reads-returns t c =
 pub input::check_item_tail-loop-item-preserved : goal.input::check_item_tail-loop-item-preserved
 input::check_item_tail-loop-item-preserved t c =
     c.loop-item.invariant ∙ ap (onward_stmts (stmts_in c.loop-item.kept)) (stmts.items_next (scene_of c.args.env.now c.args.place) c.loop-item.slot c.loop-item.item-index c.args.more.now c.item-item.result c.loop-item-test.true c.item-item.is)
-    ∙ c.in_ok-add_stmts.ensures _ _ (λ m. walk.judge_item_tail (scene_of c.args.env.now c.args.place) m (view.exprs_of (drop (c.loop-item.item-index + 1) c.args.more.now))) c.check_item-next.ensures
+    ∙ c.in_ok-kept.ensures _ _ (λ m. walk.judge_item_tail (scene_of c.args.env.now c.args.place) m (view.exprs_of (drop (c.loop-item.item-index + 1) c.args.more.now))) c.check_item-next.ensures
 
-pub input::check_item_tail-returns-in_err-add_stmts : goal.input::check_item_tail-returns-in_err-add_stmts
-input::check_item_tail-returns-in_err-add_stmts t c =
+pub input::check_item_tail-returns-in_err-kept : goal.input::check_item_tail-returns-in_err-kept
+input::check_item_tail-returns-in_err-kept t c =
     passed _ stmts_of _ _ _ c.from_residual.ensures.1
-    (subst (λ (j : Judged _). Stops j.faults _) (sym (c.loop-item.invariant ∙ ap (onward_stmts (stmts_in c.loop-item.kept)) (stmts.items_next (scene_of c.args.env.now c.args.place) c.loop-item.slot c.loop-item.item-index c.args.more.now c.item-item.result c.loop-item-test.true c.item-item.is))) (c.in_err-add_stmts.ensures _ _ (λ m. walk.judge_item_tail (scene_of c.args.env.now c.args.place) m (view.exprs_of (drop (c.loop-item.item-index + 1) c.args.more.now))) c.check_item-next.ensures))
+    (stops_as _ _ _ (c.loop-item.invariant ∙ ap (onward_stmts (stmts_in c.loop-item.kept)) (stmts.items_next (scene_of c.args.env.now c.args.place) c.loop-item.slot c.loop-item.item-index c.args.more.now c.item-item.result c.loop-item-test.true c.item-item.is)) (c.in_err-kept.ensures _ _ (λ m. walk.judge_item_tail (scene_of c.args.env.now c.args.place) m (view.exprs_of (drop (c.loop-item.item-index + 1) c.args.more.now))) c.check_item-next.ensures))
 
 pub input::check_item_tail-returns : goal.input::check_item_tail-returns
 input::check_item_tail-returns t c =
@@ -377,12 +377,12 @@ input::check_item_tail-returns t c =
 pub branch::check_elsifs-loop-elsif-preserved : goal.branch::check_elsifs-loop-elsif-preserved
 branch::check_elsifs-loop-elsif-preserved t c =
     c.loop-elsif.invariant ∙ ap (onward_arms (arms_in c.loop-elsif.kept)) (stmts.elsifs_next (scene_of c.args.env.now c.args.place) c.loop-elsif.slot c.loop-elsif.elsif-index c.args.elsifs.now c.elsif-item.result c.loop-elsif-test.true c.elsif-item.is)
-    ∙ c.in_ok-add_guarded.ensures _ _ (λ m. walk.judge_elsifs (scene_of c.args.env.now c.args.place) m (view.elsifs_of (drop (c.loop-elsif.elsif-index + 1) c.args.elsifs.now))) c.check_guarded-arm.ensures
+    ∙ c.in_ok-kept.ensures _ _ (λ m. walk.judge_elsifs (scene_of c.args.env.now c.args.place) m (view.elsifs_of (drop (c.loop-elsif.elsif-index + 1) c.args.elsifs.now))) c.check_guarded-arm.ensures
 
-pub branch::check_elsifs-returns-in_err-add_guarded : goal.branch::check_elsifs-returns-in_err-add_guarded
-branch::check_elsifs-returns-in_err-add_guarded t c =
+pub branch::check_elsifs-returns-in_err-kept : goal.branch::check_elsifs-returns-in_err-kept
+branch::check_elsifs-returns-in_err-kept t c =
     passed _ arms_of _ _ _ c.from_residual.ensures.1
-    (subst (λ (j : Judged _). Stops j.faults _) (sym (c.loop-elsif.invariant ∙ ap (onward_arms (arms_in c.loop-elsif.kept)) (stmts.elsifs_next (scene_of c.args.env.now c.args.place) c.loop-elsif.slot c.loop-elsif.elsif-index c.args.elsifs.now c.elsif-item.result c.loop-elsif-test.true c.elsif-item.is))) (c.in_err-add_guarded.ensures _ _ (λ m. walk.judge_elsifs (scene_of c.args.env.now c.args.place) m (view.elsifs_of (drop (c.loop-elsif.elsif-index + 1) c.args.elsifs.now))) c.check_guarded-arm.ensures))
+    (stops_as _ _ _ (c.loop-elsif.invariant ∙ ap (onward_arms (arms_in c.loop-elsif.kept)) (stmts.elsifs_next (scene_of c.args.env.now c.args.place) c.loop-elsif.slot c.loop-elsif.elsif-index c.args.elsifs.now c.elsif-item.result c.loop-elsif-test.true c.elsif-item.is)) (c.in_err-kept.ensures _ _ (λ m. walk.judge_elsifs (scene_of c.args.env.now c.args.place) m (view.elsifs_of (drop (c.loop-elsif.elsif-index + 1) c.args.elsifs.now))) c.check_guarded-arm.ensures))
 
 pub branch::check_elsifs-returns : goal.branch::check_elsifs-returns
 branch::check_elsifs-returns t c =
@@ -392,12 +392,12 @@ branch::check_elsifs-returns t c =
 pub choice::check_orelses-loop-body-preserved : goal.choice::check_orelses-loop-body-preserved
 choice::check_orelses-loop-body-preserved t c =
     c.loop-body.invariant ∙ ap (onward_branches (branches_in c.loop-body.kept)) (stmts.orelses_next (scene_of c.args.env.now c.args.place) c.loop-body.slot c.loop-body.body-index c.args.more.now c.body-item.result c.loop-body-test.true c.body-item.is)
-    ∙ c.in_ok-add_branch.ensures _ _ (λ m. walk.judge_orelses (scene_of c.args.env.now c.args.place) m (view.orelses_of (drop (c.loop-body.body-index + 1) c.args.more.now))) c.check_stmts-stmts.ensures
+    ∙ c.in_ok-kept.ensures _ _ (λ m. walk.judge_orelses (scene_of c.args.env.now c.args.place) m (view.orelses_of (drop (c.loop-body.body-index + 1) c.args.more.now))) c.check_stmts-stmts.ensures
 
-pub choice::check_orelses-returns-in_err-add_branch : goal.choice::check_orelses-returns-in_err-add_branch
-choice::check_orelses-returns-in_err-add_branch t c =
+pub choice::check_orelses-returns-in_err-kept : goal.choice::check_orelses-returns-in_err-kept
+choice::check_orelses-returns-in_err-kept t c =
     passed _ branches_of _ _ _ c.from_residual.ensures.1
-    (subst (λ (j : Judged _). Stops j.faults _) (sym (c.loop-body.invariant ∙ ap (onward_branches (branches_in c.loop-body.kept)) (stmts.orelses_next (scene_of c.args.env.now c.args.place) c.loop-body.slot c.loop-body.body-index c.args.more.now c.body-item.result c.loop-body-test.true c.body-item.is))) (c.in_err-add_branch.ensures _ _ (λ m. walk.judge_orelses (scene_of c.args.env.now c.args.place) m (view.orelses_of (drop (c.loop-body.body-index + 1) c.args.more.now))) c.check_stmts-stmts.ensures))
+    (stops_as _ _ _ (c.loop-body.invariant ∙ ap (onward_branches (branches_in c.loop-body.kept)) (stmts.orelses_next (scene_of c.args.env.now c.args.place) c.loop-body.slot c.loop-body.body-index c.args.more.now c.body-item.result c.loop-body-test.true c.body-item.is)) (c.in_err-kept.ensures _ _ (λ m. walk.judge_orelses (scene_of c.args.env.now c.args.place) m (view.orelses_of (drop (c.loop-body.body-index + 1) c.args.more.now))) c.check_stmts-stmts.ensures))
 
 pub choice::check_orelses-returns : goal.choice::check_orelses-returns
 choice::check_orelses-returns t c =
@@ -411,7 +411,7 @@ sequence::check_assign-returns-in_err-located t c =
 
 pub sequence::check_assign-returns : goal.sequence::check_assign-returns
 sequence::check_assign-returns t c =
-    stmts.assign_fine (scene_of c.args.env.now c.args.place) c.args.slot.now c.args.node (view.view_desig c.args.target.now) (view.view_expr c.args.value.now) stmts_of _ _ _ _ c.in_ok-located.ensures (c.join_assign.ensures _ _ _ c.check_expr-typed.ensures)
+    stmts.assign_fine (scene_of c.args.env.now c.args.place) c.args.slot.now c.args.node (view.view_desig c.args.target.now) (view.view_expr c.args.value.now) stmts_of _ _ _ _ c.in_ok-located.ensures (c.join_assign.ensures _ c.check_place.new.slot _ c.check_expr-typed.ensures)
 
 pub sequence::check_place-returns : goal.sequence::check_place-returns
 sequence::check_place-returns t c =
@@ -432,7 +432,7 @@ branch::check_guarded-returns-in_err-test t c =
 
 pub branch::check_guarded-returns : goal.branch::check_guarded-returns
 branch::check_guarded-returns t c =
-    first_fine (λ (j : Judged (ir.Test × ir.Stmts)). j) _ (nodes.condition_at (scene_of c.args.env.now c.args.place) (view.view_expr c.args.test.now) (walk.judge_expr (scene_of c.args.env.now c.args.place) c.args.slot.now (view.view_expr c.args.test.now))) (λ m. walk.judge_stmts (scene_of c.args.env.now c.args.place) m (view.view_stmts c.args.then.now)) guarded_of _ _ _ _ refl c.in_ok-test.ensures (c.join_guarded.ensures _ _ _ c.check_stmts-body.ensures)
+    first_fine (λ (j : Judged (ir.Test × ir.Stmts)). j) _ (nodes.condition_at (scene_of c.args.env.now c.args.place) (view.view_expr c.args.test.now) (walk.judge_expr (scene_of c.args.env.now c.args.place) c.args.slot.now (view.view_expr c.args.test.now))) (λ m. walk.judge_stmts (scene_of c.args.env.now c.args.place) m (view.view_stmts c.args.then.now)) guarded_of _ _ _ _ refl c.in_ok-test.ensures (c.join_guarded.ensures _ c.check_condition.new.slot _ c.check_stmts-body.ensures)
 
 pub branch::check_while-returns-in_err-test : goal.branch::check_while-returns-in_err-test
 branch::check_while-returns-in_err-test t c =
@@ -441,7 +441,7 @@ branch::check_while-returns-in_err-test t c =
 
 pub branch::check_while-returns : goal.branch::check_while-returns
 branch::check_while-returns t c =
-    stmts.while_fine (scene_of c.args.env.now c.args.place) c.args.slot.now c.args.node (view.view_expr c.args.test.now) (view.view_stmts c.args.body.now) stmts_of _ _ _ _ c.in_ok-test.ensures (c.join_while.ensures _ _ _ c.check_stmts-body.ensures)
+    stmts.while_fine (scene_of c.args.env.now c.args.place) c.args.slot.now c.args.node (view.view_expr c.args.test.now) (view.view_stmts c.args.body.now) stmts_of _ _ _ _ c.in_ok-test.ensures (c.join_while.ensures _ c.check_condition.new.slot _ c.check_stmts-body.ensures)
 
 pub branch::check_repeat-returns-in_err-body : goal.branch::check_repeat-returns-in_err-body
 branch::check_repeat-returns-in_err-body t c =
@@ -450,7 +450,7 @@ branch::check_repeat-returns-in_err-body t c =
 
 pub branch::check_repeat-returns : goal.branch::check_repeat-returns
 branch::check_repeat-returns t c =
-    stmts.repeat_fine (scene_of c.args.env.now c.args.place) c.args.slot.now c.args.node (view.view_stmts c.args.body.now) (view.view_expr c.args.test.now) stmts_of _ _ _ _ c.in_ok-body.ensures (c.join_repeat.ensures _ _ _ c.check_condition-test.ensures)
+    stmts.repeat_fine (scene_of c.args.env.now c.args.place) c.args.slot.now c.args.node (view.view_stmts c.args.body.now) (view.view_expr c.args.test.now) stmts_of _ _ _ _ c.in_ok-body.ensures (c.join_repeat.ensures _ c.check_stmts.new.slot _ c.check_condition-test.ensures)
 
 pub choice::check_forall-returns-in_err-choice : goal.choice::check_forall-returns-in_err-choice
 choice::check_forall-returns-in_err-choice t c =
@@ -459,7 +459,7 @@ choice::check_forall-returns-in_err-choice t c =
 
 pub choice::check_forall-returns : goal.choice::check_forall-returns
 choice::check_forall-returns t c =
-    stmts.forall_fine (scene_of c.args.env.now c.args.place) c.args.slot.now c.args.node (view.view_stmts c.args.choice.now) (view.view_stmts c.args.body.now) stmts_of _ _ _ _ c.in_ok-choice.ensures (c.join_forall.ensures _ _ _ c.check_stmts-body.ensures)
+    stmts.forall_fine (scene_of c.args.env.now c.args.place) c.args.slot.now c.args.node (view.view_stmts c.args.choice.now) (view.view_stmts c.args.body.now) stmts_of _ _ _ _ c.in_ok-choice.ensures (c.join_forall.ensures _ c.check_stmts.new.slot _ c.check_stmts-body.ensures)
 
 pub choice::check_commit-returns : goal.choice::check_commit-returns
 choice::check_commit-returns t c =
@@ -475,12 +475,14 @@ branch::check_if-returns-in_err-arms t c =
 pub branch::check_if-returns-in_err-arms-2 : goal.branch::check_if-returns-in_err-arms-2
 branch::check_if-returns-in_err-arms-2 t c =
     passed _ stmts_of _ _ _ c.from_residual-in_err-arms-2.ensures.1
-    (stmts.if_arms_stops (scene_of c.args.env.now c.args.place) c.args.slot.now c.args.node (view.view_expr c.args.test.now) (view.view_stmts c.args.then.now) (view.elsifs_of c.args.elsifs.now) (view.else_of c.args.otherwise.now) _ (arms_in c.in_ok-arms.arms) _ (c.in_ok-arms.ensures (stmts.guarded (scene_of c.args.env.now c.args.place) c.args.slot.now (view.view_expr c.args.test.now) (view.view_stmts c.args.then.now)) _ (λ m. walk.judge_elsifs (scene_of c.args.env.now c.args.place) m (view.elsifs_of c.args.elsifs.now)) c.check_guarded-first.ensures) c.in_err-arms-2.ensures)
+    (stmts.if_arms_stops (scene_of c.args.env.now c.args.place) c.args.slot.now c.args.node (view.view_expr c.args.test.now) (view.view_stmts c.args.then.now) (view.elsifs_of c.args.elsifs.now) (view.else_of c.args.otherwise.now) _ (arms_in c.in_ok-arms.arms) _ (from_nothing append_arms ir.no_arms (arms_in (Some c.new.result)) _ _ (ap (λ l. Some (arms_list l)) c.new.ensures.items)
+    (c.in_ok-arms.ensures (stmts.guarded (scene_of c.args.env.now c.args.place) c.args.slot.now (view.view_expr c.args.test.now) (view.view_stmts c.args.then.now)) _ (λ m. walk.judge_elsifs (scene_of c.args.env.now c.args.place) m (view.elsifs_of c.args.elsifs.now)) c.check_guarded-first.ensures)) c.in_err-arms-2.ensures)
 
 pub branch::check_if-returns : goal.branch::check_if-returns
 branch::check_if-returns t c =
-    stmts.if_fine (scene_of c.args.env.now c.args.place) c.args.slot.now c.args.node (view.view_expr c.args.test.now) (view.view_stmts c.args.then.now) (view.elsifs_of c.args.elsifs.now) (view.else_of c.args.otherwise.now) _ _ _ (arms_in c.in_ok-arms.arms) (arms_in c.in_ok-arms-2.arms) stmts_of _ (c.in_ok-arms.ensures (stmts.guarded (scene_of c.args.env.now c.args.place) c.args.slot.now (view.view_expr c.args.test.now) (view.view_stmts c.args.then.now)) _ (λ m. walk.judge_elsifs (scene_of c.args.env.now c.args.place) m (view.elsifs_of c.args.elsifs.now)) c.check_guarded-first.ensures) c.in_ok-arms-2.ensures
-    (c.join_if.ensures _ _ _ c.check_else-other.ensures)
+    stmts.if_fine (scene_of c.args.env.now c.args.place) c.args.slot.now c.args.node (view.view_expr c.args.test.now) (view.view_stmts c.args.then.now) (view.elsifs_of c.args.elsifs.now) (view.else_of c.args.otherwise.now) _ _ _ (arms_in c.in_ok-arms.arms) (arms_in c.in_ok-arms-2.arms) stmts_of _ (from_nothing append_arms ir.no_arms (arms_in (Some c.new.result)) _ _ (ap (λ l. Some (arms_list l)) c.new.ensures.items)
+    (c.in_ok-arms.ensures (stmts.guarded (scene_of c.args.env.now c.args.place) c.args.slot.now (view.view_expr c.args.test.now) (view.view_stmts c.args.then.now)) _ (λ m. walk.judge_elsifs (scene_of c.args.env.now c.args.place) m (view.elsifs_of c.args.elsifs.now)) c.check_guarded-first.ensures)) c.in_ok-arms-2.ensures
+    (c.join_if.ensures _ c.check_elsifs.new.slot _ c.check_else-other.ensures)
 
 pub branch::check_else-returns-in-None : goal.branch::check_else-returns-in-None
 branch::check_else-returns-in-None t c =
@@ -496,7 +498,8 @@ choice::check_either-returns-in_err-branches t c =
 
 pub choice::check_either-returns : goal.choice::check_either-returns
 choice::check_either-returns t c =
-    rw (stmts.either_whole (scene_of c.args.env.now c.args.place) c.args.slot.now c.args.node (view.view_stmts c.args.first.now) (view.orelses_of c.args.more.now)) (c.join_either.ensures _ _ (answers_as _ _ branches_of _ _ (c.in_ok-branches.ensures (walk.judge_stmts (scene_of c.args.env.now c.args.place) c.args.slot.now (view.view_stmts c.args.first.now)) _ (λ m. walk.judge_orelses (scene_of c.args.env.now c.args.place) m (view.orelses_of c.args.more.now)) c.check_stmts-first.ensures) c.check_orelses-branches.ensures))
+    rw (stmts.either_whole (scene_of c.args.env.now c.args.place) c.args.slot.now c.args.node (view.view_stmts c.args.first.now) (view.orelses_of c.args.more.now)) (c.join_either.ensures _ _ (answers_as _ _ branches_of _ _ (from_nothing append_branches ir.no_branches (branches_in (Some c.new.result)) _ _ (ap (λ l. Some (branches_list l)) c.new.ensures.items)
+    (c.in_ok-branches.ensures (walk.judge_stmts (scene_of c.args.env.now c.args.place) c.args.slot.now (view.view_stmts c.args.first.now)) _ (λ m. walk.judge_orelses (scene_of c.args.env.now c.args.place) m (view.orelses_of c.args.more.now)) c.check_stmts-first.ensures)) c.check_orelses-branches.ensures))
 
 pub input::check_return-returns-in-None : goal.input::check_return-returns-in-None
 input::check_return-returns-in-None t c =
