@@ -541,7 +541,7 @@ input::check_writeln-returns-in-None t c =
 
 pub input::check_writeln-returns-in-Some : goal.input::check_writeln-returns-in-Some
 input::check_writeln-returns-in-Some t c =
-    rw (c.in-Some.is, stmts.writeln_is (scene_of c.args.env.now c.args.place) c.args.slot.now c.args.node _) (c.join_line.ensures _ _ c.check_line_items-stmts.ensures)
+    rw (c.in-Some.is, stmts.writeln_is (scene_of c.args.env.now c.args.place) c.args.slot.now c.args.node _) (c.join_line-in-Some.ensures _ _ c.check_line_items-stmts.ensures)
 
 pub input::check_line_items-returns-in-None : goal.input::check_line_items-returns-in-None
 input::check_line_items-returns-in-None t c =
