@@ -4,7 +4,7 @@ use Rattle.alma_tree.specs.declared.phrase.Label as dl
 use Rattle.alma_ir.specs.View.{cases_list}
 use Rattle.alma_walk.specs.Arms.{arms_judged}
 use Rattle.alma_walk.proofs.Cases as cases
-use Rattle.alma_check_expr.proofs.Begins.{from_nothing, stops_as, node_is, err_if, err_on, on_ok}
+use Rattle.alma_check_expr.proofs.Begins.{from_nothing, stops_as, node_is, on_ok}
 use Rattle.alma_check_expr.proofs.Calls as calls
 use Rattle.alma_check_expr.proofs.Calls.{args_last}
 use Rattle.alma_check_expr.proofs.Empty.{empty_by, some_by}
@@ -419,7 +419,7 @@ sequence::check_place-returns t c =
 
 pub sequence::check_condition-returns : goal.sequence::check_condition-returns
 sequence::check_condition-returns t c =
-    c.join_condition.ensures (walk.judge_expr (scene_of c.args.env.now c.args.place) c.args.slot.now (view.view_expr c.args.test.now)) _ c.check_expr-typed.ensures
+    rw (node_is c.args.test.now) (c.join_condition.ensures (walk.judge_expr (scene_of c.args.env.now c.args.place) c.args.slot.now (view.view_expr c.args.test.now)) _ c.check_expr-typed.ensures)
 
 pub sequence::check_value-returns : goal.sequence::check_value-returns
 sequence::check_value-returns t c =
@@ -557,7 +557,7 @@ turns::check_by-returns-in-None t c =
 
 pub turns::check_by-returns-in-Some : goal.turns::check_by-returns-in-Some
 turns::check_by-returns-in-Some t c =
-    rw (c.in-Some.is, stmts.by_some (scene_of c.args.env.now c.args.place) c.args.slot.now (view.view_expr c.in-Some.by)) (c.join_step.ensures _ _ c.check_expr-typed.ensures)
+    rw (c.in-Some.is, stmts.by_some (scene_of c.args.env.now c.args.place) c.args.slot.now (view.view_expr c.in-Some.by), node_is c.in-Some.by) (c.join_step.ensures _ _ c.check_expr-typed.ensures)
 
 -- ---- arguments
 
@@ -618,6 +618,11 @@ input::check_item-returns-in-Some t c =
 
 -- ---- FOR and SOME
 
+pub turns::check_for-join_for-requires : goal.turns::check_for-join_for-requires
+turns::check_for-join_for-requires t c = record {
+  limit = omega (arith, c.in_ok-counter.ensures.0, c.in_ok-counter.ensures.1, c.take_loop.auto.slot);
+}
+
 pub turns::check_for-returns-in_err-counter : goal.turns::check_for-returns-in_err-counter
 turns::check_for-returns-in_err-counter t c =
     passed _ stmts_of _ _ _ c.from_residual.ensures.1 (rw c.in_err-counter.ensures tt)
@@ -657,6 +662,11 @@ turns::check_for-returns t c =
     c.in_ok-found.found c.in_ok-counter.counter c.take_loop.new.slot c.check_expr.new.slot c.check_expr-high.new.slot c.check_by-step.new.slot _ _ c.in_ok-bounds.bounds c.in_ok-turns.turns _
     c.in_ok-counter.ensures.0 c.in_ok-counter.ensures.1 (loops.variable_is c.args.env.now c.args.place c.args.slot.now c.args.node c.args.variable.now c.in_ok-found.found c.in_ok-found.ensures.0 c.in_ok-found.ensures.1) c.in_ok-low.ensures b.0 b.1 y.0 y.1 y.2
     (c.join_for.ensures (walk.judge_stmts (scene_of c.args.env.now c.args.place) c.check_by-step.new.slot (view.view_stmts c.args.body.now)) c.args.slot.now c.check_expr.new.slot c.check_expr-high.new.slot c.check_by-step.new.slot _ c.check_stmts-body.ensures)
+
+pub turns::check_some-join_some-requires : goal.turns::check_some-join_some-requires
+turns::check_some-join_some-requires t c = record {
+  limit = omega (arith, c.in_ok-counter.ensures.0, c.in_ok-counter.ensures.1, c.take_loop.auto.slot);
+}
 
 pub turns::check_some-returns-in_err-counter : goal.turns::check_some-returns-in_err-counter
 turns::check_some-returns-in_err-counter t c =
@@ -729,16 +739,16 @@ case::check_arms-loop-arm-init t c =
 
 pub case::check_arms-loop-arm-preserved : goal.case::check_arms-loop-arm-preserved
 case::check_arms-loop-arm-preserved t c =
-    let new = of_ok c.check_arm-next.result _ c.in_ok-add_cases.ensures.all_judged c.check_arm-next.ensures.spans in
+    let new = of_ok c.check_arm-next.result (spans_view c.check_arm-next.new.spans.items ≡ spans_view c.loop-arm.spans.items ++ (walk.judge_arm (scene_of c.args.env.now c.args.place) c.loop-arm.slot (typing_in c.args.case.now) (spans_view c.loop-arm.spans.items) (view.view_arm c.arm-item.result)).spans) c.in_ok-arms-2.ensures.all_judged c.check_arm-next.ensures.spans in
     c.loop-arm.invariant ∙ ap (onward_cases (cases_in c.loop-arm.arms)) (arms_turn (scene_of c.args.env.now c.args.place) c.loop-arm.slot c.loop-arm.arm-index (typing_in c.args.case.now) (spans_view c.loop-arm.spans.items) (spans_view c.check_arm-next.new.spans.items) c.args.more.now c.arm-item.result c.loop-arm-test.true c.arm-item.is new)
-    ∙ c.in_ok-add_cases.ensures.judged (walk.judge_arm (scene_of c.args.env.now c.args.place) c.loop-arm.slot (typing_in c.args.case.now) (spans_view c.loop-arm.spans.items) (view.view_arm c.arm-item.result)).arm _
+    ∙ c.in_ok-arms-2.ensures.judged (walk.judge_arm (scene_of c.args.env.now c.args.place) c.loop-arm.slot (typing_in c.args.case.now) (spans_view c.loop-arm.spans.items) (view.view_arm c.arm-item.result)).arm _
     (λ m. walk.judge_arm_tail (scene_of c.args.env.now c.args.place) m (typing_in c.args.case.now) (spans_view c.check_arm-next.new.spans.items) (view.arms_of (drop (c.loop-arm.arm-index + 1) c.args.more.now))) c.check_arm-next.ensures.judged
 
-pub case::check_arms-returns-in_err-add_cases : goal.case::check_arms-returns-in_err-add_cases
-case::check_arms-returns-in_err-add_cases t c =
-    passed _ cases_of _ _ _ c.from_residual-in_err-add_cases.ensures.1
+pub case::check_arms-returns-in_err-arms-2 : goal.case::check_arms-returns-in_err-arms-2
+case::check_arms-returns-in_err-arms-2 t c =
+    passed _ cases_of _ _ _ c.from_residual-in_err-arms-2.ensures.1
     (stops_as _ _ _ (c.loop-arm.invariant ∙ ap (onward_cases (cases_in c.loop-arm.arms)) (arms_turn (scene_of c.args.env.now c.args.place) c.loop-arm.slot c.loop-arm.arm-index (typing_in c.args.case.now) (spans_view c.loop-arm.spans.items) _ c.args.more.now c.arm-item.result c.loop-arm-test.true c.arm-item.is refl))
-    (c.in_err-add_cases.ensures.judged (walk.judge_arm (scene_of c.args.env.now c.args.place) c.loop-arm.slot (typing_in c.args.case.now) (spans_view c.loop-arm.spans.items) (view.view_arm c.arm-item.result)).arm _
+    (c.in_err-arms-2.ensures.judged (walk.judge_arm (scene_of c.args.env.now c.args.place) c.loop-arm.slot (typing_in c.args.case.now) (spans_view c.loop-arm.spans.items) (view.view_arm c.arm-item.result)).arm _
     (λ m. walk.judge_arm_tail (scene_of c.args.env.now c.args.place) m (typing_in c.args.case.now) (spans_view c.loop-arm.spans.items ++ (walk.judge_arm (scene_of c.args.env.now c.args.place) c.loop-arm.slot (typing_in c.args.case.now) (spans_view c.loop-arm.spans.items) (view.view_arm c.arm-item.result)).spans) (view.arms_of (drop (c.loop-arm.arm-index + 1) c.args.more.now))) c.check_arm-next.ensures.judged))
 
 pub case::check_arms-returns : goal.case::check_arms-returns
@@ -752,56 +762,52 @@ case::check_arm-returns-in-Empty t c = record {
   spans = rw (c.in-Empty.is, cases.empty_spans (scene_of c.args.env.now c.args.place) c.args.slot.now _ (typing_in c.args.case.now) (spans_view c.args.spans.now.items)) (sym (nothing_behind (spans_view c.args.spans.now.items)));
 }
 
-pub case::check_arm-returns-in_err-labels-in-Labelled : goal.case::check_arm-returns-in_err-labels-in-Labelled
-case::check_arm-returns-in_err-labels-in-Labelled t c = record {
-  judged = passed _ cases_of _ _ _ c.from_residual.ensures.1
+pub case::check_arm-returns-in_err-labels-in-Labelled-clause-judged : goal.case::check_arm-returns-in_err-labels-in-Labelled-clause-judged
+case::check_arm-returns-in_err-labels-in-Labelled-clause-judged t c =
+    passed _ cases_of _ _ _ c.from_residual.ensures.1
       (rw (c.in-Labelled.is, rows.labelled_is _ c.in-Labelled.first c.in-Labelled.more c.in-Labelled.body)
-      (cases.arm_stops (scene_of c.args.env.now c.args.place) c.args.slot.now _ (typing_in c.args.case.now) (spans_view c.args.spans.now.items) (view.view_label c.in-Labelled.first) (view.labels_of c.in-Labelled.more.items) (view.view_stmts c.in-Labelled.body) _ (rw c.deref.ensures.value at c.in_err-labels-in-Labelled.ensures.judged)));
-  spans = err_on _ _ _ c.from_residual.ensures.1;
-}
+      (cases.arm_stops (scene_of c.args.env.now c.args.place) c.args.slot.now _ (typing_in c.args.case.now) (spans_view c.args.spans.now.items) (view.view_label c.in-Labelled.first) (view.labels_of c.in-Labelled.more.items) (view.view_stmts c.in-Labelled.body) _ (rw c.deref.ensures.value at c.in_err-labels-in-Labelled.ensures.judged)))
 
-pub case::check_arm-returns-in_ok-labels-in-Labelled : goal.case::check_arm-returns-in_ok-labels-in-Labelled
-case::check_arm-returns-in_ok-labels-in-Labelled t c = record {
-  judged = rw (c.in-Labelled.is, rows.labelled_is _ c.in-Labelled.first c.in-Labelled.more c.in-Labelled.body)
+pub case::check_arm-returns-in_ok-labels-in-Labelled-clause-judged : goal.case::check_arm-returns-in_ok-labels-in-Labelled-clause-judged
+case::check_arm-returns-in_ok-labels-in-Labelled-clause-judged t c =
+    rw (c.in-Labelled.is, rows.labelled_is _ c.in-Labelled.first c.in-Labelled.more c.in-Labelled.body)
       (rw (cases.arm_fine (scene_of c.args.env.now c.args.place) c.args.slot.now _ (typing_in c.args.case.now) (spans_view c.args.spans.now.items) (view.view_label c.in-Labelled.first) (view.labels_of c.in-Labelled.more.items) (view.view_stmts c.in-Labelled.body) c.check_labels.new.slot (spans_in c.in_ok-labels-in-Labelled.labels) (rw c.deref.ensures.value at c.in_ok-labels-in-Labelled.ensures.judged))
-      (c.join_arm.ensures (walk.judge_stmts (scene_of c.args.env.now c.args.place) c.check_labels.new.slot (view.view_stmts c.in-Labelled.body)) c.check_labels.new.slot _ c.check_stmts-body.ensures));
-  spans = on_ok _ _ (rw (c.in-Labelled.is, rows.labelled_is _ c.in-Labelled.first c.in-Labelled.more c.in-Labelled.body)
-      (rw (cases.arm_spans (scene_of c.args.env.now c.args.place) c.args.slot.now _ (typing_in c.args.case.now) (spans_view c.args.spans.now.items) (view.view_label c.in-Labelled.first) (view.labels_of c.in-Labelled.more.items) (view.view_stmts c.in-Labelled.body) c.check_labels.new.slot (spans_in c.in_ok-labels-in-Labelled.labels) (rw c.deref.ensures.value at c.in_ok-labels-in-Labelled.ensures.judged))
-      (settled (spans_view c.args.spans.now.items) (spans_view c.check_labels.new.spans.items) (spans_view c.settle.new.spans.items) c.len-before.result c.in_ok-labels-in-Labelled.labels (c.len-before.ensures ∙ sym (spans_count c.args.spans.now.items)) c.in_ok-labels-in-Labelled.ensures.spans c.settle.ensures)));
-}
+      (c.join_arm.ensures (walk.judge_stmts (scene_of c.args.env.now c.args.place) c.check_labels.new.slot (view.view_stmts c.in-Labelled.body)) c.check_labels.new.slot _ c.check_stmts-body.ensures))
 
-pub case::check_labels-returns-in_err-labels : goal.case::check_labels-returns-in_err-labels
-case::check_labels-returns-in_err-labels t c = record {
-  judged = passed _ spans_of _ _ _ c.from_residual.ensures.1
+pub case::check_arm-returns-in_ok-labels-in-Labelled-clause-spans : goal.case::check_arm-returns-in_ok-labels-in-Labelled-clause-spans
+case::check_arm-returns-in_ok-labels-in-Labelled-clause-spans t c =
+    on_ok (spans_view c.settle.new.spans.items ≡ spans_view c.args.spans.now.items ++ (walk.judge_arm (scene_of c.args.env.now c.args.place) c.args.slot.now (typing_in c.args.case.now) (spans_view c.args.spans.now.items) (view.view_arm c.args.arm.now)).spans) c.join_arm.result (rw (c.in-Labelled.is, rows.labelled_is _ c.in-Labelled.first c.in-Labelled.more c.in-Labelled.body)
+      (rw (cases.arm_spans (scene_of c.args.env.now c.args.place) c.args.slot.now _ (typing_in c.args.case.now) (spans_view c.args.spans.now.items) (view.view_label c.in-Labelled.first) (view.labels_of c.in-Labelled.more.items) (view.view_stmts c.in-Labelled.body) c.check_labels.new.slot (spans_in c.in_ok-labels-in-Labelled.labels) (rw c.deref.ensures.value at c.in_ok-labels-in-Labelled.ensures.judged))
+      (settled (spans_view c.args.spans.now.items) (spans_view c.check_labels.new.spans.items) (spans_view c.settle.new.spans.items) c.len-before.result c.in_ok-labels-in-Labelled.labels (c.len-before.ensures ∙ sym (spans_count c.args.spans.now.items)) c.in_ok-labels-in-Labelled.ensures.spans c.settle.ensures)))
+
+pub case::check_labels-returns-in_err-labels-clause-judged : goal.case::check_labels-returns-in_err-labels-clause-judged
+case::check_labels-returns-in_err-labels-clause-judged t c =
+    passed _ spans_of _ _ _ c.from_residual.ensures.1
       (stops_as _ _ _ (labels_begin (scene_of c.args.env.now c.args.place) c.args.slot.now (typing_in c.args.case.now) (spans_view c.args.spans.now.items) _ (view.view_label c.args.first.now) (view.labels_of c.args.more.now) (spans_in (Some c.new.result)) (ap (λ l. Some (spans_view l)) c.new.ensures.items) refl)
       (c.in_err-labels.ensures.judged (walk.judge_label (scene_of c.args.env.now c.args.place) c.args.slot.now (typing_in c.args.case.now) (spans_view c.args.spans.now.items) (view.view_label c.args.first.now)) _
-      (λ m. walk.judge_labels (scene_of c.args.env.now c.args.place) m (typing_in c.args.case.now) ((spans_view c.args.spans.now.items) ++ option_to_list (walk.judge_label (scene_of c.args.env.now c.args.place) c.args.slot.now (typing_in c.args.case.now) (spans_view c.args.spans.now.items) (view.view_label c.args.first.now)).value) (view.labels_of c.args.more.now)) (rw c.deref.ensures.value at c.check_label-span.ensures)));
-  spans = err_if _ _ _ c.from_residual.ensures.1;
-}
+      (λ m. walk.judge_labels (scene_of c.args.env.now c.args.place) m (typing_in c.args.case.now) ((spans_view c.args.spans.now.items) ++ option_to_list (walk.judge_label (scene_of c.args.env.now c.args.place) c.args.slot.now (typing_in c.args.case.now) (spans_view c.args.spans.now.items) (view.view_label c.args.first.now)).value) (view.labels_of c.args.more.now)) (rw c.deref.ensures.value at c.check_label-span.ensures)))
 
 pub case::check_labels-loop-label-init : goal.case::check_labels-loop-label-init
 case::check_labels-loop-label-init t c =
     let new = c.in_ok-labels.ensures.earlier (walk.judge_label (scene_of c.args.env.now c.args.place) c.args.slot.now (typing_in c.args.case.now) (spans_view c.args.spans.now.items) (view.view_label c.args.first.now)) c.check_label-span.new.slot (rw c.deref.ensures.value at c.check_label-span.ensures) in (
-      labels_begin (scene_of c.args.env.now c.args.place) c.args.slot.now (typing_in c.args.case.now) (spans_view c.args.spans.now.items) _ (view.view_label c.args.first.now) (view.labels_of c.args.more.now) (spans_in (Some c.new.result)) (ap (λ l. Some (spans_view l)) c.new.ensures.items) new
-          ∙ c.in_ok-labels.ensures.judged (walk.judge_label (scene_of c.args.env.now c.args.place) c.args.slot.now (typing_in c.args.case.now) (spans_view c.args.spans.now.items) (view.view_label c.args.first.now)) c.check_label-span.new.slot (λ m. walk.judge_labels (scene_of c.args.env.now c.args.place) m (typing_in c.args.case.now) _ (view.labels_of c.args.more.now)) (rw c.deref.ensures.value at c.check_label-span.ensures),
+      labels_begin (scene_of c.args.env.now c.args.place) c.args.slot.now (typing_in c.args.case.now) (spans_view c.args.spans.now.items) (spans_view c.add_label.new.earlier.items) (view.view_label c.args.first.now) (view.labels_of c.args.more.now) (spans_in (Some c.new.result)) (ap (λ l. Some (spans_view l)) c.new.ensures.items) new
+          ∙ c.in_ok-labels.ensures.judged (walk.judge_label (scene_of c.args.env.now c.args.place) c.args.slot.now (typing_in c.args.case.now) (spans_view c.args.spans.now.items) (view.view_label c.args.first.now)) c.check_label-span.new.slot (λ m. walk.judge_labels (scene_of c.args.env.now c.args.place) m (typing_in c.args.case.now) (spans_view c.add_label.new.earlier.items) (view.labels_of c.args.more.now)) (rw c.deref.ensures.value at c.check_label-span.ensures),
       c.in_ok-labels.ensures.grown (spans_view c.args.spans.now.items) (grown_begin (spans_view c.args.spans.now.items) (spans_in (Some c.new.result)) (ap (λ l. Some (spans_view l)) c.new.ensures.items)),
     )
 
 pub case::check_labels-loop-label-preserved : goal.case::check_labels-loop-label-preserved
 case::check_labels-loop-label-preserved t c =
-    let new = c.in_ok-add_label.ensures.earlier (walk.judge_label (scene_of c.args.env.now c.args.place) c.loop-label.slot (typing_in c.args.case.now) (spans_view c.loop-label.spans.items) (view.view_label c.label-item.result)) c.check_label-span-in-loop-label.new.slot (rw c.deref-in-loop-label.ensures.value at c.check_label-span-in-loop-label.ensures) in (
-      c.loop-label.invariant.0 ∙ ap (onward_spans (spans_in c.loop-label.labels)) (labels_turn (scene_of c.args.env.now c.args.place) c.loop-label.slot c.loop-label.label-index (typing_in c.args.case.now) (spans_view c.loop-label.spans.items) _ c.args.more.now c.label-item.result c.loop-label-test.true c.label-item.is new)
-          ∙ c.in_ok-add_label.ensures.judged (walk.judge_label (scene_of c.args.env.now c.args.place) c.loop-label.slot (typing_in c.args.case.now) (spans_view c.loop-label.spans.items) (view.view_label c.label-item.result)) c.check_label-span-in-loop-label.new.slot (λ m. walk.judge_labels (scene_of c.args.env.now c.args.place) m (typing_in c.args.case.now) _ (view.labels_of (drop (c.loop-label.label-index + 1) c.args.more.now))) (rw c.deref-in-loop-label.ensures.value at c.check_label-span-in-loop-label.ensures),
-      c.in_ok-add_label.ensures.grown (spans_view c.args.spans.now.items) c.loop-label.invariant.1,
+    let new = c.in_ok-labels-2.ensures.earlier (walk.judge_label (scene_of c.args.env.now c.args.place) c.loop-label.slot (typing_in c.args.case.now) (spans_view c.loop-label.spans.items) (view.view_label c.label-item.result)) c.check_label-span-in-loop-label.new.slot (rw c.deref-in-loop-label.ensures.value at c.check_label-span-in-loop-label.ensures) in (
+      c.loop-label.invariant.0 ∙ ap (onward_spans (spans_in c.loop-label.labels)) (labels_turn (scene_of c.args.env.now c.args.place) c.loop-label.slot c.loop-label.label-index (typing_in c.args.case.now) (spans_view c.loop-label.spans.items) (spans_view c.add_label-in-loop-label.new.earlier.items) c.args.more.now c.label-item.result c.loop-label-test.true c.label-item.is new)
+          ∙ c.in_ok-labels-2.ensures.judged (walk.judge_label (scene_of c.args.env.now c.args.place) c.loop-label.slot (typing_in c.args.case.now) (spans_view c.loop-label.spans.items) (view.view_label c.label-item.result)) c.check_label-span-in-loop-label.new.slot (λ m. walk.judge_labels (scene_of c.args.env.now c.args.place) m (typing_in c.args.case.now) (spans_view c.add_label-in-loop-label.new.earlier.items) (view.labels_of (drop (c.loop-label.label-index + 1) c.args.more.now))) (rw c.deref-in-loop-label.ensures.value at c.check_label-span-in-loop-label.ensures),
+      c.in_ok-labels-2.ensures.grown (spans_view c.args.spans.now.items) c.loop-label.invariant.1,
     )
 
-pub case::check_labels-returns-in_err-add_label : goal.case::check_labels-returns-in_err-add_label
-case::check_labels-returns-in_err-add_label t c = record {
-  judged = passed _ spans_of _ _ _ c.from_residual-in_err-add_label.ensures.1
+pub case::check_labels-returns-in_err-labels-2-clause-judged : goal.case::check_labels-returns-in_err-labels-2-clause-judged
+case::check_labels-returns-in_err-labels-2-clause-judged t c =
+    passed _ spans_of _ _ _ c.from_residual-in_err-labels-2.ensures.1
       (stops_as _ _ _ (c.loop-label.invariant.0 ∙ ap (onward_spans (spans_in c.loop-label.labels)) (labels_turn (scene_of c.args.env.now c.args.place) c.loop-label.slot c.loop-label.label-index (typing_in c.args.case.now) (spans_view c.loop-label.spans.items) _ c.args.more.now c.label-item.result c.loop-label-test.true c.label-item.is refl))
-      (c.in_err-add_label.ensures.judged (walk.judge_label (scene_of c.args.env.now c.args.place) c.loop-label.slot (typing_in c.args.case.now) (spans_view c.loop-label.spans.items) (view.view_label c.label-item.result)) _ (λ m. walk.judge_labels (scene_of c.args.env.now c.args.place) m (typing_in c.args.case.now) ((spans_view c.loop-label.spans.items) ++ option_to_list (walk.judge_label (scene_of c.args.env.now c.args.place) c.loop-label.slot (typing_in c.args.case.now) (spans_view c.loop-label.spans.items) (view.view_label c.label-item.result)).value) (view.labels_of (drop (c.loop-label.label-index + 1) c.args.more.now))) (rw c.deref-in-loop-label.ensures.value at c.check_label-span-in-loop-label.ensures)));
-  spans = err_if _ _ _ c.from_residual-in_err-add_label.ensures.1;
-}
+      (c.in_err-labels-2.ensures.judged (walk.judge_label (scene_of c.args.env.now c.args.place) c.loop-label.slot (typing_in c.args.case.now) (spans_view c.loop-label.spans.items) (view.view_label c.label-item.result)) _ (λ m. walk.judge_labels (scene_of c.args.env.now c.args.place) m (typing_in c.args.case.now) ((spans_view c.loop-label.spans.items) ++ option_to_list (walk.judge_label (scene_of c.args.env.now c.args.place) c.loop-label.slot (typing_in c.args.case.now) (spans_view c.loop-label.spans.items) (view.view_label c.label-item.result)).value) (view.labels_of (drop (c.loop-label.label-index + 1) c.args.more.now))) (rw c.deref-in-loop-label.ensures.value at c.check_label-span-in-loop-label.ensures)))
 
 pub case::check_labels-returns : goal.case::check_labels-returns
 case::check_labels-returns t c = record {
