@@ -292,7 +292,7 @@ mutual
   stmt_print s n (tree.value k e) =
       one_when (weigh_expr (weight_in s) e) _ (when_map {P = λ t. Prints (weigh_expr (weight_in s) e) (test_phrases t)} ir.TestStmt (condition_prints s (weigh_expr (weight_in s) e) _ (expr_print s n e)) (λ t g. test_stmt (weigh_expr (weight_in s) e) t g))
   stmt_print s n (tree.if_stmt k e body elsifs other) =
-      one_when ((weigh_expr (weight_in s) e + (weigh_stmts (weight_in s) body + (weigh_elsifs (weight_in s) elsifs + weigh_else (weight_in s) other)))) _
+      one_when (weigh_expr (weight_in s) e + (weigh_stmts (weight_in s) body + (weigh_elsifs (weight_in s) elsifs + weigh_else (weight_in s) other))) _
       (when_map {P = λ p. Prints (weigh_expr (weight_in s) e) (test_phrases p.0) × (StmtsPrint (weigh_stmts (weight_in s) body) p.1.0 × (Prints (weigh_elsifs (weight_in s) elsifs) (arms_phrases p.1.1.0) × StmtsPrint (weigh_else (weight_in s) other) p.1.1.1))} if_of
       (when_both (condition_prints s (weigh_expr (weight_in s) e) _ (expr_print s n e)) (when_both (stmts_print s _ body) (when_both (elsifs_print s _ elsifs) (else_print s _ other))))
       (λ p g. if_prints (weigh_expr (weight_in s) e) (weigh_stmts (weight_in s) body) (weigh_elsifs (weight_in s) elsifs) (weigh_else (weight_in s) other) p g.0 g.1.0 g.1.1.0 g.1.1.1))
@@ -319,7 +319,7 @@ mutual
       (λ l g. prints_up (weigh_expr (weight_in s) low + (weigh_expr (weight_in s) high + (0 + weigh_stmts (weight_in s) body))) (weigh_expr (weight_in s) low + (weigh_expr (weight_in s) high + weigh_stmts (weight_in s) body)) (omega arith) g))
       (λ l g. some_prints (weight_in s name.token) _ l g))
   stmt_print s n (tree.case_stmt k e first rest other) =
-      one_when ((weigh_expr (weight_in s) e + (weigh_arm (weight_in s) first + (weigh_arms (weight_in s) rest + weigh_else (weight_in s) other)))) _
+      one_when (weigh_expr (weight_in s) e + (weigh_arm (weight_in s) first + (weigh_arms (weight_in s) rest + weigh_else (weight_in s) other))) _
       (when_weaker (case_prints s (weigh_expr (weight_in s) e) (weigh_arm (weight_in s) first + weigh_arms (weight_in s) rest) (weigh_else (weight_in s) other) (judge_expr s n e).value _ _ (expr_print s n e)
       (when_map {P = λ p. CasesPrint (weigh_arm (weight_in s) first) p.0 × CasesPrint (weigh_arms (weight_in s) rest) p.1} joined_cases
       (when_both (arm_print s (judge_expr s n e).next (judge_expr s n e).value [] first) (arm_tail_print s _ (judge_expr s n e).value _ rest)) (λ p g. joined_cases_prints (weigh_arm (weight_in s) first) (weigh_arms (weight_in s) rest) p g.0 g.1))
@@ -337,7 +337,7 @@ mutual
   stmt_print s n (tree.return_stmt k e) = one_when (weigh_returned (weight_in s) e) _ (returned_print s n k e)
   stmt_print s n (tree.read_stmt k d rest) =
       when_map {P = λ p. StmtsPrint (weigh_desig (weight_in s) d) p.0 × StmtsPrint (weigh_desigs (weight_in s) rest) p.1} joined_stmts (when_both (read_prints s (weigh_desig (weight_in s) d) _ (place_prints (weigh_desig (weight_in s) d) _ (desig_print s n as_variable d))) (reads_print s _ rest))
-      (λ p g. prints_up ((weigh_desig (weight_in s) d) + weigh_desigs (weight_in s) rest) (weigh_desig (weight_in s) d + weigh_desigs (weight_in s) rest) (omega arith) (joined_prints (weigh_desig (weight_in s) d) (weigh_desigs (weight_in s) rest) p g.0 g.1))
+      (λ p g. joined_prints (weigh_desig (weight_in s) d) (weigh_desigs (weight_in s) rest) p g.0 g.1)
   stmt_print s n (tree.write_stmt k items) = items_print s n items
   stmt_print s n (tree.writeln_stmt k items) = when_map {P = StmtsPrint (weigh_args (weight_in s) items)} with_line (line_items_print s n items) (λ x g. line_prints (weigh_args (weight_in s) items) x g)
 
@@ -382,20 +382,20 @@ mutual
   reads_print s n tree.no_desig = when_some _ none_prints
   reads_print s n (tree.more_desig d rest) =
       when_map {P = λ p. StmtsPrint (weigh_desig (weight_in s) d) p.0 × StmtsPrint (weigh_desigs (weight_in s) rest) p.1} joined_stmts (when_both (read_prints s (weigh_desig (weight_in s) d) _ (place_prints (weigh_desig (weight_in s) d) _ (desig_print s n as_variable d))) (reads_print s _ rest))
-      (λ p g. prints_up ((weigh_desig (weight_in s) d) + weigh_desigs (weight_in s) rest) (weigh_desig (weight_in s) d + weigh_desigs (weight_in s) rest) (omega arith) (joined_prints (weigh_desig (weight_in s) d) (weigh_desigs (weight_in s) rest) p g.0 g.1))
+      (λ p g. joined_prints (weigh_desig (weight_in s) d) (weigh_desigs (weight_in s) rest) p g.0 g.1)
 
   items_print : (s : Scene) (n : ℕ) (x : tree.Exprs) → When (judge_items s n x).value (StmtsPrint (weigh_exprs (weight_in s) x))
   items_print s n (tree.exprs e rest) =
       when_map {P = λ p. StmtsPrint (weigh_expr (weight_in s) e) p.0 × StmtsPrint (weigh_expr_tail (weight_in s) rest) p.1} joined_stmts
       (when_both (item_prints s n (tree.expr_node e) (weigh_expr (weight_in s) e) (item_literal e) (judge_expr s n e) (expr_print s n e) (literal_weighs s e)) (item_tail_print s _ rest))
-      (λ p g. prints_up ((weigh_expr (weight_in s) e) + weigh_expr_tail (weight_in s) rest) (weigh_expr (weight_in s) e + weigh_expr_tail (weight_in s) rest) (omega arith) (joined_prints (weigh_expr (weight_in s) e) (weigh_expr_tail (weight_in s) rest) p g.0 g.1))
+      (λ p g. joined_prints (weigh_expr (weight_in s) e) (weigh_expr_tail (weight_in s) rest) p g.0 g.1)
 
   item_tail_print : (s : Scene) (n : ℕ) (x : tree.ExprTail) → When (judge_item_tail s n x).value (StmtsPrint (weigh_expr_tail (weight_in s) x))
   item_tail_print s n tree.no_expr = when_some _ none_prints
   item_tail_print s n (tree.more_expr e rest) =
       when_map {P = λ p. StmtsPrint (weigh_expr (weight_in s) e) p.0 × StmtsPrint (weigh_expr_tail (weight_in s) rest) p.1} joined_stmts
       (when_both (item_prints s n (tree.expr_node e) (weigh_expr (weight_in s) e) (item_literal e) (judge_expr s n e) (expr_print s n e) (literal_weighs s e)) (item_tail_print s _ rest))
-      (λ p g. prints_up ((weigh_expr (weight_in s) e) + weigh_expr_tail (weight_in s) rest) (weigh_expr (weight_in s) e + weigh_expr_tail (weight_in s) rest) (omega arith) (joined_prints (weigh_expr (weight_in s) e) (weigh_expr_tail (weight_in s) rest) p g.0 g.1))
+      (λ p g. joined_prints (weigh_expr (weight_in s) e) (weigh_expr_tail (weight_in s) rest) p g.0 g.1)
 
   line_items_print : (s : Scene) (n : ℕ) (x : tree.Args) → When (judge_line_items s n x).value (StmtsPrint (weigh_args (weight_in s) x))
   line_items_print s n tree.no_args = when_some _ none_prints
