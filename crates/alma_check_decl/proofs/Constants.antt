@@ -43,4 +43,5 @@ ok_as a b f (Err x) h e = tt
 -- a subrange of its bounds
 pub sub_by : (s : Scene) (n : ℕ) (low high : tree.Expr) (a b : Told Bound) → told (reading_with bound_of (read_constant s low)) ≡ a → told (reading_with bound_of (read_constant s high)) ≡ b
     → told (reading_change subrange_of (reading_at n (subrange_rules s) (reading_then (read_constant s low) (λ i. read_constant i high)))) ≡ told_sub n (told_both a b)
-sub_by s n low high a b h k = sub_told s n low high ∙ rw (h, k) refl
+sub_by s n low high a b h k =
+    sub_told s n low high ∙ ap (λ x. told_sub n (told_both x (told (reading_with bound_of (read_constant s high))))) h ∙ ap (λ y. told_sub n (told_both a y)) k
