@@ -107,6 +107,9 @@ formal_pushed s x v o g h e =
 pub scene_in : {A B : Type 0} (F : A → B) (s t : A) (u : B) → s ≡ t → F s ≡ u → F t ≡ u
 scene_in F s t u e h = ap F (sym e) ∙ h
 
+pub read_in : (F : Scene → Told ℕ) (v : CodeReading ℕ) (a s : Scene) → a ≡ s → F a ≡ tells v a → F s ≡ tells v s
+read_in F v a s e h = subst (λ i. F i ≡ tells v i) e h
+
 pub read_moves : (s t : Scene) (x : Frame) (f : rules.Frame) (r : types.Reading ℕ) (v : CodeReading ℕ) → shown s x ≡ told_frame f → told r ≡ tells v t
     → shown t x ≡ told_frame (rules.with_scene f r.scene)
 read_moves s t x f r v h k = ap (λ u. moved u t) h ∙ ap (λ i. moved (told_frame f) i) (sym (ap (λ (u : Told ℕ). u.scene) k))

@@ -1,13 +1,13 @@
 -- Headings: where no rule is broken in them, and where they stand too deep.
-use Rattle.std.proofs.Common.{◌≡◌, ℕ, ◌+◌, ◌<◌, ◌≤◌, List, [], ◌∷◌, ◌++◌, Option, None, Some, Bool, true, false, length, get_or, drop, map, refl, sym, ap, ◌∙◌, append_assoc, append-nil, Vec, Global, true≢false}
-use Rattle.std.specs.Prelude.{option_map, option_and_then, is_some}
-use Rattle.std.proofs.lemmas.List.{drop_all, map-append}
+use Rattle.std.proofs.Common.{◌≡◌, ℕ, ◌+◌, ◌<◌, ◌≤◌, List, [], ◌∷◌, ◌++◌, Option, None, Some, Bool, true, false, length, get_or, drop, map, refl, sym, ap, ◌∙◌, append_assoc, append-nil, Vec, Global, Result, Ok, Err, true≢false}
+use Rattle.std.specs.Prelude.{option_map, is_some, IfOk, OnOk}
+use Rattle.std.proofs.lemmas.List.{drop_all, map-append, get_or_default}
 use Rattle.alma_base.specs.declared.fault.CheckFault.{CheckFault}
 use Rattle.alma_ir.specs.declared.program.Param.{Param}
 use Rattle.alma_rules.specs.Numbered as tree
 use Rattle.alma_rules.specs.Judged.{Broken, broken_at, unbroken}
 use Rattle.alma_rules.specs.Answers.{first}
-use Rattle.alma_rules.specs.Scene.{Scene, Heading, FormalOf, Returns, a_value}
+use Rattle.alma_rules.specs.Scene.{Scene, Heading, FormalOf, nothing, a_value}
 use Rattle.alma_rules.specs.Types as types
 use Rattle.alma_rules.specs.Decls as rules
 use Rattle.alma_walk.proofs.Exprs.{next_of}
@@ -52,6 +52,13 @@ pub formals_end : (xs : List Formal) (i : ℕ) (all : List (Option Formal)) → 
 formals_end xs i all h =
     ap (λ zs. behind (map formal_view xs) (rules.all_formals (formals_view zs))) (drop_all i all h) ∙ ap Some (append-nil (map formal_view xs))
 
+-- a formal of a list, which owns no memory
+abbrev pub formal_at : List (Option Formal) → ℕ → Option Formal
+formal_at all i = get_or all i None
+
+pub formal_is : (all : List (Option Formal)) (i : ℕ) → i < length all → formal_at all i ≡ get_or all i (formal_at all i)
+formal_is all i lt = get_or_default all i None (formal_at all i) lt
+
 -- ---- the heading of a frame
 
 pub broken_lost : {A : Type 0} (b : Option CodeBroken) (xs : List Broken) (v : Option A) → fault_of b ≡ first xs → is_some b ≡ true → unbroken xs v ≡ None
@@ -88,9 +95,23 @@ function_frame s t x f faults bs v h d =
     ∙ ap (λ (u : ToldFrame). moved u (let i : Scene = record u.scene { returns = a_value v } in i)) h
     ∙ ap (λ xs. told_frame (rules.with_returns (let g : rules.Frame = record f { faults = xs } in g) (a_value v))) (append_assoc f.faults faults bs)
 
+pub proper_frame : (s t : Scene) (x : Frame) (f : rules.Frame) → shown s x ≡ told_frame f → t ≡ record s { returns = nothing } → shown t x ≡ told_frame (rules.with_returns f nothing)
+proper_frame s t x f h d = ap (λ i. shown i x) d ∙ ap (λ (u : ToldFrame). moved u (let i : Scene = record u.scene { returns = nothing } in i)) h
+
 pub faults_joined : (s : Scene) (x : Frame) (f : rules.Frame) (faults bs : List Broken) → shown s x ≡ told_frame (rules.with_faults (rules.with_faults f faults) bs)
     → shown s x ≡ told_frame (rules.with_faults f (faults ++ bs))
 faults_joined s x f faults bs h = h ∙ ap (λ xs. told_frame (let g : rules.Frame = record f { faults = xs } in g)) (append_assoc f.faults faults bs)
+
+pub result_at : (s t : Scene) (node : ℕ) (v w : Option ℕ) (b : Option Broken) → s ≡ t → v ≡ w → b ≡ first (broken_at node (rules.result_rules s v)) → b ≡ first (broken_at node (rules.result_rules t w))
+result_at s t node v w b e k h = h ∙ ap (λ i. first (broken_at node (rules.result_rules i v))) e ∙ ap (λ o. first (broken_at node (rules.result_rules t o))) k
+
+pub ok_known : {E X P : Type 0} (r : Result X E) → P → OnOk r P
+ok_known (Ok x) p = p
+ok_known (Err x) p = tt
+
+pub ok_to : {A E X : Type 0} (r : Result X E) (f : X → A) (a b : A) → a ≡ b → IfOk r (λ x. f x ≡ a) → IfOk r (λ x. f x ≡ b)
+ok_to (Ok x) f a b e h = h ∙ e
+ok_to (Err x) f a b e h = tt
 
 -- ---- depth
 
@@ -109,3 +130,6 @@ depth_frame (x ∷ xs) node h b e = refl
 pub depth_heading : (faults : List CheckFault) (node : ℕ) (h : rules.Headed) (b : CodeBroken) → fault_of (Some b) ≡ first (broken_at node faults) → None ≡ (rules.with_depth faults node h).heading
 depth_heading [] node h b e = absurd (cc)
 depth_heading (x ∷ xs) node h b e = refl
+
+pub fault_in : (o : Option CodeBroken) (b : CodeBroken) (node : ℕ) (faults : List CheckFault) → o ≡ Some b → fault_of o ≡ first (broken_at node faults) → fault_of (Some b) ≡ first (broken_at node faults)
+fault_in o b node faults is e = ap (λ x. fault_of x) (sym is) ∙ e

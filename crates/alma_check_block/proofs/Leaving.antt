@@ -14,7 +14,13 @@ use Rattle.alma_rules.specs.Judged.{broken_at}
 use Rattle.alma_rules.specs.Scene.{Scene, Returns, nothing, a_value, Heading, is_first, is_structured, text_at}
 use Rattle.alma_rules.specs.Types as types
 use Rattle.alma_rules.specs.Decls as rules
+use Rattle.alma_rules.specs.Judged.{Broken}
 use Rattle.alma_check_reader.specs.Around.{Outer, outer_of, left}
+use Rattle.alma_check_reader.specs.Told.{fault_of}
+use Rattle.alma_rules.specs.Answers.{first}
+use Rattle.alma_check_block.specs.declared.frame.Frame.{Frame}
+use Rattle.alma_check_block.specs.Shown.{ToldFrame, told_frame, shown}
+use Rattle.alma_check_block.proofs.Frames.{moved, scene_is}
 
 -- what is outside of the top block of a scene
 abbrev outside : Scene → Scene
@@ -115,3 +121,38 @@ more_than_none (y ∷ ys) x = omega arith
 -- there is a block round it
 pub head_inside : (s : Scene) (r n : ℕ) (params : Option tree.Params) (result : Option tree.Name) (b : tree.Block) → 0 < length (rules.read_heading s r n params result b).frame.scene.blocks.below
 head_inside s r n params result b = subst (λ i. 0 < length i.blocks.below) (sym (head_out s r n params result b)) (more_than_none s.blocks.below s.blocks.top)
+
+-- ---- a procedure among declarations
+
+module _ (s : Scene) (f : rules.Frame) (r n : ℕ) (name : tree.Name) (params : Option tree.Params) (result : Option tree.Name) (b : tree.Block) where
+  abbrev head : rules.Headed
+  head = rules.read_heading s r n params result b
+
+  -- the frame behind its heading, of which the rules are told in a scene
+  abbrev noted : Scene → rules.Frame
+  noted i =
+      record f {
+        faults = f.faults ++ broken_at name.node (types.redeclared i name) ++ (rules.read_heading i r n params result b).frame.faults;
+        scene = record i { headings = set i.headings r (rules.read_heading i r n params result b).heading };
+      }
+
+  pub heading_fault : (t : Scene) (y : Frame) → shown t y ≡ told_frame head.frame → fault_of y.fault ≡ first head.frame.faults
+  heading_fault t y h = ap (λ (u : ToldFrame). u.fault) h
+
+  pub heading_inside : (t : Scene) (y : Frame) → shown t y ≡ told_frame head.frame → 0 < length t.blocks.below
+  heading_inside t y h = subst (λ i. 0 < length i.blocks.below) (sym (scene_is t y head.frame h)) (head_inside s r n params result b)
+
+  behind_heading : (t j : Scene) (y : Frame) (o : Outer) → shown t y ≡ told_frame head.frame → o ≡ outer_of s → j ≡ left t o → j ≡ s
+  behind_heading t j y o h e d = d ∙ ap (λ i. left i o) (scene_is t y head.frame h) ∙ ap (λ x. left head.frame.scene x) e ∙ head_left s r n params result b
+
+  pub procedure_read : (t j k : Scene) (x y z : Frame) (o : Outer) (v : Option Heading) → shown s x ≡ told_frame f
+      → shown s z ≡ told_frame (rules.with_faults (rules.with_faults f (broken_at name.node (types.redeclared s name))) head.frame.faults)
+      → shown t y ≡ told_frame head.frame → o ≡ outer_of s → j ≡ left t o → v ≡ head.heading → k ≡ record j { headings = set j.headings r v }
+      → shown k z ≡ told_frame (rules.heading_in f r name (rules.read_heading f.scene r n params result b))
+  procedure_read t j k x y z o v h g q e d u m =
+      let same : k ≡ record s { headings = set s.headings r head.heading } =
+          m ∙ ap (λ i. let w : Scene = record i { headings = set i.headings r v } in w) (behind_heading t j y o q e d)
+          ∙ ap (λ hd. let w : Scene = record s { headings = set s.headings r hd } in w) u in
+      ap (λ w. moved w k) g
+      ∙ ap (λ i. moved (told_frame (rules.with_faults (rules.with_faults f (broken_at name.node (types.redeclared s name))) head.frame.faults)) i) same
+      ∙ ap (λ i. told_frame (noted i)) (scene_is s x f h)

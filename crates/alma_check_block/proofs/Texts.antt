@@ -1,11 +1,11 @@
 -- The names of a block, part by part.
-use Rattle.std.proofs.Common.{◌≡◌, ℕ, ◌+◌, ◌<◌, ◌≤◌, List, [], ◌∷◌, ◌++◌, Option, None, Some, length, get_or, drop, refl, sym, ap, ◌∙◌, append-nil, Vec, Global, Box, Result, Ok, Err}
+use Rattle.std.proofs.Common.{◌≡◌, ℕ, ◌+◌, ◌<◌, ◌≤◌, List, [], ◌∷◌, ◌++◌, Option, None, Some, length, get_or, map, refl, sym, ap, ◌∙◌, Vec, Global, Box, Result, Ok, Err, arith}
 use Rattle.std.specs.Prelude.{OnOk}
+use Rattle.std.proofs.lemmas.List.{get_or_default}
 use Rattle.alma_tree.specs.declared.leaf.Name.{Name}
 use Rattle.alma_tree.specs.declared.leaf.Names.{Names}
 use Rattle.alma_tree.specs.declared.module.Params.{Params}
-use Rattle.alma_tree.specs.declared.module.Block as db
-use Rattle.alma_tree.specs.declared.module.Decl as dh
+use Rattle.alma_tree.specs.declared.module.Formals.{Formals}
 use Rattle.alma_tree.specs.declared.type_node.TypeNode as dy
 use Rattle.alma_tree.specs.declared.type_node.Arrays as dz
 use Rattle.alma_tree.specs.declared.type_node.Dimensions as dv
@@ -16,7 +16,7 @@ use Rattle.alma_rules.specs.View as view
 use Rattle.alma_rules.specs.Scene.{Scene, text_at}
 use Rattle.alma_rules.specs.Types as types
 use Rattle.alma_rules.specs.Decls as rules
-use Rattle.alma_check_block.proofs.Rows.{type_is, record_is, procedure_is}
+use Rattle.alma_check_block.proofs.Rows.{type_is, record_is}
 
 -- ---- a list of names, and another behind it
 
@@ -132,3 +132,32 @@ field_tail_parts x rest = refl
 pub no_field_tail : types.field_tail_names (view.field_lists_of []) ≡ []
 unfolding types.type_names
 no_field_tail = refl
+
+-- ---- a list of names, which own no memory: an element at any default
+
+abbrev pub name_at : List Name → ℕ → Name
+name_at all i = get_or all i (record { node = 0; token = 0 })
+
+pub name_is : (all : List Name) (i : ℕ) → i < length all → name_at all i ≡ get_or all i (name_at all i)
+name_is all i lt = get_or_default all i (record { node = 0; token = 0 }) (name_at all i) lt
+
+-- ---- parameters, and the whole block
+
+pub params_parts : (ps : Option Params) (p : Params) (fs : Formals) → ps ≡ Some p → p.formals ≡ Some fs
+    → rules.formal_names (rules.formals_of (view.params_of ps)) ≡ types.all_names (view.view_names fs.first.names) ++ rules.formal_names (view.more_formals_of fs.more.items)
+params_parts ps p fs e h =
+    ap (λ x. rules.formal_names (rules.formals_of (view.params_of x))) e ∙ ap (λ x. rules.formal_names (rules.formals_in (view.formals_in x))) h
+
+pub params_are : (ps : Option Params) (p : Params) (fs : Formals) → ps ≡ Some p → p.formals ≡ Some fs
+    → rules.formals_of (view.params_of ps) ≡ view.view_formal fs.first ∷ view.more_formals_of fs.more.items
+params_are ps p fs e h = ap (λ x. rules.formals_of (view.params_of x)) e ∙ ap (λ x. rules.formals_in (view.formals_in x)) h
+
+abbrev entry_text : Vec ℕ Global × ℕ → List ℕ × ℕ
+entry_text e = (e.0.items, e.1)
+
+pub none_named : (es : List (Vec ℕ Global × ℕ)) → length es ≡ 0 → map entry_text es ≡ []
+none_named [] h = refl
+none_named (e ∷ es) h = absurd (omega (arith, h))
+
+pub whole_names : (s : Scene) (a b d : List (List ℕ × ℕ)) (xs ys : List tree.Name) → a ≡ [] → b ≡ rules.texts_behind s a xs → d ≡ rules.texts_behind s b ys → d ≡ rules.with_texts s (xs ++ ys)
+whole_names s a b d xs ys e h k = k ∙ joined_by s a b xs ys (xs ++ ys) h refl ∙ ap (λ z. rules.texts_behind s z (xs ++ ys)) e

@@ -64,20 +64,20 @@ fn type_entry(shape: Option<u32>) -> Entry
 }
 
 // The token behind an expression that begins two tokens behind this one, and the semicolon there.
-fn behind_expr(token: u32, expr: &Expr) -> Result<u32, NoMemory>
+fn behind_expr(alloc: Global, token: u32, expr: &Expr) -> Result<u32, NoMemory>
     ensures { IfOk result (λ n. n ≡ token + 3 + width (mark_expr (view.view_expr expr.now))) }
 {
-    let width = width_of_expr(expr)?;
+    let width = width_of_expr(alloc, expr)?;
     let start = token.checked_add(3).ok_or(NoMemory)?;
     start.checked_add(width).ok_or(NoMemory)
 }
 
 /// The token behind a type that begins two tokens behind this one, and the semicolon there.
-pub fn behind_type(token: u32, tree: &TypeNode) -> Result<u32, NoMemory>
+pub fn behind_type(alloc: Global, token: u32, tree: &TypeNode) -> Result<u32, NoMemory>
     ensures { IfOk result (λ n. n ≡ token + 3 + width (mark_type
         (view.view_type_node tree.now))) }
 {
-    let width = width_of_type(tree)?;
+    let width = width_of_type(alloc, tree)?;
     let start = token.checked_add(3).ok_or(NoMemory)?;
     start.checked_add(width).ok_or(NoMemory)
 }
@@ -93,7 +93,7 @@ fn read_const(
         (view.view_const entry.now) (types.read_constant f.scene
         (view.view_expr entry.now.value)))) }
 {
-    let from = behind_expr(entry.name.token, &entry.value)?;
+    let from = behind_expr(alloc, entry.name.token, &entry.value)?;
     let reading = read_constant(alloc, reader, &entry.value)?;
     let value = constant_entry(reading.value);
     enter_name(alloc, reader, frame, &entry.name, from, reading.fault, value)
@@ -127,7 +127,7 @@ fn read_type_entry(
         (view.view_type_entry entry.now) (types.read_type f.scene
         (view.view_type_node entry.now.type_node)))) }
 {
-    let from = behind_type(entry.name.token, &entry.type_node)?;
+    let from = behind_type(alloc, entry.name.token, &entry.type_node)?;
     let reading = read_type(alloc, reader, &entry.type_node)?;
     let value = type_entry(reading.value);
     enter_name(alloc, reader, frame, &entry.name, from, reading.fault, value)

@@ -121,7 +121,8 @@ fn read_var(
         (view.view_var entry.now) (types.read_type f.scene
         (view.view_type_node entry.now.type_node)))) }
 {
-    let from = behind_type(last_token(&entry.names), &entry.type_node)?;
+    let last = last_token(&entry.names);
+    let from = behind_type(alloc, last, &entry.type_node)?;
     let reading = read_type(alloc, reader, &entry.type_node)?;
     let shape = reading.value;
     declare_variable(alloc, reader, frame, &entry.names.first, from, shape)?;
