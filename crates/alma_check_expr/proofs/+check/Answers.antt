@@ -243,7 +243,7 @@ call::check_call-returns-in-None t c =
 
 pub call::check_call-returns-in-Some : goal.call::check_call-returns-in-Some
 call::check_call-returns-in-Some t c =
-    rw (c.in-Some.is, exprs.call_some (scene_of c.args.env.now c.args.place) c.args.slot.now c.args.node _ (view.view_desig c.args.desig.now) (view.view_exprs c.in-Some.values) (callee_in (headings_in c.args.env.now) c.in_ok-callee.callee) (c.in_ok-callee.ensures (walk.judge_desig (scene_of c.args.env.now c.args.place) c.args.slot.now rules.as_procedure (view.view_desig c.args.desig.now)) _ c.check_desig-found.ensures), calls.count_at (scene_of c.args.env.now c.args.place) c.in-Some.values, length_is (dx.out-Exprs c.in-Some.values).more ∙ sym c.len.ensures) (c.join_call-in-Some.ensures _ _ _ c.check_arguments-args.ensures)
+    rw (c.in-Some.is, exprs.call_some (scene_of c.args.env.now c.args.place) c.args.slot.now c.args.node _ (view.view_desig c.args.desig.now) (view.view_exprs c.in-Some.values) (callee_in (headings_in c.args.env.now) c.in_ok-callee.callee) (c.in_ok-callee.ensures (walk.judge_desig (scene_of c.args.env.now c.args.place) c.args.slot.now rules.as_procedure (view.view_desig c.args.desig.now)) _ c.check_desig-found.ensures), calls.count_at (scene_of c.args.env.now c.args.place) c.in-Some.values, length_is (dx.out-Exprs c.in-Some.values).more ∙ sym c.len.ensures) (c.join_call-in-Some.ensures (walk.judge_arguments (scene_of c.args.env.now c.args.place) c.check_desig-found.new.slot (nodes.formals_of (callee_in (headings_in c.args.env.now) c.in_ok-callee.callee)) (view.view_exprs c.in-Some.values)) c.check_desig-found.new.slot c.check_arguments-args.new.slot c.check_arguments-args.ensures)
 
 -- ---- Parens
 
