@@ -619,13 +619,11 @@ input::check_item-returns-in-Some t c =
 -- ---- FOR and SOME
 
 pub turns::check_for-join_for-requires : goal.turns::check_for-join_for-requires
-turns::check_for-join_for-requires t c = record {
-  limit = omega (arith, c.in_ok-counter.ensures.0, c.in_ok-counter.ensures.1, c.take_loop.auto.slot);
-}
+turns::check_for-join_for-requires t c = record { limit = c.in_ok-counter.ensures.limit }
 
 pub turns::check_for-returns-in_err-counter : goal.turns::check_for-returns-in_err-counter
 turns::check_for-returns-in_err-counter t c =
-    passed _ stmts_of _ _ _ c.from_residual.ensures.1 (rw c.in_err-counter.ensures tt)
+    passed _ stmts_of _ _ _ c.from_residual.ensures.1 (rw c.in_err-counter.ensures.taken tt)
 
 pub turns::check_for-returns-in_err-found : goal.turns::check_for-returns-in_err-found
 turns::check_for-returns-in_err-found t c =
@@ -637,13 +635,13 @@ pub turns::check_for-returns-in_err-low : goal.turns::check_for-returns-in_err-l
 turns::check_for-returns-in_err-low t c =
     passed _ stmts_of _ _ _ c.from_residual-in_err-low.ensures.1
     (loops.for_low_stops c.args.env.now c.args.place c.args.slot.now c.args.node c.args.variable.now (view.view_expr c.args.from.now) (view.view_expr c.args.to.now) (view.by_of c.args.by.now) (view.view_stmts c.args.body.now)
-    c.in_ok-found.found c.take_loop.new.slot _ c.in_ok-counter.ensures.1 (loops.variable_is c.args.env.now c.args.place c.args.slot.now c.args.node c.args.variable.now c.in_ok-found.found c.in_ok-found.ensures.0 c.in_ok-found.ensures.1) c.in_err-low.ensures)
+    c.in_ok-found.found c.take_slots.new.slot _ c.in_ok-counter.ensures.taken.1 (loops.variable_is c.args.env.now c.args.place c.args.slot.now c.args.node c.args.variable.now c.in_ok-found.found c.in_ok-found.ensures.0 c.in_ok-found.ensures.1) c.in_err-low.ensures)
 
 pub turns::check_for-returns-in_err-bounds : goal.turns::check_for-returns-in_err-bounds
 turns::check_for-returns-in_err-bounds t c =
     passed _ stmts_of _ _ _ c.from_residual-in_err-bounds.ensures.1
     (loops.for_high_stops c.args.env.now c.args.place c.args.slot.now c.args.node c.args.variable.now (view.view_expr c.args.from.now) (view.view_expr c.args.to.now) (view.by_of c.args.by.now) (view.view_stmts c.args.body.now)
-    c.in_ok-found.found c.take_loop.new.slot _ _ _ c.in_ok-counter.ensures.1 (loops.variable_is c.args.env.now c.args.place c.args.slot.now c.args.node c.args.variable.now c.in_ok-found.found c.in_ok-found.ensures.0 c.in_ok-found.ensures.1) c.in_ok-low.ensures
+    c.in_ok-found.found c.take_slots.new.slot _ _ _ c.in_ok-counter.ensures.taken.1 (loops.variable_is c.args.env.now c.args.place c.args.slot.now c.args.node c.args.variable.now c.in_ok-found.found c.in_ok-found.ensures.0 c.in_ok-found.ensures.1) c.in_ok-low.ensures
     (c.in_err-bounds.ensures (walk.judge_expr (scene_of c.args.env.now c.args.place) c.check_expr.new.slot (view.view_expr c.args.to.now)) _ c.check_expr-high.ensures))
 
 pub turns::check_for-returns-in_err-turns : goal.turns::check_for-returns-in_err-turns
@@ -651,7 +649,7 @@ turns::check_for-returns-in_err-turns t c =
     let b = c.in_ok-bounds.ensures (walk.judge_expr (scene_of c.args.env.now c.args.place) c.check_expr.new.slot (view.view_expr c.args.to.now)) c.check_expr-high.new.slot c.check_expr-high.ensures in
     passed _ stmts_of _ _ _ c.from_residual-in_err-turns.ensures.1
     (loops.for_by_stops c.args.env.now c.args.place c.args.slot.now c.args.node c.args.variable.now (view.view_expr c.args.from.now) (view.view_expr c.args.to.now) (view.by_of c.args.by.now) (view.view_stmts c.args.body.now)
-    c.in_ok-found.found c.take_loop.new.slot _ _ _ c.in_ok-bounds.bounds _ c.in_ok-counter.ensures.1 (loops.variable_is c.args.env.now c.args.place c.args.slot.now c.args.node c.args.variable.now c.in_ok-found.found c.in_ok-found.ensures.0 c.in_ok-found.ensures.1) c.in_ok-low.ensures b.1
+    c.in_ok-found.found c.take_slots.new.slot _ _ _ c.in_ok-bounds.bounds _ c.in_ok-counter.ensures.taken.1 (loops.variable_is c.args.env.now c.args.place c.args.slot.now c.args.node c.args.variable.now c.in_ok-found.found c.in_ok-found.ensures.0 c.in_ok-found.ensures.1) c.in_ok-low.ensures b.1
     (c.in_err-turns.ensures (walk.judge_by (scene_of c.args.env.now c.args.place) c.check_expr-high.new.slot (view.by_of c.args.by.now)) _ c.check_by-step.ensures))
 
 pub turns::check_for-returns : goal.turns::check_for-returns
@@ -659,18 +657,16 @@ turns::check_for-returns t c =
     let b = c.in_ok-bounds.ensures (walk.judge_expr (scene_of c.args.env.now c.args.place) c.check_expr.new.slot (view.view_expr c.args.to.now)) c.check_expr-high.new.slot c.check_expr-high.ensures in
     let y = c.in_ok-turns.ensures (walk.judge_by (scene_of c.args.env.now c.args.place) c.check_expr-high.new.slot (view.by_of c.args.by.now)) c.check_by-step.new.slot c.check_by-step.ensures in
     loops.for_joined c.args.env.now c.args.place c.args.slot.now c.args.node c.args.variable.now (view.view_expr c.args.from.now) (view.view_expr c.args.to.now) (view.by_of c.args.by.now) (view.view_stmts c.args.body.now)
-    c.in_ok-found.found c.in_ok-counter.counter c.take_loop.new.slot c.check_expr.new.slot c.check_expr-high.new.slot c.check_by-step.new.slot _ _ c.in_ok-bounds.bounds c.in_ok-turns.turns _
-    c.in_ok-counter.ensures.0 c.in_ok-counter.ensures.1 (loops.variable_is c.args.env.now c.args.place c.args.slot.now c.args.node c.args.variable.now c.in_ok-found.found c.in_ok-found.ensures.0 c.in_ok-found.ensures.1) c.in_ok-low.ensures b.0 b.1 y.0 y.1 y.2
+    c.in_ok-found.found c.in_ok-counter.counter c.take_slots.new.slot c.check_expr.new.slot c.check_expr-high.new.slot c.check_by-step.new.slot _ _ c.in_ok-bounds.bounds c.in_ok-turns.turns _
+    c.in_ok-counter.ensures.taken.0 c.in_ok-counter.ensures.taken.1 (loops.variable_is c.args.env.now c.args.place c.args.slot.now c.args.node c.args.variable.now c.in_ok-found.found c.in_ok-found.ensures.0 c.in_ok-found.ensures.1) c.in_ok-low.ensures b.0 b.1 y.0 y.1 y.2
     (c.join_for.ensures (walk.judge_stmts (scene_of c.args.env.now c.args.place) c.check_by-step.new.slot (view.view_stmts c.args.body.now)) c.args.slot.now c.check_expr.new.slot c.check_expr-high.new.slot c.check_by-step.new.slot _ c.check_stmts-body.ensures)
 
 pub turns::check_some-join_some-requires : goal.turns::check_some-join_some-requires
-turns::check_some-join_some-requires t c = record {
-  limit = omega (arith, c.in_ok-counter.ensures.0, c.in_ok-counter.ensures.1, c.take_loop.auto.slot);
-}
+turns::check_some-join_some-requires t c = record { limit = c.in_ok-counter.ensures.limit }
 
 pub turns::check_some-returns-in_err-counter : goal.turns::check_some-returns-in_err-counter
 turns::check_some-returns-in_err-counter t c =
-    passed _ stmts_of _ _ _ c.from_residual.ensures.1 (rw c.in_err-counter.ensures tt)
+    passed _ stmts_of _ _ _ c.from_residual.ensures.1 (rw c.in_err-counter.ensures.taken tt)
 
 pub turns::check_some-returns-in_err-found : goal.turns::check_some-returns-in_err-found
 turns::check_some-returns-in_err-found t c =
@@ -682,21 +678,21 @@ pub turns::check_some-returns-in_err-low : goal.turns::check_some-returns-in_err
 turns::check_some-returns-in_err-low t c =
     passed _ stmts_of _ _ _ c.from_residual-in_err-low.ensures.1
     (loops.some_low_stops c.args.env.now c.args.place c.args.slot.now c.args.node c.args.variable.now (view.view_expr c.args.from.now) (view.view_expr c.args.to.now) (view.view_stmts c.args.body.now)
-    c.in_ok-found.found c.take_loop.new.slot _ c.in_ok-counter.ensures.1 (loops.variable_is c.args.env.now c.args.place c.args.slot.now c.args.node c.args.variable.now c.in_ok-found.found c.in_ok-found.ensures.0 c.in_ok-found.ensures.1) c.in_err-low.ensures)
+    c.in_ok-found.found c.take_slots.new.slot _ c.in_ok-counter.ensures.taken.1 (loops.variable_is c.args.env.now c.args.place c.args.slot.now c.args.node c.args.variable.now c.in_ok-found.found c.in_ok-found.ensures.0 c.in_ok-found.ensures.1) c.in_err-low.ensures)
 
 pub turns::check_some-returns-in_err-bounds : goal.turns::check_some-returns-in_err-bounds
 turns::check_some-returns-in_err-bounds t c =
     passed _ stmts_of _ _ _ c.from_residual-in_err-bounds.ensures.1
     (loops.some_high_stops c.args.env.now c.args.place c.args.slot.now c.args.node c.args.variable.now (view.view_expr c.args.from.now) (view.view_expr c.args.to.now) (view.view_stmts c.args.body.now)
-    c.in_ok-found.found c.take_loop.new.slot _ _ _ c.in_ok-counter.ensures.1 (loops.variable_is c.args.env.now c.args.place c.args.slot.now c.args.node c.args.variable.now c.in_ok-found.found c.in_ok-found.ensures.0 c.in_ok-found.ensures.1) c.in_ok-low.ensures
+    c.in_ok-found.found c.take_slots.new.slot _ _ _ c.in_ok-counter.ensures.taken.1 (loops.variable_is c.args.env.now c.args.place c.args.slot.now c.args.node c.args.variable.now c.in_ok-found.found c.in_ok-found.ensures.0 c.in_ok-found.ensures.1) c.in_ok-low.ensures
     (c.in_err-bounds.ensures (walk.judge_expr (scene_of c.args.env.now c.args.place) c.check_expr.new.slot (view.view_expr c.args.to.now)) _ c.check_expr-high.ensures))
 
 pub turns::check_some-returns : goal.turns::check_some-returns
 turns::check_some-returns t c =
     let b = c.in_ok-bounds.ensures (walk.judge_expr (scene_of c.args.env.now c.args.place) c.check_expr.new.slot (view.view_expr c.args.to.now)) c.check_expr-high.new.slot c.check_expr-high.ensures in
     loops.some_joined c.args.env.now c.args.place c.args.slot.now c.args.node c.args.variable.now (view.view_expr c.args.from.now) (view.view_expr c.args.to.now) (view.view_stmts c.args.body.now)
-    c.in_ok-found.found c.in_ok-counter.counter c.take_loop.new.slot c.check_expr.new.slot c.check_expr-high.new.slot _ _ c.in_ok-bounds.bounds _
-    c.in_ok-counter.ensures.0 c.in_ok-counter.ensures.1 (loops.variable_is c.args.env.now c.args.place c.args.slot.now c.args.node c.args.variable.now c.in_ok-found.found c.in_ok-found.ensures.0 c.in_ok-found.ensures.1) c.in_ok-low.ensures b.0 b.1
+    c.in_ok-found.found c.in_ok-counter.counter c.take_slots.new.slot c.check_expr.new.slot c.check_expr-high.new.slot _ _ c.in_ok-bounds.bounds _
+    c.in_ok-counter.ensures.taken.0 c.in_ok-counter.ensures.taken.1 (loops.variable_is c.args.env.now c.args.place c.args.slot.now c.args.node c.args.variable.now c.in_ok-found.found c.in_ok-found.ensures.0 c.in_ok-found.ensures.1) c.in_ok-low.ensures b.0 b.1
     (c.join_some.ensures (walk.judge_stmts (scene_of c.args.env.now c.args.place) c.check_expr-high.new.slot (view.view_stmts c.args.body.now)) c.args.slot.now c.check_expr.new.slot c.check_expr-high.new.slot _ c.check_stmts-body.ensures)
 
 -- ---- CASE
@@ -778,7 +774,7 @@ pub case::check_arm-returns-in_ok-labels-in-Labelled-clause-spans : goal.case::c
 case::check_arm-returns-in_ok-labels-in-Labelled-clause-spans t c =
     on_ok (spans_view c.settle.new.spans.items ≡ spans_view c.args.spans.now.items ++ (walk.judge_arm (scene_of c.args.env.now c.args.place) c.args.slot.now (typing_in c.args.case.now) (spans_view c.args.spans.now.items) (view.view_arm c.args.arm.now)).spans) c.join_arm.result (rw (c.in-Labelled.is, rows.labelled_is _ c.in-Labelled.first c.in-Labelled.more c.in-Labelled.body)
       (rw (cases.arm_spans (scene_of c.args.env.now c.args.place) c.args.slot.now _ (typing_in c.args.case.now) (spans_view c.args.spans.now.items) (view.view_label c.in-Labelled.first) (view.labels_of c.in-Labelled.more.items) (view.view_stmts c.in-Labelled.body) c.check_labels.new.slot (spans_in c.in_ok-labels-in-Labelled.labels) (rw c.deref.ensures.value at c.in_ok-labels-in-Labelled.ensures.judged))
-      (settled (spans_view c.args.spans.now.items) (spans_view c.check_labels.new.spans.items) (spans_view c.settle.new.spans.items) c.len-before.result c.in_ok-labels-in-Labelled.labels (c.len-before.ensures ∙ sym (spans_count c.args.spans.now.items)) c.in_ok-labels-in-Labelled.ensures.spans c.settle.ensures)))
+      (settled (spans_view c.args.spans.now.items) (spans_view c.check_labels.new.spans.items) (spans_view c.settle.new.spans.items) c.len-before.result c.in_ok-labels-in-Labelled.labels (omega (arith, c.len-before.ensures, c.args.spans.now.ok.0, spans_count c.args.spans.now.items)) c.in_ok-labels-in-Labelled.ensures.spans c.settle.ensures)))
 
 pub case::check_labels-returns-in_err-labels-clause-judged : goal.case::check_labels-returns-in_err-labels-clause-judged
 case::check_labels-returns-in_err-labels-clause-judged t c =
