@@ -4,14 +4,14 @@ use Rattle.alma_tree.specs.declared.phrase.Label as dl
 use Rattle.alma_ir.specs.View.{cases_list}
 use Rattle.alma_walk.specs.Arms.{arms_judged}
 use Rattle.alma_walk.proofs.Cases as cases
-use Rattle.alma_check_expr.proofs.Begins.{from_nothing, stops_as, node_is, on_ok}
+use Rattle.alma_check_expr.proofs.Begins.{begun, from_nothing, stops_as, node_is, on_ok}
 use Rattle.alma_check_expr.proofs.Calls as calls
 use Rattle.alma_check_expr.proofs.Calls.{args_last}
-use Rattle.alma_check_expr.proofs.Empty.{empty_by, some_by}
+use Rattle.alma_check_expr.proofs.Empty.{empty_by, some_by, selected_by, length_is}
 use Rattle.alma_check_expr.proofs.Items as items
 use Rattle.alma_check_expr.proofs.Labels.{settled, spans_count, labels_begin, labels_turn, arms_turn, grown_begin, of_ok}
 use Rattle.alma_check_expr.proofs.Loops as loops
-use Rattle.alma_check_expr.proofs.Same.{kind_same}
+use Rattle.alma_check_expr.proofs.Same.{kind_same, indexed_same}
 use Rattle.alma_tree.specs.declared.phrase.Compared as dc
 use Rattle.alma_tree.specs.declared.phrase.Exprs as dx
 use Rattle.alma_ir.specs.Tree as ir
@@ -25,7 +25,7 @@ use Rattle.alma_rules.specs.Parts as parts
 use Rattle.alma_rules.specs.ExprRules as rules
 use Rattle.alma_rules.specs.Nodes as nodes
 use Rattle.alma_rules.specs.Walk as walk
-use Rattle.alma_check_rules.specs.Views.{scene_of, headings_in, found_view, use_view, operand_view, operator_view, typing_of, denoted_of, denoted_in, located_of, callee_in, callee_of, operands_of, operands_in, args_of, args_in, stmts_of, stmts_in, typing_in, formal_view, span_view, spans_view, spans_of, spans_in}
+use Rattle.alma_check_rules.specs.Views.{scene_of, somewhere, headings_in, found_view, use_view, operand_view, operator_view, typing_of, denoted_of, denoted_in, located_of, callee_in, callee_of, operands_of, operands_in, operands_view, args_of, args_in, stmts_of, stmts_in, typing_in, formal_view, span_view, spans_view, spans_of, spans_in}
 use Rattle.alma_check_build.specs.Lists.{guarded_of, arms_of, arms_in, branches_of, branches_in, cases_of, cases_in}
 use Rattle.alma_walk.proofs.Judging.{stops_more, passed, no_memory, answers_as}
 use Rattle.alma_walk.proofs.Onwards.{first_fine, onward_begin, onward_end, nothing_behind}
@@ -62,22 +62,22 @@ expression::check_simple-returns-in_err-first t c =
 pub expression::check_simple-returns : goal.expression::check_simple-returns
 expression::check_simple-returns t c =
     exprs.simple_fine (scene_of c.args.env.now c.args.place) c.args.slot.now c.args.simple.now (operand_view c.first_add-operand.result) typing_of _ _ _ _ (rw c.deref.ensures.value at c.first_add-operand.ensures) (rw c.deref-2.ensures at c.in_ok-first.ensures)
-    (c.join_sum.ensures _ _ _ c.check_terms-rest.ensures)
+    (rw (c.deref-3.ensures.value, c.deref-4.ensures.value) at (c.join_sum.ensures (walk.judge_terms (scene_of c.args.env.now c.args.place) c.check_term.new.slot c.first_add-operand.result.sort (view.terms_of c.deref-3.result.now)) c.check_term.new.slot c.check_terms-rest.new.slot c.check_terms-rest.ensures))
 
 pub expression::check_terms-loop-link-init : goal.expression::check_terms-loop-link-init
 expression::check_terms-loop-link-init t c =
-    sym (onward_begin (λ (x y : parts.Operands). x ++ y) [] (walk.judge_terms (scene_of c.args.env.now c.args.place) c.args.slot.now c.args.sort (view.terms_of c.args.more.now)) (λ b. refl))
+    begun (λ (x y : parts.Operands). x ++ y) [] (operands_in (Some c.new.result)) (walk.judge_terms (scene_of c.args.env.now c.args.place) c.args.slot.now c.args.sort (view.terms_of c.args.more.now)) (λ b. refl) (ap (λ l. Some (operands_view l)) c.new.ensures.items)
 
 pub expression::check_terms-loop-link-preserved : goal.expression::check_terms-loop-link-preserved
 expression::check_terms-loop-link-preserved t c =
     c.loop-link.invariant ∙ ap (onward_operands (operands_in c.loop-link.kept)) (exprs.terms_next (scene_of c.args.env.now c.args.place) c.loop-link.slot c.loop-link.link-index c.args.sort c.args.more.now c.link-item.result (operator_view c.add_operator-operator.result) (operand_view c.behind-operand.result) c.loop-link-test.true c.link-item.is c.add_operator-operator.ensures c.behind-operand.ensures)
-    ∙ c.in_ok-add_operand.ensures _ _ (λ m. walk.judge_terms (scene_of c.args.env.now c.args.place) m c.args.sort (view.terms_of (drop (c.loop-link.link-index + 1) c.args.more.now))) c.check_term-typed.ensures
+    ∙ c.in_ok-kept.ensures _ _ (λ m. walk.judge_terms (scene_of c.args.env.now c.args.place) m c.args.sort (view.terms_of (drop (c.loop-link.link-index + 1) c.args.more.now))) c.check_term-typed.ensures
 
-pub expression::check_terms-returns-in_err-add_operand : goal.expression::check_terms-returns-in_err-add_operand
-expression::check_terms-returns-in_err-add_operand t c =
+pub expression::check_terms-returns-in_err-kept : goal.expression::check_terms-returns-in_err-kept
+expression::check_terms-returns-in_err-kept t c =
     passed _ operands_of _ _ _ c.from_residual.ensures.1
-    (subst (λ (j : Judged parts.Operands). Stops j.faults _) (sym (c.loop-link.invariant ∙ ap (onward_operands (operands_in c.loop-link.kept)) (exprs.terms_next (scene_of c.args.env.now c.args.place) c.loop-link.slot c.loop-link.link-index c.args.sort c.args.more.now c.link-item.result (operator_view c.add_operator-operator.result) (operand_view c.behind-operand.result) c.loop-link-test.true c.link-item.is c.add_operator-operator.ensures c.behind-operand.ensures)))
-    (c.in_err-add_operand.ensures _ _ (λ m. walk.judge_terms (scene_of c.args.env.now c.args.place) m c.args.sort (view.terms_of (drop (c.loop-link.link-index + 1) c.args.more.now))) c.check_term-typed.ensures))
+    (stops_as _ _ _ (c.loop-link.invariant ∙ ap (onward_operands (operands_in c.loop-link.kept)) (exprs.terms_next (scene_of c.args.env.now c.args.place) c.loop-link.slot c.loop-link.link-index c.args.sort c.args.more.now c.link-item.result (operator_view c.add_operator-operator.result) (operand_view c.behind-operand.result) c.loop-link-test.true c.link-item.is c.add_operator-operator.ensures c.behind-operand.ensures))
+    (c.in_err-kept.ensures _ _ (λ m. walk.judge_terms (scene_of c.args.env.now c.args.place) m c.args.sort (view.terms_of (drop (c.loop-link.link-index + 1) c.args.more.now))) c.check_term-typed.ensures))
 
 pub expression::check_terms-returns : goal.expression::check_terms-returns
 expression::check_terms-returns t c =
@@ -92,22 +92,22 @@ expression::check_term-returns-in_err-first t c =
 pub expression::check_term-returns : goal.expression::check_term-returns
 expression::check_term-returns t c =
     exprs.term_fine (scene_of c.args.env.now c.args.place) c.args.slot.now (operand_view c.args.operand) c.args.term.now (operand_view c.first_mul-inner.result) typing_of _ _ _ _ (rw c.deref.ensures.value at c.first_mul-inner.ensures) c.in_ok-first.ensures
-    (c.join_product.ensures _ _ _ c.check_factors-rest.ensures)
+    (rw (c.deref-2.ensures.value, c.deref-3.ensures.value) at (c.join_product.ensures (walk.judge_factors (scene_of c.args.env.now c.args.place) c.check_factor.new.slot c.first_mul-inner.result.sort (view.factors_of c.deref-2.result.now)) c.check_factor.new.slot c.check_factors-rest.new.slot c.check_factors-rest.ensures))
 
 pub expression::check_factors-loop-link-init : goal.expression::check_factors-loop-link-init
 expression::check_factors-loop-link-init t c =
-    sym (onward_begin (λ (x y : parts.Operands). x ++ y) [] (walk.judge_factors (scene_of c.args.env.now c.args.place) c.args.slot.now c.args.sort (view.factors_of c.args.more.now)) (λ b. refl))
+    begun (λ (x y : parts.Operands). x ++ y) [] (operands_in (Some c.new.result)) (walk.judge_factors (scene_of c.args.env.now c.args.place) c.args.slot.now c.args.sort (view.factors_of c.args.more.now)) (λ b. refl) (ap (λ l. Some (operands_view l)) c.new.ensures.items)
 
 pub expression::check_factors-loop-link-preserved : goal.expression::check_factors-loop-link-preserved
 expression::check_factors-loop-link-preserved t c =
     c.loop-link.invariant ∙ ap (onward_operands (operands_in c.loop-link.kept)) (exprs.factors_next (scene_of c.args.env.now c.args.place) c.loop-link.slot c.loop-link.link-index c.args.sort c.args.more.now c.link-item.result (operator_view c.mul_operator-operator.result) (operand_view c.behind-operand.result) c.loop-link-test.true c.link-item.is c.mul_operator-operator.ensures c.behind-operand.ensures)
-    ∙ c.in_ok-add_operand.ensures _ _ (λ m. walk.judge_factors (scene_of c.args.env.now c.args.place) m c.args.sort (view.factors_of (drop (c.loop-link.link-index + 1) c.args.more.now))) c.check_factor-typed.ensures
+    ∙ c.in_ok-kept.ensures _ _ (λ m. walk.judge_factors (scene_of c.args.env.now c.args.place) m c.args.sort (view.factors_of (drop (c.loop-link.link-index + 1) c.args.more.now))) c.check_factor-typed.ensures
 
-pub expression::check_factors-returns-in_err-add_operand : goal.expression::check_factors-returns-in_err-add_operand
-expression::check_factors-returns-in_err-add_operand t c =
+pub expression::check_factors-returns-in_err-kept : goal.expression::check_factors-returns-in_err-kept
+expression::check_factors-returns-in_err-kept t c =
     passed _ operands_of _ _ _ c.from_residual.ensures.1
-    (subst (λ (j : Judged parts.Operands). Stops j.faults _) (sym (c.loop-link.invariant ∙ ap (onward_operands (operands_in c.loop-link.kept)) (exprs.factors_next (scene_of c.args.env.now c.args.place) c.loop-link.slot c.loop-link.link-index c.args.sort c.args.more.now c.link-item.result (operator_view c.mul_operator-operator.result) (operand_view c.behind-operand.result) c.loop-link-test.true c.link-item.is c.mul_operator-operator.ensures c.behind-operand.ensures)))
-    (c.in_err-add_operand.ensures _ _ (λ m. walk.judge_factors (scene_of c.args.env.now c.args.place) m c.args.sort (view.factors_of (drop (c.loop-link.link-index + 1) c.args.more.now))) c.check_factor-typed.ensures))
+    (stops_as _ _ _ (c.loop-link.invariant ∙ ap (onward_operands (operands_in c.loop-link.kept)) (exprs.factors_next (scene_of c.args.env.now c.args.place) c.loop-link.slot c.loop-link.link-index c.args.sort c.args.more.now c.link-item.result (operator_view c.mul_operator-operator.result) (operand_view c.behind-operand.result) c.loop-link-test.true c.link-item.is c.mul_operator-operator.ensures c.behind-operand.ensures))
+    (c.in_err-kept.ensures _ _ (λ m. walk.judge_factors (scene_of c.args.env.now c.args.place) m c.args.sort (view.factors_of (drop (c.loop-link.link-index + 1) c.args.more.now))) c.check_factor-typed.ensures))
 
 pub expression::check_factors-returns : goal.expression::check_factors-returns
 expression::check_factors-returns t c =
@@ -165,19 +165,19 @@ designator::check_desig-returns-in_err-found t c =
 
 pub designator::check_desig-returns : goal.designator::check_desig-returns
 designator::check_desig-returns t c =
-    rw (desigs.desig_fine (scene_of c.args.env.now c.args.place) c.args.slot.now (use_view c.args.wanted) c.args.desig.now (found_view (headings_in c.args.env.now) c.in_ok-found.found) c.args.slot.now (denoted_in (headings_in c.args.env.now) c.in_ok-start.start) c.in_ok-found.ensures (c.in_ok-start.ensures c.args.slot.now))
+    rw (desigs.desig_fine (scene_of c.args.env.now c.args.place) c.args.slot.now (use_view c.args.wanted) c.args.desig.now (found_view (headings_in c.args.env.now) c.in_ok-found.found) c.args.slot.now (denoted_in (headings_in c.args.env.now) c.in_ok-start.start) c.in_ok-found.ensures (c.in_ok-start.ensures c.args.slot.now), selected_by c.args.desig.now.more, ← c.is_empty.ensures)
     (c.join_desig.ensures (walk.judge_selectors (scene_of c.args.env.now c.args.place) (of_value c.args.slot.now (denoted_in (headings_in c.args.env.now) c.in_ok-start.start)) (view.selectors_of c.args.desig.now.more.items)) _ (rw c.deref.ensures.value at c.check_selectors-part.ensures))
 
 pub designator::check_selectors-loop-selector-preserved : goal.designator::check_selectors-loop-selector-preserved
 designator::check_selectors-loop-selector-preserved t c =
     c.loop-selector.invariant ∙ (desigs.selectors_next (scene_of c.args.env.now c.args.place) (of_value c.loop-selector.slot (denoted_in (headings_in c.args.env.now) c.loop-selector.found)) c.loop-selector.selector-index c.args.more.now c.selector-item.result c.loop-selector-test.true c.selector-item.is)
-    ∙ ap (λ (j : Judged parts.Denoted). walk.judge_selectors (scene_of c.args.env.now c.args.place) j (view.selectors_of (drop (c.loop-selector.selector-index + 1) c.args.more.now))) c.in_ok-check_selector.ensures
+    ∙ ap (λ (j : Judged parts.Denoted). walk.judge_selectors (scene_of c.args.env.now c.args.place) j (view.selectors_of (drop (c.loop-selector.selector-index + 1) c.args.more.now))) c.in_ok-found.ensures
 
-pub designator::check_selectors-returns-in_err-check_selector : goal.designator::check_selectors-returns-in_err-check_selector
-designator::check_selectors-returns-in_err-check_selector t c =
+pub designator::check_selectors-returns-in_err-found : goal.designator::check_selectors-returns-in_err-found
+designator::check_selectors-returns-in_err-found t c =
     passed _ (denoted_of (headings_in c.args.env.now)) _ _ _ c.from_residual.ensures.1
-    (subst (λ (j : Judged parts.Denoted). Stops j.faults _) (sym (c.loop-selector.invariant ∙ (desigs.selectors_next (scene_of c.args.env.now c.args.place) (of_value c.loop-selector.slot (denoted_in (headings_in c.args.env.now) c.loop-selector.found)) c.loop-selector.selector-index c.args.more.now c.selector-item.result c.loop-selector-test.true c.selector-item.is)))
-    (desigs.selectors_stops (scene_of c.args.env.now c.args.place) (view.selectors_of (drop (c.loop-selector.selector-index + 1) c.args.more.now)) _ _ c.in_err-check_selector.ensures))
+    (stops_as _ _ _ (c.loop-selector.invariant ∙ (desigs.selectors_next (scene_of c.args.env.now c.args.place) (of_value c.loop-selector.slot (denoted_in (headings_in c.args.env.now) c.loop-selector.found)) c.loop-selector.selector-index c.args.more.now c.selector-item.result c.loop-selector-test.true c.selector-item.is))
+    (desigs.selectors_stops (scene_of c.args.env.now c.args.place) (view.selectors_of (drop (c.loop-selector.selector-index + 1) c.args.more.now)) _ _ c.in_err-found.ensures))
 
 pub designator::check_selectors-returns : goal.designator::check_selectors-returns
 designator::check_selectors-returns t c =
@@ -202,20 +202,25 @@ designator::check_indices-loop-index-init t c =
 
 pub designator::check_indices-loop-index-preserved : goal.designator::check_indices-loop-index-preserved
 designator::check_indices-loop-index-preserved t c =
-    c.loop-index.invariant ∙ (desigs.index_next (scene_of c.args.env.now c.args.place) (of_value c.loop-index.slot (denoted_in (headings_in c.args.env.now) c.loop-index.part)) c.loop-index.index-index (dx.out-Exprs c.args.indices.now).more.items c.index-item.result c.loop-index-test.true c.index-item.is) ∙ ap (λ (j : Judged parts.Denoted). walk.judge_index_tail (scene_of c.args.env.now c.args.place) j (view.exprs_of (drop (c.loop-index.index-index + 1) (dx.out-Exprs c.args.indices.now).more.items))) c.in_ok-check_index.ensures
+    c.loop-index.invariant ∙ (desigs.index_next (scene_of c.args.env.now c.args.place) (of_value c.loop-index.slot (denoted_in (headings_in c.args.env.now) c.loop-index.part)) c.loop-index.index-index (dx.out-Exprs c.args.indices.now).more.items c.index-item.result (rw c.deref-index-items.ensures.value at c.loop-index-test.true) (rw c.deref-index-items.ensures.value at c.index-item.is)) ∙ ap (λ (j : Judged parts.Denoted). walk.judge_index_tail (scene_of c.args.env.now c.args.place) j (view.exprs_of (drop (c.loop-index.index-index + 1) (dx.out-Exprs c.args.indices.now).more.items))) c.in_ok-part-2.ensures
 
-pub designator::check_indices-returns-in_err-check_index : goal.designator::check_indices-returns-in_err-check_index
-designator::check_indices-returns-in_err-check_index t c =
-    passed _ (denoted_of (headings_in c.args.env.now)) _ _ _ c.from_residual-in_err-check_index.ensures.1
-    (subst (λ (j : Judged parts.Denoted). Stops j.faults _) (sym (c.loop-index.invariant ∙ (desigs.index_next (scene_of c.args.env.now c.args.place) (of_value c.loop-index.slot (denoted_in (headings_in c.args.env.now) c.loop-index.part)) c.loop-index.index-index (dx.out-Exprs c.args.indices.now).more.items c.index-item.result c.loop-index-test.true c.index-item.is))) (desigs.index_tail_stops (scene_of c.args.env.now c.args.place) (view.exprs_of (drop (c.loop-index.index-index + 1) (dx.out-Exprs c.args.indices.now).more.items)) _ _ c.in_err-check_index.ensures))
+pub designator::check_indices-returns-in_err-part-2 : goal.designator::check_indices-returns-in_err-part-2
+designator::check_indices-returns-in_err-part-2 t c =
+    passed _ (denoted_of (headings_in c.args.env.now)) _ _ _ c.from_residual-in_err-part-2.ensures.1
+    (stops_as _ _ _ (c.loop-index.invariant ∙ (desigs.index_next (scene_of c.args.env.now c.args.place) (of_value c.loop-index.slot (denoted_in (headings_in c.args.env.now) c.loop-index.part)) c.loop-index.index-index (dx.out-Exprs c.args.indices.now).more.items c.index-item.result (rw c.deref-index-items.ensures.value at c.loop-index-test.true) (rw c.deref-index-items.ensures.value at c.index-item.is))) (desigs.index_tail_stops (scene_of c.args.env.now c.args.place) (view.exprs_of (drop (c.loop-index.index-index + 1) (dx.out-Exprs c.args.indices.now).more.items)) _ _ c.in_err-part-2.ensures))
 
 pub designator::check_indices-returns : goal.designator::check_indices-returns
 designator::check_indices-returns t c =
-    c.loop-index.invariant ∙ desigs.index_end (scene_of c.args.env.now c.args.place) (of_value c.loop-index.slot (denoted_in (headings_in c.args.env.now) c.loop-index.part)) c.loop-index.index-index (dx.out-Exprs c.args.indices.now).more.items c.loop-index-test.false
+    c.loop-index.invariant ∙ desigs.index_end (scene_of c.args.env.now c.args.place) (of_value c.loop-index.slot (denoted_in (headings_in c.args.env.now) c.loop-index.part)) c.loop-index.index-index (dx.out-Exprs c.args.indices.now).more.items (rw c.deref-index-items.ensures.value at c.loop-index-test.false)
 
 pub designator::check_index-returns : goal.designator::check_index-returns
 designator::check_index-returns t c =
-    c.join_index.ensures (walk.judge_expr (scene_of c.args.env.now c.args.place) c.args.slot.now (view.view_expr c.args.index.now)) c.args.slot.now _ c.check_expr-typed.ensures
+    let judged = walk.judge_expr (scene_of c.args.env.now c.args.place) c.args.slot.now (view.view_expr c.args.index.now) in
+    let found = of_value c.args.slot.now (denoted_in (headings_in c.args.env.now) c.args.found) in
+    answers_as _ _ (denoted_of (headings_in c.args.env.now)) _ _
+    (indexed_same c.args.env.now c.args.place found (tree.expr_node (view.view_expr c.args.index.now)) judged
+    ∙ ap (λ k. nodes.indexed (scene_of c.args.env.now somewhere) found k judged) (node_is c.args.index.now))
+    (c.join_index.ensures judged c.args.slot.now _ c.check_expr-typed.ensures)
 
 -- ---- Calls
 
@@ -234,11 +239,11 @@ call::check_call-returns-in_err-callee t c =
 
 pub call::check_call-returns-in-None : goal.call::check_call-returns-in-None
 call::check_call-returns-in-None t c =
-    rw (c.in-None.is, exprs.call_none (scene_of c.args.env.now c.args.place) c.args.slot.now c.args.node _ (view.view_desig c.args.desig.now) (callee_in (headings_in c.args.env.now) c.in_ok-callee.callee) (c.in_ok-callee.ensures (walk.judge_desig (scene_of c.args.env.now c.args.place) c.args.slot.now rules.as_procedure (view.view_desig c.args.desig.now)) _ c.check_desig-found.ensures)) (c.join_call.ensures (fine c.check_desig-found.new.slot ir.no_args) _ _ (ap (λ a. of_value c.check_desig-found.new.slot (Some (args_list a))) (sym c.new.ensures.items)))
+    rw (c.in-None.is, exprs.call_none (scene_of c.args.env.now c.args.place) c.args.slot.now c.args.node _ (view.view_desig c.args.desig.now) (callee_in (headings_in c.args.env.now) c.in_ok-callee.callee) (c.in_ok-callee.ensures (walk.judge_desig (scene_of c.args.env.now c.args.place) c.args.slot.now rules.as_procedure (view.view_desig c.args.desig.now)) _ c.check_desig-found.ensures)) (c.join_call.ensures (fine c.check_desig-found.new.slot ir.no_args) c.check_desig-found.new.slot c.check_desig-found.new.slot (ap (λ a. of_value c.check_desig-found.new.slot (Some (args_list a))) (sym c.new.ensures.items)))
 
 pub call::check_call-returns-in-Some : goal.call::check_call-returns-in-Some
 call::check_call-returns-in-Some t c =
-    rw (c.in-Some.is, exprs.call_some (scene_of c.args.env.now c.args.place) c.args.slot.now c.args.node _ (view.view_desig c.args.desig.now) (view.view_exprs c.in-Some.values) (callee_in (headings_in c.args.env.now) c.in_ok-callee.callee) (c.in_ok-callee.ensures (walk.judge_desig (scene_of c.args.env.now c.args.place) c.args.slot.now rules.as_procedure (view.view_desig c.args.desig.now)) _ c.check_desig-found.ensures), calls.count_at (scene_of c.args.env.now c.args.place) c.in-Some.values, sym c.len.ensures) (c.join_call.ensures _ _ _ c.check_arguments-args.ensures)
+    rw (c.in-Some.is, exprs.call_some (scene_of c.args.env.now c.args.place) c.args.slot.now c.args.node _ (view.view_desig c.args.desig.now) (view.view_exprs c.in-Some.values) (callee_in (headings_in c.args.env.now) c.in_ok-callee.callee) (c.in_ok-callee.ensures (walk.judge_desig (scene_of c.args.env.now c.args.place) c.args.slot.now rules.as_procedure (view.view_desig c.args.desig.now)) _ c.check_desig-found.ensures), calls.count_at (scene_of c.args.env.now c.args.place) c.in-Some.values, length_is (dx.out-Exprs c.in-Some.values).more ∙ sym c.len.ensures) (c.join_call-in-Some.ensures (walk.judge_arguments (scene_of c.args.env.now c.args.place) c.check_desig-found.new.slot (nodes.formals_of (callee_in (headings_in c.args.env.now) c.in_ok-callee.callee)) (view.view_exprs c.in-Some.values)) c.check_desig-found.new.slot c.check_arguments-args.new.slot c.check_arguments-args.ensures)
 
 -- ---- Parens
 
@@ -248,11 +253,15 @@ parens::check_sequence-returns t c =
 
 pub parens::check_parens-returns-then-not-is_empty : goal.parens::check_parens-returns-then-not-is_empty
 parens::check_parens-returns-then-not-is_empty t c =
-    rw (exprs.paren_more (scene_of c.args.env.now c.args.place) c.args.slot.now c.args.node c.args.body.now (some_by c.args.body.now.more.items (sym c.is_empty.ensures ∙ c.if-not-is_empty.true))) c.check_sequence.ensures
+    rw (exprs.paren_more (scene_of c.args.env.now c.args.place) c.args.slot.now c.args.node c.args.body.now (some_by c.args.body.now.more (sym c.is_empty.ensures ∙ c.if-not-is_empty.true))) c.check_sequence.ensures
 
 pub parens::check_parens-returns-in-Value : goal.parens::check_parens-returns-in-Value
 parens::check_parens-returns-in-Value t c =
-    rw (exprs.paren_value (scene_of c.args.env.now c.args.place) c.args.slot.now c.args.node c.in-Value.node c.args.body.now c.in-Value.value (empty_by c.args.body.now.more.items (sym c.is_empty.ensures ∙ c.if-not-is_empty.false)) (sym c.deref.ensures ∙ c.in-Value.is)) (c.join_parens.ensures _ _ c.check_expr-typed.ensures)
+    rw (exprs.paren_value (scene_of c.args.env.now c.args.place) c.args.slot.now c.args.node c.in-Value.node c.args.body.now c.in-Value.value (empty_by c.args.body.now.more (sym c.is_empty.ensures ∙ c.if-not-is_empty.false)) (sym c.deref.ensures ∙ c.in-Value.is)) (c.join_parens.ensures _ _ c.check_expr-typed.ensures)
+
+pub parens::check_parens-returns-in_default : goal.parens::check_parens-returns-in_default
+parens::check_parens-returns-in_default t c =
+    rw (exprs.paren_other (scene_of c.args.env.now c.args.place) c.args.slot.now c.args.node c.args.body.now (empty_by c.args.body.now.more (sym c.is_empty.ensures ∙ c.if-not-is_empty.false)) (λ m e h. c.in_default.not-Value m e (c.deref.ensures ∙ h))) c.check_sequence-in_default.ensures
 
 -- ---- Statements
 
@@ -580,15 +589,15 @@ pub call::check_argument_tail-loop-value-preserved : goal.call::check_argument_t
 call::check_argument_tail-loop-value-preserved t c = (
   omega arith,
   c.loop-value.invariant.1 ∙ ap (onward_args (args_in c.loop-value.kept)) (calls.arguments_turn (scene_of c.args.env.now c.args.place) c.loop-value.slot c.loop-value.value-index (nodes.formals_of (callee_in (headings_in c.args.env.now) c.args.callee)) c.args.more.now c.value-item.result (option_map formal_view c.formal_of-formal.result) c.loop-value-test.true c.value-item.is (c.formal_of-formal.ensures ∙ ap (λ i. slice_get (nodes.formals_of (callee_in (headings_in c.args.env.now) c.args.callee)) (i + 1)) c.loop-value.invariant.0))
-      ∙ c.in_ok-add_argument.ensures (calls.argument (scene_of c.args.env.now c.args.place) c.loop-value.slot (option_map formal_view c.formal_of-formal.result) c.value-item.result) _
+      ∙ c.in_ok-kept.ensures (calls.argument (scene_of c.args.env.now c.args.place) c.loop-value.slot (option_map formal_view c.formal_of-formal.result) c.value-item.result) _
       (λ m. walk.judge_argument_tail (scene_of c.args.env.now c.args.place) m (drop (c.loop-value.value-index + 1 + 1) (nodes.formals_of (callee_in (headings_in c.args.env.now) c.args.callee))) (view.exprs_of (drop (c.loop-value.value-index + 1) c.args.more.now))) c.check_argument-arg.ensures,
 )
 
-pub call::check_argument_tail-returns-in_err-add_argument : goal.call::check_argument_tail-returns-in_err-add_argument
-call::check_argument_tail-returns-in_err-add_argument t c =
+pub call::check_argument_tail-returns-in_err-kept : goal.call::check_argument_tail-returns-in_err-kept
+call::check_argument_tail-returns-in_err-kept t c =
     passed _ args_of _ _ _ c.from_residual.ensures.1
     (stops_as _ _ _ (c.loop-value.invariant.1 ∙ ap (onward_args (args_in c.loop-value.kept)) (calls.arguments_turn (scene_of c.args.env.now c.args.place) c.loop-value.slot c.loop-value.value-index (nodes.formals_of (callee_in (headings_in c.args.env.now) c.args.callee)) c.args.more.now c.value-item.result (option_map formal_view c.formal_of-formal.result) c.loop-value-test.true c.value-item.is (c.formal_of-formal.ensures ∙ ap (λ i. slice_get (nodes.formals_of (callee_in (headings_in c.args.env.now) c.args.callee)) (i + 1)) c.loop-value.invariant.0)))
-    (c.in_err-add_argument.ensures (calls.argument (scene_of c.args.env.now c.args.place) c.loop-value.slot (option_map formal_view c.formal_of-formal.result) c.value-item.result) _
+    (c.in_err-kept.ensures (calls.argument (scene_of c.args.env.now c.args.place) c.loop-value.slot (option_map formal_view c.formal_of-formal.result) c.value-item.result) _
     (λ m. walk.judge_argument_tail (scene_of c.args.env.now c.args.place) m (drop (c.loop-value.value-index + 1 + 1) (nodes.formals_of (callee_in (headings_in c.args.env.now) c.args.callee))) (view.exprs_of (drop (c.loop-value.value-index + 1) c.args.more.now))) c.check_argument-arg.ensures))
 
 pub call::check_argument_tail-returns : goal.call::check_argument_tail-returns
@@ -619,13 +628,11 @@ input::check_item-returns-in-Some t c =
 -- ---- FOR and SOME
 
 pub turns::check_for-join_for-requires : goal.turns::check_for-join_for-requires
-turns::check_for-join_for-requires t c = record {
-  limit = omega (arith, c.in_ok-counter.ensures.0, c.in_ok-counter.ensures.1, c.take_loop.auto.slot);
-}
+turns::check_for-join_for-requires t c = record { limit = c.in_ok-counter.ensures.limit }
 
 pub turns::check_for-returns-in_err-counter : goal.turns::check_for-returns-in_err-counter
 turns::check_for-returns-in_err-counter t c =
-    passed _ stmts_of _ _ _ c.from_residual.ensures.1 (rw c.in_err-counter.ensures tt)
+    passed _ stmts_of _ _ _ c.from_residual.ensures.1 (rw c.in_err-counter.ensures.taken tt)
 
 pub turns::check_for-returns-in_err-found : goal.turns::check_for-returns-in_err-found
 turns::check_for-returns-in_err-found t c =
@@ -637,13 +644,13 @@ pub turns::check_for-returns-in_err-low : goal.turns::check_for-returns-in_err-l
 turns::check_for-returns-in_err-low t c =
     passed _ stmts_of _ _ _ c.from_residual-in_err-low.ensures.1
     (loops.for_low_stops c.args.env.now c.args.place c.args.slot.now c.args.node c.args.variable.now (view.view_expr c.args.from.now) (view.view_expr c.args.to.now) (view.by_of c.args.by.now) (view.view_stmts c.args.body.now)
-    c.in_ok-found.found c.take_loop.new.slot _ c.in_ok-counter.ensures.1 (loops.variable_is c.args.env.now c.args.place c.args.slot.now c.args.node c.args.variable.now c.in_ok-found.found c.in_ok-found.ensures.0 c.in_ok-found.ensures.1) c.in_err-low.ensures)
+    c.in_ok-found.found c.take_slots.new.slot _ c.in_ok-counter.ensures.taken.1 (loops.variable_is c.args.env.now c.args.place c.args.slot.now c.args.node c.args.variable.now c.in_ok-found.found c.in_ok-found.ensures.0 c.in_ok-found.ensures.1) c.in_err-low.ensures)
 
 pub turns::check_for-returns-in_err-bounds : goal.turns::check_for-returns-in_err-bounds
 turns::check_for-returns-in_err-bounds t c =
     passed _ stmts_of _ _ _ c.from_residual-in_err-bounds.ensures.1
     (loops.for_high_stops c.args.env.now c.args.place c.args.slot.now c.args.node c.args.variable.now (view.view_expr c.args.from.now) (view.view_expr c.args.to.now) (view.by_of c.args.by.now) (view.view_stmts c.args.body.now)
-    c.in_ok-found.found c.take_loop.new.slot _ _ _ c.in_ok-counter.ensures.1 (loops.variable_is c.args.env.now c.args.place c.args.slot.now c.args.node c.args.variable.now c.in_ok-found.found c.in_ok-found.ensures.0 c.in_ok-found.ensures.1) c.in_ok-low.ensures
+    c.in_ok-found.found c.take_slots.new.slot _ _ _ c.in_ok-counter.ensures.taken.1 (loops.variable_is c.args.env.now c.args.place c.args.slot.now c.args.node c.args.variable.now c.in_ok-found.found c.in_ok-found.ensures.0 c.in_ok-found.ensures.1) c.in_ok-low.ensures
     (c.in_err-bounds.ensures (walk.judge_expr (scene_of c.args.env.now c.args.place) c.check_expr.new.slot (view.view_expr c.args.to.now)) _ c.check_expr-high.ensures))
 
 pub turns::check_for-returns-in_err-turns : goal.turns::check_for-returns-in_err-turns
@@ -651,7 +658,7 @@ turns::check_for-returns-in_err-turns t c =
     let b = c.in_ok-bounds.ensures (walk.judge_expr (scene_of c.args.env.now c.args.place) c.check_expr.new.slot (view.view_expr c.args.to.now)) c.check_expr-high.new.slot c.check_expr-high.ensures in
     passed _ stmts_of _ _ _ c.from_residual-in_err-turns.ensures.1
     (loops.for_by_stops c.args.env.now c.args.place c.args.slot.now c.args.node c.args.variable.now (view.view_expr c.args.from.now) (view.view_expr c.args.to.now) (view.by_of c.args.by.now) (view.view_stmts c.args.body.now)
-    c.in_ok-found.found c.take_loop.new.slot _ _ _ c.in_ok-bounds.bounds _ c.in_ok-counter.ensures.1 (loops.variable_is c.args.env.now c.args.place c.args.slot.now c.args.node c.args.variable.now c.in_ok-found.found c.in_ok-found.ensures.0 c.in_ok-found.ensures.1) c.in_ok-low.ensures b.1
+    c.in_ok-found.found c.take_slots.new.slot _ _ _ c.in_ok-bounds.bounds _ c.in_ok-counter.ensures.taken.1 (loops.variable_is c.args.env.now c.args.place c.args.slot.now c.args.node c.args.variable.now c.in_ok-found.found c.in_ok-found.ensures.0 c.in_ok-found.ensures.1) c.in_ok-low.ensures b.1
     (c.in_err-turns.ensures (walk.judge_by (scene_of c.args.env.now c.args.place) c.check_expr-high.new.slot (view.by_of c.args.by.now)) _ c.check_by-step.ensures))
 
 pub turns::check_for-returns : goal.turns::check_for-returns
@@ -659,18 +666,16 @@ turns::check_for-returns t c =
     let b = c.in_ok-bounds.ensures (walk.judge_expr (scene_of c.args.env.now c.args.place) c.check_expr.new.slot (view.view_expr c.args.to.now)) c.check_expr-high.new.slot c.check_expr-high.ensures in
     let y = c.in_ok-turns.ensures (walk.judge_by (scene_of c.args.env.now c.args.place) c.check_expr-high.new.slot (view.by_of c.args.by.now)) c.check_by-step.new.slot c.check_by-step.ensures in
     loops.for_joined c.args.env.now c.args.place c.args.slot.now c.args.node c.args.variable.now (view.view_expr c.args.from.now) (view.view_expr c.args.to.now) (view.by_of c.args.by.now) (view.view_stmts c.args.body.now)
-    c.in_ok-found.found c.in_ok-counter.counter c.take_loop.new.slot c.check_expr.new.slot c.check_expr-high.new.slot c.check_by-step.new.slot _ _ c.in_ok-bounds.bounds c.in_ok-turns.turns _
-    c.in_ok-counter.ensures.0 c.in_ok-counter.ensures.1 (loops.variable_is c.args.env.now c.args.place c.args.slot.now c.args.node c.args.variable.now c.in_ok-found.found c.in_ok-found.ensures.0 c.in_ok-found.ensures.1) c.in_ok-low.ensures b.0 b.1 y.0 y.1 y.2
+    c.in_ok-found.found c.in_ok-counter.counter c.take_slots.new.slot c.check_expr.new.slot c.check_expr-high.new.slot c.check_by-step.new.slot _ _ c.in_ok-bounds.bounds c.in_ok-turns.turns _
+    c.in_ok-counter.ensures.taken.0 c.in_ok-counter.ensures.taken.1 (loops.variable_is c.args.env.now c.args.place c.args.slot.now c.args.node c.args.variable.now c.in_ok-found.found c.in_ok-found.ensures.0 c.in_ok-found.ensures.1) c.in_ok-low.ensures b.0 b.1 y.0 y.1 y.2
     (c.join_for.ensures (walk.judge_stmts (scene_of c.args.env.now c.args.place) c.check_by-step.new.slot (view.view_stmts c.args.body.now)) c.args.slot.now c.check_expr.new.slot c.check_expr-high.new.slot c.check_by-step.new.slot _ c.check_stmts-body.ensures)
 
 pub turns::check_some-join_some-requires : goal.turns::check_some-join_some-requires
-turns::check_some-join_some-requires t c = record {
-  limit = omega (arith, c.in_ok-counter.ensures.0, c.in_ok-counter.ensures.1, c.take_loop.auto.slot);
-}
+turns::check_some-join_some-requires t c = record { limit = c.in_ok-counter.ensures.limit }
 
 pub turns::check_some-returns-in_err-counter : goal.turns::check_some-returns-in_err-counter
 turns::check_some-returns-in_err-counter t c =
-    passed _ stmts_of _ _ _ c.from_residual.ensures.1 (rw c.in_err-counter.ensures tt)
+    passed _ stmts_of _ _ _ c.from_residual.ensures.1 (rw c.in_err-counter.ensures.taken tt)
 
 pub turns::check_some-returns-in_err-found : goal.turns::check_some-returns-in_err-found
 turns::check_some-returns-in_err-found t c =
@@ -682,21 +687,21 @@ pub turns::check_some-returns-in_err-low : goal.turns::check_some-returns-in_err
 turns::check_some-returns-in_err-low t c =
     passed _ stmts_of _ _ _ c.from_residual-in_err-low.ensures.1
     (loops.some_low_stops c.args.env.now c.args.place c.args.slot.now c.args.node c.args.variable.now (view.view_expr c.args.from.now) (view.view_expr c.args.to.now) (view.view_stmts c.args.body.now)
-    c.in_ok-found.found c.take_loop.new.slot _ c.in_ok-counter.ensures.1 (loops.variable_is c.args.env.now c.args.place c.args.slot.now c.args.node c.args.variable.now c.in_ok-found.found c.in_ok-found.ensures.0 c.in_ok-found.ensures.1) c.in_err-low.ensures)
+    c.in_ok-found.found c.take_slots.new.slot _ c.in_ok-counter.ensures.taken.1 (loops.variable_is c.args.env.now c.args.place c.args.slot.now c.args.node c.args.variable.now c.in_ok-found.found c.in_ok-found.ensures.0 c.in_ok-found.ensures.1) c.in_err-low.ensures)
 
 pub turns::check_some-returns-in_err-bounds : goal.turns::check_some-returns-in_err-bounds
 turns::check_some-returns-in_err-bounds t c =
     passed _ stmts_of _ _ _ c.from_residual-in_err-bounds.ensures.1
     (loops.some_high_stops c.args.env.now c.args.place c.args.slot.now c.args.node c.args.variable.now (view.view_expr c.args.from.now) (view.view_expr c.args.to.now) (view.view_stmts c.args.body.now)
-    c.in_ok-found.found c.take_loop.new.slot _ _ _ c.in_ok-counter.ensures.1 (loops.variable_is c.args.env.now c.args.place c.args.slot.now c.args.node c.args.variable.now c.in_ok-found.found c.in_ok-found.ensures.0 c.in_ok-found.ensures.1) c.in_ok-low.ensures
+    c.in_ok-found.found c.take_slots.new.slot _ _ _ c.in_ok-counter.ensures.taken.1 (loops.variable_is c.args.env.now c.args.place c.args.slot.now c.args.node c.args.variable.now c.in_ok-found.found c.in_ok-found.ensures.0 c.in_ok-found.ensures.1) c.in_ok-low.ensures
     (c.in_err-bounds.ensures (walk.judge_expr (scene_of c.args.env.now c.args.place) c.check_expr.new.slot (view.view_expr c.args.to.now)) _ c.check_expr-high.ensures))
 
 pub turns::check_some-returns : goal.turns::check_some-returns
 turns::check_some-returns t c =
     let b = c.in_ok-bounds.ensures (walk.judge_expr (scene_of c.args.env.now c.args.place) c.check_expr.new.slot (view.view_expr c.args.to.now)) c.check_expr-high.new.slot c.check_expr-high.ensures in
     loops.some_joined c.args.env.now c.args.place c.args.slot.now c.args.node c.args.variable.now (view.view_expr c.args.from.now) (view.view_expr c.args.to.now) (view.view_stmts c.args.body.now)
-    c.in_ok-found.found c.in_ok-counter.counter c.take_loop.new.slot c.check_expr.new.slot c.check_expr-high.new.slot _ _ c.in_ok-bounds.bounds _
-    c.in_ok-counter.ensures.0 c.in_ok-counter.ensures.1 (loops.variable_is c.args.env.now c.args.place c.args.slot.now c.args.node c.args.variable.now c.in_ok-found.found c.in_ok-found.ensures.0 c.in_ok-found.ensures.1) c.in_ok-low.ensures b.0 b.1
+    c.in_ok-found.found c.in_ok-counter.counter c.take_slots.new.slot c.check_expr.new.slot c.check_expr-high.new.slot _ _ c.in_ok-bounds.bounds _
+    c.in_ok-counter.ensures.taken.0 c.in_ok-counter.ensures.taken.1 (loops.variable_is c.args.env.now c.args.place c.args.slot.now c.args.node c.args.variable.now c.in_ok-found.found c.in_ok-found.ensures.0 c.in_ok-found.ensures.1) c.in_ok-low.ensures b.0 b.1
     (c.join_some.ensures (walk.judge_stmts (scene_of c.args.env.now c.args.place) c.check_expr-high.new.slot (view.view_stmts c.args.body.now)) c.args.slot.now c.check_expr.new.slot c.check_expr-high.new.slot _ c.check_stmts-body.ensures)
 
 -- ---- CASE
@@ -778,7 +783,7 @@ pub case::check_arm-returns-in_ok-labels-in-Labelled-clause-spans : goal.case::c
 case::check_arm-returns-in_ok-labels-in-Labelled-clause-spans t c =
     on_ok (spans_view c.settle.new.spans.items ≡ spans_view c.args.spans.now.items ++ (walk.judge_arm (scene_of c.args.env.now c.args.place) c.args.slot.now (typing_in c.args.case.now) (spans_view c.args.spans.now.items) (view.view_arm c.args.arm.now)).spans) c.join_arm.result (rw (c.in-Labelled.is, rows.labelled_is _ c.in-Labelled.first c.in-Labelled.more c.in-Labelled.body)
       (rw (cases.arm_spans (scene_of c.args.env.now c.args.place) c.args.slot.now _ (typing_in c.args.case.now) (spans_view c.args.spans.now.items) (view.view_label c.in-Labelled.first) (view.labels_of c.in-Labelled.more.items) (view.view_stmts c.in-Labelled.body) c.check_labels.new.slot (spans_in c.in_ok-labels-in-Labelled.labels) (rw c.deref.ensures.value at c.in_ok-labels-in-Labelled.ensures.judged))
-      (settled (spans_view c.args.spans.now.items) (spans_view c.check_labels.new.spans.items) (spans_view c.settle.new.spans.items) c.len-before.result c.in_ok-labels-in-Labelled.labels (c.len-before.ensures ∙ sym (spans_count c.args.spans.now.items)) c.in_ok-labels-in-Labelled.ensures.spans c.settle.ensures)))
+      (settled (spans_view c.args.spans.now.items) (spans_view c.check_labels.new.spans.items) (spans_view c.settle.new.spans.items) c.len-before.result c.in_ok-labels-in-Labelled.labels (omega (arith, c.len-before.ensures, c.args.spans.now.ok.0, spans_count c.args.spans.now.items)) c.in_ok-labels-in-Labelled.ensures.spans c.settle.ensures)))
 
 pub case::check_labels-returns-in_err-labels-clause-judged : goal.case::check_labels-returns-in_err-labels-clause-judged
 case::check_labels-returns-in_err-labels-clause-judged t c =
