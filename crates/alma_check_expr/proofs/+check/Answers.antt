@@ -4,7 +4,7 @@ use Rattle.alma_tree.specs.declared.phrase.Label as dl
 use Rattle.alma_ir.specs.View.{cases_list}
 use Rattle.alma_walk.specs.Arms.{arms_judged}
 use Rattle.alma_walk.proofs.Cases as cases
-use Rattle.alma_check_expr.proofs.Begins.{stops_as, node_is, err_if, err_on, on_ok}
+use Rattle.alma_check_expr.proofs.Begins.{from_nothing, stops_as, node_is, on_ok}
 use Rattle.alma_check_expr.proofs.Calls as calls
 use Rattle.alma_check_expr.proofs.Calls.{args_last}
 use Rattle.alma_check_expr.proofs.Empty.{empty_by, some_by}
@@ -15,7 +15,7 @@ use Rattle.alma_check_expr.proofs.Same.{kind_same}
 use Rattle.alma_tree.specs.declared.phrase.Compared as dc
 use Rattle.alma_tree.specs.declared.phrase.Exprs as dx
 use Rattle.alma_ir.specs.Tree as ir
-use Rattle.alma_ir.specs.View.{test_of, arg_of, args_list}
+use Rattle.alma_ir.specs.View.{test_of, arg_of, args_list, arms_list, branches_list}
 use Rattle.alma_rules.specs.Numbered as tree
 use Rattle.alma_rules.specs.View as view
 use Rattle.alma_rules.specs.Judged.{Judged, fine, of_value}
@@ -332,12 +332,12 @@ sequence::check_stmts-returns t c =
 pub sequence::check_more-loop-stmt-preserved : goal.sequence::check_more-loop-stmt-preserved
 sequence::check_more-loop-stmt-preserved t c =
     c.loop-stmt.invariant ∙ ap (onward_stmts (stmts_in c.loop-stmt.kept)) (stmts.stmts_next (scene_of c.args.env.now c.args.place) c.loop-stmt.slot c.loop-stmt.stmt-index c.args.more.now c.stmt-item.result c.loop-stmt-test.true c.stmt-item.is)
-    ∙ c.in_ok-add_stmts.ensures _ _ (λ m. walk.judge_stmt_tail (scene_of c.args.env.now c.args.place) m (view.stmts_of (drop (c.loop-stmt.stmt-index + 1) c.args.more.now))) c.check_stmt-next.ensures
+    ∙ c.in_ok-kept.ensures _ _ (λ m. walk.judge_stmt_tail (scene_of c.args.env.now c.args.place) m (view.stmts_of (drop (c.loop-stmt.stmt-index + 1) c.args.more.now))) c.check_stmt-next.ensures
 
-pub sequence::check_more-returns-in_err-add_stmts : goal.sequence::check_more-returns-in_err-add_stmts
-sequence::check_more-returns-in_err-add_stmts t c =
+pub sequence::check_more-returns-in_err-kept : goal.sequence::check_more-returns-in_err-kept
+sequence::check_more-returns-in_err-kept t c =
     passed _ stmts_of _ _ _ c.from_residual.ensures.1
-    (subst (λ (j : Judged _). Stops j.faults _) (sym (c.loop-stmt.invariant ∙ ap (onward_stmts (stmts_in c.loop-stmt.kept)) (stmts.stmts_next (scene_of c.args.env.now c.args.place) c.loop-stmt.slot c.loop-stmt.stmt-index c.args.more.now c.stmt-item.result c.loop-stmt-test.true c.stmt-item.is))) (c.in_err-add_stmts.ensures _ _ (λ m. walk.judge_stmt_tail (scene_of c.args.env.now c.args.place) m (view.stmts_of (drop (c.loop-stmt.stmt-index + 1) c.args.more.now))) c.check_stmt-next.ensures))
+    (stops_as _ _ _ (c.loop-stmt.invariant ∙ ap (onward_stmts (stmts_in c.loop-stmt.kept)) (stmts.stmts_next (scene_of c.args.env.now c.args.place) c.loop-stmt.slot c.loop-stmt.stmt-index c.args.more.now c.stmt-item.result c.loop-stmt-test.true c.stmt-item.is)) (c.in_err-kept.ensures _ _ (λ m. walk.judge_stmt_tail (scene_of c.args.env.now c.args.place) m (view.stmts_of (drop (c.loop-stmt.stmt-index + 1) c.args.more.now))) c.check_stmt-next.ensures))
 
 pub sequence::check_more-returns : goal.sequence::check_more-returns
 sequence::check_more-returns t c =
@@ -347,12 +347,12 @@ sequence::check_more-returns t c =
 pub input::check_reads-loop-desig-preserved : goal.input::check_reads-loop-desig-preserved
 input::check_reads-loop-desig-preserved t c =
     c.loop-desig.invariant ∙ ap (onward_stmts (stmts_in c.loop-desig.kept)) (stmts.reads_next (scene_of c.args.env.now c.args.place) c.loop-desig.slot c.loop-desig.desig-index c.args.more.now c.desig-item.result c.loop-desig-test.true c.desig-item.is)
-    ∙ c.in_ok-add_stmts.ensures _ _ (λ m. walk.judge_reads (scene_of c.args.env.now c.args.place) m (view.desigs_of (drop (c.loop-desig.desig-index + 1) c.args.more.now))) c.check_read_one-next.ensures
+    ∙ c.in_ok-kept.ensures _ _ (λ m. walk.judge_reads (scene_of c.args.env.now c.args.place) m (view.desigs_of (drop (c.loop-desig.desig-index + 1) c.args.more.now))) c.check_read_one-next.ensures
 
-pub input::check_reads-returns-in_err-add_stmts : goal.input::check_reads-returns-in_err-add_stmts
-input::check_reads-returns-in_err-add_stmts t c =
+pub input::check_reads-returns-in_err-kept : goal.input::check_reads-returns-in_err-kept
+input::check_reads-returns-in_err-kept t c =
     passed _ stmts_of _ _ _ c.from_residual.ensures.1
-    (subst (λ (j : Judged _). Stops j.faults _) (sym (c.loop-desig.invariant ∙ ap (onward_stmts (stmts_in c.loop-desig.kept)) (stmts.reads_next (scene_of c.args.env.now c.args.place) c.loop-desig.slot c.loop-desig.desig-index c.args.more.now c.desig-item.result c.loop-desig-test.true c.desig-item.is))) (c.in_err-add_stmts.ensures _ _ (λ m. walk.judge_reads (scene_of c.args.env.now c.args.place) m (view.desigs_of (drop (c.loop-desig.desig-index + 1) c.args.more.now))) c.check_read_one-next.ensures))
+    (stops_as _ _ _ (c.loop-desig.invariant ∙ ap (onward_stmts (stmts_in c.loop-desig.kept)) (stmts.reads_next (scene_of c.args.env.now c.args.place) c.loop-desig.slot c.loop-desig.desig-index c.args.more.now c.desig-item.result c.loop-desig-test.true c.desig-item.is)) (c.in_err-kept.ensures _ _ (λ m. walk.judge_reads (scene_of c.args.env.now c.args.place) m (view.desigs_of (drop (c.loop-desig.desig-index + 1) c.args.more.now))) c.check_read_one-next.ensures))
 
 pub input::check_reads-returns : goal.input::check_reads-returns
 input::check_reads-returns t c =
@@ -362,12 +362,12 @@ input::check_reads-returns t c =
 pub input::check_item_tail-loop-item-preserved : goal.input::check_item_tail-loop-item-preserved
 input::check_item_tail-loop-item-preserved t c =
     c.loop-item.invariant ∙ ap (onward_stmts (stmts_in c.loop-item.kept)) (stmts.items_next (scene_of c.args.env.now c.args.place) c.loop-item.slot c.loop-item.item-index c.args.more.now c.item-item.result c.loop-item-test.true c.item-item.is)
-    ∙ c.in_ok-add_stmts.ensures _ _ (λ m. walk.judge_item_tail (scene_of c.args.env.now c.args.place) m (view.exprs_of (drop (c.loop-item.item-index + 1) c.args.more.now))) c.check_item-next.ensures
+    ∙ c.in_ok-kept.ensures _ _ (λ m. walk.judge_item_tail (scene_of c.args.env.now c.args.place) m (view.exprs_of (drop (c.loop-item.item-index + 1) c.args.more.now))) c.check_item-next.ensures
 
-pub input::check_item_tail-returns-in_err-add_stmts : goal.input::check_item_tail-returns-in_err-add_stmts
-input::check_item_tail-returns-in_err-add_stmts t c =
+pub input::check_item_tail-returns-in_err-kept : goal.input::check_item_tail-returns-in_err-kept
+input::check_item_tail-returns-in_err-kept t c =
     passed _ stmts_of _ _ _ c.from_residual.ensures.1
-    (subst (λ (j : Judged _). Stops j.faults _) (sym (c.loop-item.invariant ∙ ap (onward_stmts (stmts_in c.loop-item.kept)) (stmts.items_next (scene_of c.args.env.now c.args.place) c.loop-item.slot c.loop-item.item-index c.args.more.now c.item-item.result c.loop-item-test.true c.item-item.is))) (c.in_err-add_stmts.ensures _ _ (λ m. walk.judge_item_tail (scene_of c.args.env.now c.args.place) m (view.exprs_of (drop (c.loop-item.item-index + 1) c.args.more.now))) c.check_item-next.ensures))
+    (stops_as _ _ _ (c.loop-item.invariant ∙ ap (onward_stmts (stmts_in c.loop-item.kept)) (stmts.items_next (scene_of c.args.env.now c.args.place) c.loop-item.slot c.loop-item.item-index c.args.more.now c.item-item.result c.loop-item-test.true c.item-item.is)) (c.in_err-kept.ensures _ _ (λ m. walk.judge_item_tail (scene_of c.args.env.now c.args.place) m (view.exprs_of (drop (c.loop-item.item-index + 1) c.args.more.now))) c.check_item-next.ensures))
 
 pub input::check_item_tail-returns : goal.input::check_item_tail-returns
 input::check_item_tail-returns t c =
@@ -377,12 +377,12 @@ input::check_item_tail-returns t c =
 pub branch::check_elsifs-loop-elsif-preserved : goal.branch::check_elsifs-loop-elsif-preserved
 branch::check_elsifs-loop-elsif-preserved t c =
     c.loop-elsif.invariant ∙ ap (onward_arms (arms_in c.loop-elsif.kept)) (stmts.elsifs_next (scene_of c.args.env.now c.args.place) c.loop-elsif.slot c.loop-elsif.elsif-index c.args.elsifs.now c.elsif-item.result c.loop-elsif-test.true c.elsif-item.is)
-    ∙ c.in_ok-add_guarded.ensures _ _ (λ m. walk.judge_elsifs (scene_of c.args.env.now c.args.place) m (view.elsifs_of (drop (c.loop-elsif.elsif-index + 1) c.args.elsifs.now))) c.check_guarded-arm.ensures
+    ∙ c.in_ok-kept.ensures _ _ (λ m. walk.judge_elsifs (scene_of c.args.env.now c.args.place) m (view.elsifs_of (drop (c.loop-elsif.elsif-index + 1) c.args.elsifs.now))) c.check_guarded-arm.ensures
 
-pub branch::check_elsifs-returns-in_err-add_guarded : goal.branch::check_elsifs-returns-in_err-add_guarded
-branch::check_elsifs-returns-in_err-add_guarded t c =
+pub branch::check_elsifs-returns-in_err-kept : goal.branch::check_elsifs-returns-in_err-kept
+branch::check_elsifs-returns-in_err-kept t c =
     passed _ arms_of _ _ _ c.from_residual.ensures.1
-    (subst (λ (j : Judged _). Stops j.faults _) (sym (c.loop-elsif.invariant ∙ ap (onward_arms (arms_in c.loop-elsif.kept)) (stmts.elsifs_next (scene_of c.args.env.now c.args.place) c.loop-elsif.slot c.loop-elsif.elsif-index c.args.elsifs.now c.elsif-item.result c.loop-elsif-test.true c.elsif-item.is))) (c.in_err-add_guarded.ensures _ _ (λ m. walk.judge_elsifs (scene_of c.args.env.now c.args.place) m (view.elsifs_of (drop (c.loop-elsif.elsif-index + 1) c.args.elsifs.now))) c.check_guarded-arm.ensures))
+    (stops_as _ _ _ (c.loop-elsif.invariant ∙ ap (onward_arms (arms_in c.loop-elsif.kept)) (stmts.elsifs_next (scene_of c.args.env.now c.args.place) c.loop-elsif.slot c.loop-elsif.elsif-index c.args.elsifs.now c.elsif-item.result c.loop-elsif-test.true c.elsif-item.is)) (c.in_err-kept.ensures _ _ (λ m. walk.judge_elsifs (scene_of c.args.env.now c.args.place) m (view.elsifs_of (drop (c.loop-elsif.elsif-index + 1) c.args.elsifs.now))) c.check_guarded-arm.ensures))
 
 pub branch::check_elsifs-returns : goal.branch::check_elsifs-returns
 branch::check_elsifs-returns t c =
@@ -392,12 +392,12 @@ branch::check_elsifs-returns t c =
 pub choice::check_orelses-loop-body-preserved : goal.choice::check_orelses-loop-body-preserved
 choice::check_orelses-loop-body-preserved t c =
     c.loop-body.invariant ∙ ap (onward_branches (branches_in c.loop-body.kept)) (stmts.orelses_next (scene_of c.args.env.now c.args.place) c.loop-body.slot c.loop-body.body-index c.args.more.now c.body-item.result c.loop-body-test.true c.body-item.is)
-    ∙ c.in_ok-add_branch.ensures _ _ (λ m. walk.judge_orelses (scene_of c.args.env.now c.args.place) m (view.orelses_of (drop (c.loop-body.body-index + 1) c.args.more.now))) c.check_stmts-stmts.ensures
+    ∙ c.in_ok-kept.ensures _ _ (λ m. walk.judge_orelses (scene_of c.args.env.now c.args.place) m (view.orelses_of (drop (c.loop-body.body-index + 1) c.args.more.now))) c.check_stmts-stmts.ensures
 
-pub choice::check_orelses-returns-in_err-add_branch : goal.choice::check_orelses-returns-in_err-add_branch
-choice::check_orelses-returns-in_err-add_branch t c =
+pub choice::check_orelses-returns-in_err-kept : goal.choice::check_orelses-returns-in_err-kept
+choice::check_orelses-returns-in_err-kept t c =
     passed _ branches_of _ _ _ c.from_residual.ensures.1
-    (subst (λ (j : Judged _). Stops j.faults _) (sym (c.loop-body.invariant ∙ ap (onward_branches (branches_in c.loop-body.kept)) (stmts.orelses_next (scene_of c.args.env.now c.args.place) c.loop-body.slot c.loop-body.body-index c.args.more.now c.body-item.result c.loop-body-test.true c.body-item.is))) (c.in_err-add_branch.ensures _ _ (λ m. walk.judge_orelses (scene_of c.args.env.now c.args.place) m (view.orelses_of (drop (c.loop-body.body-index + 1) c.args.more.now))) c.check_stmts-stmts.ensures))
+    (stops_as _ _ _ (c.loop-body.invariant ∙ ap (onward_branches (branches_in c.loop-body.kept)) (stmts.orelses_next (scene_of c.args.env.now c.args.place) c.loop-body.slot c.loop-body.body-index c.args.more.now c.body-item.result c.loop-body-test.true c.body-item.is)) (c.in_err-kept.ensures _ _ (λ m. walk.judge_orelses (scene_of c.args.env.now c.args.place) m (view.orelses_of (drop (c.loop-body.body-index + 1) c.args.more.now))) c.check_stmts-stmts.ensures))
 
 pub choice::check_orelses-returns : goal.choice::check_orelses-returns
 choice::check_orelses-returns t c =
@@ -411,7 +411,7 @@ sequence::check_assign-returns-in_err-located t c =
 
 pub sequence::check_assign-returns : goal.sequence::check_assign-returns
 sequence::check_assign-returns t c =
-    stmts.assign_fine (scene_of c.args.env.now c.args.place) c.args.slot.now c.args.node (view.view_desig c.args.target.now) (view.view_expr c.args.value.now) stmts_of _ _ _ _ c.in_ok-located.ensures (c.join_assign.ensures _ _ _ c.check_expr-typed.ensures)
+    stmts.assign_fine (scene_of c.args.env.now c.args.place) c.args.slot.now c.args.node (view.view_desig c.args.target.now) (view.view_expr c.args.value.now) stmts_of _ _ _ _ c.in_ok-located.ensures (c.join_assign.ensures _ c.check_place.new.slot _ c.check_expr-typed.ensures)
 
 pub sequence::check_place-returns : goal.sequence::check_place-returns
 sequence::check_place-returns t c =
@@ -419,7 +419,7 @@ sequence::check_place-returns t c =
 
 pub sequence::check_condition-returns : goal.sequence::check_condition-returns
 sequence::check_condition-returns t c =
-    c.join_condition.ensures (walk.judge_expr (scene_of c.args.env.now c.args.place) c.args.slot.now (view.view_expr c.args.test.now)) _ c.check_expr-typed.ensures
+    rw (node_is c.args.test.now) (c.join_condition.ensures (walk.judge_expr (scene_of c.args.env.now c.args.place) c.args.slot.now (view.view_expr c.args.test.now)) _ c.check_expr-typed.ensures)
 
 pub sequence::check_value-returns : goal.sequence::check_value-returns
 sequence::check_value-returns t c =
@@ -432,7 +432,7 @@ branch::check_guarded-returns-in_err-test t c =
 
 pub branch::check_guarded-returns : goal.branch::check_guarded-returns
 branch::check_guarded-returns t c =
-    first_fine (λ (j : Judged (ir.Test × ir.Stmts)). j) _ (nodes.condition_at (scene_of c.args.env.now c.args.place) (view.view_expr c.args.test.now) (walk.judge_expr (scene_of c.args.env.now c.args.place) c.args.slot.now (view.view_expr c.args.test.now))) (λ m. walk.judge_stmts (scene_of c.args.env.now c.args.place) m (view.view_stmts c.args.then.now)) guarded_of _ _ _ _ refl c.in_ok-test.ensures (c.join_guarded.ensures _ _ _ c.check_stmts-body.ensures)
+    first_fine (λ (j : Judged (ir.Test × ir.Stmts)). j) _ (nodes.condition_at (scene_of c.args.env.now c.args.place) (view.view_expr c.args.test.now) (walk.judge_expr (scene_of c.args.env.now c.args.place) c.args.slot.now (view.view_expr c.args.test.now))) (λ m. walk.judge_stmts (scene_of c.args.env.now c.args.place) m (view.view_stmts c.args.then.now)) guarded_of _ _ _ _ refl c.in_ok-test.ensures (c.join_guarded.ensures _ c.check_condition.new.slot _ c.check_stmts-body.ensures)
 
 pub branch::check_while-returns-in_err-test : goal.branch::check_while-returns-in_err-test
 branch::check_while-returns-in_err-test t c =
@@ -441,7 +441,7 @@ branch::check_while-returns-in_err-test t c =
 
 pub branch::check_while-returns : goal.branch::check_while-returns
 branch::check_while-returns t c =
-    stmts.while_fine (scene_of c.args.env.now c.args.place) c.args.slot.now c.args.node (view.view_expr c.args.test.now) (view.view_stmts c.args.body.now) stmts_of _ _ _ _ c.in_ok-test.ensures (c.join_while.ensures _ _ _ c.check_stmts-body.ensures)
+    stmts.while_fine (scene_of c.args.env.now c.args.place) c.args.slot.now c.args.node (view.view_expr c.args.test.now) (view.view_stmts c.args.body.now) stmts_of _ _ _ _ c.in_ok-test.ensures (c.join_while.ensures _ c.check_condition.new.slot _ c.check_stmts-body.ensures)
 
 pub branch::check_repeat-returns-in_err-body : goal.branch::check_repeat-returns-in_err-body
 branch::check_repeat-returns-in_err-body t c =
@@ -450,7 +450,7 @@ branch::check_repeat-returns-in_err-body t c =
 
 pub branch::check_repeat-returns : goal.branch::check_repeat-returns
 branch::check_repeat-returns t c =
-    stmts.repeat_fine (scene_of c.args.env.now c.args.place) c.args.slot.now c.args.node (view.view_stmts c.args.body.now) (view.view_expr c.args.test.now) stmts_of _ _ _ _ c.in_ok-body.ensures (c.join_repeat.ensures _ _ _ c.check_condition-test.ensures)
+    stmts.repeat_fine (scene_of c.args.env.now c.args.place) c.args.slot.now c.args.node (view.view_stmts c.args.body.now) (view.view_expr c.args.test.now) stmts_of _ _ _ _ c.in_ok-body.ensures (c.join_repeat.ensures _ c.check_stmts.new.slot _ c.check_condition-test.ensures)
 
 pub choice::check_forall-returns-in_err-choice : goal.choice::check_forall-returns-in_err-choice
 choice::check_forall-returns-in_err-choice t c =
@@ -459,7 +459,7 @@ choice::check_forall-returns-in_err-choice t c =
 
 pub choice::check_forall-returns : goal.choice::check_forall-returns
 choice::check_forall-returns t c =
-    stmts.forall_fine (scene_of c.args.env.now c.args.place) c.args.slot.now c.args.node (view.view_stmts c.args.choice.now) (view.view_stmts c.args.body.now) stmts_of _ _ _ _ c.in_ok-choice.ensures (c.join_forall.ensures _ _ _ c.check_stmts-body.ensures)
+    stmts.forall_fine (scene_of c.args.env.now c.args.place) c.args.slot.now c.args.node (view.view_stmts c.args.choice.now) (view.view_stmts c.args.body.now) stmts_of _ _ _ _ c.in_ok-choice.ensures (c.join_forall.ensures _ c.check_stmts.new.slot _ c.check_stmts-body.ensures)
 
 pub choice::check_commit-returns : goal.choice::check_commit-returns
 choice::check_commit-returns t c =
@@ -475,12 +475,14 @@ branch::check_if-returns-in_err-arms t c =
 pub branch::check_if-returns-in_err-arms-2 : goal.branch::check_if-returns-in_err-arms-2
 branch::check_if-returns-in_err-arms-2 t c =
     passed _ stmts_of _ _ _ c.from_residual-in_err-arms-2.ensures.1
-    (stmts.if_arms_stops (scene_of c.args.env.now c.args.place) c.args.slot.now c.args.node (view.view_expr c.args.test.now) (view.view_stmts c.args.then.now) (view.elsifs_of c.args.elsifs.now) (view.else_of c.args.otherwise.now) _ (arms_in c.in_ok-arms.arms) _ (c.in_ok-arms.ensures (stmts.guarded (scene_of c.args.env.now c.args.place) c.args.slot.now (view.view_expr c.args.test.now) (view.view_stmts c.args.then.now)) _ (λ m. walk.judge_elsifs (scene_of c.args.env.now c.args.place) m (view.elsifs_of c.args.elsifs.now)) c.check_guarded-first.ensures) c.in_err-arms-2.ensures)
+    (stmts.if_arms_stops (scene_of c.args.env.now c.args.place) c.args.slot.now c.args.node (view.view_expr c.args.test.now) (view.view_stmts c.args.then.now) (view.elsifs_of c.args.elsifs.now) (view.else_of c.args.otherwise.now) _ (arms_in c.in_ok-arms.arms) _ (from_nothing append_arms ir.no_arms (arms_in (Some c.new.result)) _ _ (ap (λ l. Some (arms_list l)) c.new.ensures.items)
+    (c.in_ok-arms.ensures (stmts.guarded (scene_of c.args.env.now c.args.place) c.args.slot.now (view.view_expr c.args.test.now) (view.view_stmts c.args.then.now)) _ (λ m. walk.judge_elsifs (scene_of c.args.env.now c.args.place) m (view.elsifs_of c.args.elsifs.now)) c.check_guarded-first.ensures)) c.in_err-arms-2.ensures)
 
 pub branch::check_if-returns : goal.branch::check_if-returns
 branch::check_if-returns t c =
-    stmts.if_fine (scene_of c.args.env.now c.args.place) c.args.slot.now c.args.node (view.view_expr c.args.test.now) (view.view_stmts c.args.then.now) (view.elsifs_of c.args.elsifs.now) (view.else_of c.args.otherwise.now) _ _ _ (arms_in c.in_ok-arms.arms) (arms_in c.in_ok-arms-2.arms) stmts_of _ (c.in_ok-arms.ensures (stmts.guarded (scene_of c.args.env.now c.args.place) c.args.slot.now (view.view_expr c.args.test.now) (view.view_stmts c.args.then.now)) _ (λ m. walk.judge_elsifs (scene_of c.args.env.now c.args.place) m (view.elsifs_of c.args.elsifs.now)) c.check_guarded-first.ensures) c.in_ok-arms-2.ensures
-    (c.join_if.ensures _ _ _ c.check_else-other.ensures)
+    stmts.if_fine (scene_of c.args.env.now c.args.place) c.args.slot.now c.args.node (view.view_expr c.args.test.now) (view.view_stmts c.args.then.now) (view.elsifs_of c.args.elsifs.now) (view.else_of c.args.otherwise.now) _ _ _ (arms_in c.in_ok-arms.arms) (arms_in c.in_ok-arms-2.arms) stmts_of _ (from_nothing append_arms ir.no_arms (arms_in (Some c.new.result)) _ _ (ap (λ l. Some (arms_list l)) c.new.ensures.items)
+    (c.in_ok-arms.ensures (stmts.guarded (scene_of c.args.env.now c.args.place) c.args.slot.now (view.view_expr c.args.test.now) (view.view_stmts c.args.then.now)) _ (λ m. walk.judge_elsifs (scene_of c.args.env.now c.args.place) m (view.elsifs_of c.args.elsifs.now)) c.check_guarded-first.ensures)) c.in_ok-arms-2.ensures
+    (c.join_if.ensures _ c.check_elsifs.new.slot _ c.check_else-other.ensures)
 
 pub branch::check_else-returns-in-None : goal.branch::check_else-returns-in-None
 branch::check_else-returns-in-None t c =
@@ -496,7 +498,8 @@ choice::check_either-returns-in_err-branches t c =
 
 pub choice::check_either-returns : goal.choice::check_either-returns
 choice::check_either-returns t c =
-    rw (stmts.either_whole (scene_of c.args.env.now c.args.place) c.args.slot.now c.args.node (view.view_stmts c.args.first.now) (view.orelses_of c.args.more.now)) (c.join_either.ensures _ _ (answers_as _ _ branches_of _ _ (c.in_ok-branches.ensures (walk.judge_stmts (scene_of c.args.env.now c.args.place) c.args.slot.now (view.view_stmts c.args.first.now)) _ (λ m. walk.judge_orelses (scene_of c.args.env.now c.args.place) m (view.orelses_of c.args.more.now)) c.check_stmts-first.ensures) c.check_orelses-branches.ensures))
+    rw (stmts.either_whole (scene_of c.args.env.now c.args.place) c.args.slot.now c.args.node (view.view_stmts c.args.first.now) (view.orelses_of c.args.more.now)) (c.join_either.ensures _ _ (answers_as _ _ branches_of _ _ (from_nothing append_branches ir.no_branches (branches_in (Some c.new.result)) _ _ (ap (λ l. Some (branches_list l)) c.new.ensures.items)
+    (c.in_ok-branches.ensures (walk.judge_stmts (scene_of c.args.env.now c.args.place) c.args.slot.now (view.view_stmts c.args.first.now)) _ (λ m. walk.judge_orelses (scene_of c.args.env.now c.args.place) m (view.orelses_of c.args.more.now)) c.check_stmts-first.ensures)) c.check_orelses-branches.ensures))
 
 pub input::check_return-returns-in-None : goal.input::check_return-returns-in-None
 input::check_return-returns-in-None t c =
@@ -538,7 +541,7 @@ input::check_writeln-returns-in-None t c =
 
 pub input::check_writeln-returns-in-Some : goal.input::check_writeln-returns-in-Some
 input::check_writeln-returns-in-Some t c =
-    rw (c.in-Some.is, stmts.writeln_is (scene_of c.args.env.now c.args.place) c.args.slot.now c.args.node _) (c.join_line.ensures _ _ c.check_line_items-stmts.ensures)
+    rw (c.in-Some.is, stmts.writeln_is (scene_of c.args.env.now c.args.place) c.args.slot.now c.args.node _) (c.join_line-in-Some.ensures _ _ c.check_line_items-stmts.ensures)
 
 pub input::check_line_items-returns-in-None : goal.input::check_line_items-returns-in-None
 input::check_line_items-returns-in-None t c =
@@ -554,7 +557,7 @@ turns::check_by-returns-in-None t c =
 
 pub turns::check_by-returns-in-Some : goal.turns::check_by-returns-in-Some
 turns::check_by-returns-in-Some t c =
-    rw (c.in-Some.is, stmts.by_some (scene_of c.args.env.now c.args.place) c.args.slot.now (view.view_expr c.in-Some.by)) (c.join_step.ensures _ _ c.check_expr-typed.ensures)
+    rw (c.in-Some.is, stmts.by_some (scene_of c.args.env.now c.args.place) c.args.slot.now (view.view_expr c.in-Some.by), node_is c.in-Some.by) (c.join_step.ensures _ _ c.check_expr-typed.ensures)
 
 -- ---- arguments
 
@@ -615,6 +618,11 @@ input::check_item-returns-in-Some t c =
 
 -- ---- FOR and SOME
 
+pub turns::check_for-join_for-requires : goal.turns::check_for-join_for-requires
+turns::check_for-join_for-requires t c = record {
+  limit = omega (arith, c.in_ok-counter.ensures.0, c.in_ok-counter.ensures.1, c.take_loop.auto.slot);
+}
+
 pub turns::check_for-returns-in_err-counter : goal.turns::check_for-returns-in_err-counter
 turns::check_for-returns-in_err-counter t c =
     passed _ stmts_of _ _ _ c.from_residual.ensures.1 (rw c.in_err-counter.ensures tt)
@@ -654,6 +662,11 @@ turns::check_for-returns t c =
     c.in_ok-found.found c.in_ok-counter.counter c.take_loop.new.slot c.check_expr.new.slot c.check_expr-high.new.slot c.check_by-step.new.slot _ _ c.in_ok-bounds.bounds c.in_ok-turns.turns _
     c.in_ok-counter.ensures.0 c.in_ok-counter.ensures.1 (loops.variable_is c.args.env.now c.args.place c.args.slot.now c.args.node c.args.variable.now c.in_ok-found.found c.in_ok-found.ensures.0 c.in_ok-found.ensures.1) c.in_ok-low.ensures b.0 b.1 y.0 y.1 y.2
     (c.join_for.ensures (walk.judge_stmts (scene_of c.args.env.now c.args.place) c.check_by-step.new.slot (view.view_stmts c.args.body.now)) c.args.slot.now c.check_expr.new.slot c.check_expr-high.new.slot c.check_by-step.new.slot _ c.check_stmts-body.ensures)
+
+pub turns::check_some-join_some-requires : goal.turns::check_some-join_some-requires
+turns::check_some-join_some-requires t c = record {
+  limit = omega (arith, c.in_ok-counter.ensures.0, c.in_ok-counter.ensures.1, c.take_loop.auto.slot);
+}
 
 pub turns::check_some-returns-in_err-counter : goal.turns::check_some-returns-in_err-counter
 turns::check_some-returns-in_err-counter t c =
@@ -726,16 +739,16 @@ case::check_arms-loop-arm-init t c =
 
 pub case::check_arms-loop-arm-preserved : goal.case::check_arms-loop-arm-preserved
 case::check_arms-loop-arm-preserved t c =
-    let new = of_ok c.check_arm-next.result _ c.in_ok-add_cases.ensures.all_judged c.check_arm-next.ensures.spans in
+    let new = of_ok c.check_arm-next.result (spans_view c.check_arm-next.new.spans.items ≡ spans_view c.loop-arm.spans.items ++ (walk.judge_arm (scene_of c.args.env.now c.args.place) c.loop-arm.slot (typing_in c.args.case.now) (spans_view c.loop-arm.spans.items) (view.view_arm c.arm-item.result)).spans) c.in_ok-arms-2.ensures.all_judged c.check_arm-next.ensures.spans in
     c.loop-arm.invariant ∙ ap (onward_cases (cases_in c.loop-arm.arms)) (arms_turn (scene_of c.args.env.now c.args.place) c.loop-arm.slot c.loop-arm.arm-index (typing_in c.args.case.now) (spans_view c.loop-arm.spans.items) (spans_view c.check_arm-next.new.spans.items) c.args.more.now c.arm-item.result c.loop-arm-test.true c.arm-item.is new)
-    ∙ c.in_ok-add_cases.ensures.judged (walk.judge_arm (scene_of c.args.env.now c.args.place) c.loop-arm.slot (typing_in c.args.case.now) (spans_view c.loop-arm.spans.items) (view.view_arm c.arm-item.result)).arm _
+    ∙ c.in_ok-arms-2.ensures.judged (walk.judge_arm (scene_of c.args.env.now c.args.place) c.loop-arm.slot (typing_in c.args.case.now) (spans_view c.loop-arm.spans.items) (view.view_arm c.arm-item.result)).arm _
     (λ m. walk.judge_arm_tail (scene_of c.args.env.now c.args.place) m (typing_in c.args.case.now) (spans_view c.check_arm-next.new.spans.items) (view.arms_of (drop (c.loop-arm.arm-index + 1) c.args.more.now))) c.check_arm-next.ensures.judged
 
-pub case::check_arms-returns-in_err-add_cases : goal.case::check_arms-returns-in_err-add_cases
-case::check_arms-returns-in_err-add_cases t c =
-    passed _ cases_of _ _ _ c.from_residual-in_err-add_cases.ensures.1
+pub case::check_arms-returns-in_err-arms-2 : goal.case::check_arms-returns-in_err-arms-2
+case::check_arms-returns-in_err-arms-2 t c =
+    passed _ cases_of _ _ _ c.from_residual-in_err-arms-2.ensures.1
     (stops_as _ _ _ (c.loop-arm.invariant ∙ ap (onward_cases (cases_in c.loop-arm.arms)) (arms_turn (scene_of c.args.env.now c.args.place) c.loop-arm.slot c.loop-arm.arm-index (typing_in c.args.case.now) (spans_view c.loop-arm.spans.items) _ c.args.more.now c.arm-item.result c.loop-arm-test.true c.arm-item.is refl))
-    (c.in_err-add_cases.ensures.judged (walk.judge_arm (scene_of c.args.env.now c.args.place) c.loop-arm.slot (typing_in c.args.case.now) (spans_view c.loop-arm.spans.items) (view.view_arm c.arm-item.result)).arm _
+    (c.in_err-arms-2.ensures.judged (walk.judge_arm (scene_of c.args.env.now c.args.place) c.loop-arm.slot (typing_in c.args.case.now) (spans_view c.loop-arm.spans.items) (view.view_arm c.arm-item.result)).arm _
     (λ m. walk.judge_arm_tail (scene_of c.args.env.now c.args.place) m (typing_in c.args.case.now) (spans_view c.loop-arm.spans.items ++ (walk.judge_arm (scene_of c.args.env.now c.args.place) c.loop-arm.slot (typing_in c.args.case.now) (spans_view c.loop-arm.spans.items) (view.view_arm c.arm-item.result)).spans) (view.arms_of (drop (c.loop-arm.arm-index + 1) c.args.more.now))) c.check_arm-next.ensures.judged))
 
 pub case::check_arms-returns : goal.case::check_arms-returns
@@ -749,56 +762,52 @@ case::check_arm-returns-in-Empty t c = record {
   spans = rw (c.in-Empty.is, cases.empty_spans (scene_of c.args.env.now c.args.place) c.args.slot.now _ (typing_in c.args.case.now) (spans_view c.args.spans.now.items)) (sym (nothing_behind (spans_view c.args.spans.now.items)));
 }
 
-pub case::check_arm-returns-in_err-labels-in-Labelled : goal.case::check_arm-returns-in_err-labels-in-Labelled
-case::check_arm-returns-in_err-labels-in-Labelled t c = record {
-  judged = passed _ cases_of _ _ _ c.from_residual.ensures.1
+pub case::check_arm-returns-in_err-labels-in-Labelled-clause-judged : goal.case::check_arm-returns-in_err-labels-in-Labelled-clause-judged
+case::check_arm-returns-in_err-labels-in-Labelled-clause-judged t c =
+    passed _ cases_of _ _ _ c.from_residual.ensures.1
       (rw (c.in-Labelled.is, rows.labelled_is _ c.in-Labelled.first c.in-Labelled.more c.in-Labelled.body)
-      (cases.arm_stops (scene_of c.args.env.now c.args.place) c.args.slot.now _ (typing_in c.args.case.now) (spans_view c.args.spans.now.items) (view.view_label c.in-Labelled.first) (view.labels_of c.in-Labelled.more.items) (view.view_stmts c.in-Labelled.body) _ (rw c.deref.ensures.value at c.in_err-labels-in-Labelled.ensures.judged)));
-  spans = err_on _ _ _ c.from_residual.ensures.1;
-}
+      (cases.arm_stops (scene_of c.args.env.now c.args.place) c.args.slot.now _ (typing_in c.args.case.now) (spans_view c.args.spans.now.items) (view.view_label c.in-Labelled.first) (view.labels_of c.in-Labelled.more.items) (view.view_stmts c.in-Labelled.body) _ (rw c.deref.ensures.value at c.in_err-labels-in-Labelled.ensures.judged)))
 
-pub case::check_arm-returns-in_ok-labels-in-Labelled : goal.case::check_arm-returns-in_ok-labels-in-Labelled
-case::check_arm-returns-in_ok-labels-in-Labelled t c = record {
-  judged = rw (c.in-Labelled.is, rows.labelled_is _ c.in-Labelled.first c.in-Labelled.more c.in-Labelled.body)
+pub case::check_arm-returns-in_ok-labels-in-Labelled-clause-judged : goal.case::check_arm-returns-in_ok-labels-in-Labelled-clause-judged
+case::check_arm-returns-in_ok-labels-in-Labelled-clause-judged t c =
+    rw (c.in-Labelled.is, rows.labelled_is _ c.in-Labelled.first c.in-Labelled.more c.in-Labelled.body)
       (rw (cases.arm_fine (scene_of c.args.env.now c.args.place) c.args.slot.now _ (typing_in c.args.case.now) (spans_view c.args.spans.now.items) (view.view_label c.in-Labelled.first) (view.labels_of c.in-Labelled.more.items) (view.view_stmts c.in-Labelled.body) c.check_labels.new.slot (spans_in c.in_ok-labels-in-Labelled.labels) (rw c.deref.ensures.value at c.in_ok-labels-in-Labelled.ensures.judged))
-      (c.join_arm.ensures (walk.judge_stmts (scene_of c.args.env.now c.args.place) c.check_labels.new.slot (view.view_stmts c.in-Labelled.body)) c.check_labels.new.slot _ c.check_stmts-body.ensures));
-  spans = on_ok _ _ (rw (c.in-Labelled.is, rows.labelled_is _ c.in-Labelled.first c.in-Labelled.more c.in-Labelled.body)
-      (rw (cases.arm_spans (scene_of c.args.env.now c.args.place) c.args.slot.now _ (typing_in c.args.case.now) (spans_view c.args.spans.now.items) (view.view_label c.in-Labelled.first) (view.labels_of c.in-Labelled.more.items) (view.view_stmts c.in-Labelled.body) c.check_labels.new.slot (spans_in c.in_ok-labels-in-Labelled.labels) (rw c.deref.ensures.value at c.in_ok-labels-in-Labelled.ensures.judged))
-      (settled (spans_view c.args.spans.now.items) (spans_view c.check_labels.new.spans.items) (spans_view c.settle.new.spans.items) c.len-before.result c.in_ok-labels-in-Labelled.labels (c.len-before.ensures ∙ sym (spans_count c.args.spans.now.items)) c.in_ok-labels-in-Labelled.ensures.spans c.settle.ensures)));
-}
+      (c.join_arm.ensures (walk.judge_stmts (scene_of c.args.env.now c.args.place) c.check_labels.new.slot (view.view_stmts c.in-Labelled.body)) c.check_labels.new.slot _ c.check_stmts-body.ensures))
 
-pub case::check_labels-returns-in_err-labels : goal.case::check_labels-returns-in_err-labels
-case::check_labels-returns-in_err-labels t c = record {
-  judged = passed _ spans_of _ _ _ c.from_residual.ensures.1
+pub case::check_arm-returns-in_ok-labels-in-Labelled-clause-spans : goal.case::check_arm-returns-in_ok-labels-in-Labelled-clause-spans
+case::check_arm-returns-in_ok-labels-in-Labelled-clause-spans t c =
+    on_ok (spans_view c.settle.new.spans.items ≡ spans_view c.args.spans.now.items ++ (walk.judge_arm (scene_of c.args.env.now c.args.place) c.args.slot.now (typing_in c.args.case.now) (spans_view c.args.spans.now.items) (view.view_arm c.args.arm.now)).spans) c.join_arm.result (rw (c.in-Labelled.is, rows.labelled_is _ c.in-Labelled.first c.in-Labelled.more c.in-Labelled.body)
+      (rw (cases.arm_spans (scene_of c.args.env.now c.args.place) c.args.slot.now _ (typing_in c.args.case.now) (spans_view c.args.spans.now.items) (view.view_label c.in-Labelled.first) (view.labels_of c.in-Labelled.more.items) (view.view_stmts c.in-Labelled.body) c.check_labels.new.slot (spans_in c.in_ok-labels-in-Labelled.labels) (rw c.deref.ensures.value at c.in_ok-labels-in-Labelled.ensures.judged))
+      (settled (spans_view c.args.spans.now.items) (spans_view c.check_labels.new.spans.items) (spans_view c.settle.new.spans.items) c.len-before.result c.in_ok-labels-in-Labelled.labels (c.len-before.ensures ∙ sym (spans_count c.args.spans.now.items)) c.in_ok-labels-in-Labelled.ensures.spans c.settle.ensures)))
+
+pub case::check_labels-returns-in_err-labels-clause-judged : goal.case::check_labels-returns-in_err-labels-clause-judged
+case::check_labels-returns-in_err-labels-clause-judged t c =
+    passed _ spans_of _ _ _ c.from_residual.ensures.1
       (stops_as _ _ _ (labels_begin (scene_of c.args.env.now c.args.place) c.args.slot.now (typing_in c.args.case.now) (spans_view c.args.spans.now.items) _ (view.view_label c.args.first.now) (view.labels_of c.args.more.now) (spans_in (Some c.new.result)) (ap (λ l. Some (spans_view l)) c.new.ensures.items) refl)
       (c.in_err-labels.ensures.judged (walk.judge_label (scene_of c.args.env.now c.args.place) c.args.slot.now (typing_in c.args.case.now) (spans_view c.args.spans.now.items) (view.view_label c.args.first.now)) _
-      (λ m. walk.judge_labels (scene_of c.args.env.now c.args.place) m (typing_in c.args.case.now) ((spans_view c.args.spans.now.items) ++ option_to_list (walk.judge_label (scene_of c.args.env.now c.args.place) c.args.slot.now (typing_in c.args.case.now) (spans_view c.args.spans.now.items) (view.view_label c.args.first.now)).value) (view.labels_of c.args.more.now)) (rw c.deref.ensures.value at c.check_label-span.ensures)));
-  spans = err_if _ _ _ c.from_residual.ensures.1;
-}
+      (λ m. walk.judge_labels (scene_of c.args.env.now c.args.place) m (typing_in c.args.case.now) ((spans_view c.args.spans.now.items) ++ option_to_list (walk.judge_label (scene_of c.args.env.now c.args.place) c.args.slot.now (typing_in c.args.case.now) (spans_view c.args.spans.now.items) (view.view_label c.args.first.now)).value) (view.labels_of c.args.more.now)) (rw c.deref.ensures.value at c.check_label-span.ensures)))
 
 pub case::check_labels-loop-label-init : goal.case::check_labels-loop-label-init
 case::check_labels-loop-label-init t c =
     let new = c.in_ok-labels.ensures.earlier (walk.judge_label (scene_of c.args.env.now c.args.place) c.args.slot.now (typing_in c.args.case.now) (spans_view c.args.spans.now.items) (view.view_label c.args.first.now)) c.check_label-span.new.slot (rw c.deref.ensures.value at c.check_label-span.ensures) in (
-      labels_begin (scene_of c.args.env.now c.args.place) c.args.slot.now (typing_in c.args.case.now) (spans_view c.args.spans.now.items) _ (view.view_label c.args.first.now) (view.labels_of c.args.more.now) (spans_in (Some c.new.result)) (ap (λ l. Some (spans_view l)) c.new.ensures.items) new
-          ∙ c.in_ok-labels.ensures.judged (walk.judge_label (scene_of c.args.env.now c.args.place) c.args.slot.now (typing_in c.args.case.now) (spans_view c.args.spans.now.items) (view.view_label c.args.first.now)) c.check_label-span.new.slot (λ m. walk.judge_labels (scene_of c.args.env.now c.args.place) m (typing_in c.args.case.now) _ (view.labels_of c.args.more.now)) (rw c.deref.ensures.value at c.check_label-span.ensures),
+      labels_begin (scene_of c.args.env.now c.args.place) c.args.slot.now (typing_in c.args.case.now) (spans_view c.args.spans.now.items) (spans_view c.add_label.new.earlier.items) (view.view_label c.args.first.now) (view.labels_of c.args.more.now) (spans_in (Some c.new.result)) (ap (λ l. Some (spans_view l)) c.new.ensures.items) new
+          ∙ c.in_ok-labels.ensures.judged (walk.judge_label (scene_of c.args.env.now c.args.place) c.args.slot.now (typing_in c.args.case.now) (spans_view c.args.spans.now.items) (view.view_label c.args.first.now)) c.check_label-span.new.slot (λ m. walk.judge_labels (scene_of c.args.env.now c.args.place) m (typing_in c.args.case.now) (spans_view c.add_label.new.earlier.items) (view.labels_of c.args.more.now)) (rw c.deref.ensures.value at c.check_label-span.ensures),
       c.in_ok-labels.ensures.grown (spans_view c.args.spans.now.items) (grown_begin (spans_view c.args.spans.now.items) (spans_in (Some c.new.result)) (ap (λ l. Some (spans_view l)) c.new.ensures.items)),
     )
 
 pub case::check_labels-loop-label-preserved : goal.case::check_labels-loop-label-preserved
 case::check_labels-loop-label-preserved t c =
-    let new = c.in_ok-add_label.ensures.earlier (walk.judge_label (scene_of c.args.env.now c.args.place) c.loop-label.slot (typing_in c.args.case.now) (spans_view c.loop-label.spans.items) (view.view_label c.label-item.result)) c.check_label-span-in-loop-label.new.slot (rw c.deref-in-loop-label.ensures.value at c.check_label-span-in-loop-label.ensures) in (
-      c.loop-label.invariant.0 ∙ ap (onward_spans (spans_in c.loop-label.labels)) (labels_turn (scene_of c.args.env.now c.args.place) c.loop-label.slot c.loop-label.label-index (typing_in c.args.case.now) (spans_view c.loop-label.spans.items) _ c.args.more.now c.label-item.result c.loop-label-test.true c.label-item.is new)
-          ∙ c.in_ok-add_label.ensures.judged (walk.judge_label (scene_of c.args.env.now c.args.place) c.loop-label.slot (typing_in c.args.case.now) (spans_view c.loop-label.spans.items) (view.view_label c.label-item.result)) c.check_label-span-in-loop-label.new.slot (λ m. walk.judge_labels (scene_of c.args.env.now c.args.place) m (typing_in c.args.case.now) _ (view.labels_of (drop (c.loop-label.label-index + 1) c.args.more.now))) (rw c.deref-in-loop-label.ensures.value at c.check_label-span-in-loop-label.ensures),
-      c.in_ok-add_label.ensures.grown (spans_view c.args.spans.now.items) c.loop-label.invariant.1,
+    let new = c.in_ok-labels-2.ensures.earlier (walk.judge_label (scene_of c.args.env.now c.args.place) c.loop-label.slot (typing_in c.args.case.now) (spans_view c.loop-label.spans.items) (view.view_label c.label-item.result)) c.check_label-span-in-loop-label.new.slot (rw c.deref-in-loop-label.ensures.value at c.check_label-span-in-loop-label.ensures) in (
+      c.loop-label.invariant.0 ∙ ap (onward_spans (spans_in c.loop-label.labels)) (labels_turn (scene_of c.args.env.now c.args.place) c.loop-label.slot c.loop-label.label-index (typing_in c.args.case.now) (spans_view c.loop-label.spans.items) (spans_view c.add_label-in-loop-label.new.earlier.items) c.args.more.now c.label-item.result c.loop-label-test.true c.label-item.is new)
+          ∙ c.in_ok-labels-2.ensures.judged (walk.judge_label (scene_of c.args.env.now c.args.place) c.loop-label.slot (typing_in c.args.case.now) (spans_view c.loop-label.spans.items) (view.view_label c.label-item.result)) c.check_label-span-in-loop-label.new.slot (λ m. walk.judge_labels (scene_of c.args.env.now c.args.place) m (typing_in c.args.case.now) (spans_view c.add_label-in-loop-label.new.earlier.items) (view.labels_of (drop (c.loop-label.label-index + 1) c.args.more.now))) (rw c.deref-in-loop-label.ensures.value at c.check_label-span-in-loop-label.ensures),
+      c.in_ok-labels-2.ensures.grown (spans_view c.args.spans.now.items) c.loop-label.invariant.1,
     )
 
-pub case::check_labels-returns-in_err-add_label : goal.case::check_labels-returns-in_err-add_label
-case::check_labels-returns-in_err-add_label t c = record {
-  judged = passed _ spans_of _ _ _ c.from_residual-in_err-add_label.ensures.1
+pub case::check_labels-returns-in_err-labels-2-clause-judged : goal.case::check_labels-returns-in_err-labels-2-clause-judged
+case::check_labels-returns-in_err-labels-2-clause-judged t c =
+    passed _ spans_of _ _ _ c.from_residual-in_err-labels-2.ensures.1
       (stops_as _ _ _ (c.loop-label.invariant.0 ∙ ap (onward_spans (spans_in c.loop-label.labels)) (labels_turn (scene_of c.args.env.now c.args.place) c.loop-label.slot c.loop-label.label-index (typing_in c.args.case.now) (spans_view c.loop-label.spans.items) _ c.args.more.now c.label-item.result c.loop-label-test.true c.label-item.is refl))
-      (c.in_err-add_label.ensures.judged (walk.judge_label (scene_of c.args.env.now c.args.place) c.loop-label.slot (typing_in c.args.case.now) (spans_view c.loop-label.spans.items) (view.view_label c.label-item.result)) _ (λ m. walk.judge_labels (scene_of c.args.env.now c.args.place) m (typing_in c.args.case.now) ((spans_view c.loop-label.spans.items) ++ option_to_list (walk.judge_label (scene_of c.args.env.now c.args.place) c.loop-label.slot (typing_in c.args.case.now) (spans_view c.loop-label.spans.items) (view.view_label c.label-item.result)).value) (view.labels_of (drop (c.loop-label.label-index + 1) c.args.more.now))) (rw c.deref-in-loop-label.ensures.value at c.check_label-span-in-loop-label.ensures)));
-  spans = err_if _ _ _ c.from_residual-in_err-add_label.ensures.1;
-}
+      (c.in_err-labels-2.ensures.judged (walk.judge_label (scene_of c.args.env.now c.args.place) c.loop-label.slot (typing_in c.args.case.now) (spans_view c.loop-label.spans.items) (view.view_label c.label-item.result)) _ (λ m. walk.judge_labels (scene_of c.args.env.now c.args.place) m (typing_in c.args.case.now) ((spans_view c.loop-label.spans.items) ++ option_to_list (walk.judge_label (scene_of c.args.env.now c.args.place) c.loop-label.slot (typing_in c.args.case.now) (spans_view c.loop-label.spans.items) (view.view_label c.label-item.result)).value) (view.labels_of (drop (c.loop-label.label-index + 1) c.args.more.now))) (rw c.deref-in-loop-label.ensures.value at c.check_label-span-in-loop-label.ensures)))
 
 pub case::check_labels-returns : goal.case::check_labels-returns
 case::check_labels-returns t c = record {
