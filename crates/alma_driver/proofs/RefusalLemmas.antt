@@ -16,7 +16,7 @@ use Rattle.alma_ir.specs.Tree.{Program}
 use Rattle.alma_rules.specs.Judged.{Broken, least}
 use Rattle.alma_rules.specs.View.{view_module}
 use Rattle.alma_rules.specs.Modules.{resolved, check_fault, first_token_of}
-use Rattle.alma_numbered.proofs.Numbered.{one_tree}
+use Rattle.alma_numbered.proofs.One.{one_tree_of_a_spelling}
 use Rattle.alma_tree.specs.Depth.{opens, closes, one_where, depth_from, depth}
 use Rattle.alma_grammar.specs.Laws.{Stops, Begins, IsProgram}
 use Rattle.alma_scan.specs.declared.scanner.Token.{Token}
@@ -261,7 +261,7 @@ same_tree source s t m n a b =
     let same : s ≡ t = tokens_once (length source) source s t a.whole.scanned b.whole.scanned in
     record {
       tokens = same;
-      trees = one_tree m n (length s) (sym a.whole.spelled ∙ ap kinds same ∙ b.whole.spelled) a.whole.numbered (subst (λ (ts : List Lexeme). IsNumbered n (length ts)) (sym same) b.whole.numbered);
+      trees = one_tree_of_a_spelling m n (length s) (sym a.whole.spelled ∙ ap kinds same ∙ b.whole.spelled) a.whole.numbered (subst (λ (ts : List Lexeme). IsNumbered n (length ts)) (sym same) b.whole.numbered);
     }
 
 one_check_fault : (source : List ℕ) (fault other : CheckFault) (at place : ℕ) → CheckFaultAt source fault at → CheckFaultAt source other place
