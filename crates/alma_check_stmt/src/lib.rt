@@ -1,0 +1,4 @@
+//! stub
+#![tactic(auto)]
+mod module;
+pub use module::check;
