@@ -39,7 +39,7 @@ returns-in-Exec-clause-course g c =
     (sink_side (g.O.Sink.written c.exec_object.new.out) (g.O.Sink.faults c.exec_object.new.out)) c.exec_object.result c.exec_object.ensures)
 
 pub check_only-requires : goal.check_only-requires
-check_only-requires g c = rw c.in-Check.is at c.requires.short
+check_only-requires g c = record { short = rw c.in-Check.is at c.requires.short }
 
 pub returns-in-Check-clause-course : goal.returns-in-Check-clause-course
 returns-in-Check-clause-course g c =
