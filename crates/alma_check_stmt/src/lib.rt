@@ -1,4 +1,0 @@
-//! stub
-#![tactic(auto)]
-mod module;
-pub use module::check;
