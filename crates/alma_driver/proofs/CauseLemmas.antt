@@ -91,11 +91,11 @@ input_reads left code steps stats due (taken input some is short e) q = code_due
 input_reads left code steps stats due (past_input some more e) q = cc (sym (ap (λ (d : Due). d.end) e) ∙ q)
 
 program_reads : (left : Option (List ℕ)) (p : Program) (steps : ℕ) (stats : Bool) (due : Due) → ProgramOutcome left p steps stats due → due.end ≡ ReadFault → ⊥
-program_reads left p steps stats due (ran code size sound implements o) q = input_reads left code steps stats due o q
+program_reads left p steps stats due (ran code size sound implements reads o) q = input_reads left code steps stats due o q
 program_reads left p steps stats due (too_much_code size e) q = cc (sym (ap (λ (d : Due). d.end) e) ∙ q)
 
 compile_reads : (p : Program) (object : List ℕ) (due : Due) → CompileOutcome p object due → due.end ≡ ReadFault → ⊥
-compile_reads p object due (made code bytes size sound implements is e) q = cc (sym (ap (λ (d : Due). d.end) e) ∙ q)
+compile_reads p object due (made code bytes size sound implements reads is e) q = cc (sym (ap (λ (d : Due). d.end) e) ∙ q)
 compile_reads p object due (past_size size e) q = cc (sym (ap (λ (d : Due). d.end) e) ∙ q)
 
 source_end_reads : (source : List ℕ) (end : End) → IsSourceEnd source end → end ≡ ReadFault → ⊥
@@ -147,7 +147,7 @@ not_stored due stored none some = cc (none, some)
 
 -- a call that stores succeeds
 compile_succeeds : (p : Program) (object : List ℕ) (due : Due) (stored : Stored) → CompileOutcome p object due → due.stored ≡ Some stored → due.end ≡ Succeeded None
-compile_succeeds p object due stored (made code bytes size sound implements is e) s = ap (λ (d : Due). d.end) e
+compile_succeeds p object due stored (made code bytes size sound implements reads is e) s = ap (λ (d : Due). d.end) e
 compile_succeeds p object due stored (past_size size e) s = absurd (not_stored due stored (ap (λ (d : Due). d.stored) e) s)
 
 source_succeeds : (source object : List ℕ) (due : Due) (stored : Stored) → SourceOutcome source (λ p. CompileOutcome p object) due → due.stored ≡ Some stored

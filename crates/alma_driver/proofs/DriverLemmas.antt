@@ -32,6 +32,9 @@ use Rattle.alma_whole.specs.Bytes.{object_code}
 use Rattle.alma_lower.specs.declared.lowering.LowerError.{LowerError}
 use Rattle.alma_lower.specs.declared.lowering.LowerError.TheVariants as lower
 use Rattle.alma_implements.specs.Implements.{Implements}
+use Rattle.alma_sound.specs.Reads.{code_reads, program_reads, HasLabels}
+use Rattle.alma_resolved_labels.proofs.Labels.{program_has_labels}
+use Rattle.alma_rules.specs.View.{view_module}
 use Rattle.alma_words.specs.Words.{Request, Check, Compile, Listing, Run, Exec, Trace, Sample, Asks, Reads}
 use Rattle.alma_driver.specs.Words.{is_built, read_by, limit_of}
 use Rattle.alma_driver.specs.Outside.{SinkSide, SourceSide, FilesSide, FilesStay}
@@ -184,6 +187,10 @@ pub runs_stopped : (source : List ℕ) (P : Program → Due → Type 0) (i : Sou
 runs_stopped source P i a end (inl e) = subst (Runs (SourceOutcome source P) i i a a) (sym e) (runs_starved (SourceOutcome source P) i a)
 runs_stopped source P i a end (inr h) = runs_source_end source P i a end h
 
+-- the program of a source has a label in each arm
+pub labels_of : (source : List ℕ) (p : Program) → IsProgramOf source p → HasLabels p
+labels_of source p is = program_has_labels source is.tokens (view_module is.tree) p is.program
+
 -- a source whose program was run
 pub runs_read : (source : List ℕ) (P : Program → Due → Type 0) (p : Program) (i j : SourceSide) (a b : SinkSide) (end : End) → IsProgramOf source p
     → Runs (P p) i j a b end → Runs (SourceOutcome source P) i j a b end
@@ -235,9 +242,9 @@ compiled_within p code too_much = by (cases_lt size_limit (size_of p))
 
 -- a program that was compiled and run
 pub runs_compiled : (p : Program) (code : PlainCode) (steps : ℕ) (stats : Bool) (i j : SourceSide) (a b : SinkSide) (end : End) → IsSound code → Implements code p
-    → size_of p ≤ size_limit → Runs (InputOutcome i.left code steps stats) i j a b end → Runs (ProgramOutcome i.left p steps stats) i j a b end
-runs_compiled p code steps stats i j a b end sound implements within g =
-    runs_map (InputOutcome i.left code steps stats) (ProgramOutcome i.left p steps stats) (λ due o. ran code within sound implements o) i j a b end g
+    → code_reads code ≡ program_reads p → size_of p ≤ size_limit → Runs (InputOutcome i.left code steps stats) i j a b end → Runs (ProgramOutcome i.left p steps stats) i j a b end
+runs_compiled p code steps stats i j a b end sound implements reads within g =
+    runs_map (InputOutcome i.left code steps stats) (ProgramOutcome i.left p steps stats) (λ due o. ran code within sound implements reads o) i j a b end g
 
 -- ---- listing
 
@@ -376,11 +383,11 @@ works_after P f m f' a b end s (inr (failed due stored o is gains fails e)) =
 
 -- a program that was compiled and stored
 pub works_compiled : (p : Program) (code : PlainCode) (object : List ℕ) (f f' : FilesSide) (a : SinkSide) (end : End) → IsSound code → Implements code p
-    → KeepsVersion code → KeepsCounts code → KeepsRecords code → size_of p ≤ size_limit
+    → code_reads code ≡ program_reads p → KeepsVersion code → KeepsCounts code → KeepsRecords code → size_of p ≤ size_limit
     → Works (IsStoring object (object_bytes code)) f f' a a end → Works (CompileOutcome p object) f f' a a end
-works_compiled p code object f f' a end sound implements version counts records within w =
+works_compiled p code object f f' a end sound implements reads version counts records within w =
     let is : IsObject code (object_bytes code) = record { version = version; counts = counts; records = records; table = sound.table; spelled = refl } in
-    works_map (IsStoring object (object_bytes code)) (CompileOutcome p object) (λ due e. made code (object_bytes code) within sound implements is e) f f' a a end w
+    works_map (IsStoring object (object_bytes code)) (CompileOutcome p object) (λ due e. made code (object_bytes code) within sound implements reads is e) f f' a a end w
 
 -- a program that was not compiled is not stored
 pub works_refused : (p : Program) (object : List ℕ) (error : LowerError) (f : FilesSide) (a : SinkSide) → IsUnlowered p error
@@ -419,7 +426,7 @@ input_keeps left code steps stats due (taken bytes q l s e) = ap (λ (d : Due). 
 input_keeps left code steps stats due (past_input q m e) = ap (λ (d : Due). d.stored) e
 
 program_keeps : (left : Option (List ℕ)) (p : Program) (steps : ℕ) (stats : Bool) (due : Due) → ProgramOutcome left p steps stats due → due.stored ≡ None
-program_keeps left p steps stats due (ran code size sound implements o) = input_keeps left code steps stats due o
+program_keeps left p steps stats due (ran code size sound implements reads o) = input_keeps left code steps stats due o
 program_keeps left p steps stats due (too_much_code size e) = ap (λ (d : Due). d.stored) e
 
 pub run_keeps : (left : Option (List ℕ)) (source : List ℕ) (steps : ℕ) (stats : Bool) (due : Due) → SourceOutcome source (λ p. ProgramOutcome left p steps stats) due
@@ -436,7 +443,7 @@ list_still bytes due (listed clean is e) = ap (λ (d : Due). d.reads) e
 list_still bytes due (no_object fault is e) = ap (λ (d : Due). d.reads) e
 
 program_still : (p : Program) (object : List ℕ) (due : Due) → CompileOutcome p object due → due.reads ≡ false
-program_still p object due (made code bytes size sound implements is e) = ap (λ (d : Due). d.reads) e
+program_still p object due (made code bytes size sound implements reads is e) = ap (λ (d : Due). d.reads) e
 program_still p object due (past_size size e) = ap (λ (d : Due). d.reads) e
 
 compile_still : (source object : List ℕ) (due : Due) → SourceOutcome source (λ p. CompileOutcome p object) due → due.reads ≡ false
