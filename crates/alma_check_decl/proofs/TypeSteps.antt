@@ -1,6 +1,6 @@
 -- What is told of a type whose parts have been read: one equation for each clause of the rules of types.
-use Rattle.std.proofs.Common.{◌≡◌, ℕ, ◌+◌, ◌<◌, ◌≤◌, List, [], ◌∷◌, ◌++◌, Option, None, Some, length, get_or, drop, refl, sym, ap, subst, ◌∙◌, append_assoc, append-nil, Vec, Global, Box, Result, Ok, Err}
-use Rattle.std.specs.Prelude.{option_map, IfOk}
+use Rattle.std.proofs.Common.{◌≡◌, ℕ, ◌+◌, ◌<◌, ◌≤◌, List, [], ◌++◌, Option, None, Some, length, get_or, drop, refl, sym, ap, subst, ◌∙◌, append-nil, Vec, Global, Box, Result, Ok, Err}
+use Rattle.std.specs.Prelude.{IfOk}
 use Rattle.alma_tree.specs.declared.type_node.PlainType as dq
 use Rattle.alma_tree.specs.declared.type_node.Dimensions as dv
 use Rattle.alma_tree.specs.declared.type_node.FieldList as dw
@@ -10,12 +10,12 @@ use Rattle.alma_tree.specs.declared.leaf.Names.{Names}
 use Rattle.alma_names.specs.Shapes.{PlainField}
 use Rattle.alma_rules.specs.Numbered as tree
 use Rattle.alma_rules.specs.View as view
-use Rattle.alma_rules.specs.Judged.{Broken, both_of}
+use Rattle.alma_rules.specs.Judged.{Broken}
 use Rattle.alma_rules.specs.Scene.{Scene}
 use Rattle.alma_rules.specs.Types as types
 use Rattle.std.proofs.lemmas.List.{drop_all}
 use Rattle.alma_walk.proofs.Exprs.{next_of}
-use Rattle.alma_check_reader.specs.Told.{Told, told, told_both, told_with, told_at, told_change, told_index, told_type, told_sub, earlier, onward, join, alone, a_told}
+use Rattle.alma_check_reader.specs.Told.{Told, told, told_both, told_with, told_at, told_index, told_type, onward, join, alone, a_told}
 use Rattle.alma_check_reader.specs.Fields.{ToldFields, Knows, nothing_told, shaped, joined, told_on, told_list, told_record}
 use Rattle.alma_check_decl.proofs.TypeRows.{type_is, record_is}
 use Rattle.alma_check_decl.proofs.TypeTokens.{type_tokens}

@@ -3,13 +3,12 @@ use Rattle.std.proofs.Common.{◌≡◌, ℕ, List, [], ◌∷◌, ◌++◌, Boo
 use Rattle.std.specs.Prelude.{true, false, option_map, option_and_then, pos, nat_eq, length}
 use Rattle.alma_base.specs.Choice.{if_true}
 use Rattle.alma_base.specs.declared.fault.CheckFault.{CheckFault}
-use Rattle.alma_tree.specs.declared.leaf.Relation.{Relation}
 use Rattle.alma_tree.specs.declared.leaf.Sign.{Sign}
 use Rattle.alma_ir.specs.Tree as ir
 use Rattle.alma_rules.specs.Numbered as tree
-use Rattle.alma_rules.specs.Judged.{Judged, Broken, at_node, broken_at, unless, both_of, both, with, with_some, fine}
-use Rattle.alma_rules.specs.Scene.{Scene, FormalOf, found, in_constant, inside_of, text_at, literal_at, row_at}
-use Rattle.alma_rules.specs.Parts.{Typing, Located, Denoted, denoted, a_constant, a_variable, a_routine, no_array, Operands, Span, select_in, select_index, located_in, write_stmts, one_stmt}
+use Rattle.alma_rules.specs.Judged.{Judged, Broken, at_node, broken_at, unless, both_of, both, with, fine}
+use Rattle.alma_rules.specs.Scene.{Scene, FormalOf, found, in_constant, inside_of, literal_at, row_at}
+use Rattle.alma_rules.specs.Parts.{Typing, Denoted, denoted, a_constant, a_variable, a_routine, no_array, Operands, Span, select_in, select_index, located_in, write_stmts, one_stmt}
 use Rattle.alma_rules.specs.ExprRules.{as_variable, as_value, as_procedure, Use, Operand, array_rules}
 use Rattle.alma_rules.specs.StmtRules.{write_rules}
 use Rattle.alma_rules.specs.Nodes.{condition_at, read_at, first_add, first_mul, indexed, in_parens, as_sequence, or_sequence, only_of, argument_count, formals_of, sum_at, product_at, loop_variable, text_item, item_of, item_literal, text_rules}

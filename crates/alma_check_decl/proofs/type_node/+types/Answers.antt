@@ -1,12 +1,8 @@
-use Rattle.std.proofs.Common.{◌≡◌, ap, sym, subst, ◌∙◌}
-use Rattle.alma_tree.specs.declared.type_node.PlainType as dq
-use Rattle.alma_tree.specs.declared.type_node.Arrays as dz
-use Rattle.alma_rules.specs.Numbered as tree
-use Rattle.alma_rules.specs.Scene.{Scene}
+use Rattle.std.proofs.Common.{ap, sym, subst, ◌∙◌}
 use Rattle.alma_rules.specs.Types as types
 use Rattle.alma_rules.specs.View as view
 use Rattle.alma_check_rules.specs.Views.{scene_of, somewhere}
-use Rattle.alma_check_reader.specs.Told.{told, told_index, onward, fault_of, items_in, tells_of, formed_of, items_of}
+use Rattle.alma_check_reader.specs.Told.{told, fault_of, items_in, tells_of, formed_of}
 use Rattle.alma_check_reader.specs.Fields.{Knows, told_fields}
 use Rattle.alma_check_decl.proofs.Constants.{ok_as}
 use Rattle.alma_check_decl.proofs.TypeSteps as steps
