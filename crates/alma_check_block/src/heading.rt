@@ -43,6 +43,12 @@ fn all_formals(alloc: Global, formals: &[Option<Formal>]) -> Result<Option<Vec<F
     Ok(Some(all))
 }
 
+fn copy_params(alloc: Global, params: &[Param]) -> Result<Vec<Param>, NoMemory>
+    ensures { IfOk result (λ v. v.items ≡ params.now) }
+{
+    Ok(params.to_vec(alloc)?)
+}
+
 // The heading of a frame in which no rule is broken.
 fn form_heading(
     alloc: Global,
@@ -61,7 +67,7 @@ fn form_heading(
         Some(formals) => Ok(Some(Heading {
             formals,
             result: returns,
-            params: frame.params.as_slice().to_vec(alloc)?,
+            params: copy_params(alloc, &frame.params)?,
         })),
     }
 }
