@@ -98,7 +98,7 @@ pub formal_pushed : (s : Scene) (x : Frame) (v : Vec (Option CodeFormal) Global)
     → v.items ≡ x.formals.items ++ o ∷ [] → shown s (record x { formals = v }) ≡ told_frame (rules.with_formal g (option_map formal_view o))
 formal_pushed s x v o g h e =
     let all : formals_view v.items ≡ g.formals ++ option_map formal_view o ∷ [] =
-        ap (λ xs. formals_view xs) e ∙ map-append (λ z. option_map formal_view z) x.formals.items (o ∷ []) ∙ ap (λ xs. xs ++ option_map formal_view o ∷ []) (ap (λ (u : ToldFrame). u.formals) h) in
+    ap (λ xs. formals_view xs) e ∙ map-append (λ z. option_map formal_view z) x.formals.items (o ∷ []) ∙ ap (λ xs. xs ++ option_map formal_view o ∷ []) (ap (λ (u : ToldFrame). u.formals) h) in
     ap (λ (u : ToldFrame). let y : ToldFrame = record u { formals = formals_view v.items } in y) h
     ∙ ap (λ xs. let y : ToldFrame = record (told_frame g) { formals = xs } in y) all
 

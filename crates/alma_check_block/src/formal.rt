@@ -138,7 +138,9 @@ fn declare_shaped(
         (Some shape) (view.view_name name.now))) }
 {
     place_param(alloc, reader, frame, name, from, mode, shape)?;
-    frame.formals.push(Some(alma_check_rules::Formal { mode, shape }))?;
+    frame
+        .formals
+        .push(Some(alma_check_rules::Formal { mode, shape }))?;
     Ok(())
 }
 

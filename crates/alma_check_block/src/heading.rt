@@ -153,11 +153,7 @@ fn too_deep(reader: &Reader, node: u32) -> Option<Broken>
 }
 
 // The heading of a procedure that stands too deep is Bad.
-fn at_depth(
-    frame: &mut Frame,
-    deep: Option<Broken>,
-    heading: Option<Heading>,
-) -> Option<Heading>
+fn at_depth(frame: &mut Frame, deep: Option<Broken>, heading: Option<Heading>) -> Option<Heading>
     ensures frame { (s : Scene) (h : rules.Headed) (faults : List Rule) (node : ℕ)
         → shown s frame.old ≡ told_frame h.frame → fault_of deep ≡ first (broken_at node faults)
         → shown s frame.new ≡ told_frame (rules.with_depth faults node h).frame }

@@ -64,9 +64,7 @@ fn declare_routine(
         Decl::Const { .. } => Ok(()),
         Decl::Type { .. } => Ok(()),
         Decl::Var { .. } => Ok(()),
-        Decl::Procedure { name, .. } => {
-            reader.declare(alloc, name, 0, Entry::Routine(number))
-        }
+        Decl::Procedure { name, .. } => { reader.declare(alloc, name, 0, Entry::Routine(number)) }
     }
 }
 

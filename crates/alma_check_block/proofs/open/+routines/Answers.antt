@@ -20,8 +20,13 @@ count_in-returns-in_ok-count_routines-in-Procedure t c =
 
 pub count_routines-loop-decl-preserved : goal.count_routines-loop-decl-preserved
 count_routines-loop-decl-preserved t c =
-    omega (arith, c.loop-decl.invariant, c.in_ok-count.ensures, c.in_ok-count_in.ensures,
-    count_on c.args.block.now.decls.items c.loop-decl.decl-index c.decl-item.result (rw c.deref-decl-items.ensures.value at c.loop-decl-test.true) (rw c.deref-decl-items.ensures.value at c.decl-item.is))
+    omega (
+      arith,
+      c.loop-decl.invariant,
+      c.in_ok-count.ensures,
+      c.in_ok-count_in.ensures,
+      count_on c.args.block.now.decls.items c.loop-decl.decl-index c.decl-item.result (rw c.deref-decl-items.ensures.value at c.loop-decl-test.true) (rw c.deref-decl-items.ensures.value at c.decl-item.is),
+    )
 
 pub count_routines-returns : goal.count_routines-returns
 count_routines-returns t c =
