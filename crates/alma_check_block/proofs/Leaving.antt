@@ -1,5 +1,5 @@
 -- A heading is read in a block of its own: behind that block the scene is as it was.
-use Rattle.std.proofs.Common.{◌≡◌, ℕ, zero, suc, ◌+◌, ◌-◌, ◌<◌, Bool, true, false, List, [], ◌∷◌, ◌++◌, Option, None, Some, length, take, get_or, set, refl, sym, ap, subst, ◌∙◌, arith}
+use Rattle.std.proofs.Common.{◌≡◌, ℕ, suc, ◌+◌, ◌-◌, ◌<◌, Bool, true, false, List, [], ◌∷◌, ◌++◌, Option, None, Some, length, take, get_or, set, refl, sym, ap, subst, ◌∙◌, arith}
 use Rattle.std.specs.Prelude.{if◌then◌else◌}
 use Rattle.std.proofs.lemmas.List.{take_at}
 use Rattle.alma_base.specs.Choice.{if_true}
@@ -7,14 +7,13 @@ use Rattle.alma_base.specs.declared.fault.CheckFault.{CheckFault}
 use Rattle.alma_tree.specs.declared.leaf.Mode.{Mode}
 use Rattle.alma_names.specs.declared.block.Entry.{Entry}
 use Rattle.alma_names.specs.declared.block.Entry.TheVariants as entry
-use Rattle.alma_names.specs.Blocks.{DeclaredName, shape_id}
+use Rattle.alma_names.specs.Blocks.{shape_id}
 use Rattle.alma_names.specs.Scopes.{Blocks, with_declared, with_new_block, without_top_block}
 use Rattle.alma_rules.specs.Numbered as tree
 use Rattle.alma_rules.specs.Judged.{broken_at}
-use Rattle.alma_rules.specs.Scene.{Scene, Returns, nothing, a_value, Heading, is_first, is_structured, text_at}
+use Rattle.alma_rules.specs.Scene.{Scene, Returns, nothing, Heading, is_first, is_structured, text_at}
 use Rattle.alma_rules.specs.Types as types
 use Rattle.alma_rules.specs.Decls as rules
-use Rattle.alma_rules.specs.Judged.{Broken}
 use Rattle.alma_check_reader.specs.Around.{Outer, outer_of, left}
 use Rattle.alma_check_reader.specs.Told.{fault_of}
 use Rattle.alma_rules.specs.Answers.{first}

@@ -1,4 +1,4 @@
-use Rattle.std.proofs.Common.{◌≡◌, ap, sym, ◌∙◌}
+use Rattle.std.proofs.Common.{ap, sym, ◌∙◌}
 use Rattle.alma_rules.specs.View as view
 use Rattle.alma_rules.specs.Judged.{broken_at}
 use Rattle.alma_rules.specs.Types.{redeclared}

@@ -1,4 +1,4 @@
-use Rattle.std.proofs.Common.{◌≡◌, ap, ◌∙◌}
+use Rattle.std.proofs.Common.{ap, ◌∙◌}
 use Rattle.alma_rules.specs.Judged.{broken_at}
 use Rattle.alma_rules.specs.Decls as rules
 use Rattle.alma_check_block.specs.Shown.{told_frame}

@@ -1,5 +1,4 @@
-use Rattle.std.proofs.Common.{◌≡◌, List, None, Some, map, ap, sym, ◌∙◌}
-use Rattle.alma_ir.specs.declared.program.Param.{Param}
+use Rattle.std.proofs.Common.{None, Some, map, ap, sym, ◌∙◌}
 use Rattle.alma_rules.specs.Scene.{Heading}
 use Rattle.alma_check_rules.specs.Views.{formal_view}
 use Rattle.alma_check_block.proofs.Headings.{heading_broken, heading_is}

@@ -1,4 +1,4 @@
-use Rattle.std.proofs.Common.{◌≡◌, ◌+◌, sym, ap, ◌∙◌, arith}
+use Rattle.std.proofs.Common.{◌+◌, sym, ap, ◌∙◌, arith}
 use Rattle.alma_rules.specs.View as view
 use Rattle.alma_rules.specs.Decls as rules
 use Rattle.alma_check_block.proofs.Opening.{count_on, count_end, block_count, const_count, type_count, var_count, procedure_count, some_to}

@@ -1,4 +1,3 @@
-use Rattle.std.proofs.Common.{◌≡◌}
 use Rattle.alma_rules.specs.View as view
 use Rattle.alma_check_block.proofs.Opening.{opened_by}
 use Rattle.alma_check_block.proofs.open.open_block.Goals as goal
