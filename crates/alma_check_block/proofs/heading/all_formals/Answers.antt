@@ -1,4 +1,4 @@
-use Rattle.std.proofs.Common.{None, sym, ◌∙◌}
+use Rattle.std.proofs.Common.{sym, ◌∙◌}
 use Rattle.alma_check_block.proofs.Headings.{formals_begin, formals_next, formals_bad, formals_end, formal_at, formal_is}
 use Rattle.alma_check_block.proofs.heading.all_formals.Goals as goal
 
