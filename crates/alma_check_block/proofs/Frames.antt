@@ -1,9 +1,8 @@
 -- What is told of a frame as declarations are read, one more at a time.
-use Rattle.std.proofs.Common.{◌≡◌, ℕ, suc, ◌+◌, ◌<◌, ◌≤◌, List, [], ◌∷◌, ◌++◌, Option, None, Some, Bool, true, false, length, get_or, take, map, refl, sym, ap, subst, ◌∙◌, append-nil, Vec, Global, true≢false, arith}
+use Rattle.std.proofs.Common.{◌≡◌, ℕ, ◌+◌, ◌<◌, List, [], ◌∷◌, ◌++◌, Option, None, Some, Bool, true, false, length, get_or, take, refl, sym, ap, subst, ◌∙◌, append-nil, Vec, Global, true≢false, arith}
 use Rattle.std.specs.Prelude.{option_map}
 use Rattle.std.proofs.lemmas.List.{take_more, map-append}
 use Rattle.alma_base.specs.Choice.{if_true}
-use Rattle.alma_base.specs.declared.fault.CheckFault.TheVariants as fault
 use Rattle.alma_tree.specs.declared.leaf.Mode.{Mode}
 use Rattle.alma_tree.specs.declared.leaf.Name.{Name}
 use Rattle.alma_tree.specs.declared.module.ConstEntry.{ConstEntry}
@@ -15,9 +14,9 @@ use Rattle.alma_names.specs.declared.block.Entry.{Entry}
 use Rattle.alma_names.specs.declared.block.Entry.TheVariants as entry
 use Rattle.alma_rules.specs.Numbered as tree
 use Rattle.alma_rules.specs.View as view
-use Rattle.alma_rules.specs.Judged.{Broken, broken_at, when}
+use Rattle.alma_rules.specs.Judged.{Broken, broken_at}
 use Rattle.alma_rules.specs.Answers.{first}
-use Rattle.alma_rules.specs.Scene.{Scene, FormalOf, is_first, is_structured}
+use Rattle.alma_rules.specs.Scene.{Scene, is_first, is_structured}
 use Rattle.alma_rules.specs.Types as types
 use Rattle.alma_rules.specs.Decls as rules
 use Rattle.alma_check_rules.specs.declared.env.Formal.{Formal as CodeFormal}
@@ -98,7 +97,7 @@ pub formal_pushed : (s : Scene) (x : Frame) (v : Vec (Option CodeFormal) Global)
     → v.items ≡ x.formals.items ++ o ∷ [] → shown s (record x { formals = v }) ≡ told_frame (rules.with_formal g (option_map formal_view o))
 formal_pushed s x v o g h e =
     let all : formals_view v.items ≡ g.formals ++ option_map formal_view o ∷ [] =
-        ap (λ xs. formals_view xs) e ∙ map-append (λ z. option_map formal_view z) x.formals.items (o ∷ []) ∙ ap (λ xs. xs ++ option_map formal_view o ∷ []) (ap (λ (u : ToldFrame). u.formals) h) in
+    ap (λ xs. formals_view xs) e ∙ map-append (λ z. option_map formal_view z) x.formals.items (o ∷ []) ∙ ap (λ xs. xs ++ option_map formal_view o ∷ []) (ap (λ (u : ToldFrame). u.formals) h) in
     ap (λ (u : ToldFrame). let y : ToldFrame = record u { formals = formals_view v.items } in y) h
     ∙ ap (λ xs. let y : ToldFrame = record (told_frame g) { formals = xs } in y) all
 

@@ -1,21 +1,17 @@
 -- Headings: where no rule is broken in them, and where they stand too deep.
-use Rattle.std.proofs.Common.{◌≡◌, ℕ, ◌+◌, ◌<◌, ◌≤◌, List, [], ◌∷◌, ◌++◌, Option, None, Some, Bool, true, false, length, get_or, drop, map, refl, sym, ap, ◌∙◌, append_assoc, append-nil, Vec, Global, Result, Ok, Err, true≢false}
+use Rattle.std.proofs.Common.{◌≡◌, ℕ, ◌+◌, ◌<◌, ◌≤◌, List, [], ◌∷◌, ◌++◌, Option, None, Some, true, false, length, get_or, drop, map, refl, sym, ap, ◌∙◌, append_assoc, append-nil, Vec, Global, Result, Ok, Err, true≢false}
 use Rattle.std.specs.Prelude.{option_map, is_some, IfOk, OnOk}
 use Rattle.std.proofs.lemmas.List.{drop_all, map-append, get_or_default}
 use Rattle.alma_base.specs.declared.fault.CheckFault.{CheckFault}
-use Rattle.alma_ir.specs.declared.program.Param.{Param}
-use Rattle.alma_rules.specs.Numbered as tree
 use Rattle.alma_rules.specs.Judged.{Broken, broken_at, unbroken}
 use Rattle.alma_rules.specs.Answers.{first}
 use Rattle.alma_rules.specs.Scene.{Scene, Heading, FormalOf, nothing, a_value}
-use Rattle.alma_rules.specs.Types as types
 use Rattle.alma_rules.specs.Decls as rules
 use Rattle.alma_walk.proofs.Exprs.{next_of}
 use Rattle.alma_check_rules.specs.declared.env.Formal.{Formal}
 use Rattle.alma_check_rules.specs.Views.{formal_view}
 use Rattle.alma_check_reader.specs.declared.reading.Broken.{Broken as CodeBroken}
-use Rattle.alma_check_reader.specs.declared.reading.Reading.{Reading as CodeReading}
-use Rattle.alma_check_reader.specs.Told.{Told, told, tells, fault_of}
+use Rattle.alma_check_reader.specs.Told.{fault_of}
 use Rattle.alma_check_block.specs.declared.frame.Frame.{Frame}
 use Rattle.alma_check_block.specs.Shown.{ToldFrame, told_frame, shown, formals_view, formals_in}
 use Rattle.alma_check_block.proofs.Frames.{moved}

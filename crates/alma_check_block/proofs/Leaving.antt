@@ -1,5 +1,5 @@
 -- A heading is read in a block of its own: behind that block the scene is as it was.
-use Rattle.std.proofs.Common.{◌≡◌, ℕ, zero, suc, ◌+◌, ◌-◌, ◌<◌, Bool, true, false, List, [], ◌∷◌, ◌++◌, Option, None, Some, length, take, get_or, set, refl, sym, ap, subst, ◌∙◌, arith}
+use Rattle.std.proofs.Common.{◌≡◌, ℕ, suc, ◌+◌, ◌-◌, ◌<◌, Bool, true, false, List, [], ◌∷◌, ◌++◌, Option, None, Some, length, take, get_or, set, refl, sym, ap, subst, ◌∙◌, arith}
 use Rattle.std.specs.Prelude.{if◌then◌else◌}
 use Rattle.std.proofs.lemmas.List.{take_at}
 use Rattle.alma_base.specs.Choice.{if_true}
@@ -7,14 +7,13 @@ use Rattle.alma_base.specs.declared.fault.CheckFault.{CheckFault}
 use Rattle.alma_tree.specs.declared.leaf.Mode.{Mode}
 use Rattle.alma_names.specs.declared.block.Entry.{Entry}
 use Rattle.alma_names.specs.declared.block.Entry.TheVariants as entry
-use Rattle.alma_names.specs.Blocks.{DeclaredName, shape_id}
+use Rattle.alma_names.specs.Blocks.{shape_id}
 use Rattle.alma_names.specs.Scopes.{Blocks, with_declared, with_new_block, without_top_block}
 use Rattle.alma_rules.specs.Numbered as tree
 use Rattle.alma_rules.specs.Judged.{broken_at}
-use Rattle.alma_rules.specs.Scene.{Scene, Returns, nothing, a_value, Heading, is_first, is_structured, text_at}
+use Rattle.alma_rules.specs.Scene.{Scene, Returns, nothing, Heading, is_first, is_structured, text_at}
 use Rattle.alma_rules.specs.Types as types
 use Rattle.alma_rules.specs.Decls as rules
-use Rattle.alma_rules.specs.Judged.{Broken}
 use Rattle.alma_check_reader.specs.Around.{Outer, outer_of, left}
 use Rattle.alma_check_reader.specs.Told.{fault_of}
 use Rattle.alma_rules.specs.Answers.{first}
@@ -81,8 +80,10 @@ head_out s r n params result b =
   where
     begun : rules.Frame
     begun = rules.new_frame (rules.with_block s r nothing (rules.formal_names (rules.formals_of params)) b) 0
+
     read : rules.Frame
     read = rules.read_formals begun (rules.formals_of params)
+
     by : (d : List CheckFault) → outside (rules.with_depth d n (rules.headed read result)).frame.scene ≡ outside (rules.headed read result).frame.scene
     by [] = refl
     by (x ∷ xs) = refl
@@ -91,20 +92,16 @@ last_of : {A : Type 0} (xs : List A) (x d : A) → get_or (xs ++ x ∷ []) (leng
 last_of [] x d = refl
 last_of (y ∷ ys) x d = last_of ys x d
 
-length_more : {A : Type 0} (xs : List A) (x : A) → length (xs ++ x ∷ []) - 1 ≡ length xs
-length_more xs x = by xs
-  where
-    by : {A : Type 0} (ys : List A) {y : A} → length (ys ++ y ∷ []) - 1 ≡ length ys
-    by [] = refl
-    by (z ∷ ys) {y} = more ys y
-      where
-        more : {A : Type 0} (ys : List A) (y : A) → length (ys ++ y ∷ []) ≡ suc (length ys)
-        more [] y = refl
-        more (z ∷ ys) y = ap suc (more ys y)
+length_more : {A : Type 0} (xs : List A) (x : A) → length (xs ++ x ∷ []) ≡ suc (length xs)
+length_more [] x = refl
+length_more (y ∷ ys) x = ap suc (length_more ys x)
+
+length_less : {A : Type 0} (xs : List A) (x : A) → length (xs ++ x ∷ []) - 1 ≡ length xs
+length_less xs x = omega (arith, length_more xs x)
 
 closed : (b : Blocks) → without_top_block (with_new_block b) ≡ b
 closed b =
-    ap (λ n. let c : Blocks = record { below = take n (b.below ++ b.top ∷ []); top = get_or (b.below ++ b.top ∷ []) n [] } in c) (length_more b.below b.top)
+    ap (λ n. let c : Blocks = record { below = take n (b.below ++ b.top ∷ []); top = get_or (b.below ++ b.top ∷ []) n [] } in c) (length_less b.below b.top)
     ∙ ap (λ xs. let c : Blocks = record { below = xs; top = get_or (b.below ++ b.top ∷ []) (length b.below) [] } in c) (take_at b.below (b.top ∷ []) (length b.below) refl)
     ∙ ap (λ x. let c : Blocks = record { below = b.below; top = x } in c) (last_of b.below b.top [])
 
@@ -115,8 +112,7 @@ head_left s r n params result b =
     ∙ ap (λ x. let i : Scene = record s { blocks = x } in i) (closed s.blocks)
 
 more_than_none : {A : Type 0} (xs : List A) (x : A) → 0 < length (xs ++ x ∷ [])
-more_than_none [] x = omega arith
-more_than_none (y ∷ ys) x = omega arith
+more_than_none xs x = omega (arith, length_more xs x)
 
 -- there is a block round it
 pub head_inside : (s : Scene) (r n : ℕ) (params : Option tree.Params) (result : Option tree.Name) (b : tree.Block) → 0 < length (rules.read_heading s r n params result b).frame.scene.blocks.below
@@ -151,8 +147,8 @@ module _ (s : Scene) (f : rules.Frame) (r n : ℕ) (name : tree.Name) (params : 
       → shown k z ≡ told_frame (rules.heading_in f r name (rules.read_heading f.scene r n params result b))
   procedure_read t j k x y z o v h g q e d u m =
       let same : k ≡ record s { headings = set s.headings r head.heading } =
-          m ∙ ap (λ i. let w : Scene = record i { headings = set i.headings r v } in w) (behind_heading t j y o q e d)
-          ∙ ap (λ hd. let w : Scene = record s { headings = set s.headings r hd } in w) u in
+      m ∙ ap (λ i. let w : Scene = record i { headings = set i.headings r v } in w) (behind_heading t j y o q e d)
+      ∙ ap (λ hd. let w : Scene = record s { headings = set s.headings r hd } in w) u in
       ap (λ w. moved w k) g
       ∙ ap (λ i. moved (told_frame (rules.with_faults (rules.with_faults f (broken_at name.node (types.redeclared s name))) head.frame.faults)) i) same
       ∙ ap (λ i. told_frame (noted i)) (scene_is s x f h)

@@ -1,5 +1,6 @@
 -- A block as it begins, and the routines that it declares.
-use Rattle.std.proofs.Common.{◌≡◌, ℕ, ◌+◌, ◌<◌, ◌≤◌, List, [], ◌∷◌, ◌++◌, Option, None, Some, length, get_or, drop, refl, sym, ap, ◌∙◌, arith}
+use Rattle.std.proofs.Common.{◌≡◌, ℕ, ◌+◌, ◌<◌, ◌≤◌, List, ◌++◌, Option, None, Some, length, get_or, drop, refl, sym, ap, ◌∙◌}
+use Rattle.std.specs.Prelude.{IfSome}
 use Rattle.std.proofs.lemmas.List.{drop_all}
 use Rattle.alma_tree.specs.declared.leaf.Name.{Name}
 use Rattle.alma_tree.specs.declared.module.Params.{Params}
@@ -48,6 +49,10 @@ pub procedure_count : (n : ℕ) (l : Name) (p : Option Params) (r : Option Name)
     → rules.decl_routines (view.view_decl (dh.Procedure n l p r b e)) ≡ 1 + rules.block_routines (view.view_block b)
 procedure_count n l p r b e =
     ap rules.decl_routines (procedure_is n l p r b e) ∙ procedure_at n (view.view_name l) (view.params_of p) (view.result_of r) (view.view_block b) (view.view_name e)
+
+pub some_to : (r : Option ℕ) (a b : ℕ) → a ≡ b → IfSome r (λ n. n ≡ a) → IfSome r (λ n. n ≡ b)
+some_to (Some n) a b e h = h ∙ e
+some_to None a b e h = tt
 
 -- ---- procedures
 

@@ -6,11 +6,11 @@ ghost use Rattle.alma_check_block.specs.Shown.{shown, told_frame};
 
 use crate::entry::{read_consts, read_types};
 use crate::frame::Frame;
-use crate::heading::{Headed, read_heading};
+use crate::heading::read_heading;
 use crate::open::number_behind;
 use crate::variable::read_vars;
 use alma_base::NoMemory;
-use alma_check_reader::{Broken, Reader, redeclared};
+use alma_check_reader::{Reader, redeclared};
 use alma_tree::Decl;
 use std::alloc::Global;
 

@@ -96,7 +96,15 @@ fn read_const(
     let from = behind_expr(alloc, entry.name.token, &entry.value)?;
     let reading = read_constant(alloc, reader, &entry.value)?;
     let value = constant_entry(reading.value);
-    enter_name(alloc, reader, frame, &entry.name, from, reading.fault, value)
+    enter_name(
+        alloc,
+        reader,
+        frame,
+        &entry.name,
+        from,
+        reading.fault,
+        value,
+    )
 }
 
 /// Constants of a block.
@@ -130,7 +138,15 @@ fn read_type_entry(
     let from = behind_type(alloc, entry.name.token, &entry.type_node)?;
     let reading = read_type(alloc, reader, &entry.type_node)?;
     let value = type_entry(reading.value);
-    enter_name(alloc, reader, frame, &entry.name, from, reading.fault, value)
+    enter_name(
+        alloc,
+        reader,
+        frame,
+        &entry.name,
+        from,
+        reading.fault,
+        value,
+    )
 }
 
 /// Types of a block.

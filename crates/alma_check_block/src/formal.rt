@@ -1,5 +1,5 @@
 // Parameters.
-ghost use Rattle.std.specs.Prelude.{◌≡◌, ◌+◌, Some, None, IfOk, OnOk};
+ghost use Rattle.std.specs.Prelude.{◌≡◌, Some, None, OnOk};
 ghost use Rattle.alma_rules.specs.Scene.{is_structured};
 ghost use Rattle.alma_rules.specs.Types as types;
 ghost use Rattle.alma_rules.specs.Decls as rules;
@@ -8,6 +8,7 @@ ghost use Rattle.alma_check_block.specs.Shown.{shown, told_frame, param_shaped};
 
 use crate::entry::enter_name;
 use crate::frame::Frame;
+use crate::open::next_number;
 use alma_base::NoMemory;
 use alma_check_reader::{Reader, read_type_name, redeclared};
 use alma_ir::{ArgKind, Param};
@@ -137,7 +138,9 @@ fn declare_shaped(
         (Some shape) (view.view_name name.now))) }
 {
     place_param(alloc, reader, frame, name, from, mode, shape)?;
-    frame.formals.push(Some(alma_check_rules::Formal { mode, shape }))?;
+    frame
+        .formals
+        .push(Some(alma_check_rules::Formal { mode, shape }))?;
     Ok(())
 }
 
@@ -197,12 +200,6 @@ fn declare_params(
     Ok(())
 }
 
-fn token_behind(token: u32) -> Result<u32, NoMemory>
-    ensures { IfOk result (λ n. n ≡ token + 1) }
-{
-    token.checked_add(1).ok_or(NoMemory)
-}
-
 // Parameters of one type, visible behind it.
 fn read_formal(
     alloc: Global,
@@ -215,7 +212,7 @@ fn read_formal(
         (view.view_formal formal.now) (types.read_type_name f.scene
         (view.view_name formal.now.type_name)))) }
 {
-    let from = token_behind(formal.type_name.token)?;
+    let from = next_number(formal.type_name.token)?;
     let mode = formal.mode;
     let reading = read_type_name(reader.env(), &formal.type_name)?;
     let shape = reading.value;

@@ -43,6 +43,12 @@ fn all_formals(alloc: Global, formals: &[Option<Formal>]) -> Result<Option<Vec<F
     Ok(Some(all))
 }
 
+fn copy_params(alloc: Global, params: &[Param]) -> Result<Vec<Param>, NoMemory>
+    ensures { IfOk result (λ v. v.items ≡ params.now) }
+{
+    Ok(params.to_vec(alloc)?)
+}
+
 // The heading of a frame in which no rule is broken.
 fn form_heading(
     alloc: Global,
@@ -61,7 +67,7 @@ fn form_heading(
         Some(formals) => Ok(Some(Heading {
             formals,
             result: returns,
-            params: frame.params.as_slice().to_vec(alloc)?,
+            params: copy_params(alloc, &frame.params)?,
         })),
     }
 }
@@ -147,11 +153,7 @@ fn too_deep(reader: &Reader, node: u32) -> Option<Broken>
 }
 
 // The heading of a procedure that stands too deep is Bad.
-fn at_depth(
-    frame: &mut Frame,
-    deep: Option<Broken>,
-    heading: Option<Heading>,
-) -> Option<Heading>
+fn at_depth(frame: &mut Frame, deep: Option<Broken>, heading: Option<Heading>) -> Option<Heading>
     ensures frame { (s : Scene) (h : rules.Headed) (faults : List Rule) (node : ℕ)
         → shown s frame.old ≡ told_frame h.frame → fault_of deep ≡ first (broken_at node faults)
         → shown s frame.new ≡ told_frame (rules.with_depth faults node h).frame }

@@ -149,7 +149,10 @@ fn add_plain(
 {
     match plain {
         PlainType::Named { .. } => Ok(()),
-        PlainType::Listed { node: _, names: all } => add_names(alloc, reader, names, all),
+        PlainType::Listed {
+            node: _,
+            names: all,
+        } => add_names(alloc, reader, names, all),
         PlainType::Subrange { .. } => Ok(()),
         PlainType::Record {
             node: _,

@@ -12,6 +12,19 @@ use alma_names::Entry;
 use alma_tree::{Block, Decl, Params};
 use std::alloc::Global;
 
+fn sum(count: u32, more: u32) -> Option<u32>
+    ensures { IfSome result (λ n. n ≡ count + more) }
+{
+    count.checked_add(more)
+}
+
+/// The number behind this one.
+pub fn next_number(number: u32) -> Result<u32, NoMemory>
+    ensures { IfOk result (λ n. n ≡ number + 1) }
+{
+    number.checked_add(1).ok_or(NoMemory)
+}
+
 /// The number of routines that a block declares, at any depth; None where it passes 2^32.
 #[cycle(routines)]
 pub fn count_routines(block: &Block) -> Option<u32>
@@ -19,7 +32,7 @@ pub fn count_routines(block: &Block) -> Option<u32>
 {
     let mut count: u32 = 0;
     for decl in &block.decls {
-        count = count.checked_add(count_in(decl)?)?;
+        count = sum(count, count_in(decl)?)?;
     }
     Some(count)
 }
@@ -33,7 +46,7 @@ pub fn count_in(decl: &Decl) -> Option<u32>
         Decl::Const { .. } => Some(0),
         Decl::Type { .. } => Some(0),
         Decl::Var { .. } => Some(0),
-        Decl::Procedure { block, .. } => count_routines(block)?.checked_add(1),
+        Decl::Procedure { block, .. } => sum(1, count_routines(block)?),
     }
 }
 
@@ -51,9 +64,7 @@ fn declare_routine(
         Decl::Const { .. } => Ok(()),
         Decl::Type { .. } => Ok(()),
         Decl::Var { .. } => Ok(()),
-        Decl::Procedure { name, .. } => {
-            reader.declare(alloc, name, 0, Entry::Routine(number))
-        }
+        Decl::Procedure { name, .. } => { reader.declare(alloc, name, 0, Entry::Routine(number)) }
     }
 }
 
@@ -96,7 +107,7 @@ pub fn open_block(
         (view.view_block block.now)) }
     ensures around { IfOk result (λ around. around ≡ outer_of reader.old) }
 {
-    let first = routine.checked_add(1).ok_or(NoMemory)?;
+    let first = next_number(routine)?;
     let declares = names_of_block(alloc, reader, params, block)?;
     let around = reader.enter(alloc, declares, routine)?;
     declare_routines(alloc, reader, first, &block.decls)?;

@@ -1,4 +1,4 @@
-use Rattle.std.proofs.Common.{◌≡◌, [], None, refl, ◌∙◌}
+use Rattle.std.proofs.Common.{[], None, refl, ◌∙◌}
 use Rattle.alma_rules.specs.View as view
 use Rattle.alma_rules.specs.Decls as rules
 use Rattle.alma_check_block.proofs.Frames.{scene_is, at_scene, bad_entered, formal_pushed}

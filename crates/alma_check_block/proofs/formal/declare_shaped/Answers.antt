@@ -1,4 +1,4 @@
-use Rattle.std.proofs.Common.{◌≡◌, Some}
+use Rattle.std.proofs.Common.{Some}
 use Rattle.alma_rules.specs.View as view
 use Rattle.alma_check_block.specs.Shown.{param_shaped}
 use Rattle.alma_check_block.proofs.Frames.{formal_pushed}

@@ -1,4 +1,4 @@
-use Rattle.std.proofs.Common.{◌≡◌, ap, sym}
+use Rattle.std.proofs.Common.{ap, sym}
 use Rattle.alma_rules.specs.Decls as rules
 use Rattle.alma_check_block.specs.Shown.{told_frame}
 use Rattle.alma_check_block.proofs.Texts.{ok_eq, params_are}

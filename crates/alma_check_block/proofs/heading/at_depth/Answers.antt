@@ -1,4 +1,4 @@
-use Rattle.std.proofs.Common.{◌≡◌, ap, ◌∙◌}
+use Rattle.std.proofs.Common.{ap, ◌∙◌}
 use Rattle.alma_rules.specs.Judged.{broken_at}
 use Rattle.alma_rules.specs.Decls as rules
 use Rattle.alma_check_block.specs.Shown.{told_frame}
@@ -14,7 +14,7 @@ returns-in-None c = record {
 pub returns-in-Some : goal.returns-in-Some
 returns-in-Some c = record {
   frame = λ s h faults node g e.
-    c.add_fault.ensures s h.frame (broken_at node faults) g (fault_in c.args.deep c.in-Some.broken node faults c.in-Some.is e)
-    ∙ depth_frame faults node h c.in-Some.broken (fault_in c.args.deep c.in-Some.broken node faults c.in-Some.is e);
+      c.add_fault.ensures s h.frame (broken_at node faults) g (fault_in c.args.deep c.in-Some.broken node faults c.in-Some.is e)
+      ∙ depth_frame faults node h c.in-Some.broken (fault_in c.args.deep c.in-Some.broken node faults c.in-Some.is e);
   heading = λ h faults node g e. depth_heading faults node h c.in-Some.broken (fault_in c.args.deep c.in-Some.broken node faults c.in-Some.is e);
 }

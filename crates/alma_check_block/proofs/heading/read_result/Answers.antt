@@ -1,9 +1,3 @@
-use Rattle.std.proofs.Common.{◌≡◌, ap, ◌∙◌}
-use Rattle.alma_rules.specs.View as view
-use Rattle.alma_rules.specs.Scene.{Scene, nothing}
-use Rattle.alma_rules.specs.Decls as rules
-use Rattle.alma_check_block.specs.Shown.{ToldFrame, told_frame, shown}
-use Rattle.alma_check_block.proofs.Frames.{moved}
 use Rattle.alma_check_block.proofs.Headings.{ok_known, proper_frame}
 use Rattle.alma_check_block.proofs.heading.read_result.Goals as goal
 

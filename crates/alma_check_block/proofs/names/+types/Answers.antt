@@ -1,4 +1,4 @@
-use Rattle.std.proofs.Common.{◌≡◌, ◌+◌, ap, sym, drop, ◌∙◌}
+use Rattle.std.proofs.Common.{◌+◌, ap, drop, ◌∙◌}
 use Rattle.std.proofs.lemmas.List.{drop_all}
 use Rattle.alma_walk.proofs.Exprs.{next_of}
 use Rattle.alma_tree.specs.declared.type_node.TypeNode as dy

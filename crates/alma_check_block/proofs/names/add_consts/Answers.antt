@@ -1,11 +1,10 @@
-use Rattle.std.proofs.Common.{◌≡◌, ◌+◌, ◌∷◌, [], ◌++◌, List, drop, ap}
+use Rattle.std.proofs.Common.{◌+◌, ◌∷◌, [], drop, ap}
 use Rattle.std.proofs.lemmas.List.{drop_all}
 use Rattle.alma_walk.proofs.Exprs.{next_of}
 use Rattle.alma_rules.specs.View as view
-use Rattle.alma_rules.specs.Types as types
 use Rattle.alma_rules.specs.Decls as rules
 use Rattle.alma_check_rules.specs.Views.{declares_view}
-use Rattle.alma_check_block.proofs.Texts.{names_on, names_end, joined_by}
+use Rattle.alma_check_block.proofs.Texts.{names_on, names_end}
 use Rattle.alma_check_block.proofs.names.add_consts.Goals as goal
 
 pub loop-entry-preserved : goal.loop-entry-preserved

@@ -1,6 +1,5 @@
 use Rattle.std.proofs.Common.{◌≡◌, drop}
 use Rattle.alma_rules.specs.View as view
-use Rattle.alma_rules.specs.Types as types
 use Rattle.alma_rules.specs.Decls as rules
 use Rattle.alma_check_rules.specs.Views.{declares_view}
 use Rattle.alma_check_block.proofs.names.add_formals.Given as goal

@@ -1,4 +1,4 @@
-use Rattle.std.proofs.Common.{◌≡◌, sym, ◌∙◌}
+use Rattle.std.proofs.Common.{sym, ◌∙◌}
 use Rattle.alma_check_block.proofs.Opening.{routines_next, routines_end}
 use Rattle.alma_check_block.proofs.open.declare_routines.Goals as goal
 

@@ -1,4 +1,4 @@
-use Rattle.std.proofs.Common.{◌≡◌, [], refl}
+use Rattle.std.proofs.Common.{[], refl}
 use Rattle.alma_rules.specs.View as view
 use Rattle.alma_check_block.proofs.Texts.{ok_eq}
 use Rattle.alma_check_block.proofs.Frames.{scene_is, at_scene, bad_entered}
