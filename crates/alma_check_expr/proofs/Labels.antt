@@ -1,9 +1,9 @@
 -- The labels that are noted as an arm of CASE is judged.
-use Rattle.std.proofs.Common.{◌≡◌, ℕ, ◌+◌, ◌<◌, ◌≤◌, List, [], ◌∷◌, ◌++◌, Option, None, Some, Vec, Global, length, get_or, drop, take, suc, refl, sym, subst, ap, ◌∙◌}
+use Rattle.std.proofs.Common.{◌≡◌, ℕ, ◌+◌, ◌<◌, List, [], ◌∷◌, ◌++◌, Option, None, Some, Vec, Global, length, get_or, drop, take, suc, refl, sym, subst, ap, ◌∙◌}
 use Rattle.std.specs.Prelude.{is_some, unwrap_or, option_to_list, Bool, true, false, Result, Ok, Err, IsOk, OnOk}
 use Rattle.alma_rules.specs.Numbered as tree
 use Rattle.alma_rules.specs.Scene.{Scene}
-use Rattle.alma_rules.specs.Judged.{Judged, and_then, with}
+use Rattle.alma_rules.specs.Judged.{and_then, with}
 use Rattle.alma_rules.specs.Nodes as nodes
 use Rattle.alma_rules.specs.Walk as walk
 use Rattle.alma_rules.specs.Parts as parts

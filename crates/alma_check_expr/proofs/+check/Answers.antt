@@ -1,4 +1,4 @@
-use Rattle.std.proofs.Common.{◌≡◌, ℕ, ◌+◌, List, [], ◌∷◌, ◌++◌, Option, None, Some, drop, refl, sym, subst, ap, ◌∙◌, arith}
+use Rattle.std.proofs.Common.{◌≡◌, ◌+◌, List, [], ◌++◌, Some, drop, refl, sym, ap, ◌∙◌, arith}
 use Rattle.std.specs.Prelude.{slice_get, option_map, option_to_list}
 use Rattle.alma_tree.specs.declared.phrase.Label as dl
 use Rattle.alma_ir.specs.View.{cases_list}
@@ -15,20 +15,19 @@ use Rattle.alma_check_expr.proofs.Same.{kind_same, indexed_same}
 use Rattle.alma_tree.specs.declared.phrase.Compared as dc
 use Rattle.alma_tree.specs.declared.phrase.Exprs as dx
 use Rattle.alma_ir.specs.Tree as ir
-use Rattle.alma_ir.specs.View.{test_of, arg_of, args_list, arms_list, branches_list}
+use Rattle.alma_ir.specs.View.{arg_of, args_list, arms_list, branches_list}
 use Rattle.alma_rules.specs.Numbered as tree
 use Rattle.alma_rules.specs.View as view
 use Rattle.alma_rules.specs.Judged.{Judged, fine, of_value}
-use Rattle.alma_rules.specs.Answers.{Stops}
 use Rattle.alma_rules.specs.Scene.{inside_of, in_constant}
 use Rattle.alma_rules.specs.Parts as parts
 use Rattle.alma_rules.specs.ExprRules as rules
 use Rattle.alma_rules.specs.Nodes as nodes
 use Rattle.alma_rules.specs.Walk as walk
-use Rattle.alma_check_rules.specs.Views.{scene_of, somewhere, headings_in, found_view, use_view, operand_view, operator_view, typing_of, denoted_of, denoted_in, located_of, callee_in, callee_of, operands_of, operands_in, operands_view, args_of, args_in, stmts_of, stmts_in, typing_in, formal_view, span_view, spans_view, spans_of, spans_in}
+use Rattle.alma_check_rules.specs.Views.{scene_of, somewhere, headings_in, found_view, use_view, operand_view, operator_view, typing_of, denoted_of, denoted_in, callee_in, operands_of, operands_in, operands_view, args_of, args_in, stmts_of, stmts_in, typing_in, formal_view, span_view, spans_view, spans_of, spans_in}
 use Rattle.alma_check_build.specs.Lists.{guarded_of, arms_of, arms_in, branches_of, branches_in, cases_of, cases_in}
 use Rattle.alma_walk.proofs.Judging.{stops_more, passed, no_memory, answers_as}
-use Rattle.alma_walk.proofs.Onwards.{first_fine, onward_begin, onward_end, nothing_behind}
+use Rattle.alma_walk.proofs.Onwards.{first_fine, onward_end, nothing_behind}
 use Rattle.alma_walk.proofs.Rows as rows
 use Rattle.alma_walk.proofs.Exprs as exprs
 use Rattle.alma_walk.proofs.Desigs as desigs
@@ -770,27 +769,27 @@ case::check_arm-returns-in-Empty t c = record {
 pub case::check_arm-returns-in_err-labels-in-Labelled-clause-judged : goal.case::check_arm-returns-in_err-labels-in-Labelled-clause-judged
 case::check_arm-returns-in_err-labels-in-Labelled-clause-judged t c =
     passed _ cases_of _ _ _ c.from_residual.ensures.1
-      (rw (c.in-Labelled.is, rows.labelled_is _ c.in-Labelled.first c.in-Labelled.more c.in-Labelled.body)
-      (cases.arm_stops (scene_of c.args.env.now c.args.place) c.args.slot.now _ (typing_in c.args.case.now) (spans_view c.args.spans.now.items) (view.view_label c.in-Labelled.first) (view.labels_of c.in-Labelled.more.items) (view.view_stmts c.in-Labelled.body) _ (rw c.deref.ensures.value at c.in_err-labels-in-Labelled.ensures.judged)))
+    (rw (c.in-Labelled.is, rows.labelled_is _ c.in-Labelled.first c.in-Labelled.more c.in-Labelled.body)
+    (cases.arm_stops (scene_of c.args.env.now c.args.place) c.args.slot.now _ (typing_in c.args.case.now) (spans_view c.args.spans.now.items) (view.view_label c.in-Labelled.first) (view.labels_of c.in-Labelled.more.items) (view.view_stmts c.in-Labelled.body) _ (rw c.deref.ensures.value at c.in_err-labels-in-Labelled.ensures.judged)))
 
 pub case::check_arm-returns-in_ok-labels-in-Labelled-clause-judged : goal.case::check_arm-returns-in_ok-labels-in-Labelled-clause-judged
 case::check_arm-returns-in_ok-labels-in-Labelled-clause-judged t c =
     rw (c.in-Labelled.is, rows.labelled_is _ c.in-Labelled.first c.in-Labelled.more c.in-Labelled.body)
-      (rw (cases.arm_fine (scene_of c.args.env.now c.args.place) c.args.slot.now _ (typing_in c.args.case.now) (spans_view c.args.spans.now.items) (view.view_label c.in-Labelled.first) (view.labels_of c.in-Labelled.more.items) (view.view_stmts c.in-Labelled.body) c.check_labels.new.slot (spans_in c.in_ok-labels-in-Labelled.labels) (rw c.deref.ensures.value at c.in_ok-labels-in-Labelled.ensures.judged))
-      (c.join_arm.ensures (walk.judge_stmts (scene_of c.args.env.now c.args.place) c.check_labels.new.slot (view.view_stmts c.in-Labelled.body)) c.check_labels.new.slot _ c.check_stmts-body.ensures))
+    (rw (cases.arm_fine (scene_of c.args.env.now c.args.place) c.args.slot.now _ (typing_in c.args.case.now) (spans_view c.args.spans.now.items) (view.view_label c.in-Labelled.first) (view.labels_of c.in-Labelled.more.items) (view.view_stmts c.in-Labelled.body) c.check_labels.new.slot (spans_in c.in_ok-labels-in-Labelled.labels) (rw c.deref.ensures.value at c.in_ok-labels-in-Labelled.ensures.judged))
+    (c.join_arm.ensures (walk.judge_stmts (scene_of c.args.env.now c.args.place) c.check_labels.new.slot (view.view_stmts c.in-Labelled.body)) c.check_labels.new.slot _ c.check_stmts-body.ensures))
 
 pub case::check_arm-returns-in_ok-labels-in-Labelled-clause-spans : goal.case::check_arm-returns-in_ok-labels-in-Labelled-clause-spans
 case::check_arm-returns-in_ok-labels-in-Labelled-clause-spans t c =
     on_ok (spans_view c.settle.new.spans.items ≡ spans_view c.args.spans.now.items ++ (walk.judge_arm (scene_of c.args.env.now c.args.place) c.args.slot.now (typing_in c.args.case.now) (spans_view c.args.spans.now.items) (view.view_arm c.args.arm.now)).spans) c.join_arm.result (rw (c.in-Labelled.is, rows.labelled_is _ c.in-Labelled.first c.in-Labelled.more c.in-Labelled.body)
-      (rw (cases.arm_spans (scene_of c.args.env.now c.args.place) c.args.slot.now _ (typing_in c.args.case.now) (spans_view c.args.spans.now.items) (view.view_label c.in-Labelled.first) (view.labels_of c.in-Labelled.more.items) (view.view_stmts c.in-Labelled.body) c.check_labels.new.slot (spans_in c.in_ok-labels-in-Labelled.labels) (rw c.deref.ensures.value at c.in_ok-labels-in-Labelled.ensures.judged))
-      (settled (spans_view c.args.spans.now.items) (spans_view c.check_labels.new.spans.items) (spans_view c.settle.new.spans.items) c.len-before.result c.in_ok-labels-in-Labelled.labels (omega (arith, c.len-before.ensures, c.args.spans.now.ok.0, spans_count c.args.spans.now.items)) c.in_ok-labels-in-Labelled.ensures.spans c.settle.ensures)))
+    (rw (cases.arm_spans (scene_of c.args.env.now c.args.place) c.args.slot.now _ (typing_in c.args.case.now) (spans_view c.args.spans.now.items) (view.view_label c.in-Labelled.first) (view.labels_of c.in-Labelled.more.items) (view.view_stmts c.in-Labelled.body) c.check_labels.new.slot (spans_in c.in_ok-labels-in-Labelled.labels) (rw c.deref.ensures.value at c.in_ok-labels-in-Labelled.ensures.judged))
+    (settled (spans_view c.args.spans.now.items) (spans_view c.check_labels.new.spans.items) (spans_view c.settle.new.spans.items) c.len-before.result c.in_ok-labels-in-Labelled.labels (omega (arith, c.len-before.ensures, c.args.spans.now.ok.0, spans_count c.args.spans.now.items)) c.in_ok-labels-in-Labelled.ensures.spans c.settle.ensures)))
 
 pub case::check_labels-returns-in_err-labels-clause-judged : goal.case::check_labels-returns-in_err-labels-clause-judged
 case::check_labels-returns-in_err-labels-clause-judged t c =
     passed _ spans_of _ _ _ c.from_residual.ensures.1
-      (stops_as _ _ _ (labels_begin (scene_of c.args.env.now c.args.place) c.args.slot.now (typing_in c.args.case.now) (spans_view c.args.spans.now.items) _ (view.view_label c.args.first.now) (view.labels_of c.args.more.now) (spans_in (Some c.new.result)) (ap (λ l. Some (spans_view l)) c.new.ensures.items) refl)
-      (c.in_err-labels.ensures.judged (walk.judge_label (scene_of c.args.env.now c.args.place) c.args.slot.now (typing_in c.args.case.now) (spans_view c.args.spans.now.items) (view.view_label c.args.first.now)) _
-      (λ m. walk.judge_labels (scene_of c.args.env.now c.args.place) m (typing_in c.args.case.now) ((spans_view c.args.spans.now.items) ++ option_to_list (walk.judge_label (scene_of c.args.env.now c.args.place) c.args.slot.now (typing_in c.args.case.now) (spans_view c.args.spans.now.items) (view.view_label c.args.first.now)).value) (view.labels_of c.args.more.now)) (rw c.deref.ensures.value at c.check_label-span.ensures)))
+    (stops_as _ _ _ (labels_begin (scene_of c.args.env.now c.args.place) c.args.slot.now (typing_in c.args.case.now) (spans_view c.args.spans.now.items) _ (view.view_label c.args.first.now) (view.labels_of c.args.more.now) (spans_in (Some c.new.result)) (ap (λ l. Some (spans_view l)) c.new.ensures.items) refl)
+    (c.in_err-labels.ensures.judged (walk.judge_label (scene_of c.args.env.now c.args.place) c.args.slot.now (typing_in c.args.case.now) (spans_view c.args.spans.now.items) (view.view_label c.args.first.now)) _
+    (λ m. walk.judge_labels (scene_of c.args.env.now c.args.place) m (typing_in c.args.case.now) ((spans_view c.args.spans.now.items) ++ option_to_list (walk.judge_label (scene_of c.args.env.now c.args.place) c.args.slot.now (typing_in c.args.case.now) (spans_view c.args.spans.now.items) (view.view_label c.args.first.now)).value) (view.labels_of c.args.more.now)) (rw c.deref.ensures.value at c.check_label-span.ensures)))
 
 pub case::check_labels-loop-label-init : goal.case::check_labels-loop-label-init
 case::check_labels-loop-label-init t c =
@@ -811,8 +810,8 @@ case::check_labels-loop-label-preserved t c =
 pub case::check_labels-returns-in_err-labels-2-clause-judged : goal.case::check_labels-returns-in_err-labels-2-clause-judged
 case::check_labels-returns-in_err-labels-2-clause-judged t c =
     passed _ spans_of _ _ _ c.from_residual-in_err-labels-2.ensures.1
-      (stops_as _ _ _ (c.loop-label.invariant.0 ∙ ap (onward_spans (spans_in c.loop-label.labels)) (labels_turn (scene_of c.args.env.now c.args.place) c.loop-label.slot c.loop-label.label-index (typing_in c.args.case.now) (spans_view c.loop-label.spans.items) _ c.args.more.now c.label-item.result c.loop-label-test.true c.label-item.is refl))
-      (c.in_err-labels-2.ensures.judged (walk.judge_label (scene_of c.args.env.now c.args.place) c.loop-label.slot (typing_in c.args.case.now) (spans_view c.loop-label.spans.items) (view.view_label c.label-item.result)) _ (λ m. walk.judge_labels (scene_of c.args.env.now c.args.place) m (typing_in c.args.case.now) ((spans_view c.loop-label.spans.items) ++ option_to_list (walk.judge_label (scene_of c.args.env.now c.args.place) c.loop-label.slot (typing_in c.args.case.now) (spans_view c.loop-label.spans.items) (view.view_label c.label-item.result)).value) (view.labels_of (drop (c.loop-label.label-index + 1) c.args.more.now))) (rw c.deref-in-loop-label.ensures.value at c.check_label-span-in-loop-label.ensures)))
+    (stops_as _ _ _ (c.loop-label.invariant.0 ∙ ap (onward_spans (spans_in c.loop-label.labels)) (labels_turn (scene_of c.args.env.now c.args.place) c.loop-label.slot c.loop-label.label-index (typing_in c.args.case.now) (spans_view c.loop-label.spans.items) _ c.args.more.now c.label-item.result c.loop-label-test.true c.label-item.is refl))
+    (c.in_err-labels-2.ensures.judged (walk.judge_label (scene_of c.args.env.now c.args.place) c.loop-label.slot (typing_in c.args.case.now) (spans_view c.loop-label.spans.items) (view.view_label c.label-item.result)) _ (λ m. walk.judge_labels (scene_of c.args.env.now c.args.place) m (typing_in c.args.case.now) ((spans_view c.loop-label.spans.items) ++ option_to_list (walk.judge_label (scene_of c.args.env.now c.args.place) c.loop-label.slot (typing_in c.args.case.now) (spans_view c.loop-label.spans.items) (view.view_label c.label-item.result)).value) (view.labels_of (drop (c.loop-label.label-index + 1) c.args.more.now))) (rw c.deref-in-loop-label.ensures.value at c.check_label-span-in-loop-label.ensures)))
 
 pub case::check_labels-returns : goal.case::check_labels-returns
 case::check_labels-returns t c = record {
