@@ -33,6 +33,12 @@ use Rattle.alma_lower.specs.declared.lowering.LowerError.{LowerError}
 use Rattle.alma_lower.specs.declared.lowering.LowerError.TheVariants as lower
 use Rattle.alma_implements.specs.Implements.{Implements}
 use Rattle.alma_sound.specs.Reads.{code_reads, program_reads, HasLabels}
+use Rattle.alma_sound.specs.Reads as sound
+use Rattle.alma_object.specs.View as object
+use Rattle.alma_code.specs.declared.instr.Instr.{Instr}
+use Rattle.alma_code.specs.declared.instr.Instr.TheVariants as I
+use Rattle.std.specs.Prelude.{◌∷◌, ◌||◌}
+use Rattle.std.specs.List.{list_any}
 use Rattle.alma_resolved_labels.proofs.Labels.{program_has_labels}
 use Rattle.alma_rules.specs.View.{view_module}
 use Rattle.alma_words.specs.Words.{Request, Check, Compile, Listing, Run, Exec, Trace, Sample, Asks, Reads}
@@ -240,11 +246,21 @@ compiled_within p code too_much = by (cases_lt size_limit (size_of p))
     by (inl past) = cc (too_much past)
     by (inr small) = small
 
+-- to read is one thing for code and its object
+read_is : (i : Instr) → object.is_read i ≡ sound.is_read i
+read_is (I.ReadInt a t) = refl
+read_is (I.ReadChar a t) = refl
+read_is i = refl
+
+reads_are : (is : List Instr) → list_any object.is_read is ≡ list_any sound.is_read is
+reads_are [] = refl
+reads_are (i ∷ is) = ap (λ b. b || list_any object.is_read is) (read_is i) ∙ ap (λ b. sound.is_read i || b) (reads_are is)
+
 -- a program that was compiled and run
 pub runs_compiled : (p : Program) (code : PlainCode) (steps : ℕ) (stats : Bool) (i j : SourceSide) (a b : SinkSide) (end : End) → IsSound code → Implements code p
     → code_reads code ≡ program_reads p → size_of p ≤ size_limit → Runs (InputOutcome i.left code steps stats) i j a b end → Runs (ProgramOutcome i.left p steps stats) i j a b end
 runs_compiled p code steps stats i j a b end sound implements reads within g =
-    runs_map (InputOutcome i.left code steps stats) (ProgramOutcome i.left p steps stats) (λ due o. ran code within sound implements reads o) i j a b end g
+    runs_map (InputOutcome i.left code steps stats) (ProgramOutcome i.left p steps stats) (λ due o. ran code within sound implements (reads_are code.instrs ∙ reads) o) i j a b end g
 
 -- ---- listing
 
@@ -387,7 +403,7 @@ pub works_compiled : (p : Program) (code : PlainCode) (object : List ℕ) (f f' 
     → Works (IsStoring object (object_bytes code)) f f' a a end → Works (CompileOutcome p object) f f' a a end
 works_compiled p code object f f' a end sound implements reads version counts records within w =
     let is : IsObject code (object_bytes code) = record { version = version; counts = counts; records = records; table = sound.table; spelled = refl } in
-    works_map (IsStoring object (object_bytes code)) (CompileOutcome p object) (λ due e. made code (object_bytes code) within sound implements reads is e) f f' a a end w
+    works_map (IsStoring object (object_bytes code)) (CompileOutcome p object) (λ due e. made code (object_bytes code) within sound implements (reads_are code.instrs ∙ reads) is e) f f' a a end w
 
 -- a program that was not compiled is not stored
 pub works_refused : (p : Program) (object : List ℕ) (error : LowerError) (f : FilesSide) (a : SinkSide) → IsUnlowered p error

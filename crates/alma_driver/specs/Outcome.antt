@@ -19,7 +19,7 @@ use Rattle.alma_object.specs.Object.{IsObject}
 use Rattle.alma_object.specs.View.{is_read}
 use Rattle.alma_object.specs.Walk.{object_fault}
 use Rattle.alma_whole.specs.Bytes.{object_code}
-use Rattle.alma_sound.specs.Reads.{code_reads, program_reads}
+use Rattle.alma_sound.specs.Reads.{program_reads}
 use Rattle.alma_implements.specs.Implements.{Implements, Covers, meant_end, state_after, printed_by, line_in}
 use Rattle.alma_words.specs.Words.{Request, Check, Compile, Listing, Run, Exec, Trace, Sample, Asks, IsBadWord}
 use Rattle.alma_driver.specs.Words.{is_built, read_by, limit_of}
@@ -99,14 +99,14 @@ pub data InputOutcome (left : Option (List ℕ)) (code : PlainCode) (steps : ℕ
 -- What a run of a program for so many steps comes to: what a sound code that implements it, and reads exactly where it does, comes
 -- to in so many steps, or the refusal of its size.
 pub data ProgramOutcome (left : Option (List ℕ)) (p : Program) (steps : ℕ) (stats : Bool) (due : Due) : Type 0 where
-  ran : (code : PlainCode) → size_of p ≤ size_limit → IsSound code → Implements code p → code_reads code ≡ program_reads p → InputOutcome left code steps stats due
+  ran : (code : PlainCode) → size_of p ≤ size_limit → IsSound code → Implements code p → has_read code ≡ program_reads p → InputOutcome left code steps stats due
       → ProgramOutcome left p steps stats due
   too_much_code : size_limit < size_of p → due ≡ silent (TooMuchCode (size_of p)) → ProgramOutcome left p steps stats due
 
 -- What compiling a program under a name comes to: the object of a sound code that implements it, and reads exactly where it
 -- does, is stored there, or the refusal of its size.
 pub data CompileOutcome (p : Program) (object : List ℕ) (due : Due) : Type 0 where
-  made : (code : PlainCode) (bytes : List ℕ) → size_of p ≤ size_limit → IsSound code → Implements code p → code_reads code ≡ program_reads p → IsObject code bytes
+  made : (code : PlainCode) (bytes : List ℕ) → size_of p ≤ size_limit → IsSound code → Implements code p → has_read code ≡ program_reads p → IsObject code bytes
       → due ≡ storing object bytes → CompileOutcome p object due
   past_size : size_limit < size_of p → due ≡ silent (TooMuchCode (size_of p)) → CompileOutcome p object due
 
