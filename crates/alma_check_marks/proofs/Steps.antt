@@ -1,8 +1,8 @@
 -- Phrases walked one behind another.
 use Rattle.std.proofs.Common.{◌≡◌, ℕ, ◌+◌, ◌<◌, ◌≤◌, List, [], ◌∷◌, ◌++◌, length, get_or, drop, Result, Ok, Err, OnOk, refl, ap, sym, subst, ◌∙◌, append_assoc, append-nil}
 use Rattle.std.proofs.lemmas.List.{drop_more, drop_all}
-use Rattle.alma_rules.specs.Places.{Marked, Step, stay, followed, ◌>>◌, whole, statement, statement_of, from_here, marked_node, node_at}
-use Rattle.alma_check_marks.specs.Marking.{Goes, Noted}
+use Rattle.alma_rules.specs.Places.{Marked, Step, stay, followed, ◌>>◌, whole, token, statement, statement_of, from_here, marked_node, node_at}
+use Rattle.alma_check_marks.specs.Marking.{begun, Goes, Noted}
 
 followed_on : (a : Marked) (f g : Step) → followed (followed a f) g ≡ followed a (f >> g)
 followed_on a f g = ap (λ xs. record { marks = xs; end = (g (f a.end).end).end }) (append_assoc a.marks (f a.end).marks (g (f a.end).end).marks)
@@ -64,3 +64,7 @@ pub finish : {X : Type 0} {start now : Marked} {all : Step} (p : List X → Step
     → Rests start now all (p (drop i xs)) → Goes start now all
 finish {start = start} {now = now} {all = all} p i xs le e h =
     record { same = sym (followed_stay now) ∙ ap (followed now) (sym e ∙ ap p (sym (drop_all i xs le))) ∙ h.same }
+
+-- a statement with its first word, and the rest of it
+pub begins : {a m r : Marked} {g : Step} → Goes a m begun → Goes m r g → Goes a r (statement >> token >> g)
+begins {a} {m} {r} {g} x y = record { same = (x ▹ y).same ∙ sym (followed_on a statement (token >> g)) ∙ sym (followed_on (followed a statement) token g) ∙ ap (λ u. followed u g) (followed_on a statement token) ∙ followed_on a (statement >> token) g }
