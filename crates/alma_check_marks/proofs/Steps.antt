@@ -42,6 +42,14 @@ stated g = record { same = g.same }
 pub here : {a r : Marked} (f : ℕ → Step) → Goes a r (f a.end) → Goes a r (from_here f)
 here f g = record { same = g.same }
 
+-- ---- from a token on, with nothing before
+
+pub started : {a r : Marked} {f : Step} {at : ℕ} → a ≡ stay at → Goes a r f → r ≡ f at
+started {a} {r} {f} {at} e g = g.same ∙ ap (λ u. followed u f) e
+
+pub whole_from : {a m r : Marked} {f : Step} {n at : ℕ} → a ≡ stay at → Goes a m f → Noted m r n at → r ≡ whole n f at
+whole_from {a} {m} {r} {f} {n} {at} e g y = y.same ∙ ap (marked_node n at) (started e g)
+
 -- ---- loops
 
 -- what is walked now, with the rest behind it, is the whole
@@ -55,10 +63,14 @@ infixl 10 ◌▸◌
 pub ◌▸◌ : {start now m : Marked} {all f rest : Step} → Rests start now all (f >> rest) → Goes now m f → Rests start m all rest
 ◌▸◌ {start} {now} {m} {all} {f} {rest} h g = record { same = ap (λ u. followed u rest) g.same ∙ followed_on now f rest ∙ h.same }
 
+pub next_at : {X : Type 0} {start now : Marked} {all : Step} (p : List X → Step) (i : ℕ) (xs : List X) (d : X) → i < length xs
+    → Rests start now all (p (drop i xs)) → Rests start now all (p (get_or xs i d ∷ drop (i + 1) xs))
+next_at {start = start} {now = now} {all = all} p i xs d lt h = subst (λ ys. Rests start now all (p ys)) (drop_more xs i d lt) h
+
 pub next : {X : Type 0} {start now : Marked} {all : Step} (p : List X → Step) (i : ℕ) (xs : List X) (x : X) → i < length xs → x ≡ get_or xs i x
     → Rests start now all (p (drop i xs)) → Rests start now all (p (x ∷ drop (i + 1) xs))
 next {start = start} {now = now} {all = all} p i xs x lt is h =
-    subst (λ ys. Rests start now all (p ys)) (drop_more xs i x lt ∙ ap (λ y. y ∷ drop (i + 1) xs) (sym is)) h
+    subst (λ y. Rests start now all (p (y ∷ drop (i + 1) xs))) (sym is) (next_at p i xs x lt h)
 
 pub finish : {X : Type 0} {start now : Marked} {all : Step} (p : List X → Step) (i : ℕ) (xs : List X) → length xs ≤ i → p [] ≡ stay
     → Rests start now all (p (drop i xs)) → Goes start now all

@@ -93,11 +93,18 @@ fn mark_plain(marks: &mut Marks, plain: &PlainType) -> Result<(), NoMemory>
     ensures { Walks result marks.old marks.new
         (places.mark_plain (view.view_plain_type plain.now)) }
 {
+    let at = marks.end;
     match plain {
         PlainType::Named { node, name } => mark_type_name(marks, *node, name),
         PlainType::Listed { node, names } => mark_listed(marks, *node, names),
         PlainType::Subrange { node, low, high } => mark_subrange(marks, *node, low, high),
-        PlainType::Record { node, first, more } => mark_record(marks, *node, first, more),
+        PlainType::Record { node, first, more } => {
+            marks.token()?;
+            mark_fields(marks, first)?;
+            mark_field_tail(marks, more)?;
+            marks.token()?;
+            marks.node(*node, at)
+        }
     }
 }
 
@@ -135,24 +142,6 @@ fn mark_subrange(
     mark_expr(marks, low)?;
     marks.token()?;
     mark_expr(marks, high)?;
-    marks.token()?;
-    marks.node(node, at)
-}
-
-#[cycle(types)]
-fn mark_record(
-    marks: &mut Marks,
-    node: u32,
-    first: &FieldList,
-    more: &[FieldList],
-) -> Result<(), NoMemory>
-    ensures { Walks result marks.old marks.new (places.mark_plain (tree.record_type node
-        (view.view_field_list first.now) (view.field_lists_of more.now))) }
-{
-    let at = marks.end;
-    marks.token()?;
-    mark_fields(marks, first)?;
-    mark_field_tail(marks, more)?;
     marks.token()?;
     marks.node(node, at)
 }
