@@ -1,6 +1,5 @@
 // Declarations, blocks and the module.
 ghost use Rattle.std.specs.Prelude.{◌≡◌, IfOk};
-ghost use Rattle.alma_rules.specs.Numbered as tree;
 ghost use Rattle.alma_rules.specs.Places as places;
 ghost use Rattle.alma_rules.specs.Modules as modules;
 ghost use Rattle.alma_rules.specs.View as view;

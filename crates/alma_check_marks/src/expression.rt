@@ -155,7 +155,8 @@ fn mark_paren(marks: &mut Marks, node: u32, body: &Stmts) -> Result<(), NoMemory
 #[cycle(marks)]
 fn mark_inside(marks: &mut Marks, body: &Stmts) -> Result<(), NoMemory>
     ensures { Walks result marks.old marks.new (places.first_step
-        (places.mark_only (view.view_stmts body.now)) (places.mark_stmts (view.view_stmts body.now))) }
+        (places.mark_only (view.view_stmts body.now))
+        (places.mark_stmts (view.view_stmts body.now))) }
 {
     if !body.more.is_empty() {
         return mark_stmts(marks, body);

@@ -89,12 +89,7 @@ fn mark_stmt(marks: &mut Marks, stmt: &Stmt) -> Result<(), NoMemory>
 }
 
 #[cycle(marks)]
-fn mark_assign(
-    marks: &mut Marks,
-    node: u32,
-    target: &Desig,
-    value: &Expr,
-) -> Result<(), NoMemory>
+fn mark_assign(marks: &mut Marks, node: u32, target: &Desig, value: &Expr) -> Result<(), NoMemory>
     ensures { Walks result marks.old marks.new (places.mark_stmt
         (tree.assign node (view.view_desig target.now) (view.view_expr value.now))) }
 {
@@ -140,12 +135,7 @@ fn mark_returned(marks: &mut Marks, value: &Option<Expr>) -> Result<(), NoMemory
 }
 
 #[cycle(marks)]
-fn mark_read(
-    marks: &mut Marks,
-    node: u32,
-    first: &Desig,
-    more: &[Desig],
-) -> Result<(), NoMemory>
+fn mark_read(marks: &mut Marks, node: u32, first: &Desig, more: &[Desig]) -> Result<(), NoMemory>
     ensures { Walks result marks.old marks.new (places.mark_stmt
         (tree.read_stmt node (view.view_desig first.now) (view.desigs_of more.now))) }
 {

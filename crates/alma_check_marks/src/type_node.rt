@@ -128,12 +128,7 @@ fn mark_listed(marks: &mut Marks, node: u32, names: &Names) -> Result<(), NoMemo
     marks.node(node, at)
 }
 
-fn mark_subrange(
-    marks: &mut Marks,
-    node: u32,
-    low: &Expr,
-    high: &Expr,
-) -> Result<(), NoMemory>
+fn mark_subrange(marks: &mut Marks, node: u32, low: &Expr, high: &Expr) -> Result<(), NoMemory>
     ensures { Walks result marks.old marks.new (places.mark_plain
         (tree.subrange node (view.view_expr low.now) (view.view_expr high.now))) }
 {
