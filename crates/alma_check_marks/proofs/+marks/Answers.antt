@@ -406,3 +406,7 @@ form::mark_forall-returns t c = ends c.node.result _ _ (begins c.in_ok-begin.ens
 pub form::mark_commit-returns : goal.form::mark_commit-returns
 unfolding places.mark_expr
 form::mark_commit-returns t c = ends c.node.result _ _ (begins c.in_ok-begin.ensures (c.in_ok-mark_stmts.ensures ▹ c.in_ok-token.ensures)) c.node.ensures
+
+pub expression::mark_paren-returns : goal.expression::mark_paren-returns
+unfolding places.mark_expr
+expression::mark_paren-returns t c = ends c.node.result _ _ (c.in_ok-token.ensures ▹ c.in_ok-mark_inside.ensures ▹ c.in_ok-token-2.ensures) c.node.ensures
