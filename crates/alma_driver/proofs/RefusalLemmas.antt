@@ -269,7 +269,7 @@ one_check_fault : (source : List ℕ) (fault other : CheckFault) (at place : ℕ
 one_check_fault source fault other at place h i =
     let same = same_tree source h.tokens i.tokens h.tree i.tree h.parsed i.parsed in
     let there : check_fault source h.tokens (view_module h.tree) ≡ Some (record { node = i.node; fault = other }) =
-        ap (λ (ts : List Lexeme). check_fault source ts (view_module h.tree)) same.tokens ∙ ap (check_fault source i.tokens) same.trees ∙ i.least in
+    ap (λ (ts : List Lexeme). check_fault source ts (view_module h.tree)) same.tokens ∙ ap (check_fault source i.tokens) same.trees ∙ i.least in
     let both : Some (record { node = h.node; fault = fault }) ≡ Some (record { node = i.node; fault = other }) = sym h.least ∙ there in
     let node : h.node ≡ i.node = ap node_in both in (
       ap fault_in both,
@@ -291,7 +291,7 @@ pub one_program : (source : List ℕ) (p q : Program) → IsProgramOf source p �
 one_program source p q h i =
     let same = same_tree source h.tokens i.tokens h.tree i.tree h.parsed i.parsed in
     let both : Some p ≡ Some q =
-        sym h.program ∙ ap (λ (ts : List Lexeme). resolved source ts (view_module h.tree)) same.tokens ∙ ap (resolved source i.tokens) same.trees ∙ i.program in
+    sym h.program ∙ ap (λ (ts : List Lexeme). resolved source ts (view_module h.tree)) same.tokens ∙ ap (resolved source i.tokens) same.trees ∙ i.program in
     ap (λ (o : Option Program). unwrap_or o p) both
 
 -- what the parser refuses has no tree
@@ -325,7 +325,7 @@ unbroken_refused source fault at p h i =
     let same = same_tree source h.tokens i.tokens h.tree i.tree h.parsed i.parsed in
     let none : check_fault source i.tokens (view_module i.tree) ≡ None = ap least i.unbroken in
     let there : check_fault source i.tokens (view_module i.tree) ≡ Some (record { node = h.node; fault = fault }) =
-        sym (ap (λ (ts : List Lexeme). check_fault source ts (view_module h.tree)) same.tokens ∙ ap (check_fault source i.tokens) same.trees) ∙ h.least in
+    sym (ap (λ (ts : List Lexeme). check_fault source ts (view_module h.tree)) same.tokens ∙ ap (check_fault source i.tokens) same.trees) ∙ h.least in
     cc (none, there)
 
 -- what is refused is no program

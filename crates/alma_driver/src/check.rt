@@ -59,11 +59,7 @@ fn check_tree(
 }
 
 // Parses the tokens of a source, and checks their tree.
-fn check_tokens(
-    alloc: Global,
-    source: &[u8],
-    tokens: &[Token<'_>],
-) -> Result<Program, SourceStop>
+fn check_tokens(alloc: Global, source: &[u8], tokens: &[Token<'_>]) -> Result<Program, SourceStop>
     requires scanned { Tokens source.now (lexemes tokens.now) }
     requires few { length tokens.now ≤ source_limit }
     requires short { length source.now ≤ source_limit }

@@ -8,8 +8,26 @@ use anyhow::{Result, anyhow};
 use std::alloc::Global;
 
 const NAMES: [&str; 20] = [
-    "change", "collatz", "colours", "gcd", "hello", "knapsack", "knight", "magic", "money", "packing",
-    "pair", "path", "queens", "river", "squares", "sudoku", "timetable", "words", "year", "zebra",
+    "change",
+    "collatz",
+    "colours",
+    "gcd",
+    "hello",
+    "knapsack",
+    "knight",
+    "magic",
+    "money",
+    "packing",
+    "pair",
+    "path",
+    "queens",
+    "river",
+    "squares",
+    "sudoku",
+    "timetable",
+    "words",
+    "year",
+    "zebra",
 ];
 
 // The most bytes of an input, and of what an example prints.
@@ -47,7 +65,11 @@ fn main(rt: HostRuntime) -> Result<()> {
         let mut out = MemSink::new(alloc, LIMIT, LIMIT, &[]).map_err(starved)?;
         let words = words_of(alloc, name)?;
         let status = alma(alloc, &words, &mut files, &mut input, &mut out, &mut err);
-        let verdict = if out.bytes() == wanted.as_slice() { "as it must be" } else { "not as it must be" };
+        let verdict = if out.bytes() == wanted.as_slice() {
+            "as it must be"
+        } else {
+            "not as it must be"
+        };
         println!(rt; "{name}.al: status {}, output {verdict}", status.0)?;
     }
     Ok(())
