@@ -10,7 +10,9 @@ use call::status_past_limit;
 use case::Case;
 use std::alloc::Global;
 
-const NAMES: [&str; 4] = [
+const NAMES: [&str; 6] = [
+    "check.jsonl",
+    "run.jsonl",
     "faults.jsonl",
     "words.jsonl",
     "objects.jsonl",

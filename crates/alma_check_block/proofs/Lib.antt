@@ -1,0 +1,6 @@
+mod Rows
+mod Texts
+mod Frames
+mod Opening
+mod Headings
+mod Leaving

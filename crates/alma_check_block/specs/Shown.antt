@@ -1,15 +1,28 @@
 -- What the code's frame of a routine shows of the frame that the rules speak of.
-use Rattle.std.specs.Prelude.{ℕ, List, Option, option_map, map}
+use Rattle.std.specs.Global.{Global}
+use Rattle.std.specs.Prelude.{ℕ, List, Option, option_map, map, Vec}
+use Rattle.alma_base.specs.Choice.{if_true}
+use Rattle.alma_tree.specs.declared.leaf.Mode.{Mode}
 use Rattle.alma_ir.specs.declared.program.Param.{Param}
 use Rattle.alma_ir.specs.Tree as ir
 use Rattle.alma_ir.specs.View.{global_of}
-use Rattle.alma_rules.specs.Judged.{Broken}
-use Rattle.alma_rules.specs.Scene.{Scene, FormalOf}
+use Rattle.alma_rules.specs.Numbered as tree
+use Rattle.alma_rules.specs.Judged.{Broken, broken_at}
+use Rattle.alma_rules.specs.Scene.{Scene, FormalOf, is_first, is_structured}
 use Rattle.alma_rules.specs.Answers.{first}
+use Rattle.alma_rules.specs.Types.{redeclared}
 use Rattle.alma_rules.specs.Decls as rules
+use Rattle.alma_check_rules.specs.declared.env.Formal.{Formal}
 use Rattle.alma_check_rules.specs.Views.{formal_view}
 use Rattle.alma_check_reader.specs.Told.{fault_of}
 use Rattle.alma_check_block.specs.declared.frame.Frame.{Frame}
+
+-- formals, each None where its type is Bad, and all of them where none is
+abbrev pub formals_view : List (Option Formal) → List (Option FormalOf)
+formals_view xs = map (λ o. option_map formal_view o) xs
+
+abbrev pub formals_in : Option (Vec Formal Global) → Option (List FormalOf)
+formals_in v = option_map (λ x. map formal_view x.items) v
 
 -- what is told of a frame: its first broken rule, and all the rest of it
 pub record ToldFrame : Type 0 where
@@ -40,6 +53,12 @@ shown s x = record {
   slots = x.slots;
   declared = x.declared;
   params = x.params.items;
-  formals = map (λ o. option_map formal_view o) x.formals.items;
+  formals = formals_view x.formals.items;
   variables = map global_of x.variables.items;
 }
+
+-- a parameter whose type is not Bad, apart from its formal
+abbrev pub param_shaped : rules.Frame → (from : ℕ) → Option Mode → (shape : ℕ) → tree.Name → rules.Frame
+param_shaped f from mode shape name = if_true (is_first f.scene name)
+    (λ _. rules.limited name (rules.with_param f name from mode shape (rules.param_kind (is_structured f.scene shape) mode)))
+    (λ _. rules.with_faults f (broken_at name.node (redeclared f.scene name)))

@@ -1,7 +1,18 @@
 // The frame of a routine, as far as its declarations are read.
-use alma_check_reader::Broken;
+ghost use Rattle.std.specs.Prelude.{◌≡◌, List};
+ghost use Rattle.alma_rules.specs.Judged.{Broken as RuleBroken, broken_at};
+ghost use Rattle.alma_rules.specs.Scene.{Scene};
+ghost use Rattle.alma_rules.specs.Answers.{first};
+ghost use Rattle.alma_rules.specs.Decls as rules;
+ghost use Rattle.alma_rules.specs.View.{view_name};
+ghost use Rattle.alma_check_reader.specs.Told.{fault_of};
+ghost use Rattle.alma_check_block.specs.Shown.{shown, told_frame};
+
+use alma_base::{CELL_LIMIT, CheckFault};
+use alma_check_reader::{Broken, earlier};
 use alma_check_rules::Formal;
 use alma_ir::Param;
+use alma_tree::Name;
 use std::alloc::Global;
 
 /// What the declarations of a block leave beside its scene.
@@ -17,4 +28,52 @@ pub struct Frame {
     /// The formals, each None where its type is Bad.
     pub formals: Vec<Option<Formal>>,
     pub variables: Vec<alma_ir::Global>,
+}
+
+/// The frame before any declaration, whose first free slot is this.
+pub fn new_frame(alloc: Global, slots: u32) -> Frame
+    ensures { (s : Scene) → shown s result ≡ told_frame (rules.new_frame s slots) }
+{
+    Frame {
+        fault: None,
+        slots,
+        declared: 0,
+        params: Vec::new(alloc),
+        formals: Vec::new(alloc),
+        variables: Vec::new(alloc),
+    }
+}
+
+impl Frame {
+    /// Notes a broken rule behind those so far.
+    pub fn add_fault(&mut self, fault: Option<Broken>)
+        ensures { (s : Scene) (f : rules.Frame) (faults : List RuleBroken)
+            → shown s self.old ≡ told_frame f → fault_of fault ≡ first faults
+            → shown s self.new ≡ told_frame (rules.with_faults f faults) }
+    {
+        self.fault = earlier(self.fault, fault);
+    }
+
+    // The fault of a name with which the declared cells pass the limit.
+    fn over_limit(&self, name: &Name) -> Option<Broken>
+        ensures { (s : Scene) (f : rules.Frame) → shown s self.now ≡ told_frame f
+            → fault_of result ≡ first (broken_at name.now.node (rules.passes_limit f)) }
+    {
+        if self.declared <= CELL_LIMIT {
+            return None;
+        }
+        Some(Broken {
+            node: name.node,
+            fault: CheckFault::TooLarge,
+        })
+    }
+
+    /// Notes whether the declared cells pass the limit with a name.
+    pub fn limit(&mut self, name: &Name)
+        ensures { (s : Scene) (f : rules.Frame) → shown s self.old ≡ told_frame f
+            → shown s self.new ≡ told_frame (rules.limited (view_name name.now) f) }
+    {
+        let fault = self.over_limit(name);
+        self.add_fault(fault);
+    }
 }

@@ -1,5 +1,5 @@
 -- What is told of a constant.
-use Rattle.std.proofs.Common.{◌≡◌, ℕ, List, [], ◌∷◌, Option, None, Some, Result, Ok, Err, refl, sym, ap, ◌∙◌}
+use Rattle.std.proofs.Common.{◌≡◌, ℕ, List, [], Option, None, Some, Result, Ok, Err, refl, ap, ◌∙◌}
 use Rattle.std.specs.Prelude.{option_map, IfOk}
 use Rattle.alma_rules.specs.Judged.{Broken, Judged}
 use Rattle.alma_rules.specs.Numbered as tree
@@ -7,7 +7,7 @@ use Rattle.alma_rules.specs.Scene.{Scene, in_constant}
 use Rattle.alma_rules.specs.Parts.{Typing}
 use Rattle.alma_rules.specs.Answers.{first}
 use Rattle.alma_rules.specs.Walk.{judge_expr}
-use Rattle.alma_rules.specs.Types.{Reading, reading_then, reading_at, reading_change, reading_with, read_constant, subrange_rules, subrange_of}
+use Rattle.alma_rules.specs.Types.{reading_then, reading_at, reading_change, reading_with, read_constant, subrange_rules, subrange_of}
 use Rattle.alma_check_reader.specs.Told.{Told, told, told_both, told_sub, bound_of, a_told}
 use Rattle.alma_check_reader.specs.declared.reading.Bound.{Bound}
 use Rattle.alma_check_reader.proofs.Tells.{told_as}
@@ -43,4 +43,5 @@ ok_as a b f (Err x) h e = tt
 -- a subrange of its bounds
 pub sub_by : (s : Scene) (n : ℕ) (low high : tree.Expr) (a b : Told Bound) → told (reading_with bound_of (read_constant s low)) ≡ a → told (reading_with bound_of (read_constant s high)) ≡ b
     → told (reading_change subrange_of (reading_at n (subrange_rules s) (reading_then (read_constant s low) (λ i. read_constant i high)))) ≡ told_sub n (told_both a b)
-sub_by s n low high a b h k = sub_told s n low high ∙ rw (h, k) refl
+sub_by s n low high a b h k =
+    sub_told s n low high ∙ ap (λ x. told_sub n (told_both x (told (reading_with bound_of (read_constant s high))))) h ∙ ap (λ y. told_sub n (told_both a y)) k

@@ -1,6 +1,6 @@
 -- What is told of a type whose parts have been read: one equation for each clause of the rules of types.
-use Rattle.std.proofs.Common.{◌≡◌, ℕ, ◌+◌, ◌<◌, ◌≤◌, List, [], ◌∷◌, ◌++◌, Option, None, Some, length, get_or, drop, refl, sym, ap, subst, ◌∙◌, append_assoc, append-nil, Vec, Global, Box, Result, Ok, Err}
-use Rattle.std.specs.Prelude.{option_map, IfOk}
+use Rattle.std.proofs.Common.{◌≡◌, ℕ, ◌+◌, ◌<◌, ◌≤◌, List, [], ◌++◌, Option, None, Some, length, get_or, drop, refl, sym, ap, subst, ◌∙◌, append-nil, Vec, Global, Box, Result, Ok, Err}
+use Rattle.std.specs.Prelude.{IfOk}
 use Rattle.alma_tree.specs.declared.type_node.PlainType as dq
 use Rattle.alma_tree.specs.declared.type_node.Dimensions as dv
 use Rattle.alma_tree.specs.declared.type_node.FieldList as dw
@@ -10,12 +10,12 @@ use Rattle.alma_tree.specs.declared.leaf.Names.{Names}
 use Rattle.alma_names.specs.Shapes.{PlainField}
 use Rattle.alma_rules.specs.Numbered as tree
 use Rattle.alma_rules.specs.View as view
-use Rattle.alma_rules.specs.Judged.{Broken, both_of}
+use Rattle.alma_rules.specs.Judged.{Broken}
 use Rattle.alma_rules.specs.Scene.{Scene}
 use Rattle.alma_rules.specs.Types as types
 use Rattle.std.proofs.lemmas.List.{drop_all}
 use Rattle.alma_walk.proofs.Exprs.{next_of}
-use Rattle.alma_check_reader.specs.Told.{Told, told, told_both, told_with, told_at, told_change, told_index, told_type, told_sub, earlier, onward, join, alone, a_told}
+use Rattle.alma_check_reader.specs.Told.{Told, told, told_both, told_with, told_at, told_index, told_type, onward, join, alone, a_told}
 use Rattle.alma_check_reader.specs.Fields.{ToldFields, Knows, nothing_told, shaped, joined, told_on, told_list, told_record}
 use Rattle.alma_check_decl.proofs.TypeRows.{type_is, record_is}
 use Rattle.alma_check_decl.proofs.TypeTokens.{type_tokens}
@@ -272,16 +272,16 @@ empty_by s l n t before es is k = rw is (empty_on s t before n, subst (λ ns. Kn
 
 pub fields_on : {X E : Type 0} (s j : Scene) (before : List tree.Name) (n : ℕ) (names : Names) (y : dy.TypeNode) (t : ToldFields) (look : X → ToldFields) (es : X → List (Vec ℕ Global × ℕ)) (r : Result X E)
     → IfOk r (λ x. (told_list (joined (shaped (told (types.read_type s (view.view_type_node y))).scene.tokens before (told (types.read_type s (view.view_type_node y))).value (types.all_names (view.view_names names)) t)
-        (told (types.read_type s (view.view_type_node y)))) (told (types.read_type s (view.view_type_node y))).scene ≡ told_list (look x) j)
-        × Knows j.tokens (es x) (before ++ types.all_names (view.view_names names)))
+    (told (types.read_type s (view.view_type_node y)))) (told (types.read_type s (view.view_type_node y))).scene ≡ told_list (look x) j)
+    × Knows j.tokens (es x) (before ++ types.all_names (view.view_names names)))
     → IfOk r (λ x. (told_on t (told (types.read_fields s before (view.view_field_list (dw.Fields n names y)))) ≡ told_list (look x) j)
-        × Knows j.tokens (es x) (before ++ types.field_names (view.view_field_list (dw.Fields n names y))))
+    × Knows j.tokens (es x) (before ++ types.field_names (view.view_field_list (dw.Fields n names y))))
 fields_on s j before n names y t look es (Ok x) h =
     let r : types.Reading ℕ = types.read_type s (view.view_type_node y) in (
       ap (λ z. told_on t (told z)) (fields_eq s before n (view.view_names names) (view.view_type_node y))
-      ∙ fields_told s before (types.all_names (view.view_names names)) t r
-      ∙ ap (λ k. told_list (joined (shaped k before r.value (types.all_names (view.view_names names)) t) (told r)) r.scene) (sym (type_tokens s (view.view_type_node y)))
-      ∙ h.0,
+          ∙ fields_told s before (types.all_names (view.view_names names)) t r
+          ∙ ap (λ k. told_list (joined (shaped k before r.value (types.all_names (view.view_names names)) t) (told r)) r.scene) (sym (type_tokens s (view.view_type_node y)))
+          ∙ h.0,
       h.1,
     )
 fields_on s j before n names y t look es (Err x) h = tt

@@ -1,15 +1,14 @@
 -- A type leaves the tokens of its scene.
-use Rattle.std.proofs.Common.{◌≡◌, ℕ, ◌+◌, List, [], ◌∷◌, ◌++◌, Option, None, Some, Bool, true, false, refl, ap, sym, ◌∙◌}
+use Rattle.std.proofs.Common.{◌≡◌, ℕ, ◌+◌, List, [], ◌∷◌, ◌++◌, Option, None, Some, Bool, true, false, refl, ◌∙◌}
 use Rattle.std.specs.Prelude.{ℤ, option_map, if◌then◌else◌, length}
 use Rattle.alma_base.specs.Choice.{if_true}
-use Rattle.alma_names.specs.Shapes.{PlainShape, PlainField, row, sub, listed, fields, is_too_large, placed_shape, cell_counts}
+use Rattle.alma_names.specs.Shapes.{PlainShape, row, sub, listed, fields, is_too_large, placed_shape, cell_counts}
 use Rattle.alma_names.specs.declared.block.Entry.{Entry}
 use Rattle.alma_names.specs.Scopes.{with_declared}
 use Rattle.alma_rules.specs.Numbered as tree
 use Rattle.alma_rules.specs.Judged.{Broken}
 use Rattle.alma_rules.specs.Scene.{Scene, base, is_first, text_at}
-use Rattle.alma_rules.specs.Parts.{Typing}
-use Rattle.alma_rules.specs.Types.{Reading, reading_at, reading_then, reading_with, subrange_rules, reading_change, changed, add_shape, Formed, formed, too_large, row_on, rows_on, rows_of, record_of, subrange_of, subrange_from, declared, value_entry, declare_values, listed_in, read_listed, all_first, redeclared_all, all_names, last_token, field_names, joined_fields, read_constant, read_type, read_arrays, read_dimension_tail, read_dimensions, read_plains, read_plain, read_fields, read_field_tail, index_at}
+use Rattle.alma_rules.specs.Types.{Reading, reading_at, reading_then, reading_with, subrange_rules, reading_change, changed, add_shape, Formed, formed, too_large, row_on, rows_on, rows_of, record_of, subrange_of, subrange_from, declared, value_entry, declare_values, listed_in, read_listed, all_first, redeclared_all, all_names, last_token, field_names, joined_fields, read_constant, read_type, read_arrays, read_dimension_tail, read_dimensions, read_plains, read_plain, read_fields, read_field_tail}
 
 shape_tokens : (s : Scene) (x : PlainShape) → (add_shape s x).0.tokens ≡ s.tokens
 shape_tokens s x = go (is_too_large s.shapes x)

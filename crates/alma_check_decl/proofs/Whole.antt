@@ -3,13 +3,12 @@ use Rattle.std.proofs.Common.{◌≡◌, ℕ, List, [], ◌∷◌, ◌++◌, Boo
 use Rattle.std.specs.Prelude.{true, false, option_map, option_and_then, pos, nat_eq, length}
 use Rattle.alma_base.specs.Choice.{if_true}
 use Rattle.alma_base.specs.declared.fault.CheckFault.{CheckFault}
-use Rattle.alma_tree.specs.declared.leaf.Relation.{Relation}
 use Rattle.alma_tree.specs.declared.leaf.Sign.{Sign}
 use Rattle.alma_ir.specs.Tree as ir
 use Rattle.alma_rules.specs.Numbered as tree
-use Rattle.alma_rules.specs.Judged.{Judged, Broken, at_node, broken_at, unless, both_of, both, with, with_some, fine}
-use Rattle.alma_rules.specs.Scene.{Scene, FormalOf, found, in_constant, inside_of, text_at, literal_at, row_at}
-use Rattle.alma_rules.specs.Parts.{Typing, Located, Denoted, a_constant, a_variable, a_routine, no_array, Operands, Span, select_in, select_index, located_in, write_stmts, one_stmt}
+use Rattle.alma_rules.specs.Judged.{Judged, Broken, at_node, broken_at, unless, both_of, both, with, fine}
+use Rattle.alma_rules.specs.Scene.{Scene, FormalOf, found, in_constant, inside_of, literal_at, row_at}
+use Rattle.alma_rules.specs.Parts.{Typing, Denoted, denoted, a_constant, a_variable, a_routine, no_array, Operands, Span, select_in, select_index, located_in, write_stmts, one_stmt}
 use Rattle.alma_rules.specs.ExprRules.{as_variable, as_value, as_procedure, Use, Operand, array_rules}
 use Rattle.alma_rules.specs.StmtRules.{write_rules}
 use Rattle.alma_rules.specs.Nodes.{condition_at, read_at, first_add, first_mul, indexed, in_parens, as_sequence, or_sequence, only_of, argument_count, formals_of, sum_at, product_at, loop_variable, text_item, item_of, item_literal, text_rules}
@@ -139,14 +138,18 @@ item_whole : (s : Scene) (n node : ℕ) (l : Option (ℕ × ℕ)) (item : Judged
 item_whole s n node None item p = whole_map _ _ _ (whole_node node _ _ _ p)
 item_whole s n node (Some l) item p = text_whole s n l.0 (literal_at s l.1) item node p
 
-condition_whole : (s : Scene) (e : tree.Expr) (j : Judged Typing) → Whole j.faults j.value → Whole (condition_at s e j).faults (condition_at s e j).value
-condition_whole s e j p = whole_map _ _ _ (whole_node (tree.expr_node e) _ _ _ p)
+-- what is judged, but for the next free slot
+abbrev judged_as : {A : Type 0} → List Broken → Option A → Judged A
+judged_as a v = record { faults = a; next = 0; value = v }
 
-read_whole : (s : Scene) (d : tree.Desig) (j : Judged Denoted) → Whole j.faults j.value → Whole (read_at s d j).faults (read_at s d j).value
-read_whole s d j p = whole_map _ _ _ (whole_node (tree.desig_node d) _ _ _ (whole_some _ _ _ p))
+condition_whole : (s : Scene) (e : tree.Expr) (a : List Broken) (v : Option Typing) → Whole a v → Whole (condition_at s e (judged_as a v)).faults (condition_at s e (judged_as a v)).value
+condition_whole s e a v p = whole_map _ _ _ (whole_node (tree.expr_node e) _ _ _ p)
+
+read_whole : (s : Scene) (d : tree.Desig) (a : List Broken) (v : Option Denoted) → Whole a v → Whole (read_at s d (judged_as a v)).faults (read_at s d (judged_as a v)).value
+read_whole s d a v p = whole_map _ _ _ (whole_node (tree.desig_node d) _ _ _ (whole_some _ _ _ p))
 
 loop_name_whole : (s : Scene) (n : ℕ) (name : tree.Name) → Whole (loop_variable s n name).faults (loop_variable s n name).value
-loop_name_whole s n name = whole_node name.node [] _ _ (whole_some [] _ _ (whole_fine _))
+loop_name_whole s n name = whole_node name.node [] _ _ (whole_some [] located_in (denoted s (found s name)) (whole_fine (denoted s (found s name))))
 
 -- ---- the walk
 
@@ -164,14 +167,14 @@ mutual
   stmt_whole s n (tree.nothing k) = whole_fine _
   stmt_whole s n (tree.assign k d e) =
       whole_map _ _ _ (whole_node k _ _ _ (whole_both _ _ _ _ (whole_some _ _ _ (desig_whole s n as_variable d)) (expr_whole s _ e)))
-  stmt_whole s n (tree.value k e) = whole_map _ _ _ (whole_map _ _ _ (condition_whole s e _ (expr_whole s n e)))
+  stmt_whole s n (tree.value k e) = whole_map _ _ _ (whole_map _ _ _ (condition_whole s e _ _ (expr_whole s n e)))
   stmt_whole s n (tree.if_stmt k e body elsifs other) =
-      whole_map _ _ _ (whole_map _ _ _ (whole_both _ _ _ _ (condition_whole s e _ (expr_whole s n e))
+      whole_map _ _ _ (whole_map _ _ _ (whole_both _ _ _ _ (condition_whole s e _ _ (expr_whole s n e))
       (whole_both _ _ _ _ (stmts_whole s _ body) (whole_both _ _ _ _ (elsifs_whole s _ elsifs) (else_whole s _ other)))))
   stmt_whole s n (tree.while_stmt k e body) =
-      whole_map _ _ _ (whole_map _ _ _ (whole_both _ _ _ _ (condition_whole s e _ (expr_whole s n e)) (stmts_whole s _ body)))
+      whole_map _ _ _ (whole_map _ _ _ (whole_both _ _ _ _ (condition_whole s e _ _ (expr_whole s n e)) (stmts_whole s _ body)))
   stmt_whole s n (tree.repeat_stmt k body e) =
-      whole_map _ _ _ (whole_map _ _ _ (whole_both _ _ _ _ (stmts_whole s n body) (condition_whole s e _ (expr_whole s _ e))))
+      whole_map _ _ _ (whole_map _ _ _ (whole_both _ _ _ _ (stmts_whole s n body) (condition_whole s e _ _ (expr_whole s _ e))))
   stmt_whole s n (tree.for_stmt k name low high by body) =
       whole_map _ _ _ (whole_map _ _ _ (whole_map _ _ _ (whole_node k _ _ _ (whole_both _ _ _ _ (loop_name_whole s n name) (whole_both _ _ _ _ (expr_whole s _ low)
       (whole_both _ _ _ _ (expr_whole s _ high) (whole_both _ _ _ _ (by_whole s _ by) (stmts_whole s _ body))))))))
@@ -187,14 +190,14 @@ mutual
   stmt_whole s n (tree.commit_stmt k body) = whole_map _ _ _ (whole_map _ _ _ (stmts_whole (inside_of s) n body))
   stmt_whole s n (tree.return_stmt k e) = whole_map _ _ _ (returned_whole s n k e)
   stmt_whole s n (tree.read_stmt k d rest) =
-      whole_map _ _ _ (whole_both _ _ _ _ (read_whole s d _ (desig_whole s n as_variable d)) (reads_whole s _ rest))
+      whole_map _ _ _ (whole_both _ _ _ _ (read_whole s d _ _ (desig_whole s n as_variable d)) (reads_whole s _ rest))
   stmt_whole s n (tree.write_stmt k items) = items_whole s n items
   stmt_whole s n (tree.writeln_stmt k items) = whole_map _ _ _ (line_items_whole s n items)
 
   elsifs_whole : (s : Scene) (n : ℕ) (x : tree.ElsifTail) → Whole (judge_elsifs s n x).faults (judge_elsifs s n x).value
   elsifs_whole s n tree.no_elsif = whole_fine _
   elsifs_whole s n (tree.more_elsif e body rest) =
-      whole_map _ _ _ (whole_both _ _ _ _ (condition_whole s e _ (expr_whole s n e)) (whole_both _ _ _ _ (stmts_whole s _ body) (elsifs_whole s _ rest)))
+      whole_map _ _ _ (whole_both _ _ _ _ (condition_whole s e _ _ (expr_whole s n e)) (whole_both _ _ _ _ (stmts_whole s _ body) (elsifs_whole s _ rest)))
 
   else_whole : (s : Scene) (n : ℕ) (x : tree.Else) → Whole (judge_else s n x).faults (judge_else s n x).value
   else_whole s n tree.no_else = whole_fine _
@@ -239,7 +242,7 @@ mutual
 
   reads_whole : (s : Scene) (n : ℕ) (x : tree.DesigTail) → Whole (judge_reads s n x).faults (judge_reads s n x).value
   reads_whole s n tree.no_desig = whole_fine _
-  reads_whole s n (tree.more_desig d rest) = whole_map _ _ _ (whole_both _ _ _ _ (read_whole s d _ (desig_whole s n as_variable d)) (reads_whole s _ rest))
+  reads_whole s n (tree.more_desig d rest) = whole_map _ _ _ (whole_both _ _ _ _ (read_whole s d _ _ (desig_whole s n as_variable d)) (reads_whole s _ rest))
 
   items_whole : (s : Scene) (n : ℕ) (x : tree.Exprs) → Whole (judge_items s n x).faults (judge_items s n x).value
   items_whole s n (tree.exprs e rest) =

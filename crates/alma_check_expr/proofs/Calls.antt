@@ -1,5 +1,5 @@
 -- What the walk says of arguments, as the code meets them.
-use Rattle.std.proofs.Common.{◌≡◌, ℕ, ◌+◌, ◌<◌, suc, List, [], ◌∷◌, Option, None, Some, length, get_or, drop, refl, sym, ap, ◌∙◌}
+use Rattle.std.proofs.Common.{◌≡◌, ℕ, ◌+◌, ◌<◌, zero, suc, List, [], ◌∷◌, Option, Some, length, get_or, drop, refl, sym, ap, ◌∙◌, arith}
 use Rattle.std.specs.Prelude.{slice_get}
 use Rattle.alma_tree.specs.declared.phrase.Expr as de
 use Rattle.alma_tree.specs.declared.phrase.Exprs as dx
@@ -17,14 +17,21 @@ use Rattle.alma_check_expr.proofs.Begins.{begun}
 
 -- ---- formals by their places
 dropped_first : {A : Type 0} (k : ℕ) (xs : List A) → slice_get (drop k xs) 0 ≡ slice_get xs k
-dropped_first 0 xs = refl
+dropped_first zero xs = refl
 dropped_first (suc k) [] = refl
 dropped_first (suc k) (x ∷ xs) = dropped_first k xs
 
+dropped_none : {A : Type 0} (k : ℕ) → drop {A = A} k [] ≡ []
+dropped_none zero = refl
+dropped_none (suc k) = refl
+
+suc_more : (k : ℕ) → suc (k + 1) ≡ suc k + 1
+suc_more k = omega arith
+
 dropped_again : {A : Type 0} (k : ℕ) (xs : List A) → drop 1 (drop k xs) ≡ drop (k + 1) xs
-dropped_again 0 xs = refl
-dropped_again (suc k) [] = refl
-dropped_again (suc k) (x ∷ xs) = dropped_again k xs
+dropped_again zero xs = refl
+dropped_again (suc k) [] = sym (dropped_none (suc k + 1))
+dropped_again (suc k) (x ∷ xs) = dropped_again k xs ∙ ap (λ n. drop n (x ∷ xs)) (suc_more k)
 
 module _ (s : Scene) where
   -- an argument with its formal, where there is one

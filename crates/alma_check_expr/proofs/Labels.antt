@@ -1,9 +1,9 @@
 -- The labels that are noted as an arm of CASE is judged.
-use Rattle.std.proofs.Common.{◌≡◌, ℕ, ◌+◌, ◌<◌, ◌≤◌, List, [], ◌∷◌, ◌++◌, Option, None, Some, Vec, Global, length, get_or, drop, take, suc, refl, sym, ap, ◌∙◌}
+use Rattle.std.proofs.Common.{◌≡◌, ℕ, ◌+◌, ◌<◌, List, [], ◌∷◌, ◌++◌, Option, None, Some, Vec, Global, length, get_or, drop, take, suc, refl, sym, subst, ap, ◌∙◌}
 use Rattle.std.specs.Prelude.{is_some, unwrap_or, option_to_list, Bool, true, false, Result, Ok, Err, IsOk, OnOk}
 use Rattle.alma_rules.specs.Numbered as tree
 use Rattle.alma_rules.specs.Scene.{Scene}
-use Rattle.alma_rules.specs.Judged.{Judged, and_then, with}
+use Rattle.alma_rules.specs.Judged.{and_then, with}
 use Rattle.alma_rules.specs.Nodes as nodes
 use Rattle.alma_rules.specs.Walk as walk
 use Rattle.alma_rules.specs.Parts as parts
@@ -57,6 +57,10 @@ pub grown_begin : (old : List parts.Span) (xs : Option (List parts.Span)) → xs
 grown_begin old xs h = rw h (sym (nothing_behind old))
 
 -- what is said of a value, where there is one
+abbrev where_true : Type 0 → Bool → Type 0
+where_true P true = P
+where_true P false = Unit
+
 pub of_ok : {X E : Type 0} (r : Result X E) (P : Type 0) → IsOk r → OnOk r P → P
 of_ok (Ok x) P h p = p
-of_ok (Err e) P h p = absurd h
+of_ok (Err e) P h p = subst (λ (b : Bool). where_true P b) h tt

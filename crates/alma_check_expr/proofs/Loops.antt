@@ -1,5 +1,5 @@
 -- FOR and SOME, by what the code knows of their parts.
-use Rattle.std.proofs.Common.{◌≡◌, ℕ, ◌+◌, [], Option, None, Some, Vec, Global, Result, refl, sym, subst, ap, ◌∙◌}
+use Rattle.std.proofs.Common.{◌≡◌, ℕ, ◌+◌, [], Option, None, Vec, Global, Result, sym, ap, ◌∙◌}
 use Rattle.std.specs.Prelude.{pos, option_and_then}
 use Rattle.alma_tree.specs.declared.leaf.Name.{Name}
 use Rattle.alma_ir.specs.Tree as ir
@@ -7,9 +7,9 @@ use Rattle.alma_ir.specs.declared.phrase.Stmt.{Stmt}
 use Rattle.alma_rules.specs.declared.error.Stop.{Stop}
 use Rattle.alma_rules.specs.Numbered as tree
 use Rattle.alma_rules.specs.View.{view_name}
-use Rattle.alma_rules.specs.Judged.{Judged, fine, of_value, broken_at, with}
+use Rattle.alma_rules.specs.Judged.{fine, of_value, broken_at, with}
 use Rattle.alma_rules.specs.Answers.{Stops, Answers}
-use Rattle.alma_rules.specs.Scene.{Scene, found}
+use Rattle.alma_rules.specs.Scene.{found}
 use Rattle.alma_rules.specs.Parts as parts
 use Rattle.alma_rules.specs.StmtRules as stmt_rules
 use Rattle.alma_rules.specs.Nodes as nodes

@@ -1,15 +1,10 @@
 -- What is the same wherever a phrase stands.
-use Rattle.std.proofs.Common.{◌≡◌, ℕ, List, Option, None, Some, refl, ap, ◌∙◌}
-use Rattle.alma_tree.specs.declared.leaf.Mode.{Mode}
-use Rattle.alma_tree.specs.declared.leaf.Mode.TheVariants as modes
-use Rattle.alma_names.specs.declared.block.Entry.{Entry}
-use Rattle.alma_names.specs.declared.block.Entry.TheVariants as entry
+use Rattle.std.proofs.Common.{◌≡◌, ℕ, List, Option, refl}
 use Rattle.alma_rules.specs.Numbered as tree
 use Rattle.alma_rules.specs.Judged.{Judged}
-use Rattle.alma_rules.specs.Scene.{Scene, FormalOf, Found, absent, bad, constant, named, variable, routine, found, found_as, found_at}
+use Rattle.alma_rules.specs.Scene.{FormalOf, Found, found}
 use Rattle.alma_rules.specs.Parts as parts
 use Rattle.alma_rules.specs.ExprRules as rules
-use Rattle.alma_rules.specs.StmtRules as stmt_rules
 use Rattle.alma_rules.specs.Nodes as nodes
 use Rattle.alma_check_rules.specs.declared.env.Env.{Env}
 use Rattle.alma_check_rules.specs.declared.env.Place.{Place}

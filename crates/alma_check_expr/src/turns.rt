@@ -1,5 +1,5 @@
 // FOR and SOME.
-ghost use Rattle.std.specs.Prelude.{◌≡◌, ◌++◌, List, [], option_map, OnOk};
+ghost use Rattle.std.specs.Prelude.{◌≡◌, ◌+◌, ◌<◌, ◌^◌, ◌++◌, List, [], option_map, OnOk, IfOk};
 ghost use Rattle.alma_ir.specs.View.{test_of, else_option};
 ghost use Rattle.alma_rules.specs.Numbered as tree;
 ghost use Rattle.alma_rules.specs.View as view;
@@ -11,6 +11,7 @@ ghost use Rattle.alma_rules.specs.Nodes as nodes;
 ghost use Rattle.alma_rules.specs.Walk as walk;
 ghost use Rattle.alma_check_rules.specs.Views.{scene_of, typing_of, typing_in, located_of, denoted_of, headings_in, stmts_of, stmts_in, span_view, spans_view, spans_of, spans_in};
 ghost use Rattle.alma_check_build.specs.Lists.{guarded_of, arms_of, arms_in, cases_of, cases_in, branches_of, branches_in};
+ghost use Rattle.alma_check_join.specs.Bounded.{TakesLoop};
 ghost use Rattle.alma_check_join.specs.Onward.{onward_stmts, onward_arms, onward_cases, onward_branches, onward_spans};
 
 use crate::expression::check_expr;
@@ -23,6 +24,17 @@ use alma_ir::Stmt as IrStmt;
 use alma_rules::Stop;
 use alma_tree::{Expr, Name, Stmts};
 use std::alloc::Global;
+
+// The first of a loop's two hidden slots. That the second has a number too is known since the slot
+// behind them, which is read here, has one.
+fn take_slots(slot: &mut u32) -> Result<u32, Stop>
+    ensures taken { TakesLoop slot.old slot.new result }
+    ensures limit { IfOk result (λ n. n + 1 < 2 ^ 32) }
+{
+    let counter = take_loop(slot)?;
+    let _next = *slot;
+    Ok(counter)
+}
 
 /// FOR.
 #[cycle(check)]
@@ -43,7 +55,7 @@ pub fn check_for(
         (view.view_expr to.now) (view.by_of by.now) (view.view_stmts body.now))) stmts_of
         slot.new result }
 {
-    let counter = take_loop(slot)?;
+    let counter = take_slots(slot)?;
     let found = check_loop_name(env, place, variable)?;
     let low = check_expr(alloc, env, place, slot, from)?;
     let high = check_expr(alloc, env, place, slot, to);
@@ -95,7 +107,7 @@ pub fn check_some(
         (tree.some_stmt node (view.view_name variable.now) (view.view_expr from.now)
         (view.view_expr to.now) (view.view_stmts body.now))) stmts_of slot.new result }
 {
-    let counter = take_loop(slot)?;
+    let counter = take_slots(slot)?;
     let found = check_loop_name(env, place, variable)?;
     let low = check_expr(alloc, env, place, slot, from)?;
     let high = check_expr(alloc, env, place, slot, to);

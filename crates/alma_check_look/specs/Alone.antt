@@ -3,13 +3,12 @@ use Rattle.std.specs.Prelude.{Option, None, Some, if◌then◌else◌}
 use Rattle.alma_rules.specs.Numbered as tree
 use Rattle.alma_check_chain.specs.Single.{one_term, one_factor}
 
-abbrev pub factor_alone : tree.Factor → Option tree.Primary
+unfoldable pub factor_alone : tree.Factor → Option tree.Primary
 factor_alone (tree.factor i p) = Some p
 factor_alone (tree.not_factor i p) = None
 
-abbrev pub term_alone : tree.Term → Option tree.Primary
+unfoldable pub term_alone : tree.Term → Option tree.Primary
 term_alone (tree.term k f rest) = if one_factor rest then factor_alone f else None
 
-abbrev pub simple_alone : tree.Simple → Option tree.Primary
+unfoldable pub simple_alone : tree.Simple → Option tree.Primary
 simple_alone (tree.simple m sign t rest) = if one_term sign rest then term_alone t else None
-

@@ -4,4 +4,3 @@
 mod look;
 
 pub use look::{argument_kind, formal_of, item_text};
-

@@ -14,7 +14,6 @@ use alma_tree::{Args, Desig, Expr, Factor, Primary, Simple, Term};
 use std::alloc::AllocError;
 
 // The primary that a product is, without operators.
-#[tactic(auto, using(crate::proofs::Alone::alone, std::proofs::lemmas::Grind::common_steps))]
 fn primary_of_term(term: &Term) -> Option<&Primary>
     ensures { option_map (λ p. view_primary p.now) result ≡ term_alone (view_term term.now) }
 {
@@ -28,7 +27,6 @@ fn primary_of_term(term: &Term) -> Option<&Primary>
 }
 
 // The primary that a sum is, without sign and operators.
-#[tactic(auto, using(crate::proofs::Alone::alone, std::proofs::lemmas::Grind::common_steps))]
 fn primary_of_sum(sum: &Simple) -> Option<&Primary>
     ensures { option_map (λ p. view_primary p.now) result ≡ simple_alone (view_simple sum.now) }
 {
@@ -40,7 +38,6 @@ fn primary_of_sum(sum: &Simple) -> Option<&Primary>
 }
 
 // The primary that an expression is, without sign, operator or relation.
-#[tactic(auto, using(crate::proofs::Alone::alone, std::proofs::lemmas::Grind::common_steps))]
 fn primary_of(expr: &Expr) -> Option<&Primary>
     ensures { option_map (λ p. view_primary p.now) result ≡ only_primary (view_expr expr.now) }
 {
@@ -51,6 +48,7 @@ fn primary_of(expr: &Expr) -> Option<&Primary>
 }
 
 // The designator of a name that is not called.
+#[tactic(auto, unfolding(crate::specs::Exactly::named_by))]
 fn uncalled<'d>(desig: &'d Desig, args: &Option<Args>) -> Option<&'d Desig>
     ensures { option_map (λ d. view_desig d.now) result ≡ named_by (tree.named 0
         (view_desig desig.now) (args_of args.now)) }
@@ -61,6 +59,7 @@ fn uncalled<'d>(desig: &'d Desig, args: &Option<Args>) -> Option<&'d Desig>
     }
 }
 
+#[tactic(auto, unfolding(crate::specs::Exactly::named_by))]
 fn named_in(primary: &Primary) -> Option<&Desig>
     ensures { option_map (λ d. view_desig d.now) result ≡ named_by (view_primary primary.now) }
 {
@@ -114,6 +113,7 @@ pub fn argument_kind(env: &Env, expr: &Expr) -> Result<Argument, AllocError>
     }
 }
 
+#[tactic(auto, unfolding(crate::specs::Exactly::literal_of))]
 fn literal_in(primary: &Primary) -> Option<(u32, u32)>
     ensures { result ≡ literal_of (view_primary primary.now) }
 {

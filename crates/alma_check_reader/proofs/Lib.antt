@@ -3,3 +3,4 @@ pub mod ShapeSteps
 pub mod FieldSteps
 pub mod SubSteps
 pub mod ListedSteps
+pub mod BlockSteps

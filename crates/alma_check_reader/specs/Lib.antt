@@ -2,3 +2,4 @@ pub mod Told
 pub mod Tables
 pub mod Fields
 pub mod Outermost
+pub mod Around

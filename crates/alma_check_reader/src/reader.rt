@@ -1,18 +1,18 @@
 // An environment to which declarations are added.
-ghost use Rattle.std.specs.Prelude.{◌≡◌, ◌<◌, OnOk, IfOk, length};
+ghost use Rattle.std.specs.Prelude.{◌≡◌, ◌<◌, OnOk, IfOk, length, replicate, None};
 ghost use Rattle.alma_names.specs.Shapes.{plain_of, NamesOnlyBelow, HasIndex, HasCount, HasBase, HasDistinctNames};
 ghost use Rattle.alma_scan.specs.Scanned.{lexemes};
 ghost use Rattle.alma_rules.specs.Scene as scenes;
 ghost use Rattle.alma_rules.specs.Scene.{Scene};
 ghost use Rattle.alma_rules.specs.Types as types;
 ghost use Rattle.alma_rules.specs.View.{view_name};
-ghost use Rattle.alma_check_rules.specs.Views.{scene_of, somewhere};
+ghost use Rattle.alma_check_rules.specs.Views.{scene_of, somewhere, headings_view};
 ghost use Rattle.alma_check_reader.specs.Told.{IsCounted, formed_of};
 ghost use Rattle.alma_check_reader.specs.Outermost.{outermost};
 
 use crate::reading::Formed;
 use alma_base::NoMemory;
-use alma_check_rules::{Env, Returns};
+use alma_check_rules::{Env, Heading, Returns};
 use alma_names::{DeclareError, Entry, Scopes, Shape, ShapeError, Shapes};
 use alma_scan::Token;
 use alma_tree::Name;
@@ -23,13 +23,13 @@ use std::marker::Model;
 /// An environment whose names are counted, so that it is known when their numbers run out.
 #[derive(Drop)]
 pub struct Reader<'e, 's> {
-    env: Env<'e, 's>,
+    pub(crate) env: Env<'e, 's>,
     // The number of names in each block below the top one.
-    below: Vec<usize>,
+    pub(crate) below: Vec<usize>,
     // The number of names in the top block.
-    top: usize,
+    pub(crate) top: usize,
     // The number of names in all blocks.
-    all: usize,
+    pub(crate) all: usize,
 }
 
 impl<'e, 's> Model for Reader<'e, 's> {
@@ -40,15 +40,29 @@ impl<'e, 's> Model for Reader<'e, 's> {
     ghost invariant = { λ r. IsCounted r.below.items r.top r.all r.env.scopes };
 }
 
+// No heading of so many routines.
+fn no_headings(alloc: Global, routines: u32) -> Result<Vec<Option<Heading>>, NoMemory>
+    ensures { IfOk result (λ headings. headings_view headings.items ≡ replicate routines None) }
+{
+    let mut headings: Vec<Option<Heading>> = Vec::new(alloc);
+    for _routine in 0..routines {
+        headings.push(None)?;
+    }
+    Ok(headings)
+}
+
 impl<'e, 's> Reader<'e, 's> {
-    /// Where nothing is declared but the names that stand outside each module, with no heading yet.
+    /// Where nothing is declared but the names that stand outside each module, and no heading of so many routines is read yet.
     pub fn new(
         alloc: Global,
         source: &'e [u8],
         tokens: &'e [Token<'s>],
+        routines: u32,
     ) -> Result<Reader<'e, 's>, NoMemory>
-        ensures { IfOk result (λ reader. reader ≡ outermost source.now (lexemes tokens.now)) }
+        ensures { IfOk result (λ reader. reader ≡ outermost source.now (lexemes tokens.now)
+            routines) }
     {
+        let headings = no_headings(alloc, routines)?;
         let shapes = Shapes::new(alloc)?;
         let scopes = Scopes::new(alloc)?;
         let env = Env {
@@ -56,7 +70,7 @@ impl<'e, 's> Reader<'e, 's> {
             tokens,
             shapes,
             scopes,
-            headings: Vec::new(alloc),
+            headings,
             declares: IndexMap::new(alloc),
             routine: 0,
             returns: Returns::Nothing,

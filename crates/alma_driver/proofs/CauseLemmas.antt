@@ -18,12 +18,12 @@ use Rattle.alma_driver.specs.Words.{is_built, read_by, limit_of}
 use Rattle.alma_driver.specs.Outside.{SinkSide, SourceSide, FilesSide, FilesStay, Outside}
 use Rattle.alma_driver.specs.declared.end.Counts.{Counts}
 use Rattle.alma_driver.specs.Ends.{mode_end, counts_in, status_of, text_of}
-use Rattle.alma_driver.specs.Outcome.{Due, Stored, InputOutcome, unread, taken, past_input, ProgramOutcome, ran, too_much_code, CompileOutcome, made, past_size, IsSourceEnd, refused, not_yet, SourceOutcome, stopped, compiled, ListOutcome, listed, no_object, CodeOutcome, executed, unsound, ExecOutcome, opened, unopened, FileOutcome, RequestOutcome, absent, past_limit, fetched, Outcome, bad_word, unbuilt, asks, Lacks}
+use Rattle.alma_driver.specs.Outcome.{Due, Stored, InputOutcome, unread, taken, past_input, ProgramOutcome, ran, too_much_code, CompileOutcome, made, past_size, IsSourceEnd, refused, SourceOutcome, stopped, compiled, CheckOutcome, ListOutcome, listed, no_object, CodeOutcome, executed, unsound, ExecOutcome, opened, unopened, FileOutcome, RequestOutcome, absent, past_limit, fetched, Outcome, bad_word, unbuilt, asks, Lacks}
 use Rattle.alma_driver.specs.Course.{Gains, FailsWithin, GainsPrefix, Goes, OthersStay, FailsToStore, Keeps, Stores, done, failed, Works, Takes, Moves, MayRead, ReadsOnly, FailsToRead, Serves, FailsToFetch, Performs, Reports, Answers}
 use Rattle.alma_driver.specs.Causes.{Causes, WriteFailed, WritesGrew, ReadFailed, ReadsGrew, Become, IsStoredName}
 use Rattle.alma_driver.specs.declared.end.End.{End}
-use Rattle.alma_driver.specs.declared.end.End.TheVariants.{Succeeded, Failed, BadWord, Refused, Faulted, StepsOut, ReadFault, WriteFault, Memory, BadObject, BadCode, TooLong, TooMuchCode, NotYet}
-use Rattle.alma_driver.proofs.DriverLemmas.{run_keeps, list_keeps, exec_keeps}
+use Rattle.alma_driver.specs.declared.end.End.TheVariants.{Succeeded, Failed, BadWord, Refused, Faulted, StepsOut, ReadFault, WriteFault, Memory, BadObject, BadCode, TooLong, TooMuchCode}
+use Rattle.alma_driver.proofs.DriverLemmas.{check_keeps, run_keeps, list_keeps, exec_keeps}
 
 -- the ways in which out may go, by the end that the call comes to
 data Way (P : Due → Type 0) (a b : SinkSide) (end : End) : Type 0 where
@@ -45,7 +45,6 @@ way_of P a b (BadCode fault) g = ended (λ e. absurd (omega (arith, e))) (λ e. 
 way_of P a b (BadObject fault) g = ended (λ e. absurd (omega (arith, e))) (λ e. absurd (omega (arith, e))) g.0 g.1 g.2 g.3
 way_of P a b TooLong g = ended (λ e. absurd (omega (arith, e))) (λ e. absurd (omega (arith, e))) g.0 g.1 g.2 g.3
 way_of P a b (TooMuchCode size) g = ended (λ e. absurd (omega (arith, e))) (λ e. absurd (omega (arith, e))) g.0 g.1 g.2 g.3
-way_of P a b NotYet g = ended (λ e. absurd (omega (arith, e))) (λ e. absurd (omega (arith, e))) g.0 g.1 g.2 g.3
 
 -- only one end has the status of a read fault
 read_status : (end : End) → status_of end ≡ 6 → end ≡ ReadFault
@@ -62,7 +61,6 @@ read_status (BadCode fault) e = absurd (omega (arith, e))
 read_status (BadObject fault) e = absurd (omega (arith, e))
 read_status TooLong e = absurd (omega (arith, e))
 read_status (TooMuchCode size) e = absurd (omega (arith, e))
-read_status NotYet e = absurd (omega (arith, e))
 
 -- all bytes are a prefix
 whole_front : (a b : Option (List ℕ)) (bytes : List ℕ) → Appends a b bytes → AppendsFront a b bytes
@@ -93,21 +91,20 @@ input_reads left code steps stats due (taken input some is short e) q = code_due
 input_reads left code steps stats due (past_input some more e) q = cc (sym (ap (λ (d : Due). d.end) e) ∙ q)
 
 program_reads : (left : Option (List ℕ)) (p : Program) (steps : ℕ) (stats : Bool) (due : Due) → ProgramOutcome left p steps stats due → due.end ≡ ReadFault → ⊥
-program_reads left p steps stats due (ran code size sound implements o) q = input_reads left code steps stats due o q
+program_reads left p steps stats due (ran code size sound implements reads o) q = input_reads left code steps stats due o q
 program_reads left p steps stats due (too_much_code size e) q = cc (sym (ap (λ (d : Due). d.end) e) ∙ q)
 
 compile_reads : (p : Program) (object : List ℕ) (due : Due) → CompileOutcome p object due → due.end ≡ ReadFault → ⊥
-compile_reads p object due (made code bytes size sound implements is e) q = cc (sym (ap (λ (d : Due). d.end) e) ∙ q)
+compile_reads p object due (made code bytes size sound implements reads is e) q = cc (sym (ap (λ (d : Due). d.end) e) ∙ q)
 compile_reads p object due (past_size size e) q = cc (sym (ap (λ (d : Due). d.end) e) ∙ q)
 
 source_end_reads : (source : List ℕ) (end : End) → IsSourceEnd source end → end ≡ ReadFault → ⊥
 source_end_reads source end (refused fault offset h e) q = cc (sym e ∙ q)
-source_end_reads source end (not_yet parsed none e) q = cc (sym e ∙ q)
 
 source_reads : (source : List ℕ) (P : Program → Due → Type 0) → ((p : Program) (due : Due) → P p due → due.end ≡ ReadFault → ⊥) → (due : Due)
     → SourceOutcome source P due → due.end ≡ ReadFault → ⊥
 source_reads source P none due (stopped end h e) q = source_end_reads source end h (sym (ap (λ (d : Due). d.end) e) ∙ q)
-source_reads source P none due (compiled p parsed is o) q = none p due o q
+source_reads source P none due (compiled p is o) q = none p due o q
 
 list_reads : (bytes : List ℕ) (due : Due) → ListOutcome bytes due → due.end ≡ ReadFault → ⊥
 list_reads bytes due (listed clean is e) q = cc (sym (ap (λ (d : Due). d.end) e) ∙ q)
@@ -122,7 +119,7 @@ exec_reads left bytes steps stats due (opened c o) q = code_reads left (object_c
 exec_reads left bytes steps stats due (unopened fault c e) q = cc (sym (ap (λ (d : Due). d.end) e) ∙ q)
 
 file_reads : (left : Option (List ℕ)) (r : Request) (bytes : List ℕ) (due : Due) → FileOutcome left r bytes due → due.end ≡ ReadFault → ⊥
-file_reads left (Check name) bytes due o q = o
+file_reads left (Check name) bytes due o q = source_reads bytes CheckOutcome (λ p due e r. cc (sym (ap (λ (d : Due). d.end) e) ∙ r)) due o q
 file_reads left (Compile name object) bytes due o q = source_reads bytes (λ p. CompileOutcome p object) (λ p. compile_reads p object) due o q
 file_reads left (Listing object) bytes due o q = list_reads bytes due o q
 file_reads left (Run name steps stats) bytes due o q =
@@ -150,17 +147,17 @@ not_stored due stored none some = cc (none, some)
 
 -- a call that stores succeeds
 compile_succeeds : (p : Program) (object : List ℕ) (due : Due) (stored : Stored) → CompileOutcome p object due → due.stored ≡ Some stored → due.end ≡ Succeeded None
-compile_succeeds p object due stored (made code bytes size sound implements is e) s = ap (λ (d : Due). d.end) e
+compile_succeeds p object due stored (made code bytes size sound implements reads is e) s = ap (λ (d : Due). d.end) e
 compile_succeeds p object due stored (past_size size e) s = absurd (not_stored due stored (ap (λ (d : Due). d.stored) e) s)
 
 source_succeeds : (source object : List ℕ) (due : Due) (stored : Stored) → SourceOutcome source (λ p. CompileOutcome p object) due → due.stored ≡ Some stored
     → due.end ≡ Succeeded None
 source_succeeds source object due stored (stopped end h e) s = absurd (not_stored due stored (ap (λ (d : Due). d.stored) e) s)
-source_succeeds source object due stored (compiled p parsed is o) s = compile_succeeds p object due stored o s
+source_succeeds source object due stored (compiled p is o) s = compile_succeeds p object due stored o s
 
 file_succeeds : (left : Option (List ℕ)) (r : Request) (bytes : List ℕ) (due : Due) (stored : Stored) → FileOutcome left r bytes due → due.stored ≡ Some stored
     → due.end ≡ Succeeded None
-file_succeeds left (Check name) bytes due stored o s = absurd o
+file_succeeds left (Check name) bytes due stored o s = absurd (not_stored due stored (check_keeps bytes due o) s)
 file_succeeds left (Compile name object) bytes due stored o s = source_succeeds bytes object due stored o s
 file_succeeds left (Listing object) bytes due stored o s = absurd (not_stored due stored (list_keeps bytes due o) s)
 file_succeeds left (Run name steps stats) bytes due stored o s = absurd (not_stored due stored (run_keeps left bytes steps stats due o) s)

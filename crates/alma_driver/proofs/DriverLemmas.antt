@@ -32,23 +32,29 @@ use Rattle.alma_whole.specs.Bytes.{object_code}
 use Rattle.alma_lower.specs.declared.lowering.LowerError.{LowerError}
 use Rattle.alma_lower.specs.declared.lowering.LowerError.TheVariants as lower
 use Rattle.alma_implements.specs.Implements.{Implements}
-use Rattle.alma_front.specs.declared.error.ReadError.{ReadError}
-use Rattle.alma_front.specs.declared.error.ReadError.TheVariants as read
-use Rattle.alma_front.specs.Source.{IsSource, IsRead}
+use Rattle.alma_sound.specs.Reads.{code_reads, program_reads, HasLabels}
+use Rattle.alma_sound.specs.Reads as sound
+use Rattle.alma_object.specs.View as object
+use Rattle.alma_code.specs.declared.instr.Instr.{Instr}
+use Rattle.alma_code.specs.declared.instr.Instr.TheVariants as I
+use Rattle.std.specs.Prelude.{◌∷◌, ◌||◌}
+use Rattle.std.specs.List.{list_any}
+use Rattle.alma_resolved_labels.proofs.Labels.{program_has_labels}
+use Rattle.alma_rules.specs.View.{view_module}
 use Rattle.alma_words.specs.Words.{Request, Check, Compile, Listing, Run, Exec, Trace, Sample, Asks, Reads}
 use Rattle.alma_driver.specs.Words.{is_built, read_by, limit_of}
 use Rattle.alma_driver.specs.Outside.{SinkSide, SourceSide, FilesSide, FilesStay}
 use Rattle.alma_base.specs.declared.place.Place.{Place}
 use Rattle.alma_scan.specs.Places.{line_at, column_at}
-use Rattle.alma_driver.specs.Refusal.{IsRefused, IsParsed, place_of}
+use Rattle.alma_driver.specs.Refusal.{IsRefused, IsProgramOf, place_of}
 use Rattle.alma_driver.specs.declared.fault.SourceFault.{SourceFault}
-use Rattle.alma_driver.specs.Ends.{lower_end, read_end, words_end, fetch_end, store_end, input_end}
-use Rattle.alma_driver.specs.Outcome.{Due, Stored, due_of, silent, storing, has_read, code_due, long_input, MayBeLeft, InputOutcome, unread, taken, past_input, size_of, ProgramOutcome, ran, too_much_code, CompileOutcome, made, past_size, IsSourceEnd, refused, not_yet, IsStop, SourceOutcome, stopped, compiled, ListOutcome, listed, no_object, CodeOutcome, executed, unsound, ExecOutcome, opened, unopened, FileOutcome, RequestOutcome, absent, past_limit, fetched, Outcome, bad_word, unbuilt, asks}
+use Rattle.alma_driver.specs.Ends.{lower_end, words_end, fetch_end, store_end, input_end}
+use Rattle.alma_driver.specs.Outcome.{Due, Stored, due_of, silent, storing, has_read, code_due, long_input, MayBeLeft, InputOutcome, unread, taken, past_input, size_of, ProgramOutcome, ran, too_much_code, CompileOutcome, made, past_size, IsSourceEnd, refused, IsStop, SourceOutcome, stopped, compiled, CheckOutcome, ListOutcome, listed, no_object, CodeOutcome, executed, unsound, ExecOutcome, opened, unopened, FileOutcome, RequestOutcome, absent, past_limit, fetched, Outcome, bad_word, unbuilt, asks}
 use Rattle.alma_driver.specs.Course.{Gains, GainsPrefix, Goes, OthersStay, Keeps, done, failed, Works, Takes, Moves, MayRead, ReadsOnly, FailsToRead, Runs, Serves, Performs}
 use Rattle.alma_words.specs.declared.words.WordsError.{WordsError}
 use Rattle.alma_words.specs.declared.words.WordsError.TheVariants as words
 use Rattle.alma_driver.specs.declared.end.End.{End}
-use Rattle.alma_driver.specs.declared.end.End.TheVariants.{Succeeded, Failed, BadWord, Refused, Faulted, StepsOut, ReadFault, WriteFault, Memory, BadObject, BadCode, TooLong, TooMuchCode, NotYet}
+use Rattle.alma_driver.specs.declared.end.End.TheVariants.{Succeeded, Failed, BadWord, Refused, Faulted, StepsOut, ReadFault, WriteFault, Memory, BadObject, BadCode, TooLong, TooMuchCode}
 use Rattle.alma_driver.proofs.RunLemmas.{IsDue}
 
 -- an outcome inside another
@@ -69,7 +75,6 @@ goes_map P Q f a b (BadObject fault) g = (g.0, g.1, f g.0 g.2, g.3)
 goes_map P Q f a b (BadCode fault) g = (g.0, g.1, f g.0 g.2, g.3)
 goes_map P Q f a b TooLong g = (g.0, g.1, f g.0 g.2, g.3)
 goes_map P Q f a b (TooMuchCode size) g = (g.0, g.1, f g.0 g.2, g.3)
-goes_map P Q f a b NotYet g = (g.0, g.1, f g.0 g.2, g.3)
 
 -- a sink that nothing was done to gained nothing
 pub gains_none : (a : SinkSide) → Gains a a []
@@ -178,27 +183,24 @@ stop_refused source fault offset place h line column =
     let same = ap (λ n. place_at n place.column) line ∙ ap (place_at (line_at source offset)) column in
     inr (refused fault offset h (ap (Refused fault) same))
 
--- a source that is a program of the grammar, and was not read
-pub stop_unread : (source : List ℕ) (error : ReadError) → IsParsed source → IsRead source (Err error) → IsStop source (read_end error)
-stop_unread source read.NotYet parsed h = inr (not_yet parsed h refl)
-stop_unread source read.Memory parsed h = inl refl
-
 -- a call that stops there comes to its end without a print
 runs_source_end : (source : List ℕ) (P : Program → Due → Type 0) (i : SourceSide) (a : SinkSide) (end : End) → IsSourceEnd source end → Runs (SourceOutcome source P) i i a a end
 runs_source_end source P i a end (refused fault offset h e) =
     subst (Runs (SourceOutcome source P) i i a a) (sym e)
     (inr (inl refl, (silent (Refused fault (place_of source offset)), refl, (stopped (Refused fault (place_of source offset)) (refused fault offset h refl) refl, refl), gains_none a)))
-runs_source_end source P i a end (not_yet parsed none e) =
-    subst (Runs (SourceOutcome source P) i i a a) (sym e) (inr (inl refl, (silent NotYet, refl, (stopped NotYet (not_yet parsed none refl) refl, refl), gains_none a)))
 
 pub runs_stopped : (source : List ℕ) (P : Program → Due → Type 0) (i : SourceSide) (a : SinkSide) (end : End) → IsStop source end → Runs (SourceOutcome source P) i i a a end
 runs_stopped source P i a end (inl e) = subst (Runs (SourceOutcome source P) i i a a) (sym e) (runs_starved (SourceOutcome source P) i a)
 runs_stopped source P i a end (inr h) = runs_source_end source P i a end h
 
+-- the program of a source has a label in each arm
+pub labels_of : (source : List ℕ) (p : Program) → IsProgramOf source p → HasLabels p
+labels_of source p is = program_has_labels source is.tokens (view_module is.tree) p is.program
+
 -- a source whose program was run
-pub runs_read : (source : List ℕ) (P : Program → Due → Type 0) (p : Program) (i j : SourceSide) (a b : SinkSide) (end : End) → IsParsed source → IsSource source p
+pub runs_read : (source : List ℕ) (P : Program → Due → Type 0) (p : Program) (i j : SourceSide) (a b : SinkSide) (end : End) → IsProgramOf source p
     → Runs (P p) i j a b end → Runs (SourceOutcome source P) i j a b end
-runs_read source P p i j a b end parsed is g = runs_map (P p) (SourceOutcome source P) (λ due o. compiled p parsed is o) i j a b end g
+runs_read source P p i j a b end is g = runs_map (P p) (SourceOutcome source P) (λ due o. compiled p is o) i j a b end g
 
 -- ---- compiling
 
@@ -244,11 +246,21 @@ compiled_within p code too_much = by (cases_lt size_limit (size_of p))
     by (inl past) = cc (too_much past)
     by (inr small) = small
 
+-- to read is one thing for code and its object
+read_is : (i : Instr) → object.is_read i ≡ sound.is_read i
+read_is (I.ReadInt a t) = refl
+read_is (I.ReadChar a t) = refl
+read_is i = refl
+
+reads_are : (is : List Instr) → list_any object.is_read is ≡ list_any sound.is_read is
+reads_are [] = refl
+reads_are (i ∷ is) = ap (λ b. b || list_any object.is_read is) (read_is i) ∙ ap (λ b. sound.is_read i || b) (reads_are is)
+
 -- a program that was compiled and run
 pub runs_compiled : (p : Program) (code : PlainCode) (steps : ℕ) (stats : Bool) (i j : SourceSide) (a b : SinkSide) (end : End) → IsSound code → Implements code p
-    → size_of p ≤ size_limit → Runs (InputOutcome i.left code steps stats) i j a b end → Runs (ProgramOutcome i.left p steps stats) i j a b end
-runs_compiled p code steps stats i j a b end sound implements within g =
-    runs_map (InputOutcome i.left code steps stats) (ProgramOutcome i.left p steps stats) (λ due o. ran code within sound implements o) i j a b end g
+    → code_reads code ≡ program_reads p → size_of p ≤ size_limit → Runs (InputOutcome i.left code steps stats) i j a b end → Runs (ProgramOutcome i.left p steps stats) i j a b end
+runs_compiled p code steps stats i j a b end sound implements reads within g =
+    runs_map (InputOutcome i.left code steps stats) (ProgramOutcome i.left p steps stats) (λ due o. ran code within sound implements (reads_are code.instrs ∙ reads) o) i j a b end g
 
 -- ---- listing
 
@@ -387,11 +399,11 @@ works_after P f m f' a b end s (inr (failed due stored o is gains fails e)) =
 
 -- a program that was compiled and stored
 pub works_compiled : (p : Program) (code : PlainCode) (object : List ℕ) (f f' : FilesSide) (a : SinkSide) (end : End) → IsSound code → Implements code p
-    → KeepsVersion code → KeepsCounts code → KeepsRecords code → size_of p ≤ size_limit
+    → code_reads code ≡ program_reads p → KeepsVersion code → KeepsCounts code → KeepsRecords code → size_of p ≤ size_limit
     → Works (IsStoring object (object_bytes code)) f f' a a end → Works (CompileOutcome p object) f f' a a end
-works_compiled p code object f f' a end sound implements version counts records within w =
+works_compiled p code object f f' a end sound implements reads version counts records within w =
     let is : IsObject code (object_bytes code) = record { version = version; counts = counts; records = records; table = sound.table; spelled = refl } in
-    works_map (IsStoring object (object_bytes code)) (CompileOutcome p object) (λ due e. made code (object_bytes code) within sound implements is e) f f' a a end w
+    works_map (IsStoring object (object_bytes code)) (CompileOutcome p object) (λ due e. made code (object_bytes code) within sound implements (reads_are code.instrs ∙ reads) is e) f f' a a end w
 
 -- a program that was not compiled is not stored
 pub works_refused : (p : Program) (object : List ℕ) (error : LowerError) (f : FilesSide) (a : SinkSide) → IsUnlowered p error
@@ -406,9 +418,9 @@ works_refused p object error f a (starved e) =
     inl (files_same f, subst (Goes (Keeps (CompileOutcome p object)) a a) (sym e) (goes_starved (Keeps (CompileOutcome p object)) a))
 
 -- a source whose program was compiled
-pub works_read : (source : List ℕ) (P : Program → Due → Type 0) (p : Program) (f f' : FilesSide) (a b : SinkSide) (end : End) → IsParsed source → IsSource source p
+pub works_read : (source : List ℕ) (P : Program → Due → Type 0) (p : Program) (f f' : FilesSide) (a b : SinkSide) (end : End) → IsProgramOf source p
     → Works (P p) f f' a b end → Works (SourceOutcome source P) f f' a b end
-works_read source P p f f' a b end parsed is w = works_map (P p) (SourceOutcome source P) (λ due o. compiled p parsed is o) f f' a b end w
+works_read source P p f f' a b end is w = works_map (P p) (SourceOutcome source P) (λ due o. compiled p is o) f f' a b end w
 
 -- ---- what keeps the files, and what leaves the input
 
@@ -430,13 +442,13 @@ input_keeps left code steps stats due (taken bytes q l s e) = ap (λ (d : Due). 
 input_keeps left code steps stats due (past_input q m e) = ap (λ (d : Due). d.stored) e
 
 program_keeps : (left : Option (List ℕ)) (p : Program) (steps : ℕ) (stats : Bool) (due : Due) → ProgramOutcome left p steps stats due → due.stored ≡ None
-program_keeps left p steps stats due (ran code size sound implements o) = input_keeps left code steps stats due o
+program_keeps left p steps stats due (ran code size sound implements reads o) = input_keeps left code steps stats due o
 program_keeps left p steps stats due (too_much_code size e) = ap (λ (d : Due). d.stored) e
 
 pub run_keeps : (left : Option (List ℕ)) (source : List ℕ) (steps : ℕ) (stats : Bool) (due : Due) → SourceOutcome source (λ p. ProgramOutcome left p steps stats) due
     → due.stored ≡ None
 run_keeps left source steps stats due (stopped end h e) = ap (λ (d : Due). d.stored) e
-run_keeps left source steps stats due (compiled p parsed is o) = program_keeps left p steps stats due o
+run_keeps left source steps stats due (compiled p is o) = program_keeps left p steps stats due o
 
 pub list_keeps : (bytes : List ℕ) (due : Due) → ListOutcome bytes due → due.stored ≡ None
 list_keeps bytes due (listed clean is e) = ap (λ (d : Due). d.stored) e
@@ -447,12 +459,12 @@ list_still bytes due (listed clean is e) = ap (λ (d : Due). d.reads) e
 list_still bytes due (no_object fault is e) = ap (λ (d : Due). d.reads) e
 
 program_still : (p : Program) (object : List ℕ) (due : Due) → CompileOutcome p object due → due.reads ≡ false
-program_still p object due (made code bytes size sound implements is e) = ap (λ (d : Due). d.reads) e
+program_still p object due (made code bytes size sound implements reads is e) = ap (λ (d : Due). d.reads) e
 program_still p object due (past_size size e) = ap (λ (d : Due). d.reads) e
 
 compile_still : (source object : List ℕ) (due : Due) → SourceOutcome source (λ p. CompileOutcome p object) due → due.reads ≡ false
 compile_still source object due (stopped end h e) = ap (λ (d : Due). d.reads) e
-compile_still source object due (compiled p parsed is o) = program_still p object due o
+compile_still source object due (compiled p is o) = program_still p object due o
 
 -- running an object stores nothing
 code_keeps : (left : Option (List ℕ)) (code : PlainCode) (steps : ℕ) (stats : Bool) (due : Due) → CodeOutcome left code steps stats due → due.stored ≡ None
@@ -482,13 +494,39 @@ pub serves_compile : (source object : List ℕ) (f f' : FilesSide) (i : SourceSi
 serves_compile source object f f' i a b end w =
     serves_still (SourceOutcome source (λ p. CompileOutcome p object)) (compile_still source object) f f' i a b end w
 
+-- checking a source stores nothing and leaves the input
+pub check_keeps : (source : List ℕ) (due : Due) → SourceOutcome source CheckOutcome due → due.stored ≡ None
+check_keeps source due (stopped end h e) = ap (λ (d : Due). d.stored) e
+check_keeps source due (compiled p is o) = ap (λ (d : Due). d.stored) o
+
+check_still : (source : List ℕ) (due : Due) → SourceOutcome source CheckOutcome due → due.reads ≡ false
+check_still source due (stopped end h e) = ap (λ (d : Due). d.reads) e
+check_still source due (compiled p is o) = ap (λ (d : Due). d.reads) o
+
+pub serves_check : (source : List ℕ) (f : FilesSide) (i : SourceSide) (a : SinkSide) (end : End) → Goes (SourceOutcome source CheckOutcome) a a end
+    → Serves (SourceOutcome source CheckOutcome) f f i i a a end
+serves_check source f i a end g =
+    serves_run (SourceOutcome source CheckOutcome) (check_keeps source) f i i a a end (runs_still (SourceOutcome source CheckOutcome) (check_still source) i a a end g)
+
+-- a source that is a program was checked
+pub goes_checked : (source : List ℕ) (p : Program) (a : SinkSide) → IsProgramOf source p → Goes (SourceOutcome source CheckOutcome) a a (Succeeded None)
+goes_checked source p a is = (silent (Succeeded None), refl, compiled p is refl, gains_none a)
+
+-- and one that is none
+goes_source_end : (source : List ℕ) (P : Program → Due → Type 0) (a : SinkSide) (end : End) → IsSourceEnd source end → Goes (SourceOutcome source P) a a end
+goes_source_end source P a end (refused fault offset h e) =
+    subst (Goes (SourceOutcome source P) a a) (sym e)
+    (silent (Refused fault (place_of source offset)), refl, stopped (Refused fault (place_of source offset)) (refused fault offset h refl) refl, gains_none a)
+
+pub goes_stopped : (source : List ℕ) (P : Program → Due → Type 0) (a : SinkSide) (end : End) → IsStop source end → Goes (SourceOutcome source P) a a end
+goes_stopped source P a end (inl e) = subst (Goes (SourceOutcome source P) a a) (sym e) (goes_starved (SourceOutcome source P) a)
+goes_stopped source P a end (inr h) = goes_source_end source P a end h
+
 -- a source without a program keeps the files
 source_end_keeps : (source : List ℕ) (P : Program → Due → Type 0) (a : SinkSide) (end : End) → IsSourceEnd source end → Goes (Keeps (SourceOutcome source P)) a a end
 source_end_keeps source P a end (refused fault offset h e) =
     subst (Goes (Keeps (SourceOutcome source P)) a a) (sym e)
     (silent (Refused fault (place_of source offset)), refl, (stopped (Refused fault (place_of source offset)) (refused fault offset h refl) refl, refl), gains_none a)
-source_end_keeps source P a end (not_yet parsed none e) =
-    subst (Goes (Keeps (SourceOutcome source P)) a a) (sym e) (silent NotYet, refl, (stopped NotYet (not_yet parsed none refl) refl, refl), gains_none a)
 
 pub works_stopped : (source : List ℕ) (P : Program → Due → Type 0) (f : FilesSide) (a : SinkSide) (end : End) → IsStop source end
     → Works (SourceOutcome source P) f f a a end

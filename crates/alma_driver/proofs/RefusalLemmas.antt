@@ -1,11 +1,22 @@
 -- Refusals of a source: where they are, that there is one, and that a program has none.
-use Rattle.std.proofs.Common.{◌≡◌, ◌≤◌, ◌<◌, ◌+◌, ◌-◌, ◌∙◌, ℕ, zero, suc, List, [], ◌∷◌, ◌++◌, length, take, get_or, refl, sym, ap, subst, append_assoc, append-nil, arith, All}
+use Rattle.std.proofs.Common.{◌≡◌, ◌≤◌, ◌<◌, ◌+◌, ◌-◌, ◌∙◌, ℕ, zero, suc, List, [], ◌∷◌, ◌++◌, length, take, get_or, refl, sym, ap, subst, append_assoc, append-nil, arith, All, Option, None, Some}
+use Rattle.std.specs.Prelude.{unwrap_or}
+use Rattle.std.proofs.lemmas.List.{length-map}
 use Rattle.std.proofs.lemmas.Simd.{map-map}
+use Rattle.alma_base.specs.declared.fault.CheckFault.{CheckFault}
 use Rattle.alma_base.specs.declared.fault.SyntaxFault.{SyntaxFault}
 use Rattle.alma_base.specs.declared.fault.SyntaxFault.TheVariants.{Unexpected, TooDeep}
 use Rattle.alma_tree.specs.declared.kind.Kind.{Kind}
 use Rattle.alma_tree.specs.Tree.{Module}
 use Rattle.alma_tree.specs.Spelling.{spelling}
+use Rattle.alma_tree.specs.Numbers.{IsNumbered}
+use Rattle.alma_tree.specs.View.{view_module as plain_module}
+use Rattle.alma_tree.specs.declared.module.Module.{Module as Tree}
+use Rattle.alma_ir.specs.Tree.{Program}
+use Rattle.alma_rules.specs.Judged.{Broken, least}
+use Rattle.alma_rules.specs.View.{view_module}
+use Rattle.alma_rules.specs.Modules.{resolved, check_fault, first_token_of}
+use Rattle.alma_numbered.proofs.One.{one_tree_of_a_spelling}
 use Rattle.alma_tree.specs.Depth.{opens, closes, one_where, depth_from, depth}
 use Rattle.alma_grammar.specs.Laws.{Stops, Begins, IsProgram}
 use Rattle.alma_scan.specs.declared.scanner.Token.{Token}
@@ -17,8 +28,8 @@ use Rattle.alma_parse.specs.declared.error.ParseError.TheVariants as parse_error
 use Rattle.alma_cursor.specs.Parsing.{kinds_of}
 use Rattle.alma_parse.specs.Refusals.{Refuses}
 use Rattle.alma_driver.specs.declared.fault.SourceFault.{SourceFault}
-use Rattle.alma_driver.specs.declared.fault.SourceFault.TheVariants.{Lex, Syntax}
-use Rattle.alma_driver.specs.Refusal.{kinds, offset_of, IsParsed, SyntaxFaultAt, IsRefused}
+use Rattle.alma_driver.specs.declared.fault.SourceFault.TheVariants.{Lex, Syntax, Check}
+use Rattle.alma_driver.specs.Refusal.{kinds, offset_of, IsParsed, IsProgramOf, SyntaxFaultAt, CheckFaultAt, IsRefused}
 
 -- ---- offsets of tokens
 
@@ -45,13 +56,29 @@ offset_within source (token ∷ tokens) (suc index) h = offset_within source tok
 pub kinds_are : (tokens : List Token) → kinds (lexemes tokens) ≡ kinds_of tokens
 kinds_are tokens = map-map (λ (token : Lexeme). token.kind) lexeme tokens
 
--- what is parsed is a program of the grammar
-pub parsed_of : (source : List ℕ) (tokens : List Token) (t : Module) → Tokens source (lexemes tokens) → kinds_of tokens ≡ spelling t
-    → depth (kinds_of tokens) ≤ 100 → IsParsed source
-parsed_of source tokens t scanned spelled shallow = record {
-  tokens = lexemes tokens;
-  scanned = scanned;
-  program = subst IsProgram (sym (kinds_are tokens)) ((t, sym spelled), shallow);
+-- what is parsed is a tree of the source
+pub parsed_of : (source : List ℕ) (tokens : List Token) (tree : Tree) → Tokens source (lexemes tokens) → kinds_of tokens ≡ spelling (plain_module tree)
+    → IsNumbered tree (length tokens) → depth (kinds_of tokens) ≤ 100 → IsParsed source (lexemes tokens) tree
+parsed_of source tokens tree scanned spelled numbered shallow = record {
+  whole = record {
+    scanned = scanned;
+    spelled = kinds_are tokens ∙ spelled;
+    numbered = subst (IsNumbered tree) (sym (length-map tokens lexeme)) numbered;
+  };
+  shallow = subst (λ (ks : List Kind). depth ks ≤ 100) (sym (kinds_are tokens)) shallow;
+}
+
+-- what the check refuses is refused at the offset of the token
+pub refused_by_check : (source : List ℕ) (tokens : List Lexeme) (tree : Tree) (fault : CheckFault) (node token offset : ℕ) → IsParsed source tokens tree
+    → check_fault source tokens (view_module tree) ≡ Some (record { node = node; fault = fault }) → first_token_of (view_module tree) node ≡ token
+    → offset ≡ offset_of (length source) tokens token → IsRefused source (Check fault) offset
+refused_by_check source tokens tree fault node token offset parsed least at place = record {
+  tokens = tokens;
+  tree = tree;
+  node = node;
+  parsed = parsed;
+  least = least;
+  place = place ∙ ap (offset_of (length source) tokens) (sym at);
 }
 
 -- what the parser refuses is refused at the offset of the token
@@ -71,6 +98,8 @@ pub refused_within : (source : List ℕ) (fault : SourceFault) (offset : ℕ) �
 refused_within source (Lex fault) offset h = omega (arith, h.1.place)
 refused_within source (Syntax fault) offset h =
     let within = offset_within source h.tokens h.index (slices source h.tokens h.scanned) in omega (arith, h.place, within)
+refused_within source (Check fault) offset h =
+    let within = offset_within source h.tokens (first_token_of (view_module h.tree) h.node) (slices source h.tokens h.parsed.whole.scanned) in omega (arith, h.place, within)
 
 -- ---- two fronts of one list
 
@@ -206,17 +235,7 @@ one_syntax_fault source fault other at place h i =
           ∙ sym i.place,
     )
 
--- a source is refused for one fault, at one place
-pub one_refusal : (source : List ℕ) (fault other : SourceFault) (at place : ℕ) → IsRefused source fault at → IsRefused source other place
-    → (fault ≡ other) × (at ≡ place)
-one_refusal source (Lex fault) (Lex other) at place h i =
-    let r = faults_once (length source) source h.0 i.0 fault other at place h.1 i.1 in (ap Lex r.0, r.1)
-one_refusal source (Lex fault) (Syntax other) at place h i = absurd (never_both (length source) source i.tokens h.0 fault at i.scanned h.1)
-one_refusal source (Syntax fault) (Lex other) at place h i = absurd (never_both (length source) source h.tokens i.0 other place h.scanned i.1)
-one_refusal source (Syntax fault) (Syntax other) at place h i =
-    let r = one_syntax_fault source fault other at place h i in (ap Syntax r.0, r.1)
-
--- ---- a program has none
+-- ---- what the parser refuses spells no tree
 
 not_stopped : (t : Module) (front rest : List Kind) → spelling t ≡ front ++ rest → Stops front rest → ⊥
 not_stopped t front [] s h = h t (s ∙ append-nil front)
@@ -230,9 +249,87 @@ program_refused : (fault : SyntaxFault) (k : ℕ) (ks : List Kind) → Refuses (
 program_refused Unexpected k ks r p = not_stopped p.0.0 r.0 r.1 (p.0.1 ∙ r.2) r.4
 program_refused TooDeep k ks r p = no_deep_front r.0 r.1 (subst (λ (l : List Kind). depth l ≤ 100) r.2 p.1) r.5
 
--- what is refused is no program of the grammar
-pub refused_not_parsed : (source : List ℕ) (fault : SourceFault) (offset : ℕ) → IsRefused source fault offset → IsParsed source → ⊥
-refused_not_parsed source (Lex fault) offset h p = never_both (length source) source p.tokens h.0 fault offset p.scanned h.1
-refused_not_parsed source (Syntax fault) offset h p =
-    let same : p.tokens ≡ h.tokens = tokens_once (length source) source p.tokens h.tokens p.scanned h.scanned in
-    program_refused fault h.index (kinds h.tokens) h.refused (subst (λ (ts : List Lexeme). IsProgram (kinds ts)) same p.program)
+-- ---- one tree
+
+-- a source has one tree, by its plain spelling and its numbers
+record SameTree (source : List ℕ) (s t : List Lexeme) (m n : Tree) : Type 0 where
+  tokens : s ≡ t
+  trees : view_module m ≡ view_module n
+
+same_tree : (source : List ℕ) (s t : List Lexeme) (m n : Tree) → IsParsed source s m → IsParsed source t n → SameTree source s t m n
+same_tree source s t m n a b =
+    let same : s ≡ t = tokens_once (length source) source s t a.whole.scanned b.whole.scanned in
+    record {
+      tokens = same;
+      trees = one_tree_of_a_spelling m n (length s) (sym a.whole.spelled ∙ ap kinds same ∙ b.whole.spelled) a.whole.numbered (subst (λ (ts : List Lexeme). IsNumbered n (length ts)) (sym same) b.whole.numbered);
+    }
+
+one_check_fault : (source : List ℕ) (fault other : CheckFault) (at place : ℕ) → CheckFaultAt source fault at → CheckFaultAt source other place
+    → (fault ≡ other) × (at ≡ place)
+one_check_fault source fault other at place h i =
+    let same = same_tree source h.tokens i.tokens h.tree i.tree h.parsed i.parsed in
+    let there : check_fault source h.tokens (view_module h.tree) ≡ Some (record { node = i.node; fault = other }) =
+    ap (λ (ts : List Lexeme). check_fault source ts (view_module h.tree)) same.tokens ∙ ap (check_fault source i.tokens) same.trees ∙ i.least in
+    let both : Some (record { node = h.node; fault = fault }) ≡ Some (record { node = i.node; fault = other }) = sym h.least ∙ there in
+    let node : h.node ≡ i.node = ap node_in both in (
+      ap fault_in both,
+      h.place ∙ ap (λ (ts : List Lexeme). offset_of (length source) ts (first_token_of (view_module h.tree) h.node)) same.tokens
+          ∙ ap (λ m. offset_of (length source) i.tokens (first_token_of m h.node)) same.trees
+          ∙ ap (λ k. offset_of (length source) i.tokens (first_token_of (view_module i.tree) k)) node ∙ sym i.place,
+    )
+  where
+    node_in : Option Broken → ℕ
+    node_in None = 0
+    node_in (Some b) = b.node
+
+    fault_in : Option Broken → CheckFault
+    fault_in None = fault
+    fault_in (Some b) = b.fault
+
+-- a source is one program
+pub one_program : (source : List ℕ) (p q : Program) → IsProgramOf source p → IsProgramOf source q → p ≡ q
+one_program source p q h i =
+    let same = same_tree source h.tokens i.tokens h.tree i.tree h.parsed i.parsed in
+    let both : Some p ≡ Some q =
+    sym h.program ∙ ap (λ (ts : List Lexeme). resolved source ts (view_module h.tree)) same.tokens ∙ ap (resolved source i.tokens) same.trees ∙ i.program in
+    ap (λ (o : Option Program). unwrap_or o p) both
+
+-- what the parser refuses has no tree
+tree_refused : (source : List ℕ) (fault : SyntaxFault) (at : ℕ) (tokens : List Lexeme) (tree : Tree) → SyntaxFaultAt source fault at → IsParsed source tokens tree → ⊥
+tree_refused source fault at tokens tree h p =
+    let same : tokens ≡ h.tokens = tokens_once (length source) source tokens h.tokens p.whole.scanned h.scanned in
+    program_refused fault h.index (kinds h.tokens) h.refused
+    (subst (λ (ts : List Lexeme). IsProgram (kinds ts)) same ((plain_module tree, sym p.whole.spelled), p.shallow))
+
+-- a source is refused for one fault, at one place
+pub one_refusal : (source : List ℕ) (fault other : SourceFault) (at place : ℕ) → IsRefused source fault at → IsRefused source other place
+    → (fault ≡ other) × (at ≡ place)
+one_refusal source (Lex fault) (Lex other) at place h i =
+    let r = faults_once (length source) source h.0 i.0 fault other at place h.1 i.1 in (ap Lex r.0, r.1)
+one_refusal source (Lex fault) (Check other) at place h i = absurd (never_both (length source) source i.tokens h.0 fault at i.parsed.whole.scanned h.1)
+one_refusal source (Check fault) (Lex other) at place h i = absurd (never_both (length source) source h.tokens i.0 other place h.parsed.whole.scanned i.1)
+one_refusal source (Syntax fault) (Check other) at place h i = absurd (tree_refused source fault at i.tokens i.tree h i.parsed)
+one_refusal source (Check fault) (Syntax other) at place h i = absurd (tree_refused source other place h.tokens h.tree i h.parsed)
+one_refusal source (Check fault) (Check other) at place h i =
+    let r = one_check_fault source fault other at place h i in (ap Check r.0, r.1)
+one_refusal source (Lex fault) (Syntax other) at place h i = absurd (never_both (length source) source i.tokens h.0 fault at i.scanned h.1)
+one_refusal source (Syntax fault) (Lex other) at place h i = absurd (never_both (length source) source h.tokens i.0 other place h.scanned i.1)
+one_refusal source (Syntax fault) (Syntax other) at place h i =
+    let r = one_syntax_fault source fault other at place h i in (ap Syntax r.0, r.1)
+
+-- ---- a program is not refused
+
+-- where no rule is broken there is no check fault
+unbroken_refused : (source : List ℕ) (fault : CheckFault) (at : ℕ) (p : Program) → CheckFaultAt source fault at → IsProgramOf source p → ⊥
+unbroken_refused source fault at p h i =
+    let same = same_tree source h.tokens i.tokens h.tree i.tree h.parsed i.parsed in
+    let none : check_fault source i.tokens (view_module i.tree) ≡ None = ap least i.unbroken in
+    let there : check_fault source i.tokens (view_module i.tree) ≡ Some (record { node = h.node; fault = fault }) =
+    sym (ap (λ (ts : List Lexeme). check_fault source ts (view_module h.tree)) same.tokens ∙ ap (check_fault source i.tokens) same.trees) ∙ h.least in
+    cc (none, there)
+
+-- what is refused is no program
+pub refused_no_program : (source : List ℕ) (fault : SourceFault) (offset : ℕ) (p : Program) → IsRefused source fault offset → IsProgramOf source p → ⊥
+refused_no_program source (Lex fault) offset p h i = never_both (length source) source i.tokens h.0 fault offset i.parsed.whole.scanned h.1
+refused_no_program source (Syntax fault) offset p h i = tree_refused source fault offset i.tokens i.tree h i.parsed
+refused_no_program source (Check fault) offset p h i = unbroken_refused source fault offset p h i

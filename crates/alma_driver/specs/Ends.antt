@@ -1,6 +1,6 @@
 -- The ends of a call: their statuses and their texts.
 use Rattle.std.specs.Prelude.{Bool, true, false, List, ℕ, [], ◌++◌, codes, decimal, Option, Some, None}
-use Rattle.alma_base.specs.Fault.{lex_fault_text, syntax_fault_text, run_fault_text}
+use Rattle.alma_base.specs.Fault.{lex_fault_text, syntax_fault_text, check_fault_text, run_fault_text}
 use Rattle.alma_base.specs.declared.place.Place.{Place}
 use Rattle.alma_io.specs.declared.files.Fetch.{Fetch}
 use Rattle.alma_io.specs.declared.files.Fetch.TheVariants as fetch
@@ -8,8 +8,6 @@ use Rattle.alma_io.specs.declared.files.StoreFault.{StoreFault}
 use Rattle.alma_io.specs.declared.files.StoreFault.TheVariants as store
 use Rattle.alma_object.specs.declared.fault.ObjectFault.{ObjectFault}
 use Rattle.alma_object.specs.declared.fault.ObjectFault.TheVariants as object
-use Rattle.alma_front.specs.declared.error.ReadError.{ReadError}
-use Rattle.alma_front.specs.declared.error.ReadError.TheVariants as read
 use Rattle.alma_lower.specs.declared.lowering.LowerError.{LowerError}
 use Rattle.alma_lower.specs.declared.lowering.LowerError.TheVariants as lower
 use Rattle.alma_code.specs.declared.step.End as code
@@ -25,11 +23,11 @@ use Rattle.alma_io.specs.declared.whole.ReadAll.TheVariants as whole
 use Rattle.alma_words.specs.declared.words.WordsError.{WordsError}
 use Rattle.alma_words.specs.declared.words.WordsError.TheVariants as words
 use Rattle.alma_driver.specs.declared.fault.SourceFault.{SourceFault}
-use Rattle.alma_driver.specs.declared.fault.SourceFault.TheVariants.{Lex, Syntax}
+use Rattle.alma_driver.specs.declared.fault.SourceFault.TheVariants.{Lex, Syntax, Check}
 use Rattle.alma_driver.specs.declared.end.Counts.{Counts}
 use Rattle.alma_driver.specs.declared.end.End.{End}
 use Rattle.alma_driver.specs.declared.end.End.TheVariants.{Succeeded, Failed, BadWord, Refused, Faulted, StepsOut, ReadFault, WriteFault}
-use Rattle.alma_driver.specs.declared.end.End.TheVariants.{Memory, BadObject, BadCode, TooLong, TooMuchCode, NotYet}
+use Rattle.alma_driver.specs.declared.end.End.TheVariants.{Memory, BadObject, BadCode, TooLong, TooMuchCode}
 
 -- the status of an end
 abbrev pub status_of : End → ℕ
@@ -46,7 +44,6 @@ status_of (BadObject fault) = 9
 status_of (BadCode fault) = 9
 status_of TooLong = 10
 status_of (TooMuchCode size) = 11
-status_of NotYet = 12
 
 -- the text of an end, but for what names a word, a place, a fault, a size or counts
 abbrev pub fixed_text : End → List ℕ
@@ -63,12 +60,12 @@ fixed_text (BadObject fault) = []
 fixed_text (BadCode fault) = []
 fixed_text TooLong = codes "alma: too long\n"
 fixed_text (TooMuchCode size) = []
-fixed_text NotYet = codes "alma: not yet\n"
 
 -- the name of a fault for which a source is refused
 abbrev pub source_fault_text : SourceFault → List ℕ
 source_fault_text (Lex fault) = lex_fault_text fault
 source_fault_text (Syntax fault) = syntax_fault_text fault
+source_fault_text (Check fault) = check_fault_text fault
 
 -- FILE:LINE:COLUMN: FAULT
 abbrev pub refusal_line : (file line column fault : List ℕ) → List ℕ
@@ -192,11 +189,6 @@ input_end whole.Memory = Memory
 abbrev pub lower_end : LowerError → End
 lower_end (lower.TooMuchCode size) = TooMuchCode size
 lower_end lower.Memory = Memory
-
--- the end of a source that was not read
-abbrev pub read_end : ReadError → End
-read_end read.NotYet = NotYet
-read_end read.Memory = Memory
 
 -- the end of words that are no request
 abbrev pub words_end : WordsError → End

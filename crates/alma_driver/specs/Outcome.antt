@@ -19,16 +19,16 @@ use Rattle.alma_object.specs.Object.{IsObject}
 use Rattle.alma_object.specs.View.{is_read}
 use Rattle.alma_object.specs.Walk.{object_fault}
 use Rattle.alma_whole.specs.Bytes.{object_code}
+use Rattle.alma_sound.specs.Reads.{program_reads}
 use Rattle.alma_implements.specs.Implements.{Implements, Covers, meant_end, state_after, printed_by, line_in}
-use Rattle.alma_front.specs.Source.{IsSource}
 use Rattle.alma_words.specs.Words.{Request, Check, Compile, Listing, Run, Exec, Trace, Sample, Asks, IsBadWord}
 use Rattle.alma_driver.specs.Words.{is_built, read_by, limit_of}
 use Rattle.alma_driver.specs.Ends.{ended_end, mode_end, counts_in}
-use Rattle.alma_driver.specs.Refusal.{IsRefused, IsParsed, place_of}
+use Rattle.alma_driver.specs.Refusal.{IsRefused, IsProgramOf, place_of}
 use Rattle.alma_driver.specs.declared.fault.SourceFault.{SourceFault}
 use Rattle.alma_driver.specs.declared.end.Counts.{Counts}
 use Rattle.alma_driver.specs.declared.end.End.{End}
-use Rattle.alma_driver.specs.declared.end.End.TheVariants.{Succeeded, BadWord, Refused, StepsOut, ReadFault, Memory, BadObject, BadCode, TooLong, TooMuchCode, NotYet}
+use Rattle.alma_driver.specs.declared.end.End.TheVariants.{Succeeded, BadWord, Refused, StepsOut, ReadFault, Memory, BadObject, BadCode, TooLong, TooMuchCode}
 
 -- the size of a program, by which its code is limited
 abbrev pub size_of : Program → ℕ
@@ -96,17 +96,17 @@ pub data InputOutcome (left : Option (List ℕ)) (code : PlainCode) (steps : ℕ
 
 -- ---- programs
 
--- What a run of a program for so many steps comes to: what a sound code that implements it comes to in so many steps, or
--- the refusal of its size.
+-- What a run of a program for so many steps comes to: what a sound code that implements it, and reads exactly where it does, comes
+-- to in so many steps, or the refusal of its size.
 pub data ProgramOutcome (left : Option (List ℕ)) (p : Program) (steps : ℕ) (stats : Bool) (due : Due) : Type 0 where
-  ran : (code : PlainCode) → size_of p ≤ size_limit → IsSound code → Implements code p → InputOutcome left code steps stats due
+  ran : (code : PlainCode) → size_of p ≤ size_limit → IsSound code → Implements code p → has_read code ≡ program_reads p → InputOutcome left code steps stats due
       → ProgramOutcome left p steps stats due
   too_much_code : size_limit < size_of p → due ≡ silent (TooMuchCode (size_of p)) → ProgramOutcome left p steps stats due
 
--- What compiling a program under a name comes to: the object of a sound code that implements it is stored there, or the
--- refusal of its size.
+-- What compiling a program under a name comes to: the object of a sound code that implements it, and reads exactly where it
+-- does, is stored there, or the refusal of its size.
 pub data CompileOutcome (p : Program) (object : List ℕ) (due : Due) : Type 0 where
-  made : (code : PlainCode) (bytes : List ℕ) → size_of p ≤ size_limit → IsSound code → Implements code p → IsObject code bytes
+  made : (code : PlainCode) (bytes : List ℕ) → size_of p ≤ size_limit → IsSound code → Implements code p → has_read code ≡ program_reads p → IsObject code bytes
       → due ≡ storing object bytes → CompileOutcome p object due
   past_size : size_limit < size_of p → due ≡ silent (TooMuchCode (size_of p)) → CompileOutcome p object due
 
@@ -139,15 +139,18 @@ pub data Meant (left : Option (List ℕ)) (p : Program) (steps : ℕ) (due : Due
 
 -- ---- sources and objects
 
--- the end of a source that has no program: the refusal of what is no program of the grammar, or that it is one alone
+-- the end of a source that is no program: its refusal
 pub data IsSourceEnd (source : List ℕ) (end : End) : Type 0 where
   refused : (fault : SourceFault) (offset : ℕ) → IsRefused source fault offset → end ≡ Refused fault (place_of source offset) → IsSourceEnd source end
-  not_yet : IsParsed source → ((p : Program) → IsSource source p → ⊥) → end ≡ NotYet → IsSourceEnd source end
 
 -- what a source comes to: that end, or what its program comes to
 pub data SourceOutcome (source : List ℕ) (program_outcome : Program → Due → Type 0) (due : Due) : Type 0 where
   stopped : (end : End) → IsSourceEnd source end → due ≡ silent end → SourceOutcome source program_outcome due
-  compiled : (p : Program) → IsParsed source → IsSource source p → program_outcome p due → SourceOutcome source program_outcome due
+  compiled : (p : Program) → IsProgramOf source p → program_outcome p due → SourceOutcome source program_outcome due
+
+-- what a program that is only checked comes to: success
+abbrev pub CheckOutcome : Program → Due → Type 0
+CheckOutcome p due = due ≡ silent (Succeeded None)
 
 -- What listing bytes comes to: the text of the code whose object they are, or the first fault of the format.
 pub data ListOutcome (bytes : List ℕ) (due : Due) : Type 0 where
@@ -169,7 +172,7 @@ pub data ExecOutcome (left : Option (List ℕ)) (bytes : List ℕ) (steps : ℕ)
 
 -- what a request comes to, by what is left of the input and the bytes of the file that it reads; none that is not built
 abbrev pub FileOutcome : Option (List ℕ) → Request → List ℕ → Due → Type 0
-FileOutcome left (Check name) source due = ⊥
+FileOutcome left (Check name) source due = SourceOutcome source CheckOutcome due
 FileOutcome left (Compile name object) source due = SourceOutcome source (λ p. CompileOutcome p object) due
 FileOutcome left (Listing object) bytes due = ListOutcome bytes due
 FileOutcome left (Run name steps stats) source due = SourceOutcome source (λ p. ProgramOutcome left p steps stats) due
@@ -196,6 +199,6 @@ Lacks words told = (request : Request) × Asks words request × (is_built reques
 
 -- ---- inner: how the reading of a source may stop
 
--- memory ran out, or the source has no program
+-- memory ran out, or the source is no program
 abbrev pub IsStop : (source : List ℕ) → End → Type 0
 IsStop source end = (end ≡ Memory) ⊎ IsSourceEnd source end

@@ -5,9 +5,9 @@ use Rattle.alma_words.specs.Words.{Request, Check, Compile, Listing, Run, Exec, 
 use Rattle.alma_driver.specs.declared.task.Task as read
 use Rattle.alma_driver.specs.declared.task.Task.TheVariants as task
 
--- The request is built. Those that are not, `check`, `trace` and `sample`, are answered like an unknown command: bad word 1.
+-- The request is built. Those that are not, `trace` and `sample`, are answered like an unknown command: bad word 1.
 abbrev pub is_built : Request → Bool
-is_built (Check name) = false
+is_built (Check name) = true
 is_built (Compile name object) = true
 is_built (Listing object) = true
 is_built (Run name steps stats) = true
@@ -37,6 +37,7 @@ limit_of (Sample lines) = source_limit
 
 -- the request that a task is
 abbrev pub request_of : read.Task → Request
+request_of (task.Check file) = Check file.now
 request_of (task.Run file steps stats) = Run file.now steps stats
 request_of (task.Compile file object) = Compile file.now object.now
 request_of (task.List object) = Listing object.now

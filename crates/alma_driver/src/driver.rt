@@ -12,6 +12,7 @@ use crate::compile::compile_source;
 use crate::end::End;
 use crate::exec::exec_object;
 use crate::list::list_object;
+use crate::load::check_only;
 use crate::report::report;
 use crate::run::run_source;
 use crate::task::{Task, task_of};
@@ -41,6 +42,7 @@ fn serve_file<F: Files, I: Source, O: Sink>(
         (sink_side (O.written out.new) (O.faults out.new)) result }
 {
     match task {
+        Task::Check(_) => check_only(alloc, bytes),
         Task::Run(_, steps, stats) => run_source(alloc, bytes, input, steps, stats, out),
         Task::Compile(_, object) => compile_source(alloc, bytes, object, files),
         Task::List(_) => list_object(alloc, bytes, out),
@@ -101,12 +103,11 @@ fn perform<F: Files, I: Source, O: Sink>(
 /// the program's name. Programs and listings print on `out`; what stands in the way is told on `err`. `compile` alone
 /// changes a file: the one that it stores.
 ///
-/// The status is 0 for success, 1 for a program that fails, 2 for a bad word, 3 for a source that is no program of the
-/// grammar, which is told with the line and the column of its fault, 4 for a fault of the run, 5 for steps that ran out, 6
+/// The status is 0 for success, 1 for a program that fails, 2 for a bad word, 3 for a source that is no program, which is told
+/// with the line and the column of its first fault, 4 for a fault of the run, 5 for steps that ran out, 6
 /// for a read fault, also of the input, which is read only where the code of a run reads, 7 for a write fault or a store that failed, 8 for want of memory, 9 for bytes that are no object and for
 /// an object to run whose code is not sound, 10 for a source of more than 1,048,576 bytes or an object of more than
-/// 268,435,456 or an input of more than 16,777,216, 11 for a program whose size passes 4,194,304, and 12 for a program of the
-/// grammar that has a form which is not built yet.
+/// 268,435,456 or an input of more than 16,777,216, and 11 for a program whose size passes 4,194,304.
 pub fn alma<F: Files, I: Source, O: Sink, E: Sink>(
     alloc: Global,
     words: &[String],

@@ -2,13 +2,12 @@
 ghost use Rattle.std.specs.Prelude.{◌≡◌};
 ghost use Rattle.alma_code.specs.Lines.{line_at};
 ghost use Rattle.alma_object.specs.View.{code_of_view};
-ghost use Rattle.alma_driver.specs.Ends.{status_of, counts_with, fixed_text, run_end, input_end, lower_end, read_end, words_end, fetch_end, store_end};
+ghost use Rattle.alma_driver.specs.Ends.{status_of, counts_with, fixed_text, run_end, input_end, lower_end, words_end, fetch_end, store_end};
 
 use crate::fault::SourceFault;
 use alma_base::{Place, RunFault};
 use alma_code::VerifyFault;
 use alma_engine::RunEnd;
-use alma_front::ReadError;
 use alma_io::{Fetch, ReadAll, StoreFault};
 use alma_lower::LowerError;
 use alma_object::{ObjectFault, ObjectView};
@@ -31,7 +30,7 @@ pub enum End {
     Failed(Option<Counts>),
     /// The first word, from 1, that cannot stand where it is, or one more than there are.
     BadWord(usize),
-    /// The source is no program of the grammar: its fault, and the place of it.
+    /// The source is no program: its fault, and the place of it.
     Refused(SourceFault, Place),
     /// The run stopped in a fault, at this line; 0 where none is known.
     Faulted(RunFault, u32, Option<Counts>),
@@ -51,8 +50,6 @@ pub enum End {
     TooLong,
     /// The size of the program, which is past the greatest.
     TooMuchCode(u64),
-    /// The source is a program of the grammar, and not of the language so far.
-    NotYet,
 }
 
 impl End {
@@ -73,7 +70,6 @@ impl End {
             End::BadObject(_) | End::BadCode(_) => 9,
             End::TooLong => 10,
             End::TooMuchCode(_) => 11,
-            End::NotYet => 12,
         }
     }
 
@@ -104,7 +100,6 @@ impl End {
             End::WriteFault => b"alma: write fault\n",
             End::Memory => b"alma: out of memory\n",
             End::TooLong => b"alma: too long\n",
-            End::NotYet => b"alma: not yet\n",
         }
     }
 }
@@ -152,17 +147,6 @@ impl From<LowerError> for End {
         match error {
             LowerError::TooMuchCode(size) => End::TooMuchCode(size),
             LowerError::Memory => End::Memory,
-        }
-    }
-}
-
-impl From<ReadError> for End {
-    ghost from_gives = { λ error end. end ≡ read_end error };
-
-    fn from(error: ReadError) -> Self {
-        match error {
-            ReadError::NotYet => End::NotYet,
-            ReadError::Memory => End::Memory,
         }
     }
 }

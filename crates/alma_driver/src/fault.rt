@@ -2,16 +2,18 @@
 ghost use Rattle.std.specs.Prelude.{◌≡◌};
 ghost use Rattle.alma_driver.specs.Ends.{source_fault_text, object_fault_name as object_fault_name_of, object_fault_number as object_fault_number_of};
 
-use alma_base::{LexFault, SyntaxFault};
+use alma_base::{CheckFault, LexFault, SyntaxFault};
 use alma_object::ObjectFault;
 
-/// Why a source is no program of the grammar.
+/// Why a source is no program.
 #[derive(Clone, Copy, Debug, PartialEq, Eq)]
 pub enum SourceFault {
     /// Its bytes are no tokens.
     Lex(LexFault),
-    /// Its tokens are no program.
+    /// Its tokens are no program of the grammar.
     Syntax(SyntaxFault),
+    /// It breaks a rule of names or types.
+    Check(CheckFault),
 }
 
 impl SourceFault {
@@ -22,6 +24,7 @@ impl SourceFault {
         match self {
             SourceFault::Lex(fault) => fault.text(),
             SourceFault::Syntax(fault) => fault.text(),
+            SourceFault::Check(fault) => fault.text(),
         }
     }
 }

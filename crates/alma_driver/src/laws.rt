@@ -1,7 +1,7 @@
 //! Laws of the definitions that the contracts cite: functions without work, whose contracts are the laws.
 ghost use Rattle.std.specs.Prelude.{◌≡◌, Bool, List, ℕ, Option, Some};
 ghost use Rattle.alma_driver.specs.declared.fault.SourceFault.{SourceFault};
-ghost use Rattle.alma_driver.specs.Refusal.{IsRefused, IsParsed};
+ghost use Rattle.alma_driver.specs.Refusal.{IsRefused, IsProgramOf};
 ghost use Rattle.alma_driver.specs.Outcome.{Due, ProgramOutcome, Meant, ListOutcome, ExecOutcome};
 ghost use Rattle.alma_ir.specs.Tree.{Program};
 
@@ -12,10 +12,16 @@ pub fn a_run_is_what_its_program_means()
         → ProgramOutcome left p steps stats due → Meant left p steps due }
 {}
 
-/// What is refused is no program of the grammar.
+/// What is refused is no program.
 pub fn a_refused_source_is_no_program()
-    ensures apart { (source : List ℕ) (fault : SourceFault) (offset : ℕ)
-        → IsRefused source fault offset → IsParsed source → ⊥ }
+    ensures apart { (source : List ℕ) (fault : SourceFault) (offset : ℕ) (p : Program)
+        → IsRefused source fault offset → IsProgramOf source p → ⊥ }
+{}
+
+/// A source is one program.
+pub fn a_source_is_one_program()
+    ensures same { (source : List ℕ) (p q : Program) → IsProgramOf source p
+        → IsProgramOf source q → p ≡ q }
 {}
 
 /// A source is refused for one fault, and at one place.

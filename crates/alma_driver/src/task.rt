@@ -9,6 +9,8 @@ use alma_words::Request;
 /// A request that is built.
 #[derive(Clone, Copy, Debug, PartialEq, Eq)]
 pub enum Task<'w> {
+    /// `check FILE`: checks the source of this name.
+    Check(&'w str),
     /// `run FILE`: compiles the source of this name and runs it for at most so many steps, and tells counts where they are
     /// asked for.
     Run(&'w str, u64, bool),
@@ -26,6 +28,7 @@ impl<'w> Task<'w> {
         ensures { result.now ≡ read_by (request_of self.entry) }
     {
         match self {
+            Task::Check(file) => file,
             Task::Run(file, _, _) => file,
             Task::Compile(file, _) => file,
             Task::List(object) => object,
@@ -38,7 +41,7 @@ impl<'w> Task<'w> {
         ensures { result ≡ limit_of (request_of self.entry) }
     {
         match self {
-            Task::Run(_, _, _) | Task::Compile(_, _) => SOURCE_LIMIT,
+            Task::Check(_) | Task::Run(_, _, _) | Task::Compile(_, _) => SOURCE_LIMIT,
             Task::List(_) | Task::Exec(_, _, _) => OBJECT_LIMIT,
         }
     }
@@ -50,10 +53,11 @@ pub fn task_of(request: Request<'_>) -> Option<Task<'_>>
         request.entry ≡ request_of task) × (is_built (asked request.entry) ≡ true)) }
 {
     match request {
+        Request::Check(file) => Some(Task::Check(file)),
         Request::Run(file, steps, stats) => Some(Task::Run(file, steps, stats)),
         Request::Compile(file, object) => Some(Task::Compile(file, object)),
         Request::List(object) => Some(Task::List(object)),
         Request::Exec(object, steps, stats) => Some(Task::Exec(object, steps, stats)),
-        Request::Check(_) | Request::Trace(_, _, _) | Request::Sample(_) => None,
+        Request::Trace(_, _, _) | Request::Sample(_) => None,
     }
 }

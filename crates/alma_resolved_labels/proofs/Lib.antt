@@ -1,1 +1,1 @@
-mod Labels
+pub mod Labels

@@ -79,8 +79,8 @@ texts_named source tokens (x ∷ xs) h k = (token_named (length source) source t
 -- ---- the tokens of a scene stay
 
 -- the scene has the tokens of another
-record Same (s t : Scene) : Type 0 where
-  is : t.tokens ≡ s.tokens
+pub record Same (s t : Scene) : Type 0 where
+  pub is : t.tokens ≡ s.tokens
 
 same_self : (s : Scene) → Same s s
 same_self s = record { is = refl }
@@ -88,7 +88,7 @@ same_self s = record { is = refl }
 same_twice : {s t u : Scene} → Same s t → Same t u → Same s u
 same_twice a b = record { is = b.is ∙ a.is }
 
-declared_same : (s : Scene) (x : tree.Name) (from : ℕ) (e : Entry) → Same s (declared s x from e)
+pub declared_same : (s : Scene) (x : tree.Name) (from : ℕ) (e : Entry) → Same s (declared s x from e)
 declared_same s x from e = by (is_first s x)
   where
     by : (b : Bool) → Same s (if b then record s { blocks = with_declared s.blocks (record { name = text_at s x.token; from = from; entry = e }) } else s)
@@ -140,7 +140,7 @@ list_same s names from = by (all_first s names)
 mutual
   unfolding read_type
 
-  type_same : (s : Scene) (x : tree.TypeNode) → Same s (read_type s x).scene
+  pub type_same : (s : Scene) (x : tree.TypeNode) → Same s (read_type s x).scene
   type_same s (tree.type_node n dims p) =
       change_same rows_of s (reading_both (read_arrays s dims) (read_plain (read_arrays s dims).scene p)) (same_twice (arrays_same s dims) (plain_same (read_arrays s dims).scene p)) (λ x. rows_same (read_plain (read_arrays s dims).scene p).scene x.0 x.1)
 
@@ -249,7 +249,7 @@ none_named : (rs : List Routine) → [] ≡ rs → RoutinesNamed rs
 none_named [] e = tt
 none_named (x ∷ xs) e = absurd (cc)
 
-tokens_steady : Steady (λ s. s.tokens)
+pub tokens_steady : Steady (λ s. s.tokens)
 tokens_steady = record { same = λ s b d r t. refl }
 
 -- a heading declares no variables of a module

@@ -38,14 +38,14 @@ wider : (a b low high : ℕ) (xs : List tree.Name) → low ≤ a → b ≤ high 
 wider a b low high xs p q h = each_follows (λ x. (a ≤ x.token) × (x.token < b)) (λ x. (low ≤ x.token) × (x.token < high)) (λ x g. (omega (arith, p, g.0), omega (arith, q, g.1))) xs h
 
 -- the step leads on over these names
-Lists : Step → List tree.Name → Type 0
+pub Lists : Step → List tree.Name → Type 0
 Lists f xs = (at b : Cursor) → f at ≡ Some b → (at.token ≤ b.token) × Between at.token b.token xs
 
 lists_none : (f : Step) → Up f → Lists f []
 unfolding Up Lists
 lists_none f u at b h = (u at b h, tt)
 
-lists_up : (f : Step) (xs : List tree.Name) → Lists f xs → Up f
+pub lists_up : (f : Step) (xs : List tree.Name) → Lists f xs → Up f
 unfolding Up Lists
 lists_up f xs l at b h = (l at b h).0
 
@@ -114,7 +114,7 @@ names_lists x = both _ _ (view.view_name x.first ∷ []) _ (name_lists x.first) 
 mutual
   unfolding type_names
 
-  type_lists : (x : dy.TypeNode) → Lists (number.number_type x) (type_names (view.view_type_node x))
+  pub type_lists : (x : dy.TypeNode) → Lists (number.number_type x) (type_names (view.view_type_node x))
   type_lists (dy.TypeNode' n dims p) = both _ _ _ _ (arrays_lists dims) (before _ _ _ (plain_lists p) (up_node n))
 
   arrays_lists : (x : dy.Held-TypeNode-arrays) → Lists (number.number_arrays x) (arrays_names (view.view_arrays x))
@@ -149,11 +149,11 @@ mutual
 
 -- ---- declarations
 
-consts_lists : (xs : List ConstEntry) → Lists (number.numbers_of_consts xs) (const_names (view.consts_of xs))
+pub consts_lists : (xs : List ConstEntry) → Lists (number.numbers_of_consts xs) (const_names (view.consts_of xs))
 consts_lists [] = lists_none _ up_stay
 consts_lists (x ∷ xs) = both _ _ (view.view_name x.name ∷ []) _ (name_lists x.name) (after _ _ _ up_token (after _ _ _ (expr_up x.value) (after _ _ _ up_token (consts_lists xs))))
 
-types_lists : (xs : List TypeEntry) → Lists (number.numbers_of_types xs) (type_entry_names (view.types_of xs))
+pub types_lists : (xs : List TypeEntry) → Lists (number.numbers_of_types xs) (type_entry_names (view.types_of xs))
 types_lists [] = lists_none _ up_stay
 types_lists (x ∷ xs) =
     both _ _ (view.view_name x.name ∷ []) _ (name_lists x.name) (after _ _ _ up_token (both _ _ _ _ (type_lists x.type_node) (after _ _ _ up_token (types_lists xs))))
@@ -164,7 +164,7 @@ vars_lists (x ∷ xs) =
     subst (λ ys. Lists (number.numbers_of_vars (x ∷ xs)) ys) (sym (append_assoc (all_names (view.view_names x.names)) (type_names (view.view_type_node x.type_node)) (var_names (view.vars_of xs))))
     (both _ _ (all_names (view.view_names x.names)) _ (names_lists x.names) (after _ _ _ up_token (both _ _ _ _ (type_lists x.type_node) (after _ _ _ up_token (vars_lists xs)))))
 
-mode_up : (x : Option Mode) → Up (number.number_mode x)
+pub mode_up : (x : Option Mode) → Up (number.number_mode x)
 mode_up None = up_stay
 mode_up (Some m) = up_token
 

@@ -1,8 +1,6 @@
-//! What public calls answer, and what is printed. Tests alone, of the machine: the store, runs, and the small language.
+//! What public calls answer, and what is printed. Tests alone, of the machine: the store, and runs.
 #![tactic(auto)]
 
-#[cfg(test)]
-mod front;
 #[cfg(test)]
 mod machine;
 #[cfg(test)]

@@ -88,12 +88,6 @@ const BLANKS: Answer = Answer {
     err: b"a.al:1:1048577: Unexpected\n",
 };
 
-const NOT_YET: Answer = Answer {
-    status: 12,
-    out: b"",
-    err: b"alma: not yet\n",
-};
-
 /// The file `a.al` is there, with this source.
 #[derive(Clone, Copy)]
 struct Call<'s> {
@@ -583,7 +577,7 @@ fn brackets_have_a_greatest_depth(rt: HostRuntime) -> Result<(), Fail> {
         source: &deepest,
         fails: NO_FAILS,
     };
-    check(&rt, alloc, &call, &NOT_YET)?;
+    check(&rt, alloc, &call, &SUCCESS)?;
     let too_deep = nested_source(alloc, 100)?;
     let call = Call {
         words: &RUN,
@@ -593,24 +587,47 @@ fn brackets_have_a_greatest_depth(rt: HostRuntime) -> Result<(), Fail> {
     check(&rt, alloc, &call, &TOO_DEEP)
 }
 
-const OTHER_SOURCES: [&[u8]; 6] = [
-    b"MODULE A; BEGIN WRITE(1, TRUE) END B.",
-    b"MODULE A; PROCEDURE p; BEGIN WRITE(1) END p; BEGIN p END A.",
-    b"MODULE A; VAR x, x: INTEGER; END A.",
-    b"MODULE A; BEGIN x := 1 END A.",
-    b"MODULE A; VAR x: INTEGER; BEGIN x := TRUE END A.",
-    b"MODULE A; VAR x: INTEGER; BEGIN EITHER x = 1 ORELSE x = 2 END END A.",
+// A source that breaks a rule of names or types, and what is told of it.
+struct Refusal {
+    source: &'static [u8],
+    err: &'static [u8],
+}
+
+const REFUSALS: [Refusal; 4] = [
+    Refusal {
+        source: b"MODULE A; BEGIN WRITE(1, TRUE) END B.",
+        err: b"a.al:1:36: NameMismatch\n",
+    },
+    Refusal {
+        source: b"MODULE A; VAR x, x: INTEGER; END A.",
+        err: b"a.al:1:18: Redeclared\n",
+    },
+    Refusal {
+        source: b"MODULE A; BEGIN x := 1 END A.",
+        err: b"a.al:1:17: Undeclared\n",
+    },
+    Refusal {
+        source: b"MODULE A; VAR x: INTEGER; BEGIN x := TRUE END A.",
+        err: b"a.al:1:33: TypeMismatch\n",
+    },
 ];
 
 #[test]
-fn other_sources_are_not_yet_run(rt: HostRuntime) -> Result<(), Fail> {
-    for source in &OTHER_SOURCES {
-        let call = Call {
-            words: &RUN,
-            source,
-            fails: NO_FAILS,
-        };
-        check(&rt, rt.alloc(), &call, &NOT_YET)?;
+fn broken_rules_are_named_with_a_place(rt: HostRuntime) -> Result<(), Fail> {
+    for row in &REFUSALS {
+        for words in [&["check", "a.al"], &RUN] {
+            let call = Call {
+                words,
+                source: row.source,
+                fails: NO_FAILS,
+            };
+            let answer = Answer {
+                status: 3,
+                out: b"",
+                err: row.err,
+            };
+            check(&rt, rt.alloc(), &call, &answer)?;
+        }
     }
     Ok(())
 }
@@ -620,7 +637,7 @@ struct Words {
     answer: Answer<'static>,
 }
 
-const WORDS: [Words; 24] = [
+const WORDS: [Words; 25] = [
     Words {
         words: &[],
         answer: BAD_WORD_1,
@@ -631,7 +648,11 @@ const WORDS: [Words; 24] = [
     },
     Words {
         words: &["check", "a.al"],
-        answer: BAD_WORD_1,
+        answer: SUCCESS,
+    },
+    Words {
+        words: &["check", "b.al"],
+        answer: READ_FAULT,
     },
     Words {
         words: &["trace", "a.al"],

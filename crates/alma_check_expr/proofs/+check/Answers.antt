@@ -1,34 +1,33 @@
-use Rattle.std.proofs.Common.{◌≡◌, ℕ, ◌+◌, List, [], ◌∷◌, ◌++◌, Option, None, Some, drop, refl, sym, subst, ap, ◌∙◌, arith}
+use Rattle.std.proofs.Common.{◌≡◌, ◌+◌, List, [], ◌++◌, Some, drop, refl, sym, ap, ◌∙◌, arith}
 use Rattle.std.specs.Prelude.{slice_get, option_map, option_to_list}
 use Rattle.alma_tree.specs.declared.phrase.Label as dl
 use Rattle.alma_ir.specs.View.{cases_list}
 use Rattle.alma_walk.specs.Arms.{arms_judged}
 use Rattle.alma_walk.proofs.Cases as cases
-use Rattle.alma_check_expr.proofs.Begins.{stops_as, node_is, err_if, err_on, on_ok}
+use Rattle.alma_check_expr.proofs.Begins.{begun, from_nothing, stops_as, node_is, on_ok}
 use Rattle.alma_check_expr.proofs.Calls as calls
 use Rattle.alma_check_expr.proofs.Calls.{args_last}
-use Rattle.alma_check_expr.proofs.Empty.{empty_by, some_by}
+use Rattle.alma_check_expr.proofs.Empty.{empty_by, some_by, selected_by, length_is}
 use Rattle.alma_check_expr.proofs.Items as items
 use Rattle.alma_check_expr.proofs.Labels.{settled, spans_count, labels_begin, labels_turn, arms_turn, grown_begin, of_ok}
 use Rattle.alma_check_expr.proofs.Loops as loops
-use Rattle.alma_check_expr.proofs.Same.{kind_same}
+use Rattle.alma_check_expr.proofs.Same.{kind_same, indexed_same}
 use Rattle.alma_tree.specs.declared.phrase.Compared as dc
 use Rattle.alma_tree.specs.declared.phrase.Exprs as dx
 use Rattle.alma_ir.specs.Tree as ir
-use Rattle.alma_ir.specs.View.{test_of, arg_of, args_list}
+use Rattle.alma_ir.specs.View.{arg_of, args_list, arms_list, branches_list}
 use Rattle.alma_rules.specs.Numbered as tree
 use Rattle.alma_rules.specs.View as view
 use Rattle.alma_rules.specs.Judged.{Judged, fine, of_value}
-use Rattle.alma_rules.specs.Answers.{Stops}
 use Rattle.alma_rules.specs.Scene.{inside_of, in_constant}
 use Rattle.alma_rules.specs.Parts as parts
 use Rattle.alma_rules.specs.ExprRules as rules
 use Rattle.alma_rules.specs.Nodes as nodes
 use Rattle.alma_rules.specs.Walk as walk
-use Rattle.alma_check_rules.specs.Views.{scene_of, headings_in, found_view, use_view, operand_view, operator_view, typing_of, denoted_of, denoted_in, located_of, callee_in, callee_of, operands_of, operands_in, args_of, args_in, stmts_of, stmts_in, typing_in, formal_view, span_view, spans_view, spans_of, spans_in}
+use Rattle.alma_check_rules.specs.Views.{scene_of, somewhere, headings_in, found_view, use_view, operand_view, operator_view, typing_of, denoted_of, denoted_in, callee_in, operands_of, operands_in, operands_view, args_of, args_in, stmts_of, stmts_in, typing_in, formal_view, span_view, spans_view, spans_of, spans_in}
 use Rattle.alma_check_build.specs.Lists.{guarded_of, arms_of, arms_in, branches_of, branches_in, cases_of, cases_in}
 use Rattle.alma_walk.proofs.Judging.{stops_more, passed, no_memory, answers_as}
-use Rattle.alma_walk.proofs.Onwards.{first_fine, onward_begin, onward_end, nothing_behind}
+use Rattle.alma_walk.proofs.Onwards.{first_fine, onward_end, nothing_behind}
 use Rattle.alma_walk.proofs.Rows as rows
 use Rattle.alma_walk.proofs.Exprs as exprs
 use Rattle.alma_walk.proofs.Desigs as desigs
@@ -62,22 +61,22 @@ expression::check_simple-returns-in_err-first t c =
 pub expression::check_simple-returns : goal.expression::check_simple-returns
 expression::check_simple-returns t c =
     exprs.simple_fine (scene_of c.args.env.now c.args.place) c.args.slot.now c.args.simple.now (operand_view c.first_add-operand.result) typing_of _ _ _ _ (rw c.deref.ensures.value at c.first_add-operand.ensures) (rw c.deref-2.ensures at c.in_ok-first.ensures)
-    (c.join_sum.ensures _ _ _ c.check_terms-rest.ensures)
+    (rw (c.deref-3.ensures.value, c.deref-4.ensures.value) at (c.join_sum.ensures (walk.judge_terms (scene_of c.args.env.now c.args.place) c.check_term.new.slot c.first_add-operand.result.sort (view.terms_of c.deref-3.result.now)) c.check_term.new.slot c.check_terms-rest.new.slot c.check_terms-rest.ensures))
 
 pub expression::check_terms-loop-link-init : goal.expression::check_terms-loop-link-init
 expression::check_terms-loop-link-init t c =
-    sym (onward_begin (λ (x y : parts.Operands). x ++ y) [] (walk.judge_terms (scene_of c.args.env.now c.args.place) c.args.slot.now c.args.sort (view.terms_of c.args.more.now)) (λ b. refl))
+    begun (λ (x y : parts.Operands). x ++ y) [] (operands_in (Some c.new.result)) (walk.judge_terms (scene_of c.args.env.now c.args.place) c.args.slot.now c.args.sort (view.terms_of c.args.more.now)) (λ b. refl) (ap (λ l. Some (operands_view l)) c.new.ensures.items)
 
 pub expression::check_terms-loop-link-preserved : goal.expression::check_terms-loop-link-preserved
 expression::check_terms-loop-link-preserved t c =
     c.loop-link.invariant ∙ ap (onward_operands (operands_in c.loop-link.kept)) (exprs.terms_next (scene_of c.args.env.now c.args.place) c.loop-link.slot c.loop-link.link-index c.args.sort c.args.more.now c.link-item.result (operator_view c.add_operator-operator.result) (operand_view c.behind-operand.result) c.loop-link-test.true c.link-item.is c.add_operator-operator.ensures c.behind-operand.ensures)
-    ∙ c.in_ok-add_operand.ensures _ _ (λ m. walk.judge_terms (scene_of c.args.env.now c.args.place) m c.args.sort (view.terms_of (drop (c.loop-link.link-index + 1) c.args.more.now))) c.check_term-typed.ensures
+    ∙ c.in_ok-kept.ensures _ _ (λ m. walk.judge_terms (scene_of c.args.env.now c.args.place) m c.args.sort (view.terms_of (drop (c.loop-link.link-index + 1) c.args.more.now))) c.check_term-typed.ensures
 
-pub expression::check_terms-returns-in_err-add_operand : goal.expression::check_terms-returns-in_err-add_operand
-expression::check_terms-returns-in_err-add_operand t c =
+pub expression::check_terms-returns-in_err-kept : goal.expression::check_terms-returns-in_err-kept
+expression::check_terms-returns-in_err-kept t c =
     passed _ operands_of _ _ _ c.from_residual.ensures.1
-    (subst (λ (j : Judged parts.Operands). Stops j.faults _) (sym (c.loop-link.invariant ∙ ap (onward_operands (operands_in c.loop-link.kept)) (exprs.terms_next (scene_of c.args.env.now c.args.place) c.loop-link.slot c.loop-link.link-index c.args.sort c.args.more.now c.link-item.result (operator_view c.add_operator-operator.result) (operand_view c.behind-operand.result) c.loop-link-test.true c.link-item.is c.add_operator-operator.ensures c.behind-operand.ensures)))
-    (c.in_err-add_operand.ensures _ _ (λ m. walk.judge_terms (scene_of c.args.env.now c.args.place) m c.args.sort (view.terms_of (drop (c.loop-link.link-index + 1) c.args.more.now))) c.check_term-typed.ensures))
+    (stops_as _ _ _ (c.loop-link.invariant ∙ ap (onward_operands (operands_in c.loop-link.kept)) (exprs.terms_next (scene_of c.args.env.now c.args.place) c.loop-link.slot c.loop-link.link-index c.args.sort c.args.more.now c.link-item.result (operator_view c.add_operator-operator.result) (operand_view c.behind-operand.result) c.loop-link-test.true c.link-item.is c.add_operator-operator.ensures c.behind-operand.ensures))
+    (c.in_err-kept.ensures _ _ (λ m. walk.judge_terms (scene_of c.args.env.now c.args.place) m c.args.sort (view.terms_of (drop (c.loop-link.link-index + 1) c.args.more.now))) c.check_term-typed.ensures))
 
 pub expression::check_terms-returns : goal.expression::check_terms-returns
 expression::check_terms-returns t c =
@@ -92,22 +91,22 @@ expression::check_term-returns-in_err-first t c =
 pub expression::check_term-returns : goal.expression::check_term-returns
 expression::check_term-returns t c =
     exprs.term_fine (scene_of c.args.env.now c.args.place) c.args.slot.now (operand_view c.args.operand) c.args.term.now (operand_view c.first_mul-inner.result) typing_of _ _ _ _ (rw c.deref.ensures.value at c.first_mul-inner.ensures) c.in_ok-first.ensures
-    (c.join_product.ensures _ _ _ c.check_factors-rest.ensures)
+    (rw (c.deref-2.ensures.value, c.deref-3.ensures.value) at (c.join_product.ensures (walk.judge_factors (scene_of c.args.env.now c.args.place) c.check_factor.new.slot c.first_mul-inner.result.sort (view.factors_of c.deref-2.result.now)) c.check_factor.new.slot c.check_factors-rest.new.slot c.check_factors-rest.ensures))
 
 pub expression::check_factors-loop-link-init : goal.expression::check_factors-loop-link-init
 expression::check_factors-loop-link-init t c =
-    sym (onward_begin (λ (x y : parts.Operands). x ++ y) [] (walk.judge_factors (scene_of c.args.env.now c.args.place) c.args.slot.now c.args.sort (view.factors_of c.args.more.now)) (λ b. refl))
+    begun (λ (x y : parts.Operands). x ++ y) [] (operands_in (Some c.new.result)) (walk.judge_factors (scene_of c.args.env.now c.args.place) c.args.slot.now c.args.sort (view.factors_of c.args.more.now)) (λ b. refl) (ap (λ l. Some (operands_view l)) c.new.ensures.items)
 
 pub expression::check_factors-loop-link-preserved : goal.expression::check_factors-loop-link-preserved
 expression::check_factors-loop-link-preserved t c =
     c.loop-link.invariant ∙ ap (onward_operands (operands_in c.loop-link.kept)) (exprs.factors_next (scene_of c.args.env.now c.args.place) c.loop-link.slot c.loop-link.link-index c.args.sort c.args.more.now c.link-item.result (operator_view c.mul_operator-operator.result) (operand_view c.behind-operand.result) c.loop-link-test.true c.link-item.is c.mul_operator-operator.ensures c.behind-operand.ensures)
-    ∙ c.in_ok-add_operand.ensures _ _ (λ m. walk.judge_factors (scene_of c.args.env.now c.args.place) m c.args.sort (view.factors_of (drop (c.loop-link.link-index + 1) c.args.more.now))) c.check_factor-typed.ensures
+    ∙ c.in_ok-kept.ensures _ _ (λ m. walk.judge_factors (scene_of c.args.env.now c.args.place) m c.args.sort (view.factors_of (drop (c.loop-link.link-index + 1) c.args.more.now))) c.check_factor-typed.ensures
 
-pub expression::check_factors-returns-in_err-add_operand : goal.expression::check_factors-returns-in_err-add_operand
-expression::check_factors-returns-in_err-add_operand t c =
+pub expression::check_factors-returns-in_err-kept : goal.expression::check_factors-returns-in_err-kept
+expression::check_factors-returns-in_err-kept t c =
     passed _ operands_of _ _ _ c.from_residual.ensures.1
-    (subst (λ (j : Judged parts.Operands). Stops j.faults _) (sym (c.loop-link.invariant ∙ ap (onward_operands (operands_in c.loop-link.kept)) (exprs.factors_next (scene_of c.args.env.now c.args.place) c.loop-link.slot c.loop-link.link-index c.args.sort c.args.more.now c.link-item.result (operator_view c.mul_operator-operator.result) (operand_view c.behind-operand.result) c.loop-link-test.true c.link-item.is c.mul_operator-operator.ensures c.behind-operand.ensures)))
-    (c.in_err-add_operand.ensures _ _ (λ m. walk.judge_factors (scene_of c.args.env.now c.args.place) m c.args.sort (view.factors_of (drop (c.loop-link.link-index + 1) c.args.more.now))) c.check_factor-typed.ensures))
+    (stops_as _ _ _ (c.loop-link.invariant ∙ ap (onward_operands (operands_in c.loop-link.kept)) (exprs.factors_next (scene_of c.args.env.now c.args.place) c.loop-link.slot c.loop-link.link-index c.args.sort c.args.more.now c.link-item.result (operator_view c.mul_operator-operator.result) (operand_view c.behind-operand.result) c.loop-link-test.true c.link-item.is c.mul_operator-operator.ensures c.behind-operand.ensures))
+    (c.in_err-kept.ensures _ _ (λ m. walk.judge_factors (scene_of c.args.env.now c.args.place) m c.args.sort (view.factors_of (drop (c.loop-link.link-index + 1) c.args.more.now))) c.check_factor-typed.ensures))
 
 pub expression::check_factors-returns : goal.expression::check_factors-returns
 expression::check_factors-returns t c =
@@ -165,19 +164,19 @@ designator::check_desig-returns-in_err-found t c =
 
 pub designator::check_desig-returns : goal.designator::check_desig-returns
 designator::check_desig-returns t c =
-    rw (desigs.desig_fine (scene_of c.args.env.now c.args.place) c.args.slot.now (use_view c.args.wanted) c.args.desig.now (found_view (headings_in c.args.env.now) c.in_ok-found.found) c.args.slot.now (denoted_in (headings_in c.args.env.now) c.in_ok-start.start) c.in_ok-found.ensures (c.in_ok-start.ensures c.args.slot.now))
+    rw (desigs.desig_fine (scene_of c.args.env.now c.args.place) c.args.slot.now (use_view c.args.wanted) c.args.desig.now (found_view (headings_in c.args.env.now) c.in_ok-found.found) c.args.slot.now (denoted_in (headings_in c.args.env.now) c.in_ok-start.start) c.in_ok-found.ensures (c.in_ok-start.ensures c.args.slot.now), selected_by c.args.desig.now.more, ← c.is_empty.ensures)
     (c.join_desig.ensures (walk.judge_selectors (scene_of c.args.env.now c.args.place) (of_value c.args.slot.now (denoted_in (headings_in c.args.env.now) c.in_ok-start.start)) (view.selectors_of c.args.desig.now.more.items)) _ (rw c.deref.ensures.value at c.check_selectors-part.ensures))
 
 pub designator::check_selectors-loop-selector-preserved : goal.designator::check_selectors-loop-selector-preserved
 designator::check_selectors-loop-selector-preserved t c =
     c.loop-selector.invariant ∙ (desigs.selectors_next (scene_of c.args.env.now c.args.place) (of_value c.loop-selector.slot (denoted_in (headings_in c.args.env.now) c.loop-selector.found)) c.loop-selector.selector-index c.args.more.now c.selector-item.result c.loop-selector-test.true c.selector-item.is)
-    ∙ ap (λ (j : Judged parts.Denoted). walk.judge_selectors (scene_of c.args.env.now c.args.place) j (view.selectors_of (drop (c.loop-selector.selector-index + 1) c.args.more.now))) c.in_ok-check_selector.ensures
+    ∙ ap (λ (j : Judged parts.Denoted). walk.judge_selectors (scene_of c.args.env.now c.args.place) j (view.selectors_of (drop (c.loop-selector.selector-index + 1) c.args.more.now))) c.in_ok-found.ensures
 
-pub designator::check_selectors-returns-in_err-check_selector : goal.designator::check_selectors-returns-in_err-check_selector
-designator::check_selectors-returns-in_err-check_selector t c =
+pub designator::check_selectors-returns-in_err-found : goal.designator::check_selectors-returns-in_err-found
+designator::check_selectors-returns-in_err-found t c =
     passed _ (denoted_of (headings_in c.args.env.now)) _ _ _ c.from_residual.ensures.1
-    (subst (λ (j : Judged parts.Denoted). Stops j.faults _) (sym (c.loop-selector.invariant ∙ (desigs.selectors_next (scene_of c.args.env.now c.args.place) (of_value c.loop-selector.slot (denoted_in (headings_in c.args.env.now) c.loop-selector.found)) c.loop-selector.selector-index c.args.more.now c.selector-item.result c.loop-selector-test.true c.selector-item.is)))
-    (desigs.selectors_stops (scene_of c.args.env.now c.args.place) (view.selectors_of (drop (c.loop-selector.selector-index + 1) c.args.more.now)) _ _ c.in_err-check_selector.ensures))
+    (stops_as _ _ _ (c.loop-selector.invariant ∙ (desigs.selectors_next (scene_of c.args.env.now c.args.place) (of_value c.loop-selector.slot (denoted_in (headings_in c.args.env.now) c.loop-selector.found)) c.loop-selector.selector-index c.args.more.now c.selector-item.result c.loop-selector-test.true c.selector-item.is))
+    (desigs.selectors_stops (scene_of c.args.env.now c.args.place) (view.selectors_of (drop (c.loop-selector.selector-index + 1) c.args.more.now)) _ _ c.in_err-found.ensures))
 
 pub designator::check_selectors-returns : goal.designator::check_selectors-returns
 designator::check_selectors-returns t c =
@@ -202,20 +201,25 @@ designator::check_indices-loop-index-init t c =
 
 pub designator::check_indices-loop-index-preserved : goal.designator::check_indices-loop-index-preserved
 designator::check_indices-loop-index-preserved t c =
-    c.loop-index.invariant ∙ (desigs.index_next (scene_of c.args.env.now c.args.place) (of_value c.loop-index.slot (denoted_in (headings_in c.args.env.now) c.loop-index.part)) c.loop-index.index-index (dx.out-Exprs c.args.indices.now).more.items c.index-item.result c.loop-index-test.true c.index-item.is) ∙ ap (λ (j : Judged parts.Denoted). walk.judge_index_tail (scene_of c.args.env.now c.args.place) j (view.exprs_of (drop (c.loop-index.index-index + 1) (dx.out-Exprs c.args.indices.now).more.items))) c.in_ok-check_index.ensures
+    c.loop-index.invariant ∙ (desigs.index_next (scene_of c.args.env.now c.args.place) (of_value c.loop-index.slot (denoted_in (headings_in c.args.env.now) c.loop-index.part)) c.loop-index.index-index (dx.out-Exprs c.args.indices.now).more.items c.index-item.result (rw c.deref-index-items.ensures.value at c.loop-index-test.true) (rw c.deref-index-items.ensures.value at c.index-item.is)) ∙ ap (λ (j : Judged parts.Denoted). walk.judge_index_tail (scene_of c.args.env.now c.args.place) j (view.exprs_of (drop (c.loop-index.index-index + 1) (dx.out-Exprs c.args.indices.now).more.items))) c.in_ok-part-2.ensures
 
-pub designator::check_indices-returns-in_err-check_index : goal.designator::check_indices-returns-in_err-check_index
-designator::check_indices-returns-in_err-check_index t c =
-    passed _ (denoted_of (headings_in c.args.env.now)) _ _ _ c.from_residual-in_err-check_index.ensures.1
-    (subst (λ (j : Judged parts.Denoted). Stops j.faults _) (sym (c.loop-index.invariant ∙ (desigs.index_next (scene_of c.args.env.now c.args.place) (of_value c.loop-index.slot (denoted_in (headings_in c.args.env.now) c.loop-index.part)) c.loop-index.index-index (dx.out-Exprs c.args.indices.now).more.items c.index-item.result c.loop-index-test.true c.index-item.is))) (desigs.index_tail_stops (scene_of c.args.env.now c.args.place) (view.exprs_of (drop (c.loop-index.index-index + 1) (dx.out-Exprs c.args.indices.now).more.items)) _ _ c.in_err-check_index.ensures))
+pub designator::check_indices-returns-in_err-part-2 : goal.designator::check_indices-returns-in_err-part-2
+designator::check_indices-returns-in_err-part-2 t c =
+    passed _ (denoted_of (headings_in c.args.env.now)) _ _ _ c.from_residual-in_err-part-2.ensures.1
+    (stops_as _ _ _ (c.loop-index.invariant ∙ (desigs.index_next (scene_of c.args.env.now c.args.place) (of_value c.loop-index.slot (denoted_in (headings_in c.args.env.now) c.loop-index.part)) c.loop-index.index-index (dx.out-Exprs c.args.indices.now).more.items c.index-item.result (rw c.deref-index-items.ensures.value at c.loop-index-test.true) (rw c.deref-index-items.ensures.value at c.index-item.is))) (desigs.index_tail_stops (scene_of c.args.env.now c.args.place) (view.exprs_of (drop (c.loop-index.index-index + 1) (dx.out-Exprs c.args.indices.now).more.items)) _ _ c.in_err-part-2.ensures))
 
 pub designator::check_indices-returns : goal.designator::check_indices-returns
 designator::check_indices-returns t c =
-    c.loop-index.invariant ∙ desigs.index_end (scene_of c.args.env.now c.args.place) (of_value c.loop-index.slot (denoted_in (headings_in c.args.env.now) c.loop-index.part)) c.loop-index.index-index (dx.out-Exprs c.args.indices.now).more.items c.loop-index-test.false
+    c.loop-index.invariant ∙ desigs.index_end (scene_of c.args.env.now c.args.place) (of_value c.loop-index.slot (denoted_in (headings_in c.args.env.now) c.loop-index.part)) c.loop-index.index-index (dx.out-Exprs c.args.indices.now).more.items (rw c.deref-index-items.ensures.value at c.loop-index-test.false)
 
 pub designator::check_index-returns : goal.designator::check_index-returns
 designator::check_index-returns t c =
-    c.join_index.ensures (walk.judge_expr (scene_of c.args.env.now c.args.place) c.args.slot.now (view.view_expr c.args.index.now)) c.args.slot.now _ c.check_expr-typed.ensures
+    let judged = walk.judge_expr (scene_of c.args.env.now c.args.place) c.args.slot.now (view.view_expr c.args.index.now) in
+    let found = of_value c.args.slot.now (denoted_in (headings_in c.args.env.now) c.args.found) in
+    answers_as _ _ (denoted_of (headings_in c.args.env.now)) _ _
+    (indexed_same c.args.env.now c.args.place found (tree.expr_node (view.view_expr c.args.index.now)) judged
+    ∙ ap (λ k. nodes.indexed (scene_of c.args.env.now somewhere) found k judged) (node_is c.args.index.now))
+    (c.join_index.ensures judged c.args.slot.now _ c.check_expr-typed.ensures)
 
 -- ---- Calls
 
@@ -234,11 +238,11 @@ call::check_call-returns-in_err-callee t c =
 
 pub call::check_call-returns-in-None : goal.call::check_call-returns-in-None
 call::check_call-returns-in-None t c =
-    rw (c.in-None.is, exprs.call_none (scene_of c.args.env.now c.args.place) c.args.slot.now c.args.node _ (view.view_desig c.args.desig.now) (callee_in (headings_in c.args.env.now) c.in_ok-callee.callee) (c.in_ok-callee.ensures (walk.judge_desig (scene_of c.args.env.now c.args.place) c.args.slot.now rules.as_procedure (view.view_desig c.args.desig.now)) _ c.check_desig-found.ensures)) (c.join_call.ensures (fine c.check_desig-found.new.slot ir.no_args) _ _ (ap (λ a. of_value c.check_desig-found.new.slot (Some (args_list a))) (sym c.new.ensures.items)))
+    rw (c.in-None.is, exprs.call_none (scene_of c.args.env.now c.args.place) c.args.slot.now c.args.node _ (view.view_desig c.args.desig.now) (callee_in (headings_in c.args.env.now) c.in_ok-callee.callee) (c.in_ok-callee.ensures (walk.judge_desig (scene_of c.args.env.now c.args.place) c.args.slot.now rules.as_procedure (view.view_desig c.args.desig.now)) _ c.check_desig-found.ensures)) (c.join_call.ensures (fine c.check_desig-found.new.slot ir.no_args) c.check_desig-found.new.slot c.check_desig-found.new.slot (ap (λ a. of_value c.check_desig-found.new.slot (Some (args_list a))) (sym c.new.ensures.items)))
 
 pub call::check_call-returns-in-Some : goal.call::check_call-returns-in-Some
 call::check_call-returns-in-Some t c =
-    rw (c.in-Some.is, exprs.call_some (scene_of c.args.env.now c.args.place) c.args.slot.now c.args.node _ (view.view_desig c.args.desig.now) (view.view_exprs c.in-Some.values) (callee_in (headings_in c.args.env.now) c.in_ok-callee.callee) (c.in_ok-callee.ensures (walk.judge_desig (scene_of c.args.env.now c.args.place) c.args.slot.now rules.as_procedure (view.view_desig c.args.desig.now)) _ c.check_desig-found.ensures), calls.count_at (scene_of c.args.env.now c.args.place) c.in-Some.values, sym c.len.ensures) (c.join_call.ensures _ _ _ c.check_arguments-args.ensures)
+    rw (c.in-Some.is, exprs.call_some (scene_of c.args.env.now c.args.place) c.args.slot.now c.args.node _ (view.view_desig c.args.desig.now) (view.view_exprs c.in-Some.values) (callee_in (headings_in c.args.env.now) c.in_ok-callee.callee) (c.in_ok-callee.ensures (walk.judge_desig (scene_of c.args.env.now c.args.place) c.args.slot.now rules.as_procedure (view.view_desig c.args.desig.now)) _ c.check_desig-found.ensures), calls.count_at (scene_of c.args.env.now c.args.place) c.in-Some.values, length_is (dx.out-Exprs c.in-Some.values).more ∙ sym c.len.ensures) (c.join_call-in-Some.ensures (walk.judge_arguments (scene_of c.args.env.now c.args.place) c.check_desig-found.new.slot (nodes.formals_of (callee_in (headings_in c.args.env.now) c.in_ok-callee.callee)) (view.view_exprs c.in-Some.values)) c.check_desig-found.new.slot c.check_arguments-args.new.slot c.check_arguments-args.ensures)
 
 -- ---- Parens
 
@@ -248,11 +252,15 @@ parens::check_sequence-returns t c =
 
 pub parens::check_parens-returns-then-not-is_empty : goal.parens::check_parens-returns-then-not-is_empty
 parens::check_parens-returns-then-not-is_empty t c =
-    rw (exprs.paren_more (scene_of c.args.env.now c.args.place) c.args.slot.now c.args.node c.args.body.now (some_by c.args.body.now.more.items (sym c.is_empty.ensures ∙ c.if-not-is_empty.true))) c.check_sequence.ensures
+    rw (exprs.paren_more (scene_of c.args.env.now c.args.place) c.args.slot.now c.args.node c.args.body.now (some_by c.args.body.now.more (sym c.is_empty.ensures ∙ c.if-not-is_empty.true))) c.check_sequence.ensures
 
 pub parens::check_parens-returns-in-Value : goal.parens::check_parens-returns-in-Value
 parens::check_parens-returns-in-Value t c =
-    rw (exprs.paren_value (scene_of c.args.env.now c.args.place) c.args.slot.now c.args.node c.in-Value.node c.args.body.now c.in-Value.value (empty_by c.args.body.now.more.items (sym c.is_empty.ensures ∙ c.if-not-is_empty.false)) (sym c.deref.ensures ∙ c.in-Value.is)) (c.join_parens.ensures _ _ c.check_expr-typed.ensures)
+    rw (exprs.paren_value (scene_of c.args.env.now c.args.place) c.args.slot.now c.args.node c.in-Value.node c.args.body.now c.in-Value.value (empty_by c.args.body.now.more (sym c.is_empty.ensures ∙ c.if-not-is_empty.false)) (sym c.deref.ensures ∙ c.in-Value.is)) (c.join_parens.ensures _ _ c.check_expr-typed.ensures)
+
+pub parens::check_parens-returns-in_default : goal.parens::check_parens-returns-in_default
+parens::check_parens-returns-in_default t c =
+    rw (exprs.paren_other (scene_of c.args.env.now c.args.place) c.args.slot.now c.args.node c.args.body.now (empty_by c.args.body.now.more (sym c.is_empty.ensures ∙ c.if-not-is_empty.false)) (λ m e h. c.in_default.not-Value m e (c.deref.ensures ∙ h))) c.check_sequence-in_default.ensures
 
 -- ---- Statements
 
@@ -332,12 +340,12 @@ sequence::check_stmts-returns t c =
 pub sequence::check_more-loop-stmt-preserved : goal.sequence::check_more-loop-stmt-preserved
 sequence::check_more-loop-stmt-preserved t c =
     c.loop-stmt.invariant ∙ ap (onward_stmts (stmts_in c.loop-stmt.kept)) (stmts.stmts_next (scene_of c.args.env.now c.args.place) c.loop-stmt.slot c.loop-stmt.stmt-index c.args.more.now c.stmt-item.result c.loop-stmt-test.true c.stmt-item.is)
-    ∙ c.in_ok-add_stmts.ensures _ _ (λ m. walk.judge_stmt_tail (scene_of c.args.env.now c.args.place) m (view.stmts_of (drop (c.loop-stmt.stmt-index + 1) c.args.more.now))) c.check_stmt-next.ensures
+    ∙ c.in_ok-kept.ensures _ _ (λ m. walk.judge_stmt_tail (scene_of c.args.env.now c.args.place) m (view.stmts_of (drop (c.loop-stmt.stmt-index + 1) c.args.more.now))) c.check_stmt-next.ensures
 
-pub sequence::check_more-returns-in_err-add_stmts : goal.sequence::check_more-returns-in_err-add_stmts
-sequence::check_more-returns-in_err-add_stmts t c =
+pub sequence::check_more-returns-in_err-kept : goal.sequence::check_more-returns-in_err-kept
+sequence::check_more-returns-in_err-kept t c =
     passed _ stmts_of _ _ _ c.from_residual.ensures.1
-    (subst (λ (j : Judged _). Stops j.faults _) (sym (c.loop-stmt.invariant ∙ ap (onward_stmts (stmts_in c.loop-stmt.kept)) (stmts.stmts_next (scene_of c.args.env.now c.args.place) c.loop-stmt.slot c.loop-stmt.stmt-index c.args.more.now c.stmt-item.result c.loop-stmt-test.true c.stmt-item.is))) (c.in_err-add_stmts.ensures _ _ (λ m. walk.judge_stmt_tail (scene_of c.args.env.now c.args.place) m (view.stmts_of (drop (c.loop-stmt.stmt-index + 1) c.args.more.now))) c.check_stmt-next.ensures))
+    (stops_as _ _ _ (c.loop-stmt.invariant ∙ ap (onward_stmts (stmts_in c.loop-stmt.kept)) (stmts.stmts_next (scene_of c.args.env.now c.args.place) c.loop-stmt.slot c.loop-stmt.stmt-index c.args.more.now c.stmt-item.result c.loop-stmt-test.true c.stmt-item.is)) (c.in_err-kept.ensures _ _ (λ m. walk.judge_stmt_tail (scene_of c.args.env.now c.args.place) m (view.stmts_of (drop (c.loop-stmt.stmt-index + 1) c.args.more.now))) c.check_stmt-next.ensures))
 
 pub sequence::check_more-returns : goal.sequence::check_more-returns
 sequence::check_more-returns t c =
@@ -347,12 +355,12 @@ sequence::check_more-returns t c =
 pub input::check_reads-loop-desig-preserved : goal.input::check_reads-loop-desig-preserved
 input::check_reads-loop-desig-preserved t c =
     c.loop-desig.invariant ∙ ap (onward_stmts (stmts_in c.loop-desig.kept)) (stmts.reads_next (scene_of c.args.env.now c.args.place) c.loop-desig.slot c.loop-desig.desig-index c.args.more.now c.desig-item.result c.loop-desig-test.true c.desig-item.is)
-    ∙ c.in_ok-add_stmts.ensures _ _ (λ m. walk.judge_reads (scene_of c.args.env.now c.args.place) m (view.desigs_of (drop (c.loop-desig.desig-index + 1) c.args.more.now))) c.check_read_one-next.ensures
+    ∙ c.in_ok-kept.ensures _ _ (λ m. walk.judge_reads (scene_of c.args.env.now c.args.place) m (view.desigs_of (drop (c.loop-desig.desig-index + 1) c.args.more.now))) c.check_read_one-next.ensures
 
-pub input::check_reads-returns-in_err-add_stmts : goal.input::check_reads-returns-in_err-add_stmts
-input::check_reads-returns-in_err-add_stmts t c =
+pub input::check_reads-returns-in_err-kept : goal.input::check_reads-returns-in_err-kept
+input::check_reads-returns-in_err-kept t c =
     passed _ stmts_of _ _ _ c.from_residual.ensures.1
-    (subst (λ (j : Judged _). Stops j.faults _) (sym (c.loop-desig.invariant ∙ ap (onward_stmts (stmts_in c.loop-desig.kept)) (stmts.reads_next (scene_of c.args.env.now c.args.place) c.loop-desig.slot c.loop-desig.desig-index c.args.more.now c.desig-item.result c.loop-desig-test.true c.desig-item.is))) (c.in_err-add_stmts.ensures _ _ (λ m. walk.judge_reads (scene_of c.args.env.now c.args.place) m (view.desigs_of (drop (c.loop-desig.desig-index + 1) c.args.more.now))) c.check_read_one-next.ensures))
+    (stops_as _ _ _ (c.loop-desig.invariant ∙ ap (onward_stmts (stmts_in c.loop-desig.kept)) (stmts.reads_next (scene_of c.args.env.now c.args.place) c.loop-desig.slot c.loop-desig.desig-index c.args.more.now c.desig-item.result c.loop-desig-test.true c.desig-item.is)) (c.in_err-kept.ensures _ _ (λ m. walk.judge_reads (scene_of c.args.env.now c.args.place) m (view.desigs_of (drop (c.loop-desig.desig-index + 1) c.args.more.now))) c.check_read_one-next.ensures))
 
 pub input::check_reads-returns : goal.input::check_reads-returns
 input::check_reads-returns t c =
@@ -362,12 +370,12 @@ input::check_reads-returns t c =
 pub input::check_item_tail-loop-item-preserved : goal.input::check_item_tail-loop-item-preserved
 input::check_item_tail-loop-item-preserved t c =
     c.loop-item.invariant ∙ ap (onward_stmts (stmts_in c.loop-item.kept)) (stmts.items_next (scene_of c.args.env.now c.args.place) c.loop-item.slot c.loop-item.item-index c.args.more.now c.item-item.result c.loop-item-test.true c.item-item.is)
-    ∙ c.in_ok-add_stmts.ensures _ _ (λ m. walk.judge_item_tail (scene_of c.args.env.now c.args.place) m (view.exprs_of (drop (c.loop-item.item-index + 1) c.args.more.now))) c.check_item-next.ensures
+    ∙ c.in_ok-kept.ensures _ _ (λ m. walk.judge_item_tail (scene_of c.args.env.now c.args.place) m (view.exprs_of (drop (c.loop-item.item-index + 1) c.args.more.now))) c.check_item-next.ensures
 
-pub input::check_item_tail-returns-in_err-add_stmts : goal.input::check_item_tail-returns-in_err-add_stmts
-input::check_item_tail-returns-in_err-add_stmts t c =
+pub input::check_item_tail-returns-in_err-kept : goal.input::check_item_tail-returns-in_err-kept
+input::check_item_tail-returns-in_err-kept t c =
     passed _ stmts_of _ _ _ c.from_residual.ensures.1
-    (subst (λ (j : Judged _). Stops j.faults _) (sym (c.loop-item.invariant ∙ ap (onward_stmts (stmts_in c.loop-item.kept)) (stmts.items_next (scene_of c.args.env.now c.args.place) c.loop-item.slot c.loop-item.item-index c.args.more.now c.item-item.result c.loop-item-test.true c.item-item.is))) (c.in_err-add_stmts.ensures _ _ (λ m. walk.judge_item_tail (scene_of c.args.env.now c.args.place) m (view.exprs_of (drop (c.loop-item.item-index + 1) c.args.more.now))) c.check_item-next.ensures))
+    (stops_as _ _ _ (c.loop-item.invariant ∙ ap (onward_stmts (stmts_in c.loop-item.kept)) (stmts.items_next (scene_of c.args.env.now c.args.place) c.loop-item.slot c.loop-item.item-index c.args.more.now c.item-item.result c.loop-item-test.true c.item-item.is)) (c.in_err-kept.ensures _ _ (λ m. walk.judge_item_tail (scene_of c.args.env.now c.args.place) m (view.exprs_of (drop (c.loop-item.item-index + 1) c.args.more.now))) c.check_item-next.ensures))
 
 pub input::check_item_tail-returns : goal.input::check_item_tail-returns
 input::check_item_tail-returns t c =
@@ -377,12 +385,12 @@ input::check_item_tail-returns t c =
 pub branch::check_elsifs-loop-elsif-preserved : goal.branch::check_elsifs-loop-elsif-preserved
 branch::check_elsifs-loop-elsif-preserved t c =
     c.loop-elsif.invariant ∙ ap (onward_arms (arms_in c.loop-elsif.kept)) (stmts.elsifs_next (scene_of c.args.env.now c.args.place) c.loop-elsif.slot c.loop-elsif.elsif-index c.args.elsifs.now c.elsif-item.result c.loop-elsif-test.true c.elsif-item.is)
-    ∙ c.in_ok-add_guarded.ensures _ _ (λ m. walk.judge_elsifs (scene_of c.args.env.now c.args.place) m (view.elsifs_of (drop (c.loop-elsif.elsif-index + 1) c.args.elsifs.now))) c.check_guarded-arm.ensures
+    ∙ c.in_ok-kept.ensures _ _ (λ m. walk.judge_elsifs (scene_of c.args.env.now c.args.place) m (view.elsifs_of (drop (c.loop-elsif.elsif-index + 1) c.args.elsifs.now))) c.check_guarded-arm.ensures
 
-pub branch::check_elsifs-returns-in_err-add_guarded : goal.branch::check_elsifs-returns-in_err-add_guarded
-branch::check_elsifs-returns-in_err-add_guarded t c =
+pub branch::check_elsifs-returns-in_err-kept : goal.branch::check_elsifs-returns-in_err-kept
+branch::check_elsifs-returns-in_err-kept t c =
     passed _ arms_of _ _ _ c.from_residual.ensures.1
-    (subst (λ (j : Judged _). Stops j.faults _) (sym (c.loop-elsif.invariant ∙ ap (onward_arms (arms_in c.loop-elsif.kept)) (stmts.elsifs_next (scene_of c.args.env.now c.args.place) c.loop-elsif.slot c.loop-elsif.elsif-index c.args.elsifs.now c.elsif-item.result c.loop-elsif-test.true c.elsif-item.is))) (c.in_err-add_guarded.ensures _ _ (λ m. walk.judge_elsifs (scene_of c.args.env.now c.args.place) m (view.elsifs_of (drop (c.loop-elsif.elsif-index + 1) c.args.elsifs.now))) c.check_guarded-arm.ensures))
+    (stops_as _ _ _ (c.loop-elsif.invariant ∙ ap (onward_arms (arms_in c.loop-elsif.kept)) (stmts.elsifs_next (scene_of c.args.env.now c.args.place) c.loop-elsif.slot c.loop-elsif.elsif-index c.args.elsifs.now c.elsif-item.result c.loop-elsif-test.true c.elsif-item.is)) (c.in_err-kept.ensures _ _ (λ m. walk.judge_elsifs (scene_of c.args.env.now c.args.place) m (view.elsifs_of (drop (c.loop-elsif.elsif-index + 1) c.args.elsifs.now))) c.check_guarded-arm.ensures))
 
 pub branch::check_elsifs-returns : goal.branch::check_elsifs-returns
 branch::check_elsifs-returns t c =
@@ -392,12 +400,12 @@ branch::check_elsifs-returns t c =
 pub choice::check_orelses-loop-body-preserved : goal.choice::check_orelses-loop-body-preserved
 choice::check_orelses-loop-body-preserved t c =
     c.loop-body.invariant ∙ ap (onward_branches (branches_in c.loop-body.kept)) (stmts.orelses_next (scene_of c.args.env.now c.args.place) c.loop-body.slot c.loop-body.body-index c.args.more.now c.body-item.result c.loop-body-test.true c.body-item.is)
-    ∙ c.in_ok-add_branch.ensures _ _ (λ m. walk.judge_orelses (scene_of c.args.env.now c.args.place) m (view.orelses_of (drop (c.loop-body.body-index + 1) c.args.more.now))) c.check_stmts-stmts.ensures
+    ∙ c.in_ok-kept.ensures _ _ (λ m. walk.judge_orelses (scene_of c.args.env.now c.args.place) m (view.orelses_of (drop (c.loop-body.body-index + 1) c.args.more.now))) c.check_stmts-stmts.ensures
 
-pub choice::check_orelses-returns-in_err-add_branch : goal.choice::check_orelses-returns-in_err-add_branch
-choice::check_orelses-returns-in_err-add_branch t c =
+pub choice::check_orelses-returns-in_err-kept : goal.choice::check_orelses-returns-in_err-kept
+choice::check_orelses-returns-in_err-kept t c =
     passed _ branches_of _ _ _ c.from_residual.ensures.1
-    (subst (λ (j : Judged _). Stops j.faults _) (sym (c.loop-body.invariant ∙ ap (onward_branches (branches_in c.loop-body.kept)) (stmts.orelses_next (scene_of c.args.env.now c.args.place) c.loop-body.slot c.loop-body.body-index c.args.more.now c.body-item.result c.loop-body-test.true c.body-item.is))) (c.in_err-add_branch.ensures _ _ (λ m. walk.judge_orelses (scene_of c.args.env.now c.args.place) m (view.orelses_of (drop (c.loop-body.body-index + 1) c.args.more.now))) c.check_stmts-stmts.ensures))
+    (stops_as _ _ _ (c.loop-body.invariant ∙ ap (onward_branches (branches_in c.loop-body.kept)) (stmts.orelses_next (scene_of c.args.env.now c.args.place) c.loop-body.slot c.loop-body.body-index c.args.more.now c.body-item.result c.loop-body-test.true c.body-item.is)) (c.in_err-kept.ensures _ _ (λ m. walk.judge_orelses (scene_of c.args.env.now c.args.place) m (view.orelses_of (drop (c.loop-body.body-index + 1) c.args.more.now))) c.check_stmts-stmts.ensures))
 
 pub choice::check_orelses-returns : goal.choice::check_orelses-returns
 choice::check_orelses-returns t c =
@@ -411,7 +419,7 @@ sequence::check_assign-returns-in_err-located t c =
 
 pub sequence::check_assign-returns : goal.sequence::check_assign-returns
 sequence::check_assign-returns t c =
-    stmts.assign_fine (scene_of c.args.env.now c.args.place) c.args.slot.now c.args.node (view.view_desig c.args.target.now) (view.view_expr c.args.value.now) stmts_of _ _ _ _ c.in_ok-located.ensures (c.join_assign.ensures _ _ _ c.check_expr-typed.ensures)
+    stmts.assign_fine (scene_of c.args.env.now c.args.place) c.args.slot.now c.args.node (view.view_desig c.args.target.now) (view.view_expr c.args.value.now) stmts_of _ _ _ _ c.in_ok-located.ensures (c.join_assign.ensures _ c.check_place.new.slot _ c.check_expr-typed.ensures)
 
 pub sequence::check_place-returns : goal.sequence::check_place-returns
 sequence::check_place-returns t c =
@@ -419,7 +427,7 @@ sequence::check_place-returns t c =
 
 pub sequence::check_condition-returns : goal.sequence::check_condition-returns
 sequence::check_condition-returns t c =
-    c.join_condition.ensures (walk.judge_expr (scene_of c.args.env.now c.args.place) c.args.slot.now (view.view_expr c.args.test.now)) _ c.check_expr-typed.ensures
+    rw (node_is c.args.test.now) (c.join_condition.ensures (walk.judge_expr (scene_of c.args.env.now c.args.place) c.args.slot.now (view.view_expr c.args.test.now)) _ c.check_expr-typed.ensures)
 
 pub sequence::check_value-returns : goal.sequence::check_value-returns
 sequence::check_value-returns t c =
@@ -432,7 +440,7 @@ branch::check_guarded-returns-in_err-test t c =
 
 pub branch::check_guarded-returns : goal.branch::check_guarded-returns
 branch::check_guarded-returns t c =
-    first_fine (λ (j : Judged (ir.Test × ir.Stmts)). j) _ (nodes.condition_at (scene_of c.args.env.now c.args.place) (view.view_expr c.args.test.now) (walk.judge_expr (scene_of c.args.env.now c.args.place) c.args.slot.now (view.view_expr c.args.test.now))) (λ m. walk.judge_stmts (scene_of c.args.env.now c.args.place) m (view.view_stmts c.args.then.now)) guarded_of _ _ _ _ refl c.in_ok-test.ensures (c.join_guarded.ensures _ _ _ c.check_stmts-body.ensures)
+    first_fine (λ (j : Judged (ir.Test × ir.Stmts)). j) _ (nodes.condition_at (scene_of c.args.env.now c.args.place) (view.view_expr c.args.test.now) (walk.judge_expr (scene_of c.args.env.now c.args.place) c.args.slot.now (view.view_expr c.args.test.now))) (λ m. walk.judge_stmts (scene_of c.args.env.now c.args.place) m (view.view_stmts c.args.then.now)) guarded_of _ _ _ _ refl c.in_ok-test.ensures (c.join_guarded.ensures _ c.check_condition.new.slot _ c.check_stmts-body.ensures)
 
 pub branch::check_while-returns-in_err-test : goal.branch::check_while-returns-in_err-test
 branch::check_while-returns-in_err-test t c =
@@ -441,7 +449,7 @@ branch::check_while-returns-in_err-test t c =
 
 pub branch::check_while-returns : goal.branch::check_while-returns
 branch::check_while-returns t c =
-    stmts.while_fine (scene_of c.args.env.now c.args.place) c.args.slot.now c.args.node (view.view_expr c.args.test.now) (view.view_stmts c.args.body.now) stmts_of _ _ _ _ c.in_ok-test.ensures (c.join_while.ensures _ _ _ c.check_stmts-body.ensures)
+    stmts.while_fine (scene_of c.args.env.now c.args.place) c.args.slot.now c.args.node (view.view_expr c.args.test.now) (view.view_stmts c.args.body.now) stmts_of _ _ _ _ c.in_ok-test.ensures (c.join_while.ensures _ c.check_condition.new.slot _ c.check_stmts-body.ensures)
 
 pub branch::check_repeat-returns-in_err-body : goal.branch::check_repeat-returns-in_err-body
 branch::check_repeat-returns-in_err-body t c =
@@ -450,7 +458,7 @@ branch::check_repeat-returns-in_err-body t c =
 
 pub branch::check_repeat-returns : goal.branch::check_repeat-returns
 branch::check_repeat-returns t c =
-    stmts.repeat_fine (scene_of c.args.env.now c.args.place) c.args.slot.now c.args.node (view.view_stmts c.args.body.now) (view.view_expr c.args.test.now) stmts_of _ _ _ _ c.in_ok-body.ensures (c.join_repeat.ensures _ _ _ c.check_condition-test.ensures)
+    stmts.repeat_fine (scene_of c.args.env.now c.args.place) c.args.slot.now c.args.node (view.view_stmts c.args.body.now) (view.view_expr c.args.test.now) stmts_of _ _ _ _ c.in_ok-body.ensures (c.join_repeat.ensures _ c.check_stmts.new.slot _ c.check_condition-test.ensures)
 
 pub choice::check_forall-returns-in_err-choice : goal.choice::check_forall-returns-in_err-choice
 choice::check_forall-returns-in_err-choice t c =
@@ -459,7 +467,7 @@ choice::check_forall-returns-in_err-choice t c =
 
 pub choice::check_forall-returns : goal.choice::check_forall-returns
 choice::check_forall-returns t c =
-    stmts.forall_fine (scene_of c.args.env.now c.args.place) c.args.slot.now c.args.node (view.view_stmts c.args.choice.now) (view.view_stmts c.args.body.now) stmts_of _ _ _ _ c.in_ok-choice.ensures (c.join_forall.ensures _ _ _ c.check_stmts-body.ensures)
+    stmts.forall_fine (scene_of c.args.env.now c.args.place) c.args.slot.now c.args.node (view.view_stmts c.args.choice.now) (view.view_stmts c.args.body.now) stmts_of _ _ _ _ c.in_ok-choice.ensures (c.join_forall.ensures _ c.check_stmts.new.slot _ c.check_stmts-body.ensures)
 
 pub choice::check_commit-returns : goal.choice::check_commit-returns
 choice::check_commit-returns t c =
@@ -475,12 +483,14 @@ branch::check_if-returns-in_err-arms t c =
 pub branch::check_if-returns-in_err-arms-2 : goal.branch::check_if-returns-in_err-arms-2
 branch::check_if-returns-in_err-arms-2 t c =
     passed _ stmts_of _ _ _ c.from_residual-in_err-arms-2.ensures.1
-    (stmts.if_arms_stops (scene_of c.args.env.now c.args.place) c.args.slot.now c.args.node (view.view_expr c.args.test.now) (view.view_stmts c.args.then.now) (view.elsifs_of c.args.elsifs.now) (view.else_of c.args.otherwise.now) _ (arms_in c.in_ok-arms.arms) _ (c.in_ok-arms.ensures (stmts.guarded (scene_of c.args.env.now c.args.place) c.args.slot.now (view.view_expr c.args.test.now) (view.view_stmts c.args.then.now)) _ (λ m. walk.judge_elsifs (scene_of c.args.env.now c.args.place) m (view.elsifs_of c.args.elsifs.now)) c.check_guarded-first.ensures) c.in_err-arms-2.ensures)
+    (stmts.if_arms_stops (scene_of c.args.env.now c.args.place) c.args.slot.now c.args.node (view.view_expr c.args.test.now) (view.view_stmts c.args.then.now) (view.elsifs_of c.args.elsifs.now) (view.else_of c.args.otherwise.now) _ (arms_in c.in_ok-arms.arms) _ (from_nothing append_arms ir.no_arms (arms_in (Some c.new.result)) _ _ (ap (λ l. Some (arms_list l)) c.new.ensures.items)
+    (c.in_ok-arms.ensures (stmts.guarded (scene_of c.args.env.now c.args.place) c.args.slot.now (view.view_expr c.args.test.now) (view.view_stmts c.args.then.now)) _ (λ m. walk.judge_elsifs (scene_of c.args.env.now c.args.place) m (view.elsifs_of c.args.elsifs.now)) c.check_guarded-first.ensures)) c.in_err-arms-2.ensures)
 
 pub branch::check_if-returns : goal.branch::check_if-returns
 branch::check_if-returns t c =
-    stmts.if_fine (scene_of c.args.env.now c.args.place) c.args.slot.now c.args.node (view.view_expr c.args.test.now) (view.view_stmts c.args.then.now) (view.elsifs_of c.args.elsifs.now) (view.else_of c.args.otherwise.now) _ _ _ (arms_in c.in_ok-arms.arms) (arms_in c.in_ok-arms-2.arms) stmts_of _ (c.in_ok-arms.ensures (stmts.guarded (scene_of c.args.env.now c.args.place) c.args.slot.now (view.view_expr c.args.test.now) (view.view_stmts c.args.then.now)) _ (λ m. walk.judge_elsifs (scene_of c.args.env.now c.args.place) m (view.elsifs_of c.args.elsifs.now)) c.check_guarded-first.ensures) c.in_ok-arms-2.ensures
-    (c.join_if.ensures _ _ _ c.check_else-other.ensures)
+    stmts.if_fine (scene_of c.args.env.now c.args.place) c.args.slot.now c.args.node (view.view_expr c.args.test.now) (view.view_stmts c.args.then.now) (view.elsifs_of c.args.elsifs.now) (view.else_of c.args.otherwise.now) _ _ _ (arms_in c.in_ok-arms.arms) (arms_in c.in_ok-arms-2.arms) stmts_of _ (from_nothing append_arms ir.no_arms (arms_in (Some c.new.result)) _ _ (ap (λ l. Some (arms_list l)) c.new.ensures.items)
+    (c.in_ok-arms.ensures (stmts.guarded (scene_of c.args.env.now c.args.place) c.args.slot.now (view.view_expr c.args.test.now) (view.view_stmts c.args.then.now)) _ (λ m. walk.judge_elsifs (scene_of c.args.env.now c.args.place) m (view.elsifs_of c.args.elsifs.now)) c.check_guarded-first.ensures)) c.in_ok-arms-2.ensures
+    (c.join_if.ensures _ c.check_elsifs.new.slot _ c.check_else-other.ensures)
 
 pub branch::check_else-returns-in-None : goal.branch::check_else-returns-in-None
 branch::check_else-returns-in-None t c =
@@ -496,7 +506,8 @@ choice::check_either-returns-in_err-branches t c =
 
 pub choice::check_either-returns : goal.choice::check_either-returns
 choice::check_either-returns t c =
-    rw (stmts.either_whole (scene_of c.args.env.now c.args.place) c.args.slot.now c.args.node (view.view_stmts c.args.first.now) (view.orelses_of c.args.more.now)) (c.join_either.ensures _ _ (answers_as _ _ branches_of _ _ (c.in_ok-branches.ensures (walk.judge_stmts (scene_of c.args.env.now c.args.place) c.args.slot.now (view.view_stmts c.args.first.now)) _ (λ m. walk.judge_orelses (scene_of c.args.env.now c.args.place) m (view.orelses_of c.args.more.now)) c.check_stmts-first.ensures) c.check_orelses-branches.ensures))
+    rw (stmts.either_whole (scene_of c.args.env.now c.args.place) c.args.slot.now c.args.node (view.view_stmts c.args.first.now) (view.orelses_of c.args.more.now)) (c.join_either.ensures _ _ (answers_as _ _ branches_of _ _ (from_nothing append_branches ir.no_branches (branches_in (Some c.new.result)) _ _ (ap (λ l. Some (branches_list l)) c.new.ensures.items)
+    (c.in_ok-branches.ensures (walk.judge_stmts (scene_of c.args.env.now c.args.place) c.args.slot.now (view.view_stmts c.args.first.now)) _ (λ m. walk.judge_orelses (scene_of c.args.env.now c.args.place) m (view.orelses_of c.args.more.now)) c.check_stmts-first.ensures)) c.check_orelses-branches.ensures))
 
 pub input::check_return-returns-in-None : goal.input::check_return-returns-in-None
 input::check_return-returns-in-None t c =
@@ -538,7 +549,7 @@ input::check_writeln-returns-in-None t c =
 
 pub input::check_writeln-returns-in-Some : goal.input::check_writeln-returns-in-Some
 input::check_writeln-returns-in-Some t c =
-    rw (c.in-Some.is, stmts.writeln_is (scene_of c.args.env.now c.args.place) c.args.slot.now c.args.node _) (c.join_line.ensures _ _ c.check_line_items-stmts.ensures)
+    rw (c.in-Some.is, stmts.writeln_is (scene_of c.args.env.now c.args.place) c.args.slot.now c.args.node _) (c.join_line-in-Some.ensures _ _ c.check_line_items-stmts.ensures)
 
 pub input::check_line_items-returns-in-None : goal.input::check_line_items-returns-in-None
 input::check_line_items-returns-in-None t c =
@@ -554,7 +565,7 @@ turns::check_by-returns-in-None t c =
 
 pub turns::check_by-returns-in-Some : goal.turns::check_by-returns-in-Some
 turns::check_by-returns-in-Some t c =
-    rw (c.in-Some.is, stmts.by_some (scene_of c.args.env.now c.args.place) c.args.slot.now (view.view_expr c.in-Some.by)) (c.join_step.ensures _ _ c.check_expr-typed.ensures)
+    rw (c.in-Some.is, stmts.by_some (scene_of c.args.env.now c.args.place) c.args.slot.now (view.view_expr c.in-Some.by), node_is c.in-Some.by) (c.join_step.ensures _ _ c.check_expr-typed.ensures)
 
 -- ---- arguments
 
@@ -577,15 +588,15 @@ pub call::check_argument_tail-loop-value-preserved : goal.call::check_argument_t
 call::check_argument_tail-loop-value-preserved t c = (
   omega arith,
   c.loop-value.invariant.1 ∙ ap (onward_args (args_in c.loop-value.kept)) (calls.arguments_turn (scene_of c.args.env.now c.args.place) c.loop-value.slot c.loop-value.value-index (nodes.formals_of (callee_in (headings_in c.args.env.now) c.args.callee)) c.args.more.now c.value-item.result (option_map formal_view c.formal_of-formal.result) c.loop-value-test.true c.value-item.is (c.formal_of-formal.ensures ∙ ap (λ i. slice_get (nodes.formals_of (callee_in (headings_in c.args.env.now) c.args.callee)) (i + 1)) c.loop-value.invariant.0))
-      ∙ c.in_ok-add_argument.ensures (calls.argument (scene_of c.args.env.now c.args.place) c.loop-value.slot (option_map formal_view c.formal_of-formal.result) c.value-item.result) _
+      ∙ c.in_ok-kept.ensures (calls.argument (scene_of c.args.env.now c.args.place) c.loop-value.slot (option_map formal_view c.formal_of-formal.result) c.value-item.result) _
       (λ m. walk.judge_argument_tail (scene_of c.args.env.now c.args.place) m (drop (c.loop-value.value-index + 1 + 1) (nodes.formals_of (callee_in (headings_in c.args.env.now) c.args.callee))) (view.exprs_of (drop (c.loop-value.value-index + 1) c.args.more.now))) c.check_argument-arg.ensures,
 )
 
-pub call::check_argument_tail-returns-in_err-add_argument : goal.call::check_argument_tail-returns-in_err-add_argument
-call::check_argument_tail-returns-in_err-add_argument t c =
+pub call::check_argument_tail-returns-in_err-kept : goal.call::check_argument_tail-returns-in_err-kept
+call::check_argument_tail-returns-in_err-kept t c =
     passed _ args_of _ _ _ c.from_residual.ensures.1
     (stops_as _ _ _ (c.loop-value.invariant.1 ∙ ap (onward_args (args_in c.loop-value.kept)) (calls.arguments_turn (scene_of c.args.env.now c.args.place) c.loop-value.slot c.loop-value.value-index (nodes.formals_of (callee_in (headings_in c.args.env.now) c.args.callee)) c.args.more.now c.value-item.result (option_map formal_view c.formal_of-formal.result) c.loop-value-test.true c.value-item.is (c.formal_of-formal.ensures ∙ ap (λ i. slice_get (nodes.formals_of (callee_in (headings_in c.args.env.now) c.args.callee)) (i + 1)) c.loop-value.invariant.0)))
-    (c.in_err-add_argument.ensures (calls.argument (scene_of c.args.env.now c.args.place) c.loop-value.slot (option_map formal_view c.formal_of-formal.result) c.value-item.result) _
+    (c.in_err-kept.ensures (calls.argument (scene_of c.args.env.now c.args.place) c.loop-value.slot (option_map formal_view c.formal_of-formal.result) c.value-item.result) _
     (λ m. walk.judge_argument_tail (scene_of c.args.env.now c.args.place) m (drop (c.loop-value.value-index + 1 + 1) (nodes.formals_of (callee_in (headings_in c.args.env.now) c.args.callee))) (view.exprs_of (drop (c.loop-value.value-index + 1) c.args.more.now))) c.check_argument-arg.ensures))
 
 pub call::check_argument_tail-returns : goal.call::check_argument_tail-returns
@@ -615,9 +626,12 @@ input::check_item-returns-in-Some t c =
 
 -- ---- FOR and SOME
 
+pub turns::check_for-join_for-requires : goal.turns::check_for-join_for-requires
+turns::check_for-join_for-requires t c = record { limit = c.in_ok-counter.ensures.limit }
+
 pub turns::check_for-returns-in_err-counter : goal.turns::check_for-returns-in_err-counter
 turns::check_for-returns-in_err-counter t c =
-    passed _ stmts_of _ _ _ c.from_residual.ensures.1 (rw c.in_err-counter.ensures tt)
+    passed _ stmts_of _ _ _ c.from_residual.ensures.1 (rw c.in_err-counter.ensures.taken tt)
 
 pub turns::check_for-returns-in_err-found : goal.turns::check_for-returns-in_err-found
 turns::check_for-returns-in_err-found t c =
@@ -629,13 +643,13 @@ pub turns::check_for-returns-in_err-low : goal.turns::check_for-returns-in_err-l
 turns::check_for-returns-in_err-low t c =
     passed _ stmts_of _ _ _ c.from_residual-in_err-low.ensures.1
     (loops.for_low_stops c.args.env.now c.args.place c.args.slot.now c.args.node c.args.variable.now (view.view_expr c.args.from.now) (view.view_expr c.args.to.now) (view.by_of c.args.by.now) (view.view_stmts c.args.body.now)
-    c.in_ok-found.found c.take_loop.new.slot _ c.in_ok-counter.ensures.1 (loops.variable_is c.args.env.now c.args.place c.args.slot.now c.args.node c.args.variable.now c.in_ok-found.found c.in_ok-found.ensures.0 c.in_ok-found.ensures.1) c.in_err-low.ensures)
+    c.in_ok-found.found c.take_slots.new.slot _ c.in_ok-counter.ensures.taken.1 (loops.variable_is c.args.env.now c.args.place c.args.slot.now c.args.node c.args.variable.now c.in_ok-found.found c.in_ok-found.ensures.0 c.in_ok-found.ensures.1) c.in_err-low.ensures)
 
 pub turns::check_for-returns-in_err-bounds : goal.turns::check_for-returns-in_err-bounds
 turns::check_for-returns-in_err-bounds t c =
     passed _ stmts_of _ _ _ c.from_residual-in_err-bounds.ensures.1
     (loops.for_high_stops c.args.env.now c.args.place c.args.slot.now c.args.node c.args.variable.now (view.view_expr c.args.from.now) (view.view_expr c.args.to.now) (view.by_of c.args.by.now) (view.view_stmts c.args.body.now)
-    c.in_ok-found.found c.take_loop.new.slot _ _ _ c.in_ok-counter.ensures.1 (loops.variable_is c.args.env.now c.args.place c.args.slot.now c.args.node c.args.variable.now c.in_ok-found.found c.in_ok-found.ensures.0 c.in_ok-found.ensures.1) c.in_ok-low.ensures
+    c.in_ok-found.found c.take_slots.new.slot _ _ _ c.in_ok-counter.ensures.taken.1 (loops.variable_is c.args.env.now c.args.place c.args.slot.now c.args.node c.args.variable.now c.in_ok-found.found c.in_ok-found.ensures.0 c.in_ok-found.ensures.1) c.in_ok-low.ensures
     (c.in_err-bounds.ensures (walk.judge_expr (scene_of c.args.env.now c.args.place) c.check_expr.new.slot (view.view_expr c.args.to.now)) _ c.check_expr-high.ensures))
 
 pub turns::check_for-returns-in_err-turns : goal.turns::check_for-returns-in_err-turns
@@ -643,7 +657,7 @@ turns::check_for-returns-in_err-turns t c =
     let b = c.in_ok-bounds.ensures (walk.judge_expr (scene_of c.args.env.now c.args.place) c.check_expr.new.slot (view.view_expr c.args.to.now)) c.check_expr-high.new.slot c.check_expr-high.ensures in
     passed _ stmts_of _ _ _ c.from_residual-in_err-turns.ensures.1
     (loops.for_by_stops c.args.env.now c.args.place c.args.slot.now c.args.node c.args.variable.now (view.view_expr c.args.from.now) (view.view_expr c.args.to.now) (view.by_of c.args.by.now) (view.view_stmts c.args.body.now)
-    c.in_ok-found.found c.take_loop.new.slot _ _ _ c.in_ok-bounds.bounds _ c.in_ok-counter.ensures.1 (loops.variable_is c.args.env.now c.args.place c.args.slot.now c.args.node c.args.variable.now c.in_ok-found.found c.in_ok-found.ensures.0 c.in_ok-found.ensures.1) c.in_ok-low.ensures b.1
+    c.in_ok-found.found c.take_slots.new.slot _ _ _ c.in_ok-bounds.bounds _ c.in_ok-counter.ensures.taken.1 (loops.variable_is c.args.env.now c.args.place c.args.slot.now c.args.node c.args.variable.now c.in_ok-found.found c.in_ok-found.ensures.0 c.in_ok-found.ensures.1) c.in_ok-low.ensures b.1
     (c.in_err-turns.ensures (walk.judge_by (scene_of c.args.env.now c.args.place) c.check_expr-high.new.slot (view.by_of c.args.by.now)) _ c.check_by-step.ensures))
 
 pub turns::check_for-returns : goal.turns::check_for-returns
@@ -651,13 +665,16 @@ turns::check_for-returns t c =
     let b = c.in_ok-bounds.ensures (walk.judge_expr (scene_of c.args.env.now c.args.place) c.check_expr.new.slot (view.view_expr c.args.to.now)) c.check_expr-high.new.slot c.check_expr-high.ensures in
     let y = c.in_ok-turns.ensures (walk.judge_by (scene_of c.args.env.now c.args.place) c.check_expr-high.new.slot (view.by_of c.args.by.now)) c.check_by-step.new.slot c.check_by-step.ensures in
     loops.for_joined c.args.env.now c.args.place c.args.slot.now c.args.node c.args.variable.now (view.view_expr c.args.from.now) (view.view_expr c.args.to.now) (view.by_of c.args.by.now) (view.view_stmts c.args.body.now)
-    c.in_ok-found.found c.in_ok-counter.counter c.take_loop.new.slot c.check_expr.new.slot c.check_expr-high.new.slot c.check_by-step.new.slot _ _ c.in_ok-bounds.bounds c.in_ok-turns.turns _
-    c.in_ok-counter.ensures.0 c.in_ok-counter.ensures.1 (loops.variable_is c.args.env.now c.args.place c.args.slot.now c.args.node c.args.variable.now c.in_ok-found.found c.in_ok-found.ensures.0 c.in_ok-found.ensures.1) c.in_ok-low.ensures b.0 b.1 y.0 y.1 y.2
+    c.in_ok-found.found c.in_ok-counter.counter c.take_slots.new.slot c.check_expr.new.slot c.check_expr-high.new.slot c.check_by-step.new.slot _ _ c.in_ok-bounds.bounds c.in_ok-turns.turns _
+    c.in_ok-counter.ensures.taken.0 c.in_ok-counter.ensures.taken.1 (loops.variable_is c.args.env.now c.args.place c.args.slot.now c.args.node c.args.variable.now c.in_ok-found.found c.in_ok-found.ensures.0 c.in_ok-found.ensures.1) c.in_ok-low.ensures b.0 b.1 y.0 y.1 y.2
     (c.join_for.ensures (walk.judge_stmts (scene_of c.args.env.now c.args.place) c.check_by-step.new.slot (view.view_stmts c.args.body.now)) c.args.slot.now c.check_expr.new.slot c.check_expr-high.new.slot c.check_by-step.new.slot _ c.check_stmts-body.ensures)
+
+pub turns::check_some-join_some-requires : goal.turns::check_some-join_some-requires
+turns::check_some-join_some-requires t c = record { limit = c.in_ok-counter.ensures.limit }
 
 pub turns::check_some-returns-in_err-counter : goal.turns::check_some-returns-in_err-counter
 turns::check_some-returns-in_err-counter t c =
-    passed _ stmts_of _ _ _ c.from_residual.ensures.1 (rw c.in_err-counter.ensures tt)
+    passed _ stmts_of _ _ _ c.from_residual.ensures.1 (rw c.in_err-counter.ensures.taken tt)
 
 pub turns::check_some-returns-in_err-found : goal.turns::check_some-returns-in_err-found
 turns::check_some-returns-in_err-found t c =
@@ -669,21 +686,21 @@ pub turns::check_some-returns-in_err-low : goal.turns::check_some-returns-in_err
 turns::check_some-returns-in_err-low t c =
     passed _ stmts_of _ _ _ c.from_residual-in_err-low.ensures.1
     (loops.some_low_stops c.args.env.now c.args.place c.args.slot.now c.args.node c.args.variable.now (view.view_expr c.args.from.now) (view.view_expr c.args.to.now) (view.view_stmts c.args.body.now)
-    c.in_ok-found.found c.take_loop.new.slot _ c.in_ok-counter.ensures.1 (loops.variable_is c.args.env.now c.args.place c.args.slot.now c.args.node c.args.variable.now c.in_ok-found.found c.in_ok-found.ensures.0 c.in_ok-found.ensures.1) c.in_err-low.ensures)
+    c.in_ok-found.found c.take_slots.new.slot _ c.in_ok-counter.ensures.taken.1 (loops.variable_is c.args.env.now c.args.place c.args.slot.now c.args.node c.args.variable.now c.in_ok-found.found c.in_ok-found.ensures.0 c.in_ok-found.ensures.1) c.in_err-low.ensures)
 
 pub turns::check_some-returns-in_err-bounds : goal.turns::check_some-returns-in_err-bounds
 turns::check_some-returns-in_err-bounds t c =
     passed _ stmts_of _ _ _ c.from_residual-in_err-bounds.ensures.1
     (loops.some_high_stops c.args.env.now c.args.place c.args.slot.now c.args.node c.args.variable.now (view.view_expr c.args.from.now) (view.view_expr c.args.to.now) (view.view_stmts c.args.body.now)
-    c.in_ok-found.found c.take_loop.new.slot _ _ _ c.in_ok-counter.ensures.1 (loops.variable_is c.args.env.now c.args.place c.args.slot.now c.args.node c.args.variable.now c.in_ok-found.found c.in_ok-found.ensures.0 c.in_ok-found.ensures.1) c.in_ok-low.ensures
+    c.in_ok-found.found c.take_slots.new.slot _ _ _ c.in_ok-counter.ensures.taken.1 (loops.variable_is c.args.env.now c.args.place c.args.slot.now c.args.node c.args.variable.now c.in_ok-found.found c.in_ok-found.ensures.0 c.in_ok-found.ensures.1) c.in_ok-low.ensures
     (c.in_err-bounds.ensures (walk.judge_expr (scene_of c.args.env.now c.args.place) c.check_expr.new.slot (view.view_expr c.args.to.now)) _ c.check_expr-high.ensures))
 
 pub turns::check_some-returns : goal.turns::check_some-returns
 turns::check_some-returns t c =
     let b = c.in_ok-bounds.ensures (walk.judge_expr (scene_of c.args.env.now c.args.place) c.check_expr.new.slot (view.view_expr c.args.to.now)) c.check_expr-high.new.slot c.check_expr-high.ensures in
     loops.some_joined c.args.env.now c.args.place c.args.slot.now c.args.node c.args.variable.now (view.view_expr c.args.from.now) (view.view_expr c.args.to.now) (view.view_stmts c.args.body.now)
-    c.in_ok-found.found c.in_ok-counter.counter c.take_loop.new.slot c.check_expr.new.slot c.check_expr-high.new.slot _ _ c.in_ok-bounds.bounds _
-    c.in_ok-counter.ensures.0 c.in_ok-counter.ensures.1 (loops.variable_is c.args.env.now c.args.place c.args.slot.now c.args.node c.args.variable.now c.in_ok-found.found c.in_ok-found.ensures.0 c.in_ok-found.ensures.1) c.in_ok-low.ensures b.0 b.1
+    c.in_ok-found.found c.in_ok-counter.counter c.take_slots.new.slot c.check_expr.new.slot c.check_expr-high.new.slot _ _ c.in_ok-bounds.bounds _
+    c.in_ok-counter.ensures.taken.0 c.in_ok-counter.ensures.taken.1 (loops.variable_is c.args.env.now c.args.place c.args.slot.now c.args.node c.args.variable.now c.in_ok-found.found c.in_ok-found.ensures.0 c.in_ok-found.ensures.1) c.in_ok-low.ensures b.0 b.1
     (c.join_some.ensures (walk.judge_stmts (scene_of c.args.env.now c.args.place) c.check_expr-high.new.slot (view.view_stmts c.args.body.now)) c.args.slot.now c.check_expr.new.slot c.check_expr-high.new.slot _ c.check_stmts-body.ensures)
 
 -- ---- CASE
@@ -726,16 +743,16 @@ case::check_arms-loop-arm-init t c =
 
 pub case::check_arms-loop-arm-preserved : goal.case::check_arms-loop-arm-preserved
 case::check_arms-loop-arm-preserved t c =
-    let new = of_ok c.check_arm-next.result _ c.in_ok-add_cases.ensures.all_judged c.check_arm-next.ensures.spans in
+    let new = of_ok c.check_arm-next.result (spans_view c.check_arm-next.new.spans.items ≡ spans_view c.loop-arm.spans.items ++ (walk.judge_arm (scene_of c.args.env.now c.args.place) c.loop-arm.slot (typing_in c.args.case.now) (spans_view c.loop-arm.spans.items) (view.view_arm c.arm-item.result)).spans) c.in_ok-arms-2.ensures.all_judged c.check_arm-next.ensures.spans in
     c.loop-arm.invariant ∙ ap (onward_cases (cases_in c.loop-arm.arms)) (arms_turn (scene_of c.args.env.now c.args.place) c.loop-arm.slot c.loop-arm.arm-index (typing_in c.args.case.now) (spans_view c.loop-arm.spans.items) (spans_view c.check_arm-next.new.spans.items) c.args.more.now c.arm-item.result c.loop-arm-test.true c.arm-item.is new)
-    ∙ c.in_ok-add_cases.ensures.judged (walk.judge_arm (scene_of c.args.env.now c.args.place) c.loop-arm.slot (typing_in c.args.case.now) (spans_view c.loop-arm.spans.items) (view.view_arm c.arm-item.result)).arm _
+    ∙ c.in_ok-arms-2.ensures.judged (walk.judge_arm (scene_of c.args.env.now c.args.place) c.loop-arm.slot (typing_in c.args.case.now) (spans_view c.loop-arm.spans.items) (view.view_arm c.arm-item.result)).arm _
     (λ m. walk.judge_arm_tail (scene_of c.args.env.now c.args.place) m (typing_in c.args.case.now) (spans_view c.check_arm-next.new.spans.items) (view.arms_of (drop (c.loop-arm.arm-index + 1) c.args.more.now))) c.check_arm-next.ensures.judged
 
-pub case::check_arms-returns-in_err-add_cases : goal.case::check_arms-returns-in_err-add_cases
-case::check_arms-returns-in_err-add_cases t c =
-    passed _ cases_of _ _ _ c.from_residual-in_err-add_cases.ensures.1
+pub case::check_arms-returns-in_err-arms-2 : goal.case::check_arms-returns-in_err-arms-2
+case::check_arms-returns-in_err-arms-2 t c =
+    passed _ cases_of _ _ _ c.from_residual-in_err-arms-2.ensures.1
     (stops_as _ _ _ (c.loop-arm.invariant ∙ ap (onward_cases (cases_in c.loop-arm.arms)) (arms_turn (scene_of c.args.env.now c.args.place) c.loop-arm.slot c.loop-arm.arm-index (typing_in c.args.case.now) (spans_view c.loop-arm.spans.items) _ c.args.more.now c.arm-item.result c.loop-arm-test.true c.arm-item.is refl))
-    (c.in_err-add_cases.ensures.judged (walk.judge_arm (scene_of c.args.env.now c.args.place) c.loop-arm.slot (typing_in c.args.case.now) (spans_view c.loop-arm.spans.items) (view.view_arm c.arm-item.result)).arm _
+    (c.in_err-arms-2.ensures.judged (walk.judge_arm (scene_of c.args.env.now c.args.place) c.loop-arm.slot (typing_in c.args.case.now) (spans_view c.loop-arm.spans.items) (view.view_arm c.arm-item.result)).arm _
     (λ m. walk.judge_arm_tail (scene_of c.args.env.now c.args.place) m (typing_in c.args.case.now) (spans_view c.loop-arm.spans.items ++ (walk.judge_arm (scene_of c.args.env.now c.args.place) c.loop-arm.slot (typing_in c.args.case.now) (spans_view c.loop-arm.spans.items) (view.view_arm c.arm-item.result)).spans) (view.arms_of (drop (c.loop-arm.arm-index + 1) c.args.more.now))) c.check_arm-next.ensures.judged))
 
 pub case::check_arms-returns : goal.case::check_arms-returns
@@ -749,56 +766,52 @@ case::check_arm-returns-in-Empty t c = record {
   spans = rw (c.in-Empty.is, cases.empty_spans (scene_of c.args.env.now c.args.place) c.args.slot.now _ (typing_in c.args.case.now) (spans_view c.args.spans.now.items)) (sym (nothing_behind (spans_view c.args.spans.now.items)));
 }
 
-pub case::check_arm-returns-in_err-labels-in-Labelled : goal.case::check_arm-returns-in_err-labels-in-Labelled
-case::check_arm-returns-in_err-labels-in-Labelled t c = record {
-  judged = passed _ cases_of _ _ _ c.from_residual.ensures.1
-      (rw (c.in-Labelled.is, rows.labelled_is _ c.in-Labelled.first c.in-Labelled.more c.in-Labelled.body)
-      (cases.arm_stops (scene_of c.args.env.now c.args.place) c.args.slot.now _ (typing_in c.args.case.now) (spans_view c.args.spans.now.items) (view.view_label c.in-Labelled.first) (view.labels_of c.in-Labelled.more.items) (view.view_stmts c.in-Labelled.body) _ (rw c.deref.ensures.value at c.in_err-labels-in-Labelled.ensures.judged)));
-  spans = err_on _ _ _ c.from_residual.ensures.1;
-}
+pub case::check_arm-returns-in_err-labels-in-Labelled-clause-judged : goal.case::check_arm-returns-in_err-labels-in-Labelled-clause-judged
+case::check_arm-returns-in_err-labels-in-Labelled-clause-judged t c =
+    passed _ cases_of _ _ _ c.from_residual.ensures.1
+    (rw (c.in-Labelled.is, rows.labelled_is _ c.in-Labelled.first c.in-Labelled.more c.in-Labelled.body)
+    (cases.arm_stops (scene_of c.args.env.now c.args.place) c.args.slot.now _ (typing_in c.args.case.now) (spans_view c.args.spans.now.items) (view.view_label c.in-Labelled.first) (view.labels_of c.in-Labelled.more.items) (view.view_stmts c.in-Labelled.body) _ (rw c.deref.ensures.value at c.in_err-labels-in-Labelled.ensures.judged)))
 
-pub case::check_arm-returns-in_ok-labels-in-Labelled : goal.case::check_arm-returns-in_ok-labels-in-Labelled
-case::check_arm-returns-in_ok-labels-in-Labelled t c = record {
-  judged = rw (c.in-Labelled.is, rows.labelled_is _ c.in-Labelled.first c.in-Labelled.more c.in-Labelled.body)
-      (rw (cases.arm_fine (scene_of c.args.env.now c.args.place) c.args.slot.now _ (typing_in c.args.case.now) (spans_view c.args.spans.now.items) (view.view_label c.in-Labelled.first) (view.labels_of c.in-Labelled.more.items) (view.view_stmts c.in-Labelled.body) c.check_labels.new.slot (spans_in c.in_ok-labels-in-Labelled.labels) (rw c.deref.ensures.value at c.in_ok-labels-in-Labelled.ensures.judged))
-      (c.join_arm.ensures (walk.judge_stmts (scene_of c.args.env.now c.args.place) c.check_labels.new.slot (view.view_stmts c.in-Labelled.body)) c.check_labels.new.slot _ c.check_stmts-body.ensures));
-  spans = on_ok _ _ (rw (c.in-Labelled.is, rows.labelled_is _ c.in-Labelled.first c.in-Labelled.more c.in-Labelled.body)
-      (rw (cases.arm_spans (scene_of c.args.env.now c.args.place) c.args.slot.now _ (typing_in c.args.case.now) (spans_view c.args.spans.now.items) (view.view_label c.in-Labelled.first) (view.labels_of c.in-Labelled.more.items) (view.view_stmts c.in-Labelled.body) c.check_labels.new.slot (spans_in c.in_ok-labels-in-Labelled.labels) (rw c.deref.ensures.value at c.in_ok-labels-in-Labelled.ensures.judged))
-      (settled (spans_view c.args.spans.now.items) (spans_view c.check_labels.new.spans.items) (spans_view c.settle.new.spans.items) c.len-before.result c.in_ok-labels-in-Labelled.labels (c.len-before.ensures ∙ sym (spans_count c.args.spans.now.items)) c.in_ok-labels-in-Labelled.ensures.spans c.settle.ensures)));
-}
+pub case::check_arm-returns-in_ok-labels-in-Labelled-clause-judged : goal.case::check_arm-returns-in_ok-labels-in-Labelled-clause-judged
+case::check_arm-returns-in_ok-labels-in-Labelled-clause-judged t c =
+    rw (c.in-Labelled.is, rows.labelled_is _ c.in-Labelled.first c.in-Labelled.more c.in-Labelled.body)
+    (rw (cases.arm_fine (scene_of c.args.env.now c.args.place) c.args.slot.now _ (typing_in c.args.case.now) (spans_view c.args.spans.now.items) (view.view_label c.in-Labelled.first) (view.labels_of c.in-Labelled.more.items) (view.view_stmts c.in-Labelled.body) c.check_labels.new.slot (spans_in c.in_ok-labels-in-Labelled.labels) (rw c.deref.ensures.value at c.in_ok-labels-in-Labelled.ensures.judged))
+    (c.join_arm.ensures (walk.judge_stmts (scene_of c.args.env.now c.args.place) c.check_labels.new.slot (view.view_stmts c.in-Labelled.body)) c.check_labels.new.slot _ c.check_stmts-body.ensures))
 
-pub case::check_labels-returns-in_err-labels : goal.case::check_labels-returns-in_err-labels
-case::check_labels-returns-in_err-labels t c = record {
-  judged = passed _ spans_of _ _ _ c.from_residual.ensures.1
-      (stops_as _ _ _ (labels_begin (scene_of c.args.env.now c.args.place) c.args.slot.now (typing_in c.args.case.now) (spans_view c.args.spans.now.items) _ (view.view_label c.args.first.now) (view.labels_of c.args.more.now) (spans_in (Some c.new.result)) (ap (λ l. Some (spans_view l)) c.new.ensures.items) refl)
-      (c.in_err-labels.ensures.judged (walk.judge_label (scene_of c.args.env.now c.args.place) c.args.slot.now (typing_in c.args.case.now) (spans_view c.args.spans.now.items) (view.view_label c.args.first.now)) _
-      (λ m. walk.judge_labels (scene_of c.args.env.now c.args.place) m (typing_in c.args.case.now) ((spans_view c.args.spans.now.items) ++ option_to_list (walk.judge_label (scene_of c.args.env.now c.args.place) c.args.slot.now (typing_in c.args.case.now) (spans_view c.args.spans.now.items) (view.view_label c.args.first.now)).value) (view.labels_of c.args.more.now)) (rw c.deref.ensures.value at c.check_label-span.ensures)));
-  spans = err_if _ _ _ c.from_residual.ensures.1;
-}
+pub case::check_arm-returns-in_ok-labels-in-Labelled-clause-spans : goal.case::check_arm-returns-in_ok-labels-in-Labelled-clause-spans
+case::check_arm-returns-in_ok-labels-in-Labelled-clause-spans t c =
+    on_ok (spans_view c.settle.new.spans.items ≡ spans_view c.args.spans.now.items ++ (walk.judge_arm (scene_of c.args.env.now c.args.place) c.args.slot.now (typing_in c.args.case.now) (spans_view c.args.spans.now.items) (view.view_arm c.args.arm.now)).spans) c.join_arm.result (rw (c.in-Labelled.is, rows.labelled_is _ c.in-Labelled.first c.in-Labelled.more c.in-Labelled.body)
+    (rw (cases.arm_spans (scene_of c.args.env.now c.args.place) c.args.slot.now _ (typing_in c.args.case.now) (spans_view c.args.spans.now.items) (view.view_label c.in-Labelled.first) (view.labels_of c.in-Labelled.more.items) (view.view_stmts c.in-Labelled.body) c.check_labels.new.slot (spans_in c.in_ok-labels-in-Labelled.labels) (rw c.deref.ensures.value at c.in_ok-labels-in-Labelled.ensures.judged))
+    (settled (spans_view c.args.spans.now.items) (spans_view c.check_labels.new.spans.items) (spans_view c.settle.new.spans.items) c.len-before.result c.in_ok-labels-in-Labelled.labels (omega (arith, c.len-before.ensures, c.args.spans.now.ok.0, spans_count c.args.spans.now.items)) c.in_ok-labels-in-Labelled.ensures.spans c.settle.ensures)))
+
+pub case::check_labels-returns-in_err-labels-clause-judged : goal.case::check_labels-returns-in_err-labels-clause-judged
+case::check_labels-returns-in_err-labels-clause-judged t c =
+    passed _ spans_of _ _ _ c.from_residual.ensures.1
+    (stops_as _ _ _ (labels_begin (scene_of c.args.env.now c.args.place) c.args.slot.now (typing_in c.args.case.now) (spans_view c.args.spans.now.items) _ (view.view_label c.args.first.now) (view.labels_of c.args.more.now) (spans_in (Some c.new.result)) (ap (λ l. Some (spans_view l)) c.new.ensures.items) refl)
+    (c.in_err-labels.ensures.judged (walk.judge_label (scene_of c.args.env.now c.args.place) c.args.slot.now (typing_in c.args.case.now) (spans_view c.args.spans.now.items) (view.view_label c.args.first.now)) _
+    (λ m. walk.judge_labels (scene_of c.args.env.now c.args.place) m (typing_in c.args.case.now) ((spans_view c.args.spans.now.items) ++ option_to_list (walk.judge_label (scene_of c.args.env.now c.args.place) c.args.slot.now (typing_in c.args.case.now) (spans_view c.args.spans.now.items) (view.view_label c.args.first.now)).value) (view.labels_of c.args.more.now)) (rw c.deref.ensures.value at c.check_label-span.ensures)))
 
 pub case::check_labels-loop-label-init : goal.case::check_labels-loop-label-init
 case::check_labels-loop-label-init t c =
     let new = c.in_ok-labels.ensures.earlier (walk.judge_label (scene_of c.args.env.now c.args.place) c.args.slot.now (typing_in c.args.case.now) (spans_view c.args.spans.now.items) (view.view_label c.args.first.now)) c.check_label-span.new.slot (rw c.deref.ensures.value at c.check_label-span.ensures) in (
-      labels_begin (scene_of c.args.env.now c.args.place) c.args.slot.now (typing_in c.args.case.now) (spans_view c.args.spans.now.items) _ (view.view_label c.args.first.now) (view.labels_of c.args.more.now) (spans_in (Some c.new.result)) (ap (λ l. Some (spans_view l)) c.new.ensures.items) new
-          ∙ c.in_ok-labels.ensures.judged (walk.judge_label (scene_of c.args.env.now c.args.place) c.args.slot.now (typing_in c.args.case.now) (spans_view c.args.spans.now.items) (view.view_label c.args.first.now)) c.check_label-span.new.slot (λ m. walk.judge_labels (scene_of c.args.env.now c.args.place) m (typing_in c.args.case.now) _ (view.labels_of c.args.more.now)) (rw c.deref.ensures.value at c.check_label-span.ensures),
+      labels_begin (scene_of c.args.env.now c.args.place) c.args.slot.now (typing_in c.args.case.now) (spans_view c.args.spans.now.items) (spans_view c.add_label.new.earlier.items) (view.view_label c.args.first.now) (view.labels_of c.args.more.now) (spans_in (Some c.new.result)) (ap (λ l. Some (spans_view l)) c.new.ensures.items) new
+          ∙ c.in_ok-labels.ensures.judged (walk.judge_label (scene_of c.args.env.now c.args.place) c.args.slot.now (typing_in c.args.case.now) (spans_view c.args.spans.now.items) (view.view_label c.args.first.now)) c.check_label-span.new.slot (λ m. walk.judge_labels (scene_of c.args.env.now c.args.place) m (typing_in c.args.case.now) (spans_view c.add_label.new.earlier.items) (view.labels_of c.args.more.now)) (rw c.deref.ensures.value at c.check_label-span.ensures),
       c.in_ok-labels.ensures.grown (spans_view c.args.spans.now.items) (grown_begin (spans_view c.args.spans.now.items) (spans_in (Some c.new.result)) (ap (λ l. Some (spans_view l)) c.new.ensures.items)),
     )
 
 pub case::check_labels-loop-label-preserved : goal.case::check_labels-loop-label-preserved
 case::check_labels-loop-label-preserved t c =
-    let new = c.in_ok-add_label.ensures.earlier (walk.judge_label (scene_of c.args.env.now c.args.place) c.loop-label.slot (typing_in c.args.case.now) (spans_view c.loop-label.spans.items) (view.view_label c.label-item.result)) c.check_label-span-in-loop-label.new.slot (rw c.deref-in-loop-label.ensures.value at c.check_label-span-in-loop-label.ensures) in (
-      c.loop-label.invariant.0 ∙ ap (onward_spans (spans_in c.loop-label.labels)) (labels_turn (scene_of c.args.env.now c.args.place) c.loop-label.slot c.loop-label.label-index (typing_in c.args.case.now) (spans_view c.loop-label.spans.items) _ c.args.more.now c.label-item.result c.loop-label-test.true c.label-item.is new)
-          ∙ c.in_ok-add_label.ensures.judged (walk.judge_label (scene_of c.args.env.now c.args.place) c.loop-label.slot (typing_in c.args.case.now) (spans_view c.loop-label.spans.items) (view.view_label c.label-item.result)) c.check_label-span-in-loop-label.new.slot (λ m. walk.judge_labels (scene_of c.args.env.now c.args.place) m (typing_in c.args.case.now) _ (view.labels_of (drop (c.loop-label.label-index + 1) c.args.more.now))) (rw c.deref-in-loop-label.ensures.value at c.check_label-span-in-loop-label.ensures),
-      c.in_ok-add_label.ensures.grown (spans_view c.args.spans.now.items) c.loop-label.invariant.1,
+    let new = c.in_ok-labels-2.ensures.earlier (walk.judge_label (scene_of c.args.env.now c.args.place) c.loop-label.slot (typing_in c.args.case.now) (spans_view c.loop-label.spans.items) (view.view_label c.label-item.result)) c.check_label-span-in-loop-label.new.slot (rw c.deref-in-loop-label.ensures.value at c.check_label-span-in-loop-label.ensures) in (
+      c.loop-label.invariant.0 ∙ ap (onward_spans (spans_in c.loop-label.labels)) (labels_turn (scene_of c.args.env.now c.args.place) c.loop-label.slot c.loop-label.label-index (typing_in c.args.case.now) (spans_view c.loop-label.spans.items) (spans_view c.add_label-in-loop-label.new.earlier.items) c.args.more.now c.label-item.result c.loop-label-test.true c.label-item.is new)
+          ∙ c.in_ok-labels-2.ensures.judged (walk.judge_label (scene_of c.args.env.now c.args.place) c.loop-label.slot (typing_in c.args.case.now) (spans_view c.loop-label.spans.items) (view.view_label c.label-item.result)) c.check_label-span-in-loop-label.new.slot (λ m. walk.judge_labels (scene_of c.args.env.now c.args.place) m (typing_in c.args.case.now) (spans_view c.add_label-in-loop-label.new.earlier.items) (view.labels_of (drop (c.loop-label.label-index + 1) c.args.more.now))) (rw c.deref-in-loop-label.ensures.value at c.check_label-span-in-loop-label.ensures),
+      c.in_ok-labels-2.ensures.grown (spans_view c.args.spans.now.items) c.loop-label.invariant.1,
     )
 
-pub case::check_labels-returns-in_err-add_label : goal.case::check_labels-returns-in_err-add_label
-case::check_labels-returns-in_err-add_label t c = record {
-  judged = passed _ spans_of _ _ _ c.from_residual-in_err-add_label.ensures.1
-      (stops_as _ _ _ (c.loop-label.invariant.0 ∙ ap (onward_spans (spans_in c.loop-label.labels)) (labels_turn (scene_of c.args.env.now c.args.place) c.loop-label.slot c.loop-label.label-index (typing_in c.args.case.now) (spans_view c.loop-label.spans.items) _ c.args.more.now c.label-item.result c.loop-label-test.true c.label-item.is refl))
-      (c.in_err-add_label.ensures.judged (walk.judge_label (scene_of c.args.env.now c.args.place) c.loop-label.slot (typing_in c.args.case.now) (spans_view c.loop-label.spans.items) (view.view_label c.label-item.result)) _ (λ m. walk.judge_labels (scene_of c.args.env.now c.args.place) m (typing_in c.args.case.now) ((spans_view c.loop-label.spans.items) ++ option_to_list (walk.judge_label (scene_of c.args.env.now c.args.place) c.loop-label.slot (typing_in c.args.case.now) (spans_view c.loop-label.spans.items) (view.view_label c.label-item.result)).value) (view.labels_of (drop (c.loop-label.label-index + 1) c.args.more.now))) (rw c.deref-in-loop-label.ensures.value at c.check_label-span-in-loop-label.ensures)));
-  spans = err_if _ _ _ c.from_residual-in_err-add_label.ensures.1;
-}
+pub case::check_labels-returns-in_err-labels-2-clause-judged : goal.case::check_labels-returns-in_err-labels-2-clause-judged
+case::check_labels-returns-in_err-labels-2-clause-judged t c =
+    passed _ spans_of _ _ _ c.from_residual-in_err-labels-2.ensures.1
+    (stops_as _ _ _ (c.loop-label.invariant.0 ∙ ap (onward_spans (spans_in c.loop-label.labels)) (labels_turn (scene_of c.args.env.now c.args.place) c.loop-label.slot c.loop-label.label-index (typing_in c.args.case.now) (spans_view c.loop-label.spans.items) _ c.args.more.now c.label-item.result c.loop-label-test.true c.label-item.is refl))
+    (c.in_err-labels-2.ensures.judged (walk.judge_label (scene_of c.args.env.now c.args.place) c.loop-label.slot (typing_in c.args.case.now) (spans_view c.loop-label.spans.items) (view.view_label c.label-item.result)) _ (λ m. walk.judge_labels (scene_of c.args.env.now c.args.place) m (typing_in c.args.case.now) ((spans_view c.loop-label.spans.items) ++ option_to_list (walk.judge_label (scene_of c.args.env.now c.args.place) c.loop-label.slot (typing_in c.args.case.now) (spans_view c.loop-label.spans.items) (view.view_label c.label-item.result)).value) (view.labels_of (drop (c.loop-label.label-index + 1) c.args.more.now))) (rw c.deref-in-loop-label.ensures.value at c.check_label-span-in-loop-label.ensures)))
 
 pub case::check_labels-returns : goal.case::check_labels-returns
 case::check_labels-returns t c = record {

@@ -17,7 +17,6 @@ use Rattle.alma_tree.specs.declared.phrase.Args as dg
 use Rattle.alma_tree.specs.declared.phrase.Exprs as dx
 use Rattle.alma_tree.specs.declared.phrase.Desig as dd
 use Rattle.alma_tree.specs.declared.phrase.Selector as dj
-use Rattle.alma_rules.specs.Numbered as tree
 use Rattle.alma_rules.specs.View as view
 use Rattle.alma_rules.specs.Judged.{of_value}
 use Rattle.alma_rules.specs.Nodes as nodes

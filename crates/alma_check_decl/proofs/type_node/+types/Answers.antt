@@ -1,12 +1,8 @@
-use Rattle.std.proofs.Common.{◌≡◌, ap, sym, subst, ◌∙◌}
-use Rattle.alma_tree.specs.declared.type_node.PlainType as dq
-use Rattle.alma_tree.specs.declared.type_node.Arrays as dz
-use Rattle.alma_rules.specs.Numbered as tree
-use Rattle.alma_rules.specs.Scene.{Scene}
+use Rattle.std.proofs.Common.{ap, sym, subst, ◌∙◌}
 use Rattle.alma_rules.specs.Types as types
 use Rattle.alma_rules.specs.View as view
 use Rattle.alma_check_rules.specs.Views.{scene_of, somewhere}
-use Rattle.alma_check_reader.specs.Told.{told, told_index, onward, fault_of, items_in, tells_of, formed_of, items_of}
+use Rattle.alma_check_reader.specs.Told.{told, fault_of, items_in, tells_of, formed_of}
 use Rattle.alma_check_reader.specs.Fields.{Knows, told_fields}
 use Rattle.alma_check_decl.proofs.Constants.{ok_as}
 use Rattle.alma_check_decl.proofs.TypeSteps as steps
@@ -19,8 +15,8 @@ read_type-returns t c = ok_as _ _ _ _ (steps.type_by c.args.reader.now c.args.tr
 pub read_arrays-returns-in-None : goal.read_arrays-returns-in-None
 read_arrays-returns-in-None t c = rw c.in-None.is (steps.no_arrays_by c.args.reader.now c.new.result.items c.new.ensures.items)
 
-pub read_arrays-returns-in-Some : goal.read_arrays-returns-in-Some
-read_arrays-returns-in-Some t c =
+pub read_arrays-returns-in_ok-rows-in-Some : goal.read_arrays-returns-in_ok-rows-in-Some
+read_arrays-returns-in_ok-rows-in-Some t c =
     rw c.in-Some.is (ok_as _ _ _ _ (steps.arrays_by c.args.reader.now c.in-Some.arrays c.new.result.items _ _ _ c.new.ensures.items c.in_ok-rows-in-Some.ensures)
     (rw c.deref.ensures.value at c.read_dimension_tail.ensures))
 
@@ -63,8 +59,8 @@ pub read_plain-returns-in-Subrange : goal.read_plain-returns-in-Subrange
 read_plain-returns-in-Subrange t c =
     rw c.in-Subrange.is (ok_as _ _ _ _ (ap told (steps.subrange_eq c.args.reader.now c.in-Subrange.node (view.view_expr c.in-Subrange.low) (view.view_expr c.in-Subrange.high))) c.read_subrange.ensures)
 
-pub read_plain-returns-in-Record : goal.read_plain-returns-in-Record
-read_plain-returns-in-Record t c =
+pub read_plain-returns-in_ok-fields-in-Record : goal.read_plain-returns-in_ok-fields-in-Record
+read_plain-returns-in_ok-fields-in-Record t c =
     let known = c.in_ok-fields-in-Record.ensures _ (c.no_fields.ensures.names c.args.reader.now.tokens) in
     rw c.in-Record.is (ok_as _ _ _ _ (steps.record_by c.args.reader.now c.in-Record.node c.in-Record.first c.in-Record.more (told_fields c.no_fields.result) _ _ c.no_fields.ensures.told (rw c.deref.ensures at known.0))
     (c.join_record.ensures _ (rw (c.deref.ensures, c.deref-in-Record.ensures.value) at (c.read_field_tail-fields.ensures _ known.1))))

@@ -1,4 +1,4 @@
-use Rattle.std.proofs.Common.{◌≡◌, List, ◌++◌, drop}
+use Rattle.std.proofs.Common.{◌≡◌, List, drop}
 use Rattle.alma_rules.specs.Numbered as tree
 use Rattle.alma_rules.specs.Types as types
 use Rattle.alma_rules.specs.View as view

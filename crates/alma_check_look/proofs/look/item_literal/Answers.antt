@@ -10,4 +10,3 @@ returns-in-None c = ap (option_and_then literal_of) c.in-None.ensures ∙ sym (i
 
 pub returns-in-Some : goal.returns-in-Some
 returns-in-Some c = c.literal_in.ensures ∙ ap (option_and_then literal_of) c.in-Some.ensures ∙ sym (item_by (view.view_expr c.args.expr.now))
-

@@ -10,4 +10,3 @@ returns-in-None c = ap (option_and_then named_by) c.in-None.ensures ∙ sym (exa
 
 pub returns-in-Some : goal.returns-in-Some
 returns-in-Some c = c.named_in.ensures ∙ ap (option_and_then named_by) c.in-Some.ensures ∙ sym (exactly_by (view.view_expr c.args.expr.now))
-

@@ -1,5 +1,5 @@
 use Rattle.alma_driver.specs.Outside.{files_side, source_side, sink_side}
-use Rattle.alma_driver.proofs.DriverLemmas.{serves_source, serves_compile, serves_list, serves_exec}
+use Rattle.alma_driver.proofs.DriverLemmas.{serves_check, serves_source, serves_compile, serves_list, serves_exec}
 use Rattle.alma_driver.proofs.driver.serve_file.Goals as goal
 
 pub run_source-requires-clause-short : goal.run_source-requires-clause-short
@@ -37,3 +37,12 @@ returns-in-Exec-clause-course g c =
     (files_side (g.F.Files.told c.args.files.now) (g.F.Files.fetch_faults c.args.files.now) (g.F.Files.store_faults c.args.files.now)) (source_side (g.I.Source.left c.args.input.now) (g.I.Source.faults c.args.input.now))
     (source_side (g.I.Source.left c.exec_object.new.input) (g.I.Source.faults c.exec_object.new.input)) (sink_side (g.O.Sink.written c.args.out.now) (g.O.Sink.faults c.args.out.now))
     (sink_side (g.O.Sink.written c.exec_object.new.out) (g.O.Sink.faults c.exec_object.new.out)) c.exec_object.result c.exec_object.ensures)
+
+pub check_only-requires : goal.check_only-requires
+check_only-requires g c = record { short = rw c.in-Check.is at c.requires.short }
+
+pub returns-in-Check-clause-course : goal.returns-in-Check-clause-course
+returns-in-Check-clause-course g c =
+    rw c.in-Check.is (serves_check c.args.bytes.now
+    (files_side (g.F.Files.told c.args.files.now) (g.F.Files.fetch_faults c.args.files.now) (g.F.Files.store_faults c.args.files.now)) (source_side (g.I.Source.left c.args.input.now) (g.I.Source.faults c.args.input.now)) (sink_side (g.O.Sink.written c.args.out.now) (g.O.Sink.faults c.args.out.now))
+    c.check_only.result (c.check_only.ensures (sink_side (g.O.Sink.written c.args.out.now) (g.O.Sink.faults c.args.out.now))))

@@ -1,0 +1,262 @@
+// Parameters.
+ghost use Rattle.std.specs.Prelude.{◌≡◌, Some, None, OnOk};
+ghost use Rattle.alma_rules.specs.Scene.{is_structured};
+ghost use Rattle.alma_rules.specs.Types as types;
+ghost use Rattle.alma_rules.specs.Decls as rules;
+ghost use Rattle.alma_rules.specs.View as view;
+ghost use Rattle.alma_check_block.specs.Shown.{shown, told_frame, param_shaped};
+
+use crate::entry::enter_name;
+use crate::frame::Frame;
+use crate::open::next_number;
+use alma_base::NoMemory;
+use alma_check_reader::{Reader, read_type_name, redeclared};
+use alma_ir::{ArgKind, Param};
+use alma_names::{Access, Entry, ShapeId};
+use alma_tree::{Formal, Mode, Name, Params};
+use std::alloc::Global;
+
+fn param_kind(structured: bool, mode: Option<Mode>) -> ArgKind
+    ensures { result ≡ rules.param_kind structured mode }
+{
+    match mode {
+        None => {
+            if structured {
+                ArgKind::Cells
+            } else {
+                ArgKind::Value
+            }
+        }
+        Some(Mode::Var) => ArgKind::Place,
+        Some(Mode::Mix) => {
+            if structured {
+                ArgKind::Place
+            } else {
+                ArgKind::Mix
+            }
+        }
+    }
+}
+
+// The declared cells of a parameter.
+fn declared_cells(mode: Option<Mode>, cells: u32) -> u32
+    ensures { result ≡ rules.declared_cells mode cells }
+{
+    match mode {
+        None => cells,
+        Some(_mode) => 1,
+    }
+}
+
+fn param_slots(kind: ArgKind, cells: u32) -> u32
+    ensures { result ≡ rules.param_slots kind cells }
+{
+    match kind {
+        ArgKind::Value => 1,
+        ArgKind::Place => 1,
+        ArgKind::Mix => 2,
+        ArgKind::Cells => cells,
+    }
+}
+
+fn param_access(mode: Option<Mode>, slot: u32) -> Access
+    ensures { result ≡ rules.param_access mode slot }
+{
+    match mode {
+        None => Access::Local(slot),
+        Some(_mode) => Access::Param(slot),
+    }
+}
+
+// One more parameter in the frame.
+fn push_param(
+    alloc: Global,
+    reader: &mut Reader,
+    frame: &mut Frame,
+    name: &Name,
+    from: u32,
+    mode: Option<Mode>,
+    shape: u32,
+) -> Result<(), NoMemory>
+    ensures { (f : rules.Frame) → shown reader.old frame.old ≡ told_frame f
+        → OnOk result (shown reader.new frame.new ≡ told_frame (rules.with_param f
+        (view.view_name name.now) from mode shape (rules.param_kind (is_structured f.scene shape)
+        mode))) }
+{
+    let slot = frame.slots;
+    let cells = reader.env().cells(shape);
+    let range = reader.env().range(shape);
+    let kind = param_kind(reader.env().is_structured(shape), mode);
+    let own = declared_cells(mode, cells);
+    frame.slots = slot.checked_add(param_slots(kind, cells)).ok_or(NoMemory)?;
+    frame.declared = frame.declared.checked_add(own).ok_or(NoMemory)?;
+    frame.params.push(Param {
+        kind,
+        slot,
+        cells,
+        range,
+    })?;
+    let access = param_access(mode, slot);
+    reader.declare(alloc, name, from, Entry::Variable(ShapeId(shape), access))
+}
+
+// A parameter whose type is not Bad, apart from its formal.
+fn place_param(
+    alloc: Global,
+    reader: &mut Reader,
+    frame: &mut Frame,
+    name: &Name,
+    from: u32,
+    mode: Option<Mode>,
+    shape: u32,
+) -> Result<(), NoMemory>
+    ensures { (f : rules.Frame) → shown reader.old frame.old ≡ told_frame f
+        → OnOk result (shown reader.new frame.new ≡ told_frame (param_shaped f from mode shape
+        (view.view_name name.now))) }
+{
+    if reader.is_first(name) {
+        push_param(alloc, reader, frame, name, from, mode, shape)?;
+        frame.limit(name);
+    } else {
+        frame.add_fault(redeclared(reader, name));
+    }
+    Ok(())
+}
+
+// A parameter whose type is not Bad.
+fn declare_shaped(
+    alloc: Global,
+    reader: &mut Reader,
+    frame: &mut Frame,
+    name: &Name,
+    from: u32,
+    mode: Option<Mode>,
+    shape: u32,
+) -> Result<(), NoMemory>
+    ensures { (f : rules.Frame) → shown reader.old frame.old ≡ told_frame f
+        → OnOk result (shown reader.new frame.new ≡ told_frame (rules.param_in f from mode
+        (Some shape) (view.view_name name.now))) }
+{
+    place_param(alloc, reader, frame, name, from, mode, shape)?;
+    frame
+        .formals
+        .push(Some(alma_check_rules::Formal { mode, shape }))?;
+    Ok(())
+}
+
+// A parameter whose type is Bad.
+fn declare_bad(
+    alloc: Global,
+    reader: &mut Reader,
+    frame: &mut Frame,
+    name: &Name,
+    from: u32,
+    mode: Option<Mode>,
+) -> Result<(), NoMemory>
+    ensures { (f : rules.Frame) → shown reader.old frame.old ≡ told_frame f
+        → OnOk result (shown reader.new frame.new ≡ told_frame (rules.param_in f from mode None
+        (view.view_name name.now))) }
+{
+    enter_name(alloc, reader, frame, name, from, None, Entry::Bad)?;
+    frame.formals.push(None)?;
+    Ok(())
+}
+
+fn declare_param(
+    alloc: Global,
+    reader: &mut Reader,
+    frame: &mut Frame,
+    name: &Name,
+    from: u32,
+    mode: Option<Mode>,
+    shape: Option<u32>,
+) -> Result<(), NoMemory>
+    ensures { (f : rules.Frame) → shown reader.old frame.old ≡ told_frame f
+        → OnOk result (shown reader.new frame.new ≡ told_frame (rules.param_in f from mode shape
+        (view.view_name name.now))) }
+{
+    match shape {
+        None => declare_bad(alloc, reader, frame, name, from, mode),
+        Some(shape) => declare_shaped(alloc, reader, frame, name, from, mode, shape),
+    }
+}
+
+fn declare_params(
+    alloc: Global,
+    reader: &mut Reader,
+    frame: &mut Frame,
+    names: &[Name],
+    from: u32,
+    mode: Option<Mode>,
+    shape: Option<u32>,
+) -> Result<(), NoMemory>
+    ensures { (f : rules.Frame) → shown reader.old frame.old ≡ told_frame f
+        → OnOk result (shown reader.new frame.new ≡ told_frame (rules.params_in f from mode shape
+        (view.names_of names.now))) }
+{
+    for name in names {
+        declare_param(alloc, reader, frame, name, from, mode, shape)?;
+    }
+    Ok(())
+}
+
+// Parameters of one type, visible behind it.
+fn read_formal(
+    alloc: Global,
+    reader: &mut Reader,
+    frame: &mut Frame,
+    formal: &Formal,
+) -> Result<(), NoMemory>
+    ensures { (f : rules.Frame) → shown reader.old frame.old ≡ told_frame f
+        → OnOk result (shown reader.new frame.new ≡ told_frame (rules.formal_in f
+        (view.view_formal formal.now) (types.read_type_name f.scene
+        (view.view_name formal.now.type_name)))) }
+{
+    let from = next_number(formal.type_name.token)?;
+    let mode = formal.mode;
+    let reading = read_type_name(reader.env(), &formal.type_name)?;
+    let shape = reading.value;
+    declare_param(alloc, reader, frame, &formal.names.first, from, mode, shape)?;
+    declare_params(alloc, reader, frame, &formal.names.more, from, mode, shape)?;
+    frame.add_fault(reading.fault);
+    Ok(())
+}
+
+fn read_formals(
+    alloc: Global,
+    reader: &mut Reader,
+    frame: &mut Frame,
+    formals: &[Formal],
+) -> Result<(), NoMemory>
+    ensures { (f : rules.Frame) → shown reader.old frame.old ≡ told_frame f
+        → OnOk result (shown reader.new frame.new ≡ told_frame (rules.read_formals f
+        (view.more_formals_of formals.now))) }
+{
+    for formal in formals {
+        read_formal(alloc, reader, frame, formal)?;
+    }
+    Ok(())
+}
+
+/// The parameters of a heading.
+pub fn read_params(
+    alloc: Global,
+    reader: &mut Reader,
+    frame: &mut Frame,
+    params: &Option<Params>,
+) -> Result<(), NoMemory>
+    ensures { (f : rules.Frame) → shown reader.old frame.old ≡ told_frame f
+        → OnOk result (shown reader.new frame.new ≡ told_frame (rules.read_formals f
+        (rules.formals_of (view.params_of params.now)))) }
+{
+    match params {
+        None => Ok(()),
+        Some(params) => match &params.formals {
+            None => Ok(()),
+            Some(formals) => {
+                read_formal(alloc, reader, frame, &formals.first)?;
+                read_formals(alloc, reader, frame, &formals.more)
+            }
+        },
+    }
+}

@@ -1,0 +1,11 @@
+use Rattle.std.proofs.Common.{refl, ap, sym, ◌∙◌}
+use Rattle.alma_rules.specs.Places as places
+use Rattle.alma_rules.specs.View as view
+use Rattle.alma_check_marks.proofs.Steps.{◌▹◌, ◌▸◌, stays, wholly, ends, ends_in, started, whole_from, next, finish}
+use Rattle.alma_check_marks.proofs.declaration.mark_consts.Goals as goal
+
+pub loop-entry-preserved : goal.loop-entry-preserved
+loop-entry-preserved c = next (λ xs. places.mark_consts (view.consts_of xs)) c.loop-entry.entry-index c.args.entries.now c.entry-item.result c.loop-entry-test.true c.entry-item.is c.loop-entry.invariant ▸ c.in_ok-leaf.ensures ▸ c.in_ok-token.ensures ▸ c.in_ok-mark_expr.ensures ▸ c.in_ok-token-2.ensures
+
+pub returns : goal.returns
+returns c = finish (λ xs. places.mark_consts (view.consts_of xs)) c.loop-entry.entry-index c.args.entries.now c.loop-entry-test.false refl c.loop-entry.invariant

@@ -1,0 +1,8 @@
+use Rattle.std.proofs.Common.{refl, ap, sym, ◌∙◌}
+use Rattle.alma_rules.specs.Places as places
+use Rattle.alma_rules.specs.View as view
+use Rattle.alma_check_marks.proofs.Steps.{◌▹◌, ◌▸◌, stays, wholly, ends, ends_in, started, whole_from, next, finish}
+use Rattle.alma_check_marks.proofs.type_node.mark_names.Goals as goal
+
+pub returns : goal.returns
+returns c = ends c.node.result _ _ (c.in_ok-leaf.ensures ▹ (rw c.deref.ensures.value at c.in_ok-mark_more_names.ensures)) c.node.ensures

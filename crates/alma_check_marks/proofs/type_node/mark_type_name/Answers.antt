@@ -1,0 +1,9 @@
+use Rattle.std.proofs.Common.{refl, ap, sym, ◌∙◌}
+use Rattle.alma_rules.specs.Places as places
+use Rattle.alma_rules.specs.View as view
+use Rattle.alma_check_marks.proofs.Steps.{◌▹◌, ◌▸◌, stays, wholly, ends, ends_in, started, whole_from, next, finish}
+use Rattle.alma_check_marks.proofs.type_node.mark_type_name.Goals as goal
+
+pub returns : goal.returns
+unfolding places.mark_type
+returns c = ends c.node.result _ _ c.in_ok-leaf.ensures c.node.ensures

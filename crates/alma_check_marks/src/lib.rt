@@ -1,0 +1,14 @@
+//! Where the nodes of a tree and the statements of the resolved program begin.
+#![tactic(auto)]
+
+mod declaration;
+mod expression;
+mod form;
+mod mark;
+mod statement;
+mod type_node;
+mod widths;
+
+pub use declaration::{first_token_of, mark_module};
+pub use mark::{Mark, Marks, first_token};
+pub use widths::{statement_tokens, width_of_expr, width_of_type};

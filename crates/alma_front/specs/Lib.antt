@@ -1,5 +1,0 @@
-pub mod Grammar
-pub mod Lines
-pub mod Parse
-pub mod Source
-pub mod Words
