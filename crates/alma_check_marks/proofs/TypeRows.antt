@@ -2,7 +2,6 @@
 use Rattle.std.proofs.Common.{◌≡◌, ℕ, Option, None, Some, Box, Vec, Global, refl, ap, sym, ◌∙◌}
 use Rattle.alma_tree.specs.declared.type_node.TypeNode as dy
 use Rattle.alma_tree.specs.declared.type_node.Arrays as dz
-use Rattle.alma_tree.specs.declared.type_node.Dimensions as dv
 use Rattle.alma_tree.specs.declared.type_node.PlainType as dq
 use Rattle.alma_tree.specs.declared.type_node.FieldList as dw
 use Rattle.alma_tree.specs.declared.leaf.Name.{Name}

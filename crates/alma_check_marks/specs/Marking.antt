@@ -1,5 +1,5 @@
 -- What the marks of this crate stand for, and what the functions that walk a phrase do to them.
-use Rattle.std.specs.Prelude.{◌≡◌, ℕ, List, map, Result, OnOk}
+use Rattle.std.specs.Prelude.{◌≡◌, ℕ, map, Result, OnOk}
 use Rattle.alma_check_marks.specs.declared.mark.Mark.{Mark}
 use Rattle.alma_check_marks.specs.declared.mark.Mark.TheVariants as variants
 use Rattle.alma_check_marks.specs.declared.mark.Marks.{Marks}

@@ -1,7 +1,4 @@
-use Rattle.std.proofs.Common.{refl, ap, sym, ◌∙◌}
-use Rattle.alma_rules.specs.Places as places
-use Rattle.alma_rules.specs.View as view
-use Rattle.alma_check_marks.proofs.Steps.{◌▹◌, ◌▸◌, stays, wholly, ends, ends_in, started, whole_from, next, finish}
+use Rattle.alma_check_marks.proofs.Steps.{stays, ends_in}
 use Rattle.alma_check_marks.proofs.declaration.mark_params.Goals as goal
 
 pub returns-in-None : goal.returns-in-None

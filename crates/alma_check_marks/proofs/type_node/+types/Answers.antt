@@ -1,9 +1,9 @@
-use Rattle.std.proofs.Common.{refl, ap, sym, ◌∙◌}
+use Rattle.std.proofs.Common.{refl, ap, ◌∙◌}
 use Rattle.alma_rules.specs.Places as places
 use Rattle.alma_rules.specs.Places.{◌>>◌}
 use Rattle.alma_rules.specs.View as view
 use Rattle.alma_check_marks.proofs.TypeRows as types
-use Rattle.alma_check_marks.proofs.Steps.{◌▹◌, ◌▸◌, stays, wholly, ends, ends_in, stated, begins, here, next, finish}
+use Rattle.alma_check_marks.proofs.Steps.{◌▹◌, ◌▸◌, stays, ends, ends_in, next, finish}
 use Rattle.alma_check_marks.proofs.type_node.+types.Goals as goal
 
 pub mark_type-returns : goal.mark_type-returns

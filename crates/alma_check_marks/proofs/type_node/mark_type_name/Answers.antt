@@ -1,7 +1,5 @@
-use Rattle.std.proofs.Common.{refl, ap, sym, ◌∙◌}
 use Rattle.alma_rules.specs.Places as places
-use Rattle.alma_rules.specs.View as view
-use Rattle.alma_check_marks.proofs.Steps.{◌▹◌, ◌▸◌, stays, wholly, ends, ends_in, started, whole_from, next, finish}
+use Rattle.alma_check_marks.proofs.Steps.{ends}
 use Rattle.alma_check_marks.proofs.type_node.mark_type_name.Goals as goal
 
 pub returns : goal.returns
