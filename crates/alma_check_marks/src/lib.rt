@@ -11,4 +11,6 @@ mod widths;
 
 pub use declaration::{first_token_of, mark_module};
 pub use mark::{Mark, Marks, first_token};
-pub use widths::{statement_tokens, width_of_expr, width_of_type};
+pub use widths::{
+    first_token_in_expr, first_token_in_type, statement_tokens, width_of_expr, width_of_type,
+};

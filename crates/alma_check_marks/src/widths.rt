@@ -5,7 +5,7 @@ ghost use Rattle.alma_rules.specs.View as view;
 ghost use Rattle.alma_check_marks.specs.Marking.{marked};
 
 use crate::expression::mark_expr;
-use crate::mark::{Mark, Marks, marks_from};
+use crate::mark::{Mark, Marks, first_token, marks_from};
 use crate::statement::mark_stmts;
 use crate::type_node::mark_type;
 use alma_base::NoMemory;
@@ -62,4 +62,29 @@ pub fn statement_tokens(alloc: Global, body: &Stmts, end: u32) -> Result<Vec<u32
     let width = mark_body_at(alloc, body, 0)?.end;
     let marks = mark_body_at(alloc, body, end.saturating_sub(width))?;
     tokens_in(alloc, &marks)
+}
+
+/// The first token of a node of an expression that begins at a token.
+pub fn first_token_in_expr(alloc: Global, expr: &Expr, at: u32, node: u32) -> Result<u32, NoMemory>
+    ensures { IfOk result (λ t. t ≡ places.node_token node
+        (places.mark_expr (view.view_expr expr.now) at).marks) }
+{
+    let mut marks = marks_from(alloc, at);
+    mark_expr(&mut marks, expr)?;
+    Ok(first_token(&marks, node))
+}
+
+/// The first token of a node of a type expression that begins at a token.
+pub fn first_token_in_type(
+    alloc: Global,
+    tree: &TypeNode,
+    at: u32,
+    node: u32,
+) -> Result<u32, NoMemory>
+    ensures { IfOk result (λ t. t ≡ places.node_token node
+        (places.mark_type (view.view_type_node tree.now) at).marks) }
+{
+    let mut marks = marks_from(alloc, at);
+    mark_type(&mut marks, tree)?;
+    Ok(first_token(&marks, node))
 }
