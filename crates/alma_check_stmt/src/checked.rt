@@ -56,8 +56,7 @@ fn rank(fault: CheckFault) -> u32
 fn is_before(first: Broken, second: Broken) -> bool
     ensures { result ≡ judged.is_before (broken_of first) (broken_of second) }
 {
-    first.node < second.node
-        || first.node == second.node && rank(first.fault) < rank(second.fault)
+    first.node < second.node || first.node == second.node && rank(first.fault) < rank(second.fault)
 }
 
 // The lesser of two broken rules.

@@ -79,7 +79,15 @@ fn judge_whole(
         outer: 0,
         end: module.end_name.token.saturating_sub(1),
     };
-    check_block(alloc, &mut reader, &mut checked, &lines, &mut frame, site, &module.block)?;
+    check_block(
+        alloc,
+        &mut reader,
+        &mut checked,
+        &lines,
+        &mut frame,
+        site,
+        &module.block,
+    )?;
     check_end(&reader, &mut checked, &module.name, &module.end_name);
     let name = reader.env().text(module.name.token).to_vec(alloc)?;
     Ok(Whole {

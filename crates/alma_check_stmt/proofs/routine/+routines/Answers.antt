@@ -2,7 +2,6 @@ use Rattle.std.proofs.Common.{arith, ◌≡◌, ◌+◌, ◌-◌, ◌∙◌, ap,
 use Rattle.std.specs.Prelude.{OnOk}
 use denote.Param.Weighed.{at_most}
 use Rattle.alma_tree.specs.declared.module.Decl as dh
-
 use Rattle.alma_rules.specs.Numbered as tree
 use Rattle.alma_rules.specs.View as view
 use Rattle.alma_rules.specs.Decls as frames
@@ -22,11 +21,13 @@ use Rattle.alma_check_stmt.proofs.routine.+routines.Goals as goal
 pub check_block-check_declared-requires : goal.check_block-check_declared-requires
 check_block-check_declared-requires t c = (
   omega (arith, c.decreases),
-  ( (let f : frames.Frame = frame_in c.args.reader.now c.args.frame.now in
-    let told = rw c.deref.ensures.value at (c.in_ok-read_decls.ensures f (shown_in c.args.reader.now c.args.frame.now c.requires.quiet)) in
-    declared_ready c.args.lines.now f c.read_decls.new.reader c.args.checked.now.next (view.decls_of c.args.block.now.decls.items) (view.body_of c.args.block.now.body) c.requires.ready
-    (ap (λ x. x.scene) told) c.add_fault.new.self.next (ap (λ (y : Stage). y.next) (c.add_fault.ensures c.args.reader.now))),
-    c.requires.ready.rising_body),
+  (
+    (let f : frames.Frame = frame_in c.args.reader.now c.args.frame.now in
+        let told = rw c.deref.ensures.value at (c.in_ok-read_decls.ensures f (shown_in c.args.reader.now c.args.frame.now c.requires.quiet)) in
+        declared_ready c.args.lines.now f c.read_decls.new.reader c.args.checked.now.next (view.decls_of c.args.block.now.decls.items) (view.body_of c.args.block.now.body) c.requires.ready
+        (ap (λ x. x.scene) told) c.add_fault.new.self.next (ap (λ (y : Stage). y.next) (c.add_fault.ensures c.args.reader.now))),
+    c.requires.ready.rising_body,
+  ),
 )
 
 pub check_block-returns-clause-stands : goal.check_block-returns-clause-stands
@@ -51,10 +52,12 @@ check_declared-returns-clause-stands t c =
 pub check_procedure-check_block-requires : goal.check_procedure-check_block-requires
 check_procedure-check_block-requires t c = (
   omega (arith, c.decreases),
-  ( block_ready c.args.lines.now c.args.reader.now c.open_procedure.new.reader c.args.checked.now.next c.args.node (view.params_of c.args.params.now) (view.result_of c.args.returns.now) (view.view_block c.args.block.now)
-    (view.decls_of c.args.block.now.decls.items) (view.body_of c.args.block.now.body) c.requires.ready (ap (λ (f : frames.Frame). f.scene) c.in_ok-opened.ensures.frame) c.count.new.self.next
-    (ap (λ (y : Stage). y.next) (c.in_ok-count.ensures c.args.reader.now)),
-    c.in_ok-opened.ensures.quiet),
+  (
+    block_ready c.args.lines.now c.args.reader.now c.open_procedure.new.reader c.args.checked.now.next c.args.node (view.params_of c.args.params.now) (view.result_of c.args.returns.now) (view.view_block c.args.block.now)
+        (view.decls_of c.args.block.now.decls.items) (view.body_of c.args.block.now.body) c.requires.ready (ap (λ (f : frames.Frame). f.scene) c.in_ok-opened.ensures.frame) c.count.new.self.next
+        (ap (λ (y : Stage). y.next) (c.in_ok-count.ensures c.args.reader.now)),
+    c.in_ok-opened.ensures.quiet,
+  ),
 )
 
 pub check_procedure-leave-requires : goal.check_procedure-leave-requires
@@ -88,9 +91,9 @@ check_procedure-returns t c =
 pub check_decl-check_procedure-requires : goal.check_decl-check_procedure-requires
 check_decl-check_procedure-requires t c = (
   omega (arith, c.decreases, ap dh.size-Decl c.in-Procedure.is, procedure_size c.in-Procedure.node c.in-Procedure.name c.in-Procedure.params c.in-Procedure.result c.in-Procedure.block c.in-Procedure.end_name),
-    (let p = c.in-Procedure in
-    inside_ready c.args.lines.now c.args.reader.now c.args.checked.now.next p.node (view.view_name p.name) (view.params_of p.params) (view.result_of p.result) p.block.node (view.decls_of p.block.decls.items) (view.body_of p.block.body) (view.view_name p.end_name)
-    (subst (λ (d : tree.Decl). AreReady c.args.lines.now c.args.reader.now c.args.checked.now.next (tree.more_decl d tree.no_decl)) (ap view.view_decl p.is ∙ procedure_is p.node p.name p.params p.result p.block p.end_name) c.requires.ready)),
+  (let p = c.in-Procedure in
+      inside_ready c.args.lines.now c.args.reader.now c.args.checked.now.next p.node (view.view_name p.name) (view.params_of p.params) (view.result_of p.result) p.block.node (view.decls_of p.block.decls.items) (view.body_of p.block.body) (view.view_name p.end_name)
+      (subst (λ (d : tree.Decl). AreReady c.args.lines.now c.args.reader.now c.args.checked.now.next (tree.more_decl d tree.no_decl)) (ap view.view_decl p.is ∙ procedure_is p.node p.name p.params p.result p.block p.end_name) c.requires.ready)),
 )
 
 pub check_decl-returns-in-Const : goal.check_decl-returns-in-Const
@@ -117,7 +120,7 @@ check_decl-returns-in-Procedure t c =
 pub check_decls-check_decl-requires : goal.check_decls-check_decl-requires
 check_decls-check_decl-requires t c = (
   omega (arith, c.decreases, at_most dh.size-Decl c.args.decls.now c.loop-decl.decl-index c.decl-item.result c.loop-decl-test.true, ap dh.size-Decl c.decl-item.is),
-    (first_of c.args.lines.now c.loop-decl.reader c.loop-decl.checked.next c.loop-decl.decl-index c.args.decls.now c.decl-item.result c.loop-decl-test.true c.decl-item.is c.loop-decl.invariant.ready),
+  (first_of c.args.lines.now c.loop-decl.reader c.loop-decl.checked.next c.loop-decl.decl-index c.args.decls.now c.decl-item.result c.loop-decl-test.true c.decl-item.is c.loop-decl.invariant.ready),
 )
 
 pub check_decls-loop-decl-preserved : goal.check_decls-loop-decl-preserved
