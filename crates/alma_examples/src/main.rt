@@ -34,7 +34,7 @@ const NAMES: [&str; 20] = [
 const LIMIT: usize = 65_536;
 
 // What lies under a name with an ending; nothing where there is no such file.
-fn beside(files: &mut StdFiles<'_>, alloc: Global, name: &str, ending: &str) -> Result<Vec<u8>> {
+fn beside<F: Files>(files: &mut F, alloc: Global, name: &str, ending: &str) -> Result<Vec<u8>> {
     let file = format!(in alloc; "{name}{ending}")?;
     match files.fetch(alloc, &file, LIMIT) {
         Ok(bytes) => Ok(bytes),
