@@ -588,25 +588,25 @@ fn brackets_have_a_greatest_depth(rt: HostRuntime) -> Result<(), Fail> {
 }
 
 // A source that breaks a rule of names or types, and what is told of it.
-struct Refusal {
+struct BrokenRule {
     source: &'static [u8],
     err: &'static [u8],
 }
 
-const REFUSALS: [Refusal; 4] = [
-    Refusal {
+const BROKEN_RULES: [BrokenRule; 4] = [
+    BrokenRule {
         source: b"MODULE A; BEGIN WRITE(1, TRUE) END B.",
         err: b"a.al:1:36: NameMismatch\n",
     },
-    Refusal {
+    BrokenRule {
         source: b"MODULE A; VAR x, x: INTEGER; END A.",
         err: b"a.al:1:18: Redeclared\n",
     },
-    Refusal {
+    BrokenRule {
         source: b"MODULE A; BEGIN x := 1 END A.",
         err: b"a.al:1:17: Undeclared\n",
     },
-    Refusal {
+    BrokenRule {
         source: b"MODULE A; VAR x: INTEGER; BEGIN x := TRUE END A.",
         err: b"a.al:1:33: TypeMismatch\n",
     },
@@ -614,7 +614,7 @@ const REFUSALS: [Refusal; 4] = [
 
 #[test]
 fn broken_rules_are_named_with_a_place(rt: HostRuntime) -> Result<(), Fail> {
-    for row in &REFUSALS {
+    for row in &BROKEN_RULES {
         for words in [&["check", "a.al"], &RUN] {
             let call = Call {
                 words,
