@@ -29,7 +29,7 @@ use Rattle.alma_cursor.specs.Parsing.{kinds_of}
 use Rattle.alma_parse.specs.Refusals.{Refuses}
 use Rattle.alma_driver.specs.declared.fault.SourceFault.{SourceFault}
 use Rattle.alma_driver.specs.declared.fault.SourceFault.TheVariants.{Lex, Syntax, Check}
-use Rattle.alma_driver.specs.Refusal.{kinds, offset_of, IsParsed, IsProgramOf, SyntaxFaultAt, CheckFaultAt, IsRefused}
+use Rattle.alma_driver.specs.Refusal.{kinds, offset_of, IsParsed, IsProgramOf, SyntaxFaultAt, CheckFaultAt, IsRefused, IsOfGrammar}
 
 -- ---- offsets of tokens
 
@@ -333,3 +333,10 @@ pub refused_no_program : (source : List ℕ) (fault : SourceFault) (offset : ℕ
 refused_no_program source (Lex fault) offset p h i = never_both (length source) source i.tokens h.0 fault offset i.parsed.whole.scanned h.1
 refused_no_program source (Syntax fault) offset p h i = tree_refused source fault offset i.tokens i.tree h i.parsed
 refused_no_program source (Check fault) offset p h i = unbroken_refused source fault offset p h i
+
+-- what is refused for a fault of tokens or of syntax has no tree
+pub refused_no_tree : (source : List ℕ) (fault : SourceFault) (offset : ℕ) (tokens : List Lexeme) (tree : Tree) → IsOfGrammar fault → IsRefused source fault offset
+    → IsParsed source tokens tree → ⊥
+refused_no_tree source (Lex fault) offset tokens tree g h p = never_both (length source) source tokens h.0 fault offset p.whole.scanned h.1
+refused_no_tree source (Syntax fault) offset tokens tree g h p = tree_refused source fault offset tokens tree h p
+refused_no_tree source (Check fault) offset tokens tree g h p = g

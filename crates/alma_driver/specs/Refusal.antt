@@ -66,6 +66,12 @@ IsRefused source (Lex fault) offset = FaultAt source fault offset
 IsRefused source (Syntax fault) offset = SyntaxFaultAt source fault offset
 IsRefused source (Check fault) offset = CheckFaultAt source fault offset
 
+-- a fault of tokens or of syntax
+abbrev pub IsOfGrammar : SourceFault → Type 0
+IsOfGrammar (Lex fault) = Unit {0}
+IsOfGrammar (Syntax fault) = Unit {0}
+IsOfGrammar (Check fault) = ⊥
+
 -- the line and the column of an offset
 abbrev pub place_of : (source : List ℕ) → (offset : ℕ) → Place
 place_of source offset = record { line = line_at source offset; column = column_at source offset }

@@ -1,9 +1,11 @@
 //! Laws of the definitions that the contracts cite: functions without work, whose contracts are the laws.
 ghost use Rattle.std.specs.Prelude.{◌≡◌, Bool, List, ℕ, Option, Some};
 ghost use Rattle.alma_driver.specs.declared.fault.SourceFault.{SourceFault};
-ghost use Rattle.alma_driver.specs.Refusal.{IsRefused, IsProgramOf};
+ghost use Rattle.alma_driver.specs.Refusal.{IsOfGrammar, IsParsed, IsRefused, IsProgramOf};
 ghost use Rattle.alma_driver.specs.Outcome.{Due, ProgramOutcome, Meant, ListOutcome, ExecOutcome};
 ghost use Rattle.alma_ir.specs.Tree.{Program};
+ghost use Rattle.alma_scan.specs.Tokens.{Lexeme};
+ghost use Rattle.alma_tree.specs.declared.module.Module.{Module};
 
 /// What a run of a program comes to is its meaning on the input that is read: with one more unfolding than steps its result, each fault at its line;
 /// or, where the steps ran out, a front of its prints that covers one visit for each 32 steps.
@@ -16,6 +18,13 @@ pub fn a_run_is_what_its_program_means()
 pub fn a_refused_source_is_no_program()
     ensures apart { (source : List ℕ) (fault : SourceFault) (offset : ℕ) (p : Program)
         → IsRefused source fault offset → IsProgramOf source p → ⊥ }
+{}
+
+/// What is refused for a fault of tokens or of syntax has no tree.
+pub fn a_source_outside_the_grammar_has_no_tree()
+    ensures apart { (source : List ℕ) (fault : SourceFault) (offset : ℕ) (tokens : List Lexeme)
+        (tree : Module) → IsOfGrammar fault → IsRefused source fault offset
+        → IsParsed source tokens tree → ⊥ }
 {}
 
 /// A source is one program.
