@@ -7,7 +7,7 @@ use alma_io::{Files, MemSink, MemSource, StdFiles, StdSink};
 use anyhow::{Result, anyhow};
 use std::alloc::Global;
 
-const NAMES: [&str; 20] = [
+const NAMES: [&str; 33] = [
     "change",
     "collatz",
     "colours",
@@ -15,6 +15,19 @@ const NAMES: [&str; 20] = [
     "hello",
     "knapsack",
     "knight",
+    "lesson01",
+    "lesson02",
+    "lesson03",
+    "lesson04",
+    "lesson05",
+    "lesson06",
+    "lesson07",
+    "lesson08",
+    "lesson09",
+    "lesson10",
+    "lesson11",
+    "lesson12",
+    "lesson13",
     "magic",
     "money",
     "packing",

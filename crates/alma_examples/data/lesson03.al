@@ -1,0 +1,12 @@
+MODULE Lesson03;
+(* A variable is unknown until it gets a value. An equation gives an unknown side the value of the other one, and else compares. *)
+VAR x, y: INTEGER;
+BEGIN
+  WRITELN(KNOWN(x));
+  x = 7;
+  WRITELN(KNOWN(x), " ", x);
+  y = x;
+  WRITELN(y);
+  x = 8;
+  WRITELN("never printed")
+END Lesson03.
