@@ -8,11 +8,11 @@ _alma() {
   local word=${COMP_WORDS[COMP_CWORD]}
   COMPREPLY=()
   if [ "$COMP_CWORD" -eq 1 ]; then
-    mapfile -t COMPREPLY < <(compgen -W "run compile list exec help --help --version" -- "$word")
+    mapfile -t COMPREPLY < <(compgen -W "check run compile list exec help --help --version" -- "$word")
     return
   fi
   case ${COMP_WORDS[1]},$COMP_CWORD in
-  run,2 | compile,2) mapfile -t COMPREPLY < <(compgen -o plusdirs -f -X '!*.al' -- "$word") ;;
+  check,2 | run,2 | compile,2) mapfile -t COMPREPLY < <(compgen -o plusdirs -f -X '!*.al' -- "$word") ;;
   run,[34] | exec,[34]) mapfile -t COMPREPLY < <(compgen -W "--steps= --stats" -- "$word") && compopt -o nospace ;;
   help,2) mapfile -t COMPREPLY < <(compgen -W "$(_alma_faults)" -- "$word") ;;
   compile,3 | list,2 | exec,2) mapfile -t COMPREPLY < <(compgen -f -- "$word") ;;

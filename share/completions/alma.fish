@@ -1,5 +1,6 @@
 # Completion of alma for fish: put this file into ~/.config/fish/completions.
 complete -c alma -f
+complete -c alma -n __fish_use_subcommand -a check -d 'tell whether a source is a program'
 complete -c alma -n __fish_use_subcommand -a run -d 'compile a source and run it'
 complete -c alma -n __fish_use_subcommand -a compile -d 'compile a source and store its object'
 complete -c alma -n __fish_use_subcommand -a list -d 'print the text of an object'
@@ -7,7 +8,7 @@ complete -c alma -n __fish_use_subcommand -a exec -d 'verify an object and run i
 complete -c alma -n __fish_use_subcommand -a help -d 'print the commands, or what a fault means'
 complete -c alma -n __fish_use_subcommand -l help -d 'print the commands'
 complete -c alma -n __fish_use_subcommand -l version -d 'print which program runs'
-complete -c alma -n '__fish_seen_subcommand_from run compile' -a '(__fish_complete_suffix .al)'
+complete -c alma -n '__fish_seen_subcommand_from check run compile' -a '(__fish_complete_suffix .al)'
 complete -c alma -n '__fish_seen_subcommand_from run exec' -l steps -x -d 'the greatest number of machine steps'
 complete -c alma -n '__fish_seen_subcommand_from run exec' -l stats -d 'tell the counts of the run'
 complete -c alma -n '__fish_seen_subcommand_from list exec' -F
