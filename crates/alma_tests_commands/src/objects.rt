@@ -110,13 +110,13 @@ const REFUSALS: [Refusal; 4] = [
     },
     Refusal {
         source: b"MODULE A; BEGIN x := 1 END A.",
-        status: 12,
-        err: b"alma: not yet\n",
+        status: 3,
+        err: b"a.al:1:17: Undeclared\n",
     },
     Refusal {
-        source: b"MODULE A; VAR x: INTEGER; BEGIN EITHER x = 1 ORELSE x = 2 END END A.",
-        status: 12,
-        err: b"alma: not yet\n",
+        source: b"MODULE A; VAR x: INTEGER; BEGIN x := TRUE END A.",
+        status: 3,
+        err: b"a.al:1:33: TypeMismatch\n",
     },
 ];
 
