@@ -2,10 +2,39 @@
 use alma_base::{NoMemory, OBJECT_LIMIT};
 use alma_driver::alma;
 use alma_io::{MemFiles, MemSink, MemSource};
+use serde::Deserialize;
 use std::alloc::Global;
 
 // The most bytes that a call may print.
 const ROOM: usize = 1_048_576;
+
+/// How the devices of a call move bytes, and which of their calls fail, counted from 1.
+#[derive(Drop, Deserialize)]
+pub struct Devices {
+    /// The most bytes that one call of the input, of out or of err moves.
+    piece: usize,
+    #[serde(default)]
+    pub files: Vec<u64>,
+    #[serde(default)]
+    input: Vec<u64>,
+    #[serde(default)]
+    out: Vec<u64>,
+    #[serde(default)]
+    err: Vec<u64>,
+}
+
+impl Devices {
+    /// Devices of which no call fails, and each moves all that it may.
+    pub fn sound(alloc: Global) -> Devices {
+        Devices {
+            piece: ROOM,
+            files: Vec::new(alloc),
+            input: Vec::new(alloc),
+            out: Vec::new(alloc),
+            err: Vec::new(alloc),
+        }
+    }
+}
 
 /// What a call comes to.
 #[derive(Drop)]
@@ -21,10 +50,12 @@ pub fn call(
     words: &[String],
     files: &mut MemFiles,
     input: &[u8],
+    devices: &Devices,
 ) -> Result<Answer, NoMemory> {
-    let mut input = MemSource::new(alloc, input, 4096, &[])?;
-    let mut out = MemSink::new(alloc, ROOM, ROOM, &[])?;
-    let mut err = MemSink::new(alloc, ROOM, ROOM, &[])?;
+    let piece = devices.piece.max(1);
+    let mut input = MemSource::new(alloc, input, piece, &devices.input)?;
+    let mut out = MemSink::new(alloc, ROOM, piece, &devices.out)?;
+    let mut err = MemSink::new(alloc, ROOM, piece, &devices.err)?;
     let status = alma(alloc, words, files, &mut input, &mut out, &mut err).0;
     Ok(Answer { status, out, err })
 }
@@ -37,7 +68,8 @@ pub fn status_past_limit(alloc: Global, more: usize) -> Result<u8, NoMemory> {
     let mut words = Vec::new(alloc);
     words.push(String::from_str(alloc, "list")?)?;
     words.push(String::from_str(alloc, "o.obj")?)?;
-    Ok(call(alloc, &words, &mut files, b"")?.status)
+    let devices = Devices::sound(alloc);
+    Ok(call(alloc, &words, &mut files, b"", &devices)?.status)
 }
 
 fn make_zeros(alloc: Global, len: usize) -> Result<Vec<u8>, NoMemory> {

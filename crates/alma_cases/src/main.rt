@@ -10,13 +10,16 @@ use call::status_past_limit;
 use case::Case;
 use std::alloc::Global;
 
-const NAMES: [&str; 6] = [
+const NAMES: [&str; 9] = [
     "check.jsonl",
     "run.jsonl",
+    "stats.jsonl",
+    "trace.jsonl",
     "faults.jsonl",
     "words.jsonl",
     "objects.jsonl",
     "final-exec.jsonl",
+    "devices.jsonl",
 ];
 
 // The most bytes of a file of cases.
