@@ -59,13 +59,18 @@ lines_length (suc count) number =
     joined (line_of number) (lines_from count (next_number number)) 64 (count * 64) (line_length number) (lines_length count (next_number number)) in
     omega (arith, both)
 
--- a sample of up to 5,000 lines is short
-pub sample_length : (lines : ℕ) → lines ≤ 5000 → length (sample_text lines) ≤ 1048576
-sample_length lines few =
+-- so is what stands round them
+pub whole_length : (lines : ℕ) → lines ≤ 5000 → length (head_text ++ (lines_from lines 12345 ++ tail_text)) ≤ 1048576
+whole_length lines few =
     let head : length head_text ≤ 100 = omega arith in
     let tail : length tail_text ≤ 100 = omega arith in
     let behind : length (lines_from lines 12345 ++ tail_text) ≤ lines * 64 + 100 =
     joined (lines_from lines 12345) tail_text (lines * 64) 100 (lines_length lines 12345) tail in
-    let whole : length (sample_text lines) ≤ 100 + (lines * 64 + 100) =
+    let whole : length (head_text ++ (lines_from lines 12345 ++ tail_text)) ≤ 100 + (lines * 64 + 100) =
     joined head_text (lines_from lines 12345 ++ tail_text) 100 (lines * 64 + 100) head behind in
     omega (arith, whole, few)
+
+-- a sample of up to 5,000 lines is short
+pub sample_length : (lines : ℕ) → lines ≤ 5000 → length (sample_text lines) ≤ 1048576
+unfolding sample_text
+sample_length lines few = whole_length lines few

@@ -48,5 +48,5 @@ abbrev pub tail_text : List ℕ
 tail_text = codes "FOR n := 0 TO 99 DO IF KNOWN(v[n]) THEN WRITE(v[n]) END END\nEND S.\n"
 
 -- the source of as many lines
-abbrev pub sample_text : (lines : ℕ) → List ℕ
+unfoldable pub sample_text : (lines : ℕ) → List ℕ
 sample_text lines = head_text ++ (lines_from lines 12345 ++ tail_text)

@@ -26,10 +26,11 @@ fn push_lines(text: &mut Vec<u8>, lines: u32) -> Result<(), NoMemory>
 }
 
 /// A source with this many lines between its first and its last.
+#[tactic(auto, using(crate::proofs::Lengths::sample_length), unfolding(crate::specs::Sample::sample_text))]
 pub fn sample_source(alloc: Global, lines: u32) -> Result<Vec<u8>, NoMemory>
     requires few { lines ≤ 5000 }
     ensures text { IfOk result (λ source. source.items ≡ sample_text lines) }
-    ensures short { IfOk result (λ source. length source.items ≤ 1048576) }
+    ensures short { length (sample_text lines) ≤ 1048576 }
 {
     let mut text = Vec::new(alloc);
     push_texts(
