@@ -1,15 +1,13 @@
 -- Runs of kinds of slots, of which the last is still latest.
 use Rattle.std.proofs.Common.{◌≡◌, ℕ, ◌+◌, ◌-◌, ◌<◌, List, [], ◌∷◌, ◌++◌, length, refl, sym, ap, ◌∙◌, arith, append_assoc, length-append, subst, take, get_or, add-one}
-use Rattle.std.proofs.Math.Nat.{sub-zero}
 use Rattle.std.proofs.Math.Seq.{take-suc}
 use Rattle.std.specs.Prelude.{replicate}
-use Rattle.std.proofs.lemmas.List.{append-nil, length-replicate, replicate_more}
+use Rattle.std.proofs.lemmas.List.{append-nil, replicate_more}
 use Rattle.alma_code.specs.declared.cell.SlotKind.{SlotKind}
-use Rattle.alma_code.specs.declared.cell.SlotKind.TheVariants as slot
 use Rattle.alma_code.specs.declared.head.Run.{Run}
 use Rattle.alma_code.specs.Layout.{RunsRise, kinds_of}
 use Rattle.alma_code.specs.Rules.{last_end}
-use Rattle.alma_implements.specs.Templates.{RunsDiffer, NamesKinds}
+use Rattle.alma_templates.specs.Runs.{RunsDiffer, NamesKinds}
 
 -- these runs, and an latest one behind them, name these kinds
 pub record Opens (runs : List Run) (latest : Run) (kinds : List SlotKind) : Type 0 where

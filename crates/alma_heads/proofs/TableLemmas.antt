@@ -1,15 +1,14 @@
 -- The tables of instructions with lines, said of pairs in memory.
-use Rattle.std.proofs.Common.{◌≡◌, ℕ, suc, ◌+◌, Bool, true, false, List, [], ◌∷◌, ◌++◌, length, map, take, replicate, refl, sym, ap, ◌∙◌, arith, append_assoc, add-one, get_or, ◌<◌}
+use Rattle.std.proofs.Common.{◌≡◌, ℕ, suc, ◌+◌, Bool, true, false, List, [], ◌∷◌, ◌++◌, length, map, take, drop, refl, sym, ap, ◌∙◌, append_assoc, add-one, get_or, ◌<◌, ◌≤◌}
+use Rattle.std.proofs.Math.ListN.{drop_of_length-le}
 use Rattle.std.proofs.Math.Seq.{take-suc}
 use Rattle.alma_code.specs.declared.cell.SlotKind.{SlotKind}
-use Rattle.std.specs.Prelude.{nat_eq, Result, Ok, Err, IfOk}
-use Rattle.std.proofs.lemmas.Bool.{eqb-true}
+use Rattle.std.specs.Prelude.{nat_eq}
+use Rattle.std.proofs.lemmas.Bool.{eqb-true, eq-eqb}
 use Rattle.std.proofs.lemmas.List.{append-nil}
-use Rattle.alma_base.specs.Choice.{if_true}
 use Rattle.alma_choice.specs.Emitted.{lined}
 use Rattle.alma_code.specs.declared.code.Line.{Line}
 use Rattle.alma_code.specs.declared.instr.Instr.{Instr}
-use Rattle.alma_implements.specs.Templates as old
 use Rattle.alma_ir.specs.declared.program.Param.{Param}
 use Rattle.alma_templates.specs.Lined.{line_from, lines_from, instrs_of}
 use Rattle.alma_templates.specs.Slots.{params_kinds, param_kinds}
@@ -18,17 +17,46 @@ pub instrs_pairs : (xs : List (Instr × ℕ)) → map (λ x. x.0) xs ≡ instrs_
 instrs_pairs [] = refl
 instrs_pairs (x ∷ xs) = ap (λ l. x.0 ∷ l) (instrs_pairs xs)
 
-pub lines_pairs : (at before : ℕ) (xs : List (Instr × ℕ)) → old.lines_from at before xs ≡ lines_from at before (map lined xs)
-lines_pairs at before [] = refl
-lines_pairs at before (x ∷ xs) = by (nat_eq x.1 before) refl (lines_pairs (suc at) x.1 xs)
-  where
-    next : at + 1 ≡ suc at
-    next = add-one at
+-- ---- the table of lines, made record by record
 
-    by : (b : Bool) → nat_eq x.1 before ≡ b → old.lines_from (suc at) x.1 xs ≡ lines_from (suc at) x.1 (map lined xs)
-        → if_true b (λ _. old.lines_from (at + 1) before xs) (λ _. record { at = at; line = x.1 } ∷ old.lines_from (at + 1) x.1 xs) ≡ line_from b at x.1 (lines_from (suc at) x.1 (map lined xs))
-    by true e h = ap (λ n. old.lines_from n before xs) next ∙ ap (λ n. old.lines_from (suc at) n xs) (sym (eqb-true x.1 before e)) ∙ h
-    by false e h = ap (λ l. record { at = at; line = x.1 } ∷ l) (ap (λ n. old.lines_from n x.1 xs) next ∙ h)
+-- with these records for the instructions before i, and the line of the last of them
+pub record Told (lines : List Line) (before i at : ℕ) (placed : List (Instr × ℕ)) : Type 0 where
+  pub all : lines ++ lines_from i before (map lined (drop i placed)) ≡ lines_from 0 0 (map lined placed)
+  pub here : at ≡ i
+
+from_same : (i before : ℕ) (x : Instr × ℕ) (rest : List (Instr × ℕ)) → x.1 ≡ before → lines_from i before (map lined (x ∷ rest)) ≡ lines_from (i + 1) before (map lined rest)
+from_same i before x rest e =
+    ap (λ b. line_from b i x.1 (lines_from (suc i) x.1 (map lined rest))) (eq-eqb x.1 before e)
+    ∙ ap (λ n. lines_from n x.1 (map lined rest)) (sym (add-one i))
+    ∙ ap (λ n. lines_from (i + 1) n (map lined rest)) e
+
+from_other : (i before : ℕ) (x : Instr × ℕ) (rest : List (Instr × ℕ)) → (x.1 ≡ before → ⊥) → lines_from i before (map lined (x ∷ rest)) ≡ record { at = i; line = x.1 } ∷ lines_from (i + 1) x.1 (map lined rest)
+from_other i before x rest e = by (nat_eq x.1 before) refl ∙ ap (λ n. record { at = i; line = x.1 } ∷ lines_from n x.1 (map lined rest)) (sym (add-one i))
+  where
+    by : (b : Bool) → nat_eq x.1 before ≡ b → line_from b i x.1 (lines_from (suc i) x.1 (map lined rest)) ≡ record { at = i; line = x.1 } ∷ lines_from (suc i) x.1 (map lined rest)
+    by true same = absurd (e (eqb-true x.1 before same))
+    by false other = refl
+
+pub told_same : (lines : List Line) (before i at : ℕ) (placed : List (Instr × ℕ)) (x : Instr × ℕ) → drop i placed ≡ x ∷ drop (i + 1) placed → x.1 ≡ before → Told lines before i at placed → Told lines before (i + 1) (at + 1) placed
+told_same lines before i at placed x one e h = record {
+  all = ap (λ s. lines ++ s) (sym (ap (λ l. lines_from i before (map lined l)) one ∙ from_same i before x (drop (i + 1) placed) e)) ∙ h.all;
+  here = ap (λ n. n + 1) h.here;
+}
+
+pub told_other : (lines : List Line) (before i at : ℕ) (placed : List (Instr × ℕ)) (x : Instr × ℕ) → drop i placed ≡ x ∷ drop (i + 1) placed → (x.1 ≡ before → ⊥) → Told lines before i at placed
+    → Told (lines ++ record { at = at; line = x.1 } ∷ []) x.1 (i + 1) (at + 1) placed
+told_other lines before i at placed x one e h = record {
+  all = append_assoc lines (record { at = at; line = x.1 } ∷ []) (lines_from (i + 1) x.1 (map lined (drop (i + 1) placed)))
+      ∙ ap (λ n. lines ++ record { at = n; line = x.1 } ∷ lines_from (i + 1) x.1 (map lined (drop (i + 1) placed))) h.here
+      ∙ ap (λ s. lines ++ s) (sym (ap (λ l. lines_from i before (map lined l)) one ∙ from_other i before x (drop (i + 1) placed) e)) ∙ h.all;
+  here = ap (λ n. n + 1) h.here;
+}
+
+pub told_all : (lines : List Line) (before i at : ℕ) (placed : List (Instr × ℕ)) → length placed ≤ i → Told lines before i at placed → lines ≡ lines_from 0 0 (map lined placed)
+told_all lines before i at placed le h =
+    sym (append-nil lines) ∙ ap (λ s. lines ++ lines_from i before (map lined s)) (sym (drop_of_length-le placed le)) ∙ h.all
+
+-- ---- kinds
 
 pub params_last : (xs : List Param) (x : Param) → params_kinds (xs ++ x ∷ []) ≡ params_kinds xs ++ param_kinds x.kind x.cells
 params_last [] x = append-nil (param_kinds x.kind x.cells)
@@ -42,8 +70,3 @@ params_more xs i d before kinds grown lt is more =
     more ∙ ap (λ y. y ++ param_kinds x.kind x.cells) is
     ∙ append_assoc before (params_kinds (take i xs)) (param_kinds x.kind x.cells)
     ∙ ap (λ y. before ++ y) (sym (params_last (take i xs) x) ∙ ap params_kinds (sym (ap (λ k. take k xs) (add-one i) ∙ take-suc xs i d lt)))
-
--- a clause on success that follows from another
-pub if_ok_then : {T E : Type 0} {P Q : T → Type 0} (r : Result T E) → ((x : T) → P x → Q x) → IfOk r P → IfOk r Q
-if_ok_then (Ok x) f h = f x h
-if_ok_then (Err e) f h = h

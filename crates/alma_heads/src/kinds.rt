@@ -3,7 +3,7 @@ ghost use Rattle.std.specs.Prelude.{◌≡◌, ◌+◌, ◌-◌, ◌≤◌, ◌+
 ghost use Rattle.alma_base.specs.Limits.{slot_limit};
 ghost use Rattle.alma_code.specs.declared.cell.SlotKind.TheVariants as slot;
 ghost use Rattle.alma_ir.specs.View as view;
-ghost use Rattle.alma_implements.specs.Templates.{NamesKinds};
+ghost use Rattle.alma_templates.specs.Runs.{NamesKinds};
 ghost use Rattle.alma_templates.specs.Slots as slots;
 
 use alma_base::NoMemory;

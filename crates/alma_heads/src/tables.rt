@@ -87,5 +87,16 @@ pub fn lines_of(alloc: Global, placed: &[(Instr, u32)]) -> Result<Vec<Line>, NoM
     requires room { length placed.now ≤ instr_limit }
     ensures { IfOk result (λ table. table.items ≡ lines.lines_of (map lined placed.now)) }
 {
-    alma_implements::lines_of(alloc, placed)
+    let mut lines = Vec::new(alloc);
+    let mut before = 0;
+    let mut at = 0;
+    for one in placed {
+        let line = one.1;
+        if line != before {
+            lines.push(Line { at, line })?;
+            before = line;
+        }
+        at += 1;
+    }
+    Ok(lines)
 }

@@ -19,15 +19,12 @@ use Rattle.alma_code.specs.Machine.{State, Stepped, step, act, number, as_number
 use Rattle.alma_ir.specs.Tree.{Program, routine_at}
 use Rattle.alma_mean.specs.Store.{Store, Unknown, Number, At, with_cell, put, put_top, top, top_frame, top_cell}
 use Rattle.alma_mean.specs.Store as store
-use Rattle.alma_implements.proofs.Goes.{IsGoing}
 use Rattle.alma_implements.proofs.Frames.{shift, shift_in, SameContent, StandFor, Fits, IsAt}
-use Rattle.alma_implements.proofs.FrameLemmas.{top_same, fits_on, fits_put, put_is}
-use Rattle.alma_implements.proofs.Steps.{top_written, Holds, HasKind, InstrAt, passed, does, number_is, puts, Writes, Moves, moved_to, Faults, faults_now, less_eq_step}
-use Rattle.alma_implements.proofs.OperatorRows.{zero_bit, bit_integer}
-use Rattle.alma_implements.proofs.ExprRows.{Left, AreVariables, kind_there}
-use Rattle.alma_implements.proofs.StmtRows.{Reaches, put_routine}
+use Rattle.alma_implements.proofs.FrameLemmas.{top_same, fits_put, put_is}
+use Rattle.alma_implements.proofs.Steps.{top_written, Holds, HasKind, InstrAt, passed, does, number_is, puts, Writes, Moves, moved_to, Faults, faults_now}
+use Rattle.alma_implements.proofs.Numbers.{zero_bit}
+use Rattle.alma_implements.proofs.ExprRows.{AreVariables, kind_there}
 use Rattle.alma_code.specs.Lines.{line_at}
-use Rattle.alma_implements.specs.Operators.{entry_code}
 
 -- ---- counts
 
@@ -48,10 +45,6 @@ not_at_most a b = by (int_le a b) (int_lt b a) refl refl
 pub entered_is : (by first limit : ℤ) → is_zero (entered by first limit) ≡ is_beyond first limit by
 entered_is (pos step) first limit = zero_bit (int_le first limit) ∙ not_at_most first limit
 entered_is (negsuc step) first limit = zero_bit (int_le limit first) ∙ not_at_most limit first
-
-pub entered_integer : (by first limit : ℤ) → is_integer (entered by first limit) ≡ true
-entered_integer (pos step) first limit = bit_integer (int_le first limit)
-entered_integer (negsuc step) first limit = bit_integer (int_le limit first)
 
 -- a count that is not beyond the limit is a number of INTEGER, since it lies between two of them
 between : (by n l y : ℤ) → y ≡ n +ℤ by → is_integer n ≡ true → is_integer l ≡ true → is_beyond y l by ≡ false → is_integer y ≡ true
@@ -161,22 +154,6 @@ module _ (p : Program) (code : PlainCode) (input : List ℕ) where
         (subst (λ f. Fits p code lo now (put_top v n (Number y)) (frames_with_cell now f (shift_in p v (top v) + n) (cell.Int y))) at
         (fits_put p code lo v now (top v) n y (omega (arith, stand.some)) slot_within kind_there integer stand))
 
-  -- a step that writes a slot of the routine
-  pub slot_put : (m lo r n : ℕ) (before : List PlainFrame) (held : List PlainEntry) (v : Store) (t : State) (y : ℤ) → AreVariables p code input r n 1 → is_integer y ≡ true → IsGoing held t → Left p code input m lo r before v t → Writes code input m t.now held t (shift p r + n) (cell.Int y)
-      → Reaches p code input (m + 1) lo r before held (put_top v n (Number y)) t
-  slot_put m lo r n before held v t y variable integer going left w =
-      let fit = fits_top r n variable v t.now left.fits.stand left.routine lo y integer in
-      record {
-        to = w.to;
-        silently = w.silently;
-        going = record { mode = w.is.mode; entries = w.is.entries };
-        left = record {
-          here = w.is.here;
-          fits = subst (Fits p code lo before (put_top v n (Number y))) (sym w.is.frames) (fits_on p code lo lo v (put_top v n (Number y)) before t.now (top_written t.now (shift p r + n) (cell.Int y)) (omega arith) left.fits fit);
-          routine = put_routine v (top v) n (Number y) (omega (arith, left.fits.stand.some)) ∙ left.routine;
-        };
-      }
-
 module _ (code : PlainCode) (input : List ℕ) (line at : ℕ) (now : List PlainFrame) (held : List PlainEntry) (s : State) (h : IsAt at now held s) where
   -- ---- the instructions
 
@@ -184,10 +161,6 @@ module _ (code : PlainCode) (input : List ℕ) (line at : ℕ) (now : List Plain
   unfolding act
   move_step a b x i kind hb =
       puts code input at now held s a x h kind (does code input line at now held s (I.Move a b) h i ∙ number_is code input now (passed code input s) b x (λ v. put_number (passed code input s) a v) h.frames hb)
-
-  pub entry_step : (by : ℤ) (from to : ℕ) (x y : ℤ) → InstrAt code input line at (entry_code by from to) → HasKind now from slot.Number → Holds now from (cell.Int x) → Holds now to (cell.Int y) → Writes code input at now held s from (cell.Int (entered by x y))
-  entry_step (pos step) from to x y i kind hx hy = less_eq_step code input line at now held s h from from to x y i kind hx hy
-  entry_step (negsuc step) from to x y i kind hx hy = less_eq_step code input line at now held s h from to from y x i kind hy hx
 
   -- a slot of which nothing is known
   unknown_is : (n : ℕ) (k : ℤ → Stepped) → Holds now n cell.Unknown → number (passed code input s) n k ≡ ends_in_fault fault.Unknown (passed code input s)

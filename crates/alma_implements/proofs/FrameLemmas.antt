@@ -58,6 +58,21 @@ put_is [] k n c lt = absurd (omega arith)
 put_is (f ∷ v) zero n c lt = refl
 put_is (f ∷ v) (suc k) n c lt = ap (λ z. f ∷ z) (put_is v k n c (omega arith))
 
+-- a write changes the routine of no frame
+pub put_routine : (x : Store) (f n : ℕ) (new : store.Cell) → f < length x → (top_frame (store.put x f n new)).routine ≡ (top_frame x).routine
+put_routine x f n new lt =
+    let y = set x f (store.with_cell (get_or x f store.no_frame) n new) in
+    let is : store.put x f n new ≡ y = put_is x f n new lt in
+    let last : length y - 1 ≡ length x - 1 = ap (λ m. m - 1) (length-set x f (store.with_cell (get_or x f store.no_frame) n new)) in
+    ap (λ z. (top_frame z).routine) is ∙ ap (λ m. (get_or y m store.no_frame).routine) last ∙ by (length x - 1) (cases_eq (length x - 1) f)
+  where
+    by : (k : ℕ) → (k ≡ f) ⊎ (k ≡ f → ⊥) → (get_or (set x f (store.with_cell (get_or x f store.no_frame) n new)) k store.no_frame).routine ≡ (get_or x k store.no_frame).routine
+    by k (inl e) =
+        ap (λ m. (get_or (set x f (store.with_cell (get_or x f store.no_frame) n new)) m store.no_frame).routine) e
+        ∙ ap (λ g. g.routine) (get_or-set_same x f (store.with_cell (get_or x f store.no_frame) n new) store.no_frame lt)
+        ∙ ap (λ m. (get_or x m store.no_frame).routine) (sym e)
+    by k (inr ne) = ap (λ g. g.routine) (get_or-set_other x f k (store.with_cell (get_or x f store.no_frame) n new) store.no_frame ne)
+
 -- a write changes the kinds, the routine and the declared cells of no frame
 pub written_frame : (now : List PlainFrame) (f n k : ℕ) (c : Cell) → f < length now
     → ((get_or (frames_with_cell now f n c) k picture.no_frame).kinds ≡ (get_or now k picture.no_frame).kinds) × ((get_or (frames_with_cell now f n c) k picture.no_frame).declared ≡ (get_or now k picture.no_frame).declared)

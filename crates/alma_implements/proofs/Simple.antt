@@ -1,19 +1,21 @@
--- Expressions of the built forms give one value and change nothing: what their events are like.
-use Rattle.std.proofs.Common.{Bool, true, false, not, List, ℕ, ℤ}
+-- Events that give one value and change nothing: those of simple expressions.
+use Rattle.std.proofs.Common.{Bool, true, false, not, ℕ, ℤ}
 use Rattle.alma_base.specs.declared.fault.RunFault.{RunFault}
 use Rattle.alma_base.specs.Numbers.{is_zero}
 use Rattle.alma_ir.specs.declared.phrase.Op.{Op}
 use Rattle.alma_ir.specs.declared.phrase.Op.TheVariants as op
-use Rattle.alma_ir.specs.declared.phrase.Root.TheVariants as root
-use Rattle.alma_ir.specs.Tree.{Program, Expr, Links, Desig, Const, Load, Chain, Compare, Truth, Known, Chr, CallExpr, no_links, more_links, a_desig, no_sels, more_sels}
-use Rattle.alma_mean.specs.Store.{Store, Place, cell_of}
+use Rattle.alma_mean.specs.Store.{Store}
 use Rattle.alma_mean.specs.Store as store
-use Rattle.alma_mean.specs.Events.{Events, Fail, one, join, bind, visit_each, node}
+use Rattle.alma_mean.specs.Events.{Events, Visit, Alt, Fault, Cut, Go, Fail, one, join, bind, visit_each, node}
 use Rattle.alma_mean.specs.Rows.{read_cell}
 use Rattle.alma_mean.specs.Arithmetic.{apply_op, apply_sign, fault_unless}
-use Rattle.alma_mean.specs.Meaning.{Level, ev_expr, ev_links, ev_desig}
-use Rattle.alma_implements.proofs.StmtRows.{GivesOne, on_visit, on_one, at_fault, at_cut}
-use Rattle.alma_implements.specs.Built.{BuiltDesig, BuiltExpr, BuiltLinks}
+
+-- visits, and then one alternative with this store and nothing behind it, or a fault
+pub data GivesOne (A : Type 0) (v : Store) : Events A → Type 0 where
+  on_visit : {e : Events A} → GivesOne A v e → GivesOne A v (Visit e)
+  on_one : {y : A} → GivesOne A v (Alt v (Go y) Fail)
+  at_fault : {f : RunFault} {l : ℕ} → GivesOne A v (Fault f l)
+  at_cut : GivesOne A v Cut
 
 one_joined : {A : Type 0} {v : Store} {e : Events A} → GivesOne A v e → GivesOne A v (join e Fail)
 one_joined (on_visit h) = on_visit (one_joined h)
@@ -59,30 +61,3 @@ one_op v op.Mod a b = one_unless v _ (not (is_zero b)) _ on_one
 pub one_sign : (v : Store) (negated : Bool) (a : ℤ) → GivesOne ℤ v (apply_sign negated v a)
 one_sign v false a = on_one
 one_sign v true a = one_checked v _ _ _
-
-module _ (p : Program) (input : List ℕ) (below : Level) where
-  desig_one : (d : Desig) (v : Store) → BuiltDesig d → GivesOne Place v (ev_desig p input below d v)
-  unfolding ev_expr
-  desig_one (a_desig (root.Local from) cells no_sels) v built = on_visit (on_visit on_one)
-  desig_one (a_desig (root.Local from) cells (more_sels x rest)) v built = absurd built
-  desig_one (a_desig (root.Global from) cells sels) v built = absurd built
-  desig_one (a_desig (root.Param from) cells sels) v built = absurd built
-  desig_one (a_desig (root.Outer links from) cells sels) v built = absurd built
-  desig_one (a_desig (root.OuterParam links from) cells sels) v built = absurd built
-
-  mutual
-    unfolding ev_expr
-
-    pub expr_one : (e : Expr) (v : Store) → BuiltExpr e → GivesOne ℤ v (ev_expr p input below e v)
-    expr_one (Const n) v built = on_visit (on_visit on_one)
-    expr_one (Load d) v built = one_noded (one_bound _ (desig_one d v built) (λ q. one_read v (cell_of v q)))
-    expr_one (Chain negated e links) v built = one_noded (one_bound _ (expr_one e v built.0) (λ a. one_bound _ (one_sign v negated a) (λ b. links_one links b v built.1)))
-    expr_one (Compare how x y) v built = one_noded (one_bound _ (expr_one x v built.0) (λ a. one_bound _ (expr_one y v built.1) (λ b. on_one)))
-    expr_one (Truth t) v built = absurd built
-    expr_one (Known d) v built = absurd built
-    expr_one (Chr e) v built = absurd built
-    expr_one (CallExpr r args up) v built = absurd built
-
-    links_one : (links : Links) (a : ℤ) (v : Store) → BuiltLinks links → GivesOne ℤ v (ev_links p input below links a v)
-    links_one no_links a v built = on_one
-    links_one (more_links how e rest) a v built = one_bound _ (expr_one e v built.0) (λ b. one_bound _ (one_op v how a b) (λ c. links_one rest c v built.1))

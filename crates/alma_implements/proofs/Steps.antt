@@ -290,10 +290,6 @@ module _ (code : PlainCode) (input : List ℕ) where
       is = record { mode = h.mode; here = refl; frames = h.frames; entries = h.entries };
     }
 
-    pub jump_step : (l : ℕ) → InstrAt line at (I.Jump l) → Moves l
-    unfolding act
-    jump_step l i = moved_to l (does line at now held s (I.Jump l) h i)
-
     -- where the slot is 0 it jumps, and else it goes on
     pub zero_jumps : (a l : ℕ) (x : ℤ) → InstrAt line at (I.JumpZero a l) → Holds now a (cell.Int x) → is_zero x ≡ true → Moves l
     unfolding act

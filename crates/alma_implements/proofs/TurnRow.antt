@@ -15,7 +15,7 @@ use Rattle.alma_implements.proofs.Goes.{Goes, before, no_step, weaker, bind_goes
 use Rattle.alma_implements.proofs.Frames.{IsAt}
 use Rattle.alma_implements.proofs.Steps.{InstrAt, top_written, HasKind, Holds, zero_jumps, other_goes_on}
 use Rattle.alma_implements.proofs.ChoiceSteps.{jumps}
-use Rattle.alma_implements.proofs.StmtRows.{GivesOne, on_visit, on_one, at_fault, at_cut}
+use Rattle.alma_implements.proofs.Simple.{GivesOne, on_visit, on_one, at_fault, at_cut}
 use Rattle.alma_implements.proofs.Ways.{Ways, Leaves, Runs, Later, Visited, LeadsTo, Behind}
 use Rattle.alma_implements.proofs.EitherRow.{inner_goes}
 use Rattle.alma_implements.proofs.FirstRow.{KeepsMark, first_row}

@@ -1,4 +1,1 @@
 pub mod Implements
-pub mod Built
-pub mod Operators
-pub mod Templates

@@ -2,6 +2,3 @@
 #![tactic(auto)]
 
 pub mod laws;
-mod line_table;
-
-pub use line_table::lines_of;

@@ -3,7 +3,7 @@ ghost use Rattle.std.specs.Prelude.{◌≡◌, ◌≤◌, ◌++◌, [], ◌∷�
 ghost use Rattle.alma_base.specs.Limits.{record_limit};
 ghost use Rattle.alma_code.specs.Plain as code;
 ghost use Rattle.alma_ir.specs.View as view;
-ghost use Rattle.alma_implements.specs.Templates.{NamesKinds};
+ghost use Rattle.alma_templates.specs.Runs.{NamesKinds};
 ghost use Rattle.alma_templates.specs.Compiled as compiled;
 ghost use Rattle.alma_templates.specs.Lined.{own};
 ghost use Rattle.alma_emit_parts.specs.Front.{front, Codes};

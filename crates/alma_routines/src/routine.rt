@@ -2,7 +2,7 @@
 ghost use Rattle.std.specs.Prelude.{◌≡◌, ◌<◌, ◌++◌, length, Result, IfOk, OnOk};
 ghost use Rattle.alma_code.specs.Plain as code;
 ghost use Rattle.alma_ir.specs.Tree.{routine_at};
-ghost use Rattle.alma_implements.specs.Templates.{NamesKinds};
+ghost use Rattle.alma_templates.specs.Runs.{NamesKinds};
 ghost use Rattle.alma_templates.specs.Slots.{routine_kinds};
 ghost use Rattle.alma_templates.specs.Templates.{routine_code};
 ghost use Rattle.alma_emit_parts.specs.Front.{around, front};

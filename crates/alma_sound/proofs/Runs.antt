@@ -13,8 +13,7 @@ use Rattle.alma_ir.specs.declared.program.ArgKind.TheVariants as kind
 use Rattle.alma_ir.specs.declared.program.Param.{Param}
 use Rattle.alma_ir.specs.Tree.{Program, Routine, routine_at}
 use Rattle.alma_ir.specs.Lines.{body_with_lines}
-use Rattle.alma_implements.specs.Templates.{NamesKinds}
-use Rattle.alma_implements.specs.Templates as implements
+use Rattle.alma_templates.specs.Runs.{NamesKinds, RunsDiffer}
 use Rattle.alma_templates.specs.Slots.{link_kinds, param_kinds, params_kinds, routine_kinds, stmts_slots}
 
 -- ---- kinds
@@ -39,7 +38,7 @@ kinds_differ a b h = by (same_kind a b) refl
     by false e = refl
     by true e = absurd (h (kind_is a b e))
 
-pub differ_is : (runs : List Run) → implements.RunsDiffer runs → runs_differ runs ≡ true
+pub differ_is : (runs : List Run) → RunsDiffer runs → runs_differ runs ≡ true
 differ_is [] h = refl
 differ_is (a ∷ []) h = refl
 differ_is (a ∷ (b ∷ rest)) h = and_from (not (same_kind a.kind b.kind)) (runs_differ (b ∷ rest)) (ap not (kinds_differ a.kind b.kind h.0)) (differ_is (b ∷ rest) h.1)
@@ -104,7 +103,7 @@ some_stretch (suc zero) k (x ∷ rest) lt = at_least k x rest
 some_stretch (suc (suc n)) k rest lt = omega (arith, some_stretch (suc n) k rest (omega arith))
 
 -- each run is a stretch
-runs_few : (low top : ℕ) (runs : List Run) → RunsRise low runs top → implements.RunsDiffer runs → length runs ≤ stretches (kinds_of low runs)
+runs_few : (low top : ℕ) (runs : List Run) → RunsRise low runs top → RunsDiffer runs → length runs ≤ stretches (kinds_of low runs)
 runs_few low top [] rise differ = omega arith
 runs_few low top (a ∷ []) rise differ = some_stretch (a.end - low) a.kind [] (omega (arith, rise.0))
 runs_few low top (a ∷ (b ∷ rest)) rise differ =

@@ -15,7 +15,7 @@ use Rattle.alma_code.specs.Records.{same_kind}
 use Rattle.alma_ir.specs.Tree.{Program, routine_at, no_routine, Assign, ForTo, SomeOf, Read, WriteText, a_loop, Bind, Unify, Chr, ByValue, MixValue, Index}
 use Rattle.alma_ir.specs.Phrases.{Phrase, StmtPhrase, TestPhrase, ExprPhrase, ArgPhrase, SelPhrase, stmts_phrases}
 use Rattle.alma_ir.specs.Checked.{ranges_of}
-use Rattle.alma_implements.specs.Templates.{NamesKinds, RunsDiffer}
+use Rattle.alma_templates.specs.Runs.{NamesKinds, RunsDiffer}
 use Rattle.alma_templates.specs.Tables.{Tables, same_range, same_text, counted, first_place}
 use Rattle.alma_templates.specs.Slots.{routine_kinds}
 use Rattle.alma_templates.specs.Templates.{char_range}

@@ -6,7 +6,7 @@ use Rattle.alma_code.specs.Plain.{PlainCode, PlainRoutine, head_at, start_at, en
 use Rattle.alma_code.specs.Plain as plain
 use Rattle.alma_ir.specs.Tree.{Program, routine_at}
 use Rattle.alma_ir.specs.Checked.{IsChecked}
-use Rattle.alma_implements.specs.Templates.{NamesKinds}
+use Rattle.alma_templates.specs.Runs.{NamesKinds}
 use Rattle.alma_templates.specs.Lined.{Lined}
 use Rattle.alma_templates.specs.Tables.{Tables}
 use Rattle.alma_templates.specs.Slots.{routine_kinds}

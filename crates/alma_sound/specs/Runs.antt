@@ -2,7 +2,7 @@
 use Rattle.std.specs.Prelude.{◌<◌, ℕ, length}
 use Rattle.alma_code.specs.Plain.{PlainCode, head_at}
 use Rattle.alma_ir.specs.Tree.{Program}
-use Rattle.alma_implements.specs.Templates.{NamesKinds}
+use Rattle.alma_templates.specs.Runs.{NamesKinds}
 use Rattle.alma_templates.specs.Slots.{routine_kinds}
 
 -- the runs of each routine name the kinds of its slots, and each is as long as it can be

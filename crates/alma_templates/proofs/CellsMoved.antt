@@ -14,7 +14,7 @@ use Rattle.alma_mean.specs.Store as store
 use Rattle.alma_implements.proofs.Frames.{shift_in, own_end, SameContent, StandFor, Fits}
 use Rattle.alma_implements.proofs.CarryMaps.{same_place_is, same_itself}
 use Rattle.alma_implements.proofs.Carrying.{Alike, SameOption, kind_in, kind_number, laid_fits}
-use Rattle.alma_implements.proofs.StmtRows.{put_routine}
+use Rattle.alma_implements.proofs.FrameLemmas.{put_routine}
 use Rattle.alma_templates.proofs.Parts.{Begins, Left, put_position, sound_of}
 
 -- two places that differ

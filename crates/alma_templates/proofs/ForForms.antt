@@ -26,9 +26,8 @@ use Rattle.alma_implements.proofs.Frames.{shift, shift_in, own_end, Fits}
 use Rattle.alma_implements.proofs.ChoiceSteps.{jumps}
 use Rattle.alma_implements.proofs.ExprRows.{AreVariables}
 use Rattle.alma_implements.proofs.ForSteps.{SlotThere, a_number, not_known, slot_there, slot_within, slot_has_kind, number_there, fits_top, top_put, count_integer, no_counter, no_limit, loop_ends, next_count, move_step}
-use Rattle.alma_implements.proofs.StmtRows.{put_routine}
 use Rattle.alma_implements.proofs.Steps.{top_written, Holds, InstrAt, store_step}
-use Rattle.alma_implements.proofs.FrameLemmas.{content_there}
+use Rattle.alma_implements.proofs.FrameLemmas.{content_there, put_routine}
 use Rattle.alma_implements.proofs.Ways.{Ways, Leaves, Runs, Later}
 use Rattle.alma_templates.specs.Lined.{Lined, own}
 use Rattle.alma_templates.specs.Tables.{Tables, range_number, is_whole}

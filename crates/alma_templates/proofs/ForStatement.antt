@@ -9,7 +9,7 @@ use Rattle.alma_code.specs.declared.cell.Cell.TheVariants as cell
 use Rattle.alma_code.specs.declared.cell.SlotKind.{SlotKind}
 use Rattle.alma_code.specs.declared.cell.SlotKind.TheVariants as slot
 use Rattle.alma_code.specs.declared.instr.Instr.TheVariants as I
-use Rattle.alma_code.specs.Picture.{PlainFrame}
+use Rattle.alma_code.specs.Picture.{PlainFrame, PlainEntry}
 use Rattle.alma_code.specs.Plain.{PlainCode, kinds_at}
 use Rattle.alma_code.specs.Machine.{State}
 use Rattle.alma_ir.specs.Tree.{Program, Desig, Expr, Stmts, ForTo, a_loop}
@@ -18,12 +18,11 @@ use Rattle.alma_mean.specs.Store.{Store, Place, Number, put_top, top, top_cell}
 use Rattle.alma_mean.specs.Events.{Events, NoYield, one, bind, node}
 use Rattle.alma_mean.specs.Rows.{begin_loop, read_cell, set_variable, next_turn}
 use Rattle.alma_mean.specs.Meaning.{Level, ev_stmts, ev_expr, ev_desig, turn_for}
-use Rattle.alma_implements.specs.Operators as operators
 use Rattle.alma_implements.proofs.Goes.{Silently, Goes, before, weaker, and_then, one_goes}
 use Rattle.alma_implements.proofs.Frames.{shift, own_end, HasSlots, IsAt}
 use Rattle.alma_implements.proofs.ExprRows.{AreVariables, first_kind, slots_first, slots_behind}
-use Rattle.alma_implements.proofs.ForSteps.{entered, entered_is, entry_step, slot_within, top_put, top_put_other}
-use Rattle.alma_implements.proofs.Steps.{top_written, Holds, InstrAt, const_step, zero_jumps, other_goes_on}
+use Rattle.alma_implements.proofs.ForSteps.{entered, entered_is, slot_within, top_put, top_put_other}
+use Rattle.alma_implements.proofs.Steps.{top_written, Holds, HasKind, InstrAt, Writes, const_step, less_eq_step, zero_jumps, other_goes_on}
 use Rattle.alma_implements.proofs.Ways.{Leaves, Later, visited_later}
 use Rattle.alma_templates.specs.Lined.{Lined, own}
 use Rattle.alma_templates.specs.Tables.{Tables}
@@ -39,9 +38,11 @@ use Rattle.alma_templates.specs.Templates.{set_code, stmt_code, stmts_code, expr
 use Rattle.alma_templates.proofs.Parts.{RunsFor, Begins, begins, Left, left_self, left_on, left_less, left_temp, has_kind, holds_temp, holds_after, value_after, IsValue, ValueIn, From, ending, from_more, from_ending, on_later, then_ending, as_runs, node_runs}
 use Rattle.alma_templates.proofs.ForForms.{CountsOn, set_step, for_turn_of}
 
-same_entry : (by : ℤ) (from to : ℕ) → entry_code by from to ≡ operators.entry_code by from to
-same_entry (pos n) from to = refl
-same_entry (negsuc n) from to = refl
+-- whether there is a turn: the first count gives way to 0 where it is beyond the limit
+entry_step : (code : PlainCode) (input : List ℕ) (line at : ℕ) (now : List PlainFrame) (held : List PlainEntry) (s : State) → IsAt at now held s → (by : ℤ) (from to : ℕ) (x y : ℤ)
+    → InstrAt code input line at (entry_code by from to) → HasKind now from slot.Number → Holds now from (cell.Int x) → Holds now to (cell.Int y) → Writes code input at now held s from (cell.Int (entered by x y))
+entry_step code input line at now held s h (pos step) from to x y i kind hx hy = less_eq_step code input line at now held s h from from to x y i kind hx hy
+entry_step code input line at now held s h (negsuc step) from to x y i kind hx hy = less_eq_step code input line at now held s h from to from y x i kind hy hx
 
 module _ (p : Program) (tables : Tables) (code : PlainCode) (input : List ℕ) (below : Level) (r line q : ℕ) (may : Bool) where
   -- behind both bounds: they are stored, and a loop that has a turn begins
@@ -71,7 +72,7 @@ module _ (p : Program) (tables : Tables) (code : PlainCode) (input : List ℕ) (
       let first2 = value_after p code input (last + 1) r (lo + 1) n v1 v2 t1 t2 b1 (omega (arith, behind)) (omega (arith, above)) s2.2 first1 in
       let last2 = value_after p code input (last + 1) r last l v1 v2 t1 t2 b1 (omega (arith, behind, above)) (omega arith) s2.2 last1 in
       let step2 = holds_after p code input (last + 1) r lo (cell.Int by) v1 v2 t1 t2 b1 behind (omega (arith, above)) s2.2 step1 in
-      let w3 = entry_step code input line (at + 1 + 1) t2 held g2.to g2.is by (lo + 1) last n l (subst (InstrAt code input line (at + 1 + 1)) (same_entry by (lo + 1) last) entry) (has_kind p code input r (lo + 1) v2 t2 slot.Number kind b2) first2.holds last2.holds in
+      let w3 = entry_step code input line (at + 1 + 1) t2 held g2.to g2.is by (lo + 1) last n l entry (has_kind p code input r (lo + 1) v2 t2 slot.Number kind b2) first2.holds last2.holds in
       let t3 : List PlainFrame = top_written t2 (lo + 1) (cell.Int (entered by n l)) in
       let left3 : Left p code input (lo + 1) r t2 v2 t3 = left_temp p code input (lo + 1) r (lo + 1) v2 t2 (cell.Int (entered by n l)) (omega arith) (omega (arith, behind)) b2 in
       let b3 = begins p code input (lo + 1) r t2 v2 t3 left3 in

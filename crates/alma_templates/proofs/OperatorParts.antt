@@ -23,7 +23,7 @@ use Rattle.alma_mean.specs.Events.{Events, one, bind}
 use Rattle.alma_mean.specs.Arithmetic.{apply_op, apply_sign, check_integer, fault_unless, compares}
 use Rattle.alma_implements.proofs.Frames.{own_end, IsAt}
 use Rattle.alma_implements.proofs.Steps.{Holds, HasKind, InstrAt, passed, does, number_is, here_too, flip_step, equal_step, less_step, less_eq_step, fits_step, overflow_step, neg_does, add_does, sub_does, mul_does, div_does, mod_does, faults_now}
-use Rattle.alma_implements.proofs.OperatorRows.{bit_integer, zero_bit, rest_integer, nonzero}
+use Rattle.alma_implements.proofs.Numbers.{bit_integer, zero_bit, rest_integer, nonzero}
 use Rattle.alma_implements.proofs.BareRow.{ReadsFirst}
 use Rattle.alma_templates.specs.Lined.{own}
 use Rattle.alma_templates.specs.Pieces.{op_code, cmp_code, neg_code}

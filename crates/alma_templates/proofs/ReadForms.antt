@@ -36,11 +36,10 @@ use Rattle.alma_mean.specs.Rows.{nat_in, set_position, store_number, store_byte,
 use Rattle.alma_mean.specs.Meaning.{Level, ev_stmt, ev_expr, ev_desig}
 use Rattle.alma_base.specs.Limits.{input_limit}
 use Rattle.alma_implements.proofs.Frames.{shift, shift_in, own_end, IsAt, SameContent, SameFrame}
-use Rattle.alma_implements.proofs.FrameLemmas.{content_there, numbers_kept, place_kept}
+use Rattle.alma_implements.proofs.FrameLemmas.{content_there, numbers_kept, place_kept, put_routine}
 use Rattle.alma_implements.proofs.Carrying.{kind_in}
 use Rattle.alma_implements.proofs.LaidOver.{put_here}
 use Rattle.alma_implements.proofs.Steps.{InstrAt, passed, does, went_on, place_is, faults_now, here_too}
-use Rattle.alma_implements.proofs.StmtRows.{put_routine}
 use Rattle.alma_templates.specs.Lined.{Lined, own}
 use Rattle.alma_templates.specs.Tables.{Tables, range_number}
 use Rattle.alma_templates.specs.Pieces.{read_code}

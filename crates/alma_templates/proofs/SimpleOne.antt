@@ -11,8 +11,7 @@ use Rattle.alma_mean.specs.Events.{one}
 use Rattle.alma_mean.specs.Arithmetic.{fault_unless}
 use Rattle.alma_mean.specs.Rows.{place_held, root_place}
 use Rattle.alma_mean.specs.Meaning.{Level, ev_expr, ev_links, ev_desig, ev_sels, ev_sel}
-use Rattle.alma_implements.proofs.StmtRows.{GivesOne, on_visit, on_one, at_fault}
-use Rattle.alma_implements.proofs.Simple.{one_bound, one_noded, one_op, one_sign, one_read}
+use Rattle.alma_implements.proofs.Simple.{GivesOne, on_visit, on_one, at_fault, one_bound, one_noded, one_op, one_sign, one_read}
 use Rattle.alma_templates.specs.Slots.{is_simple_expr, are_simple_links, is_simple_desig, are_simple_sels, is_simple_sel}
 
 one_checked : {A : Type 0} (v : Store) (f : RunFault) (b : Bool) (y : A) → GivesOne A v (fault_unless f b (λ _. one v y))

@@ -23,7 +23,7 @@ use Rattle.alma_implements.proofs.ExprRows.{AreVariables, first_kind, slots_firs
 use Rattle.alma_implements.proofs.ForSteps.{slot_within, slot_has_kind, number_there, fits_top, count_integer, top_put, top_put_other}
 use Rattle.alma_implements.proofs.SomeRow.{HoldsTurn, some_row, beyond_by_one}
 use Rattle.alma_implements.proofs.Steps.{top_written, Holds, InstrAt, fail_step}
-use Rattle.alma_implements.proofs.StmtRows.{put_routine}
+use Rattle.alma_implements.proofs.FrameLemmas.{put_routine}
 use Rattle.alma_implements.proofs.Ways.{Ways, Leaves, Runs, Later, visited_later, then_up_to, leaves_by, leads_by_jump}
 use Rattle.alma_templates.specs.Lined.{Lined, own}
 use Rattle.alma_templates.specs.Tables.{Tables}

@@ -18,12 +18,11 @@ use Rattle.alma_mean.specs.Events.{Events, Fail, join, bind}
 use Rattle.alma_mean.specs.Meaning.{Level, ev_desig, ev_expr}
 use Rattle.alma_implements.proofs.Goes.{weaker}
 use Rattle.alma_implements.proofs.Frames.{shift, shift_in, own_end, Fits}
-use Rattle.alma_implements.proofs.FrameLemmas.{put_is, fits_put, content_there}
+use Rattle.alma_implements.proofs.FrameLemmas.{put_is, fits_put, content_there, put_routine}
 use Rattle.alma_implements.proofs.BareRow.{ReadsFirst}
 use Rattle.alma_implements.proofs.ExprRows.{AreVariables}
 use Rattle.alma_implements.proofs.ForSteps.{slot_within, slot_has_kind, fits_top, move_step}
 use Rattle.alma_implements.proofs.Steps.{top_written, InstrAt, passed, does, place_is, store_step}
-use Rattle.alma_implements.proofs.StmtRows.{put_routine}
 use Rattle.alma_implements.proofs.Ways.{Leaves}
 use Rattle.alma_templates.specs.Tables.{Tables}
 use Rattle.alma_templates.specs.Slots.{bare, bare_desig, unless_bare, expr_slots, desig_slots, sels_slots, root_slots, behind_value}

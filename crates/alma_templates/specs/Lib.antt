@@ -1,6 +1,7 @@
 pub mod Lined
 pub mod Tables
 pub mod Slots
+pub mod Runs
 pub mod Pieces
 pub mod Templates
 pub mod Compiled

@@ -1,11 +1,11 @@
-use Rattle.std.proofs.Common.{rules, ◌≡◌, ◌<◌, [], ◌∷◌, ◌++◌, take, length, sym, ap, ◌∙◌, subst, arith, get_or, refl, length-append}
+use Rattle.std.proofs.Common.{rules, ◌≡◌, ◌<◌, [], ◌∷◌, take, length, sym, ap, ◌∙◌, subst, arith, get_or, refl, length-append}
 use Rattle.std.proofs.Math.Seq.{take-length}
 use Rattle.alma_code.specs.declared.cell.SlotKind.TheVariants as slot
-use Rattle.std.specs.Prelude.{Vec, List}
+use Rattle.std.specs.Prelude.{Vec}
 use Rattle.std.specs.declared.alloc.Global.{Global}
 use Rattle.alma_code.specs.declared.head.Run.{Run}
-use Rattle.alma_implements.specs.Templates.{NamesKinds}
-use Rattle.alma_heads.proofs.RunLemmas.{Opens, opens_start, opens_same, opens_other, opens_closed, none_named, moved, front_one}
+use Rattle.alma_templates.specs.Runs.{NamesKinds}
+use Rattle.alma_heads.proofs.RunLemmas.{Opens, opens_start, opens_same, opens_other, opens_closed, moved, front_one}
 use Rattle.alma_heads.proofs.kinds.runs_of.Goals.{then-is_same, else-is_same+in_ok-push}
 use Rattle.alma_heads.proofs.kinds.runs_of.Goals as goal
 
