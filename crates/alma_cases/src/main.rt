@@ -10,13 +10,14 @@ use call::status_past_limit;
 use case::Case;
 use std::alloc::Global;
 
-const NAMES: [&str; 6] = [
+const NAMES: [&str; 7] = [
     "check.jsonl",
     "run.jsonl",
     "faults.jsonl",
     "words.jsonl",
     "objects.jsonl",
     "final-exec.jsonl",
+    "edges.jsonl",
 ];
 
 // The most bytes of a file of cases.
