@@ -10,7 +10,7 @@ use call::status_past_limit;
 use case::Case;
 use std::alloc::Global;
 
-const NAMES: [&str; 9] = [
+const NAMES: [&str; 10] = [
     "check.jsonl",
     "run.jsonl",
     "stats.jsonl",
@@ -20,6 +20,7 @@ const NAMES: [&str; 9] = [
     "objects.jsonl",
     "final-exec.jsonl",
     "devices.jsonl",
+    "edges.jsonl",
 ];
 
 // The most bytes of a file of cases.
