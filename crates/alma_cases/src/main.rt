@@ -10,7 +10,7 @@ use call::status_past_limit;
 use case::Case;
 use std::alloc::Global;
 
-const NAMES: [&str; 10] = [
+const NAMES: [&str; 11] = [
     "check.jsonl",
     "run.jsonl",
     "stats.jsonl",
@@ -21,6 +21,7 @@ const NAMES: [&str; 10] = [
     "final-exec.jsonl",
     "devices.jsonl",
     "edges.jsonl",
+    "choices.jsonl",
 ];
 
 // The most bytes of a file of cases.
