@@ -1,4 +1,5 @@
-//! What public calls answer, and what is printed. Tests alone, of the text: values, the outside, tokens, trees, names.
+//! What public calls answer, and what is printed. Tests alone, of the text: values, the outside, tokens, trees, names,
+//! samples.
 #![tactic(auto)]
 
 #[cfg(test)]
@@ -7,6 +8,8 @@ mod base;
 mod io;
 #[cfg(test)]
 mod names;
+#[cfg(test)]
+mod sample;
 #[cfg(test)]
 mod scan;
 #[cfg(test)]
