@@ -10,11 +10,12 @@ use call::status_past_limit;
 use case::Case;
 use std::alloc::Global;
 
-const NAMES: [&str; 6] = [
+const NAMES: [&str; 7] = [
     "check.jsonl",
     "run.jsonl",
     "faults.jsonl",
     "words.jsonl",
+    "trace.jsonl",
     "objects.jsonl",
     "final-exec.jsonl",
 ];
