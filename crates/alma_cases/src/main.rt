@@ -10,12 +10,13 @@ use call::status_past_limit;
 use case::Case;
 use std::alloc::Global;
 
-const NAMES: [&str; 7] = [
+const NAMES: [&str; 8] = [
     "check.jsonl",
     "run.jsonl",
     "faults.jsonl",
     "words.jsonl",
     "trace.jsonl",
+    "tutorial.jsonl",
     "objects.jsonl",
     "final-exec.jsonl",
 ];
