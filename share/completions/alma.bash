@@ -8,12 +8,13 @@ _alma() {
   local word=${COMP_WORDS[COMP_CWORD]}
   COMPREPLY=()
   if [ "$COMP_CWORD" -eq 1 ]; then
-    mapfile -t COMPREPLY < <(compgen -W "check run compile list exec help --help --version" -- "$word")
+    mapfile -t COMPREPLY < <(compgen -W "check run trace compile list exec sample help --help --version" -- "$word")
     return
   fi
   case ${COMP_WORDS[1]},$COMP_CWORD in
-  check,2 | run,2 | compile,2) mapfile -t COMPREPLY < <(compgen -o plusdirs -f -X '!*.al' -- "$word") ;;
+  check,2 | run,2 | trace,2 | compile,2) mapfile -t COMPREPLY < <(compgen -o plusdirs -f -X '!*.al' -- "$word") ;;
   run,[34] | exec,[34]) mapfile -t COMPREPLY < <(compgen -W "--steps= --stats" -- "$word") && compopt -o nospace ;;
+  trace,[1-9]*) mapfile -t COMPREPLY < <(compgen -W "--steps= --watch=" -- "$word") && compopt -o nospace ;;
   help,2) mapfile -t COMPREPLY < <(compgen -W "$(_alma_faults)" -- "$word") ;;
   compile,3 | list,2 | exec,2) mapfile -t COMPREPLY < <(compgen -f -- "$word") ;;
   esac

@@ -10,13 +10,14 @@ use call::status_past_limit;
 use case::Case;
 use std::alloc::Global;
 
-const NAMES: [&str; 11] = [
+const NAMES: [&str; 12] = [
     "check.jsonl",
     "run.jsonl",
     "stats.jsonl",
     "trace.jsonl",
     "faults.jsonl",
     "words.jsonl",
+    "tutorial.jsonl",
     "objects.jsonl",
     "final-exec.jsonl",
     "devices.jsonl",

@@ -14,24 +14,25 @@ use Rattle.alma_implements.specs.Implements.{state_after, line_in}
 use Rattle.alma_words.specs.Words.{Request, Check, Compile, Listing, Run, Exec, Trace, Sample, Asks, file_of}
 use Rattle.alma_words.proofs.WordLemmas.{one_request}
 use Rattle.alma_code.specs.declared.step.End.TheVariants as code_end
-use Rattle.alma_driver.specs.Words.{is_built, read_by, limit_of}
+use Rattle.alma_driver.specs.Words.{read_by, limit_of}
+use Rattle.alma_driver.specs.Showing.{Showing, Prints, Traces, counts_shown}
 use Rattle.alma_driver.specs.Outside.{SinkSide, SourceSide, FilesSide, FilesStay, Outside}
 use Rattle.alma_driver.specs.declared.end.Counts.{Counts}
 use Rattle.alma_driver.specs.Ends.{mode_end, counts_in, status_of, text_of}
-use Rattle.alma_driver.specs.Outcome.{Due, Stored, InputOutcome, unread, taken, past_input, ProgramOutcome, ran, too_much_code, CompileOutcome, made, past_size, IsSourceEnd, refused, SourceOutcome, stopped, compiled, CheckOutcome, ListOutcome, listed, no_object, CodeOutcome, executed, unsound, ExecOutcome, opened, unopened, FileOutcome, RequestOutcome, absent, past_limit, fetched, Outcome, bad_word, unbuilt, asks, Lacks}
+use Rattle.alma_driver.specs.Outcome.{Due, Stored, InputOutcome, unread, taken, past_input, ProgramOutcome, ran, too_much_code, CompileOutcome, made, past_size, IsSourceEnd, refused, SourceOutcome, stopped, compiled, CheckOutcome, ListOutcome, listed, no_object, CodeOutcome, executed, unsound, ExecOutcome, opened, unopened, SampleOutcome, summed, FileOutcome, RequestOutcome, absent, past_limit, fetched, unfetched, Outcome, bad_word, asks, Lacks}
 use Rattle.alma_driver.specs.Course.{Gains, FailsWithin, GainsPrefix, Goes, OthersStay, FailsToStore, Keeps, Stores, done, failed, Works, Takes, Moves, MayRead, ReadsOnly, FailsToRead, Serves, FailsToFetch, Performs, Reports, Answers}
 use Rattle.alma_driver.specs.Causes.{Causes, WriteFailed, WritesGrew, ReadFailed, ReadsGrew, Become, IsStoredName}
 use Rattle.alma_driver.specs.declared.end.End.{End}
 use Rattle.alma_driver.specs.declared.end.End.TheVariants.{Succeeded, Failed, BadWord, Refused, Faulted, StepsOut, ReadFault, WriteFault, Memory, BadObject, BadCode, TooLong, TooMuchCode}
-use Rattle.alma_driver.proofs.DriverLemmas.{check_keeps, run_keeps, list_keeps, exec_keeps}
+use Rattle.alma_driver.proofs.DriverLemmas.{check_keeps, run_keeps, list_keeps, exec_keeps, sample_keeps}
 
 -- the ways in which out may go, by the end that the call comes to
-data Way (P : Due → Type 0) (a b : SinkSide) (end : End) : Type 0 where
+pub data Way (P : Due → Type 0) (a b : SinkSide) (end : End) : Type 0 where
   broken : end ≡ WriteFault → (due : Due) → P due → FailsWithin a b due.out → Way P a b end
   starved : end ≡ Memory → GainsPrefix P a b → b.faults ≡ a.faults → Way P a b end
   ended : (status_of end ≡ 7 → ⊥) → (status_of end ≡ 8 → ⊥) → (due : Due) → due.end ≡ end → P due → Gains a b due.out → Way P a b end
 
-way_of : (P : Due → Type 0) (a b : SinkSide) (end : End) → Goes P a b end → Way P a b end
+pub way_of : (P : Due → Type 0) (a b : SinkSide) (end : End) → Goes P a b end → Way P a b end
 way_of P a b WriteFault g = broken refl g.0 g.1 g.2
 way_of P a b Memory g = starved refl g.0 g.1
 way_of P a b (Succeeded counts) g = ended (λ e. absurd (omega (arith, e))) (λ e. absurd (omega (arith, e))) g.0 g.1 g.2 g.3
@@ -78,21 +79,21 @@ run_reads Failing line counts e = cc e
 run_reads Stuck line counts e = cc e
 
 -- so much of code on an input
-code_due_reads : (code : PlainCode) (input : List ℕ) (steps : ℕ) (stats : Bool) (due : Due)
-    → due.end ≡ mode_end (state_after code input steps).mode (line_in code (state_after code input steps)) (counts_in stats (state_after code input steps))
+code_due_reads : (code : PlainCode) (input : List ℕ) (steps : ℕ) (showing : Showing) (due : Due)
+    → due.end ≡ mode_end (state_after code input steps).mode (line_in code (state_after code input steps)) (counts_in (counts_shown showing) (state_after code input steps))
     → due.end ≡ ReadFault → ⊥
-code_due_reads code input steps stats due e q =
+code_due_reads code input steps showing due e q =
     let s = state_after code input steps in
-    run_reads s.mode (line_in code s) (counts_in stats s) (sym e ∙ q)
+    run_reads s.mode (line_in code s) (counts_in (counts_shown showing) s) (sym e ∙ q)
 
-input_reads : (left : Option (List ℕ)) (code : PlainCode) (steps : ℕ) (stats : Bool) (due : Due) → InputOutcome left code steps stats due → due.end ≡ ReadFault → ⊥
-input_reads left code steps stats due (unread quiet e) q = code_due_reads code [] steps stats due (ap (λ (d : Due). d.end) e) q
-input_reads left code steps stats due (taken input some is short e) q = code_due_reads code input steps stats due (ap (λ (d : Due). d.end) e) q
-input_reads left code steps stats due (past_input some more e) q = cc (sym (ap (λ (d : Due). d.end) e) ∙ q)
+input_reads : (left : Option (List ℕ)) (code : PlainCode) (steps : ℕ) (showing : Showing) (due : Due) → InputOutcome left code steps showing due → due.end ≡ ReadFault → ⊥
+input_reads left code steps showing due (unread quiet e) q = code_due_reads code [] steps showing due (ap (λ (d : Due). d.end) e) q
+input_reads left code steps showing due (taken input some is short e) q = code_due_reads code input steps showing due (ap (λ (d : Due). d.end) e) q
+input_reads left code steps showing due (past_input some more e) q = cc (sym (ap (λ (d : Due). d.end) e) ∙ q)
 
-program_reads : (left : Option (List ℕ)) (p : Program) (steps : ℕ) (stats : Bool) (due : Due) → ProgramOutcome left p steps stats due → due.end ≡ ReadFault → ⊥
-program_reads left p steps stats due (ran code size sound implements reads o) q = input_reads left code steps stats due o q
-program_reads left p steps stats due (too_much_code size e) q = cc (sym (ap (λ (d : Due). d.end) e) ∙ q)
+program_reads : (left : Option (List ℕ)) (p : Program) (steps : ℕ) (showing : Showing) (due : Due) → ProgramOutcome left p steps showing due → due.end ≡ ReadFault → ⊥
+program_reads left p steps showing due (ran code size sound implements reads o) q = input_reads left code steps showing due o q
+program_reads left p steps showing due (too_much_code size e) q = cc (sym (ap (λ (d : Due). d.end) e) ∙ q)
 
 compile_reads : (p : Program) (object : List ℕ) (due : Due) → CompileOutcome p object due → due.end ≡ ReadFault → ⊥
 compile_reads p object due (made code bytes size sound implements reads is e) q = cc (sym (ap (λ (d : Due). d.end) e) ∙ q)
@@ -111,35 +112,39 @@ list_reads bytes due (listed clean is e) q = cc (sym (ap (λ (d : Due). d.end) e
 list_reads bytes due (no_object fault is e) q = cc (sym (ap (λ (d : Due). d.end) e) ∙ q)
 
 code_reads : (left : Option (List ℕ)) (code : PlainCode) (steps : ℕ) (stats : Bool) (due : Due) → CodeOutcome left code steps stats due → due.end ≡ ReadFault → ⊥
-code_reads left code steps stats due (executed c o) q = input_reads left code steps stats due o q
+code_reads left code steps stats due (executed c o) q = input_reads left code steps (Prints stats) due o q
 code_reads left code steps stats due (unsound fault c e) q = cc (sym (ap (λ (d : Due). d.end) e) ∙ q)
 
 exec_reads : (left : Option (List ℕ)) (bytes : List ℕ) (steps : ℕ) (stats : Bool) (due : Due) → ExecOutcome left bytes steps stats due → due.end ≡ ReadFault → ⊥
 exec_reads left bytes steps stats due (opened c o) q = code_reads left (object_code bytes) steps stats due o q
 exec_reads left bytes steps stats due (unopened fault c e) q = cc (sym (ap (λ (d : Due). d.end) e) ∙ q)
 
+sample_reads : (lines : ℕ) (due : Due) → SampleOutcome lines due → due.end ≡ ReadFault → ⊥
+sample_reads lines due (summed printed status o e) q = cc (sym (ap (λ (d : Due). d.end) e) ∙ q)
+
 file_reads : (left : Option (List ℕ)) (r : Request) (bytes : List ℕ) (due : Due) → FileOutcome left r bytes due → due.end ≡ ReadFault → ⊥
 file_reads left (Check name) bytes due o q = source_reads bytes CheckOutcome (λ p due e r. cc (sym (ap (λ (d : Due). d.end) e) ∙ r)) due o q
 file_reads left (Compile name object) bytes due o q = source_reads bytes (λ p. CompileOutcome p object) (λ p. compile_reads p object) due o q
 file_reads left (Listing object) bytes due o q = list_reads bytes due o q
 file_reads left (Run name steps stats) bytes due o q =
-    source_reads bytes (λ p. ProgramOutcome left p steps stats) (λ p. program_reads left p steps stats) due o q
+    source_reads bytes (λ p. ProgramOutcome left p steps (Prints stats)) (λ p. program_reads left p steps (Prints stats)) due o q
 file_reads left (Exec object steps stats) bytes due o q = exec_reads left bytes steps stats due o q
-file_reads left (Trace name steps watch) bytes due o q = o
-file_reads left (Sample lines) bytes due o q = o
+file_reads left (Trace name steps watch) bytes due o q =
+    source_reads bytes (λ p. ProgramOutcome left p steps (Traces watch)) (λ p. program_reads left p steps (Traces watch)) due o q
+file_reads left (Sample lines) bytes due o q = sample_reads lines due o q
 
 -- a read fault is due only where the file is missing, and without a print or a store
-request_reads : (told : List ℕ → Told) (left : Option (List ℕ)) (words : List (List ℕ)) (r : Request) (due : Due) → Asks words r → is_built r ≡ true
+request_reads : (told : List ℕ → Told) (left : Option (List ℕ)) (words : List (List ℕ)) (r : Request) (due : Due) → Asks words r
     → RequestOutcome told left r due → due.end ≡ ReadFault → Lacks words told × (due.out ≡ []) × (due.stored ≡ None)
-request_reads told left words r due h built (absent none e) q = ((r, h, built, none), ap (λ (d : Due). d.out) e, ap (λ (d : Due). d.stored) e)
-request_reads told left words r due h built (past_limit past e) q = cc (sym (ap (λ (d : Due). d.end) e) ∙ q)
-request_reads told left words r due h built (fetched bytes has short o) q = absurd (file_reads left r bytes due o q)
+request_reads told left words r due h (absent name is none e) q = ((r, name, h, is, none), ap (λ (d : Due). d.out) e, ap (λ (d : Due). d.stored) e)
+request_reads told left words r due h (past_limit name is past e) q = cc (sym (ap (λ (d : Due). d.end) e) ∙ q)
+request_reads told left words r due h (fetched name bytes is has short o) q = absurd (file_reads left r bytes due o q)
+request_reads told left words r due h (unfetched is o) q = absurd (file_reads left r [] due o q)
 
 outcome_reads : (told : List ℕ → Told) (left : Option (List ℕ)) (words : List (List ℕ)) (due : Due) → Outcome words told left due → due.end ≡ ReadFault
     → Lacks words told × (due.out ≡ []) × (due.stored ≡ None)
 outcome_reads told left words due (bad_word k h e) q = cc (sym (ap (λ (d : Due). d.end) e) ∙ q)
-outcome_reads told left words due (unbuilt r h none e) q = cc (sym (ap (λ (d : Due). d.end) e) ∙ q)
-outcome_reads told left words due (asks r h built o) q = request_reads told left words r due h built o q
+outcome_reads told left words due (asks r h o) q = request_reads told left words r due h o q
 
 -- what is due stores nothing, and so not this
 not_stored : (due : Due) (stored : Stored) → due.stored ≡ None → due.stored ≡ Some stored → ⊥
@@ -160,39 +165,41 @@ file_succeeds : (left : Option (List ℕ)) (r : Request) (bytes : List ℕ) (due
 file_succeeds left (Check name) bytes due stored o s = absurd (not_stored due stored (check_keeps bytes due o) s)
 file_succeeds left (Compile name object) bytes due stored o s = source_succeeds bytes object due stored o s
 file_succeeds left (Listing object) bytes due stored o s = absurd (not_stored due stored (list_keeps bytes due o) s)
-file_succeeds left (Run name steps stats) bytes due stored o s = absurd (not_stored due stored (run_keeps left bytes steps stats due o) s)
+file_succeeds left (Run name steps stats) bytes due stored o s = absurd (not_stored due stored (run_keeps left bytes steps (Prints stats) due o) s)
 file_succeeds left (Exec object steps stats) bytes due stored o s = absurd (not_stored due stored (exec_keeps left bytes steps stats due o) s)
-file_succeeds left (Trace name steps watch) bytes due stored o s = absurd o
-file_succeeds left (Sample lines) bytes due stored o s = absurd o
+file_succeeds left (Trace name steps watch) bytes due stored o s = absurd (not_stored due stored (run_keeps left bytes steps (Traces watch) due o) s)
+file_succeeds left (Sample lines) bytes due stored o s = absurd (not_stored due stored (sample_keeps lines due o) s)
 
 request_succeeds : (told : List ℕ → Told) (left : Option (List ℕ)) (r : Request) (due : Due) (stored : Stored) → RequestOutcome told left r due
     → due.stored ≡ Some stored → due.end ≡ Succeeded None
-request_succeeds told left r due stored (absent none e) s = absurd (not_stored due stored (ap (λ (d : Due). d.stored) e) s)
-request_succeeds told left r due stored (past_limit past e) s = absurd (not_stored due stored (ap (λ (d : Due). d.stored) e) s)
-request_succeeds told left r due stored (fetched bytes has short o) s = file_succeeds left r bytes due stored o s
+request_succeeds told left r due stored (absent name is none e) s = absurd (not_stored due stored (ap (λ (d : Due). d.stored) e) s)
+request_succeeds told left r due stored (past_limit name is past e) s = absurd (not_stored due stored (ap (λ (d : Due). d.stored) e) s)
+request_succeeds told left r due stored (fetched name bytes is has short o) s = file_succeeds left r bytes due stored o s
+request_succeeds told left r due stored (unfetched is o) s = file_succeeds left r [] due stored o s
 
 outcome_succeeds : (told : List ℕ → Told) (left : Option (List ℕ)) (words : List (List ℕ)) (due : Due) (stored : Stored) → Outcome words told left due
     → due.stored ≡ Some stored → due.end ≡ Succeeded None
 outcome_succeeds told left words due stored (bad_word k h e) s = absurd (not_stored due stored (ap (λ (d : Due). d.stored) e) s)
-outcome_succeeds told left words due stored (unbuilt r h none e) s = absurd (not_stored due stored (ap (λ (d : Due). d.stored) e) s)
-outcome_succeeds told left words due stored (asks r h built o) s = request_succeeds told left r due stored o s
+outcome_succeeds told left words due stored (asks r h o) s = request_succeeds told left r due stored o s
 
 -- where the file is missing a read fault is due
-request_absent : (told : List ℕ → Told) (left : Option (List ℕ)) (r : Request) (due : Due) → told (read_by r) ≡ Missing → RequestOutcome told left r due
-    → due.end ≡ ReadFault
-request_absent told left r due none (absent gone e) = ap (λ (d : Due). d.end) e
-request_absent told left r due none (past_limit past e) = absurd (subst (λ (t : Told). MayPass t (limit_of r)) none past)
-request_absent told left r due none (fetched bytes has short o) = absurd (subst (λ (t : Told). MayHave t bytes) none has)
+request_absent : (told : List ℕ → Told) (left : Option (List ℕ)) (r : Request) (name : List ℕ) (due : Due) → read_by r ≡ Some name → told name ≡ Missing
+    → RequestOutcome told left r due → due.end ≡ ReadFault
+request_absent told left r name due is none (absent other same gone e) = ap (λ (d : Due). d.end) e
+request_absent told left r name due is none (past_limit other same past e) =
+    let one : name ≡ other = cc (is, same) in
+    absurd (subst (λ (t : Told). MayPass t (limit_of r)) (sym (ap told one) ∙ none) past)
+request_absent told left r name due is none (fetched other bytes same has short o) =
+    let one : name ≡ other = cc (is, same) in
+    absurd (subst (λ (t : Told). MayHave t bytes) (sym (ap told one) ∙ none) has)
+request_absent told left r name due is none (unfetched same o) = cc (is, same)
 
 outcome_absent : (told : List ℕ → Told) (left : Option (List ℕ)) (words : List (List ℕ)) (due : Due) → Lacks words told → Outcome words told left due
     → due.end ≡ ReadFault
-outcome_absent told left words due l (bad_word k bad e) = absurd (bad.none l.0 l.1)
-outcome_absent told left words due l (unbuilt r k none e) =
-    let same : is_built r ≡ true = subst (λ (q : Request). is_built q ≡ true) (one_request words l.0 r l.1 k) l.2 in
-    cc (none, same)
-outcome_absent told left words due l (asks r k built o) =
-    let none : told (read_by r) ≡ Missing = subst (λ (q : Request). told (read_by q) ≡ Missing) (one_request words l.0 r l.1 k) l.3 in
-    request_absent told left r due none o
+outcome_absent told left words due l (bad_word k bad e) = absurd (bad.none l.0 l.2)
+outcome_absent told left words due l (asks r k o) =
+    let is : read_by r ≡ Some l.1 = subst (λ (q : Request). read_by q ≡ Some l.1) (one_request words l.0 r l.2 k) l.3 in
+    request_absent told left r l.1 due is l.4 o
 
 -- ---- the ways of a call
 

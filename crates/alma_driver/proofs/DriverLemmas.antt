@@ -42,14 +42,15 @@ use Rattle.std.specs.List.{list_any}
 use Rattle.alma_resolved_labels.proofs.Labels.{program_has_labels}
 use Rattle.alma_rules.specs.View.{view_module}
 use Rattle.alma_words.specs.Words.{Request, Check, Compile, Listing, Run, Exec, Trace, Sample, Asks, Reads}
-use Rattle.alma_driver.specs.Words.{is_built, read_by, limit_of}
+use Rattle.alma_driver.specs.Words.{read_by, limit_of}
+use Rattle.alma_driver.specs.Showing.{Showing, Prints}
 use Rattle.alma_driver.specs.Outside.{SinkSide, SourceSide, FilesSide, FilesStay}
 use Rattle.alma_base.specs.declared.place.Place.{Place}
 use Rattle.alma_scan.specs.Places.{line_at, column_at}
 use Rattle.alma_driver.specs.Refusal.{IsRefused, IsProgramOf, place_of}
 use Rattle.alma_driver.specs.declared.fault.SourceFault.{SourceFault}
 use Rattle.alma_driver.specs.Ends.{lower_end, words_end, fetch_end, store_end, input_end}
-use Rattle.alma_driver.specs.Outcome.{Due, Stored, due_of, silent, storing, has_read, code_due, long_input, MayBeLeft, InputOutcome, unread, taken, past_input, size_of, ProgramOutcome, ran, too_much_code, CompileOutcome, made, past_size, IsSourceEnd, refused, IsStop, SourceOutcome, stopped, compiled, CheckOutcome, ListOutcome, listed, no_object, CodeOutcome, executed, unsound, ExecOutcome, opened, unopened, FileOutcome, RequestOutcome, absent, past_limit, fetched, Outcome, bad_word, unbuilt, asks}
+use Rattle.alma_driver.specs.Outcome.{Due, Stored, due_of, silent, storing, has_read, code_due, long_input, MayBeLeft, InputOutcome, unread, taken, past_input, size_of, ProgramOutcome, ran, too_much_code, CompileOutcome, made, past_size, IsSourceEnd, refused, IsStop, SourceOutcome, stopped, compiled, CheckOutcome, ListOutcome, listed, no_object, CodeOutcome, executed, unsound, ExecOutcome, opened, unopened, FileOutcome, SampleOutcome, summed, RequestOutcome, absent, past_limit, fetched, unfetched, Outcome, bad_word, asks}
 use Rattle.alma_driver.specs.Course.{Gains, GainsPrefix, Goes, OthersStay, Keeps, done, failed, Works, Takes, Moves, MayRead, ReadsOnly, FailsToRead, Runs, Serves, Performs}
 use Rattle.alma_words.specs.declared.words.WordsError.{WordsError}
 use Rattle.alma_words.specs.declared.words.WordsError.TheVariants as words
@@ -118,12 +119,12 @@ runs_map P Q f i j a b end (inl h) = inl (fails_map P Q f i j a b end h)
 runs_map P Q f i j a b end (inr h) = inr (reads_map P Q f i j h.0, goes_map (Moves P i j) (Moves Q i j) (moves_map P Q f i j) a b end h.1)
 
 -- code that does not read was run
-pub runs_unread : (code : PlainCode) (steps : ℕ) (stats : Bool) (i : SourceSide) (a b : SinkSide) (end : End) → has_read code ≡ false
-    → Goes (IsDue code [] steps stats) a b end → Runs (InputOutcome i.left code steps stats) i i a b end
-runs_unread code steps stats i a b end quiet g =
+pub runs_unread : (code : PlainCode) (steps : ℕ) (showing : Showing) (i : SourceSide) (a b : SinkSide) (end : End) → has_read code ≡ false
+    → Goes (IsDue code [] steps showing) a b end → Runs (InputOutcome i.left code steps showing) i i a b end
+runs_unread code steps showing i a b end quiet g =
     inr (
       inl refl,
-      goes_map (IsDue code [] steps stats) (Moves (InputOutcome i.left code steps stats) i i)
+      goes_map (IsDue code [] steps showing) (Moves (InputOutcome i.left code steps showing) i i)
           (λ due e. (unread quiet e, takes_none due i (ap (λ (d : Due). d.reads) e ∙ quiet))) a b end g,
     )
 
@@ -134,24 +135,24 @@ was_left (Some xs) None bytes c e = absurd c
 was_left (Some xs) (Some ys) bytes c e = c ∙ ap (λ z. bytes ++ z) e ∙ append-nil bytes
 
 -- code that reads has an outcome that reads
-reading_due : (left : Option (List ℕ)) (code : PlainCode) (steps : ℕ) (stats : Bool) → has_read code ≡ true → MayRead (InputOutcome left code steps stats)
-reading_due None code steps stats q = (code_due code [] steps stats, taken [] q tt (omega arith) refl, q)
-reading_due (Some bytes) code steps stats q = by (cases_lt input_limit (length bytes))
+reading_due : (left : Option (List ℕ)) (code : PlainCode) (steps : ℕ) (showing : Showing) → has_read code ≡ true → MayRead (InputOutcome left code steps showing)
+reading_due None code steps showing q = (code_due code [] steps showing, taken [] q tt (omega arith) refl, q)
+reading_due (Some bytes) code steps showing q = by (cases_lt input_limit (length bytes))
   where
-    by : (input_limit < length bytes) ⊎ (length bytes ≤ input_limit) → MayRead (InputOutcome (Some bytes) code steps stats)
+    by : (input_limit < length bytes) ⊎ (length bytes ≤ input_limit) → MayRead (InputOutcome (Some bytes) code steps showing)
     by (inl past) = (long_input, past_input q past refl, refl)
-    by (inr short) = (code_due code bytes steps stats, taken bytes q refl short refl, q)
+    by (inr short) = (code_due code bytes steps showing, taken bytes q refl short refl, q)
 
 -- code that reads was run on all that was left
-pub runs_taken : (code : PlainCode) (steps : ℕ) (stats : Bool) (i j : SourceSide) (bytes : List ℕ) (a b : SinkSide) (end : End) → has_read code ≡ true
+pub runs_taken : (code : PlainCode) (steps : ℕ) (showing : Showing) (i j : SourceSide) (bytes : List ℕ) (a b : SinkSide) (end : End) → has_read code ≡ true
     → Consumes i.left j.left bytes → IsAtEnd j.left → length bytes ≤ input_limit → j.faults ≡ i.faults
-    → Goes (IsDue code bytes steps stats) a b end → Runs (InputOutcome i.left code steps stats) i j a b end
-runs_taken code steps stats i j bytes a b end q c e short same g =
+    → Goes (IsDue code bytes steps showing) a b end → Runs (InputOutcome i.left code steps showing) i j a b end
+runs_taken code steps showing i j bytes a b end q c e short same g =
     let loses : LosesAtMost i.left j.left (input_limit + 1) = (bytes, c, omega (arith, short)) in
     let left = was_left i.left j.left bytes c e in
     inr (
-      inr (reading_due i.left code steps stats q, (loses, same)),
-      goes_map (IsDue code bytes steps stats) (Moves (InputOutcome i.left code steps stats) i j)
+      inr (reading_due i.left code steps showing q, (loses, same)),
+      goes_map (IsDue code bytes steps showing) (Moves (InputOutcome i.left code steps showing) i j)
           (λ due d. (taken bytes q left short d, subst (λ (r : Bool). Takes r i j) (sym (ap (λ (x : Due). x.reads) d ∙ q)) (loses, same))) a b end g,
     )
 
@@ -160,15 +161,15 @@ abbrev not_read : ReadAll → Result (Vec ℕ) ReadAll
 not_read error = Err error
 
 -- an input that was not read
-pub runs_lost : (code : PlainCode) (steps : ℕ) (stats : Bool) (i j : SourceSide) (error : ReadAll) (a : SinkSide) → has_read code ≡ true
+pub runs_lost : (code : PlainCode) (steps : ℕ) (showing : Showing) (i j : SourceSide) (error : ReadAll) (a : SinkSide) → has_read code ≡ true
     → LosesAtMost i.left j.left (input_limit + 1) → HasReadCause i.faults j.faults (Err error) → (not_read error ≡ not_read reading.TooLong → MayHaveMore i.left input_limit)
-    → Runs (InputOutcome i.left code steps stats) i j a a (input_end error)
-runs_lost code steps stats i j reading.Fault a q loses cause more =
-    inl (refl, reading_due i.left code steps stats q, loses, (cause.0, cause.1), gains_none a)
-runs_lost code steps stats i j reading.TooLong a q loses cause more =
-    inr (inr (reading_due i.left code steps stats q, (loses, cause)), (long_input, refl, (past_input q (more refl) refl, (loses, cause)), gains_none a))
-runs_lost code steps stats i j reading.Memory a q loses cause more =
-    inr (inr (reading_due i.left code steps stats q, (loses, cause)), goes_starved (Moves (InputOutcome i.left code steps stats) i j) a)
+    → Runs (InputOutcome i.left code steps showing) i j a a (input_end error)
+runs_lost code steps showing i j reading.Fault a q loses cause more =
+    inl (refl, reading_due i.left code steps showing q, loses, (cause.0, cause.1), gains_none a)
+runs_lost code steps showing i j reading.TooLong a q loses cause more =
+    inr (inr (reading_due i.left code steps showing q, (loses, cause)), (long_input, refl, (past_input q (more refl) refl, (loses, cause)), gains_none a))
+runs_lost code steps showing i j reading.Memory a q loses cause more =
+    inr (inr (reading_due i.left code steps showing q, (loses, cause)), goes_starved (Moves (InputOutcome i.left code steps showing) i j) a)
 
 -- ---- sources
 
@@ -229,13 +230,13 @@ unlowered p (lower.TooMuchCode n) too_much within = by (cases_lt size_limit (siz
 unlowered p lower.Memory too_much within = starved refl
 
 -- a program that was not compiled
-pub runs_refused : (p : Program) (steps : ℕ) (stats : Bool) (error : LowerError) (i : SourceSide) (a : SinkSide) → IsUnlowered p error
-    → Runs (ProgramOutcome i.left p steps stats) i i a a (lower_end error)
-runs_refused p steps stats error i a (large past e) =
-    subst (Runs (ProgramOutcome i.left p steps stats) i i a a) (sym e)
+pub runs_refused : (p : Program) (steps : ℕ) (showing : Showing) (error : LowerError) (i : SourceSide) (a : SinkSide) → IsUnlowered p error
+    → Runs (ProgramOutcome i.left p steps showing) i i a a (lower_end error)
+runs_refused p steps showing error i a (large past e) =
+    subst (Runs (ProgramOutcome i.left p steps showing) i i a a) (sym e)
     (inr (inl refl, (silent (TooMuchCode (size_of p)), refl, (too_much_code past refl, refl), gains_none a)))
-runs_refused p steps stats error i a (starved e) =
-    subst (Runs (ProgramOutcome i.left p steps stats) i i a a) (sym e) (runs_starved (ProgramOutcome i.left p steps stats) i a)
+runs_refused p steps showing error i a (starved e) =
+    subst (Runs (ProgramOutcome i.left p steps showing) i i a a) (sym e) (runs_starved (ProgramOutcome i.left p steps showing) i a)
 
 -- a program that was compiled is within its greatest size
 pub compiled_within : (p : Program) (code : Code) → (size_limit < size_of p → lowered code ≡ not_lowered (lower.TooMuchCode (size_of p)))
@@ -257,10 +258,10 @@ reads_are [] = refl
 reads_are (i ∷ is) = ap (λ b. b || list_any object.is_read is) (read_is i) ∙ ap (λ b. sound.is_read i || b) (reads_are is)
 
 -- a program that was compiled and run
-pub runs_compiled : (p : Program) (code : PlainCode) (steps : ℕ) (stats : Bool) (i j : SourceSide) (a b : SinkSide) (end : End) → IsSound code → Implements code p
-    → code_reads code ≡ program_reads p → size_of p ≤ size_limit → Runs (InputOutcome i.left code steps stats) i j a b end → Runs (ProgramOutcome i.left p steps stats) i j a b end
-runs_compiled p code steps stats i j a b end sound implements reads within g =
-    runs_map (InputOutcome i.left code steps stats) (ProgramOutcome i.left p steps stats) (λ due o. ran code within sound implements (reads_are code.instrs ∙ reads) o) i j a b end g
+pub runs_compiled : (p : Program) (code : PlainCode) (steps : ℕ) (showing : Showing) (i j : SourceSide) (a b : SinkSide) (end : End) → IsSound code → Implements code p
+    → code_reads code ≡ program_reads p → size_of p ≤ size_limit → Runs (InputOutcome i.left code steps showing) i j a b end → Runs (ProgramOutcome i.left p steps showing) i j a b end
+runs_compiled p code steps showing i j a b end sound implements reads within g =
+    runs_map (InputOutcome i.left code steps showing) (ProgramOutcome i.left p steps showing) (λ due o. ran code within sound implements (reads_are code.instrs ∙ reads) o) i j a b end g
 
 -- ---- listing
 
@@ -292,9 +293,9 @@ one_listing bytes first second (no_object fault some e) (no_object other some' e
 
 -- verified code that was run
 pub runs_executed : (code : PlainCode) (steps : ℕ) (stats : Bool) (i j : SourceSide) (a b : SinkSide) (end : End) → code_fault code ≡ None
-    → Runs (InputOutcome i.left code steps stats) i j a b end → Runs (CodeOutcome i.left code steps stats) i j a b end
+    → Runs (InputOutcome i.left code steps (Prints stats)) i j a b end → Runs (CodeOutcome i.left code steps stats) i j a b end
 runs_executed code steps stats i j a b end clean g =
-    runs_map (InputOutcome i.left code steps stats) (CodeOutcome i.left code steps stats) (λ due o. executed clean o) i j a b end g
+    runs_map (InputOutcome i.left code steps (Prints stats)) (CodeOutcome i.left code steps stats) (λ due o. executed clean o) i j a b end g
 
 -- code that is not sound
 pub runs_unsound : (code : PlainCode) (steps : ℕ) (stats : Bool) (fault : VerifyFault) (i : SourceSide) (a : SinkSide) → code_fault code ≡ Some fault
@@ -314,24 +315,24 @@ pub runs_unopened : (bytes : List ℕ) (steps : ℕ) (stats : Bool) (fault : Obj
 runs_unopened bytes steps stats fault i a is = inr (inl refl, (silent (BadObject fault), refl, (unopened fault is refl, refl), gains_none a))
 
 -- running code on an input that is told comes to one outcome
-one_input : (input : List ℕ) (code : PlainCode) (steps : ℕ) (stats : Bool) (first second : Due) → InputOutcome (Some input) code steps stats first
-    → InputOutcome (Some input) code steps stats second → first ≡ second
-one_input input code steps stats first second (unread q e) (unread q' e') = e ∙ sym e'
-one_input input code steps stats first second (unread q e) (taken bytes q' l s e') = cc (q, q')
-one_input input code steps stats first second (unread q e) (past_input q' m e') = cc (q, q')
-one_input input code steps stats first second (taken bytes q l s e) (unread q' e') = cc (q, q')
-one_input input code steps stats first second (taken bytes q l s e) (taken other q' l' s' e') =
-    e ∙ ap (λ z. code_due code z steps stats) (sym l ∙ l') ∙ sym e'
-one_input input code steps stats first second (taken bytes q l s e) (past_input q' m e') =
+one_input : (input : List ℕ) (code : PlainCode) (steps : ℕ) (showing : Showing) (first second : Due) → InputOutcome (Some input) code steps showing first
+    → InputOutcome (Some input) code steps showing second → first ≡ second
+one_input input code steps showing first second (unread q e) (unread q' e') = e ∙ sym e'
+one_input input code steps showing first second (unread q e) (taken bytes q' l s e') = cc (q, q')
+one_input input code steps showing first second (unread q e) (past_input q' m e') = cc (q, q')
+one_input input code steps showing first second (taken bytes q l s e) (unread q' e') = cc (q, q')
+one_input input code steps showing first second (taken bytes q l s e) (taken other q' l' s' e') =
+    e ∙ ap (λ z. code_due code z steps showing) (sym l ∙ l') ∙ sym e'
+one_input input code steps showing first second (taken bytes q l s e) (past_input q' m e') =
     absurd (omega (arith, m, s, ap length l))
-one_input input code steps stats first second (past_input q m e) (unread q' e') = cc (q, q')
-one_input input code steps stats first second (past_input q m e) (taken bytes q' l s e') =
+one_input input code steps showing first second (past_input q m e) (unread q' e') = cc (q, q')
+one_input input code steps showing first second (past_input q m e) (taken bytes q' l s e') =
     absurd (omega (arith, m, s, ap length l))
-one_input input code steps stats first second (past_input q m e) (past_input q' m' e') = e ∙ sym e'
+one_input input code steps showing first second (past_input q m e) (past_input q' m' e') = e ∙ sym e'
 
 one_code_run : (input : List ℕ) (code : PlainCode) (steps : ℕ) (stats : Bool) (first second : Due) → CodeOutcome (Some input) code steps stats first
     → CodeOutcome (Some input) code steps stats second → first ≡ second
-one_code_run input code steps stats first second (executed c o) (executed c' o') = one_input input code steps stats first second o o'
+one_code_run input code steps stats first second (executed c o) (executed c' o') = one_input input code steps (Prints stats) first second o o'
 one_code_run input code steps stats first second (executed c o) (unsound fault c' e') = cc (c, c')
 one_code_run input code steps stats first second (unsound fault c e) (executed c' o') = cc (c, c')
 one_code_run input code steps stats first second (unsound fault c e) (unsound other c' e') =
@@ -436,19 +437,19 @@ pub serves_still : (P : Due → Type 0) → ((due : Due) → P due → due.reads
     → Works P f f' a b end → Serves P f f' i i a b end
 serves_still P none f f' i a b end w = inr (inl refl, works_map P (Moves P i i) (λ due o. (o, takes_none due i (none due o))) f f' a b end w)
 
-input_keeps : (left : Option (List ℕ)) (code : PlainCode) (steps : ℕ) (stats : Bool) (due : Due) → InputOutcome left code steps stats due → due.stored ≡ None
-input_keeps left code steps stats due (unread q e) = ap (λ (d : Due). d.stored) e
-input_keeps left code steps stats due (taken bytes q l s e) = ap (λ (d : Due). d.stored) e
-input_keeps left code steps stats due (past_input q m e) = ap (λ (d : Due). d.stored) e
+input_keeps : (left : Option (List ℕ)) (code : PlainCode) (steps : ℕ) (showing : Showing) (due : Due) → InputOutcome left code steps showing due → due.stored ≡ None
+input_keeps left code steps showing due (unread q e) = ap (λ (d : Due). d.stored) e
+input_keeps left code steps showing due (taken bytes q l s e) = ap (λ (d : Due). d.stored) e
+input_keeps left code steps showing due (past_input q m e) = ap (λ (d : Due). d.stored) e
 
-program_keeps : (left : Option (List ℕ)) (p : Program) (steps : ℕ) (stats : Bool) (due : Due) → ProgramOutcome left p steps stats due → due.stored ≡ None
-program_keeps left p steps stats due (ran code size sound implements reads o) = input_keeps left code steps stats due o
-program_keeps left p steps stats due (too_much_code size e) = ap (λ (d : Due). d.stored) e
+program_keeps : (left : Option (List ℕ)) (p : Program) (steps : ℕ) (showing : Showing) (due : Due) → ProgramOutcome left p steps showing due → due.stored ≡ None
+program_keeps left p steps showing due (ran code size sound implements reads o) = input_keeps left code steps showing due o
+program_keeps left p steps showing due (too_much_code size e) = ap (λ (d : Due). d.stored) e
 
-pub run_keeps : (left : Option (List ℕ)) (source : List ℕ) (steps : ℕ) (stats : Bool) (due : Due) → SourceOutcome source (λ p. ProgramOutcome left p steps stats) due
+pub run_keeps : (left : Option (List ℕ)) (source : List ℕ) (steps : ℕ) (showing : Showing) (due : Due) → SourceOutcome source (λ p. ProgramOutcome left p steps showing) due
     → due.stored ≡ None
-run_keeps left source steps stats due (stopped end h e) = ap (λ (d : Due). d.stored) e
-run_keeps left source steps stats due (compiled p is o) = program_keeps left p steps stats due o
+run_keeps left source steps showing due (stopped end h e) = ap (λ (d : Due). d.stored) e
+run_keeps left source steps showing due (compiled p is o) = program_keeps left p steps showing due o
 
 pub list_keeps : (bytes : List ℕ) (due : Due) → ListOutcome bytes due → due.stored ≡ None
 list_keeps bytes due (listed clean is e) = ap (λ (d : Due). d.stored) e
@@ -468,7 +469,7 @@ compile_still source object due (compiled p is o) = program_still p object due o
 
 -- running an object stores nothing
 code_keeps : (left : Option (List ℕ)) (code : PlainCode) (steps : ℕ) (stats : Bool) (due : Due) → CodeOutcome left code steps stats due → due.stored ≡ None
-code_keeps left code steps stats due (executed c o) = input_keeps left code steps stats due o
+code_keeps left code steps stats due (executed c o) = input_keeps left code steps (Prints stats) due o
 code_keeps left code steps stats due (unsound fault c e) = ap (λ (d : Due). d.stored) e
 
 pub exec_keeps : (left : Option (List ℕ)) (bytes : List ℕ) (steps : ℕ) (stats : Bool) (due : Due) → ExecOutcome left bytes steps stats due → due.stored ≡ None
@@ -479,11 +480,11 @@ pub serves_exec : (bytes : List ℕ) (steps : ℕ) (stats : Bool) (f : FilesSide
     → Runs (ExecOutcome i.left bytes steps stats) i j a b end → Serves (ExecOutcome i.left bytes steps stats) f f i j a b end
 serves_exec bytes steps stats f i j a b end g = serves_run (ExecOutcome i.left bytes steps stats) (exec_keeps i.left bytes steps stats) f i j a b end g
 
-pub serves_source : (source : List ℕ) (steps : ℕ) (stats : Bool) (f : FilesSide) (i j : SourceSide) (a b : SinkSide) (end : End)
-    → Runs (SourceOutcome source (λ p. ProgramOutcome i.left p steps stats)) i j a b end
-    → Serves (SourceOutcome source (λ p. ProgramOutcome i.left p steps stats)) f f i j a b end
-serves_source source steps stats f i j a b end g =
-    serves_run (SourceOutcome source (λ p. ProgramOutcome i.left p steps stats)) (run_keeps i.left source steps stats) f i j a b end g
+pub serves_source : (source : List ℕ) (steps : ℕ) (showing : Showing) (f : FilesSide) (i j : SourceSide) (a b : SinkSide) (end : End)
+    → Runs (SourceOutcome source (λ p. ProgramOutcome i.left p steps showing)) i j a b end
+    → Serves (SourceOutcome source (λ p. ProgramOutcome i.left p steps showing)) f f i j a b end
+serves_source source steps showing f i j a b end g =
+    serves_run (SourceOutcome source (λ p. ProgramOutcome i.left p steps showing)) (run_keeps i.left source steps showing) f i j a b end g
 
 pub serves_list : (bytes : List ℕ) (f : FilesSide) (i : SourceSide) (a b : SinkSide) (end : End) → Goes (ListOutcome bytes) a b end
     → Serves (ListOutcome bytes) f f i i a b end
@@ -493,6 +494,17 @@ pub serves_compile : (source object : List ℕ) (f f' : FilesSide) (i : SourceSi
     → Works (SourceOutcome source (λ p. CompileOutcome p object)) f f' a b end → Serves (SourceOutcome source (λ p. CompileOutcome p object)) f f' i i a b end
 serves_compile source object f f' i a b end w =
     serves_still (SourceOutcome source (λ p. CompileOutcome p object)) (compile_still source object) f f' i a b end w
+
+-- a sample stores nothing and leaves the input
+pub sample_keeps : (lines : ℕ) (due : Due) → SampleOutcome lines due → due.stored ≡ None
+sample_keeps lines due (summed printed status o e) = ap (λ (d : Due). d.stored) e
+
+sample_still : (lines : ℕ) (due : Due) → SampleOutcome lines due → due.reads ≡ false
+sample_still lines due (summed printed status o e) = ap (λ (d : Due). d.reads) e
+
+pub serves_sample : (lines : ℕ) (f : FilesSide) (i : SourceSide) (a b : SinkSide) (end : End) → Goes (SampleOutcome lines) a b end
+    → Serves (SampleOutcome lines) f f i i a b end
+serves_sample lines f i a b end g = serves_run (SampleOutcome lines) (sample_keeps lines) f i i a b end (runs_still (SampleOutcome lines) (sample_still lines) i a b end g)
 
 -- checking a source stores nothing and leaves the input
 pub check_keeps : (source : List ℕ) (due : Due) → SourceOutcome source CheckOutcome due → due.stored ≡ None
@@ -546,12 +558,10 @@ limit_small (Exec object steps stats) = omega arith
 limit_small (Trace name steps watch) = omega arith
 limit_small (Sample lines) = omega arith
 
--- a fetch of this name with this limit is that of the request
-pub fetch_of : (told : List ℕ → Told) (name : List ℕ) (limit : ℕ) (r : Request) (before now : ℕ) (fault : Fetch) → name ≡ read_by r → limit ≡ limit_of r
-    → IsFetched (told name) limit before now (Err fault) → IsFetched (told (read_by r)) (limit_of r) before now (Err fault)
-fetch_of told name limit r before now fault e l h =
-    subst (λ (n : List ℕ). IsFetched (told n) (limit_of r) before now (Err fault)) e
-    (subst (λ (k : ℕ). IsFetched (told name) k before now (Err fault)) l h)
+-- a fetch with this limit is that of the request
+pub fetch_of : (told : Told) (limit : ℕ) (r : Request) (before now : ℕ) (fault : Fetch) → limit ≡ limit_of r
+    → IsFetched told limit before now (Err fault) → IsFetched told (limit_of r) before now (Err fault)
+fetch_of told limit r before now fault l h = subst (λ (k : ℕ). IsFetched told k before now (Err fault)) l h
 
 -- a request without a print or a store, where the input stays
 serves_silent : (P : Due → Type 0) (f f' : FilesSide) (i : SourceSide) (a : SinkSide) (end : End) → FilesStay f f' → Goes (Keeps (Moves P i i)) a a end
@@ -559,14 +569,14 @@ serves_silent : (P : Due → Type 0) (f f' : FilesSide) (i : SourceSide) (a : Si
 serves_silent P f f' i a end s g = inr (inl refl, inl (s, g))
 
 -- a file that was not fetched
-pub performs_unfetched : (f f' : FilesSide) (r : Request) (fault : Fetch) (i : SourceSide) (a : SinkSide) → FilesStay f f'
-    → IsFetched (f.told (read_by r)) (limit_of r) f.fetch_faults f'.fetch_faults (Err fault) → Performs (RequestOutcome f.told i.left r) f f' i i a a (fetch_end fault)
-performs_unfetched f f' r fetch.Absent i a s h =
-    inr (h.1, serves_silent (RequestOutcome f.told i.left r) f f' i a ReadFault s (silent ReadFault, refl, ((absent h.0 refl, refl), refl), gains_none a))
-performs_unfetched f f' r fetch.Failed i a s h = inl ((refl, (h.0, h.1), s, gains_none a), refl)
-performs_unfetched f f' r fetch.TooLong i a s h =
-    inr (h.1, serves_silent (RequestOutcome f.told i.left r) f f' i a TooLong s (silent TooLong, refl, ((past_limit h.0 refl, refl), refl), gains_none a))
-performs_unfetched f f' r fetch.Memory i a s h =
+pub performs_unfetched : (f f' : FilesSide) (r : Request) (name : List ℕ) (fault : Fetch) (i : SourceSide) (a : SinkSide) → read_by r ≡ Some name → FilesStay f f'
+    → IsFetched (f.told name) (limit_of r) f.fetch_faults f'.fetch_faults (Err fault) → Performs (RequestOutcome f.told i.left r) f f' i i a a (fetch_end fault)
+performs_unfetched f f' r name fetch.Absent i a is s h =
+    inr (h.1, serves_silent (RequestOutcome f.told i.left r) f f' i a ReadFault s (silent ReadFault, refl, ((absent name is h.0 refl, refl), refl), gains_none a))
+performs_unfetched f f' r name fetch.Failed i a is s h = inl ((refl, (h.0, h.1), s, gains_none a), refl)
+performs_unfetched f f' r name fetch.TooLong i a is s h =
+    inr (h.1, serves_silent (RequestOutcome f.told i.left r) f f' i a TooLong s (silent TooLong, refl, ((past_limit name is h.0 refl, refl), refl), gains_none a))
+performs_unfetched f f' r name fetch.Memory i a is s h =
     inr (h, serves_silent (RequestOutcome f.told i.left r) f f' i a Memory s (goes_starved (Keeps (Moves (RequestOutcome f.told i.left r) i i)) a))
 
 -- a request inside another
@@ -582,15 +592,21 @@ serves_after P f m f' i j a b end s (inl h) = inl ((λ name. h.0.0 name ∙ s.0 
 serves_after P f m f' i j a b end s (inr h) = inr (h.0, works_after (Moves P i j) f m f' a b end s h.1)
 
 -- a file that was fetched
-pub performs_fetched : (f m f' : FilesSide) (r : Request) (bytes : List ℕ) (i j : SourceSide) (a b : SinkSide) (end : End) → FilesStay f m
-    → MayHave (f.told (read_by r)) bytes → length bytes ≤ limit_of r → m.fetch_faults ≡ f.fetch_faults → f'.fetch_faults ≡ m.fetch_faults
+pub performs_fetched : (f m f' : FilesSide) (r : Request) (name bytes : List ℕ) (i j : SourceSide) (a b : SinkSide) (end : End) → read_by r ≡ Some name → FilesStay f m
+    → MayHave (f.told name) bytes → length bytes ≤ limit_of r → m.fetch_faults ≡ f.fetch_faults → f'.fetch_faults ≡ m.fetch_faults
     → Serves (FileOutcome i.left r bytes) m f' i j a b end → Performs (RequestOutcome f.told i.left r) f f' i j a b end
-performs_fetched f m f' r bytes i j a b end s has short q q' w =
+performs_fetched f m f' r name bytes i j a b end is s has short q q' w =
     inr (
       q' ∙ q,
-      serves_map (FileOutcome i.left r bytes) (RequestOutcome f.told i.left r) (λ due o. fetched bytes has short o) f f' i j a b end
+      serves_map (FileOutcome i.left r bytes) (RequestOutcome f.told i.left r) (λ due o. fetched name bytes is has short o) f f' i j a b end
           (serves_after (FileOutcome i.left r bytes) f m f' i j a b end s w),
     )
+
+-- a request that reads no file
+pub performs_alone : (f f' : FilesSide) (r : Request) (i j : SourceSide) (a b : SinkSide) (end : End) → read_by r ≡ None → f'.fetch_faults ≡ f.fetch_faults
+    → Serves (FileOutcome i.left r []) f f' i j a b end → Performs (RequestOutcome f.told i.left r) f f' i j a b end
+performs_alone f f' r i j a b end is q w =
+    inr (q, serves_map (FileOutcome i.left r []) (RequestOutcome f.told i.left r) (λ due o. unfetched is o) f f' i j a b end w)
 
 -- words that are no request
 pub performs_bad : (words : List (List ℕ)) (f : FilesSide) (error : WordsError) (i : SourceSide) (a : SinkSide)
@@ -600,19 +616,9 @@ performs_bad ws f (words.Bad k) i a h =
 performs_bad ws f words.Memory i a h =
     inr (refl, serves_silent (Outcome ws f.told i.left) f f i a Memory (files_same f) (goes_starved (Keeps (Moves (Outcome ws f.told i.left) i i)) a))
 
--- words that are a request which is not built
-pub performs_unbuilt : (words : List (List ℕ)) (request : Request) (f : FilesSide) (i : SourceSide) (a : SinkSide) → Asks words request
-    → is_built request ≡ false → Performs (Outcome words f.told i.left) f f i i a a (BadWord 1)
-performs_unbuilt words request f i a h none =
-    inr (
-      refl,
-      serves_silent (Outcome words f.told i.left) f f i a (BadWord 1) (files_same f)
-          (silent (BadWord 1), refl, ((unbuilt request h none refl, refl), refl), gains_none a),
-    )
-
 -- words that are a request
 pub performs_asked : (words : List (List ℕ)) (request : Request) (f f' : FilesSide) (i j : SourceSide) (a b : SinkSide) (end : End)
-    → Asks words request → is_built request ≡ true → Performs (RequestOutcome f.told i.left request) f f' i j a b end → Performs (Outcome words f.told i.left) f f' i j a b end
-performs_asked words request f f' i j a b end h built (inl p) = inl p
-performs_asked words request f f' i j a b end h built (inr p) =
-    inr (p.0, serves_map (RequestOutcome f.told i.left request) (Outcome words f.told i.left) (λ due o. asks request h built o) f f' i j a b end p.1)
+    → Asks words request → Performs (RequestOutcome f.told i.left request) f f' i j a b end → Performs (Outcome words f.told i.left) f f' i j a b end
+performs_asked words request f f' i j a b end h (inl p) = inl p
+performs_asked words request f f' i j a b end h (inr p) =
+    inr (p.0, serves_map (RequestOutcome f.told i.left request) (Outcome words f.told i.left) (λ due o. asks request h o) f f' i j a b end p.1)

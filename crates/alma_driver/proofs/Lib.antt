@@ -1,5 +1,9 @@
 pub mod CauseLemmas
 pub mod DriverLemmas
 pub mod RefusalLemmas
+pub mod HeadlineLemmas
 pub mod ReportLemmas
 pub mod RunLemmas
+pub mod SampleLemmas
+pub mod TraceLemmas
+pub mod Unread

@@ -334,6 +334,15 @@ refused_no_program source (Lex fault) offset p h i = never_both (length source) 
 refused_no_program source (Syntax fault) offset p h i = tree_refused source fault offset i.tokens i.tree h i.parsed
 refused_no_program source (Check fault) offset p h i = unbroken_refused source fault offset p h i
 
+-- what is refused for a fault of tokens or of syntax has no tokens that spell a program of the grammar
+pub refused_no_spelling : (source : List ℕ) (fault : SourceFault) (offset : ℕ) (tokens : List Lexeme) → IsOfGrammar fault → IsRefused source fault offset
+    → Tokens source tokens → IsProgram (kinds tokens) → ⊥
+refused_no_spelling source (Lex fault) offset tokens g h scanned p = never_both (length source) source tokens h.0 fault offset scanned h.1
+refused_no_spelling source (Syntax fault) offset tokens g h scanned p =
+    let same : tokens ≡ h.tokens = tokens_once (length source) source tokens h.tokens scanned h.scanned in
+    program_refused fault h.index (kinds h.tokens) h.refused (subst (λ (ts : List Lexeme). IsProgram (kinds ts)) same p)
+refused_no_spelling source (Check fault) offset tokens g h scanned p = g
+
 -- what is refused for a fault of tokens or of syntax has no tree
 pub refused_no_tree : (source : List ℕ) (fault : SourceFault) (offset : ℕ) (tokens : List Lexeme) (tree : Tree) → IsOfGrammar fault → IsRefused source fault offset
     → IsParsed source tokens tree → ⊥

@@ -24,7 +24,8 @@ use Rattle.alma_engine.proofs.Budget.{ended_after}
 use Rattle.alma_driver.specs.Outside.{SinkSide}
 use Rattle.alma_driver.specs.declared.end.Counts.{Counts}
 use Rattle.alma_driver.specs.Ends.{mode_end, run_end, counts_in}
-use Rattle.alma_driver.specs.Outcome.{Due, has_read, code_end, code_due, size_of, InputOutcome, unread, taken, past_input, MayRunOut, MeansOn, whole, front, ProgramOutcome, ran, too_much_code, IsTaken, Meant, meant_on, too_long, too_large}
+use Rattle.alma_driver.specs.Outcome.{Due, has_read, code_end, code_due, size_of, InputOutcome, unread, taken, past_input, AreCounts, MayRunOut, MeansOn, whole, front, ProgramOutcome, ran, too_much_code, IsTaken, Meant, meant_on, too_long, too_large}
+use Rattle.alma_driver.specs.Showing.{Showing, Prints}
 use Rattle.alma_driver.specs.Course.{Goes}
 
 -- ---- a run of the machine
@@ -60,7 +61,7 @@ mode_is (Ended ended.Failed) line counts = refl
 mode_is (Ended (ended.Fault fault)) line counts = refl
 
 -- the end of a run that was not cut short is due
-end_is : (code : PlainCode) (input : List ℕ) (new : State) (steps : ℕ) (stats : Bool) (answer : RunEnd) → answer ≡ run_end_of (state_after code input steps).mode
+pub end_is : (code : PlainCode) (input : List ℕ) (new : State) (steps : ℕ) (stats : Bool) (answer : RunEnd) → answer ≡ run_end_of (state_after code input steps).mode
     → new ≡ state_after code input steps
     → code_end code stats (state_after code input steps) ≡ run_end answer (line_in code new) (counts_in stats new)
 end_is code input new steps stats answer is same =
@@ -83,29 +84,29 @@ pub record HasRun (old new : MachineView) (steps : ℕ) (answer : RunEnd) (a b :
   pub cause : HasCause a.faults b.faults (all_written answer)
 
 -- what is due from the code
-abbrev pub IsDue : PlainCode → (input : List ℕ) → (steps : ℕ) → (stats : Bool) → Due → Type 0
-IsDue code input steps stats due = due ≡ code_due code input steps stats
+abbrev pub IsDue : PlainCode → (input : List ℕ) → (steps : ℕ) → Showing → Due → Type 0
+IsDue code input steps showing due = due ≡ code_due code input steps showing
 
 -- a run from the start goes as its code is due
 goes_fresh : (code : PlainCode) (input : List ℕ) (new : MachineView) (steps : ℕ) (stats : Bool) (answer : RunEnd) (a b : SinkSide)
-    → HasRun (fresh code input) new steps answer a b → Goes (IsDue code input steps stats) a b (run_end answer (line_in code new.state) (counts_in stats new.state))
+    → HasRun (fresh code input) new steps answer a b → Goes (IsDue code input steps (Prints stats)) a b (run_end answer (line_in code new.state) (counts_in stats new.state))
 goes_fresh code input new steps stats run.Succeeded a b h =
-    (code_due code input steps stats, end_is code input new.state steps stats run.Succeeded h.answered h.state, refl, (h.out, h.cause.ok))
+    (code_due code input steps (Prints stats), end_is code input new.state steps stats run.Succeeded h.answered h.state, refl, (h.out, h.cause.ok))
 goes_fresh code input new steps stats run.Failed a b h =
-    (code_due code input steps stats, end_is code input new.state steps stats run.Failed h.answered h.state, refl, (h.out, h.cause.ok))
+    (code_due code input steps (Prints stats), end_is code input new.state steps stats run.Failed h.answered h.state, refl, (h.out, h.cause.ok))
 goes_fresh code input new steps stats (run.Fault fault) a b h =
-    (code_due code input steps stats, end_is code input new.state steps stats (run.Fault fault) h.answered h.state, refl, (h.out, h.cause.ok))
+    (code_due code input steps (Prints stats), end_is code input new.state steps stats (run.Fault fault) h.answered h.state, refl, (h.out, h.cause.ok))
 goes_fresh code input new steps stats run.StepsOut a b h =
-    (code_due code input steps stats, end_is code input new.state steps stats run.StepsOut h.answered h.state, refl, (h.out, h.cause.ok))
+    (code_due code input steps (Prints stats), end_is code input new.state steps stats run.StepsOut h.answered h.state, refl, (h.out, h.cause.ok))
 goes_fresh code input new steps stats run.WriteFault a b h =
     let le : made (fresh code input) new ≤ steps = omega (arith, h.few) in
-    (code_due code input steps stats, refl, (front_of_more a.written b.written code input (made (fresh code input) new) steps (start code) le h.write_fault, (h.cause.later, h.cause.err)))
+    (code_due code input steps (Prints stats), refl, (front_of_more a.written b.written code input (made (fresh code input) new) steps (start code) le h.write_fault, (h.cause.later, h.cause.err)))
 goes_fresh code input new steps stats run.Memory a b h =
     let le : made (fresh code input) new ≤ steps = omega (arith, h.few) in
-    (inr (code_due code input steps stats, refl, whole_is_front a.written b.written code input (made (fresh code input) new) steps (start code) le h.memory), h.cause.ok)
+    (inr (code_due code input steps (Prints stats), refl, whole_is_front a.written b.written code input (made (fresh code input) new) steps (start code) le h.memory), h.cause.ok)
 
 pub goes_run : (code : PlainCode) (input : List ℕ) (old new : MachineView) (steps : ℕ) (stats : Bool) (answer : RunEnd) (a b : SinkSide) → old ≡ fresh code input
-    → HasRun old new steps answer a b → Goes (IsDue code input steps stats) a b (run_end answer (line_in code new.state) (counts_in stats new.state))
+    → HasRun old new steps answer a b → Goes (IsDue code input steps (Prints stats)) a b (run_end answer (line_in code new.state) (counts_in stats new.state))
 goes_run code input old new steps stats answer a b e h =
     goes_fresh code input new steps stats answer a b (subst (λ (o : MachineView). HasRun o new steps answer a b) e h)
 
@@ -142,9 +143,14 @@ may_run_out code p input steps short enough out level uncut = by (cases_lt steps
         let e = in_end (state_after code input plenty).mode there in
         absurd (out (subst (λ (s : State). HasEnded s.mode) (sym (ended_after code input plenty steps (start code) e.0 many e.1)) there))
 
+-- the counts in a state
+counts_are : (stats : Bool) (s : State) → AreCounts stats (counts_in stats s)
+counts_are false s = refl
+counts_are true s = (record { steps = s.steps; choices = s.choices; fails = s.fails }, refl)
+
 -- what is due from code that implements a program is what the program means
-code_means : (p : Program) (code : PlainCode) (input : List ℕ) (steps : ℕ) (stats : Bool) → Implements code p → length input ≤ input_limit
-    → MeansOn p input steps (code_due code input steps stats)
+pub code_means : (p : Program) (code : PlainCode) (input : List ℕ) (steps : ℕ) (stats : Bool) → Implements code p → length input ≤ input_limit
+    → MeansOn p input steps stats (code_due code input steps (Prints stats))
 code_means p code input steps stats implements short = by (state_after code input steps).mode refl (implements input short steps)
   where
     cut : (m : Mode) → (state_after code input steps).mode ≡ m → (HasEnded m → ⊥) → MayRunOut p input steps
@@ -152,28 +158,28 @@ code_means p code input steps stats implements short = by (state_after code inpu
 
     by : (m : Mode) → (state_after code input steps).mode ≡ m
         → ComesTo m (line_in code (state_after code input steps)) (printed_by code input steps) p input steps
-        → MeansOn p input steps (code_due code input steps stats)
+        → MeansOn p input steps stats (code_due code input steps (Prints stats))
     by (Ended e) same h =
         let s = state_after code input steps in
-        whole (printed_by code input steps) e (line_in code s) (counts_in stats s) h (ap (λ k. mode_end k (line_in code s) (counts_in stats s)) same) refl
+        whole (printed_by code input steps) e (line_in code s) (counts_in stats s) (counts_are stats s) h (ap (λ k. mode_end k (line_in code s) (counts_in stats s)) same) refl
     by Going same h =
         let s = state_after code input steps in
-        front (printed_by code input steps) (counts_in stats s) h (cut Going same (λ x. x)) (ap (λ k. mode_end k (line_in code s) (counts_in stats s)) same) refl
+        front (printed_by code input steps) (counts_in stats s) (counts_are stats s) h (cut Going same (λ x. x)) (ap (λ k. mode_end k (line_in code s) (counts_in stats s)) same) refl
     by Failing same h =
         let s = state_after code input steps in
-        front (printed_by code input steps) (counts_in stats s) h (cut Failing same (λ x. x)) (ap (λ k. mode_end k (line_in code s) (counts_in stats s)) same) refl
+        front (printed_by code input steps) (counts_in stats s) (counts_are stats s) h (cut Failing same (λ x. x)) (ap (λ k. mode_end k (line_in code s) (counts_in stats s)) same) refl
     by Stuck same h =
         let s = state_after code input steps in
-        front (printed_by code input steps) (counts_in stats s) h (cut Stuck same (λ x. x)) (ap (λ k. mode_end k (line_in code s) (counts_in stats s)) same) refl
+        front (printed_by code input steps) (counts_in stats s) (counts_are stats s) h (cut Stuck same (λ x. x)) (ap (λ k. mode_end k (line_in code s) (counts_in stats s)) same) refl
 
 -- a run on this input is what the program means on it
 means_due : (left : Option (List ℕ)) (p : Program) (code : PlainCode) (input : List ℕ) (steps : ℕ) (stats : Bool) (due : Due) → size_of p ≤ size_limit
-    → Implements code p → length input ≤ input_limit → IsTaken left (has_read code) input → due ≡ code_due code input steps stats → Meant left p steps due
+    → Implements code p → length input ≤ input_limit → IsTaken left (has_read code) input → due ≡ code_due code input steps (Prints stats) → Meant left p steps stats due
 means_due left p code input steps stats due size implements short is e =
-    subst (Meant left p steps) (sym e) (meant_on input size is (code_means p code input steps stats implements short))
+    subst (Meant left p steps stats) (sym e) (meant_on input size is (code_means p code input steps stats implements short))
 
 input_means : (left : Option (List ℕ)) (p : Program) (code : PlainCode) (steps : ℕ) (stats : Bool) (due : Due) → size_of p ≤ size_limit → Implements code p
-    → InputOutcome left code steps stats due → Meant left p steps due
+    → InputOutcome left code steps (Prints stats) due → Meant left p steps stats due
 input_means left p code steps stats due size implements (unread q e) =
     means_due left p code [] steps stats due size implements (omega arith) (subst (λ (r : Bool). IsTaken left r []) (sym q) refl) e
 input_means left p code steps stats due size implements (taken input q l short e) =
@@ -181,6 +187,6 @@ input_means left p code steps stats due size implements (taken input q l short e
 input_means left p code steps stats due size implements (past_input q more e) = too_long size more e
 
 -- what a run of a program comes to is what the program means
-pub outcome_means : (left : Option (List ℕ)) (p : Program) (steps : ℕ) (stats : Bool) (due : Due) → ProgramOutcome left p steps stats due → Meant left p steps due
+pub outcome_means : (left : Option (List ℕ)) (p : Program) (steps : ℕ) (stats : Bool) (due : Due) → ProgramOutcome left p steps (Prints stats) due → Meant left p steps stats due
 outcome_means left p steps stats due (ran code size sound implements reads o) = input_means left p code steps stats due size implements o
 outcome_means left p steps stats due (too_much_code size e) = too_large size e

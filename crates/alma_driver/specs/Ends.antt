@@ -206,3 +206,12 @@ fetch_end fetch.Memory = Memory
 abbrev pub store_end : StoreFault → End
 store_end store.Failed = WriteFault
 store_end store.Memory = Memory
+
+-- the line that sums up the run of a sample: its lines, the bytes of its source and of its output, and the status of its end
+abbrev pub summary_line : (lines bytes printed status : List ℕ) → List ℕ
+summary_line lines bytes printed status =
+    codes "lines " ++ (lines ++ (codes " bytes " ++ (bytes ++ (codes " printed " ++ (printed ++ (codes " status " ++ (status ++ codes "\n")))))))
+
+-- the same by numbers
+abbrev pub sample_line : (lines bytes printed status : ℕ) → List ℕ
+sample_line lines bytes printed status = summary_line (decimal lines) (decimal bytes) (decimal printed) (decimal status)

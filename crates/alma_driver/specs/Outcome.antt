@@ -19,11 +19,13 @@ use Rattle.alma_object.specs.Object.{IsObject}
 use Rattle.alma_object.specs.View.{is_read}
 use Rattle.alma_object.specs.Walk.{object_fault}
 use Rattle.alma_whole.specs.Bytes.{object_code}
+use Rattle.alma_sample.specs.Sample.{sample_text}
 use Rattle.alma_sound.specs.Reads.{program_reads}
-use Rattle.alma_implements.specs.Implements.{Implements, Covers, meant_end, state_after, printed_by, line_in}
-use Rattle.alma_words.specs.Words.{Request, Check, Compile, Listing, Run, Exec, Trace, Sample, Asks, IsBadWord}
-use Rattle.alma_driver.specs.Words.{is_built, read_by, limit_of}
-use Rattle.alma_driver.specs.Ends.{ended_end, mode_end, counts_in}
+use Rattle.alma_implements.specs.Implements.{Implements, Covers, meant_end, state_after, line_in}
+use Rattle.alma_words.specs.Words.{Request, Check, Compile, Listing, Run, Exec, Trace, Sample, Asks, IsBadWord, default_steps}
+use Rattle.alma_driver.specs.Words.{read_by, limit_of}
+use Rattle.alma_driver.specs.Showing.{Showing, Prints, Traces, counts_shown, text_shown}
+use Rattle.alma_driver.specs.Ends.{ended_end, mode_end, counts_in, status_of, sample_line}
 use Rattle.alma_driver.specs.Refusal.{IsRefused, IsProgramOf, place_of}
 use Rattle.alma_driver.specs.declared.fault.SourceFault.{SourceFault}
 use Rattle.alma_driver.specs.declared.end.Counts.{Counts}
@@ -68,11 +70,11 @@ has_read code = list_any is_read code.instrs
 abbrev pub code_end : PlainCode → (stats : Bool) → State → End
 code_end code stats s = mode_end s.mode (line_in code s) (counts_in stats s)
 
--- what a run of code on an input for so many steps comes to
-abbrev pub code_due : PlainCode → (input : List ℕ) → (steps : ℕ) → (stats : Bool) → Due
-code_due code input steps stats = record {
-  end = code_end code stats (state_after code input steps);
-  out = printed_by code input steps;
+-- what a run of code on an input for so many steps comes to, by what it shows
+abbrev pub code_due : PlainCode → (input : List ℕ) → (steps : ℕ) → Showing → Due
+code_due code input steps showing = record {
+  end = code_end code (counts_shown showing) (state_after code input steps);
+  out = text_shown code input steps showing;
   stored = None;
   reads = has_read code;
 }
@@ -88,20 +90,20 @@ long_input = record { end = TooLong; out = []; stored = None; reads = true }
 
 -- What a run of code comes to, by what is left of the input: where the code reads, the whole input is read before its
 -- first step, and may be too long; where it does not, it runs on an empty one.
-pub data InputOutcome (left : Option (List ℕ)) (code : PlainCode) (steps : ℕ) (stats : Bool) (due : Due) : Type 0 where
-  unread : has_read code ≡ false → due ≡ code_due code [] steps stats → InputOutcome left code steps stats due
-  taken : (input : List ℕ) → has_read code ≡ true → MayBeLeft left input → length input ≤ input_limit → due ≡ code_due code input steps stats
-      → InputOutcome left code steps stats due
-  past_input : has_read code ≡ true → MayHaveMore left input_limit → due ≡ long_input → InputOutcome left code steps stats due
+pub data InputOutcome (left : Option (List ℕ)) (code : PlainCode) (steps : ℕ) (showing : Showing) (due : Due) : Type 0 where
+  unread : has_read code ≡ false → due ≡ code_due code [] steps showing → InputOutcome left code steps showing due
+  taken : (input : List ℕ) → has_read code ≡ true → MayBeLeft left input → length input ≤ input_limit → due ≡ code_due code input steps showing
+      → InputOutcome left code steps showing due
+  past_input : has_read code ≡ true → MayHaveMore left input_limit → due ≡ long_input → InputOutcome left code steps showing due
 
 -- ---- programs
 
 -- What a run of a program for so many steps comes to: what a sound code that implements it, and reads exactly where it does, comes
 -- to in so many steps, or the refusal of its size.
-pub data ProgramOutcome (left : Option (List ℕ)) (p : Program) (steps : ℕ) (stats : Bool) (due : Due) : Type 0 where
-  ran : (code : PlainCode) → size_of p ≤ size_limit → IsSound code → Implements code p → has_read code ≡ program_reads p → InputOutcome left code steps stats due
-      → ProgramOutcome left p steps stats due
-  too_much_code : size_limit < size_of p → due ≡ silent (TooMuchCode (size_of p)) → ProgramOutcome left p steps stats due
+pub data ProgramOutcome (left : Option (List ℕ)) (p : Program) (steps : ℕ) (showing : Showing) (due : Due) : Type 0 where
+  ran : (code : PlainCode) → size_of p ≤ size_limit → IsSound code → Implements code p → has_read code ≡ program_reads p → InputOutcome left code steps showing due
+      → ProgramOutcome left p steps showing due
+  too_much_code : size_limit < size_of p → due ≡ silent (TooMuchCode (size_of p)) → ProgramOutcome left p steps showing due
 
 -- What compiling a program under a name comes to: the object of a sound code that implements it, and reads exactly where it
 -- does, is stored there, or the refusal of its size.
@@ -117,13 +119,19 @@ abbrev pub MayRunOut : Program → (input : List ℕ) → (steps : ℕ) → Type
 MayRunOut p input steps =
     (level : ℕ) → (end_of (first (ev_program level p input)) ≡ CutOff → ⊥) → steps < 32 * (visit_count (first (ev_program level p input)) + 1)
 
+-- counts are told where they are asked for
+abbrev pub AreCounts : (stats : Bool) → Option Counts → Type 0
+AreCounts false counts = counts ≡ None
+AreCounts true counts = (told : Counts) × (counts ≡ Some told)
+
 -- What the meaning of a program says of such a run on an input: its result, a fault at the line where it comes, or a front
 -- of its prints that covers one visit for each 32 steps.
-pub data MeansOn (p : Program) (input : List ℕ) (steps : ℕ) (due : Due) : Type 0 where
-  whole : (printed : List ℕ) (end : code.End) (line : ℕ) (counts : Option Counts) → result (suc steps) p input ≡ (printed, meant_end end line)
-      → due.end ≡ ended_end end line counts → due.out ≡ printed → MeansOn p input steps due
-  front : (printed : List ℕ) (counts : Option Counts) → Covers (first (ev_program (suc steps) p input)) printed (steps / 32)
-      → MayRunOut p input steps → due.end ≡ StepsOut counts → due.out ≡ printed → MeansOn p input steps due
+pub data MeansOn (p : Program) (input : List ℕ) (steps : ℕ) (stats : Bool) (due : Due) : Type 0 where
+  whole : (printed : List ℕ) (end : code.End) (line : ℕ) (counts : Option Counts) → AreCounts stats counts
+      → result (suc steps) p input ≡ (printed, meant_end end line) → due.end ≡ ended_end end line counts → due.out ≡ printed
+      → MeansOn p input steps stats due
+  front : (printed : List ℕ) (counts : Option Counts) → AreCounts stats counts → Covers (first (ev_program (suc steps) p input)) printed (steps / 32)
+      → MayRunOut p input steps → due.end ≡ StepsOut counts → due.out ≡ printed → MeansOn p input steps stats due
 
 -- the input on which a run goes, by whether it is read
 abbrev pub IsTaken : Option (List ℕ) → (reads : Bool) → List ℕ → Type 0
@@ -132,10 +140,10 @@ IsTaken left true input = MayBeLeft left input × (length input ≤ input_limit)
 
 -- What it says by what is left of the input: the program runs on that, or, where it is not read, on an empty input; or the
 -- input is too long; or the refusal of its size.
-pub data Meant (left : Option (List ℕ)) (p : Program) (steps : ℕ) (due : Due) : Type 0 where
-  meant_on : (input : List ℕ) → size_of p ≤ size_limit → IsTaken left due.reads input → MeansOn p input steps due → Meant left p steps due
-  too_long : size_of p ≤ size_limit → MayHaveMore left input_limit → due ≡ long_input → Meant left p steps due
-  too_large : size_limit < size_of p → due ≡ silent (TooMuchCode (size_of p)) → Meant left p steps due
+pub data Meant (left : Option (List ℕ)) (p : Program) (steps : ℕ) (stats : Bool) (due : Due) : Type 0 where
+  meant_on : (input : List ℕ) → size_of p ≤ size_limit → IsTaken left due.reads input → MeansOn p input steps stats due → Meant left p steps stats due
+  too_long : size_of p ≤ size_limit → MayHaveMore left input_limit → due ≡ long_input → Meant left p steps stats due
+  too_large : size_limit < size_of p → due ≡ silent (TooMuchCode (size_of p)) → Meant left p steps stats due
 
 -- ---- sources and objects
 
@@ -160,7 +168,7 @@ pub data ListOutcome (bytes : List ℕ) (due : Due) : Type 0 where
 
 -- What running code of a stranger for so many steps comes to: what it comes to in so many steps, or the first rule that it breaks.
 pub data CodeOutcome (left : Option (List ℕ)) (code : PlainCode) (steps : ℕ) (stats : Bool) (due : Due) : Type 0 where
-  executed : code_fault code ≡ None → InputOutcome left code steps stats due → CodeOutcome left code steps stats due
+  executed : code_fault code ≡ None → InputOutcome left code steps (Prints stats) due → CodeOutcome left code steps stats due
   unsound : (fault : VerifyFault) → code_fault code ≡ Some fault → due ≡ silent (BadCode fault) → CodeOutcome left code steps stats due
 
 -- what running the code of an object comes to; or the first fault of the format of bytes that are none
@@ -170,32 +178,44 @@ pub data ExecOutcome (left : Option (List ℕ)) (bytes : List ℕ) (steps : ℕ)
 
 -- ---- requests
 
--- what a request comes to, by what is left of the input and the bytes of the file that it reads; none that is not built
+-- the run of a source on an empty input, for as many steps as where words name none, prints so many bytes and comes to this status
+pub record IsSampled (source : List ℕ) (printed status : ℕ) : Type 0 where
+  pub run : Due
+  pub outcome : SourceOutcome source (λ p. ProgramOutcome (Some []) p default_steps (Prints false)) run
+  pub prints : length run.out ≡ printed
+  pub ends : status_of run.end ≡ status
+
+-- What a sample of so many lines comes to: success, and the line that sums up the run of its source.
+pub data SampleOutcome (lines : ℕ) (due : Due) : Type 0 where
+  summed : (printed status : ℕ) → IsSampled (sample_text lines) printed status
+      → due ≡ due_of (Succeeded None) (sample_line lines (length (sample_text lines)) printed status) → SampleOutcome lines due
+
+-- what a request comes to, by what is left of the input and the bytes of the file that it reads
 abbrev pub FileOutcome : Option (List ℕ) → Request → List ℕ → Due → Type 0
 FileOutcome left (Check name) source due = SourceOutcome source CheckOutcome due
 FileOutcome left (Compile name object) source due = SourceOutcome source (λ p. CompileOutcome p object) due
 FileOutcome left (Listing object) bytes due = ListOutcome bytes due
-FileOutcome left (Run name steps stats) source due = SourceOutcome source (λ p. ProgramOutcome left p steps stats) due
+FileOutcome left (Run name steps stats) source due = SourceOutcome source (λ p. ProgramOutcome left p steps (Prints stats)) due
 FileOutcome left (Exec object steps stats) bytes due = ExecOutcome left bytes steps stats due
-FileOutcome left (Trace name steps watch) source due = ⊥
-FileOutcome left (Sample lines) source due = ⊥
+FileOutcome left (Trace name steps watch) source due = SourceOutcome source (λ p. ProgramOutcome left p steps (Traces watch)) due
+FileOutcome left (Sample lines) none due = SampleOutcome lines due
 
--- what a request comes to, by what the files tell
+-- What a request comes to, by what the files tell: its file is missing, or too long, or has these bytes; or it reads none.
 pub data RequestOutcome (told : List ℕ → Told) (left : Option (List ℕ)) (request : Request) (due : Due) : Type 0 where
-  absent : told (read_by request) ≡ Missing → due ≡ silent ReadFault → RequestOutcome told left request due
-  past_limit : MayPass (told (read_by request)) (limit_of request) → due ≡ silent TooLong → RequestOutcome told left request due
-  fetched : (bytes : List ℕ) → MayHave (told (read_by request)) bytes → length bytes ≤ limit_of request → FileOutcome left request bytes due
-      → RequestOutcome told left request due
+  absent : (name : List ℕ) → read_by request ≡ Some name → told name ≡ Missing → due ≡ silent ReadFault → RequestOutcome told left request due
+  past_limit : (name : List ℕ) → read_by request ≡ Some name → MayPass (told name) (limit_of request) → due ≡ silent TooLong → RequestOutcome told left request due
+  fetched : (name bytes : List ℕ) → read_by request ≡ Some name → MayHave (told name) bytes → length bytes ≤ limit_of request
+      → FileOutcome left request bytes due → RequestOutcome told left request due
+  unfetched : read_by request ≡ None → FileOutcome left request [] due → RequestOutcome told left request due
 
 -- what words come to, by what the files tell and what is left of the input
 pub data Outcome (words : List (List ℕ)) (told : List ℕ → Told) (left : Option (List ℕ)) (due : Due) : Type 0 where
   bad_word : (k : ℕ) → IsBadWord words k → due ≡ silent (BadWord k) → Outcome words told left due
-  unbuilt : (request : Request) → Asks words request → is_built request ≡ false → due ≡ silent (BadWord 1) → Outcome words told left due
-  asks : (request : Request) → Asks words request → is_built request ≡ true → RequestOutcome told left request due → Outcome words told left due
+  asks : (request : Request) → Asks words request → RequestOutcome told left request due → Outcome words told left due
 
 -- the words ask to read a file that is told to be missing
 abbrev pub Lacks : List (List ℕ) → (List ℕ → Told) → Type 0
-Lacks words told = (request : Request) × Asks words request × (is_built request ≡ true) × (told (read_by request) ≡ Missing)
+Lacks words told = (request : Request) × (name : List ℕ) × Asks words request × (read_by request ≡ Some name) × (told name ≡ Missing)
 
 -- ---- inner: how the reading of a source may stop
 

@@ -1,8 +1,8 @@
 // The top call: from the words to the status.
-ghost use Rattle.std.specs.Prelude.{◌≡◌, ◌≤◌, length};
-ghost use Rattle.alma_words.specs.Words.{texts};
+ghost use Rattle.std.specs.Prelude.{◌≡◌, ◌≤◌, Some, length};
+ghost use Rattle.alma_words.specs.Words.{asked, texts};
 ghost use Rattle.alma_words.specs.Limits.{IsWithinLimits};
-ghost use Rattle.alma_driver.specs.Words.{limit_of, request_of};
+ghost use Rattle.alma_driver.specs.Words.{limit_of, read_by};
 ghost use Rattle.alma_driver.specs.Outside.{sink_side, source_side, files_side, outside_of};
 ghost use Rattle.alma_driver.specs.Outcome.{FileOutcome, RequestOutcome, Outcome};
 ghost use Rattle.alma_driver.specs.Course.{Serves, Performs, Answers};
@@ -11,29 +11,31 @@ ghost use Rattle.alma_driver.specs.Causes.{Causes};
 use crate::compile::compile_source;
 use crate::end::End;
 use crate::exec::exec_object;
+use crate::input::Showing;
 use crate::list::list_object;
 use crate::load::check_only;
 use crate::report::report;
-use crate::run::run_source;
-use crate::task::{Task, task_of};
+use crate::request::{file_read, read_limit};
+use crate::run::{run_source, trace_source};
+use crate::sample::sample;
 use alma_base::Status;
 use alma_io::{Files, Sink, Source};
-use alma_words::{file_word, read_words};
+use alma_words::{Request, file_word, read_words};
 use std::alloc::Global;
 
-// Does a task with the bytes of the file that it reads.
+// Does what a request asks, with the bytes of the file that it reads.
 fn serve_file<F: Files, I: Source, O: Sink>(
     alloc: Global,
-    task: Task<'_>,
+    request: &Request<'_>,
     bytes: &[u8],
     files: &mut F,
     input: &mut I,
     out: &mut O,
 ) -> End
-    requires within { IsWithinLimits (request_of task) }
-    requires short { length bytes.now ≤ limit_of (request_of task) }
+    requires within { IsWithinLimits (asked request.now) }
+    requires short { length bytes.now ≤ limit_of (asked request.now) }
     ensures fetch_count { F.fetch_faults files.new ≡ F.fetch_faults files.old }
-    ensures course { Serves (FileOutcome (I.left input.old) (request_of task.entry) bytes.now)
+    ensures course { Serves (FileOutcome (I.left input.old) (asked request.now) bytes.now)
         (files_side (F.told files.old) (F.fetch_faults files.old) (F.store_faults files.old))
         (files_side (F.told files.new) (F.fetch_faults files.new) (F.store_faults files.new))
         (source_side (I.left input.old) (I.faults input.old))
@@ -41,26 +43,32 @@ fn serve_file<F: Files, I: Source, O: Sink>(
         (sink_side (O.written out.old) (O.faults out.old))
         (sink_side (O.written out.new) (O.faults out.new)) result }
 {
-    match task {
-        Task::Check(_) => check_only(alloc, bytes),
-        Task::Run(_, steps, stats) => run_source(alloc, bytes, input, steps, stats, out),
-        Task::Compile(_, object) => compile_source(alloc, bytes, object, files),
-        Task::List(_) => list_object(alloc, bytes, out),
-        Task::Exec(_, steps, stats) => exec_object(alloc, bytes, input, steps, stats, out),
+    match request {
+        Request::Check(_) => check_only(alloc, bytes),
+        Request::Compile(_, object) => compile_source(alloc, bytes, object, files),
+        Request::List(_) => list_object(alloc, bytes, out),
+        Request::Run(_, steps, stats) => {
+            run_source(alloc, bytes, input, *steps, Showing::Prints(*stats), out)
+        }
+        Request::Exec(_, steps, stats) => exec_object(alloc, bytes, input, *steps, *stats, out),
+        Request::Trace(_, steps, names) => trace_source(alloc, bytes, input, *steps, names, out),
+        Request::Sample(lines) => sample(alloc, *lines, out),
     }
 }
 
-// Fetches the file that a task reads, and does it.
-fn serve<F: Files, I: Source, O: Sink>(
+// Fetches the file that a request reads, and does what it asks.
+fn serve_named<F: Files, I: Source, O: Sink>(
     alloc: Global,
-    task: Task<'_>,
+    request: &Request<'_>,
+    file: &str,
     files: &mut F,
     input: &mut I,
     out: &mut O,
 ) -> End
-    requires { IsWithinLimits (request_of task) }
+    requires within { IsWithinLimits (asked request.now) }
+    requires read { read_by (asked request.now) ≡ Some file.now }
     ensures { Performs
-        (RequestOutcome (F.told files.old) (I.left input.old) (request_of task.entry))
+        (RequestOutcome (F.told files.old) (I.left input.old) (asked request.now))
         (files_side (F.told files.old) (F.fetch_faults files.old) (F.store_faults files.old))
         (files_side (F.told files.new) (F.fetch_faults files.new) (F.store_faults files.new))
         (source_side (I.left input.old) (I.faults input.old))
@@ -68,13 +76,37 @@ fn serve<F: Files, I: Source, O: Sink>(
         (sink_side (O.written out.old) (O.faults out.old))
         (sink_side (O.written out.new) (O.faults out.new)) result }
 {
-    match files.fetch(alloc, task.file(), task.limit()) {
-        Ok(bytes) => serve_file(alloc, task, &bytes, files, input, out),
+    match files.fetch(alloc, file, read_limit(request)) {
+        Ok(bytes) => serve_file(alloc, request, &bytes, files, input, out),
         Err(fault) => End::from(fault),
     }
 }
 
-// Does what the words ask. Commands that are not built are unknown ones.
+// Does what a request asks. A sample reads no file.
+fn serve<F: Files, I: Source, O: Sink>(
+    alloc: Global,
+    request: &Request<'_>,
+    files: &mut F,
+    input: &mut I,
+    out: &mut O,
+) -> End
+    requires { IsWithinLimits (asked request.now) }
+    ensures { Performs
+        (RequestOutcome (F.told files.old) (I.left input.old) (asked request.now))
+        (files_side (F.told files.old) (F.fetch_faults files.old) (F.store_faults files.old))
+        (files_side (F.told files.new) (F.fetch_faults files.new) (F.store_faults files.new))
+        (source_side (I.left input.old) (I.faults input.old))
+        (source_side (I.left input.new) (I.faults input.new))
+        (sink_side (O.written out.old) (O.faults out.old))
+        (sink_side (O.written out.new) (O.faults out.new)) result }
+{
+    match file_read(request) {
+        Some(file) => serve_named(alloc, request, file, files, input, out),
+        None => serve_file(alloc, request, b"", files, input, out),
+    }
+}
+
+// Does what the words ask.
 fn perform<F: Files, I: Source, O: Sink>(
     alloc: Global,
     words: &[String],
@@ -91,17 +123,14 @@ fn perform<F: Files, I: Source, O: Sink>(
         (sink_side (O.written out.new) (O.faults out.new)) result }
 {
     match read_words(alloc, words) {
-        Ok(request) => match task_of(request) {
-            Some(task) => serve(alloc, task, files, input, out),
-            None => End::BadWord(1),
-        },
+        Ok(request) => serve(alloc, &request, files, input, out),
         Err(error) => End::from(error),
     }
 }
 
 /// All that the program does: what the words ask, over the files, the input and the two outputs. `words` are those behind
-/// the program's name. Programs and listings print on `out`; what stands in the way is told on `err`. `compile` alone
-/// changes a file: the one that it stores.
+/// the program's name. Programs, listings, traces and the line of a sample print on `out`; what stands in the way is told
+/// on `err`. `compile` alone changes a file: the one that it stores.
 ///
 /// The status is 0 for success, 1 for a program that fails, 2 for a bad word, 3 for a source that is no program, which is told
 /// with the line and the column of its first fault, 4 for a fault of the run, 5 for steps that ran out, 6

@@ -7,7 +7,7 @@ ghost use Rattle.alma_driver.specs.Outcome.{CodeOutcome, ExecOutcome};
 ghost use Rattle.alma_driver.specs.Course.{Runs};
 
 use crate::end::End;
-use crate::input::run_verified;
+use crate::input::{Showing, run_verified};
 use alma_io::{Sink, Source};
 use alma_object::ObjectView;
 use alma_verify::verify;
@@ -31,7 +31,7 @@ fn exec_view<I: Source, O: Sink>(
         (sink_side (O.written out.new) (O.faults out.new)) result }
 {
     match verify(view) {
-        Ok(code) => run_verified(alloc, code, input, steps, stats, out),
+        Ok(code) => run_verified(alloc, code, input, steps, Showing::Prints(stats), out),
         Err(fault) => End::BadCode(fault),
     }
 }

@@ -1,4 +1,4 @@
-// The run of verified code, on the input that it reads.
+// The run of verified code, on the input that it reads, and what it shows.
 ghost use Rattle.std.specs.Prelude.{◌≡◌, ◌≤◌, true, length};
 ghost use Rattle.alma_base.specs.Limits.{input_limit};
 ghost use Rattle.alma_verify.specs.Verified.{code_of_verified};
@@ -6,14 +6,25 @@ ghost use Rattle.alma_words.specs.Words.{greatest_steps};
 ghost use Rattle.alma_driver.specs.Ends.{counts_in};
 ghost use Rattle.alma_driver.specs.Outside.{sink_side, source_side};
 ghost use Rattle.alma_driver.specs.Outcome.{code_due, has_read, InputOutcome};
+ghost use Rattle.alma_driver.specs.Showing.{Prints, shown_of};
 ghost use Rattle.alma_driver.specs.Course.{Goes, Runs};
 
 use crate::end::{Counts, End, end_of, line_of};
+use crate::trace::trace_on;
 use alma_base::{INPUT_LIMIT, NoMemory};
 use alma_engine::Machine;
 use alma_io::{Sink, Source, read_all};
 use alma_verify::Verified;
 use std::alloc::Global;
+
+/// What a run shows.
+#[derive(Clone, Copy, Debug)]
+pub enum Showing<'n> {
+    /// Its prints, and its counts where they are asked for.
+    Prints(bool),
+    /// The text that traces it, with the values of watched names.
+    Traces(&'n [&'n str]),
+}
 
 // The counts of a machine, where they are asked for.
 fn counts_of(machine: &Machine<'_, '_>, stats: bool) -> Option<Counts>
@@ -30,8 +41,8 @@ fn counts_of(machine: &Machine<'_, '_>, stats: bool) -> Option<Counts>
     }
 }
 
-// Runs verified code for at most so many steps, on an input of at most 16,777,216 bytes.
-fn run_on<O: Sink>(
+// Runs verified code for at most so many steps, and writes what it prints.
+fn print_on<O: Sink>(
     alloc: Global,
     code: Verified<'_>,
     input: &[u8],
@@ -41,7 +52,8 @@ fn run_on<O: Sink>(
 ) -> End
     requires few { steps ≤ greatest_steps }
     requires lawful { length input.now ≤ input_limit }
-    ensures { Goes (λ due. due ≡ code_due (code_of_verified code.entry) input.now steps stats)
+    ensures { Goes (λ due. due ≡ code_due (code_of_verified code.entry) input.now steps
+        (Prints stats))
         (sink_side (O.written out.old) (O.faults out.old))
         (sink_side (O.written out.new) (O.faults out.new)) result }
 {
@@ -55,25 +67,48 @@ fn run_on<O: Sink>(
     }
 }
 
+// Runs verified code for at most so many steps, on an input of at most 16,777,216 bytes.
+fn run_on<O: Sink>(
+    alloc: Global,
+    code: Verified<'_>,
+    input: &[u8],
+    steps: u64,
+    showing: Showing<'_>,
+    out: &mut O,
+) -> End
+    requires few { steps ≤ greatest_steps }
+    requires lawful { length input.now ≤ input_limit }
+    ensures { Goes (λ due. due ≡ code_due (code_of_verified code.entry) input.now steps
+        (shown_of showing.entry))
+        (sink_side (O.written out.old) (O.faults out.old))
+        (sink_side (O.written out.new) (O.faults out.new)) result }
+{
+    match showing {
+        Showing::Prints(stats) => print_on(alloc, code, input, steps, stats, out),
+        Showing::Traces(names) => trace_on(alloc, code, input, steps, names, out),
+    }
+}
+
 // Runs verified code that reads, on the whole input.
 fn run_reading<I: Source, O: Sink>(
     alloc: Global,
     code: Verified<'_>,
     input: &mut I,
     steps: u64,
-    stats: bool,
+    showing: Showing<'_>,
     out: &mut O,
 ) -> End
     requires few { steps ≤ greatest_steps }
     requires reads { has_read (code_of_verified code) ≡ true }
-    ensures { Runs (InputOutcome (I.left input.old) (code_of_verified code.entry) steps stats)
+    ensures { Runs (InputOutcome (I.left input.old) (code_of_verified code.entry) steps
+        (shown_of showing.entry))
         (source_side (I.left input.old) (I.faults input.old))
         (source_side (I.left input.new) (I.faults input.new))
         (sink_side (O.written out.old) (O.faults out.old))
         (sink_side (O.written out.new) (O.faults out.new)) result }
 {
     match read_all(alloc, input, INPUT_LIMIT) {
-        Ok(bytes) => run_on(alloc, code, &bytes, steps, stats, out),
+        Ok(bytes) => run_on(alloc, code, &bytes, steps, showing, out),
         Err(error) => End::from(error),
     }
 }
@@ -84,18 +119,19 @@ pub fn run_verified<I: Source, O: Sink>(
     code: Verified<'_>,
     input: &mut I,
     steps: u64,
-    stats: bool,
+    showing: Showing<'_>,
     out: &mut O,
 ) -> End
     requires { steps ≤ greatest_steps }
-    ensures { Runs (InputOutcome (I.left input.old) (code_of_verified code.entry) steps stats)
+    ensures { Runs (InputOutcome (I.left input.old) (code_of_verified code.entry) steps
+        (shown_of showing.entry))
         (source_side (I.left input.old) (I.faults input.old))
         (source_side (I.left input.new) (I.faults input.new))
         (sink_side (O.written out.old) (O.faults out.old))
         (sink_side (O.written out.new) (O.faults out.new)) result }
 {
     if code.view().has_read() {
-        return run_reading(alloc, code, input, steps, stats, out);
+        return run_reading(alloc, code, input, steps, showing, out);
     }
-    run_on(alloc, code, b"", steps, stats, out)
+    run_on(alloc, code, b"", steps, showing, out)
 }

@@ -12,7 +12,11 @@ pub mod laws;
 mod list;
 mod load;
 mod report;
+mod request;
 mod run;
-mod task;
+mod sample;
+mod trace;
 
+pub use alma_sample::sample_source;
+pub use alma_words::{Request, WordsError, read_words};
 pub use driver::alma;

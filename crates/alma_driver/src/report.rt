@@ -15,8 +15,8 @@ use alma_io::{Sink, WriteFault, write_all};
 use alma_object::ObjectFault;
 use itoa::Buffer;
 
-// Writes parts one after another.
-fn write_parts<E: Sink>(err: &mut E, parts: &[&[u8]]) -> Result<(), WriteFault>
+/// Writes parts one after another.
+pub fn write_parts<E: Sink>(err: &mut E, parts: &[&[u8]]) -> Result<(), WriteFault>
     ensures ok { OnOk result (Appends (E.written err.old) (E.written err.new)
         (flat_map (λ part. part.now) parts.now)) }
     ensures front { OnErr result (AppendsFront (E.written err.old) (E.written err.new)

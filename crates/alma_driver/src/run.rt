@@ -1,5 +1,5 @@
-// The command `run`.
-ghost use Rattle.std.specs.Prelude.{◌≤◌, length};
+// The run of a source: the commands `run` and `trace`.
+ghost use Rattle.std.specs.Prelude.{◌≤◌, length, map};
 ghost use Rattle.alma_base.specs.Limits.{source_limit};
 ghost use Rattle.alma_code.specs.Plain.{code_of};
 ghost use Rattle.alma_code.specs.Records.{KeepsCounts, KeepsRecords, KeepsVersion};
@@ -10,10 +10,11 @@ ghost use Rattle.alma_sound.specs.Reads.{HasLabels};
 ghost use Rattle.alma_words.specs.Words.{greatest_steps};
 ghost use Rattle.alma_driver.specs.Outside.{sink_side, source_side};
 ghost use Rattle.alma_driver.specs.Outcome.{InputOutcome, ProgramOutcome, SourceOutcome};
+ghost use Rattle.alma_driver.specs.Showing.{Traces, shown_of};
 ghost use Rattle.alma_driver.specs.Course.{Runs};
 
 use crate::end::End;
-use crate::input::run_verified;
+use crate::input::{Showing, run_verified};
 use crate::load::load_source;
 use alma_base::NoMemory;
 use alma_code::Code;
@@ -30,7 +31,7 @@ fn run_code<I: Source, O: Sink>(
     code: &Code,
     input: &mut I,
     steps: u64,
-    stats: bool,
+    showing: Showing<'_>,
     out: &mut O,
 ) -> End
     requires sound { IsSound (code_of code.now) }
@@ -38,7 +39,7 @@ fn run_code<I: Source, O: Sink>(
     requires counts { KeepsCounts (code_of code.now) }
     requires records { KeepsRecords (code_of code.now) }
     requires few { steps ≤ greatest_steps }
-    ensures { Runs (InputOutcome (I.left input.old) (code_of code.now) steps stats)
+    ensures { Runs (InputOutcome (I.left input.old) (code_of code.now) steps (shown_of showing.entry))
         (source_side (I.left input.old) (I.faults input.old))
         (source_side (I.left input.new) (I.faults input.new))
         (sink_side (O.written out.old) (O.faults out.old))
@@ -47,7 +48,7 @@ fn run_code<I: Source, O: Sink>(
     match encode(alloc, code) {
         Ok(object) => {
             let verified = open_encoded(code, &object);
-            run_verified(alloc, verified, input, steps, stats, out)
+            run_verified(alloc, verified, input, steps, showing, out)
         }
         Err(NoMemory) => End::Memory,
     }
@@ -59,20 +60,21 @@ fn run_program<I: Source, O: Sink>(
     program: &Program,
     input: &mut I,
     steps: u64,
-    stats: bool,
+    showing: Showing<'_>,
     out: &mut O,
 ) -> End
     requires checked { IsChecked (program_of program.now) }
     requires labelled { HasLabels (program_of program.now) }
     requires few { steps ≤ greatest_steps }
-    ensures { Runs (ProgramOutcome (I.left input.old) (program_of program.now) steps stats)
+    ensures { Runs (ProgramOutcome (I.left input.old) (program_of program.now) steps
+        (shown_of showing.entry))
         (source_side (I.left input.old) (I.faults input.old))
         (source_side (I.left input.new) (I.faults input.new))
         (sink_side (O.written out.old) (O.faults out.old))
         (sink_side (O.written out.new) (O.faults out.new)) result }
 {
     match lower(alloc, program) {
-        Ok(code) => run_code(alloc, &code, input, steps, stats, out),
+        Ok(code) => run_code(alloc, &code, input, steps, showing, out),
         Err(error) => End::from(error),
     }
 }
@@ -83,20 +85,41 @@ pub fn run_source<I: Source, O: Sink>(
     source: &[u8],
     input: &mut I,
     steps: u64,
-    stats: bool,
+    showing: Showing<'_>,
     out: &mut O,
 ) -> End
     requires short { length source.now ≤ source_limit }
     requires few { steps ≤ greatest_steps }
     ensures { Runs (SourceOutcome source.now
-        (λ p. ProgramOutcome (I.left input.old) p steps stats))
+        (λ p. ProgramOutcome (I.left input.old) p steps (shown_of showing.entry)))
         (source_side (I.left input.old) (I.faults input.old))
         (source_side (I.left input.new) (I.faults input.new))
         (sink_side (O.written out.old) (O.faults out.old))
         (sink_side (O.written out.new) (O.faults out.new)) result }
 {
     match load_source(alloc, source) {
-        Ok(program) => run_program(alloc, &program, input, steps, stats, out),
+        Ok(program) => run_program(alloc, &program, input, steps, showing, out),
         Err(end) => end,
     }
+}
+
+/// Compiles a source and traces the run of its object for at most so many steps, with the values of watched names.
+pub fn trace_source<I: Source, O: Sink>(
+    alloc: Global,
+    source: &[u8],
+    input: &mut I,
+    steps: u64,
+    names: &[&str],
+    out: &mut O,
+) -> End
+    requires short { length source.now ≤ source_limit }
+    requires few { steps ≤ greatest_steps }
+    ensures { Runs (SourceOutcome source.now
+        (λ p. ProgramOutcome (I.left input.old) p steps (Traces (map (λ name. name.now) names.now))))
+        (source_side (I.left input.old) (I.faults input.old))
+        (source_side (I.left input.new) (I.faults input.new))
+        (sink_side (O.written out.old) (O.faults out.old))
+        (sink_side (O.written out.new) (O.faults out.new)) result }
+{
+    run_source(alloc, source, input, steps, Showing::Traces(names), out)
 }

@@ -2,7 +2,7 @@ MODULE Change;
 (* All ways to give change in coins of 50, 20, 10, 5, 2 and 1: SOME tries each number of a coin, the rest is for the smaller ones. FORALL
    goes through the ways; what its second part changes stays: the count of the ways, and the way with the fewest coins. *)
 TYPE Coins = ARRAY [1..6] OF INTEGER;
-VAR value, number, best: Coins; ways, fewest, rest, used, i, n: INTEGER;
+VAR value, number, best: Coins; ways, fewest, rest, used, i: INTEGER;
 
 PROCEDURE Give(VAR rest, used: INTEGER);
 VAR i, n: INTEGER;

@@ -12,5 +12,5 @@ BEGIN
     IF length > longest THEN longest := length; best := start END;
     start := start + 1
   UNTIL start >= 1000;
-  WRITE(best)
+  WRITELN(best)
 END Collatz.

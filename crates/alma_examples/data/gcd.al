@@ -6,5 +6,5 @@ BEGIN
   WHILE b <> 0 DO
     rest := a MOD b; a := b; b := rest
   END;
-  WRITE(a)
+  WRITELN(a)
 END Gcd.

@@ -5,8 +5,8 @@ BEGIN
   WRITELN(KNOWN(x));
   x = 7;
   WRITELN(KNOWN(x), " ", x);
-  y = x;
-  WRITELN(y);
+  IF y = x THEN WRITELN("y is ", y) END;
+  IF y = 8 THEN WRITELN("y is 8") ELSE WRITELN("y is not 8") END;
   x = 8;
   WRITELN("never printed")
 END Lesson03.

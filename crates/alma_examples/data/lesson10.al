@@ -4,7 +4,7 @@ VAR a, b, count: INTEGER;
 BEGIN
   count := 0;
   FORALL
-    SOME a := 1 TO 6 DO SOME b := 1 TO 6 DO a + b = 7 END END
+    SOME a := 1 TO 3 DO SOME b := 1 TO 3 DO a + b = 4 END END
   DO
     count := count + 1;
     WRITE(a, "+", b, " ")

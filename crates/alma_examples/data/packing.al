@@ -3,7 +3,7 @@ MODULE Packing;
    left must stand. The free places are those whose cells are unknown. *)
 CONST WIDE = 33; HIGH = 32; COUNT = 9;
 TYPE Column = [1..WIDE]; Row = [1..HIGH];
-VAR side: ARRAY [1..COUNT] OF INTEGER; used: ARRAY [1..COUNT] OF BOOLEAN; owner: ARRAY Row, Column OF INTEGER; i, x, y, s, left: INTEGER;
+VAR side: ARRAY [1..COUNT] OF INTEGER; used: ARRAY [1..COUNT] OF BOOLEAN; owner: ARRAY Row, Column OF INTEGER; i, x, y, s: INTEGER;
 
 PROCEDURE Cover(x, y, s: INTEGER);
 VAR i, j: INTEGER;

@@ -6,7 +6,7 @@ VAR count: INTEGER;
 PROCEDURE Ways(number: INTEGER; VAR count: INTEGER);
 VAR a, b, c: INTEGER;
 
-  PROCEDURE Square(VAR root: INTEGER; least: INTEGER): INTEGER;
+  PROCEDURE Square(root: INTEGER): INTEGER;
   BEGIN
     RETURN root * root
   END Square;
@@ -25,7 +25,7 @@ VAR a, b, c: INTEGER;
   END Roots;
 
 BEGIN
-  FORALL Roots; (Square(a, 0) + Square(b, 0) + Square(c, 0)) = number DO
+  FORALL Roots; Square(a) + Square(b) + Square(c) = number DO
     WRITELN(number, " = ", a, "*", a, " + ", b, "*", b, " + ", c, "*", c);
     count := count + 1
   END

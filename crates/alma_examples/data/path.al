@@ -2,7 +2,7 @@ MODULE Path;
 (* A way through a graph that comes to each of its nodes once. The edges are those of a dodecahedron: each node has three neighbours. *)
 CONST N = 20;
 TYPE Node = [0..N - 1];
-VAR next: ARRAY Node, [1..3] OF Node; order: ARRAY Node OF INTEGER; at, node, place, i, k, d: INTEGER;
+VAR next: ARRAY Node, [1..3] OF Node; order: ARRAY Node OF INTEGER; at, node, place, k: INTEGER;
 
 PROCEDURE Edges;
 VAR i: INTEGER;
@@ -23,7 +23,7 @@ BEGIN
     SOME k := 1 TO 3 DO node := next[at, k]; NOT KNOWN(order[node]); order[node] = place; at := node END
   END;
   FOR place := 1 TO N - 1 DO
-    FOR node := 0 TO N - 1 DO IF (order[node]) = place THEN WRITE(" ", node) END END
+    FOR node := 0 TO N - 1 DO IF order[node] = place THEN WRITE(" ", node) END END
   END;
   WRITELN
 END Path.

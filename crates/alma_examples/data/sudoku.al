@@ -1,6 +1,6 @@
 MODULE Sudoku;
 (* A sudoku, read from the input as 81 digits with 0 for a free field. Rows, columns and squares note which digits they have; a failing
-   branch gives the notes back. *)
+   branch gives the notes back. alma run sudoku.al <sudoku.in *)
 TYPE Nine = [0..8]; Digits = [1..9]; Notes = ARRAY Nine, Digits OF BOOLEAN;
 VAR field: ARRAY Nine, Nine OF Digits; row, column, square: Notes; i, j, d: INTEGER; c: CHAR;
 

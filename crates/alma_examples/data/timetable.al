@@ -1,8 +1,9 @@
 MODULE Timetable;
 (* Lessons are put into hours. The input has the number of lessons and, for each, its teacher, its class and its room, as numbers. In one
-   hour no teacher, class or room has two lessons, and the class that a lesson is for has no free hour between two. *)
+   hour no teacher, class or room has two lessons, and the class that a lesson is for has no free hour between two.
+   alma run timetable.al <timetable.in *)
 TYPE Numbers = [1..20]; Hours = [1..5]; Taken = ARRAY Numbers, Hours OF BOOLEAN;
-VAR count, l, h, t: INTEGER; teacher, class, room: ARRAY Numbers OF Numbers; hour: ARRAY Numbers OF Hours;
+VAR count, l, h: INTEGER; teacher, class, room: ARRAY Numbers OF Numbers; hour: ARRAY Numbers OF Hours;
     teaches, learns, full: Taken;
 
 PROCEDURE Put(l, h: INTEGER);
@@ -30,7 +31,7 @@ BEGIN
   FOR h := 1 TO 5 DO
     WRITE("hour ", h, ":");
     FOR l := 1 TO count DO
-      IF (hour[l]) = h THEN WRITE("  teacher ", teacher[l], " class ", class[l], " room ", room[l]) END
+      IF hour[l] = h THEN WRITE("  teacher ", teacher[l], " class ", class[l], " room ", room[l]) END
     END;
     WRITELN
   END

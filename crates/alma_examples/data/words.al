@@ -2,13 +2,13 @@ MODULE Words;
 (* A recogniser by recursive descent that goes back over its input: READ takes a byte, and a branch that fails gives it back. So the grammar
    is written down as it stands, and no byte is looked at before it is taken:
      Sum = Product { "+" Product } .   Product = Factor { "*" Factor } .   Factor = Digit { Digit } | "(" Sum ")" .
-   Each procedure computes the value of what it reads. *)
+   Each procedure computes the value of what it reads. alma run words.al <words.in *)
 VAR value: INTEGER;
 
 PROCEDURE Token(wanted: CHAR);
 VAR c: CHAR;
 BEGIN
-  READ(c); (c) = wanted
+  READ(c); c = wanted
 END Token;
 
 PROCEDURE Number(VAR value: INTEGER);
@@ -48,5 +48,5 @@ END Factor;
 
 BEGIN
   (* The whole input is one group, its line end left out. *)
-  IF (Factor(value)) THEN WRITELN(value) ELSE WRITELN("no sum in parentheses") END
+  IF Factor(value) THEN WRITELN(value) ELSE WRITELN("no sum in parentheses") END
 END Words.

@@ -3,7 +3,7 @@ MODULE Year;
 VAR year: INTEGER;
 BEGIN
   year := 2028;
-  year MOD 4 <= 0;
-  IF year MOD 100 <= 0 THEN year MOD 400 <= 0 END;
-  WRITE(year, TRUE)
+  year MOD 4 = 0;
+  IF year MOD 100 = 0 THEN year MOD 400 = 0 END;
+  WRITELN(year, " is a leap year")
 END Year.

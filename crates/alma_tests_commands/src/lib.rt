@@ -11,3 +11,7 @@ mod input;
 mod object;
 #[cfg(test)]
 mod objects;
+#[cfg(test)]
+mod sample;
+#[cfg(test)]
+mod trace;

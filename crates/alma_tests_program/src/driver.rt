@@ -656,11 +656,19 @@ const WORDS: [Words; 25] = [
     },
     Words {
         words: &["trace", "a.al"],
-        answer: BAD_WORD_1,
+        answer: Answer {
+            status: 0,
+            out: b"end succeeded\n",
+            err: b"",
+        },
     },
     Words {
         words: &["sample", "1"],
-        answer: BAD_WORD_1,
+        answer: Answer {
+            status: 0,
+            out: b"lines 1 bytes 140 printed 1 status 0\n",
+            err: b"",
+        },
     },
     Words {
         words: &["run"],

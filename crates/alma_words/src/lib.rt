@@ -8,4 +8,5 @@ mod options;
 mod setting;
 mod words;
 
+pub use options::DEFAULT_STEPS;
 pub use words::{Request, WordsError, file_word, read_words};

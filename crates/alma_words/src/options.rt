@@ -9,7 +9,7 @@ use alma_base::NoMemory;
 use std::alloc::Global;
 
 /// The number of steps of a run where the words name none.
-const DEFAULT_STEPS: u64 = 1_000_000_000;
+pub const DEFAULT_STEPS: u64 = 1_000_000_000;
 
 /// What options a command takes, beside one for steps.
 #[derive(Clone, Copy)]

@@ -1,28 +1,18 @@
-use Rattle.std.proofs.Common.{◌≡◌, subst}
-use Rattle.std.specs.Prelude.{true}
-use Rattle.alma_words.specs.Words.{Request, Asks, asked, texts}
-use Rattle.alma_words.specs.Limits.{IsWithinLimits}
+use Rattle.alma_words.specs.Words.{asked, texts}
 use Rattle.alma_words.proofs.WordLemmas.{within_limits}
-use Rattle.alma_driver.specs.Words.{is_built, request_of}
 use Rattle.alma_driver.specs.Outside.{files_side, source_side, sink_side}
-use Rattle.alma_driver.proofs.DriverLemmas.{performs_bad, performs_unbuilt, performs_asked}
+use Rattle.alma_driver.proofs.DriverLemmas.{performs_bad, performs_asked}
 use Rattle.alma_driver.proofs.driver.perform.Goals as goal
 
 pub serve-requires : goal.serve-requires
-serve-requires g c = subst IsWithinLimits c.in-Some.ensures.0 (within_limits (texts c.args.words.now) (asked c.in-Ok.request) c.in-Ok.ensures)
+serve-requires g c = within_limits (texts c.args.words.now) (asked c.in-Ok.request) c.in-Ok.ensures
 
-pub returns-in-Some : goal.returns-in-Some
-returns-in-Some g c =
-    performs_asked (texts c.args.words.now) (request_of c.in-Some.task) (files_side (g.F.Files.told c.args.files.now) (g.F.Files.fetch_faults c.args.files.now) (g.F.Files.store_faults c.args.files.now))
+pub returns-in-Ok : goal.returns-in-Ok
+returns-in-Ok g c =
+    performs_asked (texts c.args.words.now) (asked c.in-Ok.request) (files_side (g.F.Files.told c.args.files.now) (g.F.Files.fetch_faults c.args.files.now) (g.F.Files.store_faults c.args.files.now))
     (files_side (g.F.Files.told c.serve.new.files) (g.F.Files.fetch_faults c.serve.new.files) (g.F.Files.store_faults c.serve.new.files)) (source_side (g.I.Source.left c.args.input.now) (g.I.Source.faults c.args.input.now))
     (source_side (g.I.Source.left c.serve.new.input) (g.I.Source.faults c.serve.new.input)) (sink_side (g.O.Sink.written c.args.out.now) (g.O.Sink.faults c.args.out.now))
-    (sink_side (g.O.Sink.written c.serve.new.out) (g.O.Sink.faults c.serve.new.out)) c.serve.result
-    (subst (Asks (texts c.args.words.now)) c.in-Some.ensures.0 c.in-Ok.ensures)
-    (subst (λ (r : Request). is_built r ≡ true) c.in-Some.ensures.0 c.in-Some.ensures.1) c.serve.ensures
-
-pub returns-in-None : goal.returns-in-None
-returns-in-None g c =
-    performs_unbuilt (texts c.args.words.now) (asked c.in-Ok.request) (files_side (g.F.Files.told c.args.files.now) (g.F.Files.fetch_faults c.args.files.now) (g.F.Files.store_faults c.args.files.now)) (source_side (g.I.Source.left c.args.input.now) (g.I.Source.faults c.args.input.now)) (sink_side (g.O.Sink.written c.args.out.now) (g.O.Sink.faults c.args.out.now)) c.in-Ok.ensures c.in-None.ensures
+    (sink_side (g.O.Sink.written c.serve.new.out) (g.O.Sink.faults c.serve.new.out)) c.serve.result c.in-Ok.ensures c.serve.ensures
 
 pub returns-in-Err : goal.returns-in-Err
 returns-in-Err g c =
