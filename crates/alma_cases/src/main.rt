@@ -10,10 +10,11 @@ use call::status_past_limit;
 use case::Case;
 use std::alloc::Global;
 
-const NAMES: [&str; 6] = [
+const NAMES: [&str; 7] = [
     "check.jsonl",
     "run.jsonl",
     "faults.jsonl",
+    "rules.jsonl",
     "words.jsonl",
     "objects.jsonl",
     "final-exec.jsonl",
