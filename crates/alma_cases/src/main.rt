@@ -10,12 +10,13 @@ use call::status_past_limit;
 use case::Case;
 use std::alloc::Global;
 
-const NAMES: [&str; 12] = [
+const NAMES: [&str; 13] = [
     "check.jsonl",
     "run.jsonl",
     "stats.jsonl",
     "trace.jsonl",
     "faults.jsonl",
+    "rules.jsonl",
     "words.jsonl",
     "tutorial.jsonl",
     "objects.jsonl",

@@ -21,7 +21,7 @@ use alma_check_join::{
     add_cases, add_label, join_arm, join_arms, join_case, join_else, join_label, join_single,
     settle,
 };
-use alma_check_rules::{Env, Place, Span, Typed};
+use alma_check_rules::{Env, Labels, Place, Span, Typed};
 use alma_ir::{CaseArm, Stmt as IrStmt};
 use alma_rules::Stop;
 use alma_tree::{Arm, Expr, Label, Stmts};
@@ -64,7 +64,7 @@ fn check_arms(
     ensures { Answers (arms_judged (scene_of env.now place) slot.old (typing_in case.now)
         (view.view_arm first.now) (view.arms_of more.now)) cases_of slot.new result }
 {
-    let mut spans: Vec<Span> = Vec::new(alloc);
+    let mut spans = Labels::new(alloc);
     let mut arms = check_arm(alloc, env, place, slot, case, &mut spans, first)?;
     for arm in more {
         let next = check_arm(alloc, env, place, slot, case, &mut spans, arm);
@@ -80,14 +80,14 @@ fn check_arm(
     place: Place,
     slot: &mut u32,
     case: &Option<Typed>,
-    spans: &mut Vec<Span>,
+    spans: &mut Labels,
     arm: &Arm,
 ) -> Result<Option<Vec<CaseArm>>, Stop>
     ensures judged { Answers (walk.judge_arm (scene_of env.now place) slot.old (typing_in case.now)
-        (spans_view spans.old.items) (view.view_arm arm.now)).arm cases_of slot.new result }
-    ensures spans { OnOk result (spans_view spans.new.items
-        ≡ spans_view spans.old.items ++ (walk.judge_arm (scene_of env.now place) slot.old
-        (typing_in case.now) (spans_view spans.old.items) (view.view_arm arm.now)).spans) }
+        (spans_view spans.old) (view.view_arm arm.now)).arm cases_of slot.new result }
+    ensures spans { OnOk result (spans_view spans.new
+        ≡ spans_view spans.old ++ (walk.judge_arm (scene_of env.now place) slot.old
+        (typing_in case.now) (spans_view spans.old) (view.view_arm arm.now)).spans) }
 {
     match arm {
         Arm::Empty { .. } => Ok(Some(Vec::new(alloc))),
@@ -133,15 +133,15 @@ fn check_labels(
     place: Place,
     slot: &mut u32,
     case: &Option<Typed>,
-    spans: &mut Vec<Span>,
+    spans: &mut Labels,
     first: &Label,
     more: &[Label],
 ) -> Result<Option<Vec<Span>>, Stop>
     ensures judged { Answers (labels_judged (scene_of env.now place) slot.old (typing_in case.now)
-        (spans_view spans.old.items) (view.view_label first.now) (view.labels_of more.now)) spans_of
+        (spans_view spans.old) (view.view_label first.now) (view.labels_of more.now)) spans_of
         slot.new result }
-    ensures spans { IfOk result (λ v. Grown (spans_view spans.old.items) (spans_in v)
-        (spans_view spans.new.items)) }
+    ensures spans { IfOk result (λ v. Grown (spans_view spans.old) (spans_in v)
+        (spans_view spans.new)) }
 {
     let span = check_label(alloc, env, place, slot, case, spans, first);
     let mut labels = add_label(Some(Vec::new(alloc)), spans, span)?;
@@ -159,7 +159,7 @@ fn check_label(
     place: Place,
     slot: &mut u32,
     case: &Option<Typed>,
-    spans: &[Span],
+    spans: &Labels,
     label: &Label,
 ) -> Result<Option<Span>, Stop>
     ensures { Answers (walk.judge_label (scene_of env.now place) slot.old (typing_in case.now)

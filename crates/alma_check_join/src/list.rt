@@ -16,7 +16,7 @@ ghost use Rattle.alma_check_join.specs.Bounded.{Grown, trail_for_entries};
 
 use alma_check_build::add;
 use alma_check_form::{joined, with_part};
-use alma_check_rules::{Behind, Operator, Span, Typed};
+use alma_check_rules::{Behind, Labels, Operator, Span, Typed};
 use alma_ir::{Arg, Arm, Branch, CaseArm, Stmt};
 use alma_rules::Stop;
 use std::alloc::AllocError;
@@ -113,18 +113,16 @@ pub fn add_branch(
 /// One more label of an arm of CASE, which the labels behind it must not share a value with.
 pub fn add_label(
     kept: Option<Vec<Span>>,
-    earlier: &mut Vec<Span>,
+    earlier: &mut Labels,
     span: Result<Option<Span>, Stop>,
 ) -> Result<Option<Vec<Span>>, Stop>
     ensures judged { (j : Judged parts.Span) (m : ℕ) (rest : ℕ → Judged (List parts.Span))
         → Answers j span_view m span → Continues (onward_spans (spans_in kept) (with nodes.cons_span
         (and_then j rest))) (λ k. onward_spans (spans_in k) (rest m)) result }
     ensures earlier { (j : Judged parts.Span) (m : ℕ) → Answers j span_view m span
-        → OnOk result (spans_view earlier.new.items ≡ spans_view earlier.old.items ++ option_to_list
+        → OnOk result (spans_view earlier.new ≡ spans_view earlier.old ++ option_to_list
         j.value) }
-    ensures grown { (old : List parts.Span) → Grown old (spans_in kept) (spans_view
-        earlier.old.items) → IfOk result (λ k. Grown old (spans_in k) (spans_view
-        earlier.new.items)) }
+    ensures grown { (old : List parts.Span) → Grown old (spans_in kept) (spans_view earlier.old) → IfOk result (λ k. Grown old (spans_in k) (spans_view earlier.new)) }
 {
     let span = span?;
     note(earlier, span)?;
@@ -164,14 +162,14 @@ fn joined_cases(
 }
 
 #[tactic(auto, using(crate::proofs::Steps::spans_push, std::proofs::lemmas::Grind::common_steps))]
-fn note(earlier: &mut Vec<Span>, span: Option<Span>) -> Result<(), AllocError>
-    ensures { OnOk result (spans_view earlier.new.items ≡ spans_view earlier.old.items ++
+fn note(earlier: &mut Labels, span: Option<Span>) -> Result<(), AllocError>
+    ensures { OnOk result (spans_view earlier.new ≡ spans_view earlier.old ++
         option_to_list (option_map span_view span)) }
 {
     match span {
         None => Ok(()),
         Some(span) => {
-            earlier.push(span)?;
+            earlier.note(span)?;
             Ok(())
         }
     }
@@ -179,11 +177,13 @@ fn note(earlier: &mut Vec<Span>, span: Option<Span>) -> Result<(), AllocError>
 
 /// The labels of an arm stay noted where none of them is Bad.
 #[tactic(auto, using(crate::proofs::Settled::settling, std::proofs::lemmas::Grind::common_steps))]
-pub fn settle(spans: &mut Vec<Span>, before: usize, labels: &Option<Vec<Span>>)
-    ensures { spans_view spans.new.items ≡ trail_for_entries before (is_some labels.now) (spans_view
-        spans.old.items) }
+pub fn settle(spans: &mut Labels, before: usize, labels: &Option<Vec<Span>>)
+    ensures { spans_view spans.new ≡ trail_for_entries before (is_some labels.now) (spans_view
+        spans.old) }
 {
     if labels.is_none() {
-        spans.truncate(before);
+        spans.forget(before);
+    } else {
+        spans.settle();
     }
 }

@@ -23,8 +23,8 @@ use alma_check_form::{
     test_stmt, text, while_stmt, write,
 };
 use alma_check_rules::{
-    Denoted, Env, Found, Located, Place, Span, Typed, pass_assign, pass_bare_return, pass_by,
-    pass_case, pass_constant, pass_label, pass_loop, pass_loop_name, pass_read, pass_return,
+    Denoted, Env, Found, Labels, Located, Place, Span, Typed, pass_assign, pass_bare_return,
+    pass_by, pass_case, pass_constant, pass_label, pass_loop, pass_loop_name, pass_read, pass_return,
     pass_test, pass_write, span_of,
 };
 use alma_ir::{Arm, Branch, CaseArm, Stmt, Test};
@@ -298,7 +298,7 @@ pub fn join_label(
     env: &Env,
     node: u32,
     case: &Option<Typed>,
-    earlier: &[Span],
+    earlier: &Labels,
     low: Option<Typed>,
     high: Result<Option<Typed>, Stop>,
 ) -> Result<Option<Span>, Stop>
@@ -316,7 +316,7 @@ pub fn join_single(
     env: &Env,
     node: u32,
     case: &Option<Typed>,
-    earlier: &[Span],
+    earlier: &Labels,
     low: Result<Option<Typed>, Stop>,
 ) -> Result<Option<Span>, Stop>
     ensures { (j : Judged parts.Typing) (m : ℕ) → Answers j typing_of m low

@@ -3,12 +3,15 @@
 #![tactic(auto, using(std::proofs::lemmas::Grind::common_steps))]
 
 mod env;
+mod labels;
 mod name;
 mod part;
+mod reach;
 mod rule;
 mod stmt_rule;
 
 pub use env::{Env, Formal, Found, Heading, Place, Returns};
+pub use labels::Labels;
 pub use part::{
     Argument, Behind, Callee, Denoted, Join, Located, Meaning, Operand, Operator, Span, Typed, Use,
 };

@@ -8,6 +8,7 @@ ghost use Rattle.alma_rules.specs.StmtRules as rules;
 ghost use Rattle.alma_check_rules.specs.Views.{scene_of, found_view, headings_in, typing_in, typing_of, located_in, returns_view, somewhere, span_view, spans_view};
 
 use crate::env::{Env, Found, Place, Returns};
+use crate::labels::Labels;
 use crate::part::{Located, Span, Typed};
 use crate::rule::{no_integer, structured};
 use alma_base::{CheckFault, Range};
@@ -177,24 +178,6 @@ fn is_above(low: Option<i64>, high: Option<i64>) -> bool
     }
 }
 
-fn share_value(first: Range, second: Range) -> bool
-    ensures { result ≡ rules.share_value first second }
-{
-    first.low <= second.high && second.low <= first.high
-}
-
-// A value of the label is one of an earlier label.
-fn shares_value(span: Span, earlier: &[Span]) -> bool
-    ensures { result ≡ rules.shares_value (span_view span) (spans_view earlier.now) }
-{
-    for other in earlier {
-        if span.base == other.base && share_value(span.range, other.range) {
-            return true;
-        }
-    }
-    false
-}
-
 /// The values of a label, where both its ends have one.
 pub fn span_of(env: &Env, low: &Typed, high: &Typed) -> Option<Span>
     ensures { option_map span_view result ≡ parts.span_of (scene_of env.now somewhere)
@@ -215,12 +198,12 @@ pub fn span_of(env: &Env, low: &Typed, high: &Typed) -> Option<Span>
     }
 }
 
-fn shares_with(earlier: &[Span], span: Option<Span>) -> bool
+fn shares_with(earlier: &Labels, span: Option<Span>) -> bool
     ensures { result ≡ rules.shares_with (spans_view earlier.now) (option_map span_view span) }
 {
     match span {
         None => false,
-        Some(span) => shares_value(span, earlier),
+        Some(span) => earlier.shares(span),
     }
 }
 
@@ -232,7 +215,7 @@ fn low_above_high(env: &Env, low: &Typed, high: &Typed) -> bool
     env.base(low.shape) == env.base(high.shape) && is_above(low.constant, high.constant)
 }
 
-fn label_twice(env: &Env, earlier: &[Span], low: &Typed, high: &Typed) -> bool
+fn label_twice(env: &Env, earlier: &Labels, low: &Typed, high: &Typed) -> bool
     ensures { result ≡ rules.label_twice (scene_of env.now somewhere) (spans_view earlier.now)
         (parts.span_of (scene_of env.now somewhere)) (typing_of low.now, typing_of high.now) }
 {
@@ -246,7 +229,7 @@ pub fn pass_label(
     env: &Env,
     node: u32,
     case: &Option<Typed>,
-    earlier: &[Span],
+    earlier: &Labels,
     low: &Option<Typed>,
     high: &Option<Typed>,
 ) -> Result<(), Stop>

@@ -13,7 +13,7 @@ use Rattle.alma_rules.specs.Judged.{Broken, least}
 use Rattle.alma_rules.specs.Answers.{first}
 use Rattle.alma_rules.specs.Scene.{Scene}
 use Rattle.alma_rules.specs.Decls.{Frame, read_heading, read_decls}
-use Rattle.alma_rules.specs.Modules.{frame_of, resolved}
+use Rattle.alma_rules.specs.Modules.{frame_of, broken, resolved}
 use Rattle.alma_check_reader.specs.declared.reading.Broken.{Broken as CodeBroken}
 use Rattle.alma_check_reader.specs.Told.{fault_of}
 use Rattle.alma_check_reader.specs.Around.{Outer, left, outer_of, cleared}
@@ -25,6 +25,7 @@ use Rattle.alma_check_stmt.specs.Shown.{stand, frame_in, routines_in, unless_bad
 use Rattle.alma_check_stmt.specs.Whole.{IsJudged}
 use Rattle.alma_check_stmt.proofs.Headings.{inner_frame}
 use Rattle.alma_check_stmt.proofs.Routines.{read_by}
+use Rattle.alma_check_stmt.proofs.Wholes.{unbroken_is_fine}
 
 pub on_ok : {T E : Type 0} {P Q : Type 0} (r : Result T E) → (P → Q) → OnOk r P → OnOk r Q
 on_ok (Ok x) f h = f h
@@ -85,3 +86,14 @@ pub fine_judged : (source : List ℕ) (tokens : List Lexeme) (m : tree.Module) (
     → IsJudged source tokens m None (Some rs) name globals
 fine_judged source tokens m f b rs name globals e1 e2 h =
     subst (λ y. IsJudged source tokens m None y name globals) (ap (λ x. unless_bad x rs) e2) (subst (λ x. IsJudged source tokens m (fault_of x) (unless_bad b rs) name globals) e1 h)
+
+-- where no rule is broken no routine is Bad
+bad_never : (source : List ℕ) (tokens : List Lexeme) (m : tree.Module) (b : Bool) (rs : List ir.Routine) (name : List ℕ) (globals : List ir.Global) → IsJudged source tokens m None (unless_bad b rs) name globals
+    → (broken source tokens m ≡ [] → (p : ir.Program) × (resolved source tokens m ≡ Some p)) → b ≡ false
+bad_never source tokens m false rs name globals h law = refl
+bad_never source tokens m true rs name globals h law = absurd (unbroken_is_fine source tokens m name globals h law)
+
+pub never_bad : (source : List ℕ) (tokens : List Lexeme) (m : tree.Module) (f : Option CodeBroken) (b : Bool) (rs : List ir.Routine) (name : List ℕ) (globals : List ir.Global) → IsJudged source tokens m (fault_of f) (unless_bad b rs) name globals
+    → (broken source tokens m ≡ [] → (p : ir.Program) × (resolved source tokens m ≡ Some p)) → f ≡ None → b ≡ false
+never_bad source tokens m f b rs name globals h law e =
+    bad_never source tokens m b rs name globals (subst (λ (x : Option CodeBroken). IsJudged source tokens m (fault_of x) (unless_bad b rs) name globals) e h) law

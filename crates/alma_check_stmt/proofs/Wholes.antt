@@ -119,3 +119,13 @@ pub unbroken_resolves : (source : List ℕ) (tokens : List Lexeme) (m : tree.Mod
 unbroken_resolves source tokens m rs name globals h =
     let e : broken source tokens m ≡ [] = least_none (broken source tokens m) h.least_is in
     record { quiet = e; is = rw (e, sym h.routines_are, h.name_is, h.globals_are) refl }
+
+-- where no rule is broken no routine is Bad, since there is a resolved program then
+pub unbroken_is_fine : (source : List ℕ) (tokens : List Lexeme) (m : tree.Module) (name : List ℕ) (globals : List ir.Global) → IsJudged source tokens m None None name globals
+    → (broken source tokens m ≡ [] → (p : ir.Program) × (resolved source tokens m ≡ Some p)) → ⊥
+unbroken_is_fine source tokens m name globals h law =
+    let e : broken source tokens m ≡ [] = least_none (broken source tokens m) h.least_is in
+    let none : resolved source tokens m ≡ None = rw (e, sym h.routines_are) refl in
+    let some = law e in
+    let same : None ≡ Some some.0 = sym none ∙ some.1 in
+    cc

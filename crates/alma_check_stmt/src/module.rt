@@ -1,5 +1,5 @@
 // The whole check.
-ghost use Rattle.std.specs.Prelude.{◌≡◌, ◌≤◌, ℕ, List, length, map, IfOk};
+ghost use Rattle.std.specs.Prelude.{◌≡◌, ◌≤◌, ℕ, List, length, map, false, None, IfOk};
 ghost use Rattle.alma_base.specs.Limits.{source_limit};
 ghost use Rattle.alma_scan.specs.Tokens.{Lexeme};
 ghost use Rattle.alma_scan.specs.Scanned.{lexemes};
@@ -23,7 +23,9 @@ use alma_check_block::{count_routines, new_frame, open_block};
 use alma_check_marks::first_token_of;
 use alma_check_reader::{Broken, Reader};
 use alma_ir::Program;
+use alma_resolved::laws::unbroken_trees_have_a_program;
 use alma_resolved_limits::laws::a_resolved_program_of_a_short_source_is_checked;
+use alma_resolved_whole::laws::trees_of_the_parser_stand_so;
 use alma_rules::CheckError;
 use alma_scan::Token;
 use alma_tree::Module;
@@ -109,9 +111,9 @@ fn broken_rule(alloc: Global, module: &Module, broken: Broken) -> CheckError
     }
 }
 
-// The resolved program, or the least of the broken rules. Where no rule is broken no routine is Bad, so that this is not said to be
-// want of memory then.
+// The resolved program, or the least of the broken rules. Where no rule is broken no routine is Bad.
 fn finish(alloc: Global, module: &Module, whole: Whole) -> Result<Program, CheckError>
+    requires fine { whole.checked.fault ≡ None → whole.checked.is_bad ≡ false }
     ensures { (source : List ℕ) (tokens : List Lexeme) → IsJudged source tokens
         (view_module module.now) (fault_of whole.checked.fault) (routines_in whole.checked)
         whole.name.items (map global_of whole.globals.items)
@@ -119,9 +121,6 @@ fn finish(alloc: Global, module: &Module, whole: Whole) -> Result<Program, Check
 {
     if let Some(broken) = whole.checked.fault {
         return Err(broken_rule(alloc, module, broken));
-    }
-    if whole.checked.is_bad {
-        return Err(CheckError::Memory);
     }
     Ok(Program {
         name: whole.name,
@@ -145,6 +144,8 @@ pub fn check(
     ensures checked { IfOk result (λ p. IsChecked (program_of p)) }
 {
     a_resolved_program_of_a_short_source_is_checked();
+    trees_of_the_parser_stand_so();
+    unbroken_trees_have_a_program();
     match judge_whole(alloc, module, tokens, source) {
         Err(NoMemory) => Err(CheckError::Memory),
         Ok(whole) => finish(alloc, module, whole),

@@ -734,88 +734,88 @@ case::check_case_else-returns-in-Some t c =
 pub case::check_arms-returns-in_err-arms : goal.case::check_arms-returns-in_err-arms
 case::check_arms-returns-in_err-arms t c =
     passed _ cases_of _ _ _ c.from_residual.ensures.1
-    (cases.arms_stops (scene_of c.args.env.now c.args.place) c.args.slot.now (typing_in c.args.case.now) (view.view_arm c.args.first.now) (view.arms_of c.args.more.now) _ (rw c.new-spans.ensures.items at c.in_err-arms.ensures.judged))
+    (cases.arms_stops (scene_of c.args.env.now c.args.place) c.args.slot.now (typing_in c.args.case.now) (view.view_arm c.args.first.now) (view.arms_of c.args.more.now) _ (rw c.new-spans.ensures at c.in_err-arms.ensures.judged))
 
 pub case::check_arms-loop-arm-init : goal.case::check_arms-loop-arm-init
 case::check_arms-loop-arm-init t c =
-    cases.arms_fine (scene_of c.args.env.now c.args.place) c.args.slot.now (typing_in c.args.case.now) (view.view_arm c.args.first.now) (view.arms_of c.args.more.now) c.check_arm.new.slot (cases_in c.in_ok-arms.arms) (spans_view c.check_arm.new.spans.items)
-    (rw c.new-spans.ensures.items at c.in_ok-arms.ensures.judged) (rw c.new-spans.ensures.items at c.in_ok-arms.ensures.spans)
+    cases.arms_fine (scene_of c.args.env.now c.args.place) c.args.slot.now (typing_in c.args.case.now) (view.view_arm c.args.first.now) (view.arms_of c.args.more.now) c.check_arm.new.slot (cases_in c.in_ok-arms.arms) (spans_view c.check_arm.new.spans)
+    (rw c.new-spans.ensures at c.in_ok-arms.ensures.judged) (rw c.new-spans.ensures at c.in_ok-arms.ensures.spans)
 
 pub case::check_arms-loop-arm-preserved : goal.case::check_arms-loop-arm-preserved
 case::check_arms-loop-arm-preserved t c =
-    let new = of_ok c.check_arm-next.result (spans_view c.check_arm-next.new.spans.items ≡ spans_view c.loop-arm.spans.items ++ (walk.judge_arm (scene_of c.args.env.now c.args.place) c.loop-arm.slot (typing_in c.args.case.now) (spans_view c.loop-arm.spans.items) (view.view_arm c.arm-item.result)).spans) c.in_ok-arms-2.ensures.all_judged c.check_arm-next.ensures.spans in
-    c.loop-arm.invariant ∙ ap (onward_cases (cases_in c.loop-arm.arms)) (arms_turn (scene_of c.args.env.now c.args.place) c.loop-arm.slot c.loop-arm.arm-index (typing_in c.args.case.now) (spans_view c.loop-arm.spans.items) (spans_view c.check_arm-next.new.spans.items) c.args.more.now c.arm-item.result c.loop-arm-test.true c.arm-item.is new)
-    ∙ c.in_ok-arms-2.ensures.judged (walk.judge_arm (scene_of c.args.env.now c.args.place) c.loop-arm.slot (typing_in c.args.case.now) (spans_view c.loop-arm.spans.items) (view.view_arm c.arm-item.result)).arm _
-    (λ m. walk.judge_arm_tail (scene_of c.args.env.now c.args.place) m (typing_in c.args.case.now) (spans_view c.check_arm-next.new.spans.items) (view.arms_of (drop (c.loop-arm.arm-index + 1) c.args.more.now))) c.check_arm-next.ensures.judged
+    let new = of_ok c.check_arm-next.result (spans_view c.check_arm-next.new.spans ≡ spans_view c.loop-arm.spans ++ (walk.judge_arm (scene_of c.args.env.now c.args.place) c.loop-arm.slot (typing_in c.args.case.now) (spans_view c.loop-arm.spans) (view.view_arm c.arm-item.result)).spans) c.in_ok-arms-2.ensures.all_judged c.check_arm-next.ensures.spans in
+    c.loop-arm.invariant ∙ ap (onward_cases (cases_in c.loop-arm.arms)) (arms_turn (scene_of c.args.env.now c.args.place) c.loop-arm.slot c.loop-arm.arm-index (typing_in c.args.case.now) (spans_view c.loop-arm.spans) (spans_view c.check_arm-next.new.spans) c.args.more.now c.arm-item.result c.loop-arm-test.true c.arm-item.is new)
+    ∙ c.in_ok-arms-2.ensures.judged (walk.judge_arm (scene_of c.args.env.now c.args.place) c.loop-arm.slot (typing_in c.args.case.now) (spans_view c.loop-arm.spans) (view.view_arm c.arm-item.result)).arm _
+    (λ m. walk.judge_arm_tail (scene_of c.args.env.now c.args.place) m (typing_in c.args.case.now) (spans_view c.check_arm-next.new.spans) (view.arms_of (drop (c.loop-arm.arm-index + 1) c.args.more.now))) c.check_arm-next.ensures.judged
 
 pub case::check_arms-returns-in_err-arms-2 : goal.case::check_arms-returns-in_err-arms-2
 case::check_arms-returns-in_err-arms-2 t c =
     passed _ cases_of _ _ _ c.from_residual-in_err-arms-2.ensures.1
-    (stops_as _ _ _ (c.loop-arm.invariant ∙ ap (onward_cases (cases_in c.loop-arm.arms)) (arms_turn (scene_of c.args.env.now c.args.place) c.loop-arm.slot c.loop-arm.arm-index (typing_in c.args.case.now) (spans_view c.loop-arm.spans.items) _ c.args.more.now c.arm-item.result c.loop-arm-test.true c.arm-item.is refl))
-    (c.in_err-arms-2.ensures.judged (walk.judge_arm (scene_of c.args.env.now c.args.place) c.loop-arm.slot (typing_in c.args.case.now) (spans_view c.loop-arm.spans.items) (view.view_arm c.arm-item.result)).arm _
-    (λ m. walk.judge_arm_tail (scene_of c.args.env.now c.args.place) m (typing_in c.args.case.now) (spans_view c.loop-arm.spans.items ++ (walk.judge_arm (scene_of c.args.env.now c.args.place) c.loop-arm.slot (typing_in c.args.case.now) (spans_view c.loop-arm.spans.items) (view.view_arm c.arm-item.result)).spans) (view.arms_of (drop (c.loop-arm.arm-index + 1) c.args.more.now))) c.check_arm-next.ensures.judged))
+    (stops_as _ _ _ (c.loop-arm.invariant ∙ ap (onward_cases (cases_in c.loop-arm.arms)) (arms_turn (scene_of c.args.env.now c.args.place) c.loop-arm.slot c.loop-arm.arm-index (typing_in c.args.case.now) (spans_view c.loop-arm.spans) _ c.args.more.now c.arm-item.result c.loop-arm-test.true c.arm-item.is refl))
+    (c.in_err-arms-2.ensures.judged (walk.judge_arm (scene_of c.args.env.now c.args.place) c.loop-arm.slot (typing_in c.args.case.now) (spans_view c.loop-arm.spans) (view.view_arm c.arm-item.result)).arm _
+    (λ m. walk.judge_arm_tail (scene_of c.args.env.now c.args.place) m (typing_in c.args.case.now) (spans_view c.loop-arm.spans ++ (walk.judge_arm (scene_of c.args.env.now c.args.place) c.loop-arm.slot (typing_in c.args.case.now) (spans_view c.loop-arm.spans) (view.view_arm c.arm-item.result)).spans) (view.arms_of (drop (c.loop-arm.arm-index + 1) c.args.more.now))) c.check_arm-next.ensures.judged))
 
 pub case::check_arms-returns : goal.case::check_arms-returns
 case::check_arms-returns t c =
-    c.loop-arm.invariant ∙ ap (onward_cases (cases_in c.loop-arm.arms)) (cases.arms_end (scene_of c.args.env.now c.args.place) c.loop-arm.slot c.loop-arm.arm-index (typing_in c.args.case.now) (spans_view c.loop-arm.spans.items) c.args.more.now c.loop-arm-test.false)
+    c.loop-arm.invariant ∙ ap (onward_cases (cases_in c.loop-arm.arms)) (cases.arms_end (scene_of c.args.env.now c.args.place) c.loop-arm.slot c.loop-arm.arm-index (typing_in c.args.case.now) (spans_view c.loop-arm.spans) c.args.more.now c.loop-arm-test.false)
     ∙ onward_end parts.append_cases ir.no_cases (cases_in c.loop-arm.arms) c.loop-arm.slot cases.cases_last
 
 pub case::check_arm-returns-in-Empty : goal.case::check_arm-returns-in-Empty
 case::check_arm-returns-in-Empty t c = record {
-  judged = rw (c.in-Empty.is, cases.empty_arm_is (scene_of c.args.env.now c.args.place) c.args.slot.now _ (typing_in c.args.case.now) (spans_view c.args.spans.now.items)) (ap (λ l. of_value c.args.slot.now (Some (cases_list l))) (sym c.new.ensures.items));
-  spans = rw (c.in-Empty.is, cases.empty_spans (scene_of c.args.env.now c.args.place) c.args.slot.now _ (typing_in c.args.case.now) (spans_view c.args.spans.now.items)) (sym (nothing_behind (spans_view c.args.spans.now.items)));
+  judged = rw (c.in-Empty.is, cases.empty_arm_is (scene_of c.args.env.now c.args.place) c.args.slot.now _ (typing_in c.args.case.now) (spans_view c.args.spans.now)) (ap (λ l. of_value c.args.slot.now (Some (cases_list l))) (sym c.new.ensures.items));
+  spans = rw (c.in-Empty.is, cases.empty_spans (scene_of c.args.env.now c.args.place) c.args.slot.now _ (typing_in c.args.case.now) (spans_view c.args.spans.now)) (sym (nothing_behind (spans_view c.args.spans.now)));
 }
 
 pub case::check_arm-returns-in_err-labels-in-Labelled-clause-judged : goal.case::check_arm-returns-in_err-labels-in-Labelled-clause-judged
 case::check_arm-returns-in_err-labels-in-Labelled-clause-judged t c =
     passed _ cases_of _ _ _ c.from_residual.ensures.1
     (rw (c.in-Labelled.is, rows.labelled_is _ c.in-Labelled.first c.in-Labelled.more c.in-Labelled.body)
-    (cases.arm_stops (scene_of c.args.env.now c.args.place) c.args.slot.now _ (typing_in c.args.case.now) (spans_view c.args.spans.now.items) (view.view_label c.in-Labelled.first) (view.labels_of c.in-Labelled.more.items) (view.view_stmts c.in-Labelled.body) _ (rw c.deref.ensures.value at c.in_err-labels-in-Labelled.ensures.judged)))
+    (cases.arm_stops (scene_of c.args.env.now c.args.place) c.args.slot.now _ (typing_in c.args.case.now) (spans_view c.args.spans.now) (view.view_label c.in-Labelled.first) (view.labels_of c.in-Labelled.more.items) (view.view_stmts c.in-Labelled.body) _ (rw c.deref.ensures.value at c.in_err-labels-in-Labelled.ensures.judged)))
 
 pub case::check_arm-returns-in_ok-labels-in-Labelled-clause-judged : goal.case::check_arm-returns-in_ok-labels-in-Labelled-clause-judged
 case::check_arm-returns-in_ok-labels-in-Labelled-clause-judged t c =
     rw (c.in-Labelled.is, rows.labelled_is _ c.in-Labelled.first c.in-Labelled.more c.in-Labelled.body)
-    (rw (cases.arm_fine (scene_of c.args.env.now c.args.place) c.args.slot.now _ (typing_in c.args.case.now) (spans_view c.args.spans.now.items) (view.view_label c.in-Labelled.first) (view.labels_of c.in-Labelled.more.items) (view.view_stmts c.in-Labelled.body) c.check_labels.new.slot (spans_in c.in_ok-labels-in-Labelled.labels) (rw c.deref.ensures.value at c.in_ok-labels-in-Labelled.ensures.judged))
+    (rw (cases.arm_fine (scene_of c.args.env.now c.args.place) c.args.slot.now _ (typing_in c.args.case.now) (spans_view c.args.spans.now) (view.view_label c.in-Labelled.first) (view.labels_of c.in-Labelled.more.items) (view.view_stmts c.in-Labelled.body) c.check_labels.new.slot (spans_in c.in_ok-labels-in-Labelled.labels) (rw c.deref.ensures.value at c.in_ok-labels-in-Labelled.ensures.judged))
     (c.join_arm.ensures (walk.judge_stmts (scene_of c.args.env.now c.args.place) c.check_labels.new.slot (view.view_stmts c.in-Labelled.body)) c.check_labels.new.slot _ c.check_stmts-body.ensures))
 
 pub case::check_arm-returns-in_ok-labels-in-Labelled-clause-spans : goal.case::check_arm-returns-in_ok-labels-in-Labelled-clause-spans
 case::check_arm-returns-in_ok-labels-in-Labelled-clause-spans t c =
-    on_ok (spans_view c.settle.new.spans.items ≡ spans_view c.args.spans.now.items ++ (walk.judge_arm (scene_of c.args.env.now c.args.place) c.args.slot.now (typing_in c.args.case.now) (spans_view c.args.spans.now.items) (view.view_arm c.args.arm.now)).spans) c.join_arm.result (rw (c.in-Labelled.is, rows.labelled_is _ c.in-Labelled.first c.in-Labelled.more c.in-Labelled.body)
-    (rw (cases.arm_spans (scene_of c.args.env.now c.args.place) c.args.slot.now _ (typing_in c.args.case.now) (spans_view c.args.spans.now.items) (view.view_label c.in-Labelled.first) (view.labels_of c.in-Labelled.more.items) (view.view_stmts c.in-Labelled.body) c.check_labels.new.slot (spans_in c.in_ok-labels-in-Labelled.labels) (rw c.deref.ensures.value at c.in_ok-labels-in-Labelled.ensures.judged))
-    (settled (spans_view c.args.spans.now.items) (spans_view c.check_labels.new.spans.items) (spans_view c.settle.new.spans.items) c.len-before.result c.in_ok-labels-in-Labelled.labels (omega (arith, c.len-before.ensures, c.args.spans.now.ok.0, spans_count c.args.spans.now.items)) c.in_ok-labels-in-Labelled.ensures.spans c.settle.ensures)))
+    on_ok (spans_view c.settle.new.spans ≡ spans_view c.args.spans.now ++ (walk.judge_arm (scene_of c.args.env.now c.args.place) c.args.slot.now (typing_in c.args.case.now) (spans_view c.args.spans.now) (view.view_arm c.args.arm.now)).spans) c.join_arm.result (rw (c.in-Labelled.is, rows.labelled_is _ c.in-Labelled.first c.in-Labelled.more c.in-Labelled.body)
+    (rw (cases.arm_spans (scene_of c.args.env.now c.args.place) c.args.slot.now _ (typing_in c.args.case.now) (spans_view c.args.spans.now) (view.view_label c.in-Labelled.first) (view.labels_of c.in-Labelled.more.items) (view.view_stmts c.in-Labelled.body) c.check_labels.new.slot (spans_in c.in_ok-labels-in-Labelled.labels) (rw c.deref.ensures.value at c.in_ok-labels-in-Labelled.ensures.judged))
+    (settled (spans_view c.args.spans.now) (spans_view c.check_labels.new.spans) (spans_view c.settle.new.spans) c.len-before.result c.in_ok-labels-in-Labelled.labels (omega (arith, c.len-before.ensures, spans_count c.args.spans.now)) c.in_ok-labels-in-Labelled.ensures.spans c.settle.ensures)))
 
 pub case::check_labels-returns-in_err-labels-clause-judged : goal.case::check_labels-returns-in_err-labels-clause-judged
 case::check_labels-returns-in_err-labels-clause-judged t c =
     passed _ spans_of _ _ _ c.from_residual.ensures.1
-    (stops_as _ _ _ (labels_begin (scene_of c.args.env.now c.args.place) c.args.slot.now (typing_in c.args.case.now) (spans_view c.args.spans.now.items) _ (view.view_label c.args.first.now) (view.labels_of c.args.more.now) (spans_in (Some c.new.result)) (ap (λ l. Some (spans_view l)) c.new.ensures.items) refl)
-    (c.in_err-labels.ensures.judged (walk.judge_label (scene_of c.args.env.now c.args.place) c.args.slot.now (typing_in c.args.case.now) (spans_view c.args.spans.now.items) (view.view_label c.args.first.now)) _
-    (λ m. walk.judge_labels (scene_of c.args.env.now c.args.place) m (typing_in c.args.case.now) ((spans_view c.args.spans.now.items) ++ option_to_list (walk.judge_label (scene_of c.args.env.now c.args.place) c.args.slot.now (typing_in c.args.case.now) (spans_view c.args.spans.now.items) (view.view_label c.args.first.now)).value) (view.labels_of c.args.more.now)) (rw c.deref.ensures.value at c.check_label-span.ensures)))
+    (stops_as _ _ _ (labels_begin (scene_of c.args.env.now c.args.place) c.args.slot.now (typing_in c.args.case.now) (spans_view c.args.spans.now) _ (view.view_label c.args.first.now) (view.labels_of c.args.more.now) (spans_in (Some c.new.result)) (ap (λ l. Some (spans_view l)) c.new.ensures.items) refl)
+    (c.in_err-labels.ensures.judged (walk.judge_label (scene_of c.args.env.now c.args.place) c.args.slot.now (typing_in c.args.case.now) (spans_view c.args.spans.now) (view.view_label c.args.first.now)) _
+    (λ m. walk.judge_labels (scene_of c.args.env.now c.args.place) m (typing_in c.args.case.now) ((spans_view c.args.spans.now) ++ option_to_list (walk.judge_label (scene_of c.args.env.now c.args.place) c.args.slot.now (typing_in c.args.case.now) (spans_view c.args.spans.now) (view.view_label c.args.first.now)).value) (view.labels_of c.args.more.now)) c.check_label-span.ensures))
 
 pub case::check_labels-loop-label-init : goal.case::check_labels-loop-label-init
 case::check_labels-loop-label-init t c =
-    let new = c.in_ok-labels.ensures.earlier (walk.judge_label (scene_of c.args.env.now c.args.place) c.args.slot.now (typing_in c.args.case.now) (spans_view c.args.spans.now.items) (view.view_label c.args.first.now)) c.check_label-span.new.slot (rw c.deref.ensures.value at c.check_label-span.ensures) in (
-      labels_begin (scene_of c.args.env.now c.args.place) c.args.slot.now (typing_in c.args.case.now) (spans_view c.args.spans.now.items) (spans_view c.add_label.new.earlier.items) (view.view_label c.args.first.now) (view.labels_of c.args.more.now) (spans_in (Some c.new.result)) (ap (λ l. Some (spans_view l)) c.new.ensures.items) new
-          ∙ c.in_ok-labels.ensures.judged (walk.judge_label (scene_of c.args.env.now c.args.place) c.args.slot.now (typing_in c.args.case.now) (spans_view c.args.spans.now.items) (view.view_label c.args.first.now)) c.check_label-span.new.slot (λ m. walk.judge_labels (scene_of c.args.env.now c.args.place) m (typing_in c.args.case.now) (spans_view c.add_label.new.earlier.items) (view.labels_of c.args.more.now)) (rw c.deref.ensures.value at c.check_label-span.ensures),
-      c.in_ok-labels.ensures.grown (spans_view c.args.spans.now.items) (grown_begin (spans_view c.args.spans.now.items) (spans_in (Some c.new.result)) (ap (λ l. Some (spans_view l)) c.new.ensures.items)),
+    let new = c.in_ok-labels.ensures.earlier (walk.judge_label (scene_of c.args.env.now c.args.place) c.args.slot.now (typing_in c.args.case.now) (spans_view c.args.spans.now) (view.view_label c.args.first.now)) c.check_label-span.new.slot c.check_label-span.ensures in (
+      labels_begin (scene_of c.args.env.now c.args.place) c.args.slot.now (typing_in c.args.case.now) (spans_view c.args.spans.now) (spans_view c.add_label.new.earlier) (view.view_label c.args.first.now) (view.labels_of c.args.more.now) (spans_in (Some c.new.result)) (ap (λ l. Some (spans_view l)) c.new.ensures.items) new
+          ∙ c.in_ok-labels.ensures.judged (walk.judge_label (scene_of c.args.env.now c.args.place) c.args.slot.now (typing_in c.args.case.now) (spans_view c.args.spans.now) (view.view_label c.args.first.now)) c.check_label-span.new.slot (λ m. walk.judge_labels (scene_of c.args.env.now c.args.place) m (typing_in c.args.case.now) (spans_view c.add_label.new.earlier) (view.labels_of c.args.more.now)) c.check_label-span.ensures,
+      c.in_ok-labels.ensures.grown (spans_view c.args.spans.now) (grown_begin (spans_view c.args.spans.now) (spans_in (Some c.new.result)) (ap (λ l. Some (spans_view l)) c.new.ensures.items)),
     )
 
 pub case::check_labels-loop-label-preserved : goal.case::check_labels-loop-label-preserved
 case::check_labels-loop-label-preserved t c =
-    let new = c.in_ok-labels-2.ensures.earlier (walk.judge_label (scene_of c.args.env.now c.args.place) c.loop-label.slot (typing_in c.args.case.now) (spans_view c.loop-label.spans.items) (view.view_label c.label-item.result)) c.check_label-span-in-loop-label.new.slot (rw c.deref-in-loop-label.ensures.value at c.check_label-span-in-loop-label.ensures) in (
-      c.loop-label.invariant.0 ∙ ap (onward_spans (spans_in c.loop-label.labels)) (labels_turn (scene_of c.args.env.now c.args.place) c.loop-label.slot c.loop-label.label-index (typing_in c.args.case.now) (spans_view c.loop-label.spans.items) (spans_view c.add_label-in-loop-label.new.earlier.items) c.args.more.now c.label-item.result c.loop-label-test.true c.label-item.is new)
-          ∙ c.in_ok-labels-2.ensures.judged (walk.judge_label (scene_of c.args.env.now c.args.place) c.loop-label.slot (typing_in c.args.case.now) (spans_view c.loop-label.spans.items) (view.view_label c.label-item.result)) c.check_label-span-in-loop-label.new.slot (λ m. walk.judge_labels (scene_of c.args.env.now c.args.place) m (typing_in c.args.case.now) (spans_view c.add_label-in-loop-label.new.earlier.items) (view.labels_of (drop (c.loop-label.label-index + 1) c.args.more.now))) (rw c.deref-in-loop-label.ensures.value at c.check_label-span-in-loop-label.ensures),
-      c.in_ok-labels-2.ensures.grown (spans_view c.args.spans.now.items) c.loop-label.invariant.1,
+    let new = c.in_ok-labels-2.ensures.earlier (walk.judge_label (scene_of c.args.env.now c.args.place) c.loop-label.slot (typing_in c.args.case.now) (spans_view c.loop-label.spans) (view.view_label c.label-item.result)) c.check_label-span-in-loop-label.new.slot c.check_label-span-in-loop-label.ensures in (
+      c.loop-label.invariant.0 ∙ ap (onward_spans (spans_in c.loop-label.labels)) (labels_turn (scene_of c.args.env.now c.args.place) c.loop-label.slot c.loop-label.label-index (typing_in c.args.case.now) (spans_view c.loop-label.spans) (spans_view c.add_label-in-loop-label.new.earlier) c.args.more.now c.label-item.result c.loop-label-test.true c.label-item.is new)
+          ∙ c.in_ok-labels-2.ensures.judged (walk.judge_label (scene_of c.args.env.now c.args.place) c.loop-label.slot (typing_in c.args.case.now) (spans_view c.loop-label.spans) (view.view_label c.label-item.result)) c.check_label-span-in-loop-label.new.slot (λ m. walk.judge_labels (scene_of c.args.env.now c.args.place) m (typing_in c.args.case.now) (spans_view c.add_label-in-loop-label.new.earlier) (view.labels_of (drop (c.loop-label.label-index + 1) c.args.more.now))) c.check_label-span-in-loop-label.ensures,
+      c.in_ok-labels-2.ensures.grown (spans_view c.args.spans.now) c.loop-label.invariant.1,
     )
 
 pub case::check_labels-returns-in_err-labels-2-clause-judged : goal.case::check_labels-returns-in_err-labels-2-clause-judged
 case::check_labels-returns-in_err-labels-2-clause-judged t c =
     passed _ spans_of _ _ _ c.from_residual-in_err-labels-2.ensures.1
-    (stops_as _ _ _ (c.loop-label.invariant.0 ∙ ap (onward_spans (spans_in c.loop-label.labels)) (labels_turn (scene_of c.args.env.now c.args.place) c.loop-label.slot c.loop-label.label-index (typing_in c.args.case.now) (spans_view c.loop-label.spans.items) _ c.args.more.now c.label-item.result c.loop-label-test.true c.label-item.is refl))
-    (c.in_err-labels-2.ensures.judged (walk.judge_label (scene_of c.args.env.now c.args.place) c.loop-label.slot (typing_in c.args.case.now) (spans_view c.loop-label.spans.items) (view.view_label c.label-item.result)) _ (λ m. walk.judge_labels (scene_of c.args.env.now c.args.place) m (typing_in c.args.case.now) ((spans_view c.loop-label.spans.items) ++ option_to_list (walk.judge_label (scene_of c.args.env.now c.args.place) c.loop-label.slot (typing_in c.args.case.now) (spans_view c.loop-label.spans.items) (view.view_label c.label-item.result)).value) (view.labels_of (drop (c.loop-label.label-index + 1) c.args.more.now))) (rw c.deref-in-loop-label.ensures.value at c.check_label-span-in-loop-label.ensures)))
+    (stops_as _ _ _ (c.loop-label.invariant.0 ∙ ap (onward_spans (spans_in c.loop-label.labels)) (labels_turn (scene_of c.args.env.now c.args.place) c.loop-label.slot c.loop-label.label-index (typing_in c.args.case.now) (spans_view c.loop-label.spans) _ c.args.more.now c.label-item.result c.loop-label-test.true c.label-item.is refl))
+    (c.in_err-labels-2.ensures.judged (walk.judge_label (scene_of c.args.env.now c.args.place) c.loop-label.slot (typing_in c.args.case.now) (spans_view c.loop-label.spans) (view.view_label c.label-item.result)) _ (λ m. walk.judge_labels (scene_of c.args.env.now c.args.place) m (typing_in c.args.case.now) ((spans_view c.loop-label.spans) ++ option_to_list (walk.judge_label (scene_of c.args.env.now c.args.place) c.loop-label.slot (typing_in c.args.case.now) (spans_view c.loop-label.spans) (view.view_label c.label-item.result)).value) (view.labels_of (drop (c.loop-label.label-index + 1) c.args.more.now))) c.check_label-span-in-loop-label.ensures))
 
 pub case::check_labels-returns : goal.case::check_labels-returns
 case::check_labels-returns t c = record {
-  judged = c.loop-label.invariant.0 ∙ ap (onward_spans (spans_in c.loop-label.labels)) (cases.labels_end (scene_of c.args.env.now c.args.place) c.loop-label.slot c.loop-label.label-index (typing_in c.args.case.now) (spans_view c.loop-label.spans.items) c.args.more.now c.loop-label-test.false)
+  judged = c.loop-label.invariant.0 ∙ ap (onward_spans (spans_in c.loop-label.labels)) (cases.labels_end (scene_of c.args.env.now c.args.place) c.loop-label.slot c.loop-label.label-index (typing_in c.args.case.now) (spans_view c.loop-label.spans) c.args.more.now c.loop-label-test.false)
       ∙ onward_end (λ (x y : List parts.Span). x ++ y) [] (spans_in c.loop-label.labels) c.loop-label.slot nothing_behind;
   spans = c.loop-label.invariant.1;
 }

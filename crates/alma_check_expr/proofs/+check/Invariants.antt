@@ -243,10 +243,10 @@ invariant-designator::check_indices-loop-index l =
 abbrev pub invariant-case::check_arms-loop-arm : goal.invariant-case::check_arms-loop-arm
 invariant-case::check_arms-loop-arm l =
     arms_judged (scene_of l.env l.place) l.fn.slot (typing_in l.case) (view.view_arm l.first) (view.arms_of l.more)
-    ≡ onward_cases (cases_in l.arms) (walk.judge_arm_tail (scene_of l.env l.place) l.slot (typing_in l.case) (spans_view l.spans.items) (view.arms_of (drop l.arm-index l.more)))
+    ≡ onward_cases (cases_in l.arms) (walk.judge_arm_tail (scene_of l.env l.place) l.slot (typing_in l.case) (spans_view l.spans) (view.arms_of (drop l.arm-index l.more)))
 
 abbrev pub invariant-case::check_labels-loop-label : goal.invariant-case::check_labels-loop-label
 invariant-case::check_labels-loop-label l =
-    (labels_judged (scene_of l.env l.place) l.fn.slot (typing_in l.case) (spans_view l.fn.spans.items) (view.view_label l.first) (view.labels_of l.more)
-    ≡ onward_spans (spans_in l.labels) (walk.judge_labels (scene_of l.env l.place) l.slot (typing_in l.case) (spans_view l.spans.items) (view.labels_of (drop l.label-index l.more))))
-    × Grown (spans_view l.fn.spans.items) (spans_in l.labels) (spans_view l.spans.items)
+    (labels_judged (scene_of l.env l.place) l.fn.slot (typing_in l.case) (spans_view l.fn.spans) (view.view_label l.first) (view.labels_of l.more)
+    ≡ onward_spans (spans_in l.labels) (walk.judge_labels (scene_of l.env l.place) l.slot (typing_in l.case) (spans_view l.spans) (view.labels_of (drop l.label-index l.more))))
+    × Grown (spans_view l.fn.spans) (spans_in l.labels) (spans_view l.spans)

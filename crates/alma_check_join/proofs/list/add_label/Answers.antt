@@ -23,7 +23,7 @@ pub returns-clause-judged : goal.returns-clause-judged
 returns-clause-judged c = λ j m rest a. steps.span_added c.in_ok-whole.whole c.args.kept c.in_ok-span.span j m rest (rw c.in_ok-span.was at a) c.in_ok-whole.ensures
 
 pub returns-clause-earlier : goal.returns-clause-earlier
-returns-clause-earlier c = λ j m a. c.in_ok-note.ensures ∙ ap (λ (i : Judged parts.Span). spans_view c.args.earlier.now.items ++ option_to_list i.value) (sym (rw c.in_ok-span.was at a))
+returns-clause-earlier c = λ j m a. c.in_ok-note.ensures ∙ ap (λ (i : Judged parts.Span). spans_view c.args.earlier.now ++ option_to_list i.value) (sym (rw c.in_ok-span.was at a))
 
 pub returns-clause-grown : goal.returns-clause-grown
 returns-clause-grown c = λ old g. label_grown c.in_ok-whole.whole c.args.kept c.in_ok-span.span old _ _ c.in_ok-whole.ensures c.in_ok-note.ensures g
