@@ -3,6 +3,7 @@ pub mod Back
 pub mod Budget
 pub mod Copying
 pub mod Counting
+pub mod Dashing
 pub mod Fitting
 pub mod Given
 pub mod Held

@@ -3,6 +3,7 @@ pub mod Copies
 pub mod Inputs
 pub mod Meets
 pub mod Needs
+pub mod Quick
 pub mod Rows
 pub mod Runs
 pub mod Stands

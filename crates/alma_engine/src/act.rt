@@ -16,7 +16,8 @@ use alma_code::{ChoiceKind, End, Instr, Step};
 impl Registers {
     /// The slot that an instruction of numbers writes, and the number that goes there.
     #[tactic(auto, unfolding(alma_code::specs::Machine::act, crate::specs::Needs::Computes))]
-    fn computed(&self, instr: Instr) -> (u32, Result<i64, RunFault>)
+    #[inline(always)]
+    pub(crate) fn computed(&self, instr: Instr) -> (u32, Result<i64, RunFault>)
         requires { Computes self.now.memory.now instr }
         ensures slot { HasNumber self.now.memory.now result.0 }
         ensures number { (code : PlainCode) (input : List ℕ) (s : State) → s.now

@@ -15,6 +15,7 @@ mod machine;
 mod numbers;
 mod output;
 mod places;
+mod quick;
 mod registers;
 
 pub use alma_code::{End, Step};

@@ -51,6 +51,7 @@ impl From<End> for RunEnd {
 }
 
 // The next instruction of the code. Where memory is wanted, nothing has happened.
+#[inline(never)]
 #[tactic(auto, using(crate::proofs::Stepping::taken))]
 fn take<V: CodeView>(
     view: &V,
@@ -88,7 +89,38 @@ fn take<V: CodeView>(
     step
 }
 
+// The next instruction of the code, at once where it is such a one. Where memory is wanted, nothing has happened.
+#[inline(always)]
+#[tactic(auto, using(crate::proofs::Dashing::quickly))]
+fn go<V: CodeView>(
+    view: &V,
+    input: &[u8],
+    registers: &mut Registers,
+    printed: &mut Vec<u8>,
+) -> Result<Step, NoMemory>
+    requires keeps { Stands (V.code view.now) (state_of registers.old) }
+    requires going { (state_of registers.old).mode ≡ Going }
+    requires few { registers.old.steps + 1 < 2 ^ 63 }
+    requires lawful { length input.now ≤ input_limit }
+    requires empty { printed.old.items ≡ [] }
+    ensures step { IfOk result (λ answer. stepped answer printed.new.items (state_of registers.new)
+        ≡ step (V.code view.now) input.now (state_of registers.old)) }
+    ensures quiet { IfOk result (λ answer. PrintsOnly answer printed.new.items) }
+    ensures counted { OnOk result (registers.new.steps ≡ registers.old.steps + 1) }
+    ensures mode { IfOk result (λ answer. ModeAfter answer (state_of registers.new).mode) }
+    ensures choices { OnOk result (registers.new.choices ≤ registers.old.choices + 1) }
+    ensures fails { OnOk result (registers.new.fails ≤ registers.old.fails + 1) }
+    ensures refused { OnErr result ((state_of registers.new ≡ state_of registers.old)
+        × (printed.new.items ≡ [])) }
+{
+    if registers.step_quickly(view, input) {
+        return Ok(Step::Went);
+    }
+    take(view, input, registers, printed)
+}
+
 // One step. Where memory is wanted, nothing has happened.
+#[inline(always)]
 #[tactic(auto, using(crate::proofs::Stepping::steps))]
 pub(crate) fn advance<V: CodeView>(
     view: &V,
@@ -111,7 +143,7 @@ pub(crate) fn advance<V: CodeView>(
 {
     printed.clear();
     match registers.mode {
-        Mode::Going => take(view, input, registers, printed),
+        Mode::Going => go(view, input, registers, printed),
         Mode::Failing => {
             registers.steps += 1;
             Ok(registers.pop())
@@ -279,6 +311,7 @@ impl<'b, 'i> Machine<'b, 'i> {
     }
 
     /// One step.
+    #[inline(always)]
     #[tactic(auto, using(crate::proofs::Stepping::stands_after))]
     pub fn step(&mut self) -> Result<Step, NoMemory>
         requires running { IsTrue self.old.running }

@@ -138,6 +138,7 @@ pub fn is_instr(version: u16, bytes: &[u8], at: usize) -> bool
 }
 
 /// The instruction whose record stands at an offset.
+#[inline(always)]
 #[tactic(auto, unfolding(crate::specs::Instrs::instr_at))]
 pub fn instr_at(bytes: &[u8], at: usize) -> Instr
     requires { at + 17 ≤ length bytes.now }
@@ -154,6 +155,7 @@ pub fn instr_at(bytes: &[u8], at: usize) -> Instr
 }
 
 // The instruction of numbers at an offset.
+#[inline(always)]
 #[tactic(auto, unfolding(crate::specs::Instrs::instr_at))]
 fn number_instr(bytes: &[u8], at: usize) -> Instr
     requires whole { at + 17 ≤ length bytes.now }
@@ -218,6 +220,7 @@ fn number_instr(bytes: &[u8], at: usize) -> Instr
 }
 
 // The instruction of places at an offset.
+#[inline(always)]
 #[tactic(auto, unfolding(crate::specs::Instrs::instr_at))]
 fn place_instr(bytes: &[u8], at: usize) -> Instr
     requires whole { at + 17 ≤ length bytes.now }
@@ -265,6 +268,7 @@ fn place_instr(bytes: &[u8], at: usize) -> Instr
 }
 
 // The instruction of control and choices at an offset.
+#[inline(always)]
 #[tactic(auto, unfolding(crate::specs::Instrs::instr_at))]
 fn control_instr(bytes: &[u8], at: usize) -> Instr
     requires whole { at + 17 ≤ length bytes.now }
@@ -291,6 +295,7 @@ fn control_instr(bytes: &[u8], at: usize) -> Instr
 }
 
 // The instruction of calls, input, output and loops at an offset.
+#[inline(always)]
 #[tactic(auto, unfolding(crate::specs::Instrs::instr_at))]
 fn call_instr(bytes: &[u8], at: usize) -> Instr
     requires whole { at + 17 ≤ length bytes.now }
@@ -329,6 +334,7 @@ fn call_instr(bytes: &[u8], at: usize) -> Instr
 }
 
 // The instruction of links at an offset.
+#[inline(always)]
 #[tactic(auto, unfolding(crate::specs::Instrs::instr_at))]
 fn link_instr(bytes: &[u8], at: usize) -> Instr
     requires whole { at + 17 ≤ length bytes.now }

@@ -95,6 +95,7 @@ impl<'b> ObjectView<'b> {
     }
 
     /// The instruction at an address, straight from its record.
+    #[inline(always)]
     #[tactic(auto, using(crate::proofs::Items::item_steps))]
     pub fn instr(&self, at: u32) -> Instr
         requires { at < length (code_of_view self.now).instrs }
