@@ -1,21 +1,20 @@
 -- The arms of CASE: those without a label have no code, and their lines are passed over.
-use Rattle.std.proofs.Common.{◌≡◌, ℕ, suc, ◌+◌, ◌*◌, ◌-◌, ◌<◌, List, [], ◌∷◌, ◌++◌, length, drop, refl, sym, ap, ◌∙◌, subst, arith, append_assoc, length-append, add-zero}
+use Rattle.std.proofs.Common.{◌≡◌, ℕ, ◌+◌, ◌*◌, ◌-◌, ◌<◌, List, [], ◌∷◌, ◌++◌, length, refl, sym, ap, ◌∙◌, subst, arith, add-zero}
 use Rattle.alma_base.specs.declared.number.Range.{Range}
-use Rattle.alma_code.specs.declared.cell.SlotKind.{SlotKind}
 use Rattle.alma_code.specs.declared.cell.SlotKind.TheVariants as slot
 use Rattle.alma_code.specs.declared.instr.Instr.TheVariants as I
 use Rattle.alma_choice.specs.Emitted.{aimed}
-use Rattle.alma_ir.specs.Tree.{Stmts, Stmt, CaseArms, Else, Expr, Case, no_cases, more_cases}
-use Rattle.alma_ir.specs.Phrases.{stmts_phrases, stmt_phrases, cases_phrases, else_phrases, expr_phrases}
-use Rattle.alma_ir.specs.Lines.{behind, stmts_with, stmt_with, cases_with, else_with, expr_with}
+use Rattle.alma_ir.specs.Tree.{Stmts, CaseArms, Else, Expr, Case, no_cases, more_cases}
+use Rattle.alma_ir.specs.Phrases.{stmts_phrases, cases_phrases, else_phrases, expr_phrases}
+use Rattle.alma_ir.specs.Lines.{behind, stmts_with, cases_with, else_with, expr_with}
 use Rattle.alma_ir.proofs.LinesBack.{behind_two}
 use Rattle.alma_emit_parts.specs.Front.{Around, Front, Adds, Codes, Changes, Holes, Turns}
-use Rattle.alma_emit_parts.specs.Puts.{PutsExpr, PutsStmts, PutsStmt, PutsCases, PutsCaseArm, PutsElse, all_labels}
+use Rattle.alma_emit_parts.specs.Puts.{PutsExpr, PutsStmts, PutsStmt, PutsCases, PutsElse, all_labels}
 use Rattle.alma_emit_parts.proofs.Joins.{then_adds, adds_as, holes_as}
 use Rattle.alma_emit_parts.proofs.LoopForms.{turned}
 use Rattle.alma_emit_parts.proofs.CaseForms.{arm_put, cases_put, first_case_put}
 use Rattle.alma_emit.specs.Cases.{PutsAllArms, PutsArmOf}
-use Rattle.alma_templates.specs.Lined.{Lined, own, in_row}
+use Rattle.alma_templates.specs.Lined.{Lined, own}
 use Rattle.alma_templates.specs.Pieces.{labels_code, behind_labels}
 use Rattle.alma_templates.specs.Slots.{expr_slots, cases_slots, else_slots}
 use Rattle.alma_templates.specs.Templates as T

@@ -5,7 +5,7 @@ use Rattle.alma_choice.specs.Emitted.{aimed}
 use Rattle.alma_ir.specs.declared.phrase.Test as T
 use Rattle.alma_ir.specs.declared.phrase.Branch.{Branch}
 use Rattle.alma_ir.specs.declared.phrase.Arm.{Arm}
-use Rattle.alma_ir.specs.Tree.{Test, Tests, Stmts, If, Or, Either, more_tests, more_branches}
+use Rattle.alma_ir.specs.Tree.{Test, Stmts, If, Or, Either, more_tests, more_branches}
 use Rattle.alma_ir.specs.View.{test_of, stmts_list, arms_list, tests_list, branches_list}
 use Rattle.alma_emit_parts.specs.Front.{Around, Front, Codes, Changes}
 use Rattle.alma_emit_parts.specs.Puts.{PutsTest, PutsStmts, PutsStmt, PutsArms, PutsGuarded, PutsFirst, PutsOperands, PutsChosen, PutsBranches}

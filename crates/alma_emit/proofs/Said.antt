@@ -1,6 +1,6 @@
 -- What a call answered, said of the phrase that it stands for.
 use Rattle.std.proofs.Common.{zero, take, ◌-◌, ◌≤◌, length-drop}
-use Rattle.std.proofs.Common.{◌≡◌, ℕ, suc, ◌+◌, ◌<◌, List, [], ◌∷◌, ◌++◌, length, drop, get_or, refl, sym, ap, ◌∙◌, subst, arith, drop-cons, add-one, true, false}
+use Rattle.std.proofs.Common.{◌≡◌, ℕ, suc, ◌+◌, ◌<◌, List, [], ◌∷◌, length, drop, get_or, refl, sym, ap, ◌∙◌, subst, arith, drop-cons, add-one, true, false}
 use Rattle.std.specs.Prelude.{◌==◌}
 use Rattle.std.proofs.lemmas.Bool.Decides.{nat_tests}
 use Rattle.std.specs.Prelude.{Result, Ok, Err, OnOk, IfOk}
@@ -9,11 +9,10 @@ use Rattle.std.specs.Prelude.{Option, Some, None, option_map}
 use Rattle.alma_code.specs.declared.instr.Instr.{Instr}
 use Rattle.alma_ir.specs.Tree.{Stmts, Stmt, Arms, CaseArms, Else, Branches, Test, Tests, Expr, Links, Args, Arg, Desig, Sels, Sel, no_sels, more_sels}
 use Rattle.alma_ir.specs.Lines.{behind, stmts_with, expr_with, desig_with, sels_with, sel_with}
-use Rattle.alma_ir.specs.Phrases.{stmts_phrases, sel_phrases}
-use Rattle.alma_emit_parts.specs.declared.stand.Stand.{Stand}
+use Rattle.alma_ir.specs.Phrases.{sel_phrases}
 use Rattle.alma_emit_parts.specs.declared.stand.Stand.TheVariants as stands
 use Rattle.alma_emit_parts.specs.Front.{Around, Front, Codes}
-use Rattle.alma_emit_parts.specs.Puts.{PutsStmts, PutsStmt, PutsArms, PutsCases, PutsElse, PutsBranches, PutsTest, PutsAnd, PutsOperands, PutsExpr, PutsValue, PutsLinks, PutsArgs, PutsArg, PutsDesig, PutsTarget, PutsSels, PutsSel, PutsGuard, value_slot, stand_of, stand_by}
+use Rattle.alma_emit_parts.specs.Puts.{PutsStmts, PutsStmt, PutsArms, PutsCases, PutsElse, PutsBranches, PutsTest, PutsAnd, PutsOperands, PutsExpr, PutsValue, PutsLinks, PutsArgs, PutsArg, PutsDesig, PutsTarget, PutsSels, PutsSel, value_slot, stand_of}
 use Rattle.alma_emit_parts.proofs.ExprForms.{own_value_put, own_value_slot, made_value_put, made_value_slot, own_target_put, made_target_put, own_stand_of, made_stand_of}
 use Rattle.alma_emit_parts.proofs.DesigForms.{parts_on}
 use Rattle.alma_emit.specs.Cases.{PutsAllArms, PutsArmOf}

@@ -1,10 +1,10 @@
 -- FOR and SOME, of what the bounds and a turn put.
-use Rattle.std.proofs.Common.{◌≡◌, ℕ, ◌+◌, ℤ, List, [], ◌∷◌, ◌++◌, length, drop, pos, refl, sym, ap, ◌∙◌, subst, add-zero}
+use Rattle.std.proofs.Common.{◌≡◌, ℕ, ◌+◌, ℤ, [], ◌∷◌, length, drop, pos, refl, sym, ap, ◌∙◌, subst, add-zero}
 use Rattle.alma_base.specs.declared.number.Range.{Range}
 use Rattle.alma_code.specs.declared.cell.SlotKind.TheVariants as slot
 use Rattle.alma_code.specs.declared.instr.Instr.TheVariants as I
 use Rattle.alma_choice.specs.Emitted.{aimed}
-use Rattle.alma_ir.specs.Tree.{Stmts, Stmt, Expr, Desig, ForTo, SomeOf, a_loop}
+use Rattle.alma_ir.specs.Tree.{Stmts, Expr, Desig, ForTo, SomeOf, a_loop}
 use Rattle.alma_ir.specs.Phrases.{desig_phrases}
 use Rattle.alma_ir.specs.Lines.{behind, desig_with}
 use Rattle.alma_emit_parts.specs.Front.{Around, Front, Adds, Codes, Takes, Changes, Holes, Turns}

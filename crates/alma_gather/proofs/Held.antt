@@ -1,7 +1,7 @@
 -- What was gathered from a whole program holds all that its code names, and each once.
 use Rattle.std.proofs.Common.{◌≡◌, ℕ, ◌<◌, Bool, true, false, List, [], ◌∷◌, ◌++◌, length, get_or, Some, None, Option, refl, sym, ap, ◌∙◌, subst, arith, take, add-one, ◌+◌}
 use Rattle.std.proofs.Math.Seq.{take-suc, take-length}
-use Rattle.std.specs.Prelude.{slice_get, map, Result, Ok, Err, OnOk}
+use Rattle.std.specs.Prelude.{slice_get, map, Result, OnOk}
 use Rattle.std.specs.List.{AllByRecursion, Contains}
 use Rattle.std.proofs.lemmas.List.{append-nil, map-append}
 use Rattle.std.proofs.lemmas.List.Elements.{Contains-append_left, Contains-append_right}

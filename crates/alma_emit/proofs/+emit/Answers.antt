@@ -1,12 +1,12 @@
 -- Each answer is the lemma of its form, of what the steps put.
-use Rattle.std.proofs.Common.{◌≡◌, ◌∙◌, ◌+◌, ◌-◌, ◌≤◌, [], ◌∷◌, length, drop, refl, sym, ap, subst, arith, add-zero, length-drop}
+use Rattle.std.proofs.Common.{◌≡◌, ◌∙◌, ◌+◌, ◌-◌, ◌≤◌, [], length, drop, refl, sym, ap, subst, arith, add-zero, length-drop}
 use Rattle.std.proofs.Common.{rules, take, to_z, of_z, w64}
 use Rattle.std.proofs.lemmas.Int.{to_z-of_z}
 use Rattle.std.proofs.Math.ListN.{drop_of_length-le}
 use Rattle.alma_ir.specs.Tree as tree
 use Rattle.alma_ir.specs.View.{stmts_list, stmt_of, arms_list, cases_list, branches_list, loop_of, tests_list, test_of, expr_of, links_list, args_list, arg_of, desig_of, sels_list, sel_of, else_option, return_option}
 use Rattle.alma_ir.specs.Lines.{sels_with, sel_with, desig_with}
-use Rattle.alma_ir.specs.Count.{stmts_nodes, stmt_nodes, arms_nodes, cases_nodes, else_nodes, branches_nodes, loop_nodes, return_nodes, tests_nodes, test_nodes, expr_nodes, links_nodes, args_nodes, arg_nodes, desig_nodes, sels_nodes, sel_nodes}
+use Rattle.alma_ir.specs.Count.{stmts_nodes, stmt_nodes, cases_nodes, else_nodes, return_nodes, test_nodes, expr_nodes, args_nodes, arg_nodes, sels_nodes, sel_nodes}
 use Rattle.alma_ir.proofs.Views
 use Rattle.alma_emit_parts.specs.Front.{around, front}
 use Rattle.alma_code.specs.declared.instr.Instr.TheVariants as I
@@ -21,10 +21,9 @@ use Rattle.alma_emit_parts.proofs.ExprForms.{load_put, no_links_put, links_put, 
 use Rattle.alma_emit_parts.proofs.DesigForms.{no_sels_put, sels_put, index_put, index_part, desig_put, desig_place}
 use Rattle.alma_emit_parts.proofs.CallForms.{no_args_put, args_put, value_arg_put, mix_value_put, cells_arg_put, place_arg_put, mix_place_put, handed_put, call_test_put, call_value_put}
 use Rattle.alma_emit_parts.proofs.GuardForms.{simple_guard, barrier_guard, guarded_put, no_arms_put, arms_put}
-use Rattle.alma_emit_parts.proofs.IfForms.{if_put, while_put, repeat_put, truth_put}
-use Rattle.alma_emit_parts.proofs.IfForms as conditional
-use Rattle.alma_emit_parts.proofs.TestForms.{value_test_put, bind_left_put, bind_right_put, unify_put, same_put, seq_put, no_and_put, more_and_put, and_put, not_put, first_put, no_or_put, one_or_put, last_put}
-use Rattle.alma_emit_parts.proofs.StmtForms.{no_stmts_put, stmts_put, test_put, assign_put, copy_put, commit_put, return_put, return_value_put, read_put, write_put, chosen_put, no_either_put, one_either_put, last_branch_put, forall_put}
+use Rattle.alma_emit_parts.proofs.IfForms.{while_put, repeat_put, truth_put}
+use Rattle.alma_emit_parts.proofs.TestForms.{value_test_put, bind_left_put, bind_right_put, unify_put, same_put, seq_put, no_and_put, more_and_put, and_put, not_put, first_put, last_put}
+use Rattle.alma_emit_parts.proofs.StmtForms.{no_stmts_put, stmts_put, test_put, assign_put, copy_put, commit_put, return_put, return_value_put, read_put, write_put, chosen_put, last_branch_put, forall_put}
 use Rattle.alma_emit_parts.proofs.CaseForms.{no_else_put, else_put, no_cases_put}
 use Rattle.alma_emit.proofs.Said.{on_ok, if_ok, stmt_as, test_as, expr_as, arg_as, sel_as, else_as, stmt_is, test_is, expr_is, args_is, links_is, sels_is, desig_is, stmts_is, arms_is, branches_is, operands_is, tests_is, cases_is, all_is, arm_is, args_at, own_target, own_stands, made_target, made_stands, own_value, own_at, made_value, made_at, no_parts, part_step, codes_is, some_elements, no_elements, drop_one, drop_last, slice_rest}
 use Rattle.alma_emit.proofs.Arms.{all_none, all_first, next_arm, skipped_arm, arm_of, case_put, turns_is}

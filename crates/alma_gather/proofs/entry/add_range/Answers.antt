@@ -1,4 +1,3 @@
-use Rattle.std.proofs.Common.{rules}
 use Rattle.alma_gather.proofs.Walks.{range_on}
 use Rattle.alma_gather.proofs.entry.add_range.Goals as goal
 

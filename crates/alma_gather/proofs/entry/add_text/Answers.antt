@@ -1,4 +1,3 @@
-use Rattle.alma_gather.proofs.Held.{holds_all}
 use Rattle.alma_gather.proofs.Walks.{text_on}
 use Rattle.alma_gather.proofs.entry.add_text.Goals as goal
 
