@@ -6,7 +6,7 @@ use Rattle.alma_code.specs.declared.instr.Instr.TheVariants as I
 use Rattle.alma_code.specs.declared.cell.SlotKind.{SlotKind}
 use Rattle.alma_code.specs.declared.head.Run.{Run}
 use Rattle.alma_code.specs.Plain.{PlainRoutine}
-use Rattle.alma_ir.specs.Tree.{Program, Routine, routine_at}
+use Rattle.alma_ir.specs.Tree.{Program, Routine}
 use Rattle.alma_templates.specs.Runs.{NamesKinds}
 use Rattle.alma_emit_parts.specs.Front.{Around, Front}
 use Rattle.alma_templates.specs.Compiled.{link_params, param_named, is_function, routines_named}
