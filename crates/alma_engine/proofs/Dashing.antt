@@ -1,5 +1,5 @@
 -- A step that is made at once, and one that is left.
-use Rattle.std.proofs.Common.{◌≡◌, ℕ, ◌+◌, List, [], sym, ap, ◌∙◌, subst, arith}
+use Rattle.std.proofs.Common.{◌≡◌, ℕ, ◌+◌, List, [], sym, ap, ◌∙◌, subst}
 use Rattle.std.specs.Prelude.{Bool, true, false, Result, Ok, Err, IfOk, OnErr, if◌then◌else◌}
 use Rattle.alma_code.specs.declared.step.Step.{Step}
 use Rattle.alma_code.specs.Machine.{State, Stepped, Going, quiet_step, step}

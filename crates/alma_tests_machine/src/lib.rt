@@ -5,3 +5,5 @@
 mod machine;
 #[cfg(test)]
 mod memory;
+#[cfg(test)]
+mod over;
