@@ -217,7 +217,7 @@ pub fn no_constant_sum(
 fn links(alloc: Global, rest: Vec<Behind>) -> Result<Vec<Link>, AllocError>
     ensures { IfOk result (λ v. links_list v.items ≡ parts.links_of (operands_of rest)) }
 {
-    let mut links: Vec<Link> = Vec::new(alloc);
+    let mut links: Vec<Link> = Vec::with_capacity(alloc, rest.len())?;
     for behind in rest {
         let Behind { operator, operand } = behind;
         match operator {

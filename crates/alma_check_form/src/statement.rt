@@ -18,7 +18,7 @@ use std::alloc::{AllocError, Global};
 fn one(alloc: Global, stmt: Stmt) -> Result<Vec<Stmt>, AllocError>
     ensures { IfOk result (λ v. stmts_of v ≡ parts.one_stmt (stmt_of stmt)) }
 {
-    let mut stmts: Vec<Stmt> = Vec::new(alloc);
+    let mut stmts: Vec<Stmt> = Vec::with_capacity(alloc, 1)?;
     stmts.push(stmt)?;
     Ok(stmts)
 }
