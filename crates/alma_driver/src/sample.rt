@@ -102,7 +102,7 @@ fn run_aside(alloc: Global, source: &[u8]) -> Result<Told, NoMemory>
 // Tells of the run of a source of so many lines and bytes.
 fn tell<O: Sink>(out: &mut O, lines: u32, bytes: usize, told: Told) -> End
     ensures { Goes (λ due. due
-        ≡ due_of (Succeeded None) (sample_line lines bytes told.entry.printed told.entry.status))
+        ≡ due_of (Succeeded None) (sample_line lines bytes told.printed told.status))
         (sink_side (O.written out.old) (O.faults out.old))
         (sink_side (O.written out.new) (O.faults out.new)) result }
 {
