@@ -46,7 +46,9 @@ fn write_summary_line<O: Sink>(
     let end = b"\n".as_slice();
     write_parts(
         out,
-        &[first, lines, second, bytes, third, printed, fourth, status, end],
+        &[
+            first, lines, second, bytes, third, printed, fourth, status, end,
+        ],
     )
 }
 
@@ -90,7 +92,14 @@ fn run_aside(alloc: Global, source: &[u8]) -> Result<Told, NoMemory>
     let mut input = MemSource::new(alloc, b"", 1, &[])?;
     let mut prints = MemSink::new(alloc, PRINT_ROOM, PRINT_ROOM, &[])?;
     let showing = Showing::Prints(false);
-    match run_source(alloc, source, &mut input, DEFAULT_STEPS, showing, &mut prints) {
+    match run_source(
+        alloc,
+        source,
+        &mut input,
+        DEFAULT_STEPS,
+        showing,
+        &mut prints,
+    ) {
         End::ReadFault | End::WriteFault | End::Memory => Err(NoMemory),
         end => Ok(Told {
             printed: prints.bytes().len(),
