@@ -46,7 +46,9 @@ fn write_summary_line<O: Sink>(
     let end = b"\n".as_slice();
     write_parts(
         out,
-        &[first, lines, second, bytes, third, printed, fourth, status, end],
+        &[
+            first, lines, second, bytes, third, printed, fourth, status, end,
+        ],
     )
 }
 
@@ -90,7 +92,14 @@ fn run_aside(alloc: Global, source: &[u8]) -> Result<Told, NoMemory>
     let mut input = MemSource::new(alloc, b"", 1, &[])?;
     let mut prints = MemSink::new(alloc, PRINT_ROOM, PRINT_ROOM, &[])?;
     let showing = Showing::Prints(false);
-    match run_source(alloc, source, &mut input, DEFAULT_STEPS, showing, &mut prints) {
+    match run_source(
+        alloc,
+        source,
+        &mut input,
+        DEFAULT_STEPS,
+        showing,
+        &mut prints,
+    ) {
         End::ReadFault | End::WriteFault | End::Memory => Err(NoMemory),
         end => Ok(Told {
             printed: prints.bytes().len(),
@@ -102,7 +111,7 @@ fn run_aside(alloc: Global, source: &[u8]) -> Result<Told, NoMemory>
 // Tells of the run of a source of so many lines and bytes.
 fn tell<O: Sink>(out: &mut O, lines: u32, bytes: usize, told: Told) -> End
     ensures { Goes (λ due. due
-        ≡ due_of (Succeeded None) (sample_line lines bytes told.entry.printed told.entry.status))
+        ≡ due_of (Succeeded None) (sample_line lines bytes told.printed told.status))
         (sink_side (O.written out.old) (O.faults out.old))
         (sink_side (O.written out.new) (O.faults out.new)) result }
 {
