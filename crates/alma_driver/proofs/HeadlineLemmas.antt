@@ -1,9 +1,9 @@
 -- The headline: a run of a source shows what its program means.
 use Rattle.std.proofs.Common.{◌≡◌, ◌≤◌, ◌<◌, ◌+◌, ◌-◌, ◌*◌, ◌∙◌, ◌++◌, ℕ, suc, List, [], length, refl, inl, inr, ap, sym, subst, arith}
-use Rattle.std.specs.Prelude.{◌⊎◌, Bool, Option, Some, None}
+use Rattle.std.specs.Prelude.{◌⊎◌, Bool, Option, Some}
 use Rattle.std.proofs.lemmas.Bool.{cases_lt}
 use Rattle.alma_base.specs.Limits.{source_limit, size_limit, input_limit}
-use Rattle.alma_io.specs.Files.{Told, Missing, Has, MayHave, MayPass}
+use Rattle.alma_io.specs.Files.{Told, Has, MayHave, MayPass}
 use Rattle.alma_ir.specs.Tree.{Program}
 use Rattle.alma_mean.specs.Events as events
 use Rattle.alma_mean.specs.Events.{first, end_of, visit_count, CutOff}
@@ -13,18 +13,17 @@ use Rattle.alma_code.specs.Plain.{PlainCode}
 use Rattle.alma_code.specs.declared.step.End as code
 use Rattle.alma_code.specs.declared.step.End.TheVariants as code_end
 use Rattle.alma_implements.specs.Implements.{Implements, meant_end}
-use Rattle.alma_words.specs.Words.{Request, Run, Asks, file_of}
+use Rattle.alma_words.specs.Words.{Request, Run, file_of}
 use Rattle.alma_words.proofs.WordLemmas.{one_request}
 use Rattle.alma_driver.specs.Words.{read_by}
 use Rattle.alma_driver.specs.Showing.{Prints}
-use Rattle.alma_driver.specs.Outside.{Outside, SinkSide}
+use Rattle.alma_driver.specs.Outside.{Outside}
 use Rattle.alma_driver.specs.Ends.{status_of, text_of, ended_end, counts_text}
-use Rattle.alma_driver.specs.Refusal.{IsRefused, IsProgramOf, place_of}
+use Rattle.alma_driver.specs.Refusal.{IsProgramOf, place_of}
 use Rattle.alma_driver.specs.Outcome.{Due, silent, size_of, code_due, InputOutcome, unread, taken, past_input, ProgramOutcome, ran, too_much_code, MayRunOut, MeansOn, whole, front, IsSourceEnd, refused, SourceOutcome, stopped, compiled, RequestOutcome, absent, past_limit, fetched, unfetched, Outcome, bad_word, asks, Lacks}
 use Rattle.alma_driver.specs.Course.{Gains}
 use Rattle.alma_driver.specs.Causes.{Causes, ReadFailed}
-use Rattle.alma_driver.specs.Headline.{AsksToRun, IsUndisturbed, Shows, ShowsResult, ShowsFront, RunEnds, refuses, too_large, ended, ran_out, meant_status, meant_text}
-use Rattle.alma_driver.specs.declared.fault.SourceFault.{SourceFault}
+use Rattle.alma_driver.specs.Headline.{AsksToRun, IsUndisturbed, Shows, ShowsResult, RunEnds, refuses, too_large, ended, ran_out, meant_status, meant_text}
 use Rattle.alma_driver.specs.declared.end.Counts.{Counts}
 use Rattle.alma_driver.specs.declared.end.End.{End}
 use Rattle.alma_driver.specs.declared.end.End.TheVariants.{Refused, StepsOut, TooMuchCode}
