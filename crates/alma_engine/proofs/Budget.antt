@@ -34,20 +34,29 @@ module _ (code : PlainCode) (input : List ℕ) where
       ∙ sym (append_assoc (step code input s).printed (prints code input n next) (step code input (after code input n next)).printed)
 
   -- steps after others
-  after_sum : (m n : ℕ) (s : State) → after code input (m + n) s ≡ after code input n (after code input m s)
+  pub after_sum : (m n : ℕ) (s : State) → after code input (m + n) s ≡ after code input n (after code input m s)
   after_sum zero n s = ap (λ k. after code input k s) (zero-add n)
   after_sum (suc m) n s =
       let e : suc m + n ≡ suc (m + n) = omega arith in
       ap (λ k. after code input k s) e ∙ after_sum m n (step code input s).state
 
   -- their prints come after
-  prints_sum : (m n : ℕ) (s : State) → prints code input (m + n) s ≡ prints code input m s ++ prints code input n (after code input m s)
+  pub prints_sum : (m n : ℕ) (s : State) → prints code input (m + n) s ≡ prints code input m s ++ prints code input n (after code input m s)
   prints_sum zero n s = ap (λ k. prints code input k s) (zero-add n)
   prints_sum (suc m) n s =
       let e : suc m + n ≡ suc (m + n) = omega arith in
       let next = (step code input s).state in
       ap (λ k. prints code input k s) e ∙ ap (λ bytes. (step code input s).printed ++ bytes) (prints_sum m n next)
       ∙ sym (append_assoc (step code input s).printed (prints code input m next) (prints code input n (after code input m next)))
+
+  -- the last print of steps after others
+  pub last_sum : (m n : ℕ) (s : State) (shown : List ℕ) → last_print code input (m + n) s shown ≡ last_print code input n (after code input m s) (last_print code input m s shown)
+  last_sum m zero s shown =
+      let e : m + zero ≡ m = omega arith in
+      ap (λ k. last_print code input k s shown) e
+  last_sum m (suc n) s shown =
+      let e : m + suc n ≡ suc (m + n) = omega arith in
+      ap (λ k. last_print code input k s shown) e ∙ ap (λ t. (step code input t).printed) (after_sum m n s)
 
   -- an ended machine stays
   stays : (n : ℕ) (s : State) (e : End) → s.mode ≡ Ended e → after code input n s ≡ s

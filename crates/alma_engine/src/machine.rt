@@ -51,7 +51,6 @@ impl From<End> for RunEnd {
 }
 
 // The next instruction of the code. Where memory is wanted, nothing has happened.
-#[inline(never)]
 #[tactic(auto, using(crate::proofs::Stepping::taken))]
 fn take<V: CodeView>(
     view: &V,
@@ -89,38 +88,7 @@ fn take<V: CodeView>(
     step
 }
 
-// The next instruction of the code, at once where it is such a one. Where memory is wanted, nothing has happened.
-#[inline(always)]
-#[tactic(auto, using(crate::proofs::Dashing::quickly))]
-fn go<V: CodeView>(
-    view: &V,
-    input: &[u8],
-    registers: &mut Registers,
-    printed: &mut Vec<u8>,
-) -> Result<Step, NoMemory>
-    requires keeps { Stands (V.code view.now) (state_of registers.old) }
-    requires going { (state_of registers.old).mode ≡ Going }
-    requires few { registers.old.steps + 1 < 2 ^ 63 }
-    requires lawful { length input.now ≤ input_limit }
-    requires empty { printed.old.items ≡ [] }
-    ensures step { IfOk result (λ answer. stepped answer printed.new.items (state_of registers.new)
-        ≡ step (V.code view.now) input.now (state_of registers.old)) }
-    ensures quiet { IfOk result (λ answer. PrintsOnly answer printed.new.items) }
-    ensures counted { OnOk result (registers.new.steps ≡ registers.old.steps + 1) }
-    ensures mode { IfOk result (λ answer. ModeAfter answer (state_of registers.new).mode) }
-    ensures choices { OnOk result (registers.new.choices ≤ registers.old.choices + 1) }
-    ensures fails { OnOk result (registers.new.fails ≤ registers.old.fails + 1) }
-    ensures refused { OnErr result ((state_of registers.new ≡ state_of registers.old)
-        × (printed.new.items ≡ [])) }
-{
-    if registers.step_quickly(view, input) {
-        return Ok(Step::Went);
-    }
-    take(view, input, registers, printed)
-}
-
 // One step. Where memory is wanted, nothing has happened.
-#[inline(always)]
 #[tactic(auto, using(crate::proofs::Stepping::steps))]
 pub(crate) fn advance<V: CodeView>(
     view: &V,
@@ -143,7 +111,7 @@ pub(crate) fn advance<V: CodeView>(
 {
     printed.clear();
     match registers.mode {
-        Mode::Going => go(view, input, registers, printed),
+        Mode::Going => take(view, input, registers, printed),
         Mode::Failing => {
             registers.steps += 1;
             Ok(registers.pop())
@@ -311,7 +279,6 @@ impl<'b, 'i> Machine<'b, 'i> {
     }
 
     /// One step.
-    #[inline(always)]
     #[tactic(auto, using(crate::proofs::Stepping::stands_after))]
     pub fn step(&mut self) -> Result<Step, NoMemory>
         requires running { IsTrue self.old.running }
@@ -334,6 +301,27 @@ impl<'b, 'i> Machine<'b, 'i> {
         );
         self.running = goes_on(&step);
         step
+    }
+
+    // As many steps as can be made at once, and no more than so many. It answers how many.
+    fn dash(&mut self, most: u64) -> u64
+        requires running { IsTrue self.old.running }
+        requires few { self.old.state.steps + most < 2 ^ 63 }
+        ensures few { result ≤ most }
+        ensures state { self.new.state
+            ≡ after self.old.code self.old.input result self.old.state }
+        ensures silent { prints self.old.code self.old.input result self.old.state ≡ [] }
+        ensures shown { self.new.printed ≡ last_print self.old.code self.old.input result
+            self.old.state self.old.printed }
+        ensures counted { self.new.state.steps ≡ self.old.state.steps + result }
+        ensures running { self.new.running ≡ true }
+        ensures same { (self.new.code ≡ self.old.code) × (self.new.input ≡ self.old.input) }
+    {
+        let made = self.registers.dash(&self.code, self.input, most);
+        if made > 0 {
+            self.printed.clear();
+        }
+        made
     }
 
     /// The bytes that the last step printed; none where it printed nothing or was refused.
@@ -419,17 +407,21 @@ impl<'b, 'i> Machine<'b, 'i> {
     {
         let mut made = 0;
         while made < budget {
-            let Ok(step) = self.step() else {
-                return RunEnd::Memory;
-            };
-            if let Step::Done(end) = step {
-                return RunEnd::from(end);
+            let quick = self.dash(budget - made);
+            made += quick;
+            if made < budget {
+                let Ok(step) = self.step() else {
+                    return RunEnd::Memory;
+                };
+                if let Step::Done(end) = step {
+                    return RunEnd::from(end);
+                }
+                if write_printed(step, self.printed(), out).is_err() {
+                    self.running = false;
+                    return RunEnd::WriteFault;
+                }
+                made += 1;
             }
-            if write_printed(step, self.printed(), out).is_err() {
-                self.running = false;
-                return RunEnd::WriteFault;
-            }
-            made += 1;
         }
         let _ = &self.running;
         RunEnd::StepsOut

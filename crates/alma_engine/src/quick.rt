@@ -1,9 +1,9 @@
 // Steps that are made at once: those of instructions that come often, with nothing to tell. Where a step would be another,
 // or memory is wanted, nothing happens, and it is left to the whole machine.
-ghost use Rattle.std.specs.Prelude.{◌≡◌, ◌+◌, ◌^◌, ◌<◌, if◌then◌else◌};
+ghost use Rattle.std.specs.Prelude.{◌≡◌, ◌+◌, ◌^◌, ◌<◌, ◌≤◌, [], if◌then◌else◌};
 ghost use Rattle.alma_base.specs.Choice.{if_true};
 ghost use Rattle.alma_base.specs.Numbers.{is_zero};
-ghost use Rattle.alma_code.specs.Machine.{State, Going, number, put_number, goes_to, fails_now, quiet_step, act, step};
+ghost use Rattle.alma_code.specs.Machine.{State, Going, number, put_number, goes_to, fails_now, quiet_step, act, step, after, prints};
 ghost use Rattle.alma_engine.specs.Needs.{Needs};
 ghost use Rattle.alma_engine.specs.Quick.{Quickly, KeepsCounts};
 ghost use Rattle.alma_engine.specs.Rows.{state_of, HasNumber, HasPlace, counted, put_or_fault, point_or_fault};
@@ -11,7 +11,7 @@ ghost use Rattle.alma_engine.specs.Stands.{Stands};
 
 use crate::codes::CodeView;
 use crate::places::Spot;
-use crate::registers::Registers;
+use crate::registers::{Mode, Registers};
 use alma_base::RunFault;
 use alma_code::{Cell, Instr};
 
@@ -186,7 +186,7 @@ impl Registers {
     /// One step, if it is one that is made at once.
     #[inline(always)]
     #[tactic(auto, using(crate::proofs::Stepping::taken))]
-    pub(crate) fn step_quickly<V: CodeView>(&mut self, view: &V, input: &[u8]) -> bool
+    fn step_quickly<V: CodeView>(&mut self, view: &V, input: &[u8]) -> bool
         requires keeps { Stands (V.code view.now) (state_of self.old) }
         requires going { (state_of self.old).mode ≡ Going }
         requires few { self.old.steps + 1 < 2 ^ 63 }
@@ -210,5 +210,44 @@ impl Registers {
             self.steps = steps;
         }
         is_done
+    }
+
+    // As many steps as can be made at once, and no more than so many. It answers how many.
+    fn hurry<V: CodeView>(&mut self, view: &V, input: &[u8], most: u64) -> u64
+        requires keeps { Stands (V.code view.now) (state_of self.old) }
+        requires going { (state_of self.old).mode ≡ Going }
+        requires few { self.old.steps + most < 2 ^ 63 }
+        ensures few { result ≤ most }
+        ensures state { state_of self.new
+            ≡ after (V.code view.now) input.now result (state_of self.old) }
+        ensures silent { prints (V.code view.now) input.now result (state_of self.old) ≡ [] }
+        ensures counted { self.new.steps ≡ self.old.steps + result }
+        ensures stands { Stands (V.code view.now) (state_of self.new) }
+    {
+        let mut made = 0;
+        while made < most {
+            if !self.step_quickly(view, input) {
+                return made;
+            }
+            made += 1;
+        }
+        made
+    }
+
+    /// As many steps as can be made at once, and no more than so many. It answers how many.
+    pub(crate) fn dash<V: CodeView>(&mut self, view: &V, input: &[u8], most: u64) -> u64
+        requires keeps { Stands (V.code view.now) (state_of self.old) }
+        requires few { self.old.steps + most < 2 ^ 63 }
+        ensures few { result ≤ most }
+        ensures state { state_of self.new
+            ≡ after (V.code view.now) input.now result (state_of self.old) }
+        ensures silent { prints (V.code view.now) input.now result (state_of self.old) ≡ [] }
+        ensures counted { self.new.steps ≡ self.old.steps + result }
+        ensures stands { Stands (V.code view.now) (state_of self.new) }
+    {
+        match self.mode {
+            Mode::Going => self.hurry(view, input, most),
+            Mode::Failing | Mode::Ended(_) => 0,
+        }
     }
 }
