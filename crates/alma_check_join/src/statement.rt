@@ -24,8 +24,8 @@ use alma_check_form::{
 };
 use alma_check_rules::{
     Denoted, Env, Found, Labels, Located, Place, Span, Typed, pass_assign, pass_bare_return,
-    pass_by, pass_case, pass_constant, pass_label, pass_loop, pass_loop_name, pass_read, pass_return,
-    pass_test, pass_write, span_of,
+    pass_by, pass_case, pass_constant, pass_label, pass_loop, pass_loop_name, pass_read,
+    pass_return, pass_test, pass_write, span_of,
 };
 use alma_ir::{Arm, Branch, CaseArm, Stmt, Test};
 use alma_rules::Stop;
