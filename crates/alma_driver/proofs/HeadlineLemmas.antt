@@ -1,9 +1,9 @@
 -- The headline: a run of a source shows what its program means.
 use Rattle.std.proofs.Common.{◌≡◌, ◌≤◌, ◌<◌, ◌+◌, ◌-◌, ◌*◌, ◌∙◌, ◌++◌, ℕ, suc, List, [], length, refl, inl, inr, ap, sym, subst, arith}
-use Rattle.std.specs.Prelude.{◌⊎◌, Bool, Option, Some, None}
+use Rattle.std.specs.Prelude.{◌⊎◌, Bool, Option, Some}
 use Rattle.std.proofs.lemmas.Bool.{cases_lt}
 use Rattle.alma_base.specs.Limits.{source_limit, size_limit, input_limit}
-use Rattle.alma_io.specs.Files.{Told, Missing, Has, MayHave, MayPass}
+use Rattle.alma_io.specs.Files.{Told, Has, MayHave, MayPass}
 use Rattle.alma_ir.specs.Tree.{Program}
 use Rattle.alma_mean.specs.Events as events
 use Rattle.alma_mean.specs.Events.{first, end_of, visit_count, CutOff}
@@ -13,18 +13,17 @@ use Rattle.alma_code.specs.Plain.{PlainCode}
 use Rattle.alma_code.specs.declared.step.End as code
 use Rattle.alma_code.specs.declared.step.End.TheVariants as code_end
 use Rattle.alma_implements.specs.Implements.{Implements, meant_end}
-use Rattle.alma_words.specs.Words.{Request, Run, Asks, file_of}
+use Rattle.alma_words.specs.Words.{Request, Run, file_of}
 use Rattle.alma_words.proofs.WordLemmas.{one_request}
 use Rattle.alma_driver.specs.Words.{read_by}
 use Rattle.alma_driver.specs.Showing.{Prints}
-use Rattle.alma_driver.specs.Outside.{Outside, SinkSide}
+use Rattle.alma_driver.specs.Outside.{Outside}
 use Rattle.alma_driver.specs.Ends.{status_of, text_of, ended_end, counts_text}
-use Rattle.alma_driver.specs.Refusal.{IsRefused, IsProgramOf, place_of}
+use Rattle.alma_driver.specs.Refusal.{IsProgramOf, place_of}
 use Rattle.alma_driver.specs.Outcome.{Due, silent, size_of, code_due, InputOutcome, unread, taken, past_input, ProgramOutcome, ran, too_much_code, MayRunOut, MeansOn, whole, front, IsSourceEnd, refused, SourceOutcome, stopped, compiled, RequestOutcome, absent, past_limit, fetched, unfetched, Outcome, bad_word, asks, Lacks}
 use Rattle.alma_driver.specs.Course.{Gains}
 use Rattle.alma_driver.specs.Causes.{Causes, ReadFailed}
-use Rattle.alma_driver.specs.Headline.{AsksToRun, IsUndisturbed, Shows, ShowsResult, ShowsFront, RunEnds, refuses, too_large, ended, ran_out, meant_status, meant_text}
-use Rattle.alma_driver.specs.declared.fault.SourceFault.{SourceFault}
+use Rattle.alma_driver.specs.Headline.{AsksToRun, IsUndisturbed, Shows, ShowsResult, RunEnds, refuses, too_large, ended, ran_out, meant_status, meant_text}
 use Rattle.alma_driver.specs.declared.end.Counts.{Counts}
 use Rattle.alma_driver.specs.declared.end.End.{End}
 use Rattle.alma_driver.specs.declared.end.End.TheVariants.{Refused, StepsOut, TooMuchCode}
@@ -61,14 +60,17 @@ record IsShown (words : List (List ℕ)) (before after : Outside) (status : ℕ)
   out : Gains before.out after.out due.out
   err : Gains before.err after.err (text_of (file_of words) due.end)
 
--- by an end and prints
+-- the same by an end and prints
+record IsShownAs (words : List (List ℕ)) (before after : Outside) (status : ℕ) (end : End) (printed : List ℕ) : Type 0 where
+  status_is : status ≡ status_of end
+  shows : Shows before after printed (text_of (file_of words) end)
+
 by_parts : (words : List (List ℕ)) (before after : Outside) (status : ℕ) (due : Due) (end : End) (printed : List ℕ) → due.end ≡ end → due.out ≡ printed
-    → IsShown words before after status due → (status ≡ status_of end) × Shows before after printed (text_of (file_of words) end)
-by_parts words before after status due end printed e o h = (
-  h.status_is ∙ ap status_of e,
-  subst (Gains before.out after.out) o h.out,
-  subst (λ (x : End). Gains before.err after.err (text_of (file_of words) x)) e h.err,
-)
+    → IsShown words before after status due → IsShownAs words before after status end printed
+by_parts words before after status due end printed ends prints h = record {
+  status_is = h.status_is ∙ ap status_of ends;
+  shows = (subst (Gains before.out after.out) prints h.out, subst (λ (x : End). Gains before.err after.err (text_of (file_of words) x)) ends h.err);
+}
 
 -- an end of the machine is an end of the meaning, with its status and its text
 same_status : (e : code.End) (line : ℕ) (counts : Option Counts) → status_of (ended_end e line counts) ≡ meant_status (meant_end e line)
@@ -91,19 +93,19 @@ never_cut (code_end.Fault fault) line q = cc q
 ends_meant : (words : List (List ℕ)) (source input : List ℕ) (steps : ℕ) (stats : Bool) (before after : Outside) (status : ℕ) (p : Program) (due : Due)
     → IsProgramOf source p → size_of p ≤ size_limit → IsShown words before after status due → MeansOn p input steps stats due
     → RunEnds words source input steps stats before after status
-ends_meant words source input steps stats before after status p due is size h (whole printed e line counts told r de do) =
-    let shown = by_parts words before after status due (ended_end e line counts) printed de do h in
+ends_meant words source input steps stats before after status p due is size h (whole printed e line counts told r ends prints) =
+    let shown = by_parts words before after status due (ended_end e line counts) printed ends prints h in
     let all : ShowsResult stats (printed, meant_end e line) before after status = record {
       uncut = never_cut e line;
-      status_is = shown.0 ∙ same_status e line counts;
+      status_is = shown.status_is ∙ same_status e line counts;
       counts = counts;
       counted = told;
-      shows = (shown.1, subst (Gains before.err after.err) (same_text (file_of words) e line counts) shown.2);
+      shows = (shown.shows.0, subst (Gains before.err after.err) (same_text (file_of words) e line counts) shown.shows.1);
     } in
     ended p is size (subst (λ (m : List ℕ × events.End). ShowsResult stats m before after status) (sym r) all)
-ends_meant words source input steps stats before after status p due is size h (front printed counts told covers few de do) =
-    let shown = by_parts words before after status due (StepsOut counts) printed de do h in
-    ran_out p is size (record { status_is = shown.0; printed = printed; covers = covers; few = few; counts = counts; counted = told; shows = (shown.1, shown.2) })
+ends_meant words source input steps stats before after status p due is size h (front printed counts told covers few ends prints) =
+    let shown = by_parts words before after status due (StepsOut counts) printed ends prints h in
+    ran_out p is size (record { status_is = shown.status_is; printed = printed; covers = covers; few = few; counts = counts; counted = told; shows = shown.shows })
 
 -- a program that was run, or is too large
 ends_told : (words : List (List ℕ)) (source input : List ℕ) (steps : ℕ) (stats : Bool) (before after : Outside) (status : ℕ) (p : Program) (due : Due)
@@ -112,14 +114,14 @@ ends_told : (words : List (List ℕ)) (source input : List ℕ) (steps : ℕ) (s
 ends_told words source input steps stats before after status p due is h (small size m) = ends_meant words source input steps stats before after status p due is size h m
 ends_told words source input steps stats before after status p due is h (large size e) =
     let shown = by_parts words before after status due (TooMuchCode (size_of p)) [] (ap (λ (d : Due). d.end) e) (ap (λ (d : Due). d.out) e) h in
-    too_large p is size shown.0 (shown.1, shown.2)
+    too_large p is size shown.status_is shown.shows
 
 -- a source that is refused
 ends_refused : (words : List (List ℕ)) (source input : List ℕ) (steps : ℕ) (stats : Bool) (before after : Outside) (status : ℕ) (due : Due) (end : End)
     → due ≡ silent end → IsShown words before after status due → IsSourceEnd source end → RunEnds words source input steps stats before after status
 ends_refused words source input steps stats before after status due end d h (refused fault offset r e) =
     let shown = by_parts words before after status due (Refused fault (place_of source offset)) [] (ap (λ (x : Due). x.end) d ∙ e) (ap (λ (x : Due). x.out) d) h in
-    refuses fault offset r (λ other place q. one_refusal source fault other offset place r q) shown.0 (shown.1, shown.2)
+    refuses fault offset r (λ other place q. one_refusal source fault other offset place r q) shown.status_is shown.shows
 
 -- what a source comes to
 ends_of : (words : List (List ℕ)) (source input : List ℕ) (steps : ℕ) (stats : Bool) (before after : Outside) (status : ℕ) (due : Due)

@@ -1,6 +1,6 @@
 -- What the run of a sample comes to.
-use Rattle.std.proofs.Common.{◌≡◌, ◌∙◌, ◌++◌, ℕ, List, [], length, refl, inl, inr, ap, sym, subst}
-use Rattle.std.specs.Prelude.{false, Option, Some, None, codes}
+use Rattle.std.proofs.Common.{◌≡◌, ◌∙◌, ◌++◌, ℕ, List, [], length, inl, inr, ap, sym, subst}
+use Rattle.std.specs.Prelude.{false, Some, None, codes}
 use Rattle.alma_sample.specs.Sample.{sample_text}
 use Rattle.alma_words.specs.Words.{default_steps}
 use Rattle.alma_driver.specs.Outside.{SinkSide, SourceSide, sink_side, source_side}

@@ -7,9 +7,8 @@ use Rattle.alma_code.specs.declared.instr.Instr.TheVariants as I
 use Rattle.alma_code.specs.Plain.{PlainCode}
 use Rattle.alma_code.specs.Machine.{Mode, Going, Failing, Ended, Stuck, State, Stepped, start, act, fetch_and_act, step_in, step, after, prints}
 use Rattle.alma_object.specs.View.{is_read}
-use Rattle.alma_driver.specs.Outcome.{has_read, code_due}
+use Rattle.alma_driver.specs.Outcome.{Due, has_read, code_due}
 use Rattle.alma_driver.specs.Ends.{mode_end, counts_in}
-use Rattle.alma_driver.specs.Outcome.{Due}
 use Rattle.alma_driver.specs.Showing.{Prints}
 use Rattle.alma_implements.specs.Implements.{line_in}
 
@@ -109,7 +108,7 @@ module _ (code : PlainCode) (input other : List ℕ) where
       ∙ ap (λ (z : List ℕ). (step code other s).printed ++ z) (prints_alike n (step code other s).state q)
 
   -- a due by a state and prints
-  due_at : (steps : ℕ) (stats : Bool) → State → List ℕ → Due
+  abbrev due_at : (steps : ℕ) (stats : Bool) → State → List ℕ → Due
   due_at steps stats s out = record { end = mode_end s.mode (line_in code s) (counts_in stats s); out = out; stored = None; reads = has_read code }
 
   -- what a run comes to

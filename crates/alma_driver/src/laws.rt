@@ -11,7 +11,7 @@ ghost use Rattle.alma_driver.specs.Outside.{Outside};
 ghost use Rattle.alma_driver.specs.Showing.{Prints};
 ghost use Rattle.alma_ir.specs.Tree.{Program};
 ghost use Rattle.alma_mean.specs.Events.{first, end_of, visit_count, CutOff};
-ghost use Rattle.alma_mean.specs.Meaning.{ev_program, result};
+ghost use Rattle.alma_mean.specs.Meaning.{ev_program, result as meant_at};
 ghost use Rattle.alma_scan.specs.Tokens.{Lexeme, Tokens};
 ghost use Rattle.alma_tree.specs.declared.module.Module.{Module};
 
@@ -83,5 +83,5 @@ pub fn enough_steps_show_the_result()
         → IsProgramOf source p → size_of p ≤ size_limit
         → (end_of (first (ev_program level p input)) ≡ CutOff → ⊥)
         → 32 * (visit_count (first (ev_program level p input)) + 1) ≤ steps
-        → ShowsResult stats (result level p input) before after status }
+        → ShowsResult stats (meant_at level p input) before after status }
 {}

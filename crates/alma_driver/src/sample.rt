@@ -46,7 +46,9 @@ fn write_summary_line<O: Sink>(
     let end = b"\n".as_slice();
     write_parts(
         out,
-        &[first, lines, second, bytes, third, printed, fourth, status, end],
+        &[
+            first, lines, second, bytes, third, printed, fourth, status, end,
+        ],
     )
 }
 
@@ -77,22 +79,29 @@ fn write_summary<O: Sink>(
 
 /// What is told of the run of a sample: how many bytes it printed, and its status.
 #[derive(Clone, Copy, Debug)]
-struct Told {
+struct Summary {
     printed: usize,
     status: u8,
 }
 
 // Runs a source on an empty input. A fault of what is held in memory is want of memory.
-fn run_aside(alloc: Global, source: &[u8]) -> Result<Told, NoMemory>
+fn run_aside(alloc: Global, source: &[u8]) -> Result<Summary, NoMemory>
     requires short { length source.now ≤ source_limit }
     ensures { IfOk result (λ told. IsSampled source.now told.printed told.status) }
 {
     let mut input = MemSource::new(alloc, b"", 1, &[])?;
     let mut prints = MemSink::new(alloc, PRINT_ROOM, PRINT_ROOM, &[])?;
     let showing = Showing::Prints(false);
-    match run_source(alloc, source, &mut input, DEFAULT_STEPS, showing, &mut prints) {
+    match run_source(
+        alloc,
+        source,
+        &mut input,
+        DEFAULT_STEPS,
+        showing,
+        &mut prints,
+    ) {
         End::ReadFault | End::WriteFault | End::Memory => Err(NoMemory),
-        end => Ok(Told {
+        end => Ok(Summary {
             printed: prints.bytes().len(),
             status: end.status(),
         }),
@@ -100,9 +109,9 @@ fn run_aside(alloc: Global, source: &[u8]) -> Result<Told, NoMemory>
 }
 
 // Tells of the run of a source of so many lines and bytes.
-fn tell<O: Sink>(out: &mut O, lines: u32, bytes: usize, told: Told) -> End
+fn tell<O: Sink>(out: &mut O, lines: u32, bytes: usize, told: Summary) -> End
     ensures { Goes (λ due. due
-        ≡ due_of (Succeeded None) (sample_line lines bytes told.entry.printed told.entry.status))
+        ≡ due_of (Succeeded None) (sample_line lines bytes told.printed told.status))
         (sink_side (O.written out.old) (O.faults out.old))
         (sink_side (O.written out.new) (O.faults out.new)) result }
 {
