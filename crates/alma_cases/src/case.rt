@@ -90,7 +90,10 @@ impl Case {
     fn has_out(&self, alloc: Global, out: &[u8]) -> Result<bool, CaseError> {
         let wanted = hex::decode(alloc, self.out.as_bytes())?;
         match &self.drop {
-            Some(front) => Ok(kept_lines(alloc, out, front.as_bytes())? == wanted),
+            Some(front) => {
+                let front = front.as_bytes();
+                Ok(kept_lines(alloc, out, front)? == kept_lines(alloc, &wanted, front)?)
+            }
             None => Ok(out == wanted.as_slice()),
         }
     }
