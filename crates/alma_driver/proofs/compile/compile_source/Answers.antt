@@ -4,8 +4,8 @@ use Rattle.alma_driver.specs.Outcome.{CompileOutcome}
 use Rattle.alma_driver.proofs.DriverLemmas.{works_read, works_stopped}
 use Rattle.alma_driver.proofs.compile.compile_source.Goals as goal
 
-pub compile_program-requires-clause-checked : goal.compile_program-requires-clause-checked
-compile_program-requires-clause-checked g c = c.in-Ok.ensures.checked
+pub compile_program-requires : goal.compile_program-requires
+compile_program-requires g c = record { checked = c.in-Ok.ensures.checked }
 
 pub returns-in-Ok-clause-course : goal.returns-in-Ok-clause-course
 returns-in-Ok-clause-course g c = λ out.
