@@ -32,15 +32,13 @@ use Rattle.alma_whole.specs.Bytes.{object_code}
 use Rattle.alma_lower.specs.declared.lowering.LowerError.{LowerError}
 use Rattle.alma_lower.specs.declared.lowering.LowerError.TheVariants as lower
 use Rattle.alma_implements.specs.Implements.{Implements}
-use Rattle.alma_sound.specs.Reads.{code_reads, program_reads, HasLabels}
+use Rattle.alma_sound.specs.Reads.{code_reads, program_reads}
 use Rattle.alma_sound.specs.Reads as sound
 use Rattle.alma_object.specs.View as object
 use Rattle.alma_code.specs.declared.instr.Instr.{Instr}
 use Rattle.alma_code.specs.declared.instr.Instr.TheVariants as I
 use Rattle.std.specs.Prelude.{◌∷◌, ◌||◌}
 use Rattle.std.specs.List.{list_any}
-use Rattle.alma_resolved_labels.proofs.Labels.{program_has_labels}
-use Rattle.alma_rules.specs.View.{view_module}
 use Rattle.alma_words.specs.Words.{Request, Check, Compile, Listing, Run, Exec, Trace, Sample, Asks, Reads}
 use Rattle.alma_driver.specs.Words.{read_by, limit_of}
 use Rattle.alma_driver.specs.Showing.{Showing, Prints}
@@ -193,10 +191,6 @@ runs_source_end source P i a end (refused fault offset h e) =
 pub runs_stopped : (source : List ℕ) (P : Program → Due → Type 0) (i : SourceSide) (a : SinkSide) (end : End) → IsStop source end → Runs (SourceOutcome source P) i i a a end
 runs_stopped source P i a end (inl e) = subst (Runs (SourceOutcome source P) i i a a) (sym e) (runs_starved (SourceOutcome source P) i a)
 runs_stopped source P i a end (inr h) = runs_source_end source P i a end h
-
--- the program of a source has a label in each arm
-pub labels_of : (source : List ℕ) (p : Program) → IsProgramOf source p → HasLabels p
-labels_of source p is = program_has_labels source is.tokens (view_module is.tree) p is.program
 
 -- a source whose program was run
 pub runs_read : (source : List ℕ) (P : Program → Due → Type 0) (p : Program) (i j : SourceSide) (a b : SinkSide) (end : End) → IsProgramOf source p

@@ -6,7 +6,6 @@ ghost use Rattle.alma_code.specs.Records.{KeepsCounts};
 ghost use Rattle.alma_object.specs.Object.{object_bytes};
 ghost use Rattle.alma_ir.specs.View.{program_of};
 ghost use Rattle.alma_ir.specs.Checked.{IsChecked};
-ghost use Rattle.alma_sound.specs.Reads.{HasLabels};
 ghost use Rattle.alma_driver.specs.Outside.{SinkSide, files_side};
 ghost use Rattle.alma_driver.specs.Outcome.{storing, CompileOutcome, SourceOutcome};
 ghost use Rattle.alma_driver.specs.Course.{Works};
@@ -54,7 +53,6 @@ fn store_code<F: Files>(alloc: Global, code: &Code, object: &str, files: &mut F)
 // Compiles a program, and stores its object.
 fn compile_program<F: Files>(alloc: Global, program: &Program, object: &str, files: &mut F) -> End
     requires checked { IsChecked (program_of program.now) }
-    requires labelled { HasLabels (program_of program.now) }
     ensures fetch_count { F.fetch_faults files.new ≡ F.fetch_faults files.old }
     ensures course { (out : SinkSide) → Works (CompileOutcome (program_of program.now) object.now)
         (files_side (F.told files.old) (F.fetch_faults files.old) (F.store_faults files.old))

@@ -6,7 +6,6 @@ ghost use Rattle.alma_code.specs.Records.{KeepsCounts, KeepsRecords, KeepsVersio
 ghost use Rattle.alma_code.specs.Rules.{IsSound};
 ghost use Rattle.alma_ir.specs.View.{program_of};
 ghost use Rattle.alma_ir.specs.Checked.{IsChecked};
-ghost use Rattle.alma_sound.specs.Reads.{HasLabels};
 ghost use Rattle.alma_words.specs.Words.{greatest_steps};
 ghost use Rattle.alma_driver.specs.Outside.{sink_side, source_side};
 ghost use Rattle.alma_driver.specs.Outcome.{InputOutcome, ProgramOutcome, SourceOutcome};
@@ -64,7 +63,6 @@ fn run_program<I: Source, O: Sink>(
     out: &mut O,
 ) -> End
     requires checked { IsChecked (program_of program.now) }
-    requires labelled { HasLabels (program_of program.now) }
     requires few { steps ≤ greatest_steps }
     ensures { Runs (ProgramOutcome (I.left input.old) (program_of program.now) steps
         (shown_of showing.entry))

@@ -1,5 +1,5 @@
--- The arms of CASE: those without a label have no code, and their lines are passed over.
-use Rattle.std.proofs.Common.{◌≡◌, ℕ, ◌+◌, ◌*◌, ◌-◌, ◌<◌, List, [], ◌∷◌, ◌++◌, length, refl, sym, ap, ◌∙◌, subst, arith, add-zero}
+-- The arms of CASE: those without a label have their code before the others, and their lines are passed over there.
+use Rattle.std.proofs.Common.{◌≡◌, ℕ, ◌+◌, ◌*◌, ◌-◌, ◌<◌, true, List, [], ◌∷◌, ◌++◌, length, drop, refl, sym, ap, ◌∙◌, subst, arith, add-zero}
 use Rattle.alma_base.specs.declared.number.Range.{Range}
 use Rattle.alma_code.specs.declared.cell.SlotKind.TheVariants as slot
 use Rattle.alma_code.specs.declared.instr.Instr.TheVariants as I
@@ -9,14 +9,14 @@ use Rattle.alma_ir.specs.Phrases.{stmts_phrases, cases_phrases, else_phrases, ex
 use Rattle.alma_ir.specs.Lines.{behind, stmts_with, cases_with, else_with, expr_with}
 use Rattle.alma_ir.proofs.LinesBack.{behind_two}
 use Rattle.alma_emit_parts.specs.Front.{Around, Front, Adds, Codes, Changes, Holes, Turns}
-use Rattle.alma_emit_parts.specs.Puts.{PutsExpr, PutsStmts, PutsStmt, PutsCases, PutsElse, all_labels}
+use Rattle.alma_emit_parts.specs.Puts.{PutsExpr, PutsStmts, PutsStmt, PutsCases, PutsDead, PutsDeadBodies, PutsElse, all_labels}
 use Rattle.alma_emit_parts.proofs.Joins.{then_adds, adds_as, holes_as}
 use Rattle.alma_emit_parts.proofs.LoopForms.{turned}
-use Rattle.alma_emit_parts.proofs.CaseForms.{arm_put, cases_put, first_case_put}
+use Rattle.alma_emit_parts.proofs.CaseForms.{arm_put, cases_put, body_put, dead_put, first_case_put}
 use Rattle.alma_emit.specs.Cases.{PutsAllArms, PutsArmOf}
 use Rattle.alma_templates.specs.Lined.{Lined, own}
-use Rattle.alma_templates.specs.Pieces.{labels_code, behind_labels}
-use Rattle.alma_templates.specs.Slots.{expr_slots, cases_slots, else_slots}
+use Rattle.alma_templates.specs.Pieces.{labels_code, behind_labels, passed_over, has_dead}
+use Rattle.alma_templates.specs.Slots.{expr_slots, dead_slots, cases_slots, else_slots}
 use Rattle.alma_templates.specs.Templates as T
 
 module _ (s : Around) (line : ℕ) where
@@ -98,22 +98,45 @@ module _ (s : Around) (line : ℕ) where
   pub turns_is : (a b : Front) (x y : Stmts) → x ≡ y → Turns a b (behind (stmts_phrases x) a.lines) → Turns a b (behind (stmts_phrases y) a.lines)
   turns_is a b x y e h = subst (λ z. Turns a b (behind (stmts_phrases z) a.lines)) e h
 
+  -- ---- the arms without a label
+
+  pub passed_body : (a b c : Front) (labels : List Range) (body : Stmts) (arms : CaseArms) → 0 < length labels → Turns a b (behind (stmts_phrases body) a.lines) → PutsDeadBodies s b c arms
+      → PutsDeadBodies s a c (more_cases labels body arms)
+  unfolding stmts_with stmts_phrases
+  passed_body a b c [] body arms some h j = absurd (omega (arith, some))
+  passed_body a b c (label ∷ labels) body arms some h j =
+      record { all = adds_as a c _ _ _ _ _ _ (turned s line a b c (behind (stmts_phrases body) a.lines) _ _ _ h j.all) refl refl (two body arms a.lines) }
+
+  pub dead_body : (a b c : Front) (labels : List Range) (body : Stmts) (arms : CaseArms) → length labels ≡ 0 → PutsStmts s a b body → PutsDeadBodies s b c arms → PutsDeadBodies s a c (more_cases labels body arms)
+  dead_body a b c [] body arms none h j = body_put s line a b c body arms h j
+  dead_body a b c (label ∷ labels) body arms none h j = absurd (omega (arith, none))
+
+  pub dead_joined : (a b c d e : Front) (before exit : ℕ) (arms : CaseArms) → has_dead arms ≡ true → a.lines ≡ drop before a.all_lines → exit ≡ length a.code → Codes a b (own line (I.Jump 0 ∷ [])) → PutsDeadBodies s b c arms
+      → d.code ≡ c.code → d.kinds ≡ c.kinds → d.next ≡ c.next → d.lines ≡ drop before c.all_lines → d.all_lines ≡ c.all_lines → Changes d e (λ xs. aimed xs exit (length d.code + 0)) → PutsDead s line a e arms
+  dead_joined a b c d e before exit arms some before_is here h j code kinds next lines whole k =
+      let back : Turns c d a.lines = record { instrs = code; taken = kinds; next_slot = next; left = lines ∙ ap (drop before) (j.all.whole ∙ h.whole) ∙ sym before_is; whole = whole } in
+      dead_put s line a b c d e exit (length d.code + 0) arms some here h j back k (add-zero (length d.code))
+
   -- ---- the whole
 
-  pub case_put : (a b c d : Front) (value bound : ℕ) (x : Expr) (arms : CaseArms) (rest : Else) → PutsExpr s line a b x → value ≡ a.next → Adds b c (λ at lo ls. []) (λ ls. slot.Number ∷ slot.Number ∷ []) (λ ls. ls) → bound ≡ b.next
-      → PutsAllArms s line value bound c d arms rest → PutsStmt s line a d (Case x arms rest)
+  pub case_put : (a b c d e : Front) (value bound : ℕ) (x : Expr) (arms : CaseArms) (rest : Else) → PutsExpr s line a b x → value ≡ a.next → PutsDead s line b c arms
+      → Adds c d (λ at lo ls. []) (λ ls. slot.Number ∷ slot.Number ∷ []) (λ ls. ls) → bound ≡ c.next → PutsAllArms s line value bound d e arms rest → PutsStmt s line a e (Case x arms rest)
   unfolding stmts_with stmts_phrases
-  case_put a b c d value bound x arms rest h is j is2 k =
+  case_put a b c d e value bound x arms rest h is dead j is2 k =
       let ls = a.lines in
       let ms = behind (expr_phrases x) ls in
       let u = expr_with x ls in
       let first = T.expr_code s.program s.tables s.routine line (length a.code) a.next u in
+      let y = cases_with arms ms in
       let next = length a.code + length first in
       let low = a.next + length (expr_slots s.program s.routine u) in
-      let all : (value bound at : ℕ) → List Lined = λ value bound at. T.case_code s.program s.tables s.routine line value bound at (low + 2) (cases_with arms ms) (λ next lo. T.else_code s.program s.tables s.routine line next lo (else_with rest (behind (cases_phrases arms) ms))) in
+      let over = passed_over (has_dead y) line next (T.dead_code s.program s.tables s.routine (next + 1) low y) in
+      let under = low + length (dead_slots s.program s.routine y) in
+      let bound_is : bound ≡ under = is2 ∙ dead.all.next_slot ∙ ap (λ n. n + length (dead_slots s.program s.routine (cases_with arms b.lines))) h.all.next_slot ∙ ap (λ m. low + length (dead_slots s.program s.routine (cases_with arms m))) h.all.left in
+      let all : (value bound at : ℕ) → List Lined = λ value bound at. T.case_code s.program s.tables s.routine line value bound at (under + 2) y (λ next lo. T.else_code s.program s.tables s.routine line next lo (else_with rest (behind (cases_phrases arms) ms))) in
       record {
-        all = adds_as a d _ _ _ _ _ _ (then_adds a b d _ _ _ _ _ _ h.all (then_adds b c d _ _ _ _ _ _ j k.all))
-            (ap (λ n. first ++ all n bound (next + 0)) is ∙ ap (λ n. first ++ all a.next n (next + 0)) (is2 ∙ h.all.next_slot) ∙ ap (λ n. first ++ all a.next low n) (add-zero next))
+        all = adds_as a e _ _ _ _ _ _ (then_adds a b e _ _ _ _ _ _ h.all (then_adds b c e _ _ _ _ _ _ dead.all (then_adds c d e _ _ _ _ _ _ j k.all)))
+            (ap (λ n. first ++ (over ++ all n bound (next + length over + 0))) is ∙ ap (λ n. first ++ (over ++ all a.next n (next + length over + 0))) bound_is ∙ ap (λ n. first ++ (over ++ all a.next under n)) (add-zero (next + length over)))
             refl
             (sym (behind_two (expr_phrases x ++ cases_phrases arms) (else_phrases rest) ls ∙ ap (behind (else_phrases rest)) (behind_two (expr_phrases x) (cases_phrases arms) ls)));
       }

@@ -12,7 +12,7 @@ use Rattle.alma_ir.specs.Lines.{behind, stmts_with, expr_with, desig_with, sels_
 use Rattle.alma_ir.specs.Phrases.{sel_phrases}
 use Rattle.alma_emit_parts.specs.declared.stand.Stand.TheVariants as stands
 use Rattle.alma_emit_parts.specs.Front.{Around, Front, Codes}
-use Rattle.alma_emit_parts.specs.Puts.{PutsStmts, PutsStmt, PutsArms, PutsCases, PutsElse, PutsBranches, PutsTest, PutsAnd, PutsOperands, PutsExpr, PutsValue, PutsLinks, PutsArgs, PutsArg, PutsDesig, PutsTarget, PutsSels, PutsSel, value_slot, stand_of}
+use Rattle.alma_emit_parts.specs.Puts.{PutsStmts, PutsStmt, PutsArms, PutsCases, PutsDeadBodies, PutsElse, PutsBranches, PutsTest, PutsAnd, PutsOperands, PutsExpr, PutsValue, PutsLinks, PutsArgs, PutsArg, PutsDesig, PutsTarget, PutsSels, PutsSel, value_slot, stand_of}
 use Rattle.alma_emit_parts.proofs.ExprForms.{own_value_put, own_value_slot, made_value_put, made_value_slot, own_target_put, made_target_put, own_stand_of, made_stand_of}
 use Rattle.alma_emit_parts.proofs.DesigForms.{parts_on}
 use Rattle.alma_emit.specs.Cases.{PutsAllArms, PutsArmOf}
@@ -91,6 +91,9 @@ module _ (s : Around) (line : ℕ) where
 
   pub cases_is : (value bound exit : ℕ) (a b : Front) (x y : CaseArms) → x ≡ y → PutsCases s line value bound exit a b x → PutsCases s line value bound exit a b y
   cases_is value bound exit a b x y e h = subst (λ z. PutsCases s line value bound exit a b z) e h
+
+  pub bodies_is : (a b : Front) (x y : CaseArms) → x ≡ y → PutsDeadBodies s a b x → PutsDeadBodies s a b y
+  bodies_is a b x y e h = subst (λ z. PutsDeadBodies s a b z) e h
 
   pub all_is : (value bound : ℕ) (a b : Front) (x y : CaseArms) (rest : Else) → x ≡ y → PutsAllArms s line value bound a b x rest → PutsAllArms s line value bound a b y rest
   all_is value bound a b x y rest e h = subst (λ z. PutsAllArms s line value bound a b z rest) e h

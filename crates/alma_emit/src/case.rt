@@ -4,7 +4,7 @@ ghost use Rattle.alma_ir.specs.View.{cases_list, else_option, expr_of, stmts_lis
 ghost use Rattle.alma_ir.specs.Tree as tree;
 ghost use Rattle.alma_ir.specs.Tree.{CaseArms};
 ghost use Rattle.alma_emit_parts.specs.Front.{around, front, Front};
-ghost use Rattle.alma_emit_parts.specs.Puts.{PutsStmt, PutsCases, PutsElse};
+ghost use Rattle.alma_emit_parts.specs.Puts.{PutsStmt, PutsCases, PutsDead, PutsDeadBodies, PutsElse};
 ghost use Rattle.alma_emit.specs.Cases.{PutsAllArms, PutsArmOf};
 
 use crate::expression::emit_expr;
@@ -13,7 +13,7 @@ use crate::pass::{pass_stmts, pass_unlabelled};
 use crate::statement::emit_stmts;
 use alma_base::NoMemory;
 use alma_code::Instr;
-use alma_emit_parts::{Labels, Scene, Work, take_labels};
+use alma_emit_parts::{Labels, Scene, Work, has_dead, take_labels};
 use alma_ir::{CaseArm, Expr, Stmt};
 
 // The number of the fault NoCase.
@@ -34,11 +34,60 @@ pub(crate) fn emit_case(
         (tree.Case (expr_of value.now) (cases_list arms.now) (else_option rest.now))) }
 {
     let value = emit_expr(work, scene, line, value)?;
+    emit_dead_arms(work, scene, line, arms)?;
     let labels = take_labels(work, value)?;
     emit_all_arms(work, scene, line, labels, arms, rest)
 }
 
-// The arms of CASE, of which those before the first that has a label have no code.
+// The arms of CASE without a label, behind a jump over them, where there are some: they are never tried. The lines of all
+// arms are still to be handed out.
+#[cycle(emit)]
+fn emit_dead_arms(
+    work: &mut Work,
+    scene: &Scene<'_>,
+    line: u32,
+    arms: &[CaseArm],
+) -> Result<(), NoMemory>
+    ensures puts { OnOk result (PutsDead (around scene.now) line
+        (front work.old) (front work.new) (cases_list arms.now)) }
+{
+    if !has_dead(arms) {
+        return Ok(());
+    }
+    let before = work.position();
+    let over = work.put(line, Instr::Jump { to: 0 })?;
+    emit_dead_bodies(work, scene, arms)?;
+    work.go_to(before);
+    work.aim_behind(over, 0)
+}
+
+// The bodies of the arms of CASE without a label.
+#[cycle(emit)]
+fn emit_dead_bodies(work: &mut Work, scene: &Scene<'_>, arms: &[CaseArm]) -> Result<(), NoMemory>
+    ensures puts { OnOk result (PutsDeadBodies (around scene.now)
+        (front work.old) (front work.new) (cases_list arms.now)) }
+{
+    for arm in arms {
+        emit_dead_body(work, scene, arm)?;
+    }
+    Ok(())
+}
+
+// The body of an arm of CASE, if it has no label.
+#[cycle(emit)]
+fn emit_dead_body(work: &mut Work, scene: &Scene<'_>, arm: &CaseArm) -> Result<(), NoMemory>
+    ensures puts { OnOk result ((c : Front) (rest : CaseArms)
+        → PutsDeadBodies (around scene.now) (front work.new) c rest
+        → PutsDeadBodies (around scene.now) (front work.old) c
+        (tree.more_cases arm.now.labels.items (stmts_list arm.now.body.items) rest)) }
+{
+    if !arm.labels.is_empty() {
+        return pass_stmts(work, &arm.body);
+    }
+    emit_stmts(work, scene, &arm.body)
+}
+
+// The arms of CASE that have a label. Those before the first of them have their code elsewhere.
 #[cycle(emit)]
 fn emit_all_arms(
     work: &mut Work,

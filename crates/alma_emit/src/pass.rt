@@ -1,4 +1,4 @@
-// Lines that are passed over: those of statements that are emitted elsewhere, or not at all.
+// Lines that are passed over: those of statements that are emitted elsewhere.
 ghost use Rattle.std.specs.Prelude.{◌≡◌, ℕ, drop, length, IfOk, OnOk};
 ghost use Rattle.alma_ir.specs.Lines.{behind};
 ghost use Rattle.alma_ir.specs.Phrases.{desig_phrases, stmts_phrases};

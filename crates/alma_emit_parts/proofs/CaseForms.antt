@@ -1,5 +1,5 @@
--- CASE: labels, arms, and the ELSE part.
-use Rattle.std.proofs.Common.{◌≡◌, ℕ, zero, suc, ◌+◌, ◌*◌, Bool, true, false, List, [], ◌∷◌, ◌++◌, length, refl, sym, ap, ◌∙◌, subst, arith, append_assoc, length-append, add-zero}
+-- CASE: labels, arms, those that are never tried, and the ELSE part.
+use Rattle.std.proofs.Common.{◌≡◌, ℕ, zero, suc, ◌+◌, ◌*◌, ◌<◌, Bool, true, false, List, [], ◌∷◌, ◌++◌, length, drop, get_or, refl, sym, ap, ◌∙◌, subst, arith, append_assoc, length-append, add-zero}
 use Rattle.std.proofs.lemmas.List.{append-nil}
 use Rattle.alma_base.specs.declared.number.Range.{Range}
 use Rattle.alma_code.specs.declared.cell.SlotKind.{SlotKind}
@@ -7,17 +7,35 @@ use Rattle.alma_code.specs.declared.cell.SlotKind.TheVariants as slot
 use Rattle.alma_code.specs.declared.instr.Instr.{Instr}
 use Rattle.alma_code.specs.declared.instr.Instr.TheVariants as I
 use Rattle.alma_choice.specs.Emitted.{aimed}
+use Rattle.alma_ir.specs.declared.phrase.CaseArm.{CaseArm}
 use Rattle.alma_ir.specs.Tree.{Stmts, Stmt, CaseArms, Else, Expr, Case, no_cases, more_cases, no_else, else_part}
+use Rattle.alma_ir.specs.View.{cases_list, stmts_list}
 use Rattle.alma_ir.specs.Phrases.{stmts_phrases, stmt_phrases, cases_phrases, else_phrases, expr_phrases}
 use Rattle.alma_ir.specs.Lines.{behind, stmts_with, stmt_with, cases_with, else_with, expr_with}
 use Rattle.alma_ir.proofs.LinesBack.{behind_two}
-use Rattle.alma_emit_parts.specs.Front.{Around, Front, Adds, Codes, Takes, Changes, Holes}
-use Rattle.alma_emit_parts.specs.Puts.{PutsExpr, PutsStmts, PutsStmt, PutsCases, PutsCaseArm, PutsElse, inside}
-use Rattle.alma_emit_parts.proofs.Joins.{nothing, then_adds, adds_as, code_code, code_adds, adds_code, only_code, adds_slot, filled, over, address_behind}
+use Rattle.alma_emit_parts.specs.Front.{Around, Front, Adds, Codes, Takes, Changes, Holes, Turns}
+use Rattle.alma_emit_parts.specs.Puts.{PutsExpr, PutsStmts, PutsStmt, PutsCases, PutsCaseArm, PutsDead, PutsDeadBodies, PutsElse, inside}
+use Rattle.alma_emit_parts.proofs.Calling.{drop_one}
+use Rattle.alma_emit_parts.proofs.Joins.{nothing, then_adds, adds_as, turned_back, code_code, code_adds, adds_code, only_code, adds_slot, filled, over, address_behind}
 use Rattle.alma_templates.specs.Lined.{Lined, own, in_row}
-use Rattle.alma_templates.specs.Slots.{stmts_slots, cases_slots, else_slots, expr_slots}
-use Rattle.alma_templates.specs.Pieces.{labels_code, behind_labels, case_arm}
+use Rattle.alma_templates.specs.Slots.{stmts_slots, dead_slots, cases_slots, else_slots, expr_slots}
+use Rattle.alma_templates.specs.Pieces.{labels_code, behind_labels, case_arm, passed_over, has_dead}
 use Rattle.alma_templates.specs.Templates as T
+
+-- the first of the arms that are left has no label, or the others decide
+pub dead_here : (arms : List CaseArm) (i : ℕ) (arm : CaseArm) → i < length arms → arm ≡ get_or arms i arm → length arm.labels.items ≡ 0 → has_dead (cases_list (drop i arms)) ≡ true
+dead_here arms i arm lt is none = ap (λ xs. has_dead (cases_list xs)) (drop_one arms i arm lt is) ∙ by arm.labels.items none
+  where
+    by : (labels : List Range) → length labels ≡ 0 → has_dead (more_cases labels (stmts_list arm.body.items) (cases_list (drop (i + 1) arms))) ≡ true
+    by [] none = refl
+    by (label ∷ labels) none = absurd (omega (arith, none))
+
+pub dead_behind : (arms : List CaseArm) (i : ℕ) (arm : CaseArm) → i < length arms → arm ≡ get_or arms i arm → 0 < length arm.labels.items → has_dead (cases_list (drop (i + 1) arms)) ≡ has_dead (cases_list (drop i arms))
+dead_behind arms i arm lt is some = by arm.labels.items some ∙ ap (λ xs. has_dead (cases_list xs)) (sym (drop_one arms i arm lt is))
+  where
+    by : (labels : List Range) → 0 < length labels → has_dead (cases_list (drop (i + 1) arms)) ≡ has_dead (more_cases labels (stmts_list arm.body.items) (cases_list (drop (i + 1) arms)))
+    by [] some = absurd (omega (arith, some))
+    by (label ∷ labels) some = refl
 
 module _ (s : Around) (line : ℕ) where
   -- ---- the ELSE part
@@ -89,6 +107,44 @@ module _ (s : Around) (line : ℕ) where
   unfolding stmts_with stmts_phrases
   cases_put a b c d value bound exit label labels body rest h j k =
       record { all = adds_as a d _ _ _ _ _ _ (then_adds a c d _ _ _ _ _ _ (adds_code a b c _ _ _ _ h.all j) k.all) refl refl (sym (behind_two (stmts_phrases body) (cases_phrases rest) a.lines)) }
+
+  -- ---- the arms without a label
+
+  -- lines change no label
+  dead_lined : (arms : CaseArms) (ls : List ℕ) → has_dead (cases_with arms ls) ≡ has_dead arms
+  unfolding stmts_with
+  dead_lined no_cases ls = refl
+  dead_lined (more_cases [] body rest) ls = refl
+  dead_lined (more_cases (label ∷ labels) body rest) ls = dead_lined rest (behind (stmts_phrases body) ls)
+
+  no_dead_slots : (arms : CaseArms) → has_dead arms ≡ false → dead_slots s.program s.routine arms ≡ []
+  no_dead_slots no_cases h = refl
+  no_dead_slots (more_cases [] body rest) h = absurd (cc)
+  no_dead_slots (more_cases (label ∷ labels) body rest) h = no_dead_slots rest h
+
+  pub no_bodies_put : (a : Front) → PutsDeadBodies s a a no_cases
+  unfolding stmts_with stmts_phrases
+  no_bodies_put a = record { all = adds_as a a _ _ _ _ _ _ (nothing a) refl refl refl }
+
+  pub body_put : (a b c : Front) (body : Stmts) (arms : CaseArms) → PutsStmts s a b body → PutsDeadBodies s b c arms → PutsDeadBodies s a c (more_cases [] body arms)
+  unfolding stmts_with stmts_phrases
+  body_put a b c body arms h j =
+      record { all = adds_as a c _ _ _ _ _ _ (then_adds a b c _ _ _ _ _ _ h.all j.all) refl refl (sym (behind_two (stmts_phrases body) (cases_phrases arms) a.lines)) }
+
+  -- where each arm has a label nothing is added
+  pub no_dead_put : (a : Front) (arms : CaseArms) → has_dead arms ≡ false → PutsDead s line a a arms
+  no_dead_put a arms none =
+      let lined : has_dead (cases_with arms a.lines) ≡ false = dead_lined arms a.lines ∙ none in
+      let code : Bool → List Lined = λ some. passed_over some line (length a.code) (T.dead_code s.program s.tables s.routine (length a.code + 1) a.next (cases_with arms a.lines)) in
+      record { all = adds_as a a _ _ _ _ _ _ (nothing a) (ap code (sym lined)) (sym (no_dead_slots (cases_with arms a.lines) lined)) refl }
+
+  -- the jump is aimed behind the bodies, and the lines are those of before
+  pub dead_put : (a b c d e : Front) (exit target : ℕ) (arms : CaseArms) → has_dead arms ≡ true → exit ≡ length a.code → Codes a b (own line (I.Jump 0 ∷ [])) → PutsDeadBodies s b c arms → Turns c d a.lines
+      → Changes d e (λ xs. aimed xs exit target) → target ≡ length d.code → PutsDead s line a e arms
+  dead_put a b c d e exit target arms some here h j t k is =
+      let lined : has_dead (cases_with arms a.lines) ≡ true = dead_lined arms a.lines ∙ some in
+      let code : Bool → List Lined = λ some. passed_over some line (length a.code) (T.dead_code s.program s.tables s.routine (length a.code + 1) a.next (cases_with arms a.lines)) in
+      record { all = adds_as a e _ _ _ _ _ _ (over a b d e line exit target (I.Jump 0) _ _ _ (λ n. n) here refl h (turned_back b c d a.lines _ _ _ j.all t) k is) (ap code (sym lined)) refl refl }
 
   -- ---- the whole
 

@@ -7,7 +7,7 @@ use Rattle.alma_code.specs.declared.instr.Instr.{Instr}
 use Rattle.alma_choice.specs.Emitted.{aimed, with_target}
 use Rattle.alma_choice.proofs.Aiming.{aim_between}
 use Rattle.alma_templates.specs.Lined.{Lined, own}
-use Rattle.alma_emit_parts.specs.Front.{Front, Adds, Codes, Takes, Changes, Holes}
+use Rattle.alma_emit_parts.specs.Front.{Front, Adds, Codes, Takes, Changes, Holes, Turns}
 
 -- a clause on success that follows from another
 pub on_ok_map : {T E : Type 0} {P Q : Type 0} (r : Result T E) → (P → Q) → OnOk r P → OnOk r Q
@@ -60,6 +60,16 @@ adds_as a b f g k l p q h e d c = record {
   next_slot = h.next_slot ∙ ap (λ y. a.next + length y) d;
   left = h.left ∙ c;
   whole = h.whole;
+}
+
+-- what was added stays where lines are handed out anew
+pub turned_back : (a b c : Front) (ls : List ℕ) (f : Code) (k : Slots) (p : Pass) → Adds a b f k p → Turns b c ls → Adds a c f k (λ ms. ls)
+turned_back a b c ls f k p h t = record {
+  instrs = t.instrs ∙ h.instrs;
+  taken = t.taken ∙ h.taken;
+  next_slot = t.next_slot ∙ h.next_slot;
+  left = t.left;
+  whole = t.whole ∙ h.whole;
 }
 
 -- ---- code alone, and slots alone

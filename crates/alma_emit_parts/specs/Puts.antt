@@ -12,8 +12,8 @@ use Rattle.alma_emit_parts.specs.declared.stand.Stand.{Stand}
 use Rattle.alma_emit_parts.specs.declared.stand.Stand.TheVariants as stands
 use Rattle.alma_emit_parts.specs.Front.{Around, Front, Adds, Holes}
 use Rattle.alma_templates.specs.Lined.{Lined, own, in_row}
-use Rattle.alma_templates.specs.Slots.{shift_of, bare_desig, bare, unless_bare, is_simple, mark_slots, handed_slots, call_links, stmts_slots, stmt_slots, arms_slots, cases_slots, else_slots, behind_condition, branches_slots, for_slots, some_slots, return_slots, test_slots, and_slots, or_slots, expr_slots, links_slots, args_slots, arg_slots, desig_slots, sels_slots, sel_slots}
-use Rattle.alma_templates.specs.Pieces.{condition, guarded, first_of_two, chosen, labels_code, behind_labels, case_arm, first_argument}
+use Rattle.alma_templates.specs.Slots.{shift_of, bare_desig, bare, unless_bare, is_simple, mark_slots, handed_slots, call_links, stmts_slots, stmt_slots, arms_slots, dead_slots, cases_slots, else_slots, behind_condition, branches_slots, for_slots, some_slots, return_slots, test_slots, and_slots, or_slots, expr_slots, links_slots, args_slots, arg_slots, desig_slots, sels_slots, sel_slots}
+use Rattle.alma_templates.specs.Pieces.{condition, guarded, first_of_two, chosen, labels_code, behind_labels, case_arm, passed_over, has_dead, first_argument}
 use Rattle.alma_templates.specs.Templates as T
 
 -- ---- variables, by slot or by place
@@ -134,6 +134,14 @@ pub record PutsStmt (s : Around) (line : ℕ) (a b : Front) (x : Stmt) : Type 0 
 -- arms of IF behind the first, which leave by a jump
 pub record PutsArms (s : Around) (line exit : ℕ) (a b : Front) (arms : Arms) : Type 0 where
   pub all : Adds a b (λ at lo ls. T.arms_code s.program s.tables s.routine line exit at lo (arms_with arms ls) (λ next behind. [])) (λ ls. arms_slots s.program s.routine (arms_with arms ls)) (behind (arms_phrases arms))
+
+-- the bodies of the arms of CASE without a label
+pub record PutsDeadBodies (s : Around) (a b : Front) (arms : CaseArms) : Type 0 where
+  pub all : Adds a b (λ at lo ls. T.dead_code s.program s.tables s.routine at lo (cases_with arms ls)) (λ ls. dead_slots s.program s.routine (cases_with arms ls)) (behind (cases_phrases arms))
+
+-- these behind a jump over them, where there are some; the lines are still to be handed out
+pub record PutsDead (s : Around) (line : ℕ) (a b : Front) (arms : CaseArms) : Type 0 where
+  pub all : Adds a b (λ at lo ls. passed_over (has_dead (cases_with arms ls)) line at (T.dead_code s.program s.tables s.routine (at + 1) lo (cases_with arms ls))) (λ ls. dead_slots s.program s.routine (cases_with arms ls)) (λ ls. ls)
 
 -- arms of CASE behind the first, which leave by a jump
 pub record PutsCases (s : Around) (line value bound exit : ℕ) (a b : Front) (arms : CaseArms) : Type 0 where

@@ -1,7 +1,8 @@
-// The labels of an arm of CASE.
+// The labels of the arms of CASE.
 ghost use Rattle.std.specs.Prelude.{◌≡◌, ◌+◌, ◌∷◌, [], IfOk, OnOk, length};
 ghost use Rattle.alma_code.specs.declared.cell.SlotKind.TheVariants as slot;
 ghost use Rattle.alma_choice.specs.Emitted.{aimed};
+ghost use Rattle.alma_ir.specs.View.{cases_list};
 ghost use Rattle.alma_templates.specs.Lined.{own};
 ghost use Rattle.alma_templates.specs.Pieces as pieces;
 ghost use Rattle.alma_emit_parts.specs.Front.{front, Adds, Codes, Holes};
@@ -9,6 +10,7 @@ ghost use Rattle.alma_emit_parts.specs.Front.{front, Adds, Codes, Holes};
 use crate::work::Work;
 use alma_base::{NoMemory, Range};
 use alma_code::{Instr, SlotKind};
+use alma_ir::CaseArm;
 
 /// What the labels of an arm need: the slot of the value, and two slots for the ends of a label and for the test of one.
 #[derive(Clone, Copy)]
@@ -23,6 +25,18 @@ pub struct Labels {
 pub struct Miss {
     pub low: u32,
     pub high: u32,
+}
+
+/// Whether an arm of CASE has no label, and so is never tried.
+pub fn has_dead(arms: &[CaseArm]) -> bool
+    ensures { result ≡ pieces.has_dead (cases_list arms.now) }
+{
+    for arm in arms {
+        if arm.labels.is_empty() {
+            return true;
+        }
+    }
+    false
 }
 
 /// The two slots for the labels of a CASE.

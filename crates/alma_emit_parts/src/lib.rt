@@ -13,7 +13,7 @@ mod value;
 mod work;
 
 pub use call::{first_handed, put_call_link, take_handed};
-pub use case::{Labels, Miss, put_label, put_last_label, take_labels};
+pub use case::{Labels, Miss, has_dead, put_label, put_last_label, take_labels};
 pub use choice::{begin_each, begin_first, begin_forall, end_each, end_forall};
 pub use loops::{Bounds, put_bounds, put_count, put_more, put_next, put_step};
 pub use place::{put_links, put_root};

@@ -8,7 +8,7 @@ ghost use Rattle.alma_implements.specs.Implements.{Implements};
 ghost use Rattle.alma_ir.specs.Checked.{IsChecked};
 ghost use Rattle.alma_ir.specs.Count.{saturate, nodes};
 ghost use Rattle.alma_ir.specs.View.{program_of};
-ghost use Rattle.alma_sound.specs.Reads.{HasLabels, code_reads, program_reads};
+ghost use Rattle.alma_sound.specs.Reads.{code_reads, program_reads};
 
 use crate::compiled::compiled;
 use alma_base::{NoMemory, SIZE_LIMIT};
@@ -36,8 +36,8 @@ pub fn lower(alloc: Global, program: &Program) -> Result<Code, LowerError>
     ensures version { IfOk result (λ code. KeepsVersion (code_of code)) }
     ensures counts { IfOk result (λ code. KeepsCounts (code_of code)) }
     ensures records { IfOk result (λ code. KeepsRecords (code_of code)) }
-    ensures reads { IfOk result (λ code. HasLabels (program_of program.now) → code_reads
-        (code_of code) ≡ program_reads (program_of program.now)) }
+    ensures reads { IfOk result (λ code. code_reads (code_of code) ≡ program_reads
+        (program_of program.now)) }
     ensures few { IfOk result (λ code. length (code_of code).instrs ≤ 16 * nodes
         (program_of program.now)) }
     ensures too_much { let size = saturate (16 * nodes (program_of program.now)) in size_limit

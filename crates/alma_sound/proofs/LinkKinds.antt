@@ -20,7 +20,7 @@ use Rattle.alma_ir.specs.Phrases.{Phrase, DesigPhrase, stmts_phrases, stmt_phras
 use Rattle.alma_ir.specs.Checked.{IsChecked, RootExists, link_slots}
 use Rattle.alma_ir.proofs.Each.{each_of_front, each_of_back, each_of_append}
 use Rattle.alma_templates.specs.Tables.{Tables}
-use Rattle.alma_templates.specs.Slots.{shift_of, chain_slots, links_if, bare, bare_desig, unless_bare, is_simple, mark_slots, handed_slots, arg_kind, call_links, root_slots, stmts_slots, stmt_slots, arms_slots, cases_slots, else_slots, branches_slots, for_slots, some_slots, test_slots, and_slots, or_slots, expr_slots, links_slots, args_slots, arg_slots, desig_slots, sels_slots, sel_slots, param_kinds, params_kinds, link_kinds, routine_kinds}
+use Rattle.alma_templates.specs.Slots.{shift_of, chain_slots, links_if, bare, bare_desig, unless_bare, is_simple, mark_slots, handed_slots, arg_kind, call_links, root_slots, stmts_slots, stmt_slots, arms_slots, dead_slots, cases_slots, else_slots, branches_slots, for_slots, some_slots, test_slots, and_slots, or_slots, expr_slots, links_slots, args_slots, arg_slots, desig_slots, sels_slots, sel_slots, param_kinds, params_kinds, link_kinds, routine_kinds}
 use Rattle.alma_sound.proofs.Facts.{Facts, CallFacts, body_facts}
 use Rattle.alma_templates.specs.CodeOf.{HoldsAllOf}
 
@@ -224,8 +224,11 @@ module _ (p : Program) where
         stmt_named (SomeOf l) h = some_named l h.1
         stmt_named (Case e arms rest) h =
             let parts = fine_front (expr_phrases e ++ cases_phrases arms) (else_phrases rest) h.1 in
-            both (expr_slots p r e) (slot.Number ∷ slot.Number ∷ (cases_slots p r arms ++ else_slots p r rest)) (expr_named e (fine_front (expr_phrases e) (cases_phrases arms) parts))
-            (tt, (tt, both (cases_slots p r arms) (else_slots p r rest) (cases_named arms (fine_back (expr_phrases e) (cases_phrases arms) parts)) (else_named rest (fine_back (expr_phrases e ++ cases_phrases arms) (else_phrases rest) h.1))))
+            let good = fine_back (expr_phrases e) (cases_phrases arms) parts in
+            let tried = slot.Number ∷ slot.Number ∷ (cases_slots p r arms ++ else_slots p r rest) in
+            both (expr_slots p r e) (dead_slots p r arms ++ tried) (expr_named e (fine_front (expr_phrases e) (cases_phrases arms) parts))
+            (both (dead_slots p r arms) tried (dead_named arms good)
+            (tt, (tt, both (cases_slots p r arms) (else_slots p r rest) (cases_named arms good) (else_named rest (fine_back (expr_phrases e ++ cases_phrases arms) (else_phrases rest) h.1)))))
         stmt_named (Either x) h = branches_named x h.1
         stmt_named (Forall x y) h = (tt, both (stmts_slots p r x) (slot.Mark ∷ stmts_slots p r y) (stmts_named x (fine_front (stmts_phrases x) (stmts_phrases y) h.1)) (tt, stmts_named y (fine_back (stmts_phrases x) (stmts_phrases y) h.1)))
         stmt_named (Commit x) h = (tt, stmts_named x h.1)
@@ -243,6 +246,11 @@ module _ (p : Program) where
             both (mark_slots (is_simple t)) (test_slots p r t ++ (stmts_slots p r body ++ arms_slots p r rest)) (mark_named (is_simple t))
             (both (test_slots p r t) (stmts_slots p r body ++ arms_slots p r rest) (test_named t (fine_front (test_phrases t) (stmts_phrases body) two))
             (both (stmts_slots p r body) (arms_slots p r rest) (stmts_named body (fine_back (test_phrases t) (stmts_phrases body) two)) (arms_named rest (fine_back (test_phrases t ++ stmts_phrases body) (arms_phrases rest) h))))
+
+        dead_named : (arms : CaseArms) → Fine (cases_phrases arms) → AllNamed (dead_slots p r arms)
+        dead_named no_cases h = tt
+        dead_named (more_cases [] body rest) h = both (stmts_slots p r body) (dead_slots p r rest) (stmts_named body (fine_front (stmts_phrases body) (cases_phrases rest) h)) (dead_named rest (fine_back (stmts_phrases body) (cases_phrases rest) h))
+        dead_named (more_cases (label ∷ labels) body rest) h = dead_named rest (fine_back (stmts_phrases body) (cases_phrases rest) h)
 
         cases_named : (arms : CaseArms) → Fine (cases_phrases arms) → AllNamed (cases_slots p r arms)
         cases_named no_cases h = tt

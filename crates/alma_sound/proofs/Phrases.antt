@@ -18,10 +18,10 @@ use Rattle.alma_ir.specs.Checked.{IsChecked, ArePartsOf, IsPart, sel_cells, desi
 use Rattle.alma_ir.proofs.Each.{each_of_front, each_of_back, each_of_append}
 use Rattle.alma_templates.specs.Lined.{Lined, own}
 use Rattle.alma_templates.specs.Tables.{Tables, range_number, text_number}
-use Rattle.alma_templates.specs.Pieces.{condition, guarded, chosen, first_of_two, truth_code, fit_code, neg_code, op_code, cmp_code, write_code, read_code, case_arm, behind_labels, begin_loop, for_turns, some_turns, turn_code, each_body}
-use Rattle.alma_templates.specs.Slots.{bare, bare_desig, unless_bare, is_simple, mark_slots, handed_slots, call_links, root_slots, arg_kind, stmts_slots, stmt_slots, arms_slots, cases_slots, else_slots, branches_slots, for_slots, some_slots, return_slots, test_slots, and_slots, or_slots, expr_slots, links_slots, args_slots, arg_slots, desig_slots, sels_slots, sel_slots, behind_expr, behind_value, behind_desig, behind_target, behind_variable, behind_test, behind_stmts, behind_stmt, behind_condition}
+use Rattle.alma_templates.specs.Pieces.{condition, guarded, chosen, first_of_two, truth_code, fit_code, neg_code, op_code, cmp_code, write_code, read_code, case_arm, passed_over, has_dead, behind_labels, begin_loop, for_turns, some_turns, turn_code, each_body}
+use Rattle.alma_templates.specs.Slots.{bare, bare_desig, unless_bare, is_simple, mark_slots, handed_slots, call_links, root_slots, arg_kind, stmts_slots, stmt_slots, arms_slots, dead_slots, cases_slots, else_slots, branches_slots, for_slots, some_slots, return_slots, test_slots, and_slots, or_slots, expr_slots, links_slots, args_slots, arg_slots, desig_slots, sels_slots, sel_slots, behind_expr, behind_dead, behind_value, behind_desig, behind_target, behind_variable, behind_test, behind_stmts, behind_stmt, behind_condition}
 use Rattle.alma_templates.specs.Slots as slots_of
-use Rattle.alma_templates.specs.Templates.{char_range, own_slot, value_at, part_slot, behind_root, place_at, root_code, call_link_code, arguments_from, call_code, set_code, load_code, count_at, count_code, fit_result, stmts_code, stmt_code, if_code, arms_code, for_code, some_code, case_code, cases_code, else_code, either_code, branches_code, test_code, and_code, or_code, operands_code, jump_code, expr_code, links_code, args_code, arg_code, desig_code, sels_code, sel_code}
+use Rattle.alma_templates.specs.Templates.{char_range, own_slot, value_at, part_slot, behind_root, place_at, root_code, call_link_code, arguments_from, call_code, set_code, load_code, count_at, count_code, fit_result, stmts_code, stmt_code, if_code, arms_code, for_code, some_code, dead_code, case_code, cases_code, else_code, either_code, branches_code, test_code, and_code, or_code, operands_code, jump_code, expr_code, links_code, args_code, arg_code, desig_code, sels_code, sel_code}
 use Rattle.alma_templates.specs.CodeOf.{HoldsChecked}
 use Rattle.alma_templates.specs.Compiled.{is_function}
 use Rattle.alma_templates.proofs.Args.{same_cells}
@@ -534,22 +534,31 @@ module _ (p : Program) (tables : Tables) (code : PlainCode) (checked : IsChecked
     stmt_fits line at lo (ForTo l) good slots = for_fits line at lo l good.0 good.1 slots
     stmt_fits line at lo (SomeOf l) good slots = some_fits line at lo l good.0 good.1 slots
     stmt_fits line at lo (Case e arms rest) good slots =
-        let bound : ℕ = behind_expr p r lo e in
+        let first : ℕ = behind_expr p r lo e in
+        let bound : ℕ = behind_dead p r first arms in
         let labels = cases_slots p r arms ++ else_slots p r rest in
+        let tried = slot.Number ∷ slot.Number ∷ labels in
         let one : List Lined = expr_code p tables r line at lo e in
-        let mine = front lo (expr_slots p r e) (slot.Number ∷ slot.Number ∷ labels) slots in
-        let others = back lo (expr_slots p r e) (slot.Number ∷ slot.Number ∷ labels) slots in
+        let next : ℕ = at + length one in
+        let dead : List Lined = dead_code p tables r (next + 1) first arms in
+        let over : List Lined = passed_over (has_dead arms) line next dead in
+        let begin : ℕ = next + length over in
+        let choice : List Lined = case_code p tables r line lo bound begin (bound + 2) arms (λ next la. else_code p tables r line next la rest) in
+        let mine = front lo (expr_slots p r e) (dead_slots p r arms ++ tried) slots in
+        let behind_e = back lo (expr_slots p r e) (dead_slots p r arms ++ tried) slots in
+        let others = back first (dead_slots p r arms) tried behind_e in
         let parts = expr_phrases e ++ cases_phrases arms in
         let good_parts = fine_front parts (else_phrases rest) good.1 in
-        row at one (case_code p tables r line lo bound (at + length one) (bound + 2) arms (λ next la. else_code p tables r line next la rest))
-        (expr_fits line at lo e (fine_front (expr_phrases e) (cases_phrases arms) good_parts) mine)
-        (case_fits line lo bound (at + length one) (bound + 2) arms (λ next la. else_code p tables r line next la rest) (else_slots p r rest) (fine_back (expr_phrases e) (cases_phrases arms) good_parts)
+        let good_arms = fine_back (expr_phrases e) (cases_phrases arms) good_parts in
+        row at one (over ++ choice) (expr_fits line at lo e (fine_front (expr_phrases e) (cases_phrases arms) good_parts) mine)
+        (row next over choice (pieces.over_fits code r (has_dead arms) line next dead (dead_fits (next + 1) first arms good_arms (front first (dead_slots p r arms) tried behind_e)))
+        (case_fits line lo bound begin (bound + 2) arms (λ next la. else_code p tables r line next la rest) (else_slots p r rest) good_arms
         (record {
           number_at = values.expr_number p tables code checked w r lt lo e mine;
           low = first_slot bound slot.Number (slot.Number ∷ labels) others;
           test = first_slot (bound + 1) slot.Number labels (back bound (slot.Number ∷ []) (slot.Number ∷ labels) others);
         })
-        (back bound (slot.Number ∷ slot.Number ∷ []) labels others) (λ next la s. else_fits line next la rest (fine_back parts (else_phrases rest) good.1) s))
+        (back bound (slot.Number ∷ slot.Number ∷ []) labels others) (λ next la s. else_fits line next la rest (fine_back parts (else_phrases rest) good.1) s)))
     stmt_fits line at lo (Either x) good slots = either_fits line at lo x good.1 slots
     stmt_fits line at lo (Forall x y) good slots =
         let inner : ℕ = behind_stmts p r (lo + 1) x in
@@ -704,6 +713,15 @@ module _ (p : Program) (tables : Tables) (code : PlainCode) (checked : IsChecked
         (λ at. stmts_fit at lo2 body (fine_back ((desig_phrases d ++ expr_phrases from) ++ expr_phrases to) (stmts_phrases body) good) (back (more + 1) c e slots4))))
 
     -- ---- CASE
+
+    dead_fits : (at lo : ℕ) (arms : CaseArms) → Fine (cases_phrases arms) → SlotsOf lo (dead_slots p r arms) → Here at (dead_code p tables r at lo arms)
+    dead_fits at lo no_cases good slots = λ room. tt
+    dead_fits at lo (more_cases [] body rest) good slots =
+        let one : List Lined = stmts_code p tables r at lo body in
+        let lo2 : ℕ = behind_stmts p r lo body in
+        row at one (dead_code p tables r (at + length one) lo2 rest) (stmts_fit at lo body (fine_front (stmts_phrases body) (cases_phrases rest) good) (front lo (stmts_slots p r body) (dead_slots p r rest) slots))
+        (dead_fits (at + length one) lo2 rest (fine_back (stmts_phrases body) (cases_phrases rest) good) (back lo (stmts_slots p r body) (dead_slots p r rest) slots))
+    dead_fits at lo (more_cases (label ∷ labels) body rest) good slots = dead_fits at lo rest (fine_back (stmts_phrases body) (cases_phrases rest) good) slots
 
     case_fits : (line value bound at lo : ℕ) (arms : CaseArms) (otherwise : (at lo : ℕ) → List Lined) (others : List SlotKind) → Fine (cases_phrases arms) → CaseSlots value bound → SlotsOf lo (cases_slots p r arms ++ others) → ((at lo : ℕ) → SlotsOf lo others → Here at (otherwise at lo))
         → Here at (case_code p tables r line value bound at lo arms otherwise)

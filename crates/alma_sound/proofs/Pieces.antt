@@ -8,7 +8,7 @@ use Rattle.alma_code.specs.declared.instr.Instr.TheVariants as I
 use Rattle.alma_code.specs.Plain.{PlainCode, start_at, end_at}
 use Rattle.alma_ir.proofs.Each.{each_of_append}
 use Rattle.alma_templates.specs.Lined.{Lined, own, in_row, leaving}
-use Rattle.alma_templates.specs.Pieces.{condition, guarded, chosen, first_of_two, refused, truth_code, each_body, forall_code, label_code, labels_code, behind_labels, case_arm, entry_code, begin_loop, turn_code, for_turns, some_turns}
+use Rattle.alma_templates.specs.Pieces.{condition, guarded, chosen, first_of_two, refused, truth_code, each_body, forall_code, label_code, labels_code, behind_labels, case_arm, passed_over, entry_code, begin_loop, turn_code, for_turns, some_turns}
 use Rattle.alma_templates.specs.Slots.{unless_bare}
 use Rattle.alma_sound.proofs.Needs.{IsInside, Needs, Number, Mark}
 
@@ -159,6 +159,12 @@ module _ (code : PlainCode) (r : ℕ) where
       ((m, out), both parts last (f (record { low = omega (arith, room.low); high = omega (arith, room.high, long) })) (tt, tt))
 
   -- ---- CASE
+
+  -- the jump over code that is never reached
+  pub over_fits : (has : Bool) (line at : ℕ) (a : List Lined) → Fits 0 (at + 1) a → Fits 0 at (passed_over has line at a)
+  over_fits false line at a f room = tt
+  over_fits true line at a f room =
+      (record { low = omega (arith, room.low); high = omega (arith, room.high) }, f (record { low = omega (arith, room.low); high = omega (arith, room.high) }))
 
   pub labels_long : (value bound at hit miss : ℕ) (label : Range) (rest : List Range) → length (labels_code value bound at hit miss label rest) ≡ 7 * length rest + 6
   labels_long value bound at hit miss label [] = refl

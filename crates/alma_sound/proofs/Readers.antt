@@ -1,5 +1,4 @@
--- The code of a phrase has as many instructions that read as the phrase has READs, where an arm of CASE without labels counts
--- for none.
+-- The code of a phrase has as many instructions that read as the phrase has READs.
 use Rattle.std.proofs.Common.{◌≡◌, ℕ, zero, suc, ◌+◌, Bool, true, false, List, [], ◌∷◌, ◌++◌, length, Option, Some, None, ℤ, pos, negsuc, refl, sym, arith}
 use Rattle.alma_base.specs.declared.number.Range.{Range}
 use Rattle.alma_code.specs.declared.instr.Instr.{Instr}
@@ -17,9 +16,9 @@ use Rattle.alma_ir.specs.declared.phrase.WriteAs.TheVariants as write_as
 use Rattle.alma_ir.specs.Tree.{Stmts, Stmt, Arms, CaseArms, Else, Branches, Loop, ReturnExpr, Test, Tests, Expr, Links, Args, Arg, Desig, Sels, Sel, Program, routine_at, no_stmts, more_stmts, TestStmt, Assign, CopyCells, If, While, Repeat, ForTo, SomeOf, Case, Either, Forall, Commit, Return, Read, WriteExpr, WriteText, WriteLine, no_arms, more_arms, no_cases, more_cases, no_else, else_part, no_branches, more_branches, a_loop, no_result, some_result, Value, Bind, Unify, SameCells, Seq, And, Or, Not, CallTest, no_tests, more_tests, Const, Load, Chain, Compare, Truth, Known, Chr, CallExpr, no_links, more_links, no_args, more_args, ByValue, ByCells, ByPlace, MixValue, MixPlace, a_desig, no_sels, more_sels, Field, Index}
 use Rattle.alma_templates.specs.Lined.{Lined, own, leaving}
 use Rattle.alma_templates.specs.Tables.{Tables, range_number, is_whole}
-use Rattle.alma_templates.specs.Pieces.{condition, guarded, chosen, first_of_two, refused, fit_code, neg_code, op_code, cmp_code, write_code, read_code, case_arm, behind_labels, labels_code, begin_loop, bounds_code, entry_code, chain_code, link_code, unless_whole, for_turns, some_turns, turn_code, each_body, forall_code}
-use Rattle.alma_templates.specs.Slots.{shift_of, bare, bare_desig, unless_bare, is_simple, handed_slots, arg_slots, behind_expr, behind_value, behind_desig, behind_target, behind_variable, behind_test, behind_stmts, behind_stmt, behind_condition}
-use Rattle.alma_templates.specs.Templates.{char_range, own_slot, outer_slot, link_if, set_by, load_by, value_at, part_slot, behind_root, place_at, root_code, call_link_code, arguments_from, call_code, set_code, load_code, count_at, count_code, fit_result, stmts_code, stmt_code, if_code, arms_code, for_code, some_code, case_code, cases_code, else_code, either_code, branches_code, test_code, and_code, or_code, operands_code, jump_code, expr_code, links_code, args_code, arg_code, desig_code, sels_code, sel_code}
+use Rattle.alma_templates.specs.Pieces.{condition, guarded, chosen, first_of_two, refused, fit_code, neg_code, op_code, cmp_code, write_code, read_code, case_arm, passed_over, has_dead, behind_labels, labels_code, begin_loop, bounds_code, entry_code, chain_code, link_code, unless_whole, for_turns, some_turns, turn_code, each_body, forall_code}
+use Rattle.alma_templates.specs.Slots.{shift_of, bare, bare_desig, unless_bare, is_simple, handed_slots, arg_slots, behind_expr, behind_dead, behind_value, behind_desig, behind_target, behind_variable, behind_test, behind_stmts, behind_stmt, behind_condition}
+use Rattle.alma_templates.specs.Templates.{char_range, own_slot, outer_slot, link_if, set_by, load_by, value_at, part_slot, behind_root, place_at, root_code, call_link_code, arguments_from, call_code, set_code, load_code, count_at, count_code, fit_result, stmts_code, stmt_code, if_code, arms_code, for_code, some_code, dead_code, case_code, cases_code, else_code, either_code, branches_code, test_code, and_code, or_code, operands_code, jump_code, expr_code, links_code, args_code, arg_code, desig_code, sels_code, sel_code}
 use Rattle.alma_sound.specs.Reads.{is_read}
 
 -- ---- READs of phrases
@@ -54,8 +53,7 @@ abbrev mutual
 
   pub cases_reads : CaseArms → ℕ
   cases_reads no_cases = 0
-  cases_reads (more_cases [] body rest) = cases_reads rest
-  cases_reads (more_cases (label ∷ labels) body rest) = stmts_reads body + cases_reads rest
+  cases_reads (more_cases labels body rest) = stmts_reads body + cases_reads rest
 
   pub else_reads : Else → ℕ
   else_reads no_else = 0
@@ -122,6 +120,23 @@ abbrev mutual
   pub sel_reads : Sel → ℕ
   sel_reads (Field offset cells) = 0
   sel_reads (Index e range cells) = expr_reads e
+
+-- of the arms of CASE that have no label
+abbrev dead_reads : CaseArms → ℕ
+dead_reads no_cases = 0
+dead_reads (more_cases [] body rest) = stmts_reads body + dead_reads rest
+dead_reads (more_cases (label ∷ labels) body rest) = dead_reads rest
+
+-- and of those that have some
+abbrev live_reads : CaseArms → ℕ
+live_reads no_cases = 0
+live_reads (more_cases [] body rest) = live_reads rest
+live_reads (more_cases (label ∷ labels) body rest) = stmts_reads body + live_reads rest
+
+all_reads : (x : CaseArms) → dead_reads x + live_reads x ≡ cases_reads x
+all_reads no_cases = refl
+all_reads (more_cases [] body rest) = omega (arith, all_reads rest)
+all_reads (more_cases (label ∷ labels) body rest) = omega (arith, all_reads rest)
 
 -- ---- instructions that read
 
@@ -380,6 +395,13 @@ module _ (p : Program) (tables : Tables) (r : ℕ) where
       turn_reads line at (count_code p tables r (bare_desig d) range counter lo) (λ at. unless_bare (bare_desig d) (desig_code p tables r line at (lo + 1) d)) (set_code p tables r (lo + 1) (count_at p tables r (bare_desig d) counter lo) d) body (desig_reads d) n
       (count_quiet (bare_desig d) range counter lo) (set_quiet (lo + 1) (count_at p tables r (bare_desig d) counter lo) d) (λ at. located d (desig_code p tables r line at (lo + 1) d) (f at)) b
 
+  -- ---- CASE: the jump over the arms that have no label
+
+  over_reads : (line next at lo : ℕ) (x : CaseArms) → reads (passed_over (has_dead x) line next (dead_code p tables r at lo x)) ≡ reads (dead_code p tables r at lo x)
+  over_reads line next at lo no_cases = refl
+  over_reads line next at lo (more_cases [] body rest) = omega arith
+  over_reads line next at lo (more_cases (label ∷ labels) body rest) = over_reads line next at lo rest
+
   mutual
     desig_same : (line at lo : ℕ) (x : Desig) → reads (desig_code p tables r line at lo x) ≡ desig_reads x
     desig_same line at lo (a_desig root cells sels) =
@@ -598,10 +620,16 @@ module _ (p : Program) (tables : Tables) (r : ℕ) where
     stmt_same line at lo (ForTo l) = omega (arith, for_of_same line at lo l)
     stmt_same line at lo (SomeOf l) = omega (arith, some_of_same line at lo l)
     stmt_same line at lo (Case e arms rest) =
-        let bound : ℕ = behind_expr p r lo e in
+        let first : ℕ = behind_expr p r lo e in
+        let bound : ℕ = behind_dead p r first arms in
         let one : List Lined = expr_code p tables r line at lo e in
-        let z = case_same line lo bound (at + length one) (bound + 2) arms (λ next la. else_code p tables r line next la rest) (else_reads rest) (λ next la. else_same line next la rest) in
-        omega (arith, z, both one (case_code p tables r line lo bound (at + length one) (bound + 2) arms (λ next la. else_code p tables r line next la rest)), expr_same line at lo e)
+        let next : ℕ = at + length one in
+        let dead : List Lined = dead_code p tables r (next + 1) first arms in
+        let over : List Lined = passed_over (has_dead arms) line next dead in
+        let begin : ℕ = next + length over in
+        let tried : List Lined = case_code p tables r line lo bound begin (bound + 2) arms (λ next la. else_code p tables r line next la rest) in
+        let z = case_same line lo bound begin (bound + 2) arms (λ next la. else_code p tables r line next la rest) (else_reads rest) (λ next la. else_same line next la rest) in
+        omega (arith, z, both one (over ++ tried), both over tried, over_reads line next (next + 1) first arms, dead_same (next + 1) first arms, all_reads arms, expr_same line at lo e)
     stmt_same line at lo (Either x) = omega (arith, either_same line at lo x)
     stmt_same line at lo (Forall x y) =
         let inner : ℕ = behind_stmts p r (lo + 1) x in
@@ -650,7 +678,15 @@ module _ (p : Program) (tables : Tables) (r : ℕ) where
         let others = arms_same line jump next lo3 rest otherwise n f in
         omega (arith, z, others, by_jump_reads line jump one (arms_code p tables r line jump next lo3 rest otherwise))
 
-    case_same : (line value bound at lo : ℕ) (x : CaseArms) (otherwise : (at lo : ℕ) → List Lined) (n : ℕ) → ((at lo : ℕ) → reads (otherwise at lo) ≡ n) → reads (case_code p tables r line value bound at lo x otherwise) ≡ cases_reads x + n
+    dead_same : (at lo : ℕ) (x : CaseArms) → reads (dead_code p tables r at lo x) ≡ dead_reads x
+    dead_same at lo no_cases = refl
+    dead_same at lo (more_cases [] body rest) =
+        let one : List Lined = stmts_code p tables r at lo body in
+        let lo2 : ℕ = behind_stmts p r lo body in
+        omega (arith, both one (dead_code p tables r (at + length one) lo2 rest), stmts_same at lo body, dead_same (at + length one) lo2 rest)
+    dead_same at lo (more_cases (label ∷ labels) body rest) = dead_same at lo rest
+
+    case_same : (line value bound at lo : ℕ) (x : CaseArms) (otherwise : (at lo : ℕ) → List Lined) (n : ℕ) → ((at lo : ℕ) → reads (otherwise at lo) ≡ n) → reads (case_code p tables r line value bound at lo x otherwise) ≡ live_reads x + n
     case_same line value bound at lo no_cases otherwise n f = let z = f at lo in omega (arith, z)
     case_same line value bound at lo (more_cases [] body rest) otherwise n f = let z = case_same line value bound at lo rest otherwise n f in omega (arith, z)
     case_same line value bound at lo (more_cases (label ∷ labels) body rest) otherwise n f =
@@ -660,7 +696,7 @@ module _ (p : Program) (tables : Tables) (r : ℕ) where
         let others = cases_same line value bound (at + length one) (at + length one + 1) lo2 rest otherwise n f in
         omega (arith, others, leaving_reads line at one (λ next jump. cases_code p tables r line value bound jump next lo2 rest otherwise), case_arm_reads line value bound at label labels inner, stmts_same (behind_labels at labels) lo body)
 
-    cases_same : (line value bound jump at lo : ℕ) (x : CaseArms) (otherwise : (at lo : ℕ) → List Lined) (n : ℕ) → ((at lo : ℕ) → reads (otherwise at lo) ≡ n) → reads (cases_code p tables r line value bound jump at lo x otherwise) ≡ cases_reads x + n
+    cases_same : (line value bound jump at lo : ℕ) (x : CaseArms) (otherwise : (at lo : ℕ) → List Lined) (n : ℕ) → ((at lo : ℕ) → reads (otherwise at lo) ≡ n) → reads (cases_code p tables r line value bound jump at lo x otherwise) ≡ live_reads x + n
     cases_same line value bound jump at lo no_cases otherwise n f = let z = f at lo in omega (arith, z)
     cases_same line value bound jump at lo (more_cases [] body rest) otherwise n f = let z = cases_same line value bound jump at lo rest otherwise n f in omega (arith, z)
     cases_same line value bound jump at lo (more_cases (label ∷ labels) body rest) otherwise n f =

@@ -1,5 +1,5 @@
 -- Phrases with their lines have as many READs as without.
-use Rattle.std.proofs.Common.{◌≡◌, ℕ, List, [], ◌∷◌, drop, true, false, refl, arith}
+use Rattle.std.proofs.Common.{◌≡◌, ℕ, List, drop, true, false, refl, arith}
 use Rattle.alma_ir.specs.Tree.{Stmts, Stmt, Arms, CaseArms, Else, Branches, Loop, ReturnExpr, Test, Tests, Expr, Links, Args, Arg, Desig, Sels, Sel, no_stmts, more_stmts, TestStmt, Assign, CopyCells, If, While, Repeat, ForTo, SomeOf, Case, Either, Forall, Commit, Return, Read, WriteExpr, WriteText, WriteLine, no_arms, more_arms, no_cases, more_cases, no_else, else_part, no_branches, more_branches, a_loop, no_result, some_result, Value, Bind, Unify, SameCells, Seq, And, Or, Not, CallTest, no_tests, more_tests, Const, Load, Chain, Compare, Truth, Known, Chr, CallExpr, no_links, more_links, no_args, more_args, ByValue, ByCells, ByPlace, MixValue, MixPlace, a_desig, no_sels, more_sels, Field, Index}
 use Rattle.alma_ir.specs.Lines.{behind, stmts_with, stmt_with, arms_with, cases_with, else_with, branches_with, loop_with, return_with, test_with, tests_with, expr_with, links_with, args_with, arg_with, desig_with, sels_with, sel_with}
 use Rattle.alma_ir.specs.Phrases.{stmts_phrases, stmt_phrases, arms_phrases, cases_phrases, test_phrases, expr_phrases, arg_phrases, desig_phrases, sel_phrases}
@@ -41,8 +41,7 @@ mutual
 
   cases_alike : (x : CaseArms) (ls : List ℕ) → cases_reads (cases_with x ls) ≡ cases_reads x
   cases_alike no_cases ls = refl
-  cases_alike (more_cases [] body rest) ls = cases_alike rest (behind (stmts_phrases body) ls)
-  cases_alike (more_cases (label ∷ labels) body rest) ls = omega (arith, stmts_alike body ls, cases_alike rest (behind (stmts_phrases body) ls))
+  cases_alike (more_cases labels body rest) ls = omega (arith, stmts_alike body ls, cases_alike rest (behind (stmts_phrases body) ls))
 
   else_alike : (x : Else) (ls : List ℕ) → else_reads (else_with x ls) ≡ else_reads x
   else_alike no_else ls = refl

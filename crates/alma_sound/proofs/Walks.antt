@@ -11,9 +11,9 @@ use Rattle.alma_ir.specs.Tree.{Stmts, Stmt, Arms, CaseArms, Else, Branches, Loop
 use Rattle.alma_ir.specs.Count.{stmts_nodes, stmt_nodes, arms_nodes, cases_nodes, else_nodes, branches_nodes, loop_nodes, test_nodes, tests_nodes, expr_nodes, links_nodes, args_nodes, arg_nodes, desig_nodes, sels_nodes, sel_nodes}
 use Rattle.alma_templates.specs.Lined.{Lined, own, leaving, line_from, lines_from}
 use Rattle.alma_templates.specs.Tables.{Tables, range_number, text_number}
-use Rattle.alma_templates.specs.Pieces.{condition, guarded, chosen, first_of_two, refused, fit_code, neg_code, op_code, cmp_code, write_code, read_code, case_arm, behind_labels, labels_code, begin_loop, bounds_code, for_turns, some_turns, turn_code, each_body, forall_code}
-use Rattle.alma_templates.specs.Slots.{bare, bare_desig, unless_bare, is_simple, handed_slots, arg_slots, behind_expr, behind_value, behind_desig, behind_target, behind_variable, behind_test, behind_stmts, behind_stmt, behind_condition}
-use Rattle.alma_templates.specs.Templates.{char_range, own_slot, value_at, part_slot, behind_root, place_at, root_code, call_link_code, arguments_from, call_code, set_code, load_code, count_at, count_code, fit_result, stmts_code, stmt_code, if_code, arms_code, for_code, some_code, case_code, cases_code, else_code, either_code, branches_code, test_code, and_code, or_code, operands_code, jump_code, expr_code, links_code, args_code, arg_code, desig_code, sels_code, sel_code}
+use Rattle.alma_templates.specs.Pieces.{condition, guarded, chosen, first_of_two, refused, fit_code, neg_code, op_code, cmp_code, write_code, read_code, case_arm, passed_over, has_dead, behind_labels, labels_code, begin_loop, bounds_code, for_turns, some_turns, turn_code, each_body, forall_code}
+use Rattle.alma_templates.specs.Slots.{bare, bare_desig, unless_bare, is_simple, handed_slots, arg_slots, behind_expr, behind_dead, behind_value, behind_desig, behind_target, behind_variable, behind_test, behind_stmts, behind_stmt, behind_condition}
+use Rattle.alma_templates.specs.Templates.{char_range, own_slot, value_at, part_slot, behind_root, place_at, root_code, call_link_code, arguments_from, call_code, set_code, load_code, count_at, count_code, fit_result, stmts_code, stmt_code, if_code, arms_code, for_code, some_code, dead_code, case_code, cases_code, else_code, either_code, branches_code, test_code, and_code, or_code, operands_code, jump_code, expr_code, links_code, args_code, arg_code, desig_code, sels_code, sel_code}
 
 -- ---- walks
 
@@ -143,6 +143,11 @@ module _ (line : ℕ) where
   forall_round : (at mark : ℕ) (a : List Lined) → round (forall_code line at mark a) ≤ round a
   forall_round at mark a = omega (arith, own_then (I.Forall mark (at + length a) ∷ []) (a ++ own line (I.Finish ∷ [])), then_own a (I.Finish ∷ []))
 
+  -- the jump over code that is never reached
+  over_round : (has : Bool) (at : ℕ) (a : List Lined) → round (passed_over has line at a) ≤ round a
+  over_round false at a = omega (arith, hop_none line)
+  over_round true at a = own_then (I.Jump (at + 1 + length a) ∷ []) a
+
   arm_round : (value bound at : ℕ) (label : Range) (rest : List Range) (a : List Lined) → round (case_arm line value bound at label rest a) ≤ round a
   arm_round value bound at label rest a = own_then (labels_code value bound at (behind_labels at rest) (behind_labels at rest + length a + 1) label rest) a
 
@@ -178,6 +183,25 @@ module _ (line : ℕ) where
         own_then (bounds_code (pos 1) counter limit from to (n + 3) ++ (I.Less more counter limit ∷ I.JumpZero more (at + 7) ∷ I.Choose (n + 1) ∷ [])) (a ++ own line end),
         then_own a end,
       )
+
+-- ---- the arms of CASE
+
+-- the nodes of the bodies that have no label
+abbrev dead_nodes : CaseArms → ℕ
+dead_nodes no_cases = 0
+dead_nodes (more_cases [] body rest) = stmts_nodes body + dead_nodes rest
+dead_nodes (more_cases (label ∷ labels) body rest) = dead_nodes rest
+
+-- and of those that have some
+abbrev live_nodes : CaseArms → ℕ
+live_nodes no_cases = 0
+live_nodes (more_cases [] body rest) = live_nodes rest
+live_nodes (more_cases (label ∷ labels) body rest) = stmts_nodes body + live_nodes rest
+
+all_nodes : (x : CaseArms) → dead_nodes x + live_nodes x ≤ cases_nodes x
+all_nodes no_cases = omega arith
+all_nodes (more_cases [] body rest) = omega (arith, all_nodes rest)
+all_nodes (more_cases (label ∷ labels) body rest) = omega (arith, all_nodes rest)
 
 module _ (p : Program) (tables : Tables) (r : ℕ) where
   abbrev condition_code : (line at lo none : ℕ) → Test → List Lined
@@ -424,10 +448,16 @@ module _ (p : Program) (tables : Tables) (r : ℕ) where
     stmt_round line at lo (ForTo l) = omega (arith, for_of_round line at lo l)
     stmt_round line at lo (SomeOf l) = omega (arith, some_of_round line at lo l)
     stmt_round line at lo (Case e arms rest) =
-        let bound : ℕ = behind_expr p r lo e in
+        let first : ℕ = behind_expr p r lo e in
+        let bound : ℕ = behind_dead p r first arms in
         let one : List Lined = expr_code p tables r line at lo e in
-        let z = case_round line lo bound (at + length one) (bound + 2) arms (λ next la. else_code p tables r line next la rest) (2 * else_nodes rest) (λ next la. else_round line next la rest) in
-        omega (arith, z, both line one (case_code p tables r line lo bound (at + length one) (bound + 2) arms (λ next la. else_code p tables r line next la rest)), expr_round line at lo e)
+        let next : ℕ = at + length one in
+        let dead : List Lined = dead_code p tables r (next + 1) first arms in
+        let over : List Lined = passed_over (has_dead arms) line next dead in
+        let begin : ℕ = next + length over in
+        let tried : List Lined = case_code p tables r line lo bound begin (bound + 2) arms (λ next la. else_code p tables r line next la rest) in
+        let z = case_round line lo bound begin (bound + 2) arms (λ next la. else_code p tables r line next la rest) (2 * else_nodes rest) (λ next la. else_round line next la rest) in
+        omega (arith, z, both line one (over ++ tried), both line over tried, over_round line (has_dead arms) next dead, dead_round line (next + 1) first arms, all_nodes arms, expr_round line at lo e)
     stmt_round line at lo (Either x) = omega (arith, either_round line at lo x)
     stmt_round line at lo (Forall x y) =
         let inner : ℕ = behind_stmts p r (lo + 1) x in
@@ -476,7 +506,15 @@ module _ (p : Program) (tables : Tables) (r : ℕ) where
         let others = arms_round line jump next lo3 rest otherwise n f in
         omega (arith, z, others, by_jump_round line jump one (arms_code p tables r line jump next lo3 rest otherwise))
 
-    case_round : (line value bound at lo : ℕ) (x : CaseArms) (otherwise : (at lo : ℕ) → List Lined) (n : ℕ) → ((at lo : ℕ) → round line (otherwise at lo) ≤ n) → round line (case_code p tables r line value bound at lo x otherwise) ≤ 2 * cases_nodes x + n
+    dead_round : (line at lo : ℕ) (x : CaseArms) → round line (dead_code p tables r at lo x) ≤ 2 * dead_nodes x
+    dead_round line at lo no_cases = omega (arith, hop_none line)
+    dead_round line at lo (more_cases [] body rest) =
+        let one : List Lined = stmts_code p tables r at lo body in
+        let lo2 : ℕ = behind_stmts p r lo body in
+        omega (arith, both line one (dead_code p tables r (at + length one) lo2 rest), stmts_round line at lo body, dead_round line (at + length one) lo2 rest)
+    dead_round line at lo (more_cases (label ∷ labels) body rest) = omega (arith, dead_round line at lo rest)
+
+    case_round : (line value bound at lo : ℕ) (x : CaseArms) (otherwise : (at lo : ℕ) → List Lined) (n : ℕ) → ((at lo : ℕ) → round line (otherwise at lo) ≤ n) → round line (case_code p tables r line value bound at lo x otherwise) ≤ 2 * live_nodes x + n
     case_round line value bound at lo no_cases otherwise n f = let z = f at lo in omega (arith, z)
     case_round line value bound at lo (more_cases [] body rest) otherwise n f = let z = case_round line value bound at lo rest otherwise n f in omega (arith, z)
     case_round line value bound at lo (more_cases (label ∷ labels) body rest) otherwise n f =
@@ -486,7 +524,7 @@ module _ (p : Program) (tables : Tables) (r : ℕ) where
         let others = cases_round line value bound (at + length one) (at + length one + 1) lo2 rest otherwise n f in
         omega (arith, others, leaving_round line at one (λ next jump. cases_code p tables r line value bound jump next lo2 rest otherwise), arm_round line value bound at label labels inner, stmts_round line (behind_labels at labels) lo body)
 
-    cases_round : (line value bound jump at lo : ℕ) (x : CaseArms) (otherwise : (at lo : ℕ) → List Lined) (n : ℕ) → ((at lo : ℕ) → round line (otherwise at lo) ≤ n) → round line (cases_code p tables r line value bound jump at lo x otherwise) ≤ 2 * cases_nodes x + n
+    cases_round : (line value bound jump at lo : ℕ) (x : CaseArms) (otherwise : (at lo : ℕ) → List Lined) (n : ℕ) → ((at lo : ℕ) → round line (otherwise at lo) ≤ n) → round line (cases_code p tables r line value bound jump at lo x otherwise) ≤ 2 * live_nodes x + n
     cases_round line value bound jump at lo no_cases otherwise n f = let z = f at lo in omega (arith, z)
     cases_round line value bound jump at lo (more_cases [] body rest) otherwise n f = let z = cases_round line value bound jump at lo rest otherwise n f in omega (arith, z)
     cases_round line value bound jump at lo (more_cases (label ∷ labels) body rest) otherwise n f =

@@ -8,7 +8,7 @@ ghost use Rattle.alma_ir.specs.Checked.{IsChecked};
 ghost use Rattle.alma_ir.specs.Count.{nodes};
 ghost use Rattle.alma_ir.specs.Tree.{Program};
 ghost use Rattle.alma_sound.specs.Entries.{HoldsEachOnce};
-ghost use Rattle.alma_sound.specs.Reads.{HasLabels, code_reads, program_reads};
+ghost use Rattle.alma_sound.specs.Reads.{code_reads, program_reads};
 ghost use Rattle.alma_sound.specs.Runs.{HasLongRuns};
 ghost use Rattle.alma_templates.specs.CodeOf.{IsCodeOf};
 
@@ -37,8 +37,8 @@ pub fn code_of_a_program_is_of_version_2()
 
 /// It holds a ReadInt or a ReadChar exactly where the program holds a READ.
 pub fn code_of_a_program_reads_where_the_program_reads()
-    ensures { (p : Program) (code : PlainCode) → IsCodeOf p code → HasLabels p
-        → code_reads code ≡ program_reads p }
+    ensures { (p : Program) (code : PlainCode) → IsCodeOf p code → code_reads code
+        ≡ program_reads p }
 {}
 
 /// Each program has a code with such runs and tables.

@@ -17,22 +17,22 @@ use Rattle.alma_mean.specs.Store.{Store}
 use Rattle.alma_mean.specs.Events.{Events, NoYield, bind, node, visit_each}
 use Rattle.alma_mean.specs.Rows.{try_labels}
 use Rattle.alma_mean.specs.Meaning.{Level, ev_stmts, ev_expr, ev_cases, ev_else}
-use Rattle.alma_implements.proofs.Goes.{before, weaker}
+use Rattle.alma_implements.proofs.Goes.{before, weaker, credited}
 use Rattle.alma_implements.proofs.Frames.{own_end, IsAt}
 use Rattle.alma_implements.proofs.FrameLemmas.{holds_other}
 use Rattle.alma_implements.proofs.ChoiceSteps.{jumps}
 use Rattle.alma_implements.proofs.EitherRow.{inner_goes}
 use Rattle.alma_implements.proofs.ExprRows.{some_frames}
 use Rattle.alma_implements.proofs.Steps.{top_written, Holds, Writes, InstrAt, const_step, less_eq_step, zero_jumps, other_goes_on, fault_step}
-use Rattle.alma_implements.proofs.Ways.{Leaves, LeadsTo, leads_nowhere, leads_by_jump, leads_then}
+use Rattle.alma_implements.proofs.Ways.{Ways, Leaves, LeadsTo, leads_nowhere, leads_by_jump, leads_then}
 use Rattle.alma_templates.specs.Lined.{Lined, own}
 use Rattle.alma_templates.specs.Tables.{Tables}
-use Rattle.alma_templates.specs.Slots.{behind_stmts, behind_expr}
-use Rattle.alma_templates.specs.Pieces.{last_label_code, labels_code, behind_labels, case_arm}
-use Rattle.alma_templates.specs.Templates.{stmts_code, expr_code, case_code, cases_code, else_code}
+use Rattle.alma_templates.specs.Slots.{behind_stmts, behind_expr, behind_dead}
+use Rattle.alma_templates.specs.Pieces.{last_label_code, labels_code, behind_labels, case_arm, passed_over, has_dead}
+use Rattle.alma_templates.specs.Templates.{stmts_code, expr_code, dead_code, case_code, cases_code, else_code}
 use Rattle.alma_templates.specs.Stands.{Stands}
 use Rattle.alma_templates.proofs.Stands.{stands_front, stands_back}
-use Rattle.alma_templates.proofs.Parts.{Begins, begins, Left, left_self, left_temp, has_kind, holds_temp, IsValue, ValueIn, From, ending, from_more, from_ending, on_ending, then_ending, as_runs, node_runs, runs_from, faults_here}
+use Rattle.alma_templates.proofs.Parts.{Begins, begins, Left, left_self, left_temp, has_kind, holds_temp, IsValue, ValueIn, From, ending, from_more, from_ending, on_ending, then_ending, as_runs, node_runs, faults_here}
 use Rattle.alma_templates.proofs.RangeChecks.{past_from}
 use Rattle.alma_templates.proofs.FormRuns.{ExprRuns, StatementRuns, ListRuns}
 
@@ -58,6 +58,10 @@ module _ (p : Program) (tables : Tables) (code : PlainCode) (input : List ℕ) (
         before code input line 0 24 (Leaves exit (ending p code input may lo r now)) held e s w.to 1 (suc c) c q q w.silently (omega arith) (omega arith)
         (from_ending p code input may line c (at + 1) exit lo lo r v now t e q (omega arith) behind left
         (later t (begins p code input lo r now v t left) (record { holds = others lo n (λ same. omega (arith, lt, same)) value.holds; integer = value.integer }) (holds_temp p code input r m v now (cell.Int x) slot.Number k b) others) held w.to w.is)
+
+    -- with one step more
+    with_one : (at : ℕ) (e : Events NoYield) → GoesAt 7 at e → GoesAt 8 at e
+    with_one at e h now b value = from_more p code input line 7 8 at exit now (ending p code input may lo r now) e q (omega arith) (h now b value)
 
     -- an end of a label is compared with the number, and the slot is tested
     end_goes : (z : Bool) (at a d miss : ℕ) (x y w : ℤ) (e : Events NoYield) (now : List PlainFrame) → Begins p code input r v now → IsValue p code input lo n now
@@ -137,7 +141,7 @@ module _ (p : Program) (tables : Tables) (code : PlainCode) (input : List ℕ) (
     abbrev pub CasesRun : (jump at la : ℕ) → CaseArms → Type 0
     CasesRun jump at la arms =
         Stands code at (cases_code p tables r line lo bound jump at la arms otherwise) → (exit : ℕ) → exit ≡ at + length (cases_code p tables r line lo bound jump at la arms otherwise) → LeadsTo code input 7 jump exit
-        → (v : Store) (n : ℤ) → GoesAt lo bound exit v n apart behind kind kind2 8 at (ev_cases p input below arms n v (ev_else p input below els))
+        → (v : Store) (n : ℤ) → GoesAt lo bound exit v n apart behind kind kind2 7 at (ev_cases p input below arms n v (ev_else p input below els))
 
     pub unlabelled_run : (jump at la : ℕ) (body : Stmts) (rest : CaseArms) → CasesRun jump at la rest → CasesRun jump at la (more_cases [] body rest)
     unfolding ev_stmts
@@ -183,24 +187,38 @@ module _ (p : Program) (tables : Tables) (code : PlainCode) (input : List ℕ) (
         let here : next ≡ y + 1 = omega (arith, both, ends) in
         let end : exit ≡ next + length after = omega (arith, is, whole) in
         let jump_at : InstrAt code input line y (I.Jump jump) = subst (λ m. InstrAt code input line m (I.Jump jump)) ends (record { instr = back.0; on_line = back.1 }) in
-        from_more p code input line 0 8 at exit now (ending p code input may lo r now) (ev_cases p input below (more_cases (label ∷ labels) body rest) n v (ev_else p input below els)) q (omega arith)
+        from_more p code input line 0 7 at exit now (ending p code input may lo r now) (ev_cases p input below (more_cases (label ∷ labels) body rest) n v (ev_else p input below els)) q (omega arith)
         (arm_goes at la exit label labels body (λ u k. ev_cases p input below rest k u (ev_else p input below els)) v n le (stands_front code at head out front) (runs hit)
         (leads_then code input line 7 y jump exit jump_at leads)
-        (subst (λ m. GoesAt lo bound exit v n apart behind kind kind2 8 m (ev_cases p input below rest n v (ev_else p input below els))) here (others next (stands_back code at (head ++ out) after stands) exit end leads v n)) now b value)
+        (with_one lo bound exit v n apart behind kind kind2 (y + 1) (ev_cases p input below rest n v (ev_else p input below els))
+        (subst (λ m. GoesAt lo bound exit v n apart behind kind kind2 7 m (ev_cases p input below rest n v (ev_else p input below els))) here (others next (stands_back code at (head ++ out) after stands) exit end leads v n))) now b value)
 
   pub no_else_run : (lo bound jump at la : ℕ) (apart : lo < bound) (behind : own_end p r ≤ lo) (kind : slice_get (kinds_at code r) bound ≡ Some slot.Number) (kind2 : slice_get (kinds_at code r) (bound + 1) ≡ Some slot.Number) → CasesRun lo bound apart behind kind kind2 no_else jump at la no_cases
   unfolding ev_stmts
   no_else_run lo bound jump at la apart behind kind kind2 stands exit is leads v n now b value =
-      faults_here p code input line 7 at exit now (ending p code input may lo r now) fault.NoCase q (λ held s there. fault_step code input line at now held s there 5 fault.NoCase (record { instr = stands.0; on_line = stands.1 }) refl)
+      faults_here p code input line 6 at exit now (ending p code input may lo r now) fault.NoCase q (λ held s there. fault_step code input line at now held s there 5 fault.NoCase (record { instr = stands.0; on_line = stands.1 }) refl)
 
   pub else_run : (lo bound jump at la : ℕ) (apart : lo < bound) (behind : own_end p r ≤ lo) (kind : slice_get (kinds_at code r) bound ≡ Some slot.Number) (kind2 : slice_get (kinds_at code r) (bound + 1) ≡ Some slot.Number) (body : Stmts) → lo ≤ la
       → ListRuns p tables code input below r line q may at la body → CasesRun lo bound apart behind kind kind2 (else_part body) jump at la no_cases
   unfolding ev_stmts
   else_run lo bound jump at la apart behind kind kind2 body le runs stands exit is leads v n now b value =
       let there : ℕ = at + length (stmts_code p tables r at la body) in
-      subst (λ m. From p code input line 8 at m now (ending p code input may lo r now) (ev_stmts p input below body v) q) (sym is)
-      (from_ending p code input may line 8 at there lo la r v now now (ev_stmts p input below body v) q le behind (left_self p code input lo r v now b)
-      (runs_from p code input line at there now (ending p code input may la r now) (ev_stmts p input below body v) q (runs stands v now b)))
+      let w = ending p code input may la r now in
+      let e : Events NoYield = ev_stmts p input below body v in
+      subst (λ m. From p code input line 7 at m now (ending p code input may lo r now) e q) (sym is)
+      (from_ending p code input may line 7 at there lo la r v now now e q le behind (left_self p code input lo r v now b)
+      (λ held s here. credited code input line 7 0 0 24 (Leaves there w) held e s 7 q (omega arith) (runs stands v now b 7 (omega arith) held s here)))
+
+  -- ---- the arms without labels: a jump leads over them
+
+  over_goes : (z : Bool) (at exit : ℕ) (dead : List Lined) (now : List PlainFrame) (w : Ways NoYield) (e : Events NoYield) → Stands code at (passed_over z line at dead) → From p code input line 7 (at + length (passed_over z line at dead)) exit now w e q → From p code input line 8 at exit now w e q
+  over_goes true at exit dead now w e i h =
+      let here : at + suc (length dead) ≡ at + 1 + length dead = omega arith in
+      past_from p tables code input below r line q 7 at (at + 1 + length dead) exit now w e
+      (λ held s there. jumps code input line at (at + 1 + length dead) now held s there (record { instr = i.0; on_line = i.1 })) (subst (λ m. From p code input line 7 m exit now w e q) here h)
+  over_goes false at exit dead now w e i h =
+      let here : at + 0 ≡ at = omega arith in
+      from_more p code input line 7 8 at exit now w e q (omega arith) (subst (λ m. From p code input line 7 m exit now w e q) here h)
 
   -- ---- the whole: the value, and the arms from the first on
 
@@ -208,7 +226,7 @@ module _ (p : Program) (tables : Tables) (code : PlainCode) (input : List ℕ) (
     abbrev pub FirstRun : (at la : ℕ) → CaseArms → Type 0
     FirstRun at la arms =
         Stands code at (case_code p tables r line lo bound at la arms (λ next la. else_code p tables r line next la els)) → (exit : ℕ) → exit ≡ at + length (case_code p tables r line lo bound at la arms (λ next la. else_code p tables r line next la els))
-        → (v : Store) (n : ℤ) → GoesAt lo bound exit v n apart behind kind kind2 8 at (ev_cases p input below arms n v (ev_else p input below els))
+        → (v : Store) (n : ℤ) → GoesAt lo bound exit v n apart behind kind kind2 7 at (ev_cases p input below arms n v (ev_else p input below els))
 
     pub no_first_run : (at la : ℕ) → ((jump : ℕ) → CasesRun lo bound apart behind kind kind2 els jump at la no_cases) → FirstRun at la no_cases
     no_first_run at la h stands exit is v n = h exit stands exit is (leads_nowhere code input 7 exit) v n
@@ -238,26 +256,34 @@ module _ (p : Program) (tables : Tables) (code : PlainCode) (input : List ℕ) (
         let here : next ≡ y + 1 = omega (arith, ends) in
         let last : exit ≡ next + length after = omega (arith, is, whole) in
         let i : InstrAt code input line jump (I.Jump exit) = subst (λ m. InstrAt code input line jump (I.Jump m)) end (record { instr = back.0; on_line = back.1 }) in
-        from_more p code input line 0 8 at exit now (ending p code input may lo r now) (ev_cases p input below (more_cases (label ∷ labels) body rest) n v (ev_else p input below els)) q (omega arith)
+        from_more p code input line 0 7 at exit now (ending p code input may lo r now) (ev_cases p input below (more_cases (label ∷ labels) body rest) n v (ev_else p input below els)) q (omega arith)
         (arm_goes lo bound apart behind kind kind2 els at la exit label labels body (λ u k. ev_cases p input below rest k u (ev_else p input below els)) v n le (stands_front code at head (out ++ after) stands) (runs hit)
         (subst (λ m. LeadsTo code input 8 m exit) ends (leads_by_jump code input line 8 jump exit (omega arith) i))
-        (subst (λ m. GoesAt lo bound exit v n apart behind kind kind2 8 m (ev_cases p input below rest n v (ev_else p input below els))) here
-        (others jump next back.2 exit last (leads_by_jump code input line 7 jump exit (omega arith) i) v n)) now b value)
+        (with_one lo bound exit v n apart behind kind kind2 (y + 1) (ev_cases p input below rest n v (ev_else p input below els))
+        (subst (λ m. GoesAt lo bound exit v n apart behind kind kind2 7 m (ev_cases p input below rest n v (ev_else p input below els))) here
+        (others jump next back.2 exit last (leads_by_jump code input line 7 jump exit (omega arith) i) v n))) now b value)
 
-    pub case_runs : (at la : ℕ) (x : Expr) (arms : CaseArms) → bound ≡ behind_expr p r lo x → la ≡ bound + 2 → ExprRuns p tables code input below r line q at lo x → ((next : ℕ) → FirstRun next la arms) → StatementRuns p tables code input below r line q may at lo (Case x arms els)
+    pub case_runs : (at la : ℕ) (x : Expr) (arms : CaseArms) → bound ≡ behind_dead p r (behind_expr p r lo x) arms → la ≡ bound + 2 → ExprRuns p tables code input below r line q at lo x → ((next : ℕ) → FirstRun next la arms) → StatementRuns p tables code input below r line q may at lo (Case x arms els)
     unfolding ev_stmts
     case_runs at la x arms is_bound is_la runs first stands v now b =
         let inner : List Lined = expr_code p tables r line at lo x in
         let m : ℕ = at + length inner in
-        let after = λ (d a : ℕ). case_code p tables r line lo d m a arms (λ next la. else_code p tables r line next la els) in
-        let rest : List Lined = after (behind_expr p r lo x) (behind_expr p r lo x + 2) in
+        let dead : List Lined = dead_code p tables r (m + 1) (behind_expr p r lo x) arms in
+        let over : List Lined = passed_over (has_dead arms) line m dead in
+        let next : ℕ = m + length over in
+        let after = λ (d a : ℕ). case_code p tables r line lo d next a arms (λ next la. else_code p tables r line next la els) in
+        let known : ℕ = behind_dead p r (behind_expr p r lo x) arms in
+        let rest : List Lined = after known (known + 2) in
         let same : rest ≡ after bound la = ap (λ d. after d (d + 2)) (sym is_bound) ∙ ap (after bound) (sym is_la) in
-        let whole : length (inner ++ rest) ≡ length inner + length rest = length-append inner rest in
-        let exit : ℕ = at + length (inner ++ rest) in
-        let end : exit ≡ m + length (after bound la) = omega (arith, whole, ap length same) in
+        let whole : length (inner ++ (over ++ rest)) ≡ length inner + length (over ++ rest) = length-append inner (over ++ rest) in
+        let second : length (over ++ rest) ≡ length over + length rest = length-append over rest in
+        let exit : ℕ = at + length (inner ++ (over ++ rest)) in
+        let end : exit ≡ next + length (after bound la) = omega (arith, whole, second, ap length same) in
         let w = ending p code input may lo r now in
+        let behind_inner = stands_back code at inner (over ++ rest) stands in
         as_runs p code input line at exit now w (node (bind (ev_expr p input below x v) (λ t n. ev_cases p input below arms n t (ev_else p input below els)))) q
         (node_runs p code input line 0 at exit now w (bind (ev_expr p input below x v) (λ t n. ev_cases p input below arms n t (ev_else p input below els))) q (omega arith)
         (then_ending p code input may line at m exit lo lo r now (ValueIn p code input lo) (ev_expr p input below x v) (λ t n. ev_cases p input below arms n t (ev_else p input below els)) q (omega arith) behind
-        (runs (stands_front code at inner rest stands) v now b)
-        (λ u n t left value. first m (subst (Stands code m) same (stands_back code at inner rest stands)) exit end u n t (begins p code input lo r now u t left) value)))
+        (runs (stands_front code at inner (over ++ rest) stands) v now b)
+        (λ u n t left value. over_goes (has_dead arms) m exit dead t (ending p code input may lo r t) (ev_cases p input below arms n u (ev_else p input below els)) (stands_front code m over rest behind_inner)
+        (first next (subst (Stands code next) same (stands_back code m over rest behind_inner)) exit end u n t (begins p code input lo r now u t left) value))))

@@ -13,8 +13,8 @@ use Rattle.alma_ir.specs.Count.{stmts_nodes, stmt_nodes, arms_nodes, cases_nodes
 use Rattle.alma_ir.specs.Lines.{behind, stmts_with, stmt_with, arms_with, cases_with, else_with, branches_with, loop_with, test_with, tests_with, expr_with, links_with, args_with, arg_with, desig_with, sels_with, sel_with}
 use Rattle.alma_ir.specs.Phrases.{DesigPhrase, stmts_phrases, stmt_phrases, arms_phrases, cases_phrases, else_phrases, branches_phrases, loop_phrases, test_phrases, tests_phrases, expr_phrases, links_phrases, args_phrases, arg_phrases, desig_phrases, sels_phrases, sel_phrases}
 use Rattle.alma_templates.specs.Lined.{Lined, own, in_row}
-use Rattle.alma_templates.specs.Pieces.{cmp_code, op_code, neg_code, fit_code, unless_whole, link_code, chain_code, condition, guarded, read_code, write_code, truth_code, first_of_two, chosen, case_arm, behind_labels, labels_code, label_code, begin_loop, for_turns, some_turns, turn_code}
-use Rattle.alma_templates.specs.Slots.{shift_of, bare, bare_desig, unless_bare, is_simple, handed_slots, arg_slots, behind_stmts, behind_stmt, behind_test, behind_condition, behind_expr, behind_value, behind_desig, behind_target, behind_variable}
+use Rattle.alma_templates.specs.Pieces.{cmp_code, op_code, neg_code, fit_code, unless_whole, link_code, chain_code, condition, guarded, read_code, write_code, truth_code, first_of_two, chosen, passed_over, has_dead, case_arm, behind_labels, labels_code, label_code, begin_loop, for_turns, some_turns, turn_code}
+use Rattle.alma_templates.specs.Slots.{shift_of, bare, bare_desig, unless_bare, is_simple, handed_slots, arg_slots, behind_stmts, behind_stmt, behind_test, behind_condition, behind_expr, behind_dead, behind_value, behind_desig, behind_target, behind_variable}
 use Rattle.alma_templates.specs.Tables.{Tables, range_number, is_whole}
 use Rattle.alma_templates.specs.Templates
 use Rattle.alma_templates.proofs.FewSlots.{Short, AreShort, short_front, short_back, unless_few}
@@ -47,6 +47,10 @@ labels_few value bound at hit miss label [] = omega arith
 labels_few value bound at hit miss label (label2 ∷ rest) =
     let z = labels_few value bound (at + 7) hit miss label2 rest in
     omega (arith, z, length-append (label_code value bound at hit label) (labels_code value bound (at + 7) hit miss label2 rest))
+
+passed_few : (z : Bool) (line at : ℕ) (dead : List Lined) → length (passed_over z line at dead) ≤ 1 + length dead
+passed_few true line at dead = omega arith
+passed_few false line at dead = omega arith
 
 condition_few :
     (simple : Bool) (line at lo none : ℕ) (jump : (at lo none : ℕ) → List Lined) (test : (at lo : ℕ) → List Lined) (n : ℕ)
@@ -528,13 +532,21 @@ module _ (p : Program) (tables : Tables) (r : ℕ) where
         let y : Expr = expr_with e ls in
         let one : List Lined = Templates.expr_code p tables r line at lo y in
         let next : ℕ = at + length one in
-        let bound : ℕ = behind_expr p r lo y in
+        let first : ℕ = behind_expr p r lo y in
+        let xs : CaseArms = cases_with arms ls2 in
+        let bound : ℕ = behind_dead p r first xs in
+        let dead : List Lined = Templates.dead_code p tables r (next + 1) first xs in
+        let over : List Lined = passed_over (has_dead xs) line next dead in
+        let tried : ℕ = next + length over in
         let otherwise : (at lo : ℕ) → List Lined = λ next lo. Templates.else_code p tables r line next lo (else_with rest ls3) in
+        let made : List Lined = Templates.case_code p tables r line lo bound tried (bound + 2) xs otherwise in
         omega (
           arith,
-          length-append one (Templates.case_code p tables r line lo bound next (bound + 2) (cases_with arms ls2) otherwise),
+          length-append one (over ++ made),
+          length-append over made,
+          passed_few (has_dead xs) line next dead,
           expr_few line at lo e ls (short_front (expr_phrases e) (cases_phrases arms) two),
-          case_few line lo bound next (bound + 2) arms ls2 otherwise (1 + 16 * else_nodes rest) (short_back (expr_phrases e) (cases_phrases arms) two)
+          case_few line lo bound tried (bound + 2) (next + 1) first arms ls2 otherwise (1 + 16 * else_nodes rest) (short_back (expr_phrases e) (cases_phrases arms) two)
               (λ next lo. else_few line next lo rest ls3 (short_back parts (else_phrases rest) h.1)),
         )
     stmt_few line at lo (Either x) ls h = let z = either_few line at lo x ls h.1 in omega (arith, z)
@@ -635,16 +647,21 @@ module _ (p : Program) (tables : Tables) (r : ℕ) where
           arms_few line jump next lo3 rest ls3 otherwise n (short_back parts (arms_phrases rest) h) o,
         )
 
+    -- with the arms that are never tried, which stand at an address of their own
     case_few :
-        (line value bound at lo : ℕ) (arms : CaseArms) (ls : List ℕ) (otherwise : (at lo : ℕ) → List Lined) (n : ℕ) → AreShort (cases_phrases arms)
+        (line value bound at lo at2 lo2 : ℕ) (arms : CaseArms) (ls : List ℕ) (otherwise : (at lo : ℕ) → List Lined) (n : ℕ) → AreShort (cases_phrases arms)
         → ((at lo : ℕ) → length (otherwise at lo) ≤ n)
-        → length (Templates.case_code p tables r line value bound at lo (cases_with arms ls) otherwise) ≤ 16 * cases_nodes arms + n
-    case_few line value bound at lo no_cases ls otherwise n h o = let z = o at lo in omega (arith, z)
-    case_few line value bound at lo (more_cases [] body rest) ls otherwise n h o =
+        → length (Templates.dead_code p tables r at2 lo2 (cases_with arms ls)) + length (Templates.case_code p tables r line value bound at lo (cases_with arms ls) otherwise) ≤ 16 * cases_nodes arms + n
+    case_few line value bound at lo at2 lo2 no_cases ls otherwise n h o = let z = o at lo in omega (arith, z)
+    case_few line value bound at lo at2 lo2 (more_cases [] body rest) ls otherwise n h o =
         let ls2 = behind (stmts_phrases body) ls in
-        let z = case_few line value bound at lo rest ls2 otherwise n (short_back (stmts_phrases body) (cases_phrases rest) h) o in
-        omega (arith, z)
-    case_few line value bound at lo (more_cases (label ∷ labels) body rest) ls otherwise n h o =
+        let y : Stmts = stmts_with body ls in
+        let one : List Lined = Templates.stmts_code p tables r at2 lo2 y in
+        let next : ℕ = at2 + length one in
+        let lo3 : ℕ = behind_stmts p r lo2 y in
+        let z = case_few line value bound at lo next lo3 rest ls2 otherwise n (short_back (stmts_phrases body) (cases_phrases rest) h) o in
+        omega (arith, z, length-append one (Templates.dead_code p tables r next lo3 (cases_with rest ls2)), stmts_few at2 lo2 body ls (short_front (stmts_phrases body) (cases_phrases rest) h))
+    case_few line value bound at lo at2 lo2 (more_cases (label ∷ labels) body rest) ls otherwise n h o =
         let ls2 = behind (stmts_phrases body) ls in
         let y : Stmts = stmts_with body ls in
         let here : ℕ = behind_labels at labels in
@@ -652,26 +669,30 @@ module _ (p : Program) (tables : Tables) (r : ℕ) where
         let w = arm_few line value bound at label labels (Templates.stmts_code p tables r here lo y) in
         let one : List Lined = case_arm line value bound at label labels (Templates.stmts_code p tables r here lo y) in
         let jump : ℕ = at + length one in
-        let lo2 : ℕ = behind_stmts p r lo y in
-        let others : List Lined = Templates.cases_code p tables r line value bound jump (jump + 1) lo2 (cases_with rest ls2) otherwise in
+        let lo3 : ℕ = behind_stmts p r lo y in
+        let others : List Lined = Templates.cases_code p tables r line value bound jump (jump + 1) lo3 (cases_with rest ls2) otherwise in
         omega (
           arith,
           z,
           w,
           length-append one (own line (I.Jump (jump + 1 + length others) ∷ []) ++ others),
-          cases_few line value bound jump (jump + 1) lo2 rest ls2 otherwise n (short_back (stmts_phrases body) (cases_phrases rest) h) o,
+          cases_few line value bound jump (jump + 1) lo3 at2 lo2 rest ls2 otherwise n (short_back (stmts_phrases body) (cases_phrases rest) h) o,
         )
 
     cases_few :
-        (line value bound jump at lo : ℕ) (arms : CaseArms) (ls : List ℕ) (otherwise : (at lo : ℕ) → List Lined) (n : ℕ) → AreShort (cases_phrases arms)
+        (line value bound jump at lo at2 lo2 : ℕ) (arms : CaseArms) (ls : List ℕ) (otherwise : (at lo : ℕ) → List Lined) (n : ℕ) → AreShort (cases_phrases arms)
         → ((at lo : ℕ) → length (otherwise at lo) ≤ n)
-        → length (Templates.cases_code p tables r line value bound jump at lo (cases_with arms ls) otherwise) ≤ 16 * cases_nodes arms + n
-    cases_few line value bound jump at lo no_cases ls otherwise n h o = let z = o at lo in omega (arith, z)
-    cases_few line value bound jump at lo (more_cases [] body rest) ls otherwise n h o =
+        → length (Templates.dead_code p tables r at2 lo2 (cases_with arms ls)) + length (Templates.cases_code p tables r line value bound jump at lo (cases_with arms ls) otherwise) ≤ 16 * cases_nodes arms + n
+    cases_few line value bound jump at lo at2 lo2 no_cases ls otherwise n h o = let z = o at lo in omega (arith, z)
+    cases_few line value bound jump at lo at2 lo2 (more_cases [] body rest) ls otherwise n h o =
         let ls2 = behind (stmts_phrases body) ls in
-        let z = cases_few line value bound jump at lo rest ls2 otherwise n (short_back (stmts_phrases body) (cases_phrases rest) h) o in
-        omega (arith, z)
-    cases_few line value bound jump at lo (more_cases (label ∷ labels) body rest) ls otherwise n h o =
+        let y : Stmts = stmts_with body ls in
+        let one : List Lined = Templates.stmts_code p tables r at2 lo2 y in
+        let next : ℕ = at2 + length one in
+        let lo3 : ℕ = behind_stmts p r lo2 y in
+        let z = cases_few line value bound jump at lo next lo3 rest ls2 otherwise n (short_back (stmts_phrases body) (cases_phrases rest) h) o in
+        omega (arith, z, length-append one (Templates.dead_code p tables r next lo3 (cases_with rest ls2)), stmts_few at2 lo2 body ls (short_front (stmts_phrases body) (cases_phrases rest) h))
+    cases_few line value bound jump at lo at2 lo2 (more_cases (label ∷ labels) body rest) ls otherwise n h o =
         let ls2 = behind (stmts_phrases body) ls in
         let y : Stmts = stmts_with body ls in
         let here : ℕ = behind_labels at labels in
@@ -680,14 +701,14 @@ module _ (p : Program) (tables : Tables) (r : ℕ) where
         let one : List Lined = case_arm line value bound at label labels (Templates.stmts_code p tables r here lo y) in
         let end : List Lined = own line (I.Jump jump ∷ []) in
         let next : ℕ = at + length (one ++ end) in
-        let lo2 : ℕ = behind_stmts p r lo y in
+        let lo3 : ℕ = behind_stmts p r lo y in
         omega (
           arith,
           z,
           w,
-          length-append (one ++ end) (Templates.cases_code p tables r line value bound jump next lo2 (cases_with rest ls2) otherwise),
+          length-append (one ++ end) (Templates.cases_code p tables r line value bound jump next lo3 (cases_with rest ls2) otherwise),
           length-append one end,
-          cases_few line value bound jump next lo2 rest ls2 otherwise n (short_back (stmts_phrases body) (cases_phrases rest) h) o,
+          cases_few line value bound jump next lo3 at2 lo2 rest ls2 otherwise n (short_back (stmts_phrases body) (cases_phrases rest) h) o,
         )
 
     else_few : (line at lo : ℕ) (rest : Else) (ls : List ℕ) → AreShort (else_phrases rest) → length (Templates.else_code p tables r line at lo (else_with rest ls)) ≤ 1 + 16 * else_nodes rest

@@ -11,7 +11,7 @@ use Rattle.alma_ir.specs.Count.{stmts_nodes, stmt_nodes, arms_nodes, cases_nodes
 use Rattle.alma_ir.specs.Lines.{behind, stmts_with, stmt_with, arms_with, cases_with, else_with, branches_with, loop_with, test_with, tests_with, expr_with, links_with, args_with, arg_with, desig_with, sels_with, sel_with}
 use Rattle.alma_ir.specs.Phrases.{Phrase, TestPhrase, ExprPhrase, DesigPhrase, stmts_phrases, stmt_phrases, arms_phrases, cases_phrases, else_phrases, branches_phrases, loop_phrases, test_phrases, tests_phrases, expr_phrases, links_phrases, args_phrases, arg_phrases, desig_phrases, sels_phrases, sel_phrases}
 use Rattle.alma_ir.proofs.Each.{each_of_front, each_of_back}
-use Rattle.alma_templates.specs.Slots.{shift_of, chain_slots, bare, bare_desig, unless_bare, is_simple, mark_slots, handed_slots, links_if, root_slots, stmts_slots, stmt_slots, arms_slots, cases_slots, else_slots, branches_slots, for_slots, some_slots, test_slots, and_slots, or_slots, expr_slots, links_slots, args_slots, arg_slots, desig_slots, sels_slots, sel_slots}
+use Rattle.alma_templates.specs.Slots.{shift_of, chain_slots, bare, bare_desig, unless_bare, is_simple, mark_slots, handed_slots, links_if, root_slots, stmts_slots, stmt_slots, arms_slots, dead_slots, cases_slots, else_slots, branches_slots, for_slots, some_slots, test_slots, and_slots, or_slots, expr_slots, links_slots, args_slots, arg_slots, desig_slots, sels_slots, sel_slots}
 
 -- the links of a root or of a call are few
 abbrev pub Short : Phrase → Type 0
@@ -186,9 +186,11 @@ module _ (p : Program) where
         let two = short_front parts (else_phrases rest) h.1 in
         let ls2 = behind (expr_phrases e) ls in
         let ls3 = behind (cases_phrases arms) ls2 in
+        let dead : List SlotKind = dead_slots p r (cases_with arms ls2) in
         let a : List SlotKind = cases_slots p r (cases_with arms ls2) in
         let b : List SlotKind = else_slots p r (else_with rest ls3) in
-        omega (arith, length-append (expr_slots p r (expr_with e ls)) (slot.Number ∷ slot.Number ∷ (a ++ b)), length-append a b, expr_few r e ls (short_front (expr_phrases e) (cases_phrases arms) two), cases_few r arms ls2 (short_back (expr_phrases e) (cases_phrases arms) two), else_few r rest ls3 (short_back parts (else_phrases rest) h.1))
+        let tried : List SlotKind = slot.Number ∷ slot.Number ∷ (a ++ b) in
+        omega (arith, length-append (expr_slots p r (expr_with e ls)) (dead ++ tried), length-append dead tried, length-append a b, expr_few r e ls (short_front (expr_phrases e) (cases_phrases arms) two), cases_few r arms ls2 (short_back (expr_phrases e) (cases_phrases arms) two), else_few r rest ls3 (short_back parts (else_phrases rest) h.1))
     stmt_few r (Either x) ls h = omega (arith, branches_few r x ls h.1)
     stmt_few r (Forall x y) ls h =
         let ls2 = behind (stmts_phrases x) ls in
@@ -215,9 +217,12 @@ module _ (p : Program) where
         let b : List SlotKind = arms_slots p r (arms_with rest ls3) in
         omega (arith, length-append (mark_slots (is_simple u)) (test_slots p r u ++ (a ++ b)), length-append (test_slots p r u) (a ++ b), length-append a b, mark_few (is_simple u), test_few r t ls (short_front (test_phrases t) (stmts_phrases body) two), stmts_few r body ls2 (short_back (test_phrases t) (stmts_phrases body) two), arms_few r rest ls3 (short_back parts (arms_phrases rest) h))
 
-    cases_few : (r : ℕ) (arms : CaseArms) (ls : List ℕ) → AreShort (cases_phrases arms) → length (cases_slots p r (cases_with arms ls)) ≤ 16 * cases_nodes arms
+    -- those of the arms that are never tried too
+    cases_few : (r : ℕ) (arms : CaseArms) (ls : List ℕ) → AreShort (cases_phrases arms) → length (dead_slots p r (cases_with arms ls)) + length (cases_slots p r (cases_with arms ls)) ≤ 16 * cases_nodes arms
     cases_few r no_cases ls h = omega arith
-    cases_few r (more_cases [] body rest) ls h = omega (arith, cases_few r rest (behind (stmts_phrases body) ls) (short_back (stmts_phrases body) (cases_phrases rest) h))
+    cases_few r (more_cases [] body rest) ls h =
+        let ls2 = behind (stmts_phrases body) ls in
+        omega (arith, length-append (stmts_slots p r (stmts_with body ls)) (dead_slots p r (cases_with rest ls2)), stmts_few r body ls (short_front (stmts_phrases body) (cases_phrases rest) h), cases_few r rest ls2 (short_back (stmts_phrases body) (cases_phrases rest) h))
     cases_few r (more_cases (label ∷ labels) body rest) ls h =
         let ls2 = behind (stmts_phrases body) ls in
         omega (arith, length-append (stmts_slots p r (stmts_with body ls)) (cases_slots p r (cases_with rest ls2)), stmts_few r body ls (short_front (stmts_phrases body) (cases_phrases rest) h), cases_few r rest ls2 (short_back (stmts_phrases body) (cases_phrases rest) h))

@@ -28,7 +28,7 @@ use Rattle.alma_base.specs.Limits.{input_limit}
 use Rattle.alma_implements.proofs.Frames.{shift, own_end, HasSlots}
 use Rattle.alma_implements.proofs.ExprRows.{AreVariables, first_kind, slots_first, slots_behind}
 use Rattle.alma_templates.specs.Tables.{Tables}
-use Rattle.alma_templates.specs.Slots.{routine_kinds, bare, bare_desig, unless_bare, is_simple, mark_slots, handed_slots, root_slots, stmts_slots, stmt_slots, test_slots, and_slots, or_slots, expr_slots, links_slots, args_slots, arg_slots, desig_slots, sels_slots, sel_slots, behind_expr, behind_value, behind_desig, behind_test, behind_stmts, behind_stmt, behind_condition, behind_variable, arms_slots, cases_slots, else_slots}
+use Rattle.alma_templates.specs.Slots.{routine_kinds, bare, bare_desig, unless_bare, is_simple, mark_slots, handed_slots, root_slots, stmts_slots, stmt_slots, test_slots, and_slots, or_slots, expr_slots, links_slots, args_slots, arg_slots, desig_slots, sels_slots, sel_slots, behind_expr, behind_dead, behind_value, behind_desig, behind_test, behind_stmts, behind_stmt, behind_condition, behind_variable, arms_slots, dead_slots, cases_slots, else_slots}
 use Rattle.alma_templates.specs.Compiled.{program_code}
 use Rattle.alma_templates.specs.Templates.{part_slot, behind_root, arg_code, desig_code, place_at, stmts_code, stmt_code}
 use Rattle.alma_templates.proofs.AtOnce.{BareFits}
@@ -660,10 +660,12 @@ module _ (p : Program) (tables : Tables) (code : PlainCode) (all : List (List Ru
           let x : Expr = expr_with e ls in
           let els : Else = else_with rest ls3 in
           let g = expr_go r line lt e ls (fine_first p tables code input r (expr_phrases e) (cases_phrases arms) (else_phrases rest) ls inner) in
-          let bound : ℕ = behind_expr p r lo x in
+          let dead : List SlotKind = dead_slots p r (cases_with arms ls2) in
+          let bound : ℕ = behind_dead p r (behind_expr p r lo x) (cases_with arms ls2) in
           let others : List SlotKind = cases_slots p r (cases_with arms ls2) ++ else_slots p r els in
-          let first = slots_first p code input r lo (expr_slots p r x) (slot.Number ∷ slot.Number ∷ others) slots in
-          let s1 = slots_behind p code input r lo (expr_slots p r x) (slot.Number ∷ slot.Number ∷ others) slots in
+          let first = slots_first p code input r lo (expr_slots p r x) (dead ++ (slot.Number ∷ slot.Number ∷ others)) slots in
+          let s0 = slots_behind p code input r lo (expr_slots p r x) (dead ++ (slot.Number ∷ slot.Number ∷ others)) slots in
+          let s1 = slots_behind p code input r (behind_expr p r lo x) dead (slot.Number ∷ slot.Number ∷ others) s0 in
           let c : CaseSlots r lo bound = record {
             apart = omega (arith, some_slots p code input r x);
             behind = slots.behind;

@@ -12,6 +12,7 @@ use Rattle.alma_ir.specs.declared.phrase.ReadAs.{ReadAs}
 use Rattle.alma_ir.specs.declared.phrase.ReadAs.TheVariants as read_as
 use Rattle.alma_ir.specs.declared.phrase.WriteAs.{WriteAs}
 use Rattle.alma_ir.specs.declared.phrase.WriteAs.TheVariants as write_as
+use Rattle.alma_ir.specs.Tree.{CaseArms, no_cases, more_cases}
 use Rattle.alma_templates.specs.Lined.{Lined, own, in_row}
 use Rattle.alma_templates.specs.Tables.{Tables, range_number, is_whole}
 
@@ -187,6 +188,17 @@ behind_labels at rest = at + 7 * length rest + 6
 abbrev pub case_arm : (line value bound at : ℕ) → Range → List Range → (body : List Lined) → List Lined
 case_arm line value bound at label rest body =
     own line (labels_code value bound at (behind_labels at rest) (behind_labels at rest + length body + 1) label rest) ++ body
+
+-- code that is never reached, and before it the jump that leads over it, where there is some
+abbrev pub passed_over : Bool → (line at : ℕ) → List Lined → List Lined
+passed_over false line at dead = []
+passed_over true line at dead = own line (I.Jump (at + 1 + length dead) ∷ []) ++ dead
+
+-- whether an arm of CASE has no label, and so is never tried
+abbrev pub has_dead : CaseArms → Bool
+has_dead no_cases = false
+has_dead (more_cases [] body rest) = true
+has_dead (more_cases (label ∷ labels) body rest) = has_dead rest
 
 -- ---- calls
 

@@ -131,8 +131,8 @@ module _ (p : Program) (r : ℕ) where
     stmt_slots (Repeat body t) = stmts_slots body ++ (mark_slots (is_simple t) ++ test_slots t)
     stmt_slots (ForTo l) = for_slots l
     stmt_slots (SomeOf l) = some_slots l
-    -- the value, and two numbers for the labels
-    stmt_slots (Case e arms rest) = expr_slots e ++ (slot.Number ∷ slot.Number ∷ (cases_slots arms ++ else_slots rest))
+    -- the value, the arms that are never tried, and two numbers for the labels
+    stmt_slots (Case e arms rest) = expr_slots e ++ (dead_slots arms ++ (slot.Number ∷ slot.Number ∷ (cases_slots arms ++ else_slots rest)))
     stmt_slots (Either branches) = branches_slots branches
     stmt_slots (Forall x y) = slot.Mark ∷ (stmts_slots x ++ (slot.Mark ∷ stmts_slots y))
     stmt_slots (Commit x) = slot.Mark ∷ stmts_slots x
@@ -146,7 +146,13 @@ module _ (p : Program) (r : ℕ) where
     arms_slots no_arms = []
     arms_slots (more_arms t body rest) = mark_slots (is_simple t) ++ (test_slots t ++ (stmts_slots body ++ arms_slots rest))
 
-    -- an arm without labels is never tried: it has no code
+    -- an arm without labels is dead: it is never tried
+    pub dead_slots : CaseArms → List SlotKind
+    dead_slots no_cases = []
+    dead_slots (more_cases [] body rest) = stmts_slots body ++ dead_slots rest
+    dead_slots (more_cases (label ∷ labels) body rest) = dead_slots rest
+
+    -- the arms with labels
     pub cases_slots : CaseArms → List SlotKind
     cases_slots no_cases = []
     cases_slots (more_cases [] body rest) = cases_slots rest
@@ -252,6 +258,10 @@ module _ (p : Program) (r : ℕ) where
 
   abbrev pub behind_expr : (lo : ℕ) → Expr → ℕ
   behind_expr lo e = lo + length (expr_slots e)
+
+  -- of the arms of CASE that are never tried
+  abbrev pub behind_dead : (lo : ℕ) → CaseArms → ℕ
+  behind_dead lo arms = lo + length (dead_slots arms)
 
   -- of a value that is used at once
   abbrev pub behind_value : (lo : ℕ) → Expr → ℕ

@@ -11,8 +11,8 @@ use Rattle.alma_ir.specs.Checked.{outer_at}
 use Rattle.alma_ir.specs.Lines.{body_with_lines}
 use Rattle.alma_templates.specs.Lined.{Lined, own, in_row, leaving}
 use Rattle.alma_templates.specs.Tables.{Tables, range_number, text_number}
-use Rattle.alma_templates.specs.Slots.{shift_of, bare_desig, bare, unless_bare, is_simple, handed_slots, call_links, root_slots, arg_slots, behind_stmts, behind_stmt, behind_test, behind_condition, behind_expr, behind_value, behind_desig, behind_target, behind_variable, own_kinds}
-use Rattle.alma_templates.specs.Pieces.{op_code, cmp_code, neg_code, write_code, read_code, fit_code, link_code, condition, guarded, chosen, first_of_two, refused, truth_code, each_body, forall_code, begin_loop, turn_code, for_turns, some_turns, behind_labels, case_arm, first_argument}
+use Rattle.alma_templates.specs.Slots.{shift_of, bare_desig, bare, unless_bare, is_simple, handed_slots, call_links, root_slots, arg_slots, behind_stmts, behind_stmt, behind_test, behind_condition, behind_expr, behind_dead, behind_value, behind_desig, behind_target, behind_variable, own_kinds}
+use Rattle.alma_templates.specs.Pieces.{op_code, cmp_code, neg_code, write_code, read_code, fit_code, link_code, condition, guarded, chosen, first_of_two, refused, truth_code, each_body, forall_code, begin_loop, turn_code, for_turns, some_turns, behind_labels, case_arm, passed_over, has_dead, first_argument}
 
 -- the numbers of CHAR
 abbrev pub char_range : Range
@@ -153,9 +153,12 @@ module _ (p : Program) (tables : Tables) (r : ℕ) where
         in_row at (stmts_code at lo body) (λ next. condition (is_simple t) line next (behind_stmts p r lo body) at (λ at lo none. jump_code line at lo none t) (λ at lo. test_code line at lo t))
     stmt_code line at lo (ForTo l) = for_code line at lo l
     stmt_code line at lo (SomeOf l) = some_code line at lo l
-    -- the value, and two slots for the labels
+    -- the value, the arms that are never tried, and two slots for the labels
     stmt_code line at lo (Case e arms rest) =
-        in_row at (expr_code line at lo e) (λ next. case_code line lo (behind_expr p r lo e) next (behind_expr p r lo e + 2) arms (λ next lo. else_code line next lo rest))
+        let first : ℕ = behind_expr p r lo e in
+        let bound : ℕ = behind_dead p r first arms in
+        in_row at (expr_code line at lo e)
+        (λ next. in_row next (passed_over (has_dead arms) line next (dead_code (next + 1) first arms)) (λ next. case_code line lo bound next (bound + 2) arms (λ next lo. else_code line next lo rest)))
     stmt_code line at lo (Either branches) = either_code line at lo branches
     stmt_code line at lo (Forall x y) =
         let inner : ℕ = behind_stmts p r (lo + 1) x in
@@ -203,6 +206,12 @@ module _ (p : Program) (tables : Tables) (r : ℕ) where
         (λ next. some_turns line next (own_slot counter) (own_slot limit) lo (lo + 1) last more
         (turn_code line (next + 7) (count_code (bare_desig d) range (own_slot counter) (more + 1)) (λ at. unless_bare (bare_desig d) (desig_code line at (more + 1 + 1) d))
         (set_code (more + 1 + 1) (count_at (bare_desig d) (own_slot counter) (more + 1)) d) (λ at. stmts_code at (behind_variable p r (more + 1) d) body)))
+
+    -- the arms without labels: nothing leads to them
+    pub dead_code : (at lo : ℕ) → CaseArms → List Lined
+    dead_code at lo no_cases = []
+    dead_code at lo (more_cases [] body rest) = in_row at (stmts_code at lo body) (λ next. dead_code next (behind_stmts p r lo body) rest)
+    dead_code at lo (more_cases (label ∷ labels) body rest) = dead_code at lo rest
 
     -- the first arm that has a label leaves over all, the others by its jump
     pub case_code : (line value bound at lo : ℕ) → CaseArms → (otherwise : (at lo : ℕ) → List Lined) → List Lined

@@ -24,9 +24,9 @@ use Rattle.alma_emit_parts.proofs.GuardForms.{simple_guard, barrier_guard, guard
 use Rattle.alma_emit_parts.proofs.IfForms.{while_put, repeat_put, truth_put}
 use Rattle.alma_emit_parts.proofs.TestForms.{value_test_put, bind_left_put, bind_right_put, unify_put, same_put, seq_put, no_and_put, more_and_put, and_put, not_put, first_put, last_put}
 use Rattle.alma_emit_parts.proofs.StmtForms.{no_stmts_put, stmts_put, test_put, assign_put, copy_put, commit_put, return_put, return_value_put, read_put, write_put, chosen_put, last_branch_put, forall_put}
-use Rattle.alma_emit_parts.proofs.CaseForms.{no_else_put, else_put, no_cases_put}
-use Rattle.alma_emit.proofs.Said.{on_ok, if_ok, stmt_as, test_as, expr_as, arg_as, sel_as, else_as, stmt_is, test_is, expr_is, args_is, links_is, sels_is, desig_is, stmts_is, arms_is, branches_is, operands_is, tests_is, cases_is, all_is, arm_is, args_at, own_target, own_stands, made_target, made_stands, own_value, own_at, made_value, made_at, no_parts, part_step, codes_is, some_elements, no_elements, drop_one, drop_last, slice_rest}
-use Rattle.alma_emit.proofs.Arms.{all_none, all_first, next_arm, skipped_arm, arm_of, case_put, turns_is}
+use Rattle.alma_emit_parts.proofs.CaseForms.{no_else_put, else_put, no_cases_put, no_bodies_put, no_dead_put}
+use Rattle.alma_emit.proofs.Said.{on_ok, if_ok, stmt_as, test_as, expr_as, arg_as, sel_as, else_as, stmt_is, test_is, expr_is, args_is, links_is, sels_is, desig_is, stmts_is, arms_is, branches_is, operands_is, tests_is, cases_is, bodies_is, all_is, arm_is, args_at, own_target, own_stands, made_target, made_stands, own_value, own_at, made_value, made_at, no_parts, part_step, codes_is, some_elements, no_elements, drop_one, drop_last, slice_rest}
+use Rattle.alma_emit.proofs.Arms.{all_none, all_first, next_arm, skipped_arm, arm_of, passed_body, dead_body, dead_joined, case_put, turns_is}
 use Rattle.alma_emit.proofs.Rows.{more_operands, more_chosen, chosen_is, guarded_is, either_none, either_one, either_of, or_none, or_one, or_of, if_none, if_of}
 use Rattle.alma_emit.proofs.Turns.{for_joined, some_joined, count_lined, count_at_lined}
 use Rattle.alma_emit.proofs.Sizes.{stmt_at, test_at, arg_at, sel_at, link_at, arm_at, case_at, branch_at, cases_behind}
@@ -89,7 +89,35 @@ pub call::emit_call_value-returns-clause-puts : goal.call::emit_call_value-retur
 call::emit_call_value-returns-clause-puts t c = expr_is (around c.args.scene.now) c.args.line _ _ _ _ (ap (λ x. tree.CallExpr c.args.call.now.routine (args_list x) c.args.call.now.up) c.deref.ensures.value) (call_value_put (around c.args.scene.now) c.args.line _ _ _ _ _ _ _ _ _ _ _ c.in_ok-to.ensures.takes c.in_ok-to.ensures.slot c.in_ok-mark.ensures.takes c.in_ok-mark.ensures.slot c.in_ok-first.ensures.puts c.in_ok-first.ensures.first c.in_ok-put_function.ensures)
 
 pub case::emit_case-returns : goal.case::emit_case-returns
-case::emit_case-returns t c = record { puts = on_ok c.emit_all_arms.result (case_put (around c.args.scene.now) c.args.line _ _ _ _ _ _ _ _ _ c.in_ok-value.ensures.puts (c.in_ok-labels.ensures.value ∙ c.in_ok-value.ensures.slot) c.in_ok-labels.ensures.puts c.in_ok-labels.ensures.bound) (c.emit_all_arms.ensures.puts c.in_ok-labels.ensures.test) }
+case::emit_case-returns t c = record { puts = on_ok c.emit_all_arms.result (case_put (around c.args.scene.now) c.args.line _ _ _ _ _ _ _ _ _ _ c.in_ok-value.ensures.puts (c.in_ok-labels.ensures.value ∙ c.in_ok-value.ensures.slot) c.in_ok-emit_dead_arms.ensures.puts c.in_ok-labels.ensures.puts c.in_ok-labels.ensures.bound) (c.emit_all_arms.ensures.puts c.in_ok-labels.ensures.test) }
+
+pub case::emit_dead_arms-returns-then-not-has_dead : goal.case::emit_dead_arms-returns-then-not-has_dead
+case::emit_dead_arms-returns-then-not-has_dead t c = record { puts = no_dead_put (around c.args.scene.now) c.args.line _ _ (sym c.if-not-has_dead.ensures) }
+
+pub case::emit_dead_arms-returns : goal.case::emit_dead_arms-returns
+case::emit_dead_arms-returns t c =
+    record {
+      puts = on_ok c.aim_behind.result (λ h. dead_joined (around c.args.scene.now) c.args.line _ _ _ _ _ _ _ _ (sym c.if-not-has_dead.ensures) c.position-before.ensures c.in_ok-over.ensures.address c.in_ok-over.ensures.codes c.in_ok-emit_dead_bodies.ensures.puts
+          c.go_to.ensures.code c.go_to.ensures.kinds c.go_to.ensures.next c.go_to.ensures.lines c.go_to.ensures.whole h) c.aim_behind.ensures;
+    }
+
+pub case::emit_dead_bodies-loop-arm-init : goal.case::emit_dead_bodies-loop-arm-init
+case::emit_dead_bodies-loop-arm-init t c = λ e h. h
+
+pub case::emit_dead_bodies-loop-arm-preserved : goal.case::emit_dead_bodies-loop-arm-preserved
+case::emit_dead_bodies-loop-arm-preserved t c =
+    let l = c.loop-arm in
+    let one : cases_list (drop l.arm-index c.args.arms.now) ≡ tree.more_cases c.arm-item.result.labels.items (stmts_list c.arm-item.result.body.items) (cases_list (drop (l.arm-index + 1) c.args.arms.now)) = ap cases_list (drop_one c.args.arms.now l.arm-index c.arm-item.result c.loop-arm-test.true c.arm-item.is) in
+    λ e h. l.invariant e (bodies_is (around c.args.scene.now) 0 _ _ _ _ (sym one) (c.in_ok-emit_dead_body.ensures.puts e _ h))
+
+pub case::emit_dead_bodies-returns : goal.case::emit_dead_bodies-returns
+case::emit_dead_bodies-returns t c = record { puts = c.loop-arm.invariant _ (bodies_is (around c.args.scene.now) 0 _ _ _ _ (ap cases_list (sym (drop_of_length-le c.args.arms.now (omega (arith, c.loop-arm-test.false))))) (no_bodies_put (around c.args.scene.now) 0 _)) }
+
+pub case::emit_dead_body-returns-then-not-is_empty : goal.case::emit_dead_body-returns-then-not-is_empty
+case::emit_dead_body-returns-then-not-is_empty t c = record { puts = on_ok c.pass_stmts.result (λ h e rest j. passed_body (around c.args.scene.now) 0 _ _ _ _ _ _ (omega (arith, some_elements _ c.if-not-is_empty.ensures, c.args.arm.now.labels.ok.0)) (turns_is (around c.args.scene.now) 0 _ _ _ _ (ap stmts_list c.deref.ensures.value) h) j) c.pass_stmts.ensures }
+
+pub case::emit_dead_body-returns : goal.case::emit_dead_body-returns
+case::emit_dead_body-returns t c = record { puts = on_ok c.emit_stmts.result (λ h e rest j. dead_body (around c.args.scene.now) 0 _ _ _ _ _ _ (omega (arith, no_elements _ c.if-not-is_empty.ensures, c.args.arm.now.labels.ok.0)) (stmts_is (around c.args.scene.now) 0 _ _ _ _ (ap stmts_list c.deref-2.ensures.value) h) j) c.emit_stmts.ensures.puts }
 
 pub case::emit_cases-loop-arm-init : goal.case::emit_cases-loop-arm-init
 case::emit_cases-loop-arm-init t c = λ test e h. h
@@ -737,6 +765,9 @@ call::emit_call_test-emit_call-requires t c = (omega (arith, ap (λ x. args_node
 pub call::emit_call_value-emit_call-requires : goal.call::emit_call_value-emit_call-requires
 call::emit_call_value-emit_call-requires t c = (omega (arith, ap (λ x. args_nodes (args_list x)) c.deref.ensures.value), tt)
 
+pub case::emit_dead_bodies-emit_dead_body-requires : goal.case::emit_dead_bodies-emit_dead_body-requires
+case::emit_dead_bodies-emit_dead_body-requires t c = (omega (arith, case_at _ _ _ c.loop-arm-test.true c.arm-item.is), tt)
+
 pub case::emit_cases-emit_next_arm-requires : goal.case::emit_cases-emit_next_arm-requires
 case::emit_cases-emit_next_arm-requires t c = (omega (arith, case_at _ _ _ c.loop-arm-test.true c.arm-item.is), tt)
 
@@ -834,6 +865,9 @@ guarded::emit_if-returns t c = record { puts = on_ok c.aim_behind.result (λ h. 
 
 pub case::emit_case_arm-emit_stmts-requires : goal.case::emit_case_arm-emit_stmts-requires
 case::emit_case_arm-emit_stmts-requires t c = (omega (arith, ap (λ x. stmts_nodes (stmts_list x)) c.deref-2.ensures.value), tt)
+
+pub case::emit_dead_body-emit_stmts-requires : goal.case::emit_dead_body-emit_stmts-requires
+case::emit_dead_body-emit_stmts-requires t c = (omega (arith, ap (λ x. stmts_nodes (stmts_list x)) c.deref-2.ensures.value), tt)
 
 pub case::emit_else-emit_stmts-requires : goal.case::emit_else-emit_stmts-requires
 case::emit_else-emit_stmts-requires t c =

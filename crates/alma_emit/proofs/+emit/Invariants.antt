@@ -3,7 +3,7 @@ use Rattle.std.proofs.Common.{◌≡◌, ◌+◌, ◌*◌, drop}
 use Rattle.alma_ir.specs.View.{stmts_list, stmt_of, arms_list, cases_list, branches_list, loop_of, tests_list, test_of, expr_of, links_list, args_list, arg_of, desig_of, sels_list, sel_of, else_option, return_option}
 use Rattle.alma_ir.specs.Count.{stmts_nodes, stmt_nodes, arms_nodes, cases_nodes, else_nodes, branches_nodes, loop_nodes, return_nodes, tests_nodes, test_nodes, expr_nodes, links_nodes, args_nodes, arg_nodes, desig_nodes, sels_nodes, sel_nodes}
 use Rattle.alma_emit_parts.specs.Front.{Front, around, front}
-use Rattle.alma_emit_parts.specs.Puts.{PutsArgs, PutsCases, PutsBranches, PutsSels, PutsLinks, PutsArms, PutsStmts, PutsAnd, PutsOperands}
+use Rattle.alma_emit_parts.specs.Puts.{PutsArgs, PutsCases, PutsDeadBodies, PutsBranches, PutsSels, PutsLinks, PutsArms, PutsStmts, PutsAnd, PutsOperands}
 use Rattle.alma_templates.specs.Templates.{part_at}
 use Rattle.alma_ir.specs.Lines.{sels_with}
 use Rattle.alma_emit.proofs.+emit.Given as goal
@@ -31,6 +31,15 @@ decreases-call::emit_call_value l = 16 * (args_nodes (args_list l.call.now.args.
 
 abbrev pub decreases-case::emit_case : goal.decreases-case::emit_case
 decreases-case::emit_case l = 16 * (expr_nodes (expr_of l.value.now) + cases_nodes (cases_list l.arms.now) + else_nodes (else_option l.rest.now)) + 8
+
+abbrev pub decreases-case::emit_dead_arms : goal.decreases-case::emit_dead_arms
+decreases-case::emit_dead_arms l = 16 * (cases_nodes (cases_list l.arms.now)) + 4
+
+abbrev pub decreases-case::emit_dead_bodies : goal.decreases-case::emit_dead_bodies
+decreases-case::emit_dead_bodies l = 16 * (cases_nodes (cases_list l.arms.now)) + 3
+
+abbrev pub decreases-case::emit_dead_body : goal.decreases-case::emit_dead_body
+decreases-case::emit_dead_body l = 16 * (stmts_nodes (stmts_list l.arm.now.body.items)) + 2
 
 abbrev pub decreases-case::emit_all_arms : goal.decreases-case::emit_all_arms
 decreases-case::emit_all_arms l = 16 * (cases_nodes (cases_list l.arms.now) + else_nodes (else_option l.rest.now)) + 7
@@ -208,6 +217,10 @@ decreases-test::emit_not l = 16 * (test_nodes (test_of l.test.now)) + 1
 abbrev pub invariant-call::emit_args-loop-arg : goal.invariant-call::emit_args-loop-arg
 invariant-call::emit_args-loop-arg l =
     (c : Front) → PutsArgs (around l.scene) l.line l.slot (front l.work) c (args_list (drop l.arg-index l.args)) → PutsArgs (around l.scene) l.line l.to (front l.fn.work) c (args_list l.args)
+
+abbrev pub invariant-case::emit_dead_bodies-loop-arm : goal.invariant-case::emit_dead_bodies-loop-arm
+invariant-case::emit_dead_bodies-loop-arm l =
+    (c : Front) → PutsDeadBodies (around l.scene) (front l.work) c (cases_list (drop l.arm-index l.arms)) → PutsDeadBodies (around l.scene) (front l.fn.work) c (cases_list l.arms)
 
 abbrev pub invariant-case::emit_cases-loop-arm : goal.invariant-case::emit_cases-loop-arm
 invariant-case::emit_cases-loop-arm l =

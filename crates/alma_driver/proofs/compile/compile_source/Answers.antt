@@ -1,14 +1,11 @@
 use Rattle.alma_ir.specs.View.{program_of}
 use Rattle.alma_driver.specs.Outside.{files_side}
 use Rattle.alma_driver.specs.Outcome.{CompileOutcome}
-use Rattle.alma_driver.proofs.DriverLemmas.{labels_of, works_read, works_stopped}
+use Rattle.alma_driver.proofs.DriverLemmas.{works_read, works_stopped}
 use Rattle.alma_driver.proofs.compile.compile_source.Goals as goal
 
-pub compile_program-requires-clause-checked : goal.compile_program-requires-clause-checked
-compile_program-requires-clause-checked g c = c.in-Ok.ensures.checked
-
-pub compile_program-requires-clause-labelled : goal.compile_program-requires-clause-labelled
-compile_program-requires-clause-labelled g c = labels_of c.args.source.now (program_of c.in-Ok.program) c.in-Ok.ensures.program
+pub compile_program-requires : goal.compile_program-requires
+compile_program-requires g c = record { checked = c.in-Ok.ensures.checked }
 
 pub returns-in-Ok-clause-course : goal.returns-in-Ok-clause-course
 returns-in-Ok-clause-course g c = λ out.

@@ -2,7 +2,7 @@ use Rattle.alma_ir.specs.View.{program_of}
 use Rattle.alma_driver.specs.Outside.{sink_side, source_side}
 use Rattle.alma_driver.specs.Outcome.{ProgramOutcome}
 use Rattle.alma_driver.specs.Showing.{shown_of}
-use Rattle.alma_driver.proofs.DriverLemmas.{labels_of, runs_read, runs_stopped}
+use Rattle.alma_driver.proofs.DriverLemmas.{runs_read, runs_stopped}
 use Rattle.alma_driver.proofs.run.run_source.Goals as goal
 
 pub run_program-requires-clause-checked : goal.run_program-requires-clause-checked
@@ -17,6 +17,3 @@ returns-in-Ok g c =
 pub returns-in-Err : goal.returns-in-Err
 returns-in-Err g c =
     runs_stopped c.args.source.now (λ p. ProgramOutcome (g.I.Source.left c.args.input.now) p c.args.steps (shown_of c.args.showing)) (source_side (g.I.Source.left c.args.input.now) (g.I.Source.faults c.args.input.now)) (sink_side (g.O.Sink.written c.args.out.now) (g.O.Sink.faults c.args.out.now)) c.in-Err.end c.in-Err.ensures.stop
-
-pub run_program-requires-clause-labelled : goal.run_program-requires-clause-labelled
-run_program-requires-clause-labelled g c = labels_of c.args.source.now (program_of c.in-Ok.program) c.in-Ok.ensures.program

@@ -29,7 +29,7 @@ pub returns-in-Ok-clause-records : goal.returns-in-Ok-clause-records
 returns-in-Ok-clause-records c = code_keeps_records _ _ c.requires.checked c.in-Ok.ensures.code c.in-Ok.ensures.runs c.in-Ok.ensures.once
 
 pub returns-in-Ok-clause-reads : goal.returns-in-Ok-clause-reads
-returns-in-Ok-clause-reads c = λ labels. reads_alike _ _ c.in-Ok.ensures.code labels
+returns-in-Ok-clause-reads c = reads_alike _ _ c.in-Ok.ensures.code
 
 pub returns-in-Ok-clause-few : goal.returns-in-Ok-clause-few
 returns-in-Ok-clause-few c = code_is_short _ _ c.requires.checked c.in-Ok.ensures.code
