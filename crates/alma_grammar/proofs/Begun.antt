@@ -17,7 +17,7 @@ use Rattle.alma_grammar.specs.Parts.{result_part, decl_tail, body_part}
 use Rattle.alma_grammar.specs.Parts.{if_same, begins}
 use Rattle.alma_grammar.specs.Filling.{Behind, assigned, used, InsideArgs, closed_args, filled_args, InsideParams, closed_params, filled_params}
 use Rattle.alma_grammar.specs.Filling.{Fill, spell_fill, Fills, spell_fills, WhereSome}
-use Rattle.alma_grammar.proofs.SameKind.{same_kind}
+use Rattle.alma_grammar.proofs.EveryKind.{same_kind}
 
 -- fillers of what stays open behind a token make one of the part that it began
 abbrev pub Built : Part → Kind → List Part → List Part → Type 0

@@ -1,6 +1,7 @@
 pub mod Begun
 pub mod Depth
 pub mod Ends
+pub mod EveryKind
 pub mod Exact
 pub mod Finish
 pub mod Nesting
@@ -13,4 +14,3 @@ pub mod Programs
 pub mod ReadModule
 pub mod ReadPhrases
 pub mod ReadTypes
-pub mod SameKind
