@@ -1,619 +1,247 @@
--- What may follow a phrase: the parts that the tokens behind it leave out.
-use Rattle.std.proofs.Common.{◌≡◌, ℕ, false, List, ◌∷◌, refl}
+-- What may follow a phrase: tokens of which the first begins none of the parts that the phrase could go on with.
+use Rattle.std.proofs.Common.{◌≡◌, ℕ, suc, Bool, true, false, ◌&&◌, List, [], ◌∷◌, Option, None, Some, nat_eq, eq-eqb, refl, ap}
+use Rattle.std.proofs.lemmas.Bool.{and_parts}
 use Rattle.alma_tree.specs.declared.kind.Kind.{Kind}
 use Rattle.alma_tree.specs.declared.kind.Kind.TheVariants as kinds
 use Rattle.alma_tree.specs.declared.leaf.Relation.TheVariants as relations
 use Rattle.alma_tree.specs.declared.leaf.AddOperator.TheVariants as adds
 use Rattle.alma_tree.specs.declared.leaf.MulOperator.TheVariants as muls
+use Rattle.alma_tree.specs.Kinds.{code}
 use Rattle.alma_tree.specs.Tree as tree
 use Rattle.alma_tree.specs.Spelling as spells
-use Rattle.alma_grammar.specs.Parts.{Part, args_part, selector_tail, factor_tail, term_tail, compared_part, expr_tail, after_desig, stmt_part, stmt_tail}
-use Rattle.alma_grammar.specs.Parts.{returned_part, high_part, arm_part, arm_tail, elsif_tail}
-use Rattle.alma_grammar.specs.Reading.{reading}
+use Rattle.alma_grammar.specs.Parts.{Part, one, args_part, selector_tail, factor_tail, term_tail, compared_part, expr_tail, after_desig, stmt_part, stmt_tail}
+use Rattle.alma_grammar.specs.Parts.{returned_part, high_part, arm_part, arm_tail, elsif_tail, begins, may_skip, next, all_skip, this_or_later}
+use Rattle.alma_grammar.specs.Parts.{array_tail, field_list_part, const_tail, type_tail, var_tail, params_part, decl_tail}
+use Rattle.alma_grammar.specs.Reading.{reading, at_end, goes_on, level}
 
--- the tokens go on behind the part
-abbrev pub Skips : Part → List Kind → Type 0
-Skips p ks = (d : ℕ) (open_parts : List Part) → reading false ks d (p ∷ open_parts) ≡ reading false ks d open_parts
+-- ---- the table: the parts that each phrase could go on with
 
-pub record EndsPrimary (ks : List Kind) : Type 0 where
-  pub args : Skips args_part ks
-  pub selectors : Skips selector_tail ks
+-- a primary: selectors, and arguments
+abbrev pub primary_on : List Part
+primary_on = args_part ∷ selector_tail ∷ []
 
-pub record EndsTerm (ks : List Kind) : Type 0 where
-  pub primary : EndsPrimary ks
-  pub factors : Skips factor_tail ks
+-- a term: further factors, and what its last primary could go on with
+abbrev pub term_on : List Part
+term_on = factor_tail ∷ primary_on
 
-pub record EndsSimple (ks : List Kind) : Type 0 where
-  pub term : EndsTerm ks
-  pub terms : Skips term_tail ks
+-- what stands on one side of a relation: further terms too
+abbrev pub simple_on : List Part
+simple_on = term_tail ∷ term_on
 
-pub record EndsExpr (ks : List Kind) : Type 0 where
-  pub simple : EndsSimple ks
-  pub compared : Skips compared_part ks
+-- an expression: a relation too
+abbrev pub expr_on : List Part
+expr_on = compared_part ∷ simple_on
 
-pub record EndsExprs (ks : List Kind) : Type 0 where
-  pub expr : EndsExpr ks
-  pub more : Skips expr_tail ks
+-- expressions with commas between them: further ones too
+abbrev pub exprs_on : List Part
+exprs_on = expr_tail ∷ expr_on
 
-pub record EndsStmt (ks : List Kind) : Type 0 where
-  pub expr : EndsExpr ks
-  pub desig : Skips after_desig ks
-  pub stmt : Skips stmt_part ks
-  pub returned : Skips returned_part ks
+-- a statement: what it begins with where it has no token yet, and what its last expression could go on with
+abbrev pub stmt_on : List Part
+stmt_on = stmt_part ∷ returned_part ∷ after_desig ∷ one kinds.Assign ∷ expr_on
 
-pub record EndsStmts (ks : List Kind) : Type 0 where
-  pub stmt : EndsStmt ks
-  pub more : Skips stmt_tail ks
+-- statements: further ones too
+abbrev pub stmts_on : List Part
+stmts_on = stmt_tail ∷ stmt_on
 
-pub record EndsLabel (ks : List Kind) : Type 0 where
-  pub expr : EndsExpr ks
-  pub high : Skips high_part ks
+-- a label: the end of its range too
+abbrev pub label_on : List Part
+label_on = high_part ∷ expr_on
 
-pub record EndsArm (ks : List Kind) : Type 0 where
-  pub stmts : EndsStmts ks
-  pub arm : Skips arm_part ks
+-- an arm: what it begins with where it has no token yet, and what its last statement could go on with
+abbrev pub arm_on : List Part
+arm_on = arm_part ∷ stmts_on
 
-pub record EndsArms (ks : List Kind) : Type 0 where
-  pub arm : EndsArm ks
-  pub more : Skips arm_tail ks
+-- arms: further ones too
+abbrev pub arms_on : List Part
+arms_on = arm_tail ∷ arm_on
 
-pub expr_before_then : (ks : List Kind) → EndsExpr (kinds.Then ∷ ks)
-expr_before_then ks =
-    record {
-      simple = record {
-        term = record { primary = record { args = λ d o. refl; selectors = λ d o. refl }; factors = λ d o. refl };
-        terms = λ d o.
-            refl;
-      };
-      compared = λ d o. refl;
-    }
+-- a declaration: further ones of its sort
+abbrev pub decl_on : List Part
+decl_on = const_tail ∷ type_tail ∷ var_tail ∷ []
 
-pub expr_before_do : (ks : List Kind) → EndsExpr (kinds.Do ∷ ks)
-expr_before_do ks =
-    record {
-      simple = record {
-        term = record { primary = record { args = λ d o. refl; selectors = λ d o. refl }; factors = λ d o. refl };
-        terms = λ d o.
-            refl;
-      };
-      compared = λ d o. refl;
-    }
+-- declarations: those of any sort
+abbrev pub decls_on : List Part
+decls_on = decl_tail ∷ decl_on
 
-pub expr_before_to : (ks : List Kind) → EndsExpr (kinds.To ∷ ks)
-expr_before_to ks =
-    record {
-      simple = record {
-        term = record { primary = record { args = λ d o. refl; selectors = λ d o. refl }; factors = λ d o. refl };
-        terms = λ d o.
-            refl;
-      };
-      compared = λ d o. refl;
-    }
+-- ---- the rule
 
-pub expr_before_by : (ks : List Kind) → EndsExpr (kinds.By ∷ ks)
-expr_before_by ks =
-    record {
-      simple = record {
-        term = record { primary = record { args = λ d o. refl; selectors = λ d o. refl }; factors = λ d o. refl };
-        terms = λ d o.
-            refl;
-      };
-      compared = λ d o. refl;
-    }
+abbrev is_none : Option (List Part) → Bool
+is_none None = true
+is_none (Some parts) = false
 
-pub expr_before_of : (ks : List Kind) → EndsExpr (kinds.Of ∷ ks)
-expr_before_of ks =
-    record {
-      simple = record {
-        term = record { primary = record { args = λ d o. refl; selectors = λ d o. refl }; factors = λ d o. refl };
-        terms = λ d o.
-            refl;
-      };
-      compared = λ d o. refl;
-    }
+-- whether the first of the tokens cannot begin the part
+abbrev stops : Part → List Kind → Bool
+stops p [] = true
+stops p (k ∷ ks) = is_none (begins p k)
 
-pub expr_before_close_paren : (ks : List Kind) → EndsExpr (kinds.CloseParen ∷ ks)
-expr_before_close_paren ks =
-    record {
-      simple = record {
-        term = record { primary = record { args = λ d o. refl; selectors = λ d o. refl }; factors = λ d o. refl };
-        terms = λ d o.
-            refl;
-      };
-      compared = λ d o. refl;
-    }
+-- whether it can begin none of the parts
+abbrev all_stop : List Part → List Kind → Bool
+all_stop [] ks = true
+all_stop (p ∷ parts) ks = stops p ks && all_stop parts ks
 
-pub expr_before_comma : (ks : List Kind) → EndsExpr (kinds.Comma ∷ ks)
-expr_before_comma ks =
-    record {
-      simple = record {
-        term = record { primary = record { args = λ d o. refl; selectors = λ d o. refl }; factors = λ d o. refl };
-        terms = λ d o.
-            refl;
-      };
-      compared = λ d o. refl;
-    }
+-- the tokens may follow what could go on with these parts; where the first token is known it is so by computation
+pub record Ends (parts : List Part) (ks : List Kind) : Type 0 where
+  pub stop : all_stop parts ks ≡ true
 
-pub expr_before_close_bracket : (ks : List Kind) → EndsExpr (kinds.CloseBracket ∷ ks)
-expr_before_close_bracket ks =
-    record {
-      simple = record {
-        term = record { primary = record { args = λ d o. refl; selectors = λ d o. refl }; factors = λ d o. refl };
-        terms = λ d o.
-            refl;
-      };
-      compared = λ d o. refl;
-    }
+-- the same of one part
+abbrev pub Lacks : Part → List Kind → Type 0
+Lacks p ks = Ends (p ∷ []) ks
 
-pub expr_before_dot_dot : (ks : List Kind) → EndsExpr (kinds.DotDot ∷ ks)
-expr_before_dot_dot ks =
-    record {
-      simple = record {
-        term = record { primary = record { args = λ d o. refl; selectors = λ d o. refl }; factors = λ d o. refl };
-        terms = λ d o.
-            refl;
-      };
-      compared = λ d o. refl;
-    }
+-- what the table says of a first token that is known
+pub known : {parts : List Part} {ks : List Kind} → all_stop parts ks ≡ true → Ends parts ks
+known h = record { stop = h }
 
-pub expr_before_colon : (ks : List Kind) → EndsExpr (kinds.Colon ∷ ks)
-expr_before_colon ks =
-    record {
-      simple = record {
-        term = record { primary = record { args = λ d o. refl; selectors = λ d o. refl }; factors = λ d o. refl };
-        terms = λ d o.
-            refl;
-      };
-      compared = λ d o. refl;
-    }
+-- of the first part alone
+pub first : {p : Part} {parts : List Part} {ks : List Kind} → Ends (p ∷ parts) ks → Lacks p ks
+first {p} {parts} {ks} e = let h = (and_parts (stops p ks) (all_stop parts ks) e.stop).0 in record { stop = rw h refl }
 
-pub expr_before_semicolon : (ks : List Kind) → EndsExpr (kinds.Semicolon ∷ ks)
-expr_before_semicolon ks =
-    record {
-      simple = record {
-        term = record { primary = record { args = λ d o. refl; selectors = λ d o. refl }; factors = λ d o. refl };
-        terms = λ d o.
-            refl;
-      };
-      compared = λ d o. refl;
-    }
+-- of the parts behind the first
+pub later : {p : Part} {parts : List Part} {ks : List Kind} → Ends (p ∷ parts) ks → Ends parts ks
+later {p} {parts} {ks} e = record { stop = (and_parts (stops p ks) (all_stop parts ks) e.stop).1 }
 
-pub simple_before_equal : (ks : List Kind) → EndsSimple (kinds.Equal ∷ ks)
-simple_before_equal ks =
-    record { term = record { primary = record { args = λ d o. refl; selectors = λ d o. refl }; factors = λ d o. refl }; terms = λ d o. refl }
+-- of the expression that a statement could end with
+pub last_expr : {ks : List Kind} → Ends stmt_on ks → Ends expr_on ks
+last_expr e = later (later (later (later e)))
 
-pub simple_before_unequal : (ks : List Kind) → EndsSimple (kinds.Unequal ∷ ks)
-simple_before_unequal ks =
-    record { term = record { primary = record { args = λ d o. refl; selectors = λ d o. refl }; factors = λ d o. refl }; terms = λ d o. refl }
+left_out : (b : Option (List Part)) (m : Bool) (o : List Part) (n : Option (List Part)) → is_none b ≡ true → m ≡ true → this_or_later b m o n ≡ n
+left_out None true o n h s = refl
+left_out None false o n h s = absurd cc
+left_out (Some parts) m o n h s = absurd cc
 
-pub simple_before_less : (ks : List Kind) → EndsSimple (kinds.Less ∷ ks)
-simple_before_less ks =
-    record { term = record { primary = record { args = λ d o. refl; selectors = λ d o. refl }; factors = λ d o. refl }; terms = λ d o. refl }
+-- tokens that may follow go on behind the first part, where it may be left out
+pub skipped : {p : Part} {parts : List Part} {ks : List Kind} → Ends (p ∷ parts) ks → may_skip p ≡ true → (d : ℕ) (o : List Part)
+    → reading false ks d (p ∷ o) ≡ reading false ks d o
+skipped {p} {parts} {ks = []} e s d o = ap (λ m. at_end (m && all_skip o)) s
+skipped {p} {parts} {ks = k ∷ ks} e s d o =
+    ap (λ n. goes_on n false (k ∷ ks) (reading false ks (level d k)))
+    (left_out (begins p k) (may_skip p) o (next o k) (and_parts (stops p (k ∷ ks)) (all_stop parts (k ∷ ks)) e.stop).0 s)
 
-pub simple_before_less_eq : (ks : List Kind) → EndsSimple (kinds.LessEq ∷ ks)
-simple_before_less_eq ks =
-    record { term = record { primary = record { args = λ d o. refl; selectors = λ d o. refl }; factors = λ d o. refl }; terms = λ d o. refl }
+-- ---- a number of the first token
 
-pub simple_before_greater : (ks : List Kind) → EndsSimple (kinds.Greater ∷ ks)
-simple_before_greater ks =
-    record { term = record { primary = record { args = λ d o. refl; selectors = λ d o. refl }; factors = λ d o. refl }; terms = λ d o. refl }
+abbrev number : Option (List Part) → ℕ → ℕ
+number None n = 0
+number (Some parts) n = n
 
-pub simple_before_greater_eq : (ks : List Kind) → EndsSimple (kinds.GreaterEq ∷ ks)
-simple_before_greater_eq ks =
-    record { term = record { primary = record { args = λ d o. refl; selectors = λ d o. refl }; factors = λ d o. refl }; terms = λ d o. refl }
+abbrev one_if_some : Option (List Part) → ℕ → ℕ
+one_if_some None n = n
+one_if_some (Some parts) n = 1
 
-pub term_before_plus : (ks : List Kind) → EndsTerm (kinds.Plus ∷ ks)
-term_before_plus ks =
-    record { primary = record { args = λ d o. refl; selectors = λ d o. refl }; factors = λ d o. refl }
+-- its own where it can begin the part, and 0 where it cannot
+abbrev pub class : Part → List Kind → ℕ
+class p [] = 0
+class p (k ∷ ks) = number (begins p k) (suc (code k))
 
-pub term_before_minus : (ks : List Kind) → EndsTerm (kinds.Minus ∷ ks)
-term_before_minus ks =
-    record { primary = record { args = λ d o. refl; selectors = λ d o. refl }; factors = λ d o. refl }
+-- the same, but 1 where it can begin an expression
+abbrev pub sort : Part → List Kind → ℕ
+sort p [] = 0
+sort p (k ∷ ks) = number (begins p k) (one_if_some (begins returned_part k) (suc (suc (code k))))
 
-pub term_before_or : (ks : List Kind) → EndsTerm (kinds.Or ∷ ks)
-term_before_or ks =
-    record { primary = record { args = λ d o. refl; selectors = λ d o. refl }; factors = λ d o. refl }
+no_number : (b : Option (List Part)) (n : ℕ) → is_none b ≡ true → number b n ≡ 0
+no_number None n h = refl
+no_number (Some parts) n h = absurd cc
 
-pub primary_before_star : (ks : List Kind) → EndsPrimary (kinds.Star ∷ ks)
-primary_before_star ks =
-    record { args = λ d o. refl; selectors = λ d o. refl }
+pub no_class : {p : Part} {parts : List Part} {ks : List Kind} → Ends (p ∷ parts) ks → class p ks ≡ 0
+no_class {p} {parts} {ks = []} e = refl
+no_class {p} {parts} {ks = k ∷ ks} e = no_number (begins p k) _ (and_parts (stops p (k ∷ ks)) (all_stop parts (k ∷ ks)) e.stop).0
 
-pub primary_before_div : (ks : List Kind) → EndsPrimary (kinds.Div ∷ ks)
-primary_before_div ks =
-    record { args = λ d o. refl; selectors = λ d o. refl }
+pub no_sort : {p : Part} {parts : List Part} {ks : List Kind} → Ends (p ∷ parts) ks → sort p ks ≡ 0
+no_sort {p} {parts} {ks = []} e = refl
+no_sort {p} {parts} {ks = k ∷ ks} e = no_number (begins p k) _ (and_parts (stops p (k ∷ ks)) (all_stop parts (k ∷ ks)) e.stop).0
 
-pub primary_before_mod : (ks : List Kind) → EndsPrimary (kinds.Mod ∷ ks)
-primary_before_mod ks =
-    record { args = λ d o. refl; selectors = λ d o. refl }
+pub differ : {a b : ℕ} → a ≡ b → nat_eq a b ≡ false → ⊥
+differ {a} {b} e h = let x = eq-eqb a b e in cc
 
-pub primary_before_and : (ks : List Kind) → EndsPrimary (kinds.And ∷ ks)
-primary_before_and ks =
-    record { args = λ d o. refl; selectors = λ d o. refl }
+pub tails : {a b : Kind} {ks js : List Kind} → a ∷ ks ≡ b ∷ js → ks ≡ js
+tails {a} {b} {ks} {js} e = cc
 
-pub exprs_before_close_paren : (ks : List Kind) → EndsExprs (kinds.CloseParen ∷ ks)
-exprs_before_close_paren ks =
-    record {
-      expr = record {
-        simple = record {
-          term = record { primary = record { args = λ d o. refl; selectors = λ d o. refl }; factors = λ d o. refl };
-          terms = λ d o. refl;
-        };
-        compared = λ d o. refl;
-      };
-      more = λ d o. refl;
-    }
+-- ---- behind what may be left out: it begins with a token of its own, or what follows it follows the phrase
 
-pub exprs_before_close_bracket : (ks : List Kind) → EndsExprs (kinds.CloseBracket ∷ ks)
-exprs_before_close_bracket ks =
-    record {
-      expr = record {
-        simple = record {
-          term = record { primary = record { args = λ d o. refl; selectors = λ d o. refl }; factors = λ d o. refl };
-          terms = λ d o. refl;
-        };
-        compared = λ d o. refl;
-      };
-      more = λ d o. refl;
-    }
+pub before_compared : (r : tree.Compared) (ks : List Kind) → Ends expr_on ks → Ends simple_on (spells.spell_compared r ks)
+before_compared tree.no_relation ks e = later e
+before_compared (tree.compared relations.Equal s) ks e = known refl
+before_compared (tree.compared r s) ks e = known refl
 
-pub stmt_before_semicolon : (ks : List Kind) → EndsStmt (kinds.Semicolon ∷ ks)
-stmt_before_semicolon ks =
-    record {
-      expr = record {
-        simple = record {
-          term = record { primary = record { args = λ d o. refl; selectors = λ d o. refl }; factors = λ d o. refl };
-          terms = λ d o. refl;
-        };
-        compared = λ d o. refl;
-      };
-      desig = λ d o. refl;
-      stmt = λ d o. refl;
-      returned = λ d o. refl;
-    }
+pub before_terms : (more : tree.TermTail) (ks : List Kind) → Ends simple_on ks → Ends term_on (spells.spell_term_tail more ks)
+before_terms tree.no_term ks e = later e
+before_terms (tree.more_term adds.Plus t more) ks e = known refl
+before_terms (tree.more_term a t more) ks e = known refl
 
-pub stmts_before_end : (ks : List Kind) → EndsStmts (kinds.End ∷ ks)
-stmts_before_end ks =
-    record {
-      stmt = record {
-        expr = record {
-          simple = record {
-            term = record {
-              primary = record { args = λ d o. refl; selectors = λ d o. refl };
-              factors =
-                  λ d o. refl;
-            };
-            terms = λ d o. refl;
-          };
-          compared = λ d o. refl;
-        };
-        desig = λ d o. refl;
-        stmt = λ d o. refl;
-        returned = λ d o. refl;
-      };
-      more = λ d o. refl;
-    }
+pub before_factors : (more : tree.FactorTail) (ks : List Kind) → Ends term_on ks → Ends primary_on (spells.spell_factor_tail more ks)
+before_factors tree.no_factor ks e = later e
+before_factors (tree.more_factor muls.Star f more) ks e = known refl
+before_factors (tree.more_factor m f more) ks e = known refl
 
-pub stmts_before_else : (ks : List Kind) → EndsStmts (kinds.Else ∷ ks)
-stmts_before_else ks =
-    record {
-      stmt = record {
-        expr = record {
-          simple = record {
-            term = record {
-              primary = record { args = λ d o. refl; selectors = λ d o. refl };
-              factors =
-                  λ d o. refl;
-            };
-            terms = λ d o. refl;
-          };
-          compared = λ d o. refl;
-        };
-        desig = λ d o. refl;
-        stmt = λ d o. refl;
-        returned = λ d o. refl;
-      };
-      more = λ d o. refl;
-    }
+pub before_args : (a : tree.Args) (ks : List Kind) → Ends primary_on ks → Lacks selector_tail (spells.spell_args a ks)
+before_args tree.no_args ks e = later e
+before_args a ks e = known refl
 
-pub stmts_before_elsif : (ks : List Kind) → EndsStmts (kinds.Elsif ∷ ks)
-stmts_before_elsif ks =
-    record {
-      stmt = record {
-        expr = record {
-          simple = record {
-            term = record {
-              primary = record { args = λ d o. refl; selectors = λ d o. refl };
-              factors =
-                  λ d o. refl;
-            };
-            terms = λ d o. refl;
-          };
-          compared = λ d o. refl;
-        };
-        desig = λ d o. refl;
-        stmt = λ d o. refl;
-        returned = λ d o. refl;
-      };
-      more = λ d o. refl;
-    }
+pub before_exprs : (more : tree.ExprTail) (ks : List Kind) → Ends exprs_on ks → Ends expr_on (spells.spell_expr_tail more ks)
+before_exprs tree.no_expr ks e = later e
+before_exprs more ks e = known refl
 
-pub stmts_before_orelse : (ks : List Kind) → EndsStmts (kinds.Orelse ∷ ks)
-stmts_before_orelse ks =
-    record {
-      stmt = record {
-        expr = record {
-          simple = record {
-            term = record {
-              primary = record { args = λ d o. refl; selectors = λ d o. refl };
-              factors =
-                  λ d o. refl;
-            };
-            terms = λ d o. refl;
-          };
-          compared = λ d o. refl;
-        };
-        desig = λ d o. refl;
-        stmt = λ d o. refl;
-        returned = λ d o. refl;
-      };
-      more = λ d o. refl;
-    }
+pub before_stmts : (more : tree.StmtTail) (ks : List Kind) → Ends stmts_on ks → Ends stmt_on (spells.spell_stmt_tail more ks)
+before_stmts tree.no_stmt ks e = later e
+before_stmts more ks e = known refl
 
-pub stmts_before_until : (ks : List Kind) → EndsStmts (kinds.Until ∷ ks)
-stmts_before_until ks =
-    record {
-      stmt = record {
-        expr = record {
-          simple = record {
-            term = record {
-              primary = record { args = λ d o. refl; selectors = λ d o. refl };
-              factors =
-                  λ d o. refl;
-            };
-            terms = λ d o. refl;
-          };
-          compared = λ d o. refl;
-        };
-        desig = λ d o. refl;
-        stmt = λ d o. refl;
-        returned = λ d o. refl;
-      };
-      more = λ d o. refl;
-    }
+pub arms_before_else : (other : tree.Else) (ks : List Kind) → Ends arms_on (spells.spell_else other (kinds.End ∷ ks))
+arms_before_else tree.no_else ks = known refl
+arms_before_else other ks = known refl
 
-pub stmts_before_do : (ks : List Kind) → EndsStmts (kinds.Do ∷ ks)
-stmts_before_do ks =
-    record {
-      stmt = record {
-        expr = record {
-          simple = record {
-            term = record {
-              primary = record { args = λ d o. refl; selectors = λ d o. refl };
-              factors =
-                  λ d o. refl;
-            };
-            terms = λ d o. refl;
-          };
-          compared = λ d o. refl;
-        };
-        desig = λ d o. refl;
-        stmt = λ d o. refl;
-        returned = λ d o. refl;
-      };
-      more = λ d o. refl;
-    }
+pub before_else : (other : tree.Else) (ks : List Kind) → Ends stmts_on (spells.spell_else other (kinds.End ∷ ks))
+before_else other ks = later (later (arms_before_else other ks))
 
-pub stmts_before_close_paren : (ks : List Kind) → EndsStmts (kinds.CloseParen ∷ ks)
-stmts_before_close_paren ks =
-    record {
-      stmt = record {
-        expr = record {
-          simple = record {
-            term = record {
-              primary = record { args = λ d o. refl; selectors = λ d o. refl };
-              factors =
-                  λ d o. refl;
-            };
-            terms = λ d o. refl;
-          };
-          compared = λ d o. refl;
-        };
-        desig = λ d o. refl;
-        stmt = λ d o. refl;
-        returned = λ d o. refl;
-      };
-      more = λ d o. refl;
-    }
-
-pub label_before_colon : (ks : List Kind) → EndsLabel (kinds.Colon ∷ ks)
-label_before_colon ks =
-    record {
-      expr = record {
-        simple = record {
-          term = record { primary = record { args = λ d o. refl; selectors = λ d o. refl }; factors = λ d o. refl };
-          terms = λ d o. refl;
-        };
-        compared = λ d o. refl;
-      };
-      high = λ d o. refl;
-    }
-
-pub label_before_comma : (ks : List Kind) → EndsLabel (kinds.Comma ∷ ks)
-label_before_comma ks =
-    record {
-      expr = record {
-        simple = record {
-          term = record { primary = record { args = λ d o. refl; selectors = λ d o. refl }; factors = λ d o. refl };
-          terms = λ d o. refl;
-        };
-        compared = λ d o. refl;
-      };
-      high = λ d o. refl;
-    }
-
-pub arm_before_bar : (ks : List Kind) → EndsArm (kinds.Bar ∷ ks)
-arm_before_bar ks =
-    record {
-      stmts = record {
-        stmt = record {
-          expr = record {
-            simple = record {
-              term = record {
-                primary = record {
-                  args = λ d o. refl;
-                  selectors = λ d o.
-                      refl;
-                };
-                factors = λ d o. refl;
-              };
-              terms = λ d o. refl;
-            };
-            compared = λ d o. refl;
-          };
-          desig = λ d o. refl;
-          stmt = λ d o. refl;
-          returned = λ d o. refl;
-        };
-        more = λ d o. refl;
-      };
-      arm = λ d o. refl;
-    }
-
-pub arms_before_else : (ks : List Kind) → EndsArms (kinds.Else ∷ ks)
-arms_before_else ks =
-    record {
-      arm = record {
-        stmts = record {
-          stmt = record {
-            expr = record {
-              simple = record {
-                term = record {
-                  primary = record {
-                    args = λ d o. refl;
-                    selectors = λ d o. refl;
-                  };
-                  factors = λ d o. refl;
-                };
-                terms = λ d o. refl;
-              };
-              compared = λ d o. refl;
-            };
-            desig = λ d o. refl;
-            stmt = λ d o. refl;
-            returned
-                = λ d o. refl;
-          };
-          more = λ d o. refl;
-        };
-        arm = λ d o. refl;
-      };
-      more = λ d o. refl;
-    }
-
-pub arms_before_end : (ks : List Kind) → EndsArms (kinds.End ∷ ks)
-arms_before_end ks =
-    record {
-      arm = record {
-        stmts = record {
-          stmt = record {
-            expr = record {
-              simple = record {
-                term = record {
-                  primary = record {
-                    args = λ d o. refl;
-                    selectors = λ d o. refl;
-                  };
-                  factors = λ d o. refl;
-                };
-                terms = λ d o. refl;
-              };
-              compared = λ d o. refl;
-            };
-            desig = λ d o. refl;
-            stmt = λ d o. refl;
-            returned
-                = λ d o. refl;
-          };
-          more = λ d o. refl;
-        };
-        arm = λ d o. refl;
-      };
-      more = λ d o. refl;
-    }
-
--- ---- behind what is left out
-
-pub before_compared : (r : tree.Compared) (ks : List Kind) → EndsExpr ks → EndsSimple (spells.spell_compared r ks)
-before_compared tree.no_relation ks e = e.simple
-before_compared (tree.compared relations.Equal s) ks e = simple_before_equal _
-before_compared (tree.compared relations.Unequal s) ks e = simple_before_unequal _
-before_compared (tree.compared relations.Less s) ks e = simple_before_less _
-before_compared (tree.compared relations.LessEq s) ks e = simple_before_less_eq _
-before_compared (tree.compared relations.Greater s) ks e = simple_before_greater _
-before_compared (tree.compared relations.GreaterEq s) ks e = simple_before_greater_eq _
-
-pub before_terms : (more : tree.TermTail) (ks : List Kind) → EndsSimple ks → EndsTerm (spells.spell_term_tail more ks)
-before_terms tree.no_term ks e = e.term
-before_terms (tree.more_term adds.Plus t more) ks e = term_before_plus _
-before_terms (tree.more_term adds.Minus t more) ks e = term_before_minus _
-before_terms (tree.more_term adds.Or t more) ks e = term_before_or _
-
-pub before_factors : (more : tree.FactorTail) (ks : List Kind) → EndsTerm ks → EndsPrimary (spells.spell_factor_tail more ks)
-before_factors tree.no_factor ks e = e.primary
-before_factors (tree.more_factor muls.Star f more) ks e = primary_before_star _
-before_factors (tree.more_factor muls.Div f more) ks e = primary_before_div _
-before_factors (tree.more_factor muls.Mod f more) ks e = primary_before_mod _
-before_factors (tree.more_factor muls.And f more) ks e = primary_before_and _
-
-pub before_args : (a : tree.Args) (ks : List Kind) → EndsPrimary ks → Skips selector_tail (spells.spell_args a ks)
-before_args tree.no_args ks e = e.selectors
-before_args tree.empty_args ks e = λ d o. refl
-before_args (tree.args es) ks e = λ d o. refl
-
-pub before_exprs : (more : tree.ExprTail) (ks : List Kind) → EndsExprs ks → EndsExpr (spells.spell_expr_tail more ks)
-before_exprs tree.no_expr ks e = e.expr
-before_exprs (tree.more_expr ex more) ks e = expr_before_comma _
-
-pub before_stmts : (more : tree.StmtTail) (ks : List Kind) → EndsStmts ks → EndsStmt (spells.spell_stmt_tail more ks)
-before_stmts tree.no_stmt ks e = e.stmt
-before_stmts (tree.more_stmt s more) ks e = stmt_before_semicolon _
-
-pub before_else : (other : tree.Else) (ks : List Kind) → EndsStmts (spells.spell_else other (kinds.End ∷ ks))
-before_else tree.no_else ks = stmts_before_end _
-before_else (tree.else_stmts s) ks = stmts_before_else _
-
-pub arms_before_else_part : (other : tree.Else) (ks : List Kind) → EndsArms (spells.spell_else other (kinds.End ∷ ks))
-arms_before_else_part tree.no_else ks = arms_before_end _
-arms_before_else_part (tree.else_stmts s) ks = arms_before_else _
-
-pub before_elsifs : (more : tree.ElsifTail) (ks : List Kind) → EndsStmts ks → EndsStmts (spells.spell_elsif_tail more ks)
+pub before_elsifs : (more : tree.ElsifTail) (ks : List Kind) → Ends stmts_on ks → Ends stmts_on (spells.spell_elsif_tail more ks)
 before_elsifs tree.no_elsif ks e = e
-before_elsifs (tree.more_elsif ex s more) ks e = stmts_before_elsif _
+before_elsifs more ks e = known refl
 
-pub before_orelses : (more : tree.OrelseTail) (ks : List Kind) → EndsStmts ks → EndsStmts (spells.spell_orelse_tail more ks)
+pub before_orelses : (more : tree.OrelseTail) (ks : List Kind) → Ends stmts_on ks → Ends stmts_on (spells.spell_orelse_tail more ks)
 before_orelses tree.no_orelse ks e = e
-before_orelses (tree.more_orelse s more) ks e = stmts_before_orelse _
+before_orelses more ks e = known refl
 
-pub before_by : (by : tree.By) (ks : List Kind) → EndsExpr (spells.spell_by by (kinds.Do ∷ ks))
-before_by tree.no_by ks = expr_before_do _
-before_by (tree.by_expr e) ks = expr_before_by _
+pub before_by : (by : tree.By) (ks : List Kind) → Ends expr_on (spells.spell_by by (kinds.Do ∷ ks))
+before_by tree.no_by ks = known refl
+before_by by ks = known refl
 
-pub before_high : (h : tree.High) (ks : List Kind) → EndsLabel ks → EndsExpr (spells.spell_high h ks)
-before_high tree.no_high ks e = e.expr
-before_high (tree.high_expr x) ks e = expr_before_dot_dot _
+pub before_high : (h : tree.High) (ks : List Kind) → Ends label_on ks → Ends expr_on (spells.spell_high h ks)
+before_high tree.no_high ks e = later e
+before_high h ks e = known refl
 
-pub before_labels : (more : tree.LabelTail) (ks : List Kind) → EndsLabel (spells.spell_label_tail more (kinds.Colon ∷ ks))
-before_labels tree.no_label ks = label_before_colon _
-before_labels (tree.more_label l more) ks = label_before_comma _
+pub before_labels : (more : tree.LabelTail) (ks : List Kind) → Ends label_on ks → Ends label_on (spells.spell_label_tail more ks)
+before_labels tree.no_label ks e = e
+before_labels more ks e = known refl
 
-pub before_arms : (more : tree.ArmTail) (ks : List Kind) → EndsArms ks → EndsArm (spells.spell_arm_tail more ks)
-before_arms tree.no_arm ks e = e.arm
-before_arms (tree.more_arm a more) ks e = arm_before_bar _
+pub before_arms : (more : tree.ArmTail) (ks : List Kind) → Ends arms_on ks → Ends arm_on (spells.spell_arm_tail more ks)
+before_arms tree.no_arm ks e = later e
+before_arms more ks e = known refl
 
-pub before_desigs : (more : tree.DesigTail) (ks : List Kind) → Skips selector_tail (spells.spell_desig_tail more (kinds.CloseParen ∷ ks))
-before_desigs tree.no_desig ks = λ d o. refl
-before_desigs (tree.more_desig x more) ks = λ d o. refl
+pub before_desigs : (more : tree.DesigTail) (ks : List Kind) → Lacks selector_tail ks → Lacks selector_tail (spells.spell_desig_tail more ks)
+before_desigs tree.no_desig ks e = e
+before_desigs more ks e = known refl
 
-pub skips_elsif : (other : tree.Else) (ks : List Kind) → Skips elsif_tail (spells.spell_else other (kinds.End ∷ ks))
-skips_elsif tree.no_else ks = λ d o. refl
-skips_elsif (tree.else_stmts s) ks = λ d o. refl
+-- no further ELSIF stands before the rest of IF
+pub skips_elsif : (other : tree.Else) (ks : List Kind) → Lacks elsif_tail (spells.spell_else other (kinds.End ∷ ks))
+skips_elsif tree.no_else ks = known refl
+skips_elsif other ks = known refl
+
+pub before_plain : (p : tree.PlainType) (ks : List Kind) → Lacks array_tail (spells.spell_plain_type p ks)
+before_plain tree.type_name ks = known refl
+before_plain p ks = known refl
+
+pub before_field_lists : (more : tree.FieldListTail) (ks : List Kind) → Lacks field_list_part ks
+    → Lacks field_list_part (spells.spell_field_list_tail more ks)
+before_field_lists tree.no_fields ks e = e
+before_field_lists more ks e = known refl
+
+pub before_result : (r : tree.ResultName) (ks : List Kind) → Lacks params_part (spells.spell_result_name r (kinds.Semicolon ∷ ks))
+before_result tree.no_result ks = known refl
+before_result r ks = known refl
+
+pub before_body : (b : tree.Body) (ks : List Kind) → Ends decls_on (spells.spell_body b (kinds.End ∷ ks))
+before_body tree.no_body ks = known refl
+before_body b ks = known refl
+
+pub before_decls : (more : tree.DeclTail) (ks : List Kind) → Ends decls_on ks → Ends decl_on (spells.spell_decl_tail more ks)
+before_decls tree.no_decl ks e = later e
+before_decls (tree.more_decl (tree.const_decl x) more) ks e = known refl
+before_decls (tree.more_decl d more) ks e = known refl

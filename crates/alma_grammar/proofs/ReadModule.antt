@@ -12,41 +12,16 @@ use Rattle.alma_grammar.proofs.Ends as ends
 use Rattle.alma_grammar.proofs.ReadPhrases.{expr_read, stmts_read}
 use Rattle.alma_grammar.proofs.ReadTypes.{type_read, name_tail_read}
 
--- ---- what may follow declarations
-
-record EndsDecls (ks : List Kind) : Type 0 where
-  consts : ends.Skips const_tail ks
-  types : ends.Skips type_tail ks
-  vars : ends.Skips var_tail ks
-  decls : ends.Skips decl_tail ks
-
-before_body : (b : tree.Body) (ks : List Kind) → EndsDecls (spells.spell_body b (kinds.End ∷ ks))
-before_body tree.no_body ks = record { consts = λ d o. refl; types = λ d o. refl; vars = λ d o. refl; decls = λ d o. refl }
-before_body (tree.body s) ks = record { consts = λ d o. refl; types = λ d o. refl; vars = λ d o. refl; decls = λ d o. refl }
-
--- what may follow one declaration
-record EndsDecl (ks : List Kind) : Type 0 where
-  consts : ends.Skips const_tail ks
-  types : ends.Skips type_tail ks
-  vars : ends.Skips var_tail ks
-
-before_decls : (more : tree.DeclTail) (ks : List Kind) → EndsDecls ks → EndsDecl (spells.spell_decl_tail more ks)
-before_decls tree.no_decl ks e = record { consts = e.consts; types = e.types; vars = e.vars }
-before_decls (tree.more_decl (tree.const_decl x) more) ks e = record { consts = λ d o. refl; types = λ d o. refl; vars = λ d o. refl }
-before_decls (tree.more_decl (tree.type_decl x) more) ks e = record { consts = λ d o. refl; types = λ d o. refl; vars = λ d o. refl }
-before_decls (tree.more_decl (tree.var_decl x) more) ks e = record { consts = λ d o. refl; types = λ d o. refl; vars = λ d o. refl }
-before_decls (tree.more_decl (tree.procedure p r b) more) ks e = record { consts = λ d o. refl; types = λ d o. refl; vars = λ d o. refl }
-
 -- ---- headings
 
 formal_read : (t : tree.Formal) (ks : List Kind) (d : ℕ) (o : List Part)
     → reading false (spells.spell_formal t ks) d (formal_parts o) ≡ reading false ks d o
 formal_read (tree.formal None (tree.names more)) ks d o =
-    name_tail_read more (kinds.Colon ∷ kinds.Name ∷ ks) (λ d o. refl) d (one kinds.Colon ∷ one kinds.Name ∷ o)
+    name_tail_read more (kinds.Colon ∷ kinds.Name ∷ ks) (ends.known refl) d (one kinds.Colon ∷ one kinds.Name ∷ o)
 formal_read (tree.formal (Some modes.Var) (tree.names more)) ks d o =
-    name_tail_read more (kinds.Colon ∷ kinds.Name ∷ ks) (λ d o. refl) d (one kinds.Colon ∷ one kinds.Name ∷ o)
+    name_tail_read more (kinds.Colon ∷ kinds.Name ∷ ks) (ends.known refl) d (one kinds.Colon ∷ one kinds.Name ∷ o)
 formal_read (tree.formal (Some modes.Mix) (tree.names more)) ks d o =
-    name_tail_read more (kinds.Colon ∷ kinds.Name ∷ ks) (λ d o. refl) d (one kinds.Colon ∷ one kinds.Name ∷ o)
+    name_tail_read more (kinds.Colon ∷ kinds.Name ∷ ks) (ends.known refl) d (one kinds.Colon ∷ one kinds.Name ∷ o)
 
 formal_tail_read : (t : tree.FormalTail) (ks : List Kind) (d : ℕ) (o : List Part)
     → reading false (spells.spell_formal_tail t (kinds.CloseParen ∷ ks)) d (formal_tail ∷ o) ≡ reading false (kinds.CloseParen ∷ ks) d o
@@ -61,13 +36,9 @@ inside_params (tree.formal None (tree.names more)) ks d o = refl
 inside_params (tree.formal (Some modes.Var) (tree.names more)) ks d o = refl
 inside_params (tree.formal (Some modes.Mix) (tree.names more)) ks d o = refl
 
-before_result : (r : tree.ResultName) (ks : List Kind) → ends.Skips params_part (spells.spell_result_name r (kinds.Semicolon ∷ ks))
-before_result tree.no_result ks d o = refl
-before_result tree.result_name ks d o = refl
-
-params_read : (t : tree.Params) (ks : List Kind) → ends.Skips params_part ks → (d : ℕ) (o : List Part)
+params_read : (t : tree.Params) (ks : List Kind) → ends.Lacks params_part ks → (d : ℕ) (o : List Part)
     → reading false (spells.spell_params t ks) d (params_part ∷ o) ≡ reading false ks d o
-params_read tree.no_params ks h d o = h d o
+params_read tree.no_params ks h d o = ends.skipped h refl d o
 params_read tree.empty_params ks h d o = refl
 params_read (tree.params (tree.formals f more)) ks h d o =
     inside_params f (spells.spell_formal_tail more (kinds.CloseParen ∷ ks)) (suc d) o
@@ -81,24 +52,24 @@ result_read tree.result_name ks d o = refl
 
 -- ---- declarations
 
-consts_read : (t : tree.ConstTail) (ks : List Kind) → ends.Skips const_tail ks → (d : ℕ) (o : List Part)
+consts_read : (t : tree.ConstTail) (ks : List Kind) → ends.Lacks const_tail ks → (d : ℕ) (o : List Part)
     → reading false (spells.spell_const_tail t ks) d (const_tail ∷ o) ≡ reading false ks d o
-consts_read tree.no_const ks h d o = h d o
+consts_read tree.no_const ks h d o = ends.skipped h refl d o
 consts_read (tree.more_const x more) ks h d o =
-    expr_read x (kinds.Semicolon ∷ spells.spell_const_tail more ks) (ends.expr_before_semicolon _) d (one kinds.Semicolon ∷ const_tail ∷ o)
+    expr_read x (kinds.Semicolon ∷ spells.spell_const_tail more ks) (ends.known refl) d (one kinds.Semicolon ∷ const_tail ∷ o)
     ∙ consts_read more ks h d o
 
-types_read : (t : tree.TypeTail) (ks : List Kind) → ends.Skips type_tail ks → (d : ℕ) (o : List Part)
+types_read : (t : tree.TypeTail) (ks : List Kind) → ends.Lacks type_tail ks → (d : ℕ) (o : List Part)
     → reading false (spells.spell_type_tail t ks) d (type_tail ∷ o) ≡ reading false ks d o
-types_read tree.no_type ks h d o = h d o
+types_read tree.no_type ks h d o = ends.skipped h refl d o
 types_read (tree.more_type t more) ks h d o =
     type_read t (kinds.Semicolon ∷ spells.spell_type_tail more ks) d (one kinds.Semicolon ∷ type_tail ∷ o) ∙ types_read more ks h d o
 
-vars_read : (t : tree.VarTail) (ks : List Kind) → ends.Skips var_tail ks → (d : ℕ) (o : List Part)
+vars_read : (t : tree.VarTail) (ks : List Kind) → ends.Lacks var_tail ks → (d : ℕ) (o : List Part)
     → reading false (spells.spell_var_tail t ks) d (var_tail ∷ o) ≡ reading false ks d o
-vars_read tree.no_var ks h d o = h d o
+vars_read tree.no_var ks h d o = ends.skipped h refl d o
 vars_read (tree.more_var (tree.names n) t more) ks h d o =
-    name_tail_read n (kinds.Colon ∷ spells.spell_type_node t (kinds.Semicolon ∷ spells.spell_var_tail more ks)) (λ d o. refl) d
+    name_tail_read n (kinds.Colon ∷ spells.spell_type_node t (kinds.Semicolon ∷ spells.spell_var_tail more ks)) (ends.known refl) d
     (one kinds.Colon ∷ type_parts (one kinds.Semicolon ∷ var_tail ∷ o))
     ∙ type_read t (kinds.Semicolon ∷ spells.spell_var_tail more ks) d (one kinds.Semicolon ∷ var_tail ∷ o)
     ∙ vars_read more ks h d o
@@ -106,29 +77,29 @@ vars_read (tree.more_var (tree.names n) t more) ks h d o =
 body_read : (t : tree.Body) (ks : List Kind) (d : ℕ) (o : List Part)
     → reading false (spells.spell_body t (kinds.End ∷ ks)) d (body_part ∷ o) ≡ reading false (kinds.End ∷ ks) d o
 body_read tree.no_body ks d o = refl
-body_read (tree.body s) ks d o = stmts_read s (kinds.End ∷ ks) (ends.stmts_before_end _) d o
+body_read (tree.body s) ks d o = stmts_read s (kinds.End ∷ ks) (ends.known refl) d o
 
 mutual
   block_read : (t : tree.Block) (ks : List Kind) (d : ℕ) (o : List Part)
       → reading false (spells.spell_block t (kinds.End ∷ ks)) d (block_parts o) ≡ reading false (kinds.End ∷ ks) d o
   block_read (tree.block decls b) ks d o =
-      decls_read decls (spells.spell_body b (kinds.End ∷ ks)) (before_body b ks) d (body_part ∷ o) ∙ body_read b ks d o
+      decls_read decls (spells.spell_body b (kinds.End ∷ ks)) (ends.before_body b ks) d (body_part ∷ o) ∙ body_read b ks d o
 
-  decls_read : (t : tree.DeclTail) (ks : List Kind) → EndsDecls ks → (d : ℕ) (o : List Part)
+  decls_read : (t : tree.DeclTail) (ks : List Kind) → ends.Ends ends.decls_on ks → (d : ℕ) (o : List Part)
       → reading false (spells.spell_decl_tail t ks) d (decl_tail ∷ o) ≡ reading false ks d o
-  decls_read tree.no_decl ks e d o = e.decls d o
+  decls_read tree.no_decl ks e d o = ends.skipped e refl d o
   decls_read (tree.more_decl (tree.const_decl x) more) ks e d o =
-      let h : EndsDecl (spells.spell_decl_tail more ks) = before_decls more ks e in
-      consts_read x (spells.spell_decl_tail more ks) h.consts d (decl_tail ∷ o) ∙ decls_read more ks e d o
+      let h : ends.Ends ends.decl_on (spells.spell_decl_tail more ks) = ends.before_decls more ks e in
+      consts_read x (spells.spell_decl_tail more ks) (ends.first h) d (decl_tail ∷ o) ∙ decls_read more ks e d o
   decls_read (tree.more_decl (tree.type_decl x) more) ks e d o =
-      let h : EndsDecl (spells.spell_decl_tail more ks) = before_decls more ks e in
-      types_read x (spells.spell_decl_tail more ks) h.types d (decl_tail ∷ o) ∙ decls_read more ks e d o
+      let h : ends.Ends ends.decl_on (spells.spell_decl_tail more ks) = ends.before_decls more ks e in
+      types_read x (spells.spell_decl_tail more ks) (ends.first (ends.later h)) d (decl_tail ∷ o) ∙ decls_read more ks e d o
   decls_read (tree.more_decl (tree.var_decl x) more) ks e d o =
-      let h : EndsDecl (spells.spell_decl_tail more ks) = before_decls more ks e in
-      vars_read x (spells.spell_decl_tail more ks) h.vars d (decl_tail ∷ o) ∙ decls_read more ks e d o
+      let h : ends.Ends ends.decl_on (spells.spell_decl_tail more ks) = ends.before_decls more ks e in
+      vars_read x (spells.spell_decl_tail more ks) (ends.later (ends.later h)) d (decl_tail ∷ o) ∙ decls_read more ks e d o
   decls_read (tree.more_decl (tree.procedure p r b) more) ks e d o =
       params_read p (spells.spell_result_name r (kinds.Semicolon ∷ spells.spell_block b
-      (kinds.End ∷ kinds.Name ∷ kinds.Semicolon ∷ spells.spell_decl_tail more ks))) (before_result r _) (suc d)
+      (kinds.End ∷ kinds.Name ∷ kinds.Semicolon ∷ spells.spell_decl_tail more ks))) (ends.before_result r _) (suc d)
       (result_part ∷ one kinds.Semicolon ∷ block_parts (one kinds.End ∷ one kinds.Name ∷ one kinds.Semicolon ∷ decl_tail ∷ o))
       ∙ result_read r (spells.spell_block b (kinds.End ∷ kinds.Name ∷ kinds.Semicolon ∷ spells.spell_decl_tail more ks)) (suc d)
       (one kinds.Semicolon ∷ block_parts (one kinds.End ∷ one kinds.Name ∷ one kinds.Semicolon ∷ decl_tail ∷ o))

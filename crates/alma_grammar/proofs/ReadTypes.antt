@@ -10,26 +10,14 @@ use Rattle.alma_grammar.specs.Reading.{reading}
 use Rattle.alma_grammar.proofs.Ends as ends
 use Rattle.alma_grammar.proofs.ReadPhrases.{expr_read}
 
-pub name_tail_read : (t : tree.NameTail) (ks : List Kind) → ends.Skips name_tail ks → (d : ℕ) (o : List Part)
+pub name_tail_read : (t : tree.NameTail) (ks : List Kind) → ends.Lacks name_tail ks → (d : ℕ) (o : List Part)
     → reading false (spells.spell_name_tail t ks) d (name_tail ∷ o) ≡ reading false ks d o
-name_tail_read tree.no_name ks h d o = h d o
+name_tail_read tree.no_name ks h d o = ends.skipped h refl d o
 name_tail_read (tree.more_name more) ks h d o = name_tail_read more ks h d o
 
-pub names_read : (t : tree.Names) (ks : List Kind) → ends.Skips name_tail ks → (d : ℕ) (o : List Part)
+pub names_read : (t : tree.Names) (ks : List Kind) → ends.Lacks name_tail ks → (d : ℕ) (o : List Part)
     → reading false (spells.spell_names t ks) d (names_parts o) ≡ reading false ks d o
 names_read (tree.names more) ks h d o = name_tail_read more ks h d o
-
-array_skipped : (p : tree.PlainType) (ks : List Kind) (d : ℕ) (o : List Part)
-    → reading false (spells.spell_plain_type p ks) d (array_tail ∷ o) ≡ reading false (spells.spell_plain_type p ks) d o
-array_skipped tree.type_name ks d o = refl
-array_skipped (tree.listed n) ks d o = refl
-array_skipped (tree.subrange low high) ks d o = refl
-array_skipped (tree.record_type f more) ks d o = refl
-
-before_field_lists : (more : tree.FieldListTail) (ks : List Kind)
-    → ends.Skips field_list_part (spells.spell_field_list_tail more (kinds.End ∷ ks))
-before_field_lists tree.no_fields ks = λ d o. refl
-before_field_lists (tree.more_fields f more) ks = λ d o. refl
 
 mutual
   pub type_read : (t : tree.TypeNode) (ks : List Kind) (d : ℕ) (o : List Part)
@@ -39,7 +27,7 @@ mutual
   arrays_read : (t : tree.ArrayTail) (p : tree.PlainType) (ks : List Kind) (d : ℕ) (o : List Part)
       → reading false (spells.spell_array_tail t (spells.spell_plain_type p ks)) d (array_tail ∷ o)
       ≡ reading false (spells.spell_plain_type p ks) d o
-  arrays_read tree.no_array p ks d o = array_skipped p ks d o
+  arrays_read tree.no_array p ks d o = ends.skipped (ends.before_plain p ks) refl d o
   arrays_read (tree.more_array (tree.dimensions q more) rest) p ks d o =
       plain_read q (spells.spell_plain_tail more (kinds.Of ∷ spells.spell_array_tail rest (spells.spell_plain_type p ks))) d
       (plain_tail ∷ one kinds.Of ∷ array_tail ∷ o)
@@ -55,25 +43,25 @@ mutual
   plain_read : (t : tree.PlainType) (ks : List Kind) (d : ℕ) (o : List Part)
       → reading false (spells.spell_plain_type t ks) d (plain_part ∷ o) ≡ reading false ks d o
   plain_read tree.type_name ks d o = refl
-  plain_read (tree.listed n) ks d o = names_read n (kinds.CloseParen ∷ ks) (λ d o. refl) (suc d) (one kinds.CloseParen ∷ o)
+  plain_read (tree.listed n) ks d o = names_read n (kinds.CloseParen ∷ ks) (ends.known refl) (suc d) (one kinds.CloseParen ∷ o)
   plain_read (tree.subrange low high) ks d o =
-      expr_read low (kinds.DotDot ∷ spells.spell_expr high (kinds.CloseBracket ∷ ks)) (ends.expr_before_dot_dot _) (suc d)
+      expr_read low (kinds.DotDot ∷ spells.spell_expr high (kinds.CloseBracket ∷ ks)) (ends.known refl) (suc d)
       (one kinds.DotDot ∷ expr_parts (one kinds.CloseBracket ∷ o))
-      ∙ expr_read high (kinds.CloseBracket ∷ ks) (ends.expr_before_close_bracket _) (suc d) (one kinds.CloseBracket ∷ o)
+      ∙ expr_read high (kinds.CloseBracket ∷ ks) (ends.known refl) (suc d) (one kinds.CloseBracket ∷ o)
   plain_read (tree.record_type f more) ks d o =
-      field_list_read f (spells.spell_field_list_tail more (kinds.End ∷ ks)) (before_field_lists more ks) (suc d)
+      field_list_read f (spells.spell_field_list_tail more (kinds.End ∷ ks)) (ends.before_field_lists more _ (ends.known refl)) (suc d)
       (field_list_tail ∷ one kinds.End ∷ o)
       ∙ field_lists_read more ks (suc d) (one kinds.End ∷ o)
 
-  field_list_read : (t : tree.FieldList) (ks : List Kind) → ends.Skips field_list_part ks → (d : ℕ) (o : List Part)
+  field_list_read : (t : tree.FieldList) (ks : List Kind) → ends.Lacks field_list_part ks → (d : ℕ) (o : List Part)
       → reading false (spells.spell_field_list t ks) d (field_list_part ∷ o) ≡ reading false ks d o
-  field_list_read tree.empty_fields ks h d o = h d o
+  field_list_read tree.empty_fields ks h d o = ends.skipped h refl d o
   field_list_read (tree.fields (tree.names more) t) ks h d o =
-      name_tail_read more (kinds.Colon ∷ spells.spell_type_node t ks) (λ d o. refl) d (one kinds.Colon ∷ type_parts o) ∙ type_read t ks d o
+      name_tail_read more (kinds.Colon ∷ spells.spell_type_node t ks) (ends.known refl) d (one kinds.Colon ∷ type_parts o) ∙ type_read t ks d o
 
   field_lists_read : (t : tree.FieldListTail) (ks : List Kind) (d : ℕ) (o : List Part)
       → reading false (spells.spell_field_list_tail t (kinds.End ∷ ks)) d (field_list_tail ∷ o) ≡ reading false (kinds.End ∷ ks) d o
   field_lists_read tree.no_fields ks d o = refl
   field_lists_read (tree.more_fields f more) ks d o =
-      field_list_read f (spells.spell_field_list_tail more (kinds.End ∷ ks)) (before_field_lists more ks) d (field_list_tail ∷ o)
+      field_list_read f (spells.spell_field_list_tail more (kinds.End ∷ ks)) (ends.before_field_lists more _ (ends.known refl)) d (field_list_tail ∷ o)
       ∙ field_lists_read more ks d o
