@@ -6,7 +6,6 @@ pub mod Exact
 pub mod Finish
 pub mod Nesting
 pub mod Once
-pub mod OnceEnds
 pub mod OncePhrases
 pub mod OnceTypes
 pub mod Only
