@@ -168,9 +168,9 @@ each_has : (f : Kind → Bool) (ks : List Kind) → each f ks ≡ true → (k : 
 each_has f [] e k h = absurd cc
 each_has f (a ∷ more) e k h =
     let x = and_parts (f a) (each f more) e in each_has_by (nat_eq (code a) (code k)) (same_kind a k) x.0 h (each_has f more x.1 k) where
-  each_has_by : (b : Bool) → (b ≡ true → a ≡ k) → f a ≡ true → (b || has more k) ≡ true → (has more k ≡ true → f k ≡ true) → f k ≡ true
-  each_has_by true s x h ih = subst (λ x. f x ≡ true) (s refl) x
-  each_has_by false s x h ih = ih h
+      each_has_by : (b : Bool) → (b ≡ true → a ≡ k) → f a ≡ true → (b || has more k) ≡ true → (has more k ≡ true → f k ≡ true) → f k ≡ true
+      each_has_by true s x h ih = subst (λ x. f x ≡ true) (s refl) x
+      each_has_by false s x h ih = ih h
 
 begins_so : (p q : Part) → begins_behind p q ≡ true → (k : Kind) → is_some (begins q k) ≡ true → may_follow p k ≡ true
 begins_so p (one a) e k h = begins_one (nat_eq (code a) (code k)) (same_kind a k) h where
@@ -192,13 +192,13 @@ stands_so p [] rest ks e c k h = each_has (may_follow p) ks e k (c k h)
 stands_so p (q ∷ parts) rest ks e c k h =
     let x = and_parts (begins_behind p q) _ e in
     stands_by (begins q k) (may_skip q) (begins_so p q x.0 k) x.1 h (λ e. stands_so p parts rest ks e c k)
-    where
-  stands_by : (b : Option (List Part)) (m : Bool) → (is_some b ≡ true → may_follow p k ≡ true) → implies m (stand_behind p parts ks) ≡ true
-      → is_some (this_or_later b m (parts ++ rest) (next (parts ++ rest) k)) ≡ true
-      → (stand_behind p parts ks ≡ true → is_some (next (parts ++ rest) k) ≡ true → may_follow p k ≡ true) → may_follow p k ≡ true
-  stands_by (Some l) m s e h ih = s refl
-  stands_by None true s e h ih = ih e h
-  stands_by None false s e h ih = absurd cc
+  where
+    stands_by : (b : Option (List Part)) (m : Bool) → (is_some b ≡ true → may_follow p k ≡ true) → implies m (stand_behind p parts ks) ≡ true
+        → is_some (this_or_later b m (parts ++ rest) (next (parts ++ rest) k)) ≡ true
+        → (stand_behind p parts ks ≡ true → is_some (next (parts ++ rest) k) ≡ true → may_follow p k ≡ true) → may_follow p k ≡ true
+    stands_by (Some l) m s e h ih = s refl
+    stands_by None true s e h ih = ih e h
+    stands_by None false s e h ih = absurd cc
 
 joined : (parts rest : List Part) (ks : List Kind) → in_order parts ks ≡ true → Covers ks rest → Good rest → Good (parts ++ rest)
 joined [] rest ks e c g = g

@@ -110,6 +110,7 @@ good_whole = (λ k h. refl, (λ k h. refl, (λ k h. refl, (decls_behind, (body_b
   decls_behind kinds.Begin h = refl
   decls_behind kinds.End h = refl
   decls_behind k h = absurd cc
+
   body_behind : (k : Kind) → is_some (next (one kinds.End ∷ one kinds.Name ∷ one kinds.Dot ∷ []) k) ≡ true → may_follow body_part k ≡ true
   body_behind kinds.End h = refl
   body_behind k h = absurd cc
