@@ -1,5 +1,5 @@
 -- Each front of a program can be finished.
-use Rattle.std.proofs.Common.{◌≡◌, Bool, true, false, List, ◌∷◌, ◌++◌, None, Some, nat_eq, refl, ap}
+use Rattle.std.proofs.Common.{◌≡◌, Bool, true, false, List, ◌∷◌, ◌++◌, Option, None, Some, nat_eq, refl, ap}
 use Rattle.alma_tree.specs.declared.kind.Kind.{Kind}
 use Rattle.alma_tree.specs.declared.kind.Kind.TheVariants as kinds
 use Rattle.alma_tree.specs.declared.leaf.Relation.TheVariants as relations
@@ -8,6 +8,7 @@ use Rattle.alma_tree.specs.declared.leaf.AddOperator.TheVariants as adds
 use Rattle.alma_tree.specs.declared.leaf.MulOperator.TheVariants as muls
 use Rattle.alma_tree.specs.declared.leaf.Mode.TheVariants as modes
 use Rattle.alma_tree.specs.Tree as tree
+use Rattle.alma_tree.specs.Spelling as spells
 use Rattle.alma_tree.specs.Kinds.{code}
 use Rattle.alma_grammar.specs.Parts.{Part, one, sign_part, factor_part, primary_part, factor_tail, term_tail, compared_part, args_part, args_inside}
 use Rattle.alma_grammar.specs.Parts.{expr_tail, selector_tail, stmt_part, after_desig, stmt_tail, elsif_tail, else_part, by_part, orelse_tail}
@@ -62,19 +63,6 @@ begun_sign_part kinds.Plus rest = λ f. ((Some signs.Plus), f, refl)
 begun_sign_part kinds.Minus rest = λ f. ((Some signs.Minus), f, refl)
 begun_sign_part _ rest = tt
 
-abbrev pub begun_factor_part : (k : Kind) (rest : List Part) → WhereSome (begins factor_part k) (Built factor_part k rest)
-begun_factor_part kinds.Not rest = λ f. ((tree.not_factor f.0), f.1, refl)
-begun_factor_part kinds.Number rest = λ f. ((tree.factor tree.number), f, refl)
-begun_factor_part kinds.Literal rest = λ f. ((tree.factor tree.literal), f, refl)
-begun_factor_part kinds.Name rest = λ f. ((tree.factor (tree.named (tree.desig f.0) f.1.0)), f.1.1, refl)
-begun_factor_part kinds.OpenParen rest = λ f. ((tree.factor (tree.paren (tree.stmts f.0 f.1.0))), f.1.1.1, refl)
-begun_factor_part kinds.Known rest = λ f. ((tree.factor (tree.known (tree.desig f.1.1.0))), f.1.1.1.1, refl)
-begun_factor_part kinds.Ord rest =
-    λ f. ((tree.factor (tree.ord (tree.expr (tree.simple f.1.0 (tree.term f.1.1.0 f.1.1.1.0) f.1.1.1.1.0) f.1.1.1.1.1.0))), f.1.1.1.1.1.1.1, refl)
-begun_factor_part kinds.Chr rest =
-    λ f. ((tree.factor (tree.chr (tree.expr (tree.simple f.1.0 (tree.term f.1.1.0 f.1.1.1.0) f.1.1.1.1.0) f.1.1.1.1.1.0))), f.1.1.1.1.1.1.1, refl)
-begun_factor_part _ rest = tt
-
 abbrev pub begun_primary_part : (k : Kind) (rest : List Part) → WhereSome (begins primary_part k) (Built primary_part k rest)
 begun_primary_part kinds.Number rest = λ f. (tree.number, f, refl)
 begun_primary_part kinds.Literal rest = λ f. (tree.literal, f, refl)
@@ -86,6 +74,43 @@ begun_primary_part kinds.Ord rest =
 begun_primary_part kinds.Chr rest =
     λ f. ((tree.chr (tree.expr (tree.simple f.1.0 (tree.term f.1.1.0 f.1.1.1.0) f.1.1.1.1.0) f.1.1.1.1.1.0)), f.1.1.1.1.1.1.1, refl)
 begun_primary_part _ rest = tt
+
+-- what a primary is built of builds a factor
+abbrev pub as_factor : (k : Kind) (rest : List Part) (b : Option (List Part)) → WhereSome b (Built primary_part k rest) → WhereSome b (Built factor_part k rest)
+as_factor k rest None w = tt
+as_factor k rest (Some parts) w = λ f. let r = w f in (tree.factor r.0, r.1, r.2)
+
+abbrev pub begun_factor_part : (k : Kind) (rest : List Part) → WhereSome (begins factor_part k) (Built factor_part k rest)
+begun_factor_part kinds.Not rest = λ f. ((tree.not_factor f.0), f.1, refl)
+begun_factor_part k rest = as_factor k rest (begins primary_part k) (begun_primary_part k rest)
+
+-- the same as Built, of an expression, which is no part by itself
+abbrev pub BuiltExpr : Kind → List Part → List Part → Type 0
+BuiltExpr k rest parts =
+    (f : Fills (parts ++ rest)) → (x : tree.Expr) × (o : Fills rest) × (spells.spell_expr x (spell_fills rest o) ≡ k ∷ spell_fills (parts ++ rest) f)
+
+-- what may come in an expression behind its first factor
+abbrev pub behind_factor : List Part → List Part
+behind_factor rest = factor_tail ∷ term_tail ∷ compared_part ∷ rest
+
+-- a factor and what is open behind it make an expression
+abbrev pub expr_of : (rest : List Part) (ks : List Kind) → (x : tree.Factor) × (o : Fills (behind_factor rest))
+    × (spells.spell_factor x (spell_fills (behind_factor rest) o) ≡ ks)
+    → (x : tree.Expr) × (o : Fills rest) × (spells.spell_expr x (spell_fills rest o) ≡ ks)
+expr_of rest ks r = (tree.expr (tree.simple None (tree.term r.0 r.1.0) r.1.1.0) r.1.1.1.0, r.1.1.1.1, r.2)
+
+abbrev pub begun_expr : (k : Kind) (rest : List Part) → WhereSome (begins returned_part k) (BuiltExpr k rest)
+begun_expr kinds.Plus rest = λ f. (tree.expr (tree.simple (Some signs.Plus) (tree.term f.0 f.1.0) f.1.1.0) f.1.1.1.0, f.1.1.1.1, refl)
+begun_expr kinds.Minus rest = λ f. (tree.expr (tree.simple (Some signs.Minus) (tree.term f.0 f.1.0) f.1.1.0) f.1.1.1.0, f.1.1.1.1, refl)
+begun_expr kinds.Not rest = λ f. expr_of rest _ (begun_factor_part kinds.Not (behind_factor rest) f)
+begun_expr kinds.Number rest = λ f. expr_of rest _ (begun_factor_part kinds.Number (behind_factor rest) f)
+begun_expr kinds.Literal rest = λ f. expr_of rest _ (begun_factor_part kinds.Literal (behind_factor rest) f)
+begun_expr kinds.Name rest = λ f. expr_of rest _ (begun_factor_part kinds.Name (behind_factor rest) f)
+begun_expr kinds.OpenParen rest = λ f. expr_of rest _ (begun_factor_part kinds.OpenParen (behind_factor rest) f)
+begun_expr kinds.Known rest = λ f. expr_of rest _ (begun_factor_part kinds.Known (behind_factor rest) f)
+begun_expr kinds.Ord rest = λ f. expr_of rest _ (begun_factor_part kinds.Ord (behind_factor rest) f)
+begun_expr kinds.Chr rest = λ f. expr_of rest _ (begun_factor_part kinds.Chr (behind_factor rest) f)
+begun_expr _ rest = tt
 
 abbrev pub begun_factor_tail : (k : Kind) (rest : List Part) → WhereSome (begins factor_tail k) (Built factor_tail k rest)
 begun_factor_tail kinds.Star rest = λ f. ((tree.more_factor muls.Star f.0 f.1.0), f.1.1, refl)
@@ -113,57 +138,28 @@ abbrev pub begun_args_part : (k : Kind) (rest : List Part) → WhereSome (begins
 begun_args_part kinds.OpenParen rest = λ f. ((args_of f.0), f.1, args_spelled f.0 _)
 begun_args_part _ rest = tt
 
+-- what comes behind the first of the arguments
+abbrev pub behind_arg : List Part → List Part
+behind_arg rest = expr_tail ∷ one kinds.CloseParen ∷ rest
+
+-- an expression and what is open behind it make arguments
+abbrev pub inside_of : (rest : List Part) (ks : List Kind) → (x : tree.Expr) × (o : Fills (behind_arg rest))
+    × (spells.spell_expr x (spell_fills (behind_arg rest) o) ≡ ks)
+    → (x : InsideArgs) × (o : Fills rest) × (spell_fill args_inside x (spell_fills rest o) ≡ ks)
+inside_of rest ks r = (filled_args (tree.exprs r.0 r.1.0), r.1.1.1, r.2)
+
 abbrev pub begun_args_inside : (k : Kind) (rest : List Part) → WhereSome (begins args_inside k) (Built args_inside k rest)
 begun_args_inside kinds.CloseParen rest = λ f. (closed_args, f, refl)
-begun_args_inside kinds.Plus rest =
-    λ f. ((filled_args (tree.exprs (tree.expr (tree.simple (Some signs.Plus) (tree.term f.0 f.1.0) f.1.1.0) f.1.1.1.0) f.1.1.1.1.0)), f.1.1.1.1.1.1, refl)
-begun_args_inside kinds.Minus rest =
-    λ f. ((filled_args (tree.exprs (tree.expr (tree.simple (Some signs.Minus) (tree.term f.0 f.1.0) f.1.1.0) f.1.1.1.0) f.1.1.1.1.0)), f.1.1.1.1.1.1, refl)
-begun_args_inside kinds.Not rest =
-    λ f. (
-      (filled_args (tree.exprs (tree.expr (tree.simple None (tree.term (tree.not_factor f.0) f.1.0) f.1.1.0) f.1.1.1.0) f.1.1.1.1.0)),
-      f.1.1.1.1.1.1,
-      refl,
-    )
-begun_args_inside kinds.Number rest =
-    λ f. ((filled_args (tree.exprs (tree.expr (tree.simple None (tree.term (tree.factor tree.number) f.0) f.1.0) f.1.1.0) f.1.1.1.0)), f.1.1.1.1.1, refl)
-begun_args_inside kinds.Literal rest =
-    λ f. ((filled_args (tree.exprs (tree.expr (tree.simple None (tree.term (tree.factor tree.literal) f.0) f.1.0) f.1.1.0) f.1.1.1.0)), f.1.1.1.1.1, refl)
-begun_args_inside kinds.Name rest =
-    λ f. (
-      (filled_args (tree.exprs (tree.expr (tree.simple None (tree.term (tree.factor (tree.named (tree.desig f.0) f.1.0)) f.1.1.0) f.1.1.1.0)
-          f.1.1.1.1.0) f.1.1.1.1.1.0)),
-      f.1.1.1.1.1.1.1,
-      refl,
-    )
-begun_args_inside kinds.OpenParen rest =
-    λ f. (
-      (filled_args (tree.exprs (tree.expr (tree.simple None (tree.term (tree.factor (tree.paren (tree.stmts f.0 f.1.0))) f.1.1.1.0) f.1.1.1.1.0)
-          f.1.1.1.1.1.0) f.1.1.1.1.1.1.0)),
-      f.1.1.1.1.1.1.1.1,
-      refl,
-    )
-begun_args_inside kinds.Known rest =
-    λ f. (
-      (filled_args (tree.exprs (tree.expr (tree.simple None (tree.term (tree.factor (tree.known (tree.desig f.1.1.0))) f.1.1.1.1.0) f.1.1.1.1.1.0)
-          f.1.1.1.1.1.1.0) f.1.1.1.1.1.1.1.0)),
-      f.1.1.1.1.1.1.1.1.1,
-      refl,
-    )
-begun_args_inside kinds.Ord rest =
-    λ f. (
-      (filled_args (tree.exprs (tree.expr (tree.simple None (tree.term (tree.factor (tree.ord (tree.expr (tree.simple f.1.0 (tree.term f.1.1.0
-          f.1.1.1.0) f.1.1.1.1.0) f.1.1.1.1.1.0))) f.1.1.1.1.1.1.1.0) f.1.1.1.1.1.1.1.1.0) f.1.1.1.1.1.1.1.1.1.0) f.1.1.1.1.1.1.1.1.1.1.0)),
-      f.1.1.1.1.1.1.1.1.1.1.1.1,
-      refl,
-    )
-begun_args_inside kinds.Chr rest =
-    λ f. (
-      (filled_args (tree.exprs (tree.expr (tree.simple None (tree.term (tree.factor (tree.chr (tree.expr (tree.simple f.1.0 (tree.term f.1.1.0
-          f.1.1.1.0) f.1.1.1.1.0) f.1.1.1.1.1.0))) f.1.1.1.1.1.1.1.0) f.1.1.1.1.1.1.1.1.0) f.1.1.1.1.1.1.1.1.1.0) f.1.1.1.1.1.1.1.1.1.1.0)),
-      f.1.1.1.1.1.1.1.1.1.1.1.1,
-      refl,
-    )
+begun_args_inside kinds.Plus rest = λ f. inside_of rest _ (begun_expr kinds.Plus (behind_arg rest) f)
+begun_args_inside kinds.Minus rest = λ f. inside_of rest _ (begun_expr kinds.Minus (behind_arg rest) f)
+begun_args_inside kinds.Not rest = λ f. inside_of rest _ (begun_expr kinds.Not (behind_arg rest) f)
+begun_args_inside kinds.Number rest = λ f. inside_of rest _ (begun_expr kinds.Number (behind_arg rest) f)
+begun_args_inside kinds.Literal rest = λ f. inside_of rest _ (begun_expr kinds.Literal (behind_arg rest) f)
+begun_args_inside kinds.Name rest = λ f. inside_of rest _ (begun_expr kinds.Name (behind_arg rest) f)
+begun_args_inside kinds.OpenParen rest = λ f. inside_of rest _ (begun_expr kinds.OpenParen (behind_arg rest) f)
+begun_args_inside kinds.Known rest = λ f. inside_of rest _ (begun_expr kinds.Known (behind_arg rest) f)
+begun_args_inside kinds.Ord rest = λ f. inside_of rest _ (begun_expr kinds.Ord (behind_arg rest) f)
+begun_args_inside kinds.Chr rest = λ f. inside_of rest _ (begun_expr kinds.Chr (behind_arg rest) f)
 begun_args_inside _ rest = tt
 
 abbrev pub begun_expr_tail : (k : Kind) (rest : List Part) → WhereSome (begins expr_tail k) (Built expr_tail k rest)
@@ -181,6 +177,11 @@ begun_selector_tail kinds.OpenBracket rest =
       refl,
     )
 begun_selector_tail _ rest = tt
+
+-- what an expression is built of builds a statement
+abbrev pub as_value : (k : Kind) (rest : List Part) (b : Option (List Part)) → WhereSome b (BuiltExpr k rest) → WhereSome b (Built stmt_part k rest)
+as_value k rest None w = tt
+as_value k rest (Some parts) w = λ f. let r = w f in (tree.value r.0, r.1, r.2)
 
 abbrev pub begun_stmt_part : (k : Kind) (rest : List Part) → WhereSome (begins stmt_part k) (Built stmt_part k rest)
 begun_stmt_part kinds.Name rest = λ f. ((name_stmt f.0 f.1.0), f.1.1, name_spelled f.0 f.1.0 _)
@@ -237,47 +238,7 @@ begun_stmt_part kinds.Write rest =
       refl,
     )
 begun_stmt_part kinds.Writeln rest = λ f. ((tree.writeln_stmt f.0), f.1, refl)
-begun_stmt_part kinds.Plus rest = λ f. ((tree.value (tree.expr (tree.simple (Some signs.Plus) (tree.term f.0 f.1.0) f.1.1.0) f.1.1.1.0)), f.1.1.1.1, refl)
-begun_stmt_part kinds.Minus rest = λ f. ((tree.value (tree.expr (tree.simple (Some signs.Minus) (tree.term f.0 f.1.0) f.1.1.0) f.1.1.1.0)), f.1.1.1.1, refl)
-begun_stmt_part kinds.Not rest = λ f. (
-  (tree.value (tree.expr (tree.simple None (tree.term (tree.not_factor f.0) f.1.0) f.1.1.0) f.1.1.1.0)),
-  f.1.1.1.1,
-  refl,
-)
-begun_stmt_part kinds.Number rest = λ f. (
-  (tree.value (tree.expr (tree.simple None (tree.term (tree.factor tree.number) f.0) f.1.0) f.1.1.0)),
-  f.1.1.1,
-  refl,
-)
-begun_stmt_part kinds.Literal rest =
-    λ f. ((tree.value (tree.expr (tree.simple None (tree.term (tree.factor tree.literal) f.0) f.1.0) f.1.1.0)), f.1.1.1, refl)
-begun_stmt_part kinds.OpenParen rest =
-    λ f. (
-      (tree.value (tree.expr (tree.simple None (tree.term (tree.factor (tree.paren (tree.stmts f.0 f.1.0))) f.1.1.1.0) f.1.1.1.1.0) f.1.1.1.1.1.0)),
-      f.1.1.1.1.1.1,
-      refl,
-    )
-begun_stmt_part kinds.Known rest =
-    λ f. (
-      (tree.value (tree.expr (tree.simple None (tree.term (tree.factor (tree.known (tree.desig f.1.1.0))) f.1.1.1.1.0) f.1.1.1.1.1.0) f.1.1.1.1.1.1.0)),
-      f.1.1.1.1.1.1.1,
-      refl,
-    )
-begun_stmt_part kinds.Ord rest =
-    λ f. (
-      (tree.value (tree.expr (tree.simple None (tree.term (tree.factor (tree.ord (tree.expr (tree.simple f.1.0 (tree.term f.1.1.0 f.1.1.1.0)
-          f.1.1.1.1.0) f.1.1.1.1.1.0))) f.1.1.1.1.1.1.1.0) f.1.1.1.1.1.1.1.1.0) f.1.1.1.1.1.1.1.1.1.0)),
-      f.1.1.1.1.1.1.1.1.1.1,
-      refl,
-    )
-begun_stmt_part kinds.Chr rest =
-    λ f. (
-      (tree.value (tree.expr (tree.simple None (tree.term (tree.factor (tree.chr (tree.expr (tree.simple f.1.0 (tree.term f.1.1.0 f.1.1.1.0)
-          f.1.1.1.1.0) f.1.1.1.1.1.0))) f.1.1.1.1.1.1.1.0) f.1.1.1.1.1.1.1.1.0) f.1.1.1.1.1.1.1.1.1.0)),
-      f.1.1.1.1.1.1.1.1.1.1,
-      refl,
-    )
-begun_stmt_part _ rest = tt
+begun_stmt_part k rest = as_value k rest (begins returned_part k) (begun_expr k rest)
 
 abbrev pub begun_after_desig : (k : Kind) (rest : List Part) → WhereSome (begins after_desig k) (Built after_desig k rest)
 begun_after_desig kinds.Assign rest = λ f. ((assigned (tree.expr (tree.simple f.0 (tree.term f.1.0 f.1.1.0) f.1.1.1.0) f.1.1.1.1.0)), f.1.1.1.1.1, refl)
@@ -359,128 +320,40 @@ abbrev pub begun_orelse_tail : (k : Kind) (rest : List Part) → WhereSome (begi
 begun_orelse_tail kinds.Orelse rest = λ f. ((tree.more_orelse (tree.stmts f.0 f.1.0) f.1.1.0), f.1.1.1, refl)
 begun_orelse_tail _ rest = tt
 
+-- what an expression is built of builds what RETURN gives
+abbrev pub as_returned : (k : Kind) (rest : List Part) (b : Option (List Part)) → WhereSome b (BuiltExpr k rest) → WhereSome b (Built returned_part k rest)
+as_returned k rest None w = tt
+as_returned k rest (Some parts) w = λ f. let r = w f in (tree.returned r.0, r.1, r.2)
+
 abbrev pub begun_returned_part : (k : Kind) (rest : List Part) → WhereSome (begins returned_part k) (Built returned_part k rest)
-begun_returned_part kinds.Plus rest =
-    λ f. ((tree.returned (tree.expr (tree.simple (Some signs.Plus) (tree.term f.0 f.1.0) f.1.1.0) f.1.1.1.0)), f.1.1.1.1, refl)
-begun_returned_part kinds.Minus rest =
-    λ f. ((tree.returned (tree.expr (tree.simple (Some signs.Minus) (tree.term f.0 f.1.0) f.1.1.0) f.1.1.1.0)), f.1.1.1.1, refl)
-begun_returned_part kinds.Not rest =
-    λ f. ((tree.returned (tree.expr (tree.simple None (tree.term (tree.not_factor f.0) f.1.0) f.1.1.0) f.1.1.1.0)), f.1.1.1.1, refl)
-begun_returned_part kinds.Number rest =
-    λ f. ((tree.returned (tree.expr (tree.simple None (tree.term (tree.factor tree.number) f.0) f.1.0) f.1.1.0)), f.1.1.1, refl)
-begun_returned_part kinds.Literal rest =
-    λ f. ((tree.returned (tree.expr (tree.simple None (tree.term (tree.factor tree.literal) f.0) f.1.0) f.1.1.0)), f.1.1.1, refl)
-begun_returned_part kinds.Name rest =
-    λ f. (
-      (tree.returned (tree.expr (tree.simple None (tree.term (tree.factor (tree.named (tree.desig f.0) f.1.0)) f.1.1.0) f.1.1.1.0) f.1.1.1.1.0)),
-      f.1.1.1.1.1,
-      refl,
-    )
-begun_returned_part kinds.OpenParen rest =
-    λ f. (
-      (tree.returned (tree.expr (tree.simple None (tree.term (tree.factor (tree.paren (tree.stmts f.0 f.1.0))) f.1.1.1.0) f.1.1.1.1.0) f.1.1.1.1.1.0)),
-      f.1.1.1.1.1.1,
-      refl,
-    )
-begun_returned_part kinds.Known rest =
-    λ f. (
-      (tree.returned (tree.expr (tree.simple None (tree.term (tree.factor (tree.known (tree.desig f.1.1.0))) f.1.1.1.1.0) f.1.1.1.1.1.0) f.1.1.1.1.1.1.0)),
-      f.1.1.1.1.1.1.1,
-      refl,
-    )
-begun_returned_part kinds.Ord rest =
-    λ f. (
-      (tree.returned (tree.expr (tree.simple None (tree.term (tree.factor (tree.ord (tree.expr (tree.simple f.1.0 (tree.term f.1.1.0 f.1.1.1.0)
-          f.1.1.1.1.0) f.1.1.1.1.1.0))) f.1.1.1.1.1.1.1.0) f.1.1.1.1.1.1.1.1.0) f.1.1.1.1.1.1.1.1.1.0)),
-      f.1.1.1.1.1.1.1.1.1.1,
-      refl,
-    )
-begun_returned_part kinds.Chr rest =
-    λ f. (
-      (tree.returned (tree.expr (tree.simple None (tree.term (tree.factor (tree.chr (tree.expr (tree.simple f.1.0 (tree.term f.1.1.0 f.1.1.1.0)
-          f.1.1.1.1.0) f.1.1.1.1.1.0))) f.1.1.1.1.1.1.1.0) f.1.1.1.1.1.1.1.1.0) f.1.1.1.1.1.1.1.1.1.0)),
-      f.1.1.1.1.1.1.1.1.1.1,
-      refl,
-    )
-begun_returned_part _ rest = tt
+begun_returned_part k rest = as_returned k rest (begins returned_part k) (begun_expr k rest)
 
 abbrev pub begun_desig_tail : (k : Kind) (rest : List Part) → WhereSome (begins desig_tail k) (Built desig_tail k rest)
 begun_desig_tail kinds.Comma rest = λ f. ((tree.more_desig (tree.desig f.1.0) f.1.1.0), f.1.1.1, refl)
 begun_desig_tail _ rest = tt
 
+-- what comes in an arm behind its first expression
+abbrev pub behind_low : List Part → List Part
+behind_low rest = high_part ∷ label_tail ∷ one kinds.Colon ∷ stmt_part ∷ stmt_tail ∷ rest
+
+-- an expression and what is open behind it make an arm
+abbrev pub arm_of : (rest : List Part) (ks : List Kind)
+    → (x : tree.Expr) × (o : Fills (behind_low rest))
+    × (spells.spell_expr x (spell_fills (behind_low rest) o) ≡ ks)
+    → (x : tree.Arm) × (o : Fills rest) × (spell_fill arm_part x (spell_fills rest o) ≡ ks)
+arm_of rest ks r = (tree.arm (tree.label r.0 r.1.0) r.1.1.0 (tree.stmts r.1.1.1.1.0 r.1.1.1.1.1.0), r.1.1.1.1.1.1, r.2)
+
 abbrev pub begun_arm_part : (k : Kind) (rest : List Part) → WhereSome (begins arm_part k) (Built arm_part k rest)
-begun_arm_part kinds.Plus rest =
-    λ f. (
-      (tree.arm (tree.label (tree.expr (tree.simple (Some signs.Plus) (tree.term f.0 f.1.0) f.1.1.0) f.1.1.1.0) f.1.1.1.1.0) f.1.1.1.1.1.0
-          (tree.stmts f.1.1.1.1.1.1.1.0 f.1.1.1.1.1.1.1.1.0)),
-      f.1.1.1.1.1.1.1.1.1,
-      refl,
-    )
-begun_arm_part kinds.Minus rest =
-    λ f. (
-      (tree.arm (tree.label (tree.expr (tree.simple (Some signs.Minus) (tree.term f.0 f.1.0) f.1.1.0) f.1.1.1.0) f.1.1.1.1.0) f.1.1.1.1.1.0
-          (tree.stmts f.1.1.1.1.1.1.1.0 f.1.1.1.1.1.1.1.1.0)),
-      f.1.1.1.1.1.1.1.1.1,
-      refl,
-    )
-begun_arm_part kinds.Not rest =
-    λ f. (
-      (tree.arm (tree.label (tree.expr (tree.simple None (tree.term (tree.not_factor f.0) f.1.0) f.1.1.0) f.1.1.1.0) f.1.1.1.1.0) f.1.1.1.1.1.0
-          (tree.stmts f.1.1.1.1.1.1.1.0 f.1.1.1.1.1.1.1.1.0)),
-      f.1.1.1.1.1.1.1.1.1,
-      refl,
-    )
-begun_arm_part kinds.Number rest =
-    λ f. (
-      (tree.arm (tree.label (tree.expr (tree.simple None (tree.term (tree.factor tree.number) f.0) f.1.0) f.1.1.0) f.1.1.1.0) f.1.1.1.1.0
-          (tree.stmts f.1.1.1.1.1.1.0 f.1.1.1.1.1.1.1.0)),
-      f.1.1.1.1.1.1.1.1,
-      refl,
-    )
-begun_arm_part kinds.Literal rest =
-    λ f. (
-      (tree.arm (tree.label (tree.expr (tree.simple None (tree.term (tree.factor tree.literal) f.0) f.1.0) f.1.1.0) f.1.1.1.0) f.1.1.1.1.0
-          (tree.stmts f.1.1.1.1.1.1.0 f.1.1.1.1.1.1.1.0)),
-      f.1.1.1.1.1.1.1.1,
-      refl,
-    )
-begun_arm_part kinds.Name rest =
-    λ f. (
-      (tree.arm (tree.label (tree.expr (tree.simple None (tree.term (tree.factor (tree.named (tree.desig f.0) f.1.0)) f.1.1.0) f.1.1.1.0)
-          f.1.1.1.1.0) f.1.1.1.1.1.0) f.1.1.1.1.1.1.0 (tree.stmts f.1.1.1.1.1.1.1.1.0 f.1.1.1.1.1.1.1.1.1.0)),
-      f.1.1.1.1.1.1.1.1.1.1,
-      refl,
-    )
-begun_arm_part kinds.OpenParen rest =
-    λ f. (
-      (tree.arm (tree.label (tree.expr (tree.simple None (tree.term (tree.factor (tree.paren (tree.stmts f.0 f.1.0))) f.1.1.1.0) f.1.1.1.1.0)
-          f.1.1.1.1.1.0) f.1.1.1.1.1.1.0) f.1.1.1.1.1.1.1.0 (tree.stmts f.1.1.1.1.1.1.1.1.1.0 f.1.1.1.1.1.1.1.1.1.1.0)),
-      f.1.1.1.1.1.1.1.1.1.1.1,
-      refl,
-    )
-begun_arm_part kinds.Known rest =
-    λ f. (
-      (tree.arm (tree.label (tree.expr (tree.simple None (tree.term (tree.factor (tree.known (tree.desig f.1.1.0))) f.1.1.1.1.0) f.1.1.1.1.1.0)
-          f.1.1.1.1.1.1.0) f.1.1.1.1.1.1.1.0) f.1.1.1.1.1.1.1.1.0 (tree.stmts f.1.1.1.1.1.1.1.1.1.1.0 f.1.1.1.1.1.1.1.1.1.1.1.0)),
-      f.1.1.1.1.1.1.1.1.1.1.1.1,
-      refl,
-    )
-begun_arm_part kinds.Ord rest =
-    λ f. (
-      (tree.arm (tree.label (tree.expr (tree.simple None (tree.term (tree.factor (tree.ord (tree.expr (tree.simple f.1.0 (tree.term f.1.1.0
-          f.1.1.1.0) f.1.1.1.1.0) f.1.1.1.1.1.0))) f.1.1.1.1.1.1.1.0) f.1.1.1.1.1.1.1.1.0) f.1.1.1.1.1.1.1.1.1.0) f.1.1.1.1.1.1.1.1.1.1.0)
-          f.1.1.1.1.1.1.1.1.1.1.1.0 (tree.stmts f.1.1.1.1.1.1.1.1.1.1.1.1.1.0 f.1.1.1.1.1.1.1.1.1.1.1.1.1.1.0)),
-      f.1.1.1.1.1.1.1.1.1.1.1.1.1.1.1,
-      refl,
-    )
-begun_arm_part kinds.Chr rest =
-    λ f. (
-      (tree.arm (tree.label (tree.expr (tree.simple None (tree.term (tree.factor (tree.chr (tree.expr (tree.simple f.1.0 (tree.term f.1.1.0
-          f.1.1.1.0) f.1.1.1.1.0) f.1.1.1.1.1.0))) f.1.1.1.1.1.1.1.0) f.1.1.1.1.1.1.1.1.0) f.1.1.1.1.1.1.1.1.1.0) f.1.1.1.1.1.1.1.1.1.1.0)
-          f.1.1.1.1.1.1.1.1.1.1.1.0 (tree.stmts f.1.1.1.1.1.1.1.1.1.1.1.1.1.0 f.1.1.1.1.1.1.1.1.1.1.1.1.1.1.0)),
-      f.1.1.1.1.1.1.1.1.1.1.1.1.1.1.1,
-      refl,
-    )
+begun_arm_part kinds.Plus rest = λ f. arm_of rest _ (begun_expr kinds.Plus (behind_low rest) f)
+begun_arm_part kinds.Minus rest = λ f. arm_of rest _ (begun_expr kinds.Minus (behind_low rest) f)
+begun_arm_part kinds.Not rest = λ f. arm_of rest _ (begun_expr kinds.Not (behind_low rest) f)
+begun_arm_part kinds.Number rest = λ f. arm_of rest _ (begun_expr kinds.Number (behind_low rest) f)
+begun_arm_part kinds.Literal rest = λ f. arm_of rest _ (begun_expr kinds.Literal (behind_low rest) f)
+begun_arm_part kinds.Name rest = λ f. arm_of rest _ (begun_expr kinds.Name (behind_low rest) f)
+begun_arm_part kinds.OpenParen rest = λ f. arm_of rest _ (begun_expr kinds.OpenParen (behind_low rest) f)
+begun_arm_part kinds.Known rest = λ f. arm_of rest _ (begun_expr kinds.Known (behind_low rest) f)
+begun_arm_part kinds.Ord rest = λ f. arm_of rest _ (begun_expr kinds.Ord (behind_low rest) f)
+begun_arm_part kinds.Chr rest = λ f. arm_of rest _ (begun_expr kinds.Chr (behind_low rest) f)
 begun_arm_part _ rest = tt
 
 abbrev pub begun_arm_tail : (k : Kind) (rest : List Part) → WhereSome (begins arm_tail k) (Built arm_tail k rest)
