@@ -240,6 +240,11 @@ begun_stmt_part kinds.Write rest =
 begun_stmt_part kinds.Writeln rest = λ f. ((tree.writeln_stmt f.0), f.1, refl)
 begun_stmt_part k rest = as_value k rest (begins returned_part k) (begun_expr k rest)
 
+-- what a relation is built of builds the rest of an expression
+abbrev pub as_behind : (k : Kind) (rest : List Part) (b : Option (List Part)) → WhereSome b (Built compared_part k rest) → WhereSome b (Built after_desig k rest)
+as_behind k rest None w = tt
+as_behind k rest (Some parts) w = λ f. let r = w f in (used tree.no_args tree.no_factor tree.no_term r.0, r.1, r.2)
+
 abbrev pub begun_after_desig : (k : Kind) (rest : List Part) → WhereSome (begins after_desig k) (Built after_desig k rest)
 begun_after_desig kinds.Assign rest = λ f. ((assigned (tree.expr (tree.simple f.0 (tree.term f.1.0 f.1.1.0) f.1.1.1.0) f.1.1.1.1.0)), f.1.1.1.1.1, refl)
 begun_after_desig kinds.OpenParen rest = λ f. ((used (args_of f.0) f.1.0 f.1.1.0 f.1.1.1.0), f.1.1.1.1, args_spelled f.0 _)
@@ -256,43 +261,7 @@ begun_after_desig kinds.Or rest = λ f. (
   f.1.1.1.1,
   refl,
 )
-begun_after_desig kinds.Equal rest =
-    λ f. (
-      (used tree.no_args tree.no_factor tree.no_term (tree.compared relations.Equal (tree.simple f.0 (tree.term f.1.0 f.1.1.0) f.1.1.1.0))),
-      f.1.1.1.1,
-      refl,
-    )
-begun_after_desig kinds.Unequal rest =
-    λ f. (
-      (used tree.no_args tree.no_factor tree.no_term (tree.compared relations.Unequal (tree.simple f.0 (tree.term f.1.0 f.1.1.0) f.1.1.1.0))),
-      f.1.1.1.1,
-      refl,
-    )
-begun_after_desig kinds.Less rest =
-    λ f. (
-      (used tree.no_args tree.no_factor tree.no_term (tree.compared relations.Less (tree.simple f.0 (tree.term f.1.0 f.1.1.0) f.1.1.1.0))),
-      f.1.1.1.1,
-      refl,
-    )
-begun_after_desig kinds.LessEq rest =
-    λ f. (
-      (used tree.no_args tree.no_factor tree.no_term (tree.compared relations.LessEq (tree.simple f.0 (tree.term f.1.0 f.1.1.0) f.1.1.1.0))),
-      f.1.1.1.1,
-      refl,
-    )
-begun_after_desig kinds.Greater rest =
-    λ f. (
-      (used tree.no_args tree.no_factor tree.no_term (tree.compared relations.Greater (tree.simple f.0 (tree.term f.1.0 f.1.1.0) f.1.1.1.0))),
-      f.1.1.1.1,
-      refl,
-    )
-begun_after_desig kinds.GreaterEq rest =
-    λ f. (
-      (used tree.no_args tree.no_factor tree.no_term (tree.compared relations.GreaterEq (tree.simple f.0 (tree.term f.1.0 f.1.1.0) f.1.1.1.0))),
-      f.1.1.1.1,
-      refl,
-    )
-begun_after_desig _ rest = tt
+begun_after_desig k rest = as_behind k rest (begins compared_part k) (begun_compared_part k rest)
 
 abbrev pub begun_stmt_tail : (k : Kind) (rest : List Part) → WhereSome (begins stmt_tail k) (Built stmt_tail k rest)
 begun_stmt_tail kinds.Semicolon rest = λ f. ((tree.more_stmt f.0 f.1.0), f.1.1, refl)

@@ -36,6 +36,7 @@ abbrev pub each : (Kind → Bool) → List Kind → Bool
 each f [] = true
 each f (k ∷ ks) = f k && each f ks
 
+-- a test that is so of each kind of a list is so of the one at a place
 so_at : (f : Kind → Bool) (ks : List Kind) (n : ℕ) → f kinds.Name ≡ true → each f ks ≡ true → f (kind_at ks n) ≡ true
 so_at f [] n h e = h
 so_at f (k ∷ ks) zero h e = (and_parts (f k) (each f ks) e).0

@@ -104,10 +104,12 @@ may_follow p k = has (follows p) k
 
 -- ---- what is checked of the table, by computation
 
+-- whether there are parts
 abbrev pub is_some : Option (List Part) → Bool
 is_some None = false
 is_some (Some parts) = true
 
+-- whether the second is so where the first is
 abbrev implies : Bool → Bool → Bool
 implies true b = b
 implies false b = true
@@ -127,6 +129,7 @@ abbrev in_order : List Part → List Kind → Bool
 in_order [] ks = true
 in_order (p ∷ rest) ks = stand_behind p rest ks && in_order rest ks
 
+-- the same of what is open, where something is
 abbrev inner : Option (List Part) → List Kind → Bool
 inner None ks = true
 inner (Some parts) ks = in_order parts ks
@@ -136,6 +139,7 @@ abbrev inner_in_order : Part → Kind → Bool
 inner_in_order (one a) k = true
 inner_in_order p k = inner (begins p k) (follows p)
 
+-- it is so of every part
 inner_table : (p : Part) → each (inner_in_order p) all_kinds ≡ true
 inner_table (one a) = refl
 inner_table p = refl
@@ -144,6 +148,7 @@ inner_table p = refl
 abbrev apart : Part → Kind → Bool
 apart p k = implies (may_skip p && may_follow p k) (not (is_some (begins p k)))
 
+-- it is so of every part
 apart_table : (p : Part) → each (apart p) all_kinds ≡ true
 apart_table (one a) = refl
 apart_table p = refl
@@ -151,9 +156,9 @@ apart_table p = refl
 -- ---- the rule
 
 -- each open part may be followed by what the parts behind it begin with
-abbrev pub Good : List Part → Type 0
-Good [] = Unit {0}
-Good (p ∷ rest) = ((k : Kind) → is_some (next rest k) ≡ true → may_follow p k ≡ true) × Good rest
+abbrev pub InOrder : List Part → Type 0
+InOrder [] = Unit {0}
+InOrder (p ∷ rest) = ((k : Kind) → is_some (next rest k) ≡ true → may_follow p k ≡ true) × InOrder rest
 
 -- a token that a later open part takes does not begin one that may be left out
 pub not_this : (p : Part) (k : Kind) → may_skip p ≡ true → may_follow p k ≡ true → is_some (begins p k) ≡ false
@@ -164,6 +169,7 @@ not_this p k s h = not_this_by (may_skip p) (may_follow p k) (is_some (begins p 
   not_this_by true false b s h e = absurd cc
   not_this_by false f b s h e = absurd cc
 
+-- a test that is so of each kind of a list is so of one that the list has
 each_has : (f : Kind → Bool) (ks : List Kind) → each f ks ≡ true → (k : Kind) → has ks k ≡ true → f k ≡ true
 each_has f [] e k h = absurd cc
 each_has f (a ∷ more) e k h =
@@ -172,6 +178,7 @@ each_has f (a ∷ more) e k h =
       each_has_by true s x h ih = subst (λ x. f x ≡ true) (s refl) x
       each_has_by false s x h ih = ih h
 
+-- what begins a part may follow another, where the check says so
 begins_so : (p q : Part) → begins_behind p q ≡ true → (k : Kind) → is_some (begins q k) ≡ true → may_follow p k ≡ true
 begins_so p (one a) e k h = begins_one (nat_eq (code a) (code k)) (same_kind a k) h where
   begins_one : (b : Bool) → (b ≡ true → a ≡ k) → is_some (if_same b) ≡ true → may_follow p k ≡ true
@@ -186,6 +193,7 @@ begins_so p q e k h = implied (is_some (begins q k)) h (of_every_kind (λ k. imp
 abbrev Covers : List Kind → List Part → Type 0
 Covers ks rest = (k : Kind) → is_some (next rest k) ≡ true → has ks k ≡ true
 
+-- the same of what comes behind a part in a list of parts, and behind the list
 stands_so : (p : Part) (parts rest : List Part) (ks : List Kind) → stand_behind p parts ks ≡ true → Covers ks rest
     → (k : Kind) → is_some (next (parts ++ rest) k) ≡ true → may_follow p k ≡ true
 stands_so p [] rest ks e c k h = each_has (may_follow p) ks e k (c k h)
@@ -200,29 +208,32 @@ stands_so p (q ∷ parts) rest ks e c k h =
     stands_by None true s e h ih = ih e h
     stands_by None false s e h ih = absurd cc
 
-joined : (parts rest : List Part) (ks : List Kind) → in_order parts ks ≡ true → Covers ks rest → Good rest → Good (parts ++ rest)
+-- parts in order, before open parts that may follow them
+joined : (parts rest : List Part) (ks : List Kind) → in_order parts ks ≡ true → Covers ks rest → InOrder rest → InOrder (parts ++ rest)
 joined [] rest ks e c g = g
 joined (p ∷ parts) rest ks e c g =
     let x = and_parts (stand_behind p parts ks) (in_order parts ks) e in
     (stands_so p parts rest ks x.0 c, joined parts rest ks x.1 c g)
 
-good_inside : (p : Part) (k : Kind) (rest : List Part) → Good (p ∷ rest) → WhereSome (begins p k) (λ parts. Good (parts ++ rest))
-good_inside (one a) k rest g = good_one (nat_eq (code a) (code k)) where
-  good_one : (b : Bool) → WhereSome (if_same b) (λ parts. Good (parts ++ rest))
-  good_one true = g.1
-  good_one false = tt
-good_inside p k rest g = good_by (begins p k) (of_every_kind (inner_in_order p) (inner_table p) k) where
-  good_by : (b : Option (List Part)) → inner b (follows p) ≡ true → WhereSome b (λ parts. Good (parts ++ rest))
-  good_by None e = tt
-  good_by (Some parts) e = joined parts rest (follows p) e g.0 g.1
+-- what a part leaves open behind a token, before the parts behind it
+in_order_inside : (p : Part) (k : Kind) (rest : List Part) → InOrder (p ∷ rest) → WhereSome (begins p k) (λ parts. InOrder (parts ++ rest))
+in_order_inside (one a) k rest g = one_in_order (nat_eq (code a) (code k)) where
+  one_in_order : (b : Bool) → WhereSome (if_same b) (λ parts. InOrder (parts ++ rest))
+  one_in_order true = g.1
+  one_in_order false = tt
+in_order_inside p k rest g = by_table (begins p k) (of_every_kind (inner_in_order p) (inner_table p) k) where
+  by_table : (b : Option (List Part)) → inner b (follows p) ≡ true → WhereSome b (λ parts. InOrder (parts ++ rest))
+  by_table None e = tt
+  by_table (Some parts) e = joined parts rest (follows p) e g.0 g.1
 
-good_from : (p : Part) (rest : List Part) (b : Option (List Part)) (m : Bool) (later : Option (List Part))
-    → WhereSome b (λ parts. Good (parts ++ rest)) → WhereSome later Good → WhereSome (this_or_later b m rest later) Good
-good_from p rest (Some parts) m later g ih = g
-good_from p rest None true later g ih = ih
-good_from p rest None false later g ih = tt
+-- the same, where the token goes to the first part or to a later one
+in_order_from : (p : Part) (rest : List Part) (b : Option (List Part)) (m : Bool) (later : Option (List Part))
+    → WhereSome b (λ parts. InOrder (parts ++ rest)) → WhereSome later InOrder → WhereSome (this_or_later b m rest later) InOrder
+in_order_from p rest (Some parts) m later g ih = g
+in_order_from p rest None true later g ih = ih
+in_order_from p rest None false later g ih = tt
 
 -- the parts that are open behind one more token are in order where those before it were
-pub still_good : (parts : List Part) (k : Kind) → Good parts → WhereSome (next parts k) Good
-still_good [] k g = tt
-still_good (p ∷ rest) k g = good_from p rest (begins p k) (may_skip p) (next rest k) (good_inside p k rest g) (still_good rest k g.1)
+pub still_in_order : (parts : List Part) (k : Kind) → InOrder parts → WhereSome (next parts k) InOrder
+still_in_order [] k g = tt
+still_in_order (p ∷ rest) k g = in_order_from p rest (begins p k) (may_skip p) (next rest k) (in_order_inside p k rest g) (still_in_order rest k g.1)

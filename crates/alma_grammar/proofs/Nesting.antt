@@ -14,10 +14,12 @@ Behind true closing d P = P (suc d)
 Behind false true d P = (e : ℕ) × (d ≡ suc e) × P e
 Behind false false d P = P d
 
+-- whether a part opens a bracket that a later one closes
 abbrev part_opens : Part → Bool
 part_opens (one k) = opens k
 part_opens _ = false
 
+-- whether a part closes one that an earlier part opened
 abbrev part_closes : Part → Bool
 part_closes (one k) = closes k
 part_closes args_inside = true
@@ -52,10 +54,12 @@ abbrev needed : (opening closing : Bool) → ℕ
 needed false true = 1
 needed _ _ = 0
 
+-- what is open behind it of what was so before it, and of what it opens
 abbrev left : (opening closing : Bool) → ℕ
 left true closing = 1
 left false closing = 0
 
+-- whether it is a depth, and this one
 abbrev is_depth : Option ℕ → ℕ → Bool
 is_depth None m = false
 is_depth (Some n) m = nat_eq n m
@@ -71,20 +75,24 @@ abbrev fits : Part → Kind → Bool
 fits (one a) k = true
 fits p k = balanced p k (begins p k)
 
+-- the table, by computation
 table : (p : Part) → each (fits p) all_kinds ≡ true
 table (one a) = refl
 table p = refl
 
 -- ---- from the table to the rule
 
+-- so many brackets over a depth
 abbrev over : ℕ → ℕ → ℕ
 over zero d = d
 over (suc n) d = suc (over n d)
 
+-- what that test says
 is_so : (n : Option ℕ) (m : ℕ) → is_depth n m ≡ true → n ≡ Some m
 is_so None m h = absurd cc
 is_so (Some n) m h = let x = eqb-true n m h in cc
 
+-- the same of one part, where it is so of those behind it
 nest_behind : (opening closing : Bool) (next : ℕ → Option ℕ) (n m d : ℕ) (P : ℕ → Type 0)
     → ((n : ℕ) → next n ≡ Some m → P (over n d)) → and_then (behind opening closing n) next ≡ Some m → Behind opening closing (over n d) P
 nest_behind true closing next n m d P ih e = ih (suc n) e
@@ -105,6 +113,7 @@ below true closing d P h = (d, refl, h)
 below false true d P h = (h.0, sym h.1, h.2)
 below false false d P h = (d, refl, h)
 
+-- a row of the table as the rule
 goes_so : (p : Part) (k : Kind) (rest : List Part) (b : Option (List Part)) → balanced p k b ≡ true
     → WhereSome b (λ parts. GoesOn (p ∷ rest) k (parts ++ rest))
 goes_so p k rest None t = tt
@@ -113,10 +122,12 @@ goes_so p k rest (Some parts) t = λ d h.
     let y = nest (one k ∷ parts) rest (needed (part_opens p) (part_closes p)) (left (part_opens p) (part_closes p)) x.0 x.2 (is_so _ _ t) in
     subst (λ e. Nested e (one k ∷ parts ++ rest)) x.1 y
 
+-- a part that is one token opens and closes what the token does
 goes_one : (a k : Kind) (rest : List Part) (b : Bool) → (b ≡ true → a ≡ k) → WhereSome (if_same b) (λ parts. GoesOn (one a ∷ rest) k (parts ++ rest))
 goes_one a k rest true same = λ d h. subst (λ x. Behind (opens x) (closes x) d (λ e. Nested e rest)) (same refl) h
 goes_one a k rest false same = tt
 
+-- the rule of every part and every kind
 goes : (p : Part) (k : Kind) (rest : List Part) → WhereSome (begins p k) (λ parts. GoesOn (p ∷ rest) k (parts ++ rest))
 goes (one a) k rest = goes_one a k rest (nat_eq (code a) (code k)) (same_kind a k)
 goes p k rest = goes_so p k rest (begins p k) (of_every_kind (fits p) (table p) k)
@@ -128,6 +139,7 @@ left_out args_inside rest d h n = absurd cc
 left_out params_inside rest d h n = absurd cc
 left_out p rest d h n = n
 
+-- the same of a list of open parts, where it is so of the first part and of those behind it
 goes_from : (p : Part) (rest : List Part) (k : Kind) (b : Option (List Part)) → WhereSome b (λ parts. GoesOn (p ∷ rest) k (parts ++ rest))
     → (m : Bool) → (m ≡ true → (d : ℕ) → Nested d (p ∷ rest) → Nested d rest) → (later : Option (List Part)) → WhereSome later (GoesOn rest k)
     → WhereSome (this_or_later b m rest later) (GoesOn (p ∷ rest) k)
@@ -136,6 +148,7 @@ goes_from p rest k None h true s None ih = tt
 goes_from p rest k None h true s (Some later) ih = λ d n. ih d (s refl d n)
 goes_from p rest k None h false s later ih = tt
 
+-- the same of every list of open parts
 pub goes_on_nested : (parts : List Part) (k : Kind) → WhereSome (next parts k) (GoesOn parts k)
 goes_on_nested [] k = tt
 goes_on_nested (p ∷ rest) k =

@@ -31,10 +31,13 @@ pub data Undo (p : Part) (f : Fill p) (rest : List Part) (o : Fills rest) : Type
   nothing : may_skip p ≡ true → shortest p ≡ f → Undo p f rest o
   token : (k : Kind) → Undone p k rest f o (begins p k) (begun p k rest) → Undo p f rest o
 
+-- a part that is one token begins with it
 undo_same : (a : Kind) (f : Unit {0}) (rest : List Part) (o : Fills rest) (b : Bool) (same : b ≡ true → a ≡ a) → b ≡ true
     → Undone (one a) a rest f o (if_same b) (begun_one a a rest b same)
 undo_same a f rest o true same h = (o, refl, refl)
 undo_same a f rest o false same h = absurd cc
+
+-- ---- each part, by what may fill it
 
 undo_sign_part : (f : Fill sign_part) (rest : List Part) (o : Fills rest) → Undo sign_part f rest o
 undo_sign_part None rest o = nothing refl refl
@@ -369,6 +372,8 @@ undo_decl_tail (tree.more_decl (tree.procedure x1 x2 (tree.block x4 x5)) x9) res
 undo_body_part : (f : Fill body_part) (rest : List Part) (o : Fills rest) → Undo body_part f rest o
 undo_body_part tree.no_body rest o = nothing refl refl
 undo_body_part (tree.body (tree.stmts x0 x1)) rest o = token kinds.Begin ((x0, (x1, o)), refl, refl)
+
+-- ---- every part
 
 pub undo : (p : Part) (f : Fill p) (rest : List Part) (o : Fills rest) → Undo p f rest o
 undo (one a) f rest o = token a (undo_same a f rest o (nat_eq (code a) (code a)) (same_kind a a) (eq-eqb (code a) (code a) refl))
