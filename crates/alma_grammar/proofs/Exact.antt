@@ -7,7 +7,7 @@ use Rattle.alma_grammar.specs.Parts.{Part, whole, next, all_skip}
 use Rattle.alma_grammar.specs.Reading.{reading, End, done, unexpected, at_end, goes_on, level}
 use Rattle.alma_grammar.specs.Filling.{open_after, and_then, WhereSome, finish}
 use Rattle.alma_grammar.specs.Laws.{Stops, Begins}
-use Rattle.alma_grammar.proofs.ReadModule.{whole_read}
+use Rattle.alma_grammar.proofs.ReadTrees.{whole_read}
 use Rattle.alma_grammar.proofs.Finish.{each_front_is_finished, each_end_is_a_tree}
 
 -- ---- where reading stops

@@ -1,293 +1,33 @@
--- No two trees have one spelling.
-use Rattle.std.proofs.Common.{◌≡◌, ℕ, List, [], ◌∷◌, Some, None, refl, ap, sym, ◌∙◌}
+-- No two fillers of the open parts have one spelling, and so no two trees.
+use Rattle.std.proofs.Common.{◌≡◌, List, [], ◌∷◌, Option, None, Some, ap, sym, ◌∙◌}
 use Rattle.alma_tree.specs.declared.kind.Kind.{Kind}
-use Rattle.alma_tree.specs.declared.kind.Kind.TheVariants as kinds
-use Rattle.alma_tree.specs.declared.leaf.Mode.TheVariants as modes
 use Rattle.alma_tree.specs.Tree as tree
-use Rattle.alma_tree.specs.Spelling as spells
-use Rattle.alma_grammar.proofs.OnceEnds as ends
-use Rattle.alma_grammar.proofs.OncePhrases.{Both, same_expr, same_stmts}
-use Rattle.alma_grammar.proofs.OnceTypes.{same_name_tail, same_type}
+use Rattle.alma_tree.specs.Spelling.{spelling}
+use Rattle.alma_grammar.specs.Parts.{Part, next, whole}
+use Rattle.alma_grammar.specs.Filling.{Fills, spell_fills, WhereSome}
+use Rattle.alma_grammar.proofs.Finish.{Before, before}
+use Rattle.alma_grammar.proofs.Follow.{InOrder, still_in_order}
+use Rattle.alma_grammar.proofs.Steps.{Came, from, step, same_unspelled, whole_in_order, fills_of, spelled_so, module_of, module_again}
 
-no_close_formal : (f : tree.Formal) (ks : List Kind) → ends.Lacks (ends.is kinds.CloseParen) (spells.spell_formal f ks)
-no_close_formal (tree.formal None (tree.names m)) ks = refl
-no_close_formal (tree.formal (Some modes.Var) (tree.names m)) ks = refl
-no_close_formal (tree.formal (Some modes.Mix) (tree.names m)) ks = refl
+-- fillers that come from one token are the same, where those of what is open behind it are
+same_on : (k : Kind) (ks : List Kind) (parts : List Part) (f g : Fills parts) (n : Option (List Part)) (w : WhereSome n (Before parts k))
+    → Came parts k f n w → Came parts k g n w → WhereSome n InOrder → spell_fills parts f ≡ k ∷ ks → spell_fills parts g ≡ k ∷ ks
+    → ((later : List Part) (x y : Fills later) → InOrder later → spell_fills later x ≡ ks → spell_fills later y ≡ ks → x ≡ y) → f ≡ g
+same_on k ks parts f g None w c e o s t ih = absurd c
+same_on k ks parts f g (Some later) w c e o s t ih =
+    let a = (w c.0).1 in let b = ap (spell_fills parts) c.1 in let x : spell_fills later c.0 ≡ ks = cc in
+    let p = (w e.0).1 in let q = ap (spell_fills parts) e.1 in let y : spell_fills later e.0 ≡ ks = cc in
+    sym c.1 ∙ ap (λ z. (w z).0) (ih later c.0 e.0 o x y) ∙ e.1
 
--- ---- declarations of one sort
+-- fillers with one spelling are the same
+same_fills : (ks : List Kind) (parts : List Part) (f g : Fills parts) → InOrder parts → spell_fills parts f ≡ ks → spell_fills parts g ≡ ks → f ≡ g
+same_fills [] parts f g o s t = same_unspelled parts f g (from [] parts f s (step parts f o)) (from [] parts g t (step parts g o))
+same_fills (k ∷ ks) parts f g o s t =
+    same_on k ks parts f g (next parts k) (before parts k) (from (k ∷ ks) parts f s (step parts f o)) (from (k ∷ ks) parts g t (step parts g o))
+    (still_in_order parts k o) s t (same_fills ks)
 
-abbrev tag_of_consts : tree.ConstTail → ℕ
-tag_of_consts tree.no_const = 0
-tag_of_consts (tree.more_const x more) = 1
-
-sort_of_consts : (t : tree.ConstTail) (ks : List Kind) → ends.Lacks (ends.is kinds.Name) ks → ends.head (ends.is kinds.Name)
-    (spells.spell_const_tail t ks) ≡ tag_of_consts t
-sort_of_consts tree.no_const ks h = h
-sort_of_consts (tree.more_const x more) ks h = refl
-
-same_consts : (t u : tree.ConstTail) (ks js : List Kind) → ends.Lacks (ends.is kinds.Name) ks → ends.Lacks (ends.is kinds.Name) js
-    → spells.spell_const_tail t ks ≡ spells.spell_const_tail u js → Both t u ks js
-same_consts tree.no_const tree.no_const ks js h0 i0 e = (refl, e)
-same_consts (tree.more_const x more) (tree.more_const x' more') ks js h0 i0 e =
-    let a0 = same_expr x x' (kinds.Semicolon ∷ (spells.spell_const_tail more ks)) (kinds.Semicolon ∷ (spells.spell_const_tail more' js))
-    (ends.expr_before_semicolon _) (ends.expr_before_semicolon _) (ends.tails (ends.tails e)) in
-    let a1 = same_consts more more' ks js h0 i0 (ends.tails a0.1) in
-    (cc, a1.1)
-same_consts t u ks js h0 i0 e =
-    absurd (ends.differ (sym (sort_of_consts t ks h0) ∙ ap (ends.head (ends.is kinds.Name)) e ∙ sort_of_consts u js i0) refl)
-
-abbrev tag_of_types : tree.TypeTail → ℕ
-tag_of_types tree.no_type = 0
-tag_of_types (tree.more_type t more) = 1
-
-sort_of_types : (t : tree.TypeTail) (ks : List Kind) → ends.Lacks (ends.is kinds.Name) ks → ends.head (ends.is kinds.Name) (spells.spell_type_tail t
-    ks) ≡ tag_of_types t
-sort_of_types tree.no_type ks h = h
-sort_of_types (tree.more_type t more) ks h = refl
-
-same_types : (t u : tree.TypeTail) (ks js : List Kind) → ends.Lacks (ends.is kinds.Name) ks → ends.Lacks (ends.is kinds.Name) js
-    → spells.spell_type_tail t ks ≡ spells.spell_type_tail u js → Both t u ks js
-same_types tree.no_type tree.no_type ks js h0 i0 e = (refl, e)
-same_types (tree.more_type t more) (tree.more_type t' more') ks js h0 i0 e =
-    let a0 = same_type t t' (kinds.Semicolon ∷ (spells.spell_type_tail more ks)) (kinds.Semicolon ∷ (spells.spell_type_tail more' js)) (ends.tails
-    (ends.tails e)) in
-    let a1 = same_types more more' ks js h0 i0 (ends.tails a0.1) in
-    (cc, a1.1)
-same_types t u ks js h0 i0 e =
-    absurd (ends.differ (sym (sort_of_types t ks h0) ∙ ap (ends.head (ends.is kinds.Name)) e ∙ sort_of_types u js i0) refl)
-
-abbrev tag_of_vars : tree.VarTail → ℕ
-tag_of_vars tree.no_var = 0
-tag_of_vars (tree.more_var m t more) = 1
-
-sort_of_vars : (t : tree.VarTail) (ks : List Kind) → ends.Lacks (ends.is kinds.Name) ks → ends.head (ends.is kinds.Name) (spells.spell_var_tail t
-    ks) ≡ tag_of_vars t
-sort_of_vars tree.no_var ks h = h
-sort_of_vars (tree.more_var (tree.names m) t more) ks h = refl
-
-same_vars : (t u : tree.VarTail) (ks js : List Kind) → ends.Lacks (ends.is kinds.Name) ks → ends.Lacks (ends.is kinds.Name) js
-    → spells.spell_var_tail t ks ≡ spells.spell_var_tail u js → Both t u ks js
-same_vars tree.no_var tree.no_var ks js h0 i0 e = (refl, e)
-same_vars (tree.more_var (tree.names m) t more) (tree.more_var (tree.names m') t' more') ks js h0 i0 e =
-    let a0 = same_name_tail m m' (kinds.Colon ∷ (spells.spell_type_node t (kinds.Semicolon ∷ (spells.spell_var_tail more ks)))) (kinds.Colon ∷
-    (spells.spell_type_node t' (kinds.Semicolon ∷ (spells.spell_var_tail more' js)))) refl refl (ends.tails e) in
-    let a1 = same_type t t' (kinds.Semicolon ∷ (spells.spell_var_tail more ks)) (kinds.Semicolon ∷ (spells.spell_var_tail more' js)) (ends.tails a0.1) in
-    let a2 = same_vars more more' ks js h0 i0 (ends.tails a1.1) in
-    (cc, a2.1)
-same_vars t u ks js h0 i0 e =
-    absurd (ends.differ (sym (sort_of_vars t ks h0) ∙ ap (ends.head (ends.is kinds.Name)) e ∙ sort_of_vars u js i0) refl)
-
-abbrev tag_of_formal : tree.Formal → ℕ
-tag_of_formal (tree.formal None m) = 0
-tag_of_formal (tree.formal (Some modes.Var) m) = 1
-tag_of_formal (tree.formal (Some modes.Mix) m) = 2
-
-sort_of_formal : (t : tree.Formal) (ks : List Kind) → ends.head ends.mode_class (spells.spell_formal t ks) ≡ tag_of_formal t
-sort_of_formal (tree.formal None (tree.names m)) ks = refl
-sort_of_formal (tree.formal (Some modes.Var) (tree.names m)) ks = refl
-sort_of_formal (tree.formal (Some modes.Mix) (tree.names m)) ks = refl
-
-same_formal : (t u : tree.Formal) (ks js : List Kind)
-    → spells.spell_formal t ks ≡ spells.spell_formal u js → Both t u ks js
-same_formal (tree.formal None (tree.names m)) (tree.formal None (tree.names m')) ks js e =
-    let a0 = same_name_tail m m' (kinds.Colon ∷ (kinds.Name ∷ ks)) (kinds.Colon ∷ (kinds.Name ∷ js)) refl refl (ends.tails e) in
-    (cc, ends.tails (ends.tails a0.1))
-same_formal (tree.formal (Some modes.Var) (tree.names m)) (tree.formal (Some modes.Var) (tree.names m')) ks js e =
-    let a0 = same_name_tail m m' (kinds.Colon ∷ (kinds.Name ∷ ks)) (kinds.Colon ∷ (kinds.Name ∷ js)) refl refl (ends.tails (ends.tails e)) in
-    (cc, ends.tails (ends.tails a0.1))
-same_formal (tree.formal (Some modes.Mix) (tree.names m)) (tree.formal (Some modes.Mix) (tree.names m')) ks js e =
-    let a0 = same_name_tail m m' (kinds.Colon ∷ (kinds.Name ∷ ks)) (kinds.Colon ∷ (kinds.Name ∷ js)) refl refl (ends.tails (ends.tails e)) in
-    (cc, ends.tails (ends.tails a0.1))
-same_formal (tree.formal None (tree.names m)) (tree.formal (Some modes.Var) (tree.names m')) ks js e =
-    absurd (ends.differ (sym (sort_of_formal (tree.formal None (tree.names m)) ks) ∙ ap (ends.head ends.mode_class) e ∙ sort_of_formal (tree.formal
-    (Some modes.Var) (tree.names m')) js) refl)
-same_formal (tree.formal None (tree.names m)) (tree.formal (Some modes.Mix) (tree.names m')) ks js e =
-    absurd (ends.differ (sym (sort_of_formal (tree.formal None (tree.names m)) ks) ∙ ap (ends.head ends.mode_class) e ∙ sort_of_formal (tree.formal
-    (Some modes.Mix) (tree.names m')) js) refl)
-same_formal t u ks js e =
-    absurd (ends.differ (sym (sort_of_formal t ks) ∙ ap (ends.head ends.mode_class) e ∙ sort_of_formal u js) refl)
-
-abbrev tag_of_formal_tail : tree.FormalTail → ℕ
-tag_of_formal_tail tree.no_formal = 0
-tag_of_formal_tail (tree.more_formal f more) = 1
-
-sort_of_formal_tail : (t : tree.FormalTail) (ks : List Kind) → ends.Lacks (ends.is kinds.Semicolon) ks → ends.head (ends.is kinds.Semicolon)
-    (spells.spell_formal_tail t ks) ≡ tag_of_formal_tail t
-sort_of_formal_tail tree.no_formal ks h = h
-sort_of_formal_tail (tree.more_formal f more) ks h = refl
-
-same_formal_tail : (t u : tree.FormalTail) (ks js : List Kind) → ends.Lacks (ends.is kinds.Semicolon) ks → ends.Lacks (ends.is kinds.Semicolon) js
-    → spells.spell_formal_tail t ks ≡ spells.spell_formal_tail u js → Both t u ks js
-same_formal_tail tree.no_formal tree.no_formal ks js h0 i0 e = (refl, e)
-same_formal_tail (tree.more_formal f more) (tree.more_formal f' more') ks js h0 i0 e =
-    let a0 = same_formal f f' (spells.spell_formal_tail more ks) (spells.spell_formal_tail more' js) (ends.tails e) in
-    let a1 = same_formal_tail more more' ks js h0 i0 a0.1 in
-    (cc, a1.1)
-same_formal_tail t u ks js h0 i0 e =
-    absurd (ends.differ (sym (sort_of_formal_tail t ks h0) ∙ ap (ends.head (ends.is kinds.Semicolon)) e ∙ sort_of_formal_tail u js i0) refl)
-
-abbrev tag_of_params : tree.Params → ℕ
-tag_of_params tree.no_params = 0
-tag_of_params tree.empty_params = 1
-tag_of_params (tree.params f) = 1
-
-sort_of_params : (t : tree.Params) (ks : List Kind) → ends.Lacks ends.args_class ks → ends.head ends.args_class (spells.spell_params t ks) ≡ tag_of_params t
-sort_of_params tree.no_params ks h = h
-sort_of_params tree.empty_params ks h = refl
-sort_of_params (tree.params (tree.formals f more)) ks h = refl
-
-same_params : (t u : tree.Params) (ks js : List Kind) → ends.Lacks ends.args_class ks → ends.Lacks ends.args_class js
-    → spells.spell_params t ks ≡ spells.spell_params u js → Both t u ks js
-same_params tree.no_params tree.no_params ks js h0 i0 e = (refl, e)
-same_params tree.empty_params tree.empty_params ks js h0 i0 e = (refl, ends.tails (ends.tails e))
-same_params (tree.params (tree.formals f more)) (tree.params (tree.formals f' more')) ks js h0 i0 e =
-    let a0 = same_formal f f' (spells.spell_formal_tail more (kinds.CloseParen ∷ ks)) (spells.spell_formal_tail more' (kinds.CloseParen ∷ js))
-    (ends.tails e) in
-    let a1 = same_formal_tail more more' (kinds.CloseParen ∷ ks) (kinds.CloseParen ∷ js) refl refl a0.1 in
-    (cc, ends.tails a1.1)
-same_params tree.empty_params (tree.params (tree.formals f more)) ks js h0 i0 e =
-    absurd (ends.differ (ap (ends.head (ends.is kinds.CloseParen)) (ends.tails e) ∙ no_close_formal f _) refl)
-same_params (tree.params (tree.formals f more)) tree.empty_params ks js h0 i0 e =
-    absurd (ends.differ (ap (ends.head (ends.is kinds.CloseParen)) (sym (ends.tails e)) ∙ no_close_formal f _) refl)
-same_params t u ks js h0 i0 e =
-    absurd (ends.differ (sym (sort_of_params t ks h0) ∙ ap (ends.head ends.args_class) e ∙ sort_of_params u js i0) refl)
-
-abbrev tag_of_result : tree.ResultName → ℕ
-tag_of_result tree.no_result = 0
-tag_of_result tree.result_name = 1
-
-sort_of_result : (t : tree.ResultName) (ks : List Kind) → ends.Lacks (ends.is kinds.Colon) ks → ends.head (ends.is kinds.Colon)
-    (spells.spell_result_name t ks) ≡ tag_of_result t
-sort_of_result tree.no_result ks h = h
-sort_of_result tree.result_name ks h = refl
-
-same_result : (t u : tree.ResultName) (ks js : List Kind) → ends.Lacks (ends.is kinds.Colon) ks → ends.Lacks (ends.is kinds.Colon) js
-    → spells.spell_result_name t ks ≡ spells.spell_result_name u js → Both t u ks js
-same_result tree.no_result tree.no_result ks js h0 i0 e = (refl, e)
-same_result tree.result_name tree.result_name ks js h0 i0 e = (refl, ends.tails (ends.tails e))
-same_result t u ks js h0 i0 e =
-    absurd (ends.differ (sym (sort_of_result t ks h0) ∙ ap (ends.head (ends.is kinds.Colon)) e ∙ sort_of_result u js i0) refl)
-
-abbrev tag_of_body : tree.Body → ℕ
-tag_of_body tree.no_body = 0
-tag_of_body (tree.body s) = 1
-
-sort_of_body : (t : tree.Body) (ks : List Kind) → ends.Lacks (ends.is kinds.Begin) ks → ends.head (ends.is kinds.Begin) (spells.spell_body t ks) ≡
-    tag_of_body t
-sort_of_body tree.no_body ks h = h
-sort_of_body (tree.body s) ks h = refl
-
-same_body : (t u : tree.Body) (ks js : List Kind) → ends.EndsStmts ks → ends.EndsStmts js → ends.Lacks (ends.is kinds.Begin) ks → ends.Lacks
-    (ends.is kinds.Begin) js
-    → spells.spell_body t ks ≡ spells.spell_body u js → Both t u ks js
-same_body tree.no_body tree.no_body ks js h0 i0 h1 i1 e = (refl, e)
-same_body (tree.body s) (tree.body s') ks js h0 i0 h1 i1 e =
-    let a0 = same_stmts s s' ks js h0 i0 (ends.tails e) in
-    (cc, a0.1)
-same_body t u ks js h0 i0 h1 i1 e =
-    absurd (ends.differ (sym (sort_of_body t ks h1) ∙ ap (ends.head (ends.is kinds.Begin)) e ∙ sort_of_body u js i1) refl)
-
--- ---- what may follow
-
--- END follows
-pub record AtEnd (ks : List Kind) : Type 0 where
-  pub stmts : ends.EndsStmts ks
-  pub body : ends.Lacks (ends.is kinds.Begin) ks
-  pub name : ends.Lacks (ends.is kinds.Name) ks
-  pub decls : ends.Lacks ends.decl_class ks
-
-at_end : (ks : List Kind) → AtEnd (kinds.End ∷ ks)
-at_end ks = record { stmts = ends.stmts_before_end ks; body = refl; name = refl; decls = refl }
-
-pub record EndsDecls (ks : List Kind) : Type 0 where
-  pub name : ends.Lacks (ends.is kinds.Name) ks
-  pub decls : ends.Lacks ends.decl_class ks
-
-before_body : (b : tree.Body) (ks : List Kind) → AtEnd ks → EndsDecls (spells.spell_body b ks)
-before_body tree.no_body ks h = record { name = h.name; decls = h.decls }
-before_body (tree.body s) ks h = record { name = refl; decls = refl }
-
-before_decls : (ds : tree.DeclTail) (ks : List Kind) → EndsDecls ks → ends.Lacks (ends.is kinds.Name) (spells.spell_decl_tail ds ks)
-before_decls tree.no_decl ks h = h.name
-before_decls (tree.more_decl (tree.const_decl x) ds) ks h = refl
-before_decls (tree.more_decl (tree.type_decl x) ds) ks h = refl
-before_decls (tree.more_decl (tree.var_decl x) ds) ks h = refl
-before_decls (tree.more_decl (tree.procedure p r b) ds) ks h = refl
-
-before_result : (r : tree.ResultName) (ks : List Kind) → ends.Lacks ends.args_class ks → ends.Lacks ends.args_class (spells.spell_result_name r ks)
-before_result tree.no_result ks h = h
-before_result tree.result_name ks h = refl
-
--- ---- blocks
-
-abbrev tag_of_decls : tree.DeclTail → ℕ
-tag_of_decls tree.no_decl = 0
-tag_of_decls (tree.more_decl (tree.const_decl x) ds) = 1
-tag_of_decls (tree.more_decl (tree.type_decl x) ds) = 2
-tag_of_decls (tree.more_decl (tree.var_decl x) ds) = 3
-tag_of_decls (tree.more_decl (tree.procedure p r b) ds) = 4
-
-sort_of_decls : (t : tree.DeclTail) (ks : List Kind) → EndsDecls ks → ends.head ends.decl_class (spells.spell_decl_tail t ks) ≡ tag_of_decls t
-sort_of_decls tree.no_decl ks h = h.decls
-sort_of_decls (tree.more_decl (tree.const_decl x) ds) ks h = refl
-sort_of_decls (tree.more_decl (tree.type_decl x) ds) ks h = refl
-sort_of_decls (tree.more_decl (tree.var_decl x) ds) ks h = refl
-sort_of_decls (tree.more_decl (tree.procedure p r b) ds) ks h = refl
-
-mutual
-  pub same_block : (t u : tree.Block) (ks js : List Kind) → AtEnd ks → AtEnd js
-      → spells.spell_block t ks ≡ spells.spell_block u js → Both t u ks js
-  same_block (tree.block ds b) (tree.block ds' b') ks js h0 i0 e =
-      let a0 = same_decls ds ds' (spells.spell_body b ks) (spells.spell_body b' js) (before_body b ks h0) (before_body b' js i0) e in
-      let a1 = same_body b b' ks js h0.stmts i0.stmts h0.body i0.body a0.1 in
-      (cc, a1.1)
-
-  same_decls : (t u : tree.DeclTail) (ks js : List Kind) → EndsDecls ks → EndsDecls js
-      → spells.spell_decl_tail t ks ≡ spells.spell_decl_tail u js → Both t u ks js
-  same_decls tree.no_decl tree.no_decl ks js h0 i0 e = (refl, e)
-  same_decls (tree.more_decl (tree.const_decl x) ds) (tree.more_decl (tree.const_decl x') ds') ks js h0 i0 e =
-      let a0 = same_consts x x' (spells.spell_decl_tail ds ks) (spells.spell_decl_tail ds' js) (before_decls ds ks h0) (before_decls ds' js i0)
-      (ends.tails e) in
-      let a1 = same_decls ds ds' ks js h0 i0 a0.1 in
-      (cc, a1.1)
-  same_decls (tree.more_decl (tree.type_decl x) ds) (tree.more_decl (tree.type_decl x') ds') ks js h0 i0 e =
-      let a0 = same_types x x' (spells.spell_decl_tail ds ks) (spells.spell_decl_tail ds' js) (before_decls ds ks h0) (before_decls ds' js i0)
-      (ends.tails e) in
-      let a1 = same_decls ds ds' ks js h0 i0 a0.1 in
-      (cc, a1.1)
-  same_decls (tree.more_decl (tree.var_decl x) ds) (tree.more_decl (tree.var_decl x') ds') ks js h0 i0 e =
-      let a0 = same_vars x x' (spells.spell_decl_tail ds ks) (spells.spell_decl_tail ds' js) (before_decls ds ks h0) (before_decls ds' js i0)
-      (ends.tails e) in
-      let a1 = same_decls ds ds' ks js h0 i0 a0.1 in
-      (cc, a1.1)
-  same_decls (tree.more_decl (tree.procedure p r b) ds) (tree.more_decl (tree.procedure p' r' b') ds') ks js h0 i0 e =
-      let a0 = same_params p p' (spells.spell_result_name r (kinds.Semicolon ∷ (spells.spell_block b (kinds.End ∷ (kinds.Name ∷ (kinds.Semicolon ∷
-      (spells.spell_decl_tail ds ks))))))) (spells.spell_result_name r' (kinds.Semicolon ∷ (spells.spell_block b' (kinds.End ∷ (kinds.Name ∷
-      (kinds.Semicolon ∷ (spells.spell_decl_tail ds' js))))))) (before_result r _ refl) (before_result r' _ refl) (ends.tails (ends.tails e)) in
-      let a1 = same_result r r' (kinds.Semicolon ∷ (spells.spell_block b (kinds.End ∷ (kinds.Name ∷ (kinds.Semicolon ∷ (spells.spell_decl_tail ds
-      ks)))))) (kinds.Semicolon ∷ (spells.spell_block b' (kinds.End ∷ (kinds.Name ∷ (kinds.Semicolon ∷ (spells.spell_decl_tail ds' js)))))) refl refl
-      a0.1 in
-      let a2 = same_block b b' (kinds.End ∷ (kinds.Name ∷ (kinds.Semicolon ∷ (spells.spell_decl_tail ds ks)))) (kinds.End ∷ (kinds.Name ∷
-      (kinds.Semicolon ∷ (spells.spell_decl_tail ds' js)))) (at_end _) (at_end _) (ends.tails a1.1) in
-      let a3 = same_decls ds ds' ks js h0 i0 (ends.tails (ends.tails (ends.tails a2.1))) in
-      (cc, a3.1)
-  same_decls tree.no_decl (tree.more_decl (tree.const_decl x') ds') ks js h0 i0 e =
-      absurd (ends.differ (sym (sort_of_decls tree.no_decl ks h0) ∙ ap (ends.head ends.decl_class) e ∙ sort_of_decls (tree.more_decl (tree.const_decl
-      x') ds') js i0) refl)
-  same_decls tree.no_decl (tree.more_decl (tree.type_decl x') ds') ks js h0 i0 e =
-      absurd (ends.differ (sym (sort_of_decls tree.no_decl ks h0) ∙ ap (ends.head ends.decl_class) e ∙ sort_of_decls (tree.more_decl (tree.type_decl
-      x') ds') js i0) refl)
-  same_decls tree.no_decl (tree.more_decl (tree.var_decl x') ds') ks js h0 i0 e =
-      absurd (ends.differ (sym (sort_of_decls tree.no_decl ks h0) ∙ ap (ends.head ends.decl_class) e ∙ sort_of_decls (tree.more_decl (tree.var_decl
-      x') ds') js i0) refl)
-  same_decls tree.no_decl (tree.more_decl (tree.procedure p' r' b') ds') ks js h0 i0 e =
-      absurd (ends.differ (sym (sort_of_decls tree.no_decl ks h0) ∙ ap (ends.head ends.decl_class) e ∙ sort_of_decls (tree.more_decl (tree.procedure
-      p' r' b') ds') js i0) refl)
-  same_decls t u ks js h0 i0 e =
-      absurd (ends.differ (sym (sort_of_decls t ks h0) ∙ ap (ends.head ends.decl_class) e ∙ sort_of_decls u js i0) refl)
-
-pub one_spelling : (t u : tree.Module) → spells.spelling t ≡ spells.spelling u → t ≡ u
-one_spelling (tree.module_of b) (tree.module_of b') e =
-    let a = same_block b b' (kinds.End ∷ kinds.Name ∷ kinds.Dot ∷ []) (kinds.End ∷ kinds.Name ∷ kinds.Dot ∷ []) (at_end _) (at_end _)
-    (ends.tails (ends.tails (ends.tails e))) in
-    ap tree.module_of a.0
+-- trees with one spelling are the same
+pub one_spelling : (t u : tree.Module) → spelling t ≡ spelling u → t ≡ u
+one_spelling t u e =
+    let x = same_fills (spelling u) whole (fills_of t) (fills_of u) whole_in_order (spelled_so t ∙ e) (spelled_so u) in
+    sym (module_again t) ∙ ap module_of x ∙ module_again u

@@ -1,4 +1,4 @@
-use Rattle.alma_grammar.proofs.ReadModule.{whole_read}
+use Rattle.alma_grammar.proofs.ReadTrees.{whole_read}
 use Rattle.alma_grammar.proofs.laws.each_tree_is_read.Goals as goal
 
 pub returns : goal.returns
