@@ -13,7 +13,8 @@ use Rattle.alma_code.specs.Machine.{Mode, State, start, Going, Failing, step, st
 use Rattle.alma_code.specs.Plain.{PlainCode, head_at}
 use Rattle.alma_engine.specs.Needs.{Needs}
 use Rattle.alma_engine.specs.Stands.{Stands}
-use Rattle.alma_engine.specs.View.{IsLive, ModeAfter, goes_on, runs_after, stepped}
+use Rattle.alma_registers.specs.Steps.{IsLive, ModeAfter, stepped}
+use Rattle.alma_engine.specs.View.{goes_on, runs_after}
 use Rattle.alma_engine.proofs.Needing.{needs_at, in_code}
 
 -- a machine that goes on is at an instruction

@@ -1,10 +1,6 @@
-pub mod Calls
-pub mod Copies
-pub mod Inputs
-pub mod Meets
+pub use Rattle.alma_registers.specs.Steps
 pub mod Needs
 pub mod Quick
-pub mod Rows
 pub mod Runs
 pub mod Stands
 pub mod View

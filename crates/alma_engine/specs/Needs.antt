@@ -6,9 +6,9 @@ use Rattle.alma_code.specs.Layout.{IsHead}
 use Rattle.alma_code.specs.Picture.{PlainFrame}
 use Rattle.alma_code.specs.Plain.{PlainCode, head_at}
 use Rattle.alma_code.specs.Rules.{has_room}
-use Rattle.alma_engine.specs.Calls.{HasArguments, CallsBack}
-use Rattle.alma_engine.specs.Inputs.{HasPosition}
-use Rattle.alma_engine.specs.Rows.{HasNumber, HasCells, HasOneCell, HasPlace, HasMark, HasLink, HasLinkTo, LeadsTo, IsNumbered, width}
+use Rattle.alma_registers.specs.Calls.{HasArguments, CallsBack}
+use Rattle.alma_registers.specs.Inputs.{HasPosition}
+use Rattle.alma_registers.specs.Rows.{HasNumber, HasCells, HasOneCell, HasPlace, HasMark, HasLink, HasLinkTo, LeadsTo, IsNumbered, width}
 
 -- the slots that an instruction of numbers reads and writes are of their kinds; other instructions are none
 unfoldable pub Computes : List PlainFrame → Instr → Type 0

@@ -1,0 +1,9 @@
+pub mod Back
+pub mod Copying
+pub mod Given
+pub mod Held
+pub mod Meetings
+pub mod Parts
+pub mod Reading
+pub mod Stays
+pub mod Words
