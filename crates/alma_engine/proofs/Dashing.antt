@@ -6,7 +6,7 @@ use Rattle.alma_code.specs.Fits.{Fits}
 use Rattle.alma_code.specs.Machine.{State, Stepped, Going, quiet_step, step, after, prints}
 use Rattle.alma_code.specs.Plain.{PlainCode}
 use Rattle.alma_code.proofs.Runs.{stays_fit}
-use Rattle.alma_engine.specs.Quick.{Quickly}
+use Rattle.alma_dispatch.specs.Quick.{Quickly}
 use Rattle.alma_engine.specs.Stands.{Stands}
 use Rattle.alma_engine.specs.Runs.{last_print}
 use Rattle.alma_registers.specs.Steps.{IsLive}

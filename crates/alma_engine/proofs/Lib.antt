@@ -1,8 +1,6 @@
-pub mod Acting
 pub mod Budget
 pub mod Counting
 pub mod Dashing
 pub mod Fitting
 pub mod Needing
-pub mod Others
 pub mod Stepping

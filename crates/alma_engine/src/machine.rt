@@ -16,14 +16,16 @@ ghost use Rattle.alma_io.specs.Fronts.{AppendsFront};
 ghost use Rattle.alma_engine.specs.Runs.{ShowsLast, last_print, end_of, run_end_of, is_steps_out, all_written, made, OnWhole, OnStepsOut, OnWriteFault, OnMemory};
 ghost use Rattle.std.specs.Io.KnownBytes.{Appends};
 
-use crate::act::act;
 use crate::quick::dash;
 use alma_base::{NoMemory, RunFault};
 use alma_code::{End, Step};
 use alma_io::{Sink, WriteFault, write_all};
+use alma_dispatch::act;
 use alma_memory::Memory;
 use alma_object::{ObjectView, RoutineView};
-use alma_registers::{CodeView, Mode, Registers};
+use alma_registers::{Mode, Registers};
+use alma_transfers::CodeView;
+use alma_transfers::choices::pop;
 use alma_verify::Verified;
 use std::alloc::Global;
 use std::marker::Model;
@@ -116,7 +118,7 @@ pub(crate) fn advance<V: CodeView>(
         Mode::Going => take(view, input, registers, printed),
         Mode::Failing => {
             registers.steps += 1;
-            Ok(registers.pop())
+            Ok(pop(registers))
         }
         Mode::Ended(_) => unreachable!(),
     }

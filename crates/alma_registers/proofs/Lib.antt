@@ -1,9 +1,5 @@
-pub mod Back
-pub mod Copying
-pub mod Given
 pub mod Held
 pub mod Meetings
 pub mod Parts
-pub mod Reading
 pub mod Stays
 pub mod Words

@@ -5,8 +5,8 @@ use Rattle.alma_base.specs.declared.number.Range.{Range}
 use Rattle.alma_code.specs.Machine.{State, Stepped, equation_of_contents, equation, equations}
 use Rattle.alma_registers.specs.declared.equations.Met.{Met}
 use Rattle.alma_registers.specs.declared.equations.Met.TheVariants.{Holds, Ends}
-use Rattle.alma_registers.specs.Meets.{Meets, MeetsOn, AreNumbers, given}
-use Rattle.alma_registers.specs.Rows.{HasNumberIn, IsCells, KeepsNumbers}
+use Rattle.alma_registers.specs.Meets.{Meets, MeetsOn, given}
+use Rattle.alma_registers.specs.Rows.{HasNumberIn, IsCells, KeepsNumbers, AreNumbers}
 use Rattle.alma_registers.specs.Steps.{stepped}
 use Rattle.alma_code.specs.Picture.{PlainFrame}
 use Rattle.alma_code.specs.declared.cell.CellPlace.{CellPlace}

@@ -1,6 +1,3 @@
-pub mod Calls
-pub mod Copies
-pub mod Inputs
 pub mod Meets
 pub mod Rows
 pub mod Steps

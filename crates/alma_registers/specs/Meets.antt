@@ -1,13 +1,12 @@
 -- What an equation gives, whatever comes after it.
-use Rattle.std.specs.Prelude.{◌≡◌, ◌+◌, ◌≤◌, ◌<◌, ◌^◌, ℕ, ℤ, List, [], Option, Some, None}
+use Rattle.std.specs.Prelude.{◌≡◌, ℕ, ℤ, [], Option, Some, None}
 use Rattle.alma_base.specs.declared.fault.RunFault.TheVariants as fault
 use Rattle.alma_base.specs.declared.number.Range.{Range}
 use Rattle.alma_code.specs.Machine.{State, Stepped, ends_in_fault, optional_range_check, store}
-use Rattle.alma_code.specs.Picture.{PlainFrame}
 use Rattle.alma_registers.specs.declared.equations.Met.{Met}
 use Rattle.alma_registers.specs.declared.equations.Met.TheVariants.{Holds, Ends}
-use Rattle.alma_registers.specs.Rows.{KeepsOn, HasNumberIn}
-use Rattle.alma_registers.specs.Steps.{IsLive, stepped}
+use Rattle.alma_registers.specs.Rows.{KeepsOn, GoesOn}
+use Rattle.alma_registers.specs.Steps.{stepped}
 
 -- an equation goes on in the new state, or ends with the step
 abbrev pub Meets : Met → ((State → Stepped) → Stepped) → State → Type 0
@@ -21,10 +20,5 @@ given s f i r (Some v) k = optional_range_check r s v (λ _. store s f i v k)
 
 -- it counts no step, and where it goes on the mode and the counts stay
 abbrev pub MeetsOn : Met → State → State → Type 0
-MeetsOn Holds old new = (new.steps ≡ old.steps) × (IsLive old.mode → IsLive new.mode) × (new.choices ≡ old.choices) × (new.fails ≡ old.fails)
+MeetsOn Holds old new = GoesOn old new
 MeetsOn (Ends step) old new = KeepsOn step old new
-
--- the cells of a frame from one on are number slots, and where there are any all have numbers of 32 bits
-pub record AreNumbers (now : List PlainFrame) (frame first count : ℕ) : Type 0 where
-  pub few : 1 ≤ count → first + count < 2 ^ 32
-  pub each : (k : ℕ) → k < count → HasNumberIn now frame (first + k)

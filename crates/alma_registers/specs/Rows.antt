@@ -73,6 +73,11 @@ pub record IsCells (now : List PlainFrame) (l : ℕ) (p : CellPlace) : Type 0 wh
   pub few : 1 ≤ l → p.slot + l < 2 ^ 32
   pub each : (k : ℕ) → k < l → HasNumberIn now p.frame (p.slot + k)
 
+-- the cells of a frame from one on are number slots, and where there are any all have numbers of 32 bits
+pub record AreNumbers (now : List PlainFrame) (frame first count : ℕ) : Type 0 where
+  pub few : 1 ≤ count → first + count < 2 ^ 32
+  pub each : (k : ℕ) → k < count → HasNumberIn now frame (first + k)
+
 -- such a place, or no place yet
 abbrev pub HoldsCells : List PlainFrame → ℕ → Cell → Type 0
 HoldsCells now l (cell.Place p) = IsCells now l p
@@ -216,3 +221,7 @@ link_or_fault s n (Err f) = ends_in_fault f s
 abbrev pub KeepsOn : Step → State → State → Type 0
 KeepsOn step old new =
     (new.steps ≡ old.steps) × (IsLive old.mode → ModeAfter step new.mode) × (new.choices ≤ old.choices + 1) × (new.fails ≤ old.fails + 1)
+
+-- where a part of a step goes on, the mode and the counts stay
+abbrev pub GoesOn : State → State → Type 0
+GoesOn old new = (new.steps ≡ old.steps) × (IsLive old.mode → IsLive new.mode) × (new.choices ≡ old.choices) × (new.fails ≡ old.fails)

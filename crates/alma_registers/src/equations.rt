@@ -4,8 +4,8 @@ ghost use Rattle.alma_code.specs.declared.cell.Cell.TheVariants as cell;
 ghost use Rattle.alma_code.specs.Fits.{IsContent};
 ghost use Rattle.alma_code.specs.Machine.{place, equation_of_contents, equation, equations, copies_cells, quiet_step};
 ghost use Rattle.alma_code.specs.Picture.{cell_at};
-ghost use Rattle.alma_registers.specs.Rows.{state_of, HasCells, HasOneCell, HasNumberIn, IsCells, KeepsOn, KeepsNumbers, width};
-ghost use Rattle.alma_registers.specs.Meets.{Meets, MeetsOn, AreNumbers, given};
+ghost use Rattle.alma_registers.specs.Rows.{state_of, HasCells, HasOneCell, HasNumberIn, IsCells, KeepsOn, KeepsNumbers, width, AreNumbers};
+ghost use Rattle.alma_registers.specs.Meets.{Meets, MeetsOn, given};
 ghost use Rattle.alma_registers.specs.Steps.{stepped};
 
 use crate::places::Spot;

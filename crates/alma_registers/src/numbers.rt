@@ -37,7 +37,7 @@ impl Registers {
 
     /// The place in a slot.
     #[tactic(auto, using(crate::proofs::Words::places))]
-    pub(crate) fn place(&self, slot: u32) -> Result<CellPlace, RunFault>
+    pub fn place(&self, slot: u32) -> Result<CellPlace, RunFault>
         requires { HasCells self.now.memory.now slot }
         ensures { GivesPlace self.now.memory.now slot result }
     {
