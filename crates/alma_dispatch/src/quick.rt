@@ -103,7 +103,12 @@ fn holds(registers: &Registers, value: u32) -> bool
 /// What an instruction does, with the address already at the next one, if it is one that is made at once.
 #[inline(always)]
 #[tactic(auto, unfolding(alma_code::specs::Machine::act, crate::specs::Needs::Needs), using(crate::proofs::Acting::actings))]
-pub fn act_quickly<V: CodeView>(registers: &mut Registers, view: &V, instr: Instr, input: &[u8]) -> bool
+pub fn act_quickly<V: CodeView>(
+    registers: &mut Registers,
+    view: &V,
+    instr: Instr,
+    input: &[u8],
+) -> bool
     requires { Needs (V.code view.now) registers.old.memory.now instr }
     ensures step { Quickly result (state_of registers.old) (state_of registers.new)
         (act (V.code view.now) input.now instr (state_of registers.old)) }
@@ -146,7 +151,12 @@ pub fn act_quickly<V: CodeView>(registers: &mut Registers, view: &V, instr: Inst
 // What an instruction of places does, and else nothing.
 #[inline(always)]
 #[tactic(auto, unfolding(alma_code::specs::Machine::act, crate::specs::Needs::Needs), using(crate::proofs::Acting::actings))]
-fn place_quickly<V: CodeView>(registers: &mut Registers, view: &V, instr: Instr, input: &[u8]) -> bool
+fn place_quickly<V: CodeView>(
+    registers: &mut Registers,
+    view: &V,
+    instr: Instr,
+    input: &[u8],
+) -> bool
     requires { Needs (V.code view.now) registers.old.memory.now instr }
     ensures step { Quickly result (state_of registers.old) (state_of registers.new)
         (act (V.code view.now) input.now instr (state_of registers.old)) }

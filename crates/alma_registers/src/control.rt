@@ -69,13 +69,7 @@ impl Registers {
 
     /// Counts a counter on, or goes to an address where the next number is beyond the limit.
     #[tactic(auto, using(std::proofs::lemmas::Int::ints, std::proofs::lemmas::Grind::common_steps))]
-    pub fn count(
-        &mut self,
-        counter: u32,
-        limit: u32,
-        by: u32,
-        out: u32,
-    ) -> Result<Step, NoMemory>
+    pub fn count(&mut self, counter: u32, limit: u32, by: u32, out: u32) -> Result<Step, NoMemory>
         requires counter { HasNumber self.old.memory.now counter }
         requires limit { HasNumber self.old.memory.now limit }
         requires by { HasNumber self.old.memory.now by }

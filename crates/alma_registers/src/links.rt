@@ -38,11 +38,7 @@ impl Registers {
 
     /// Puts a link to a frame into a slot, or ends the run in its fault.
     #[tactic(auto, using(crate::proofs::Held::put_links))]
-    pub fn put_link(
-        &mut self,
-        to: u32,
-        frame: Result<u32, RunFault>,
-    ) -> Result<Step, NoMemory>
+    pub fn put_link(&mut self, to: u32, frame: Result<u32, RunFault>) -> Result<Step, NoMemory>
         requires { HasLinkTo self.old.memory.now to }
         ensures ok { IfOk result (λ answer. stepped answer [] (state_of self.new)
             ≡ link_or_fault (state_of self.old) to frame) }

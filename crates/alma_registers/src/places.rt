@@ -109,13 +109,7 @@ impl Registers {
 
     /// Where the part of a place begins that the number in a slot names, where the parts are those of a range.
     #[tactic(auto, using(crate::proofs::Parts::fits_word, crate::proofs::Parts::width_is))]
-    pub fn part(
-        &self,
-        to: u32,
-        from: u32,
-        index: u32,
-        range: &Range,
-    ) -> Result<Spot, RunFault>
+    pub fn part(&self, to: u32, from: u32, index: u32, range: &Range) -> Result<Spot, RunFault>
         requires to { HasPlace self.now.memory.now to }
         requires from { HasCells self.now.memory.now from }
         requires index { HasNumber self.now.memory.now index }

@@ -127,7 +127,11 @@ pub fn leave(registers: &mut Registers) -> Result<Step, NoMemory>
 }
 
 /// Returns a number to the slot that the Call before the return address names.
-pub fn leave_with<V: CodeView>(registers: &mut Registers, view: &V, value: u32) -> Result<Step, NoMemory>
+pub fn leave_with<V: CodeView>(
+    registers: &mut Registers,
+    view: &V,
+    value: u32,
+) -> Result<Step, NoMemory>
     requires slot { HasNumber registers.old.memory.now value }
     requires back { CallsBack (V.code view.now) registers.old.memory.now }
     ensures ok { let s = state_of registers.old in IfOk result

@@ -33,7 +33,9 @@ fn lay(registers: &mut Registers, to: Spot, cells: &[Cell]) -> Step
     ensures kept { KeepsOn result (state_of registers.old) (state_of registers.new) }
 {
     for k in 0..cells.len() {
-        let written = registers.memory.write(to.frame, to.slot + k as u32, cells[k]);
+        let written = registers
+            .memory
+            .write(to.frame, to.slot + k as u32, cells[k]);
         match written {
             Ok(()) => (),
             Err(_) => unreachable!(),

@@ -53,7 +53,12 @@ fn position(registers: &Registers) -> usize
 
 // Puts what was found into the cell at a place, and moves the input position behind it.
 #[tactic(auto, using(crate::proofs::Reading::takes, alma_registers::proofs::Words::ranges, std::proofs::lemmas::Int::ints, std::proofs::lemmas::Grind::common_steps))]
-fn take(registers: &mut Registers, read: ReadInt, place: CellPlace, range: &Range) -> Result<Step, NoMemory>
+fn take(
+    registers: &mut Registers,
+    read: ReadInt,
+    place: CellPlace,
+    range: &Range,
+) -> Result<Step, NoMemory>
     requires below { IsBelow read }
     requires position { HasNumberIn registers.old.memory.now 0 0 }
     requires place { HasNumberIn registers.old.memory.now place.frame place.slot }

@@ -36,7 +36,11 @@ pub fn print_text(text: &[u8], bytes: &mut Vec<u8>) -> Result<Step, NoMemory>
 
 /// Prints the number in a slot.
 #[tactic(auto, using(std::proofs::lemmas::Int::ints, std::proofs::lemmas::Grind::common_steps))]
-pub fn print_number(registers: &mut Registers, value: u32, bytes: &mut Vec<u8>) -> Result<Step, NoMemory>
+pub fn print_number(
+    registers: &mut Registers,
+    value: u32,
+    bytes: &mut Vec<u8>,
+) -> Result<Step, NoMemory>
     requires slot { HasNumber registers.old.memory.now value }
     requires empty { bytes.old.items ≡ [] }
     ensures ok { let s = state_of registers.old in
@@ -59,7 +63,11 @@ pub fn print_number(registers: &mut Registers, value: u32, bytes: &mut Vec<u8>) 
 
 /// Prints the truth in a slot.
 #[tactic(auto, using(alma_registers::proofs::Words::tests, std::proofs::lemmas::Int::ints, std::proofs::lemmas::Grind::common_steps))]
-pub fn print_truth(registers: &mut Registers, value: u32, bytes: &mut Vec<u8>) -> Result<Step, NoMemory>
+pub fn print_truth(
+    registers: &mut Registers,
+    value: u32,
+    bytes: &mut Vec<u8>,
+) -> Result<Step, NoMemory>
     requires slot { HasNumber registers.old.memory.now value }
     requires empty { bytes.old.items ≡ [] }
     ensures ok { let s = state_of registers.old in
