@@ -1,5 +1,4 @@
 use Rattle.std.proofs.Common.{◌≡◌, subst, arith}
-use Rattle.alma_code.specs.Machine.{prints}
 use Rattle.alma_registers.specs.Rows.{state_of}
 use Rattle.alma_engine.specs.Runs.{last_print}
 use Rattle.alma_engine.specs.View.{MachineView}
