@@ -14,7 +14,8 @@ use Rattle.alma_io.proofs.Known.{appends_trans}
 use Rattle.alma_engine.specs.declared.machine.RunEnd.{RunEnd}
 use Rattle.alma_engine.specs.declared.machine.RunEnd.TheVariants as run
 use Rattle.alma_engine.specs.Runs.{OnWhole, ShowsLast, end_of, run_end_of, made, last_print}
-use Rattle.alma_engine.specs.View.{MachineView, IsLive, ModeAfter, PrintsOnly, goes_on, stepped}
+use Rattle.alma_registers.specs.Steps.{IsLive, ModeAfter, PrintsOnly, stepped}
+use Rattle.alma_engine.specs.View.{MachineView, goes_on}
 
 module _ (code : PlainCode) (input : List ℕ) where
   -- one more step

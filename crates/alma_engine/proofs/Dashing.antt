@@ -6,10 +6,11 @@ use Rattle.alma_code.specs.Fits.{Fits}
 use Rattle.alma_code.specs.Machine.{State, Stepped, Going, quiet_step, step, after, prints}
 use Rattle.alma_code.specs.Plain.{PlainCode}
 use Rattle.alma_code.proofs.Runs.{stays_fit}
-use Rattle.alma_engine.specs.Quick.{Quickly}
+use Rattle.alma_dispatch.specs.Quick.{Quickly}
 use Rattle.alma_engine.specs.Stands.{Stands}
 use Rattle.alma_engine.specs.Runs.{last_print}
-use Rattle.alma_engine.specs.View.{MachineView, IsLive}
+use Rattle.alma_registers.specs.Steps.{IsLive}
+use Rattle.alma_engine.specs.View.{MachineView}
 use Rattle.alma_engine.proofs.Budget.{after_more, after_sum, prints_more, prints_sum, last_sum, Progress}
 
 -- a step that was made

@@ -18,8 +18,8 @@ use Rattle.alma_code.proofs.Ready.{Ready, has_slot, number_slot, number_there, c
 use Rattle.alma_code.proofs.Acts.{number_word, place_word, mark_word, frame_live}
 use Rattle.alma_code.proofs.Links.{link_word}
 use Rattle.alma_code.proofs.Heads.{number_is}
-use Rattle.alma_engine.specs.Inputs.{HasPosition}
-use Rattle.alma_engine.specs.Rows.{HasNumber, HasNumberIn, HasCells, HasOneCell, HasPlace, HasMark, HasLink, HasLinkTo, HoldsCells, HoldsMark, HoldsPlace, IsCells, width}
+use Rattle.alma_transfers.specs.Inputs.{HasPosition}
+use Rattle.alma_registers.specs.Rows.{HasNumber, HasNumberIn, HasCells, HasOneCell, HasPlace, HasMark, HasLink, HasLinkTo, HoldsCells, HoldsMark, HoldsPlace, IsCells, width}
 use Rattle.alma_engine.proofs.Counting.{few_kinds}
 
 module _ (code : PlainCode) (sound : IsSound code) (r : ℕ) (s : State) (h : Ready code r s) where

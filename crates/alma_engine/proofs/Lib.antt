@@ -1,17 +1,6 @@
-pub mod Acting
-pub mod Back
 pub mod Budget
-pub mod Copying
 pub mod Counting
 pub mod Dashing
 pub mod Fitting
-pub mod Given
-pub mod Held
-pub mod Meetings
 pub mod Needing
-pub mod Others
-pub mod Parts
-pub mod Reading
-pub mod Stays
 pub mod Stepping
-pub mod Words

@@ -34,9 +34,9 @@ use Rattle.alma_code.proofs.Ready.{Ready, has_slot, number_at_is}
 use Rattle.alma_code.proofs.Acts.{left_ready, call_rule, holds_of_call, Obeys, slots, entries, frame_live}
 use Rattle.alma_code.proofs.Links.{link_word}
 use Rattle.alma_code.proofs.Heads.{number_is, link_of_is, place_of_is}
-use Rattle.alma_engine.specs.Calls.{IsSpot, HoldsArgument, HasArgument, HasArguments, CallsBack}
-use Rattle.alma_engine.specs.Needs.{Needs, Computes}
-use Rattle.alma_engine.specs.Rows.{HasNumber, HasPlace, HasMark, width, HoldsPlace, LeadsTo}
+use Rattle.alma_transfers.specs.Calls.{IsSpot, HoldsArgument, HasArgument, HasArguments, CallsBack}
+use Rattle.alma_dispatch.specs.Needs.{Needs, Computes}
+use Rattle.alma_registers.specs.Rows.{HasNumber, HasPlace, HasMark, width, HoldsPlace, LeadsTo}
 use Rattle.alma_engine.proofs.Counting.{few_kinds}
 use Rattle.alma_engine.proofs.Fitting.{number_has, below_of, cell_of, has_number, width_in, has_cells, has_one_cell, has_place, has_mark, holds_link, has_link, has_link_to, position_there}
 

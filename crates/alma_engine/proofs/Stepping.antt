@@ -11,9 +11,10 @@ use Rattle.alma_code.specs.Rules.{IsSound}
 use Rattle.alma_code.proofs.Runs.{start_fits, stays_fit}
 use Rattle.alma_code.specs.Machine.{Mode, State, start, Going, Failing, step, step_in, act, fetch_and_act, with_step_counted, pop}
 use Rattle.alma_code.specs.Plain.{PlainCode, head_at}
-use Rattle.alma_engine.specs.Needs.{Needs}
+use Rattle.alma_dispatch.specs.Needs.{Needs}
 use Rattle.alma_engine.specs.Stands.{Stands}
-use Rattle.alma_engine.specs.View.{IsLive, ModeAfter, goes_on, runs_after, stepped}
+use Rattle.alma_registers.specs.Steps.{IsLive, ModeAfter, stepped}
+use Rattle.alma_engine.specs.View.{goes_on, runs_after}
 use Rattle.alma_engine.proofs.Needing.{needs_at, in_code}
 
 -- a machine that goes on is at an instruction

@@ -1,10 +1,4 @@
-pub mod Calls
-pub mod Copies
-pub mod Inputs
-pub mod Meets
-pub mod Needs
-pub mod Quick
-pub mod Rows
+pub use Rattle.alma_registers.specs.Steps
 pub mod Runs
 pub mod Stands
 pub mod View

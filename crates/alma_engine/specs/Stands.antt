@@ -4,7 +4,7 @@ use Rattle.alma_code.specs.Fits.{Fits}
 use Rattle.alma_code.specs.Machine.{State}
 use Rattle.alma_code.specs.Plain.{PlainCode}
 use Rattle.alma_code.specs.Rules.{IsSound}
-use Rattle.alma_engine.specs.View.{IsLive}
+use Rattle.alma_registers.specs.Steps.{IsLive}
 
 -- its code is sound, its state fits, it has not ended, and no more entries were pushed or popped than steps made
 pub record Stands (code : PlainCode) (state : State) : Type 0 where

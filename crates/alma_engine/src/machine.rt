@@ -7,21 +7,25 @@ ghost use Rattle.alma_object.specs.View.{code_of_view, head_of_view};
 ghost use Rattle.alma_verify.specs.Verified.{code_of_verified};
 ghost use Rattle.alma_code.specs.Rules.{IsSound};
 ghost use Rattle.alma_code.specs.Machine.{Going, step, start, after, prints};
-ghost use Rattle.alma_engine.specs.Rows.{state_of};
-ghost use Rattle.alma_engine.specs.View.{stepped, runs_after, ModeAfter, PrintsOnly};
+ghost use Rattle.alma_registers.specs.Rows.{state_of};
+ghost use Rattle.alma_registers.specs.Steps.{stepped, ModeAfter, PrintsOnly};
+ghost use Rattle.alma_engine.specs.View.{runs_after};
 ghost use Rattle.alma_engine.specs.Stands.{Stands};
 ghost use Rattle.alma_io.specs.Causes.{HasCause};
 ghost use Rattle.alma_io.specs.Fronts.{AppendsFront};
 ghost use Rattle.alma_engine.specs.Runs.{ShowsLast, last_print, end_of, run_end_of, is_steps_out, all_written, made, OnWhole, OnStepsOut, OnWriteFault, OnMemory};
 ghost use Rattle.std.specs.Io.KnownBytes.{Appends};
 
-use crate::codes::CodeView;
-use crate::registers::{Mode, Registers};
+use crate::quick::dash;
 use alma_base::{NoMemory, RunFault};
 use alma_code::{End, Step};
+use alma_dispatch::act;
 use alma_io::{Sink, WriteFault, write_all};
 use alma_memory::Memory;
 use alma_object::{ObjectView, RoutineView};
+use alma_registers::{Mode, Registers};
+use alma_transfers::CodeView;
+use alma_transfers::choices::pop;
 use alma_verify::Verified;
 use std::alloc::Global;
 use std::marker::Model;
@@ -79,7 +83,7 @@ fn take<V: CodeView>(
     registers.last = at;
     registers.at = at + 1;
     registers.steps = steps + 1;
-    let step = registers.act(view, instr, input, printed);
+    let step = act(registers, view, instr, input, printed);
     if step.is_err() {
         registers.at = at;
         registers.last = last;
@@ -114,7 +118,7 @@ pub(crate) fn advance<V: CodeView>(
         Mode::Going => take(view, input, registers, printed),
         Mode::Failing => {
             registers.steps += 1;
-            Ok(registers.pop())
+            Ok(pop(registers))
         }
         Mode::Ended(_) => unreachable!(),
     }
@@ -161,7 +165,7 @@ impl<'b, 'i> Model for Machine<'b, 'i> {
     ghost Value = { MachineView };
 
     ghost use Rattle.alma_base.specs.Limits.{input_limit};
-    ghost use Rattle.alma_engine.specs.Rows.{state_of};
+    ghost use Rattle.alma_registers.specs.Rows.{state_of};
     ghost use Rattle.alma_engine.specs.Stands.{Stands};
     ghost use Rattle.alma_verify.specs.Verified.{code_of_verified};
 
@@ -317,7 +321,7 @@ impl<'b, 'i> Machine<'b, 'i> {
         ensures running { self.new.running ≡ true }
         ensures same { (self.new.code ≡ self.old.code) × (self.new.input ≡ self.old.input) }
     {
-        let made = self.registers.dash(&self.code, self.input, most);
+        let made = dash(&mut self.registers, &self.code, self.input, most);
         if made > 0 {
             self.printed.clear();
         }

@@ -16,7 +16,8 @@ use Rattle.alma_engine.proofs.Budget.{Progress, made_is, out_front}
 use Rattle.alma_engine.specs.declared.machine.RunEnd.{RunEnd}
 use Rattle.alma_engine.specs.declared.machine.RunEnd.TheVariants as run
 use Rattle.alma_engine.specs.Runs.{OnWriteFault, made}
-use Rattle.alma_engine.specs.View.{MachineView, IsLive, ModeAfter, goes_on, stepped}
+use Rattle.alma_engine.specs.Steps.{IsLive, ModeAfter, stepped}
+use Rattle.alma_engine.specs.View.{MachineView, goes_on}
 use Rattle.alma_io.specs.Fronts.{AppendsFront}
 use Rattle.alma_trace.specs.Cuts.{IsCut, OnCut, can_go}
 use Rattle.alma_trace.specs.declared.watch.Watch.{Watch}

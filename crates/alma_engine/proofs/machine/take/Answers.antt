@@ -1,4 +1,4 @@
-use Rattle.alma_engine.specs.Rows.{state_of}
+use Rattle.alma_registers.specs.Rows.{state_of}
 use Rattle.alma_engine.proofs.Stepping.{finds}
 use Rattle.alma_engine.proofs.machine.take.Goals as goal
 

@@ -1,6 +1,5 @@
 use Rattle.std.proofs.Common.{◌≡◌, subst, arith}
-use Rattle.alma_code.specs.Machine.{prints}
-use Rattle.alma_engine.specs.Rows.{state_of}
+use Rattle.alma_registers.specs.Rows.{state_of}
 use Rattle.alma_engine.specs.Runs.{last_print}
 use Rattle.alma_engine.specs.View.{MachineView}
 use Rattle.alma_engine.proofs.Dashing.{shown_after}

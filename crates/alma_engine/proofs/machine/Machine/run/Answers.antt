@@ -3,7 +3,7 @@ use Rattle.std.specs.Prelude.{is_err}
 use Rattle.std.specs.Io.KnownBytes.{Appends}
 use Rattle.alma_io.specs.Fronts.{AppendsFront}
 use Rattle.alma_code.specs.Machine.{State, after, prints}
-use Rattle.alma_engine.specs.Rows.{state_of}
+use Rattle.alma_registers.specs.Rows.{state_of}
 use Rattle.alma_engine.specs.Runs.{run_end_of, made}
 use Rattle.alma_engine.specs.View.{MachineView}
 use Rattle.alma_engine.proofs.Dashing.{progress_dash, prints_dash}

@@ -1,7 +1,7 @@
 use Rattle.std.proofs.Common.{rules, ◌≡◌, ◌∙◌, sym, subst, true, IfOk}
 use Rattle.alma_code.specs.Machine.{step}
-use Rattle.alma_engine.specs.Rows.{state_of}
-use Rattle.alma_engine.specs.View.{stepped}
+use Rattle.alma_registers.specs.Rows.{state_of}
+use Rattle.alma_registers.specs.Steps.{stepped}
 use Rattle.alma_engine.proofs.Stepping.{stands_after}
 use Rattle.alma_verify.specs.Verified.{code_of_verified}
 use Rattle.alma_engine.proofs.machine.Machine.step.Goals as goal

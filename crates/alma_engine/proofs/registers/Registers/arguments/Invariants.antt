@@ -1,5 +1,0 @@
-use Rattle.alma_engine.proofs.Given.{ReadSo}
-use Rattle.alma_engine.proofs.registers.Registers.arguments.Given as goal
-
-abbrev pub invariant-loop-i : goal.invariant-loop-i
-invariant-loop-i g l = ReadSo l.self.memory.now (g.H.Head.head l.head).params l.first l.i l.args.items

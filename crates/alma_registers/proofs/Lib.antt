@@ -1,0 +1,5 @@
+pub mod Held
+pub mod Meetings
+pub mod Parts
+pub mod Stays
+pub mod Words

@@ -1,0 +1,3 @@
+pub mod Meets
+pub mod Rows
+pub mod Steps
