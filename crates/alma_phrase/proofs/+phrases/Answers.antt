@@ -103,10 +103,10 @@ pub expression::paren-returns-in_err-at : goal.expression::paren-returns-in_err-
 expression::paren-returns-in_err-at t c = record { read = stopped _ _ _ _ c.from_residual.ensures.1 (first c.in_err-at.ensures.opened) }
 
 pub expression::paren-returns-in_err-body : goal.expression::paren-returns-in_err-body
-expression::paren-returns-in_err-body t c = record { read = stopped _ _ _ _ c.from_residual-in_err-body.ensures.1 (after (opened refl c.in_ok-at.ensures.opened) (ended_behind (λ v. some_stmts v.value) (λ v. number_stmts v.value) _ _ _ _ _ _ (matching kinds.CloseParen refl refl c.in_ok-at.ensures.opened) c.boxed.result c.followed_by.result c.followed_by.ensures.followed (in_box some_stmts number_stmts _ _ _ _ c.stmts.result c.boxed.result c.boxed.ensures.boxed c.stmts.ensures.read) (Err _) c.in_err-body.ensures.numbered)) }
+expression::paren-returns-in_err-body t c = record { read = stopped _ _ _ _ c.from_residual-in_err-body.ensures.1 (after (opened refl c.in_ok-at.ensures.opened) (ended_behind (λ v. some_stmts v.value) (λ v. number_stmts v.value) _ _ _ _ _ _ (matching kinds.CloseParen refl refl c.in_ok-at.ensures.opened) c.boxed-body.result c.followed_by.result c.followed_by.ensures.followed (in_box some_stmts number_stmts _ _ _ _ c.stmts.result c.boxed-body.result c.boxed-body.ensures.boxed c.stmts.ensures.read) (Err _) c.in_err-body.ensures.numbered)) }
 
 pub expression::paren-returns : goal.expression::paren-returns
-expression::paren-returns t c = record { read = same (ap spell_primary (rows.paren_laid c.in_ok-body.node c.in_ok-body.body)) (numbers.paren_laid c.in_ok-body.node c.in_ok-body.body) (then (opened refl c.in_ok-at.ensures.opened) (ended_behind (λ v. some_stmts v.value) (λ v. number_stmts v.value) _ _ _ _ _ _ (matching kinds.CloseParen refl refl c.in_ok-at.ensures.opened) c.boxed.result c.followed_by.result c.followed_by.ensures.followed (in_box some_stmts number_stmts _ _ _ _ c.stmts.result c.boxed.result c.boxed.ensures.boxed c.stmts.ensures.read) (Ok _) c.in_ok-body.ensures.numbered)) }
+expression::paren-returns t c = record { read = same (ap spell_primary (rows.paren_laid c.in_ok-body.node c.in_ok-body.body)) (numbers.paren_laid c.in_ok-body.node c.in_ok-body.body) (then (opened refl c.in_ok-at.ensures.opened) (ended_behind (λ v. some_stmts v.value) (λ v. number_stmts v.value) _ _ _ _ _ _ (matching kinds.CloseParen refl refl c.in_ok-at.ensures.opened) c.boxed-body.result c.followed_by.result c.followed_by.ensures.followed (in_box some_stmts number_stmts _ _ _ _ c.stmts.result c.boxed-body.result c.boxed-body.ensures.boxed c.stmts.ensures.read) (Ok _) c.in_ok-body.ensures.numbered)) }
 
 pub expression::known-returns-in_err-at : goal.expression::known-returns-in_err-at
 expression::known-returns-in_err-at t c = record { read = stopped _ _ _ _ c.from_residual.ensures.1 (first (c.in_err-at.ensures.passes _)) }
@@ -143,10 +143,10 @@ expression::ord-returns-in_err-at-2 t c = record {
 }
 
 pub expression::ord-returns-in_err-value : goal.expression::ord-returns-in_err-value
-expression::ord-returns-in_err-value t c = record { read = stopped _ _ _ _ c.from_residual-in_err-value.ensures.1 (after (passed refl refl c.in_ok-at.ensures.passes) (after (opened refl c.in_ok-at-2.ensures.opened) (ended_behind (λ v. an_expr v.value) (λ v. number_expr v.value) _ _ _ _ _ _ (matching kinds.CloseParen refl refl c.in_ok-at-2.ensures.opened) c.boxed.result c.followed_by.result c.followed_by.ensures.followed (in_box an_expr number_expr _ _ _ _ c.expr.result c.boxed.result c.boxed.ensures.boxed c.expr.ensures.read) (Err _) c.in_err-value.ensures.numbered))) }
+expression::ord-returns-in_err-value t c = record { read = stopped _ _ _ _ c.from_residual-in_err-value.ensures.1 (after (passed refl refl c.in_ok-at.ensures.passes) (after (opened refl c.in_ok-at-2.ensures.opened) (ended_behind (λ v. an_expr v.value) (λ v. number_expr v.value) _ _ _ _ _ _ (matching kinds.CloseParen refl refl c.in_ok-at-2.ensures.opened) c.boxed-value.result c.followed_by.result c.followed_by.ensures.followed (in_box an_expr number_expr _ _ _ _ c.expr.result c.boxed-value.result c.boxed-value.ensures.boxed c.expr.ensures.read) (Err _) c.in_err-value.ensures.numbered))) }
 
 pub expression::ord-returns : goal.expression::ord-returns
-expression::ord-returns t c = record { read = same (ap spell_primary (rows.ord_laid c.in_ok-value.node c.in_ok-value.value)) refl (then (passed refl refl c.in_ok-at.ensures.passes) (then (opened refl c.in_ok-at-2.ensures.opened) (ended_behind (λ v. an_expr v.value) (λ v. number_expr v.value) _ _ _ _ _ _ (matching kinds.CloseParen refl refl c.in_ok-at-2.ensures.opened) c.boxed.result c.followed_by.result c.followed_by.ensures.followed (in_box an_expr number_expr _ _ _ _ c.expr.result c.boxed.result c.boxed.ensures.boxed c.expr.ensures.read) (Ok _) c.in_ok-value.ensures.numbered))) }
+expression::ord-returns t c = record { read = same (ap spell_primary (rows.ord_laid c.in_ok-value.node c.in_ok-value.value)) refl (then (passed refl refl c.in_ok-at.ensures.passes) (then (opened refl c.in_ok-at-2.ensures.opened) (ended_behind (λ v. an_expr v.value) (λ v. number_expr v.value) _ _ _ _ _ _ (matching kinds.CloseParen refl refl c.in_ok-at-2.ensures.opened) c.boxed-value.result c.followed_by.result c.followed_by.ensures.followed (in_box an_expr number_expr _ _ _ _ c.expr.result c.boxed-value.result c.boxed-value.ensures.boxed c.expr.ensures.read) (Ok _) c.in_ok-value.ensures.numbered))) }
 
 pub expression::chr-returns-in_err-at : goal.expression::chr-returns-in_err-at
 expression::chr-returns-in_err-at t c = record { read = stopped _ _ _ _ c.from_residual.ensures.1 (first (c.in_err-at.ensures.passes _)) }
@@ -158,10 +158,10 @@ expression::chr-returns-in_err-at-2 t c = record {
 }
 
 pub expression::chr-returns-in_err-value : goal.expression::chr-returns-in_err-value
-expression::chr-returns-in_err-value t c = record { read = stopped _ _ _ _ c.from_residual-in_err-value.ensures.1 (after (passed refl refl c.in_ok-at.ensures.passes) (after (opened refl c.in_ok-at-2.ensures.opened) (ended_behind (λ v. an_expr v.value) (λ v. number_expr v.value) _ _ _ _ _ _ (matching kinds.CloseParen refl refl c.in_ok-at-2.ensures.opened) c.boxed.result c.followed_by.result c.followed_by.ensures.followed (in_box an_expr number_expr _ _ _ _ c.expr.result c.boxed.result c.boxed.ensures.boxed c.expr.ensures.read) (Err _) c.in_err-value.ensures.numbered))) }
+expression::chr-returns-in_err-value t c = record { read = stopped _ _ _ _ c.from_residual-in_err-value.ensures.1 (after (passed refl refl c.in_ok-at.ensures.passes) (after (opened refl c.in_ok-at-2.ensures.opened) (ended_behind (λ v. an_expr v.value) (λ v. number_expr v.value) _ _ _ _ _ _ (matching kinds.CloseParen refl refl c.in_ok-at-2.ensures.opened) c.boxed-value.result c.followed_by.result c.followed_by.ensures.followed (in_box an_expr number_expr _ _ _ _ c.expr.result c.boxed-value.result c.boxed-value.ensures.boxed c.expr.ensures.read) (Err _) c.in_err-value.ensures.numbered))) }
 
 pub expression::chr-returns : goal.expression::chr-returns
-expression::chr-returns t c = record { read = same (ap spell_primary (rows.chr_laid c.in_ok-value.node c.in_ok-value.value)) refl (then (passed refl refl c.in_ok-at.ensures.passes) (then (opened refl c.in_ok-at-2.ensures.opened) (ended_behind (λ v. an_expr v.value) (λ v. number_expr v.value) _ _ _ _ _ _ (matching kinds.CloseParen refl refl c.in_ok-at-2.ensures.opened) c.boxed.result c.followed_by.result c.followed_by.ensures.followed (in_box an_expr number_expr _ _ _ _ c.expr.result c.boxed.result c.boxed.ensures.boxed c.expr.ensures.read) (Ok _) c.in_ok-value.ensures.numbered))) }
+expression::chr-returns t c = record { read = same (ap spell_primary (rows.chr_laid c.in_ok-value.node c.in_ok-value.value)) refl (then (passed refl refl c.in_ok-at.ensures.passes) (then (opened refl c.in_ok-at-2.ensures.opened) (ended_behind (λ v. an_expr v.value) (λ v. number_expr v.value) _ _ _ _ _ _ (matching kinds.CloseParen refl refl c.in_ok-at-2.ensures.opened) c.boxed-value.result c.followed_by.result c.followed_by.ensures.followed (in_box an_expr number_expr _ _ _ _ c.expr.result c.boxed-value.result c.boxed-value.ensures.boxed c.expr.ensures.read) (Ok _) c.in_ok-value.ensures.numbered))) }
 
 pub expression::args_values-returns-in-Some : goal.expression::args_values-returns-in-Some
 expression::args_values-returns-in-Some t c = record {
@@ -1201,7 +1201,7 @@ pub expression::selectors-loop-form-init : goal.expression::selectors-loop-form-
 expression::selectors-loop-form-init t c = rw c.new-more.ensures.items loops.loops_start
 
 pub expression::selectors-loop-form-preserved : goal.expression::selectors-loop-form-preserved
-expression::selectors-loop-form-preserved t c = rw c.in_ok-push.ensures.items (grown lists.selectors c.loop-form.invariant c.in-Some.ensures.becomes c.in_ok-next.ensures.read)
+expression::selectors-loop-form-preserved t c = rw c.in_ok-push.ensures.items (grown {xs = c.loop-form.more.items} {x = c.in_ok-next.next} lists.selectors c.loop-form.invariant c.in-Some.ensures.becomes c.in_ok-next.ensures.read)
 
 pub expression::selectors-returns-in_err-next : goal.expression::selectors-returns-in_err-next
 expression::selectors-returns-in_err-next t c = record {
