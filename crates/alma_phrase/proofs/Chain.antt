@@ -1,6 +1,6 @@
 -- What a part gave, with the token and the end of a node behind it.
 use Rattle.std.proofs.Common.{◌≡◌, ◌<◌, ℕ, length, arith, pred, false, true, List, ◌∷◌, Result}
-use Rattle.std.proofs.Common.{Ok, Err, MatchResult, refl, sym, subst}
+use Rattle.std.proofs.Common.{Ok, Err, MatchResult, Box, Global, refl, sym, subst}
 use Rattle.std.specs.Prelude.{IsErrAnd}
 use Rattle.alma_tree.specs.declared.kind.Kind.{Kind}
 use Rattle.alma_tree.specs.Depth.{opens, closes}
@@ -8,12 +8,14 @@ use Rattle.alma_tree.specs.Numbers.{Step, token, node, ◌>>◌}
 use Rattle.alma_grammar.specs.Parts.{Part, one}
 use Rattle.alma_cursor.specs.declared.cursor.Cursor as cursors
 use Rattle.alma_cursor.specs.declared.fault.Fault.{Fault}
-use Rattle.alma_cursor.specs.Parsing.{At, position_of, Opens, Reads, Fails}
+use Rattle.alma_cursor.specs.Parsing.{At, position_of, Opens, Reads, Fails, Extends}
 use Rattle.alma_cursor.specs.Joins.{Followed, Numbered}
 use Rattle.alma_cursor.proofs.Joins as joins
 use Rattle.alma_cursor.proofs.Joins.{Gives, Token}
 use Rattle.alma_cursor.proofs.Loops.{grouped}
-use Rattle.alma_cursor.proofs.Steps.{same, passed, closed, closed_any}
+use Rattle.alma_cursor.proofs.Steps.{same, passed, closed, closed_any, counted, replaced, extending, twice}
+use Rattle.alma_cursor.proofs.Turns.{want}
+use Rattle.alma_phrase.specs.Joins.{Boxed}
 
 -- a token that opens and closes nothing, and one that closes
 pub plain : (k : Kind) (d : ℕ) → opens k ≡ false → closes k ≡ false → Token k d d
@@ -58,3 +60,24 @@ pub fewer : {T : Type 0} (s : T → List Kind → List Kind) (n : T → Step) (p
     → length (position_of u.1).kinds < length a.kinds
 fewer s n p d e a k (Ok t) u x y = omega (arith, x.1.shorter, y.shorter)
 fewer s n p d e a k (Err g) u x y = absurd (cc)
+
+module _ {T : Type 0} (s : T → List Kind → List Kind) (n : T → Step) (p : List Part → List Part) (d e : ℕ) (a : At) where
+  -- a part in a box
+  pub in_box : (r : Result (T × cursors.Cursor) Fault) (q : Result (Box T Global × cursors.Cursor) Fault) → Boxed r q → Gives s n p d e a r
+      → Gives (λ b. s b.value) (λ b. n b.value) p d e a q
+  in_box (Ok t) (Ok u) x y = subst (λ c. Reads (s u.0.value) (n u.0.value) p d e a (position_of c)) (sym x.1) (replaced s n x.0 y)
+  in_box (Ok t) (Err g) x y = want x
+  in_box (Err g) q x y = subst (Gives (λ b. s b.value) (λ b. n b.value) p d e a) (sym x) y
+
+-- what extends a first part, with the end of a node behind it
+abbrev pub Extending : {T : Type 0} → (T → List Kind → List Kind) → (T → Step) → (List Part → List Part) → (List Kind → List Kind) → Step → ℕ → At
+    → Result (T × cursors.Cursor) Fault → Type 0
+Extending s n p t m d a r = MatchResult r (λ x. Extends t m p (s x.0) (n x.0) d a (position_of x.1)) (λ e. Fails e p d a)
+
+pub ended_extending : {T : Type 0} (s : T → List Kind → List Kind) (n : T → Step) (p : List Part → List Part) (t : List Kind → List Kind) (m : Step)
+    (d : ℕ) (a : At) (r : Result (T × cursors.Cursor) Fault) (z : Result ((T × ℕ) × cursors.Cursor) Fault) → Numbered r z → Extending s n p t m d a r
+    → Extending (λ v. s v.0) (λ v. n v.0 >> node v.1) p t m d a z
+ended_extending s n p t m d a (Ok x) (Ok u) w y = subst (λ v. Extends t m p (s v) (n v >> node u.0.1) d a (position_of u.1)) (sym w.0)
+    (twice y (extending refl refl (counted w.1)))
+ended_extending s n p t m d a (Ok x) (Err g) w y = want w
+ended_extending s n p t m d a (Err g) z w y = subst (Extending (λ v. s v.0) (λ v. n v.0 >> node v.1) p t m d a) (sym w) y

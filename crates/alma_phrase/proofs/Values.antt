@@ -12,6 +12,10 @@ use Rattle.alma_tree.specs.declared.phrase.AddLink as dk
 use Rattle.alma_tree.specs.declared.phrase.MulLink as dn
 use Rattle.alma_tree.specs.declared.phrase.Desig as dd
 use Rattle.alma_tree.specs.declared.phrase.Selector as dj
+use Rattle.alma_tree.specs.declared.phrase.Primary as dp
+use Rattle.alma_tree.specs.declared.phrase.Arm as da
+use Rattle.alma_tree.specs.Spelling.{spell_primary, spell_stmt, spell_arm}
+use Rattle.alma_tree.specs.View.{view_primary, view_stmt, view_arm}
 use Rattle.alma_tree.specs.Spelling.{spell_expr, spell_stmts, spell_desig, spell_exprs, spell_term_tail, spell_factor_tail, spell_selector_tail}
 use Rattle.alma_tree.specs.Spelling.{spell_stmt_tail, spell_label_tail, spell_orelse_tail, spell_desig_tail}
 use Rattle.alma_tree.specs.View.{view_expr, view_stmts, view_desig, view_exprs, terms_of, factors_of, selectors_of, stmts_of, labels_of, orelses_of, desigs_of}
@@ -74,3 +78,12 @@ more_desigs v = spell_desig_tail (desigs_of v.items)
 
 abbrev pub count_desigs : Vec dd.Desig Global → Step
 count_desigs v = numbers_of_desigs v.items
+
+abbrev pub a_primary : dp.Primary → List Kind → List Kind
+a_primary v = spell_primary (view_primary v)
+
+abbrev pub a_stmt : dt.Stmt → List Kind → List Kind
+a_stmt v = spell_stmt (view_stmt v)
+
+abbrev pub an_arm : da.Arm → List Kind → List Kind
+an_arm v = spell_arm (view_arm v)

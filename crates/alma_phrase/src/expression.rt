@@ -16,6 +16,7 @@ ghost use Rattle.alma_cursor.specs.Forms.{paren_parts, known_parts, ord_parts, c
 ghost use Rattle.alma_phrase.specs.Pieces.{inside_of, number_inside_args, spell_signed, number_signed};
 ghost use Rattle.alma_cursor.specs.Parsing.{position_of, Reads, Extends, Fails};
 
+use crate::join::boxed;
 use crate::statement::stmts;
 use alma_cursor::{Cursor, Fault, PrimaryForm, SelectorForm, followed_by, numbered};
 use alma_tree::{
@@ -204,12 +205,10 @@ fn factor<'t, 's>(
         (λ e. Fails e (λ o. factor_part ∷ o) depth (position_of at.entry)) }
 {
     if let Some(after) = at.skip(Kind::Not) {
-        let (primary, at) = primary(alloc, after, depth)?;
-        let (node, at) = at.count()?;
+        let ((primary, node), at) = numbered(primary(alloc, after, depth))?;
         return Ok((Factor::Not { node, primary }, at));
     }
-    let (primary, at) = primary(alloc, at, depth)?;
-    let (node, at) = at.count()?;
+    let ((primary, node), at) = numbered(primary(alloc, at, depth))?;
     Ok((Factor::Plain { node, primary }, at))
 }
 
@@ -302,8 +301,8 @@ fn paren<'t, 's>(
         (λ e. Fails e paren_parts depth (position_of at.entry)) }
 {
     let (at, inner) = at.open(Kind::OpenParen, depth)?;
-    let ((body, node), at) = numbered(followed_by(stmts(alloc, at, inner), Kind::CloseParen))?;
-    let body = Box::new(alloc, body)?;
+    let body = boxed(alloc, stmts(alloc, at, inner));
+    let ((body, node), at) = numbered(followed_by(body, Kind::CloseParen))?;
     Ok((Primary::Paren { node, body }, at))
 }
 
@@ -335,8 +334,8 @@ fn ord<'t, 's>(
 {
     let at = at.expect(Kind::Ord)?;
     let (at, inner) = at.open(Kind::OpenParen, depth)?;
-    let ((value, node), at) = numbered(followed_by(expr(alloc, at, inner), Kind::CloseParen))?;
-    let value = Box::new(alloc, value)?;
+    let value = boxed(alloc, expr(alloc, at, inner));
+    let ((value, node), at) = numbered(followed_by(value, Kind::CloseParen))?;
     Ok((Primary::Ord { node, value }, at))
 }
 
@@ -352,8 +351,8 @@ fn chr<'t, 's>(
 {
     let at = at.expect(Kind::Chr)?;
     let (at, inner) = at.open(Kind::OpenParen, depth)?;
-    let ((value, node), at) = numbered(followed_by(expr(alloc, at, inner), Kind::CloseParen))?;
-    let value = Box::new(alloc, value)?;
+    let value = boxed(alloc, expr(alloc, at, inner));
+    let ((value, node), at) = numbered(followed_by(value, Kind::CloseParen))?;
     Ok((Primary::Chr { node, value }, at))
 }
 
@@ -404,9 +403,8 @@ pub fn exprs<'t, 's>(
         (number_exprs t.0) exprs_parts depth depth (position_of at.entry) (position_of t.1))
         (λ e. Fails e exprs_parts depth (position_of at.entry)) }
 {
-    let (first, at) = expr(alloc, at, depth)?;
+    let (first, at) = boxed(alloc, expr(alloc, at, depth))?;
     let (more, at) = expr_list(alloc, at, depth)?;
-    let first = Box::new(alloc, first)?;
     Ok((Exprs { first, more }, at))
 }
 
@@ -532,8 +530,7 @@ pub fn desig_value<'t, 's>(
         (λ e. Fails e (λ o. args_part ∷ factor_tail ∷ term_tail ∷ compared_part ∷ o) depth
         (position_of at.entry)) }
 {
-    let (primary, at) = named(alloc, desig, at, depth)?;
-    let (node, at) = at.count()?;
+    let ((primary, node), at) = numbered(named(alloc, desig, at, depth))?;
     let (first, at) = term_from(alloc, Factor::Plain { node, primary }, at, depth)?;
     let (left, at) = simple_from(alloc, None, first, at, depth)?;
     expr_from(alloc, left, at, depth)

@@ -2,6 +2,7 @@
 #![tactic(auto)]
 
 mod expression;
+mod join;
 mod statement;
 
 pub use expression::expr;

@@ -15,6 +15,7 @@ ghost use Rattle.alma_cursor.specs.Forms.{commit_parts, return_parts, read_parts
 ghost use Rattle.alma_cursor.specs.Parsing.{position_of, Reads, Extends, Fails};
 
 use crate::expression::{args, desig, desig_value, expr, exprs};
+use crate::join::boxed;
 use alma_cursor::{Cursor, Fault, StmtForm, followed_by, numbered};
 use alma_tree::{Arm, Desig, Elsif, Expr, Kind, Label, Stmt, Stmts};
 use std::alloc::Global;
@@ -29,9 +30,8 @@ pub fn stmts<'t, 's>(
         (number_stmts t.0) stmts_parts depth depth (position_of at.entry) (position_of t.1))
         (λ e. Fails e stmts_parts depth (position_of at.entry)) }
 {
-    let (first, at) = stmt(alloc, at, depth)?;
+    let (first, at) = boxed(alloc, stmt(alloc, at, depth))?;
     let ((more, node), at) = numbered(stmt_list(alloc, at, depth))?;
-    let first = Box::new(alloc, first)?;
     Ok((Stmts { node, first, more }, at))
 }
 
@@ -110,8 +110,7 @@ fn desig_stmt<'t, 's>(
     if at.is_at(Kind::Assign) {
         return assign(alloc, desig, at, depth);
     }
-    let (value, at) = desig_value(alloc, desig, at, depth)?;
-    let (node, at) = at.count()?;
+    let ((value, node), at) = numbered(desig_value(alloc, desig, at, depth))?;
     Ok((Stmt::Value { node, value }, at))
 }
 
@@ -340,10 +339,9 @@ fn case_stmt<'t, 's>(
 {
     let (at, inner) = at.open(Kind::Case, depth)?;
     let (value, at) = followed_by(expr(alloc, at, inner), Kind::Of)?;
-    let (first, at) = arm(alloc, at, inner)?;
+    let (first, at) = boxed(alloc, arm(alloc, at, inner))?;
     let (more, at) = arm_list(alloc, at, inner)?;
     let ((otherwise, node), at) = numbered(followed_by(otherwise(alloc, at, inner), Kind::End))?;
-    let first = Box::new(alloc, first)?;
     Ok((
         Stmt::Case {
             node,

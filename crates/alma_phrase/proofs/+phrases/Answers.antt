@@ -20,11 +20,11 @@ use Rattle.alma_cursor.proofs.Loops as loops
 use Rattle.alma_cursor.proofs.Loops.{grouped}
 use Rattle.alma_cursor.proofs.Steps.{passed, opened, closed_any, counted, then, same, replaced, skipped, becoming, extending, twice, after, first}
 use Rattle.alma_cursor.proofs.Steps.{becoming_fails, beyond, instead, instead_any, extended, extended_twice, instead_extending, extended_by, shallower, strictly}
-use Rattle.alma_cursor.proofs.Turns.{want}
-use Rattle.alma_phrase.proofs.Chain.{plain, closing, matching, ended_behind, at_depth, fewer, stopped}
+use Rattle.alma_cursor.proofs.Turns.{want, grown}
+use Rattle.alma_phrase.proofs.Chain.{plain, closing, matching, ended_behind, ended_extending, in_box, at_depth, fewer, stopped}
 use Rattle.alma_phrase.proofs.Heads as heads
 use Rattle.alma_phrase.proofs.Lists as lists
-use Rattle.alma_phrase.proofs.Values.{a_name, an_expr, some_exprs, a_desig, some_stmts, more_terms, more_factors, more_selectors, more_stmts, more_labels}
+use Rattle.alma_phrase.proofs.Values.{a_name, a_primary, a_stmt, an_arm, an_expr, some_exprs, a_desig, some_stmts, more_terms, more_factors, more_selectors, more_stmts, more_labels}
 use Rattle.alma_phrase.proofs.Values.{more_orelses, more_desigs, count_terms, count_factors, count_selectors, count_stmts, count_labels, count_orelses}
 use Rattle.alma_phrase.proofs.Values.{count_desigs}
 use Rattle.alma_phrase.proofs.+phrases.Goals as goal
@@ -103,20 +103,10 @@ pub expression::paren-returns-in_err-at : goal.expression::paren-returns-in_err-
 expression::paren-returns-in_err-at t c = record { read = stopped _ _ _ _ c.from_residual.ensures.1 (first c.in_err-at.ensures.opened) }
 
 pub expression::paren-returns-in_err-body : goal.expression::paren-returns-in_err-body
-expression::paren-returns-in_err-body t c = record {
-  read = stopped _ _ _ _ c.from_residual-in_err-body.ensures.1 (after (opened refl
-      c.in_ok-at.ensures.opened) (ended_behind some_stmts number_stmts _ _ _ _ _ _ (matching kinds.CloseParen refl refl c.in_ok-at.ensures.opened)
-      c.stmts.result c.followed_by.result c.followed_by.ensures.followed c.stmts.ensures.read (Err _) c.in_err-body.ensures.numbered));
-}
+expression::paren-returns-in_err-body t c = record { read = stopped _ _ _ _ c.from_residual-in_err-body.ensures.1 (after (opened refl c.in_ok-at.ensures.opened) (ended_behind (λ v. some_stmts v.value) (λ v. number_stmts v.value) _ _ _ _ _ _ (matching kinds.CloseParen refl refl c.in_ok-at.ensures.opened) c.boxed-body.result c.followed_by.result c.followed_by.ensures.followed (in_box some_stmts number_stmts _ _ _ _ c.stmts.result c.boxed-body.result c.boxed-body.ensures.boxed c.stmts.ensures.read) (Err _) c.in_err-body.ensures.numbered)) }
 
 pub expression::paren-returns : goal.expression::paren-returns
-expression::paren-returns t c = record {
-  read = same (ap spell_primary (rows.paren_laid c.in_ok-body.node c.in_ok-body-2.body)) (numbers.paren_laid
-      c.in_ok-body.node c.in_ok-body-2.body) (then (opened refl c.in_ok-at.ensures.opened) (replaced (λ v ks. some_stmts v (kinds.CloseParen ∷ ks)) (λ
-      v. number_stmts v >> token >> node c.in_ok-body.node) c.in_ok-body-2.ensures.ok (ended_behind some_stmts number_stmts _ _ _ _ _ _ (matching
-      kinds.CloseParen refl refl c.in_ok-at.ensures.opened) c.stmts.result c.followed_by.result c.followed_by.ensures.followed c.stmts.ensures.read (Ok
-      _) c.in_ok-body.ensures.numbered)));
-}
+expression::paren-returns t c = record { read = same (ap spell_primary (rows.paren_laid c.in_ok-body.node c.in_ok-body.body)) (numbers.paren_laid c.in_ok-body.node c.in_ok-body.body) (then (opened refl c.in_ok-at.ensures.opened) (ended_behind (λ v. some_stmts v.value) (λ v. number_stmts v.value) _ _ _ _ _ _ (matching kinds.CloseParen refl refl c.in_ok-at.ensures.opened) c.boxed-body.result c.followed_by.result c.followed_by.ensures.followed (in_box some_stmts number_stmts _ _ _ _ c.stmts.result c.boxed-body.result c.boxed-body.ensures.boxed c.stmts.ensures.read) (Ok _) c.in_ok-body.ensures.numbered)) }
 
 pub expression::known-returns-in_err-at : goal.expression::known-returns-in_err-at
 expression::known-returns-in_err-at t c = record { read = stopped _ _ _ _ c.from_residual.ensures.1 (first (c.in_err-at.ensures.passes _)) }
@@ -153,21 +143,10 @@ expression::ord-returns-in_err-at-2 t c = record {
 }
 
 pub expression::ord-returns-in_err-value : goal.expression::ord-returns-in_err-value
-expression::ord-returns-in_err-value t c = record {
-  read = stopped _ _ _ _ c.from_residual-in_err-value.ensures.1 (after (passed refl refl
-      c.in_ok-at.ensures.passes) (after (opened refl c.in_ok-at-2.ensures.opened) (ended_behind an_expr number_expr _ _ _ _ _ _ (matching
-      kinds.CloseParen refl refl c.in_ok-at-2.ensures.opened) c.expr.result c.followed_by.result c.followed_by.ensures.followed c.expr.ensures.read (Err
-      _) c.in_err-value.ensures.numbered)));
-}
+expression::ord-returns-in_err-value t c = record { read = stopped _ _ _ _ c.from_residual-in_err-value.ensures.1 (after (passed refl refl c.in_ok-at.ensures.passes) (after (opened refl c.in_ok-at-2.ensures.opened) (ended_behind (λ v. an_expr v.value) (λ v. number_expr v.value) _ _ _ _ _ _ (matching kinds.CloseParen refl refl c.in_ok-at-2.ensures.opened) c.boxed-value.result c.followed_by.result c.followed_by.ensures.followed (in_box an_expr number_expr _ _ _ _ c.expr.result c.boxed-value.result c.boxed-value.ensures.boxed c.expr.ensures.read) (Err _) c.in_err-value.ensures.numbered))) }
 
 pub expression::ord-returns : goal.expression::ord-returns
-expression::ord-returns t c = record {
-  read = same (ap spell_primary (rows.ord_laid c.in_ok-value.node c.in_ok-value-2.value)) refl (then (passed refl
-      refl c.in_ok-at.ensures.passes) (then (opened refl c.in_ok-at-2.ensures.opened) (replaced (λ v ks. an_expr v (kinds.CloseParen ∷ ks)) (λ v.
-      number_expr v >> token >> node c.in_ok-value.node) c.in_ok-value-2.ensures.ok (ended_behind an_expr number_expr _ _ _ _ _ _ (matching
-      kinds.CloseParen refl refl c.in_ok-at-2.ensures.opened) c.expr.result c.followed_by.result c.followed_by.ensures.followed c.expr.ensures.read (Ok
-      _) c.in_ok-value.ensures.numbered))));
-}
+expression::ord-returns t c = record { read = same (ap spell_primary (rows.ord_laid c.in_ok-value.node c.in_ok-value.value)) refl (then (passed refl refl c.in_ok-at.ensures.passes) (then (opened refl c.in_ok-at-2.ensures.opened) (ended_behind (λ v. an_expr v.value) (λ v. number_expr v.value) _ _ _ _ _ _ (matching kinds.CloseParen refl refl c.in_ok-at-2.ensures.opened) c.boxed-value.result c.followed_by.result c.followed_by.ensures.followed (in_box an_expr number_expr _ _ _ _ c.expr.result c.boxed-value.result c.boxed-value.ensures.boxed c.expr.ensures.read) (Ok _) c.in_ok-value.ensures.numbered))) }
 
 pub expression::chr-returns-in_err-at : goal.expression::chr-returns-in_err-at
 expression::chr-returns-in_err-at t c = record { read = stopped _ _ _ _ c.from_residual.ensures.1 (first (c.in_err-at.ensures.passes _)) }
@@ -179,21 +158,10 @@ expression::chr-returns-in_err-at-2 t c = record {
 }
 
 pub expression::chr-returns-in_err-value : goal.expression::chr-returns-in_err-value
-expression::chr-returns-in_err-value t c = record {
-  read = stopped _ _ _ _ c.from_residual-in_err-value.ensures.1 (after (passed refl refl
-      c.in_ok-at.ensures.passes) (after (opened refl c.in_ok-at-2.ensures.opened) (ended_behind an_expr number_expr _ _ _ _ _ _ (matching
-      kinds.CloseParen refl refl c.in_ok-at-2.ensures.opened) c.expr.result c.followed_by.result c.followed_by.ensures.followed c.expr.ensures.read (Err
-      _) c.in_err-value.ensures.numbered)));
-}
+expression::chr-returns-in_err-value t c = record { read = stopped _ _ _ _ c.from_residual-in_err-value.ensures.1 (after (passed refl refl c.in_ok-at.ensures.passes) (after (opened refl c.in_ok-at-2.ensures.opened) (ended_behind (λ v. an_expr v.value) (λ v. number_expr v.value) _ _ _ _ _ _ (matching kinds.CloseParen refl refl c.in_ok-at-2.ensures.opened) c.boxed-value.result c.followed_by.result c.followed_by.ensures.followed (in_box an_expr number_expr _ _ _ _ c.expr.result c.boxed-value.result c.boxed-value.ensures.boxed c.expr.ensures.read) (Err _) c.in_err-value.ensures.numbered))) }
 
 pub expression::chr-returns : goal.expression::chr-returns
-expression::chr-returns t c = record {
-  read = same (ap spell_primary (rows.chr_laid c.in_ok-value.node c.in_ok-value-2.value)) refl (then (passed refl
-      refl c.in_ok-at.ensures.passes) (then (opened refl c.in_ok-at-2.ensures.opened) (replaced (λ v ks. an_expr v (kinds.CloseParen ∷ ks)) (λ v.
-      number_expr v >> token >> node c.in_ok-value.node) c.in_ok-value-2.ensures.ok (ended_behind an_expr number_expr _ _ _ _ _ _ (matching
-      kinds.CloseParen refl refl c.in_ok-at-2.ensures.opened) c.expr.result c.followed_by.result c.followed_by.ensures.followed c.expr.ensures.read (Ok
-      _) c.in_ok-value.ensures.numbered))));
-}
+expression::chr-returns t c = record { read = same (ap spell_primary (rows.chr_laid c.in_ok-value.node c.in_ok-value.value)) refl (then (passed refl refl c.in_ok-at.ensures.passes) (then (opened refl c.in_ok-at-2.ensures.opened) (ended_behind (λ v. an_expr v.value) (λ v. number_expr v.value) _ _ _ _ _ _ (matching kinds.CloseParen refl refl c.in_ok-at-2.ensures.opened) c.boxed-value.result c.followed_by.result c.followed_by.ensures.followed (in_box an_expr number_expr _ _ _ _ c.expr.result c.boxed-value.result c.boxed-value.ensures.boxed c.expr.ensures.read) (Ok _) c.in_ok-value.ensures.numbered))) }
 
 pub expression::args_values-returns-in-Some : goal.expression::args_values-returns-in-Some
 expression::args_values-returns-in-Some t c = record {
@@ -248,20 +216,16 @@ expression::index-returns-clause-shorter t c = strictly c.in_ok-at.ensures.opene
     (Ok _) c.in_ok-indices.ensures.numbered)
 
 pub statement::stmts-returns-in_err-first : goal.statement::stmts-returns-in_err-first
-statement::stmts-returns-in_err-first t c = record { read = stopped _ _ _ _ c.from_residual.ensures.1 (first c.in_err-first.ensures.read) }
+statement::stmts-returns-in_err-first t c = record { read = stopped _ _ _ _ c.from_residual.ensures.1 (first (in_box a_stmt number_stmt _ _ _ _ c.stmt.result (Err _) c.in_err-first.ensures.boxed c.stmt.ensures.read)) }
 
 pub statement::stmts-returns-in_err-more : goal.statement::stmts-returns-in_err-more
-statement::stmts-returns-in_err-more t c = record {
-  read = stopped _ _ _ _ c.from_residual-in_err-more.ensures.1 (after c.in_ok-first.ensures.read
-      (ended more_stmts count_stmts _ _ _ _ c.stmt_list.result (Err _) c.in_err-more.ensures.numbered c.stmt_list.ensures.read));
-}
+statement::stmts-returns-in_err-more t c = record { read = stopped _ _ _ _ c.from_residual-in_err-more.ensures.1 (after (in_box a_stmt number_stmt _ _ _ _ c.stmt.result (Ok _) c.in_ok-first.ensures.boxed c.stmt.ensures.read) (ended more_stmts count_stmts _ _ _ _ c.stmt_list.result (Err _) c.in_err-more.ensures.numbered c.stmt_list.ensures.read)) }
 
 pub statement::stmts-returns : goal.statement::stmts-returns
-statement::stmts-returns t c = record {
-  read = (then (replaced (λ v. spell_stmt (view_stmt v)) number_stmt c.in_ok-first-2.ensures.ok
-      c.in_ok-first.ensures.read) (ended more_stmts count_stmts _ _ _ _ c.stmt_list.result (Ok _) c.in_ok-more.ensures.numbered
-      c.stmt_list.ensures.read));
-}
+statement::stmts-returns t c = record { read = then (in_box a_stmt number_stmt _ _ _ _ c.stmt.result (Ok _) c.in_ok-first.ensures.boxed c.stmt.ensures.read) (ended more_stmts count_stmts _ _ _ _ c.stmt_list.result (Ok _) c.in_ok-more.ensures.numbered c.stmt_list.ensures.read) }
+
+pub statement::stmts-stmt_list-requires : goal.statement::stmts-stmt_list-requires
+statement::stmts-stmt_list-requires t c = (omega (arith, (in_box a_stmt number_stmt _ _ _ _ c.stmt.result (Ok _) c.in_ok-first.ensures.boxed c.stmt.ensures.read).shorter), tt)
 
 pub statement::assign-returns-in_err-at : goal.statement::assign-returns-in_err-at
 statement::assign-returns-in_err-at t c = record { read = stopped _ _ _ _ c.from_residual.ensures.1 (first (c.in_err-at.ensures.passes _)) }
@@ -663,35 +627,27 @@ pub statement::case_stmt-returns-in_err-first : goal.statement::case_stmt-return
 statement::case_stmt-returns-in_err-first t c = record {
   read = stopped _ _ _ _ c.from_residual-in_err-first.ensures.1 (after (opened refl
       c.in_ok-at.ensures.opened) (after (followed an_expr number_expr _ _ _ _ _ (plain kinds.Of _ refl refl) c.expr.result (Ok _)
-      c.in_ok-value.ensures.followed c.expr.ensures.read) (first c.in_err-first.ensures.read)));
+      c.in_ok-value.ensures.followed c.expr.ensures.read) (first (in_box an_arm number_arm _ _ _ _ c.arm.result (Err _) c.in_err-first.ensures.boxed c.arm.ensures.read))));
 }
 
 pub statement::case_stmt-returns-in_err-more : goal.statement::case_stmt-returns-in_err-more
 statement::case_stmt-returns-in_err-more t c = record {
   read = stopped _ _ _ _ c.from_residual-in_err-more.ensures.1 (after (opened refl
       c.in_ok-at.ensures.opened) (after (followed an_expr number_expr _ _ _ _ _ (plain kinds.Of _ refl refl) c.expr.result (Ok _)
-      c.in_ok-value.ensures.followed c.expr.ensures.read) (after c.in_ok-first.ensures.read (first c.in_err-more.ensures.read))));
+      c.in_ok-value.ensures.followed c.expr.ensures.read) (after (in_box an_arm number_arm _ _ _ _ c.arm.result (Ok _) c.in_ok-first.ensures.boxed c.arm.ensures.read) (first c.in_err-more.ensures.read))));
 }
 
 pub statement::case_stmt-returns-in_err-otherwise : goal.statement::case_stmt-returns-in_err-otherwise
 statement::case_stmt-returns-in_err-otherwise t c = record {
   read = stopped _ _ _ _ c.from_residual-in_err-otherwise.ensures.1 (after (opened refl
       c.in_ok-at.ensures.opened) (after (followed an_expr number_expr _ _ _ _ _ (plain kinds.Of _ refl refl) c.expr.result (Ok _)
-      c.in_ok-value.ensures.followed c.expr.ensures.read) (after c.in_ok-first.ensures.read (after c.in_ok-more.ensures.read (ended_behind (λ v.
+      c.in_ok-value.ensures.followed c.expr.ensures.read) (after (in_box an_arm number_arm _ _ _ _ c.arm.result (Ok _) c.in_ok-first.ensures.boxed c.arm.ensures.read) (after c.in_ok-more.ensures.read (ended_behind (λ v.
       spell_else (else_of v)) numbers_of_else _ _ _ _ _ _ (matching kinds.End refl refl c.in_ok-at.ensures.opened) c.otherwise.result
       c.followed_by-2.result c.followed_by-2.ensures.followed c.otherwise.ensures.read (Err _) c.in_err-otherwise.ensures.numbered)))));
 }
 
 pub statement::case_stmt-returns : goal.statement::case_stmt-returns
-statement::case_stmt-returns t c = record {
-  read = same (ap spell_stmt (rows.case_laid c.in_ok-otherwise.node c.in_ok-value.value
-      c.in_ok-first-2.first c.in_ok-more.more c.in_ok-otherwise.otherwise)) (numbers.case_laid c.in_ok-otherwise.node c.in_ok-value.value
-      c.in_ok-first-2.first c.in_ok-more.more c.in_ok-otherwise.otherwise) (then (opened refl c.in_ok-at.ensures.opened) (behind an_expr number_expr _ _
-      _ _ _ (plain kinds.Of _ refl refl) c.expr.result _ c.in_ok-value.ensures.followed c.expr.ensures.read (then (replaced (λ v. spell_arm (view_arm
-      v)) number_arm c.in_ok-first-2.ensures.ok c.in_ok-first.ensures.read) (then c.in_ok-more.ensures.read (ended_behind (λ v. spell_else (else_of v))
-      numbers_of_else _ _ _ _ _ _ (matching kinds.End refl refl c.in_ok-at.ensures.opened) c.otherwise.result c.followed_by-2.result
-      c.followed_by-2.ensures.followed c.otherwise.ensures.read (Ok _) c.in_ok-otherwise.ensures.numbered)))));
-}
+statement::case_stmt-returns t c = record { read = same (ap spell_stmt (rows.case_laid c.in_ok-otherwise.node c.in_ok-value.value c.in_ok-first.first c.in_ok-more.more c.in_ok-otherwise.otherwise)) (numbers.case_laid c.in_ok-otherwise.node c.in_ok-value.value c.in_ok-first.first c.in_ok-more.more c.in_ok-otherwise.otherwise) (then (opened refl c.in_ok-at.ensures.opened) (behind an_expr number_expr _ _ _ _ _ (plain kinds.Of _ refl refl) c.expr.result _ c.in_ok-value.ensures.followed c.expr.ensures.read (then (in_box an_arm number_arm _ _ _ _ c.arm.result (Ok _) c.in_ok-first.ensures.boxed c.arm.ensures.read) (then c.in_ok-more.ensures.read (ended_behind (λ v. spell_else (else_of v)) numbers_of_else _ _ _ _ _ _ (matching kinds.End refl refl c.in_ok-at.ensures.opened) c.otherwise.result c.followed_by-2.result c.followed_by-2.ensures.followed c.otherwise.ensures.read (Ok _) c.in_ok-otherwise.ensures.numbered))))) }
 
 pub statement::case_stmt-arm-requires : goal.statement::case_stmt-arm-requires
 statement::case_stmt-arm-requires t c = (
@@ -711,7 +667,7 @@ statement::case_stmt-arm_list-requires t c = (
     c.in_ok-at.ensures.opened.passes.shorter,
     fewer an_expr number_expr _ _ _ _ _
         c.expr.result _ c.in_ok-value.ensures.followed c.expr.ensures.read,
-    c.in_ok-first.ensures.read.shorter,
+    (in_box an_arm number_arm _ _ _ _ c.arm.result (Ok _) c.in_ok-first.ensures.boxed c.arm.ensures.read).shorter,
   ),
   tt,
 )
@@ -723,7 +679,7 @@ statement::case_stmt-otherwise-requires t c = (
     c.in_ok-at.ensures.opened.passes.shorter,
     fewer an_expr number_expr _ _ _ _ _
         c.expr.result _ c.in_ok-value.ensures.followed c.expr.ensures.read,
-    c.in_ok-first.ensures.read.shorter,
+    (in_box an_arm number_arm _ _ _ _ c.arm.result (Ok _) c.in_ok-first.ensures.boxed c.arm.ensures.read).shorter,
     c.in_ok-more.ensures.read.shorter,
   ),
   tt,
@@ -974,33 +930,25 @@ expression::term-returns t c = record {
 }
 
 pub expression::desig_value-returns-in_err-primary : goal.expression::desig_value-returns-in_err-primary
-expression::desig_value-returns-in_err-primary t c = record { read = stopped _ _ _ _ c.from_residual.ensures.1 (first c.in_err-primary.ensures.read) }
-
-pub expression::desig_value-returns-in_err-node : goal.expression::desig_value-returns-in_err-node
-expression::desig_value-returns-in_err-node t c = record {
-  read = stopped _ _ _ _ c.from_residual-in_err-node.ensures.1 (want
-      c.in_err-node.ensures.counted);
-}
+expression::desig_value-returns-in_err-primary t c = record { read = stopped _ _ _ _ c.from_residual.ensures.1 (first (ended_extending a_primary number_primary _ _ _ _ _ c.named.result (Err _) c.in_err-primary.ensures.numbered c.named.ensures.read)) }
 
 pub expression::desig_value-returns-in_err-first : goal.expression::desig_value-returns-in_err-first
-expression::desig_value-returns-in_err-first t c = record {
-  read = stopped _ _ _ _ c.from_residual-in_err-first.ensures.1 (beyond (twice
-      c.in_ok-primary.ensures.read (extending refl refl (counted c.in_ok-node.ensures.counted))) (first c.in_err-first.ensures.read));
-}
+expression::desig_value-returns-in_err-first t c = record { read = stopped _ _ _ _ c.from_residual-in_err-first.ensures.1 (beyond (ended_extending a_primary number_primary _ _ _ _ _ c.named.result (Ok _) c.in_ok-primary.ensures.numbered c.named.ensures.read) (first c.in_err-first.ensures.read)) }
 
 pub expression::desig_value-returns-in_err-left : goal.expression::desig_value-returns-in_err-left
-expression::desig_value-returns-in_err-left t c = record {
-  read = stopped _ _ _ _ c.from_residual-in_err-left.ensures.1 (beyond (twice
-      c.in_ok-primary.ensures.read (twice (extending refl refl (counted c.in_ok-node.ensures.counted)) c.in_ok-first.ensures.read)) (first
-      c.in_err-left.ensures.read));
-}
+expression::desig_value-returns-in_err-left t c = record { read = stopped _ _ _ _ c.from_residual-in_err-left.ensures.1 (beyond (twice (ended_extending a_primary number_primary _ _ _ _ _ c.named.result (Ok _) c.in_ok-primary.ensures.numbered c.named.ensures.read) c.in_ok-first.ensures.read) (first c.in_err-left.ensures.read)) }
 
 pub expression::desig_value-returns : goal.expression::desig_value-returns
-expression::desig_value-returns t c = record {
-  read = extended_twice c.expr_from.result (λ v. spell_expr (view_expr v)) number_expr (λ o.
-      compared_part ∷ o) (twice c.in_ok-primary.ensures.read (twice (extending refl refl (counted c.in_ok-node.ensures.counted)) (twice
-      c.in_ok-first.ensures.read c.in_ok-left.ensures.read))) c.expr_from.ensures.read;
-}
+expression::desig_value-returns t c = record { read = extended_twice c.expr_from.result (λ v. spell_expr (view_expr v)) number_expr (λ o. compared_part ∷ o) (twice (ended_extending a_primary number_primary _ _ _ _ _ c.named.result (Ok _) c.in_ok-primary.ensures.numbered c.named.ensures.read) (twice c.in_ok-first.ensures.read c.in_ok-left.ensures.read)) c.expr_from.ensures.read }
+
+pub expression::desig_value-term_from-requires : goal.expression::desig_value-term_from-requires
+expression::desig_value-term_from-requires t c = (omega (arith, (ended_extending a_primary number_primary _ _ _ _ _ c.named.result (Ok _) c.in_ok-primary.ensures.numbered c.named.ensures.read).shorter), tt)
+
+pub expression::desig_value-simple_from-requires : goal.expression::desig_value-simple_from-requires
+expression::desig_value-simple_from-requires t c = (omega (arith, (ended_extending a_primary number_primary _ _ _ _ _ c.named.result (Ok _) c.in_ok-primary.ensures.numbered c.named.ensures.read).shorter, c.in_ok-first.ensures.read.shorter), tt)
+
+pub expression::desig_value-expr_from-requires : goal.expression::desig_value-expr_from-requires
+expression::desig_value-expr_from-requires t c = (omega (arith, (ended_extending a_primary number_primary _ _ _ _ _ c.named.result (Ok _) c.in_ok-primary.ensures.numbered c.named.ensures.read).shorter, c.in_ok-first.ensures.read.shorter, c.in_ok-left.ensures.read.shorter), tt)
 
 pub expression::compared-returns-in_default : goal.expression::compared-returns-in_default
 expression::compared-returns-in_default t c = record { read = skipped c.in_default.ensures.passes }
@@ -1029,13 +977,10 @@ pub expression::terms-loop-operator-init : goal.expression::terms-loop-operator-
 expression::terms-loop-operator-init t c = rw c.new-more.ensures.items loops.loops_start
 
 pub expression::terms-loop-operator-preserved : goal.expression::terms-loop-operator-preserved
-expression::terms-loop-operator-preserved t c = rw c.in_ok-push.ensures.items (loops.turned (lists.terms_spelled_rolled c.loop-operator.more.items
-    (record { operator = c.in-Some.operator; operand = c.in_ok-operand.operand })) (lists.terms_numbered_rolled c.loop-operator.more.items (record {
-      operator = c.in-Some.operator;
-      operand = c.in_ok-operand.operand;
-    })) c.loop-operator.invariant (heads.begins_add c.in-Some.operator
-    c.in-Some.ensures.passes) (then (passed (heads.add_opens c.in-Some.operator) (heads.add_closes c.in-Some.operator) c.in-Some.ensures.passes)
-    c.in_ok-operand.ensures.read))
+expression::terms-loop-operator-preserved t c =
+    rw c.in_ok-push.ensures.items (grown lists.terms c.loop-operator.invariant (heads.begins_add c.in-Some.operator c.in-Some.ensures.passes)
+    (lists.term_rolled (record { operator = c.in-Some.operator; operand = c.in_ok-operand.operand }) refl (then (passed (heads.add_opens c.in-Some.operator)
+    (heads.add_closes c.in-Some.operator) c.in-Some.ensures.passes) c.in_ok-operand.ensures.read)))
 
 pub expression::terms-returns-in_err-operand : goal.expression::terms-returns-in_err-operand
 expression::terms-returns-in_err-operand t c = record {
@@ -1051,13 +996,9 @@ pub expression::factors-loop-operator-init : goal.expression::factors-loop-opera
 expression::factors-loop-operator-init t c = rw c.new-more.ensures.items loops.loops_start
 
 pub expression::factors-loop-operator-preserved : goal.expression::factors-loop-operator-preserved
-expression::factors-loop-operator-preserved t c = rw c.in_ok-push.ensures.items (loops.turned (lists.factors_spelled c.loop-operator.more.items
-    (record { operator = c.in-Some.operator; operand = c.in_ok-operand.operand })) (lists.factors_numbered c.loop-operator.more.items (record {
-      operator = c.in-Some.operator;
-      operand = c.in_ok-operand.operand;
-    })) c.loop-operator.invariant (heads.begins_mul c.in-Some.operator
-    c.in-Some.ensures.passes) (then (passed (heads.mul_opens c.in-Some.operator) (heads.mul_closes c.in-Some.operator) c.in-Some.ensures.passes)
-    c.in_ok-operand.ensures.read))
+expression::factors-loop-operator-preserved t c =
+    rw c.in_ok-push.ensures.items (grown lists.factors c.loop-operator.invariant (heads.begins_mul c.in-Some.operator c.in-Some.ensures.passes)
+    (then (passed (heads.mul_opens c.in-Some.operator) (heads.mul_closes c.in-Some.operator) c.in-Some.ensures.passes) c.in_ok-operand.ensures.read))
 
 pub expression::factors-returns-in_err-operand : goal.expression::factors-returns-in_err-operand
 expression::factors-returns-in_err-operand t c = record {
@@ -1070,40 +1011,16 @@ pub expression::factors-returns : goal.expression::factors-returns
 expression::factors-returns t c = record { read = loops.ended c.loop-operator.invariant c.in_default.ensures.passes }
 
 pub expression::factor-returns-in_err-primary : goal.expression::factor-returns-in_err-primary
-expression::factor-returns-in_err-primary t c = record {
-  read = stopped _ _ _ _ c.from_residual.ensures.1 (becoming_fails (heads.begins_not
-      c.in-Some.ensures.passes) (after (passed refl refl c.in-Some.ensures.passes) (first c.in_err-primary.ensures.read)));
-}
-
-pub expression::factor-returns-in_err-node : goal.expression::factor-returns-in_err-node
-expression::factor-returns-in_err-node t c = record {
-  read = stopped _ _ _ _ c.from_residual-in_err-node.ensures.1 (want
-      c.in_err-node.ensures.counted);
-}
+expression::factor-returns-in_err-primary t c = record { read = stopped _ _ _ _ c.from_residual.ensures.1 (becoming_fails (heads.begins_not c.in-Some.ensures.passes) (after (passed refl refl c.in-Some.ensures.passes) (ended a_primary number_primary _ _ _ _ c.primary.result (Err _) c.in_err-primary.ensures.numbered c.primary.ensures.read))) }
 
 pub expression::factor-returns-in-Some : goal.expression::factor-returns-in-Some
-expression::factor-returns-in-Some t c = record {
-  read = becoming (heads.begins_not c.in-Some.ensures.passes) (then (passed refl refl
-      c.in-Some.ensures.passes) (then c.in_ok-primary.ensures.read (counted c.in_ok-node.ensures.counted)));
-}
+expression::factor-returns-in-Some t c = record { read = becoming (heads.begins_not c.in-Some.ensures.passes) (then (passed refl refl c.in-Some.ensures.passes) (ended a_primary number_primary _ _ _ _ c.primary.result (Ok _) c.in_ok-primary.ensures.numbered c.primary.ensures.read)) }
 
 pub expression::factor-returns-in_err-primary-2 : goal.expression::factor-returns-in_err-primary-2
-expression::factor-returns-in_err-primary-2 t c = record {
-  read = stopped _ _ _ _ c.from_residual-in_err-primary-2.ensures.1 (becoming_fails
-      (heads.no_not _ c.in_default.ensures.passes) (first c.in_err-primary-2.ensures.read));
-}
-
-pub expression::factor-returns-in_err-node-2 : goal.expression::factor-returns-in_err-node-2
-expression::factor-returns-in_err-node-2 t c = record {
-  read = stopped _ _ _ _ c.from_residual-in_err-node-2.ensures.1 (want
-      c.in_err-node-2.ensures.counted);
-}
+expression::factor-returns-in_err-primary-2 t c = record { read = stopped _ _ _ _ c.from_residual-in_err-primary-2.ensures.1 (becoming_fails (heads.no_not _ c.in_default.ensures.passes) (ended a_primary number_primary _ _ _ _ c.primary-2.result (Err _) c.in_err-primary-2.ensures.numbered c.primary-2.ensures.read)) }
 
 pub expression::factor-returns : goal.expression::factor-returns
-expression::factor-returns t c = record {
-  read = becoming (heads.no_not _ c.in_default.ensures.passes) (then c.in_ok-primary-2.ensures.read (counted
-      c.in_ok-node-2.ensures.counted));
-}
+expression::factor-returns t c = record { read = becoming (heads.no_not _ c.in_default.ensures.passes) (ended a_primary number_primary _ _ _ _ c.primary-2.result (Ok _) c.in_ok-primary-2.ensures.numbered c.primary-2.ensures.read) }
 
 pub expression::simple-term-requires : goal.expression::simple-term-requires
 expression::simple-term-requires t c = (omega (arith, (c.sign-sign.ensures.read 0).shorter), tt)
@@ -1112,23 +1029,16 @@ pub expression::simple-simple_from-requires : goal.expression::simple-simple_fro
 expression::simple-simple_from-requires t c = (omega (arith, (c.sign-sign.ensures.read 0).shorter, c.in_ok-first.ensures.read.shorter), tt)
 
 pub expression::exprs-returns-in_err-first : goal.expression::exprs-returns-in_err-first
-expression::exprs-returns-in_err-first t c = record { read = stopped _ _ _ _ c.from_residual.ensures.1 (first c.in_err-first.ensures.read) }
+expression::exprs-returns-in_err-first t c = record { read = stopped _ _ _ _ c.from_residual.ensures.1 (first (in_box an_expr number_expr _ _ _ _ c.expr.result (Err _) c.in_err-first.ensures.boxed c.expr.ensures.read)) }
 
 pub expression::exprs-returns-in_err-more : goal.expression::exprs-returns-in_err-more
-expression::exprs-returns-in_err-more t c = record {
-  read = stopped _ _ _ _ c.from_residual-in_err-more.ensures.1 (after c.in_ok-first.ensures.read
-      (first c.in_err-more.ensures.read));
-}
+expression::exprs-returns-in_err-more t c = record { read = stopped _ _ _ _ c.from_residual-in_err-more.ensures.1 (after (in_box an_expr number_expr _ _ _ _ c.expr.result (Ok _) c.in_ok-first.ensures.boxed c.expr.ensures.read) (first c.in_err-more.ensures.read)) }
 
 pub expression::exprs-returns : goal.expression::exprs-returns
-expression::exprs-returns t c = record {
-  read = same (ap spell_exprs (rows.exprs_rolled (record {
-    first = c.in_ok-first-2.first;
-    more =
-        c.in_ok-more.more;
-  }))) (numbers.exprs_rolled (record { first = c.in_ok-first-2.first; more = c.in_ok-more.more })) (then (replaced (λ v.
-      spell_expr (view_expr v)) number_expr c.in_ok-first-2.ensures.ok c.in_ok-first.ensures.read) c.in_ok-more.ensures.read);
-}
+expression::exprs-returns t c = record { read = same (ap spell_exprs (rows.exprs_rolled (record { first = c.in_ok-first.first; more = c.in_ok-more.more }))) (numbers.exprs_rolled (record { first = c.in_ok-first.first; more = c.in_ok-more.more })) (then (in_box an_expr number_expr _ _ _ _ c.expr.result (Ok _) c.in_ok-first.ensures.boxed c.expr.ensures.read) c.in_ok-more.ensures.read) }
+
+pub expression::exprs-expr_list-requires : goal.expression::exprs-expr_list-requires
+expression::exprs-expr_list-requires t c = (omega (arith, (in_box an_expr number_expr _ _ _ _ c.expr.result (Ok _) c.in_ok-first.ensures.boxed c.expr.ensures.read).shorter), tt)
 
 pub expression::named-returns-in_err-args : goal.expression::named-returns-in_err-args
 expression::named-returns-in_err-args t c = record { read = stopped _ _ _ _ c.from_residual.ensures.1 (first c.in_err-args.ensures.read) }
@@ -1148,9 +1058,7 @@ pub expression::expr_list-loop-after-init : goal.expression::expr_list-loop-afte
 expression::expr_list-loop-after-init t c = rw c.new-more.ensures.items loops.loops_start
 
 pub expression::expr_list-loop-after-preserved : goal.expression::expr_list-loop-after-preserved
-expression::expr_list-loop-after-preserved t c = rw c.in_ok-push.ensures.items (loops.turned (lists.exprs_spelled c.loop-after.more.items
-    c.in_ok-next.next) (lists.exprs_numbered c.loop-after.more.items c.in_ok-next.next) c.loop-after.invariant (heads.begins_exprs
-    c.in-Some.ensures.passes) (then (passed refl refl c.in-Some.ensures.passes) c.in_ok-next.ensures.read))
+expression::expr_list-loop-after-preserved t c = rw c.in_ok-push.ensures.items (grown lists.exprs c.loop-after.invariant (heads.begins_exprs c.in-Some.ensures.passes) (then (passed refl refl c.in-Some.ensures.passes) c.in_ok-next.ensures.read))
 
 pub expression::expr_list-returns-in_err-next : goal.expression::expr_list-returns-in_err-next
 expression::expr_list-returns-in_err-next t c = record {
@@ -1278,9 +1186,7 @@ pub statement::desig_list-loop-after-init : goal.statement::desig_list-loop-afte
 statement::desig_list-loop-after-init t c = rw c.new-more.ensures.items loops.loops_start
 
 pub statement::desig_list-loop-after-preserved : goal.statement::desig_list-loop-after-preserved
-statement::desig_list-loop-after-preserved t c = rw c.in_ok-push.ensures.items (loops.turned (lists.desigs_spelled c.loop-after.more.items
-    c.in_ok-next.next) (lists.desigs_numbered c.loop-after.more.items c.in_ok-next.next) c.loop-after.invariant (heads.begins_desigs
-    c.in-Some.ensures.passes) (then (passed refl refl c.in-Some.ensures.passes) c.in_ok-next.ensures.read))
+statement::desig_list-loop-after-preserved t c = rw c.in_ok-push.ensures.items (grown lists.desigs c.loop-after.invariant (heads.begins_desigs c.in-Some.ensures.passes) (then (passed refl refl c.in-Some.ensures.passes) c.in_ok-next.ensures.read))
 
 pub statement::desig_list-returns-in_err-next : goal.statement::desig_list-returns-in_err-next
 statement::desig_list-returns-in_err-next t c = record {
@@ -1295,9 +1201,7 @@ pub expression::selectors-loop-form-init : goal.expression::selectors-loop-form-
 expression::selectors-loop-form-init t c = rw c.new-more.ensures.items loops.loops_start
 
 pub expression::selectors-loop-form-preserved : goal.expression::selectors-loop-form-preserved
-expression::selectors-loop-form-preserved t c = rw c.in_ok-push.ensures.items (loops.turned (lists.selectors_spelled c.loop-form.more.items
-    c.in_ok-next.next) (lists.selectors_numbered c.loop-form.more.items c.in_ok-next.next) c.loop-form.invariant c.in-Some.ensures.becomes
-    c.in_ok-next.ensures.read)
+expression::selectors-loop-form-preserved t c = rw c.in_ok-push.ensures.items (grown {xs = c.loop-form.more.items} {x = c.in_ok-next.next} lists.selectors c.loop-form.invariant c.in-Some.ensures.becomes c.in_ok-next.ensures.read)
 
 pub expression::selectors-returns-in_err-next : goal.expression::selectors-returns-in_err-next
 expression::selectors-returns-in_err-next t c = record {
@@ -1346,9 +1250,7 @@ pub statement::stmt_list-loop-after-init : goal.statement::stmt_list-loop-after-
 statement::stmt_list-loop-after-init t c = rw c.new-more.ensures.items loops.loops_start
 
 pub statement::stmt_list-loop-after-preserved : goal.statement::stmt_list-loop-after-preserved
-statement::stmt_list-loop-after-preserved t c = rw c.in_ok-push.ensures.items (loops.turned (lists.stmts_spelled c.loop-after.more.items
-    c.in_ok-next.next) (lists.stmts_numbered c.loop-after.more.items c.in_ok-next.next) c.loop-after.invariant (heads.begins_stmts
-    c.in-Some.ensures.passes) (then (passed refl refl c.in-Some.ensures.passes) c.in_ok-next.ensures.read))
+statement::stmt_list-loop-after-preserved t c = rw c.in_ok-push.ensures.items (grown lists.stmts c.loop-after.invariant (heads.begins_stmts c.in-Some.ensures.passes) (then (passed refl refl c.in-Some.ensures.passes) c.in_ok-next.ensures.read))
 
 pub statement::stmt_list-returns-in_err-next : goal.statement::stmt_list-returns-in_err-next
 statement::stmt_list-returns-in_err-next t c = record {
@@ -1467,31 +1369,16 @@ statement::desig_stmt-returns-then-is_at t c = record {
 }
 
 pub statement::desig_stmt-returns-in_err-value : goal.statement::desig_stmt-returns-in_err-value
-statement::desig_stmt-returns-in_err-value t c = record {
-  read = stopped _ _ _ _ c.from_residual-in_err-value.ensures.1 (after
-      c.in_ok-desig.ensures.read (becoming_fails (heads.no_assign _ (sym c.is_at.ensures.starts ∙ c.if-is_at.false)) (first
-      c.in_err-value.ensures.read)));
-}
-
-pub statement::desig_stmt-returns-in_err-node : goal.statement::desig_stmt-returns-in_err-node
-statement::desig_stmt-returns-in_err-node t c = record {
-  read = stopped _ _ _ _ c.from_residual-in_err-node.ensures.1 (want
-      c.in_err-node.ensures.counted);
-}
+statement::desig_stmt-returns-in_err-value t c = record { read = stopped _ _ _ _ c.from_residual-in_err-value.ensures.1 (after c.in_ok-desig.ensures.read (becoming_fails (heads.no_assign _ (sym c.is_at.ensures.starts ∙ c.if-is_at.false)) (ended_extending an_expr number_expr _ _ _ _ _ c.desig_value.result (Err _) c.in_err-value.ensures.numbered c.desig_value.ensures.read))) }
 
 pub statement::desig_stmt-returns : goal.statement::desig_stmt-returns
-statement::desig_stmt-returns t c = record {
-  read = then (extended_by (heads.no_assign _ (sym c.is_at.ensures.starts ∙ c.if-is_at.false))
-      c.in_ok-desig.ensures.read c.in_ok-value.ensures.read) (counted c.in_ok-node.ensures.counted);
-}
+statement::desig_stmt-returns t c = record { read = extended_by (heads.no_assign _ (sym c.is_at.ensures.starts ∙ c.if-is_at.false)) c.in_ok-desig.ensures.read (ended_extending an_expr number_expr _ _ _ _ _ c.desig_value.result (Ok _) c.in_ok-value.ensures.numbered c.desig_value.ensures.read) }
 
 pub statement::arm_list-loop-after-init : goal.statement::arm_list-loop-after-init
 statement::arm_list-loop-after-init t c = rw c.new-more.ensures.items loops.loops_start
 
 pub statement::arm_list-loop-after-preserved : goal.statement::arm_list-loop-after-preserved
-statement::arm_list-loop-after-preserved t c = rw c.in_ok-push.ensures.items (loops.turned (lists.arms_spelled c.loop-after.more.items
-    c.in_ok-next.next) (lists.arms_numbered c.loop-after.more.items c.in_ok-next.next) c.loop-after.invariant (heads.begins_arms
-    c.in-Some.ensures.passes) (then (passed refl refl c.in-Some.ensures.passes) c.in_ok-next.ensures.read))
+statement::arm_list-loop-after-preserved t c = rw c.in_ok-push.ensures.items (grown lists.arms c.loop-after.invariant (heads.begins_arms c.in-Some.ensures.passes) (then (passed refl refl c.in-Some.ensures.passes) c.in_ok-next.ensures.read))
 
 pub statement::arm_list-returns-in_err-next : goal.statement::arm_list-returns-in_err-next
 statement::arm_list-returns-in_err-next t c = record {
@@ -1506,9 +1393,7 @@ pub statement::label_list-loop-after-init : goal.statement::label_list-loop-afte
 statement::label_list-loop-after-init t c = rw c.new-more.ensures.items loops.loops_start
 
 pub statement::label_list-loop-after-preserved : goal.statement::label_list-loop-after-preserved
-statement::label_list-loop-after-preserved t c = rw c.in_ok-push.ensures.items (loops.turned (lists.labels_spelled c.loop-after.more.items
-    c.in_ok-next.next) (lists.labels_numbered c.loop-after.more.items c.in_ok-next.next) c.loop-after.invariant (heads.begins_labels
-    c.in-Some.ensures.passes) (then (passed refl refl c.in-Some.ensures.passes) c.in_ok-next.ensures.read))
+statement::label_list-loop-after-preserved t c = rw c.in_ok-push.ensures.items (grown lists.labels c.loop-after.invariant (heads.begins_labels c.in-Some.ensures.passes) (then (passed refl refl c.in-Some.ensures.passes) c.in_ok-next.ensures.read))
 
 pub statement::label_list-returns-in_err-next : goal.statement::label_list-returns-in_err-next
 statement::label_list-returns-in_err-next t c = record {
@@ -1523,13 +1408,10 @@ pub statement::elsif_list-loop-after-init : goal.statement::elsif_list-loop-afte
 statement::elsif_list-loop-after-init t c = rw c.new-more.ensures.items loops.loops_start
 
 pub statement::elsif_list-loop-after-preserved : goal.statement::elsif_list-loop-after-preserved
-statement::elsif_list-loop-after-preserved t c = rw c.in_ok-push.ensures.items (loops.turned (lists.elsifs_spelled_rolled c.loop-after.more.items
-    (record { test = c.in_ok-test.test; then = c.in_ok-then.then })) (lists.elsifs_numbered_rolled c.loop-after.more.items (record {
-      test =
-          c.in_ok-test.test;
-      then = c.in_ok-then.then;
-    })) c.loop-after.invariant (heads.begins_elsifs c.in-Some.ensures.passes) (then (passed refl refl
-    c.in-Some.ensures.passes) (then c.in_ok-test.ensures.read (then (passed refl refl c.in_ok-after.ensures.passes) c.in_ok-then.ensures.read))))
+statement::elsif_list-loop-after-preserved t c =
+    rw c.in_ok-push.ensures.items (grown lists.elsifs c.loop-after.invariant (heads.begins_elsifs c.in-Some.ensures.passes) (lists.elsif_rolled
+    (record { test = c.in_ok-test.test; then = c.in_ok-then.then }) refl (then (passed refl refl c.in-Some.ensures.passes) (then c.in_ok-test.ensures.read
+    (then (passed refl refl c.in_ok-after.ensures.passes) c.in_ok-then.ensures.read)))))
 
 pub statement::elsif_list-returns-in_err-test : goal.statement::elsif_list-returns-in_err-test
 statement::elsif_list-returns-in_err-test t c = record {
@@ -1609,9 +1491,7 @@ pub statement::orelse_list-loop-after-init : goal.statement::orelse_list-loop-af
 statement::orelse_list-loop-after-init t c = rw c.new-more.ensures.items loops.loops_start
 
 pub statement::orelse_list-loop-after-preserved : goal.statement::orelse_list-loop-after-preserved
-statement::orelse_list-loop-after-preserved t c = rw c.in_ok-push.ensures.items (loops.turned (lists.orelses_spelled c.loop-after.more.items
-    c.in_ok-next.next) (lists.orelses_numbered c.loop-after.more.items c.in_ok-next.next) c.loop-after.invariant (heads.begins_orelses
-    c.in-Some.ensures.passes) (then (passed refl refl c.in-Some.ensures.passes) c.in_ok-next.ensures.read))
+statement::orelse_list-loop-after-preserved t c = rw c.in_ok-push.ensures.items (grown lists.orelses c.loop-after.invariant (heads.begins_orelses c.in-Some.ensures.passes) (then (passed refl refl c.in-Some.ensures.passes) c.in_ok-next.ensures.read))
 
 pub statement::orelse_list-returns-in_err-next : goal.statement::orelse_list-returns-in_err-next
 statement::orelse_list-returns-in_err-next t c = record {

@@ -1,22 +1,18 @@
 use Rattle.std.proofs.Common.{refl}
-use Rattle.std.proofs.lemmas.Result.{err_from_is_err_and}
 use Rattle.alma_cursor.proofs.Steps as steps
+use Rattle.alma_cursor.proofs.Turns.{want}
+use Rattle.alma_phrase.proofs.Chain.{stopped}
 use Rattle.alma_phrase.proofs.expression.field.Goals as goal
 
 pub returns-in_err-at-clause-read : goal.returns-in_err-at-clause-read
-returns-in_err-at-clause-read c =
-    let p = err_from_is_err_and c.from_residual.result c.from_residual.ensures.1 in
-    rw (p.1, p.2) (λ d. steps.first (c.in_err-at.ensures.passes d))
+returns-in_err-at-clause-read c = stopped _ _ _ _ c.from_residual.ensures.1 (λ d. steps.first (c.in_err-at.ensures.passes d))
 
 pub returns-in_err-name-clause-read : goal.returns-in_err-name-clause-read
-returns-in_err-name-clause-read c =
-    let p = err_from_is_err_and c.from_residual-in_err-name.result c.from_residual-in_err-name.ensures.1 in
-    rw (p.1, p.2) (λ d. steps.after (steps.passed refl refl c.in_ok-at.ensures.passes) (c.in_err-name.ensures.read d))
+returns-in_err-name-clause-read c = stopped _ _ _ _ c.from_residual-in_err-name.ensures.1
+    (λ d. steps.after (steps.passed refl refl c.in_ok-at.ensures.passes) (c.in_err-name.ensures.read d))
 
 pub returns-in_err-node-clause-read : goal.returns-in_err-node-clause-read
-returns-in_err-node-clause-read c =
-    let p = err_from_is_err_and c.from_residual-in_err-node.result c.from_residual-in_err-node.ensures.1 in
-    rw (p.1, p.2, c.in_err-node.ensures.counted) (λ d. steps.no_memory)
+returns-in_err-node-clause-read c = stopped _ _ _ _ c.from_residual-in_err-node.ensures.1 (λ d. want c.in_err-node.ensures.counted)
 
 pub returns-clause-read : goal.returns-clause-read
 returns-clause-read c = λ d.
