@@ -14,17 +14,17 @@ use Rattle.alma_implements.specs.Implements.{state_after, line_in}
 use Rattle.alma_words.specs.Words.{Request, Check, Compile, Listing, Run, Exec, Trace, Sample, Asks, file_of}
 use Rattle.alma_words.proofs.WordLemmas.{one_request}
 use Rattle.alma_code.specs.declared.step.End.TheVariants as code_end
-use Rattle.alma_driver.specs.Words.{read_by, limit_of}
-use Rattle.alma_driver.specs.Showing.{Showing, Prints, Traces, counts_shown}
-use Rattle.alma_driver.specs.Outside.{SinkSide, SourceSide, FilesSide, FilesStay, Outside}
-use Rattle.alma_driver.specs.declared.end.Counts.{Counts}
-use Rattle.alma_driver.specs.Ends.{mode_end, counts_in, status_of, text_of}
-use Rattle.alma_driver.specs.Outcome.{Due, Stored, InputOutcome, unread, taken, past_input, ProgramOutcome, ran, too_much_code, CompileOutcome, made, past_size, IsSourceEnd, refused, SourceOutcome, stopped, compiled, CheckOutcome, ListOutcome, listed, no_object, CodeOutcome, executed, unsound, ExecOutcome, opened, unopened, SampleOutcome, summed, FileOutcome, RequestOutcome, absent, past_limit, fetched, unfetched, Outcome, bad_word, asks, Lacks}
-use Rattle.alma_driver.specs.Course.{Gains, FailsWithin, GainsPrefix, Goes, OthersStay, FailsToStore, Keeps, Stores, done, failed, Works, Takes, Moves, MayRead, ReadsOnly, FailsToRead, Serves, FailsToFetch, Performs, Reports, Answers}
+use Rattle.alma_outcome.specs.Words.{read_by, limit_of}
+use Rattle.alma_outcome.specs.Showing.{Showing, Prints, Traces, counts_shown}
+use Rattle.alma_outcome.specs.Outside.{SinkSide, SourceSide, FilesSide, FilesStay, Outside}
+use Rattle.alma_outcome.specs.declared.end.Counts.{Counts}
+use Rattle.alma_outcome.specs.Ends.{mode_end, counts_in, status_of, text_of}
+use Rattle.alma_outcome.specs.Outcome.{Due, Stored, InputOutcome, unread, taken, past_input, ProgramOutcome, ran, too_much_code, CompileOutcome, made, past_size, IsSourceEnd, refused, SourceOutcome, stopped, compiled, CheckOutcome, ListOutcome, listed, no_object, CodeOutcome, executed, unsound, ExecOutcome, opened, unopened, SampleOutcome, summed, FileOutcome, RequestOutcome, absent, past_limit, fetched, unfetched, Outcome, bad_word, asks, Lacks}
+use Rattle.alma_outcome.specs.Course.{Gains, FailsWithin, GainsPrefix, Goes, OthersStay, FailsToStore, Keeps, Stores, done, failed, Works, Takes, Moves, MayRead, ReadsOnly, FailsToRead, Serves, FailsToFetch, Performs, Reports, Answers}
 use Rattle.alma_driver.specs.Causes.{Causes, WriteFailed, WritesGrew, ReadFailed, ReadsGrew, Become, IsStoredName}
-use Rattle.alma_driver.specs.declared.end.End.{End}
-use Rattle.alma_driver.specs.declared.end.End.TheVariants.{Succeeded, Failed, BadWord, Refused, Faulted, StepsOut, ReadFault, WriteFault, Memory, BadObject, BadCode, TooLong, TooMuchCode}
-use Rattle.alma_driver.proofs.DriverLemmas.{check_keeps, run_keeps, list_keeps, exec_keeps, sample_keeps}
+use Rattle.alma_outcome.specs.declared.end.End.{End}
+use Rattle.alma_outcome.specs.declared.end.End.TheVariants.{Succeeded, Failed, BadWord, Refused, Faulted, StepsOut, ReadFault, WriteFault, Memory, BadObject, BadCode, TooLong, TooMuchCode}
+use Rattle.alma_outcome.proofs.DriverLemmas.{check_keeps, run_keeps, list_keeps, exec_keeps, sample_keeps}
 
 -- the ways in which out may go, by the end that the call comes to
 pub data Way (P : Due → Type 0) (a b : SinkSide) (end : End) : Type 0 where

@@ -15,21 +15,21 @@ use Rattle.alma_code.specs.declared.step.End.TheVariants as code_end
 use Rattle.alma_implements.specs.Implements.{Implements, meant_end}
 use Rattle.alma_words.specs.Words.{Request, Run, file_of}
 use Rattle.alma_words.proofs.WordLemmas.{one_request}
-use Rattle.alma_driver.specs.Words.{read_by}
-use Rattle.alma_driver.specs.Showing.{Prints}
-use Rattle.alma_driver.specs.Outside.{Outside}
-use Rattle.alma_driver.specs.Ends.{status_of, text_of, ended_end, counts_text}
-use Rattle.alma_driver.specs.Refusal.{IsProgramOf, place_of}
-use Rattle.alma_driver.specs.Outcome.{Due, silent, size_of, code_due, InputOutcome, unread, taken, past_input, ProgramOutcome, ran, too_much_code, MayRunOut, MeansOn, whole, front, IsSourceEnd, refused, SourceOutcome, stopped, compiled, RequestOutcome, absent, past_limit, fetched, unfetched, Outcome, bad_word, asks, Lacks}
-use Rattle.alma_driver.specs.Course.{Gains}
+use Rattle.alma_outcome.specs.Words.{read_by}
+use Rattle.alma_outcome.specs.Showing.{Prints}
+use Rattle.alma_outcome.specs.Outside.{Outside}
+use Rattle.alma_outcome.specs.Ends.{status_of, text_of, ended_end, counts_text}
+use Rattle.alma_outcome.specs.Refusal.{IsProgramOf, place_of}
+use Rattle.alma_outcome.specs.Outcome.{Due, silent, size_of, code_due, InputOutcome, unread, taken, past_input, ProgramOutcome, ran, too_much_code, MayRunOut, MeansOn, whole, front, IsSourceEnd, refused, SourceOutcome, stopped, compiled, RequestOutcome, absent, past_limit, fetched, unfetched, Outcome, bad_word, asks, Lacks}
+use Rattle.alma_outcome.specs.Course.{Gains}
 use Rattle.alma_driver.specs.Causes.{Causes, ReadFailed}
 use Rattle.alma_driver.specs.Headline.{AsksToRun, IsUndisturbed, Shows, ShowsResult, RunEnds, refuses, too_large, ended, ran_out, meant_status, meant_text}
-use Rattle.alma_driver.specs.declared.end.Counts.{Counts}
-use Rattle.alma_driver.specs.declared.end.End.{End}
-use Rattle.alma_driver.specs.declared.end.End.TheVariants.{Refused, StepsOut, TooMuchCode}
+use Rattle.alma_outcome.specs.declared.end.Counts.{Counts}
+use Rattle.alma_outcome.specs.declared.end.End.{End}
+use Rattle.alma_outcome.specs.declared.end.End.TheVariants.{Refused, StepsOut, TooMuchCode}
 use Rattle.alma_driver.proofs.CauseLemmas.{IsWhole}
-use Rattle.alma_driver.proofs.RunLemmas.{code_means}
-use Rattle.alma_driver.proofs.RefusalLemmas.{one_refusal, one_program, refused_no_program}
+use Rattle.alma_outcome.proofs.RunLemmas.{code_means}
+use Rattle.alma_outcome.proofs.RefusalLemmas.{one_refusal, one_program, refused_no_program}
 use Rattle.alma_driver.proofs.Unread.{due_alike}
 
 -- ---- a run on an input that is told

@@ -1,9 +1,4 @@
 pub mod CauseLemmas
-pub mod DriverLemmas
-pub mod RefusalLemmas
 pub mod HeadlineLemmas
-pub mod ReportLemmas
-pub mod RunLemmas
 pub mod SampleLemmas
-pub mod TraceLemmas
 pub mod Unread

@@ -3,14 +3,14 @@ use Rattle.std.proofs.Common.{◌≡◌, ◌∙◌, ◌++◌, ℕ, List, [], len
 use Rattle.std.specs.Prelude.{false, Some, None, codes}
 use Rattle.alma_sample.specs.Sample.{sample_text}
 use Rattle.alma_words.specs.Words.{default_steps}
-use Rattle.alma_driver.specs.Outside.{SinkSide, SourceSide, sink_side, source_side}
-use Rattle.alma_driver.specs.Ends.{status_of, sample_line, summary_line}
-use Rattle.alma_driver.specs.Showing.{Prints}
-use Rattle.alma_driver.specs.Outcome.{Due, due_of, ProgramOutcome, SourceOutcome, IsSampled, SampleOutcome, summed}
-use Rattle.alma_driver.specs.Course.{Goes, Moves, Runs}
-use Rattle.alma_driver.specs.declared.end.End.{End}
-use Rattle.alma_driver.specs.declared.end.End.TheVariants.{Succeeded, ReadFault, WriteFault, Memory}
-use Rattle.alma_driver.proofs.DriverLemmas.{goes_map}
+use Rattle.alma_outcome.specs.Outside.{SinkSide, SourceSide, sink_side, source_side}
+use Rattle.alma_outcome.specs.Ends.{status_of, sample_line, summary_line}
+use Rattle.alma_outcome.specs.Showing.{Prints}
+use Rattle.alma_outcome.specs.Outcome.{Due, due_of, ProgramOutcome, SourceOutcome, IsSampled, SampleOutcome, summed}
+use Rattle.alma_outcome.specs.Course.{Goes, Moves, Runs}
+use Rattle.alma_outcome.specs.declared.end.End.{End}
+use Rattle.alma_outcome.specs.declared.end.End.TheVariants.{Succeeded, ReadFault, WriteFault, Memory}
+use Rattle.alma_outcome.proofs.DriverLemmas.{goes_map}
 use Rattle.alma_driver.proofs.CauseLemmas.{Way, broken, starved, ended, way_of}
 
 -- the end is none of want of memory, and of faults of the outside

@@ -7,9 +7,9 @@ use Rattle.alma_code.specs.declared.instr.Instr.TheVariants as I
 use Rattle.alma_code.specs.Plain.{PlainCode}
 use Rattle.alma_code.specs.Machine.{Mode, Going, Failing, Ended, Stuck, State, Stepped, start, act, fetch_and_act, step_in, step, after, prints}
 use Rattle.alma_object.specs.View.{is_read}
-use Rattle.alma_driver.specs.Outcome.{Due, has_read, code_due}
-use Rattle.alma_driver.specs.Ends.{mode_end, counts_in}
-use Rattle.alma_driver.specs.Showing.{Prints}
+use Rattle.alma_outcome.specs.Outcome.{Due, has_read, code_due}
+use Rattle.alma_outcome.specs.Ends.{mode_end, counts_in}
+use Rattle.alma_outcome.specs.Showing.{Prints}
 use Rattle.alma_implements.specs.Implements.{line_in}
 
 -- neither of two where not one of them

@@ -3,10 +3,10 @@ use Rattle.std.specs.Prelude.{◌≡◌, ◌<◌, ◌⊎◌, List, ℕ, [], Opti
 use Rattle.std.specs.Io.KnownBytes.{Appends}
 use Rattle.alma_io.specs.Causes.{Rose}
 use Rattle.alma_words.specs.Words.{file_of}
-use Rattle.alma_driver.specs.Outside.{FilesSide, FilesStay, Outside}
-use Rattle.alma_driver.specs.Ends.{status_of, text_of}
-use Rattle.alma_driver.specs.Outcome.{Due, Stored, Outcome, Lacks}
-use Rattle.alma_driver.specs.Course.{Gains, GainsPrefix, HasStored, OthersStay, Takes, MayRead}
+use Rattle.alma_outcome.specs.Outside.{FilesSide, FilesStay, Outside}
+use Rattle.alma_outcome.specs.Ends.{status_of, text_of}
+use Rattle.alma_outcome.specs.Outcome.{Due, Stored, Outcome, Lacks}
+use Rattle.alma_outcome.specs.Course.{Gains, GainsPrefix, HasStored, OthersStay, Takes, MayRead}
 
 -- a write or a store failed in the call
 abbrev pub WriteFailed : Outside → Outside → Type 0

@@ -7,15 +7,15 @@ use Rattle.alma_mean.specs.Events.{End, Succeeded, Failed, Faulted, CutOff, firs
 use Rattle.alma_mean.specs.Meaning.{ev_program, result}
 use Rattle.alma_implements.specs.Implements.{Covers}
 use Rattle.alma_words.specs.Words.{Asks, Run, file_of}
-use Rattle.alma_driver.specs.Outside.{Outside}
+use Rattle.alma_outcome.specs.Outside.{Outside}
 use Rattle.alma_driver.specs.Causes.{ReadFailed, WriteFailed}
-use Rattle.alma_driver.specs.Course.{Gains}
-use Rattle.alma_driver.specs.Ends.{counts_text, fault_text, text_of}
-use Rattle.alma_driver.specs.Outcome.{size_of, AreCounts, MayRunOut}
-use Rattle.alma_driver.specs.Refusal.{IsRefused, IsProgramOf, place_of}
-use Rattle.alma_driver.specs.declared.fault.SourceFault.{SourceFault}
-use Rattle.alma_driver.specs.declared.end.Counts.{Counts}
-use Rattle.alma_driver.specs.declared.end.End.TheVariants.{Refused, StepsOut, TooMuchCode}
+use Rattle.alma_outcome.specs.Course.{Gains}
+use Rattle.alma_outcome.specs.Ends.{counts_text, fault_text, text_of}
+use Rattle.alma_outcome.specs.Outcome.{size_of, AreCounts, MayRunOut}
+use Rattle.alma_outcome.specs.Refusal.{IsRefused, IsProgramOf, place_of}
+use Rattle.alma_outcome.specs.declared.fault.SourceFault.{SourceFault}
+use Rattle.alma_outcome.specs.declared.end.Counts.{Counts}
+use Rattle.alma_outcome.specs.declared.end.End.TheVariants.{Refused, StepsOut, TooMuchCode}
 
 -- the words ask to run a file that has this source, for so many steps, where this input is left; both are within their lengths
 pub record AsksToRun (words : List (List ℕ)) (before : Outside) (source input : List ℕ) (steps : ℕ) (stats : Bool) : Type 0 where

@@ -2,24 +2,20 @@
 ghost use Rattle.std.specs.Prelude.{◌≡◌, ◌≤◌, Some, length};
 ghost use Rattle.alma_words.specs.Words.{asked, texts};
 ghost use Rattle.alma_words.specs.Limits.{IsWithinLimits};
-ghost use Rattle.alma_driver.specs.Words.{limit_of, read_by};
-ghost use Rattle.alma_driver.specs.Outside.{sink_side, source_side, files_side, outside_of};
-ghost use Rattle.alma_driver.specs.Outcome.{FileOutcome, RequestOutcome, Outcome};
-ghost use Rattle.alma_driver.specs.Course.{Serves, Performs, Answers};
+ghost use Rattle.alma_outcome.specs.Words.{limit_of, read_by};
+ghost use Rattle.alma_outcome.specs.Outside.{sink_side, source_side, files_side, outside_of};
+ghost use Rattle.alma_outcome.specs.Outcome.{FileOutcome, RequestOutcome, Outcome};
+ghost use Rattle.alma_outcome.specs.Course.{Serves, Performs, Answers};
 ghost use Rattle.alma_driver.specs.Causes.{Causes};
 
-use crate::compile::compile_source;
-use crate::end::End;
-use crate::exec::exec_object;
-use crate::input::Showing;
-use crate::list::list_object;
-use crate::load::check_only;
-use crate::report::report;
 use crate::request::{file_read, read_limit};
-use crate::run::{run_source, trace_source};
 use crate::sample::sample;
 use alma_base::Status;
 use alma_io::{Files, Sink, Source};
+use alma_load::{check_only, compile_source};
+use alma_outcome::{End, Showing};
+use alma_report::report;
+use alma_run::{exec_object, list_object, run_source, trace_source};
 use alma_words::{Request, file_word, read_words};
 use std::alloc::Global;
 

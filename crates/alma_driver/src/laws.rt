@@ -2,13 +2,13 @@
 ghost use Rattle.std.specs.Prelude.{◌≡◌, ◌≤◌, ◌+◌, ◌*◌, Bool, List, ℕ, Option, Some};
 ghost use Rattle.alma_base.specs.Limits.{size_limit};
 ghost use Rattle.alma_grammar.specs.Laws.{IsProgram};
-ghost use Rattle.alma_driver.specs.declared.fault.SourceFault.{SourceFault};
-ghost use Rattle.alma_driver.specs.Refusal.{kinds, IsOfGrammar, IsParsed, IsRefused, IsProgramOf};
-ghost use Rattle.alma_driver.specs.Outcome.{Due, size_of, ProgramOutcome, Meant, ListOutcome, ExecOutcome};
+ghost use Rattle.alma_outcome.specs.declared.fault.SourceFault.{SourceFault};
+ghost use Rattle.alma_outcome.specs.Refusal.{kinds, IsOfGrammar, IsParsed, IsRefused, IsProgramOf};
+ghost use Rattle.alma_outcome.specs.Outcome.{Due, size_of, ProgramOutcome, Meant, ListOutcome, ExecOutcome};
 ghost use Rattle.alma_driver.specs.Causes.{Causes};
 ghost use Rattle.alma_driver.specs.Headline.{AsksToRun, IsUndisturbed, RunEnds, ShowsResult};
-ghost use Rattle.alma_driver.specs.Outside.{Outside};
-ghost use Rattle.alma_driver.specs.Showing.{Prints};
+ghost use Rattle.alma_outcome.specs.Outside.{Outside};
+ghost use Rattle.alma_outcome.specs.Showing.{Prints};
 ghost use Rattle.alma_ir.specs.Tree.{Program};
 ghost use Rattle.alma_mean.specs.Events.{first, end_of, visit_count, CutOff};
 ghost use Rattle.alma_mean.specs.Meaning.{ev_program, result as meant_at};

@@ -1,7 +1,7 @@
 // What requests read.
 ghost use Rattle.std.specs.Prelude.{◌≡◌, None, Some, MatchOption};
 ghost use Rattle.alma_words.specs.Words.{asked};
-ghost use Rattle.alma_driver.specs.Words.{limit_of, read_by};
+ghost use Rattle.alma_outcome.specs.Words.{limit_of, read_by};
 
 use alma_base::{OBJECT_LIMIT, SOURCE_LIMIT};
 use alma_words::Request;

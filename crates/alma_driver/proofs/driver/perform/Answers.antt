@@ -1,7 +1,7 @@
 use Rattle.alma_words.specs.Words.{asked, texts}
 use Rattle.alma_words.proofs.WordLemmas.{within_limits}
-use Rattle.alma_driver.specs.Outside.{files_side, source_side, sink_side}
-use Rattle.alma_driver.proofs.DriverLemmas.{performs_bad, performs_asked}
+use Rattle.alma_outcome.specs.Outside.{files_side, source_side, sink_side}
+use Rattle.alma_outcome.proofs.DriverLemmas.{performs_bad, performs_asked}
 use Rattle.alma_driver.proofs.driver.perform.Goals as goal
 
 pub serve-requires : goal.serve-requires

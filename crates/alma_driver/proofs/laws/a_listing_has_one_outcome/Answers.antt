@@ -1,4 +1,4 @@
-use Rattle.alma_driver.proofs.DriverLemmas.{one_listing}
+use Rattle.alma_outcome.proofs.DriverLemmas.{one_listing}
 use Rattle.alma_driver.proofs.laws.a_listing_has_one_outcome.Goals as goal
 
 pub returns : goal.returns

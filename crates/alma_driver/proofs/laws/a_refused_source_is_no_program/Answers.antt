@@ -1,4 +1,4 @@
-use Rattle.alma_driver.proofs.RefusalLemmas.{refused_no_program, refused_no_spelling}
+use Rattle.alma_outcome.proofs.RefusalLemmas.{refused_no_program, refused_no_spelling}
 use Rattle.alma_driver.proofs.laws.a_refused_source_is_no_program.Goals as goal
 
 pub returns : goal.returns

@@ -1,4 +1,4 @@
-use Rattle.alma_driver.proofs.RunLemmas.{outcome_means}
+use Rattle.alma_outcome.proofs.RunLemmas.{outcome_means}
 use Rattle.alma_driver.proofs.laws.a_run_is_what_its_program_means.Goals as goal
 
 pub returns : goal.returns

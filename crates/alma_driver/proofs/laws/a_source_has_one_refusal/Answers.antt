@@ -1,4 +1,4 @@
-use Rattle.alma_driver.proofs.RefusalLemmas.{one_refusal}
+use Rattle.alma_outcome.proofs.RefusalLemmas.{one_refusal}
 use Rattle.alma_driver.proofs.laws.a_source_has_one_refusal.Goals as goal
 
 pub returns : goal.returns

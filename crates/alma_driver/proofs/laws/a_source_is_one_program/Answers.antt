@@ -1,4 +1,4 @@
-use Rattle.alma_driver.proofs.RefusalLemmas.{one_program}
+use Rattle.alma_outcome.proofs.RefusalLemmas.{one_program}
 use Rattle.alma_driver.proofs.laws.a_source_is_one_program.Goals as goal
 
 pub returns : goal.returns

@@ -1,4 +1,4 @@
-use Rattle.alma_driver.proofs.RefusalLemmas.{refused_no_tree}
+use Rattle.alma_outcome.proofs.RefusalLemmas.{refused_no_tree}
 use Rattle.alma_driver.proofs.laws.a_source_outside_the_grammar_has_no_tree.Goals as goal
 
 pub returns : goal.returns

@@ -1,4 +1,4 @@
-use Rattle.alma_driver.proofs.DriverLemmas.{one_execution}
+use Rattle.alma_outcome.proofs.DriverLemmas.{one_execution}
 use Rattle.alma_driver.proofs.laws.an_execution_has_one_outcome.Goals as goal
 
 pub returns : goal.returns

@@ -1,7 +1,7 @@
 use Rattle.std.proofs.Common.{◌∙◌}
-use Rattle.alma_driver.specs.Outcome.{SampleOutcome}
-use Rattle.alma_driver.specs.Outside.{sink_side}
-use Rattle.alma_driver.proofs.DriverLemmas.{goes_starved}
+use Rattle.alma_outcome.specs.Outcome.{SampleOutcome}
+use Rattle.alma_outcome.specs.Outside.{sink_side}
+use Rattle.alma_outcome.proofs.DriverLemmas.{goes_starved}
 use Rattle.alma_driver.proofs.sample.sample.Goals as goal
 
 pub sum_up-requires-clause-text : goal.sum_up-requires-clause-text

@@ -1,6 +1,6 @@
-use Rattle.alma_driver.specs.Outcome.{SampleOutcome}
-use Rattle.alma_driver.specs.Outside.{sink_side}
-use Rattle.alma_driver.proofs.DriverLemmas.{goes_starved}
+use Rattle.alma_outcome.specs.Outcome.{SampleOutcome}
+use Rattle.alma_outcome.specs.Outside.{sink_side}
+use Rattle.alma_outcome.proofs.DriverLemmas.{goes_starved}
 use Rattle.alma_driver.proofs.SampleLemmas.{goes_summed}
 use Rattle.alma_driver.proofs.sample.sum_up.Goals as goal
 

@@ -1,8 +1,8 @@
 use Rattle.std.proofs.Common.{refl}
 use Rattle.std.specs.Prelude.{None}
-use Rattle.alma_driver.specs.Ends.{sample_line}
-use Rattle.alma_driver.specs.Outcome.{due_of}
-use Rattle.alma_driver.specs.declared.end.End.TheVariants.{Succeeded}
+use Rattle.alma_outcome.specs.Ends.{sample_line}
+use Rattle.alma_outcome.specs.Outcome.{due_of}
+use Rattle.alma_outcome.specs.declared.end.End.TheVariants.{Succeeded}
 use Rattle.alma_driver.proofs.sample.tell.Goals as goal
 
 pub returns-in-Ok : goal.returns-in-Ok

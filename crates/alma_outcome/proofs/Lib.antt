@@ -1,0 +1,3 @@
+pub mod DriverLemmas
+pub mod RefusalLemmas
+pub mod RunLemmas
