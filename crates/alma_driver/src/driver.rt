@@ -12,10 +12,10 @@ use crate::request::{file_read, read_limit};
 use crate::sample::sample;
 use alma_base::Status;
 use alma_io::{Files, Sink, Source};
-use alma_load::{check_only, compile_source};
 use alma_outcome::{End, Showing};
 use alma_report::report;
-use alma_run::{exec_object, list_object, run_source, trace_source};
+use alma_run::{exec_object, list_object};
+use alma_sources::{check_only, compile_source, run_source, trace_source};
 use alma_words::{Request, file_word, read_words};
 use std::alloc::Global;
 
