@@ -6,3 +6,8 @@ pub mod TestForms
 pub mod StmtForms
 pub mod CallForms
 pub mod LoopForms
+pub mod Arms
+pub mod Rows
+pub mod Said
+pub mod Sizes
+pub mod Turns

@@ -13,7 +13,7 @@ use Rattle.alma_emit_parts.specs.Puts.{PutsExpr, PutsStmts, PutsStmt, PutsCases,
 use Rattle.alma_emit_parts.proofs.Joins.{then_adds, adds_as, holes_as}
 use Rattle.alma_emit_forms.proofs.LoopForms.{turned}
 use Rattle.alma_emit_parts.proofs.CaseForms.{arm_put, cases_put, body_put, dead_put, first_case_put}
-use Rattle.alma_emit.specs.Cases.{PutsAllArms, PutsArmOf}
+use Rattle.alma_emit_forms.specs.Cases.{PutsAllArms, PutsArmOf}
 use Rattle.alma_templates.specs.Lined.{Lined, own}
 use Rattle.alma_templates.specs.Pieces.{labels_code, behind_labels, passed_over, has_dead}
 use Rattle.alma_templates.specs.Slots.{expr_slots, dead_slots, cases_slots, else_slots}
