@@ -5,7 +5,7 @@ ghost use Rattle.alma_ir.specs.Tree as tree;
 ghost use Rattle.alma_ir.specs.Tree.{CaseArms};
 ghost use Rattle.alma_emit_parts.specs.Front.{around, front, Front};
 ghost use Rattle.alma_emit_parts.specs.Puts.{PutsStmt, PutsCases, PutsDead, PutsDeadBodies, PutsElse};
-ghost use Rattle.alma_emit.specs.Cases.{PutsAllArms, PutsArmOf};
+ghost use Rattle.alma_emit_forms.specs.Cases.{PutsAllArms, PutsArmOf};
 
 use crate::expression::emit_expr;
 use crate::label::put_labels;

@@ -1,15 +1,7 @@
 pub mod Joins
 pub mod Scenes
-pub mod With
-pub mod ExprForms
 pub mod DesigForms
-pub mod GuardForms
-pub mod IfForms
-pub mod TestForms
-pub mod StmtForms
-pub mod CallForms
 pub mod Beginning
 pub mod Calling
 pub mod CaseForms
-pub mod LoopForms
 pub mod LabelForms

@@ -17,19 +17,19 @@ use Rattle.alma_emit_parts.specs.Puts.{first_of_call, PutsElse, PutsGuard}
 use Rattle.alma_emit_parts.proofs.Beginning.{both_ok}
 use Rattle.alma_emit_parts.proofs.Joins.{code_code}
 use Rattle.alma_emit_parts.proofs.Calling.{first_is}
-use Rattle.alma_emit_parts.proofs.ExprForms.{load_put, no_links_put, links_put, chain_put, compare_put, known_put, chr_put}
+use Rattle.alma_emit_forms.proofs.ExprForms.{load_put, no_links_put, links_put, chain_put, compare_put, known_put, chr_put}
 use Rattle.alma_emit_parts.proofs.DesigForms.{no_sels_put, sels_put, index_put, index_part, desig_put, desig_place}
-use Rattle.alma_emit_parts.proofs.CallForms.{no_args_put, args_put, value_arg_put, mix_value_put, cells_arg_put, place_arg_put, mix_place_put, handed_put, call_test_put, call_value_put}
-use Rattle.alma_emit_parts.proofs.GuardForms.{simple_guard, barrier_guard, guarded_put, no_arms_put, arms_put}
-use Rattle.alma_emit_parts.proofs.IfForms.{while_put, repeat_put, truth_put}
-use Rattle.alma_emit_parts.proofs.TestForms.{value_test_put, bind_left_put, bind_right_put, unify_put, same_put, seq_put, no_and_put, more_and_put, and_put, not_put, first_put, last_put}
-use Rattle.alma_emit_parts.proofs.StmtForms.{no_stmts_put, stmts_put, test_put, assign_put, copy_put, commit_put, return_put, return_value_put, read_put, write_put, chosen_put, last_branch_put, forall_put}
+use Rattle.alma_emit_forms.proofs.CallForms.{no_args_put, args_put, value_arg_put, mix_value_put, cells_arg_put, place_arg_put, mix_place_put, handed_put, call_test_put, call_value_put}
+use Rattle.alma_emit_forms.proofs.GuardForms.{simple_guard, barrier_guard, guarded_put, no_arms_put, arms_put}
+use Rattle.alma_emit_forms.proofs.IfForms.{while_put, repeat_put, truth_put}
+use Rattle.alma_emit_forms.proofs.TestForms.{value_test_put, bind_left_put, bind_right_put, unify_put, same_put, seq_put, no_and_put, more_and_put, and_put, not_put, first_put, last_put}
+use Rattle.alma_emit_forms.proofs.StmtForms.{no_stmts_put, stmts_put, test_put, assign_put, copy_put, commit_put, return_put, return_value_put, read_put, write_put, chosen_put, last_branch_put, forall_put}
 use Rattle.alma_emit_parts.proofs.CaseForms.{no_else_put, else_put, no_cases_put, no_bodies_put, no_dead_put}
-use Rattle.alma_emit.proofs.Said.{on_ok, if_ok, stmt_as, test_as, expr_as, arg_as, sel_as, else_as, stmt_is, test_is, expr_is, args_is, links_is, sels_is, desig_is, stmts_is, arms_is, branches_is, operands_is, tests_is, cases_is, bodies_is, all_is, arm_is, args_at, own_target, own_stands, made_target, made_stands, own_value, own_at, made_value, made_at, no_parts, part_step, codes_is, some_elements, no_elements, drop_one, drop_last, slice_rest}
-use Rattle.alma_emit.proofs.Arms.{all_none, all_first, next_arm, skipped_arm, arm_of, passed_body, dead_body, dead_joined, case_put, turns_is}
-use Rattle.alma_emit.proofs.Rows.{more_operands, more_chosen, chosen_is, guarded_is, either_none, either_one, either_of, or_none, or_one, or_of, if_none, if_of}
-use Rattle.alma_emit.proofs.Turns.{for_joined, some_joined, count_lined, count_at_lined}
-use Rattle.alma_emit.proofs.Sizes.{stmt_at, test_at, arg_at, sel_at, link_at, arm_at, case_at, branch_at, cases_behind}
+use Rattle.alma_emit_forms.proofs.Said.{on_ok, if_ok, stmt_as, test_as, expr_as, arg_as, sel_as, else_as, stmt_is, test_is, expr_is, args_is, links_is, sels_is, desig_is, stmts_is, arms_is, branches_is, operands_is, tests_is, cases_is, bodies_is, all_is, arm_is, args_at, own_target, own_stands, made_target, made_stands, own_value, own_at, made_value, made_at, no_parts, part_step, codes_is, some_elements, no_elements, drop_one, drop_last, slice_rest}
+use Rattle.alma_emit_forms.proofs.Arms.{all_none, all_first, next_arm, skipped_arm, arm_of, passed_body, dead_body, dead_joined, case_put, turns_is}
+use Rattle.alma_emit_forms.proofs.Rows.{more_operands, more_chosen, chosen_is, guarded_is, either_none, either_one, either_of, or_none, or_one, or_of, if_none, if_of}
+use Rattle.alma_emit_forms.proofs.Turns.{for_joined, some_joined, count_lined, count_at_lined}
+use Rattle.alma_emit_forms.proofs.Sizes.{stmt_at, test_at, arg_at, sel_at, link_at, arm_at, case_at, branch_at, cases_behind}
 use Rattle.alma_emit.proofs.+emit.Goals as goal
 use Rattle.alma_templates.specs.Templates as T
 

@@ -1,8 +1,8 @@
 use Rattle.std.proofs.Common.{◌≡◌, ◌+◌, drop, ap, sym, arith}
 use Rattle.alma_ir.specs.Tree as tree
 use Rattle.alma_ir.specs.View.{cases_list, stmts_list}
-use Rattle.alma_emit.proofs.Said.{all_is, drop_one, no_elements}
-use Rattle.alma_emit.proofs.Arms.{skipped_all, turns_is}
+use Rattle.alma_emit_forms.proofs.Said.{all_is, drop_one, no_elements}
+use Rattle.alma_emit_forms.proofs.Arms.{skipped_all, turns_is}
 use Rattle.alma_emit.proofs.pass.pass_unlabelled.Goals as goal
 
 pub returns-then-not-is_empty : goal.returns-then-not-is_empty

@@ -16,7 +16,7 @@ use Rattle.alma_emit_parts.specs.declared.stand.Stand.{Stand}
 use Rattle.alma_emit_parts.specs.Front.{Around, Front, Adds, Codes, Takes, Changes, Holes}
 use Rattle.alma_emit_parts.specs.Puts.{PutsExpr, PutsValue, PutsLinks, PutsDesig, PutsTarget, PutsGuard, stand_by, stand_of, value_slot, load_instr, set_instr}
 use Rattle.alma_emit_parts.proofs.Joins.{nothing, then_adds, adds_as, code_code, code_adds, adds_code, only_code, slot_adds, adds_slot, only_slot, own_two, filled}
-use Rattle.alma_emit_parts.proofs.With.{own_desig, own_expr, own_desig_passes, own_expr_passes}
+use Rattle.alma_emit_forms.proofs.With.{own_desig, own_expr, own_desig_passes, own_expr_passes}
 use Rattle.alma_templates.specs.Lined.{Lined, own, in_row}
 use Rattle.alma_templates.specs.Tables.{range_number}
 use Rattle.alma_templates.specs.Slots.{bare_desig, bare, unless_bare, expr_slots, links_slots, desig_slots}

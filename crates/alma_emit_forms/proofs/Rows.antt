@@ -9,10 +9,10 @@ use Rattle.alma_ir.specs.Tree.{Test, Stmts, If, Or, Either, more_tests, more_bra
 use Rattle.alma_ir.specs.View.{test_of, stmts_list, arms_list, tests_list, branches_list}
 use Rattle.alma_emit_parts.specs.Front.{Around, Front, Codes, Changes}
 use Rattle.alma_emit_parts.specs.Puts.{PutsTest, PutsStmts, PutsStmt, PutsArms, PutsGuarded, PutsFirst, PutsOperands, PutsChosen, PutsBranches}
-use Rattle.alma_emit_parts.proofs.TestForms.{operands_put, or_put, no_or_put, one_or_put}
-use Rattle.alma_emit_parts.proofs.StmtForms.{branches_put, either_put, no_either_put, one_either_put}
-use Rattle.alma_emit_parts.proofs.IfForms.{if_put}
-use Rattle.alma_emit_parts.proofs.IfForms as conditional
+use Rattle.alma_emit_forms.proofs.TestForms.{operands_put, or_put, no_or_put, one_or_put}
+use Rattle.alma_emit_forms.proofs.StmtForms.{branches_put, either_put, no_either_put, one_either_put}
+use Rattle.alma_emit_forms.proofs.IfForms.{if_put}
+use Rattle.alma_emit_forms.proofs.IfForms as conditional
 use Rattle.alma_templates.specs.Lined.{own}
 
 module _ (s : Around) (line : ℕ) where

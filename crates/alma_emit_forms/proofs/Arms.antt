@@ -11,9 +11,9 @@ use Rattle.alma_ir.proofs.LinesBack.{behind_two}
 use Rattle.alma_emit_parts.specs.Front.{Around, Front, Adds, Codes, Changes, Holes, Turns}
 use Rattle.alma_emit_parts.specs.Puts.{PutsExpr, PutsStmts, PutsStmt, PutsCases, PutsDead, PutsDeadBodies, PutsElse, all_labels}
 use Rattle.alma_emit_parts.proofs.Joins.{then_adds, adds_as, holes_as}
-use Rattle.alma_emit_parts.proofs.LoopForms.{turned}
+use Rattle.alma_emit_forms.proofs.LoopForms.{turned}
 use Rattle.alma_emit_parts.proofs.CaseForms.{arm_put, cases_put, body_put, dead_put, first_case_put}
-use Rattle.alma_emit.specs.Cases.{PutsAllArms, PutsArmOf}
+use Rattle.alma_emit_forms.specs.Cases.{PutsAllArms, PutsArmOf}
 use Rattle.alma_templates.specs.Lined.{Lined, own}
 use Rattle.alma_templates.specs.Pieces.{labels_code, behind_labels, passed_over, has_dead}
 use Rattle.alma_templates.specs.Slots.{expr_slots, dead_slots, cases_slots, else_slots}

@@ -17,7 +17,7 @@ use Rattle.alma_emit_parts.specs.declared.stand.Stand.{Stand}
 use Rattle.alma_emit_parts.specs.Front.{Around, Front, Adds, Codes, Takes, Changes, Holes, Turns}
 use Rattle.alma_emit_parts.specs.Puts.{PutsExpr, PutsTarget, PutsStmts, PutsStmt, stand_of, set_instr, inside}
 use Rattle.alma_emit_parts.proofs.Joins.{nothing, then_adds, adds_as, code_code, code_adds, adds_code, only_code, slot_adds, adds_slot, only_slot, filled, hole_put, own_two, address_behind, address_after}
-use Rattle.alma_emit_parts.proofs.StmtForms.{set_is}
+use Rattle.alma_emit_forms.proofs.StmtForms.{set_is}
 use Rattle.alma_templates.specs.Lined.{Lined, own, in_row}
 use Rattle.alma_templates.specs.Slots.{bare_desig, unless_bare, expr_slots, desig_slots, stmts_slots}
 use Rattle.alma_templates.specs.Pieces.{fit_code, bounds_code, begin_loop, turn_code, for_turns, some_turns}

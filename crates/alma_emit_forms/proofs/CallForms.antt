@@ -13,7 +13,7 @@ use Rattle.alma_ir.proofs.LinesBack.{behind_two}
 use Rattle.alma_emit_parts.specs.Front.{Around, Front, Adds, Codes, Takes}
 use Rattle.alma_emit_parts.specs.Puts.{PutsExpr, PutsValue, PutsDesig, PutsArgs, PutsArg, PutsHanded, PutsTest, value_slot, first_slot}
 use Rattle.alma_emit_parts.proofs.Joins.{nothing, then_adds, adds_as, code_code, code_adds, adds_code, only_code, slot_adds, own_two}
-use Rattle.alma_emit_parts.proofs.With.{same_handed}
+use Rattle.alma_emit_forms.proofs.With.{same_handed}
 use Rattle.alma_templates.specs.Lined.{Lined, own, in_row}
 use Rattle.alma_templates.specs.Slots.{bare, unless_bare, shift_of, handed_slots, call_links, args_slots, arg_slots, expr_slots, desig_slots}
 use Rattle.alma_templates.specs.Pieces.{fit_code, first_argument}

@@ -9,12 +9,12 @@ use Rattle.alma_ir.specs.Phrases.{desig_phrases}
 use Rattle.alma_ir.specs.Lines.{behind, desig_with}
 use Rattle.alma_emit_parts.specs.Front.{Around, Front, Adds, Codes, Takes, Changes, Holes, Turns}
 use Rattle.alma_emit_parts.specs.Puts.{PutsStmt}
-use Rattle.alma_emit_parts.proofs.LoopForms.{for_put, some_put}
-use Rattle.alma_emit.specs.Loops.{PutsBounds, PutsTurn}
+use Rattle.alma_emit_forms.proofs.LoopForms.{for_put, some_put}
+use Rattle.alma_emit_forms.specs.Loops.{PutsBounds, PutsTurn}
 use Rattle.alma_templates.specs.Lined.{own}
 use Rattle.alma_templates.specs.Pieces.{bounds_code}
 use Rattle.alma_templates.specs.Slots.{bare_desig, unless_bare}
-use Rattle.alma_emit_parts.proofs.With.{own_desig}
+use Rattle.alma_emit_forms.proofs.With.{own_desig}
 use Rattle.alma_templates.specs.Templates as T
 
 module _ (s : Around) (line : ℕ) where

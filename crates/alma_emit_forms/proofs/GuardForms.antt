@@ -13,7 +13,7 @@ use Rattle.alma_ir.proofs.LinesBack.{behind_two}
 use Rattle.alma_emit_parts.specs.Front.{Around, Front, Adds, Codes, Takes, Changes, Holes}
 use Rattle.alma_emit_parts.specs.Puts.{PutsExpr, PutsValue, PutsTest, PutsGuard, PutsGuarded, PutsStmts, PutsStmt, PutsArms, value_slot, inside}
 use Rattle.alma_emit_parts.proofs.Joins.{nothing, then_adds, adds_as, code_adds, adds_code, only_code, slot_adds, hole_put, adds_holes, holes_adds, holes_code, holes_as, filled}
-use Rattle.alma_emit_parts.proofs.With.{simple_test}
+use Rattle.alma_emit_forms.proofs.With.{simple_test}
 use Rattle.alma_templates.specs.Lined.{Lined, own, in_row, leaving, left_by}
 use Rattle.alma_templates.specs.Tables.{Tables}
 use Rattle.alma_templates.specs.Slots.{bare, unless_bare, is_simple, mark_slots, test_slots, stmts_slots, arms_slots, expr_slots, behind_condition, behind_stmts}

@@ -18,7 +18,7 @@ use Rattle.alma_emit_parts.specs.declared.stand.Stand.{Stand}
 use Rattle.alma_emit_parts.specs.Front.{Around, Front, Adds, Codes, Takes, Changes, Holes, EndsEach, EndsForall, result_of}
 use Rattle.alma_emit_parts.specs.Puts.{PutsValue, PutsDesig, PutsTarget, PutsTest, PutsStmts, PutsStmt, PutsBranches, PutsChosen, value_slot, stand_of, stand_by, set_instr, inside}
 use Rattle.alma_emit_parts.proofs.Joins.{nothing, then_adds, adds_as, code_code, code_adds, adds_code, only_code, slot_adds, filled, over, own_two, address_behind}
-use Rattle.alma_emit_parts.proofs.TestForms.{two_places}
+use Rattle.alma_emit_forms.proofs.TestForms.{two_places}
 use Rattle.alma_templates.specs.Lined.{Lined, own, in_row}
 use Rattle.alma_templates.specs.Tables.{range_number, text_number}
 use Rattle.alma_templates.specs.Slots.{bare, bare_desig, unless_bare, stmts_slots, stmt_slots, branches_slots, expr_slots, desig_slots}

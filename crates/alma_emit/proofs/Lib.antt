@@ -1,5 +1,0 @@
-pub mod Said
-pub mod Arms
-pub mod Rows
-pub mod Sizes
-pub mod Turns

@@ -1,0 +1,13 @@
+pub mod With
+pub mod ExprForms
+pub mod GuardForms
+pub mod IfForms
+pub mod TestForms
+pub mod StmtForms
+pub mod CallForms
+pub mod LoopForms
+pub mod Arms
+pub mod Rows
+pub mod Said
+pub mod Sizes
+pub mod Turns
