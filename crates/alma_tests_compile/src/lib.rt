@@ -1,0 +1,9 @@
+//! What public calls answer, and what is printed. Tests alone, of the commands that make and list objects.
+#![tactic(auto)]
+
+#[cfg(test)]
+mod call;
+#[cfg(test)]
+mod object;
+#[cfg(test)]
+mod objects;
