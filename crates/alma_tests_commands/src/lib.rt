@@ -10,6 +10,4 @@ mod input;
 #[cfg(test)]
 mod object;
 #[cfg(test)]
-mod sample;
-#[cfg(test)]
 mod trace;

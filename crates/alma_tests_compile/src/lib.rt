@@ -1,4 +1,4 @@
-//! What public calls answer, and what is printed. Tests alone, of the commands that make and list objects.
+//! What public calls answer, and what is printed. Tests alone, of the commands that make and list objects, and of `sample`.
 #![tactic(auto)]
 
 #[cfg(test)]
@@ -7,3 +7,5 @@ mod call;
 mod object;
 #[cfg(test)]
 mod objects;
+#[cfg(test)]
+mod sample;
