@@ -1,25 +1,22 @@
 // Calls of the program over files, input and output in memory.
+use crate::field::{CaseError, number, push_numbers};
 use alma_base::{NoMemory, OBJECT_LIMIT};
 use alma_driver::alma;
 use alma_io::{MemFiles, MemSink, MemSource};
-use serde::Deserialize;
+use serde_json::Value;
 use std::alloc::Global;
 
 // The most bytes that a call may print.
 const ROOM: usize = 1_048_576;
 
 /// How the devices of a call move bytes, and which of their calls fail, counted from 1.
-#[derive(Drop, Deserialize)]
+#[derive(Drop)]
 pub struct Devices {
     /// The most bytes that one call of the input, of out or of err moves.
     piece: usize,
-    #[serde(default)]
     pub files: Vec<u64>,
-    #[serde(default)]
     input: Vec<u64>,
-    #[serde(default)]
     out: Vec<u64>,
-    #[serde(default)]
     err: Vec<u64>,
 }
 
@@ -33,6 +30,17 @@ impl Devices {
             out: Vec::new(alloc),
             err: Vec::new(alloc),
         }
+    }
+
+    /// Devices as an object of a case tells them.
+    pub fn read(alloc: Global, value: &Value) -> Result<Devices, CaseError> {
+        let mut devices = Devices::sound(alloc);
+        devices.piece = number(value, "piece")? as usize;
+        push_numbers(&mut devices.files, value, "files")?;
+        push_numbers(&mut devices.input, value, "input")?;
+        push_numbers(&mut devices.out, value, "out")?;
+        push_numbers(&mut devices.err, value, "err")?;
+        Ok(devices)
     }
 }
 

@@ -3,11 +3,13 @@
 
 mod call;
 mod case;
+mod field;
 
 use alma_io::{Files, StdFiles};
 use anyhow::{Result, anyhow};
 use call::status_past_limit;
-use case::Case;
+use case::{is_answered, name_of};
+use serde_json::Value;
 use std::alloc::Global;
 
 const NAMES: [&str; 13] = [
@@ -62,11 +64,11 @@ fn run_cases(rt: &HostRuntime, text: &[u8]) -> Result<Count> {
         if line.is_empty() {
             continue;
         }
-        let case: Case = serde_json::from_slice(rt.alloc(), line)?;
+        let case = Value::from_slice(rt.alloc(), line)?;
         count.all = count.all.saturating_add(1);
-        if !case.is_answered(rt.alloc())? {
+        if !is_answered(rt.alloc(), &case)? {
             count.differ = count.differ.saturating_add(1);
-            println!(rt; "{}", case.name)?;
+            println!(rt; "{}", name_of(&case)?)?;
         }
     }
     Ok(count)

@@ -26,31 +26,69 @@ fn check_refused(rt: &impl Abort, alloc: Global, object: &[u8], err: &[u8]) -> R
     check_exec(rt, alloc, object, &answer)
 }
 
+/// The first object with one byte altered, and what its run comes to.
+struct Altered {
+    at: usize,
+    byte: u8,
+    answer: Answer<'static>,
+}
+
+const ALTERED: [Altered; 4] = [
+    // The byte that is there.
+    Altered {
+        at: 87,
+        byte: 0x26,
+        answer: SUCCESS,
+    },
+    Altered {
+        at: 87,
+        byte: 0x1d,
+        answer: Answer {
+            status: 1,
+            out: b"",
+            err: b"",
+        },
+    },
+    Altered {
+        at: 87,
+        byte: 0,
+        answer: Answer {
+            status: 9,
+            out: b"",
+            err: b"alma: object BadOpcode 87\n",
+        },
+    },
+    Altered {
+        at: 87,
+        byte: 0x1e,
+        answer: Answer {
+            status: 9,
+            out: b"",
+            err: b"alma: object Rule 4 0\n",
+        },
+    },
+];
+
 #[test]
-fn small_objects_are_run(rt: HostRuntime) -> Result<(), Fail> {
-    let alloc = rt.alloc();
-    check_exec(&rt, alloc, &FIRST, &SUCCESS)?;
-    check_exec(&rt, alloc, &SECOND, &SUCCESS)?;
-    let mut fail = FIRST;
-    fail[87] = 0x1d;
-    let failed = Answer {
-        status: 1,
-        out: b"",
-        err: b"",
-    };
-    check_exec(&rt, alloc, &fail, &failed)
+fn an_object_with_one_byte_altered_is_run_or_refused(rt: HostRuntime) -> Result<(), Fail> {
+    for row in &ALTERED {
+        let mut object = FIRST;
+        assert!(rt; row.at < object.len());
+        object[row.at] = row.byte;
+        check_exec(&rt, rt.alloc(), &object, &row.answer)?;
+    }
+    Ok(())
+}
+
+#[test]
+fn the_second_version_is_run(rt: HostRuntime) -> Result<(), Fail> {
+    check_exec(&rt, rt.alloc(), &SECOND, &SUCCESS)
 }
 
 #[test]
 fn what_is_not_sound_is_refused(rt: HostRuntime) -> Result<(), Fail> {
     let alloc = rt.alloc();
     check_refused(&rt, alloc, &FIRST[..103], b"alma: object Cut 103\n")?;
-    let mut opcode = FIRST;
-    opcode[87] = 0;
-    check_refused(&rt, alloc, &opcode, b"alma: object BadOpcode 87\n")?;
-    let mut mark = FIRST;
-    mark[87] = 0x1e;
-    check_refused(&rt, alloc, &mark, b"alma: object Rule 4 0\n")?;
     let mut own = SECOND;
     own[91] = 0x31;
     check_refused(&rt, alloc, &own, b"alma: object Rule 4 0\n")
@@ -98,30 +136,43 @@ fn a_compiled_program_is_run(rt: HostRuntime) -> Result<(), Fail> {
     check(&rt, alloc, &mut files, &["exec", "a.obj"], &answer)
 }
 
-// Words that are no request.
-fn check_words(rt: &impl Abort, alloc: Global, words: &[&str], err: &[u8]) -> Result<(), Fail> {
-    let mut files = files_with(alloc, "o.obj", &FIRST, &[])?;
-    let answer = Answer {
-        status: 2,
-        out: b"",
-        err,
-    };
-    check(rt, alloc, &mut files, words, &answer)
+/// Words that are no request, and what is told of them.
+struct Words {
+    words: &'static [&'static str],
+    err: &'static [u8],
 }
+
+const WORDS: [Words; 4] = [
+    Words {
+        words: &["exec"],
+        err: b"alma: bad word 2\n",
+    },
+    Words {
+        words: &["exec", "--steps=1"],
+        err: b"alma: bad word 2\n",
+    },
+    Words {
+        words: &["exec", "o.obj", "--steps=0"],
+        err: b"alma: bad word 3\n",
+    },
+    Words {
+        words: &["exec", "o.obj", "--steps=1", "o.obj"],
+        err: b"alma: bad word 4\n",
+    },
+];
 
 #[test]
 fn bad_words_are_named(rt: HostRuntime) -> Result<(), Fail> {
-    let alloc = rt.alloc();
-    check_words(&rt, alloc, &["exec"], b"alma: bad word 2\n")?;
-    check_words(&rt, alloc, &["exec", "--steps=1"], b"alma: bad word 2\n")?;
-    check_words(
-        &rt,
-        alloc,
-        &["exec", "o.obj", "--steps=0"],
-        b"alma: bad word 3\n",
-    )?;
-    let more = ["exec", "o.obj", "--steps=1", "o.obj"];
-    check_words(&rt, alloc, &more, b"alma: bad word 4\n")
+    for row in &WORDS {
+        let mut files = files_with(rt.alloc(), "o.obj", &FIRST, &[])?;
+        let answer = Answer {
+            status: 2,
+            out: b"",
+            err: row.err,
+        };
+        check(&rt, rt.alloc(), &mut files, row.words, &answer)?;
+    }
+    Ok(())
 }
 
 #[test]

@@ -1,4 +1,4 @@
-//! What public calls answer, and what is printed. Tests alone, of the commands on objects.
+//! What public calls answer, and what is printed. Tests alone, of the commands that run.
 #![tactic(auto)]
 
 #[cfg(test)]
@@ -9,9 +9,5 @@ mod exec;
 mod input;
 #[cfg(test)]
 mod object;
-#[cfg(test)]
-mod objects;
-#[cfg(test)]
-mod sample;
 #[cfg(test)]
 mod trace;

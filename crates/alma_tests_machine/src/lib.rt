@@ -1,9 +1,7 @@
-//! What public calls answer, and what is printed. Tests alone, of the machine: the store, and runs.
+//! What public calls answer, and what is printed. Tests alone, of runs of the machine.
 #![tactic(auto)]
 
 #[cfg(test)]
 mod machine;
-#[cfg(test)]
-mod memory;
 #[cfg(test)]
 mod over;

@@ -37,45 +37,6 @@ const COUNT: [Instr; 13] = [
     Instr::Return,
 ];
 
-const TOO_LARGE: [Instr; 4] = [
-    Instr::Const {
-        to: 1,
-        value: i64::MAX,
-    },
-    Instr::Const { to: 2, value: 1 },
-    Instr::Add {
-        to: 3,
-        left: 1,
-        right: 2,
-    },
-    Instr::Return,
-];
-
-const BY_ZERO: [Instr; 4] = [
-    Instr::Const { to: 1, value: 7 },
-    Instr::Const { to: 2, value: 0 },
-    Instr::Div {
-        to: 3,
-        left: 1,
-        right: 2,
-    },
-    Instr::Return,
-];
-
-const NOT_KNOWN: [Instr; 3] = [
-    Instr::Local { to: 5, first: 1 },
-    Instr::Load { to: 2, from: 5 },
-    Instr::Return,
-];
-
-const CHECK_FAILS: [Instr; 3] = [
-    Instr::Const { to: 1, value: 0 },
-    Instr::Check { value: 1 },
-    Instr::Return,
-];
-
-const FAILS: [Instr; 1] = [Instr::Fail];
-
 // Copies a pair onto one that overlaps it, prints two characters, a text and a line, and then counts to 2, in 24 steps.
 const PARTS: [Instr; 21] = [
     Instr::Local { to: 10, first: 6 },
@@ -115,42 +76,118 @@ const PARTS: [Instr; 21] = [
     Instr::Fault { number: 5 },
 ];
 
-const NOT_IN_RANGE: [Instr; 3] = [
-    Instr::Const { to: 1, value: 3 },
-    Instr::InRange { value: 1, range: 0 },
-    Instr::Return,
-];
+/// A code, how its run ends, and in how many steps.
+struct Row {
+    instrs: &'static [Instr],
+    end: RunEnd,
+    steps: u64,
+}
 
-const NO_PART: [Instr; 4] = [
-    Instr::Local { to: 10, first: 6 },
-    Instr::Const { to: 1, value: 0 },
-    Instr::Index {
-        to: 11,
-        from: 10,
-        index: 1,
-        range: 0,
+const ROWS: [Row; 8] = [
+    Row {
+        instrs: &[
+            Instr::Const {
+                to: 1,
+                value: i64::MAX,
+            },
+            Instr::Const { to: 2, value: 1 },
+            Instr::Add {
+                to: 3,
+                left: 1,
+                right: 2,
+            },
+            Instr::Return,
+        ],
+        end: RunEnd::Fault(RunFault::Overflow),
+        steps: 3,
     },
-    Instr::Return,
-];
-
-const COUNTS_DOWN: [Instr; 6] = [
-    Instr::Const {
-        to: 1,
-        value: i64::MIN,
+    Row {
+        instrs: &[
+            Instr::Const { to: 1, value: 7 },
+            Instr::Const { to: 2, value: 0 },
+            Instr::Div {
+                to: 3,
+                left: 1,
+                right: 2,
+            },
+            Instr::Return,
+        ],
+        end: RunEnd::Fault(RunFault::ZeroDivide),
+        steps: 3,
     },
-    Instr::Const {
-        to: 2,
-        value: i64::MIN,
+    Row {
+        instrs: &[
+            Instr::Local { to: 5, first: 1 },
+            Instr::Load { to: 2, from: 5 },
+            Instr::Return,
+        ],
+        end: RunEnd::Fault(RunFault::Unknown),
+        steps: 2,
     },
-    Instr::Const { to: 3, value: -1 },
-    Instr::Step {
-        counter: 1,
-        limit: 2,
-        by: 3,
-        out: 5,
+    // A check of 0.
+    Row {
+        instrs: &[
+            Instr::Const { to: 1, value: 0 },
+            Instr::Check { value: 1 },
+            Instr::Return,
+        ],
+        end: RunEnd::Failed,
+        steps: 3,
     },
-    Instr::Fail,
-    Instr::Return,
+    Row {
+        instrs: &[Instr::Fail],
+        end: RunEnd::Failed,
+        steps: 2,
+    },
+    Row {
+        instrs: &[
+            Instr::Const { to: 1, value: 3 },
+            Instr::InRange { value: 1, range: 0 },
+            Instr::Return,
+        ],
+        end: RunEnd::Fault(RunFault::Range),
+        steps: 2,
+    },
+    // An index below the range of an array.
+    Row {
+        instrs: &[
+            Instr::Local { to: 10, first: 6 },
+            Instr::Const { to: 1, value: 0 },
+            Instr::Index {
+                to: 11,
+                from: 10,
+                index: 1,
+                range: 0,
+            },
+            Instr::Return,
+        ],
+        end: RunEnd::Fault(RunFault::Index),
+        steps: 3,
+    },
+    // A step down from the least number to itself.
+    Row {
+        instrs: &[
+            Instr::Const {
+                to: 1,
+                value: i64::MIN,
+            },
+            Instr::Const {
+                to: 2,
+                value: i64::MIN,
+            },
+            Instr::Const { to: 3, value: -1 },
+            Instr::Step {
+                counter: 1,
+                limit: 2,
+                by: 3,
+                out: 5,
+            },
+            Instr::Fail,
+            Instr::Return,
+        ],
+        end: RunEnd::Succeeded,
+        steps: 5,
+    },
 ];
 
 // The code of a module body with nine number slots, place slots for one, four and two cells, a range and a text.
@@ -232,23 +269,11 @@ fn outcome(alloc: Global, instrs: &[Instr]) -> Result<Option<(RunEnd, u64)>, NoM
 
 #[test]
 fn a_run_ends_as_its_code_says(rt: HostRuntime) -> Result<(), Fail> {
-    let fault = outcome(rt.alloc(), &TOO_LARGE)?;
-    assert_eq!(rt; fault, Some((RunEnd::Fault(RunFault::Overflow), 3)));
-    let fault = outcome(rt.alloc(), &BY_ZERO)?;
-    assert_eq!(rt; fault, Some((RunEnd::Fault(RunFault::ZeroDivide), 3)));
-    let fault = outcome(rt.alloc(), &NOT_KNOWN)?;
-    assert_eq!(rt; fault, Some((RunEnd::Fault(RunFault::Unknown), 2)));
-    assert_eq!(rt;
-        outcome(rt.alloc(), &CHECK_FAILS)?,
-        Some((RunEnd::Failed, 3))
-    );
-    assert_eq!(rt; outcome(rt.alloc(), &FAILS)?, Some((RunEnd::Failed, 2)));
-    let fault = outcome(rt.alloc(), &NOT_IN_RANGE)?;
-    assert_eq!(rt; fault, Some((RunEnd::Fault(RunFault::Range), 2)));
-    let fault = outcome(rt.alloc(), &NO_PART)?;
-    assert_eq!(rt; fault, Some((RunEnd::Fault(RunFault::Index), 3)));
-    let counted = outcome(rt.alloc(), &COUNTS_DOWN)?;
-    assert_eq!(rt; counted, Some((RunEnd::Succeeded, 5)));
+    for row in &ROWS {
+        assert!(rt; row.instrs.len() <= 99);
+        let found = outcome(rt.alloc(), row.instrs)?;
+        assert_eq!(rt; found, Some((row.end, row.steps)));
+    }
     Ok(())
 }
 

@@ -1,11 +1,6 @@
-//! What public calls answer, and what is printed. Tests alone, of the text: values, the outside, tokens, trees, names,
-//! samples.
+//! What public calls answer, and what is printed. Tests alone, of the text: tokens, trees, names, samples.
 #![tactic(auto)]
 
-#[cfg(test)]
-mod base;
-#[cfg(test)]
-mod io;
 #[cfg(test)]
 mod names;
 #[cfg(test)]

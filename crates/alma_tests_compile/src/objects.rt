@@ -1,6 +1,4 @@
 // The commands `compile` and `list`, over the fakes in memory.
-ghost use Rattle.std.specs.Prelude.{◌<◌};
-
 use crate::call::{Answer, READ_FAULT, SUCCESS, WRITE_FAULT, check, check_on, files_with};
 use crate::object::{FIRST, SECOND};
 use std::alloc::Global;
@@ -12,44 +10,41 @@ const EMPTY: &[u8] = b"MODULE A; END A.";
 const EMPTY_LISTING: &[u8] =
     b"object 2\nroutine 0 A slots 1 declared 0 params 0 result 0\n0 Return\nline 0 1\n";
 
+/// The name of an object, and whether its source is still there behind it.
+struct Compiled {
+    object: &'static str,
+    source_stays: bool,
+}
+
+// The object may take the place of the source.
+const COMPILED: [Compiled; 2] = [
+    Compiled {
+        object: "a.obj",
+        source_stays: true,
+    },
+    Compiled {
+        object: "a.al",
+        source_stays: false,
+    },
+];
+
 #[test]
 fn a_compiled_program_is_listed(rt: HostRuntime) -> Result<(), Fail> {
     let alloc = rt.alloc();
-    let mut files = files_with(alloc, "a.al", EMPTY, &[])?;
-    check(
-        &rt,
-        alloc,
-        &mut files,
-        &["compile", "a.al", "a.obj"],
-        &SUCCESS,
-    )?;
     let listed = Answer {
         status: 0,
         out: EMPTY_LISTING,
         err: b"",
     };
-    check(&rt, alloc, &mut files, &["list", "a.obj"], &listed)?;
-    assert_eq!(rt; files.get("a.al"), Some(EMPTY));
+    for row in &COMPILED {
+        let mut files = files_with(alloc, "a.al", EMPTY, &[])?;
+        let compile = ["compile", "a.al", row.object];
+        check(&rt, alloc, &mut files, &compile, &SUCCESS)?;
+        let list = ["list", row.object];
+        check(&rt, alloc, &mut files, &list, &listed)?;
+        assert_eq!(rt; files.get("a.al") == Some(EMPTY), row.source_stays);
+    }
     Ok(())
-}
-
-#[test]
-fn the_object_may_take_the_place_of_the_source(rt: HostRuntime) -> Result<(), Fail> {
-    let alloc = rt.alloc();
-    let mut files = files_with(alloc, "a.al", EMPTY, &[])?;
-    check(
-        &rt,
-        alloc,
-        &mut files,
-        &["compile", "a.al", "a.al"],
-        &SUCCESS,
-    )?;
-    let listed = Answer {
-        status: 0,
-        out: EMPTY_LISTING,
-        err: b"",
-    };
-    check(&rt, alloc, &mut files, &["list", "a.al"], &listed)
 }
 
 #[test]
@@ -285,14 +280,94 @@ fn check_refused(rt: &impl Abort, alloc: Global, object: &[u8], err: &[u8]) -> R
     check_list(rt, alloc, object, &answer)
 }
 
+/// The first object with one byte altered, and what its listing comes to.
+struct Altered {
+    at: usize,
+    byte: u8,
+    answer: Answer<'static>,
+}
+
+const ALTERED: [Altered; 7] = [
+    // The byte that is there.
+    Altered {
+        at: 87,
+        byte: 0x26,
+        answer: Answer {
+            status: 0,
+            out: FIRST_LISTING,
+            err: b"",
+        },
+    },
+    // A code that is not sound: an object that is listed is not verified.
+    Altered {
+        at: 87,
+        byte: 0x1e,
+        answer: Answer {
+            status: 0,
+            out: b"object 1\nroutine 0 A slots 1 declared 0 params 0 result 0\n0 Mark 0\n",
+            err: b"",
+        },
+    },
+    Altered {
+        at: 87,
+        byte: 0,
+        answer: Answer {
+            status: 9,
+            out: b"",
+            err: b"alma: object BadOpcode 87\n",
+        },
+    },
+    Altered {
+        at: 0,
+        byte: b'a',
+        answer: Answer {
+            status: 9,
+            out: b"",
+            err: b"alma: object Magic\n",
+        },
+    },
+    Altered {
+        at: 8,
+        byte: 49,
+        answer: Answer {
+            status: 9,
+            out: b"",
+            err: b"alma: object Version 49\n",
+        },
+    },
+    Altered {
+        at: 10,
+        byte: 0,
+        answer: Answer {
+            status: 9,
+            out: b"",
+            err: b"alma: object BadCount 10\n",
+        },
+    },
+    Altered {
+        at: 86,
+        byte: b'1',
+        answer: Answer {
+            status: 9,
+            out: b"",
+            err: b"alma: object BadName 86\n",
+        },
+    },
+];
+
 #[test]
-fn small_objects_are_listed(rt: HostRuntime) -> Result<(), Fail> {
-    let first = Answer {
-        status: 0,
-        out: FIRST_LISTING,
-        err: b"",
-    };
-    check_list(&rt, rt.alloc(), &FIRST, &first)?;
+fn an_object_with_one_byte_altered_is_listed_or_refused(rt: HostRuntime) -> Result<(), Fail> {
+    for row in &ALTERED {
+        let mut object = FIRST;
+        assert!(rt; row.at < object.len());
+        object[row.at] = row.byte;
+        check_list(&rt, rt.alloc(), &object, &row.answer)?;
+    }
+    Ok(())
+}
+
+#[test]
+fn the_second_version_is_listed(rt: HostRuntime) -> Result<(), Fail> {
     let second = Answer {
         status: 0,
         out: SECOND_LISTING,
@@ -302,39 +377,12 @@ fn small_objects_are_listed(rt: HostRuntime) -> Result<(), Fail> {
 }
 
 #[test]
-fn damaged_objects_are_refused(rt: HostRuntime) -> Result<(), Fail> {
+fn an_object_of_another_length_is_refused(rt: HostRuntime) -> Result<(), Fail> {
     let alloc = rt.alloc();
     check_refused(&rt, alloc, &FIRST[..103], b"alma: object Cut 103\n")?;
     let mut longer = Vec::from_slice(alloc, &FIRST)?;
     longer.push(0)?;
-    check_refused(&rt, alloc, &longer, b"alma: object Trailing 104\n")?;
-    let mut opcode = FIRST;
-    opcode[87] = 0;
-    check_refused(&rt, alloc, &opcode, b"alma: object BadOpcode 87\n")?;
-    let mut magic = FIRST;
-    magic[0] = b'a';
-    check_refused(&rt, alloc, &magic, b"alma: object Magic\n")?;
-    let mut version = FIRST;
-    version[8] = 49;
-    check_refused(&rt, alloc, &version, b"alma: object Version 49\n")?;
-    let mut counts = FIRST;
-    counts[10] = 0;
-    check_refused(&rt, alloc, &counts, b"alma: object BadCount 10\n")?;
-    let mut name = FIRST;
-    name[86] = b'1';
-    check_refused(&rt, alloc, &name, b"alma: object BadName 86\n")
-}
-
-#[test]
-fn an_object_is_not_verified(rt: HostRuntime) -> Result<(), Fail> {
-    let mut mark = FIRST;
-    mark[87] = 0x1e;
-    let answer = Answer {
-        status: 0,
-        out: b"object 1\nroutine 0 A slots 1 declared 0 params 0 result 0\n0 Mark 0\n",
-        err: b"",
-    };
-    check_list(&rt, rt.alloc(), &mark, &answer)
+    check_refused(&rt, alloc, &longer, b"alma: object Trailing 104\n")
 }
 
 #[test]

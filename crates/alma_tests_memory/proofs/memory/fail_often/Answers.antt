@@ -1,5 +1,5 @@
 use Rattle.alma_memory.proofs.Slots.{stack_after_pop-slots}
-use Rattle.alma_tests_machine.proofs.memory.fail_often.Goals as goal
+use Rattle.alma_tests_memory.proofs.memory.fail_often.Goals as goal
 
 pub loop-preserved : goal.loop-preserved
 loop-preserved c = λ slots h.
