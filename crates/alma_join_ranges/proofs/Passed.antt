@@ -1,0 +1,29 @@
+-- Errors that `?` hands on, behind bounds and arms.
+use Rattle.std.proofs.Common.{◌≡◌, ℕ, Option, None, Some, Result, Ok, Err, refl}
+use Rattle.std.specs.Prelude.{ℤ, option_map}
+use Rattle.std.specs.Result.{IsErrAnd}
+use Rattle.alma_ir.specs.Tree as ir
+use Rattle.alma_rules.specs.declared.error.Stop.{Stop}
+use Rattle.alma_rules.specs.Judged.{Judged}
+use Rattle.alma_rules.specs.Answers.{Stops}
+use Rattle.alma_rules.specs.Parts as parts
+use Rattle.alma_join_ranges.specs.declared.turns.Bounds.{Bounds}
+use Rattle.alma_join_ranges.specs.declared.turns.Turns.{Turns}
+use Rattle.alma_join_ranges.specs.declared.case.Cased.{Cased}
+use Rattle.alma_join_ranges.specs.Bounded.{Bounded, Turned, Armed}
+
+pub same_value : {A : Type 0} (o : Option A) → option_map (λ v. v) o ≡ o
+same_value None = refl
+same_value (Some v) = refl
+
+pub bounded_passed : (low : Option parts.Typing) (j : Judged parts.Typing) (m : ℕ) (r : Result Bounds Stop) (e : Stop) → IsErrAnd r (λ x. x ≡ e) → Stops j.faults e → Bounded low j m r
+bounded_passed low j m (Ok v) e h f = absurd h
+bounded_passed low j m (Err x) e h f = rw h f
+
+pub turned_passed : (b : Bounds) (j : Judged ℤ) (m : ℕ) (r : Result Turns Stop) (e : Stop) → IsErrAnd r (λ x. x ≡ e) → Stops j.faults e → Turned b j m r
+turned_passed b j m (Ok v) e h f = absurd h
+turned_passed b j m (Err x) e h f = rw h f
+
+pub armed_passed : (typed : Option parts.Typing) (j : Judged ir.CaseArms) (m : ℕ) (r : Result Cased Stop) (e : Stop) → IsErrAnd r (λ x. x ≡ e) → Stops j.faults e → Armed typed j m r
+armed_passed typed j m (Ok v) e h f = absurd h
+armed_passed typed j m (Err x) e h f = rw h f
