@@ -14,8 +14,14 @@ ghost use Rattle.alma_check_rules.specs.Views.{scene_of, typing_of, denoted_of, 
 ghost use Rattle.alma_check_build.specs.Lists.{test_in, arms_in, branches_of, guarded_of};
 
 use alma_check_build::as_located;
-use alma_check_form::{assigned, bare_return, commit_stmt, condition, either_stmt, forall_stmt, guarded, if_stmt, line, read, repeat_stmt, returned, test_stmt, text, while_stmt, write};
-use alma_check_rules::{Denoted, Env, Located, Place, Typed, pass_assign, pass_bare_return, pass_constant, pass_read, pass_return, pass_test, pass_write};
+use alma_check_form::{
+    assigned, bare_return, commit_stmt, condition, either_stmt, forall_stmt, guarded, if_stmt,
+    line, read, repeat_stmt, returned, test_stmt, text, while_stmt, write,
+};
+use alma_check_rules::{
+    Denoted, Env, Located, Place, Typed, pass_assign, pass_bare_return, pass_constant, pass_read,
+    pass_return, pass_test, pass_write,
+};
 use alma_ir::{Arm, Branch, Stmt, Test};
 use alma_rules::Stop;
 use std::alloc::Global;
