@@ -6,8 +6,8 @@ mod rule;
 mod stmt_rule;
 
 pub use alma_check_env::{
-    Argument, Behind, Callee, Denoted, Env, Formal, Found, Heading, Join, Located, Meaning, Operand,
-    Operator, Place, Returns, Span, Typed, Use,
+    Argument, Behind, Callee, Denoted, Env, Formal, Found, Heading, Join, Located, Meaning,
+    Operand, Operator, Place, Returns, Span, Typed, Use,
 };
 pub use alma_check_labels::Labels;
 pub use rule::{
