@@ -7,7 +7,7 @@ use Rattle.alma_rules.specs.Judged.{and_then, with}
 use Rattle.alma_rules.specs.Nodes as nodes
 use Rattle.alma_rules.specs.Walk as walk
 use Rattle.alma_rules.specs.Parts as parts
-use Rattle.alma_check_rules.specs.declared.part.Span.{Span}
+use Rattle.alma_check_env.specs.declared.part.Span.{Span}
 use Rattle.alma_check_rules.specs.Views.{spans_in, spans_view}
 use Rattle.alma_walk.proofs.Onwards.{nothing_behind}
 use Rattle.alma_walk.specs.Arms.{labels_judged}

@@ -2,7 +2,7 @@
 use Rattle.std.proofs.Common.{◌≡◌, ℕ, Vec, Global, List, [], ◌∷◌, ◌++◌, Option, None, Some, length, take, refl, sym, ap, ◌∙◌}
 use Rattle.std.specs.Prelude.{option_map, option_to_list}
 use Rattle.alma_rules.specs.Parts as parts
-use Rattle.alma_check_rules.specs.declared.part.Span.{Span}
+use Rattle.alma_check_env.specs.declared.part.Span.{Span}
 use Rattle.alma_check_rules.specs.Views.{span_view, spans_view, spans_in}
 use Rattle.alma_check_build.specs.Lists.{items_in, pushed}
 use Rattle.alma_walk.proofs.Onwards.{nothing_behind, append_more}

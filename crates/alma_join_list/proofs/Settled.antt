@@ -3,7 +3,7 @@ use Rattle.std.proofs.Common.{◌≡◌, ℕ, List, [], ◌∷◌, take, refl, s
 use Rattle.std.specs.Prelude.{Bool, true, false, not, map}
 use Rattle.std.proofs.lemmas.List.{take-map}
 use Rattle.alma_rules.specs.Parts as parts
-use Rattle.alma_check_rules.specs.declared.part.Span.{Span}
+use Rattle.alma_check_env.specs.declared.part.Span.{Span}
 use Rattle.alma_check_rules.specs.Views.{span_view, spans_view}
 use Rattle.alma_join_list.specs.Noted.{trail_for_entries}
 

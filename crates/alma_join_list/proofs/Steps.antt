@@ -9,7 +9,7 @@ use Rattle.alma_ir.specs.declared.phrase.Branch.{Branch}
 use Rattle.alma_ir.specs.View.{args_list, arms_list, cases_list, branches_list, arg_of, test_of, stmts_list}
 use Rattle.alma_rules.specs.Judged.{Broken, Judged, of_value, at_node, and_then, both_of, with}
 use Rattle.alma_rules.specs.Parts as parts
-use Rattle.alma_check_rules.specs.declared.part.Span.{Span}
+use Rattle.alma_check_env.specs.declared.part.Span.{Span}
 use Rattle.alma_check_rules.specs.Views.{span_view, spans_view, spans_in, args_in, gathered}
 use Rattle.alma_rules.specs.Nodes as nodes
 use Rattle.alma_check_build.specs.Lists.{arms_in, branches_in, guarded_of, items_in, pushed}

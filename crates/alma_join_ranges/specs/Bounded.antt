@@ -8,7 +8,7 @@ use Rattle.alma_rules.specs.Judged.{Judged, of_value, broken_at}
 use Rattle.alma_rules.specs.Scene.{Heading, Found as RuleFound}
 use Rattle.alma_rules.specs.Parts as parts
 use Rattle.alma_rules.specs.Answers.{Stops}
-use Rattle.alma_check_rules.specs.declared.env.Found.{Found}
+use Rattle.alma_check_env.specs.declared.env.Found.{Found}
 use Rattle.alma_check_rules.specs.Views.{found_view, typing_in}
 use Rattle.alma_check_build.specs.Lists.{cases_in}
 use Rattle.alma_join_ranges.specs.declared.turns.Bounds.{Bounds}
