@@ -1,30 +1,13 @@
--- What the code's values of a module that is checked stand for.
-use Rattle.std.specs.Prelude.{◌≡◌, ℕ, ◌-◌, Bool, true, false, List, [], length, get_or, map, option_map, Option, None, Some}
-use Rattle.alma_scan.specs.Places.{line_at}
-use Rattle.alma_ir.specs.Tree as ir
-use Rattle.alma_ir.specs.View.{routine_of, global_of}
+-- What the frame of a block and a routine without its body stand for.
+use Rattle.std.specs.Prelude.{◌≡◌, ℕ, ◌-◌, List, [], map, option_map}
+use Rattle.alma_ir.specs.View.{global_of}
 use Rattle.alma_rules.specs.Numbered as tree
 use Rattle.alma_rules.specs.Modules.{result_in}
 use Rattle.alma_rules.specs.Scene.{Scene, text_at, level, line_of}
 use Rattle.alma_rules.specs.Decls.{Frame}
 use Rattle.alma_check_rules.specs.Views.{formal_view}
-use Rattle.alma_check_reader.specs.Told.{fault_of}
 use Rattle.alma_check_block.specs.declared.frame.Frame.{Frame as CodeFrame}
-use Rattle.alma_check_stmt.specs.declared.checked.Checked.{Checked}
-use Rattle.alma_check_stmt.specs.declared.body.Outline.{Outline}
-use Rattle.alma_check_stmt.specs.Gathered.{Stage, stage}
-
--- the routines, where none is Bad
-abbrev pub unless_bad : Bool → List ir.Routine → Option (List ir.Routine)
-unless_bad true rs = None
-unless_bad false rs = Some rs
-
-abbrev pub routines_in : Checked → Option (List ir.Routine)
-routines_in x = unless_bad x.is_bad (map routine_of x.routines.items)
-
--- how far a module is checked, with the scene of its reader
-abbrev pub stand : Checked → Scene → Stage
-stand x s = stage (fault_of x.fault) (routines_in x) x.next s
+use Rattle.alma_check_routine.specs.declared.body.Outline.{Outline}
 
 -- a frame in which no rule is broken, with the scene of its reader
 abbrev pub frame_in : Scene → CodeFrame → Frame

@@ -8,14 +8,15 @@ ghost use Rattle.alma_rules.specs.Modules as modules;
 ghost use Rattle.alma_rules.specs.View as view;
 ghost use Rattle.alma_check_reader.specs.Told.{fault_of};
 ghost use Rattle.alma_check_reader.specs.Around.{outer_of};
-ghost use Rattle.alma_check_stmt.specs.Gathered.{through_decls, through_decl, through_block, through_read, with_least, AreReady, IsReady, IsReadyInside, IsRisingBody};
-ghost use Rattle.alma_check_stmt.specs.Shown.{stand, frame_in};
+ghost use Rattle.alma_check_gathered.specs.Gathered.{through_decls, through_decl, through_block, through_read, with_least, AreReady, IsReady, IsReadyInside, IsRisingBody};
+ghost use Rattle.alma_check_gathered.specs.Shown.{stand};
+ghost use Rattle.alma_check_routine.specs.Framed.{frame_in};
 
 use crate::body::{Site, check_own};
-use crate::checked::Checked;
 use crate::line::Lines;
 use alma_base::{CheckFault, NoMemory};
 use alma_check_block::{Frame, read_decls, read_heading};
+use alma_check_gathered::Checked;
 use alma_check_reader::{Around, Broken, Reader};
 use alma_tree::{Block, Decl, Name, Params};
 use std::alloc::Global;

@@ -1,8 +1,8 @@
 use Rattle.alma_rules.specs.Modules as modules
 use Rattle.alma_rules.specs.View as view
-use Rattle.alma_check_stmt.specs.Shown.{frame_in}
-use Rattle.alma_check_stmt.proofs.Own.{own_answers}
-use Rattle.alma_check_stmt.proofs.body.check_own.Goals as goal
+use Rattle.alma_check_routine.specs.Framed.{frame_in}
+use Rattle.alma_check_routine.proofs.Own.{own_answers}
+use Rattle.alma_check_routine.proofs.body.check_own.Goals as goal
 
 pub returns-clause-added : goal.returns-clause-added
 returns-clause-added c =

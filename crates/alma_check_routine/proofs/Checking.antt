@@ -1,31 +1,24 @@
 -- What the calls that check routines leave, put together.
-use Rattle.std.proofs.Common.{◌≡◌, ℕ, ◌+◌, ◌-◌, List, [], Option, None, Some, Bool, true, false, refl, sym, ap, subst, ◌∙◌, Result, Ok, Err}
-use Rattle.std.specs.Prelude.{OnOk, IfOk}
-use Rattle.alma_scan.specs.Tokens.{Lexeme}
+use Rattle.std.proofs.Common.{◌≡◌, ℕ, ◌+◌, ◌-◌, List, [], Option, None, Some, refl, sym, ap, subst, ◌∙◌, Result, Ok, Err}
+use Rattle.std.specs.Prelude.{OnOk}
 use Rattle.alma_ir.specs.Tree as ir
-use Rattle.alma_ir.specs.declared.program.Program.{Program}
-use Rattle.alma_ir.specs.View.{program_of}
-use Rattle.alma_ir.specs.Checked.{IsChecked}
-use Rattle.alma_rules.specs.declared.error.CheckError.{CheckError}
-use Rattle.alma_rules.specs.Answers.{Resolves}
 use Rattle.alma_rules.specs.Numbered as tree
 use Rattle.alma_rules.specs.Judged.{Broken, least}
 use Rattle.alma_rules.specs.Answers.{first}
 use Rattle.alma_rules.specs.Scene.{Scene}
 use Rattle.alma_rules.specs.Decls.{Frame, read_heading, read_decls}
-use Rattle.alma_rules.specs.Modules.{frame_of, broken, resolved}
+use Rattle.alma_rules.specs.Modules.{frame_of}
 use Rattle.alma_check_reader.specs.declared.reading.Broken.{Broken as CodeBroken}
 use Rattle.alma_check_reader.specs.Told.{fault_of}
 use Rattle.alma_check_reader.specs.Around.{Outer, left, outer_of, cleared}
 use Rattle.alma_check_block.specs.declared.frame.Frame.{Frame as CodeFrame}
 use Rattle.alma_check_block.specs.Shown.{ToldFrame, shown, told_frame}
-use Rattle.alma_check_stmt.specs.declared.checked.Checked.{Checked}
-use Rattle.alma_check_stmt.specs.Gathered.{Stage, stage, through_block, through_read, read_stage, with_fault, counted, quiet}
-use Rattle.alma_check_stmt.specs.Shown.{stand, frame_in, routines_in, unless_bad}
-use Rattle.alma_check_stmt.specs.Whole.{IsJudged}
-use Rattle.alma_check_stmt.proofs.Headings.{inner_frame}
-use Rattle.alma_check_stmt.proofs.Routines.{read_by}
-use Rattle.alma_check_stmt.proofs.Wholes.{unbroken_is_fine}
+use Rattle.alma_check_gathered.specs.declared.checked.Checked.{Checked}
+use Rattle.alma_check_gathered.specs.Gathered.{Stage, stage, through_block, through_read, read_stage, with_fault, counted, quiet}
+use Rattle.alma_check_gathered.specs.Shown.{stand, routines_in}
+use Rattle.alma_check_routine.specs.Framed.{frame_in}
+use Rattle.alma_check_routine.proofs.Headings.{inner_frame}
+use Rattle.alma_check_routine.proofs.Routines.{read_by}
 
 pub on_ok : {T E : Type 0} {P Q : Type 0} (r : Result T E) → (P → Q) → OnOk r P → OnOk r Q
 on_ok (Ok x) f h = f h
@@ -75,25 +68,3 @@ inner_read x0 x1 s0 s1 f1 k params result m decls body name outer outer' end end
 pub cleared_by : (s0 s2 s3 s4 : Scene) (a : Outer) (from n n2 : ℕ) → s3 ≡ left s2 a → a ≡ outer_of s0 → from ≡ n + 1 → s4 ≡ record s3 { headings = cleared from (n2 - from) s3.headings }
     → s4 ≡ record (left s2 (outer_of s0)) { headings = cleared (n + 1) (n2 - (n + 1)) s2.headings }
 cleared_by s0 s2 s3 s4 a from n n2 l o f e = e ∙ rw (l, o, f) refl
-
--- ---- the whole
-
-pub resolved_checked : (source : List ℕ) (tokens : List Lexeme) (m : tree.Module) (r : Result Program CheckError) → Resolves source tokens m program_of r → ((p : ir.Program) → resolved source tokens m ≡ Some p → IsChecked p) → IfOk r (λ p. IsChecked (program_of p))
-resolved_checked source tokens m (Ok p) h f = f (program_of p) h.1
-resolved_checked source tokens m (Err e) h f = tt
-
-pub fine_judged : (source : List ℕ) (tokens : List Lexeme) (m : tree.Module) (f : Option CodeBroken) (b : Bool) (rs : List ir.Routine) (name : List ℕ) (globals : List ir.Global) → f ≡ None → b ≡ false → IsJudged source tokens m (fault_of f) (unless_bad b rs) name globals
-    → IsJudged source tokens m None (Some rs) name globals
-fine_judged source tokens m f b rs name globals e1 e2 h =
-    subst (λ y. IsJudged source tokens m None y name globals) (ap (λ x. unless_bad x rs) e2) (subst (λ x. IsJudged source tokens m (fault_of x) (unless_bad b rs) name globals) e1 h)
-
--- where no rule is broken no routine is Bad
-bad_never : (source : List ℕ) (tokens : List Lexeme) (m : tree.Module) (b : Bool) (rs : List ir.Routine) (name : List ℕ) (globals : List ir.Global) → IsJudged source tokens m None (unless_bad b rs) name globals
-    → (broken source tokens m ≡ [] → (p : ir.Program) × (resolved source tokens m ≡ Some p)) → b ≡ false
-bad_never source tokens m false rs name globals h law = refl
-bad_never source tokens m true rs name globals h law = absurd (unbroken_is_fine source tokens m name globals h law)
-
-pub never_bad : (source : List ℕ) (tokens : List Lexeme) (m : tree.Module) (f : Option CodeBroken) (b : Bool) (rs : List ir.Routine) (name : List ℕ) (globals : List ir.Global) → IsJudged source tokens m (fault_of f) (unless_bad b rs) name globals
-    → (broken source tokens m ≡ [] → (p : ir.Program) × (resolved source tokens m ≡ Some p)) → f ≡ None → b ≡ false
-never_bad source tokens m f b rs name globals h law e =
-    bad_never source tokens m b rs name globals (subst (λ (x : Option CodeBroken). IsJudged source tokens m (fault_of x) (unless_bad b rs) name globals) e h) law

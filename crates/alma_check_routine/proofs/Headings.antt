@@ -12,8 +12,8 @@ use Rattle.alma_rules.specs.Scene.{Scene, Heading, Returns, nothing}
 use Rattle.alma_rules.specs.Decls.{Frame, read_consts, read_types, read_vars, block_routines, decls_routines, decl_routines, read_heading, read_decl, read_decls, formal_names, formals_of}
 use Rattle.alma_rules.specs.Modules.{frame_of, with_shapes}
 use Rattle.alma_check_reader.specs.Around.{cleared, left, outer_of}
-use Rattle.alma_check_stmt.specs.Gathered.{AreEmpty, IsEmptyInside, AreEmptyInside}
-use Rattle.alma_check_stmt.proofs.Stays.{consts_same, types_same, vars_same, head_same, ground, ground_steady, headings_steady, begun}
+use Rattle.alma_check_gathered.specs.Gathered.{AreEmpty, IsEmptyInside, AreEmptyInside}
+use Rattle.alma_check_routine.proofs.Stays.{consts_same, types_same, vars_same, head_same, ground, ground_steady, headings_steady, begun}
 
 -- ---- declarations
 

@@ -11,14 +11,15 @@ ghost use Rattle.alma_rules.specs.Modules as modules;
 ghost use Rattle.alma_rules.specs.View as view;
 ghost use Rattle.alma_check_rules.specs.Views.{stmts_of};
 ghost use Rattle.alma_check_reader.specs.Told.{fault_of};
-ghost use Rattle.alma_check_stmt.specs.Gathered.{Adds};
-ghost use Rattle.alma_check_stmt.specs.Shown.{frame_in, routines_in, IsOutline};
+ghost use Rattle.alma_check_gathered.specs.Gathered.{Adds};
+ghost use Rattle.alma_check_gathered.specs.Shown.{routines_in};
+ghost use Rattle.alma_check_routine.specs.Framed.{frame_in, IsOutline};
 
-use crate::checked::Checked;
 use crate::line::{Lines, body_lines, line_of};
 use alma_base::{NoMemory, Range};
 use alma_check_block::Frame;
 use alma_check_expr::check_stmts;
+use alma_check_gathered::Checked;
 use alma_check_reader::{Broken, Reader};
 use alma_check_rules::{Place, Returns};
 use alma_ir::{Param, Routine, Stmt};

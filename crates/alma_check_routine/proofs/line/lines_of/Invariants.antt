@@ -1,6 +1,6 @@
 use Rattle.std.proofs.Common.{◌≡◌, ◌≤◌, ◌<◌, ◌+◌, ℕ, length, get_or}
 use Rattle.alma_scan.specs.Places.{line_at}
-use Rattle.alma_check_stmt.proofs.line.lines_of.Given as goal
+use Rattle.alma_check_routine.proofs.line.lines_of.Given as goal
 
 abbrev pub invariant-loop-byte : goal.invariant-loop-byte
 invariant-loop-byte l = record {

@@ -7,14 +7,15 @@ use Rattle.alma_rules.specs.View as view
 use Rattle.alma_rules.specs.Decls as frames
 use Rattle.alma_rules.specs.Modules as modules
 use Rattle.alma_check_reader.specs.Told.{fault_of}
-use Rattle.alma_check_stmt.specs.Gathered.{Stage, through_decls, through_decl, through_read, AreReady}
-use Rattle.alma_check_stmt.specs.Shown.{stand, frame_in, routines_in}
-use Rattle.alma_check_stmt.proofs.Gathering.{decls_first, through_const, through_type, through_var}
-use Rattle.alma_check_stmt.proofs.Routines.{procedure_is, inside_ready, block_ready, declared_ready, first_of, rest_of, decls_next, decls_end, declared_by, is_open, procedure_by}
-use Rattle.alma_check_stmt.proofs.Headings.{inner_frame}
-use Rattle.alma_check_stmt.proofs.Sizes.{procedure_size}
-use Rattle.alma_check_stmt.proofs.Checking.{on_ok, shown_in, block_checked, inner_read, cleared_by}
-use Rattle.alma_check_stmt.proofs.routine.+routines.Goals as goal
+use Rattle.alma_check_gathered.specs.Gathered.{Stage, through_decls, through_decl, through_read, AreReady}
+use Rattle.alma_check_gathered.specs.Shown.{stand, routines_in}
+use Rattle.alma_check_routine.specs.Framed.{frame_in}
+use Rattle.alma_check_routine.proofs.Gathering.{decls_first, through_const, through_type, through_var}
+use Rattle.alma_check_routine.proofs.Routines.{procedure_is, inside_ready, block_ready, declared_ready, first_of, rest_of, decls_next, decls_end, declared_by, is_open, procedure_by}
+use Rattle.alma_check_routine.proofs.Headings.{inner_frame}
+use Rattle.alma_check_routine.proofs.Sizes.{procedure_size}
+use Rattle.alma_check_routine.proofs.Checking.{on_ok, shown_in, block_checked, inner_read, cleared_by}
+use Rattle.alma_check_routine.proofs.routine.+routines.Goals as goal
 
 -- ---- blocks
 
