@@ -19,7 +19,7 @@ use Rattle.alma_rules.specs.Answers.{first}
 use Rattle.alma_rules.specs.Scene.{Scene, is_first, is_structured}
 use Rattle.alma_rules.specs.Types as types
 use Rattle.alma_rules.specs.Decls as rules
-use Rattle.alma_check_rules.specs.declared.env.Formal.{Formal as CodeFormal}
+use Rattle.alma_check_env.specs.declared.env.Formal.{Formal as CodeFormal}
 use Rattle.alma_check_rules.specs.Views.{formal_view}
 use Rattle.alma_check_reader.specs.declared.reading.Reading.{Reading as CodeReading}
 use Rattle.alma_check_reader.specs.Told.{Told, told, tells, fault_of}

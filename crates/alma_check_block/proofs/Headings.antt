@@ -8,7 +8,7 @@ use Rattle.alma_rules.specs.Answers.{first}
 use Rattle.alma_rules.specs.Scene.{Scene, Heading, FormalOf, nothing, a_value}
 use Rattle.alma_rules.specs.Decls as rules
 use Rattle.alma_walk.proofs.Exprs.{next_of}
-use Rattle.alma_check_rules.specs.declared.env.Formal.{Formal}
+use Rattle.alma_check_env.specs.declared.env.Formal.{Formal}
 use Rattle.alma_check_rules.specs.Views.{formal_view}
 use Rattle.alma_check_reader.specs.declared.reading.Broken.{Broken as CodeBroken}
 use Rattle.alma_check_reader.specs.Told.{fault_of}

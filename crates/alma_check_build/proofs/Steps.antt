@@ -14,7 +14,7 @@ use Rattle.alma_tree.specs.declared.leaf.Sign.TheVariants as signs
 use Rattle.alma_ir.specs.View.{sels_list, sel_of, args_list, links_list, tests_list, stmts_list, test_of, expr_of, stmt_of}
 use Rattle.alma_ir.proofs.Views.{viewed, calltest_view, callexpr_view}
 use Rattle.alma_rules.specs.Parts as parts
-use Rattle.alma_check_rules.specs.declared.part.Behind.{Behind}
+use Rattle.alma_check_env.specs.declared.part.Behind.{Behind}
 use Rattle.alma_check_rules.specs.Views.{operands_view, operator_view, typing_of, meaning_view}
 use Rattle.alma_check_build.specs.Lists.{first_of}
 use Rattle.alma_rules.specs.Parts.{with_sel}

@@ -12,7 +12,7 @@ use Rattle.alma_rules.specs.Walk.{judge_expr, judge_arguments, judge_argument_ta
 use Rattle.alma_walk.specs.Appends.{append_args}
 use Rattle.alma_walk.proofs.Exprs.{arguments_at, arguments_next, count_is}
 use Rattle.alma_walk.proofs.Rows as rows
-use Rattle.alma_check_join.specs.Onward.{onward_args}
+use Rattle.alma_join_list.specs.Onward.{onward_args}
 use Rattle.alma_check_expr.proofs.Begins.{begun}
 
 -- ---- formals by their places

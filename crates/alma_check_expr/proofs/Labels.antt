@@ -7,17 +7,17 @@ use Rattle.alma_rules.specs.Judged.{and_then, with}
 use Rattle.alma_rules.specs.Nodes as nodes
 use Rattle.alma_rules.specs.Walk as walk
 use Rattle.alma_rules.specs.Parts as parts
-use Rattle.alma_check_rules.specs.declared.part.Span.{Span}
+use Rattle.alma_check_env.specs.declared.part.Span.{Span}
 use Rattle.alma_check_rules.specs.Views.{spans_in, spans_view}
 use Rattle.alma_walk.proofs.Onwards.{nothing_behind}
 use Rattle.alma_walk.specs.Arms.{labels_judged}
-use Rattle.alma_check_join.specs.Onward.{onward_spans}
+use Rattle.alma_join_list.specs.Onward.{onward_spans}
 use Rattle.alma_check_expr.proofs.Begins.{begun}
 use Rattle.alma_walk.proofs.Cases as cases
 use Rattle.alma_tree.specs.declared.phrase.Arm as da
 use Rattle.alma_tree.specs.declared.phrase.Label as dl
 use Rattle.alma_rules.specs.View as view
-use Rattle.alma_check_join.specs.Bounded.{Grown, trail_for_entries}
+use Rattle.alma_join_list.specs.Noted.{Grown, trail_for_entries}
 
 -- of the labels noted, those of an arm stay where none of them is Bad
 pub settled : (old mid new : List parts.Span) (before : ℕ) (labels : Option (Vec Span Global)) → before ≡ length old → Grown old (spans_in labels) mid

@@ -14,12 +14,12 @@ use Rattle.alma_rules.specs.Parts as parts
 use Rattle.alma_rules.specs.StmtRules as stmt_rules
 use Rattle.alma_rules.specs.Nodes as nodes
 use Rattle.alma_rules.specs.Walk as walk
-use Rattle.alma_check_rules.specs.declared.env.Env.{Env}
-use Rattle.alma_check_rules.specs.declared.env.Place.{Place}
-use Rattle.alma_check_rules.specs.declared.env.Found.{Found}
+use Rattle.alma_check_env.specs.declared.env.Env.{Env}
+use Rattle.alma_check_env.specs.declared.env.Place.{Place}
+use Rattle.alma_check_env.specs.declared.env.Found.{Found}
 use Rattle.alma_check_rules.specs.Views.{scene_of, somewhere, headings_in, found_view, typing_in, stmts_of}
-use Rattle.alma_check_join.specs.declared.statement.Bounds.{Bounds}
-use Rattle.alma_check_join.specs.declared.statement.Turns.{Turns}
+use Rattle.alma_join_turns.specs.declared.turns.Bounds.{Bounds}
+use Rattle.alma_join_turns.specs.declared.turns.Turns.{Turns}
 use Rattle.alma_walk.proofs.Turns as turns
 use Rattle.alma_check_expr.proofs.Same.{found_same}
 

@@ -6,8 +6,8 @@ use Rattle.alma_rules.specs.Scene.{FormalOf, Found, found}
 use Rattle.alma_rules.specs.Parts as parts
 use Rattle.alma_rules.specs.ExprRules as rules
 use Rattle.alma_rules.specs.Nodes as nodes
-use Rattle.alma_check_rules.specs.declared.env.Env.{Env}
-use Rattle.alma_check_rules.specs.declared.env.Place.{Place}
+use Rattle.alma_check_env.specs.declared.env.Env.{Env}
+use Rattle.alma_check_env.specs.declared.env.Place.{Place}
 use Rattle.alma_check_rules.specs.Views.{scene_of, somewhere}
 
 module _ (e : Env) (p : Place) where

@@ -11,13 +11,14 @@ ghost use Rattle.alma_rules.specs.Nodes as nodes;
 ghost use Rattle.alma_rules.specs.Walk as walk;
 ghost use Rattle.alma_check_rules.specs.Views.{scene_of, typing_of, typing_in, located_of, denoted_of, headings_in, stmts_of, stmts_in, span_view, spans_view, spans_of, spans_in};
 ghost use Rattle.alma_check_build.specs.Lists.{guarded_of, arms_of, arms_in, cases_of, cases_in, branches_of, branches_in};
-ghost use Rattle.alma_check_join.specs.Onward.{onward_stmts, onward_arms, onward_cases, onward_branches, onward_spans};
+ghost use Rattle.alma_join_list.specs.Onward.{onward_stmts, onward_arms, onward_cases, onward_branches, onward_spans};
 
 use crate::sequence::{check_condition, check_stmts};
 use alma_check_form::nothing;
-use alma_check_join::{add_guarded, join_guarded, join_if, join_repeat, join_while};
 use alma_check_rules::{Env, Place};
 use alma_ir::{Arm, Stmt as IrStmt};
+use alma_join_list::add_guarded;
+use alma_join_statement::{join_guarded, join_if, join_repeat, join_while};
 use alma_rules::Stop;
 use alma_tree::{Elsif, Expr, Stmts};
 use std::alloc::Global;

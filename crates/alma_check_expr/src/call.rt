@@ -11,14 +11,15 @@ ghost use Rattle.alma_rules.specs.ExprRules as rules;
 ghost use Rattle.alma_rules.specs.Nodes as nodes;
 ghost use Rattle.alma_rules.specs.Walk.{judge_expr, judge_primary, judge_desig, judge_arguments, judge_argument_tail};
 ghost use Rattle.alma_check_rules.specs.Views.{scene_of, headings_in, typing_of, callee_of, callee_in, formal_view, args_of, args_in};
-ghost use Rattle.alma_check_join.specs.Onward.{onward_args};
+ghost use Rattle.alma_join_list.specs.Onward.{onward_args};
 
 use crate::designator::check_desig;
 use crate::expression::check_expr;
-use alma_check_join::{add_argument, join_argument, join_call, join_callee, join_value};
 use alma_check_look::{argument_kind, formal_of};
 use alma_check_rules::{Callee, Env, Formal, Place, Typed, Use};
 use alma_ir::Arg;
+use alma_join_expression::{join_argument, join_call, join_callee, join_value};
+use alma_join_list::add_argument;
 use alma_rules::Stop;
 use alma_tree::{Args, Desig, Expr, Exprs};
 use std::alloc::Global;

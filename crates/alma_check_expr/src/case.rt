@@ -12,17 +12,15 @@ ghost use Rattle.alma_rules.specs.Walk as walk;
 ghost use Rattle.alma_check_rules.specs.Views.{scene_of, typing_of, typing_in, located_of, denoted_of, headings_in, stmts_of, stmts_in, span_view, spans_view, spans_of, spans_in};
 ghost use Rattle.alma_check_build.specs.Lists.{guarded_of, arms_of, arms_in, cases_of, cases_in, branches_of, branches_in};
 ghost use Rattle.alma_walk.specs.Arms.{arms_judged, labels_judged};
-ghost use Rattle.alma_check_join.specs.Bounded.{Grown};
-ghost use Rattle.alma_check_join.specs.Onward.{onward_stmts, onward_arms, onward_cases, onward_branches, onward_spans};
+ghost use Rattle.alma_join_list.specs.Noted.{Grown};
+ghost use Rattle.alma_join_list.specs.Onward.{onward_stmts, onward_arms, onward_cases, onward_branches, onward_spans};
 
 use crate::expression::check_expr;
 use crate::sequence::check_stmts;
-use alma_check_join::{
-    add_cases, add_label, join_arm, join_arms, join_case, join_else, join_label, join_single,
-    settle,
-};
 use alma_check_rules::{Env, Labels, Place, Span, Typed};
 use alma_ir::{CaseArm, Stmt as IrStmt};
+use alma_join_case::{join_arm, join_arms, join_case, join_else, join_label, join_single};
+use alma_join_list::{add_cases, add_label, settle};
 use alma_rules::Stop;
 use alma_tree::{Arm, Expr, Label, Stmts};
 use std::alloc::Global;

@@ -9,8 +9,8 @@ ghost use Rattle.alma_rules.specs.Walk.{judge_expr, judge_desig, judge_selectors
 ghost use Rattle.alma_check_rules.specs.Views.{scene_of, headings_in, denoted_in, denoted_of, use_view};
 
 use crate::expression::check_expr;
-use alma_check_join::{check_found, join_array, join_desig, join_field, join_index};
 use alma_check_rules::{Denoted, Env, Place, Use};
+use alma_join_expression::{check_found, join_array, join_desig, join_field, join_index};
 use alma_rules::Stop;
 use alma_tree::{Desig, Expr, Exprs, Selector};
 use std::alloc::Global;

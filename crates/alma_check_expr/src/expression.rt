@@ -11,11 +11,12 @@ use crate::designator::check_desig;
 use crate::parens::check_parens;
 use alma_check_build::{add_operator, behind, first_add, first_mul, mul_operator};
 use alma_check_chain::{join_product, join_sum};
-use alma_check_join::{
-    add_operand, check_literal, check_number, join_chr, join_factor, join_known, join_not,
-    join_ord, join_relation,
-};
 use alma_check_rules::{Behind, Env, Operand, Place, Typed, Use};
+use alma_join_expression::{
+    check_literal, check_number, join_chr, join_factor, join_known, join_not, join_ord,
+    join_relation,
+};
+use alma_join_list::add_operand;
 use alma_rules::Stop;
 use alma_tree::{AddLink, Expr, Factor, MulLink, Primary, Simple, Term};
 use std::alloc::Global;

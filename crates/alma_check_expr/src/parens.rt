@@ -10,8 +10,8 @@ ghost use Rattle.alma_check_rules.specs.Views.{scene_of, typing_of};
 
 use crate::expression::check_expr;
 use crate::sequence::check_stmts;
-use alma_check_join::{join_parens, join_sequence};
 use alma_check_rules::{Env, Place, Typed};
+use alma_join_expression::{join_parens, join_sequence};
 use alma_rules::Stop;
 use alma_tree::{Stmt, Stmts};
 use std::alloc::Global;

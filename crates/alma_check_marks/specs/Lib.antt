@@ -1,2 +1,1 @@
--- Definitions of contracts between the functions of this crate, and what its marks stand for.
-pub mod Marking
+pub use Rattle.alma_phrase_marks.specs.Marking

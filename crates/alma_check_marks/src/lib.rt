@@ -2,15 +2,11 @@
 #![tactic(auto)]
 
 mod declaration;
-mod expression;
-mod form;
-mod mark;
-mod statement;
 mod type_node;
 mod widths;
 
+pub use alma_phrase_marks::{Mark, Marks, first_token};
 pub use declaration::{first_token_of, mark_module};
-pub use mark::{Mark, Marks, first_token};
 pub use widths::{
     first_token_in_expr, first_token_in_type, statement_tokens, width_of_expr, width_of_type,
 };

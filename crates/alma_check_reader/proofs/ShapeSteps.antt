@@ -14,7 +14,7 @@ use Rattle.alma_rules.specs.Scene.{Scene, first_token, is_first, text_at}
 use Rattle.alma_rules.specs.Judged.{Broken}
 use Rattle.alma_rules.specs.Types.{Formed, number_in, size_rules, row_on, rows_on}
 use Rattle.alma_check_reader.specs.Told.{Told, told_with, told_at, told_type, a_told}
-use Rattle.alma_check_rules.specs.declared.env.Env.{Env}
+use Rattle.alma_check_env.specs.declared.env.Env.{Env}
 use Rattle.alma_check_rules.specs.Views.{scene_of, somewhere}
 use Rattle.alma_check_reader.specs.Tables.{field_view, fields_view}
 

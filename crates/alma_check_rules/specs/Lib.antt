@@ -1,3 +1,1 @@
-pub mod Labels
-pub mod Reach
-pub mod Views
+pub use Rattle.alma_check_env.specs.Views

@@ -1,20 +1,15 @@
-//! What is round a phrase in a source, what the names there stand for, and the rules of each node, in the order of the faults.
+//! The rules of each node, in the order of the faults.
 // The line #![tactic(auto)] of every crate, with lemmas for all functions of this one.
 #![tactic(auto, using(std::proofs::lemmas::Grind::common_steps))]
 
-mod env;
-mod labels;
-mod name;
-mod part;
-mod reach;
 mod rule;
 mod stmt_rule;
 
-pub use env::{Env, Formal, Found, Heading, Place, Returns};
-pub use labels::Labels;
-pub use part::{
-    Argument, Behind, Callee, Denoted, Join, Located, Meaning, Operand, Operator, Span, Typed, Use,
+pub use alma_check_env::{
+    Argument, Behind, Callee, Denoted, Env, Formal, Found, Heading, Join, Located, Meaning,
+    Operand, Operator, Place, Returns, Span, Typed, Use,
 };
+pub use alma_check_labels::Labels;
 pub use rule::{
     pass_argument, pass_array, pass_call, pass_chr, pass_constant, pass_desig, pass_field,
     pass_index, pass_known, pass_literal, pass_name, pass_not, pass_operand, pass_relation,

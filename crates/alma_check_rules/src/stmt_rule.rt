@@ -5,13 +5,12 @@ ghost use Rattle.alma_rules.specs.Judged.{holds, both_of};
 ghost use Rattle.alma_rules.specs.Answers.{Passes};
 ghost use Rattle.alma_rules.specs.Parts as parts;
 ghost use Rattle.alma_rules.specs.StmtRules as rules;
-ghost use Rattle.alma_check_rules.specs.Views.{scene_of, found_view, headings_in, typing_in, typing_of, located_in, returns_view, somewhere, span_view, spans_view};
+ghost use Rattle.alma_check_env.specs.Views.{scene_of, found_view, headings_in, typing_in, typing_of, located_in, returns_view, somewhere, span_view, spans_view};
 
-use crate::env::{Env, Found, Place, Returns};
-use crate::labels::Labels;
-use crate::part::{Located, Span, Typed};
 use crate::rule::{no_integer, structured};
 use alma_base::{CheckFault, Range};
+use alma_check_env::{Env, Found, Located, Place, Returns, Span, Typed};
+use alma_check_labels::Labels;
 use alma_rules::Stop;
 
 /// `:=`, behind both sides.

@@ -1,8 +1,2 @@
-pub mod Stays
-pub mod Headings
-pub mod Gathering
-pub mod Routines
-pub mod Own
-pub mod Checking
 pub mod Wholes
-pub mod Sizes
+pub mod Judging

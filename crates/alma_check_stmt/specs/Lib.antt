@@ -1,4 +1,1 @@
-pub mod Gathered
-pub mod Shown
-pub mod Lined
 pub mod Whole

@@ -34,7 +34,7 @@ use Rattle.alma_walk.proofs.Desigs as desigs
 use Rattle.alma_walk.proofs.Stmts as stmts
 use Rattle.alma_walk.proofs.Turns as turns
 use Rattle.alma_walk.specs.Appends.{append_args, append_arms, append_branches}
-use Rattle.alma_check_join.specs.Onward.{onward_operands, onward_args, onward_stmts, onward_arms, onward_cases, onward_branches, onward_spans}
+use Rattle.alma_join_list.specs.Onward.{onward_operands, onward_args, onward_stmts, onward_arms, onward_cases, onward_branches, onward_spans}
 use Rattle.alma_check_expr.proofs.+check.Goals as goal
 
 -- ---- Expressions

@@ -24,8 +24,8 @@ use Rattle.alma_rules.specs.Walk as walk
 use Rattle.alma_walk.specs.Arms.{arms_judged, labels_judged}
 use Rattle.alma_check_rules.specs.Views.{scene_of, headings_in, denoted_in, typing_in, operands_in, args_in, stmts_in, spans_in, spans_view, callee_in}
 use Rattle.alma_check_build.specs.Lists.{arms_in, branches_in, cases_in}
-use Rattle.alma_check_join.specs.Bounded.{Grown}
-use Rattle.alma_check_join.specs.Onward.{onward_operands, onward_args, onward_stmts, onward_arms, onward_cases, onward_branches, onward_spans}
+use Rattle.alma_join_list.specs.Noted.{Grown}
+use Rattle.alma_join_list.specs.Onward.{onward_operands, onward_args, onward_stmts, onward_arms, onward_cases, onward_branches, onward_spans}
 use Rattle.alma_check_expr.proofs.+check.Given as goal
 
 -- ---- measures: eight times the depth, and up to five more where a phrase is passed on as it is

@@ -3,7 +3,7 @@ use Rattle.alma_scan.specs.Scanned.{lexemes}
 use Rattle.alma_ir.specs.View.{routine_of, global_of}
 use Rattle.alma_rules.specs.View.{view_module}
 use Rattle.alma_rules.proofs.Bridge.{numbered_rises}
-use Rattle.alma_check_stmt.proofs.Checking.{resolved_checked, never_bad}
+use Rattle.alma_check_stmt.proofs.Judging.{resolved_checked, never_bad}
 use Rattle.alma_check_stmt.proofs.module.check.Goals as goal
 
 pub judge_whole-requires-clause-rising : goal.judge_whole-requires-clause-rising

@@ -1,7 +1,7 @@
 use Rattle.std.proofs.Common.{◌≡◌, map}
 use Rattle.alma_ir.specs.View.{routine_of, global_of}
 use Rattle.alma_rules.specs.View.{view_module}
-use Rattle.alma_check_stmt.proofs.Checking.{fine_judged}
+use Rattle.alma_check_stmt.proofs.Judging.{fine_judged}
 use Rattle.alma_check_stmt.proofs.Wholes.{unbroken_resolves}
 use Rattle.alma_check_stmt.proofs.module.finish.Goals as goal
 

@@ -1,0 +1,28 @@
+use Rattle.std.proofs.Common.{Option, refl, sym, subst, ap, ◌∙◌}
+use Rattle.std.specs.Prelude.{pos, true, false, option_map, option_and_then}
+use Rattle.alma_ir.specs.Tree as ir
+use Rattle.alma_ir.specs.View.{arg_of, test_of, else_option}
+use Rattle.alma_rules.specs.Scene.{literal_at}
+use Rattle.alma_rules.specs.Judged.{Judged, fine, of_value, both, at_node, with, with_some}
+use Rattle.alma_rules.specs.Answers.{Answers}
+use Rattle.alma_rules.specs.Parts as parts
+use Rattle.alma_rules.specs.ExprRules as rules
+use Rattle.alma_rules.specs.StmtRules as stmt_rules
+use Rattle.alma_rules.specs.Nodes as nodes
+use Rattle.alma_check_rules.specs.Views.{scene_of, somewhere, headings_in, found_view, use_view, operand_view, typing_in, typing_of, denoted_in, denoted_of, located_in, located_of, callee_in, callee_of, formal_view, argument_view, operator_view, operands_in, args_in, stmts_in, stmts_of, span_view, spans_view, spans_in}
+use Rattle.alma_check_build.specs.Lists.{test_in, arms_in, cases_of, cases_in, branches_of, branches_in, guarded_of}
+use Rattle.alma_walk.proofs.Judging.{stops_more, passed, no_memory, node_stops, node_fine, both_fine, with_fine, with_some_fine}
+use Rattle.alma_join_expression.proofs.Indexed.{indexed_fine}
+use Rattle.alma_join_expression.proofs.expression.join_index.Goals as goal
+
+pub returns-in_err-typed : goal.returns-in_err-typed
+returns-in_err-typed c = λ j n m a. passed _ (denoted_of (headings_in c.args.env.now)) m _ _ c.from_residual.ensures.1 (stops_more j.faults _ _ (rw c.in_err-typed.was at a))
+
+pub returns-in_err-pass_index : goal.returns-in_err-pass_index
+returns-in_err-pass_index c = λ j n m a. passed _ (denoted_of (headings_in c.args.env.now)) m _ _ c.from_residual-in_err-pass_index.ensures.1 (node_stops c.args.node (rules.index_rules (scene_of c.args.env.now somewhere) (denoted_in (headings_in c.args.env.now) c.args.found)) j _ m _ (rw c.in_ok-typed.was at a) c.in_err-pass_index.ensures)
+
+pub returns-in_err-part : goal.returns-in_err-part
+returns-in_err-part c = λ j n m a. no_memory _ (denoted_of (headings_in c.args.env.now)) m _ c.from_residual-in_err-part.ensures.1
+
+pub returns : goal.returns
+returns c = λ j n m a. indexed_fine (scene_of c.args.env.now somewhere) n c.args.node m (denoted_in (headings_in c.args.env.now) c.args.found) j _ (node_fine c.args.node (rules.index_rules (scene_of c.args.env.now somewhere) (denoted_in (headings_in c.args.env.now) c.args.found)) j m _ (rw c.in_ok-typed.was at a) c.in_ok-pass_index.ensures) ∙ ap (of_value m) (sym c.in_ok-part.ensures)

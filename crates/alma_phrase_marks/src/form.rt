@@ -1,0 +1,337 @@
+// The statements with statements inside.
+ghost use Rattle.alma_rules.specs.Numbered as tree;
+ghost use Rattle.alma_rules.specs.Places as places;
+ghost use Rattle.alma_rules.specs.View as view;
+ghost use Rattle.alma_phrase_marks.specs.Marking.{Walks};
+
+use crate::expression::mark_expr;
+use crate::mark::Marks;
+use crate::statement::mark_stmts;
+use alma_base::NoMemory;
+use alma_tree::{Arm, Elsif, Expr, Label, Name, Stmts};
+
+/// IF.
+#[cycle(marks)]
+pub(crate) fn mark_if(
+    marks: &mut Marks,
+    node: u32,
+    test: &Expr,
+    then: &Stmts,
+    elsifs: &[Elsif],
+    otherwise: &Option<Stmts>,
+) -> Result<(), NoMemory>
+    ensures { Walks result marks.old marks.new (places.mark_stmt (tree.if_stmt node
+        (view.view_expr test.now) (view.view_stmts then.now) (view.elsifs_of elsifs.now)
+        (view.else_of otherwise.now))) }
+{
+    let at = marks.end;
+    marks.begin()?;
+    mark_expr(marks, test)?;
+    marks.token()?;
+    mark_stmts(marks, then)?;
+    mark_elsifs(marks, elsifs)?;
+    mark_else(marks, otherwise)?;
+    marks.token()?;
+    marks.node(node, at)
+}
+
+#[cycle(marks)]
+fn mark_elsifs(marks: &mut Marks, elsifs: &[Elsif]) -> Result<(), NoMemory>
+    ensures { Walks result marks.old marks.new (places.mark_elsifs (view.elsifs_of elsifs.now)) }
+{
+    for elsif in elsifs {
+        marks.token()?;
+        mark_expr(marks, &elsif.test)?;
+        marks.token()?;
+        mark_stmts(marks, &elsif.then)?;
+    }
+    Ok(())
+}
+
+#[cycle(marks)]
+fn mark_else(marks: &mut Marks, otherwise: &Option<Stmts>) -> Result<(), NoMemory>
+    ensures { Walks result marks.old marks.new (places.mark_else (view.else_of otherwise.now)) }
+{
+    match otherwise {
+        None => Ok(()),
+        Some(body) => {
+            marks.token()?;
+            mark_stmts(marks, body)
+        }
+    }
+}
+
+/// WHILE.
+#[cycle(marks)]
+pub(crate) fn mark_while(
+    marks: &mut Marks,
+    node: u32,
+    test: &Expr,
+    body: &Stmts,
+) -> Result<(), NoMemory>
+    ensures { Walks result marks.old marks.new (places.mark_stmt
+        (tree.while_stmt node (view.view_expr test.now) (view.view_stmts body.now))) }
+{
+    let at = marks.end;
+    marks.begin()?;
+    mark_expr(marks, test)?;
+    marks.token()?;
+    mark_stmts(marks, body)?;
+    marks.token()?;
+    marks.node(node, at)
+}
+
+/// REPEAT.
+#[cycle(marks)]
+pub(crate) fn mark_repeat(
+    marks: &mut Marks,
+    node: u32,
+    body: &Stmts,
+    test: &Expr,
+) -> Result<(), NoMemory>
+    ensures { Walks result marks.old marks.new (places.mark_stmt
+        (tree.repeat_stmt node (view.view_stmts body.now) (view.view_expr test.now))) }
+{
+    let at = marks.end;
+    marks.begin()?;
+    mark_stmts(marks, body)?;
+    marks.token()?;
+    mark_expr(marks, test)?;
+    marks.node(node, at)
+}
+
+/// FOR.
+#[cycle(marks)]
+pub(crate) fn mark_for(
+    marks: &mut Marks,
+    node: u32,
+    variable: &Name,
+    from: &Expr,
+    to: &Expr,
+    by: &Option<Expr>,
+    body: &Stmts,
+) -> Result<(), NoMemory>
+    ensures { Walks result marks.old marks.new (places.mark_stmt (tree.for_stmt node
+        (view.view_name variable.now) (view.view_expr from.now) (view.view_expr to.now)
+        (view.by_of by.now) (view.view_stmts body.now))) }
+{
+    let at = marks.end;
+    marks.begin()?;
+    marks.leaf(variable.node)?;
+    marks.token()?;
+    mark_expr(marks, from)?;
+    marks.token()?;
+    mark_expr(marks, to)?;
+    mark_by(marks, by)?;
+    marks.token()?;
+    mark_stmts(marks, body)?;
+    marks.token()?;
+    marks.node(node, at)
+}
+
+#[cycle(marks)]
+fn mark_by(marks: &mut Marks, by: &Option<Expr>) -> Result<(), NoMemory>
+    ensures { Walks result marks.old marks.new (places.mark_by (view.by_of by.now)) }
+{
+    match by {
+        None => Ok(()),
+        Some(by) => {
+            marks.token()?;
+            mark_expr(marks, by)
+        }
+    }
+}
+
+/// SOME.
+#[cycle(marks)]
+pub(crate) fn mark_some(
+    marks: &mut Marks,
+    node: u32,
+    variable: &Name,
+    from: &Expr,
+    to: &Expr,
+    body: &Stmts,
+) -> Result<(), NoMemory>
+    ensures { Walks result marks.old marks.new (places.mark_stmt (tree.some_stmt node
+        (view.view_name variable.now) (view.view_expr from.now) (view.view_expr to.now)
+        (view.view_stmts body.now))) }
+{
+    let at = marks.end;
+    marks.begin()?;
+    marks.leaf(variable.node)?;
+    marks.token()?;
+    mark_expr(marks, from)?;
+    marks.token()?;
+    mark_expr(marks, to)?;
+    marks.token()?;
+    mark_stmts(marks, body)?;
+    marks.token()?;
+    marks.node(node, at)
+}
+
+/// CASE.
+#[cycle(marks)]
+pub(crate) fn mark_case(
+    marks: &mut Marks,
+    node: u32,
+    value: &Expr,
+    first: &Arm,
+    more: &[Arm],
+    otherwise: &Option<Stmts>,
+) -> Result<(), NoMemory>
+    ensures { Walks result marks.old marks.new (places.mark_stmt (tree.case_stmt node
+        (view.view_expr value.now) (view.view_arm first.now) (view.arms_of more.now)
+        (view.else_of otherwise.now))) }
+{
+    let at = marks.end;
+    marks.begin()?;
+    mark_expr(marks, value)?;
+    marks.token()?;
+    mark_arm(marks, first)?;
+    mark_arms(marks, more)?;
+    mark_else(marks, otherwise)?;
+    marks.token()?;
+    marks.node(node, at)
+}
+
+#[cycle(marks)]
+fn mark_arms(marks: &mut Marks, more: &[Arm]) -> Result<(), NoMemory>
+    ensures { Walks result marks.old marks.new (places.mark_arms (view.arms_of more.now)) }
+{
+    for arm in more {
+        marks.token()?;
+        mark_arm(marks, arm)?;
+    }
+    Ok(())
+}
+
+#[cycle(marks)]
+fn mark_arm(marks: &mut Marks, arm: &Arm) -> Result<(), NoMemory>
+    ensures { Walks result marks.old marks.new (places.mark_arm (view.view_arm arm.now)) }
+{
+    match arm {
+        Arm::Empty { node } => marks.empty(*node),
+        Arm::Labelled {
+            node,
+            first,
+            more,
+            body,
+        } => mark_labelled(marks, *node, first, more, body),
+    }
+}
+
+#[cycle(marks)]
+fn mark_labelled(
+    marks: &mut Marks,
+    node: u32,
+    first: &Label,
+    more: &[Label],
+    body: &Stmts,
+) -> Result<(), NoMemory>
+    ensures { Walks result marks.old marks.new (places.mark_arm (tree.arm node
+        (view.view_label first.now) (view.labels_of more.now) (view.view_stmts body.now))) }
+{
+    let at = marks.end;
+    mark_label(marks, first)?;
+    mark_labels(marks, more)?;
+    marks.token()?;
+    mark_stmts(marks, body)?;
+    marks.node(node, at)
+}
+
+#[cycle(marks)]
+fn mark_labels(marks: &mut Marks, more: &[Label]) -> Result<(), NoMemory>
+    ensures { Walks result marks.old marks.new (places.mark_labels (view.labels_of more.now)) }
+{
+    for label in more {
+        marks.token()?;
+        mark_label(marks, label)?;
+    }
+    Ok(())
+}
+
+#[cycle(marks)]
+fn mark_label(marks: &mut Marks, label: &Label) -> Result<(), NoMemory>
+    ensures { Walks result marks.old marks.new (places.mark_label (view.view_label label.now)) }
+{
+    let at = marks.end;
+    mark_expr(marks, &label.low)?;
+    mark_high(marks, &label.high)?;
+    marks.node(label.node, at)
+}
+
+#[cycle(marks)]
+fn mark_high(marks: &mut Marks, high: &Option<Expr>) -> Result<(), NoMemory>
+    ensures { Walks result marks.old marks.new (places.mark_high (view.high_of high.now)) }
+{
+    match high {
+        None => Ok(()),
+        Some(high) => {
+            marks.token()?;
+            mark_expr(marks, high)
+        }
+    }
+}
+
+/// EITHER.
+#[cycle(marks)]
+pub(crate) fn mark_either(
+    marks: &mut Marks,
+    node: u32,
+    first: &Stmts,
+    more: &[Stmts],
+) -> Result<(), NoMemory>
+    ensures { Walks result marks.old marks.new (places.mark_stmt
+        (tree.either_stmt node (view.view_stmts first.now) (view.orelses_of more.now))) }
+{
+    let at = marks.end;
+    marks.begin()?;
+    mark_stmts(marks, first)?;
+    mark_orelses(marks, more)?;
+    marks.token()?;
+    marks.node(node, at)
+}
+
+#[cycle(marks)]
+fn mark_orelses(marks: &mut Marks, more: &[Stmts]) -> Result<(), NoMemory>
+    ensures { Walks result marks.old marks.new (places.mark_orelses (view.orelses_of more.now)) }
+{
+    for body in more {
+        marks.token()?;
+        mark_stmts(marks, body)?;
+    }
+    Ok(())
+}
+
+/// FORALL.
+#[cycle(marks)]
+pub(crate) fn mark_forall(
+    marks: &mut Marks,
+    node: u32,
+    choice: &Stmts,
+    body: &Stmts,
+) -> Result<(), NoMemory>
+    ensures { Walks result marks.old marks.new (places.mark_stmt
+        (tree.forall_stmt node (view.view_stmts choice.now) (view.view_stmts body.now))) }
+{
+    let at = marks.end;
+    marks.begin()?;
+    mark_stmts(marks, choice)?;
+    marks.token()?;
+    mark_stmts(marks, body)?;
+    marks.token()?;
+    marks.node(node, at)
+}
+
+/// COMMIT.
+#[cycle(marks)]
+pub(crate) fn mark_commit(marks: &mut Marks, node: u32, body: &Stmts) -> Result<(), NoMemory>
+    ensures { Walks result marks.old marks.new
+        (places.mark_stmt (tree.commit_stmt node (view.view_stmts body.now))) }
+{
+    let at = marks.end;
+    marks.begin()?;
+    mark_stmts(marks, body)?;
+    marks.token()?;
+    marks.node(node, at)
+}
