@@ -1,13 +1,6 @@
 pub mod Back
-pub mod Carrying
 pub mod Contents
 pub mod Gains
-pub mod Indexed
-pub mod Layouts
 pub mod Keeping
-pub mod Lays
 pub mod Pasts
-pub mod Rising
 pub mod Slots
-pub mod Stores
-pub mod Trails

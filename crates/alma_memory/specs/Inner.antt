@@ -1,6 +1,3 @@
 -- Definitions of contracts between the functions of this crate; no reader above it has to believe them.
-pub mod Counted
-pub mod Trail
-pub mod Held
 pub mod Gain
 pub mod Past

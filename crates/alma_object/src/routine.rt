@@ -1,8 +1,8 @@
 // A view of one routine of an object.
 ghost use Rattle.std.specs.Prelude.{◌≡◌, ◌+◌, ◌*◌, ◌≤◌, length};
 
-use crate::record::{param_in, run_in};
 use alma_code::{CodeParam, Head, Run};
+use alma_format::{param_in, run_in};
 
 /// A routine of an object. It lends the bytes of the object.
 #[derive(Clone, Copy, Debug)]

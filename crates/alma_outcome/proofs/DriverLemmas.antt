@@ -25,7 +25,7 @@ use Rattle.alma_code.specs.Plain.{PlainCode}
 use Rattle.alma_code.specs.Records.{KeepsVersion, KeepsCounts, KeepsRecords}
 use Rattle.alma_code.specs.Rules.{IsSound, code_fault}
 use Rattle.alma_code.specs.declared.step.VerifyFault.{VerifyFault}
-use Rattle.alma_object.specs.declared.fault.ObjectFault.{ObjectFault}
+use Rattle.alma_format.specs.declared.fault.ObjectFault.{ObjectFault}
 use Rattle.alma_object.specs.Object.{IsObject, object_bytes}
 use Rattle.alma_object.specs.Walk.{object_fault}
 use Rattle.alma_whole.specs.Bytes.{object_code}

@@ -6,8 +6,8 @@ use Rattle.alma_io.specs.declared.files.Fetch.{Fetch}
 use Rattle.alma_io.specs.declared.files.Fetch.TheVariants as fetch
 use Rattle.alma_io.specs.declared.files.StoreFault.{StoreFault}
 use Rattle.alma_io.specs.declared.files.StoreFault.TheVariants as store
-use Rattle.alma_object.specs.declared.fault.ObjectFault.{ObjectFault}
-use Rattle.alma_object.specs.declared.fault.ObjectFault.TheVariants as object
+use Rattle.alma_format.specs.declared.fault.ObjectFault.{ObjectFault}
+use Rattle.alma_format.specs.declared.fault.ObjectFault.TheVariants as object
 use Rattle.alma_lower.specs.declared.lowering.LowerError.{LowerError}
 use Rattle.alma_lower.specs.declared.lowering.LowerError.TheVariants as lower
 use Rattle.alma_code.specs.declared.step.End as code

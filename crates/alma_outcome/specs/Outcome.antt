@@ -14,7 +14,7 @@ use Rattle.alma_code.specs.ListText.{list_text}
 use Rattle.alma_code.specs.Plain.{PlainCode}
 use Rattle.alma_code.specs.Machine.{State}
 use Rattle.alma_code.specs.Rules.{IsSound, code_fault}
-use Rattle.alma_object.specs.declared.fault.ObjectFault.{ObjectFault}
+use Rattle.alma_format.specs.declared.fault.ObjectFault.{ObjectFault}
 use Rattle.alma_object.specs.Object.{IsObject}
 use Rattle.alma_object.specs.View.{is_read}
 use Rattle.alma_object.specs.Walk.{object_fault}

@@ -7,7 +7,7 @@ use Rattle.alma_code.specs.Picture.{PlainFrame, no_frame, frames_with_cell}
 use Rattle.alma_code.specs.Carries.{same_cell, diff_at, slot_diffs}
 use Rattle.alma_code.specs.Kinds.{is_number}
 use Rattle.alma_memory.specs.declared.past.Past.TheInside.{Inside}
-use Rattle.alma_memory.specs.Carries.{IsRising}
+use Rattle.alma_frames.specs.Carries.{IsRising}
 
 -- frames of now, and frames from before
 pub record PlainPast : Type 0 where
@@ -22,14 +22,6 @@ frames_with_old_cells frames (x ∷ rest) = frames_with_cell (frames_with_old_ce
 -- the frames from before: the shared ones with their old cells, and those that stood above them
 abbrev pub before_of : Inside → List PlainFrame
 before_of past = take past.shared (frames_with_old_cells past.frames.now past.cells) ++ past.above.items
-
--- the cell of a slot that is a number slot
-abbrev pub number_in : PlainFrame → (slot : ℕ) → Option Cell
-number_in frame slot = if is_number (slice_get frame.kinds slot) then Some (get_or frame.cells slot Unknown) else None
-
--- the cell of a place that is a live number slot
-abbrev pub number_of : List PlainFrame → (frame slot : ℕ) → Option Cell
-number_of frames frame slot = number_in (get_or frames frame no_frame) slot
 
 -- the cell of a number slot, or else the one that is laid over it
 abbrev pub over : Option Cell → Option Cell → Option Cell

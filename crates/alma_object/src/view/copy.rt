@@ -4,11 +4,11 @@ ghost use Rattle.alma_code.specs.Plain.{code_of, routine_of, global_of};
 ghost use Rattle.alma_code.specs.Records.{KeepsCounts};
 ghost use Rattle.alma_object.specs.View.{code_of_view, head_of_view, routine_of_view, global_of_view};
 
-use crate::record::{line_in, range_in};
 use crate::routine::RoutineView;
 use crate::view::{GlobalView, ObjectView};
 use alma_base::{NoMemory, Range};
 use alma_code::{Code, CodeGlobal, CodeParam, Head, Instr, Line, RoutineHead, Run};
+use alma_format::{line_in, range_in};
 use std::alloc::Global;
 
 #[tactic(auto, using(crate::proofs::Items::take_steps))]

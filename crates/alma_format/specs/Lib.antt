@@ -1,0 +1,7 @@
+pub mod Bytes
+pub mod Fault
+pub mod Header
+pub mod Instrs
+pub mod Reading
+pub mod Object
+pub mod Walk

@@ -1,0 +1,4 @@
+pub mod Frames
+pub mod Carries
+pub mod Numbers
+pub mod Counted
