@@ -1,4 +1,2 @@
-pub mod Items
-pub mod LeftOut
 pub mod Modules
 pub mod Places

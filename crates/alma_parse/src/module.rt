@@ -8,8 +8,8 @@ ghost use Rattle.alma_grammar.specs.Parts.{whole};
 ghost use Rattle.alma_grammar.specs.Reading.{reading, done};
 ghost use Rattle.alma_cursor.specs.Parsing.{position_of, kinds_of, EndsIn};
 
-use crate::declarations::block;
 use alma_cursor::{Cursor, Fault};
+use alma_parse_declarations::block;
 use alma_scan::Token;
 use alma_tree::{Kind, Module};
 use std::alloc::Global;
