@@ -1,2 +1,1 @@
-pub mod Modules
 pub mod Places

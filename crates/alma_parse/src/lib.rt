@@ -2,7 +2,6 @@
 #![tactic(auto)]
 
 mod error;
-mod module;
 mod parser;
 
 pub use error::ParseError;

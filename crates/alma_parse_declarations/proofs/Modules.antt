@@ -1,14 +1,16 @@
 -- A module that was read to the end of the tokens.
-use Rattle.std.proofs.Common.{◌≡◌, ◌≤◌, ◌+◌, ℕ, List, [], ◌∷◌, true, length, Some, refl, ap, subst, ◌∙◌, arith}
+use Rattle.std.proofs.Common.{◌≡◌, ◌≤◌, ◌+◌, ℕ, suc, List, [], ◌∷◌, true, length, Some, refl, ap, subst, ◌∙◌, arith}
 use Rattle.alma_tree.specs.declared.kind.Kind.{Kind}
 use Rattle.alma_tree.specs.declared.module.Module.{Module}
 use Rattle.alma_tree.specs.Numbers.{Cursor, Step, IsNumbered, number_module}
 use Rattle.alma_tree.specs.declared.kind.Kind.TheVariants as kinds
 use Rattle.alma_grammar.specs.Parts.{Part, one, block_parts, whole}
-use Rattle.alma_grammar.specs.Reading.{reading, done, unexpected}
+use Rattle.alma_grammar.specs.Reading.{reading, done}
 use Rattle.alma_cursor.specs.declared.fault.Fault.{Fault}
-use Rattle.alma_cursor.specs.Parsing.{At, Few, Reads, Fails, EndsIn}
+use Rattle.alma_scan.specs.declared.scanner.Token.{Token}
+use Rattle.alma_cursor.specs.Parsing.{At, Few, Reads, Fails, EndsIn, kinds_of}
 use Rattle.alma_cursor.proofs.Steps.{moved}
+use Rattle.alma_parse_end.specs.End.{end_parts}
 
 -- at the first of these tokens
 abbrev pub beginning : List Kind → At
@@ -50,10 +52,17 @@ module_found {s = s} {b = b} ks m tokens e x l h z =
 pub ends_at : {fault : Fault} {a : At} (ks : List Kind) → a ≡ beginning ks → Fails fault module_parts 0 a → EndsIn fault (reading true ks 0 whole)
 ends_at {fault = fault} ks e f = subst (λ x. EndsIn fault (reading true x.kinds 0 whole)) e (f.ends [])
 
-pub ends_behind : (fault : Fault) {s : List Kind → List Kind} {n : Step} {a b : At} (ks : List Kind) → a ≡ beginning ks
-    → Reads s n module_parts 0 0 a b → EndsIn fault (reading true b.kinds 0 []) → EndsIn fault (reading true ks 0 whole)
-ends_behind fault ks e x h = subst (λ y. EndsIn fault (reading true y.kinds 0 whole)) e (moved fault _ _ (x.reads []) h)
+-- the module up to its END
+abbrev pub front_parts : List Part → List Part
+front_parts o = one kinds.Module ∷ one kinds.Name ∷ one kinds.Semicolon ∷ block_parts (one kinds.End ∷ o)
 
-pub some_left : (ks : List Kind) (k : Kind) (rest : List Kind) → ks ≡ k ∷ rest → reading true ks 0 [] ≡ unexpected ks
-some_left [] k rest e = absurd cc
-some_left (l ∷ ks) k rest e = refl
+pub ends_behind : (fault : Fault) {s : List Kind → List Kind} {n : Step} {a b : At} (ks : List Kind) → a ≡ beginning ks
+    → Reads s n front_parts 0 0 a b → EndsIn fault (reading true b.kinds 0 (end_parts []))
+    → EndsIn fault (reading true ks 0 whole)
+ends_behind fault ks e x h = subst (λ y. EndsIn fault (reading true y.kinds 0 whole)) e (moved fault _ _ (x.reads (end_parts [])) h)
+
+-- ---- tokens and kinds
+
+pub as_many : (tokens : List Token) → length (kinds_of tokens) ≡ length tokens
+as_many [] = refl
+as_many (t ∷ ts) = ap suc (as_many ts)

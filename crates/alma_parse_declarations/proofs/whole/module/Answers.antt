@@ -1,11 +1,9 @@
 use Rattle.std.proofs.Common.{refl, length}
 use Rattle.std.proofs.lemmas.Result.{err_from_is_err_and}
 use Rattle.alma_cursor.specs.Parsing.{kinds_of}
-use Rattle.alma_cursor.proofs.Steps.{after, first, passed, opened, closed, counted, then}
-use Rattle.alma_cursor.proofs.Turns.{want}
-use Rattle.alma_parse.proofs.Places.{as_many}
-use Rattle.alma_parse.proofs.Modules.{module_found, ends_at, ends_behind}
-use Rattle.alma_parse.proofs.module.module.Goals as goal
+use Rattle.alma_cursor.proofs.Steps.{after, first, passed, opened, closed, then}
+use Rattle.alma_parse_declarations.proofs.Modules.{as_many, module_found, ends_at, ends_behind}
+use Rattle.alma_parse_declarations.proofs.whole.module.Goals as goal
 
 pub returns-in_err-at : goal.returns-in_err-at
 returns-in_err-at c =
@@ -49,43 +47,17 @@ pub returns-in_err-end_name : goal.returns-in_err-end_name
 returns-in_err-end_name c =
     let p = err_from_is_err_and c.from_residual-in_err-end_name.result c.from_residual-in_err-end_name.ensures.1 in
     record {
-      read = rw (p.1, p.2) (ends_at (kinds_of c.args.tokens.now) c.start.ensures.start (after (opened refl c.in_ok-at.ensures.opened) (after
-          (c.in_ok-name.ensures.read _) (after (passed refl refl c.in_ok-at-2.ensures.passes) (after (c.in_ok-block.ensures.read) (after
-          (closed refl refl c.in_ok-at.ensures.opened c.in_ok-at-3.ensures.passes) (first (c.in_err-end_name.ensures.read _))))))));
-    }
-
-pub returns-in_err-at-4 : goal.returns-in_err-at-4
-returns-in_err-at-4 c =
-    let p = err_from_is_err_and c.from_residual-in_err-at-4.result c.from_residual-in_err-at-4.ensures.1 in
-    record {
-      read = rw (p.1, p.2) (ends_at (kinds_of c.args.tokens.now) c.start.ensures.start (after (opened refl c.in_ok-at.ensures.opened) (after
-          (c.in_ok-name.ensures.read _) (after (passed refl refl c.in_ok-at-2.ensures.passes) (after (c.in_ok-block.ensures.read) (after
-          (closed refl refl c.in_ok-at.ensures.opened c.in_ok-at-3.ensures.passes) (after (c.in_ok-end_name.ensures.read _) (first
-          (c.in_err-at-4.ensures.passes _)))))))));
-    }
-
-pub returns-in_err-node : goal.returns-in_err-node
-returns-in_err-node c =
-    let p = err_from_is_err_and c.from_residual-in_err-node.result c.from_residual-in_err-node.ensures.1 in
-    record { read = rw (p.1, p.2) (ends_at (kinds_of c.args.tokens.now) c.start.ensures.start (want c.in_err-node.ensures.counted)) }
-
-pub returns-in_err-nothing_left : goal.returns-in_err-nothing_left
-returns-in_err-nothing_left c =
-    let p = err_from_is_err_and c.from_residual-in_err-nothing_left.result c.from_residual-in_err-nothing_left.ensures.1 in
-    record {
       read = rw (p.1, p.2) (ends_behind _ (kinds_of c.args.tokens.now) c.start.ensures.start (then (opened refl c.in_ok-at.ensures.opened)
-          (then (c.in_ok-name.ensures.read _) (then (passed refl refl c.in_ok-at-2.ensures.passes) (then (c.in_ok-block.ensures.read) (then
-          (closed refl refl c.in_ok-at.ensures.opened c.in_ok-at-3.ensures.passes) (then (c.in_ok-end_name.ensures.read _) (then
-          (passed refl refl c.in_ok-at-4.ensures.passes) (counted c.in_ok-node.ensures.counted)))))))) c.in_err-nothing_left.ensures.left);
+          (then (c.in_ok-name.ensures.read _) (then (passed refl refl c.in_ok-at-2.ensures.passes) (then (c.in_ok-block.ensures.read)
+          (closed refl refl c.in_ok-at.ensures.opened c.in_ok-at-3.ensures.passes))))) c.in_err-end_name.ensures.read);
     }
 
 pub returns : goal.returns
 returns c = record {
   read = module_found (kinds_of c.args.tokens.now)
-      (record { node = c.in_ok-node.node; name = c.in_ok-name.name; block = c.in_ok-block.block; end_name = c.in_ok-end_name.end_name })
+      (record { node = c.in_ok-end_name.node; name = c.in_ok-name.name; block = c.in_ok-block.block; end_name = c.in_ok-end_name.end_name })
       (length c.args.tokens.now) c.start.ensures.start (then (opened refl c.in_ok-at.ensures.opened) (then (c.in_ok-name.ensures.read _) (then
       (passed refl refl c.in_ok-at-2.ensures.passes) (then (c.in_ok-block.ensures.read) (then
-      (closed refl refl c.in_ok-at.ensures.opened c.in_ok-at-3.ensures.passes) (then (c.in_ok-end_name.ensures.read _) (then
-      (passed refl refl c.in_ok-at-4.ensures.passes) (counted c.in_ok-node.ensures.counted))))))))
-      (as_many c.args.tokens.now) c.requires.few c.in_ok-nothing_left.ensures.left;
+      (closed refl refl c.in_ok-at.ensures.opened c.in_ok-at-3.ensures.passes) c.in_ok-end_name.ensures.read.0)))))
+      (as_many c.args.tokens.now) c.requires.few c.in_ok-end_name.ensures.read.1;
 }

@@ -1,15 +1,16 @@
-// The module.
-ghost use Rattle.std.specs.Prelude.{◌≡◌, ◌≤◌, [], true, length, MatchResult};
+// The whole module.
+ghost use Rattle.std.specs.Prelude.{◌≡◌, ◌≤◌, true, length, MatchResult};
 ghost use Rattle.alma_base.specs.Limits.{source_limit};
 ghost use Rattle.alma_tree.specs.Spelling.{spelling};
 ghost use Rattle.alma_tree.specs.View.{view_module};
 ghost use Rattle.alma_tree.specs.Numbers.{IsNumbered};
 ghost use Rattle.alma_grammar.specs.Parts.{whole};
 ghost use Rattle.alma_grammar.specs.Reading.{reading, done};
-ghost use Rattle.alma_cursor.specs.Parsing.{position_of, kinds_of, EndsIn};
+ghost use Rattle.alma_cursor.specs.Parsing.{kinds_of, EndsIn};
 
+use crate::declarations::block;
 use alma_cursor::{Cursor, Fault};
-use alma_parse_declarations::block;
+use alma_parse_end::end_of_module;
 use alma_scan::Token;
 use alma_tree::{Kind, Module};
 use std::alloc::Global;
@@ -27,24 +28,11 @@ pub fn module<'t, 's>(alloc: Global, tokens: &'t [Token<'s>]) -> Result<Module, 
     let at = at.expect(Kind::Semicolon)?;
     let (block, at) = block(alloc, at, inner)?;
     let at = at.expect(Kind::End)?;
-    let (end_name, at) = at.name()?;
-    let at = at.expect(Kind::Dot)?;
-    let (node, at) = at.count()?;
-    nothing_left(at)?;
+    let ((end_name, node), _) = end_of_module(at)?;
     Ok(Module {
         node,
         name,
         block,
         end_name,
     })
-}
-
-fn nothing_left<'t, 's>(at: Cursor<'t, 's>) -> Result<(), Fault<'t, 's>>
-    ensures left { MatchResult result (λ _. (position_of at.entry).kinds ≡ [])
-        (λ e. EndsIn e (reading true (position_of at.entry).kinds 0 [])) }
-{
-    match at.next() {
-        None => Ok(()),
-        Some(_) => Err(Fault::Unexpected(at.rest)),
-    }
 }
