@@ -29,6 +29,8 @@ returns-in_err-nothing_left c =
 
 pub returns : goal.returns
 returns c = record {
-  read = (then (c.in_ok-end_name.ensures.read _) (then (passed refl refl c.in_ok-at.ensures.passes) (counted c.in_ok-node.ensures.counted)),
-    c.in_ok-nothing_left.ensures.left);
+  read = (
+    then (c.in_ok-end_name.ensures.read _) (then (passed refl refl c.in_ok-at.ensures.passes) (counted c.in_ok-node.ensures.counted)),
+    c.in_ok-nothing_left.ensures.left,
+  );
 }
