@@ -1,4 +1,1 @@
-pub mod Items
-pub mod LeftOut
-pub mod Modules
 pub mod Places

@@ -16,6 +16,7 @@ use Rattle.alma_tree.specs.Spelling.{spelling}
 use Rattle.alma_scan.specs.declared.scanner.Token.{Token}
 use Rattle.alma_parse.specs.declared.error.ParseError.TheVariants as errors
 use Rattle.alma_cursor.specs.Parsing.{kinds_of}
+use Rattle.alma_parse_declarations.proofs.Modules.{as_many}
 use Rattle.alma_parse.specs.Refusals.{Refuses}
 
 -- ---- fronts of one list before one rest
@@ -98,10 +99,6 @@ pub found_depth : (ks : List Kind) → reading true ks 0 whole ≡ done → dept
 found_depth ks e = (each_program_is_read.what_is_read ks e).1
 
 -- ---- tokens and kinds
-
-pub as_many : (tokens : List Token) → length (kinds_of tokens) ≡ length tokens
-as_many [] = refl
-as_many (t ∷ ts) = ap suc (as_many ts)
 
 in_kinds : (tokens rest : List Token) (k : ℕ) → k ≡ length tokens - length rest → k ≡ length (kinds_of tokens) - length (kinds_of rest)
 in_kinds tokens rest k e = rw (as_many tokens, as_many rest) e

@@ -9,9 +9,9 @@ ghost use Rattle.alma_cursor.specs.Parsing.{kinds_of};
 ghost use Rattle.alma_parse.specs.Refusals.{Refuses};
 
 use crate::error::ParseError;
-use crate::module::module;
 use alma_base::SyntaxFault;
 use alma_cursor::Fault;
+use alma_parse_declarations::module;
 use alma_scan::Token;
 use alma_tree::Module;
 use std::alloc::Global;

@@ -2,8 +2,6 @@
 #![tactic(auto)]
 
 mod module;
-mod phrase;
 mod type_node;
-mod word;
 
 pub use module::spell;

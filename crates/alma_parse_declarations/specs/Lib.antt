@@ -1,0 +1,2 @@
+-- Pieces of declarations.
+pub mod Entries

@@ -1,0 +1,2 @@
+-- What stands behind the END of a module.
+pub mod End

@@ -1,0 +1,2 @@
+-- One ARRAY of a type.
+pub mod Dimensions

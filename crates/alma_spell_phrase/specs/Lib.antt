@@ -1,0 +1,2 @@
+-- What a function that appends a spelling does.
+pub mod Pushed
