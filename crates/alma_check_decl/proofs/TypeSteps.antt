@@ -7,7 +7,7 @@ use Rattle.alma_tree.specs.declared.type_node.FieldList as dw
 use Rattle.alma_tree.specs.declared.type_node.TypeNode as dy
 use Rattle.alma_tree.specs.declared.type_node.Arrays as dz
 use Rattle.alma_tree.specs.declared.leaf.Names.{Names}
-use Rattle.alma_names.specs.Shapes.{PlainField}
+use Rattle.alma_shapes.specs.Shapes.{PlainField}
 use Rattle.alma_rules.specs.Numbered as tree
 use Rattle.alma_rules.specs.View as view
 use Rattle.alma_rules.specs.Judged.{Broken}

@@ -1,6 +1,6 @@
 -- Shapes by their numbers, in what the calls of this crate answer.
 use Rattle.std.specs.Prelude.{ℕ, ℤ, Option, Result, Ok, Err, option_map}
-use Rattle.alma_names.specs.declared.shapes.ShapeId.{ShapeId}
+use Rattle.alma_shapes.specs.declared.shapes.ShapeId.{ShapeId}
 use Rattle.alma_check_reader.specs.declared.reading.Bound.{Bound}
 use Rattle.alma_rules.specs.declared.error.CheckError.{CheckError}
 

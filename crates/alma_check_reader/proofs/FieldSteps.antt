@@ -7,7 +7,7 @@ use Rattle.std.proofs.lemmas.Slice.Eq.{bytes_eq-Decides}
 use Rattle.indexmap.specs.IndexMap.{insert_entry}
 use Rattle.alma_base.specs.declared.fault.CheckFault.TheVariants as fault
 use Rattle.alma_tree.specs.declared.leaf.Name.{Name}
-use Rattle.alma_names.specs.Shapes.{PlainField, fields}
+use Rattle.alma_shapes.specs.Shapes.{PlainField, fields}
 use Rattle.alma_scan.specs.Tokens.{Lexeme}
 use Rattle.alma_rules.specs.Numbered as tree
 use Rattle.alma_rules.specs.View.{view_name, names_of}

@@ -5,7 +5,7 @@ use Rattle.std.proofs.lemmas.List.{drop_all}
 use Rattle.alma_base.specs.Choice.{if_true}
 use Rattle.alma_base.specs.declared.fault.CheckFault.TheVariants as fault
 use Rattle.alma_tree.specs.declared.leaf.Name.{Name}
-use Rattle.alma_names.specs.Shapes.{listed}
+use Rattle.alma_shapes.specs.Shapes.{listed}
 use Rattle.alma_rules.specs.Numbered as tree
 use Rattle.alma_rules.specs.View.{view_name, names_of}
 use Rattle.alma_rules.specs.Judged.{Broken, broken_at, when}

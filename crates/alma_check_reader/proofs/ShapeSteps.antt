@@ -7,8 +7,8 @@ use Rattle.std.proofs.lemmas.List.{take_more, take_all, map-append}
 use Rattle.std.proofs.lemmas.Option.{get_or_from_slice_get, slice_get_within}
 use Rattle.std.proofs.lemmas.Map.Made.{AllPairs-from_IsDistinct}
 use Rattle.std.proofs.lemmas.Slice.Eq.{bytes_eq-Decides}
-use Rattle.alma_names.specs.declared.shapes.FieldOf.{FieldOf}
-use Rattle.alma_names.specs.Shapes.{PlainField, PlainShape, field_of, fields_of, names_of, AllBelow}
+use Rattle.alma_shapes.specs.declared.shapes.FieldOf.{FieldOf}
+use Rattle.alma_shapes.specs.Shapes.{PlainField, PlainShape, field_of, fields_of, names_of, AllBelow}
 use Rattle.alma_rules.specs.Numbered as tree
 use Rattle.alma_rules.specs.Scene.{Scene, first_token, is_first, text_at}
 use Rattle.alma_rules.specs.Judged.{Broken}

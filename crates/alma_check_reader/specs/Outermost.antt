@@ -1,7 +1,7 @@
 -- The outermost scene.
 use Rattle.std.specs.Prelude.{ℕ, false, List, [], replicate, None}
 use Rattle.alma_scan.specs.Tokens.{Lexeme}
-use Rattle.alma_names.specs.Shapes.{first_shapes}
+use Rattle.alma_shapes.specs.Shapes.{first_shapes}
 use Rattle.alma_names.specs.Scopes.{first_blocks}
 use Rattle.alma_rules.specs.Scene.{Scene, nothing}
 

@@ -1,7 +1,7 @@
 // Fields of records.
 ghost use Rattle.std.specs.Prelude.{◌≡◌, ◌∷◌, ◌++◌, [], ℕ, List, true, false, IfOk};
 ghost use Rattle.alma_scan.specs.Tokens.{Lexeme};
-ghost use Rattle.alma_names.specs.Shapes.{PlainField};
+ghost use Rattle.alma_shapes.specs.Shapes.{PlainField};
 ghost use Rattle.alma_rules.specs.Numbered as tree;
 ghost use Rattle.alma_rules.specs.Types as types;
 ghost use Rattle.alma_rules.specs.View.{view_name, view_names, names_of};

@@ -1,6 +1,6 @@
 // An environment to which declarations are added.
 ghost use Rattle.std.specs.Prelude.{◌≡◌, ◌<◌, OnOk, IfOk, length, replicate, None};
-ghost use Rattle.alma_names.specs.Shapes.{plain_of, NamesOnlyBelow, HasIndex, HasCount, HasBase, HasDistinctNames};
+ghost use Rattle.alma_shapes.specs.Shapes.{plain_of, NamesOnlyBelow, HasIndex, HasCount, HasBase, HasDistinctNames};
 ghost use Rattle.alma_scan.specs.Scanned.{lexemes};
 ghost use Rattle.alma_rules.specs.Scene as scenes;
 ghost use Rattle.alma_rules.specs.Scene.{Scene};

@@ -1,6 +1,6 @@
 // Shapes of types, put into the table. A shape that the table could not take, which no source shows, answers that memory ran out.
 ghost use Rattle.std.specs.Prelude.{◌≡◌, ◌<◌, Some, IfOk, length, option_map, slice_get};
-ghost use Rattle.alma_names.specs.Shapes as shapes;
+ghost use Rattle.alma_shapes.specs.Shapes as shapes;
 ghost use Rattle.alma_rules.specs.Types as types;
 ghost use Rattle.alma_rules.specs.Scene as scenes;
 ghost use Rattle.alma_check_rules.specs.Views.{scene_of, somewhere};

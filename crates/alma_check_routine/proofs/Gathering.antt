@@ -1,7 +1,7 @@
 -- How what is gathered of parts is put together.
 use Rattle.std.proofs.Common.{◌≡◌, ℕ, ◌+◌, ◌-◌, List, [], ◌∷◌, ◌++◌, Option, None, Some, refl, sym, ap, ◌∙◌, arith, append_assoc, append-nil, subst}
 use Rattle.std.specs.Prelude.{option_map}
-use Rattle.alma_names.specs.Shapes.{PlainShape}
+use Rattle.alma_shapes.specs.Shapes.{PlainShape}
 use Rattle.alma_ir.specs.Tree as ir
 use Rattle.alma_rules.specs.Numbered as tree
 use Rattle.alma_rules.specs.Judged.{Broken, Judged, lesser, least, both_of, broken_at}

@@ -6,7 +6,7 @@ use Rattle.std.proofs.lemmas.Bool.Decides.{eqb_tells}
 use Rattle.std.proofs.lemmas.List.{get_or-set_same, get_or-set_other, length-set, ext_get_or, take_at, get_or_at, length_push, set_past, get_or_past}
 use Rattle.alma_names.specs.Blocks.{DeclaredName}
 use Rattle.alma_names.specs.Scopes.{Blocks, without_top_block}
-use Rattle.alma_names.specs.Shapes.{PlainShape}
+use Rattle.alma_shapes.specs.Shapes.{PlainShape}
 use Rattle.alma_rules.specs.Numbered as tree
 use Rattle.alma_rules.specs.Scene.{Scene, Heading, Returns, nothing}
 use Rattle.alma_rules.specs.Decls.{Frame, read_consts, read_types, read_vars, block_routines, decls_routines, decl_routines, read_heading, read_decl, read_decls, formal_names, formals_of}

@@ -5,7 +5,7 @@ use Rattle.alma_tree.specs.declared.leaf.Name.{Name}
 use Rattle.alma_tree.specs.declared.module.Block as db
 use Rattle.alma_tree.specs.declared.module.Decl as dh
 use Rattle.alma_tree.specs.declared.module.Params.{Params}
-use Rattle.alma_names.specs.Shapes.{PlainShape}
+use Rattle.alma_shapes.specs.Shapes.{PlainShape}
 use Rattle.alma_ir.specs.Tree as ir
 use Rattle.alma_rules.specs.Numbered as tree
 use Rattle.alma_rules.specs.View as view

@@ -6,7 +6,7 @@ use Rattle.alma_base.specs.declared.fault.CheckFault.{CheckFault}
 use Rattle.alma_tree.specs.declared.leaf.Mode.{Mode}
 use Rattle.alma_names.specs.declared.block.Entry.{Entry}
 use Rattle.alma_names.specs.declared.block.Entry.TheVariants as entry
-use Rattle.alma_names.specs.Shapes.{PlainShape, PlainField, is_too_large, placed_shape, cell_counts, listed, fields, sub, row}
+use Rattle.alma_shapes.specs.Shapes.{PlainShape, PlainField, is_too_large, placed_shape, cell_counts, listed, fields, sub, row}
 use Rattle.alma_names.specs.Blocks.{shape_id}
 use Rattle.alma_names.specs.Scopes.{Blocks, with_declared, with_new_block}
 use Rattle.alma_scan.specs.Tokens.{Lexeme}

@@ -5,7 +5,7 @@ use Rattle.std.proofs.lemmas.List.{get_or-replicate}
 use Rattle.alma_base.specs.declared.fault.CheckFault.TheVariants as fault
 use Rattle.alma_tree.specs.declared.module.Module.{Module}
 use Rattle.alma_scan.specs.Tokens.{Lexeme}
-use Rattle.alma_names.specs.Shapes.{PlainShape}
+use Rattle.alma_shapes.specs.Shapes.{PlainShape}
 use Rattle.alma_ir.specs.Tree as ir
 use Rattle.alma_rules.specs.Numbered as tree
 use Rattle.alma_rules.specs.Judged.{Broken, Judged, least, broken_at, when}

@@ -9,6 +9,7 @@ use Rattle.std.proofs.lemmas.Option.{slice_get-map}
 use Rattle.std.proofs.lemmas.Bool.Decides.{nat_tests}
 use Rattle.indexmap.specs.IndexMap.{insert_entry}
 use Rattle.indexmap.proofs.MapLemmas.{some_index}
+use Rattle.alma_shapes.proofs.Added.{added}
 use Rattle.alma_names.specs.declared.block.Declaration.{Declaration}
 use Rattle.alma_names.specs.Blocks.{DeclaredName, declared_of, place, seen, entry_in}
 
@@ -50,11 +51,6 @@ module _ (name : List ℕ) (at : ℕ) (es : List (Vec ℕ Global × Declaration)
       by : (o : Option (Vec ℕ Global × Declaration)) → option_map (λ e. e.1) o ≡ Some x → x.entry ≡ entry_in (option_map declared_of o)
       by None p = absurd (cc)
       by (Some e) p = cc
-
--- a new name goes last
-pub added : {X : Type 0} (eq : Vec ℕ Global → Vec ℕ Global → Bool) (key : Vec ℕ Global) (x : X) (es : List (Vec ℕ Global × X)) → lookup (eq key) es ≡ None → insert_entry eq es key x ≡ es ++ (key, x) ∷ []
-added eq key x [] h = refl
-added eq key x (e ∷ es) h = elim (eq key e.0) as (λ b. cond b (Some e.1) (lookup (eq key) es) ≡ None → (if b then (e.0, x) ∷ es else e ∷ insert_entry eq es key x) ≡ e ∷ (es ++ (key, x) ∷ [])) [ true ↦ λ n. absurd (cc) | false ↦ λ n. ap (λ r. e ∷ r) (added eq key x es n) ] h
 
 missed : (test : Vec ℕ Global → Bool) (es : List (Vec ℕ Global × Declaration)) → position test (keys_of es) ≡ None → lookup test es ≡ None
 missed test es h = by (lookup test es) refl

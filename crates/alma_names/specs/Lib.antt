@@ -1,7 +1,3 @@
--- The shapes of types, and the cells, values and fields of each.
-pub mod Shapes
 -- The names of one block, and those of all blocks that are open.
 pub mod Blocks
 pub mod Scopes
--- What the code of a table of shapes keeps and counts.
-pub mod Table

@@ -5,7 +5,7 @@ use Rattle.std.specs.List.{AllByRecursion}
 use Rattle.alma_base.specs.declared.number.Range.{Range}
 use Rattle.alma_base.specs.Limits.{cell_limit}
 use Rattle.alma_base.specs.Numbers.{whole_range}
-use Rattle.alma_names.specs.Shapes.{PlainShape, range_at}
+use Rattle.alma_shapes.specs.Shapes.{PlainShape, range_at}
 use Rattle.alma_ir.specs.declared.program.Param.{Param}
 use Rattle.alma_ir.specs.Tree as ir
 use Rattle.alma_ir.specs.Tree.{Program, Routine, no_routine, routine_at}

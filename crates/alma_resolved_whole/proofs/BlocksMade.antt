@@ -1,7 +1,7 @@
 -- What the blocks of a tree make: as many routines as they have procedures, each inside the one round it, with the parameters of its heading.
 use Rattle.std.proofs.Common.{◌≡◌, ◌⊎◌, inl, inr, ℕ, ◌+◌, ◌-◌, ◌<◌, ◌≤◌, List, [], ◌∷◌, ◌++◌, length, get_or, Option, None, Some, refl, sym, ap, ◌∙◌, subst, arith, append_assoc, length-append}
 use Rattle.std.specs.Prelude.{IsSome, IsNone}
-use Rattle.alma_names.specs.Shapes.{PlainShape}
+use Rattle.alma_shapes.specs.Shapes.{PlainShape}
 use Rattle.alma_ir.specs.Tree.{Program, Routine, no_routine, routine_at}
 use Rattle.alma_rules.specs.Numbered as tree
 use Rattle.alma_rules.specs.Scene.{Scene, Heading, nothing, a_value}

@@ -7,7 +7,7 @@ use Rattle.alma_names.specs.declared.block.Access.{Access}
 use Rattle.alma_names.specs.declared.block.Access.TheVariants as access
 use Rattle.alma_names.specs.declared.block.Entry.{Entry}
 use Rattle.alma_names.specs.declared.block.Entry.TheVariants as entry
-use Rattle.alma_names.specs.Shapes.{cells_at}
+use Rattle.alma_shapes.specs.Shapes.{cells_at}
 use Rattle.alma_names.specs.Scopes.{with_new_block}
 use Rattle.alma_ir.specs.Tree.{routine_at}
 use Rattle.alma_ir.specs.Checked.{HoldPlace, AreLaidOut, param_slots, outer_at}

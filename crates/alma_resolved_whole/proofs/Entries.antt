@@ -5,7 +5,7 @@ use Rattle.alma_names.specs.declared.block.Access.{Access}
 use Rattle.alma_names.specs.declared.block.Access.TheVariants as access
 use Rattle.alma_names.specs.declared.block.Entry.{Entry}
 use Rattle.alma_names.specs.declared.block.Entry.TheVariants as entry
-use Rattle.alma_names.specs.Shapes.{PlainShape, cells_at}
+use Rattle.alma_shapes.specs.Shapes.{PlainShape, cells_at}
 use Rattle.alma_names.specs.Blocks.{DeclaredName}
 use Rattle.alma_names.specs.Scopes.{with_declared}
 use Rattle.alma_base.specs.Limits.{cell_limit}

@@ -6,7 +6,7 @@ use Rattle.alma_names.specs.declared.block.Access.{Access}
 use Rattle.alma_names.specs.declared.block.Access.TheVariants as access
 use Rattle.alma_names.specs.declared.block.Entry.{Entry}
 use Rattle.alma_names.specs.declared.block.Entry.TheVariants as entry
-use Rattle.alma_names.specs.Shapes.{cells_at}
+use Rattle.alma_shapes.specs.Shapes.{cells_at}
 use Rattle.alma_ir.specs.declared.phrase.Root.TheVariants as root
 use Rattle.alma_ir.specs.declared.program.Param.{Param}
 use Rattle.alma_ir.specs.Tree.{Routine, routine_at}

@@ -7,7 +7,7 @@ use Rattle.std.proofs.lemmas.List.Sums.{sum_by-cons}
 use Rattle.alma_base.specs.Choice.{if_true}
 use Rattle.alma_names.specs.declared.block.Access.TheVariants as access
 use Rattle.alma_names.specs.declared.block.Entry.TheVariants as entry
-use Rattle.alma_names.specs.Shapes.{PlainShape}
+use Rattle.alma_shapes.specs.Shapes.{PlainShape}
 use Rattle.alma_names.specs.Blocks.{shape_id}
 use Rattle.alma_ir.specs.declared.program.ArgKind.{ArgKind}
 use Rattle.alma_ir.specs.declared.program.ArgKind.TheVariants as kinds

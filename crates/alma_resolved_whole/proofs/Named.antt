@@ -13,7 +13,7 @@ use Rattle.alma_scan.specs.Spellings.{Spelling, symbols, reserved_words, look_up
 use Rattle.alma_scan.specs.Tokens.{Lexeme, HasTokens, Tokens}
 use Rattle.alma_names.specs.declared.block.Entry.{Entry}
 use Rattle.alma_names.specs.declared.block.Entry.TheVariants as entry
-use Rattle.alma_names.specs.Shapes.{PlainShape, is_too_large, placed_shape, cell_counts, listed, sub, row, fields}
+use Rattle.alma_shapes.specs.Shapes.{PlainShape, is_too_large, placed_shape, cell_counts, listed, sub, row, fields}
 use Rattle.alma_names.specs.Blocks.{shape_id}
 use Rattle.alma_names.specs.Scopes.{with_declared}
 use Rattle.alma_ir.specs.Tree.{Program, Routine, Global}

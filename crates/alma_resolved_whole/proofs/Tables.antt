@@ -7,8 +7,8 @@ use Rattle.std.proofs.lemmas.Option.{slice_get_within}
 use Rattle.std.proofs.Math.Seq.{get_or-append_seam}
 use Rattle.alma_base.specs.declared.number.Range.{Range}
 use Rattle.alma_base.specs.Numbers.{range_size, whole_range}
-use Rattle.alma_names.specs.Shapes.{PlainShape, PlainField, integer, char, boolean, listed, sub, row, fields, range_of, range_at, base_of, base_at, size_of, values_at, sum_of_cells, cells_in, cell_counts, cells_at, placed, field_named, field_at, first_shapes}
-use Rattle.alma_names.proofs.Tables.{counts_push, counts_len, cells_still}
+use Rattle.alma_shapes.specs.Shapes.{PlainShape, PlainField, integer, char, boolean, listed, sub, row, fields, range_of, range_at, base_of, base_at, size_of, values_at, sum_of_cells, cells_in, cell_counts, cells_at, placed, field_named, field_at, first_shapes}
+use Rattle.alma_shapes.proofs.Tables.{counts_push, counts_len, cells_still}
 use Rattle.alma_ir.specs.Checked.{IsOrdered}
 use Rattle.alma_ir.proofs.Each.{each_follows}
 use Rattle.alma_rules.specs.Scene.{Scene, row_of}

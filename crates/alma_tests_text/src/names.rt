@@ -1,6 +1,6 @@
 // What each table answers on its happy path and at its limits.
 ghost use Rattle.std.specs.Prelude.{◌≡◌, ◌+◌, ◌^◌, ◌<◌, ◌≤◌, ◌≤ℤ◌, pos, Some, slice_get, length, IfOk};
-ghost use Rattle.alma_names.specs.Shapes.{integer};
+ghost use Rattle.alma_shapes.specs.Shapes.{integer};
 
 use alma_base::Range;
 use alma_names::{

@@ -1,7 +1,7 @@
 use Rattle.std.proofs.Common.{sym, arith}
 use Rattle.std.proofs.lemmas.List.{get_or_past}
-use Rattle.alma_names.specs.Shapes.{cell_counts}
-use Rattle.alma_names.proofs.Tables.{counts_len}
+use Rattle.alma_shapes.specs.Shapes.{cell_counts}
+use Rattle.alma_shapes.proofs.Tables.{counts_len}
 use Rattle.alma_check_env.proofs.env.Env.cells.Goals as goal
 
 pub returns-else-shape-len : goal.returns-else-shape-len

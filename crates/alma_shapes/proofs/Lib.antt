@@ -1,0 +1,4 @@
+pub mod Added
+pub mod Tables
+pub mod Placing
+pub mod Fields
