@@ -18,7 +18,7 @@ use Rattle.alma_engine.specs.declared.machine.RunEnd.{RunEnd}
 use Rattle.alma_engine.specs.declared.machine.RunEnd.TheVariants as run
 use Rattle.alma_engine.specs.Runs.{run_end_of, made, all_written, OnWhole}
 use Rattle.alma_engine.specs.View.{MachineView}
-use Rattle.alma_trace.specs.declared.watch.Watch.{Watch}
+use Rattle.alma_watch.specs.declared.watch.Watch.{Watch}
 use Rattle.alma_trace.specs.Cuts.{OnCut}
 use Rattle.alma_trace.specs.Resolved.{IsResolved}
 use Rattle.alma_trace.specs.Traced.{traced, traced_within, traced_words, run_lines, steps_end}

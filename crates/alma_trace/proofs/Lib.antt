@@ -1,4 +1,3 @@
-pub mod Lines
 pub mod Naming
 pub mod Resolving
 pub mod Standing

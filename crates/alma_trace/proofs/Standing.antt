@@ -6,7 +6,7 @@ use Rattle.alma_code.specs.Picture.{PlainFrame, no_frame}
 use Rattle.alma_code.specs.Plain.{PlainCode, kinds_at}
 use Rattle.alma_engine.proofs.Counting.{few_kinds}
 use Rattle.alma_engine.specs.Stands.{Stands}
-use Rattle.alma_trace.specs.Places.{main_slots}
+use Rattle.alma_watch.specs.Places.{main_slots}
 
 -- frame 0 has the slots of the frame of the module, which are few
 few_slots : (code : PlainCode) (s : State) → Stands code s → main_slots s.now < 2 ^ 32

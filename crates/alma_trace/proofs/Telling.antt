@@ -20,7 +20,7 @@ use Rattle.alma_engine.specs.Steps.{IsLive, ModeAfter, stepped}
 use Rattle.alma_engine.specs.View.{MachineView, goes_on}
 use Rattle.alma_io.specs.Fronts.{AppendsFront}
 use Rattle.alma_trace.specs.Cuts.{IsCut, OnCut, can_go}
-use Rattle.alma_trace.specs.declared.watch.Watch.{Watch}
+use Rattle.alma_watch.specs.declared.watch.Watch.{Watch}
 use Rattle.alma_trace.specs.Traced.{traced_words, step_text, steps_end, run_lines, traced, traced_within}
 
 -- what follows a step that goes on

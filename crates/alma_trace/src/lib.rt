@@ -2,12 +2,10 @@
 #![tactic(auto)]
 
 pub mod laws;
-mod line;
 mod resolve;
 mod step;
 mod tracer;
-mod watch;
 
+pub use alma_watch::Watch;
 pub use resolve::watches;
 pub use tracer::trace;
-pub use watch::Watch;

@@ -2,7 +2,7 @@ use Rattle.std.proofs.Common.{◌≡◌, ◌∙◌, List, ℕ, map, ap, sym, sub
 use Rattle.std.specs.Borrow.{Bor}
 use Rattle.alma_code.specs.Plain.{PlainCode}
 use Rattle.alma_object.specs.View.{code_of_view}
-use Rattle.alma_trace.specs.declared.watch.Watch.{Watch}
+use Rattle.alma_watch.specs.declared.watch.Watch.{Watch}
 use Rattle.alma_trace.specs.Resolved.{IsResolved}
 use Rattle.alma_verify.specs.Verified.{code_of_verified}
 use Rattle.alma_outcome.specs.Course.{Goes}

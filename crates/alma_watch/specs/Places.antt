@@ -4,7 +4,7 @@ use Rattle.std.specs.List.{All}
 use Rattle.alma_code.specs.Picture.{PlainFrame, no_frame}
 use Rattle.alma_code.specs.Plain.{PlainCode, kinds_at}
 use Rattle.alma_code.specs.TraceText.{cells_text}
-use Rattle.alma_trace.specs.declared.watch.Watch.{Watch}
+use Rattle.alma_watch.specs.declared.watch.Watch.{Watch}
 
 -- the cells of a place of frame 0, and - where there is none
 abbrev pub value_at : List PlainFrame → Option (ℕ × ℕ) → List ℕ

@@ -7,8 +7,8 @@ use Rattle.alma_code.specs.declared.cell.Cell.TheVariants as cell
 use Rattle.alma_code.specs.ListText.{text_line}
 use Rattle.alma_code.specs.Picture.{PlainFrame, cell_at}
 use Rattle.alma_code.specs.TraceText.{cell_text, cells_text}
-use Rattle.alma_trace.specs.declared.watch.Watch.{Watch}
-use Rattle.alma_trace.specs.Places.{watch_word, watch_words, comma}
+use Rattle.alma_watch.specs.declared.watch.Watch.{Watch}
+use Rattle.alma_watch.specs.Places.{watch_word, watch_words, comma}
 
 -- a line of a word and others
 line_of : {X : Type 0} (v : X → List ℕ) (word : List ℕ) (words : List X)

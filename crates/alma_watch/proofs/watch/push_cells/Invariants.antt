@@ -1,6 +1,6 @@
 use Rattle.std.proofs.Common.{◌≡◌, ◌++◌}
 use Rattle.alma_code.specs.TraceText.{cells_text}
-use Rattle.alma_trace.proofs.watch.push_cells.Given as goal
+use Rattle.alma_watch.proofs.watch.push_cells.Given as goal
 
 -- so many cells are there
 abbrev pub invariant-loop-k : goal.invariant-loop-k

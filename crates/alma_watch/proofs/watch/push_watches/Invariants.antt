@@ -1,6 +1,6 @@
 use Rattle.std.proofs.Common.{◌≡◌, ◌++◌, ◌∷◌, take, flat_map}
-use Rattle.alma_trace.specs.Places.{watch_word}
-use Rattle.alma_trace.proofs.watch.push_watches.Given as goal
+use Rattle.alma_watch.specs.Places.{watch_word}
+use Rattle.alma_watch.proofs.watch.push_watches.Given as goal
 
 -- so many watches are there
 abbrev pub invariant-loop-watch : goal.invariant-loop-watch

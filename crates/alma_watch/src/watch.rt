@@ -2,7 +2,7 @@
 ghost use Rattle.std.specs.Prelude.{◌≡◌, ◌+◌, ◌^◌, ◌<◌, ◌≤◌, ◌∷◌, ◌++◌, length, flat_map, decimal, All, OnOk, MatchOption};
 ghost use Rattle.alma_code.specs.ListText.{text_line};
 ghost use Rattle.alma_code.specs.TraceText.{cell_text, cells_text};
-ghost use Rattle.alma_trace.specs.Places.{value_at, watch_word, watch_words, comma, main_slots, IsWithin};
+ghost use Rattle.alma_watch.specs.Places.{value_at, watch_word, watch_words, comma, main_slots, IsWithin};
 
 use crate::line::{push_number, push_word};
 use alma_base::NoMemory;

@@ -1,5 +1,5 @@
-use Rattle.alma_trace.proofs.Lines.{cells_put}
-use Rattle.alma_trace.proofs.watch.push_cells.Goals as goal
+use Rattle.alma_watch.proofs.Lines.{cells_put}
+use Rattle.alma_watch.proofs.watch.push_cells.Goals as goal
 
 pub loop-k-preserved : goal.loop-k-preserved
 loop-k-preserved c =
