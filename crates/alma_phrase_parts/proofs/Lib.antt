@@ -1,0 +1,4 @@
+pub mod Growing
+pub mod Made
+mod Nodes
+pub mod Stopped
