@@ -1,3 +1,4 @@
+pub mod Fewer
 pub mod Growing
 pub mod Made
 mod Nodes
