@@ -99,11 +99,11 @@ inside_numbered : (x : Option dx.Exprs) → numbers_of_values x ≡ (token >> nu
 inside_numbered None = refl
 inside_numbered (Some es) = refl
 
-pub args_given : {p : List Part → List Part} {d e : ℕ} {a : At} (r : Result (Option dx.Exprs × cursors.Cursor) Fault)
+pub args_given : (p : List Part → List Part) (d e : ℕ) (a : At) (r : Result (Option dx.Exprs × cursors.Cursor) Fault)
     (q : Result (Option dg.Args × cursors.Cursor) Fault) → q ≡ made (λ v. Some (dg.roll-Args (record { values = v }))) r
     → Gives (λ v ks. kinds.OpenParen ∷ spell_inside_args (inside_of v) ks) (λ v. token >> number_inside_args v) p d e a r
     → Gives (λ v. spell_args (args_of v)) numbers_of_args p d e a q
-args_given {p = p} {d = d} {e = e} {a = a} r q x y =
+args_given p d e a r q x y =
     made_gives (λ v ks. kinds.OpenParen ∷ spell_inside_args (inside_of v) ks) (λ v. token >> number_inside_args v) (λ v. spell_args (args_of v))
     numbers_of_args p d e a (λ v. Some (dg.roll-Args (record { values = v })))
     (λ v. ap (λ o. spell_args (args_values o.values)) (dg.out-roll-Args (record { values = v })) ∙ inside_spelled v)

@@ -13,7 +13,7 @@ use Rattle.alma_tree.specs.View.{args_of, exprs_of, view_expr, compared_of, view
 use Rattle.alma_tree.specs.View.{returned_of, view_arm, high_of}
 use Rattle.alma_tree.specs.Numbers.{token, node, ◌>>◌, number_name, number_sign, number_stmts, number_stmt, number_arm, number_expr, number_simple}
 use Rattle.alma_tree.specs.Numbers.{number_term, number_primary, number_exprs, number_desig, number_selector, numbers_of_terms, numbers_of_by, numbers_of_else}
-use Rattle.alma_tree.specs.Numbers.{numbers_of_args, numbers_of_exprs, numbers_of_compared, numbers_of_high, numbers_of_returned}
+use Rattle.alma_tree.specs.Numbers.{number_factor, numbers_of_args, numbers_of_exprs, numbers_of_compared, numbers_of_high, numbers_of_returned}
 use Rattle.alma_tree.proofs.Rows as rows
 use Rattle.alma_tree.proofs.NumberRows as numbers
 use Rattle.alma_grammar.specs.Filling.{spell_inside_args}
@@ -63,8 +63,8 @@ expression::terms-loop-operator-preserved t c = pushed_turn _ _ _ _ term_tail (�
 pub expression::terms-returns-in_err-at : goal.expression::terms-returns-in_err-at
 expression::terms-returns-in_err-at t c = record { read = stopped _ _ _ _ c.from_residual.ensures.1 (broken_turn lists.terms term_tail (λ o. one (add_kind c.in-Some.operator) ∷ term_parts o) _ _ _ _ _ c.loop-operator.invariant (heads.begins_add c.in-Some.operator c.in-Some.ensures.passes) c.add_link.result _ c.in_err-at.ensures.pushed (term_linked c.in-Some.operator _ c.in-Some.ensures.passes c.term.result c.add_link.result c.add_link.ensures.made c.term.ensures.read)) }
 
-pub expression::terms-loop-operator-decreases : goal.expression::terms-loop-operator-decreases
-expression::terms-loop-operator-decreases t c = pushed_within _ c.add_link.result _ _ _ c.in_ok-at.ensures.pushed (made_within _ _ c.term.result c.add_link.result c.add_link.ensures.made (behind_within a_term number_term term_parts _ _ c.in-Some.ensures.passes c.term.result c.term.ensures.read))
+pub expression::terms-loop-operator-smaller : goal.expression::terms-loop-operator-smaller
+expression::terms-loop-operator-smaller t c = pushed_within _ c.add_link.result _ _ _ c.in_ok-at.ensures.pushed (made_within _ _ c.term.result c.add_link.result c.add_link.ensures.made (behind_within a_term number_term term_parts _ _ c.in-Some.ensures.passes c.term.result c.term.ensures.read))
 
 pub expression::factors-loop-operator-preserved : goal.expression::factors-loop-operator-preserved
 expression::factors-loop-operator-preserved t c = pushed_turn _ _ _ _ factor_tail (λ o. one (mul_kind c.in-Some.operator) ∷ factor_part ∷ o) _ _ _ lists.factors _ _ c.loop-operator.invariant (heads.begins_mul c.in-Some.operator c.in-Some.ensures.passes) c.mul_link.result _ c.in_ok-at.ensures.pushed (factor_linked c.in-Some.operator _ c.in-Some.ensures.passes c.factor.result c.mul_link.result c.mul_link.ensures.made c.factor.ensures.read)
@@ -72,8 +72,8 @@ expression::factors-loop-operator-preserved t c = pushed_turn _ _ _ _ factor_tai
 pub expression::factors-returns-in_err-at : goal.expression::factors-returns-in_err-at
 expression::factors-returns-in_err-at t c = record { read = stopped _ _ _ _ c.from_residual.ensures.1 (broken_turn lists.factors factor_tail (λ o. one (mul_kind c.in-Some.operator) ∷ factor_part ∷ o) _ _ _ _ _ c.loop-operator.invariant (heads.begins_mul c.in-Some.operator c.in-Some.ensures.passes) c.mul_link.result _ c.in_err-at.ensures.pushed (factor_linked c.in-Some.operator _ c.in-Some.ensures.passes c.factor.result c.mul_link.result c.mul_link.ensures.made c.factor.ensures.read)) }
 
-pub expression::factors-loop-operator-decreases : goal.expression::factors-loop-operator-decreases
-expression::factors-loop-operator-decreases t c = pushed_within _ c.mul_link.result _ _ _ c.in_ok-at.ensures.pushed (made_within _ _ c.factor.result c.mul_link.result c.mul_link.ensures.made (behind_within a_factor number_factor (λ o. factor_part ∷ o) _ _ c.in-Some.ensures.passes c.factor.result c.factor.ensures.read))
+pub expression::factors-loop-operator-smaller : goal.expression::factors-loop-operator-smaller
+expression::factors-loop-operator-smaller t c = pushed_within _ c.mul_link.result _ _ _ c.in_ok-at.ensures.pushed (made_within _ _ c.factor.result c.mul_link.result c.mul_link.ensures.made (behind_within a_factor number_factor (λ o. factor_part ∷ o) _ _ c.in-Some.ensures.passes c.factor.result c.factor.ensures.read))
 
 pub expression::expr_list-loop-after-preserved : goal.expression::expr_list-loop-after-preserved
 expression::expr_list-loop-after-preserved t c = pushed_turn _ _ _ _ expr_tail (λ o. one kinds.Comma ∷ expr_parts o) _ _ _ lists.exprs _ _ c.loop-after.invariant (heads.begins_exprs c.in-Some.ensures.passes) c.expr.result _ c.in_ok-at.ensures.pushed (behind_front an_expr number_expr (passed refl refl c.in-Some.ensures.passes) expr_parts _ c.expr.result c.expr.ensures.read)
@@ -81,8 +81,8 @@ expression::expr_list-loop-after-preserved t c = pushed_turn _ _ _ _ expr_tail (
 pub expression::expr_list-returns-in_err-at : goal.expression::expr_list-returns-in_err-at
 expression::expr_list-returns-in_err-at t c = record { read = stopped _ _ _ _ c.from_residual.ensures.1 (broken_turn lists.exprs expr_tail (λ o. one kinds.Comma ∷ expr_parts o) _ _ _ _ _ c.loop-after.invariant (heads.begins_exprs c.in-Some.ensures.passes) c.expr.result _ c.in_err-at.ensures.pushed (behind_front an_expr number_expr (passed refl refl c.in-Some.ensures.passes) expr_parts _ c.expr.result c.expr.ensures.read)) }
 
-pub expression::expr_list-loop-after-decreases : goal.expression::expr_list-loop-after-decreases
-expression::expr_list-loop-after-decreases t c = pushed_within _ c.expr.result _ _ _ c.in_ok-at.ensures.pushed (behind_within an_expr number_expr expr_parts _ _ c.in-Some.ensures.passes c.expr.result c.expr.ensures.read)
+pub expression::expr_list-loop-after-smaller : goal.expression::expr_list-loop-after-smaller
+expression::expr_list-loop-after-smaller t c = pushed_within _ c.expr.result _ _ _ c.in_ok-at.ensures.pushed (behind_within an_expr number_expr expr_parts _ _ c.in-Some.ensures.passes c.expr.result c.expr.ensures.read)
 
 pub expression::selectors-loop-form-preserved : goal.expression::selectors-loop-form-preserved
 expression::selectors-loop-form-preserved t c = pushed_turn _ _ _ _ selector_tail (forms.selector_form_parts c.in-Some.form) _ _ _ lists.selectors _ _ c.loop-form.invariant c.in-Some.ensures.becomes c.selector.result _ c.in_ok-at.ensures.pushed c.selector.ensures.read
@@ -90,8 +90,8 @@ expression::selectors-loop-form-preserved t c = pushed_turn _ _ _ _ selector_tai
 pub expression::selectors-returns-in_err-at : goal.expression::selectors-returns-in_err-at
 expression::selectors-returns-in_err-at t c = record { read = stopped _ _ _ _ c.from_residual.ensures.1 (broken_turn lists.selectors selector_tail (forms.selector_form_parts c.in-Some.form) _ _ _ _ _ c.loop-form.invariant c.in-Some.ensures.becomes c.selector.result _ c.in_err-at.ensures.pushed c.selector.ensures.read) }
 
-pub expression::selectors-loop-form-decreases : goal.expression::selectors-loop-form-decreases
-expression::selectors-loop-form-decreases t c = pushed_within _ c.selector.result _ _ _ c.in_ok-at.ensures.pushed (ok_within _ c.selector.result c.selector.ensures.shorter)
+pub expression::selectors-loop-form-smaller : goal.expression::selectors-loop-form-smaller
+expression::selectors-loop-form-smaller t c = pushed_within _ c.selector.result _ _ _ c.in_ok-at.ensures.pushed (ok_within _ c.selector.result c.selector.ensures.shorter)
 
 pub expression::factor-returns-in-Some : goal.expression::factor-returns-in-Some
 expression::factor-returns-in-Some t c = record { read = becoming_gives a_factor number_factor (λ o. factor_part ∷ o) (λ o. one kinds.Not ∷ primary_part ∷ o) _ _ _ (heads.begins_not c.in-Some.ensures.passes) c.not_of.result (made_gives (λ v ks. kinds.Not ∷ a_primary v.0 ks) (λ v. token >> number_primary v.0 >> node v.1) a_factor number_factor _ _ _ _ (λ v. dr.Not v.1 v.0) (λ v. refl) (λ v. refl) c.numbered.result c.not_of.result c.not_of.ensures.made (behind_front (λ v. a_primary v.0) (λ v. number_primary v.0 >> node v.1) (passed refl refl c.in-Some.ensures.passes) (λ o. primary_part ∷ o) _ c.numbered.result (ended a_primary number_primary _ _ _ _ c.primary.result c.numbered.result c.numbered.ensures.numbered c.primary.ensures.read))) }
@@ -139,7 +139,7 @@ pub expression::chr-open_after-requires : goal.expression::chr-open_after-requir
 expression::chr-open_after-requires t c = record { plain = refl; still = refl; opening = refl }
 
 pub expression::args-returns-then-is_at : goal.expression::args-returns-then-is_at
-expression::args-returns-then-is_at t c = record { read = becoming_gives (λ v. spell_args (args_of v)) numbers_of_args (λ o. args_part ∷ o) (λ o. one kinds.OpenParen ∷ args_inside ∷ o) _ _ _ (heads.at_args _ (sym c.is_at.ensures.starts ∙ c.if-is_at.true)) c.arguments_of.result (lists.args_given c.args_values.result c.arguments_of.result c.arguments_of.ensures.made (behind_front (λ v. spell_inside_args (inside_of v)) number_inside_args (opened refl c.in_ok-at.ensures.opened) (λ o. args_inside ∷ o) _ c.args_values.result (shallower_gives (λ v. spell_inside_args (inside_of v)) number_inside_args (λ o. args_inside ∷ o) c.in_ok-at.ensures.opened _ c.args_values.result c.args_values.ensures.read))) }
+expression::args-returns-then-is_at t c = record { read = becoming_gives (λ v. spell_args (args_of v)) numbers_of_args (λ o. args_part ∷ o) (λ o. one kinds.OpenParen ∷ args_inside ∷ o) _ _ _ (heads.at_args _ (sym c.is_at.ensures.starts ∙ c.if-is_at.true)) c.arguments_of.result (lists.args_given _ _ _ _ c.args_values.result c.arguments_of.result c.arguments_of.ensures.made (behind_front (λ v. spell_inside_args (inside_of v)) number_inside_args (opened refl c.in_ok-at.ensures.opened) (λ o. args_inside ∷ o) _ c.args_values.result (shallower_gives (λ v. spell_inside_args (inside_of v)) number_inside_args (λ o. args_inside ∷ o) c.in_ok-at.ensures.opened _ c.args_values.result c.args_values.ensures.read))) }
 
 pub expression::args_values-returns : goal.expression::args_values-returns
 expression::args_values-returns t c = record { read = becoming_gives (λ v. spell_inside_args (inside_of v)) number_inside_args (λ o. args_inside ∷ o) (λ o. exprs_parts (one kinds.CloseParen ∷ o)) _ _ _ (heads.some_args _ c.in_default.ensures.passes) c.present.result (made_gives (λ v ks. some_exprs v (kinds.CloseParen ∷ ks)) (λ v. number_exprs v >> token) (λ v. spell_inside_args (inside_of v)) number_inside_args _ _ _ _ (λ v. Some v) (λ v. refl) (λ v. refl) c.followed_by.result c.present.result c.present.ensures.made (followed some_exprs number_exprs _ _ _ _ _ (closing kinds.CloseParen _ refl refl) c.exprs.result c.followed_by.result c.followed_by.ensures.followed c.exprs.ensures.read)) }
