@@ -1,4 +1,5 @@
 pub mod Chain
 pub mod Heads
+pub mod Links
 pub mod Lists
 pub mod Values

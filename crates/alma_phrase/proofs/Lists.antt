@@ -1,5 +1,5 @@
 -- Lists of trees with one more at the end.
-use Rattle.std.proofs.Common.{◌≡◌, ℕ, List, [], ◌∷◌, ◌++◌, Option, None, Some, refl, ap, sym, ◌∙◌}
+use Rattle.std.proofs.Common.{◌≡◌, ℕ, List, [], ◌∷◌, ◌++◌, Option, None, Some, Result, refl, ap, sym, ◌∙◌}
 use Rattle.alma_tree.specs.declared.kind.Kind.TheVariants as kinds
 use Rattle.alma_tree.specs.declared.phrase.Stmts as ds
 use Rattle.alma_tree.specs.declared.phrase.Stmt as dt
@@ -31,6 +31,11 @@ use Rattle.alma_grammar.specs.Filling.{spell_inside_args}
 use Rattle.alma_phrase.specs.Pieces.{inside_of, number_inside_args}
 use Rattle.alma_cursor.specs.Parsing.{At, Reads}
 use Rattle.alma_cursor.proofs.Steps.{same}
+use Rattle.alma_cursor.specs.declared.cursor.Cursor as cursors
+use Rattle.alma_cursor.specs.declared.fault.Fault.{Fault}
+use Rattle.alma_cursor.proofs.Joins.{Gives}
+use Rattle.alma_phrase_parts.specs.Made.{made}
+use Rattle.alma_phrase_parts.proofs.Made.{made_gives}
 use Rattle.alma_cursor.proofs.Turns.{Lists, two_and, four_and}
 
 listing : {A : Type 0} {s : A → List Kind → List Kind} {sa : List A → List Kind → List Kind} {n : A → Step} {na : List A → Step}
@@ -76,13 +81,6 @@ elsifs = listing (λ r. refl) (λ x xs r. refl) (λ at. refl) (λ x xs at. four_
 
 -- ---- the same of a value that the code makes
 
-pub term_rolled : {q : List Part → List Part} {d : ℕ} {a b : At} {v : dk.AddLink} (r : _) → v ≡ dk.roll-AddLink r
-    → Reads (λ ks. add_kind r.operator ∷ spell_term (view_term r.operand) ks) (token >> number_term r.operand) q d d a b
-    → Reads (λ ks. add_kind (dk.out-AddLink v).operator ∷ spell_term (view_term (dk.out-AddLink v).operand) ks)
-    (token >> number_term (dk.out-AddLink v).operand) q d d a b
-term_rolled r h x = same (ap (λ o ks. add_kind o.operator ∷ spell_term (view_term o.operand) ks) (ap dk.out-AddLink h ∙ dk.out-roll-AddLink r))
-    (ap (λ o. token >> number_term o.operand) (ap dk.out-AddLink h ∙ dk.out-roll-AddLink r)) x
-
 pub elsif_rolled : {q : List Part → List Part} {d : ℕ} {a b : At} {v : df.Elsif} (r : _) → v ≡ df.roll-Elsif r
     → Reads (λ ks. kinds.Elsif ∷ spell_expr (view_expr r.test) (kinds.Then ∷ spell_stmts (view_stmts r.then) ks))
     (token >> number_expr r.test >> token >> number_stmts r.then) q d d a b
@@ -101,9 +99,12 @@ inside_numbered : (x : Option dx.Exprs) → numbers_of_values x ≡ (token >> nu
 inside_numbered None = refl
 inside_numbered (Some es) = refl
 
-pub args_made : {p : List Part → List Part} {d : ℕ} {a b : At} (x : Option dx.Exprs)
-    → Reads (λ r. kinds.OpenParen ∷ spell_inside_args (inside_of x) r) (token >> number_inside_args x) p d d a b
-    → Reads (spell_args (args_of (Some (dg.roll-Args (record { values = x }))))) (numbers_of_args (Some (dg.roll-Args (record { values = x })))) p d d a b
-args_made x y =
-    same (ap (λ o. spell_args (args_values o.values)) (dg.out-roll-Args (record { values = x })) ∙ inside_spelled x)
-    (ap (λ o. numbers_of_values o.values) (dg.out-roll-Args (record { values = x })) ∙ inside_numbered x) y
+pub args_given : (p : List Part → List Part) (d e : ℕ) (a : At) (r : Result (Option dx.Exprs × cursors.Cursor) Fault)
+    (q : Result (Option dg.Args × cursors.Cursor) Fault) → q ≡ made (λ v. Some (dg.roll-Args (record { values = v }))) r
+    → Gives (λ v ks. kinds.OpenParen ∷ spell_inside_args (inside_of v) ks) (λ v. token >> number_inside_args v) p d e a r
+    → Gives (λ v. spell_args (args_of v)) numbers_of_args p d e a q
+args_given p d e a r q x y =
+    made_gives (λ v ks. kinds.OpenParen ∷ spell_inside_args (inside_of v) ks) (λ v. token >> number_inside_args v) (λ v. spell_args (args_of v))
+    numbers_of_args p d e a (λ v. Some (dg.roll-Args (record { values = v })))
+    (λ v. ap (λ o. spell_args (args_values o.values)) (dg.out-roll-Args (record { values = v })) ∙ inside_spelled v)
+    (λ v. ap (λ o. numbers_of_values o.values) (dg.out-roll-Args (record { values = v })) ∙ inside_numbered v) r q x y

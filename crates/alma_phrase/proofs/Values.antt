@@ -14,8 +14,11 @@ use Rattle.alma_tree.specs.declared.phrase.Desig as dd
 use Rattle.alma_tree.specs.declared.phrase.Selector as dj
 use Rattle.alma_tree.specs.declared.phrase.Primary as dp
 use Rattle.alma_tree.specs.declared.phrase.Arm as da
-use Rattle.alma_tree.specs.Spelling.{spell_primary, spell_stmt, spell_arm}
-use Rattle.alma_tree.specs.View.{view_primary, view_stmt, view_arm}
+use Rattle.alma_tree.specs.declared.phrase.Simple as di
+use Rattle.alma_tree.specs.declared.phrase.Term as dm
+use Rattle.alma_tree.specs.declared.phrase.Factor as dr
+use Rattle.alma_tree.specs.Spelling.{spell_primary, spell_stmt, spell_arm, spell_simple, spell_term, spell_factor, spell_selector}
+use Rattle.alma_tree.specs.View.{view_primary, view_stmt, view_arm, view_simple, view_term, view_factor, view_selector}
 use Rattle.alma_tree.specs.Spelling.{spell_expr, spell_stmts, spell_desig, spell_exprs, spell_term_tail, spell_factor_tail, spell_selector_tail}
 use Rattle.alma_tree.specs.Spelling.{spell_stmt_tail, spell_label_tail, spell_orelse_tail, spell_desig_tail}
 use Rattle.alma_tree.specs.View.{view_expr, view_stmts, view_desig, view_exprs, terms_of, factors_of, selectors_of, stmts_of, labels_of, orelses_of, desigs_of}
@@ -87,3 +90,15 @@ a_stmt v = spell_stmt (view_stmt v)
 
 abbrev pub an_arm : da.Arm → List Kind → List Kind
 an_arm v = spell_arm (view_arm v)
+
+abbrev pub a_simple : di.Simple → List Kind → List Kind
+a_simple v = spell_simple (view_simple v)
+
+abbrev pub a_term : dm.Term → List Kind → List Kind
+a_term v = spell_term (view_term v)
+
+abbrev pub a_factor : dr.Factor → List Kind → List Kind
+a_factor v = spell_factor (view_factor v)
+
+abbrev pub a_selector : dj.Selector → List Kind → List Kind
+a_selector v = spell_selector (view_selector v)

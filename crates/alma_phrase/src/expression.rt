@@ -1,6 +1,5 @@
 // Expressions and designators.
-ghost use Rattle.std.specs.Prelude.{◌≡◌, ◌∷◌, ◌<◌, ℕ, pred, length, List, MatchResult, IfOk, Some, None};
-ghost use Rattle.alma_tree.specs.declared.kind.Kind.TheVariants as kinds;
+ghost use Rattle.std.specs.Prelude.{◌∷◌, ◌<◌, pred, length, MatchResult, IfOk, Some, None};
 ghost use Rattle.alma_tree.specs.Spelling.{spell_expr, spell_compared, spell_simple, spell_term_tail, spell_term, spell_factor_tail};
 ghost use Rattle.alma_tree.specs.Spelling.{spell_factor, spell_primary, spell_args, spell_exprs, spell_expr_tail, spell_desig, spell_selector_tail};
 ghost use Rattle.alma_tree.specs.Spelling.{spell_selector};
@@ -10,18 +9,22 @@ ghost use Rattle.alma_tree.specs.Numbers.{number_expr, numbers_of_compared, numb
 ghost use Rattle.alma_tree.specs.Numbers.{number_factor, number_primary, numbers_of_args, number_exprs, numbers_of_exprs, number_desig, numbers_of_selectors};
 ghost use Rattle.alma_tree.specs.Numbers.{number_selector};
 ghost use Rattle.alma_grammar.specs.Filling.{spell_inside_args};
-ghost use Rattle.alma_grammar.specs.Parts.{Part, one, factor_part, primary_part, factor_tail, term_tail, compared_part, args_part, args_inside, expr_tail};
+ghost use Rattle.alma_grammar.specs.Parts.{factor_part, primary_part, factor_tail, term_tail, compared_part, args_part, args_inside, expr_tail};
 ghost use Rattle.alma_grammar.specs.Parts.{selector_tail, term_parts, simple_parts, expr_parts, exprs_parts, desig_parts};
-ghost use Rattle.alma_cursor.specs.Forms.{paren_parts, known_parts, ord_parts, chr_parts, field_parts, index_parts, selector_form_parts};
+ghost use Rattle.alma_cursor.specs.Forms.{paren_parts, known_parts, ord_parts, chr_parts, index_parts, selector_form_parts};
 ghost use Rattle.alma_phrase.specs.Pieces.{inside_of, number_inside_args, spell_signed, number_signed};
 ghost use Rattle.alma_cursor.specs.Parsing.{position_of, Reads, Extends, Fails};
 
-use crate::join::boxed;
 use crate::statement::stmts;
 use alma_cursor::{Cursor, Fault, PrimaryForm, SelectorForm, followed_by, numbered};
+use alma_phrase_parts::{
+    add_link, arguments_of, boxed, chr_of, desig_of, expr_of, expressions_of, field, index_of,
+    known_of, literal, mul_link, named_of, not_of, number, open_after, ord_of, paren_of, plain_of,
+    present, pushed, relation_of, simple_of, term_of,
+};
 use alma_tree::{
-    AddLink, Args, Compared, Desig, Expr, Exprs, Factor, Kind, Leaf, MulLink, Primary, Selector,
-    Sign, Simple, Term,
+    AddLink, Args, Compared, Desig, Expr, Exprs, Factor, Kind, MulLink, Primary, Selector, Sign,
+    Simple, Term,
 };
 use std::alloc::Global;
 
@@ -54,8 +57,7 @@ fn expr_from<'t, 's>(
         (position_of t.1))
         (λ e. Fails e (λ o. compared_part ∷ o) depth (position_of at.entry)) }
 {
-    let ((right, node), at) = numbered(compared(alloc, at, depth))?;
-    Ok((Expr { node, left, right }, at))
+    expr_of(left, numbered(compared(alloc, at, depth)))
 }
 
 #[cycle(phrases)]
@@ -72,9 +74,7 @@ fn compared<'t, 's>(
     let Some((relation, at)) = at.relation() else {
         return Ok((None, at));
     };
-    let (right, at) = simple(alloc, at, depth)?;
-    let compared = Box::new(alloc, Compared { relation, right })?;
-    Ok((Some(compared), at))
+    relation_of(alloc, relation, simple(alloc, at, depth))
 }
 
 #[cycle(phrases)]
@@ -107,17 +107,7 @@ fn simple_from<'t, 's>(
         (position_of t.1))
         (λ e. Fails e (λ o. term_tail ∷ o) depth (position_of at.entry)) }
 {
-    let ((more, node), at) = numbered(terms(alloc, at, depth))?;
-    let first = Box::new(alloc, first)?;
-    Ok((
-        Simple {
-            node,
-            sign,
-            first,
-            more,
-        },
-        at,
-    ))
+    simple_of(alloc, sign, first, numbered(terms(alloc, at, depth)))
 }
 
 #[cycle(phrases)]
@@ -133,9 +123,7 @@ fn terms<'t, 's>(
 {
     let mut more = Vec::new(alloc);
     while let Some((operator, after)) = at.add_operator() {
-        let (operand, after) = term(alloc, after, depth)?;
-        more.push(AddLink { operator, operand })?;
-        at = after;
+        at = pushed(&mut more, add_link(operator, term(alloc, after, depth)))?;
     }
     Ok((more, at))
 }
@@ -169,8 +157,7 @@ fn term_from<'t, 's>(
         (position_of t.1))
         (λ e. Fails e (λ o. factor_tail ∷ o) depth (position_of at.entry)) }
 {
-    let ((more, node), at) = numbered(factors(alloc, at, depth))?;
-    Ok((Term { node, first, more }, at))
+    term_of(first, numbered(factors(alloc, at, depth)))
 }
 
 #[cycle(phrases)]
@@ -186,9 +173,7 @@ fn factors<'t, 's>(
 {
     let mut more = Vec::new(alloc);
     while let Some((operator, after)) = at.mul_operator() {
-        let (operand, after) = factor(alloc, after, depth)?;
-        more.push(MulLink { operator, operand })?;
-        at = after;
+        at = pushed(&mut more, mul_link(operator, factor(alloc, after, depth)))?;
     }
     Ok((more, at))
 }
@@ -205,11 +190,9 @@ fn factor<'t, 's>(
         (λ e. Fails e (λ o. factor_part ∷ o) depth (position_of at.entry)) }
 {
     if let Some(after) = at.skip(Kind::Not) {
-        let ((primary, node), at) = numbered(primary(alloc, after, depth))?;
-        return Ok((Factor::Not { node, primary }, at));
+        return not_of(numbered(primary(alloc, after, depth)));
     }
-    let ((primary, node), at) = numbered(primary(alloc, at, depth))?;
-    Ok((Factor::Plain { node, primary }, at))
+    plain_of(numbered(primary(alloc, at, depth)))
 }
 
 #[cycle(phrases)]
@@ -237,40 +220,6 @@ fn primary<'t, 's>(
     }
 }
 
-fn number<'t, 's>(at: Cursor<'t, 's>) -> Result<(Primary, Cursor<'t, 's>), Fault<'t, 's>>
-    ensures read { MatchResult result
-        (λ t. (d : ℕ) → Reads (spell_primary (view_primary t.0)) (number_primary t.0)
-        (λ o. one kinds.Number ∷ o) d d (position_of at.entry) (position_of t.1))
-        (λ e. (d : ℕ) → Fails e (λ o. one kinds.Number ∷ o) d (position_of at.entry)) }
-{
-    let after = at.expect(Kind::Number)?;
-    let (node, after) = after.count()?;
-    Ok((
-        Primary::Number {
-            node,
-            number: Leaf { token: at.token },
-        },
-        after,
-    ))
-}
-
-fn literal<'t, 's>(at: Cursor<'t, 's>) -> Result<(Primary, Cursor<'t, 's>), Fault<'t, 's>>
-    ensures read { MatchResult result
-        (λ t. (d : ℕ) → Reads (spell_primary (view_primary t.0)) (number_primary t.0)
-        (λ o. one kinds.Literal ∷ o) d d (position_of at.entry) (position_of t.1))
-        (λ e. (d : ℕ) → Fails e (λ o. one kinds.Literal ∷ o) d (position_of at.entry)) }
-{
-    let after = at.expect(Kind::Literal)?;
-    let (node, after) = after.count()?;
-    Ok((
-        Primary::Literal {
-            node,
-            literal: Leaf { token: at.token },
-        },
-        after,
-    ))
-}
-
 /// The primary whose designator has been read.
 #[cycle(phrases)]
 fn named<'t, 's>(
@@ -285,9 +234,8 @@ fn named<'t, 's>(
         (position_of t.1))
         (λ e. Fails e (λ o. args_part ∷ o) depth (position_of at.entry)) }
 {
-    let (args, at) = args(alloc, at, depth)?;
-    let (node, at) = at.count()?;
-    Ok((Primary::Desig { node, desig, args }, at))
+    let args = args(alloc, at, depth);
+    named_of(desig, numbered(args))
 }
 
 #[cycle(phrases)]
@@ -302,8 +250,7 @@ fn paren<'t, 's>(
 {
     let (at, inner) = at.open(Kind::OpenParen, depth)?;
     let body = boxed(alloc, stmts(alloc, at, inner));
-    let ((body, node), at) = numbered(followed_by(body, Kind::CloseParen))?;
-    Ok((Primary::Paren { node, body }, at))
+    paren_of(numbered(followed_by(body, Kind::CloseParen)))
 }
 
 #[cycle(phrases)]
@@ -316,10 +263,8 @@ fn known<'t, 's>(
         (number_primary t.0) known_parts depth depth (position_of at.entry) (position_of t.1))
         (λ e. Fails e known_parts depth (position_of at.entry)) }
 {
-    let at = at.expect(Kind::Known)?;
-    let (at, inner) = at.open(Kind::OpenParen, depth)?;
-    let ((desig, node), at) = numbered(followed_by(desig(alloc, at, inner), Kind::CloseParen))?;
-    Ok((Primary::Known { node, desig }, at))
+    let (at, inner) = open_after(at, Kind::Known, Kind::OpenParen, depth)?;
+    known_of(numbered(followed_by(desig(alloc, at, inner), Kind::CloseParen)))
 }
 
 #[cycle(phrases)]
@@ -332,11 +277,9 @@ fn ord<'t, 's>(
         (number_primary t.0) ord_parts depth depth (position_of at.entry) (position_of t.1))
         (λ e. Fails e ord_parts depth (position_of at.entry)) }
 {
-    let at = at.expect(Kind::Ord)?;
-    let (at, inner) = at.open(Kind::OpenParen, depth)?;
+    let (at, inner) = open_after(at, Kind::Ord, Kind::OpenParen, depth)?;
     let value = boxed(alloc, expr(alloc, at, inner));
-    let ((value, node), at) = numbered(followed_by(value, Kind::CloseParen))?;
-    Ok((Primary::Ord { node, value }, at))
+    ord_of(numbered(followed_by(value, Kind::CloseParen)))
 }
 
 #[cycle(phrases)]
@@ -349,11 +292,9 @@ fn chr<'t, 's>(
         (number_primary t.0) chr_parts depth depth (position_of at.entry) (position_of t.1))
         (λ e. Fails e chr_parts depth (position_of at.entry)) }
 {
-    let at = at.expect(Kind::Chr)?;
-    let (at, inner) = at.open(Kind::OpenParen, depth)?;
+    let (at, inner) = open_after(at, Kind::Chr, Kind::OpenParen, depth)?;
     let value = boxed(alloc, expr(alloc, at, inner));
-    let ((value, node), at) = numbered(followed_by(value, Kind::CloseParen))?;
-    Ok((Primary::Chr { node, value }, at))
+    chr_of(numbered(followed_by(value, Kind::CloseParen)))
 }
 
 #[cycle(phrases)]
@@ -368,8 +309,7 @@ pub fn args<'t, 's>(
 {
     if at.is_at(Kind::OpenParen) {
         let (at, inner) = at.open(Kind::OpenParen, depth)?;
-        let (values, at) = args_values(alloc, at, inner)?;
-        return Ok((Some(Args { values }), at));
+        return arguments_of(args_values(alloc, at, inner));
     }
     Ok((None, at))
 }
@@ -389,8 +329,7 @@ fn args_values<'t, 's>(
     if let Some(after) = at.skip(Kind::CloseParen) {
         return Ok((None, after));
     }
-    let (values, at) = followed_by(exprs(alloc, at, depth), Kind::CloseParen)?;
-    Ok((Some(values), at))
+    present(followed_by(exprs(alloc, at, depth), Kind::CloseParen))
 }
 
 #[cycle(phrases)]
@@ -404,8 +343,7 @@ pub fn exprs<'t, 's>(
         (λ e. Fails e exprs_parts depth (position_of at.entry)) }
 {
     let (first, at) = boxed(alloc, expr(alloc, at, depth))?;
-    let (more, at) = expr_list(alloc, at, depth)?;
-    Ok((Exprs { first, more }, at))
+    expressions_of(first, expr_list(alloc, at, depth))
 }
 
 #[cycle(phrases)]
@@ -421,9 +359,7 @@ fn expr_list<'t, 's>(
 {
     let mut more = Vec::new(alloc);
     while let Some(after) = at.skip(Kind::Comma) {
-        let (next, after) = expr(alloc, after, depth)?;
-        more.push(next)?;
-        at = after;
+        at = pushed(&mut more, expr(alloc, after, depth))?;
     }
     Ok((more, at))
 }
@@ -439,8 +375,7 @@ pub fn desig<'t, 's>(
         (λ e. Fails e desig_parts depth (position_of at.entry)) }
 {
     let (name, at) = at.name()?;
-    let ((more, node), at) = numbered(selectors(alloc, at, depth))?;
-    Ok((Desig { node, name, more }, at))
+    desig_of(name, numbered(selectors(alloc, at, depth)))
 }
 
 #[cycle(phrases)]
@@ -456,9 +391,7 @@ fn selectors<'t, 's>(
 {
     let mut more = Vec::new(alloc);
     while let Some(form) = at.selector_form() {
-        let (next, after) = selector(alloc, form, at, depth)?;
-        more.push(next)?;
-        at = after;
+        at = pushed(&mut more, selector(alloc, form, at, depth))?;
     }
     Ok((more, at))
 }
@@ -483,20 +416,6 @@ fn selector<'t, 's>(
     }
 }
 
-fn field<'t, 's>(at: Cursor<'t, 's>) -> Result<(Selector, Cursor<'t, 's>), Fault<'t, 's>>
-    ensures read { MatchResult result
-        (λ t. (d : ℕ) → Reads (spell_selector (view_selector t.0))
-        (number_selector t.0) field_parts d d (position_of at.entry) (position_of t.1))
-        (λ e. (d : ℕ) → Fails e field_parts d (position_of at.entry)) }
-    ensures shorter { IfOk result (λ t. length (position_of t.1).kinds
-        < length (position_of at.entry).kinds) }
-{
-    let at = at.expect(Kind::Dot)?;
-    let (name, at) = at.name()?;
-    let (node, at) = at.count()?;
-    Ok((Selector::Field { node, name }, at))
-}
-
 #[cycle(phrases)]
 fn index<'t, 's>(
     alloc: Global,
@@ -510,8 +429,7 @@ fn index<'t, 's>(
         < length (position_of at.entry).kinds) }
 {
     let (at, inner) = at.open(Kind::OpenBracket, depth)?;
-    let ((indices, node), at) = numbered(followed_by(exprs(alloc, at, inner), Kind::CloseBracket))?;
-    Ok((Selector::Index { node, indices }, at))
+    index_of(numbered(followed_by(exprs(alloc, at, inner), Kind::CloseBracket)))
 }
 
 /// The expression that begins with a designator, which has been read.

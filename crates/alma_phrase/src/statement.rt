@@ -15,8 +15,8 @@ ghost use Rattle.alma_cursor.specs.Forms.{commit_parts, return_parts, read_parts
 ghost use Rattle.alma_cursor.specs.Parsing.{position_of, Reads, Extends, Fails};
 
 use crate::expression::{args, desig, desig_value, expr, exprs};
-use crate::join::boxed;
 use alma_cursor::{Cursor, Fault, StmtForm, followed_by, numbered};
+use alma_phrase_parts::boxed;
 use alma_tree::{Arm, Desig, Elsif, Expr, Kind, Label, Stmt, Stmts};
 use std::alloc::Global;
 

@@ -1,8 +1,8 @@
 use Rattle.std.proofs.Common.{refl}
 use Rattle.alma_cursor.proofs.Steps as steps
 use Rattle.alma_cursor.proofs.Turns.{want}
-use Rattle.alma_phrase.proofs.Chain.{stopped}
-use Rattle.alma_phrase.proofs.expression.field.Goals as goal
+use Rattle.alma_phrase_parts.proofs.Stopped.{stopped}
+use Rattle.alma_phrase_parts.proofs.leaf.field.Goals as goal
 
 pub returns-in_err-at-clause-read : goal.returns-in_err-at-clause-read
 returns-in_err-at-clause-read c = stopped _ _ _ _ c.from_residual.ensures.1 (λ d. steps.first (c.in_err-at.ensures.passes d))

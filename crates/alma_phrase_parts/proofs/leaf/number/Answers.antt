@@ -1,8 +1,8 @@
 use Rattle.std.proofs.Common.{refl}
 use Rattle.alma_cursor.proofs.Steps as steps
 use Rattle.alma_cursor.proofs.Turns.{want}
-use Rattle.alma_phrase.proofs.Chain.{stopped}
-use Rattle.alma_phrase.proofs.expression.number.Goals as goal
+use Rattle.alma_phrase_parts.proofs.Stopped.{stopped}
+use Rattle.alma_phrase_parts.proofs.leaf.number.Goals as goal
 
 pub returns-in_err-after : goal.returns-in_err-after
 returns-in_err-after c = record { read = stopped _ _ _ _ c.from_residual.ensures.1 c.in_err-after.ensures.passes }

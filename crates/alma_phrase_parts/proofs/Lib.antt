@@ -1,0 +1,5 @@
+pub mod Fewer
+pub mod Growing
+pub mod Made
+mod Nodes
+pub mod Stopped
