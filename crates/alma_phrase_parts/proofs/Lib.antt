@@ -1,0 +1,4 @@
+pub mod Made
+pub mod Growing
+pub mod Stopped
+pub mod Fronts

@@ -1,0 +1,16 @@
+//! What is made of the parts of statements and expressions once they are read: below the recursion that reads them.
+#![tactic(auto)]
+
+mod head;
+mod list;
+mod statement;
+mod step;
+
+pub use head::loop_head;
+pub use list::{boxed, present, pushed};
+pub use statement::{
+    assign_of, case_of, commit_of, either_of, elsif_of, empty_arm, for_of, forall_of, if_of,
+    label_of, labelled_of, nothing, read_of, repeat_of, return_of, some_of, stmts_of, value_of,
+    while_of, write_of, writeln_of,
+};
+pub use step::open_after;
