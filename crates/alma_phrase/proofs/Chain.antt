@@ -15,7 +15,7 @@ use Rattle.alma_cursor.proofs.Joins.{Gives, Token}
 use Rattle.alma_cursor.proofs.Loops.{grouped}
 use Rattle.alma_cursor.proofs.Steps.{same, passed, closed, closed_any, counted, replaced, extending, twice}
 use Rattle.alma_cursor.proofs.Turns.{want}
-use Rattle.alma_phrase.specs.Joins.{Boxed}
+use Rattle.alma_phrase_parts.specs.Joins.{Boxed}
 
 -- a token that opens and closes nothing, and one that closes
 pub plain : (k : Kind) (d : ℕ) → opens k ≡ false → closes k ≡ false → Token k d d

@@ -16,7 +16,7 @@ ghost use Rattle.alma_cursor.specs.Forms.{paren_parts, known_parts, ord_parts, c
 ghost use Rattle.alma_phrase.specs.Pieces.{inside_of, number_inside_args, spell_signed, number_signed};
 ghost use Rattle.alma_cursor.specs.Parsing.{position_of, Reads, Extends, Fails};
 
-use crate::join::boxed;
+use alma_phrase_parts::boxed;
 use crate::statement::stmts;
 use alma_cursor::{Cursor, Fault, PrimaryForm, SelectorForm, followed_by, numbered};
 use alma_tree::{

@@ -2,7 +2,6 @@
 #![tactic(auto)]
 
 mod expression;
-mod join;
 mod statement;
 
 pub use expression::expr;
