@@ -73,21 +73,27 @@ pub terms : Lists {A = dk.AddLink} (λ v ks. add_kind (dk.out-AddLink v).operato
     (λ vs. spell_term_tail (terms_of vs)) (λ v. token >> number_term (dk.out-AddLink v).operand) numbers_of_terms
 terms = listing (λ r. refl) (λ x xs r. refl) (λ at. refl) (λ x xs at. two_and token (number_term (dk.out-AddLink x).operand) (numbers_of_terms xs) at)
 
-pub elsifs : Lists {A = df.Elsif} (λ v ks. kinds.Elsif ∷ spell_expr (view_expr (df.out-Elsif v).test) (kinds.Then ∷ spell_stmts (view_stmts
-    (df.out-Elsif v).then) ks))
-    (λ vs. spell_elsif_tail (elsifs_of vs)) (λ v. token >> number_expr (df.out-Elsif v).test >> token >> number_stmts (df.out-Elsif v).then) numbers_of_elsifs
+abbrev pub an_elsif : df.Elsif → List Kind → List Kind
+an_elsif v ks = kinds.Elsif ∷ spell_expr (view_expr (df.out-Elsif v).test) (kinds.Then ∷ spell_stmts (view_stmts (df.out-Elsif v).then) ks)
+
+abbrev pub number_elsif : df.Elsif → Step
+number_elsif v = token >> number_expr (df.out-Elsif v).test >> token >> number_stmts (df.out-Elsif v).then
+
+pub elsifs : Lists an_elsif (λ vs. spell_elsif_tail (elsifs_of vs)) number_elsif numbers_of_elsifs
 elsifs = listing (λ r. refl) (λ x xs r. refl) (λ at. refl) (λ x xs at. four_and token (number_expr (df.out-Elsif x).test) token
     (number_stmts (df.out-Elsif x).then) (numbers_of_elsifs xs) at)
 
+pub elsif_spelled : (e : de.Expr) (v : ds.Stmts)
+    → an_elsif (df.roll-Elsif (record { test = e; then = v })) ≡ (λ ks. kinds.Elsif ∷ spell_expr (view_expr e) (kinds.Then ∷ spell_stmts (view_stmts v) ks))
+elsif_spelled e v = ap (λ o ks. kinds.Elsif ∷ spell_expr (view_expr o.test) (kinds.Then ∷ spell_stmts (view_stmts o.then) ks))
+    (df.out-roll-Elsif (record { test = e; then = v }))
+
+pub elsif_numbered : (e : de.Expr) (v : ds.Stmts)
+    → number_elsif (df.roll-Elsif (record { test = e; then = v })) ≡ (token >> number_expr e >> token >> number_stmts v)
+elsif_numbered e v = ap (λ o. token >> number_expr o.test >> token >> number_stmts o.then) (df.out-roll-Elsif (record { test = e; then = v }))
+
 -- ---- the same of a value that the code makes
 
-pub elsif_rolled : {q : List Part → List Part} {d : ℕ} {a b : At} {v : df.Elsif} (r : _) → v ≡ df.roll-Elsif r
-    → Reads (λ ks. kinds.Elsif ∷ spell_expr (view_expr r.test) (kinds.Then ∷ spell_stmts (view_stmts r.then) ks))
-    (token >> number_expr r.test >> token >> number_stmts r.then) q d d a b
-    → Reads (λ ks. kinds.Elsif ∷ spell_expr (view_expr (df.out-Elsif v).test) (kinds.Then ∷ spell_stmts (view_stmts (df.out-Elsif v).then) ks))
-    (token >> number_expr (df.out-Elsif v).test >> token >> number_stmts (df.out-Elsif v).then) q d d a b
-elsif_rolled r h x = same (ap (λ o ks. kinds.Elsif ∷ spell_expr (view_expr o.test) (kinds.Then ∷ spell_stmts (view_stmts o.then) ks))
-    (ap df.out-Elsif h ∙ df.out-roll-Elsif r)) (ap (λ o. token >> number_expr o.test >> token >> number_stmts o.then) (ap df.out-Elsif h ∙ df.out-roll-Elsif r)) x
 
 -- ---- arguments
 

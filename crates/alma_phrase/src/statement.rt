@@ -16,7 +16,11 @@ ghost use Rattle.alma_cursor.specs.Parsing.{position_of, Reads, Extends, Fails};
 
 use crate::expression::{args, desig, desig_value, expr, exprs};
 use alma_cursor::{Cursor, Fault, StmtForm, followed_by, numbered};
-use alma_phrase_parts::boxed;
+use alma_phrase_parts::{
+    assign_of, boxed, case_of, commit_of, either_of, elsif_of, empty_arm, for_of, forall_of, if_of,
+    label_of, labelled_of, loop_head, nothing, open_after, present, pushed, read_of, repeat_of,
+    return_of, some_of, stmts_of, value_of, while_of, write_of, writeln_of,
+};
 use alma_tree::{Arm, Desig, Elsif, Expr, Kind, Label, Stmt, Stmts};
 use std::alloc::Global;
 
@@ -31,8 +35,7 @@ pub fn stmts<'t, 's>(
         (λ e. Fails e stmts_parts depth (position_of at.entry)) }
 {
     let (first, at) = boxed(alloc, stmt(alloc, at, depth))?;
-    let ((more, node), at) = numbered(stmt_list(alloc, at, depth))?;
-    Ok((Stmts { node, first, more }, at))
+    stmts_of(first, numbered(stmt_list(alloc, at, depth)))
 }
 
 #[cycle(phrases)]
@@ -48,9 +51,7 @@ fn stmt_list<'t, 's>(
 {
     let mut more = Vec::new(alloc);
     while let Some(after) = at.skip(Kind::Semicolon) {
-        let (next, after) = stmt(alloc, after, depth)?;
-        more.push(next)?;
-        at = after;
+        at = pushed(&mut more, stmt(alloc, after, depth))?;
     }
     Ok((more, at))
 }
@@ -85,16 +86,6 @@ fn stmt<'t, 's>(
     }
 }
 
-fn nothing<'t, 's>(at: Cursor<'t, 's>) -> Result<(Stmt, Cursor<'t, 's>), Fault<'t, 's>>
-    ensures read { MatchResult result
-        (λ t. (d : ℕ) → Reads (spell_stmt (view_stmt t.0)) (number_stmt t.0) (λ o. o) d d
-        (position_of at.entry) (position_of t.1))
-        (λ e. (d : ℕ) → Fails e (λ o. o) d (position_of at.entry)) }
-{
-    let (node, at) = at.count()?;
-    Ok((Stmt::Nothing { node }, at))
-}
-
 /// An assignment, or an expression that begins with a designator.
 #[cycle(phrases)]
 fn desig_stmt<'t, 's>(
@@ -110,8 +101,7 @@ fn desig_stmt<'t, 's>(
     if at.is_at(Kind::Assign) {
         return assign(alloc, desig, at, depth);
     }
-    let ((value, node), at) = numbered(desig_value(alloc, desig, at, depth))?;
-    Ok((Stmt::Value { node, value }, at))
+    value_of(numbered(desig_value(alloc, desig, at, depth)))
 }
 
 /// The assignment whose target has been read.
@@ -130,15 +120,7 @@ fn assign<'t, 's>(
         (λ e. Fails e (λ o. one kinds.Assign ∷ expr_parts o) depth (position_of at.entry)) }
 {
     let at = at.expect(Kind::Assign)?;
-    let ((value, node), at) = numbered(expr(alloc, at, depth))?;
-    Ok((
-        Stmt::Assign {
-            node,
-            target,
-            value,
-        },
-        at,
-    ))
+    assign_of(target, numbered(expr(alloc, at, depth)))
 }
 
 #[cycle(phrases)]
@@ -151,8 +133,7 @@ fn value_stmt<'t, 's>(
         (number_stmt t.0) expr_parts depth depth (position_of at.entry) (position_of t.1))
         (λ e. Fails e expr_parts depth (position_of at.entry)) }
 {
-    let ((value, node), at) = numbered(expr(alloc, at, depth))?;
-    Ok((Stmt::Value { node, value }, at))
+    value_of(numbered(expr(alloc, at, depth)))
 }
 
 #[cycle(phrases)]
@@ -169,17 +150,8 @@ fn if_stmt<'t, 's>(
     let (test, at) = followed_by(expr(alloc, at, inner), Kind::Then)?;
     let (then, at) = stmts(alloc, at, inner)?;
     let (elsifs, at) = elsif_list(alloc, at, inner)?;
-    let ((otherwise, node), at) = numbered(followed_by(otherwise(alloc, at, inner), Kind::End))?;
-    Ok((
-        Stmt::If {
-            node,
-            test,
-            then,
-            elsifs,
-            otherwise,
-        },
-        at,
-    ))
+    let otherwise = followed_by(otherwise(alloc, at, inner), Kind::End);
+    if_of(test, then, elsifs, numbered(otherwise))
 }
 
 #[cycle(phrases)]
@@ -195,11 +167,8 @@ fn elsif_list<'t, 's>(
 {
     let mut more = Vec::new(alloc);
     while let Some(after) = at.skip(Kind::Elsif) {
-        let (test, after) = expr(alloc, after, depth)?;
-        let after = after.expect(Kind::Then)?;
-        let (then, after) = stmts(alloc, after, depth)?;
-        more.push(Elsif { test, then })?;
-        at = after;
+        let (test, after) = followed_by(expr(alloc, after, depth), Kind::Then)?;
+        at = pushed(&mut more, elsif_of(test, stmts(alloc, after, depth)))?;
     }
     Ok((more, at))
 }
@@ -217,8 +186,7 @@ fn otherwise<'t, 's>(
     let Some(at) = at.skip(Kind::Else) else {
         return Ok((None, at));
     };
-    let (value, at) = stmts(alloc, at, depth)?;
-    Ok((Some(value), at))
+    present(stmts(alloc, at, depth))
 }
 
 #[cycle(phrases)]
@@ -233,8 +201,7 @@ fn while_stmt<'t, 's>(
 {
     let (at, inner) = at.open(Kind::While, depth)?;
     let (test, at) = followed_by(expr(alloc, at, inner), Kind::Do)?;
-    let ((body, node), at) = numbered(followed_by(stmts(alloc, at, inner), Kind::End))?;
-    Ok((Stmt::While { node, test, body }, at))
+    while_of(test, numbered(followed_by(stmts(alloc, at, inner), Kind::End)))
 }
 
 #[cycle(phrases)]
@@ -249,8 +216,7 @@ fn repeat_stmt<'t, 's>(
 {
     let (at, inner) = at.open(Kind::Repeat, depth)?;
     let (body, at) = followed_by(stmts(alloc, at, inner), Kind::Until)?;
-    let ((test, node), at) = numbered(expr(alloc, at, depth))?;
-    Ok((Stmt::Repeat { node, body, test }, at))
+    repeat_of(body, numbered(expr(alloc, at, depth)))
 }
 
 #[cycle(phrases)]
@@ -263,23 +229,12 @@ fn for_stmt<'t, 's>(
         (number_stmt t.0) for_parts depth depth (position_of at.entry) (position_of t.1))
         (λ e. Fails e for_parts depth (position_of at.entry)) }
 {
-    let (at, inner) = at.open(Kind::For, depth)?;
-    let (variable, at) = followed_by(at.name(), Kind::Assign)?;
+    let ((variable, inner), at) = loop_head(at, Kind::For, depth)?;
     let (from, at) = followed_by(expr(alloc, at, inner), Kind::To)?;
     let (to, at) = expr(alloc, at, inner)?;
     let (by, at) = followed_by(step(alloc, at, inner), Kind::Do)?;
-    let ((body, node), at) = numbered(followed_by(stmts(alloc, at, inner), Kind::End))?;
-    Ok((
-        Stmt::For {
-            node,
-            variable,
-            from,
-            to,
-            by,
-            body,
-        },
-        at,
-    ))
+    let body = followed_by(stmts(alloc, at, inner), Kind::End);
+    for_of(variable, from, to, by, numbered(body))
 }
 
 /// The step of a FOR loop.
@@ -296,8 +251,7 @@ fn step<'t, 's>(
     let Some(at) = at.skip(Kind::By) else {
         return Ok((None, at));
     };
-    let (value, at) = expr(alloc, at, depth)?;
-    Ok((Some(value), at))
+    present(expr(alloc, at, depth))
 }
 
 #[cycle(phrases)]
@@ -310,21 +264,11 @@ fn some_stmt<'t, 's>(
         (number_stmt t.0) some_parts depth depth (position_of at.entry) (position_of t.1))
         (λ e. Fails e some_parts depth (position_of at.entry)) }
 {
-    let (at, inner) = at.open(Kind::Some, depth)?;
-    let (variable, at) = followed_by(at.name(), Kind::Assign)?;
+    let ((variable, inner), at) = loop_head(at, Kind::Some, depth)?;
     let (from, at) = followed_by(expr(alloc, at, inner), Kind::To)?;
     let (to, at) = followed_by(expr(alloc, at, inner), Kind::Do)?;
-    let ((body, node), at) = numbered(followed_by(stmts(alloc, at, inner), Kind::End))?;
-    Ok((
-        Stmt::Some {
-            node,
-            variable,
-            from,
-            to,
-            body,
-        },
-        at,
-    ))
+    let body = followed_by(stmts(alloc, at, inner), Kind::End);
+    some_of(variable, from, to, numbered(body))
 }
 
 #[cycle(phrases)]
@@ -341,17 +285,8 @@ fn case_stmt<'t, 's>(
     let (value, at) = followed_by(expr(alloc, at, inner), Kind::Of)?;
     let (first, at) = boxed(alloc, arm(alloc, at, inner))?;
     let (more, at) = arm_list(alloc, at, inner)?;
-    let ((otherwise, node), at) = numbered(followed_by(otherwise(alloc, at, inner), Kind::End))?;
-    Ok((
-        Stmt::Case {
-            node,
-            value,
-            first,
-            more,
-            otherwise,
-        },
-        at,
-    ))
+    let otherwise = followed_by(otherwise(alloc, at, inner), Kind::End);
+    case_of(value, first, more, numbered(otherwise))
 }
 
 #[cycle(phrases)]
@@ -367,8 +302,7 @@ fn arm<'t, 's>(
     if at.begins_expr() {
         return labelled_arm(alloc, at, depth);
     }
-    let (node, at) = at.count()?;
-    Ok((Arm::Empty { node }, at))
+    empty_arm(at)
 }
 
 #[cycle(phrases)]
@@ -383,16 +317,7 @@ fn labelled_arm<'t, 's>(
 {
     let (first, at) = label(alloc, at, depth)?;
     let (more, at) = followed_by(label_list(alloc, at, depth), Kind::Colon)?;
-    let ((body, node), at) = numbered(stmts(alloc, at, depth))?;
-    Ok((
-        Arm::Labelled {
-            node,
-            first,
-            more,
-            body,
-        },
-        at,
-    ))
+    labelled_of(first, more, numbered(stmts(alloc, at, depth)))
 }
 
 #[cycle(phrases)]
@@ -408,9 +333,7 @@ fn arm_list<'t, 's>(
 {
     let mut more = Vec::new(alloc);
     while let Some(after) = at.skip(Kind::Bar) {
-        let (next, after) = arm(alloc, after, depth)?;
-        more.push(next)?;
-        at = after;
+        at = pushed(&mut more, arm(alloc, after, depth))?;
     }
     Ok((more, at))
 }
@@ -426,8 +349,7 @@ fn label<'t, 's>(
         (λ e. Fails e label_parts depth (position_of at.entry)) }
 {
     let (low, at) = expr(alloc, at, depth)?;
-    let ((high, node), at) = numbered(high(alloc, at, depth))?;
-    Ok((Label { node, low, high }, at))
+    label_of(low, numbered(high(alloc, at, depth)))
 }
 
 #[cycle(phrases)]
@@ -443,8 +365,7 @@ fn high<'t, 's>(
     let Some(at) = at.skip(Kind::DotDot) else {
         return Ok((None, at));
     };
-    let (value, at) = expr(alloc, at, depth)?;
-    Ok((Some(value), at))
+    present(expr(alloc, at, depth))
 }
 
 #[cycle(phrases)]
@@ -460,9 +381,7 @@ fn label_list<'t, 's>(
 {
     let mut more = Vec::new(alloc);
     while let Some(after) = at.skip(Kind::Comma) {
-        let (next, after) = label(alloc, after, depth)?;
-        more.push(next)?;
-        at = after;
+        at = pushed(&mut more, label(alloc, after, depth))?;
     }
     Ok((more, at))
 }
@@ -479,8 +398,8 @@ fn either_stmt<'t, 's>(
 {
     let (at, inner) = at.open(Kind::Either, depth)?;
     let (first, at) = stmts(alloc, at, inner)?;
-    let ((more, node), at) = numbered(followed_by(orelse_list(alloc, at, inner), Kind::End))?;
-    Ok((Stmt::Either { node, first, more }, at))
+    let more = followed_by(orelse_list(alloc, at, inner), Kind::End);
+    either_of(first, numbered(more))
 }
 
 #[cycle(phrases)]
@@ -496,9 +415,7 @@ fn orelse_list<'t, 's>(
 {
     let mut more = Vec::new(alloc);
     while let Some(after) = at.skip(Kind::Orelse) {
-        let (next, after) = stmts(alloc, after, depth)?;
-        more.push(next)?;
-        at = after;
+        at = pushed(&mut more, stmts(alloc, after, depth))?;
     }
     Ok((more, at))
 }
@@ -515,8 +432,8 @@ fn forall_stmt<'t, 's>(
 {
     let (at, inner) = at.open(Kind::Forall, depth)?;
     let (choice, at) = followed_by(stmts(alloc, at, inner), Kind::Do)?;
-    let ((body, node), at) = numbered(followed_by(stmts(alloc, at, inner), Kind::End))?;
-    Ok((Stmt::Forall { node, choice, body }, at))
+    let body = followed_by(stmts(alloc, at, inner), Kind::End);
+    forall_of(choice, numbered(body))
 }
 
 #[cycle(phrases)]
@@ -530,8 +447,7 @@ fn commit_stmt<'t, 's>(
         (λ e. Fails e commit_parts depth (position_of at.entry)) }
 {
     let (at, inner) = at.open(Kind::Commit, depth)?;
-    let ((body, node), at) = numbered(followed_by(stmts(alloc, at, inner), Kind::End))?;
-    Ok((Stmt::Commit { node, body }, at))
+    commit_of(numbered(followed_by(stmts(alloc, at, inner), Kind::End)))
 }
 
 #[cycle(phrases)]
@@ -545,8 +461,7 @@ fn return_stmt<'t, 's>(
         (λ e. Fails e return_parts depth (position_of at.entry)) }
 {
     let at = at.expect(Kind::Return)?;
-    let ((value, node), at) = numbered(returned(alloc, at, depth))?;
-    Ok((Stmt::Return { node, value }, at))
+    return_of(numbered(returned(alloc, at, depth)))
 }
 
 #[cycle(phrases)]
@@ -561,8 +476,7 @@ fn returned<'t, 's>(
         (λ e. Fails e (λ o. returned_part ∷ o) depth (position_of at.entry)) }
 {
     if at.begins_expr() {
-        let (value, at) = expr(alloc, at, depth)?;
-        return Ok((Some(value), at));
+        return present(expr(alloc, at, depth));
     }
     Ok((None, at))
 }
@@ -577,11 +491,10 @@ fn read_stmt<'t, 's>(
         (number_stmt t.0) read_parts depth depth (position_of at.entry) (position_of t.1))
         (λ e. Fails e read_parts depth (position_of at.entry)) }
 {
-    let at = at.expect(Kind::Read)?;
-    let (at, inner) = at.open(Kind::OpenParen, depth)?;
+    let (at, inner) = open_after(at, Kind::Read, Kind::OpenParen, depth)?;
     let (first, at) = desig(alloc, at, inner)?;
-    let ((more, node), at) = numbered(followed_by(desig_list(alloc, at, inner), Kind::CloseParen))?;
-    Ok((Stmt::Read { node, first, more }, at))
+    let more = followed_by(desig_list(alloc, at, inner), Kind::CloseParen);
+    read_of(first, numbered(more))
 }
 
 #[cycle(phrases)]
@@ -597,9 +510,7 @@ fn desig_list<'t, 's>(
 {
     let mut more = Vec::new(alloc);
     while let Some(after) = at.skip(Kind::Comma) {
-        let (next, after) = desig(alloc, after, depth)?;
-        more.push(next)?;
-        at = after;
+        at = pushed(&mut more, desig(alloc, after, depth))?;
     }
     Ok((more, at))
 }
@@ -614,10 +525,9 @@ fn write_stmt<'t, 's>(
         (number_stmt t.0) write_parts depth depth (position_of at.entry) (position_of t.1))
         (λ e. Fails e write_parts depth (position_of at.entry)) }
 {
-    let at = at.expect(Kind::Write)?;
-    let (at, inner) = at.open(Kind::OpenParen, depth)?;
-    let ((items, node), at) = numbered(followed_by(exprs(alloc, at, inner), Kind::CloseParen))?;
-    Ok((Stmt::Write { node, items }, at))
+    let (at, inner) = open_after(at, Kind::Write, Kind::OpenParen, depth)?;
+    let items = followed_by(exprs(alloc, at, inner), Kind::CloseParen);
+    write_of(numbered(items))
 }
 
 #[cycle(phrases)]
@@ -631,7 +541,5 @@ fn writeln_stmt<'t, 's>(
         (λ e. Fails e writeln_parts depth (position_of at.entry)) }
 {
     let at = at.expect(Kind::Writeln)?;
-    let (items, at) = args(alloc, at, depth)?;
-    let (node, at) = at.count()?;
-    Ok((Stmt::Writeln { node, items }, at))
+    writeln_of(numbered(args(alloc, at, depth)))
 }

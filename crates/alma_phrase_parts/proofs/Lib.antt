@@ -1,4 +1,5 @@
 pub mod Fewer
+pub mod Fronts
 pub mod Growing
 pub mod Made
 mod Nodes

@@ -1,3 +1,4 @@
 pub mod Joins
 pub mod Made
 pub mod Nodes
+pub mod Heads

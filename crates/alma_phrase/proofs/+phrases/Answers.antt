@@ -7,39 +7,41 @@ use Rattle.alma_tree.specs.declared.phrase.Factor as dr
 use Rattle.alma_tree.specs.declared.phrase.Primary as dp
 use Rattle.alma_tree.specs.declared.phrase.Exprs as dx
 use Rattle.alma_tree.specs.declared.phrase.Selector as dj
-use Rattle.alma_tree.specs.Spelling.{relation_kind, add_kind, mul_kind, spell_args, spell_expr_tail, spell_expr, spell_compared, spell_sign, spell_simple, spell_term_tail, spell_term, spell_primary, spell_exprs, spell_desig}
-use Rattle.alma_tree.specs.Spelling.{spell_selector, spell_stmt, spell_else, spell_by, spell_returned, spell_arm, spell_label, spell_high}
-use Rattle.alma_tree.specs.View.{args_of, exprs_of, view_expr, compared_of, view_simple, terms_of, view_term, view_primary, view_desig, view_selector, view_stmt, else_of, by_of}
-use Rattle.alma_tree.specs.View.{returned_of, view_arm, high_of}
-use Rattle.alma_tree.specs.Numbers.{token, node, ◌>>◌, number_name, number_sign, number_stmts, number_stmt, number_arm, number_expr, number_simple}
-use Rattle.alma_tree.specs.Numbers.{number_term, number_primary, number_exprs, number_desig, number_selector, numbers_of_terms, numbers_of_by, numbers_of_else}
-use Rattle.alma_tree.specs.Numbers.{number_factor, numbers_of_args, numbers_of_exprs, numbers_of_compared, numbers_of_high, numbers_of_returned}
+use Rattle.alma_tree.specs.Spelling.{relation_kind, add_kind, mul_kind, spell_args, spell_expr_tail, spell_expr, spell_compared, spell_sign, spell_simple, spell_term_tail, spell_term, spell_primary}
+use Rattle.alma_tree.specs.Spelling.{spell_exprs, spell_desig, spell_selector, spell_stmt, spell_else, spell_by, spell_returned, spell_arm, spell_label, spell_high}
+use Rattle.alma_tree.specs.View.{args_of, exprs_of, view_expr, compared_of, view_simple, terms_of, view_term, view_primary, view_desig, view_selector, view_stmt, else_of}
+use Rattle.alma_tree.specs.View.{by_of, returned_of, view_arm, high_of, view_label}
+use Rattle.alma_tree.specs.declared.phrase.Compared as dc
+use Rattle.alma_tree.specs.declared.phrase.Stmt as dt
+use Rattle.alma_tree.specs.Tree as tree
+use Rattle.alma_tree.specs.Numbers.{number_label, numbers_of_args, token, node, ◌>>◌, number_name, number_sign, number_stmts, number_stmt, number_arm, number_expr, number_simple}
+use Rattle.alma_tree.specs.Numbers.{number_term, number_primary, number_exprs, number_desig, number_selector, numbers_of_terms, numbers_of_by, numbers_of_else, number_factor, numbers_of_exprs, numbers_of_compared, numbers_of_high}
+use Rattle.alma_tree.specs.Numbers.{numbers_of_returned}
 use Rattle.alma_tree.proofs.Rows as rows
 use Rattle.alma_tree.proofs.NumberRows as numbers
 use Rattle.alma_grammar.specs.Filling.{spell_inside_args}
-use Rattle.alma_grammar.specs.Parts.{factor_part, args_inside, expr_tail, selector_tail, simple_parts, term_parts, exprs_parts}
-use Rattle.alma_grammar.specs.Parts.{one, primary_part, factor_tail, term_tail, compared_part, args_part, stmt_part, arm_part, after_desig}
-use Rattle.alma_grammar.specs.Parts.{expr_parts, desig_parts, stmts_parts}
+use Rattle.alma_grammar.specs.Parts.{factor_part, args_inside, expr_tail, selector_tail, simple_parts, term_parts, exprs_parts, one, primary_part, factor_tail, term_tail, compared_part}
+use Rattle.alma_grammar.specs.Parts.{args_part, stmt_part, arm_part, after_desig, expr_parts, desig_parts, stmts_parts, label_parts}
 use Rattle.alma_cursor.specs.Forms as forms
 use Rattle.alma_cursor.proofs.Joins.{followed, behind, ended}
 use Rattle.alma_cursor.proofs.Loops as loops
 use Rattle.alma_cursor.proofs.Loops.{grouped}
-use Rattle.alma_cursor.proofs.Steps.{passed, opened, closed_any, counted, then, same, replaced, skipped, becoming, extending, twice, after, first}
-use Rattle.alma_cursor.proofs.Steps.{becoming_fails, beyond, instead, instead_any, extended, extended_twice, instead_extending, extended_by, shallower, strictly}
+use Rattle.alma_cursor.proofs.Steps.{passed, opened, closed_any, counted, then, same, replaced, skipped, becoming, extending, twice, after}
+use Rattle.alma_cursor.proofs.Steps.{first, becoming_fails, beyond, instead, instead_any, extended, extended_twice, instead_extending, extended_by, shallower, strictly}
 use Rattle.alma_cursor.proofs.Turns.{want, grown}
 use Rattle.alma_phrase_parts.specs.Nodes.{ComparedWith, SumOf}
 use Rattle.alma_phrase_parts.proofs.Fewer.{behind_within, made_within, pushed_within, within_ok, ok_within}
 use Rattle.alma_phrase_parts.proofs.Growing.{pushed_turn}
 use Rattle.alma_phrase_parts.proofs.Made.{made_gives, made_or_gives, behind_front, becoming_gives, made_extends, made_or_extends}
 use Rattle.alma_phrase.specs.Pieces.{inside_of, number_inside_args}
+use Rattle.alma_phrase_parts.proofs.Fronts.{part, part_and, and_then, whole, both, loop_front, loop_fewer, one_more, no_more}
 use Rattle.alma_phrase.proofs.Chain.{plain, closing, matching, ended_behind, ended_extending, in_box, at_depth, fewer, stopped}
 use Rattle.alma_phrase.proofs.Heads as heads
 use Rattle.alma_phrase.proofs.Links.{broken_turn, term_linked, factor_linked, shallower_gives}
 use Rattle.alma_phrase.proofs.Lists as lists
-use Rattle.alma_phrase.proofs.Values.{a_simple, a_term, a_factor, a_selector}
-use Rattle.alma_phrase.proofs.Values.{a_name, a_primary, a_stmt, an_arm, an_expr, some_exprs, a_desig, some_stmts, more_terms, more_factors, more_selectors, more_stmts, more_labels}
-use Rattle.alma_phrase.proofs.Values.{more_orelses, more_desigs, count_terms, count_factors, count_selectors, count_stmts, count_labels, count_orelses}
-use Rattle.alma_phrase.proofs.Values.{count_desigs}
+use Rattle.alma_phrase.proofs.Values.{a_simple, a_term, a_factor, a_selector, a_name, a_primary, a_stmt, an_arm, an_expr, some_exprs, a_desig, some_stmts}
+use Rattle.alma_phrase.proofs.Values.{more_terms, more_factors, more_selectors, more_stmts, more_labels, more_orelses, more_desigs, count_terms, count_factors, count_selectors, count_stmts, count_labels}
+use Rattle.alma_phrase.proofs.Values.{count_orelses, count_desigs}
 use Rattle.alma_phrase.proofs.+phrases.Goals as goal
 
 pub expression::expr_from-returns : goal.expression::expr_from-returns
@@ -174,11 +176,8 @@ expression::index-returns-in_err-at-clause-read t c = stopped _ _ _ _ c.from_res
 pub statement::stmts-returns-in_err-first : goal.statement::stmts-returns-in_err-first
 statement::stmts-returns-in_err-first t c = record { read = stopped _ _ _ _ c.from_residual.ensures.1 (first (in_box a_stmt number_stmt _ _ _ _ c.stmt.result (Err _) c.in_err-first.ensures.boxed c.stmt.ensures.read)) }
 
-pub statement::stmts-returns-in_err-more : goal.statement::stmts-returns-in_err-more
-statement::stmts-returns-in_err-more t c = record { read = stopped _ _ _ _ c.from_residual-in_err-more.ensures.1 (after (in_box a_stmt number_stmt _ _ _ _ c.stmt.result (Ok _) c.in_ok-first.ensures.boxed c.stmt.ensures.read) (ended more_stmts count_stmts _ _ _ _ c.stmt_list.result (Err _) c.in_err-more.ensures.numbered c.stmt_list.ensures.read)) }
-
 pub statement::stmts-returns : goal.statement::stmts-returns
-statement::stmts-returns t c = record { read = then (in_box a_stmt number_stmt _ _ _ _ c.stmt.result (Ok _) c.in_ok-first.ensures.boxed c.stmt.ensures.read) (ended more_stmts count_stmts _ _ _ _ c.stmt_list.result (Ok _) c.in_ok-more.ensures.numbered c.stmt_list.ensures.read) }
+statement::stmts-returns t c = record { read = whole (λ v. more_stmts v.0) (λ v. count_stmts v.0 >> node v.1) some_stmts number_stmts (part (in_box a_stmt number_stmt _ _ _ _ c.stmt.result (Ok _) c.in_ok-first.ensures.boxed c.stmt.ensures.read)) _ _ (λ v. record { node = v.1; first = c.in_ok-first.first; more = v.0 }) (λ v. refl) (λ v. refl) c.numbered.result _ c.stmts_of.ensures.made (ended more_stmts count_stmts _ _ _ _ c.stmt_list.result c.numbered.result c.numbered.ensures.numbered c.stmt_list.ensures.read) }
 
 pub statement::stmts-stmt_list-requires : goal.statement::stmts-stmt_list-requires
 statement::stmts-stmt_list-requires t c = (omega (arith, (in_box a_stmt number_stmt _ _ _ _ c.stmt.result (Ok _) c.in_ok-first.ensures.boxed c.stmt.ensures.read).shorter), tt)
@@ -186,30 +185,11 @@ statement::stmts-stmt_list-requires t c = (omega (arith, (in_box a_stmt number_s
 pub statement::assign-returns-in_err-at : goal.statement::assign-returns-in_err-at
 statement::assign-returns-in_err-at t c = record { read = stopped _ _ _ _ c.from_residual.ensures.1 (first (c.in_err-at.ensures.passes _)) }
 
-pub statement::assign-returns-in_err-value : goal.statement::assign-returns-in_err-value
-statement::assign-returns-in_err-value t c = record {
-  read = stopped _ _ _ _ c.from_residual-in_err-value.ensures.1 (after (passed refl refl
-      c.in_ok-at.ensures.passes) (ended an_expr number_expr _ _ _ _ c.expr.result (Err _) c.in_err-value.ensures.numbered c.expr.ensures.read));
-}
-
 pub statement::assign-returns : goal.statement::assign-returns
-statement::assign-returns t c = record {
-  read = extending (ap spell_stmt (rows.assign_laid c.in_ok-value.node c.args.target c.in_ok-value.value))
-      (numbers.assign_laid c.in_ok-value.node c.args.target c.in_ok-value.value) (then (passed refl refl c.in_ok-at.ensures.passes) (ended an_expr
-      number_expr _ _ _ _ c.expr.result (Ok _) c.in_ok-value.ensures.numbered c.expr.ensures.read));
-}
-
-pub statement::value_stmt-returns-in_err-value : goal.statement::value_stmt-returns-in_err-value
-statement::value_stmt-returns-in_err-value t c = record {
-  read = stopped _ _ _ _ c.from_residual.ensures.1 (ended an_expr number_expr _ _ _ _
-      c.expr.result (Err _) c.in_err-value.ensures.numbered c.expr.ensures.read);
-}
+statement::assign-returns t c = record { read = made_extends (λ v ks. kinds.Assign ∷ an_expr v.0 ks) (λ v. token >> number_expr v.0 >> node v.1) a_stmt number_stmt (spell_desig (view_desig c.args.target)) (number_desig c.args.target) _ _ _ (λ v. dt.Assign v.1 c.args.target v.0) (λ v. ap spell_stmt (rows.assign_laid v.1 c.args.target v.0)) (λ v. numbers.assign_laid v.1 c.args.target v.0) c.numbered.result _ c.assign_of.ensures.made (both (λ v. an_expr v.0) (λ v. number_expr v.0 >> node v.1) (part (passed refl refl c.in_ok-at.ensures.passes)) _ _ c.numbered.result (ended an_expr number_expr _ _ _ _ c.expr.result c.numbered.result c.numbered.ensures.numbered c.expr.ensures.read)) }
 
 pub statement::value_stmt-returns : goal.statement::value_stmt-returns
-statement::value_stmt-returns t c = record {
-  read = (ended an_expr number_expr _ _ _ _ c.expr.result (Ok _) c.in_ok-value.ensures.numbered
-      c.expr.ensures.read);
-}
+statement::value_stmt-returns t c = record { read = made_gives (λ v. an_expr v.0) (λ v. number_expr v.0 >> node v.1) a_stmt number_stmt _ _ _ _ (λ v. dt.Value v.1 v.0) (λ v. refl) (λ v. refl) c.numbered.result _ c.value_of.ensures.made (ended an_expr number_expr _ _ _ _ c.expr.result c.numbered.result c.numbered.ensures.numbered c.expr.ensures.read) }
 
 pub statement::if_stmt-returns-in_err-at : goal.statement::if_stmt-returns-in_err-at
 statement::if_stmt-returns-in_err-at t c = record { read = stopped _ _ _ _ c.from_residual.ensures.1 (first c.in_err-at.ensures.opened) }
@@ -235,25 +215,8 @@ statement::if_stmt-returns-in_err-elsifs t c = record {
       c.in_ok-test.ensures.followed c.expr.ensures.read) (after c.in_ok-then.ensures.read (first c.in_err-elsifs.ensures.read))));
 }
 
-pub statement::if_stmt-returns-in_err-otherwise : goal.statement::if_stmt-returns-in_err-otherwise
-statement::if_stmt-returns-in_err-otherwise t c = record {
-  read = stopped _ _ _ _ c.from_residual-in_err-otherwise.ensures.1 (after (opened refl
-      c.in_ok-at.ensures.opened) (after (followed an_expr number_expr _ _ _ _ _ (plain kinds.Then _ refl refl) c.expr.result (Ok _)
-      c.in_ok-test.ensures.followed c.expr.ensures.read) (after c.in_ok-then.ensures.read (after c.in_ok-elsifs.ensures.read (ended_behind (λ v.
-      spell_else (else_of v)) numbers_of_else _ _ _ _ _ _ (matching kinds.End refl refl c.in_ok-at.ensures.opened) c.otherwise.result
-      c.followed_by-2.result c.followed_by-2.ensures.followed c.otherwise.ensures.read (Err _) c.in_err-otherwise.ensures.numbered)))));
-}
-
 pub statement::if_stmt-returns : goal.statement::if_stmt-returns
-statement::if_stmt-returns t c = record {
-  read = same (ap spell_stmt (rows.if_laid c.in_ok-otherwise.node c.in_ok-test.test c.in_ok-then.then
-      c.in_ok-elsifs.elsifs c.in_ok-otherwise.otherwise)) (numbers.if_laid c.in_ok-otherwise.node c.in_ok-test.test c.in_ok-then.then
-      c.in_ok-elsifs.elsifs c.in_ok-otherwise.otherwise) (then (opened refl c.in_ok-at.ensures.opened) (behind an_expr number_expr _ _ _ _ _ (plain
-      kinds.Then _ refl refl) c.expr.result _ c.in_ok-test.ensures.followed c.expr.ensures.read (then c.in_ok-then.ensures.read (then
-      c.in_ok-elsifs.ensures.read (ended_behind (λ v. spell_else (else_of v)) numbers_of_else _ _ _ _ _ _ (matching kinds.End refl refl
-      c.in_ok-at.ensures.opened) c.otherwise.result c.followed_by-2.result c.followed_by-2.ensures.followed c.otherwise.ensures.read (Ok _)
-      c.in_ok-otherwise.ensures.numbered)))));
-}
+statement::if_stmt-returns t c = record { read = whole (λ v ks. spell_else (else_of v.0) (kinds.End ∷ ks)) (λ v. numbers_of_else v.0 >> token >> node v.1) a_stmt number_stmt (and_then (part (opened refl c.in_ok-at.ensures.opened)) (and_then (part_and an_expr number_expr kinds.Then _ _ _ _ _ (plain kinds.Then _ refl refl) c.expr.result _ c.in_ok-test.ensures.followed c.expr.ensures.read) (and_then (part c.in_ok-then.ensures.read) (part c.in_ok-elsifs.ensures.read)))) _ _ _ (λ v. ap spell_stmt (rows.if_laid v.1 c.in_ok-test.test c.in_ok-then.then c.in_ok-elsifs.elsifs v.0)) (λ v. numbers.if_laid v.1 c.in_ok-test.test c.in_ok-then.then c.in_ok-elsifs.elsifs v.0) c.numbered.result _ c.if_of.ensures.made (ended_behind (λ v. spell_else (else_of v)) numbers_of_else _ _ _ _ _ _ (matching kinds.End refl refl c.in_ok-at.ensures.opened) c.otherwise.result c.followed_by-otherwise.result c.followed_by-otherwise.ensures.followed c.otherwise.ensures.read c.numbered.result c.numbered.ensures.numbered) }
 
 pub statement::if_stmt-stmts-requires : goal.statement::if_stmt-stmts-requires
 statement::if_stmt-stmts-requires t c = (
@@ -301,23 +264,8 @@ statement::while_stmt-returns-in_err-test t c = record {
       c.in_err-test.ensures.followed c.expr.ensures.read)));
 }
 
-pub statement::while_stmt-returns-in_err-body : goal.statement::while_stmt-returns-in_err-body
-statement::while_stmt-returns-in_err-body t c = record {
-  read = stopped _ _ _ _ c.from_residual-in_err-body.ensures.1 (after (opened refl
-      c.in_ok-at.ensures.opened) (after (followed an_expr number_expr _ _ _ _ _ (plain kinds.Do _ refl refl) c.expr.result (Ok _)
-      c.in_ok-test.ensures.followed c.expr.ensures.read) (ended_behind some_stmts number_stmts _ _ _ _ _ _ (matching kinds.End refl refl
-      c.in_ok-at.ensures.opened) c.stmts.result c.followed_by-2.result c.followed_by-2.ensures.followed c.stmts.ensures.read (Err _)
-      c.in_err-body.ensures.numbered)));
-}
-
 pub statement::while_stmt-returns : goal.statement::while_stmt-returns
-statement::while_stmt-returns t c = record {
-  read = same (ap spell_stmt (rows.while_laid c.in_ok-body.node c.in_ok-test.test c.in_ok-body.body))
-      (numbers.while_laid c.in_ok-body.node c.in_ok-test.test c.in_ok-body.body) (then (opened refl c.in_ok-at.ensures.opened) (behind an_expr
-      number_expr _ _ _ _ _ (plain kinds.Do _ refl refl) c.expr.result _ c.in_ok-test.ensures.followed c.expr.ensures.read (ended_behind some_stmts
-      number_stmts _ _ _ _ _ _ (matching kinds.End refl refl c.in_ok-at.ensures.opened) c.stmts.result c.followed_by-2.result
-      c.followed_by-2.ensures.followed c.stmts.ensures.read (Ok _) c.in_ok-body.ensures.numbered)));
-}
+statement::while_stmt-returns t c = record { read = whole (λ v ks. some_stmts v.0 (kinds.End ∷ ks)) (λ v. number_stmts v.0 >> token >> node v.1) a_stmt number_stmt (and_then (part (opened refl c.in_ok-at.ensures.opened)) (part_and an_expr number_expr kinds.Do _ _ _ _ _ (plain kinds.Do _ refl refl) c.expr.result _ c.in_ok-test.ensures.followed c.expr.ensures.read)) _ _ _ (λ v. ap spell_stmt (rows.while_laid v.1 c.in_ok-test.test v.0)) (λ v. numbers.while_laid v.1 c.in_ok-test.test v.0) c.numbered.result _ c.while_of.ensures.made (ended_behind some_stmts number_stmts _ _ _ _ _ _ (matching kinds.End refl refl c.in_ok-at.ensures.opened) c.stmts.result c.followed_by-2.result c.followed_by-2.ensures.followed c.stmts.ensures.read c.numbered.result c.numbered.ensures.numbered) }
 
 pub statement::while_stmt-stmts-requires : goal.statement::while_stmt-stmts-requires
 statement::while_stmt-stmts-requires t c = (
@@ -340,21 +288,8 @@ statement::repeat_stmt-returns-in_err-body t c = record {
       c.stmts.result (Err _) c.in_err-body.ensures.followed c.stmts.ensures.read)));
 }
 
-pub statement::repeat_stmt-returns-in_err-test : goal.statement::repeat_stmt-returns-in_err-test
-statement::repeat_stmt-returns-in_err-test t c = record {
-  read = stopped _ _ _ _ c.from_residual-in_err-test.ensures.1 (after (opened refl
-      c.in_ok-at.ensures.opened) (after (followed some_stmts number_stmts _ _ _ _ _ (matching kinds.Until refl refl c.in_ok-at.ensures.opened)
-      c.stmts.result (Ok _) c.in_ok-body.ensures.followed c.stmts.ensures.read) (ended an_expr number_expr _ _ _ _ c.expr.result (Err _)
-      c.in_err-test.ensures.numbered c.expr.ensures.read)));
-}
-
 pub statement::repeat_stmt-returns : goal.statement::repeat_stmt-returns
-statement::repeat_stmt-returns t c = record {
-  read = same (ap spell_stmt (rows.repeat_laid c.in_ok-test.node c.in_ok-body.body c.in_ok-test.test))
-      (numbers.repeat_laid c.in_ok-test.node c.in_ok-body.body c.in_ok-test.test) (then (opened refl c.in_ok-at.ensures.opened) (behind some_stmts
-      number_stmts _ _ _ _ _ (matching kinds.Until refl refl c.in_ok-at.ensures.opened) c.stmts.result _ c.in_ok-body.ensures.followed
-      c.stmts.ensures.read (ended an_expr number_expr _ _ _ _ c.expr.result (Ok _) c.in_ok-test.ensures.numbered c.expr.ensures.read)));
-}
+statement::repeat_stmt-returns t c = record { read = whole (λ v. an_expr v.0) (λ v. number_expr v.0 >> node v.1) a_stmt number_stmt (and_then (part (opened refl c.in_ok-at.ensures.opened)) (part_and some_stmts number_stmts kinds.Until _ _ _ _ _ (matching kinds.Until refl refl c.in_ok-at.ensures.opened) c.stmts.result _ c.in_ok-body.ensures.followed c.stmts.ensures.read)) _ _ _ (λ v. ap spell_stmt (rows.repeat_laid v.1 c.in_ok-body.body v.0)) (λ v. numbers.repeat_laid v.1 c.in_ok-body.body v.0) c.numbered.result _ c.repeat_of.ensures.made (ended an_expr number_expr _ _ _ _ c.expr.result c.numbered.result c.numbered.ensures.numbered c.expr.ensures.read) }
 
 pub statement::repeat_stmt-expr-requires : goal.statement::repeat_stmt-expr-requires
 statement::repeat_stmt-expr-requires t c = (
@@ -367,207 +302,59 @@ statement::repeat_stmt-expr-requires t c = (
   tt,
 )
 
-pub statement::for_stmt-returns-in_err-at : goal.statement::for_stmt-returns-in_err-at
-statement::for_stmt-returns-in_err-at t c = record { read = stopped _ _ _ _ c.from_residual.ensures.1 (first c.in_err-at.ensures.opened) }
-
 pub statement::for_stmt-returns-in_err-variable : goal.statement::for_stmt-returns-in_err-variable
-statement::for_stmt-returns-in_err-variable t c = record {
-  read = stopped _ _ _ _ c.from_residual-in_err-variable.ensures.1 (after (opened refl
-      c.in_ok-at.ensures.opened) (first (followed a_name number_name _ _ _ _ _ (plain kinds.Assign _ refl refl) c.name.result (Err _)
-      c.in_err-variable.ensures.followed (at_depth a_name number_name _ _ _ _ c.name.ensures.read))));
-}
+statement::for_stmt-returns-in_err-variable t c = record { read = stopped _ _ _ _ c.from_residual.ensures.1 (first c.in_err-variable.ensures.begins) }
 
 pub statement::for_stmt-returns-in_err-from : goal.statement::for_stmt-returns-in_err-from
-statement::for_stmt-returns-in_err-from t c = record {
-  read = stopped _ _ _ _ c.from_residual-in_err-from.ensures.1 (after (opened refl
-      c.in_ok-at.ensures.opened) (after (followed a_name number_name _ _ _ _ _ (plain kinds.Assign _ refl refl) c.name.result (Ok _)
-      c.in_ok-variable.ensures.followed (at_depth a_name number_name _ _ _ _ c.name.ensures.read)) (first (followed an_expr number_expr _ _ _ _ _ (plain
-      kinds.To _ refl refl) c.expr.result (Err _) c.in_err-from.ensures.followed c.expr.ensures.read))));
-}
+statement::for_stmt-returns-in_err-from t c = record { read = stopped _ _ _ _ c.from_residual-in_err-from.ensures.1 ((loop_front refl c.in_ok-variable.ensures.begins).fails _ _ (first (followed an_expr number_expr _ _ _ _ _ (plain kinds.To _ refl refl) c.expr.result (Err _) c.in_err-from.ensures.followed c.expr.ensures.read))) }
 
 pub statement::for_stmt-returns-in_err-to : goal.statement::for_stmt-returns-in_err-to
-statement::for_stmt-returns-in_err-to t c = record {
-  read = stopped _ _ _ _ c.from_residual-in_err-to.ensures.1 (after (opened refl
-      c.in_ok-at.ensures.opened) (after (followed a_name number_name _ _ _ _ _ (plain kinds.Assign _ refl refl) c.name.result (Ok _)
-      c.in_ok-variable.ensures.followed (at_depth a_name number_name _ _ _ _ c.name.ensures.read)) (after (followed an_expr number_expr _ _ _ _ _ (plain
-      kinds.To _ refl refl) c.expr.result (Ok _) c.in_ok-from.ensures.followed c.expr.ensures.read) (first c.in_err-to.ensures.read))));
-}
+statement::for_stmt-returns-in_err-to t c = record { read = stopped _ _ _ _ c.from_residual-in_err-to.ensures.1 ((and_then (loop_front refl c.in_ok-variable.ensures.begins) (part_and an_expr number_expr kinds.To _ _ _ _ _ (plain kinds.To _ refl refl) c.expr.result _ c.in_ok-from.ensures.followed c.expr.ensures.read)).fails _ _ (first c.in_err-to.ensures.read)) }
 
 pub statement::for_stmt-returns-in_err-by : goal.statement::for_stmt-returns-in_err-by
-statement::for_stmt-returns-in_err-by t c = record {
-  read = stopped _ _ _ _ c.from_residual-in_err-by.ensures.1 (after (opened refl
-      c.in_ok-at.ensures.opened) (after (followed a_name number_name _ _ _ _ _ (plain kinds.Assign _ refl refl) c.name.result (Ok _)
-      c.in_ok-variable.ensures.followed (at_depth a_name number_name _ _ _ _ c.name.ensures.read)) (after (followed an_expr number_expr _ _ _ _ _ (plain
-      kinds.To _ refl refl) c.expr.result (Ok _) c.in_ok-from.ensures.followed c.expr.ensures.read) (after c.in_ok-to.ensures.read (first (followed (λ
-      v. spell_by (by_of v)) numbers_of_by _ _ _ _ _ (plain kinds.Do _ refl refl) c.step.result (Err _) c.in_err-by.ensures.followed
-      c.step.ensures.read))))));
-}
-
-pub statement::for_stmt-returns-in_err-body : goal.statement::for_stmt-returns-in_err-body
-statement::for_stmt-returns-in_err-body t c = record {
-  read = stopped _ _ _ _ c.from_residual-in_err-body.ensures.1 (after (opened refl
-      c.in_ok-at.ensures.opened) (after (followed a_name number_name _ _ _ _ _ (plain kinds.Assign _ refl refl) c.name.result (Ok _)
-      c.in_ok-variable.ensures.followed (at_depth a_name number_name _ _ _ _ c.name.ensures.read)) (after (followed an_expr number_expr _ _ _ _ _ (plain
-      kinds.To _ refl refl) c.expr.result (Ok _) c.in_ok-from.ensures.followed c.expr.ensures.read) (after c.in_ok-to.ensures.read (after (followed (λ
-      v. spell_by (by_of v)) numbers_of_by _ _ _ _ _ (plain kinds.Do _ refl refl) c.step.result (Ok _) c.in_ok-by.ensures.followed c.step.ensures.read)
-      (ended_behind some_stmts number_stmts _ _ _ _ _ _ (matching kinds.End refl refl c.in_ok-at.ensures.opened) c.stmts.result c.followed_by-4.result
-      c.followed_by-4.ensures.followed c.stmts.ensures.read (Err _) c.in_err-body.ensures.numbered))))));
-}
+statement::for_stmt-returns-in_err-by t c = record { read = stopped _ _ _ _ c.from_residual-in_err-by.ensures.1 ((and_then (loop_front refl c.in_ok-variable.ensures.begins) (and_then (part_and an_expr number_expr kinds.To _ _ _ _ _ (plain kinds.To _ refl refl) c.expr.result _ c.in_ok-from.ensures.followed c.expr.ensures.read) (part c.in_ok-to.ensures.read))).fails _ _ (first (followed (λ v. spell_by (by_of v)) numbers_of_by _ _ _ _ _ (plain kinds.Do _ refl refl) c.step.result (Err _) c.in_err-by.ensures.followed c.step.ensures.read))) }
 
 pub statement::for_stmt-returns : goal.statement::for_stmt-returns
-statement::for_stmt-returns t c = record {
-  read = same (ap spell_stmt (rows.for_laid c.in_ok-body.node c.in_ok-variable.variable c.in_ok-from.from
-      c.in_ok-to.to c.in_ok-by.by c.in_ok-body.body)) (numbers.for_laid c.in_ok-body.node c.in_ok-variable.variable c.in_ok-from.from c.in_ok-to.to
-      c.in_ok-by.by c.in_ok-body.body) (then (opened refl c.in_ok-at.ensures.opened) (behind a_name number_name _ _ _ _ _ (plain kinds.Assign _ refl
-      refl) c.name.result _ c.in_ok-variable.ensures.followed (at_depth a_name number_name _ _ _ _ c.name.ensures.read) (behind an_expr number_expr _ _
-      _ _ _ (plain kinds.To _ refl refl) c.expr.result _ c.in_ok-from.ensures.followed c.expr.ensures.read (then c.in_ok-to.ensures.read (behind (λ v.
-      spell_by (by_of v)) numbers_of_by _ _ _ _ _ (plain kinds.Do _ refl refl) c.step.result _ c.in_ok-by.ensures.followed c.step.ensures.read
-      (ended_behind some_stmts number_stmts _ _ _ _ _ _ (matching kinds.End refl refl c.in_ok-at.ensures.opened) c.stmts.result c.followed_by-4.result
-      c.followed_by-4.ensures.followed c.stmts.ensures.read (Ok _) c.in_ok-body.ensures.numbered))))));
-}
+statement::for_stmt-returns t c = record { read = whole (λ v ks. some_stmts v.0 (kinds.End ∷ ks)) (λ v. number_stmts v.0 >> token >> node v.1) a_stmt number_stmt (and_then (loop_front refl c.in_ok-variable.ensures.begins) (and_then (part_and an_expr number_expr kinds.To _ _ _ _ _ (plain kinds.To _ refl refl) c.expr.result _ c.in_ok-from.ensures.followed c.expr.ensures.read) (and_then (part c.in_ok-to.ensures.read) (part_and (λ v. spell_by (by_of v)) numbers_of_by kinds.Do _ _ _ _ _ (plain kinds.Do _ refl refl) c.step.result _ c.in_ok-by.ensures.followed c.step.ensures.read)))) _ _ _ (λ v. ap spell_stmt (rows.for_laid v.1 c.in_ok-variable.variable c.in_ok-from.from c.in_ok-to.to c.in_ok-by.by v.0)) (λ v. numbers.for_laid v.1 c.in_ok-variable.variable c.in_ok-from.from c.in_ok-to.to c.in_ok-by.by v.0) c.numbered.result _ c.for_of.ensures.made (ended_behind some_stmts number_stmts _ _ _ _ _ _ (matching kinds.End refl refl c.in_ok-variable.ensures.begins.opens_first) c.stmts.result c.followed_by-body.result c.followed_by-body.ensures.followed c.stmts.ensures.read c.numbered.result c.numbered.ensures.numbered) }
 
 pub statement::for_stmt-expr-requires : goal.statement::for_stmt-expr-requires
-statement::for_stmt-expr-requires t c = (
-  omega (
-    arith,
-    c.in_ok-at.ensures.opened.passes.shorter,
-    fewer a_name number_name _ _ _ _ _ c.name.result _
-        c.in_ok-variable.ensures.followed (at_depth a_name number_name _ 0 _ _ c.name.ensures.read),
-  ),
-  tt,
-)
+statement::for_stmt-expr-requires t c = (omega (arith, loop_fewer c.in_ok-variable.ensures.begins), tt)
 
 pub statement::for_stmt-expr-requires-2 : goal.statement::for_stmt-expr-requires-2
-statement::for_stmt-expr-requires-2 t c = (
-  omega (
-    arith,
-    c.in_ok-at.ensures.opened.passes.shorter,
-    fewer a_name number_name _ _ _ _ _ c.name.result _
-        c.in_ok-variable.ensures.followed (at_depth a_name number_name _ 0 _ _ c.name.ensures.read),
-    fewer an_expr number_expr _ _ _ _ _ c.expr.result _
-        c.in_ok-from.ensures.followed c.expr.ensures.read,
-  ),
-  tt,
-)
+statement::for_stmt-expr-requires-2 t c = (omega (arith, loop_fewer c.in_ok-variable.ensures.begins, fewer an_expr number_expr _ _ _ _ _ c.expr.result _ c.in_ok-from.ensures.followed c.expr.ensures.read), tt)
 
 pub statement::for_stmt-step-requires : goal.statement::for_stmt-step-requires
-statement::for_stmt-step-requires t c = (
-  omega (
-    arith,
-    c.in_ok-at.ensures.opened.passes.shorter,
-    fewer a_name number_name _ _ _ _ _ c.name.result _
-        c.in_ok-variable.ensures.followed (at_depth a_name number_name _ 0 _ _ c.name.ensures.read),
-    fewer an_expr number_expr _ _ _ _ _ c.expr.result _
-        c.in_ok-from.ensures.followed c.expr.ensures.read,
-    c.in_ok-to.ensures.read.shorter,
-  ),
-  tt,
-)
+statement::for_stmt-step-requires t c = (omega (arith, loop_fewer c.in_ok-variable.ensures.begins, fewer an_expr number_expr _ _ _ _ _ c.expr.result _ c.in_ok-from.ensures.followed c.expr.ensures.read, c.in_ok-to.ensures.read.shorter), tt)
 
 pub statement::for_stmt-stmts-requires : goal.statement::for_stmt-stmts-requires
-statement::for_stmt-stmts-requires t c = (
-  omega (
-    arith,
-    c.in_ok-at.ensures.opened.passes.shorter,
-    fewer a_name number_name _ _ _ _ _ c.name.result _
-        c.in_ok-variable.ensures.followed (at_depth a_name number_name _ 0 _ _ c.name.ensures.read),
-    fewer an_expr number_expr _ _ _ _ _ c.expr.result _
-        c.in_ok-from.ensures.followed c.expr.ensures.read,
-    c.in_ok-to.ensures.read.shorter,
-    fewer (λ v. spell_by (by_of v)) numbers_of_by _ _ _ _ _
-        c.step.result _ c.in_ok-by.ensures.followed c.step.ensures.read,
-  ),
-  tt,
-)
+statement::for_stmt-stmts-requires t c = (omega (arith, loop_fewer c.in_ok-variable.ensures.begins, fewer an_expr number_expr _ _ _ _ _ c.expr.result _ c.in_ok-from.ensures.followed c.expr.ensures.read, c.in_ok-to.ensures.read.shorter, fewer (λ v. spell_by (by_of v)) numbers_of_by _ _ _ _ _ c.step.result _ c.in_ok-by.ensures.followed c.step.ensures.read), tt)
 
-pub statement::some_stmt-returns-in_err-at : goal.statement::some_stmt-returns-in_err-at
-statement::some_stmt-returns-in_err-at t c = record { read = stopped _ _ _ _ c.from_residual.ensures.1 (first c.in_err-at.ensures.opened) }
+pub statement::for_stmt-loop_head-requires : goal.statement::for_stmt-loop_head-requires
+statement::for_stmt-loop_head-requires t c = record { opening = refl }
 
 pub statement::some_stmt-returns-in_err-variable : goal.statement::some_stmt-returns-in_err-variable
-statement::some_stmt-returns-in_err-variable t c = record {
-  read = stopped _ _ _ _ c.from_residual-in_err-variable.ensures.1 (after (opened refl
-      c.in_ok-at.ensures.opened) (first (followed a_name number_name _ _ _ _ _ (plain kinds.Assign _ refl refl) c.name.result (Err _)
-      c.in_err-variable.ensures.followed (at_depth a_name number_name _ _ _ _ c.name.ensures.read))));
-}
+statement::some_stmt-returns-in_err-variable t c = record { read = stopped _ _ _ _ c.from_residual.ensures.1 (first c.in_err-variable.ensures.begins) }
 
 pub statement::some_stmt-returns-in_err-from : goal.statement::some_stmt-returns-in_err-from
-statement::some_stmt-returns-in_err-from t c = record {
-  read = stopped _ _ _ _ c.from_residual-in_err-from.ensures.1 (after (opened refl
-      c.in_ok-at.ensures.opened) (after (followed a_name number_name _ _ _ _ _ (plain kinds.Assign _ refl refl) c.name.result (Ok _)
-      c.in_ok-variable.ensures.followed (at_depth a_name number_name _ _ _ _ c.name.ensures.read)) (first (followed an_expr number_expr _ _ _ _ _ (plain
-      kinds.To _ refl refl) c.expr.result (Err _) c.in_err-from.ensures.followed c.expr.ensures.read))));
-}
+statement::some_stmt-returns-in_err-from t c = record { read = stopped _ _ _ _ c.from_residual-in_err-from.ensures.1 ((loop_front refl c.in_ok-variable.ensures.begins).fails _ _ (first (followed an_expr number_expr _ _ _ _ _ (plain kinds.To _ refl refl) c.expr.result (Err _) c.in_err-from.ensures.followed c.expr.ensures.read))) }
 
 pub statement::some_stmt-returns-in_err-to : goal.statement::some_stmt-returns-in_err-to
-statement::some_stmt-returns-in_err-to t c = record {
-  read = stopped _ _ _ _ c.from_residual-in_err-to.ensures.1 (after (opened refl
-      c.in_ok-at.ensures.opened) (after (followed a_name number_name _ _ _ _ _ (plain kinds.Assign _ refl refl) c.name.result (Ok _)
-      c.in_ok-variable.ensures.followed (at_depth a_name number_name _ _ _ _ c.name.ensures.read)) (after (followed an_expr number_expr _ _ _ _ _ (plain
-      kinds.To _ refl refl) c.expr.result (Ok _) c.in_ok-from.ensures.followed c.expr.ensures.read) (first (followed an_expr number_expr _ _ _ _ _
-      (plain kinds.Do _ refl refl) c.expr-2.result (Err _) c.in_err-to.ensures.followed c.expr-2.ensures.read)))));
-}
-
-pub statement::some_stmt-returns-in_err-body : goal.statement::some_stmt-returns-in_err-body
-statement::some_stmt-returns-in_err-body t c = record {
-  read = stopped _ _ _ _ c.from_residual-in_err-body.ensures.1 (after (opened refl
-      c.in_ok-at.ensures.opened) (after (followed a_name number_name _ _ _ _ _ (plain kinds.Assign _ refl refl) c.name.result (Ok _)
-      c.in_ok-variable.ensures.followed (at_depth a_name number_name _ _ _ _ c.name.ensures.read)) (after (followed an_expr number_expr _ _ _ _ _ (plain
-      kinds.To _ refl refl) c.expr.result (Ok _) c.in_ok-from.ensures.followed c.expr.ensures.read) (after (followed an_expr number_expr _ _ _ _ _
-      (plain kinds.Do _ refl refl) c.expr-2.result (Ok _) c.in_ok-to.ensures.followed c.expr-2.ensures.read) (ended_behind some_stmts number_stmts _ _ _
-      _ _ _ (matching kinds.End refl refl c.in_ok-at.ensures.opened) c.stmts.result c.followed_by-4.result c.followed_by-4.ensures.followed
-      c.stmts.ensures.read (Err _) c.in_err-body.ensures.numbered)))));
-}
+statement::some_stmt-returns-in_err-to t c = record { read = stopped _ _ _ _ c.from_residual-in_err-to.ensures.1 ((and_then (loop_front refl c.in_ok-variable.ensures.begins) (part_and an_expr number_expr kinds.To _ _ _ _ _ (plain kinds.To _ refl refl) c.expr.result _ c.in_ok-from.ensures.followed c.expr.ensures.read)).fails _ _ (first (followed an_expr number_expr _ _ _ _ _ (plain kinds.Do _ refl refl) c.expr-2.result (Err _) c.in_err-to.ensures.followed c.expr-2.ensures.read))) }
 
 pub statement::some_stmt-returns : goal.statement::some_stmt-returns
-statement::some_stmt-returns t c = record {
-  read = same (ap spell_stmt (rows.some_laid c.in_ok-body.node c.in_ok-variable.variable c.in_ok-from.from
-      c.in_ok-to.to c.in_ok-body.body)) (numbers.some_laid c.in_ok-body.node c.in_ok-variable.variable c.in_ok-from.from c.in_ok-to.to
-      c.in_ok-body.body) (then (opened refl c.in_ok-at.ensures.opened) (behind a_name number_name _ _ _ _ _ (plain kinds.Assign _ refl refl)
-      c.name.result _ c.in_ok-variable.ensures.followed (at_depth a_name number_name _ _ _ _ c.name.ensures.read) (behind an_expr number_expr _ _ _ _ _
-      (plain kinds.To _ refl refl) c.expr.result _ c.in_ok-from.ensures.followed c.expr.ensures.read (behind an_expr number_expr _ _ _ _ _ (plain
-      kinds.Do _ refl refl) c.expr-2.result _ c.in_ok-to.ensures.followed c.expr-2.ensures.read (ended_behind some_stmts number_stmts _ _ _ _ _ _
-      (matching kinds.End refl refl c.in_ok-at.ensures.opened) c.stmts.result c.followed_by-4.result c.followed_by-4.ensures.followed
-      c.stmts.ensures.read (Ok _) c.in_ok-body.ensures.numbered)))));
-}
+statement::some_stmt-returns t c = record { read = whole (λ v ks. some_stmts v.0 (kinds.End ∷ ks)) (λ v. number_stmts v.0 >> token >> node v.1) a_stmt number_stmt (and_then (loop_front refl c.in_ok-variable.ensures.begins) (and_then (part_and an_expr number_expr kinds.To _ _ _ _ _ (plain kinds.To _ refl refl) c.expr.result _ c.in_ok-from.ensures.followed c.expr.ensures.read) (part_and an_expr number_expr kinds.Do _ _ _ _ _ (plain kinds.Do _ refl refl) c.expr-2.result _ c.in_ok-to.ensures.followed c.expr-2.ensures.read))) _ _ _ (λ v. ap spell_stmt (rows.some_laid v.1 c.in_ok-variable.variable c.in_ok-from.from c.in_ok-to.to v.0)) (λ v. numbers.some_laid v.1 c.in_ok-variable.variable c.in_ok-from.from c.in_ok-to.to v.0) c.numbered.result _ c.some_of.ensures.made (ended_behind some_stmts number_stmts _ _ _ _ _ _ (matching kinds.End refl refl c.in_ok-variable.ensures.begins.opens_first) c.stmts.result c.followed_by-body.result c.followed_by-body.ensures.followed c.stmts.ensures.read c.numbered.result c.numbered.ensures.numbered) }
 
 pub statement::some_stmt-expr-requires : goal.statement::some_stmt-expr-requires
-statement::some_stmt-expr-requires t c = (
-  omega (
-    arith,
-    c.in_ok-at.ensures.opened.passes.shorter,
-    fewer a_name number_name _ _ _ _ _ c.name.result _
-        c.in_ok-variable.ensures.followed (at_depth a_name number_name _ 0 _ _ c.name.ensures.read),
-  ),
-  tt,
-)
+statement::some_stmt-expr-requires t c = (omega (arith, loop_fewer c.in_ok-variable.ensures.begins), tt)
 
 pub statement::some_stmt-expr-requires-2 : goal.statement::some_stmt-expr-requires-2
-statement::some_stmt-expr-requires-2 t c = (
-  omega (
-    arith,
-    c.in_ok-at.ensures.opened.passes.shorter,
-    fewer a_name number_name _ _ _ _ _ c.name.result _
-        c.in_ok-variable.ensures.followed (at_depth a_name number_name _ 0 _ _ c.name.ensures.read),
-    fewer an_expr number_expr _ _ _ _ _ c.expr.result _
-        c.in_ok-from.ensures.followed c.expr.ensures.read,
-  ),
-  tt,
-)
+statement::some_stmt-expr-requires-2 t c = (omega (arith, loop_fewer c.in_ok-variable.ensures.begins, fewer an_expr number_expr _ _ _ _ _ c.expr.result _ c.in_ok-from.ensures.followed c.expr.ensures.read), tt)
 
 pub statement::some_stmt-stmts-requires : goal.statement::some_stmt-stmts-requires
-statement::some_stmt-stmts-requires t c = (
-  omega (
-    arith,
-    c.in_ok-at.ensures.opened.passes.shorter,
-    fewer a_name number_name _ _ _ _ _ c.name.result _
-        c.in_ok-variable.ensures.followed (at_depth a_name number_name _ 0 _ _ c.name.ensures.read),
-    fewer an_expr number_expr _ _ _ _ _ c.expr.result _
-        c.in_ok-from.ensures.followed c.expr.ensures.read,
-    fewer an_expr number_expr _ _ _ _ _ c.expr-2.result _ c.in_ok-to.ensures.followed
-        c.expr-2.ensures.read,
-  ),
-  tt,
-)
+statement::some_stmt-stmts-requires t c = (omega (arith, loop_fewer c.in_ok-variable.ensures.begins, fewer an_expr number_expr _ _ _ _ _ c.expr.result _ c.in_ok-from.ensures.followed c.expr.ensures.read, fewer an_expr number_expr _ _ _ _ _ c.expr-2.result _ c.in_ok-to.ensures.followed c.expr-2.ensures.read), tt)
+
+pub statement::some_stmt-loop_head-requires : goal.statement::some_stmt-loop_head-requires
+statement::some_stmt-loop_head-requires t c = record { opening = refl }
 
 pub statement::case_stmt-returns-in_err-at : goal.statement::case_stmt-returns-in_err-at
 statement::case_stmt-returns-in_err-at t c = record { read = stopped _ _ _ _ c.from_residual.ensures.1 (first c.in_err-at.ensures.opened) }
@@ -593,17 +380,8 @@ statement::case_stmt-returns-in_err-more t c = record {
       c.in_ok-value.ensures.followed c.expr.ensures.read) (after (in_box an_arm number_arm _ _ _ _ c.arm.result (Ok _) c.in_ok-first.ensures.boxed c.arm.ensures.read) (first c.in_err-more.ensures.read))));
 }
 
-pub statement::case_stmt-returns-in_err-otherwise : goal.statement::case_stmt-returns-in_err-otherwise
-statement::case_stmt-returns-in_err-otherwise t c = record {
-  read = stopped _ _ _ _ c.from_residual-in_err-otherwise.ensures.1 (after (opened refl
-      c.in_ok-at.ensures.opened) (after (followed an_expr number_expr _ _ _ _ _ (plain kinds.Of _ refl refl) c.expr.result (Ok _)
-      c.in_ok-value.ensures.followed c.expr.ensures.read) (after (in_box an_arm number_arm _ _ _ _ c.arm.result (Ok _) c.in_ok-first.ensures.boxed c.arm.ensures.read) (after c.in_ok-more.ensures.read (ended_behind (λ v.
-      spell_else (else_of v)) numbers_of_else _ _ _ _ _ _ (matching kinds.End refl refl c.in_ok-at.ensures.opened) c.otherwise.result
-      c.followed_by-2.result c.followed_by-2.ensures.followed c.otherwise.ensures.read (Err _) c.in_err-otherwise.ensures.numbered)))));
-}
-
 pub statement::case_stmt-returns : goal.statement::case_stmt-returns
-statement::case_stmt-returns t c = record { read = same (ap spell_stmt (rows.case_laid c.in_ok-otherwise.node c.in_ok-value.value c.in_ok-first.first c.in_ok-more.more c.in_ok-otherwise.otherwise)) (numbers.case_laid c.in_ok-otherwise.node c.in_ok-value.value c.in_ok-first.first c.in_ok-more.more c.in_ok-otherwise.otherwise) (then (opened refl c.in_ok-at.ensures.opened) (behind an_expr number_expr _ _ _ _ _ (plain kinds.Of _ refl refl) c.expr.result _ c.in_ok-value.ensures.followed c.expr.ensures.read (then (in_box an_arm number_arm _ _ _ _ c.arm.result (Ok _) c.in_ok-first.ensures.boxed c.arm.ensures.read) (then c.in_ok-more.ensures.read (ended_behind (λ v. spell_else (else_of v)) numbers_of_else _ _ _ _ _ _ (matching kinds.End refl refl c.in_ok-at.ensures.opened) c.otherwise.result c.followed_by-2.result c.followed_by-2.ensures.followed c.otherwise.ensures.read (Ok _) c.in_ok-otherwise.ensures.numbered))))) }
+statement::case_stmt-returns t c = record { read = whole (λ v ks. spell_else (else_of v.0) (kinds.End ∷ ks)) (λ v. numbers_of_else v.0 >> token >> node v.1) a_stmt number_stmt (and_then (part (opened refl c.in_ok-at.ensures.opened)) (and_then (part_and an_expr number_expr kinds.Of _ _ _ _ _ (plain kinds.Of _ refl refl) c.expr.result _ c.in_ok-value.ensures.followed c.expr.ensures.read) (and_then (part (in_box an_arm number_arm _ _ _ _ c.arm.result (Ok _) c.in_ok-first.ensures.boxed c.arm.ensures.read)) (part c.in_ok-more.ensures.read)))) _ _ _ (λ v. ap spell_stmt (rows.case_laid v.1 c.in_ok-value.value c.in_ok-first.first c.in_ok-more.more v.0)) (λ v. numbers.case_laid v.1 c.in_ok-value.value c.in_ok-first.first c.in_ok-more.more v.0) c.numbered.result _ c.case_of.ensures.made (ended_behind (λ v. spell_else (else_of v)) numbers_of_else _ _ _ _ _ _ (matching kinds.End refl refl c.in_ok-at.ensures.opened) c.otherwise.result c.followed_by-otherwise.result c.followed_by-otherwise.ensures.followed c.otherwise.ensures.read c.numbered.result c.numbered.ensures.numbered) }
 
 pub statement::case_stmt-arm-requires : goal.statement::case_stmt-arm-requires
 statement::case_stmt-arm-requires t c = (
@@ -651,22 +429,8 @@ statement::labelled_arm-returns-in_err-more t c = record {
       c.in_err-more.ensures.followed c.label_list.ensures.read)));
 }
 
-pub statement::labelled_arm-returns-in_err-body : goal.statement::labelled_arm-returns-in_err-body
-statement::labelled_arm-returns-in_err-body t c = record {
-  read = stopped _ _ _ _ c.from_residual-in_err-body.ensures.1 (after
-      c.in_ok-first.ensures.read (after (followed more_labels count_labels _ _ _ _ _ (plain kinds.Colon _ refl refl) c.label_list.result (Ok _)
-      c.in_ok-more.ensures.followed c.label_list.ensures.read) (ended some_stmts number_stmts _ _ _ _ c.stmts.result (Err _)
-      c.in_err-body.ensures.numbered c.stmts.ensures.read)));
-}
-
 pub statement::labelled_arm-returns : goal.statement::labelled_arm-returns
-statement::labelled_arm-returns t c = record {
-  read = same (ap spell_arm (rows.labelled_laid c.in_ok-body.node c.in_ok-first.first c.in_ok-more.more
-      c.in_ok-body.body)) (numbers.labelled_laid c.in_ok-body.node c.in_ok-first.first c.in_ok-more.more c.in_ok-body.body) (then
-      c.in_ok-first.ensures.read (behind more_labels count_labels _ _ _ _ _ (plain kinds.Colon _ refl refl) c.label_list.result _
-      c.in_ok-more.ensures.followed c.label_list.ensures.read (ended some_stmts number_stmts _ _ _ _ c.stmts.result (Ok _) c.in_ok-body.ensures.numbered
-      c.stmts.ensures.read)));
-}
+statement::labelled_arm-returns t c = record { read = whole (λ v. some_stmts v.0) (λ v. number_stmts v.0 >> node v.1) an_arm number_arm (and_then (part c.in_ok-first.ensures.read) (part_and more_labels count_labels kinds.Colon _ _ _ _ _ (plain kinds.Colon _ refl refl) c.label_list.result _ c.in_ok-more.ensures.followed c.label_list.ensures.read)) _ _ _ (λ v. ap spell_arm (rows.labelled_laid v.1 c.in_ok-first.first c.in_ok-more.more v.0)) (λ v. numbers.labelled_laid v.1 c.in_ok-first.first c.in_ok-more.more v.0) c.numbered.result _ c.labelled_of.ensures.made (ended some_stmts number_stmts _ _ _ _ c.stmts.result c.numbered.result c.numbered.ensures.numbered c.stmts.ensures.read) }
 
 pub statement::labelled_arm-stmts-requires : goal.statement::labelled_arm-stmts-requires
 statement::labelled_arm-stmts-requires t c = (
@@ -682,23 +446,8 @@ statement::labelled_arm-stmts-requires t c = (
 pub statement::label-returns-in_err-low : goal.statement::label-returns-in_err-low
 statement::label-returns-in_err-low t c = record { read = stopped _ _ _ _ c.from_residual.ensures.1 (first c.in_err-low.ensures.read) }
 
-pub statement::label-returns-in_err-high : goal.statement::label-returns-in_err-high
-statement::label-returns-in_err-high t c = record {
-  read = stopped _ _ _ _ c.from_residual-in_err-high.ensures.1 (after c.in_ok-low.ensures.read
-      (ended (λ v. spell_high (high_of v)) numbers_of_high _ _ _ _ c.high.result (Err _) c.in_err-high.ensures.numbered c.high.ensures.read));
-}
-
 pub statement::label-returns : goal.statement::label-returns
-statement::label-returns t c = record {
-  read = same (ap spell_label (rows.label_rolled (record {
-    node = c.in_ok-high.node;
-    low = c.in_ok-low.low;
-    high
-        = c.in_ok-high.high;
-  }))) (numbers.label_rolled (record { node = c.in_ok-high.node; low = c.in_ok-low.low; high = c.in_ok-high.high })) (then
-      c.in_ok-low.ensures.read (ended (λ v. spell_high (high_of v)) numbers_of_high _ _ _ _ c.high.result (Ok _) c.in_ok-high.ensures.numbered
-      c.high.ensures.read));
-}
+statement::label-returns t c = record { read = whole (λ v. spell_high (high_of v.0)) (λ v. numbers_of_high v.0 >> node v.1) (λ v. spell_label (view_label v)) number_label (part c.in_ok-low.ensures.read) _ _ _ (λ v. ap spell_label (rows.label_rolled (record { node = v.1; low = c.in_ok-low.low; high = v.0 }))) (λ v. numbers.label_rolled (record { node = v.1; low = c.in_ok-low.low; high = v.0 })) c.numbered.result _ c.label_of.ensures.made (ended (λ v. spell_high (high_of v)) numbers_of_high _ _ _ _ c.high.result c.numbered.result c.numbered.ensures.numbered c.high.ensures.read) }
 
 pub statement::either_stmt-returns-in_err-at : goal.statement::either_stmt-returns-in_err-at
 statement::either_stmt-returns-in_err-at t c = record { read = stopped _ _ _ _ c.from_residual.ensures.1 (first c.in_err-at.ensures.opened) }
@@ -709,21 +458,8 @@ statement::either_stmt-returns-in_err-first t c = record {
       c.in_ok-at.ensures.opened) (first c.in_err-first.ensures.read));
 }
 
-pub statement::either_stmt-returns-in_err-more : goal.statement::either_stmt-returns-in_err-more
-statement::either_stmt-returns-in_err-more t c = record {
-  read = stopped _ _ _ _ c.from_residual-in_err-more.ensures.1 (after (opened refl
-      c.in_ok-at.ensures.opened) (after c.in_ok-first.ensures.read (ended_behind more_orelses count_orelses _ _ _ _ _ _ (matching kinds.End refl refl
-      c.in_ok-at.ensures.opened) c.orelse_list.result c.followed_by.result c.followed_by.ensures.followed c.orelse_list.ensures.read (Err _)
-      c.in_err-more.ensures.numbered)));
-}
-
 pub statement::either_stmt-returns : goal.statement::either_stmt-returns
-statement::either_stmt-returns t c = record {
-  read = same (ap spell_stmt (rows.either_laid c.in_ok-more.node c.in_ok-first.first c.in_ok-more.more))
-      (numbers.either_laid c.in_ok-more.node c.in_ok-first.first c.in_ok-more.more) (then (opened refl c.in_ok-at.ensures.opened) (then
-      c.in_ok-first.ensures.read (ended_behind more_orelses count_orelses _ _ _ _ _ _ (matching kinds.End refl refl c.in_ok-at.ensures.opened)
-      c.orelse_list.result c.followed_by.result c.followed_by.ensures.followed c.orelse_list.ensures.read (Ok _) c.in_ok-more.ensures.numbered)));
-}
+statement::either_stmt-returns t c = record { read = whole (λ v ks. more_orelses v.0 (kinds.End ∷ ks)) (λ v. count_orelses v.0 >> token >> node v.1) a_stmt number_stmt (and_then (part (opened refl c.in_ok-at.ensures.opened)) (part c.in_ok-first.ensures.read)) _ _ _ (λ v. ap spell_stmt (rows.either_laid v.1 c.in_ok-first.first v.0)) (λ v. numbers.either_laid v.1 c.in_ok-first.first v.0) c.numbered.result _ c.either_of.ensures.made (ended_behind more_orelses count_orelses _ _ _ _ _ _ (matching kinds.End refl refl c.in_ok-at.ensures.opened) c.orelse_list.result c.followed_by-more.result c.followed_by-more.ensures.followed c.orelse_list.ensures.read c.numbered.result c.numbered.ensures.numbered) }
 
 pub statement::forall_stmt-returns-in_err-at : goal.statement::forall_stmt-returns-in_err-at
 statement::forall_stmt-returns-in_err-at t c = record { read = stopped _ _ _ _ c.from_residual.ensures.1 (first c.in_err-at.ensures.opened) }
@@ -735,23 +471,8 @@ statement::forall_stmt-returns-in_err-choice t c = record {
       c.in_err-choice.ensures.followed c.stmts.ensures.read)));
 }
 
-pub statement::forall_stmt-returns-in_err-body : goal.statement::forall_stmt-returns-in_err-body
-statement::forall_stmt-returns-in_err-body t c = record {
-  read = stopped _ _ _ _ c.from_residual-in_err-body.ensures.1 (after (opened refl
-      c.in_ok-at.ensures.opened) (after (followed some_stmts number_stmts _ _ _ _ _ (plain kinds.Do _ refl refl) c.stmts.result (Ok _)
-      c.in_ok-choice.ensures.followed c.stmts.ensures.read) (ended_behind some_stmts number_stmts _ _ _ _ _ _ (matching kinds.End refl refl
-      c.in_ok-at.ensures.opened) c.stmts-2.result c.followed_by-2.result c.followed_by-2.ensures.followed c.stmts-2.ensures.read (Err _)
-      c.in_err-body.ensures.numbered)));
-}
-
 pub statement::forall_stmt-returns : goal.statement::forall_stmt-returns
-statement::forall_stmt-returns t c = record {
-  read = same (ap spell_stmt (rows.forall_laid c.in_ok-body.node c.in_ok-choice.choice c.in_ok-body.body))
-      (numbers.forall_laid c.in_ok-body.node c.in_ok-choice.choice c.in_ok-body.body) (then (opened refl c.in_ok-at.ensures.opened) (behind some_stmts
-      number_stmts _ _ _ _ _ (plain kinds.Do _ refl refl) c.stmts.result _ c.in_ok-choice.ensures.followed c.stmts.ensures.read (ended_behind some_stmts
-      number_stmts _ _ _ _ _ _ (matching kinds.End refl refl c.in_ok-at.ensures.opened) c.stmts-2.result c.followed_by-2.result
-      c.followed_by-2.ensures.followed c.stmts-2.ensures.read (Ok _) c.in_ok-body.ensures.numbered)));
-}
+statement::forall_stmt-returns t c = record { read = whole (λ v ks. some_stmts v.0 (kinds.End ∷ ks)) (λ v. number_stmts v.0 >> token >> node v.1) a_stmt number_stmt (and_then (part (opened refl c.in_ok-at.ensures.opened)) (part_and some_stmts number_stmts kinds.Do _ _ _ _ _ (plain kinds.Do _ refl refl) c.stmts.result _ c.in_ok-choice.ensures.followed c.stmts.ensures.read)) _ _ _ (λ v. ap spell_stmt (rows.forall_laid v.1 c.in_ok-choice.choice v.0)) (λ v. numbers.forall_laid v.1 c.in_ok-choice.choice v.0) c.numbered.result _ c.forall_of.ensures.made (ended_behind some_stmts number_stmts _ _ _ _ _ _ (matching kinds.End refl refl c.in_ok-at.ensures.opened) c.stmts-2.result c.followed_by-body.result c.followed_by-body.ensures.followed c.stmts-2.ensures.read c.numbered.result c.numbered.ensures.numbered) }
 
 pub statement::forall_stmt-stmts-requires-2 : goal.statement::forall_stmt-stmts-requires-2
 statement::forall_stmt-stmts-requires-2 t c = (
@@ -767,93 +488,44 @@ statement::forall_stmt-stmts-requires-2 t c = (
 pub statement::commit_stmt-returns-in_err-at : goal.statement::commit_stmt-returns-in_err-at
 statement::commit_stmt-returns-in_err-at t c = record { read = stopped _ _ _ _ c.from_residual.ensures.1 (first c.in_err-at.ensures.opened) }
 
-pub statement::commit_stmt-returns-in_err-body : goal.statement::commit_stmt-returns-in_err-body
-statement::commit_stmt-returns-in_err-body t c = record {
-  read = stopped _ _ _ _ c.from_residual-in_err-body.ensures.1 (after (opened refl
-      c.in_ok-at.ensures.opened) (ended_behind some_stmts number_stmts _ _ _ _ _ _ (matching kinds.End refl refl c.in_ok-at.ensures.opened)
-      c.stmts.result c.followed_by.result c.followed_by.ensures.followed c.stmts.ensures.read (Err _) c.in_err-body.ensures.numbered));
-}
-
 pub statement::commit_stmt-returns : goal.statement::commit_stmt-returns
-statement::commit_stmt-returns t c = record {
-  read = same (ap spell_stmt (rows.commit_laid c.in_ok-body.node c.in_ok-body.body)) (numbers.commit_laid
-      c.in_ok-body.node c.in_ok-body.body) (then (opened refl c.in_ok-at.ensures.opened) (ended_behind some_stmts number_stmts _ _ _ _ _ _ (matching
-      kinds.End refl refl c.in_ok-at.ensures.opened) c.stmts.result c.followed_by.result c.followed_by.ensures.followed c.stmts.ensures.read (Ok _)
-      c.in_ok-body.ensures.numbered));
-}
+statement::commit_stmt-returns t c = record { read = whole (λ v ks. some_stmts v.0 (kinds.End ∷ ks)) (λ v. number_stmts v.0 >> token >> node v.1) a_stmt number_stmt (part (opened refl c.in_ok-at.ensures.opened)) _ _ _ (λ v. ap spell_stmt (rows.commit_laid v.1 v.0)) (λ v. numbers.commit_laid v.1 v.0) c.numbered.result _ c.commit_of.ensures.made (ended_behind some_stmts number_stmts _ _ _ _ _ _ (matching kinds.End refl refl c.in_ok-at.ensures.opened) c.stmts.result c.followed_by.result c.followed_by.ensures.followed c.stmts.ensures.read c.numbered.result c.numbered.ensures.numbered) }
 
 pub statement::return_stmt-returns-in_err-at : goal.statement::return_stmt-returns-in_err-at
 statement::return_stmt-returns-in_err-at t c = record { read = stopped _ _ _ _ c.from_residual.ensures.1 (first (c.in_err-at.ensures.passes _)) }
 
-pub statement::return_stmt-returns-in_err-value : goal.statement::return_stmt-returns-in_err-value
-statement::return_stmt-returns-in_err-value t c = record {
-  read = stopped _ _ _ _ c.from_residual-in_err-value.ensures.1 (after (passed refl refl
-      c.in_ok-at.ensures.passes) (ended (λ v. spell_returned (returned_of v)) numbers_of_returned _ _ _ _ c.returned.result (Err _)
-      c.in_err-value.ensures.numbered c.returned.ensures.read));
-}
-
 pub statement::return_stmt-returns : goal.statement::return_stmt-returns
-statement::return_stmt-returns t c = record {
-  read = same (ap spell_stmt (rows.return_laid c.in_ok-value.node c.in_ok-value.value))
-      (numbers.return_laid c.in_ok-value.node c.in_ok-value.value) (then (passed refl refl c.in_ok-at.ensures.passes) (ended (λ v. spell_returned
-      (returned_of v)) numbers_of_returned _ _ _ _ c.returned.result (Ok _) c.in_ok-value.ensures.numbered c.returned.ensures.read));
-}
+statement::return_stmt-returns t c = record { read = whole (λ v. spell_returned (returned_of v.0)) (λ v. numbers_of_returned v.0 >> node v.1) a_stmt number_stmt (part (passed refl refl c.in_ok-at.ensures.passes)) _ _ _ (λ v. ap spell_stmt (rows.return_laid v.1 v.0)) (λ v. numbers.return_laid v.1 v.0) c.numbered.result _ c.return_of.ensures.made (ended (λ v. spell_returned (returned_of v)) numbers_of_returned _ _ _ _ c.returned.result c.numbered.result c.numbered.ensures.numbered c.returned.ensures.read) }
 
 pub statement::read_stmt-returns-in_err-at : goal.statement::read_stmt-returns-in_err-at
-statement::read_stmt-returns-in_err-at t c = record { read = stopped _ _ _ _ c.from_residual.ensures.1 (first (c.in_err-at.ensures.passes _)) }
-
-pub statement::read_stmt-returns-in_err-at-2 : goal.statement::read_stmt-returns-in_err-at-2
-statement::read_stmt-returns-in_err-at-2 t c = record {
-  read = stopped _ _ _ _ c.from_residual-in_err-at-2.ensures.1 (after (passed refl refl
-      c.in_ok-at.ensures.passes) (first c.in_err-at-2.ensures.opened));
-}
+statement::read_stmt-returns-in_err-at t c = record { read = stopped _ _ _ _ c.from_residual.ensures.1 (first c.in_err-at.ensures.opened) }
 
 pub statement::read_stmt-returns-in_err-first : goal.statement::read_stmt-returns-in_err-first
-statement::read_stmt-returns-in_err-first t c = record {
-  read = stopped _ _ _ _ c.from_residual-in_err-first.ensures.1 (after (passed refl refl
-      c.in_ok-at.ensures.passes) (after (opened refl c.in_ok-at-2.ensures.opened) (first c.in_err-first.ensures.read)));
-}
-
-pub statement::read_stmt-returns-in_err-more : goal.statement::read_stmt-returns-in_err-more
-statement::read_stmt-returns-in_err-more t c = record {
-  read = stopped _ _ _ _ c.from_residual-in_err-more.ensures.1 (after (passed refl refl
-      c.in_ok-at.ensures.passes) (after (opened refl c.in_ok-at-2.ensures.opened) (after c.in_ok-first.ensures.read (ended_behind more_desigs
-      count_desigs _ _ _ _ _ _ (matching kinds.CloseParen refl refl c.in_ok-at-2.ensures.opened) c.desig_list.result c.followed_by.result
-      c.followed_by.ensures.followed c.desig_list.ensures.read (Err _) c.in_err-more.ensures.numbered))));
-}
+statement::read_stmt-returns-in_err-first t c = record { read = stopped _ _ _ _ c.from_residual-in_err-first.ensures.1 ((and_then (part (passed refl refl c.in_ok-at.ensures.opened.passes)) (part (opened refl c.in_ok-at.ensures.opened.opens_behind))).fails _ _ (first c.in_err-first.ensures.read)) }
 
 pub statement::read_stmt-returns : goal.statement::read_stmt-returns
-statement::read_stmt-returns t c = record {
-  read = same (ap spell_stmt (rows.read_laid c.in_ok-more.node c.in_ok-first.first c.in_ok-more.more))
-      (numbers.read_laid c.in_ok-more.node c.in_ok-first.first c.in_ok-more.more) (then (passed refl refl c.in_ok-at.ensures.passes) (then (opened refl
-      c.in_ok-at-2.ensures.opened) (then c.in_ok-first.ensures.read (ended_behind more_desigs count_desigs _ _ _ _ _ _ (matching kinds.CloseParen refl
-      refl c.in_ok-at-2.ensures.opened) c.desig_list.result c.followed_by.result c.followed_by.ensures.followed c.desig_list.ensures.read (Ok _)
-      c.in_ok-more.ensures.numbered))));
-}
+statement::read_stmt-returns t c = record { read = whole (λ v ks. more_desigs v.0 (kinds.CloseParen ∷ ks)) (λ v. count_desigs v.0 >> token >> node v.1) a_stmt number_stmt (and_then (part (passed refl refl c.in_ok-at.ensures.opened.passes)) (and_then (part (opened refl c.in_ok-at.ensures.opened.opens_behind)) (part c.in_ok-first.ensures.read))) _ _ _ (λ v. ap spell_stmt (rows.read_laid v.1 c.in_ok-first.first v.0)) (λ v. numbers.read_laid v.1 c.in_ok-first.first v.0) c.numbered.result _ c.read_of.ensures.made (ended_behind more_desigs count_desigs _ _ _ _ _ _ (matching kinds.CloseParen refl refl c.in_ok-at.ensures.opened.opens_behind) c.desig_list.result c.followed_by-more.result c.followed_by-more.ensures.followed c.desig_list.ensures.read c.numbered.result c.numbered.ensures.numbered) }
+
+pub statement::read_stmt-open_after-requires : goal.statement::read_stmt-open_after-requires
+statement::read_stmt-open_after-requires t c = record { plain = refl; still = refl; opening = refl }
+
+pub statement::read_stmt-desig-requires : goal.statement::read_stmt-desig-requires
+statement::read_stmt-desig-requires t c = (omega (arith, c.in_ok-at.ensures.opened.passes.shorter, c.in_ok-at.ensures.opened.opens_behind.passes.shorter), tt)
+
+pub statement::read_stmt-desig_list-requires : goal.statement::read_stmt-desig_list-requires
+statement::read_stmt-desig_list-requires t c = (omega (arith, c.in_ok-at.ensures.opened.passes.shorter, c.in_ok-at.ensures.opened.opens_behind.passes.shorter, c.in_ok-first.ensures.read.shorter), tt)
 
 pub statement::write_stmt-returns-in_err-at : goal.statement::write_stmt-returns-in_err-at
-statement::write_stmt-returns-in_err-at t c = record { read = stopped _ _ _ _ c.from_residual.ensures.1 (first (c.in_err-at.ensures.passes _)) }
-
-pub statement::write_stmt-returns-in_err-at-2 : goal.statement::write_stmt-returns-in_err-at-2
-statement::write_stmt-returns-in_err-at-2 t c = record {
-  read = stopped _ _ _ _ c.from_residual-in_err-at-2.ensures.1 (after (passed refl refl
-      c.in_ok-at.ensures.passes) (first c.in_err-at-2.ensures.opened));
-}
-
-pub statement::write_stmt-returns-in_err-items : goal.statement::write_stmt-returns-in_err-items
-statement::write_stmt-returns-in_err-items t c = record {
-  read = stopped _ _ _ _ c.from_residual-in_err-items.ensures.1 (after (passed refl refl
-      c.in_ok-at.ensures.passes) (after (opened refl c.in_ok-at-2.ensures.opened) (ended_behind some_exprs number_exprs _ _ _ _ _ _ (matching
-      kinds.CloseParen refl refl c.in_ok-at-2.ensures.opened) c.exprs.result c.followed_by.result c.followed_by.ensures.followed c.exprs.ensures.read
-      (Err _) c.in_err-items.ensures.numbered)));
-}
+statement::write_stmt-returns-in_err-at t c = record { read = stopped _ _ _ _ c.from_residual.ensures.1 (first c.in_err-at.ensures.opened) }
 
 pub statement::write_stmt-returns : goal.statement::write_stmt-returns
-statement::write_stmt-returns t c = record {
-  read = (then (passed refl refl c.in_ok-at.ensures.passes) (then (opened refl c.in_ok-at-2.ensures.opened)
-      (ended_behind some_exprs number_exprs _ _ _ _ _ _ (matching kinds.CloseParen refl refl c.in_ok-at-2.ensures.opened) c.exprs.result
-      c.followed_by.result c.followed_by.ensures.followed c.exprs.ensures.read (Ok _) c.in_ok-items.ensures.numbered)));
-}
+statement::write_stmt-returns t c = record { read = whole (λ v ks. some_exprs v.0 (kinds.CloseParen ∷ ks)) (λ v. number_exprs v.0 >> token >> node v.1) a_stmt number_stmt (and_then (part (passed refl refl c.in_ok-at.ensures.opened.passes)) (part (opened refl c.in_ok-at.ensures.opened.opens_behind))) _ _ (λ v. dt.Write v.1 v.0) (λ v. refl) (λ v. refl) c.numbered.result _ c.write_of.ensures.made (ended_behind some_exprs number_exprs _ _ _ _ _ _ (matching kinds.CloseParen refl refl c.in_ok-at.ensures.opened.opens_behind) c.exprs.result c.followed_by-items.result c.followed_by-items.ensures.followed c.exprs.ensures.read c.numbered.result c.numbered.ensures.numbered) }
+
+pub statement::write_stmt-open_after-requires : goal.statement::write_stmt-open_after-requires
+statement::write_stmt-open_after-requires t c = record { plain = refl; still = refl; opening = refl }
+
+pub statement::write_stmt-exprs-requires : goal.statement::write_stmt-exprs-requires
+statement::write_stmt-exprs-requires t c = (omega (arith, c.in_ok-at.ensures.opened.passes.shorter, c.in_ok-at.ensures.opened.opens_behind.passes.shorter), tt)
 
 pub expression::expr-returns-in_err-left : goal.expression::expr-returns-in_err-left
 expression::expr-returns-in_err-left t c = record { read = stopped _ _ _ _ c.from_residual.ensures.1 (first c.in_err-left.ensures.read) }
@@ -1012,39 +684,20 @@ expression::args-open-requires t c = record { opening = refl }
 pub statement::writeln_stmt-returns-in_err-at : goal.statement::writeln_stmt-returns-in_err-at
 statement::writeln_stmt-returns-in_err-at t c = record { read = stopped _ _ _ _ c.from_residual.ensures.1 (first (c.in_err-at.ensures.passes _)) }
 
-pub statement::writeln_stmt-returns-in_err-items : goal.statement::writeln_stmt-returns-in_err-items
-statement::writeln_stmt-returns-in_err-items t c = record {
-  read = stopped _ _ _ _ c.from_residual-in_err-items.ensures.1 (after (passed refl refl
-      c.in_ok-at.ensures.passes) (first c.in_err-items.ensures.read));
-}
-
-pub statement::writeln_stmt-returns-in_err-node : goal.statement::writeln_stmt-returns-in_err-node
-statement::writeln_stmt-returns-in_err-node t c = record {
-  read = stopped _ _ _ _ c.from_residual-in_err-node.ensures.1 (want
-      c.in_err-node.ensures.counted);
-}
-
 pub statement::writeln_stmt-returns : goal.statement::writeln_stmt-returns
-statement::writeln_stmt-returns t c = record {
-  read = same (ap spell_stmt (rows.writeln_laid c.in_ok-node.node c.in_ok-items.items))
-      (numbers.writeln_laid c.in_ok-node.node c.in_ok-items.items) (then (passed refl refl c.in_ok-at.ensures.passes) (then c.in_ok-items.ensures.read
-      (counted c.in_ok-node.ensures.counted)));
-}
+statement::writeln_stmt-returns t c = record { read = whole (λ v. spell_args (args_of v.0)) (λ v. numbers_of_args v.0 >> node v.1) a_stmt number_stmt (part (passed refl refl c.in_ok-at.ensures.passes)) _ _ _ (λ v. ap spell_stmt (rows.writeln_laid v.1 v.0)) (λ v. numbers.writeln_laid v.1 v.0) c.numbered.result _ c.writeln_of.ensures.made (ended (λ v. spell_args (args_of v)) numbers_of_args _ _ _ _ c.args-2.result c.numbered.result c.numbered.ensures.numbered c.args-2.ensures.read) }
 
 pub statement::desig_list-loop-after-init : goal.statement::desig_list-loop-after-init
 statement::desig_list-loop-after-init t c = rw c.new-more.ensures.items loops.loops_start
 
 pub statement::desig_list-loop-after-preserved : goal.statement::desig_list-loop-after-preserved
-statement::desig_list-loop-after-preserved t c = rw c.in_ok-push.ensures.items (grown lists.desigs c.loop-after.invariant (heads.begins_desigs c.in-Some.ensures.passes) (then (passed refl refl c.in-Some.ensures.passes) c.in_ok-next.ensures.read))
-
-pub statement::desig_list-returns-in_err-next : goal.statement::desig_list-returns-in_err-next
-statement::desig_list-returns-in_err-next t c = record {
-  read = stopped _ _ _ _ c.from_residual.ensures.1 (loops.broken c.loop-after.invariant
-      (heads.begins_desigs c.in-Some.ensures.passes) (after (passed refl refl c.in-Some.ensures.passes) c.in_err-next.ensures.read));
-}
+statement::desig_list-loop-after-preserved t c = one_more lists.desigs (λ o. one kinds.Comma ∷ desig_parts o) _ _ c.loop-after.invariant (heads.begins_desigs c.in-Some.ensures.passes) c.desig.result _ c.in_ok-at.ensures.pushed (both a_desig number_desig (part (passed refl refl c.in-Some.ensures.passes)) _ _ c.desig.result c.desig.ensures.read)
 
 pub statement::desig_list-returns : goal.statement::desig_list-returns
 statement::desig_list-returns t c = record { read = loops.ended c.loop-after.invariant (heads.skips_desigs _ c.in_default.ensures.passes) }
+
+pub statement::desig_list-returns-in_err-at : goal.statement::desig_list-returns-in_err-at
+statement::desig_list-returns-in_err-at t c = record { read = stopped _ _ _ _ c.from_residual.ensures.1 (no_more lists.desigs (λ o. one kinds.Comma ∷ desig_parts o) _ _ c.loop-after.invariant (heads.begins_desigs c.in-Some.ensures.passes) c.desig.result _ c.in_err-at.ensures.pushed (both a_desig number_desig (part (passed refl refl c.in-Some.ensures.passes)) _ _ c.desig.result c.desig.ensures.read)) }
 
 pub expression::selectors-loop-form-init : goal.expression::selectors-loop-form-init
 expression::selectors-loop-form-init t c = rw c.new-more.ensures.items loops.loops_start
@@ -1059,17 +712,8 @@ expression::selector-returns-in-Field-clause-read t c = rw c.in-Field.is (instea
 pub expression::selector-returns-in-Index-clause-read : goal.expression::selector-returns-in-Index-clause-read
 expression::selector-returns-in-Index-clause-read t c = rw c.in-Index.is c.index.ensures.read
 
-pub statement::returned-returns-in_err-value : goal.statement::returned-returns-in_err-value
-statement::returned-returns-in_err-value t c = record {
-  read = stopped _ _ _ _ c.from_residual.ensures.1 (becoming_fails (rw c.if-begins_expr.true at
-      c.begins_expr.ensures.value) (first c.in_err-value.ensures.read));
-}
-
 pub statement::returned-returns-then-begins_expr : goal.statement::returned-returns-then-begins_expr
-statement::returned-returns-then-begins_expr t c = record {
-  read = becoming (rw c.if-begins_expr.true at c.begins_expr.ensures.value)
-      c.in_ok-value.ensures.read;
-}
+statement::returned-returns-then-begins_expr t c = record { read = becoming_gives (λ v. spell_returned (returned_of v)) numbers_of_returned _ _ _ _ _ (rw c.if-begins_expr.true at c.begins_expr.ensures.value) c.present.result (made_gives an_expr number_expr (λ v. spell_returned (returned_of v)) numbers_of_returned _ _ _ _ (λ v. Some v) (λ v. refl) (λ v. refl) c.expr.result _ c.present.ensures.made c.expr.ensures.read) }
 
 pub statement::returned-returns : goal.statement::returned-returns
 statement::returned-returns t c = record { read = skipped (rw c.if-begins_expr.false at c.begins_expr.ensures.value) }
@@ -1080,26 +724,17 @@ expression::desig-selectors-requires t c = (omega (arith, ap length (c.in_ok-nam
 pub expression::index-open-requires : goal.expression::index-open-requires
 expression::index-open-requires t c = record { opening = refl }
 
-pub statement::read_stmt-open-requires : goal.statement::read_stmt-open-requires
-statement::read_stmt-open-requires t c = record { opening = refl }
-
-pub statement::write_stmt-open-requires : goal.statement::write_stmt-open-requires
-statement::write_stmt-open-requires t c = record { opening = refl }
-
 pub statement::stmt_list-loop-after-init : goal.statement::stmt_list-loop-after-init
 statement::stmt_list-loop-after-init t c = rw c.new-more.ensures.items loops.loops_start
 
 pub statement::stmt_list-loop-after-preserved : goal.statement::stmt_list-loop-after-preserved
-statement::stmt_list-loop-after-preserved t c = rw c.in_ok-push.ensures.items (grown lists.stmts c.loop-after.invariant (heads.begins_stmts c.in-Some.ensures.passes) (then (passed refl refl c.in-Some.ensures.passes) c.in_ok-next.ensures.read))
-
-pub statement::stmt_list-returns-in_err-next : goal.statement::stmt_list-returns-in_err-next
-statement::stmt_list-returns-in_err-next t c = record {
-  read = stopped _ _ _ _ c.from_residual.ensures.1 (loops.broken c.loop-after.invariant
-      (heads.begins_stmts c.in-Some.ensures.passes) (after (passed refl refl c.in-Some.ensures.passes) c.in_err-next.ensures.read));
-}
+statement::stmt_list-loop-after-preserved t c = one_more lists.stmts (λ o. one kinds.Semicolon ∷ stmt_part ∷ o) _ _ c.loop-after.invariant (heads.begins_stmts c.in-Some.ensures.passes) c.stmt.result _ c.in_ok-at.ensures.pushed (both a_stmt number_stmt (part (passed refl refl c.in-Some.ensures.passes)) _ _ c.stmt.result c.stmt.ensures.read)
 
 pub statement::stmt_list-returns : goal.statement::stmt_list-returns
 statement::stmt_list-returns t c = record { read = loops.ended c.loop-after.invariant (heads.skips_stmts _ c.in_default.ensures.passes) }
+
+pub statement::stmt_list-returns-in_err-at : goal.statement::stmt_list-returns-in_err-at
+statement::stmt_list-returns-in_err-at t c = record { read = stopped _ _ _ _ c.from_residual.ensures.1 (no_more lists.stmts (λ o. one kinds.Semicolon ∷ stmt_part ∷ o) _ _ c.loop-after.invariant (heads.begins_stmts c.in-Some.ensures.passes) c.stmt.result _ c.in_err-at.ensures.pushed (both a_stmt number_stmt (part (passed refl refl c.in-Some.ensures.passes)) _ _ c.stmt.result c.stmt.ensures.read)) }
 
 pub statement::stmt-returns-in-Nothing : goal.statement::stmt-returns-in-Nothing
 statement::stmt-returns-in-Nothing t c = record {
@@ -1208,104 +843,62 @@ statement::desig_stmt-returns-then-is_at t c = record {
       (sym c.is_at.ensures.starts ∙ c.if-is_at.true)) c.assign.ensures.read);
 }
 
-pub statement::desig_stmt-returns-in_err-value : goal.statement::desig_stmt-returns-in_err-value
-statement::desig_stmt-returns-in_err-value t c = record { read = stopped _ _ _ _ c.from_residual-in_err-value.ensures.1 (after c.in_ok-desig.ensures.read (becoming_fails (heads.no_assign _ (sym c.is_at.ensures.starts ∙ c.if-is_at.false)) (ended_extending an_expr number_expr _ _ _ _ _ c.desig_value.result (Err _) c.in_err-value.ensures.numbered c.desig_value.ensures.read))) }
-
 pub statement::desig_stmt-returns : goal.statement::desig_stmt-returns
-statement::desig_stmt-returns t c = record { read = extended_by (heads.no_assign _ (sym c.is_at.ensures.starts ∙ c.if-is_at.false)) c.in_ok-desig.ensures.read (ended_extending an_expr number_expr _ _ _ _ _ c.desig_value.result (Ok _) c.in_ok-value.ensures.numbered c.desig_value.ensures.read) }
+statement::desig_stmt-returns t c = record { read = made_gives (λ v. an_expr v.0) (λ v. number_expr v.0 >> node v.1) a_stmt number_stmt _ _ _ _ (λ v. dt.Value v.1 v.0) (λ v. refl) (λ v. refl) c.numbered.result _ c.value_of.ensures.made (extended c.numbered.result (λ v. an_expr v.0) (λ v. number_expr v.0 >> node v.1) (λ o. after_desig ∷ o) c.in_ok-desig.ensures.read (instead_extending c.numbered.result (λ v. an_expr v.0) (λ v. number_expr v.0 >> node v.1) (λ o. after_desig ∷ o) (λ o. args_part ∷ factor_tail ∷ term_tail ∷ compared_part ∷ o) c.args.depth _ (spell_desig (view_desig c.in_ok-desig.desig)) (number_desig c.in_ok-desig.desig) (heads.no_assign _ (sym c.is_at.ensures.starts ∙ c.if-is_at.false)) (ended_extending an_expr number_expr _ _ _ _ _ c.desig_value.result c.numbered.result c.numbered.ensures.numbered c.desig_value.ensures.read))) }
 
 pub statement::arm_list-loop-after-init : goal.statement::arm_list-loop-after-init
 statement::arm_list-loop-after-init t c = rw c.new-more.ensures.items loops.loops_start
 
 pub statement::arm_list-loop-after-preserved : goal.statement::arm_list-loop-after-preserved
-statement::arm_list-loop-after-preserved t c = rw c.in_ok-push.ensures.items (grown lists.arms c.loop-after.invariant (heads.begins_arms c.in-Some.ensures.passes) (then (passed refl refl c.in-Some.ensures.passes) c.in_ok-next.ensures.read))
-
-pub statement::arm_list-returns-in_err-next : goal.statement::arm_list-returns-in_err-next
-statement::arm_list-returns-in_err-next t c = record {
-  read = stopped _ _ _ _ c.from_residual.ensures.1 (loops.broken c.loop-after.invariant
-      (heads.begins_arms c.in-Some.ensures.passes) (after (passed refl refl c.in-Some.ensures.passes) c.in_err-next.ensures.read));
-}
+statement::arm_list-loop-after-preserved t c = one_more lists.arms (λ o. one kinds.Bar ∷ arm_part ∷ o) _ _ c.loop-after.invariant (heads.begins_arms c.in-Some.ensures.passes) c.arm.result _ c.in_ok-at.ensures.pushed (both an_arm number_arm (part (passed refl refl c.in-Some.ensures.passes)) _ _ c.arm.result c.arm.ensures.read)
 
 pub statement::arm_list-returns : goal.statement::arm_list-returns
 statement::arm_list-returns t c = record { read = loops.ended c.loop-after.invariant (heads.skips_arms _ c.in_default.ensures.passes) }
+
+pub statement::arm_list-returns-in_err-at : goal.statement::arm_list-returns-in_err-at
+statement::arm_list-returns-in_err-at t c = record { read = stopped _ _ _ _ c.from_residual.ensures.1 (no_more lists.arms (λ o. one kinds.Bar ∷ arm_part ∷ o) _ _ c.loop-after.invariant (heads.begins_arms c.in-Some.ensures.passes) c.arm.result _ c.in_err-at.ensures.pushed (both an_arm number_arm (part (passed refl refl c.in-Some.ensures.passes)) _ _ c.arm.result c.arm.ensures.read)) }
 
 pub statement::label_list-loop-after-init : goal.statement::label_list-loop-after-init
 statement::label_list-loop-after-init t c = rw c.new-more.ensures.items loops.loops_start
 
 pub statement::label_list-loop-after-preserved : goal.statement::label_list-loop-after-preserved
-statement::label_list-loop-after-preserved t c = rw c.in_ok-push.ensures.items (grown lists.labels c.loop-after.invariant (heads.begins_labels c.in-Some.ensures.passes) (then (passed refl refl c.in-Some.ensures.passes) c.in_ok-next.ensures.read))
-
-pub statement::label_list-returns-in_err-next : goal.statement::label_list-returns-in_err-next
-statement::label_list-returns-in_err-next t c = record {
-  read = stopped _ _ _ _ c.from_residual.ensures.1 (loops.broken c.loop-after.invariant
-      (heads.begins_labels c.in-Some.ensures.passes) (after (passed refl refl c.in-Some.ensures.passes) c.in_err-next.ensures.read));
-}
+statement::label_list-loop-after-preserved t c = one_more lists.labels (λ o. one kinds.Comma ∷ label_parts o) _ _ c.loop-after.invariant (heads.begins_labels c.in-Some.ensures.passes) c.label.result _ c.in_ok-at.ensures.pushed (both (λ v. spell_label (view_label v)) number_label (part (passed refl refl c.in-Some.ensures.passes)) _ _ c.label.result c.label.ensures.read)
 
 pub statement::label_list-returns : goal.statement::label_list-returns
 statement::label_list-returns t c = record { read = loops.ended c.loop-after.invariant (heads.skips_labels _ c.in_default.ensures.passes) }
+
+pub statement::label_list-returns-in_err-at : goal.statement::label_list-returns-in_err-at
+statement::label_list-returns-in_err-at t c = record { read = stopped _ _ _ _ c.from_residual.ensures.1 (no_more lists.labels (λ o. one kinds.Comma ∷ label_parts o) _ _ c.loop-after.invariant (heads.begins_labels c.in-Some.ensures.passes) c.label.result _ c.in_err-at.ensures.pushed (both (λ v. spell_label (view_label v)) number_label (part (passed refl refl c.in-Some.ensures.passes)) _ _ c.label.result c.label.ensures.read)) }
 
 pub statement::elsif_list-loop-after-init : goal.statement::elsif_list-loop-after-init
 statement::elsif_list-loop-after-init t c = rw c.new-more.ensures.items loops.loops_start
 
 pub statement::elsif_list-loop-after-preserved : goal.statement::elsif_list-loop-after-preserved
-statement::elsif_list-loop-after-preserved t c =
-    rw c.in_ok-push.ensures.items (grown lists.elsifs c.loop-after.invariant (heads.begins_elsifs c.in-Some.ensures.passes) (lists.elsif_rolled
-    (record { test = c.in_ok-test.test; then = c.in_ok-then.then }) refl (then (passed refl refl c.in-Some.ensures.passes) (then c.in_ok-test.ensures.read
-    (then (passed refl refl c.in_ok-after.ensures.passes) c.in_ok-then.ensures.read)))))
+statement::elsif_list-loop-after-preserved t c = one_more lists.elsifs (λ o. one kinds.Elsif ∷ expr_parts (one kinds.Then ∷ stmts_parts o)) _ _ c.loop-after.invariant (heads.begins_elsifs c.in-Some.ensures.passes) c.elsif_of.result _ c.in_ok-at.ensures.pushed (whole some_stmts number_stmts lists.an_elsif lists.number_elsif (and_then (part (passed refl refl c.in-Some.ensures.passes)) (part_and an_expr number_expr kinds.Then _ _ _ _ _ (plain kinds.Then _ refl refl) c.expr.result _ c.in_ok-test.ensures.followed c.expr.ensures.read)) _ _ _ (lists.elsif_spelled c.in_ok-test.test) (lists.elsif_numbered c.in_ok-test.test) c.stmts.result _ c.elsif_of.ensures.made c.stmts.ensures.read)
 
 pub statement::elsif_list-returns-in_err-test : goal.statement::elsif_list-returns-in_err-test
-statement::elsif_list-returns-in_err-test t c = record {
-  read = stopped _ _ _ _ c.from_residual.ensures.1 (loops.broken c.loop-after.invariant
-      (heads.begins_elsifs c.in-Some.ensures.passes) (after (passed refl refl c.in-Some.ensures.passes) (first {q = λ o. one kinds.Then ∷ stmts_parts o}
-      c.in_err-test.ensures.read)));
-}
-
-pub statement::elsif_list-returns-in_err-after : goal.statement::elsif_list-returns-in_err-after
-statement::elsif_list-returns-in_err-after t c = record {
-  read = stopped _ _ _ _ c.from_residual-in_err-after.ensures.1 (loops.broken
-      c.loop-after.invariant (heads.begins_elsifs c.in-Some.ensures.passes) (after (passed refl refl c.in-Some.ensures.passes) (after
-      c.in_ok-test.ensures.read (first {q = stmts_parts} (c.in_err-after.ensures.passes _)))));
-}
-
-pub statement::elsif_list-returns-in_err-then : goal.statement::elsif_list-returns-in_err-then
-statement::elsif_list-returns-in_err-then t c = record {
-  read = stopped _ _ _ _ c.from_residual-in_err-then.ensures.1 (loops.broken
-      c.loop-after.invariant (heads.begins_elsifs c.in-Some.ensures.passes) (after (passed refl refl c.in-Some.ensures.passes) (after
-      c.in_ok-test.ensures.read (after (passed refl refl c.in_ok-after.ensures.passes) c.in_err-then.ensures.read))));
-}
+statement::elsif_list-returns-in_err-test t c = record { read = stopped _ _ _ _ c.from_residual.ensures.1 (loops.broken c.loop-after.invariant (heads.begins_elsifs c.in-Some.ensures.passes) (after (passed refl refl c.in-Some.ensures.passes) (first {q = stmts_parts} (followed an_expr number_expr _ _ _ _ _ (plain kinds.Then _ refl refl) c.expr.result (Err _) c.in_err-test.ensures.followed c.expr.ensures.read)))) }
 
 pub statement::elsif_list-returns : goal.statement::elsif_list-returns
 statement::elsif_list-returns t c = record { read = loops.ended c.loop-after.invariant (heads.skips_elsifs _ c.in_default.ensures.passes) }
 
+pub statement::elsif_list-returns-in_err-at : goal.statement::elsif_list-returns-in_err-at
+statement::elsif_list-returns-in_err-at t c = record { read = stopped _ _ _ _ c.from_residual-in_err-at.ensures.1 (no_more lists.elsifs (λ o. one kinds.Elsif ∷ expr_parts (one kinds.Then ∷ stmts_parts o)) _ _ c.loop-after.invariant (heads.begins_elsifs c.in-Some.ensures.passes) c.elsif_of.result _ c.in_err-at.ensures.pushed (whole some_stmts number_stmts lists.an_elsif lists.number_elsif (and_then (part (passed refl refl c.in-Some.ensures.passes)) (part_and an_expr number_expr kinds.Then _ _ _ _ _ (plain kinds.Then _ refl refl) c.expr.result _ c.in_ok-test.ensures.followed c.expr.ensures.read)) _ _ _ (lists.elsif_spelled c.in_ok-test.test) (lists.elsif_numbered c.in_ok-test.test) c.stmts.result _ c.elsif_of.ensures.made c.stmts.ensures.read)) }
+
+pub statement::elsif_list-stmts-requires : goal.statement::elsif_list-stmts-requires
+statement::elsif_list-stmts-requires t c = (omega (arith, c.loop-after.invariant.shorter, c.in-Some.ensures.passes.shorter, fewer an_expr number_expr _ _ _ _ _ c.expr.result _ c.in_ok-test.ensures.followed c.expr.ensures.read), tt)
+
 pub statement::otherwise-returns-in_default : goal.statement::otherwise-returns-in_default
 statement::otherwise-returns-in_default t c = record { read = skipped (heads.skips_else _ c.in_default.ensures.passes) }
 
-pub statement::otherwise-returns-in_err-value : goal.statement::otherwise-returns-in_err-value
-statement::otherwise-returns-in_err-value t c = record {
-  read = stopped _ _ _ _ c.from_residual.ensures.1 (becoming_fails (heads.begins_else
-      c.in-Some.ensures.passes) (after (passed refl refl c.in-Some.ensures.passes) (first c.in_err-value.ensures.read)));
-}
-
 pub statement::otherwise-returns : goal.statement::otherwise-returns
-statement::otherwise-returns t c = record {
-  read = becoming (heads.begins_else c.in-Some.ensures.passes) (then (passed refl refl
-      c.in-Some.ensures.passes) c.in_ok-value.ensures.read);
-}
+statement::otherwise-returns t c = record { read = becoming_gives (λ v. spell_else (else_of v)) numbers_of_else _ _ _ _ _ (heads.begins_else c.in-Some.ensures.passes) c.present.result (whole some_stmts number_stmts (λ v. spell_else (else_of v)) numbers_of_else (part (passed refl refl c.in-Some.ensures.passes)) _ _ (λ v. Some v) (λ v. refl) (λ v. refl) c.stmts.result _ c.present.ensures.made c.stmts.ensures.read) }
 
 pub statement::high-returns-in_default : goal.statement::high-returns-in_default
 statement::high-returns-in_default t c = record { read = skipped (heads.skips_high _ c.in_default.ensures.passes) }
 
-pub statement::high-returns-in_err-value : goal.statement::high-returns-in_err-value
-statement::high-returns-in_err-value t c = record {
-  read = stopped _ _ _ _ c.from_residual.ensures.1 (becoming_fails (heads.begins_high
-      c.in-Some.ensures.passes) (after (passed refl refl c.in-Some.ensures.passes) (first c.in_err-value.ensures.read)));
-}
-
 pub statement::high-returns : goal.statement::high-returns
-statement::high-returns t c = record {
-  read = becoming (heads.begins_high c.in-Some.ensures.passes) (then (passed refl refl c.in-Some.ensures.passes)
-      c.in_ok-value.ensures.read);
-}
+statement::high-returns t c = record { read = becoming_gives (λ v. spell_high (high_of v)) numbers_of_high _ _ _ _ _ (heads.begins_high c.in-Some.ensures.passes) c.present.result (whole an_expr number_expr (λ v. spell_high (high_of v)) numbers_of_high (part (passed refl refl c.in-Some.ensures.passes)) _ _ (λ v. Some v) (λ v. refl) (λ v. refl) c.expr.result _ c.present.ensures.made c.expr.ensures.read) }
 
 pub statement::arm-returns-then-begins_expr : goal.statement::arm-returns-then-begins_expr
 statement::arm-returns-then-begins_expr t c = record {
@@ -1313,13 +906,8 @@ statement::arm-returns-then-begins_expr t c = record {
       o) forms.labelled_parts c.args.depth _ (rw c.if-begins_expr.true at c.begins_expr.ensures.arm) c.labelled_arm.ensures.read;
 }
 
-pub statement::arm-returns-in_err-node : goal.statement::arm-returns-in_err-node
-statement::arm-returns-in_err-node t c = record { read = stopped _ _ _ _ c.from_residual.ensures.1 (want c.in_err-node.ensures.counted) }
-
 pub statement::arm-returns : goal.statement::arm-returns
-statement::arm-returns t c = record {
-  read = becoming (rw c.if-begins_expr.false at c.begins_expr.ensures.arm) (counted c.in_ok-node.ensures.counted);
-}
+statement::arm-returns t c = record { read = instead_any c.empty_arm.result an_arm number_arm (λ o. arm_part ∷ o) (λ o. o) c.args.depth _ (rw c.if-begins_expr.false at c.begins_expr.ensures.arm) c.empty_arm.ensures.read }
 
 pub statement::if_stmt-open-requires : goal.statement::if_stmt-open-requires
 statement::if_stmt-open-requires t c = record { opening = refl }
@@ -1331,43 +919,25 @@ pub statement::orelse_list-loop-after-init : goal.statement::orelse_list-loop-af
 statement::orelse_list-loop-after-init t c = rw c.new-more.ensures.items loops.loops_start
 
 pub statement::orelse_list-loop-after-preserved : goal.statement::orelse_list-loop-after-preserved
-statement::orelse_list-loop-after-preserved t c = rw c.in_ok-push.ensures.items (grown lists.orelses c.loop-after.invariant (heads.begins_orelses c.in-Some.ensures.passes) (then (passed refl refl c.in-Some.ensures.passes) c.in_ok-next.ensures.read))
-
-pub statement::orelse_list-returns-in_err-next : goal.statement::orelse_list-returns-in_err-next
-statement::orelse_list-returns-in_err-next t c = record {
-  read = stopped _ _ _ _ c.from_residual.ensures.1 (loops.broken c.loop-after.invariant
-      (heads.begins_orelses c.in-Some.ensures.passes) (after (passed refl refl c.in-Some.ensures.passes) c.in_err-next.ensures.read));
-}
+statement::orelse_list-loop-after-preserved t c = one_more lists.orelses (λ o. one kinds.Orelse ∷ stmts_parts o) _ _ c.loop-after.invariant (heads.begins_orelses c.in-Some.ensures.passes) c.stmts.result _ c.in_ok-at.ensures.pushed (both some_stmts number_stmts (part (passed refl refl c.in-Some.ensures.passes)) _ _ c.stmts.result c.stmts.ensures.read)
 
 pub statement::orelse_list-returns : goal.statement::orelse_list-returns
 statement::orelse_list-returns t c = record { read = loops.ended c.loop-after.invariant (heads.skips_orelses _ c.in_default.ensures.passes) }
 
+pub statement::orelse_list-returns-in_err-at : goal.statement::orelse_list-returns-in_err-at
+statement::orelse_list-returns-in_err-at t c = record { read = stopped _ _ _ _ c.from_residual.ensures.1 (no_more lists.orelses (λ o. one kinds.Orelse ∷ stmts_parts o) _ _ c.loop-after.invariant (heads.begins_orelses c.in-Some.ensures.passes) c.stmts.result _ c.in_err-at.ensures.pushed (both some_stmts number_stmts (part (passed refl refl c.in-Some.ensures.passes)) _ _ c.stmts.result c.stmts.ensures.read)) }
+
 pub statement::step-returns-in_default : goal.statement::step-returns-in_default
 statement::step-returns-in_default t c = record { read = skipped (heads.skips_by _ c.in_default.ensures.passes) }
 
-pub statement::step-returns-in_err-value : goal.statement::step-returns-in_err-value
-statement::step-returns-in_err-value t c = record {
-  read = stopped _ _ _ _ c.from_residual.ensures.1 (becoming_fails (heads.begins_by
-      c.in-Some.ensures.passes) (after (passed refl refl c.in-Some.ensures.passes) (first c.in_err-value.ensures.read)));
-}
-
 pub statement::step-returns : goal.statement::step-returns
-statement::step-returns t c = record {
-  read = becoming (heads.begins_by c.in-Some.ensures.passes) (then (passed refl refl c.in-Some.ensures.passes)
-      c.in_ok-value.ensures.read);
-}
+statement::step-returns t c = record { read = becoming_gives (λ v. spell_by (by_of v)) numbers_of_by _ _ _ _ _ (heads.begins_by c.in-Some.ensures.passes) c.present.result (whole an_expr number_expr (λ v. spell_by (by_of v)) numbers_of_by (part (passed refl refl c.in-Some.ensures.passes)) _ _ (λ v. Some v) (λ v. refl) (λ v. refl) c.expr.result _ c.present.ensures.made c.expr.ensures.read) }
 
 pub statement::while_stmt-open-requires : goal.statement::while_stmt-open-requires
 statement::while_stmt-open-requires t c = record { opening = refl }
 
 pub statement::repeat_stmt-open-requires : goal.statement::repeat_stmt-open-requires
 statement::repeat_stmt-open-requires t c = record { opening = refl }
-
-pub statement::for_stmt-open-requires : goal.statement::for_stmt-open-requires
-statement::for_stmt-open-requires t c = record { opening = refl }
-
-pub statement::some_stmt-open-requires : goal.statement::some_stmt-open-requires
-statement::some_stmt-open-requires t c = record { opening = refl }
 
 pub statement::either_stmt-open-requires : goal.statement::either_stmt-open-requires
 statement::either_stmt-open-requires t c = record { opening = refl }

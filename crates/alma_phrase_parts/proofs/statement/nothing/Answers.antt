@@ -1,8 +1,7 @@
 use Rattle.alma_cursor.proofs.Steps as steps
 use Rattle.alma_cursor.proofs.Turns.{want}
-use Rattle.alma_phrase.proofs.Chain.{stopped}
-use Rattle.alma_phrase.proofs.Lists as lists
-use Rattle.alma_phrase.proofs.statement.nothing.Goals as goal
+use Rattle.alma_phrase_parts.proofs.Stopped.{stopped}
+use Rattle.alma_phrase_parts.proofs.statement.nothing.Goals as goal
 
 pub returns-in_err-node : goal.returns-in_err-node
 returns-in_err-node c = record { read = stopped _ _ _ _ c.from_residual.ensures.1 (λ d. want c.in_err-node.ensures.counted) }
