@@ -92,9 +92,6 @@ pub elsif_numbered : (e : de.Expr) (v : ds.Stmts)
     → number_elsif (df.roll-Elsif (record { test = e; then = v })) ≡ (token >> number_expr e >> token >> number_stmts v)
 elsif_numbered e v = ap (λ o. token >> number_expr o.test >> token >> number_stmts o.then) (df.out-roll-Elsif (record { test = e; then = v }))
 
--- ---- the same of a value that the code makes
-
-
 -- ---- arguments
 
 inside_spelled : (x : Option dx.Exprs) → spell_args (args_values x) ≡ (λ r. kinds.OpenParen ∷ spell_inside_args (inside_of x) r)

@@ -201,7 +201,10 @@ fn while_stmt<'t, 's>(
 {
     let (at, inner) = at.open(Kind::While, depth)?;
     let (test, at) = followed_by(expr(alloc, at, inner), Kind::Do)?;
-    while_of(test, numbered(followed_by(stmts(alloc, at, inner), Kind::End)))
+    while_of(
+        test,
+        numbered(followed_by(stmts(alloc, at, inner), Kind::End)),
+    )
 }
 
 #[cycle(phrases)]

@@ -1,4 +1,4 @@
+pub mod Heads
 pub mod Joins
 pub mod Made
 pub mod Nodes
-pub mod Heads

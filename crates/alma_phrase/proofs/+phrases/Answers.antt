@@ -7,41 +7,41 @@ use Rattle.alma_tree.specs.declared.phrase.Factor as dr
 use Rattle.alma_tree.specs.declared.phrase.Primary as dp
 use Rattle.alma_tree.specs.declared.phrase.Exprs as dx
 use Rattle.alma_tree.specs.declared.phrase.Selector as dj
-use Rattle.alma_tree.specs.Spelling.{relation_kind, add_kind, mul_kind, spell_args, spell_expr_tail, spell_expr, spell_compared, spell_sign, spell_simple, spell_term_tail, spell_term, spell_primary}
-use Rattle.alma_tree.specs.Spelling.{spell_exprs, spell_desig, spell_selector, spell_stmt, spell_else, spell_by, spell_returned, spell_arm, spell_label, spell_high}
-use Rattle.alma_tree.specs.View.{args_of, exprs_of, view_expr, compared_of, view_simple, terms_of, view_term, view_primary, view_desig, view_selector, view_stmt, else_of}
-use Rattle.alma_tree.specs.View.{by_of, returned_of, view_arm, high_of, view_label}
-use Rattle.alma_tree.specs.declared.phrase.Compared as dc
-use Rattle.alma_tree.specs.declared.phrase.Stmt as dt
-use Rattle.alma_tree.specs.Tree as tree
-use Rattle.alma_tree.specs.Numbers.{number_label, numbers_of_args, token, node, ◌>>◌, number_name, number_sign, number_stmts, number_stmt, number_arm, number_expr, number_simple}
-use Rattle.alma_tree.specs.Numbers.{number_term, number_primary, number_exprs, number_desig, number_selector, numbers_of_terms, numbers_of_by, numbers_of_else, number_factor, numbers_of_exprs, numbers_of_compared, numbers_of_high}
-use Rattle.alma_tree.specs.Numbers.{numbers_of_returned}
+use Rattle.alma_tree.specs.Spelling.{relation_kind, add_kind, mul_kind, spell_args, spell_expr_tail, spell_expr, spell_compared, spell_simple}
+use Rattle.alma_tree.specs.Spelling.{spell_term, spell_primary, spell_exprs, spell_desig, spell_selector, spell_stmt, spell_else, spell_by}
+use Rattle.alma_tree.specs.Spelling.{spell_returned, spell_arm, spell_label, spell_high}
+use Rattle.alma_tree.specs.View.{args_of, exprs_of, view_expr, compared_of, view_simple, view_term, view_primary, view_desig, view_selector}
+use Rattle.alma_tree.specs.View.{view_stmt, else_of, by_of, returned_of, view_arm, high_of, view_label}
+use Rattle.alma_tree.specs.Numbers.{token, node, ◌>>◌, number_name, number_sign, number_stmts, number_stmt, number_arm, number_expr, number_simple}
+use Rattle.alma_tree.specs.Numbers.{number_term, number_primary, number_exprs, number_desig, number_selector, numbers_of_by, numbers_of_else}
+use Rattle.alma_tree.specs.Numbers.{number_factor, numbers_of_args, numbers_of_exprs, numbers_of_compared, numbers_of_high, numbers_of_returned}
+use Rattle.alma_tree.specs.Numbers.{number_label}
 use Rattle.alma_tree.proofs.Rows as rows
 use Rattle.alma_tree.proofs.NumberRows as numbers
 use Rattle.alma_grammar.specs.Filling.{spell_inside_args}
-use Rattle.alma_grammar.specs.Parts.{factor_part, args_inside, expr_tail, selector_tail, simple_parts, term_parts, exprs_parts, one, primary_part, factor_tail, term_tail, compared_part}
-use Rattle.alma_grammar.specs.Parts.{args_part, stmt_part, arm_part, after_desig, expr_parts, desig_parts, stmts_parts, label_parts}
+use Rattle.alma_grammar.specs.Parts.{factor_part, args_inside, expr_tail, selector_tail, simple_parts, term_parts, exprs_parts, one, primary_part}
+use Rattle.alma_grammar.specs.Parts.{factor_tail, term_tail, compared_part, args_part, stmt_part, arm_part, after_desig, expr_parts, desig_parts}
+use Rattle.alma_grammar.specs.Parts.{stmts_parts, label_parts}
 use Rattle.alma_cursor.specs.Forms as forms
-use Rattle.alma_cursor.proofs.Joins.{followed, behind, ended}
+use Rattle.alma_cursor.proofs.Joins.{followed, ended}
 use Rattle.alma_cursor.proofs.Loops as loops
 use Rattle.alma_cursor.proofs.Loops.{grouped}
-use Rattle.alma_cursor.proofs.Steps.{passed, opened, closed_any, counted, then, same, replaced, skipped, becoming, extending, twice, after}
-use Rattle.alma_cursor.proofs.Steps.{first, becoming_fails, beyond, instead, instead_any, extended, extended_twice, instead_extending, extended_by, shallower, strictly}
-use Rattle.alma_cursor.proofs.Turns.{want, grown}
+use Rattle.alma_cursor.proofs.Steps.{passed, opened, closed_any, then, skipped, becoming, twice, after, first, becoming_fails, beyond, instead}
+use Rattle.alma_cursor.proofs.Steps.{instead_any, extended, extended_twice, instead_extending}
 use Rattle.alma_phrase_parts.specs.Nodes.{ComparedWith, SumOf}
 use Rattle.alma_phrase_parts.proofs.Fewer.{behind_within, made_within, pushed_within, within_ok, ok_within}
 use Rattle.alma_phrase_parts.proofs.Growing.{pushed_turn}
 use Rattle.alma_phrase_parts.proofs.Made.{made_gives, made_or_gives, behind_front, becoming_gives, made_extends, made_or_extends}
 use Rattle.alma_phrase.specs.Pieces.{inside_of, number_inside_args}
-use Rattle.alma_phrase_parts.proofs.Fronts.{part, part_and, and_then, whole, both, loop_front, loop_fewer, one_more, no_more}
-use Rattle.alma_phrase.proofs.Chain.{plain, closing, matching, ended_behind, ended_extending, in_box, at_depth, fewer, stopped}
+use Rattle.alma_phrase.proofs.Chain.{plain, closing, matching, ended_behind, ended_extending, in_box, fewer, stopped}
 use Rattle.alma_phrase.proofs.Heads as heads
 use Rattle.alma_phrase.proofs.Links.{broken_turn, term_linked, factor_linked, shallower_gives}
 use Rattle.alma_phrase.proofs.Lists as lists
-use Rattle.alma_phrase.proofs.Values.{a_simple, a_term, a_factor, a_selector, a_name, a_primary, a_stmt, an_arm, an_expr, some_exprs, a_desig, some_stmts}
-use Rattle.alma_phrase.proofs.Values.{more_terms, more_factors, more_selectors, more_stmts, more_labels, more_orelses, more_desigs, count_terms, count_factors, count_selectors, count_stmts, count_labels}
-use Rattle.alma_phrase.proofs.Values.{count_orelses, count_desigs}
+use Rattle.alma_phrase.proofs.Values.{a_simple, a_term, a_factor, a_selector, a_primary, a_stmt, an_arm, an_expr, some_exprs, a_desig, some_stmts}
+use Rattle.alma_phrase.proofs.Values.{more_terms, more_factors, more_selectors, more_stmts, more_labels, more_orelses, more_desigs, count_terms}
+use Rattle.alma_phrase.proofs.Values.{count_factors, count_selectors, count_stmts, count_labels, count_orelses, count_desigs}
+use Rattle.alma_tree.specs.declared.phrase.Stmt as dt
+use Rattle.alma_phrase_parts.proofs.Fronts.{part, part_and, and_then, whole, both, loop_front, loop_fewer, one_more, no_more}
 use Rattle.alma_phrase.proofs.+phrases.Goals as goal
 
 pub expression::expr_from-returns : goal.expression::expr_from-returns
@@ -172,6 +172,179 @@ expression::desig-returns-in_err-name t c = record { read = stopped _ _ _ _ c.fr
 
 pub expression::index-returns-in_err-at-clause-read : goal.expression::index-returns-in_err-at-clause-read
 expression::index-returns-in_err-at-clause-read t c = stopped _ _ _ _ c.from_residual.ensures.1 (first c.in_err-at.ensures.opened)
+
+pub expression::expr-returns-in_err-left : goal.expression::expr-returns-in_err-left
+expression::expr-returns-in_err-left t c = record { read = stopped _ _ _ _ c.from_residual.ensures.1 (first c.in_err-left.ensures.read) }
+
+pub expression::expr-returns : goal.expression::expr-returns
+expression::expr-returns t c = record {
+  read = extended c.expr_from.result (λ v. spell_expr (view_expr v)) number_expr (λ o. compared_part ∷ o)
+      c.in_ok-left.ensures.read c.expr_from.ensures.read;
+}
+
+pub expression::simple-returns-in_err-first : goal.expression::simple-returns-in_err-first
+expression::simple-returns-in_err-first t c = record {
+  read = stopped _ _ _ _ c.from_residual.ensures.1 (after (c.sign-sign.ensures.read _) (first
+      c.in_err-first.ensures.read));
+}
+
+pub expression::simple-returns : goal.expression::simple-returns
+expression::simple-returns t c = record {
+  read = extended c.simple_from.result (λ v. spell_simple (view_simple v)) number_simple (λ o. term_tail ∷ o)
+      (then (c.sign-sign.ensures.read _) c.in_ok-first.ensures.read) c.simple_from.ensures.read;
+}
+
+pub expression::term-returns-in_err-first : goal.expression::term-returns-in_err-first
+expression::term-returns-in_err-first t c = record { read = stopped _ _ _ _ c.from_residual.ensures.1 (first c.in_err-first.ensures.read) }
+
+pub expression::term-returns : goal.expression::term-returns
+expression::term-returns t c = record {
+  read = extended c.term_from.result (λ v. spell_term (view_term v)) number_term (λ o. factor_tail ∷ o)
+      c.in_ok-first.ensures.read c.term_from.ensures.read;
+}
+
+pub expression::desig_value-returns-in_err-primary : goal.expression::desig_value-returns-in_err-primary
+expression::desig_value-returns-in_err-primary t c = record { read = stopped _ _ _ _ c.from_residual.ensures.1 (first (ended_extending a_primary number_primary _ _ _ _ _ c.named.result (Err _) c.in_err-primary.ensures.numbered c.named.ensures.read)) }
+
+pub expression::desig_value-returns-in_err-first : goal.expression::desig_value-returns-in_err-first
+expression::desig_value-returns-in_err-first t c = record { read = stopped _ _ _ _ c.from_residual-in_err-first.ensures.1 (beyond (ended_extending a_primary number_primary _ _ _ _ _ c.named.result (Ok _) c.in_ok-primary.ensures.numbered c.named.ensures.read) (first c.in_err-first.ensures.read)) }
+
+pub expression::desig_value-returns-in_err-left : goal.expression::desig_value-returns-in_err-left
+expression::desig_value-returns-in_err-left t c = record { read = stopped _ _ _ _ c.from_residual-in_err-left.ensures.1 (beyond (twice (ended_extending a_primary number_primary _ _ _ _ _ c.named.result (Ok _) c.in_ok-primary.ensures.numbered c.named.ensures.read) c.in_ok-first.ensures.read) (first c.in_err-left.ensures.read)) }
+
+pub expression::desig_value-returns : goal.expression::desig_value-returns
+expression::desig_value-returns t c = record { read = extended_twice c.expr_from.result (λ v. spell_expr (view_expr v)) number_expr (λ o. compared_part ∷ o) (twice (ended_extending a_primary number_primary _ _ _ _ _ c.named.result (Ok _) c.in_ok-primary.ensures.numbered c.named.ensures.read) (twice c.in_ok-first.ensures.read c.in_ok-left.ensures.read)) c.expr_from.ensures.read }
+
+pub expression::desig_value-term_from-requires : goal.expression::desig_value-term_from-requires
+expression::desig_value-term_from-requires t c = (omega (arith, (ended_extending a_primary number_primary _ _ _ _ _ c.named.result (Ok _) c.in_ok-primary.ensures.numbered c.named.ensures.read).shorter), tt)
+
+pub expression::desig_value-simple_from-requires : goal.expression::desig_value-simple_from-requires
+expression::desig_value-simple_from-requires t c = (omega (arith, (ended_extending a_primary number_primary _ _ _ _ _ c.named.result (Ok _) c.in_ok-primary.ensures.numbered c.named.ensures.read).shorter, c.in_ok-first.ensures.read.shorter), tt)
+
+pub expression::desig_value-expr_from-requires : goal.expression::desig_value-expr_from-requires
+expression::desig_value-expr_from-requires t c = (omega (arith, (ended_extending a_primary number_primary _ _ _ _ _ c.named.result (Ok _) c.in_ok-primary.ensures.numbered c.named.ensures.read).shorter, c.in_ok-first.ensures.read.shorter, c.in_ok-left.ensures.read.shorter), tt)
+
+pub expression::compared-returns-in_default : goal.expression::compared-returns-in_default
+expression::compared-returns-in_default t c = record { read = skipped c.in_default.ensures.passes }
+
+pub expression::terms-loop-operator-init : goal.expression::terms-loop-operator-init
+expression::terms-loop-operator-init t c = rw c.new-more.ensures.items loops.loops_start
+
+pub expression::terms-returns : goal.expression::terms-returns
+expression::terms-returns t c = record { read = loops.ended c.loop-operator.invariant c.in_default.ensures.passes }
+
+pub expression::factors-loop-operator-init : goal.expression::factors-loop-operator-init
+expression::factors-loop-operator-init t c = rw c.new-more.ensures.items loops.loops_start
+
+pub expression::factors-returns : goal.expression::factors-returns
+expression::factors-returns t c = record { read = loops.ended c.loop-operator.invariant c.in_default.ensures.passes }
+
+pub expression::simple-term-requires : goal.expression::simple-term-requires
+expression::simple-term-requires t c = (omega (arith, (c.sign-sign.ensures.read 0).shorter), tt)
+
+pub expression::simple-simple_from-requires : goal.expression::simple-simple_from-requires
+expression::simple-simple_from-requires t c = (omega (arith, (c.sign-sign.ensures.read 0).shorter, c.in_ok-first.ensures.read.shorter), tt)
+
+pub expression::exprs-returns-in_err-first : goal.expression::exprs-returns-in_err-first
+expression::exprs-returns-in_err-first t c = record { read = stopped _ _ _ _ c.from_residual.ensures.1 (first (in_box an_expr number_expr _ _ _ _ c.expr.result (Err _) c.in_err-first.ensures.boxed c.expr.ensures.read)) }
+
+pub expression::exprs-expr_list-requires : goal.expression::exprs-expr_list-requires
+expression::exprs-expr_list-requires t c = (omega (arith, (in_box an_expr number_expr _ _ _ _ c.expr.result (Ok _) c.in_ok-first.ensures.boxed c.expr.ensures.read).shorter), tt)
+
+pub expression::expr_list-loop-after-init : goal.expression::expr_list-loop-after-init
+expression::expr_list-loop-after-init t c = rw c.new-more.ensures.items loops.loops_start
+
+pub expression::expr_list-returns : goal.expression::expr_list-returns
+expression::expr_list-returns t c = record { read = loops.ended c.loop-after.invariant (heads.skips_exprs _ c.in_default.ensures.passes) }
+
+pub expression::args-returns-in_err-at : goal.expression::args-returns-in_err-at
+expression::args-returns-in_err-at t c = record {
+  read = stopped _ _ _ _ c.from_residual.ensures.1 (becoming_fails (heads.at_args _ (sym
+      c.is_at.ensures.starts ∙ c.if-is_at.true)) (first c.in_err-at.ensures.opened));
+}
+
+pub expression::args-returns : goal.expression::args-returns
+expression::args-returns t c = record { read = skipped (heads.skips_args _ (sym c.is_at.ensures.starts ∙ c.if-is_at.false)) }
+
+pub expression::primary-returns-in_err-primary_form : goal.expression::primary-returns-in_err-primary_form
+expression::primary-returns-in_err-primary_form t c = record {
+  read = stopped _ _ _ _ c.from_residual.ensures.1 (c.in_err-primary_form.ensures.becomes
+      _);
+}
+
+pub expression::primary-returns-in-Number : goal.expression::primary-returns-in-Number
+expression::primary-returns-in-Number t c = record {
+  read = instead_any c.number.result (λ v. spell_primary (view_primary v)) number_primary (λ o.
+      primary_part ∷ o) (λ o. one kinds.Number ∷ o) c.args.depth _ (rw c.in-Number.is at c.in_ok-primary_form.ensures.becomes) c.number.ensures.read;
+}
+
+pub expression::primary-returns-in-Literal : goal.expression::primary-returns-in-Literal
+expression::primary-returns-in-Literal t c = record {
+  read = instead_any c.literal.result (λ v. spell_primary (view_primary v)) number_primary (λ o.
+      primary_part ∷ o) (λ o. one kinds.Literal ∷ o) c.args.depth _ (rw c.in-Literal.is at c.in_ok-primary_form.ensures.becomes) c.literal.ensures.read;
+}
+
+pub expression::primary-returns-in-Paren : goal.expression::primary-returns-in-Paren
+expression::primary-returns-in-Paren t c = record {
+  read = instead c.paren.result (λ v. spell_primary (view_primary v)) number_primary (λ o.
+      primary_part ∷ o) forms.paren_parts c.args.depth _ (rw c.in-Paren.is at c.in_ok-primary_form.ensures.becomes) c.paren.ensures.read;
+}
+
+pub expression::primary-returns-in-Known : goal.expression::primary-returns-in-Known
+expression::primary-returns-in-Known t c = record {
+  read = instead c.known.result (λ v. spell_primary (view_primary v)) number_primary (λ o.
+      primary_part ∷ o) forms.known_parts c.args.depth _ (rw c.in-Known.is at c.in_ok-primary_form.ensures.becomes) c.known.ensures.read;
+}
+
+pub expression::primary-returns-in-Ord : goal.expression::primary-returns-in-Ord
+expression::primary-returns-in-Ord t c = record {
+  read = instead c.ord.result (λ v. spell_primary (view_primary v)) number_primary (λ o. primary_part
+      ∷ o) forms.ord_parts c.args.depth _ (rw c.in-Ord.is at c.in_ok-primary_form.ensures.becomes) c.ord.ensures.read;
+}
+
+pub expression::primary-returns-in-Chr : goal.expression::primary-returns-in-Chr
+expression::primary-returns-in-Chr t c = record {
+  read = instead c.chr.result (λ v. spell_primary (view_primary v)) number_primary (λ o. primary_part
+      ∷ o) forms.chr_parts c.args.depth _ (rw c.in-Chr.is at c.in_ok-primary_form.ensures.becomes) c.chr.ensures.read;
+}
+
+pub expression::primary-returns-in_err-desig-in-Desig : goal.expression::primary-returns-in_err-desig-in-Desig
+expression::primary-returns-in_err-desig-in-Desig t c = record {
+  read = stopped _ _ _ _ c.from_residual-in_err-desig-in-Desig.ensures.1
+      (becoming_fails (rw c.in-Desig.is at c.in_ok-primary_form.ensures.becomes) (first c.in_err-desig-in-Desig.ensures.read));
+}
+
+pub expression::primary-returns-in_ok-desig-in-Desig : goal.expression::primary-returns-in_ok-desig-in-Desig
+expression::primary-returns-in_ok-desig-in-Desig t c = record {
+  read = instead c.named.result (λ v. spell_primary (view_primary v)) number_primary (λ
+      o. primary_part ∷ o) (λ o. desig_parts (args_part ∷ o)) c.args.depth _ (rw c.in-Desig.is at c.in_ok-primary_form.ensures.becomes) (extended
+      c.named.result (λ v. spell_primary (view_primary v)) number_primary (λ o. args_part ∷ o) c.in_ok-desig-in-Desig.ensures.read c.named.ensures.read);
+}
+
+pub expression::paren-open-requires : goal.expression::paren-open-requires
+expression::paren-open-requires t c = record { opening = refl }
+
+pub expression::args-open-requires : goal.expression::args-open-requires
+expression::args-open-requires t c = record { opening = refl }
+
+pub expression::selectors-loop-form-init : goal.expression::selectors-loop-form-init
+expression::selectors-loop-form-init t c = rw c.new-more.ensures.items loops.loops_start
+
+pub expression::selectors-returns : goal.expression::selectors-returns
+expression::selectors-returns t c = record { read = loops.ended c.loop-form.invariant c.in_default.ensures.becomes }
+
+pub expression::selector-returns-in-Field-clause-read : goal.expression::selector-returns-in-Field-clause-read
+expression::selector-returns-in-Field-clause-read t c = rw c.in-Field.is (instead_any c.field.result (λ v. spell_selector (view_selector v))
+    number_selector forms.field_parts forms.field_parts c.args.depth _ (record { becomes = λ d o. refl }) c.field.ensures.read)
+
+pub expression::selector-returns-in-Index-clause-read : goal.expression::selector-returns-in-Index-clause-read
+expression::selector-returns-in-Index-clause-read t c = rw c.in-Index.is c.index.ensures.read
+
+pub expression::desig-selectors-requires : goal.expression::desig-selectors-requires
+expression::desig-selectors-requires t c = (omega (arith, ap length (c.in_ok-name.ensures.read 0).spelled_so), tt)
+
+pub expression::index-open-requires : goal.expression::index-open-requires
+expression::index-open-requires t c = record { opening = refl }
 
 pub statement::stmts-returns-in_err-first : goal.statement::stmts-returns-in_err-first
 statement::stmts-returns-in_err-first t c = record { read = stopped _ _ _ _ c.from_residual.ensures.1 (first (in_box a_stmt number_stmt _ _ _ _ c.stmt.result (Err _) c.in_err-first.ensures.boxed c.stmt.ensures.read)) }
@@ -527,160 +700,6 @@ statement::write_stmt-open_after-requires t c = record { plain = refl; still = r
 pub statement::write_stmt-exprs-requires : goal.statement::write_stmt-exprs-requires
 statement::write_stmt-exprs-requires t c = (omega (arith, c.in_ok-at.ensures.opened.passes.shorter, c.in_ok-at.ensures.opened.opens_behind.passes.shorter), tt)
 
-pub expression::expr-returns-in_err-left : goal.expression::expr-returns-in_err-left
-expression::expr-returns-in_err-left t c = record { read = stopped _ _ _ _ c.from_residual.ensures.1 (first c.in_err-left.ensures.read) }
-
-pub expression::expr-returns : goal.expression::expr-returns
-expression::expr-returns t c = record {
-  read = extended c.expr_from.result (λ v. spell_expr (view_expr v)) number_expr (λ o. compared_part ∷ o)
-      c.in_ok-left.ensures.read c.expr_from.ensures.read;
-}
-
-pub expression::simple-returns-in_err-first : goal.expression::simple-returns-in_err-first
-expression::simple-returns-in_err-first t c = record {
-  read = stopped _ _ _ _ c.from_residual.ensures.1 (after (c.sign-sign.ensures.read _) (first
-      c.in_err-first.ensures.read));
-}
-
-pub expression::simple-returns : goal.expression::simple-returns
-expression::simple-returns t c = record {
-  read = extended c.simple_from.result (λ v. spell_simple (view_simple v)) number_simple (λ o. term_tail ∷ o)
-      (then (c.sign-sign.ensures.read _) c.in_ok-first.ensures.read) c.simple_from.ensures.read;
-}
-
-pub expression::term-returns-in_err-first : goal.expression::term-returns-in_err-first
-expression::term-returns-in_err-first t c = record { read = stopped _ _ _ _ c.from_residual.ensures.1 (first c.in_err-first.ensures.read) }
-
-pub expression::term-returns : goal.expression::term-returns
-expression::term-returns t c = record {
-  read = extended c.term_from.result (λ v. spell_term (view_term v)) number_term (λ o. factor_tail ∷ o)
-      c.in_ok-first.ensures.read c.term_from.ensures.read;
-}
-
-pub expression::desig_value-returns-in_err-primary : goal.expression::desig_value-returns-in_err-primary
-expression::desig_value-returns-in_err-primary t c = record { read = stopped _ _ _ _ c.from_residual.ensures.1 (first (ended_extending a_primary number_primary _ _ _ _ _ c.named.result (Err _) c.in_err-primary.ensures.numbered c.named.ensures.read)) }
-
-pub expression::desig_value-returns-in_err-first : goal.expression::desig_value-returns-in_err-first
-expression::desig_value-returns-in_err-first t c = record { read = stopped _ _ _ _ c.from_residual-in_err-first.ensures.1 (beyond (ended_extending a_primary number_primary _ _ _ _ _ c.named.result (Ok _) c.in_ok-primary.ensures.numbered c.named.ensures.read) (first c.in_err-first.ensures.read)) }
-
-pub expression::desig_value-returns-in_err-left : goal.expression::desig_value-returns-in_err-left
-expression::desig_value-returns-in_err-left t c = record { read = stopped _ _ _ _ c.from_residual-in_err-left.ensures.1 (beyond (twice (ended_extending a_primary number_primary _ _ _ _ _ c.named.result (Ok _) c.in_ok-primary.ensures.numbered c.named.ensures.read) c.in_ok-first.ensures.read) (first c.in_err-left.ensures.read)) }
-
-pub expression::desig_value-returns : goal.expression::desig_value-returns
-expression::desig_value-returns t c = record { read = extended_twice c.expr_from.result (λ v. spell_expr (view_expr v)) number_expr (λ o. compared_part ∷ o) (twice (ended_extending a_primary number_primary _ _ _ _ _ c.named.result (Ok _) c.in_ok-primary.ensures.numbered c.named.ensures.read) (twice c.in_ok-first.ensures.read c.in_ok-left.ensures.read)) c.expr_from.ensures.read }
-
-pub expression::desig_value-term_from-requires : goal.expression::desig_value-term_from-requires
-expression::desig_value-term_from-requires t c = (omega (arith, (ended_extending a_primary number_primary _ _ _ _ _ c.named.result (Ok _) c.in_ok-primary.ensures.numbered c.named.ensures.read).shorter), tt)
-
-pub expression::desig_value-simple_from-requires : goal.expression::desig_value-simple_from-requires
-expression::desig_value-simple_from-requires t c = (omega (arith, (ended_extending a_primary number_primary _ _ _ _ _ c.named.result (Ok _) c.in_ok-primary.ensures.numbered c.named.ensures.read).shorter, c.in_ok-first.ensures.read.shorter), tt)
-
-pub expression::desig_value-expr_from-requires : goal.expression::desig_value-expr_from-requires
-expression::desig_value-expr_from-requires t c = (omega (arith, (ended_extending a_primary number_primary _ _ _ _ _ c.named.result (Ok _) c.in_ok-primary.ensures.numbered c.named.ensures.read).shorter, c.in_ok-first.ensures.read.shorter, c.in_ok-left.ensures.read.shorter), tt)
-
-pub expression::compared-returns-in_default : goal.expression::compared-returns-in_default
-expression::compared-returns-in_default t c = record { read = skipped c.in_default.ensures.passes }
-
-pub expression::terms-loop-operator-init : goal.expression::terms-loop-operator-init
-expression::terms-loop-operator-init t c = rw c.new-more.ensures.items loops.loops_start
-
-pub expression::terms-returns : goal.expression::terms-returns
-expression::terms-returns t c = record { read = loops.ended c.loop-operator.invariant c.in_default.ensures.passes }
-
-pub expression::factors-loop-operator-init : goal.expression::factors-loop-operator-init
-expression::factors-loop-operator-init t c = rw c.new-more.ensures.items loops.loops_start
-
-pub expression::factors-returns : goal.expression::factors-returns
-expression::factors-returns t c = record { read = loops.ended c.loop-operator.invariant c.in_default.ensures.passes }
-
-pub expression::simple-term-requires : goal.expression::simple-term-requires
-expression::simple-term-requires t c = (omega (arith, (c.sign-sign.ensures.read 0).shorter), tt)
-
-pub expression::simple-simple_from-requires : goal.expression::simple-simple_from-requires
-expression::simple-simple_from-requires t c = (omega (arith, (c.sign-sign.ensures.read 0).shorter, c.in_ok-first.ensures.read.shorter), tt)
-
-pub expression::exprs-returns-in_err-first : goal.expression::exprs-returns-in_err-first
-expression::exprs-returns-in_err-first t c = record { read = stopped _ _ _ _ c.from_residual.ensures.1 (first (in_box an_expr number_expr _ _ _ _ c.expr.result (Err _) c.in_err-first.ensures.boxed c.expr.ensures.read)) }
-
-pub expression::exprs-expr_list-requires : goal.expression::exprs-expr_list-requires
-expression::exprs-expr_list-requires t c = (omega (arith, (in_box an_expr number_expr _ _ _ _ c.expr.result (Ok _) c.in_ok-first.ensures.boxed c.expr.ensures.read).shorter), tt)
-
-pub expression::expr_list-loop-after-init : goal.expression::expr_list-loop-after-init
-expression::expr_list-loop-after-init t c = rw c.new-more.ensures.items loops.loops_start
-
-pub expression::expr_list-returns : goal.expression::expr_list-returns
-expression::expr_list-returns t c = record { read = loops.ended c.loop-after.invariant (heads.skips_exprs _ c.in_default.ensures.passes) }
-
-pub expression::args-returns-in_err-at : goal.expression::args-returns-in_err-at
-expression::args-returns-in_err-at t c = record {
-  read = stopped _ _ _ _ c.from_residual.ensures.1 (becoming_fails (heads.at_args _ (sym
-      c.is_at.ensures.starts ∙ c.if-is_at.true)) (first c.in_err-at.ensures.opened));
-}
-
-pub expression::args-returns : goal.expression::args-returns
-expression::args-returns t c = record { read = skipped (heads.skips_args _ (sym c.is_at.ensures.starts ∙ c.if-is_at.false)) }
-
-pub expression::primary-returns-in_err-primary_form : goal.expression::primary-returns-in_err-primary_form
-expression::primary-returns-in_err-primary_form t c = record {
-  read = stopped _ _ _ _ c.from_residual.ensures.1 (c.in_err-primary_form.ensures.becomes
-      _);
-}
-
-pub expression::primary-returns-in-Number : goal.expression::primary-returns-in-Number
-expression::primary-returns-in-Number t c = record {
-  read = instead_any c.number.result (λ v. spell_primary (view_primary v)) number_primary (λ o.
-      primary_part ∷ o) (λ o. one kinds.Number ∷ o) c.args.depth _ (rw c.in-Number.is at c.in_ok-primary_form.ensures.becomes) c.number.ensures.read;
-}
-
-pub expression::primary-returns-in-Literal : goal.expression::primary-returns-in-Literal
-expression::primary-returns-in-Literal t c = record {
-  read = instead_any c.literal.result (λ v. spell_primary (view_primary v)) number_primary (λ o.
-      primary_part ∷ o) (λ o. one kinds.Literal ∷ o) c.args.depth _ (rw c.in-Literal.is at c.in_ok-primary_form.ensures.becomes) c.literal.ensures.read;
-}
-
-pub expression::primary-returns-in-Paren : goal.expression::primary-returns-in-Paren
-expression::primary-returns-in-Paren t c = record {
-  read = instead c.paren.result (λ v. spell_primary (view_primary v)) number_primary (λ o.
-      primary_part ∷ o) forms.paren_parts c.args.depth _ (rw c.in-Paren.is at c.in_ok-primary_form.ensures.becomes) c.paren.ensures.read;
-}
-
-pub expression::primary-returns-in-Known : goal.expression::primary-returns-in-Known
-expression::primary-returns-in-Known t c = record {
-  read = instead c.known.result (λ v. spell_primary (view_primary v)) number_primary (λ o.
-      primary_part ∷ o) forms.known_parts c.args.depth _ (rw c.in-Known.is at c.in_ok-primary_form.ensures.becomes) c.known.ensures.read;
-}
-
-pub expression::primary-returns-in-Ord : goal.expression::primary-returns-in-Ord
-expression::primary-returns-in-Ord t c = record {
-  read = instead c.ord.result (λ v. spell_primary (view_primary v)) number_primary (λ o. primary_part
-      ∷ o) forms.ord_parts c.args.depth _ (rw c.in-Ord.is at c.in_ok-primary_form.ensures.becomes) c.ord.ensures.read;
-}
-
-pub expression::primary-returns-in-Chr : goal.expression::primary-returns-in-Chr
-expression::primary-returns-in-Chr t c = record {
-  read = instead c.chr.result (λ v. spell_primary (view_primary v)) number_primary (λ o. primary_part
-      ∷ o) forms.chr_parts c.args.depth _ (rw c.in-Chr.is at c.in_ok-primary_form.ensures.becomes) c.chr.ensures.read;
-}
-
-pub expression::primary-returns-in_err-desig-in-Desig : goal.expression::primary-returns-in_err-desig-in-Desig
-expression::primary-returns-in_err-desig-in-Desig t c = record {
-  read = stopped _ _ _ _ c.from_residual-in_err-desig-in-Desig.ensures.1
-      (becoming_fails (rw c.in-Desig.is at c.in_ok-primary_form.ensures.becomes) (first c.in_err-desig-in-Desig.ensures.read));
-}
-
-pub expression::primary-returns-in_ok-desig-in-Desig : goal.expression::primary-returns-in_ok-desig-in-Desig
-expression::primary-returns-in_ok-desig-in-Desig t c = record {
-  read = instead c.named.result (λ v. spell_primary (view_primary v)) number_primary (λ
-      o. primary_part ∷ o) (λ o. desig_parts (args_part ∷ o)) c.args.depth _ (rw c.in-Desig.is at c.in_ok-primary_form.ensures.becomes) (extended
-      c.named.result (λ v. spell_primary (view_primary v)) number_primary (λ o. args_part ∷ o) c.in_ok-desig-in-Desig.ensures.read c.named.ensures.read);
-}
-
-pub expression::paren-open-requires : goal.expression::paren-open-requires
-expression::paren-open-requires t c = record { opening = refl }
-
-pub expression::args-open-requires : goal.expression::args-open-requires
-expression::args-open-requires t c = record { opening = refl }
-
 pub statement::writeln_stmt-returns-in_err-at : goal.statement::writeln_stmt-returns-in_err-at
 statement::writeln_stmt-returns-in_err-at t c = record { read = stopped _ _ _ _ c.from_residual.ensures.1 (first (c.in_err-at.ensures.passes _)) }
 
@@ -699,30 +718,11 @@ statement::desig_list-returns t c = record { read = loops.ended c.loop-after.inv
 pub statement::desig_list-returns-in_err-at : goal.statement::desig_list-returns-in_err-at
 statement::desig_list-returns-in_err-at t c = record { read = stopped _ _ _ _ c.from_residual.ensures.1 (no_more lists.desigs (λ o. one kinds.Comma ∷ desig_parts o) _ _ c.loop-after.invariant (heads.begins_desigs c.in-Some.ensures.passes) c.desig.result _ c.in_err-at.ensures.pushed (both a_desig number_desig (part (passed refl refl c.in-Some.ensures.passes)) _ _ c.desig.result c.desig.ensures.read)) }
 
-pub expression::selectors-loop-form-init : goal.expression::selectors-loop-form-init
-expression::selectors-loop-form-init t c = rw c.new-more.ensures.items loops.loops_start
-
-pub expression::selectors-returns : goal.expression::selectors-returns
-expression::selectors-returns t c = record { read = loops.ended c.loop-form.invariant c.in_default.ensures.becomes }
-
-pub expression::selector-returns-in-Field-clause-read : goal.expression::selector-returns-in-Field-clause-read
-expression::selector-returns-in-Field-clause-read t c = rw c.in-Field.is (instead_any c.field.result (λ v. spell_selector (view_selector v))
-    number_selector forms.field_parts forms.field_parts c.args.depth _ (record { becomes = λ d o. refl }) c.field.ensures.read)
-
-pub expression::selector-returns-in-Index-clause-read : goal.expression::selector-returns-in-Index-clause-read
-expression::selector-returns-in-Index-clause-read t c = rw c.in-Index.is c.index.ensures.read
-
 pub statement::returned-returns-then-begins_expr : goal.statement::returned-returns-then-begins_expr
 statement::returned-returns-then-begins_expr t c = record { read = becoming_gives (λ v. spell_returned (returned_of v)) numbers_of_returned _ _ _ _ _ (rw c.if-begins_expr.true at c.begins_expr.ensures.value) c.present.result (made_gives an_expr number_expr (λ v. spell_returned (returned_of v)) numbers_of_returned _ _ _ _ (λ v. Some v) (λ v. refl) (λ v. refl) c.expr.result _ c.present.ensures.made c.expr.ensures.read) }
 
 pub statement::returned-returns : goal.statement::returned-returns
 statement::returned-returns t c = record { read = skipped (rw c.if-begins_expr.false at c.begins_expr.ensures.value) }
-
-pub expression::desig-selectors-requires : goal.expression::desig-selectors-requires
-expression::desig-selectors-requires t c = (omega (arith, ap length (c.in_ok-name.ensures.read 0).spelled_so), tt)
-
-pub expression::index-open-requires : goal.expression::index-open-requires
-expression::index-open-requires t c = record { opening = refl }
 
 pub statement::stmt_list-loop-after-init : goal.statement::stmt_list-loop-after-init
 statement::stmt_list-loop-after-init t c = rw c.new-more.ensures.items loops.loops_start
