@@ -1,6 +1,6 @@
 //! What a call says of its end on the output for errors, and the status that it answers.
 #![tactic(auto)]
 
-mod report;
+mod writing;
 
-pub use report::{report, write_parts};
+pub use writing::{report, write_parts};

@@ -3,7 +3,7 @@ use Rattle.std.specs.Prelude.{OnOk, OnErr}
 use Rattle.std.specs.Io.KnownBytes.{Appends}
 use Rattle.alma_io.specs.Fronts.{AppendsFront}
 use Rattle.alma_report.proofs.ReportLemmas.{unknown_parts, known_parts}
-use Rattle.alma_report.proofs.report.write_fault.Goals as goal
+use Rattle.alma_report.proofs.writing.write_fault.Goals as goal
 
 pub returns-then-line-eq0-clause-ok : goal.returns-then-line-eq0-clause-ok
 returns-then-line-eq0-clause-ok g c =

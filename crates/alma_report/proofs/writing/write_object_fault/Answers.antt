@@ -3,7 +3,7 @@ use Rattle.std.specs.Prelude.{OnOk, OnErr}
 use Rattle.std.specs.Io.KnownBytes.{Appends}
 use Rattle.alma_io.specs.Fronts.{AppendsFront}
 use Rattle.alma_report.proofs.ReportLemmas.{numberless_parts, numbered_parts}
-use Rattle.alma_report.proofs.report.write_object_fault.Goals as goal
+use Rattle.alma_report.proofs.writing.write_object_fault.Goals as goal
 
 pub returns-in-None-clause-ok : goal.returns-in-None-clause-ok
 returns-in-None-clause-ok g c =

@@ -1,4 +1,4 @@
-use Rattle.alma_report.proofs.report.write_text.Goals as goal
+use Rattle.alma_report.proofs.writing.write_text.Goals as goal
 
 pub returns-in-BadWord-clause-ok : goal.returns-in-BadWord-clause-ok
 returns-in-BadWord-clause-ok g c = rw c.in-BadWord.is (simp (c.as_bytes.ensures.value, c.format.ensures.text) at c.write_line.ensures.ok)

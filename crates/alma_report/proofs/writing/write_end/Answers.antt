@@ -1,6 +1,6 @@
 use Rattle.alma_outcome.specs.Ends.{counts_text, counts_with, end_text}
 use Rattle.alma_report.proofs.ReportLemmas.{ok_then, front_then, front_more}
-use Rattle.alma_report.proofs.report.write_end.Goals as goal
+use Rattle.alma_report.proofs.writing.write_end.Goals as goal
 
 pub returns-in-Ok-clause-ok : goal.returns-in-Ok-clause-ok
 returns-in-Ok-clause-ok g c =
