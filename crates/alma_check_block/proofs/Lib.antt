@@ -1,4 +1,3 @@
-mod Rows
 mod Texts
 mod Frames
 mod Opening

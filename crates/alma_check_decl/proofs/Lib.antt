@@ -1,6 +1,5 @@
 mod Whole
 mod Constants
-mod TypeRows
 mod TypeTokens
 mod TypeSteps
 mod All

@@ -2,7 +2,7 @@
 use Rattle.std.specs.Prelude.{◌≡◌, ℕ, ◌+◌, ◌<◌, ◌≤◌, List, [], ◌∷◌, get_or, Option, None, Some, option_map}
 use Rattle.alma_ir.specs.Tree as ir
 use Rattle.alma_rules.specs.Numbered as tree
-use Rattle.alma_rules.specs.Judged.{Broken, Judged, lesser, least, both_of}
+use Rattle.alma_rules.specs.Judged.{Broken, Judged, better, least, both_of}
 use Rattle.alma_rules.specs.Answers.{first}
 use Rattle.alma_rules.specs.Scene.{Scene, Heading}
 use Rattle.alma_rules.specs.Decls.{Frame, block_routines, decls_routines, decl_routines}
@@ -10,11 +10,6 @@ use Rattle.alma_rules.specs.Modules.{Bodied, joined_routines, judge_body, judge_
 use Rattle.alma_rules.specs.Rising.{rise_decls, rise_body}
 
 -- ---- broken rules and routines
-
--- the lesser of two broken rules that there may not be
-abbrev pub better : Option Broken → Option Broken → Option Broken
-better None b = b
-better (Some a) b = Some (lesser a b)
 
 -- a value, where no rule is broken
 abbrev pub unless_broken : {A : Type 0} → Option Broken → Option A → Option A

@@ -3,7 +3,7 @@ ghost use Rattle.std.specs.Prelude.{◌≡◌, [], Some, None, OnOk};
 ghost use Rattle.alma_rules.specs.Judged as judged;
 ghost use Rattle.alma_rules.specs.Scene.{Scene};
 ghost use Rattle.alma_check_reader.specs.Told.{broken_of, fault_of};
-ghost use Rattle.alma_check_gathered.specs.Gathered.{stage, with_fault, counted, better};
+ghost use Rattle.alma_check_gathered.specs.Gathered.{stage, with_fault, counted};
 ghost use Rattle.alma_check_gathered.specs.Shown.{stand};
 
 use alma_base::{CheckFault, NoMemory};
@@ -61,7 +61,7 @@ fn is_before(first: Broken, second: Broken) -> bool
 
 // The lesser of two broken rules.
 fn better(first: Option<Broken>, second: Option<Broken>) -> Option<Broken>
-    ensures { fault_of result ≡ better (fault_of first) (fault_of second) }
+    ensures { fault_of result ≡ judged.better (fault_of first) (fault_of second) }
 {
     match first {
         None => second,

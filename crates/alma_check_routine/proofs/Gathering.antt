@@ -4,7 +4,7 @@ use Rattle.std.specs.Prelude.{option_map}
 use Rattle.alma_shapes.specs.Shapes.{PlainShape}
 use Rattle.alma_ir.specs.Tree as ir
 use Rattle.alma_rules.specs.Numbered as tree
-use Rattle.alma_rules.specs.Judged.{Broken, Judged, lesser, least, both_of, broken_at}
+use Rattle.alma_rules.specs.Judged.{Broken, Judged, lesser, better, least, both_of, broken_at}
 use Rattle.alma_rules.specs.Answers.{first}
 use Rattle.alma_rules.specs.Scene.{Scene}
 use Rattle.alma_rules.specs.Decls.{Frame, block_routines, decls_routines, decl_routines, read_heading, read_decls}
@@ -15,17 +15,10 @@ use Rattle.alma_rules.proofs.Leasts as leasts
 use Rattle.alma_rules.proofs.Within.{Within, none}
 use Rattle.alma_rules.proofs.Ordered.{stmts_in}
 use Rattle.alma_rules.proofs.DeclsOrdered.{decls_in}
-use Rattle.alma_check_gathered.specs.Gathered.{better, unless_broken, Stage, stage, gathered, through_decls, through_decl, through_block, with_fault, with_least, quiet, read_stage, through_read, counted, joined_lists, Adds, AreRising, IsRisingBody}
+use Rattle.alma_check_gathered.specs.Gathered.{unless_broken, Stage, stage, gathered, through_decls, through_decl, through_block, with_fault, with_least, quiet, read_stage, through_read, counted, joined_lists, Adds, AreRising, IsRisingBody}
 use Rattle.alma_check_routine.proofs.Headings.{inner_frame}
 
 -- ---- broken rules
-
-better_is : (a b : Option Broken) → leasts.better a b ≡ better a b
-better_is None b = refl
-better_is (Some x) b = refl
-
-pub least_join : (xs ys : List Broken) → least (xs ++ ys) ≡ better (least xs) (least ys)
-least_join xs ys = leasts.least_joined xs ys ∙ better_is (least xs) (least ys)
 
 pub better_none : (a : Option Broken) → better a None ≡ a
 better_none None = refl
@@ -35,7 +28,7 @@ pub better_assoc : (a b c : Option Broken) → better a (better b c) ≡ better 
 better_assoc None b c = refl
 better_assoc (Some x) None c = refl
 better_assoc (Some x) (Some y) None = refl
-better_assoc (Some x) (Some y) (Some z) = leasts.least_joined (x ∷ y ∷ []) (z ∷ []) ∙ better_is (Some (lesser x (Some y))) (Some z)
+better_assoc (Some x) (Some y) (Some z) = leasts.least_joined (x ∷ y ∷ []) (z ∷ [])
 
 -- ---- routines
 
@@ -60,7 +53,7 @@ stage_as f g u v m n s t a b c d = rw (a, b, c, d) refl
 
 pub gathered_both : (t : Stage) (m n : ℕ) (a b : Bodied) → gathered t (m + n) (bodied_both a b) ≡ gathered (gathered t m a) n b
 gathered_both t m n a b =
-    let e : least (a.faults ++ b.faults) ≡ better (least a.faults) (least b.faults) = least_join a.faults b.faults in
+    let e : least (a.faults ++ b.faults) ≡ better (least a.faults) (least b.faults) = leasts.least_joined a.faults b.faults in
     stage_as _ _ _ _ _ _ _ _ (ap (better t.fault) e ∙ better_assoc t.fault (least a.faults) (least b.faults))
     (ap (λ f. unless_broken (better t.fault f) (joined_lists t.routines (joined_lists a.value b.value))) e ∙ masked_three t.fault (least a.faults) (least b.faults) t.routines a.value b.value)
     (omega arith) refl
@@ -113,7 +106,7 @@ pub block_gathered : (t : Stage) (g : Frame) (name : tree.Name) (outer end k l :
     ≡ with_least (record (gathered (with_least (counted t) g.faults) l (routine_at (quiet g) name outer end i body j)) { scene = with_shapes t.scene i.shapes }) faults
 block_gathered t g name outer end k l i body j faults n =
     let e : least (g.faults ++ i.faults ++ j.faults ++ faults) ≡ better (better (least g.faults) (least (i.faults ++ j.faults))) (least faults) =
-    least_join (g.faults ++ i.faults ++ j.faults) faults ∙ ap (λ x. better x (least faults)) (ap least (append_assoc g.faults i.faults j.faults) ∙ least_join g.faults (i.faults ++ j.faults)) in
+    leasts.least_joined (g.faults ++ i.faults ++ j.faults) faults ∙ ap (λ x. better x (least faults)) (ap least (append_assoc g.faults i.faults j.faults) ∙ leasts.least_joined g.faults (i.faults ++ j.faults)) in
     let v = (routine_at g name outer end i body j).value in
     stage_as _ _ _ _ _ _ _ _ (ap (better t.fault) e ∙ better_four t.fault (least g.faults) (least (i.faults ++ j.faults)) (least faults))
     (ap (λ f. unless_broken (better t.fault f) (joined_lists t.routines v)) e ∙ masked_procedure t.fault (least g.faults) (least (i.faults ++ j.faults)) (least faults) t.routines v)
@@ -158,7 +151,7 @@ pub block_by : (x o : Option Broken) (v v' : Option (List ir.Routine)) (n : ℕ)
 block_by x o v v' n s f name outer end decls body q l a =
     let i : Bodied = judge_bodies s n decls in
     let j : Judged ir.Stmts = judge_body f body in
-    let e : least (f.faults ++ i.faults ++ j.faults) ≡ better (least i.faults) o = ap (λ (fs : List Broken). least (fs ++ i.faults ++ j.faults)) q ∙ least_join i.faults j.faults ∙ ap (better (least i.faults)) (l ∙ sym a.broken) in
+    let e : least (f.faults ++ i.faults ++ j.faults) ≡ better (least i.faults) o = ap (λ (fs : List Broken). least (fs ++ i.faults ++ j.faults)) q ∙ leasts.least_joined i.faults j.faults ∙ ap (better (least i.faults)) (l ∙ sym a.broken) in
     stage_as _ _ _ _ _ _ _ _ (ap (better x) e ∙ better_assoc x (least i.faults) o)
     (ap (λ y. unless_broken (better x y) (joined_lists (unless_broken x v) (option_map (cons_routine f name outer j.next (body_lines f.scene end body)) (both_of i.value j.value)))) e
     ∙ masked_block x (least i.faults) o v v' i.value j (λ slots b. routine_of f name outer slots (body_lines f.scene end body) b) a.added)

@@ -13,7 +13,7 @@ use Rattle.alma_rules.specs.Scene.{Scene, nothing, text_of, text_at}
 use Rattle.alma_rules.specs.Decls.{Frame, with_block, new_frame, block_routines, decls_routines, read_decls}
 use Rattle.alma_rules.specs.Modules.{Bodied, judge_block, judge_bodies, judge_body, judge_module, routine_at, first_scene, module_frame, program_of, broken, resolved, end_rules, with_shapes, joined_routines}
 use Rattle.alma_rules.specs.Rising.{IsRising}
-use Rattle.alma_check_gathered.specs.Gathered.{Stage, stage, gathered, through_block, through_read, read_stage, with_least, counted, quiet, unless_broken, joined_lists, better, AreEmpty, IsReady}
+use Rattle.alma_check_gathered.specs.Gathered.{Stage, stage, gathered, through_block, through_read, read_stage, with_least, counted, quiet, unless_broken, joined_lists, AreEmpty, IsReady}
 use Rattle.alma_check_stmt.specs.Whole.{IsJudged}
 use Rattle.alma_check_routine.proofs.Stays.{ground, ground_steady, headings_steady, block_same}
 use Rattle.alma_check_routine.proofs.Headings.{decls_ground}

@@ -1,8 +1,6 @@
 pub mod Acts
 pub mod Calls
 pub mod Cells
-mod Computed
-mod ComputedLinks
 pub mod Entering
 pub mod Heads
 pub mod Links

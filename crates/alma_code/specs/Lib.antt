@@ -1,5 +1,6 @@
 pub mod Head
 pub mod Plain
+pub mod Reads
 pub mod Picture
 pub mod Kinds
 pub mod Layout
@@ -13,4 +14,3 @@ pub mod Fits
 pub mod Laws
 pub mod ListText
 pub mod TraceText
-pub mod Worked

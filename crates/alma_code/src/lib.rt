@@ -7,7 +7,6 @@ mod head;
 mod instr;
 pub mod laws;
 mod step;
-pub mod worked;
 
 pub use cell::{Cell, CellPlace, ChoiceKind, SlotKind};
 pub use code::{Code, CodeGlobal, Line, RoutineHead};

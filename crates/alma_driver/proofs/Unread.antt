@@ -5,9 +5,9 @@ use Rattle.std.specs.List.{list_any}
 use Rattle.alma_code.specs.declared.instr.Instr.{Instr}
 use Rattle.alma_code.specs.declared.instr.Instr.TheVariants as I
 use Rattle.alma_code.specs.Plain.{PlainCode}
+use Rattle.alma_code.specs.Reads.{is_read, code_reads}
 use Rattle.alma_code.specs.Machine.{Mode, Going, Failing, Ended, Stuck, State, Stepped, start, act, fetch_and_act, step_in, step, after, prints}
-use Rattle.alma_object.specs.View.{is_read}
-use Rattle.alma_outcome.specs.Outcome.{Due, has_read, code_due}
+use Rattle.alma_outcome.specs.Outcome.{Due, code_due}
 use Rattle.alma_outcome.specs.Ends.{mode_end, counts_in}
 use Rattle.alma_outcome.specs.Showing.{Prints}
 use Rattle.alma_implements.specs.Implements.{line_in}
@@ -88,20 +88,20 @@ module _ (code : PlainCode) (input other : List ℕ) where
   fetched_alike (Some i) s q = act_alike i _ (q i refl)
 
   -- a step
-  step_alike : (m : Mode) (s : State) → has_read code ≡ false → step_in code input m s ≡ step_in code other m s
+  step_alike : (m : Mode) (s : State) → code_reads code ≡ false → step_in code input m s ≡ step_in code other m s
   step_alike Going s q = fetched_alike (slice_get code.instrs s.at) s (λ i e. none_reads code.instrs s.at i q e)
   step_alike Failing s q = refl
   step_alike (Ended e) s q = refl
   step_alike Stuck s q = refl
 
   -- the state after steps
-  after_alike : (n : ℕ) (s : State) → has_read code ≡ false → after code input n s ≡ after code other n s
+  after_alike : (n : ℕ) (s : State) → code_reads code ≡ false → after code input n s ≡ after code other n s
   after_alike zero s q = refl
   after_alike (suc n) s q =
       ap (λ (x : Stepped). after code input n x.state) (step_alike s.mode s q) ∙ after_alike n (step code other s).state q
 
   -- what steps print
-  prints_alike : (n : ℕ) (s : State) → has_read code ≡ false → prints code input n s ≡ prints code other n s
+  prints_alike : (n : ℕ) (s : State) → code_reads code ≡ false → prints code input n s ≡ prints code other n s
   prints_alike zero s q = refl
   prints_alike (suc n) s q =
       ap (λ (x : Stepped). x.printed ++ prints code input n x.state) (step_alike s.mode s q)
@@ -109,10 +109,10 @@ module _ (code : PlainCode) (input other : List ℕ) where
 
   -- a due by a state and prints
   abbrev due_at : (steps : ℕ) (stats : Bool) → State → List ℕ → Due
-  due_at steps stats s out = record { end = mode_end s.mode (line_in code s) (counts_in stats s); out = out; stored = None; reads = has_read code }
+  due_at steps stats s out = record { end = mode_end s.mode (line_in code s) (counts_in stats s); out = out; stored = None; reads = code_reads code }
 
   -- what a run comes to
-  pub due_alike : (steps : ℕ) (stats : Bool) → has_read code ≡ false → code_due code input steps (Prints stats) ≡ code_due code other steps (Prints stats)
+  pub due_alike : (steps : ℕ) (stats : Bool) → code_reads code ≡ false → code_due code input steps (Prints stats) ≡ code_due code other steps (Prints stats)
   due_alike steps stats q =
       ap (λ (s : State). due_at steps stats s (prints code input steps (start code))) (after_alike steps (start code) q)
       ∙ ap (λ (out : List ℕ). due_at steps stats (after code other steps (start code)) out) (prints_alike steps (start code) q)

@@ -8,7 +8,8 @@ ghost use Rattle.alma_implements.specs.Implements.{Implements};
 ghost use Rattle.alma_ir.specs.Checked.{IsChecked};
 ghost use Rattle.alma_ir.specs.Count.{saturate, nodes};
 ghost use Rattle.alma_ir.specs.View.{program_of};
-ghost use Rattle.alma_sound.specs.Reads.{code_reads, program_reads};
+ghost use Rattle.alma_code.specs.Reads.{code_reads};
+ghost use Rattle.alma_sound.specs.Reads.{program_reads};
 
 use crate::compiled::compiled;
 use alma_base::{NoMemory, SIZE_LIMIT};

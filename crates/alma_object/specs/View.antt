@@ -1,8 +1,6 @@
 -- What the views stand for.
-use Rattle.std.specs.Prelude.{ℕ, ◌-◌, ◌<◌, ◌≤◌, Bool, true, false, List, length, get_or}
+use Rattle.std.specs.Prelude.{ℕ, ◌-◌, ◌<◌, ◌≤◌, List, length, get_or}
 use Rattle.alma_code.specs.declared.code.Line.{Line}
-use Rattle.alma_code.specs.declared.instr.Instr.{Instr}
-use Rattle.alma_code.specs.declared.instr.Instr.TheVariants as I
 use Rattle.alma_code.specs.Head.{PlainHead}
 use Rattle.alma_code.specs.Plain.{PlainCode, PlainRoutine, PlainGlobal}
 use Rattle.alma_object.specs.declared.routine.RoutineView.{RoutineView}
@@ -30,12 +28,6 @@ routine_of_view v = record { name = v.name.now; head = head_of_view v; code_end 
 
 abbrev pub global_of_view : GlobalView → PlainGlobal
 global_of_view v = record { name = v.name.now; slot = v.slot; cells = v.cells }
-
--- an instruction that reads the input
-abbrev pub is_read : Instr → Bool
-is_read (I.ReadInt a b) = true
-is_read (I.ReadChar a b) = true
-is_read _ = false
 
 -- what stands for a line that is not there
 abbrev pub no_line : Line

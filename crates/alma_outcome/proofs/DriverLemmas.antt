@@ -22,6 +22,7 @@ use Rattle.alma_ir.specs.Tree.{Program}
 use Rattle.alma_code.specs.declared.code.Code.{Code}
 use Rattle.alma_code.specs.ListText.{list_text}
 use Rattle.alma_code.specs.Plain.{PlainCode}
+use Rattle.alma_code.specs.Reads.{code_reads}
 use Rattle.alma_code.specs.Records.{KeepsVersion, KeepsCounts, KeepsRecords}
 use Rattle.alma_code.specs.Rules.{IsSound, code_fault}
 use Rattle.alma_code.specs.declared.step.VerifyFault.{VerifyFault}
@@ -32,13 +33,8 @@ use Rattle.alma_whole.specs.Bytes.{object_code}
 use Rattle.alma_lower.specs.declared.lowering.LowerError.{LowerError}
 use Rattle.alma_lower.specs.declared.lowering.LowerError.TheVariants as lower
 use Rattle.alma_implements.specs.Implements.{Implements}
-use Rattle.alma_sound.specs.Reads.{code_reads, program_reads}
-use Rattle.alma_sound.specs.Reads as sound
-use Rattle.alma_object.specs.View as object
-use Rattle.alma_code.specs.declared.instr.Instr.{Instr}
-use Rattle.alma_code.specs.declared.instr.Instr.TheVariants as I
-use Rattle.std.specs.Prelude.{◌∷◌, ◌||◌}
-use Rattle.std.specs.List.{list_any}
+use Rattle.alma_sound.specs.Reads.{program_reads}
+use Rattle.std.specs.Prelude.{◌∷◌}
 use Rattle.alma_words.specs.Words.{Request, Check, Compile, Listing, Run, Exec, Trace, Sample, Asks, Reads}
 use Rattle.alma_outcome.specs.Words.{read_by, limit_of}
 use Rattle.alma_outcome.specs.Showing.{Showing, Prints}
@@ -48,7 +44,7 @@ use Rattle.alma_scan.specs.Places.{line_at, column_at}
 use Rattle.alma_outcome.specs.Refusal.{IsRefused, IsProgramOf, place_of}
 use Rattle.alma_outcome.specs.declared.fault.SourceFault.{SourceFault}
 use Rattle.alma_outcome.specs.Ends.{lower_end, words_end, fetch_end, store_end, input_end}
-use Rattle.alma_outcome.specs.Outcome.{Due, Stored, due_of, silent, storing, has_read, code_due, long_input, MayBeLeft, InputOutcome, unread, taken, past_input, size_of, ProgramOutcome, ran, too_much_code, CompileOutcome, made, past_size, IsSourceEnd, refused, IsStop, SourceOutcome, stopped, compiled, CheckOutcome, ListOutcome, listed, no_object, CodeOutcome, executed, unsound, ExecOutcome, opened, unopened, FileOutcome, SampleOutcome, summed, RequestOutcome, absent, past_limit, fetched, unfetched, Outcome, bad_word, asks}
+use Rattle.alma_outcome.specs.Outcome.{Due, Stored, due_of, silent, storing, code_due, long_input, MayBeLeft, InputOutcome, unread, taken, past_input, size_of, ProgramOutcome, ran, too_much_code, CompileOutcome, made, past_size, IsSourceEnd, refused, IsStop, SourceOutcome, stopped, compiled, CheckOutcome, ListOutcome, listed, no_object, CodeOutcome, executed, unsound, ExecOutcome, opened, unopened, FileOutcome, SampleOutcome, summed, RequestOutcome, absent, past_limit, fetched, unfetched, Outcome, bad_word, asks}
 use Rattle.alma_outcome.specs.Course.{Gains, GainsPrefix, Goes, OthersStay, Keeps, done, failed, Works, Takes, Moves, MayRead, ReadsOnly, FailsToRead, Runs, Serves, Performs}
 use Rattle.alma_words.specs.declared.words.WordsError.{WordsError}
 use Rattle.alma_words.specs.declared.words.WordsError.TheVariants as words
@@ -117,7 +113,7 @@ runs_map P Q f i j a b end (inl h) = inl (fails_map P Q f i j a b end h)
 runs_map P Q f i j a b end (inr h) = inr (reads_map P Q f i j h.0, goes_map (Moves P i j) (Moves Q i j) (moves_map P Q f i j) a b end h.1)
 
 -- code that does not read was run
-pub runs_unread : (code : PlainCode) (steps : ℕ) (showing : Showing) (i : SourceSide) (a b : SinkSide) (end : End) → has_read code ≡ false
+pub runs_unread : (code : PlainCode) (steps : ℕ) (showing : Showing) (i : SourceSide) (a b : SinkSide) (end : End) → code_reads code ≡ false
     → Goes (IsDue code [] steps showing) a b end → Runs (InputOutcome i.left code steps showing) i i a b end
 runs_unread code steps showing i a b end quiet g =
     inr (
@@ -133,7 +129,7 @@ was_left (Some xs) None bytes c e = absurd c
 was_left (Some xs) (Some ys) bytes c e = c ∙ ap (λ z. bytes ++ z) e ∙ append-nil bytes
 
 -- code that reads has an outcome that reads
-reading_due : (left : Option (List ℕ)) (code : PlainCode) (steps : ℕ) (showing : Showing) → has_read code ≡ true → MayRead (InputOutcome left code steps showing)
+reading_due : (left : Option (List ℕ)) (code : PlainCode) (steps : ℕ) (showing : Showing) → code_reads code ≡ true → MayRead (InputOutcome left code steps showing)
 reading_due None code steps showing q = (code_due code [] steps showing, taken [] q tt (omega arith) refl, q)
 reading_due (Some bytes) code steps showing q = by (cases_lt input_limit (length bytes))
   where
@@ -142,7 +138,7 @@ reading_due (Some bytes) code steps showing q = by (cases_lt input_limit (length
     by (inr short) = (code_due code bytes steps showing, taken bytes q refl short refl, q)
 
 -- code that reads was run on all that was left
-pub runs_taken : (code : PlainCode) (steps : ℕ) (showing : Showing) (i j : SourceSide) (bytes : List ℕ) (a b : SinkSide) (end : End) → has_read code ≡ true
+pub runs_taken : (code : PlainCode) (steps : ℕ) (showing : Showing) (i j : SourceSide) (bytes : List ℕ) (a b : SinkSide) (end : End) → code_reads code ≡ true
     → Consumes i.left j.left bytes → IsAtEnd j.left → length bytes ≤ input_limit → j.faults ≡ i.faults
     → Goes (IsDue code bytes steps showing) a b end → Runs (InputOutcome i.left code steps showing) i j a b end
 runs_taken code steps showing i j bytes a b end q c e short same g =
@@ -159,7 +155,7 @@ abbrev not_read : ReadAll → Result (Vec ℕ) ReadAll
 not_read error = Err error
 
 -- an input that was not read
-pub runs_lost : (code : PlainCode) (steps : ℕ) (showing : Showing) (i j : SourceSide) (error : ReadAll) (a : SinkSide) → has_read code ≡ true
+pub runs_lost : (code : PlainCode) (steps : ℕ) (showing : Showing) (i j : SourceSide) (error : ReadAll) (a : SinkSide) → code_reads code ≡ true
     → LosesAtMost i.left j.left (input_limit + 1) → HasReadCause i.faults j.faults (Err error) → (not_read error ≡ not_read reading.TooLong → MayHaveMore i.left input_limit)
     → Runs (InputOutcome i.left code steps showing) i j a a (input_end error)
 runs_lost code steps showing i j reading.Fault a q loses cause more =
@@ -241,21 +237,11 @@ compiled_within p code too_much = by (cases_lt size_limit (size_of p))
     by (inl past) = cc (too_much past)
     by (inr small) = small
 
--- to read is one thing for code and its object
-read_is : (i : Instr) → object.is_read i ≡ sound.is_read i
-read_is (I.ReadInt a t) = refl
-read_is (I.ReadChar a t) = refl
-read_is i = refl
-
-reads_are : (is : List Instr) → list_any object.is_read is ≡ list_any sound.is_read is
-reads_are [] = refl
-reads_are (i ∷ is) = ap (λ b. b || list_any object.is_read is) (read_is i) ∙ ap (λ b. sound.is_read i || b) (reads_are is)
-
 -- a program that was compiled and run
 pub runs_compiled : (p : Program) (code : PlainCode) (steps : ℕ) (showing : Showing) (i j : SourceSide) (a b : SinkSide) (end : End) → IsSound code → Implements code p
     → code_reads code ≡ program_reads p → size_of p ≤ size_limit → Runs (InputOutcome i.left code steps showing) i j a b end → Runs (ProgramOutcome i.left p steps showing) i j a b end
 runs_compiled p code steps showing i j a b end sound implements reads within g =
-    runs_map (InputOutcome i.left code steps showing) (ProgramOutcome i.left p steps showing) (λ due o. ran code within sound implements (reads_are code.instrs ∙ reads) o) i j a b end g
+    runs_map (InputOutcome i.left code steps showing) (ProgramOutcome i.left p steps showing) (λ due o. ran code within sound implements reads o) i j a b end g
 
 -- ---- listing
 
@@ -398,7 +384,7 @@ pub works_compiled : (p : Program) (code : PlainCode) (object : List ℕ) (f f' 
     → Works (IsStoring object (object_bytes code)) f f' a a end → Works (CompileOutcome p object) f f' a a end
 works_compiled p code object f f' a end sound implements reads version counts records within w =
     let is : IsObject code (object_bytes code) = record { version = version; counts = counts; records = records; table = sound.table; spelled = refl } in
-    works_map (IsStoring object (object_bytes code)) (CompileOutcome p object) (λ due e. made code (object_bytes code) within sound implements (reads_are code.instrs ∙ reads) is e) f f' a a end w
+    works_map (IsStoring object (object_bytes code)) (CompileOutcome p object) (λ due e. made code (object_bytes code) within sound implements reads is e) f f' a a end w
 
 -- a program that was not compiled is not stored
 pub works_refused : (p : Program) (object : List ℕ) (error : LowerError) (f : FilesSide) (a : SinkSide) → IsUnlowered p error

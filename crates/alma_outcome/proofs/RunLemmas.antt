@@ -14,6 +14,7 @@ use Rattle.alma_code.specs.declared.step.End.TheVariants as ended
 use Rattle.alma_code.specs.Lines.{known_line}
 use Rattle.alma_code.specs.Machine.{Mode, Going, Failing, Ended, Stuck, State, start, step, after, prints}
 use Rattle.alma_code.specs.Plain.{PlainCode}
+use Rattle.alma_code.specs.Reads.{code_reads}
 use Rattle.alma_implements.specs.Implements.{Implements, ComesTo, HasEnded, IsEnough, state_after, printed_by, line_in}
 use Rattle.alma_implements.proofs.Enough.{is_enough}
 use Rattle.alma_engine.specs.declared.machine.RunEnd.{RunEnd}
@@ -24,7 +25,7 @@ use Rattle.alma_engine.proofs.Budget.{ended_after}
 use Rattle.alma_outcome.specs.Outside.{SinkSide}
 use Rattle.alma_outcome.specs.declared.end.Counts.{Counts}
 use Rattle.alma_outcome.specs.Ends.{mode_end, run_end, counts_in}
-use Rattle.alma_outcome.specs.Outcome.{Due, has_read, code_end, code_due, size_of, InputOutcome, unread, taken, past_input, AreCounts, MayRunOut, MeansOn, whole, front, ProgramOutcome, ran, too_much_code, IsTaken, Meant, meant_on, too_long, too_large}
+use Rattle.alma_outcome.specs.Outcome.{Due, code_end, code_due, size_of, InputOutcome, unread, taken, past_input, AreCounts, MayRunOut, MeansOn, whole, front, ProgramOutcome, ran, too_much_code, IsTaken, Meant, meant_on, too_long, too_large}
 use Rattle.alma_outcome.specs.Showing.{Showing, Prints}
 use Rattle.alma_outcome.specs.Course.{Goes}
 
@@ -174,7 +175,7 @@ code_means p code input steps stats implements short = by (state_after code inpu
 
 -- a run on this input is what the program means on it
 means_due : (left : Option (List ℕ)) (p : Program) (code : PlainCode) (input : List ℕ) (steps : ℕ) (stats : Bool) (due : Due) → size_of p ≤ size_limit
-    → Implements code p → length input ≤ input_limit → IsTaken left (has_read code) input → due ≡ code_due code input steps (Prints stats) → Meant left p steps stats due
+    → Implements code p → length input ≤ input_limit → IsTaken left (code_reads code) input → due ≡ code_due code input steps (Prints stats) → Meant left p steps stats due
 means_due left p code input steps stats due size implements short is e =
     subst (Meant left p steps stats) (sym e) (meant_on input size is (code_means p code input steps stats implements short))
 

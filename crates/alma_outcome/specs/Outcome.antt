@@ -1,6 +1,5 @@
 -- What a call comes to where memory is found and nothing fails, layer by layer.
 use Rattle.std.specs.Prelude.{◌≡◌, ◌<◌, ◌≤◌, ◌+◌, ◌*◌, ◌/◌, ◌⊎◌, suc, Bool, true, false, List, ℕ, [], length, Option, None, Some}
-use Rattle.std.specs.List.{list_any}
 use Rattle.alma_base.specs.Limits.{size_limit, input_limit}
 use Rattle.alma_io.specs.Files.{Told, Missing, MayHave, MayPass}
 use Rattle.alma_io.specs.Whole.{MayHaveMore}
@@ -12,11 +11,11 @@ use Rattle.alma_code.specs.declared.step.End as code
 use Rattle.alma_code.specs.declared.step.VerifyFault.{VerifyFault}
 use Rattle.alma_code.specs.ListText.{list_text}
 use Rattle.alma_code.specs.Plain.{PlainCode}
+use Rattle.alma_code.specs.Reads.{code_reads}
 use Rattle.alma_code.specs.Machine.{State}
 use Rattle.alma_code.specs.Rules.{IsSound, code_fault}
 use Rattle.alma_format.specs.declared.fault.ObjectFault.{ObjectFault}
 use Rattle.alma_object.specs.Object.{IsObject}
-use Rattle.alma_object.specs.View.{is_read}
 use Rattle.alma_object.specs.Walk.{object_fault}
 use Rattle.alma_whole.specs.Bytes.{object_code}
 use Rattle.alma_sample.specs.Sample.{sample_text}
@@ -62,10 +61,6 @@ storing name bytes = record { end = Succeeded None; out = []; stored = Some (rec
 
 -- ---- code and its input
 
--- an instruction of the code reads
-abbrev pub has_read : PlainCode → Bool
-has_read code = list_any is_read code.instrs
-
 -- the end of code in a state, with the counts where they are asked for
 abbrev pub code_end : PlainCode → (stats : Bool) → State → End
 code_end code stats s = mode_end s.mode (line_in code s) (counts_in stats s)
@@ -76,7 +71,7 @@ code_due code input steps showing = record {
   end = code_end code (counts_shown showing) (state_after code input steps);
   out = text_shown code input steps showing;
   stored = None;
-  reads = has_read code;
+  reads = code_reads code;
 }
 
 -- what is left of the input may be these bytes
@@ -91,24 +86,24 @@ long_input = record { end = TooLong; out = []; stored = None; reads = true }
 -- What a run of code comes to, by what is left of the input: where the code reads, the whole input is read before its
 -- first step, and may be too long; where it does not, it runs on an empty one.
 pub data InputOutcome (left : Option (List ℕ)) (code : PlainCode) (steps : ℕ) (showing : Showing) (due : Due) : Type 0 where
-  unread : has_read code ≡ false → due ≡ code_due code [] steps showing → InputOutcome left code steps showing due
-  taken : (input : List ℕ) → has_read code ≡ true → MayBeLeft left input → length input ≤ input_limit → due ≡ code_due code input steps showing
+  unread : code_reads code ≡ false → due ≡ code_due code [] steps showing → InputOutcome left code steps showing due
+  taken : (input : List ℕ) → code_reads code ≡ true → MayBeLeft left input → length input ≤ input_limit → due ≡ code_due code input steps showing
       → InputOutcome left code steps showing due
-  past_input : has_read code ≡ true → MayHaveMore left input_limit → due ≡ long_input → InputOutcome left code steps showing due
+  past_input : code_reads code ≡ true → MayHaveMore left input_limit → due ≡ long_input → InputOutcome left code steps showing due
 
 -- ---- programs
 
 -- What a run of a program for so many steps comes to: what a sound code that implements it, and reads exactly where it does, comes
 -- to in so many steps, or the refusal of its size.
 pub data ProgramOutcome (left : Option (List ℕ)) (p : Program) (steps : ℕ) (showing : Showing) (due : Due) : Type 0 where
-  ran : (code : PlainCode) → size_of p ≤ size_limit → IsSound code → Implements code p → has_read code ≡ program_reads p → InputOutcome left code steps showing due
+  ran : (code : PlainCode) → size_of p ≤ size_limit → IsSound code → Implements code p → code_reads code ≡ program_reads p → InputOutcome left code steps showing due
       → ProgramOutcome left p steps showing due
   too_much_code : size_limit < size_of p → due ≡ silent (TooMuchCode (size_of p)) → ProgramOutcome left p steps showing due
 
 -- What compiling a program under a name comes to: the object of a sound code that implements it, and reads exactly where it
 -- does, is stored there, or the refusal of its size.
 pub data CompileOutcome (p : Program) (object : List ℕ) (due : Due) : Type 0 where
-  made : (code : PlainCode) (bytes : List ℕ) → size_of p ≤ size_limit → IsSound code → Implements code p → has_read code ≡ program_reads p → IsObject code bytes
+  made : (code : PlainCode) (bytes : List ℕ) → size_of p ≤ size_limit → IsSound code → Implements code p → code_reads code ≡ program_reads p → IsObject code bytes
       → due ≡ storing object bytes → CompileOutcome p object due
   past_size : size_limit < size_of p → due ≡ silent (TooMuchCode (size_of p)) → CompileOutcome p object due
 

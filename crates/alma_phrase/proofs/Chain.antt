@@ -1,7 +1,6 @@
 -- What a part gave, with the token and the end of a node behind it.
 use Rattle.std.proofs.Common.{◌≡◌, ◌<◌, ℕ, length, arith, pred, false, true, List, ◌∷◌, Result}
 use Rattle.std.proofs.Common.{Ok, Err, MatchResult, Box, Global, refl, sym, subst}
-use Rattle.std.specs.Prelude.{IsErrAnd}
 use Rattle.alma_tree.specs.declared.kind.Kind.{Kind}
 use Rattle.alma_tree.specs.Depth.{opens, closes}
 use Rattle.alma_tree.specs.Numbers.{Step, token, node, ◌>>◌}
@@ -47,12 +46,6 @@ pub at_depth : {T : Type 0} (s : T → List Kind → List Kind) (n : T → Step)
     → MatchResult r (λ t. (e : ℕ) → Reads (s t.0) (n t.0) p e e a (position_of t.1)) (λ f. (e : ℕ) → Fails f p e a) → Gives s n p d d a r
 at_depth s n p d a (Ok u) y = y d
 at_depth s n p d a (Err g) y = y d
-
--- the error of a `?` is that of the part
-pub stopped : {T E : Type 0} (P : T → Type 0) (Q : E → Type 0) (r : Result T E) (e : E) → IsErrAnd r (λ y. y ≡ e) → Q e
-    → MatchResult r P Q
-stopped P Q (Ok x) e h q = absurd h
-stopped P Q (Err y) e h q = subst Q (sym h) q
 
 -- behind a part and a token fewer tokens are left
 pub fewer : {T : Type 0} (s : T → List Kind → List Kind) (n : T → Step) (p : List Part → List Part) (d e : ℕ) (a : At) (k : Kind)

@@ -5,7 +5,7 @@ use Rattle.std.proofs.lemmas.Bool.{le-ltb, lt-ltb, ltb-true, ltb-false}
 use Rattle.std.proofs.lemmas.Bool.Decides.{eqb_tells}
 use Rattle.alma_base.specs.declared.fault.CheckFault.{CheckFault}
 use Rattle.alma_base.specs.declared.fault.CheckFault.TheVariants as fault
-use Rattle.alma_rules.specs.Judged.{Broken, rank, is_before, lesser, least}
+use Rattle.alma_rules.specs.Judged.{Broken, rank, is_before, lesser, better, least}
 use Rattle.alma_rules.specs.Answers.{first}
 use Rattle.alma_rules.proofs.Within.{key, Keys}
 
@@ -67,11 +67,6 @@ first_least lo hi (b ∷ c ∷ cs) h =
     ap Some (ap (lesser b) ih ∙ chosen (is_before c b) b c (not_before b c h.2.0))
 
 -- ---- the least of two passes
-
--- the lesser of two that there may not be
-abbrev pub better : Option Broken → Option Broken → Option Broken
-better None b = b
-better (Some a) b = Some (lesser a b)
 
 sure_left : (x y : Bool) → x ≡ true → (x || y) ≡ true
 sure_left true y h = refl

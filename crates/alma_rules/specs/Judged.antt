@@ -112,6 +112,11 @@ abbrev pub lesser : Broken → Option Broken → Broken
 lesser a None = a
 lesser a (Some b) = if is_before b a then b else a
 
+-- the lesser of two that there may not be
+abbrev pub better : Option Broken → Option Broken → Option Broken
+better None b = b
+better (Some a) b = Some (lesser a b)
+
 abbrev pub least : List Broken → Option Broken
 least [] = None
 least (b ∷ bs) = Some (lesser b (least bs))

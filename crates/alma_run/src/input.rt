@@ -5,7 +5,8 @@ ghost use Rattle.alma_verify.specs.Verified.{code_of_verified};
 ghost use Rattle.alma_words.specs.Words.{greatest_steps};
 ghost use Rattle.alma_outcome.specs.Ends.{counts_in};
 ghost use Rattle.alma_outcome.specs.Outside.{sink_side, source_side};
-ghost use Rattle.alma_outcome.specs.Outcome.{code_due, has_read, InputOutcome};
+ghost use Rattle.alma_code.specs.Reads.{code_reads};
+ghost use Rattle.alma_outcome.specs.Outcome.{code_due, InputOutcome};
 ghost use Rattle.alma_outcome.specs.Showing.{Prints, shown_of};
 ghost use Rattle.alma_outcome.specs.Course.{Goes, Runs};
 
@@ -90,7 +91,7 @@ fn run_reading<I: Source, O: Sink>(
     out: &mut O,
 ) -> End
     requires few { steps ≤ greatest_steps }
-    requires reads { has_read (code_of_verified code) ≡ true }
+    requires reads { code_reads (code_of_verified code) ≡ true }
     ensures { Runs (InputOutcome (I.left input.old) (code_of_verified code.entry) steps
         (shown_of showing.entry))
         (source_side (I.left input.old) (I.faults input.old))

@@ -19,7 +19,7 @@ use Rattle.alma_templates.specs.Tables.{Tables, range_number, is_whole}
 use Rattle.alma_templates.specs.Pieces.{condition, guarded, chosen, first_of_two, refused, fit_code, neg_code, op_code, cmp_code, write_code, read_code, case_arm, passed_over, has_dead, behind_labels, labels_code, begin_loop, bounds_code, entry_code, chain_code, link_code, unless_whole, for_turns, some_turns, turn_code, each_body, forall_code}
 use Rattle.alma_templates.specs.Slots.{shift_of, bare, bare_desig, unless_bare, is_simple, handed_slots, arg_slots, behind_expr, behind_dead, behind_value, behind_desig, behind_target, behind_variable, behind_test, behind_stmts, behind_stmt, behind_condition}
 use Rattle.alma_templates.specs.Templates.{char_range, own_slot, outer_slot, link_if, set_by, load_by, value_at, part_slot, behind_root, place_at, root_code, call_link_code, arguments_from, call_code, set_code, load_code, count_at, count_code, fit_result, stmts_code, stmt_code, if_code, arms_code, for_code, some_code, dead_code, case_code, cases_code, else_code, either_code, branches_code, test_code, and_code, or_code, operands_code, jump_code, expr_code, links_code, args_code, arg_code, desig_code, sels_code, sel_code}
-use Rattle.alma_sound.specs.Reads.{is_read}
+use Rattle.alma_code.specs.Reads.{is_read}
 
 -- ---- READs of phrases
 

@@ -15,7 +15,8 @@ use Rattle.alma_templates.specs.Templates.{stmts_code, routine_code, end_code}
 use Rattle.alma_templates.specs.Compiled.{routines_code}
 use Rattle.alma_templates.specs.CodeOf.{IsCodeOf}
 use Rattle.alma_sound.specs.Entries.{of_each, program_phrases}
-use Rattle.alma_sound.specs.Reads.{is_read, is_read_phrase, code_reads, program_reads}
+use Rattle.alma_code.specs.Reads.{is_read, code_reads}
+use Rattle.alma_sound.specs.Reads.{is_read_phrase, program_reads}
 use Rattle.alma_sound.proofs.Readers.{bit_of, reads, both, stmts_same, stmts_reads, stmt_reads, arms_reads, cases_reads, else_reads, branches_reads, loop_reads, return_reads, test_reads, tests_reads, expr_reads, links_reads, args_reads, arg_reads, desig_reads, sels_reads, sel_reads}
 use Rattle.alma_sound.proofs.ReadersAlike.{stmts_alike}
 

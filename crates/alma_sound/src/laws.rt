@@ -8,7 +8,8 @@ ghost use Rattle.alma_ir.specs.Checked.{IsChecked};
 ghost use Rattle.alma_ir.specs.Count.{nodes};
 ghost use Rattle.alma_ir.specs.Tree.{Program};
 ghost use Rattle.alma_sound.specs.Entries.{HoldsEachOnce};
-ghost use Rattle.alma_sound.specs.Reads.{code_reads, program_reads};
+ghost use Rattle.alma_code.specs.Reads.{code_reads};
+ghost use Rattle.alma_sound.specs.Reads.{program_reads};
 ghost use Rattle.alma_sound.specs.Runs.{HasLongRuns};
 ghost use Rattle.alma_templates.specs.CodeOf.{IsCodeOf};
 

@@ -1,5 +1,6 @@
 pub mod Judging
 pub mod Rows
+pub mod TypeRows
 pub mod Onwards
 pub mod Exprs
 pub mod Desigs

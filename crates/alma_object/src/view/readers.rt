@@ -1,12 +1,12 @@
 // What a view reads.
 ghost use Rattle.std.specs.Prelude.{◌≡◌, ◌+◌, ◌<◌, ◌≤◌, length, map, slice_get, slice_range, option_map, Some, None, MatchOption, MatchResult, IfOk, IfSome};
-ghost use Rattle.std.specs.List.{list_any};
 ghost use Rattle.alma_code.specs.Lines.{line_of as line_of_code, known_line as known_line_of};
 ghost use Rattle.alma_code.specs.Plain.{start_at};
+ghost use Rattle.alma_code.specs.Reads.{is_read as is_read_of, code_reads};
 ghost use Rattle.alma_format.specs.Object.{IsObject};
 ghost use Rattle.alma_format.specs.Reading.{name_in, text_in, routine_in, global_in};
 ghost use Rattle.alma_format.specs.Walk.{object_fault};
-ghost use Rattle.alma_object.specs.View.{code_of_view, routine_of_view, global_of_view, IsSplit, is_read as is_read_of};
+ghost use Rattle.alma_object.specs.View.{code_of_view, routine_of_view, global_of_view, IsSplit};
 
 use crate::routine::RoutineView;
 use crate::view::ObjectView;
@@ -225,7 +225,7 @@ impl<'b> ObjectView<'b> {
     /// Whether a ReadInt or a ReadChar stands in the code.
     #[tactic(auto, using(std::proofs::lemmas::List::Folds::list_any_more, std::proofs::lemmas::List::Folds::list_any_at, crate::proofs::Items::item_steps))]
     pub fn has_read(&self) -> bool
-        ensures { result ≡ list_any is_read_of (code_of_view self.now).instrs }
+        ensures { result ≡ code_reads (code_of_view self.now) }
     {
         for at in 0..self.header.instrs {
             if is_read(self.instr(at)) {

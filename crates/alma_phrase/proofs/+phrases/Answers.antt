@@ -31,9 +31,10 @@ use Rattle.alma_cursor.proofs.Steps.{instead_any, extended, extended_twice, inst
 use Rattle.alma_phrase_parts.specs.Nodes.{ComparedWith, SumOf}
 use Rattle.alma_phrase_parts.proofs.Fewer.{behind_within, made_within, pushed_within, within_ok, ok_within}
 use Rattle.alma_phrase_parts.proofs.Growing.{pushed_turn}
+use Rattle.alma_phrase_parts.proofs.Stopped.{stopped}
 use Rattle.alma_phrase_parts.proofs.Made.{made_gives, made_or_gives, behind_front, becoming_gives, made_extends, made_or_extends}
 use Rattle.alma_phrase.specs.Pieces.{inside_of, number_inside_args}
-use Rattle.alma_phrase.proofs.Chain.{plain, closing, matching, ended_behind, ended_extending, in_box, fewer, stopped}
+use Rattle.alma_phrase.proofs.Chain.{plain, closing, matching, ended_behind, ended_extending, in_box, fewer}
 use Rattle.alma_phrase.proofs.Heads as heads
 use Rattle.alma_phrase.proofs.Links.{broken_turn, term_linked, factor_linked, shallower_gives}
 use Rattle.alma_phrase.proofs.Lists as lists

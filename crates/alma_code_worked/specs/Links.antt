@@ -17,7 +17,7 @@ use Rattle.alma_code.specs.Rules.{code_fault}
 use Rattle.alma_code.specs.Lines.{line_of}
 use Rattle.alma_code.specs.ListText.{list_lines}
 use Rattle.alma_code.specs.TraceText.{trace_lines}
-use Rattle.alma_code.specs.Worked.Codes.{Ends, Prints, Breaks, state_after, param_of, numbers_to, places_to, routine_to, code_with, plain_main, least, branch_undone}
+use Rattle.alma_code_worked.specs.Codes.{Ends, Prints, Breaks, state_after, param_of, numbers_to, places_to, routine_to, code_with, plain_main, least, branch_undone}
 
 -- link slots up to an end
 abbrev pub links_to : (routine end : ℕ) → Run

@@ -14,7 +14,7 @@ use Rattle.alma_code.specs.Layout.{RunsRise}
 use Rattle.alma_code.specs.Plain.{head_at, start_at, end_at}
 use Rattle.alma_code.specs.Records.{KeepsCounts, KeepsRecords}
 use Rattle.alma_code.specs.Rules.{IsTable, last_end, code_fault, instr_fault, instrs_fault, routine_fault, routines_fault, rule_5, rule_6, rule_7, rule_10, rule_11, rule_12}
-use Rattle.alma_code.specs.Worked.Codes.{Ends, Prints, Breaks, state_after, change_of, param_of, numbers_to, places_to, marks_to, routine_to, code_with, main_with, plain_main, least, branch_undone, choices_cut, sum_carried, carry_grows, left_unknown, right_unknown, both_unknown, out_of_range, cells_equated, mix_called, frame_again, function_called, frame_too_large, input_again, read_one, loop_counts, values_print, operation, index_outside, part_named, global_written, array_copied, copy_overlaps, equation_overlaps, equation_stops, jump_if_zero, bound_to, byte_read, small_read, nothing_held, kept_below, unset_argument, loop_by}
+use Rattle.alma_code_worked.specs.Codes.{Ends, Prints, Breaks, state_after, change_of, param_of, numbers_to, places_to, marks_to, routine_to, code_with, main_with, plain_main, least, branch_undone, choices_cut, sum_carried, carry_grows, left_unknown, right_unknown, both_unknown, out_of_range, cells_equated, mix_called, frame_again, function_called, frame_too_large, input_again, read_one, loop_counts, values_print, operation, index_outside, part_named, global_written, array_copied, copy_overlaps, equation_overlaps, equation_stops, jump_if_zero, bound_to, byte_read, small_read, nothing_held, kept_below, unset_argument, loop_by}
 use Rattle.alma_code.specs.Words.{words}
 
 pub least_code_table : IsTable least

@@ -1,4 +1,6 @@
 //! Small codes that are run and judged by computing, each in the contract of a function that does nothing.
+#![tactic(auto)]
+
 ghost use Rattle.std.specs.Prelude.{◌≡◌, ◌-◌, ◌^◌, true, false, pos, negsuc, [], ◌∷◌, length, take, codes, None};
 ghost use Rattle.std.specs.Fmt.{decimal, signed_decimal};
 ghost use Rattle.alma_base.specs.declared.fault.RunFault.TheVariants as fault;
@@ -11,8 +13,8 @@ ghost use Rattle.alma_code.specs.Picture.{cell_at, last_frame, top_of, entry_at}
 ghost use Rattle.alma_code.specs.Machine.{step, start};
 ghost use Rattle.alma_code.specs.Records.{KeepsCounts, KeepsRecords};
 ghost use Rattle.alma_code.specs.Rules.{IsTable, code_fault};
-ghost use Rattle.alma_code.specs.Worked.Links.{LinksRun, LinksRefused, LinesTell, TextsTell};
-ghost use Rattle.alma_code.specs.Worked.Codes.{Ends, Prints, Breaks, state_after, change_of, param_of, numbers_to, places_to, marks_to, routine_to, code_with, main_with, plain_main, least, branch_undone, choices_cut, sum_carried, carry_grows, left_unknown, right_unknown, both_unknown, out_of_range, cells_equated, mix_called, frame_again, function_called, frame_too_large, input_again, read_one, loop_counts, values_print, operation, index_outside, part_named, global_written, array_copied, copy_overlaps, equation_overlaps, equation_stops, jump_if_zero, bound_to, byte_read, small_read, nothing_held, kept_below, unset_argument, loop_by};
+ghost use Rattle.alma_code_worked.specs.Links.{LinksRun, LinksRefused, LinesTell, TextsTell};
+ghost use Rattle.alma_code_worked.specs.Codes.{Ends, Prints, Breaks, state_after, change_of, param_of, numbers_to, places_to, marks_to, routine_to, code_with, main_with, plain_main, least, branch_undone, choices_cut, sum_carried, carry_grows, left_unknown, right_unknown, both_unknown, out_of_range, cells_equated, mix_called, frame_again, function_called, frame_too_large, input_again, read_one, loop_counts, values_print, operation, index_outside, part_named, global_written, array_copied, copy_overlaps, equation_overlaps, equation_stops, jump_if_zero, bound_to, byte_read, small_read, nothing_held, kept_below, unset_argument, loop_by};
 
 /// The least code is sound, and its first step ends it in success.
 #[tactic(auto, using(crate::proofs::Computed::least_code_table, crate::proofs::Computed::least_code_counts, crate::proofs::Computed::least_code_records, crate::proofs::Computed::least_code_sound, crate::proofs::Computed::least_code_ends, crate::proofs::Computed::least_code_prints))]

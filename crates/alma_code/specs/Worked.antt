@@ -1,3 +1,0 @@
--- Worked programs: what the definitions make of small ones, by computation.
-pub mod Codes
-pub mod Links
