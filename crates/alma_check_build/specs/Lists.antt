@@ -9,12 +9,6 @@ use Rattle.alma_ir.specs.declared.phrase.CaseArm.{CaseArm}
 use Rattle.alma_ir.specs.declared.phrase.Branch.{Branch}
 use Rattle.alma_ir.specs.declared.phrase.Loop.{Loop}
 use Rattle.alma_ir.specs.View.{test_of, stmts_list, arms_list, cases_list, branches_list, else_option, loop_of}
-use Rattle.alma_rules.specs.Parts as parts
-
--- the first operator of a sum or product
-abbrev pub first_of : parts.Operands → Option parts.Operator
-first_of [] = None
-first_of (x ∷ xs) = Some x.0
 
 -- ---- parts that there may not be, since a name in use is Bad
 

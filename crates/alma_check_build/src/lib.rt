@@ -2,14 +2,10 @@
 // The line #![tactic(auto)] of every crate, with lemmas for all functions of this one.
 #![tactic(auto, using(crate::proofs::Steps::steps, std::proofs::lemmas::Grind::common_steps))]
 
-mod chain;
 mod expression;
 
-pub use chain::{
-    add, add_operator, alone, any_and, any_or, behind, chained_in, first_add, first_mul,
-    mul_operator, no_constant_sum,
-};
 pub use expression::{
     argument, as_callee, as_located, as_test, as_typed, as_value, call, character, chr, desig,
-    integer, known, negate, ord, relate, select_field, select_index, sequence, without_place,
+    integer, known, negate, no_place, ord, relate, select_field, select_index, sequence,
+    without_place,
 };

@@ -9,7 +9,7 @@ ghost use Rattle.alma_check_rules.specs.Views.{scene_of, typing_in, typing_of, o
 ghost use Rattle.alma_check_chain.specs.Single.{one_term, one_factor};
 
 use alma_base::CheckFault;
-use alma_check_build::{alone, any_and, any_or, chained_in, no_constant_sum};
+use alma_check_operators::{alone, any_and, any_or, chained_in, no_constant_sum};
 use alma_check_rules::{Behind, Env, Join, Operand, Place, Typed, pass_operand};
 use alma_rules::Stop;
 use alma_tree::{AddLink, MulLink, Sign};

@@ -9,8 +9,8 @@ ghost use Rattle.alma_check_rules.specs.Views.{scene_of, typing_of, operand_view
 use crate::call::check_named;
 use crate::designator::check_desig;
 use crate::parens::check_parens;
-use alma_check_build::{add_operator, behind, first_add, first_mul, mul_operator};
 use alma_check_chain::{join_product, join_sum};
+use alma_check_operators::{add_operator, behind, first_add, first_mul, mul_operator};
 use alma_check_rules::{Behind, Env, Operand, Place, Typed, Use};
 use alma_join_expression::{
     check_literal, check_number, join_chr, join_factor, join_known, join_not, join_ord,

@@ -1,21 +1,20 @@
 -- How what is gathered of parts is put together.
 use Rattle.std.proofs.Common.{◌≡◌, ℕ, ◌+◌, ◌-◌, List, [], ◌∷◌, ◌++◌, Option, None, Some, refl, sym, ap, ◌∙◌, arith, append_assoc, append-nil, subst}
 use Rattle.std.specs.Prelude.{option_map}
-use Rattle.alma_shapes.specs.Shapes.{PlainShape}
 use Rattle.alma_ir.specs.Tree as ir
 use Rattle.alma_rules.specs.Numbered as tree
-use Rattle.alma_rules.specs.Judged.{Broken, Judged, lesser, better, least, both_of, broken_at}
+use Rattle.alma_rules.specs.Judged.{Broken, Judged, better, least, both_of, broken_at}
 use Rattle.alma_rules.specs.Answers.{first}
 use Rattle.alma_rules.specs.Scene.{Scene}
-use Rattle.alma_rules.specs.Decls.{Frame, block_routines, decls_routines, decl_routines, read_heading, read_decls}
-use Rattle.alma_rules.specs.Modules.{Bodied, bodied_both, joined_routines, cons_routine, no_routines, judge_body, body_lines, judge_bodies, judge_decl, judge_block, routine_of, routine_at, with_shapes, frame_of, end_rules, ended}
+use Rattle.alma_rules.specs.Decls.{Frame, decls_routines, decl_routines, read_decls}
+use Rattle.alma_rules.specs.Modules.{Bodied, bodied_both, cons_routine, no_routines, judge_body, body_lines, judge_bodies, judge_decl, judge_block, routine_of, routine_at, with_shapes, end_rules}
 use Rattle.alma_rules.specs.Walk.{judge_stmts}
 use Rattle.alma_rules.specs.Rising.{rise_block, IsRising}
 use Rattle.alma_rules.proofs.Leasts as leasts
 use Rattle.alma_rules.proofs.Within.{Within, none}
 use Rattle.alma_rules.proofs.Ordered.{stmts_in}
 use Rattle.alma_rules.proofs.DeclsOrdered.{decls_in}
-use Rattle.alma_check_gathered.specs.Gathered.{unless_broken, Stage, stage, gathered, through_decls, through_decl, through_block, with_fault, with_least, quiet, read_stage, through_read, counted, joined_lists, Adds, AreRising, IsRisingBody}
+use Rattle.alma_check_gathered.specs.Gathered.{unless_broken, Stage, stage, gathered, through_decls, through_decl, through_block, with_fault, with_least, quiet, through_read, counted, joined_lists, Adds, AreRising, IsRisingBody}
 use Rattle.alma_check_routine.proofs.Headings.{inner_frame}
 
 -- ---- broken rules

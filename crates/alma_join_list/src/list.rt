@@ -14,8 +14,8 @@ ghost use Rattle.alma_walk.specs.Onward.{Continues};
 ghost use Rattle.alma_join_list.specs.Onward.{onward_operands, onward_args, onward_stmts, onward_arms, onward_cases, onward_branches, onward_spans};
 ghost use Rattle.alma_join_list.specs.Noted.{Grown, trail_for_entries};
 
-use alma_check_build::add;
 use alma_check_form::{joined, with_part};
+use alma_check_operators::add;
 use alma_check_rules::{Behind, Labels, Operator, Span, Typed};
 use alma_ir::{Arg, Arm, Branch, CaseArm, Stmt};
 use alma_rules::Stop;

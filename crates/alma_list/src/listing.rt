@@ -1,12 +1,13 @@
 // The listing: the version, the globals, the routines with their instructions, and the lines.
-ghost use Rattle.std.specs.Prelude.{◌≡◌, ◌∷◌, ◌++◌, [], codes, ◌+◌, ◌<◌, ◌≤◌, ◌^◌, ◌-◌, length, drop, take, map, flat_map, OnOk, IfOk};
+ghost use Rattle.std.specs.Prelude.{◌≡◌, ◌∷◌, ◌++◌, [], codes, ◌+◌, ◌<◌, ◌-◌, drop, take, flat_map, OnOk, IfOk};
 ghost use Rattle.alma_code.specs.ListText.{bit_text, global_words, instr_lines, line_words, list_text, routine_lines, routine_words, text_line};
 ghost use Rattle.alma_code.specs.Plain.{code_of, global_of, routine_of};
 
-use crate::form::push_instr;
-use crate::line::{push_line, push_line_of_words, push_next, push_numbers, push_word};
 use alma_base::NoMemory;
 use alma_code::{Code, CodeGlobal, Instr, Line, RoutineHead};
+use alma_list_lines::{
+    push_instr, push_line, push_line_of_words, push_next, push_numbers, push_word,
+};
 use itoa::Buffer;
 use std::alloc::Global;
 

@@ -34,7 +34,6 @@ use Rattle.alma_lower.specs.declared.lowering.LowerError.{LowerError}
 use Rattle.alma_lower.specs.declared.lowering.LowerError.TheVariants as lower
 use Rattle.alma_implements.specs.Implements.{Implements}
 use Rattle.alma_sound.specs.Reads.{program_reads}
-use Rattle.std.specs.Prelude.{◌∷◌}
 use Rattle.alma_words.specs.Words.{Request, Check, Compile, Listing, Run, Exec, Trace, Sample, Asks, Reads}
 use Rattle.alma_outcome.specs.Words.{read_by, limit_of}
 use Rattle.alma_outcome.specs.Showing.{Showing, Prints}

@@ -1,5 +1,5 @@
-use Rattle.alma_list.proofs.Lines.{line_made}
-use Rattle.alma_list.proofs.line.push_line_of_words.Goals as goal
+use Rattle.alma_list_lines.proofs.Lines.{line_made}
+use Rattle.alma_list_lines.proofs.line.push_line_of_words.Goals as goal
 
 pub returns : goal.returns
 returns c =

@@ -1,17 +1,17 @@
 // Sums and products: operators with their operands.
-ghost use Rattle.std.specs.Prelude.{◌≡◌, ◌∷◌, [], ◌++◌, ℕ, true, false, not, is_some, List, Option, None, Some, option_map, option_and_then, IfOk};
+ghost use Rattle.std.specs.Prelude.{◌≡◌, true, false, is_some, Option, None, Some, option_map, option_and_then, IfOk};
 ghost use Rattle.alma_ir.specs.Tree as ir;
-ghost use Rattle.alma_ir.specs.View.{expr_of, test_of, links_list, tests_list};
+ghost use Rattle.alma_ir.specs.View.{test_of, links_list, tests_list};
 ghost use Rattle.alma_rules.specs.View.{terms_of, factors_of};
-ghost use Rattle.alma_rules.specs.Judged.{both_of, holds, unless};
+ghost use Rattle.alma_rules.specs.Judged.{both_of, holds};
 ghost use Rattle.alma_rules.specs.Parts as parts;
 ghost use Rattle.alma_rules.specs.ExprRules as rules;
 ghost use Rattle.alma_rules.specs.Nodes as nodes;
-ghost use Rattle.alma_check_rules.specs.Views.{scene_of, typing_in, typing_of, meaning_view, operator_view, operand_view, operands_view, operands_in, operands_of, join_view, gathered, somewhere};
-ghost use Rattle.alma_check_build.specs.Lists.{first_of};
+ghost use Rattle.alma_check_rules.specs.Views.{scene_of, typing_in, typing_of, meaning_view, operator_view, operand_view, operands_view, operands_in, operands_of, join_view, gathered};
+ghost use Rattle.alma_check_operators.specs.First.{first_of};
 
-use crate::expression::{as_test, as_value, no_place};
 use alma_base::{div_down, mod_down};
+use alma_check_build::{as_test, as_value, no_place};
 use alma_check_rules::{Behind, Env, Join, Meaning, Operand, Operator, Place, Typed};
 use alma_ir::{Expr, Link, Op, Test};
 use alma_tree::{AddLink, AddOperator, MulLink, MulOperator, Sign};
@@ -213,7 +213,7 @@ pub fn no_constant_sum(
 
 // ---- what a sum or a product stands for
 
-#[tactic(auto, using(crate::proofs::Steps::gathers, std::proofs::lemmas::Grind::common_steps))]
+#[tactic(auto, using(crate::proofs::Chains::gathers, std::proofs::lemmas::Grind::common_steps))]
 fn links(alloc: Global, rest: Vec<Behind>) -> Result<Vec<Link>, AllocError>
     ensures { IfOk result (λ v. links_list v.items ≡ parts.links_of (operands_of rest)) }
 {
@@ -231,7 +231,7 @@ fn links(alloc: Global, rest: Vec<Behind>) -> Result<Vec<Link>, AllocError>
     Ok(links)
 }
 
-#[tactic(auto, using(crate::proofs::Steps::gathers, std::proofs::lemmas::Grind::common_steps))]
+#[tactic(auto, using(crate::proofs::Chains::gathers, std::proofs::lemmas::Grind::common_steps))]
 fn tests(alloc: Global, first: Meaning, rest: Vec<Behind>) -> Result<Vec<Test>, AllocError>
     ensures { IfOk result (λ v. tests_list v.items ≡ ir.more_tests
         (parts.test_of (meaning_view first)) (parts.tests_of (operands_of rest))) }
@@ -294,7 +294,7 @@ fn first_operator(rest: &[Behind]) -> Option<Operator>
     }
 }
 
-#[tactic(auto, using(crate::proofs::Steps::chains, std::proofs::lemmas::Grind::common_steps))]
+#[tactic(auto, using(crate::proofs::Chains::chains, std::proofs::lemmas::Grind::common_steps))]
 fn chain_of(
     alloc: Global,
     join: Join,

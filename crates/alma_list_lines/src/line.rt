@@ -1,7 +1,7 @@
 // Lines of a text: words with a space between two.
 ghost use Rattle.std.specs.Prelude.{◌≡◌, ◌∷◌, ◌++◌, [], map, flat_map, decimal, OnOk};
 ghost use Rattle.alma_code.specs.ListText.{text_line};
-ghost use Rattle.alma_list.specs.Spaces.{behind_space};
+ghost use Rattle.alma_list_lines.specs.Spaces.{behind_space};
 
 use alma_base::NoMemory;
 use itoa::Buffer;
