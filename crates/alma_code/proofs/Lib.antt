@@ -1,13 +1,4 @@
-pub mod Acts
-pub mod Calls
 pub mod Cells
-pub mod Entering
 pub mod Heads
-pub mod Links
 pub mod Ranges
-pub mod Ready
-pub mod Runs
-pub mod Steps
 pub mod Tables
-pub mod Verdicts
-pub mod Writes

@@ -5,7 +5,6 @@ mod cell;
 mod code;
 mod head;
 mod instr;
-pub mod laws;
 mod step;
 
 pub use cell::{Cell, CellPlace, ChoiceKind, SlotKind};

@@ -9,7 +9,7 @@ use Rattle.alma_code.specs.declared.cell.SlotKind.TheVariants as slot
 use Rattle.alma_code.specs.declared.head.Run.{Run}
 use Rattle.alma_code.specs.Layout.{RunsRise, kinds_of}
 use Rattle.alma_code.specs.Plain.{PlainCode, head_at, kinds_at}
-use Rattle.alma_code.proofs.Runs.{first_number}
+use Rattle.alma_code_laws.proofs.Runs.{first_number}
 use Rattle.alma_code.specs.Rules.{IsSound, last_end, names_routine}
 
 -- the runs fill the slots

@@ -5,7 +5,7 @@ use Rattle.std.proofs.lemmas.List.{append-nil}
 use Rattle.alma_code.specs.Fits.{Fits}
 use Rattle.alma_code.specs.Machine.{State, Stepped, Going, quiet_step, step, after, prints}
 use Rattle.alma_code.specs.Plain.{PlainCode}
-use Rattle.alma_code.proofs.Runs.{stays_fit}
+use Rattle.alma_code_laws.proofs.Runs.{stays_fit}
 use Rattle.alma_dispatch.specs.Quick.{Quickly}
 use Rattle.alma_engine.specs.Stands.{Stands}
 use Rattle.alma_engine.specs.Runs.{last_print}

@@ -14,9 +14,9 @@ use Rattle.alma_code.specs.Machine.{State, top, slot_of}
 use Rattle.alma_code.specs.Picture.{no_frame, last_frame, cell_at}
 use Rattle.alma_code.specs.Plain.{PlainCode, kinds_at}
 use Rattle.alma_code.specs.Rules.{IsSound, kind_in, length_in, link_in, place_length, names_slot}
-use Rattle.alma_code.proofs.Ready.{Ready, has_slot, number_slot, number_there, content_is, mark_is}
-use Rattle.alma_code.proofs.Acts.{number_word, place_word, mark_word, frame_live}
-use Rattle.alma_code.proofs.Links.{link_word}
+use Rattle.alma_code_laws.proofs.Ready.{Ready, has_slot, number_slot, number_there, content_is, mark_is}
+use Rattle.alma_code_laws.proofs.Acts.{number_word, place_word, mark_word, frame_live}
+use Rattle.alma_code_laws.proofs.Links.{link_word}
 use Rattle.alma_code.proofs.Heads.{number_is}
 use Rattle.alma_transfers.specs.Inputs.{HasPosition}
 use Rattle.alma_registers.specs.Rows.{HasNumber, HasNumberIn, HasCells, HasOneCell, HasPlace, HasMark, HasLink, HasLinkTo, HoldsCells, HoldsMark, HoldsPlace, IsCells, width}

@@ -24,15 +24,15 @@ use Rattle.alma_code.specs.Carries.{number_at}
 use Rattle.alma_code.specs.Picture.{PlainFrame, no_frame, last_frame}
 use Rattle.alma_code.specs.Plain.{PlainCode, head_at, kinds_at, start_at, end_at}
 use Rattle.alma_code.specs.Rules.{IsSound, is_main, is_global, last_end, names_routine, kind_in, length_in, link_in, names_slot, fit_arguments, fits_argument, is_free, has_position, has_room, can_call, holds_first, holds_result, rule_5, rule_6, rule_7, rule_10, rule_12}
-use Rattle.alma_code.proofs.Acts.{obeys}
-use Rattle.alma_code.proofs.Runs.{first_number}
+use Rattle.alma_code_laws.proofs.Acts.{obeys}
+use Rattle.alma_code_laws.proofs.Runs.{first_number}
 use Rattle.alma_code.proofs.Tables.{end_inside}
 use Rattle.alma_code.specs.Rules.{instr_fault}
 use Rattle.alma_code.specs.Words.{words, four}
 use Rattle.alma_code.specs.declared.instr.Word.{Word}
-use Rattle.alma_code.proofs.Ready.{Ready, has_slot, number_at_is}
-use Rattle.alma_code.proofs.Acts.{left_ready, call_rule, holds_of_call, Obeys, slots, entries, frame_live}
-use Rattle.alma_code.proofs.Links.{link_word}
+use Rattle.alma_code_laws.proofs.Ready.{Ready, has_slot, number_at_is}
+use Rattle.alma_code_laws.proofs.Acts.{left_ready, call_rule, holds_of_call, Obeys, slots, entries, frame_live}
+use Rattle.alma_code_laws.proofs.Links.{link_word}
 use Rattle.alma_code.proofs.Heads.{number_is, link_of_is, place_of_is}
 use Rattle.alma_transfers.specs.Calls.{IsSpot, HoldsArgument, HasArgument, HasArguments, CallsBack}
 use Rattle.alma_dispatch.specs.Needs.{Needs, Computes}

@@ -8,7 +8,7 @@ use Rattle.alma_code.specs.Fits.{Fits}
 use Rattle.alma_code.specs.Layout.{start_frame}
 use Rattle.alma_code.specs.Picture.{PlainFrame, PlainEntry}
 use Rattle.alma_code.specs.Rules.{IsSound}
-use Rattle.alma_code.proofs.Runs.{start_fits, stays_fit}
+use Rattle.alma_code_laws.proofs.Runs.{start_fits, stays_fit}
 use Rattle.alma_code.specs.Machine.{Mode, State, start, Going, Failing, step, step_in, act, fetch_and_act, with_step_counted, pop}
 use Rattle.alma_code.specs.Plain.{PlainCode, head_at}
 use Rattle.alma_dispatch.specs.Needs.{Needs}

@@ -8,7 +8,7 @@ use Rattle.alma_code.specs.declared.cell.Cell.TheVariants as cell
 use Rattle.alma_code.specs.declared.cell.CellPlace.{CellPlace}
 use Rattle.alma_code.specs.Machine.{State, Stepped, as_place, slot_in, link, ends_in_fault, put_link, to_link, link_to, quiet_step, with_slot}
 use Rattle.alma_code.specs.Picture.{PlainFrame, no_frame, last_frame, cell_at}
-use Rattle.alma_code.proofs.Ready.{link_is}
+use Rattle.alma_code_laws.proofs.Ready.{link_is}
 use Rattle.alma_registers.specs.Rows.{HasSlot, HasPlaceIn, HasLinkTo, HoldsPlace}
 
 -- what a slot holds is what it holds whatever stands for a slot that is not there

@@ -14,7 +14,7 @@ use Rattle.alma_code.specs.Machine.{State, to_place, put_place, quiet_step, with
 use Rattle.alma_code.specs.Picture.{PlainFrame, last_frame}
 use Rattle.alma_code.specs.Rules.{place_length, has_room}
 use Rattle.alma_code.proofs.Ranges.{offset_le}
-use Rattle.alma_code.proofs.Ready.{place_is}
+use Rattle.alma_code_laws.proofs.Ready.{place_is}
 use Rattle.std.proofs.lemmas.Option.{slice_get_within}
 use Rattle.alma_registers.specs.Rows.{HasPlace, HasSlot, width}
 

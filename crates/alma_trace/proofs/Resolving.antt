@@ -6,7 +6,7 @@ use Rattle.std.proofs.lemmas.Bool.{and_parts}
 use Rattle.std.proofs.lemmas.Option.{slice_get_within, get_or_from_slice_get}
 use Rattle.std.proofs.lemmas.List.{at_drop_all}
 use Rattle.alma_base.specs.Choice.{if_true}
-use Rattle.alma_code.proofs.Acts.{numbers_from_at}
+use Rattle.alma_code_laws.proofs.Acts.{numbers_from_at}
 use Rattle.alma_code.specs.declared.cell.SlotKind.TheVariants as slot
 use Rattle.alma_code.specs.Kinds.{numbers_from}
 use Rattle.alma_code.specs.Plain.{PlainCode, PlainGlobal, head_at, kinds_at, start_at, end_at}

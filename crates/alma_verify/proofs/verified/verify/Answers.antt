@@ -1,6 +1,6 @@
 use Rattle.std.proofs.Common.{◌≡◌, None, sym}
 use Rattle.alma_code.specs.Rules.{code_fault}
-use Rattle.alma_code.proofs.Verdicts.{sound_from, no_fault}
+use Rattle.alma_code_laws.proofs.Verdicts.{sound_from, no_fault}
 use Rattle.alma_object.specs.View.{code_of_view}
 use Rattle.alma_verify.proofs.verified.verify.Goals as goal
 

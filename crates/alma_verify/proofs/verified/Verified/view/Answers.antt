@@ -1,4 +1,4 @@
-use Rattle.alma_code.proofs.Verdicts.{sound_from}
+use Rattle.alma_code_laws.proofs.Verdicts.{sound_from}
 use Rattle.alma_object.specs.View.{code_of_view}
 use Rattle.alma_verify.proofs.verified.Verified.view.Goals as goal
 

@@ -19,11 +19,11 @@ use Rattle.alma_code.specs.Words.{words}
 use Rattle.alma_code.specs.Rules.{kind_in, length_in, link_in, is_address, rule_5, rule_6, rule_7, rule_11, rule_12, has_room, IsSound}
 use Rattle.alma_code.specs.Machine.{State, quiet_step, top, act, put_number, with_cell, with_slot, to_mark, answer_of_push, state_after_push, as_text, as_fault, run_faults, state_after_leave, takes_read, byte_or_failure, overlay}
 use Rattle.alma_code.specs.Fits.{routines_of, IsCell}
-use Rattle.alma_code.proofs.Ready.{Good, mark_is, if_true_keeps, went_good, ended_good, fails_good, fault_good, number_good, place_good, mark_good, put_mark_good, fitted_good, content_good, store_good, known_good, ranged_good, as_range_good, equation_good, slot_ready, has_slot}
-use Rattle.alma_code.proofs.Acts.{Here, Obeys, addresses, bound_good, cells_of, char_good, copied_good, cut_good, entries, equations_good, finish_good, first_is, found_good, frame_live, goes_good, keep_good, left_ready, mark_word, next, number_word, one_good, overlay_ready, place_word, position_good, pushed_ready, put_good, put_place_at, result_good, slots, top_is, top_main, two_good}
-use Rattle.alma_code.proofs.Calls.{call_good}
+use Rattle.alma_code_laws.proofs.Ready.{Good, mark_is, if_true_keeps, went_good, ended_good, fails_good, fault_good, number_good, place_good, mark_good, put_mark_good, fitted_good, content_good, store_good, known_good, ranged_good, as_range_good, equation_good, slot_ready, has_slot}
+use Rattle.alma_code_laws.proofs.Acts.{Here, Obeys, addresses, bound_good, cells_of, char_good, copied_good, cut_good, entries, equations_good, finish_good, first_is, found_good, frame_live, goes_good, keep_good, left_ready, mark_word, next, number_word, one_good, overlay_ready, place_word, position_good, pushed_ready, put_good, put_place_at, result_good, slots, top_is, top_main, two_good}
+use Rattle.alma_code_laws.proofs.Calls.{call_good}
 use Rattle.alma_code.proofs.Heads.{link_of_is, place_of_is}
-use Rattle.alma_code.proofs.Links.{link_word, link_above, link_good, link_in_good, place_in_good, put_link_good, outer_cells}
+use Rattle.alma_code_laws.proofs.Links.{link_word, link_above, link_good, link_in_good, place_in_good, put_link_good, outer_cells}
 
 module _ (code : PlainCode) (input : List ℕ) (sound : IsSound code) where
   -- what an instruction does that keeps its rules: one clause for each form

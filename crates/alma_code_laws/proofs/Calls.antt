@@ -30,8 +30,8 @@ use Rattle.alma_code.specs.Picture.{live_cells}
 use Rattle.alma_code.specs.Machine.{State, Stepped, top, gets_stuck, as_argument, arguments, as_routine, enters_routine, numbers_at, slot_of}
 use Rattle.alma_code.specs.Fits.{routines_of, IsPosition, FitsFrame, FitsFrames, IsContent, IsCell, IsPlace, IsLink, FitsSlot}
 use Rattle.alma_code.proofs.Heads.{place_of_is, number_is, link_of_is}
-use Rattle.alma_code.proofs.Ready.{Ready, Good, if_true_keeps, went_good, fault_good, has_slot, number_there, number_at_is, content_is}
-use Rattle.alma_code.proofs.Acts.{Here, cell_kept, frame_kept, frame_live, numbers_from_at, top_is}
+use Rattle.alma_code_laws.proofs.Ready.{Ready, Good, if_true_keeps, went_good, fault_good, has_slot, number_there, number_at_is, content_is}
+use Rattle.alma_code_laws.proofs.Acts.{Here, cell_kept, frame_kept, frame_live, numbers_from_at, top_is}
 
 module _ (code : PlainCode) where
   -- cells that a place may name are live number slots

@@ -1,4 +1,4 @@
-//! The laws of the copying code machine and of the rules, each as the contract of a function that does nothing.
+// Each law is the contract of a function that does nothing.
 ghost use Rattle.std.specs.Prelude.{◌≡◌, ◌↔◌, List, ℕ, None};
 ghost use Rattle.alma_code.specs.Plain.{PlainCode};
 ghost use Rattle.alma_code.specs.Rules.{IsTable, IsSound, code_fault};

@@ -20,11 +20,11 @@ use Rattle.alma_code.specs.Machine.{Mode, Going, Failing, Ended, Stuck, State, s
 use Rattle.alma_code.specs.Fits.{routines_of, FitsSlot, FitsFrame, FitsFrames, FitsEntry, FitsHeld, FitsMode, Fits, IsPosition}
 use Rattle.alma_code.specs.Laws.{NeverStuck, StaysFit}
 use Rattle.alma_code.proofs.Tables.{end_inside}
-use Rattle.alma_code.proofs.Writes.{frame-written}
+use Rattle.alma_code_laws.proofs.Writes.{frame-written}
 use Rattle.alma_code.proofs.Heads.{number_is}
-use Rattle.alma_code.proofs.Ready.{Ready, Good}
-use Rattle.alma_code.proofs.Acts.{obeys}
-use Rattle.alma_code.proofs.Steps.{act_good}
+use Rattle.alma_code_laws.proofs.Ready.{Ready, Good}
+use Rattle.alma_code_laws.proofs.Acts.{obeys}
+use Rattle.alma_code_laws.proofs.Steps.{act_good}
 
 module _ (code : PlainCode) (sound : IsSound code) where
   -- the input position is a number slot

@@ -22,7 +22,7 @@ use Rattle.alma_code.specs.Carries.{number_at, frames_with_change, frames_with_c
 use Rattle.std.proofs.lemmas.List.{take-map, get_or_past, length-map, length-take-le, get_or-take, length-append}
 use Rattle.std.proofs.Math.Seq.{get_or-append_seam}
 use Rattle.std.proofs.Math.ListN.{get_or-append}
-use Rattle.alma_code.proofs.Writes.{written-routines}
+use Rattle.alma_code_laws.proofs.Writes.{written-routines}
 use Rattle.alma_base.specs.declared.number.Range.{Range}
 use Rattle.alma_code.specs.declared.instr.Instr.{Instr}
 use Rattle.alma_code.specs.declared.instr.Instr.TheVariants as I
@@ -39,7 +39,7 @@ use Rattle.alma_code.specs.Picture.{kind_at}
 use Rattle.alma_code.specs.Machine.{State, Stepped, quiet_step, goes_to, fails_now, top, binds_content, number, place, put_number, put_place, store, with_cell, with_slot, gets_stuck, state_after_push, cut_to, equations, copies_cells, to_number, state_after_leave, answers_return, result_to, as_position, position, take_input, takes_read, byte_or_failure, is_kind, is_forall_at, state_with_carry, overlay, finish, keep}
 use Rattle.alma_code.specs.Fits.{routines_of, IsPosition, IsReturn, FitsFrame, FitsCarried, IsContent, IsCell, IsPlace, FitsSlot, FitsEntry, FitsHeld, AllFit}
 use Rattle.alma_code.proofs.Heads.{number_is}
-use Rattle.alma_code.proofs.Ready.{Ready, last-routine, Good, place_is, if_true_keeps, went_good, fails_good, fault_good, number_good, place_good, put_number_good, put_place_good, store_good, ranged_good, equation_good, cell_ready, slot_ready, has_slot, number_there, number_at_is, content_any}
+use Rattle.alma_code_laws.proofs.Ready.{Ready, last-routine, Good, place_is, if_true_keeps, went_good, fails_good, fault_good, number_good, place_good, put_number_good, put_place_good, store_good, ranged_good, equation_good, cell_ready, slot_ready, has_slot, number_there, number_at_is, content_any}
 
 -- no fault of a test and of what comes after it: the test holds, and nothing comes after
 unless_none : (b : Bool) (rule at : ℕ) (rest : Option VerifyFault) → unless b rule at rest ≡ None → (b ≡ true) × (rest ≡ None)

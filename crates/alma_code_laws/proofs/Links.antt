@@ -19,8 +19,8 @@ use Rattle.alma_code.specs.Kinds.{is_link, numbers_from}
 use Rattle.alma_code.specs.Rules.{kind_in, link_in, is_free, is_address, names_slot, names_routine, last_end, rule_2}
 use Rattle.alma_code.specs.Machine.{State, Stepped, quiet_step, top, slot_in, as_place, link, link_to, to_link, put_link, with_slot}
 use Rattle.alma_code.specs.Fits.{routines_of, IsCell, IsPlace, IsLink, FitsSlot}
-use Rattle.alma_code.proofs.Ready.{Ready, Good, link_is, went_good, slot_ready, has_slot}
-use Rattle.alma_code.proofs.Acts.{first_is, head_slots, numbers_from_at}
+use Rattle.alma_code_laws.proofs.Ready.{Ready, Good, link_is, went_good, slot_ready, has_slot}
+use Rattle.alma_code_laws.proofs.Acts.{first_is, head_slots, numbers_from_at}
 
 -- what stands in equal kinds, or behind them
 in_replicate : (m n : ℕ) (x k : SlotKind) (ys : List SlotKind) → slice_get (replicate m x ++ ys) n ≡ Some k → (x ≡ k) ⊎ ((j : ℕ) × (slice_get ys j ≡ Some k))
