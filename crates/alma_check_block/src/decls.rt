@@ -10,7 +10,8 @@ use crate::heading::read_heading;
 use crate::open::number_behind;
 use crate::variable::read_vars;
 use alma_base::NoMemory;
-use alma_check_reader::{Reader, redeclared};
+use alma_check_reader::Reader;
+use alma_check_type::redeclared;
 use alma_tree::Decl;
 use std::alloc::Global;
 

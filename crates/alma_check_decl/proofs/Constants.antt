@@ -11,7 +11,7 @@ use Rattle.alma_rules.specs.Types.{reading_then, reading_at, reading_change, rea
 use Rattle.alma_check_reader.specs.Told.{Told, told, told_both, told_sub, bound_of, a_told}
 use Rattle.alma_check_reader.specs.declared.reading.Bound.{Bound}
 use Rattle.alma_check_reader.proofs.Tells.{told_as}
-use Rattle.alma_check_reader.proofs.SubSteps.{sub_told}
+use Rattle.alma_check_type.proofs.SubSteps.{sub_told}
 use Rattle.alma_check_decl.proofs.Whole.{Whole, whole_gives, expr_whole}
 
 pub constant_fine : (a s : Scene) (e : tree.Expr) (n : ℕ) (v : Option Typing) → a ≡ s → judge_expr (in_constant a) 0 e ≡ record { faults = []; next = n; value = v }

@@ -7,8 +7,9 @@ ghost use Rattle.alma_check_reader.specs.Told.{told, tells, tells_of, bound_of, 
 
 use alma_base::NoMemory;
 use alma_check_expr::check_expr;
-use alma_check_reader::{Bound, Broken, Formed, Reader, Reading, join_subrange};
+use alma_check_reader::{Bound, Broken, Formed, Reader, Reading};
 use alma_check_rules::{Place, Typed};
+use alma_check_type::join_subrange;
 use alma_rules::Stop;
 use alma_tree::Expr;
 use std::alloc::Global;

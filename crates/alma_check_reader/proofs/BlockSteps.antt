@@ -1,21 +1,21 @@
--- What goes on as blocks begin and end.
-use Rattle.std.proofs.Common.{◌≡◌, ℕ, zero, suc, ◌+◌, ◌-◌, ◌<◌, ◌≤◌, List, [], ◌∷◌, ◌++◌, Option, None, Some, Bool, true, false, cond, Vec, Global, length, get_or, take, map, set, refl, sym, ap, subst, ◌∙◌, arith}
-use Rattle.std.specs.Prelude.{bytes_eq, is_some, option_map, ◌||◌, replicate}
+-- What goes on as blocks begin and end, and what a look-up in the names of a block says.
+use Rattle.std.proofs.Common.{◌≡◌, ℕ, suc, ◌+◌, ◌-◌, ◌<◌, ◌≤◌, List, [], ◌∷◌, ◌++◌, Option, None, Some, Bool, true, false, cond, Vec, Global, length, get_or, take, map, set, refl, sym, ap, ◌∙◌, arith, eq-eqb, true≢false}
+use Rattle.std.specs.Prelude.{bytes_eq, is_some, ◌||◌, nat_eq, ◌≢◌, map}
 use Rattle.std.specs.Map.{lookup}
-use Rattle.std.proofs.lemmas.List.{map-append, map-set, set_past, length-set, replicate_more, length-map, length_push, take_more, take_all}
+use Rattle.std.proofs.lemmas.List.{map-append, length-map, length_push, take_more, take_all}
 use Rattle.indexmap.specs.IndexMap.{insert_entry}
 use Rattle.alma_names.specs.Blocks.{DeclaredName}
-use Rattle.alma_names.specs.Scopes.{Blocks, entries_of, entry_count, with_new_block, without_top_block}
+use Rattle.alma_names.specs.Scopes.{Blocks, entries_of, with_new_block, without_top_block}
 use Rattle.alma_rules.specs.Decls.{has_text, with_text, block_routines}
-use Rattle.alma_rules.specs.Scene.{Heading}
+use Rattle.alma_rules.specs.Scene.{Heading, Scene, first_token, is_first, text_at}
 use Rattle.alma_check_reader.specs.Told.{IsCounted}
 use Rattle.alma_check_reader.specs.Around.{cleared}
 use Rattle.alma_check_reader.specs.Outermost.{outermost}
-use Rattle.alma_rules.specs.Numbered as tree
 use Rattle.alma_rules.specs.Modules.{first_scene}
 use Rattle.alma_scan.specs.Tokens.{Lexeme}
-use Rattle.alma_check_reader.proofs.FieldSteps.{inserted}
-use Rattle.alma_check_reader.proofs.ShapeSteps.{key_view}
+use Rattle.alma_tree.specs.declared.leaf.Name.{Name}
+use Rattle.alma_rules.specs.Answers.{first}
+use Rattle.alma_rules.specs.Numbered as tree
 
 -- ---- counts
 
@@ -63,6 +63,55 @@ counted_left below counts top all count s t is c n =
     let all_in : all ≡ entries_of s.below + length s.top = is.sum in
     let top_in : top ≡ length s.top = is.highest in
     rw n (record { counts = e.front; highest = sym e.last; sum = omega (arith, e.sum, e.last) })
+
+-- ---- the first of the names of a block
+
+abbrev pub key_view : Vec ℕ Global × ℕ → List ℕ × ℕ
+key_view e = (e.0.items, e.1)
+
+module _ (text : List ℕ) (token : ℕ) where
+  first_some : (es : List (Vec ℕ Global × ℕ)) (t : ℕ) → Some t ≡ lookup (λ k. bytes_eq text k.items) es → first_token text (map key_view es) token ≡ t
+  first_some [] t h = absurd (cc)
+  first_some (e ∷ es) t h = go (bytes_eq text e.0.items) h (first_some es t)
+    where
+      go : (b : Bool) → Some t ≡ cond b (Some e.1) (lookup (λ k. bytes_eq text k.items) es)
+          → (Some t ≡ lookup (λ k. bytes_eq text k.items) es → first_token text (map key_view es) token ≡ t) → cond b e.1 (first_token text (map key_view es) token) ≡ t
+      go true h f = cc
+      go false h f = f h
+
+  first_none : (es : List (Vec ℕ Global × ℕ)) → None ≡ lookup (λ k. bytes_eq text k.items) es → first_token text (map key_view es) token ≡ token
+  first_none [] h = refl
+  first_none (e ∷ es) h = go (bytes_eq text e.0.items) h (first_none es)
+    where
+      go : (b : Bool) → None ≡ cond b (Some e.1) (lookup (λ k. bytes_eq text k.items) es)
+          → (None ≡ lookup (λ k. bytes_eq text k.items) es → first_token text (map key_view es) token ≡ token) → cond b e.1 (first_token text (map key_view es) token) ≡ token
+      go true h f = absurd (cc)
+      go false h f = f h
+
+same_token : (n : ℕ) → true ≡ nat_eq n n
+same_token n = sym (eq-eqb n n refl)
+
+module _ (s : Scene) (name : tree.Name) (es : List (Vec ℕ Global × ℕ)) (text : List ℕ) (v : map key_view es ≡ s.declares) (t : text ≡ text_at s name.token) where
+  first_is : (k : ℕ) → first_token text (map key_view es) name.token ≡ k → nat_eq k name.token ≡ is_first s name
+  first_is k h = ap (λ n. nat_eq n name.token) (sym h ∙ ap (λ x. first_token x (map key_view es) name.token) t ∙ ap (λ d. first_token (text_at s name.token) d name.token) v)
+
+  pub found_first : (k : ℕ) → Some k ≡ lookup (λ i. bytes_eq text i.items) es → nat_eq k name.token ≡ is_first s name
+  found_first k h = first_is k (first_some text name.token es k h)
+
+  pub absent_first : None ≡ lookup (λ i. bytes_eq text i.items) es → true ≡ is_first s name
+  absent_first h = same_token name.token ∙ first_is name.token (first_none text name.token es h)
+
+-- a name that is not there is entered last
+pub inserted : (key : Vec ℕ Global) (shape : ℕ) (es : List (Vec ℕ Global × ℕ)) → is_some (lookup (λ k. bytes_eq key.items k.items) es) ≡ false
+    → insert_entry (λ x y. bytes_eq x.items y.items) es key shape ≡ es ++ (key, shape) ∷ []
+inserted key shape [] h = refl
+inserted key shape (e ∷ es) h = go (bytes_eq key.items e.0.items) h (inserted key shape es)
+  where
+    go : (b : Bool) → is_some (cond b (Some e.1) (lookup (λ k. bytes_eq key.items k.items) es)) ≡ false
+        → (is_some (lookup (λ k. bytes_eq key.items k.items) es) ≡ false → insert_entry (λ x y. bytes_eq x.items y.items) es key shape ≡ es ++ (key, shape) ∷ [])
+        → cond b ((e.0, shape) ∷ es) (e ∷ insert_entry (λ x y. bytes_eq x.items y.items) es key shape) ≡ e ∷ (es ++ (key, shape) ∷ [])
+    go true n f = absurd (true≢false n)
+    go false n f = ap (λ x. e ∷ x) (f n)
 
 -- ---- names of a block
 

@@ -1,6 +1,2 @@
 pub mod Tells
-pub mod ShapeSteps
-pub mod FieldSteps
-pub mod SubSteps
-pub mod ListedSteps
 pub mod BlockSteps

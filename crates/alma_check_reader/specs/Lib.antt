@@ -1,5 +1,3 @@
 pub mod Told
-pub mod Tables
-pub mod Fields
 pub mod Outermost
 pub mod Around

@@ -2,12 +2,8 @@
 #![tactic(auto)]
 
 mod heads;
-mod reader;
-mod rules;
 mod verified;
 mod verifier;
-mod view;
-mod words;
 
 pub use alma_code::VerifyFault;
 pub use verified::{Verified, verify};

@@ -1,7 +1,7 @@
 use Rattle.std.proofs.Common.{ap, sym, ◌∙◌}
 use Rattle.alma_rules.specs.Scene.{Scene, text_at}
 use Rattle.alma_rules.specs.View.{view_name}
-use Rattle.alma_check_reader.proofs.ShapeSteps.{found_first, absent_first}
+use Rattle.alma_check_reader.proofs.BlockSteps.{found_first, absent_first}
 use Rattle.alma_check_reader.proofs.reader.Reader.is_first.Goals as goal
 
 pub returns-in-Some : goal.returns-in-Some

@@ -1,5 +1,0 @@
-use Rattle.alma_check_reader.proofs.FieldSteps.{knows_empty}
-use Rattle.alma_check_reader.proofs.field.no_fields.Goals as goal
-
-pub returns-clause-names : goal.returns-clause-names
-returns-clause-names c tokens = knows_empty tokens _ c.new.ensures.len

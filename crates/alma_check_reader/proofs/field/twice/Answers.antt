@@ -1,6 +1,0 @@
-use Rattle.std.proofs.Common.{None, ap}
-use Rattle.alma_check_reader.proofs.FieldSteps.{a_fields}
-use Rattle.alma_check_reader.proofs.field.twice.Goals as goal
-
-pub returns-clause-told : goal.returns-clause-told
-returns-clause-told c tokens shape = ap (λ f. a_fields f None) c.earlier.ensures

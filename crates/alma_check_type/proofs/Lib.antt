@@ -1,0 +1,4 @@
+pub mod ShapeSteps
+pub mod FieldSteps
+pub mod SubSteps
+pub mod ListedSteps
