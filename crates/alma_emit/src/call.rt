@@ -2,8 +2,8 @@
 ghost use Rattle.std.specs.Prelude.{◌≡◌, ◌+◌, IfOk, OnOk};
 ghost use Rattle.alma_ir.specs.View.{arg_of, args_list, desig_of, expr_of};
 ghost use Rattle.alma_ir.specs.Tree as tree;
-ghost use Rattle.alma_emit_parts.specs.Front.{around, front};
-ghost use Rattle.alma_emit_parts.specs.Puts.{PutsExpr, PutsArgs, PutsArg, PutsHanded, PutsTest, first_slot};
+ghost use Rattle.alma_emit_work.specs.Front.{around, front};
+ghost use Rattle.alma_emit_work.specs.Puts.{PutsExpr, PutsArgs, PutsArg, PutsHanded, PutsTest, first_slot};
 
 use crate::designator::emit_desig;
 use crate::expression::emit_value;

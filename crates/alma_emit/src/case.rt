@@ -3,8 +3,8 @@ ghost use Rattle.std.specs.Prelude.{◌≡◌, ◌+◌, OnOk};
 ghost use Rattle.alma_ir.specs.View.{cases_list, else_option, expr_of, stmts_list};
 ghost use Rattle.alma_ir.specs.Tree as tree;
 ghost use Rattle.alma_ir.specs.Tree.{CaseArms};
-ghost use Rattle.alma_emit_parts.specs.Front.{around, front, Front};
-ghost use Rattle.alma_emit_parts.specs.Puts.{PutsStmt, PutsCases, PutsDead, PutsDeadBodies, PutsElse};
+ghost use Rattle.alma_emit_work.specs.Front.{around, front, Front};
+ghost use Rattle.alma_emit_work.specs.Puts.{PutsStmt, PutsCases, PutsDead, PutsDeadBodies, PutsElse};
 ghost use Rattle.alma_emit_forms.specs.Cases.{PutsAllArms, PutsArmOf};
 
 use crate::expression::emit_expr;

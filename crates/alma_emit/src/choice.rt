@@ -2,8 +2,8 @@
 ghost use Rattle.std.specs.Prelude.{◌≡◌, ◌≤◌, drop, length, OnOk};
 ghost use Rattle.alma_ir.specs.View.{branches_list, stmts_list};
 ghost use Rattle.alma_ir.specs.Tree as tree;
-ghost use Rattle.alma_emit_parts.specs.Front.{around, front};
-ghost use Rattle.alma_emit_parts.specs.Puts.{PutsStmt, PutsBranches, PutsChosen};
+ghost use Rattle.alma_emit_work.specs.Front.{around, front};
+ghost use Rattle.alma_emit_work.specs.Puts.{PutsStmt, PutsBranches, PutsChosen};
 
 use crate::statement::emit_stmts;
 use alma_base::NoMemory;

@@ -3,8 +3,8 @@ ghost use Rattle.std.specs.Prelude.{◌≡◌, true, false, IfOk, OnOk};
 ghost use Rattle.alma_ir.specs.View.{test_of};
 ghost use Rattle.alma_choice.specs.Emitted.{aimed};
 ghost use Rattle.alma_templates.specs.Slots.{is_simple};
-ghost use Rattle.alma_emit_parts.specs.Front.{around, front};
-ghost use Rattle.alma_emit_parts.specs.Puts.{PutsGuard};
+ghost use Rattle.alma_emit_work.specs.Front.{around, front};
+ghost use Rattle.alma_emit_work.specs.Puts.{PutsGuard};
 
 use crate::expression::emit_value;
 use crate::test::emit_test;

@@ -4,8 +4,8 @@ ghost use Rattle.alma_ir.specs.View.{desig_of, expr_of, sel_of, sels_list};
 ghost use Rattle.alma_ir.specs.Lines.{desig_with, sels_with, sel_with};
 ghost use Rattle.alma_ir.specs.Tree as tree;
 ghost use Rattle.alma_templates.specs.Templates.{place_at, part_at, part_slot};
-ghost use Rattle.alma_emit_parts.specs.Front.{around, front};
-ghost use Rattle.alma_emit_parts.specs.Puts.{PutsDesig, PutsTarget, PutsSels, PutsSel, stand_of};
+ghost use Rattle.alma_emit_work.specs.Front.{around, front};
+ghost use Rattle.alma_emit_work.specs.Puts.{PutsDesig, PutsTarget, PutsSels, PutsSel, stand_of};
 
 use crate::expression::emit_value;
 use alma_base::{NoMemory, Range};

@@ -3,8 +3,8 @@ ghost use Rattle.std.specs.Prelude.{◌≡◌, IfOk, OnOk};
 ghost use Rattle.alma_ir.specs.View.{desig_of, expr_of, test_of, links_list};
 ghost use Rattle.alma_ir.specs.Lines.{expr_with};
 ghost use Rattle.alma_ir.specs.Tree as tree;
-ghost use Rattle.alma_emit_parts.specs.Front.{around, front};
-ghost use Rattle.alma_emit_parts.specs.Puts.{PutsExpr, PutsValue, PutsLinks, value_slot};
+ghost use Rattle.alma_emit_work.specs.Front.{around, front};
+ghost use Rattle.alma_emit_work.specs.Puts.{PutsExpr, PutsValue, PutsLinks, value_slot};
 
 use crate::call::emit_call_value;
 use crate::condition::emit_guard;

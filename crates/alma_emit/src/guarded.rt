@@ -2,8 +2,8 @@
 ghost use Rattle.std.specs.Prelude.{◌≡◌, drop, OnOk};
 ghost use Rattle.alma_ir.specs.View.{arms_list, stmts_list, test_of};
 ghost use Rattle.alma_ir.specs.Tree as tree;
-ghost use Rattle.alma_emit_parts.specs.Front.{around, front};
-ghost use Rattle.alma_emit_parts.specs.Puts.{PutsStmt, PutsArms, PutsGuarded};
+ghost use Rattle.alma_emit_work.specs.Front.{around, front};
+ghost use Rattle.alma_emit_work.specs.Puts.{PutsStmt, PutsArms, PutsGuarded};
 
 use crate::condition::emit_guard;
 use crate::statement::emit_stmts;

@@ -2,8 +2,8 @@
 ghost use Rattle.std.specs.Prelude.{◌≡◌, ◌+◌, ◌*◌, ◌-◌, ◌<◌, [], length, IfOk};
 ghost use Rattle.alma_choice.specs.Emitted.{aimed};
 ghost use Rattle.alma_templates.specs.Lined.{own};
-ghost use Rattle.alma_emit_parts.specs.Front.{front, Holes};
-ghost use Rattle.alma_emit_parts.specs.Puts.{all_labels};
+ghost use Rattle.alma_emit_work.specs.Front.{front, Holes};
+ghost use Rattle.alma_emit_work.specs.Puts.{all_labels};
 
 use alma_base::{INSTR_LIMIT, NoMemory, Range};
 use alma_emit_parts::{Labels, Miss, Work, put_label, put_last_label};

@@ -2,8 +2,8 @@
 ghost use Rattle.std.specs.Prelude.{◌≡◌, IfOk, OnOk};
 ghost use Rattle.alma_ir.specs.View.{desig_of, expr_of, loop_of, stmts_list};
 ghost use Rattle.alma_ir.specs.Tree as tree;
-ghost use Rattle.alma_emit_parts.specs.Front.{around, front};
-ghost use Rattle.alma_emit_parts.specs.Puts.{PutsStmt};
+ghost use Rattle.alma_emit_work.specs.Front.{around, front};
+ghost use Rattle.alma_emit_work.specs.Puts.{PutsStmt};
 ghost use Rattle.alma_emit_forms.specs.Loops.{PutsBounds, PutsTurn};
 ghost use Rattle.alma_templates.specs.Templates.{own_slot};
 

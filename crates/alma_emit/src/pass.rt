@@ -4,7 +4,7 @@ ghost use Rattle.alma_ir.specs.Lines.{behind};
 ghost use Rattle.alma_ir.specs.Phrases.{desig_phrases, stmts_phrases};
 ghost use Rattle.alma_ir.specs.Tree.{Else};
 ghost use Rattle.alma_ir.specs.View.{cases_list, desig_of, stmts_list};
-ghost use Rattle.alma_emit_parts.specs.Front.{Around, Front, front, Turns};
+ghost use Rattle.alma_emit_work.specs.Front.{Around, Front, front, Turns};
 ghost use Rattle.alma_emit_forms.specs.Cases.{PutsAllArms};
 
 use alma_base::NoMemory;

@@ -2,8 +2,8 @@
 ghost use Rattle.std.specs.Prelude.{◌≡◌, OnOk};
 ghost use Rattle.alma_ir.specs.View.{desig_of, expr_of, return_option, stmt_of, stmts_list};
 ghost use Rattle.alma_ir.specs.Tree as tree;
-ghost use Rattle.alma_emit_parts.specs.Front.{around, front};
-ghost use Rattle.alma_emit_parts.specs.Puts.{PutsStmts, PutsStmt};
+ghost use Rattle.alma_emit_work.specs.Front.{around, front};
+ghost use Rattle.alma_emit_work.specs.Puts.{PutsStmts, PutsStmt};
 
 use crate::case::emit_case;
 use crate::choice::{emit_commit, emit_either, emit_forall};

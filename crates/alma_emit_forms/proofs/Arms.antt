@@ -8,9 +8,9 @@ use Rattle.alma_ir.specs.Tree.{Stmts, CaseArms, Else, Expr, Case, no_cases, more
 use Rattle.alma_ir.specs.Phrases.{stmts_phrases, cases_phrases, else_phrases, expr_phrases}
 use Rattle.alma_ir.specs.Lines.{behind, stmts_with, cases_with, else_with, expr_with}
 use Rattle.alma_ir.proofs.LinesBack.{behind_two}
-use Rattle.alma_emit_parts.specs.Front.{Around, Front, Adds, Codes, Changes, Holes, Turns}
-use Rattle.alma_emit_parts.specs.Puts.{PutsExpr, PutsStmts, PutsStmt, PutsCases, PutsDead, PutsDeadBodies, PutsElse, all_labels}
-use Rattle.alma_emit_parts.proofs.Joins.{then_adds, adds_as, holes_as}
+use Rattle.alma_emit_work.specs.Front.{Around, Front, Adds, Codes, Changes, Holes, Turns}
+use Rattle.alma_emit_work.specs.Puts.{PutsExpr, PutsStmts, PutsStmt, PutsCases, PutsDead, PutsDeadBodies, PutsElse, all_labels}
+use Rattle.alma_emit_work.proofs.Joins.{then_adds, adds_as, holes_as}
 use Rattle.alma_emit_forms.proofs.LoopForms.{turned}
 use Rattle.alma_emit_parts.proofs.CaseForms.{arm_put, cases_put, body_put, dead_put, first_case_put}
 use Rattle.alma_emit_forms.specs.Cases.{PutsAllArms, PutsArmOf}

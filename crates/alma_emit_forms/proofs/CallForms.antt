@@ -10,9 +10,9 @@ use Rattle.alma_ir.specs.Tree.{Test, Expr, Args, Arg, Desig, CallTest, CallExpr,
 use Rattle.alma_ir.specs.Phrases.{stmts_phrases, args_phrases, arg_phrases, expr_phrases, desig_phrases}
 use Rattle.alma_ir.specs.Lines.{behind, stmts_with, args_with, arg_with, expr_with, desig_with}
 use Rattle.alma_ir.proofs.LinesBack.{behind_two}
-use Rattle.alma_emit_parts.specs.Front.{Around, Front, Adds, Codes, Takes}
-use Rattle.alma_emit_parts.specs.Puts.{PutsExpr, PutsValue, PutsDesig, PutsArgs, PutsArg, PutsHanded, PutsTest, value_slot, first_slot}
-use Rattle.alma_emit_parts.proofs.Joins.{nothing, then_adds, adds_as, code_code, code_adds, adds_code, only_code, slot_adds, own_two}
+use Rattle.alma_emit_work.specs.Front.{Around, Front, Adds, Codes, Takes}
+use Rattle.alma_emit_work.specs.Puts.{PutsExpr, PutsValue, PutsDesig, PutsArgs, PutsArg, PutsHanded, PutsTest, value_slot, first_slot}
+use Rattle.alma_emit_work.proofs.Joins.{nothing, then_adds, adds_as, code_code, code_adds, adds_code, only_code, slot_adds, own_two}
 use Rattle.alma_emit_forms.proofs.With.{same_handed}
 use Rattle.alma_templates.specs.Lined.{Lined, own, in_row}
 use Rattle.alma_templates.specs.Slots.{bare, unless_bare, shift_of, handed_slots, call_links, args_slots, arg_slots, expr_slots, desig_slots}

@@ -12,10 +12,10 @@ use Rattle.alma_ir.specs.Tree.{Expr, Links, Desig, Test, Const, Load, Chain, Com
 use Rattle.alma_ir.specs.Phrases.{stmts_phrases, expr_phrases, links_phrases, desig_phrases, test_phrases}
 use Rattle.alma_ir.specs.Lines.{behind, stmts_with, expr_with, links_with, desig_with, test_with}
 use Rattle.alma_ir.proofs.LinesBack.{behind_two}
-use Rattle.alma_emit_parts.specs.declared.stand.Stand.{Stand}
-use Rattle.alma_emit_parts.specs.Front.{Around, Front, Adds, Codes, Takes, Changes, Holes}
-use Rattle.alma_emit_parts.specs.Puts.{PutsExpr, PutsValue, PutsLinks, PutsDesig, PutsTarget, PutsGuard, stand_by, stand_of, value_slot, load_instr, set_instr}
-use Rattle.alma_emit_parts.proofs.Joins.{nothing, then_adds, adds_as, code_code, code_adds, adds_code, only_code, slot_adds, adds_slot, only_slot, own_two, filled}
+use Rattle.alma_emit_work.specs.declared.stand.Stand.{Stand}
+use Rattle.alma_emit_work.specs.Front.{Around, Front, Adds, Codes, Takes, Changes, Holes}
+use Rattle.alma_emit_work.specs.Puts.{PutsExpr, PutsValue, PutsLinks, PutsDesig, PutsTarget, PutsGuard, stand_by, stand_of, value_slot, load_instr, set_instr}
+use Rattle.alma_emit_work.proofs.Joins.{nothing, then_adds, adds_as, code_code, code_adds, adds_code, only_code, slot_adds, adds_slot, only_slot, own_two, filled}
 use Rattle.alma_emit_forms.proofs.With.{own_desig, own_expr, own_desig_passes, own_expr_passes}
 use Rattle.alma_templates.specs.Lined.{Lined, own, in_row}
 use Rattle.alma_templates.specs.Tables.{range_number}

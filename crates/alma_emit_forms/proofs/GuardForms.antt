@@ -10,9 +10,9 @@ use Rattle.alma_ir.specs.Tree.{Program, Stmts, Stmt, Arms, Test, Expr, Value, If
 use Rattle.alma_ir.specs.Phrases.{stmts_phrases, stmt_phrases, arms_phrases, test_phrases, expr_phrases}
 use Rattle.alma_ir.specs.Lines.{behind, stmts_with, stmt_with, arms_with, test_with, expr_with}
 use Rattle.alma_ir.proofs.LinesBack.{behind_two}
-use Rattle.alma_emit_parts.specs.Front.{Around, Front, Adds, Codes, Takes, Changes, Holes}
-use Rattle.alma_emit_parts.specs.Puts.{PutsExpr, PutsValue, PutsTest, PutsGuard, PutsGuarded, PutsStmts, PutsStmt, PutsArms, value_slot, inside}
-use Rattle.alma_emit_parts.proofs.Joins.{nothing, then_adds, adds_as, code_adds, adds_code, only_code, slot_adds, hole_put, adds_holes, holes_adds, holes_code, holes_as, filled}
+use Rattle.alma_emit_work.specs.Front.{Around, Front, Adds, Codes, Takes, Changes, Holes}
+use Rattle.alma_emit_work.specs.Puts.{PutsExpr, PutsValue, PutsTest, PutsGuard, PutsGuarded, PutsStmts, PutsStmt, PutsArms, value_slot, inside}
+use Rattle.alma_emit_work.proofs.Joins.{nothing, then_adds, adds_as, code_adds, adds_code, only_code, slot_adds, hole_put, adds_holes, holes_adds, holes_code, holes_as, filled}
 use Rattle.alma_emit_forms.proofs.With.{simple_test}
 use Rattle.alma_templates.specs.Lined.{Lined, own, in_row, leaving, left_by}
 use Rattle.alma_templates.specs.Tables.{Tables}

@@ -10,9 +10,9 @@ use Rattle.alma_ir.specs.Tree.{Stmts, Stmt, Arms, Test, If, While, Repeat, Truth
 use Rattle.alma_ir.specs.Phrases.{stmts_phrases, stmt_phrases, arms_phrases, test_phrases}
 use Rattle.alma_ir.specs.Lines.{behind, stmts_with, stmt_with, arms_with, test_with}
 use Rattle.alma_ir.proofs.LinesBack.{behind_two}
-use Rattle.alma_emit_parts.specs.Front.{Around, Front, Adds, Codes, Takes, Changes, Holes}
-use Rattle.alma_emit_parts.specs.Puts.{PutsExpr, PutsGuard, PutsGuarded, PutsStmts, PutsStmt, PutsArms, inside}
-use Rattle.alma_emit_parts.proofs.Joins.{nothing, then_adds, adds_as, code_code, code_adds, adds_code, only_code, slot_adds, closed, over, address_behind}
+use Rattle.alma_emit_work.specs.Front.{Around, Front, Adds, Codes, Takes, Changes, Holes}
+use Rattle.alma_emit_work.specs.Puts.{PutsExpr, PutsGuard, PutsGuarded, PutsStmts, PutsStmt, PutsArms, inside}
+use Rattle.alma_emit_work.proofs.Joins.{nothing, then_adds, adds_as, code_code, code_adds, adds_code, only_code, slot_adds, closed, over, address_behind}
 use Rattle.alma_emit_forms.proofs.GuardForms.{condition_code, condition_slots, guarded_code, arms_split, four_slots, four_long}
 use Rattle.alma_templates.specs.Lined.{Lined, own, in_row, leaving, left_by}
 use Rattle.alma_templates.specs.Slots.{is_simple, mark_slots, test_slots, stmts_slots, arms_slots, behind_condition, behind_stmts}

@@ -13,10 +13,10 @@ use Rattle.alma_ir.specs.Tree.{Stmts, Stmt, Expr, Desig, Loop, ForTo, SomeOf, a_
 use Rattle.alma_ir.specs.Phrases.{stmts_phrases, stmt_phrases, expr_phrases, desig_phrases}
 use Rattle.alma_ir.specs.Lines.{behind, stmts_with, stmt_with, expr_with, desig_with}
 use Rattle.alma_ir.proofs.LinesBack.{behind_two}
-use Rattle.alma_emit_parts.specs.declared.stand.Stand.{Stand}
-use Rattle.alma_emit_parts.specs.Front.{Around, Front, Adds, Codes, Takes, Changes, Holes, Turns}
-use Rattle.alma_emit_parts.specs.Puts.{PutsExpr, PutsTarget, PutsStmts, PutsStmt, stand_of, set_instr, inside}
-use Rattle.alma_emit_parts.proofs.Joins.{nothing, then_adds, adds_as, code_code, code_adds, adds_code, only_code, slot_adds, adds_slot, only_slot, filled, hole_put, own_two, address_behind, address_after}
+use Rattle.alma_emit_work.specs.declared.stand.Stand.{Stand}
+use Rattle.alma_emit_work.specs.Front.{Around, Front, Adds, Codes, Takes, Changes, Holes, Turns}
+use Rattle.alma_emit_work.specs.Puts.{PutsExpr, PutsTarget, PutsStmts, PutsStmt, stand_of, set_instr, inside}
+use Rattle.alma_emit_work.proofs.Joins.{nothing, then_adds, adds_as, code_code, code_adds, adds_code, only_code, slot_adds, adds_slot, only_slot, filled, hole_put, own_two, address_behind, address_after}
 use Rattle.alma_emit_forms.proofs.StmtForms.{set_is}
 use Rattle.alma_templates.specs.Lined.{Lined, own, in_row}
 use Rattle.alma_templates.specs.Slots.{bare_desig, unless_bare, expr_slots, desig_slots, stmts_slots}

@@ -7,8 +7,8 @@ use Rattle.alma_ir.specs.declared.phrase.Branch.{Branch}
 use Rattle.alma_ir.specs.declared.phrase.Arm.{Arm}
 use Rattle.alma_ir.specs.Tree.{Test, Stmts, If, Or, Either, more_tests, more_branches}
 use Rattle.alma_ir.specs.View.{test_of, stmts_list, arms_list, tests_list, branches_list}
-use Rattle.alma_emit_parts.specs.Front.{Around, Front, Codes, Changes}
-use Rattle.alma_emit_parts.specs.Puts.{PutsTest, PutsStmts, PutsStmt, PutsArms, PutsGuarded, PutsFirst, PutsOperands, PutsChosen, PutsBranches}
+use Rattle.alma_emit_work.specs.Front.{Around, Front, Codes, Changes}
+use Rattle.alma_emit_work.specs.Puts.{PutsTest, PutsStmts, PutsStmt, PutsArms, PutsGuarded, PutsFirst, PutsOperands, PutsChosen, PutsBranches}
 use Rattle.alma_emit_forms.proofs.TestForms.{operands_put, or_put, no_or_put, one_or_put}
 use Rattle.alma_emit_forms.proofs.StmtForms.{branches_put, either_put, no_either_put, one_either_put}
 use Rattle.alma_emit_forms.proofs.IfForms.{if_put}

@@ -10,11 +10,11 @@ use Rattle.alma_code.specs.declared.instr.Instr.{Instr}
 use Rattle.alma_ir.specs.Tree.{Stmts, Stmt, Arms, CaseArms, Else, Branches, Test, Tests, Expr, Links, Args, Arg, Desig, Sels, Sel, no_sels, more_sels}
 use Rattle.alma_ir.specs.Lines.{behind, stmts_with, expr_with, desig_with, sels_with, sel_with}
 use Rattle.alma_ir.specs.Phrases.{sel_phrases}
-use Rattle.alma_emit_parts.specs.declared.stand.Stand.TheVariants as stands
-use Rattle.alma_emit_parts.specs.Front.{Around, Front, Codes}
-use Rattle.alma_emit_parts.specs.Puts.{PutsStmts, PutsStmt, PutsArms, PutsCases, PutsDeadBodies, PutsElse, PutsBranches, PutsTest, PutsAnd, PutsOperands, PutsExpr, PutsValue, PutsLinks, PutsArgs, PutsArg, PutsDesig, PutsTarget, PutsSels, PutsSel, value_slot, stand_of}
+use Rattle.alma_emit_work.specs.declared.stand.Stand.TheVariants as stands
+use Rattle.alma_emit_work.specs.Front.{Around, Front, Codes}
+use Rattle.alma_emit_work.specs.Puts.{PutsStmts, PutsStmt, PutsArms, PutsCases, PutsDeadBodies, PutsElse, PutsBranches, PutsTest, PutsAnd, PutsOperands, PutsExpr, PutsValue, PutsLinks, PutsArgs, PutsArg, PutsDesig, PutsTarget, PutsSels, PutsSel, value_slot, stand_of}
 use Rattle.alma_emit_forms.proofs.ExprForms.{own_value_put, own_value_slot, made_value_put, made_value_slot, own_target_put, made_target_put, own_stand_of, made_stand_of}
-use Rattle.alma_emit_parts.proofs.DesigForms.{parts_on}
+use Rattle.alma_emit_work.proofs.DesigForms.{parts_on}
 use Rattle.alma_emit_forms.specs.Cases.{PutsAllArms, PutsArmOf}
 use Rattle.alma_templates.specs.Lined.{own}
 use Rattle.alma_templates.specs.Slots.{bare, bare_desig, sel_slots}

@@ -14,10 +14,10 @@ use Rattle.alma_ir.specs.Tree.{Stmts, Stmt, Branches, Test, Expr, Desig, no_stmt
 use Rattle.alma_ir.specs.Phrases.{StmtPhrase, stmts_phrases, stmt_phrases, branches_phrases, expr_phrases, desig_phrases, test_phrases}
 use Rattle.alma_ir.specs.Lines.{stmt_count, behind, stmts_with, stmt_with, branches_with, expr_with, desig_with, test_with}
 use Rattle.alma_ir.proofs.LinesBack.{behind_two, drop_two}
-use Rattle.alma_emit_parts.specs.declared.stand.Stand.{Stand}
-use Rattle.alma_emit_parts.specs.Front.{Around, Front, Adds, Codes, Takes, Changes, Holes, EndsEach, EndsForall, result_of}
-use Rattle.alma_emit_parts.specs.Puts.{PutsValue, PutsDesig, PutsTarget, PutsTest, PutsStmts, PutsStmt, PutsBranches, PutsChosen, value_slot, stand_of, stand_by, set_instr, inside}
-use Rattle.alma_emit_parts.proofs.Joins.{nothing, then_adds, adds_as, code_code, code_adds, adds_code, only_code, slot_adds, filled, over, own_two, address_behind}
+use Rattle.alma_emit_work.specs.declared.stand.Stand.{Stand}
+use Rattle.alma_emit_work.specs.Front.{Around, Front, Adds, Codes, Takes, Changes, Holes, EndsEach, EndsForall, result_of}
+use Rattle.alma_emit_work.specs.Puts.{PutsValue, PutsDesig, PutsTarget, PutsTest, PutsStmts, PutsStmt, PutsBranches, PutsChosen, value_slot, stand_of, stand_by, set_instr, inside}
+use Rattle.alma_emit_work.proofs.Joins.{nothing, then_adds, adds_as, code_code, code_adds, adds_code, only_code, slot_adds, filled, over, own_two, address_behind}
 use Rattle.alma_emit_forms.proofs.TestForms.{two_places}
 use Rattle.alma_templates.specs.Lined.{Lined, own, in_row}
 use Rattle.alma_templates.specs.Tables.{range_number, text_number}

@@ -7,8 +7,8 @@ use Rattle.alma_choice.specs.Emitted.{aimed}
 use Rattle.alma_ir.specs.Tree.{Stmts, Expr, Desig, ForTo, SomeOf, a_loop}
 use Rattle.alma_ir.specs.Phrases.{desig_phrases}
 use Rattle.alma_ir.specs.Lines.{behind, desig_with}
-use Rattle.alma_emit_parts.specs.Front.{Around, Front, Adds, Codes, Takes, Changes, Holes, Turns}
-use Rattle.alma_emit_parts.specs.Puts.{PutsStmt}
+use Rattle.alma_emit_work.specs.Front.{Around, Front, Adds, Codes, Takes, Changes, Holes, Turns}
+use Rattle.alma_emit_work.specs.Puts.{PutsStmt}
 use Rattle.alma_emit_forms.proofs.LoopForms.{for_put, some_put}
 use Rattle.alma_emit_forms.specs.Loops.{PutsBounds, PutsTurn}
 use Rattle.alma_templates.specs.Lined.{own}

@@ -4,8 +4,8 @@ use Rattle.alma_base.specs.declared.number.Range.{Range}
 use Rattle.alma_ir.specs.Tree.{Stmts, CaseArms, Else}
 use Rattle.alma_ir.specs.Phrases.{cases_phrases, else_phrases}
 use Rattle.alma_ir.specs.Lines.{behind, cases_with, else_with}
-use Rattle.alma_emit_parts.specs.Front.{Around, Front, Adds}
-use Rattle.alma_emit_parts.specs.Puts.{PutsCaseArm}
+use Rattle.alma_emit_work.specs.Front.{Around, Front, Adds}
+use Rattle.alma_emit_work.specs.Puts.{PutsCaseArm}
 use Rattle.alma_templates.specs.Slots.{cases_slots, else_slots}
 use Rattle.alma_templates.specs.Templates as T
 

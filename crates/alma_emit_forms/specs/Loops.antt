@@ -5,9 +5,9 @@ use Rattle.alma_code.specs.declared.cell.SlotKind.TheVariants as slot
 use Rattle.alma_code.specs.declared.instr.Instr.TheVariants as I
 use Rattle.alma_ir.specs.Tree.{Stmts, Expr, Desig}
 use Rattle.alma_ir.specs.Lines.{desig_with}
-use Rattle.alma_emit_parts.specs.declared.stand.Stand.{Stand}
-use Rattle.alma_emit_parts.specs.Front.{Around, Front, Adds, Codes, Takes}
-use Rattle.alma_emit_parts.specs.Puts.{PutsExpr, PutsTarget, PutsStmts, stand_of, set_instr}
+use Rattle.alma_emit_work.specs.declared.stand.Stand.{Stand}
+use Rattle.alma_emit_work.specs.Front.{Around, Front, Adds, Codes, Takes}
+use Rattle.alma_emit_work.specs.Puts.{PutsExpr, PutsTarget, PutsStmts, stand_of, set_instr}
 use Rattle.alma_templates.specs.Lined.{own}
 use Rattle.alma_templates.specs.Slots.{bare_desig, unless_bare}
 use Rattle.alma_templates.specs.Templates as T

@@ -1,18 +1,12 @@
 -- The fronts of choices, whose targets are still to be aimed.
-use Rattle.std.proofs.Common.{◌≡◌, ℕ, suc, ◌+◌, List, [], ◌∷◌, ◌++◌, length, refl, sym, ap, ◌∙◌, append_assoc, length-append, arith, None}
-use Rattle.std.specs.Prelude.{Result, Ok, Err, OnOk, IfOk, Option, option_map, drop}
+use Rattle.std.proofs.Common.{◌≡◌, ℕ, suc, ◌+◌, List, [], ◌∷◌, ◌++◌, length, refl, sym, ap, ◌∙◌, append_assoc, length-append, arith}
+use Rattle.std.specs.Prelude.{Result, Ok, Err, OnOk, IfOk}
 use Rattle.alma_code.specs.declared.cell.SlotKind.{SlotKind}
 use Rattle.alma_code.specs.declared.instr.Instr.{Instr}
 use Rattle.alma_choice.specs.Emitted.{aimed, with_target}
 use Rattle.alma_choice.proofs.Aiming.{aim_between}
-use Rattle.alma_ir.specs.declared.phrase.Root.{Root}
-use Rattle.alma_ir.specs.declared.phrase.Sel as L
-use Rattle.alma_ir.specs.Tree.{a_desig}
-use Rattle.alma_ir.specs.View.{sels_list}
-use Rattle.alma_ir.specs.declared.phrase.Root.TheVariants as root
-use Rattle.alma_templates.specs.Lined.{Lined, own}
-use Rattle.alma_templates.specs.Slots.{bare_desig}
-use Rattle.alma_emit_parts.specs.Front.{Front, Adds, Holes}
+use Rattle.alma_templates.specs.Lined.{own}
+use Rattle.alma_emit_work.specs.Front.{Front, Holes}
 
 -- what follows on success from two clauses
 pub both_ok : {T E : Type 0} (r : Result T E) {P R : T → Type 0} {Q : Type 0} → ((x : T) → P x → Q → R x) → IfOk r P → OnOk r Q → IfOk r R
@@ -48,12 +42,3 @@ hole_among a b line at before after i slots code kinds next lines whole here sam
     own_long : (f : List Instr) → length (own line f) ≡ length f
     own_long [] = refl
     own_long (z ∷ f) = ap suc (own_long f)
-
--- a designator with a selector stands in no slot of its own
-pub selected : {A : Type 0} (f : ℕ → A) (r : Root) (cells : ℕ) (sels : List L.Sel) → (length sels ≡ 0 → ⊥) → None ≡ option_map f (bare_desig (a_desig r cells (sels_list sels)))
-selected f r cells [] h = absurd (h refl)
-selected f (root.Local from) cells (x ∷ rest) h = refl
-selected f (root.Global from) cells (x ∷ rest) h = refl
-selected f (root.Param from) cells (x ∷ rest) h = refl
-selected f (root.Outer links from) cells (x ∷ rest) h = refl
-selected f (root.OuterParam links from) cells (x ∷ rest) h = refl

@@ -1,21 +1,16 @@
 -- What is handed over at a call.
-use Rattle.std.proofs.Common.{◌≡◌, ℕ, zero, suc, ◌+◌, ◌<◌, List, [], ◌∷◌, ◌++◌, length, drop, take, get_or, Some, None, refl, sym, ap, ◌∙◌, arith, add-zero, drop-cons, add-one}
-use Rattle.std.specs.Prelude.{Option}
+use Rattle.std.proofs.Common.{◌≡◌, ℕ, zero, suc, ◌+◌, ◌<◌, List, [], ◌∷◌, ◌++◌, length, take, get_or, None, refl, sym, ap, ◌∙◌, arith, add-zero}
 use Rattle.alma_code.specs.declared.cell.SlotKind.{SlotKind}
-use Rattle.alma_ir.specs.declared.phrase.Sel as L
 use Rattle.alma_ir.specs.declared.phrase.Arg as A
-use Rattle.alma_ir.specs.Tree.{Args, Sel, Sels, Field, Index, no_args, more_args, no_sels, more_sels}
+use Rattle.alma_ir.specs.Tree.{Args, Sel, Sels, Field, Index, no_args, more_args, more_sels}
 use Rattle.alma_ir.specs.Checked.{sel_cells}
-use Rattle.alma_ir.specs.View.{sel_of, sels_list, arg_of, args_list}
-use Rattle.alma_emit_parts.specs.Front.{Around, Front, Adds, Takes}
-use Rattle.alma_emit_parts.specs.Puts.{link_slot, first_of_call, first_slot}
-use Rattle.alma_emit_parts.proofs.Joins.{nothing, adds_as, adds_slot}
-use Rattle.alma_templates.specs.Slots.{shift_of, cells_behind, handed_slots, arg_kind, call_links, links_if, chain_slots}
+use Rattle.alma_ir.specs.View.{arg_of, args_list}
+use Rattle.alma_emit_work.specs.Front.{Around, Front, Adds, Takes}
+use Rattle.alma_emit_work.specs.Puts.{link_slot, first_of_call, first_slot}
+use Rattle.alma_emit_work.proofs.Joins.{adds_as, adds_slot}
+use Rattle.alma_templates.specs.Slots.{shift_of, cells_behind, handed_slots, arg_kind, call_links, links_if}
 use Rattle.alma_templates.specs.Pieces.{first_argument}
 use Rattle.alma_templates.specs.Templates as T
-
-pub drop_one : {A : Type 0} (xs : List A) (i : ℕ) (x : A) → i < length xs → x ≡ get_or xs i x → drop i xs ≡ x ∷ drop (i + 1) xs
-drop_one xs i x lt is = drop-cons xs i x lt ∙ ap (λ y. y ∷ drop (suc i) xs) (sym is) ∙ ap (λ n. x ∷ drop n xs) (sym (add-one i))
 
 pub cells_one : (x : Sel) (rest : Sels) (cells : ℕ) → cells_behind cells (more_sels x rest) ≡ cells_behind (sel_cells x) rest
 cells_one (Field offset part) rest cells = refl

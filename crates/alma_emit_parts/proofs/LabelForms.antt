@@ -6,9 +6,9 @@ use Rattle.alma_code.specs.declared.instr.Instr.{Instr}
 use Rattle.alma_code.specs.declared.instr.Instr.TheVariants as I
 use Rattle.alma_choice.specs.Emitted.{aimed}
 use Rattle.alma_choice.proofs.Aiming.{aim_between}
-use Rattle.alma_emit_parts.specs.Puts.{all_labels}
-use Rattle.alma_emit_parts.specs.Front.{Front, Adds, Codes, Changes, Holes}
-use Rattle.alma_emit_parts.proofs.Joins.{code_code, adds_code, code_holes, holes_as, own_two, closed, only_code, address_after, address_behind}
+use Rattle.alma_emit_work.specs.Puts.{all_labels}
+use Rattle.alma_emit_work.specs.Front.{Front, Adds, Codes, Changes, Holes}
+use Rattle.alma_emit_work.proofs.Joins.{code_code, adds_code, code_holes, holes_as, own_two, closed, only_code, address_after, address_behind}
 use Rattle.alma_templates.specs.Lined.{Lined, own}
 use Rattle.alma_templates.specs.Pieces.{last_label_code, label_code, labels_code}
 

@@ -5,14 +5,12 @@ ghost use Rattle.alma_ir.specs.View.{arg_of, args_list, desig_of, sel_of};
 ghost use Rattle.alma_templates.specs.Lined.{own};
 ghost use Rattle.alma_templates.specs.Slots.{arg_kind, call_links, desig_cells, handed_slots, shift_of};
 ghost use Rattle.alma_templates.specs.Templates.{call_link_code};
-ghost use Rattle.alma_emit_parts.specs.Front.{around, front, Adds};
-ghost use Rattle.alma_emit_parts.specs.Puts.{link_slot, first_of_call};
+ghost use Rattle.alma_emit_work.specs.Front.{around, front, Adds};
+ghost use Rattle.alma_emit_work.specs.Puts.{link_slot, first_of_call};
 
-use crate::place::put_links;
-use crate::scene::Scene;
-use crate::work::Work;
 use alma_base::NoMemory;
 use alma_code::SlotKind;
+use alma_emit_work::{Scene, Work, put_links};
 use alma_ir::{Arg, Desig, Sel};
 
 /// The link that is handed over to a routine of level 2 or more, and its slot.

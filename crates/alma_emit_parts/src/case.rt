@@ -5,11 +5,11 @@ ghost use Rattle.alma_choice.specs.Emitted.{aimed};
 ghost use Rattle.alma_ir.specs.View.{cases_list};
 ghost use Rattle.alma_templates.specs.Lined.{own};
 ghost use Rattle.alma_templates.specs.Pieces as pieces;
-ghost use Rattle.alma_emit_parts.specs.Front.{front, Adds, Codes, Holes};
+ghost use Rattle.alma_emit_work.specs.Front.{front, Adds, Codes, Holes};
 
-use crate::work::Work;
 use alma_base::{NoMemory, Range};
 use alma_code::{Instr, SlotKind};
+use alma_emit_work::Work;
 use alma_ir::CaseArm;
 
 /// What the labels of an arm need: the slot of the value, and two slots for the ends of a label and for the test of one.

@@ -3,13 +3,13 @@ ghost use Rattle.std.specs.Prelude.{◌≡◌, ◌∷◌, [], IfOk, OnOk};
 ghost use Rattle.alma_code.specs.declared.cell.SlotKind.TheVariants as slot;
 ghost use Rattle.alma_choice.specs.Emitted.{aimed};
 ghost use Rattle.alma_templates.specs.Pieces as pieces;
-ghost use Rattle.alma_emit_parts.specs.Front.{front, Holes, EndsEach, EndsForall};
+ghost use Rattle.alma_emit_work.specs.Front.{front, Holes, EndsEach, EndsForall};
 
-use crate::work::Work;
 use alma_base::NoMemory;
+use alma_emit_work::Work;
 
 /// The front of a phrase of which the first alternative is taken: its mark, and the choice that is to be aimed.
-#[tactic(auto, unfolding(crate::specs::Front::front))]
+#[tactic(auto, unfolding(alma_emit_work::specs::Front::front))]
 pub fn begin_first(work: &mut Work, line: u32) -> Result<(u32, u32), NoMemory>
     ensures mark { IfOk result (λ r. r.0 ≡ (front work.old).next) }
     ensures holes { IfOk result (λ r. Holes (front work.old) (front work.new)
@@ -20,7 +20,7 @@ pub fn begin_first(work: &mut Work, line: u32) -> Result<(u32, u32), NoMemory>
 }
 
 /// The front of FORALL: its mark, and its address, which is to be aimed.
-#[tactic(auto, unfolding(crate::specs::Front::front))]
+#[tactic(auto, unfolding(alma_emit_work::specs::Front::front))]
 pub fn begin_forall(work: &mut Work, line: u32) -> Result<(u32, u32), NoMemory>
     ensures mark { IfOk result (λ r. r.0 ≡ (front work.old).next) }
     ensures holes { IfOk result (λ r. Holes (front work.old) (front work.new)
@@ -31,7 +31,7 @@ pub fn begin_forall(work: &mut Work, line: u32) -> Result<(u32, u32), NoMemory>
 }
 
 /// What goes between the parts of FORALL: the mark of the body, and the overlay that is to be aimed.
-#[tactic(auto, unfolding(crate::specs::Front::front))]
+#[tactic(auto, unfolding(alma_emit_work::specs::Front::front))]
 pub fn begin_each(work: &mut Work, line: u32, mark: u32) -> Result<(u32, u32), NoMemory>
     ensures mark { IfOk result (λ r. r.0 ≡ (front work.old).next) }
     ensures holes { IfOk result (λ r. Holes (front work.old) (front work.new)
@@ -42,7 +42,7 @@ pub fn begin_each(work: &mut Work, line: u32, mark: u32) -> Result<(u32, u32), N
 }
 
 /// Behind the body of FORALL, where the overlay is aimed.
-#[tactic(auto, unfolding(crate::specs::Front::front))]
+#[tactic(auto, unfolding(alma_emit_work::specs::Front::front))]
 pub fn end_each(
     work: &mut Work,
     line: u32,
@@ -56,7 +56,7 @@ pub fn end_each(
 }
 
 /// Behind FORALL, where it is aimed itself.
-#[tactic(auto, unfolding(crate::specs::Front::front))]
+#[tactic(auto, unfolding(alma_emit_work::specs::Front::front))]
 pub fn end_forall(work: &mut Work, line: u32, forall: u32) -> Result<(), NoMemory>
     ensures { OnOk result (EndsForall (front work.old) (front work.new) line forall) }
 {

@@ -8,14 +8,11 @@ ghost use Rattle.alma_templates.specs.Templates.{count_at, count_code};
 ghost use Rattle.alma_choice.specs.Emitted.{aimed};
 ghost use Rattle.alma_templates.specs.Lined.{own};
 ghost use Rattle.alma_templates.specs.Pieces as pieces;
-ghost use Rattle.alma_emit_parts.specs.Front.{around, front, Adds, Codes, Holes};
+ghost use Rattle.alma_emit_work.specs.Front.{around, front, Adds, Codes, Holes};
 
-use crate::scene::Scene;
-use crate::stand::own_stand;
-use crate::value::put_fit;
-use crate::work::Work;
 use alma_base::{NoMemory, Range};
 use alma_code::{Instr, SlotKind};
+use alma_emit_work::{Scene, Work, own_stand, put_fit};
 use alma_ir::Desig;
 
 /// The slots of a loop: of its count and of its limit, and those in which the bounds were put first.

@@ -17,8 +17,8 @@ use Rattle.alma_ir.specs.View.{routine_of, stmts_list}
 use Rattle.alma_ir.specs.Tree.{Program, Routine, routine_at, no_routine}
 use Rattle.alma_ir.specs.Lines.{body_with_lines, stmts_with}
 use Rattle.alma_templates.specs.Runs.{NamesKinds}
-use Rattle.alma_emit_parts.specs.Front.{Around, Front, Codes}
-use Rattle.alma_emit_parts.specs.Puts.{PutsStmts}
+use Rattle.alma_emit_work.specs.Front.{Around, Front, Codes}
+use Rattle.alma_emit_work.specs.Puts.{PutsStmts}
 use Rattle.alma_templates.specs.Compiled.{head_for, routines_code, routines_named}
 use Rattle.alma_templates.specs.Lined.{Lined, own}
 use Rattle.alma_templates.specs.Slots.{own_kinds, routine_kinds, stmts_slots}

@@ -8,7 +8,7 @@ use Rattle.alma_code.specs.declared.head.Run.{Run}
 use Rattle.alma_code.specs.Plain.{PlainRoutine}
 use Rattle.alma_ir.specs.Tree.{Program, Routine}
 use Rattle.alma_templates.specs.Runs.{NamesKinds}
-use Rattle.alma_emit_parts.specs.Front.{Around, Front}
+use Rattle.alma_emit_work.specs.Front.{Around, Front}
 use Rattle.alma_templates.specs.Compiled.{link_params, param_named, is_function, routines_named}
 use Rattle.alma_templates.specs.Slots.{routine_kinds}
 use Rattle.alma_templates.specs.Tables.{Tables}

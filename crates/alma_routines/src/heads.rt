@@ -6,7 +6,7 @@ ghost use Rattle.alma_ir.specs.View as view;
 ghost use Rattle.alma_templates.specs.Runs.{NamesKinds};
 ghost use Rattle.alma_templates.specs.Compiled as compiled;
 ghost use Rattle.alma_templates.specs.Lined.{own};
-ghost use Rattle.alma_emit_parts.specs.Front.{front, Codes};
+ghost use Rattle.alma_emit_work.specs.Front.{front, Codes};
 ghost use Rattle.alma_routines.specs.Routines.{end_instr, Begins, HeadFor};
 
 use alma_base::{NoMemory, RECORD_LIMIT, SLOT_LIMIT};

@@ -5,7 +5,7 @@ ghost use Rattle.alma_ir.specs.Tree.{routine_at};
 ghost use Rattle.alma_templates.specs.Runs.{NamesKinds};
 ghost use Rattle.alma_templates.specs.Slots.{routine_kinds};
 ghost use Rattle.alma_templates.specs.Templates.{routine_code};
-ghost use Rattle.alma_emit_parts.specs.Front.{around, front};
+ghost use Rattle.alma_emit_work.specs.Front.{around, front};
 ghost use Rattle.alma_routines.specs.Routines.{HeadFor};
 
 use crate::heads::{begin, head_of, put_end};

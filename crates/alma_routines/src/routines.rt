@@ -4,7 +4,7 @@ ghost use Rattle.alma_code.specs.Plain as code;
 ghost use Rattle.alma_ir.specs.View.{program_of};
 ghost use Rattle.alma_choice.specs.Emitted.{lined};
 ghost use Rattle.alma_table.specs.Numbers.{tables_of};
-ghost use Rattle.alma_emit_parts.specs.Front.{around};
+ghost use Rattle.alma_emit_work.specs.Front.{around};
 ghost use Rattle.alma_templates.specs.Compiled.{routines_code};
 ghost use Rattle.alma_routines.specs.Routines.{AreHeads, around_at};
 

@@ -8,17 +8,17 @@ use Rattle.alma_ir.specs.View.{stmts_list, stmt_of, arms_list, cases_list, branc
 use Rattle.alma_ir.specs.Lines.{sels_with, sel_with, desig_with}
 use Rattle.alma_ir.specs.Count.{stmts_nodes, stmt_nodes, cases_nodes, else_nodes, return_nodes, test_nodes, expr_nodes, args_nodes, arg_nodes, sels_nodes, sel_nodes}
 use Rattle.alma_ir.proofs.Views
-use Rattle.alma_emit_parts.specs.Front.{around, front}
+use Rattle.alma_emit_work.specs.Front.{around, front}
 use Rattle.alma_code.specs.declared.instr.Instr.TheVariants as I
 use Rattle.std.specs.Prelude.{IfOk}
 use Rattle.alma_choice.specs.Emitted.{aimed}
 use Rattle.alma_templates.specs.Slots.{is_simple}
-use Rattle.alma_emit_parts.specs.Puts.{first_of_call, PutsElse, PutsGuard}
+use Rattle.alma_emit_work.specs.Puts.{first_of_call, PutsElse, PutsGuard}
 use Rattle.alma_emit_parts.proofs.Beginning.{both_ok}
-use Rattle.alma_emit_parts.proofs.Joins.{code_code}
+use Rattle.alma_emit_work.proofs.Joins.{code_code}
 use Rattle.alma_emit_parts.proofs.Calling.{first_is}
 use Rattle.alma_emit_forms.proofs.ExprForms.{load_put, no_links_put, links_put, chain_put, compare_put, known_put, chr_put}
-use Rattle.alma_emit_parts.proofs.DesigForms.{no_sels_put, sels_put, index_put, index_part, desig_put, desig_place}
+use Rattle.alma_emit_work.proofs.DesigForms.{no_sels_put, sels_put, index_put, index_part, desig_put, desig_place}
 use Rattle.alma_emit_forms.proofs.CallForms.{no_args_put, args_put, value_arg_put, mix_value_put, cells_arg_put, place_arg_put, mix_place_put, handed_put, call_test_put, call_value_put}
 use Rattle.alma_emit_forms.proofs.GuardForms.{simple_guard, barrier_guard, guarded_put, no_arms_put, arms_put}
 use Rattle.alma_emit_forms.proofs.IfForms.{while_put, repeat_put, truth_put}

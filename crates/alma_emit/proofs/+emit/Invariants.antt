@@ -2,8 +2,8 @@
 use Rattle.std.proofs.Common.{◌≡◌, ◌+◌, ◌*◌, drop}
 use Rattle.alma_ir.specs.View.{stmts_list, stmt_of, arms_list, cases_list, branches_list, loop_of, tests_list, test_of, expr_of, links_list, args_list, arg_of, desig_of, sels_list, sel_of, else_option, return_option}
 use Rattle.alma_ir.specs.Count.{stmts_nodes, stmt_nodes, arms_nodes, cases_nodes, else_nodes, branches_nodes, loop_nodes, return_nodes, tests_nodes, test_nodes, expr_nodes, links_nodes, args_nodes, arg_nodes, desig_nodes, sels_nodes, sel_nodes}
-use Rattle.alma_emit_parts.specs.Front.{Front, around, front}
-use Rattle.alma_emit_parts.specs.Puts.{PutsArgs, PutsCases, PutsDeadBodies, PutsBranches, PutsSels, PutsLinks, PutsArms, PutsStmts, PutsAnd, PutsOperands}
+use Rattle.alma_emit_work.specs.Front.{Front, around, front}
+use Rattle.alma_emit_work.specs.Puts.{PutsArgs, PutsCases, PutsDeadBodies, PutsBranches, PutsSels, PutsLinks, PutsArms, PutsStmts, PutsAnd, PutsOperands}
 use Rattle.alma_templates.specs.Templates.{part_at}
 use Rattle.alma_ir.specs.Lines.{sels_with}
 use Rattle.alma_emit.proofs.+emit.Given as goal

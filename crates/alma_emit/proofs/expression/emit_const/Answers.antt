@@ -1,7 +1,7 @@
 use Rattle.std.proofs.Common.{◌≡◌, ap, rules, to_z, of_z, w64}
 use Rattle.std.proofs.lemmas.Int.{to_z-of_z}
 use Rattle.alma_ir.specs.Tree as tree
-use Rattle.alma_emit_parts.specs.Front.{around}
+use Rattle.alma_emit_work.specs.Front.{around}
 use Rattle.alma_emit_forms.proofs.ExprForms.{const_put}
 use Rattle.alma_emit_forms.proofs.Said.{expr_is}
 use Rattle.alma_emit.proofs.expression.emit_const.Goals as goal

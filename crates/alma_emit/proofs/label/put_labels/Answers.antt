@@ -2,9 +2,9 @@ use Rattle.std.proofs.Common.{◌≡◌, ◌∙◌, suc, ◌+◌, ◌-◌, ◌<�
 use Rattle.std.proofs.Math.ListN.{drop_of_length-le}
 use Rattle.alma_base.specs.declared.number.Range.{Range}
 use Rattle.alma_choice.specs.Emitted.{aimed}
-use Rattle.alma_emit_parts.specs.Front.{front, Holes}
-use Rattle.alma_emit_parts.specs.Puts.{all_labels}
-use Rattle.alma_emit_parts.proofs.Joins.{holes_as}
+use Rattle.alma_emit_work.specs.Front.{front, Holes}
+use Rattle.alma_emit_work.specs.Puts.{all_labels}
+use Rattle.alma_emit_work.proofs.Joins.{holes_as}
 use Rattle.alma_emit_parts.proofs.LabelForms.{more_labels}
 use Rattle.alma_emit_forms.proofs.Said.{if_ok, some_elements}
 use Rattle.alma_emit.proofs.label.put_labels.Goals as goal

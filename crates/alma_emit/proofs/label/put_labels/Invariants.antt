@@ -1,7 +1,7 @@
 -- The labels that are left complete those that were put.
 use Rattle.std.proofs.Common.{◌≡◌, ℕ, ◌+◌, List, [], drop}
-use Rattle.alma_emit_parts.specs.Front.{Front, front, Holes}
-use Rattle.alma_emit_parts.specs.Puts.{all_labels}
+use Rattle.alma_emit_work.specs.Front.{Front, front, Holes}
+use Rattle.alma_emit_work.specs.Puts.{all_labels}
 use Rattle.alma_templates.specs.Lined.{Lined, own}
 use Rattle.alma_emit.proofs.label.put_labels.Given as goal
 

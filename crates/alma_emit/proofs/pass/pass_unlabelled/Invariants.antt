@@ -2,7 +2,7 @@
 use Rattle.std.proofs.Common.{◌≡◌, ℕ, drop}
 use Rattle.alma_ir.specs.Tree.{Else}
 use Rattle.alma_ir.specs.View.{cases_list}
-use Rattle.alma_emit_parts.specs.Front.{Around, Front, front}
+use Rattle.alma_emit_work.specs.Front.{Around, Front, front}
 use Rattle.alma_emit_forms.specs.Cases.{PutsAllArms}
 use Rattle.alma_emit.proofs.pass.pass_unlabelled.Given as goal
 

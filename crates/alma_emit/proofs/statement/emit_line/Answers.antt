@@ -1,4 +1,4 @@
-use Rattle.alma_emit_parts.specs.Front.{around}
+use Rattle.alma_emit_work.specs.Front.{around}
 use Rattle.alma_emit_forms.proofs.StmtForms.{line_put}
 use Rattle.alma_emit.proofs.statement.emit_line.Goals as goal
 

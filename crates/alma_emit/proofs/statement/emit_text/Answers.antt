@@ -1,4 +1,4 @@
-use Rattle.alma_emit_parts.specs.Front.{around}
+use Rattle.alma_emit_work.specs.Front.{around}
 use Rattle.alma_emit_forms.proofs.StmtForms.{text_put}
 use Rattle.alma_emit.proofs.statement.emit_text.Goals as goal
 

@@ -1,7 +1,7 @@
 use Rattle.std.proofs.Common.{◌≡◌, ◌∙◌, [], ◌∷◌, refl, sym, add-zero}
 use Rattle.alma_code.specs.declared.cell.SlotKind.TheVariants as slot
 use Rattle.alma_code.specs.declared.instr.Instr.TheVariants as I
-use Rattle.alma_emit_parts.specs.Front.{front}
+use Rattle.alma_emit_work.specs.Front.{front}
 use Rattle.alma_emit_parts.proofs.Beginning.{both_ok, hole_among}
 use Rattle.alma_emit_parts.proofs.choice.begin_forall.Goals as goal
 

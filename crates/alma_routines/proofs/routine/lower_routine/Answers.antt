@@ -3,7 +3,7 @@ use Rattle.std.proofs.lemmas.List.{length-map}
 use Rattle.std.specs.Prelude.{map}
 use Rattle.alma_ir.specs.View.{routine_of}
 use Rattle.alma_templates.specs.Runs.{NamesKinds}
-use Rattle.alma_emit_parts.specs.Front.{around}
+use Rattle.alma_emit_work.specs.Front.{around}
 use Rattle.alma_routines.proofs.Making.{routine_there, head_as, on_ok_all, if_ok_then}
 use Rattle.alma_routines.proofs.routine.lower_routine.Goals as goal
 

@@ -2,7 +2,7 @@ use Rattle.std.proofs.Common.{◌∙◌, ◌++◌, ◌<◌, ap, length, arith}
 use Rattle.std.proofs.lemmas.List.{length-map}
 use Rattle.std.specs.Prelude.{map}
 use Rattle.alma_ir.specs.View.{routine_of}
-use Rattle.alma_emit_parts.specs.Front.{around, front}
+use Rattle.alma_emit_work.specs.Front.{around, front}
 use Rattle.alma_routines.proofs.Making.{puts_at, routine_there, routine_put, routine_slots}
 use Rattle.alma_routines.proofs.routine.put_routine.Goals as goal
 

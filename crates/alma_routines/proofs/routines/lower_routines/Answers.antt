@@ -5,7 +5,7 @@ use Rattle.alma_ir.specs.View.{routine_of, program_of}
 use Rattle.alma_code.specs.Plain as code
 use Rattle.alma_templates.specs.Compiled.{routines_code}
 use Rattle.alma_routines.specs.Routines.{AreHeads}
-use Rattle.alma_emit_parts.specs.Front.{front}
+use Rattle.alma_emit_work.specs.Front.{front}
 use Rattle.alma_table.specs.Numbers.{tables_of}
 use Rattle.alma_routines.proofs.Making.{makes_first, routine_made, scene_exists}
 use Rattle.alma_routines.proofs.routines.lower_routines.Goals as goal

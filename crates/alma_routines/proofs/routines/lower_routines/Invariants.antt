@@ -2,7 +2,7 @@
 use Rattle.std.specs.Prelude.{map}
 use Rattle.alma_code.specs.Plain as code
 use Rattle.alma_ir.specs.View.{program_of}
-use Rattle.alma_emit_parts.specs.Front.{front}
+use Rattle.alma_emit_work.specs.Front.{front}
 use Rattle.alma_table.specs.Numbers.{tables_of}
 use Rattle.alma_routines.proofs.Making.{Makes}
 use Rattle.alma_routines.proofs.routines.lower_routines.Given as goal

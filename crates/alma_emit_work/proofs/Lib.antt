@@ -1,0 +1,4 @@
+pub mod Joins
+pub mod Scenes
+pub mod DesigForms
+pub mod Small

@@ -1,0 +1,19 @@
+//! The work of the emitter: code in the making, the scene of a routine, and the single instructions of values and places.
+#![tactic(auto)]
+
+mod place;
+mod scene;
+mod simple;
+mod stand;
+mod value;
+mod work;
+
+pub use place::{put_links, put_root};
+pub use scene::Scene;
+pub use simple::is_simple;
+pub use stand::{Stand, own_stand, own_value};
+pub use value::{
+    op_instr, put_cmp, put_fit, put_function, put_neg, put_result_fit, put_truth, read_instr,
+    write_instr,
+};
+pub use work::Work;
