@@ -20,7 +20,7 @@ use std::alloc::Global;
 const NO_RESULT: u32 = 6;
 
 /// Begins a routine, behind so many own slots of it.
-#[tactic(auto, unfolding(alma_emit_parts::specs::Front::front))]
+#[tactic(auto, unfolding(alma_emit_work::specs::Front::front))]
 pub fn begin(alloc: Global, work: &mut Work, routine: &Routine, own: usize) -> Result<(), NoMemory>
     ensures { OnOk result (Begins (front work.old) (front work.new) own routine.now.lines.items) }
 {
