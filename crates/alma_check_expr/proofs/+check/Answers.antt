@@ -4,14 +4,14 @@ use Rattle.alma_tree.specs.declared.phrase.Label as dl
 use Rattle.alma_ir.specs.View.{cases_list}
 use Rattle.alma_walk.specs.Arms.{arms_judged}
 use Rattle.alma_walk.proofs.Cases as cases
-use Rattle.alma_check_expr.proofs.Begins.{begun, from_nothing, stops_as, node_is, on_ok}
-use Rattle.alma_check_expr.proofs.Calls as calls
-use Rattle.alma_check_expr.proofs.Calls.{args_last}
-use Rattle.alma_check_expr.proofs.Empty.{empty_by, some_by, selected_by, length_is}
-use Rattle.alma_check_expr.proofs.Items as items
-use Rattle.alma_check_expr.proofs.Labels.{settled, spans_count, labels_begin, labels_turn, arms_turn, grown_begin, of_ok}
-use Rattle.alma_check_expr.proofs.Loops as loops
-use Rattle.alma_check_expr.proofs.Same.{kind_same, indexed_same}
+use Rattle.alma_walk_steps.proofs.Begins.{begun, from_nothing, stops_as, node_is, on_ok}
+use Rattle.alma_walk_steps.proofs.Calls as calls
+use Rattle.alma_walk_steps.proofs.Calls.{args_last}
+use Rattle.alma_walk_steps.proofs.Empty.{empty_by, some_by, selected_by, length_is}
+use Rattle.alma_walk_steps.proofs.Items as items
+use Rattle.alma_walk_steps.proofs.Labels.{settled, spans_count, labels_begin, labels_turn, arms_turn, grown_begin, of_ok}
+use Rattle.alma_walk_steps.proofs.Loops as loops
+use Rattle.alma_walk_steps.proofs.Same.{kind_same, indexed_same}
 use Rattle.alma_tree.specs.declared.phrase.Compared as dc
 use Rattle.alma_tree.specs.declared.phrase.Exprs as dx
 use Rattle.alma_ir.specs.Tree as ir

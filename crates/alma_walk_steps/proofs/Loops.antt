@@ -21,7 +21,7 @@ use Rattle.alma_check_rules.specs.Views.{scene_of, somewhere, headings_in, found
 use Rattle.alma_join_turns.specs.declared.turns.Bounds.{Bounds}
 use Rattle.alma_join_turns.specs.declared.turns.Turns.{Turns}
 use Rattle.alma_walk.proofs.Turns as turns
-use Rattle.alma_check_expr.proofs.Same.{found_same}
+use Rattle.alma_walk_steps.proofs.Same.{found_same}
 
 module _ (e : Env) (p : Place) (n k : ℕ) (name : Name) where
   -- the variable, by what its name stands for

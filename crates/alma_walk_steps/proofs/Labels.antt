@@ -12,7 +12,7 @@ use Rattle.alma_check_rules.specs.Views.{spans_in, spans_view}
 use Rattle.alma_walk.proofs.Onwards.{nothing_behind}
 use Rattle.alma_walk.specs.Arms.{labels_judged}
 use Rattle.alma_join_list.specs.Onward.{onward_spans}
-use Rattle.alma_check_expr.proofs.Begins.{begun}
+use Rattle.alma_walk_steps.proofs.Begins.{begun}
 use Rattle.alma_walk.proofs.Cases as cases
 use Rattle.alma_tree.specs.declared.phrase.Arm as da
 use Rattle.alma_tree.specs.declared.phrase.Label as dl

@@ -13,7 +13,7 @@ use Rattle.alma_walk.specs.Appends.{append_args}
 use Rattle.alma_walk.proofs.Exprs.{arguments_at, arguments_next, count_is}
 use Rattle.alma_walk.proofs.Rows as rows
 use Rattle.alma_join_list.specs.Onward.{onward_args}
-use Rattle.alma_check_expr.proofs.Begins.{begun}
+use Rattle.alma_walk_steps.proofs.Begins.{begun}
 
 -- ---- formals by their places
 dropped_first : {A : Type 0} (k : ℕ) (xs : List A) → slice_get (drop k xs) 0 ≡ slice_get xs k
