@@ -1,5 +1,5 @@
 // The code of calls and of their arguments.
-ghost use Rattle.std.specs.Prelude.{◌≡◌, ◌+◌, IfOk, OnOk};
+ghost use Rattle.std.specs.Prelude.{◌≡◌, IfOk, OnOk};
 ghost use Rattle.alma_ir.specs.View.{arg_of, args_list, desig_of, expr_of};
 ghost use Rattle.alma_ir.specs.Tree as tree;
 ghost use Rattle.alma_emit_work.specs.Front.{around, front};
@@ -9,6 +9,7 @@ use crate::designator::emit_desig;
 use crate::expression::emit_value;
 use alma_base::{NoMemory, Range};
 use alma_code::{Instr, SlotKind};
+use alma_emit_forms::slot_behind;
 use alma_emit_parts::{
     Scene, Work, first_handed, put_call_link, put_fit, put_function, take_handed,
 };
@@ -53,13 +54,6 @@ fn emit_args(
         slot = slot_behind(slot)?;
     }
     Ok(())
-}
-
-// The slot behind a slot.
-fn slot_behind(slot: u32) -> Result<u32, NoMemory>
-    ensures { IfOk result (λ next. next ≡ slot + 1) }
-{
-    slot.checked_add(1).ok_or(NoMemory)
 }
 
 // An argument, into a slot.

@@ -8,11 +8,10 @@ ghost use Rattle.alma_emit_work.specs.Puts.{PutsStmt, PutsCases, PutsDead, PutsD
 ghost use Rattle.alma_emit_forms.specs.Cases.{PutsAllArms, PutsArmOf};
 
 use crate::expression::emit_expr;
-use crate::label::put_labels;
-use crate::pass::{pass_stmts, pass_unlabelled};
 use crate::statement::emit_stmts;
 use alma_base::NoMemory;
 use alma_code::Instr;
+use alma_emit_forms::{pass_stmts, pass_unlabelled, put_labels};
 use alma_emit_parts::{Labels, Scene, Work, has_dead, take_labels};
 use alma_ir::{CaseArm, Expr, Stmt};
 

@@ -1,5 +1,5 @@
 // The code of EITHER, FORALL and COMMIT.
-ghost use Rattle.std.specs.Prelude.{◌≡◌, ◌≤◌, drop, length, OnOk};
+ghost use Rattle.std.specs.Prelude.{◌≤◌, drop, length, OnOk};
 ghost use Rattle.alma_ir.specs.View.{branches_list, stmts_list};
 ghost use Rattle.alma_ir.specs.Tree as tree;
 ghost use Rattle.alma_emit_work.specs.Front.{around, front};

@@ -1,5 +1,5 @@
 // The code of conditions.
-ghost use Rattle.std.specs.Prelude.{◌≡◌, true, false, IfOk, OnOk};
+ghost use Rattle.std.specs.Prelude.{◌≡◌, true, false, IfOk};
 ghost use Rattle.alma_ir.specs.View.{test_of};
 ghost use Rattle.alma_choice.specs.Emitted.{aimed};
 ghost use Rattle.alma_templates.specs.Slots.{is_simple};
@@ -10,7 +10,8 @@ use crate::expression::emit_value;
 use crate::test::emit_test;
 use alma_base::NoMemory;
 use alma_code::Instr;
-use alma_emit_parts::{Scene, Work, begin_first, is_simple};
+use alma_emit_forms::is_plain;
+use alma_emit_parts::{Scene, Work, begin_first};
 use alma_ir::Test;
 
 // A condition; the address of the jump where it has no alternative, which is still to be aimed.
@@ -28,24 +29,6 @@ pub(crate) fn emit_guard(
         emit_simple(work, scene, line, test)
     } else {
         emit_barrier(work, scene, line, test)
-    }
-}
-
-// Whether a condition is tested by a jump.
-#[tactic(auto, using(alma_ir::proofs::Views::viewed))]
-fn is_plain(test: &Test) -> bool
-    ensures { result ≡ is_simple (test_of test.now) }
-{
-    match test {
-        Test::Value(value) => is_simple(value),
-        Test::Bind(_, _, _, _) => false,
-        Test::Unify(_, _, _, _) => false,
-        Test::SameCells(_, _) => false,
-        Test::Seq(_) => false,
-        Test::And(_) => false,
-        Test::Or(_) => false,
-        Test::Not(_) => false,
-        Test::Call(_) => false,
     }
 }
 

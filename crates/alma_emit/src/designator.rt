@@ -10,6 +10,7 @@ ghost use Rattle.alma_emit_work.specs.Puts.{PutsDesig, PutsTarget, PutsSels, Put
 use crate::expression::emit_value;
 use alma_base::{NoMemory, Range};
 use alma_code::{Instr, SlotKind};
+use alma_emit_forms::emit_field;
 use alma_emit_parts::{Scene, Stand, Work, own_stand, put_root};
 use alma_ir::{Desig, Expr, Sel};
 
@@ -94,26 +95,6 @@ fn emit_sel(
             emit_index(work, scene, line, from, index, *range, *cells)
         }
     }
-}
-
-// A field.
-fn emit_field(
-    work: &mut Work,
-    scene: &Scene<'_>,
-    line: u32,
-    from: u32,
-    offset: u32,
-    cells: u32,
-) -> Result<u32, NoMemory>
-    ensures part { IfOk result (λ part. part ≡ part_slot (around scene.now).program
-        (around scene.now).tables (around scene.now).routine (front work.old).next (sel_with
-        (tree.Field offset cells) (front work.old).lines)) }
-    ensures puts { OnOk result (PutsSel (around scene.now) line from
-        (front work.old) (front work.new) (tree.Field offset cells)) }
-{
-    let to = work.slot(SlotKind::Place(cells))?;
-    work.put(line, Instr::Field { to, from, offset })?;
-    Ok(to)
 }
 
 // An element of an array.

@@ -11,6 +11,7 @@ use crate::condition::emit_guard;
 use crate::designator::{emit_desig, emit_target};
 use alma_base::{NoMemory, Range};
 use alma_code::{Instr, SlotKind};
+use alma_emit_forms::emit_const;
 use alma_emit_parts::{Scene, Work, op_instr, own_value, put_cmp, put_neg, put_truth};
 use alma_ir::{Cmp, Desig, Expr, Link, Test};
 
@@ -41,17 +42,6 @@ pub(crate) fn emit_expr(
         Expr::Chr(inner) => emit_chr(work, scene, line, inner),
         Expr::Call(call) => emit_call_value(work, scene, line, call),
     }
-}
-
-// A number.
-fn emit_const(work: &mut Work, scene: &Scene<'_>, line: u32, value: i64) -> Result<u32, NoMemory>
-    ensures slot { IfOk result (λ slot. slot ≡ (front work.old).next) }
-    ensures puts { OnOk result (PutsExpr (around scene.now) line
-        (front work.old) (front work.new) (tree.Const value)) }
-{
-    let to = work.slot(SlotKind::Number)?;
-    work.put(line, Instr::Const { to, value })?;
-    Ok(to)
 }
 
 // The number of a variable.

@@ -1,5 +1,5 @@
 // The code of IF, WHILE and REPEAT.
-ghost use Rattle.std.specs.Prelude.{◌≡◌, drop, OnOk};
+ghost use Rattle.std.specs.Prelude.{drop, OnOk};
 ghost use Rattle.alma_ir.specs.View.{arms_list, stmts_list, test_of};
 ghost use Rattle.alma_ir.specs.Tree as tree;
 ghost use Rattle.alma_emit_work.specs.Front.{around, front};

@@ -8,9 +8,7 @@ mod condition;
 mod designator;
 mod expression;
 mod guarded;
-mod label;
 mod loops;
-mod pass;
 mod statement;
 mod test;
 

@@ -9,10 +9,10 @@ ghost use Rattle.alma_templates.specs.Templates.{own_slot};
 
 use crate::designator::emit_target;
 use crate::expression::emit_expr;
-use crate::pass::pass_desig;
 use crate::statement::emit_stmts;
 use alma_base::NoMemory;
 use alma_code::{Instr, SlotKind};
+use alma_emit_forms::pass_desig;
 use alma_emit_parts::{Bounds, Scene, Work, put_bounds, put_count, put_more, put_next, put_step};
 use alma_ir::Loop;
 

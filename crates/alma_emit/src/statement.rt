@@ -1,5 +1,5 @@
 // The code of statements, and of those that hold no others.
-ghost use Rattle.std.specs.Prelude.{◌≡◌, OnOk};
+ghost use Rattle.std.specs.Prelude.{OnOk};
 ghost use Rattle.alma_ir.specs.View.{desig_of, expr_of, return_option, stmt_of, stmts_list};
 ghost use Rattle.alma_ir.specs.Tree as tree;
 ghost use Rattle.alma_emit_work.specs.Front.{around, front};
@@ -14,6 +14,7 @@ use crate::loops::{emit_for, emit_some};
 use crate::test::emit_test;
 use alma_base::{NoMemory, Range};
 use alma_code::Instr;
+use alma_emit_forms::{emit_line, emit_text};
 use alma_emit_parts::{Scene, Work, put_fit, put_result_fit, read_instr, write_instr};
 use alma_ir::{Desig, Expr, ReadAs, Stmt, WriteAs};
 
@@ -169,24 +170,5 @@ fn emit_write(
 {
     let value = emit_value(work, scene, line, value)?;
     work.put(line, write_instr(how, value))?;
-    Ok(())
-}
-
-// WRITE of a text.
-fn emit_text(work: &mut Work, scene: &Scene<'_>, line: u32, text: &[u8]) -> Result<(), NoMemory>
-    ensures puts { OnOk result (PutsStmt (around scene.now) line
-        (front work.old) (front work.new) (tree.WriteText text.now)) }
-{
-    let text = scene.text_number(text)?;
-    work.put(line, Instr::WriteText { text })?;
-    Ok(())
-}
-
-// WRITELN.
-fn emit_line(work: &mut Work, scene: &Scene<'_>, line: u32) -> Result<(), NoMemory>
-    ensures puts { OnOk result (PutsStmt (around scene.now) line
-        (front work.old) (front work.new) tree.WriteLine) }
-{
-    work.put(line, Instr::WriteLine)?;
     Ok(())
 }

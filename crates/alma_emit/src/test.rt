@@ -1,9 +1,9 @@
 // The code of tests.
-ghost use Rattle.std.specs.Prelude.{◌≡◌, ◌≤◌, true, false, length, drop, IfOk, OnOk};
+ghost use Rattle.std.specs.Prelude.{◌≤◌, true, false, length, drop, OnOk};
 ghost use Rattle.alma_ir.specs.View.{desig_of, expr_of, test_of, tests_list};
 ghost use Rattle.alma_ir.specs.Tree as tree;
 ghost use Rattle.alma_emit_work.specs.Front.{around, front};
-ghost use Rattle.alma_emit_work.specs.Puts.{PutsTest, PutsAnd, PutsOperands, PutsFirst};
+ghost use Rattle.alma_emit_work.specs.Puts.{PutsTest, PutsOperands, PutsFirst};
 
 use crate::call::emit_call_test;
 use crate::designator::emit_desig;

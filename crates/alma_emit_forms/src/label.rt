@@ -8,8 +8,8 @@ ghost use Rattle.alma_emit_work.specs.Puts.{all_labels};
 use alma_base::{INSTR_LIMIT, NoMemory, Range};
 use alma_emit_parts::{Labels, Miss, Work, put_label, put_last_label};
 
-// The labels of an arm: the code goes on where the number lies in one of them, and else by the jumps of the last.
-pub(crate) fn put_labels(
+/// The labels of an arm: the code goes on where the number lies in one of them, and else by the jumps of the last.
+pub fn put_labels(
     work: &mut Work,
     line: u32,
     labels: Labels,

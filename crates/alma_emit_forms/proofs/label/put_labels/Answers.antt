@@ -7,7 +7,7 @@ use Rattle.alma_emit_work.specs.Puts.{all_labels}
 use Rattle.alma_emit_work.proofs.Joins.{holes_as}
 use Rattle.alma_emit_parts.proofs.LabelForms.{more_labels}
 use Rattle.alma_emit_forms.proofs.Said.{if_ok, some_elements}
-use Rattle.alma_emit.proofs.label.put_labels.Goals as goal
+use Rattle.alma_emit_forms.proofs.label.put_labels.Goals as goal
 use Rattle.alma_templates.specs.Lined.{own}
 
 no_range : Range

@@ -4,7 +4,7 @@ use Rattle.alma_ir.specs.Tree as tree
 use Rattle.alma_emit_work.specs.Front.{around}
 use Rattle.alma_emit_forms.proofs.ExprForms.{const_put}
 use Rattle.alma_emit_forms.proofs.Said.{expr_is}
-use Rattle.alma_emit.proofs.expression.emit_const.Goals as goal
+use Rattle.alma_emit_forms.proofs.leaf.emit_const.Goals as goal
 
 pub returns : goal.returns
 returns c =

@@ -3,7 +3,7 @@ use Rattle.std.proofs.Common.{◌≡◌, ℕ, ◌+◌, List, [], drop}
 use Rattle.alma_emit_work.specs.Front.{Front, front, Holes}
 use Rattle.alma_emit_work.specs.Puts.{all_labels}
 use Rattle.alma_templates.specs.Lined.{Lined, own}
-use Rattle.alma_emit.proofs.label.put_labels.Given as goal
+use Rattle.alma_emit_forms.proofs.label.put_labels.Given as goal
 
 abbrev pub invariant-loop-i : goal.invariant-loop-i
 invariant-loop-i l = l.labels.test ≡ l.labels.bound + 1 → (c : Front) (aim : ℕ → List Lined → List Lined)

@@ -4,7 +4,7 @@ use Rattle.alma_ir.specs.Tree.{Else}
 use Rattle.alma_ir.specs.View.{cases_list}
 use Rattle.alma_emit_work.specs.Front.{Around, Front, front}
 use Rattle.alma_emit_forms.specs.Cases.{PutsAllArms}
-use Rattle.alma_emit.proofs.pass.pass_unlabelled.Given as goal
+use Rattle.alma_emit_forms.proofs.pass.pass_unlabelled.Given as goal
 
 abbrev pub invariant-loop-arm : goal.invariant-loop-arm
 invariant-loop-arm l = record {

@@ -1,7 +1,7 @@
 use Rattle.std.proofs.Common.{◌∙◌, sym}
 use Rattle.alma_emit_work.specs.Front.{around}
 use Rattle.alma_emit_work.proofs.DesigForms.{field_put, field_part}
-use Rattle.alma_emit.proofs.designator.emit_field.Goals as goal
+use Rattle.alma_emit_forms.proofs.leaf.emit_field.Goals as goal
 
 pub returns : goal.returns
 returns c = record {

@@ -1,5 +1,5 @@
 // Lines that are passed over: those of statements that are emitted elsewhere.
-ghost use Rattle.std.specs.Prelude.{◌≡◌, ℕ, drop, length, IfOk, OnOk};
+ghost use Rattle.std.specs.Prelude.{ℕ, drop, IfOk, OnOk};
 ghost use Rattle.alma_ir.specs.Lines.{behind};
 ghost use Rattle.alma_ir.specs.Phrases.{desig_phrases, stmts_phrases};
 ghost use Rattle.alma_ir.specs.Tree.{Else};
@@ -12,8 +12,8 @@ use alma_emit_parts::Work;
 use alma_ir::{CaseArm, Desig, Stmt};
 use alma_passed::{desig_inside, stmts_inside};
 
-// Passes the lines of the statements inside a designator.
-pub(crate) fn pass_desig(work: &mut Work, desig: &Desig) -> Result<(), NoMemory>
+/// Passes the lines of the statements inside a designator.
+pub fn pass_desig(work: &mut Work, desig: &Desig) -> Result<(), NoMemory>
     ensures { OnOk result (Turns (front work.old) (front work.new)
         (behind (desig_phrases (desig_of desig.now)) (front work.old).lines)) }
 {
@@ -21,8 +21,8 @@ pub(crate) fn pass_desig(work: &mut Work, desig: &Desig) -> Result<(), NoMemory>
     work.pass(count)
 }
 
-// Passes the lines of statements.
-pub(crate) fn pass_stmts(work: &mut Work, body: &[Stmt]) -> Result<(), NoMemory>
+/// Passes the lines of statements.
+pub fn pass_stmts(work: &mut Work, body: &[Stmt]) -> Result<(), NoMemory>
     ensures { OnOk result (Turns (front work.old) (front work.new)
         (behind (stmts_phrases (stmts_list body.now)) (front work.old).lines)) }
 {
@@ -30,8 +30,8 @@ pub(crate) fn pass_stmts(work: &mut Work, body: &[Stmt]) -> Result<(), NoMemory>
     work.pass(count)
 }
 
-// Passes the arms of CASE before the first that has a label; its place.
-pub(crate) fn pass_unlabelled(work: &mut Work, arms: &[CaseArm]) -> Result<usize, NoMemory>
+/// Passes the arms of CASE before the first that has a label; its place.
+pub fn pass_unlabelled(work: &mut Work, arms: &[CaseArm]) -> Result<usize, NoMemory>
     ensures { IfOk result (λ first. (s : Around) (line value bound : ℕ) (c : Front) (rest : Else)
         → PutsAllArms s line value bound (front work.new) c (cases_list (drop first arms.now)) rest
         → PutsAllArms s line value bound (front work.old) c (cases_list arms.now) rest) }

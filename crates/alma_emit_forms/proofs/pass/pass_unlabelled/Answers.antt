@@ -3,7 +3,7 @@ use Rattle.alma_ir.specs.Tree as tree
 use Rattle.alma_ir.specs.View.{cases_list, stmts_list}
 use Rattle.alma_emit_forms.proofs.Said.{all_is, drop_one, no_elements}
 use Rattle.alma_emit_forms.proofs.Arms.{skipped_all, turns_is}
-use Rattle.alma_emit.proofs.pass.pass_unlabelled.Goals as goal
+use Rattle.alma_emit_forms.proofs.pass.pass_unlabelled.Goals as goal
 
 pub returns-then-not-is_empty : goal.returns-then-not-is_empty
 returns-then-not-is_empty c = λ s line value bound e rest h.
