@@ -12,7 +12,7 @@ ghost use Rattle.alma_grammar.specs.Filling.{spell_inside_args};
 ghost use Rattle.alma_grammar.specs.Parts.{factor_part, primary_part, factor_tail, term_tail, compared_part, args_part, args_inside, expr_tail};
 ghost use Rattle.alma_grammar.specs.Parts.{selector_tail, term_parts, simple_parts, expr_parts, exprs_parts, desig_parts};
 ghost use Rattle.alma_cursor.specs.Forms.{paren_parts, known_parts, ord_parts, chr_parts, index_parts, selector_form_parts};
-ghost use Rattle.alma_phrase.specs.Pieces.{inside_of, number_inside_args, spell_signed, number_signed};
+ghost use Rattle.alma_phrase_steps.specs.Pieces.{inside_of, number_inside_args, spell_signed, number_signed};
 ghost use Rattle.alma_cursor.specs.Parsing.{position_of, Reads, Extends, Fails};
 
 use crate::statement::stmts;

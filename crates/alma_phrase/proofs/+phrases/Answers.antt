@@ -33,14 +33,14 @@ use Rattle.alma_phrase_parts.proofs.Fewer.{behind_within, made_within, pushed_wi
 use Rattle.alma_phrase_parts.proofs.Growing.{pushed_turn}
 use Rattle.alma_phrase_parts.proofs.Stopped.{stopped}
 use Rattle.alma_phrase_parts.proofs.Made.{made_gives, made_or_gives, behind_front, becoming_gives, made_extends, made_or_extends}
-use Rattle.alma_phrase.specs.Pieces.{inside_of, number_inside_args}
-use Rattle.alma_phrase.proofs.Chain.{plain, closing, matching, ended_behind, ended_extending, in_box, fewer}
-use Rattle.alma_phrase.proofs.Heads as heads
-use Rattle.alma_phrase.proofs.Links.{broken_turn, term_linked, factor_linked, shallower_gives}
-use Rattle.alma_phrase.proofs.Lists as lists
-use Rattle.alma_phrase.proofs.Values.{a_simple, a_term, a_factor, a_selector, a_primary, a_stmt, an_arm, an_expr, some_exprs, a_desig, some_stmts}
-use Rattle.alma_phrase.proofs.Values.{more_terms, more_factors, more_selectors, more_stmts, more_labels, more_orelses, more_desigs, count_terms}
-use Rattle.alma_phrase.proofs.Values.{count_factors, count_selectors, count_stmts, count_labels, count_orelses, count_desigs}
+use Rattle.alma_phrase_steps.specs.Pieces.{inside_of, number_inside_args}
+use Rattle.alma_phrase_steps.proofs.Chain.{plain, closing, matching, ended_behind, ended_extending, in_box, fewer}
+use Rattle.alma_phrase_steps.proofs.Heads as heads
+use Rattle.alma_phrase_steps.proofs.Links.{broken_turn, term_linked, factor_linked, shallower_gives}
+use Rattle.alma_phrase_steps.proofs.Lists as lists
+use Rattle.alma_phrase_steps.proofs.Values.{a_simple, a_term, a_factor, a_selector, a_primary, a_stmt, an_arm, an_expr, some_exprs, a_desig, some_stmts}
+use Rattle.alma_phrase_steps.proofs.Values.{more_terms, more_factors, more_selectors, more_stmts, more_labels, more_orelses, more_desigs, count_terms}
+use Rattle.alma_phrase_steps.proofs.Values.{count_factors, count_selectors, count_stmts, count_labels, count_orelses, count_desigs}
 use Rattle.alma_tree.specs.declared.phrase.Stmt as dt
 use Rattle.alma_phrase_parts.proofs.Fronts.{part, part_and, and_then, whole, both, loop_front, loop_fewer, one_more, no_more}
 use Rattle.alma_phrase.proofs.+phrases.Goals as goal

@@ -22,8 +22,8 @@ use Rattle.alma_phrase_parts.specs.Joins.{Pushed}
 use Rattle.alma_phrase_parts.specs.Made.{made}
 use Rattle.alma_phrase_parts.proofs.Growing.{pushed_fault}
 use Rattle.alma_phrase_parts.proofs.Made.{made_gives, behind_front}
-use Rattle.alma_phrase.proofs.Heads as heads
-use Rattle.alma_phrase.proofs.Values.{a_term, a_factor}
+use Rattle.alma_phrase_steps.proofs.Heads as heads
+use Rattle.alma_phrase_steps.proofs.Values.{a_term, a_factor}
 
 -- a term with the operator before it
 pub term_linked : (op : AddOperator) {a b : At} (d : ℕ) → Passes (add_kind op) a b → (r : Result (dm.Term × cursors.Cursor) Fault)

@@ -28,7 +28,7 @@ use Rattle.alma_tree.specs.View.{args_of, args_values}
 use Rattle.alma_tree.specs.Numbers.{numbers_of_args, numbers_of_values}
 use Rattle.alma_grammar.specs.Parts.{Part}
 use Rattle.alma_grammar.specs.Filling.{spell_inside_args}
-use Rattle.alma_phrase.specs.Pieces.{inside_of, number_inside_args}
+use Rattle.alma_phrase_steps.specs.Pieces.{inside_of, number_inside_args}
 use Rattle.alma_cursor.specs.Parsing.{At, Reads}
 use Rattle.alma_cursor.proofs.Steps.{same}
 use Rattle.alma_cursor.specs.declared.cursor.Cursor as cursors
