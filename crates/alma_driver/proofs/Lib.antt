@@ -1,4 +1,1 @@
-pub mod CauseLemmas
-pub mod HeadlineLemmas
 pub mod SampleLemmas
-pub mod Unread

@@ -11,7 +11,7 @@ use Rattle.alma_outcome.specs.Course.{Goes, Moves, Runs}
 use Rattle.alma_outcome.specs.declared.end.End.{End}
 use Rattle.alma_outcome.specs.declared.end.End.TheVariants.{Succeeded, ReadFault, WriteFault, Memory}
 use Rattle.alma_outcome.proofs.DriverLemmas.{goes_map}
-use Rattle.alma_driver.proofs.CauseLemmas.{Way, broken, starved, ended, way_of}
+use Rattle.alma_promise.proofs.CauseLemmas.{Way, broken, starved, ended, way_of}
 
 -- the end is none of want of memory, and of faults of the outside
 pub record IsOwn (end : End) : Type 0 where

@@ -1,2 +1,2 @@
-pub mod Causes
-pub mod Headline
+pub use Rattle.alma_promise.specs.Causes
+pub use Rattle.alma_promise.specs.Headline

@@ -6,7 +6,7 @@ ghost use Rattle.alma_outcome.specs.Words.{limit_of, read_by};
 ghost use Rattle.alma_outcome.specs.Outside.{sink_side, source_side, files_side, outside_of};
 ghost use Rattle.alma_outcome.specs.Outcome.{FileOutcome, RequestOutcome, Outcome};
 ghost use Rattle.alma_outcome.specs.Course.{Serves, Performs, Answers};
-ghost use Rattle.alma_driver.specs.Causes.{Causes};
+ghost use Rattle.alma_promise.specs.Causes.{Causes};
 
 use crate::request::{file_read, read_limit};
 use crate::sample::sample;

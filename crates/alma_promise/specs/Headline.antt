@@ -8,7 +8,7 @@ use Rattle.alma_mean.specs.Meaning.{ev_program, result}
 use Rattle.alma_implements.specs.Implements.{Covers}
 use Rattle.alma_words.specs.Words.{Asks, Run, file_of}
 use Rattle.alma_outcome.specs.Outside.{Outside}
-use Rattle.alma_driver.specs.Causes.{ReadFailed, WriteFailed}
+use Rattle.alma_promise.specs.Causes.{ReadFailed, WriteFailed}
 use Rattle.alma_outcome.specs.Course.{Gains}
 use Rattle.alma_outcome.specs.Ends.{counts_text, fault_text, text_of}
 use Rattle.alma_outcome.specs.Outcome.{size_of, AreCounts, MayRunOut}

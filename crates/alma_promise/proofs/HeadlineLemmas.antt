@@ -22,15 +22,15 @@ use Rattle.alma_outcome.specs.Ends.{status_of, text_of, ended_end, counts_text}
 use Rattle.alma_outcome.specs.Refusal.{IsProgramOf, place_of}
 use Rattle.alma_outcome.specs.Outcome.{Due, silent, size_of, code_due, InputOutcome, unread, taken, past_input, ProgramOutcome, ran, too_much_code, MayRunOut, MeansOn, whole, front, IsSourceEnd, refused, SourceOutcome, stopped, compiled, RequestOutcome, absent, past_limit, fetched, unfetched, Outcome, bad_word, asks, Lacks}
 use Rattle.alma_outcome.specs.Course.{Gains}
-use Rattle.alma_driver.specs.Causes.{Causes, ReadFailed}
-use Rattle.alma_driver.specs.Headline.{AsksToRun, IsUndisturbed, Shows, ShowsResult, RunEnds, refuses, too_large, ended, ran_out, meant_status, meant_text}
+use Rattle.alma_promise.specs.Causes.{Causes, ReadFailed}
+use Rattle.alma_promise.specs.Headline.{AsksToRun, IsUndisturbed, Shows, ShowsResult, RunEnds, refuses, too_large, ended, ran_out, meant_status, meant_text}
 use Rattle.alma_outcome.specs.declared.end.Counts.{Counts}
 use Rattle.alma_outcome.specs.declared.end.End.{End}
 use Rattle.alma_outcome.specs.declared.end.End.TheVariants.{Refused, StepsOut, TooMuchCode}
-use Rattle.alma_driver.proofs.CauseLemmas.{IsWhole}
+use Rattle.alma_promise.proofs.CauseLemmas.{IsWhole}
 use Rattle.alma_outcome.proofs.RunLemmas.{code_means}
 use Rattle.alma_outcome.proofs.RefusalLemmas.{one_refusal, one_program, refused_no_program}
-use Rattle.alma_driver.proofs.Unread.{due_alike}
+use Rattle.alma_promise.proofs.Unread.{due_alike}
 
 -- ---- a run on an input that is told
 

@@ -1,5 +1,5 @@
 use Rattle.alma_outcome.proofs.RefusalLemmas.{one_refusal}
-use Rattle.alma_driver.proofs.laws.a_source_has_one_refusal.Goals as goal
+use Rattle.alma_promise.proofs.laws.a_source_has_one_refusal.Goals as goal
 
 pub returns : goal.returns
 returns c = record { same = one_refusal }

@@ -21,7 +21,7 @@ use Rattle.alma_outcome.specs.declared.end.Counts.{Counts}
 use Rattle.alma_outcome.specs.Ends.{mode_end, counts_in, status_of, text_of}
 use Rattle.alma_outcome.specs.Outcome.{Due, Stored, InputOutcome, unread, taken, past_input, ProgramOutcome, ran, too_much_code, CompileOutcome, made, past_size, IsSourceEnd, refused, SourceOutcome, stopped, compiled, CheckOutcome, ListOutcome, listed, no_object, CodeOutcome, executed, unsound, ExecOutcome, opened, unopened, SampleOutcome, summed, FileOutcome, RequestOutcome, absent, past_limit, fetched, unfetched, Outcome, bad_word, asks, Lacks}
 use Rattle.alma_outcome.specs.Course.{Gains, FailsWithin, GainsPrefix, Goes, OthersStay, FailsToStore, Keeps, Stores, done, failed, Works, Takes, Moves, MayRead, ReadsOnly, FailsToRead, Serves, FailsToFetch, Performs, Reports, Answers}
-use Rattle.alma_driver.specs.Causes.{Causes, WriteFailed, WritesGrew, ReadFailed, ReadsGrew, Become, IsStoredName}
+use Rattle.alma_promise.specs.Causes.{Causes, WriteFailed, WritesGrew, ReadFailed, ReadsGrew, Become, IsStoredName}
 use Rattle.alma_outcome.specs.declared.end.End.{End}
 use Rattle.alma_outcome.specs.declared.end.End.TheVariants.{Succeeded, Failed, BadWord, Refused, Faulted, StepsOut, ReadFault, WriteFault, Memory, BadObject, BadCode, TooLong, TooMuchCode}
 use Rattle.alma_outcome.proofs.DriverLemmas.{check_keeps, run_keeps, list_keeps, exec_keeps, sample_keeps}

@@ -1,0 +1,3 @@
+pub mod CauseLemmas
+pub mod Unread
+pub mod HeadlineLemmas
