@@ -2,17 +2,15 @@
 #![tactic(auto)]
 
 mod call;
-mod case;
-mod field;
 
+use alma_case::name_of;
 use alma_io::{Files, StdFiles};
 use anyhow::{Result, anyhow};
-use call::status_past_limit;
-use case::{is_answered, name_of};
+use call::is_answered;
 use serde_json::Value;
 use std::alloc::Global;
 
-const NAMES: [&str; 13] = [
+const NAMES: [&str; 14] = [
     "check.jsonl",
     "run.jsonl",
     "stats.jsonl",
@@ -26,6 +24,7 @@ const NAMES: [&str; 13] = [
     "devices.jsonl",
     "edges.jsonl",
     "choices.jsonl",
+    "commands.jsonl",
 ];
 
 // The most bytes of a file of cases.
@@ -47,12 +46,6 @@ fn main(rt: HostRuntime) -> Result<()> {
         };
         let count = run_cases(&rt, &text)?;
         println!(rt; "{name}: {} cases, {} differ", count.all, count.differ)?;
-    }
-    for more in 0..2 {
-        let Ok(status) = status_past_limit(alloc, more) else {
-            return Err(anyhow!("out of memory"));
-        };
-        println!(rt; "list of a file of {more} bytes past the limit: {status}")?;
     }
     Ok(())
 }

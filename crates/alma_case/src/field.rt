@@ -61,12 +61,30 @@ pub fn number(value: &Value, name: &str) -> Result<u64, CaseError> {
     field(value, name)?.as_u64().ok_or(CaseError::Form)
 }
 
-/// The bytes of a value that holds them in hexadecimal.
+/// The bytes of a value: a text has them in hexadecimal, a list has objects with such `bytes` and how many `times` they stand there.
 pub fn bytes_of(alloc: Global, value: &Value) -> Result<Vec<u8>, CaseError> {
+    match value.as_array() {
+        Some(parts) => repeated(alloc, parts),
+        None => decoded(alloc, value),
+    }
+}
+
+fn decoded(alloc: Global, value: &Value) -> Result<Vec<u8>, CaseError> {
     Ok(hex::decode(alloc, text_of(value)?.as_bytes())?)
 }
 
-/// The bytes of a field that holds them in hexadecimal.
+fn repeated(alloc: Global, parts: &[Value]) -> Result<Vec<u8>, CaseError> {
+    let mut bytes = Vec::new(alloc);
+    for part in parts {
+        let piece = decoded(alloc, field(part, "bytes")?)?;
+        for _ in 0..number(part, "times")? {
+            bytes.extend_from_slice(&piece)?;
+        }
+    }
+    Ok(bytes)
+}
+
+/// The bytes of a field.
 pub fn bytes(alloc: Global, value: &Value, name: &str) -> Result<Vec<u8>, CaseError> {
     bytes_of(alloc, field(value, name)?)
 }
