@@ -1,5 +1,5 @@
 -- As many statements are among the phrases of a body as the walk over its tokens marks, and each arm of a CASE among them has a label.
-use Rattle.std.proofs.Common.{◌≡◌, ℕ, ◌+◌, ℤ, pos, Bool, true, false, List, [], ◌∷◌, ◌++◌, length, Option, None, Some, refl, sym, ap, ◌∙◌, subst, arith, append_assoc}
+use Rattle.std.proofs.Common.{◌≡◌, ℕ, ◌+◌, ℤ, pos, Bool, true, false, List, [], ◌++◌, length, Option, None, Some, refl, sym, ap, ◌∙◌, subst, arith, append_assoc}
 use Rattle.std.specs.Prelude.{nat_eq, option_map, option_and_then, slice_get, if◌then◌else◌}
 use Rattle.alma_base.specs.Choice.{if_true}
 use Rattle.alma_base.specs.declared.fault.CheckFault.{CheckFault}
@@ -8,7 +8,7 @@ use Rattle.alma_ir.specs.Phrases.{stmts_phrases, stmt_phrases, arms_phrases, cas
 use Rattle.alma_rules.specs.Numbered as tree
 use Rattle.alma_rules.specs.Judged.{Judged, fine, at_node, with, unless, both_of}
 use Rattle.alma_rules.specs.Scene.{Scene, FormalOf, Found, absent, bad, constant, named, variable, routine, found, is_structured, range, in_constant, inside_of, text_at, literal_at}
-use Rattle.alma_rules.specs.Parts.{Meaning, a_place, plain, a_test, Typing, value_of, test_of, without_place, boolean_typing, Located, desig_of, Denoted, denoted, select_field, located_in, typing_in, callee_in, argument_of, Callee, called, Operands, joined_stmts, append_stmts, one_stmt, assigned, assigned_to, read_as, read_stmts, write_as, write_stmts, chained, Span, span_of, ranges_of, append_cases, related, add_operator, mul_operator}
+use Rattle.alma_rules.specs.Parts.{Meaning, a_place, plain, a_test, Typing, value_of, test_of, without_place, boolean_typing, Located, desig_of, Denoted, denoted, select_field, located_in, typing_in, callee_in, argument_of, Callee, called, Operands, joined_stmts, append_stmts, one_stmt, assigned, assigned_to, read_as, read_stmts, write_as, write_stmts, chained, Span, span_of, append_cases, related, add_operator, mul_operator}
 use Rattle.alma_rules.specs.ExprRules.{Use, as_variable, as_value, as_procedure, desig_rules, field_rules, array_rules, index_rules, Operand, alone, operand_rules, not_rules, chain_rules, literal_rules, simple_rules, known_rules, chr_rules, sequence_rules, relation_rules, test_rules, call_rules, argument_rules, argument_kind, constant_rules}
 use Rattle.alma_rules.specs.StmtRules.{assign_rules, loop_name_rules, loop_rules, by_rules, case_rules, label_rules, return_rules, read_rules, write_rules}
 use Rattle.alma_rules.specs.Nodes.{judge_name, indexed, in_parens, as_sequence, or_sequence, only_of, known_typing, ord_typing, chr_typing, not_typing, argument_count, cons_arg, cons_operand, operand_behind, first_add, first_mul, any_or, any_and, if_of, arms_of, loop_variable, loop_of, loop_at, constant_in, cons_span, arm_of, joined_cases, with_line, item_literal, text_rules, item_of}
@@ -16,7 +16,7 @@ use Rattle.alma_rules.specs.Walk.{judge_stmts, judge_stmt_tail, judge_stmt, judg
 use Rattle.alma_resolved.proofs.Fits.{When, when_some, when_none, when_map, when_then, when_both, when_node, when_weaker}
 use Rattle.alma_resolved.proofs.Scenes.{no_faults_right}
 use Rattle.alma_resolved_whole.proofs.Tallies.{only_tally, first_tally, tally_stmts, tally_stmt_tail, tally_stmt, tally_elsifs, tally_else, tally_by, tally_orelses, tally_returned, tally_desigs, tally_arm, tally_arms, tally_label, tally_high, tally_labels, tally_expr, tally_simple, tally_terms, tally_term, tally_factors, tally_factor, tally_primary, tally_exprs, tally_expr_tail, tally_items, tally_item_tail, tally_line_items, tally_desig, tally_selectors, tally_selector, tally_only, tally_value}
-use Rattle.alma_resolved_whole.proofs.Counts.{LabelsIn, Tally, tally_nil, tally_is, tally_join, stmt_more, expr_more, desig_more, tally_alone, MeaningTally, TypingTally, value_tally, test_tally, without_tally, typing_is, constant_tally, seq_tally, known_tally, ord_tally, chr_tally, not_tally, DenotedTally, denoted_is, name_tally, field_tally, index_tally, DesigTally, bare_end, selected_end, constant_end, typing_tally, LocatedTally, located_tally, callee_tally, call_tally, argument_tally, args_none, args_more, related_tally, OperandsTally, TermTally, operand_sort, operands_none, operands_more, and_joins, or_joins, chain_tally, first_tally_of}
+use Rattle.alma_resolved_whole.proofs.Counts.{Tally, tally_nil, tally_is, tally_join, stmt_more, expr_more, desig_more, tally_alone, MeaningTally, TypingTally, value_tally, test_tally, without_tally, typing_is, constant_tally, seq_tally, known_tally, ord_tally, chr_tally, not_tally, DenotedTally, denoted_is, name_tally, field_tally, index_tally, DesigTally, bare_end, selected_end, constant_end, typing_tally, LocatedTally, located_tally, callee_tally, call_tally, argument_tally, args_none, args_more, related_tally, OperandsTally, TermTally, operand_sort, operands_none, operands_more, and_joins, or_joins, chain_tally, first_tally_of}
 
 anything : {A : Type 0} (v : Option A) → When v (λ x. Unit {0})
 anything None = when_none
@@ -54,10 +54,10 @@ unfolding expr_phrases
 assign_to s n m l (a_place d) h g = by (is_structured s l.shape)
   where
     by : (b : Bool) → StmtTally (1 + (n + m)) (if b then ir.CopyCells (desig_of l) d else ir.Assign (desig_of l) (ir.Load d) (range s l.shape))
-    by true = stmt_more _ tt (tally_join h g)
-    by false = stmt_more _ tt (tally_join h (expr_more _ g))
-assign_to s n m l (plain e) h g = stmt_more _ tt (tally_join h g)
-assign_to s n m l (a_test t) h g = stmt_more _ tt (tally_join h (expr_more _ g))
+    by true = stmt_more _ (tally_join h g)
+    by false = stmt_more _ (tally_join h (expr_more _ g))
+assign_to s n m l (plain e) h g = stmt_more _ (tally_join h g)
+assign_to s n m l (a_test t) h g = stmt_more _ (tally_join h (expr_more _ g))
 
 assign_tally : (s : Scene) (n m : ℕ) (v : Option (Located × Typing)) → When v (λ p. LocatedTally n p.0 × TypingTally m p.1) → When (option_map (assigned s) (unless (assign_rules s v) v)) (StmtsTally (1 + (n + m)))
 assign_tally s n m v h =
@@ -65,14 +65,14 @@ assign_tally s n m v h =
 
 test_stmt : (n : ℕ) (t : ir.Test) → Tally n (test_phrases t) → StmtTally (1 + n) (ir.TestStmt t)
 unfolding expr_phrases
-test_stmt n t h = stmt_more _ tt h
+test_stmt n t h = stmt_more _ h
 
 condition_tally : (s : Scene) (n : ℕ) (v : Option Typing) → When v (TypingTally n) → When (option_map (λ t. test_of t.meaning) (unless (test_rules s v) v)) (λ t. Tally n (test_phrases t))
 condition_tally s n v h = when_map {P = TypingTally n} (λ t. test_of t.meaning) (when_node (test_rules s) v h (λ t g q. g)) (λ t g. test_tally g)
 
 if_tally : (a b c d : ℕ) (p : ir.Test × (ir.Stmts × (ir.Arms × ir.Stmts))) → Tally a (test_phrases p.0) → StmtsTally b p.1.0 → Tally c (arms_phrases p.1.1.0) → StmtsTally d p.1.1.1 → StmtTally (1 + (a + (b + (c + d)))) (if_of p)
 unfolding expr_phrases
-if_tally a b c d p h g i j = tally_is (1 + (((a + b) + c) + d)) (1 + (a + (b + (c + d)))) (omega arith) (stmt_more _ tt (tally_join (tally_join (tally_join h g) i) j))
+if_tally a b c d p h g i j = tally_is (1 + (((a + b) + c) + d)) (1 + (a + (b + (c + d)))) (omega arith) (stmt_more _ (tally_join (tally_join (tally_join h g) i) j))
 
 arms_tally : (a b c : ℕ) (p : ir.Test × (ir.Stmts × ir.Arms)) → Tally a (test_phrases p.0) → StmtsTally b p.1.0 → Tally c (arms_phrases p.1.1) → Tally (a + (b + c)) (arms_phrases (arms_of p))
 unfolding expr_phrases
@@ -84,15 +84,15 @@ no_arms_tally = tally_nil
 
 while_tally : (a b : ℕ) (p : ir.Test × ir.Stmts) → Tally a (test_phrases p.0) → StmtsTally b p.1 → StmtTally (1 + (a + b)) (ir.While p.0 p.1)
 unfolding expr_phrases
-while_tally a b p h g = stmt_more _ tt (tally_join h g)
+while_tally a b p h g = stmt_more _ (tally_join h g)
 
 repeat_tally : (a b : ℕ) (p : ir.Stmts × ir.Test) → StmtsTally a p.0 → Tally b (test_phrases p.1) → StmtTally (1 + (a + b)) (ir.Repeat p.0 p.1)
 unfolding expr_phrases
-repeat_tally a b p h g = stmt_more _ tt (tally_join h g)
+repeat_tally a b p h g = stmt_more _ (tally_join h g)
 
 either_tally : (a b : ℕ) (p : ir.Stmts × ir.Branches) → StmtsTally a p.0 → Tally b (branches_phrases p.1) → StmtTally (1 + (a + b)) (ir.Either (ir.more_branches p.0 p.1))
 unfolding expr_phrases
-either_tally a b p h g = stmt_more _ tt (tally_join h g)
+either_tally a b p h g = stmt_more _ (tally_join h g)
 
 branches_tally : (a b : ℕ) (p : ir.Stmts × ir.Branches) → StmtsTally a p.0 → Tally b (branches_phrases p.1) → Tally (a + b) (branches_phrases (ir.more_branches p.0 p.1))
 unfolding expr_phrases
@@ -104,36 +104,36 @@ no_branches_tally = tally_nil
 
 forall_tally : (a b : ℕ) (p : ir.Stmts × ir.Stmts) → StmtsTally a p.0 → StmtsTally b p.1 → StmtTally (1 + (a + b)) (ir.Forall p.0 p.1)
 unfolding expr_phrases
-forall_tally a b p h g = stmt_more _ tt (tally_join h g)
+forall_tally a b p h g = stmt_more _ (tally_join h g)
 
 commit_tally : (a : ℕ) (x : ir.Stmts) → StmtsTally a x → StmtTally (1 + a) (ir.Commit x)
 unfolding expr_phrases
-commit_tally a x h = stmt_more _ tt h
+commit_tally a x h = stmt_more _ h
 
 return_tally : (s : Scene) (a : ℕ) (v : Option Typing) → When v (TypingTally a) → When (option_map (λ t. ir.Return (ir.some_result (value_of t.meaning))) (unless (return_rules s true v) v)) (StmtTally (1 + a))
 unfolding expr_phrases
-return_tally s a v h = when_map {P = TypingTally a} (λ t. ir.Return (ir.some_result (value_of t.meaning))) (when_node (return_rules s true) v h (λ t g q. g)) (λ t g. stmt_more _ tt (value_tally g))
+return_tally s a v h = when_map {P = TypingTally a} (λ t. ir.Return (ir.some_result (value_of t.meaning))) (when_node (return_rules s true) v h (λ t g q. g)) (λ t g. stmt_more _ (value_tally g))
 
 bare_tally : (v : Option Typing) → When (option_map (λ t. ir.Return ir.no_result) v) (StmtTally 1)
 unfolding expr_phrases
-bare_tally v = when_map {P = λ x. Unit {0}} (λ t. ir.Return ir.no_result) (anything v) (λ t g. tally_is (1 + 0) 1 (omega arith) (stmt_more _ tt tally_nil))
+bare_tally v = when_map {P = λ x. Unit {0}} (λ t. ir.Return ir.no_result) (anything v) (λ t g. tally_is (1 + 0) 1 (omega arith) (stmt_more _ tally_nil))
 
 read_tally : (s : Scene) (a : ℕ) (v : Option Located) → When v (LocatedTally a) → When (option_map (read_stmts s) (unless (read_rules s v) v)) (StmtsTally (1 + a))
 unfolding expr_phrases
-read_tally s a v h = when_map {P = LocatedTally a} (read_stmts s) (when_node (read_rules s) v h (λ l g q. g)) (λ l g. one_tally (1 + a) (ir.Read (desig_of l) (read_as s l.shape) (range s l.shape)) (stmt_more (ir.Read (desig_of l) (read_as s l.shape) (range s l.shape)) tt g))
+read_tally s a v h = when_map {P = LocatedTally a} (read_stmts s) (when_node (read_rules s) v h (λ l g q. g)) (λ l g. one_tally (1 + a) (ir.Read (desig_of l) (read_as s l.shape) (range s l.shape)) (stmt_more (ir.Read (desig_of l) (read_as s l.shape) (range s l.shape)) g))
 
 write_tally : (s : Scene) (a : ℕ) (v : Option Typing) → When v (TypingTally a) → When (option_map (write_stmts s) (unless (write_rules s v) v)) (StmtsTally (1 + a))
 unfolding expr_phrases
-write_tally s a v h = when_map {P = TypingTally a} (write_stmts s) (when_node (write_rules s) v h (λ t g q. g)) (λ t g. one_tally (1 + a) (ir.WriteExpr (value_of t.meaning) (write_as s t.shape)) (stmt_more (ir.WriteExpr (value_of t.meaning) (write_as s t.shape)) tt (value_tally g)))
+write_tally s a v h = when_map {P = TypingTally a} (write_stmts s) (when_node (write_rules s) v h (λ t g q. g)) (λ t g. one_tally (1 + a) (ir.WriteExpr (value_of t.meaning) (write_as s t.shape)) (stmt_more (ir.WriteExpr (value_of t.meaning) (write_as s t.shape)) (value_tally g)))
 
 text_tally : (s : Scene) (text : List ℕ) (v : Option ir.Stmts) → When v (λ y. y ≡ one_stmt (ir.WriteText text)) → When (unless (text_rules s v) v) (StmtsTally 1)
 unfolding expr_phrases
 text_tally s text v h =
-    when_weaker (when_node {P = λ y. y ≡ one_stmt (ir.WriteText text)} {Q = λ y. y ≡ one_stmt (ir.WriteText text)} (text_rules s) v h (λ y g q. g)) (λ y g. subst (StmtsTally 1) (sym g) (one_tally 1 (ir.WriteText text) (tally_is (1 + 0) 1 (omega arith) (stmt_more _ tt tally_nil))))
+    when_weaker (when_node {P = λ y. y ≡ one_stmt (ir.WriteText text)} {Q = λ y. y ≡ one_stmt (ir.WriteText text)} (text_rules s) v h (λ y g q. g)) (λ y g. subst (StmtsTally 1) (sym g) (one_tally 1 (ir.WriteText text) (tally_is (1 + 0) 1 (omega arith) (stmt_more _ tally_nil))))
 
 line_tally : (n : ℕ) (x : ir.Stmts) → StmtsTally n x → StmtsTally (n + 1) (with_line x)
 unfolding expr_phrases
-line_tally n x h = joined_tally n 1 (x, one_stmt ir.WriteLine) h (one_tally 1 ir.WriteLine (tally_is (1 + 0) 1 (omega arith) (stmt_more _ tt tally_nil)))
+line_tally n x h = joined_tally n 1 (x, one_stmt ir.WriteLine) h (one_tally 1 ir.WriteLine (tally_is (1 + 0) 1 (omega arith) (stmt_more _ tally_nil)))
 
 literal_none : (e : tree.Expr) (l : ℕ × ℕ) → item_literal e ≡ Some l → tally_expr e ≡ 0
 unfolding tally_stmts
@@ -179,48 +179,34 @@ loop_tally s n k a b c d var low high by body h1 h2 h3 h4 h5 =
 
 for_tally : (n : ℕ) (l : ir.Loop) → LoopTally n l → StmtTally (1 + n) (ir.ForTo l)
 unfolding expr_phrases
-for_tally n l h = stmt_more _ tt h
+for_tally n l h = stmt_more _ h
 
 some_tally : (n : ℕ) (l : ir.Loop) → LoopTally n l → StmtTally (1 + n) (ir.SomeOf l)
 unfolding expr_phrases
-some_tally n l h = stmt_more _ tt h
+some_tally n l h = stmt_more _ h
 
 -- ---- CASE
 
 record CasesTally (n : ℕ) (y : ir.CaseArms) : Type 0 where
   phrases : Tally n (cases_phrases y)
-  labels : LabelsIn y
 
 no_cases_tally : CasesTally 0 ir.no_cases
 unfolding expr_phrases
-no_cases_tally = record { phrases = tally_nil; labels = tt }
+no_cases_tally = record { phrases = tally_nil }
 
 append_cases_phrases : (x y : ir.CaseArms) → cases_phrases (append_cases x y) ≡ cases_phrases x ++ cases_phrases y
 unfolding expr_phrases
 append_cases_phrases ir.no_cases y = refl
 append_cases_phrases (ir.more_cases labels body xs) y = ap (λ z. stmts_phrases body ++ z) (append_cases_phrases xs y) ∙ sym (append_assoc (stmts_phrases body) (cases_phrases xs) (cases_phrases y))
 
-append_labels : (x y : ir.CaseArms) → LabelsIn x → LabelsIn y → LabelsIn (append_cases x y)
-append_labels ir.no_cases y h g = g
-append_labels (ir.more_cases [] body xs) y h g = absurd h
-append_labels (ir.more_cases (label ∷ labels) body xs) y h g = append_labels xs y h g
-
 joined_cases_tally : (n m : ℕ) (p : ir.CaseArms × ir.CaseArms) → CasesTally n p.0 → CasesTally m p.1 → CasesTally (n + m) (joined_cases p)
-joined_cases_tally n m p h g = record { phrases = subst (λ ys. Tally (n + m) ys) (sym (append_cases_phrases p.0 p.1)) (tally_join h.phrases g.phrases); labels = append_labels p.0 p.1 h.labels g.labels }
+joined_cases_tally n m p h g = record { phrases = subst (λ ys. Tally (n + m) ys) (sym (append_cases_phrases p.0 p.1)) (tally_join h.phrases g.phrases) }
 
-abbrev SomeSpans : List Span → Type 0
-SomeSpans [] = ⊥
-SomeSpans (x ∷ xs) = Unit {0}
-
-arm_labels : (xs : List Span) (body : ir.Stmts) → SomeSpans xs → LabelsIn (ir.more_cases (ranges_of xs) body ir.no_cases)
-arm_labels [] body h = h
-arm_labels (x ∷ xs) body h = tt
-
-arm_tally : (a b n : ℕ) (labels : Option (List Span)) (body : Option ir.Stmts) → When labels (λ xs. SomeSpans xs × (a + b ≡ 0)) → When body (StmtsTally n) → When (option_map arm_of (both_of labels body)) (CasesTally (a + (b + n)))
+arm_tally : (a b n : ℕ) (labels : Option (List Span)) (body : Option ir.Stmts) → When labels (λ xs. a + b ≡ 0) → When body (StmtsTally n) → When (option_map arm_of (both_of labels body)) (CasesTally (a + (b + n)))
 unfolding expr_phrases
 arm_tally a b n labels body h g =
-    when_map {P = λ p. (SomeSpans p.0 × (a + b ≡ 0)) × StmtsTally n p.1} arm_of (when_both h g)
-    (λ p k. record { phrases = tally_is (n + 0) (a + (b + n)) (omega (arith, k.0.1)) (tally_join k.1 tally_nil); labels = arm_labels p.0 p.1 k.0.0 })
+    when_map {P = λ p. (a + b ≡ 0) × StmtsTally n p.1} arm_of (when_both h g)
+    (λ p k. record { phrases = tally_is (n + 0) (a + (b + n)) (omega (arith, k.0)) (tally_join k.1 tally_nil) })
 
 case_tally : (s : Scene) (a b c : ℕ) (case : Option Typing) (arms : Option ir.CaseArms) (other : Option ir.Else) → When case (TypingTally a) → When arms (CasesTally b) → When other (λ y. Tally c (else_phrases y))
     → When (option_map (λ p. ir.Case (value_of p.0.meaning) p.1.0 p.1.1) (unless (case_rules s case (both_of case (both_of arms other))) (both_of case (both_of arms other)))) (StmtTally (1 + ((a + b) + c)))
@@ -228,7 +214,7 @@ unfolding expr_phrases
 case_tally s a b c case arms other h g k =
     when_map {P = λ p. TypingTally a p.0 × (CasesTally b p.1.0 × Tally c (else_phrases p.1.1))} (λ p. ir.Case (value_of p.0.meaning) p.1.0 p.1.1)
     (when_node (case_rules s case) _ (when_both h (when_both g k)) (λ p x q. x))
-    (λ p x. stmt_more _ x.1.0.labels (tally_join (tally_join (value_tally x.0) x.1.0.phrases) x.1.1))
+    (λ p x. stmt_more _ (tally_join (tally_join (value_tally x.0) x.1.0.phrases) x.1.1))
 
 else_some : (n : ℕ) (x : ir.Stmts) → StmtsTally n x → Tally n (else_phrases (ir.else_part x))
 unfolding expr_phrases
@@ -390,7 +376,7 @@ mutual
   arm_counts s n case earlier (tree.empty_arm k) = when_some _ no_cases_tally
   arm_counts s n case earlier (tree.arm k first rest body) =
       arm_tally (tally_label first) (tally_labels rest) (tally_stmts body) _ _
-      (when_map {P = λ p. (tally_label first ≡ 0) × (tally_labels rest ≡ 0)} cons_span (when_both (label_quiet s n case earlier first) (labels_quiet s _ case _ rest)) (λ p g. (tt, omega (arith, g.0, g.1))))
+      (when_map {P = λ p. (tally_label first ≡ 0) × (tally_labels rest ≡ 0)} cons_span (when_both (label_quiet s n case earlier first) (labels_quiet s _ case _ rest)) (λ p g. omega (arith, g.0, g.1)))
       (stmts_count s _ body)
 
   arm_tail_counts : (s : Scene) (n : ℕ) (case : Option Typing) (earlier : List Span) (x : tree.ArmTail) → When (judge_arm_tail s n case earlier x).value (CasesTally (tally_arms x))

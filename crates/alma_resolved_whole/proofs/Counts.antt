@@ -1,7 +1,6 @@
--- How many statements there are among the phrases of expressions and designators, and that each arm of a CASE among them has a label.
+-- How many statements there are among the phrases of expressions and designators.
 use Rattle.std.proofs.Common.{◌≡◌, ℕ, ◌+◌, ℤ, Bool, true, false, List, [], ◌∷◌, ◌++◌, Option, None, Some, refl, sym, ◌∙◌, subst, arith}
 use Rattle.std.specs.Prelude.{◌&&◌, ◌||◌, option_map, if◌then◌else◌}
-use Rattle.std.specs.List.{AllByRecursion}
 use Rattle.alma_base.specs.declared.fault.CheckFault.TheVariants as fault
 use Rattle.alma_base.specs.declared.number.Range.{Range}
 use Rattle.alma_tree.specs.declared.leaf.Relation.{Relation}
@@ -13,7 +12,6 @@ use Rattle.alma_tree.specs.declared.leaf.Mode.TheVariants as modes
 use Rattle.alma_ir.specs.Tree as ir
 use Rattle.alma_ir.specs.Phrases.{Phrase, StmtPhrase, TestPhrase, ExprPhrase, ArgPhrase, DesigPhrase, SelPhrase, expr_phrases, test_phrases, tests_phrases, links_phrases, args_phrases, arg_phrases, desig_phrases, sels_phrases, sel_phrases, stmts_phrases}
 use Rattle.alma_ir.specs.Lines.{stmt_count}
-use Rattle.alma_ir.proofs.Each.{each_of_append}
 use Rattle.alma_rules.specs.Judged.{unless, both_of, when, holds}
 use Rattle.alma_rules.specs.Scene.{Scene, FormalOf, Found, absent, bad, constant, named, variable, routine, row_at, is_structured, range, in_constant}
 use Rattle.alma_rules.specs.Parts.{Meaning, a_place, plain, a_test, Typing, value_of, test_of, no_place, without_place, boolean_typing, Located, desig_of, with_sel, Denoted, a_constant, a_variable, a_routine, no_array, denoted, field_of, field_part, select_field, element_part, select_in, select_index, located_in, typing_in, Callee, callee_in, simple_argument, structured_argument, argument_of, call_typing, equation_of, related, Operator, arithmetic, logical, Operands, links_of, tests_of, chain_of, chained}
@@ -24,20 +22,9 @@ use Rattle.alma_resolved.proofs.Scenes.{no_fault, no_fault_alone, no_faults_left
 
 -- ---- phrases
 
--- each arm has a label
-abbrev pub LabelsIn : ir.CaseArms → Type 0
-LabelsIn ir.no_cases = Unit {0}
-LabelsIn (ir.more_cases [] body rest) = ⊥
-LabelsIn (ir.more_cases (label ∷ labels) body rest) = LabelsIn rest
-
-abbrev pub LabelsHere : Phrase → Type 0
-LabelsHere (StmtPhrase (ir.Case e arms rest)) = LabelsIn arms
-LabelsHere _ = Unit {0}
-
--- so many statements, and labels
+-- so many statements
 pub record Tally (n : ℕ) (xs : List Phrase) : Type 0 where
   pub count : stmt_count xs ≡ n
-  pub labels : AllByRecursion LabelsHere xs
 
 count_apart : (xs ys : List Phrase) → stmt_count (xs ++ ys) ≡ stmt_count xs + stmt_count ys
 count_apart [] ys = omega arith
@@ -49,31 +36,31 @@ count_apart (DesigPhrase x ∷ xs) ys = count_apart xs ys
 count_apart (SelPhrase x ∷ xs) ys = count_apart xs ys
 
 pub tally_nil : Tally 0 []
-tally_nil = record { count = refl; labels = tt }
+tally_nil = record { count = refl }
 
 pub tally_is : {xs : List Phrase} (a b : ℕ) → a ≡ b → Tally a xs → Tally b xs
-tally_is {xs} a b e h = record { count = h.count ∙ e; labels = h.labels }
+tally_is {xs} a b e h = record { count = h.count ∙ e }
 
 pub tally_join : {a b : ℕ} {xs ys : List Phrase} → Tally a xs → Tally b ys → Tally (a + b) (xs ++ ys)
-tally_join {a} {b} {xs} {ys} h k = record { count = omega (arith, count_apart xs ys, h.count, k.count); labels = each_of_append LabelsHere xs ys h.labels k.labels }
+tally_join {a} {b} {xs} {ys} h k = record { count = omega (arith, count_apart xs ys, h.count, k.count) }
 
-pub stmt_more : {n : ℕ} {xs : List Phrase} (x : ir.Stmt) → LabelsHere (StmtPhrase x) → Tally n xs → Tally (1 + n) (StmtPhrase x ∷ xs)
-stmt_more x l h = record { count = omega (arith, h.count); labels = (l, h.labels) }
+pub stmt_more : {n : ℕ} {xs : List Phrase} (x : ir.Stmt) → Tally n xs → Tally (1 + n) (StmtPhrase x ∷ xs)
+stmt_more x h = record { count = omega (arith, h.count) }
 
 pub test_more : {n : ℕ} {xs : List Phrase} (x : ir.Test) → Tally n xs → Tally n (TestPhrase x ∷ xs)
-test_more x h = record { count = h.count; labels = (tt, h.labels) }
+test_more x h = record { count = h.count }
 
 pub expr_more : {n : ℕ} {xs : List Phrase} (x : ir.Expr) → Tally n xs → Tally n (ExprPhrase x ∷ xs)
-expr_more x h = record { count = h.count; labels = (tt, h.labels) }
+expr_more x h = record { count = h.count }
 
 arg_more : {n : ℕ} {xs : List Phrase} (x : ir.Arg) → Tally n xs → Tally n (ArgPhrase x ∷ xs)
-arg_more x h = record { count = h.count; labels = (tt, h.labels) }
+arg_more x h = record { count = h.count }
 
 pub desig_more : {n : ℕ} {xs : List Phrase} (x : ir.Desig) → Tally n xs → Tally n (DesigPhrase x ∷ xs)
-desig_more x h = record { count = h.count; labels = (tt, h.labels) }
+desig_more x h = record { count = h.count }
 
 sel_more : {n : ℕ} {xs : List Phrase} (x : ir.Sel) → Tally n xs → Tally n (SelPhrase x ∷ xs)
-sel_more x h = record { count = h.count; labels = (tt, h.labels) }
+sel_more x h = record { count = h.count }
 
 -- with nothing behind
 pub tally_alone : {n : ℕ} {xs : List Phrase} → Tally n xs → Tally n (xs ++ [])

@@ -4,7 +4,7 @@ use Rattle.std.specs.Prelude.{map, option_map}
 use Rattle.std.specs.List.{AllByRecursion}
 use Rattle.alma_scan.specs.Tokens.{Lexeme}
 use Rattle.alma_ir.specs.Tree as ir
-use Rattle.alma_ir.specs.Tree.{Program, Routine, no_routine, routine_at}
+use Rattle.alma_ir.specs.Tree.{Program, Routine, no_routine}
 use Rattle.alma_ir.specs.Phrases.{stmts_phrases, expr_phrases}
 use Rattle.alma_ir.specs.Checked.{EachRoutine, HasLines}
 use Rattle.alma_ir.proofs.Each.{each_of_append}
@@ -18,10 +18,10 @@ use Rattle.alma_resolved.specs.Frames.{KeepsFrames}
 use Rattle.alma_resolved.proofs.Fits.{when_is}
 use Rattle.alma_resolved.proofs.FramesKept.{parts}
 use Rattle.alma_resolved_whole.proofs.Tallies.{Tallies, tally_stmts, stmts_tallied}
-use Rattle.alma_resolved_whole.proofs.Counts.{LabelsHere, Tally, tally_nil, tally_is}
+use Rattle.alma_resolved_whole.proofs.Counts.{Tally, tally_nil, tally_is}
 use Rattle.alma_resolved_whole.proofs.Counting.{stmts_count}
 
--- as many lines as statements among the phrases, and labels
+-- as many lines as statements among the phrases
 abbrev pub RoutineCounts : Routine → Type 0
 RoutineCounts x = Tally (length x.lines) (stmts_phrases x.body)
 
@@ -84,7 +84,3 @@ program_lines source tokens m p all e r lt = record {
   count = sym (each_in RoutineCounts p.routines r (program_counts source tokens m p e) lt).count;
   lines = (all.routines r lt).lines;
 }
-
--- each arm of a CASE has a label
-pub program_labels : (source : List ℕ) (tokens : List Lexeme) (m : tree.Module) (p : Program) → resolved source tokens m ≡ Some p → EachRoutine p (λ r routine. AllByRecursion LabelsHere (stmts_phrases routine.body))
-program_labels source tokens m p e r lt = (each_in RoutineCounts p.routines r (program_counts source tokens m p e) lt).labels

@@ -1,7 +1,7 @@
 use Rattle.std.proofs.Common.{rules, ◌∷◌, [], codes, decimal}
 use Rattle.alma_code.specs.Plain.{code_of}
 use Rattle.alma_code.specs.ListText.{routine_lines}
-use Rattle.alma_list.proofs.Listing.{whole_put}
+use Rattle.alma_list.proofs.Texts.{whole_put}
 use Rattle.alma_list.proofs.listing.list_text.Goals as goal
 
 pub returns : goal.returns

@@ -1,6 +1,6 @@
 use Rattle.std.proofs.Common.{rules, pos}
 use Rattle.alma_code.specs.declared.instr.Instr.TheVariants as I
-use Rattle.alma_list.proofs.Listing.{instrs_next}
+use Rattle.alma_list.proofs.Texts.{instrs_next}
 use Rattle.alma_list.proofs.listing.push_instrs.Goals as goal
 
 pub loop-index-preserved : goal.loop-index-preserved

@@ -1,6 +1,6 @@
 use Rattle.std.proofs.Common.{refl}
 use Rattle.alma_code.specs.Plain.{code_of}
-use Rattle.alma_list.proofs.Listing.{routines_step}
+use Rattle.alma_list.proofs.Texts.{routines_step}
 use Rattle.alma_list.proofs.listing.push_routines.Goals as goal
 
 pub loop-number-preserved : goal.loop-number-preserved
