@@ -1,8 +1,6 @@
-//! What public calls answer, and what is printed. Tests alone, of the text: tokens, trees, names, samples.
+//! What public calls answer, and what is printed. Tests alone, of the text: tokens, trees, samples.
 #![tactic(auto)]
 
-#[cfg(test)]
-mod names;
 #[cfg(test)]
 mod sample;
 #[cfg(test)]
