@@ -8,11 +8,9 @@ ghost use Rattle.alma_emit_work.specs.Puts.{PutsExpr, PutsArgs, PutsArg, PutsHan
 use crate::designator::emit_desig;
 use crate::expression::emit_value;
 use alma_base::{NoMemory, Range};
-use alma_code::{Instr, SlotKind};
-use alma_emit_forms::slot_behind;
-use alma_emit_parts::{
-    Scene, Work, first_handed, put_call_link, put_fit, put_function, take_handed,
-};
+use alma_code::Instr;
+use alma_emit_forms::slot_past;
+use alma_emit_parts::{Scene, Work, begin_call, put_function, put_number, slot_of, take_result};
 use alma_ir::{Arg, Call, Desig, Expr};
 
 // The link and the arguments of a call; the slot of the first of them, or 0 where nothing is handed over.
@@ -30,10 +28,8 @@ fn emit_call(
     ensures puts { OnOk result (PutsHanded (around scene.now) line called up
         (front work.old) (front work.new) (args_list args.now)) }
 {
-    let link = put_call_link(work, scene, line, called, up)?;
-    let to = take_handed(work, args)?;
-    emit_args(work, scene, line, to, args)?;
-    Ok(first_handed(link, args, to))
+    let handed = begin_call(work, scene, line, called, up, args)?;
+    slot_of(emit_args(work, scene, line, handed.to, args), handed.first)
 }
 
 // Arguments, into the slots from one on.
@@ -50,8 +46,7 @@ fn emit_args(
 {
     let mut slot = to;
     for arg in args {
-        emit_arg(work, scene, line, slot, arg)?;
-        slot = slot_behind(slot)?;
+        slot = slot_past(emit_arg(work, scene, line, slot, arg), slot)?;
     }
     Ok(())
 }
@@ -93,9 +88,7 @@ fn emit_number(
         (front work.old) (front work.new) (tree.MixValue (expr_of value.now) range)) }
 {
     let from = emit_value(work, scene, line, value)?;
-    put_fit(work, scene, line, range, from)?;
-    work.put(line, Instr::Move { to, from })?;
-    Ok(())
+    put_number(work, scene, line, range, to, from)
 }
 
 // A place, into a slot.
@@ -115,8 +108,7 @@ fn emit_place(
         (front work.old) (front work.new) (tree.MixPlace (desig_of desig.now))) }
 {
     let from = emit_desig(work, scene, line, desig)?;
-    work.put(line, Instr::Same { to, from })?;
-    Ok(())
+    work.add(line, Instr::Same { to, from })
 }
 
 // A call of a procedure.
@@ -132,15 +124,14 @@ pub(crate) fn emit_call_test(
         (tree.CallTest call.now.routine (args_list call.now.args.items) call.now.up)) }
 {
     let first = emit_call(work, scene, line, call.routine, call.up, &call.args)?;
-    work.put(
+    work.add(
         line,
         Instr::Call {
             routine: call.routine,
             first,
             to: 0,
         },
-    )?;
-    Ok(())
+    )
 }
 
 // A call of a function, and the slot of its result.
@@ -156,9 +147,7 @@ pub(crate) fn emit_call_value(
         (front work.old) (front work.new)
         (tree.CallExpr call.now.routine (args_list call.now.args.items) call.now.up)) }
 {
-    let to = work.slot(SlotKind::Number)?;
-    let mark = work.slot(SlotKind::Mark)?;
+    let (to, mark) = take_result(work)?;
     let first = emit_call(work, scene, line, call.routine, call.up, &call.args)?;
-    put_function(work, line, mark, call.routine, first, to)?;
-    Ok(to)
+    slot_of(put_function(work, line, mark, call.routine, first, to), to)
 }

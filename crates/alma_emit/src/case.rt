@@ -12,7 +12,7 @@ use crate::statement::emit_stmts;
 use alma_base::NoMemory;
 use alma_code::Instr;
 use alma_emit_forms::{pass_stmts, pass_unlabelled, put_labels};
-use alma_emit_parts::{Labels, Scene, Work, has_dead, take_labels};
+use alma_emit_parts::{Labels, Scene, Work, end_arm, end_dead, has_dead, then_take_labels};
 use alma_ir::{CaseArm, Expr, Stmt};
 
 // The number of the fault NoCase.
@@ -33,8 +33,8 @@ pub(crate) fn emit_case(
         (tree.Case (expr_of value.now) (cases_list arms.now) (else_option rest.now))) }
 {
     let value = emit_expr(work, scene, line, value)?;
-    emit_dead_arms(work, scene, line, arms)?;
-    let labels = take_labels(work, value)?;
+    let done = emit_dead_arms(work, scene, line, arms);
+    let labels = then_take_labels(work, done, value)?;
     emit_all_arms(work, scene, line, labels, arms, rest)
 }
 
@@ -55,9 +55,8 @@ fn emit_dead_arms(
     }
     let before = work.position();
     let over = work.put(line, Instr::Jump { to: 0 })?;
-    emit_dead_bodies(work, scene, arms)?;
-    work.go_to(before);
-    work.aim_behind(over, 0)
+    let done = emit_dead_bodies(work, scene, arms);
+    end_dead(work, done, before, over)
 }
 
 // The bodies of the arms of CASE without a label.
@@ -124,11 +123,11 @@ fn emit_labelled(
     if arms.is_empty() {
         return Err(NoMemory);
     }
-    emit_case_arm(work, scene, line, labels, &arms[0])?;
-    let exit = work.put(line, Instr::Jump { to: 0 })?;
+    let done = emit_case_arm(work, scene, line, labels, &arms[0]);
+    let exit = work.then_put(done, line, Instr::Jump { to: 0 })?;
     emit_cases(work, scene, line, labels, exit, &arms[1..])?;
-    emit_else(work, scene, line, rest)?;
-    work.aim_behind(exit, 0)
+    let done = emit_else(work, scene, line, rest);
+    work.then_aim(done, exit, 0)
 }
 
 // The arms of CASE behind the first that has a label.
@@ -168,9 +167,8 @@ fn emit_next_arm(
     if arm.labels.is_empty() {
         return pass_stmts(work, &arm.body);
     }
-    emit_case_arm(work, scene, line, labels, arm)?;
-    work.put(line, Instr::Jump { to: exit })?;
-    Ok(())
+    let done = emit_case_arm(work, scene, line, labels, arm);
+    work.then_add(done, line, Instr::Jump { to: exit })
 }
 
 // An arm of CASE that has a label.
@@ -187,11 +185,8 @@ fn emit_case_arm(
         (stmts_list arm.now.body.items)) }
 {
     let miss = put_labels(work, line, labels, &arm.labels)?;
-    emit_stmts(work, scene, &arm.body)?;
-    let behind = work.behind(1)?;
-    work.aim(miss.low, behind);
-    work.aim(miss.high, behind);
-    Ok(())
+    let done = emit_stmts(work, scene, &arm.body);
+    end_arm(work, done, miss)
 }
 
 // The ELSE part of CASE.
@@ -207,9 +202,6 @@ fn emit_else(
 {
     match rest {
         Some(body) => emit_stmts(work, scene, body),
-        None => {
-            work.put(line, Instr::Fault { number: NO_CASE })?;
-            Ok(())
-        }
+        None => work.add(line, Instr::Fault { number: NO_CASE }),
     }
 }

@@ -7,8 +7,8 @@ ghost use Rattle.alma_emit_work.specs.Puts.{PutsStmt, PutsBranches, PutsChosen};
 
 use crate::statement::emit_stmts;
 use alma_base::NoMemory;
-use alma_code::{Instr, SlotKind};
-use alma_emit_parts::{Scene, Work, begin_each, begin_forall, end_each, end_forall};
+use alma_code::Instr;
+use alma_emit_parts::{Scene, Work, begin_commit, begin_forall, end_both, then_begin_each};
 use alma_ir::{Branch, Stmt};
 
 // EITHER: the first branch leaves over all, the others by its jump.
@@ -23,17 +23,16 @@ pub(crate) fn emit_either(
         (front work.old) (front work.new) (tree.Either (branches_list branches.now))) }
 {
     if branches.is_empty() {
-        work.put(line, Instr::Fail)?;
-        return Ok(());
+        return work.add(line, Instr::Fail);
     }
     let branch = &branches[0];
     if branches.len() == 1 {
         return emit_stmts(work, scene, &branch.body);
     }
-    emit_chosen(work, scene, line, &branch.body)?;
-    let exit = work.put(line, Instr::Jump { to: 0 })?;
-    emit_branches(work, scene, line, exit, branches)?;
-    work.aim_behind(exit, 0)
+    let done = emit_chosen(work, scene, line, &branch.body);
+    let exit = work.then_put(done, line, Instr::Jump { to: 0 })?;
+    let done = emit_branches(work, scene, line, exit, branches);
+    work.then_aim(done, exit, 0)
 }
 
 // The branches of EITHER behind the first, of which there is one.
@@ -54,8 +53,8 @@ fn emit_branches(
     let last = branches.len() - 1;
     for i in 1..last {
         let branch = &branches[i];
-        emit_chosen(work, scene, line, &branch.body)?;
-        work.put(line, Instr::Jump { to: exit })?;
+        let done = emit_chosen(work, scene, line, &branch.body);
+        work.then_add(done, line, Instr::Jump { to: exit })?;
     }
     let branch = &branches[last];
     emit_stmts(work, scene, &branch.body)
@@ -68,8 +67,8 @@ fn emit_chosen(work: &mut Work, scene: &Scene<'_>, line: u32, body: &[Stmt]) -> 
         (front work.new) (stmts_list body.now)) }
 {
     let choice = work.put(line, Instr::Choose { resume: 0 })?;
-    emit_stmts(work, scene, body)?;
-    work.aim_behind(choice, 1)
+    let done = emit_stmts(work, scene, body);
+    work.then_aim(done, choice, 1)
 }
 
 // FORALL.
@@ -86,11 +85,10 @@ pub(crate) fn emit_forall(
         (tree.Forall (stmts_list first.now) (stmts_list second.now))) }
 {
     let (mark, forall) = begin_forall(work, line)?;
-    emit_stmts(work, scene, first)?;
-    let (inner, overlay) = begin_each(work, line, mark)?;
-    emit_stmts(work, scene, second)?;
-    end_each(work, line, mark, inner, overlay)?;
-    end_forall(work, line, forall)
+    let done = emit_stmts(work, scene, first);
+    let each = then_begin_each(work, done, line, mark)?;
+    let last = emit_stmts(work, scene, second);
+    end_both(work, last, line, mark, each, forall)
 }
 
 // COMMIT.
@@ -104,9 +102,7 @@ pub(crate) fn emit_commit(
     ensures puts { OnOk result (PutsStmt (around scene.now) line
         (front work.old) (front work.new) (tree.Commit (stmts_list body.now))) }
 {
-    let mark = work.slot(SlotKind::Mark)?;
-    work.put(line, Instr::Mark { to: mark })?;
-    emit_stmts(work, scene, body)?;
-    work.put(line, Instr::Cut { mark })?;
-    Ok(())
+    let mark = begin_commit(work, line)?;
+    let done = emit_stmts(work, scene, body);
+    work.then_add(done, line, Instr::Cut { mark })
 }

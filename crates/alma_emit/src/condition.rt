@@ -11,7 +11,7 @@ use crate::test::emit_test;
 use alma_base::NoMemory;
 use alma_code::Instr;
 use alma_emit_forms::is_plain;
-use alma_emit_parts::{Scene, Work, begin_first};
+use alma_emit_parts::{Scene, Work, begin_first, slot_of};
 use alma_ir::Test;
 
 // A condition; the address of the jump where it has no alternative, which is still to be aimed.
@@ -56,7 +56,6 @@ fn emit_barrier(work: &mut Work, scene: &Scene<'_>, line: u32, test: &Test) -> R
         (test_of test.now)) }
 {
     let (mark, choice) = begin_first(work, line)?;
-    emit_test(work, scene, line, test)?;
-    work.put(line, Instr::Cut { mark })?;
-    Ok(choice)
+    let done = emit_test(work, scene, line, test);
+    slot_of(work.then_add(done, line, Instr::Cut { mark }), choice)
 }

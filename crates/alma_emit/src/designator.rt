@@ -9,9 +9,8 @@ ghost use Rattle.alma_emit_work.specs.Puts.{PutsDesig, PutsTarget, PutsSels, Put
 
 use crate::expression::emit_value;
 use alma_base::{NoMemory, Range};
-use alma_code::{Instr, SlotKind};
-use alma_emit_forms::emit_field;
-use alma_emit_parts::{Scene, Stand, Work, own_stand, put_root};
+use alma_emit_forms::{emit_field, stand_at};
+use alma_emit_parts::{Scene, Stand, Work, begin_place, own_stand, put_index};
 use alma_ir::{Desig, Expr, Sel};
 
 // The place of a designator.
@@ -28,8 +27,7 @@ pub(crate) fn emit_desig(
     ensures puts { OnOk result (PutsDesig (around scene.now) line
         (front work.old) (front work.new) (desig_of desig.now)) }
 {
-    let to = work.slot(SlotKind::Place(desig.cells))?;
-    put_root(work, scene, line, to, desig.root)?;
+    let to = begin_place(work, scene, line, desig.cells, desig.root)?;
     emit_sels(work, scene, line, to, &desig.sels)
 }
 
@@ -48,7 +46,7 @@ pub(crate) fn emit_target(
 {
     match own_stand(scene, desig)? {
         Some(slot) => Ok(Stand::Own(slot)),
-        None => Ok(Stand::Placed(emit_desig(work, scene, line, desig)?)),
+        None => stand_at(emit_desig(work, scene, line, desig)),
     }
 }
 
@@ -115,16 +113,5 @@ fn emit_index(
         (front work.old) (front work.new) (tree.Index (expr_of index.now) range cells)) }
 {
     let index = emit_value(work, scene, line, index)?;
-    let to = work.slot(SlotKind::Place(cells))?;
-    let range = scene.range_number(range)?;
-    work.put(
-        line,
-        Instr::Index {
-            to,
-            from,
-            index,
-            range,
-        },
-    )?;
-    Ok(to)
+    put_index(work, scene, line, from, index, range, cells)
 }

@@ -9,14 +9,13 @@ ghost use Rattle.alma_emit_work.specs.Puts.{PutsExpr, PutsValue, PutsLinks, valu
 use crate::call::emit_call_value;
 use crate::condition::emit_guard;
 use crate::designator::{emit_desig, emit_target};
-use alma_base::{NoMemory, Range};
+use alma_base::NoMemory;
 use alma_code::{Instr, SlotKind};
 use alma_emit_forms::emit_const;
-use alma_emit_parts::{Scene, Work, op_instr, own_value, put_cmp, put_neg, put_truth};
+use alma_emit_parts::{
+    Scene, Work, end_truth, op_instr, own_value, put_chr, put_cmp, put_neg, slot_of,
+};
 use alma_ir::{Cmp, Desig, Expr, Link, Test};
-
-// The numbers of CHAR.
-const CHARS: Range = Range { low: 0, high: 255 };
 
 // An expression, and the slot of its number.
 #[cycle(emit)]
@@ -53,8 +52,7 @@ fn emit_load(work: &mut Work, scene: &Scene<'_>, line: u32, desig: &Desig) -> Re
 {
     let to = work.slot(SlotKind::Number)?;
     let stand = emit_target(work, scene, line, desig)?;
-    work.put(line, stand.load(to))?;
-    Ok(to)
+    slot_of(work.add(line, stand.load(to)), to)
 }
 
 // A first operand, its sign, and operators with their operands.
@@ -74,8 +72,7 @@ fn emit_chain(
 {
     let to = emit_expr(work, scene, line, first)?;
     put_neg(work, line, negated, to)?;
-    emit_links(work, scene, line, to, links)?;
-    Ok(to)
+    slot_of(emit_links(work, scene, line, to, links), to)
 }
 
 // Operators and their operands, from left to right.
@@ -92,7 +89,7 @@ fn emit_links(
 {
     for link in links {
         let operand = emit_value(work, scene, line, &link.operand)?;
-        work.put(line, op_instr(link.op, to, operand))?;
+        work.add(line, op_instr(link.op, to, operand))?;
     }
     Ok(())
 }
@@ -114,8 +111,7 @@ fn emit_compare(
 {
     let to = emit_expr(work, scene, line, left)?;
     let other = emit_value(work, scene, line, right)?;
-    put_cmp(work, line, cmp, to, other)?;
-    Ok(to)
+    slot_of(put_cmp(work, line, cmp, to, other), to)
 }
 
 // A test as a number.
@@ -127,9 +123,7 @@ fn emit_truth(work: &mut Work, scene: &Scene<'_>, line: u32, test: &Test) -> Res
 {
     let to = work.slot(SlotKind::Number)?;
     let jump = emit_guard(work, scene, line, test)?;
-    work.aim_behind(jump, 2)?;
-    put_truth(work, line, to)?;
-    Ok(to)
+    end_truth(work, line, jump, to)
 }
 
 // KNOWN.
@@ -141,8 +135,7 @@ fn emit_known(work: &mut Work, scene: &Scene<'_>, line: u32, desig: &Desig) -> R
 {
     let to = work.slot(SlotKind::Number)?;
     let of = emit_desig(work, scene, line, desig)?;
-    work.put(line, Instr::Known { to, of })?;
-    Ok(to)
+    slot_of(work.add(line, Instr::Known { to, of }), to)
 }
 
 // CHR.
@@ -153,9 +146,7 @@ fn emit_chr(work: &mut Work, scene: &Scene<'_>, line: u32, inner: &Expr) -> Resu
         (front work.old) (front work.new) (tree.Chr (expr_of inner.now))) }
 {
     let value = emit_expr(work, scene, line, inner)?;
-    let range = scene.range_number(CHARS)?;
-    work.put(line, Instr::InRange { value, range })?;
-    Ok(value)
+    put_chr(work, scene, line, value)
 }
 
 // A value that is used at once: a variable of the routine stands for itself.

@@ -9,7 +9,7 @@ use crate::condition::emit_guard;
 use crate::statement::emit_stmts;
 use alma_base::NoMemory;
 use alma_code::Instr;
-use alma_emit_parts::{Scene, Work};
+use alma_emit_parts::{Scene, Work, begin_while, end_repeat};
 use alma_ir::{Arm, Stmt, Test};
 
 // A condition, and what is done where it has an alternative; else the code goes on behind the jump that follows.
@@ -25,8 +25,8 @@ fn emit_guarded(
         (front work.new) (test_of test.now) (stmts_list body.now)) }
 {
     let jump = emit_guard(work, scene, line, test)?;
-    emit_stmts(work, scene, body)?;
-    work.aim_behind(jump, 1)
+    let done = emit_stmts(work, scene, body);
+    work.then_aim(done, jump, 1)
 }
 
 // IF: the first arm leaves over all, the others by its jump.
@@ -45,11 +45,11 @@ pub(crate) fn emit_if(
         return emit_stmts(work, scene, rest);
     }
     let arm = &arms[0];
-    emit_guarded(work, scene, line, &arm.cond, &arm.body)?;
-    let exit = work.put(line, Instr::Jump { to: 0 })?;
+    let done = emit_guarded(work, scene, line, &arm.cond, &arm.body);
+    let exit = work.then_put(done, line, Instr::Jump { to: 0 })?;
     emit_arms(work, scene, line, exit, arms)?;
-    emit_stmts(work, scene, rest)?;
-    work.aim_behind(exit, 0)
+    let done = emit_stmts(work, scene, rest);
+    work.then_aim(done, exit, 0)
 }
 
 // The arms of IF behind the first.
@@ -66,8 +66,8 @@ fn emit_arms(
 {
     for i in 1..arms.len() {
         let arm = &arms[i];
-        emit_guarded(work, scene, line, &arm.cond, &arm.body)?;
-        work.put(line, Instr::Jump { to: exit })?;
+        let done = emit_guarded(work, scene, line, &arm.cond, &arm.body);
+        work.then_add(done, line, Instr::Jump { to: exit })?;
     }
     Ok(())
 }
@@ -84,11 +84,9 @@ pub(crate) fn emit_while(
     ensures puts { OnOk result (PutsStmt (around scene.now) line
         (front work.old) (front work.new) (tree.While (test_of test.now) (stmts_list body.now))) }
 {
-    let top = work.behind(1)?;
-    work.put(line, Instr::Jump { to: top })?;
-    emit_guarded(work, scene, line, test, body)?;
-    work.put(line, Instr::Jump { to: top })?;
-    Ok(())
+    let top = begin_while(work, line)?;
+    let done = emit_guarded(work, scene, line, test, body);
+    work.then_add(done, line, Instr::Jump { to: top })
 }
 
 // REPEAT.
@@ -105,7 +103,6 @@ pub(crate) fn emit_repeat(
 {
     let top = work.here()?;
     emit_stmts(work, scene, body)?;
-    let jump = emit_guard(work, scene, line, test)?;
-    work.aim(jump, top);
-    Ok(())
+    let jump = emit_guard(work, scene, line, test);
+    end_repeat(work, jump, top)
 }

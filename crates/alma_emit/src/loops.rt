@@ -4,16 +4,15 @@ ghost use Rattle.alma_ir.specs.View.{desig_of, expr_of, loop_of, stmts_list};
 ghost use Rattle.alma_ir.specs.Tree as tree;
 ghost use Rattle.alma_emit_work.specs.Front.{around, front};
 ghost use Rattle.alma_emit_work.specs.Puts.{PutsStmt};
-ghost use Rattle.alma_emit_forms.specs.Loops.{PutsBounds, PutsTurn};
+ghost use Rattle.alma_emit_forms.specs.Loops.{PassesAndBounds, PutsTurn};
 ghost use Rattle.alma_templates.specs.Templates.{own_slot};
 
 use crate::designator::emit_target;
 use crate::expression::emit_expr;
 use crate::statement::emit_stmts;
 use alma_base::NoMemory;
-use alma_code::{Instr, SlotKind};
-use alma_emit_forms::pass_desig;
-use alma_emit_parts::{Bounds, Scene, Work, put_bounds, put_count, put_more, put_next, put_step};
+use alma_emit_forms::begin_loop;
+use alma_emit_parts::{Bounds, Scene, Work, begin_for, begin_some, end_for, end_some, put_count};
 use alma_ir::Loop;
 
 // FOR. The lines of the variable come first, and its code behind that of the bounds.
@@ -28,16 +27,12 @@ pub(crate) fn emit_for(
         (front work.old) (front work.new) (tree.ForTo (loop_of each.now))) }
 {
     let before = work.position();
-    pass_desig(work, &each.var)?;
     let (step, bounds) = emit_bounds(work, scene, line, each, each.by)?;
     let after = work.position();
-    let jump = put_bounds(work, line, each.by, bounds)?;
-    let top = work.here()?;
+    let (jump, top) = begin_for(work, line, each.by, bounds)?;
     work.go_to(before);
-    emit_turn(work, scene, line, each, bounds.counter, after)?;
-    let out = work.behind(2)?;
-    put_step(work, line, bounds, step, out, top)?;
-    work.aim_behind(jump, 0)
+    let done = emit_turn(work, scene, line, each, bounds.counter, after);
+    end_for(work, done, line, bounds, step, jump, top)
 }
 
 // SOME.
@@ -52,26 +47,15 @@ pub(crate) fn emit_some(
         (front work.old) (front work.new) (tree.SomeOf (loop_of each.now))) }
 {
     let before = work.position();
-    pass_desig(work, &each.var)?;
     let (step, bounds) = emit_bounds(work, scene, line, each, 1)?;
     let after = work.position();
-    let more = work.slot(SlotKind::Number)?;
-    let jump = put_bounds(work, line, 1, bounds)?;
-    let top = work.here()?;
-    let turn = work.behind(3)?;
-    put_more(work, line, more, bounds, turn)?;
-    let choice = work.put(line, Instr::Choose { resume: 0 })?;
+    let aims = begin_some(work, line, bounds)?;
     work.go_to(before);
-    emit_turn(work, scene, line, each, bounds.counter, after)?;
-    let over = work.behind(4)?;
-    work.aim_behind(choice, 1)?;
-    put_next(work, line, over, bounds.counter, step, top)?;
-    work.aim_behind(jump, 0)?;
-    work.put(line, Instr::Fail)?;
-    Ok(())
+    let done = emit_turn(work, scene, line, each, bounds.counter, after);
+    end_some(work, done, line, bounds.counter, step, aims)
 }
 
-// The step of a loop, and both bounds.
+// The step of a loop, and both bounds, behind the lines of its variable.
 #[cycle(emit)]
 fn emit_bounds(
     work: &mut Work,
@@ -84,26 +68,18 @@ fn emit_bounds(
         (around scene.now).tables (around scene.now).routine each.now.counter) }
     ensures limit { IfOk result (λ r. r.1.limit ≡ own_slot (around scene.now).program
         (around scene.now).tables (around scene.now).routine each.now.limit) }
-    ensures puts { IfOk result (λ r. PutsBounds (around scene.now) line by (front work.old)
-        (front work.new) (expr_of each.now.from) (expr_of each.now.to) r.0 r.1.first r.1.last) }
+    ensures puts { IfOk result (λ r. PassesAndBounds (around scene.now) line by (front work.old)
+        (front work.new) (desig_of each.now.var) (expr_of each.now.from) (expr_of each.now.to) r.0
+        r.1.first r.1.last) }
 {
-    let counter = scene.own_slot(each.counter)?;
-    let limit = scene.own_slot(each.limit)?;
-    let step = work.slot(SlotKind::Number)?;
-    work.put(
-        line,
-        Instr::Const {
-            to: step,
-            value: by,
-        },
-    )?;
+    let counts = begin_loop(work, scene, line, each, by)?;
     let first = emit_expr(work, scene, line, &each.from)?;
     let last = emit_expr(work, scene, line, &each.to)?;
     Ok((
-        step,
+        counts.step,
         Bounds {
-            counter,
-            limit,
+            counter: counts.counter,
+            limit: counts.limit,
             first,
             last,
         },
@@ -126,7 +102,7 @@ fn emit_turn(
 {
     let count = put_count(work, scene, line, &each.var, each.range, counter)?;
     let stand = emit_target(work, scene, line, &each.var)?;
-    work.put(line, stand.set(count))?;
+    work.add(line, stand.set(count))?;
     work.go_to(after);
     emit_stmts(work, scene, &each.body)
 }

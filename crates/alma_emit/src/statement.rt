@@ -15,7 +15,7 @@ use crate::test::emit_test;
 use alma_base::{NoMemory, Range};
 use alma_code::Instr;
 use alma_emit_forms::{emit_line, emit_text};
-use alma_emit_parts::{Scene, Work, put_fit, put_result_fit, read_instr, write_instr};
+use alma_emit_parts::{Scene, Work, put_read, put_return, put_set, write_instr};
 use alma_ir::{Desig, Expr, ReadAs, Stmt, WriteAs};
 
 // Statements in order, each at its line.
@@ -76,9 +76,7 @@ fn emit_assign(
 {
     let stand = emit_target(work, scene, line, desig)?;
     let value = emit_value(work, scene, line, value)?;
-    put_fit(work, scene, line, range, value)?;
-    work.put(line, stand.set(value))?;
-    Ok(())
+    put_set(work, scene, line, range, stand, value)
 }
 
 // All cells of a variable for another.
@@ -96,8 +94,7 @@ fn emit_copy(
 {
     let to = emit_desig(work, scene, line, desig)?;
     let from = emit_desig(work, scene, line, from)?;
-    work.put(line, Instr::CopyCells { to, from })?;
-    Ok(())
+    work.add(line, Instr::CopyCells { to, from })
 }
 
 // RETURN.
@@ -113,10 +110,7 @@ fn emit_return(
 {
     match value {
         Some(value) => emit_return_value(work, scene, line, value),
-        None => {
-            work.put(line, Instr::Return)?;
-            Ok(())
-        }
+        None => work.add(line, Instr::Return),
     }
 }
 
@@ -132,9 +126,7 @@ fn emit_return_value(
         (front work.old) (front work.new) (tree.Return (tree.some_result (expr_of value.now)))) }
 {
     let value = emit_value(work, scene, line, value)?;
-    put_result_fit(work, scene, line, value)?;
-    work.put(line, Instr::ReturnValue { value })?;
-    Ok(())
+    put_return(work, scene, line, value)
 }
 
 // READ.
@@ -151,9 +143,7 @@ fn emit_read(
         (front work.old) (front work.new) (tree.Read (desig_of desig.now) how range)) }
 {
     let place = emit_desig(work, scene, line, desig)?;
-    let range = scene.range_number(range)?;
-    work.put(line, read_instr(how, place, range))?;
-    Ok(())
+    put_read(work, scene, line, how, place, range)
 }
 
 // WRITE of a number.
@@ -169,6 +159,5 @@ fn emit_write(
         (front work.old) (front work.new) (tree.WriteExpr (expr_of value.now) how)) }
 {
     let value = emit_value(work, scene, line, value)?;
-    work.put(line, write_instr(how, value))?;
-    Ok(())
+    work.add(line, write_instr(how, value))
 }

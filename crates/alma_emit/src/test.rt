@@ -11,7 +11,7 @@ use crate::expression::{emit_expr, emit_value};
 use crate::statement::emit_stmts;
 use alma_base::{NoMemory, Range};
 use alma_code::Instr;
-use alma_emit_parts::{Scene, Work, begin_first};
+use alma_emit_parts::{Scene, Work, begin_first, end_first, end_not, put_bind, put_unify};
 use alma_ir::{Desig, Expr, Test};
 
 // A test.
@@ -49,8 +49,7 @@ fn emit_check(work: &mut Work, scene: &Scene<'_>, line: u32, value: &Expr) -> Re
         (front work.old) (front work.new) (tree.Value (expr_of value.now))) }
 {
     let value = emit_value(work, scene, line, value)?;
-    work.put(line, Instr::Check { value })?;
-    Ok(())
+    work.add(line, Instr::Check { value })
 }
 
 // An equation of a variable and an expression, of which the one on the left comes first.
@@ -91,16 +90,7 @@ fn emit_bind_left(
 {
     let place = emit_desig(work, scene, line, desig)?;
     let value = emit_value(work, scene, line, value)?;
-    let range = scene.range_number(range)?;
-    work.put(
-        line,
-        Instr::Bind {
-            place,
-            value,
-            range,
-        },
-    )?;
-    Ok(())
+    put_bind(work, scene, line, place, value, range)
 }
 
 // An equation whose variable stands on the right.
@@ -119,16 +109,7 @@ fn emit_bind_right(
 {
     let value = emit_expr(work, scene, line, value)?;
     let place = emit_desig(work, scene, line, desig)?;
-    let range = scene.range_number(range)?;
-    work.put(
-        line,
-        Instr::Bind {
-            place,
-            value,
-            range,
-        },
-    )?;
-    Ok(())
+    put_bind(work, scene, line, place, value, range)
 }
 
 // An equation of two variables.
@@ -148,18 +129,7 @@ fn emit_unify(
 {
     let left = emit_desig(work, scene, line, left)?;
     let right = emit_desig(work, scene, line, right)?;
-    let left_range = scene.range_number(left_range)?;
-    let right_range = scene.range_number(right_range)?;
-    work.put(
-        line,
-        Instr::Unify {
-            left,
-            left_range,
-            right,
-            right_range,
-        },
-    )?;
-    Ok(())
+    put_unify(work, scene, line, (left, left_range), (right, right_range))
 }
 
 // An equation of two structured variables.
@@ -177,8 +147,7 @@ fn emit_same_cells(
 {
     let left = emit_desig(work, scene, line, left)?;
     let right = emit_desig(work, scene, line, right)?;
-    work.put(line, Instr::SameCells { left, right })?;
-    Ok(())
+    work.add(line, Instr::SameCells { left, right })
 }
 
 // AND.
@@ -200,17 +169,16 @@ fn emit_or(work: &mut Work, scene: &Scene<'_>, line: u32, tests: &[Test]) -> Res
         (front work.old) (front work.new) (tree.Or (tests_list tests.now))) }
 {
     if tests.is_empty() {
-        work.put(line, Instr::Fail)?;
-        return Ok(());
+        return work.add(line, Instr::Fail);
     }
     let test = &tests[0];
     if tests.len() == 1 {
         return emit_test(work, scene, line, test);
     }
-    emit_operand(work, scene, line, test)?;
-    let exit = work.put(line, Instr::Jump { to: 0 })?;
-    emit_operands(work, scene, line, exit, tests)?;
-    work.aim_behind(exit, 0)
+    let done = emit_operand(work, scene, line, test);
+    let exit = work.then_put(done, line, Instr::Jump { to: 0 })?;
+    let done = emit_operands(work, scene, line, exit, tests);
+    work.then_aim(done, exit, 0)
 }
 
 // The operands of OR behind the first, of which there is one.
@@ -231,8 +199,8 @@ fn emit_operands(
     let last = tests.len() - 1;
     for i in 1..last {
         let test = &tests[i];
-        emit_operand(work, scene, line, test)?;
-        work.put(line, Instr::Jump { to: exit })?;
+        let done = emit_operand(work, scene, line, test);
+        work.then_add(done, line, Instr::Jump { to: exit })?;
     }
     let test = &tests[last];
     emit_test(work, scene, line, test)
@@ -245,9 +213,8 @@ fn emit_operand(work: &mut Work, scene: &Scene<'_>, line: u32, test: &Test) -> R
         (test_of test.now)) }
 {
     let (mark, choice) = begin_first(work, line)?;
-    emit_test(work, scene, line, test)?;
-    work.put(line, Instr::Cut { mark })?;
-    work.aim_behind(choice, 1)
+    let done = emit_test(work, scene, line, test);
+    end_first(work, done, line, mark, choice)
 }
 
 // NOT.
@@ -257,8 +224,6 @@ fn emit_not(work: &mut Work, scene: &Scene<'_>, line: u32, test: &Test) -> Resul
         (front work.old) (front work.new) (tree.Not (test_of test.now))) }
 {
     let (mark, choice) = begin_first(work, line)?;
-    emit_test(work, scene, line, test)?;
-    work.put(line, Instr::Cut { mark })?;
-    work.put(line, Instr::Fail)?;
-    work.aim_behind(choice, 0)
+    let done = emit_test(work, scene, line, test);
+    end_not(work, done, line, mark, choice)
 }

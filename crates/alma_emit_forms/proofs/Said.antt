@@ -3,16 +3,17 @@ use Rattle.std.proofs.Common.{zero, take, ◌-◌, ◌≤◌, length-drop}
 use Rattle.std.proofs.Common.{◌≡◌, ℕ, suc, ◌+◌, ◌<◌, List, [], ◌∷◌, length, drop, get_or, refl, sym, ap, ◌∙◌, subst, arith, drop-cons, add-one, true, false}
 use Rattle.std.specs.Prelude.{◌==◌}
 use Rattle.std.proofs.lemmas.Bool.Decides.{nat_tests}
-use Rattle.std.specs.Prelude.{Result, Ok, Err, OnOk, IfOk}
+use Rattle.std.specs.Prelude.{Bool, ⊤, Result, Ok, Err, IsOk, OnOk, IfOk}
 use Rattle.std.proofs.Math.ListN.{drop_of_length-le}
 use Rattle.std.specs.Prelude.{Option, Some, None, option_map}
 use Rattle.alma_code.specs.declared.instr.Instr.{Instr}
+use Rattle.alma_choice.specs.Emitted.{aimed}
 use Rattle.alma_ir.specs.Tree.{Stmts, Stmt, Arms, CaseArms, Else, Branches, Test, Tests, Expr, Links, Args, Arg, Desig, Sels, Sel, no_sels, more_sels}
 use Rattle.alma_ir.specs.Lines.{behind, stmts_with, expr_with, desig_with, sels_with, sel_with}
 use Rattle.alma_ir.specs.Phrases.{sel_phrases}
 use Rattle.alma_emit_work.specs.declared.stand.Stand.TheVariants as stands
 use Rattle.alma_emit_work.specs.Front.{Around, Front, Codes}
-use Rattle.alma_emit_work.specs.Puts.{PutsStmts, PutsStmt, PutsArms, PutsCases, PutsDeadBodies, PutsElse, PutsBranches, PutsTest, PutsAnd, PutsOperands, PutsExpr, PutsValue, PutsLinks, PutsArgs, PutsArg, PutsDesig, PutsTarget, PutsSels, PutsSel, value_slot, stand_of}
+use Rattle.alma_emit_work.specs.Puts.{PutsStmts, PutsStmt, PutsArms, PutsCases, PutsDeadBodies, PutsElse, PutsBranches, PutsTest, PutsGuard, PutsAnd, PutsOperands, PutsExpr, PutsValue, PutsLinks, PutsArgs, PutsArg, PutsDesig, PutsTarget, PutsSels, PutsSel, value_slot, stand_of}
 use Rattle.alma_emit_forms.proofs.ExprForms.{own_value_put, own_value_slot, made_value_put, made_value_slot, own_target_put, made_target_put, own_stand_of, made_stand_of}
 use Rattle.alma_emit_work.proofs.DesigForms.{parts_on}
 use Rattle.alma_emit_forms.specs.Cases.{PutsAllArms, PutsArmOf}
@@ -33,6 +34,45 @@ if_ok (Err e) f h = h
 pub both_ok : {A E : Type 0} (r : Result A E) {P Q R : Type 0} → (P → Q → R) → OnOk r P → OnOk r Q → OnOk r R
 both_ok (Ok x) f h j = f h j
 both_ok (Err e) f h j = h
+
+-- the same, of clauses that are given first
+pub then_ok : {A E : Type 0} (r : Result A E) {P Q : Type 0} → OnOk r P → (P → Q) → OnOk r Q
+then_ok (Ok x) h f = f h
+then_ok (Err e) h f = h
+
+pub from_both : {A E : Type 0} (r : Result A E) {P Q R : Type 0} → OnOk r P → OnOk r Q → (P → Q → R) → OnOk r R
+from_both (Ok x) h j f = f h j
+from_both (Err e) h j f = h
+
+-- two facts of the value, if there is one
+pub ok_from : {A E : Type 0} (r : Result A E) {P Q : A → Type 0} {R : Type 0} → IfOk r P → IfOk r Q → ((x : A) → P x → Q x → R) → OnOk r R
+ok_from (Ok x) h j f = f x h j
+ok_from (Err e) h j f = h
+
+abbrev where_true : Type 0 → Bool → Type 0
+where_true P true = P
+where_true P false = ⊤
+
+-- what a call said that succeeded
+pub said : {A E : Type 0} (r : Result A E) {P : Type 0} → IsOk r → OnOk r P → P
+said (Ok x) ok h = h
+said (Err e) {P = P} ok h = subst (λ (b : Bool). where_true P b) ok h
+
+pub from_said : {A E : Type 0} (r : Result A E) {P Q R : Type 0} → IsOk r → OnOk r P → OnOk r Q → (P → Q → R) → R
+from_said r ok h j f = f (said r ok h) (said r ok j)
+
+-- of a call whose result is handed on unopened, and of its value
+pub through : {A B E : Type 0} (r : Result A E) (q : Result B E) {P : A → Type 0} {R : A → B → Type 0} {S : B → Type 0} → IfOk r P → OnOk q (IsOk r) → IfOk q (λ y. IfOk r (λ x. R x y)) → ((x : A) (y : B) → P x → R x y → S y) → IfOk q S
+through (Ok x) (Ok y) h ok j f = f x y h j
+through {A = A} (Err e) (Ok y) h ok j f = said {A = A} (Err e) ok h
+through (Ok x) (Err d) h ok j f = j
+through (Err e) (Err d) h ok j f = j
+
+pub with_value : {A B E : Type 0} (r : Result A E) (q : Result B E) {P R : A → Type 0} {S : Type 0} → IfOk r P → OnOk q (IsOk r) → IfOk r (λ x. OnOk q (R x)) → ((x : A) → P x → R x → S) → OnOk q S
+with_value (Ok x) (Ok y) h ok j f = f x h j
+with_value {A = A} (Err e) (Ok y) h ok j f = said {A = A} (Err e) ok h
+with_value (Ok x) (Err d) h ok j f = ok
+with_value (Err e) (Err d) h ok j f = ok
 
 pub stmt_as : {A E : Type 0} (r : Result A E) (s : Around) (line : ℕ) (a b : Front) (x y : Stmt) → y ≡ x → OnOk r (PutsStmt s line a b x) → OnOk r (PutsStmt s line a b y)
 stmt_as r s line a b x y e h = subst (λ z. OnOk r (PutsStmt s line a b z)) (sym e) h
@@ -61,6 +101,9 @@ module _ (s : Around) (line : ℕ) where
 
   pub expr_is : (a b : Front) (x y : Expr) → x ≡ y → PutsExpr s line a b x → PutsExpr s line a b y
   expr_is a b x y e h = subst (λ z. PutsExpr s line a b z) e h
+
+  pub guard_is : (a b : Front) (jump given : ℕ) (t : Test) → given ≡ jump → PutsGuard s line a b (λ to xs. aimed xs jump to) t → PutsGuard s line a b (λ to xs. aimed xs given to) t
+  guard_is a b jump given t e h = subst (λ x. PutsGuard s line a b (λ to xs. aimed xs x to) t) (sym e) h
 
   pub args_is : (to : ℕ) (a b : Front) (x y : Args) → x ≡ y → PutsArgs s line to a b x → PutsArgs s line to a b y
   args_is to a b x y e h = subst (λ z. PutsArgs s line to a b z) e h

@@ -4,10 +4,12 @@ use Rattle.alma_base.specs.declared.number.Range.{Range}
 use Rattle.alma_code.specs.declared.cell.SlotKind.TheVariants as slot
 use Rattle.alma_code.specs.declared.instr.Instr.TheVariants as I
 use Rattle.alma_ir.specs.Tree.{Stmts, Expr, Desig}
-use Rattle.alma_ir.specs.Lines.{desig_with}
+use Rattle.alma_ir.specs.Phrases.{desig_phrases}
+use Rattle.alma_ir.specs.Lines.{behind, desig_with}
 use Rattle.alma_emit_work.specs.declared.stand.Stand.{Stand}
-use Rattle.alma_emit_work.specs.Front.{Around, Front, Adds, Codes, Takes}
+use Rattle.alma_emit_work.specs.Front.{Around, Front, Adds, Codes, Takes, Turns}
 use Rattle.alma_emit_work.specs.Puts.{PutsExpr, PutsTarget, PutsStmts, stand_of, set_instr}
+use Rattle.alma_emit_parts.specs.Steps.{PutsSlot}
 use Rattle.alma_templates.specs.Lined.{own}
 use Rattle.alma_templates.specs.Slots.{bare_desig, unless_bare}
 use Rattle.alma_templates.specs.Templates as T
@@ -24,6 +26,19 @@ pub record PutsBounds (s : Around) (line : ℕ) (by : ℤ) (a e : Front) (from t
   pub first_slot : first ≡ c.next
   pub to_put : PutsExpr s line d e to
   pub last_slot : last ≡ d.next
+
+-- the lines of the variable of a loop are passed, and its step is put into a slot of its own
+pub record BeginsLoop (line : ℕ) (by : ℤ) (a c : Front) (x : Desig) (step : ℕ) : Type 0 where
+  pub b : Front
+  pub passed : Turns a b (behind (desig_phrases x) a.lines)
+  pub step_slot : step ≡ b.next
+  pub puts : PutsSlot b c slot.Number (own line (I.Const step by ∷ []))
+
+-- the lines of the variable of a loop are passed, and then come its step and both bounds
+pub record PassesAndBounds (s : Around) (line : ℕ) (by : ℤ) (a e : Front) (x : Desig) (from to : Expr) (step first last : ℕ) : Type 0 where
+  pub b : Front
+  pub passed : Turns a b (behind (desig_phrases x) a.lines)
+  pub bounds : PutsBounds s line by b e from to step first last
 
 -- the count is checked, the variable is located and set, and the body follows with the lines behind so many of all
 pub record PutsTurn (s : Around) (line after : ℕ) (range : Range) (counter : ℕ) (a f : Front) (x : Desig) (body : Stmts) : Type 0 where

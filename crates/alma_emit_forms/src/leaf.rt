@@ -1,20 +1,26 @@
 // What is emitted for a phrase that holds no other, and what is asked of one without a recursion.
-ghost use Rattle.std.specs.Prelude.{◌≡◌, ◌+◌, IfOk, OnOk};
+ghost use Rattle.std.specs.Prelude.{◌≡◌, ◌+◌, IfOk, IsOk, OnOk};
 ghost use Rattle.alma_ir.specs.View.{test_of};
 ghost use Rattle.alma_ir.specs.Lines.{sel_with};
 ghost use Rattle.alma_ir.specs.Tree as tree;
 ghost use Rattle.alma_templates.specs.Slots.{is_simple};
 ghost use Rattle.alma_templates.specs.Templates.{part_slot};
+ghost use Rattle.alma_emit_work.specs.declared.stand.Stand.TheVariants as stands;
 ghost use Rattle.alma_emit_work.specs.Front.{around, front};
 ghost use Rattle.alma_emit_work.specs.Puts.{PutsExpr, PutsSel, PutsStmt};
 
 use alma_base::NoMemory;
 use alma_code::{Instr, SlotKind};
-use alma_emit_parts::{Scene, Work, is_simple};
+use alma_emit_parts::{Scene, Stand, Work, is_simple};
 use alma_ir::Test;
 
 /// A number.
-pub fn emit_const(work: &mut Work, scene: &Scene<'_>, line: u32, value: i64) -> Result<u32, NoMemory>
+pub fn emit_const(
+    work: &mut Work,
+    scene: &Scene<'_>,
+    line: u32,
+    value: i64,
+) -> Result<u32, NoMemory>
     ensures slot { IfOk result (λ slot. slot ≡ (front work.old).next) }
     ensures puts { OnOk result (PutsExpr (around scene.now) line
         (front work.old) (front work.new) (tree.Const value)) }
@@ -50,8 +56,7 @@ pub fn emit_text(work: &mut Work, scene: &Scene<'_>, line: u32, text: &[u8]) -> 
         (front work.old) (front work.new) (tree.WriteText text.now)) }
 {
     let text = scene.text_number(text)?;
-    work.put(line, Instr::WriteText { text })?;
-    Ok(())
+    work.add(line, Instr::WriteText { text })
 }
 
 /// WRITELN.
@@ -59,8 +64,7 @@ pub fn emit_line(work: &mut Work, scene: &Scene<'_>, line: u32) -> Result<(), No
     ensures puts { OnOk result (PutsStmt (around scene.now) line
         (front work.old) (front work.new) tree.WriteLine) }
 {
-    work.put(line, Instr::WriteLine)?;
-    Ok(())
+    work.add(line, Instr::WriteLine)
 }
 
 /// The slot behind a slot.
@@ -68,6 +72,23 @@ pub fn slot_behind(slot: u32) -> Result<u32, NoMemory>
     ensures { IfOk result (λ next. next ≡ slot + 1) }
 {
     slot.checked_add(1).ok_or(NoMemory)
+}
+
+/// The slot behind a slot, where all is done of which it has the number.
+pub fn slot_past(done: Result<(), NoMemory>, slot: u32) -> Result<u32, NoMemory>
+    ensures done { OnOk result (IsOk done) }
+    ensures next { IfOk result (λ next. next ≡ slot + 1) }
+{
+    done?;
+    slot_behind(slot)
+}
+
+/// Where a variable stands whose place is in a slot.
+pub fn stand_at(place: Result<u32, NoMemory>) -> Result<Stand, NoMemory>
+    ensures done { OnOk result (IsOk place) }
+    ensures stand { IfOk result (λ stand. IfOk place (λ at. stand ≡ stands.Placed at)) }
+{
+    Ok(Stand::Placed(place?))
 }
 
 /// Whether a condition is tested by a jump.

@@ -7,5 +7,7 @@ mod leaf;
 mod pass;
 
 pub use label::put_labels;
-pub use leaf::{emit_const, emit_field, emit_line, emit_text, is_plain, slot_behind};
-pub use pass::{pass_desig, pass_stmts, pass_unlabelled};
+pub use leaf::{
+    emit_const, emit_field, emit_line, emit_text, is_plain, slot_behind, slot_past, stand_at,
+};
+pub use pass::{begin_loop, pass_desig, pass_stmts, pass_unlabelled};

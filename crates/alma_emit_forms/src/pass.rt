@@ -1,15 +1,17 @@
 // Lines that are passed over: those of statements that are emitted elsewhere.
-ghost use Rattle.std.specs.Prelude.{ℕ, drop, IfOk, OnOk};
+ghost use Rattle.std.specs.Prelude.{◌≡◌, ℕ, drop, IfOk, OnOk};
 ghost use Rattle.alma_ir.specs.Lines.{behind};
 ghost use Rattle.alma_ir.specs.Phrases.{desig_phrases, stmts_phrases};
 ghost use Rattle.alma_ir.specs.Tree.{Else};
 ghost use Rattle.alma_ir.specs.View.{cases_list, desig_of, stmts_list};
-ghost use Rattle.alma_emit_work.specs.Front.{Around, Front, front, Turns};
+ghost use Rattle.alma_emit_work.specs.Front.{Around, Front, around, front, Turns};
+ghost use Rattle.alma_templates.specs.Templates.{own_slot};
 ghost use Rattle.alma_emit_forms.specs.Cases.{PutsAllArms};
+ghost use Rattle.alma_emit_forms.specs.Loops.{BeginsLoop};
 
 use alma_base::NoMemory;
-use alma_emit_parts::Work;
-use alma_ir::{CaseArm, Desig, Stmt};
+use alma_emit_parts::{Counts, Scene, Work, put_counts};
+use alma_ir::{CaseArm, Desig, Loop, Stmt};
 use alma_passed::{desig_inside, stmts_inside};
 
 /// Passes the lines of the statements inside a designator.
@@ -45,4 +47,24 @@ pub fn pass_unlabelled(work: &mut Work, arms: &[CaseArm]) -> Result<usize, NoMem
         first += 1;
     }
     Ok(first)
+}
+
+/// Passes the lines of the variable of a loop, and puts its step into a slot of its own.
+pub fn begin_loop(
+    work: &mut Work,
+    scene: &Scene<'_>,
+    line: u32,
+    each: &Loop,
+    by: i64,
+) -> Result<Counts, NoMemory>
+    ensures counter { IfOk result (λ counts. counts.counter ≡ own_slot (around scene.now).program
+        (around scene.now).tables (around scene.now).routine each.now.counter) }
+    ensures limit { IfOk result (λ counts. counts.limit ≡ own_slot (around scene.now).program
+        (around scene.now).tables (around scene.now).routine each.now.limit) }
+    ensures begins { IfOk result (λ counts. BeginsLoop line by (front work.old) (front work.new)
+        (desig_of each.now.var) counts.step) }
+{
+    pass_desig(work, &each.var)?;
+    let counts = put_counts(work, scene, line, each, by)?;
+    Ok(counts)
 }

@@ -15,7 +15,7 @@ use Rattle.alma_ir.specs.Lines.{behind, stmts_with, stmt_with, cases_with, else_
 use Rattle.alma_ir.proofs.LinesBack.{behind_two}
 use Rattle.alma_emit_work.specs.Front.{Around, Front, Adds, Codes, Takes, Changes, Holes, Turns}
 use Rattle.alma_emit_work.specs.Puts.{PutsExpr, PutsStmts, PutsStmt, PutsCases, PutsCaseArm, PutsDead, PutsDeadBodies, PutsElse, inside}
-use Rattle.alma_emit_parts.proofs.Calling.{drop_one}
+use Rattle.alma_emit_work.proofs.Small.{drop_one}
 use Rattle.alma_emit_work.proofs.Joins.{nothing, then_adds, adds_as, turned_back, code_code, code_adds, adds_code, only_code, adds_slot, filled, over, address_behind}
 use Rattle.alma_templates.specs.Lined.{Lined, own, in_row}
 use Rattle.alma_templates.specs.Slots.{stmts_slots, dead_slots, cases_slots, else_slots, expr_slots}

@@ -6,7 +6,8 @@ ghost use Rattle.alma_templates.specs.Lined.{own};
 ghost use Rattle.alma_templates.specs.Slots.{arg_kind, call_links, desig_cells, handed_slots, shift_of};
 ghost use Rattle.alma_templates.specs.Templates.{call_link_code};
 ghost use Rattle.alma_emit_work.specs.Front.{around, front, Adds};
-ghost use Rattle.alma_emit_work.specs.Puts.{link_slot, first_of_call};
+ghost use Rattle.alma_emit_work.specs.Puts.{first_of_call, first_slot, link_slot};
+ghost use Rattle.alma_emit_parts.specs.Steps.{BeginsCall, TakesResult};
 
 use alma_base::NoMemory;
 use alma_code::SlotKind;
@@ -93,4 +94,40 @@ pub fn first_handed(link: Option<u32>, args: &[Arg], to: u32) -> u32
         Some(slot) => slot,
         None => { if args.is_empty() { 0 } else { to } }
     }
+}
+
+/// The slot of the first of what is handed over, or 0 where nothing is, and that of the first argument.
+#[derive(Clone, Copy)]
+pub struct Handed {
+    pub first: u32,
+    pub to: u32,
+}
+
+/// The link of a call, and the slots of its arguments.
+pub fn begin_call(
+    work: &mut Work,
+    scene: &Scene<'_>,
+    line: u32,
+    called: u32,
+    up: u32,
+    args: &[Arg],
+) -> Result<Handed, NoMemory>
+    ensures first { IfOk result (λ handed. handed.first ≡ first_slot (around scene.now) called up
+        (front work.old).next (args_list args.now)) }
+    ensures begins { IfOk result (λ handed. BeginsCall (around scene.now) line called up
+        (front work.old) (front work.new) (args_list args.now) handed.to) }
+{
+    let link = put_call_link(work, scene, line, called, up)?;
+    let to = take_handed(work, args)?;
+    let first = first_handed(link, args, to);
+    Ok(Handed { first, to })
+}
+
+/// The slot of the result of a function, and that of the mark of its call.
+pub fn take_result(work: &mut Work) -> Result<(u32, u32), NoMemory>
+    ensures { IfOk result (λ r. TakesResult (front work.old) (front work.new) r.0 r.1) }
+{
+    let to = work.slot(SlotKind::Number)?;
+    let mark = work.slot(SlotKind::Mark)?;
+    Ok((to, mark))
 }

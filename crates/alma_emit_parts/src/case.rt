@@ -1,11 +1,12 @@
 // The labels of the arms of CASE.
-ghost use Rattle.std.specs.Prelude.{◌≡◌, ◌+◌, ◌∷◌, [], IfOk, OnOk, length};
+ghost use Rattle.std.specs.Prelude.{◌≡◌, ◌+◌, ◌∷◌, [], IfOk, IsOk, OnOk, length};
 ghost use Rattle.alma_code.specs.declared.cell.SlotKind.TheVariants as slot;
 ghost use Rattle.alma_choice.specs.Emitted.{aimed};
 ghost use Rattle.alma_ir.specs.View.{cases_list};
 ghost use Rattle.alma_templates.specs.Lined.{own};
 ghost use Rattle.alma_templates.specs.Pieces as pieces;
 ghost use Rattle.alma_emit_work.specs.Front.{front, Adds, Codes, Holes};
+ghost use Rattle.alma_emit_parts.specs.Steps.{EndsArm, EndsDead};
 
 use alma_base::{NoMemory, Range};
 use alma_code::{Instr, SlotKind};
@@ -117,5 +118,49 @@ pub fn put_label(
     work.aim(miss.low, behind);
     work.aim(miss.high, behind);
     work.put(line, Instr::Jump { to: hit })?;
+    Ok(())
+}
+
+/// Behind the arms of CASE without a label: lines are handed out anew from a position on, and the jump over the arms is aimed.
+pub fn end_dead(
+    work: &mut Work,
+    done: Result<(), NoMemory>,
+    before: usize,
+    over: u32,
+) -> Result<(), NoMemory>
+    ensures done { OnOk result (IsOk done) }
+    ensures ends { OnOk result (EndsDead (front work.old) (front work.new) before over) }
+{
+    done?;
+    work.go_to(before);
+    work.aim_behind(over, 0)
+}
+
+/// The two slots for the labels of a CASE, behind the arms without a label.
+pub fn then_take_labels(
+    work: &mut Work,
+    done: Result<(), NoMemory>,
+    value: u32,
+) -> Result<Labels, NoMemory>
+    ensures done { OnOk result (IsOk done) }
+    ensures value { IfOk result (λ labels. labels.value ≡ value) }
+    ensures bound { IfOk result (λ labels. labels.bound ≡ (front work.old).next) }
+    ensures test { IfOk result (λ labels. labels.test ≡ labels.bound + 1) }
+    ensures puts { OnOk result (Adds (front work.old) (front work.new) (λ at lo ls. [])
+        (λ ls. slot.Number ∷ slot.Number ∷ []) (λ ls. ls)) }
+{
+    done?;
+    take_labels(work, value)
+}
+
+/// Behind the body of an arm of CASE: the jumps of its last label are aimed behind the jump that follows.
+pub fn end_arm(work: &mut Work, done: Result<(), NoMemory>, miss: Miss) -> Result<(), NoMemory>
+    ensures done { OnOk result (IsOk done) }
+    ensures ends { OnOk result (EndsArm (front work.old) (front work.new) miss.low miss.high) }
+{
+    done?;
+    let behind = work.behind(1)?;
+    work.aim(miss.low, behind);
+    work.aim(miss.high, behind);
     Ok(())
 }

@@ -1,19 +1,20 @@
 // The bounds of loops.
-ghost use Rattle.std.specs.Prelude.{◌≡◌, ◌∷◌, [], IfOk, OnOk};
+ghost use Rattle.std.specs.Prelude.{◌≡◌, ◌∷◌, [], length, IfOk, IsOk, OnOk};
 ghost use Rattle.alma_code.specs.declared.instr.Instr.TheVariants as instr;
 ghost use Rattle.alma_code.specs.declared.cell.SlotKind.TheVariants as slot;
 ghost use Rattle.alma_ir.specs.View.{desig_of};
 ghost use Rattle.alma_templates.specs.Slots.{bare_desig, unless_bare};
-ghost use Rattle.alma_templates.specs.Templates.{count_at, count_code};
+ghost use Rattle.alma_templates.specs.Templates.{count_at, count_code, own_slot};
 ghost use Rattle.alma_choice.specs.Emitted.{aimed};
 ghost use Rattle.alma_templates.specs.Lined.{own};
 ghost use Rattle.alma_templates.specs.Pieces as pieces;
 ghost use Rattle.alma_emit_work.specs.Front.{around, front, Adds, Codes, Holes};
+ghost use Rattle.alma_emit_parts.specs.Steps.{BeginsSome, EndsFor, EndsSome, PutsSlot};
 
 use alma_base::{NoMemory, Range};
 use alma_code::{Instr, SlotKind};
 use alma_emit_work::{Scene, Work, own_stand, put_fit};
-use alma_ir::Desig;
+use alma_ir::{Desig, Loop};
 
 /// The slots of a loop: of its count and of its limit, and those in which the bounds were put first.
 #[derive(Clone, Copy)]
@@ -191,4 +192,126 @@ pub fn put_next(
     )?;
     work.put(line, Instr::Jump { to: top })?;
     Ok(())
+}
+
+/// The slots of the count, of the limit and of the step of a loop.
+#[derive(Clone, Copy)]
+pub struct Counts {
+    pub counter: u32,
+    pub limit: u32,
+    pub step: u32,
+}
+
+/// The step of a loop, in a slot of its own.
+pub fn put_counts(
+    work: &mut Work,
+    scene: &Scene<'_>,
+    line: u32,
+    each: &Loop,
+    by: i64,
+) -> Result<Counts, NoMemory>
+    ensures counter { IfOk result (λ counts. counts.counter ≡ own_slot (around scene.now).program
+        (around scene.now).tables (around scene.now).routine each.now.counter) }
+    ensures limit { IfOk result (λ counts. counts.limit ≡ own_slot (around scene.now).program
+        (around scene.now).tables (around scene.now).routine each.now.limit) }
+    ensures step { IfOk result (λ counts. counts.step ≡ (front work.old).next) }
+    ensures puts { IfOk result (λ counts. PutsSlot (front work.old) (front work.new) slot.Number
+        (own line (instr.Const counts.step by ∷ []))) }
+{
+    let counter = scene.own_slot(each.counter)?;
+    let limit = scene.own_slot(each.limit)?;
+    let step = work.slot(SlotKind::Number)?;
+    work.put(
+        line,
+        Instr::Const {
+            to: step,
+            value: by,
+        },
+    )?;
+    Ok(Counts {
+        counter,
+        limit,
+        step,
+    })
+}
+
+/// Both bounds of FOR; the jump where there is no turn, which is to be aimed, and the address of the first turn.
+pub fn begin_for(
+    work: &mut Work,
+    line: u32,
+    by: i64,
+    bounds: Bounds,
+) -> Result<(u32, u32), NoMemory>
+    ensures holes { IfOk result (λ r. Holes (front work.old) (front work.new)
+        (λ to xs. aimed xs r.0 to)
+        (λ empty at lo ls. own line (pieces.bounds_code by bounds.counter bounds.limit bounds.first
+        bounds.last empty)) (λ ls. []) (λ ls. ls)) }
+    ensures top { IfOk result (λ r. r.1 ≡ length (front work.new).code) }
+{
+    let jump = put_bounds(work, line, by, bounds)?;
+    let top = work.here()?;
+    Ok((jump, top))
+}
+
+/// Behind a turn of FOR: the step, behind which the jump over all turns is aimed.
+pub fn end_for(
+    work: &mut Work,
+    done: Result<(), NoMemory>,
+    line: u32,
+    bounds: Bounds,
+    step: u32,
+    jump: u32,
+    top: u32,
+) -> Result<(), NoMemory>
+    ensures done { OnOk result (IsOk done) }
+    ensures ends { OnOk result (EndsFor line bounds.counter bounds.limit step jump top
+        (front work.old) (front work.new)) }
+{
+    done?;
+    let out = work.behind(2)?;
+    put_step(work, line, bounds, step, out, top)?;
+    work.aim_behind(jump, 0)
+}
+
+/// What is to be aimed of SOME: the jump where there is no turn and the choice of a turn; and the address of the first turn.
+#[derive(Clone, Copy)]
+pub struct Aims {
+    pub jump: u32,
+    pub choice: u32,
+    pub top: u32,
+}
+
+/// Both bounds of SOME, and the front of a turn.
+pub fn begin_some(work: &mut Work, line: u32, bounds: Bounds) -> Result<Aims, NoMemory>
+    ensures { IfOk result (λ aims. BeginsSome line bounds.counter bounds.limit bounds.first
+        bounds.last (front work.old) (front work.new) aims.jump aims.choice aims.top) }
+{
+    let more = work.slot(SlotKind::Number)?;
+    let jump = put_bounds(work, line, 1, bounds)?;
+    let top = work.here()?;
+    let turn = work.behind(3)?;
+    put_more(work, line, more, bounds, turn)?;
+    let choice = work.put(line, Instr::Choose { resume: 0 })?;
+    Ok(Aims { jump, choice, top })
+}
+
+/// Behind a turn of SOME: the next turn, and the failure where there is none.
+pub fn end_some(
+    work: &mut Work,
+    done: Result<(), NoMemory>,
+    line: u32,
+    counter: u32,
+    step: u32,
+    aims: Aims,
+) -> Result<(), NoMemory>
+    ensures done { OnOk result (IsOk done) }
+    ensures ends { OnOk result (EndsSome line counter step aims.jump aims.choice aims.top
+        (front work.old) (front work.new)) }
+{
+    done?;
+    let over = work.behind(4)?;
+    work.aim_behind(aims.choice, 1)?;
+    put_next(work, line, over, counter, step, aims.top)?;
+    work.aim_behind(aims.jump, 0)?;
+    work.add(line, Instr::Fail)
 }

@@ -16,4 +16,4 @@ pub use value::{
     op_instr, put_cmp, put_fit, put_function, put_neg, put_result_fit, put_truth, read_instr,
     write_instr,
 };
-pub use work::Work;
+pub use work::{Work, slot_of};

@@ -1,5 +1,5 @@
 // A code in the making, with the lines that are still to be handed out.
-ghost use Rattle.std.specs.Prelude.{◌≡◌, ◌+◌, ◌≤◌, ◌∷◌, [], ℕ, List, length, get_or, drop, IfOk, OnOk};
+ghost use Rattle.std.specs.Prelude.{◌≡◌, ◌+◌, ◌≤◌, ◌∷◌, [], ℕ, List, length, get_or, drop, IfOk, IsOk, OnOk};
 ghost use Rattle.alma_code.specs.declared.cell.SlotKind.TheVariants as slot;
 ghost use Rattle.alma_base.specs.Limits.{instr_limit};
 ghost use Rattle.alma_choice.specs.Emitted.{aimed};
@@ -26,6 +26,43 @@ impl Work {
         ensures codes { OnOk result (Codes (front self.old) (front self.new) (own line (instr ∷ []))) }
     {
         self.emit.put(line, instr)
+    }
+
+    /// One more instruction.
+    pub fn add(&mut self, line: u32, instr: Instr) -> Result<(), NoMemory>
+        ensures { OnOk result (Codes (front self.old) (front self.new) (own line (instr ∷ []))) }
+    {
+        self.put(line, instr)?;
+        Ok(())
+    }
+
+    /// One more instruction behind what was done before, and its address.
+    pub fn then_put(
+        &mut self,
+        done: Result<(), NoMemory>,
+        line: u32,
+        instr: Instr,
+    ) -> Result<u32, NoMemory>
+        ensures done { OnOk result (IsOk done) }
+        ensures address { IfOk result (λ at. at ≡ length (front self.old).code) }
+        ensures codes { OnOk result (Codes (front self.old) (front self.new) (own line (instr ∷ []))) }
+    {
+        done?;
+        self.put(line, instr)
+    }
+
+    /// One more instruction behind what was done before.
+    pub fn then_add(
+        &mut self,
+        done: Result<(), NoMemory>,
+        line: u32,
+        instr: Instr,
+    ) -> Result<(), NoMemory>
+        ensures done { OnOk result (IsOk done) }
+        ensures codes { OnOk result (Codes (front self.old) (front self.new) (own line (instr ∷ []))) }
+    {
+        done?;
+        self.add(line, instr)
     }
 
     /// One more slot, and its number.
@@ -79,6 +116,7 @@ impl Work {
         self.handed += 1;
         line
     }
+
     /// How many lines are handed out.
     #[tactic(auto, unfolding(crate::specs::Front::front))]
     pub fn position(&self) -> usize
@@ -116,6 +154,21 @@ impl Work {
         Ok(())
     }
 
+    /// Aims the jump at an address so far behind what was done before.
+    pub fn then_aim(
+        &mut self,
+        done: Result<(), NoMemory>,
+        at: u32,
+        skip: u32,
+    ) -> Result<(), NoMemory>
+        ensures done { OnOk result (IsOk done) }
+        ensures aims { OnOk result (Changes (front self.old) (front self.new)
+            (λ xs. aimed xs at (length (front self.old).code + skip))) }
+    {
+        done?;
+        self.aim_behind(at, skip)
+    }
+
     /// Passes so many lines.
     #[tactic(auto, unfolding(crate::specs::Front::front))]
     pub fn pass(&mut self, count: usize) -> Result<(), NoMemory>
@@ -125,4 +178,13 @@ impl Work {
         self.handed = self.handed.checked_add(count).ok_or(NoMemory)?;
         Ok(())
     }
+}
+
+/// A slot, where all is done of which it has the number.
+pub fn slot_of(done: Result<(), NoMemory>, slot: u32) -> Result<u32, NoMemory>
+    ensures slot { IfOk result (λ given. given ≡ slot) }
+    ensures done { OnOk result (IsOk done) }
+{
+    done?;
+    Ok(slot)
 }

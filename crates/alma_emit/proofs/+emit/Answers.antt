@@ -13,10 +13,8 @@ use Rattle.alma_code.specs.declared.instr.Instr.TheVariants as I
 use Rattle.std.specs.Prelude.{IfOk}
 use Rattle.alma_choice.specs.Emitted.{aimed}
 use Rattle.alma_templates.specs.Slots.{is_simple}
-use Rattle.alma_emit_work.specs.Puts.{first_of_call, PutsElse, PutsGuard}
+use Rattle.alma_emit_work.specs.Puts.{PutsGuard}
 use Rattle.alma_emit_parts.proofs.Beginning.{both_ok}
-use Rattle.alma_emit_work.proofs.Joins.{code_code}
-use Rattle.alma_emit_parts.proofs.Calling.{first_is}
 use Rattle.alma_emit_forms.proofs.ExprForms.{load_put, no_links_put, links_put, chain_put, compare_put, known_put, chr_put}
 use Rattle.alma_emit_work.proofs.DesigForms.{no_sels_put, sels_put, index_put, index_part, desig_put, desig_place}
 use Rattle.alma_emit_forms.proofs.CallForms.{no_args_put, args_put, value_arg_put, mix_value_put, cells_arg_put, place_arg_put, mix_place_put, handed_put, call_test_put, call_value_put}
@@ -25,7 +23,7 @@ use Rattle.alma_emit_forms.proofs.IfForms.{while_put, repeat_put, truth_put}
 use Rattle.alma_emit_forms.proofs.TestForms.{value_test_put, bind_left_put, bind_right_put, unify_put, same_put, seq_put, no_and_put, more_and_put, and_put, not_put, first_put, last_put}
 use Rattle.alma_emit_forms.proofs.StmtForms.{no_stmts_put, stmts_put, test_put, assign_put, copy_put, commit_put, return_put, return_value_put, read_put, write_put, chosen_put, last_branch_put, forall_put}
 use Rattle.alma_emit_parts.proofs.CaseForms.{no_else_put, else_put, no_cases_put, no_bodies_put, no_dead_put}
-use Rattle.alma_emit_forms.proofs.Said.{on_ok, if_ok, stmt_as, test_as, expr_as, arg_as, sel_as, else_as, stmt_is, test_is, expr_is, args_is, links_is, sels_is, desig_is, stmts_is, arms_is, branches_is, operands_is, tests_is, cases_is, bodies_is, all_is, arm_is, args_at, own_target, own_stands, made_target, made_stands, own_value, own_at, made_value, made_at, no_parts, part_step, codes_is, some_elements, no_elements, drop_one, drop_last, slice_rest}
+use Rattle.alma_emit_forms.proofs.Said.{on_ok, if_ok, then_ok, from_both, from_said, ok_from, said, through, with_value, guard_is, stmt_as, test_as, expr_as, arg_as, sel_as, else_as, stmt_is, test_is, expr_is, args_is, links_is, sels_is, desig_is, stmts_is, arms_is, branches_is, operands_is, tests_is, cases_is, bodies_is, all_is, arm_is, args_at, own_target, own_stands, made_target, made_stands, own_value, own_at, made_value, made_at, no_parts, part_step, codes_is, some_elements, no_elements, drop_one, drop_last, slice_rest}
 use Rattle.alma_emit_forms.proofs.Arms.{all_none, all_first, next_arm, skipped_arm, arm_of, passed_body, dead_body, dead_joined, case_put, turns_is}
 use Rattle.alma_emit_forms.proofs.Rows.{more_operands, more_chosen, chosen_is, guarded_is, either_none, either_one, either_of, or_none, or_one, or_of, if_none, if_of}
 use Rattle.alma_emit_forms.proofs.Turns.{for_joined, some_joined, count_lined, count_at_lined}
@@ -34,10 +32,12 @@ use Rattle.alma_emit.proofs.+emit.Goals as goal
 use Rattle.alma_templates.specs.Templates as T
 
 pub call::emit_call-returns-clause-first : goal.call::emit_call-returns-clause-first
-call::emit_call-returns-clause-first t c = c.first_handed.ensures ∙ ap (λ o. first_of_call o (args_list c.args.args.now) c.in_ok-to.to) c.in_ok-link.ensures.link ∙ first_is (around c.args.scene.now) c.args.called c.args.up _ _ _ (c.in_ok-to.ensures.first ∙ c.in_ok-link.ensures.puts.next_slot)
+call::emit_call-returns-clause-first t c = if_ok c.slot_of.result (λ given is. is ∙ c.in_ok-handed.ensures.first) c.slot_of.ensures.slot
 
 pub call::emit_call-returns-clause-puts : goal.call::emit_call-returns-clause-puts
-call::emit_call-returns-clause-puts t c = handed_put (around c.args.scene.now) c.args.line _ _ _ _ _ _ _ _ c.in_ok-link.ensures.puts c.in_ok-to.ensures.puts c.in_ok-to.ensures.first c.in_ok-emit_args.ensures.puts
+call::emit_call-returns-clause-puts t c =
+    let begins = c.in_ok-handed.ensures.begins in
+    on_ok c.slot_of.result (λ ok. handed_put (around c.args.scene.now) c.args.line _ _ _ _ _ _ _ _ begins.link begins.slots begins.to_slot (said c.emit_args.result ok c.emit_args.ensures.puts)) c.slot_of.ensures.done
 
 pub call::emit_args-loop-arg-init : goal.call::emit_args-loop-arg-init
 call::emit_args-loop-arg-init t c = λ e h. h
@@ -47,7 +47,7 @@ call::emit_args-loop-arg-preserved t c =
     let l = c.loop-arg in
     let xs = drop (l.arg-index + 1) c.args.args.now in
     let one : args_list (drop l.arg-index c.args.args.now) ≡ tree.more_args (arg_of c.arg-item.result) (args_list xs) = ap args_list (drop_one c.args.args.now l.arg-index c.arg-item.result c.loop-arg-test.true c.arg-item.is) in
-    λ e h. l.invariant e (args_is (around c.args.scene.now) c.args.line l.slot _ _ _ _ (sym one) (args_put (around c.args.scene.now) c.args.line _ _ _ l.slot _ _ c.in_ok-emit_arg.ensures.puts (args_at (around c.args.scene.now) c.args.line _ _ _ _ _ c.in_ok-slot.ensures h)))
+    λ e h. l.invariant e (args_is (around c.args.scene.now) c.args.line l.slot _ _ _ _ (sym one) (args_put (around c.args.scene.now) c.args.line _ _ _ l.slot _ _ (said c.emit_arg.result c.in_ok-slot.ensures.done c.emit_arg.ensures.puts) (args_at (around c.args.scene.now) c.args.line _ _ _ _ _ c.in_ok-slot.ensures.next h)))
 
 pub call::emit_args-returns : goal.call::emit_args-returns
 call::emit_args-returns t c = record { puts = c.loop-arg.invariant _ (args_is (around c.args.scene.now) c.args.line c.loop-arg.slot _ _ _ _ (ap args_list (sym (drop_of_length-le c.args.args.now (omega (arith, c.loop-arg-test.false))))) (no_args_put (around c.args.scene.now) c.args.line _ _)) }
@@ -68,28 +68,34 @@ pub call::emit_arg-returns-in-MixPlace : goal.call::emit_arg-returns-in-MixPlace
 call::emit_arg-returns-in-MixPlace t c = record { puts = arg_as c.emit_place-in-MixPlace.result (around c.args.scene.now) c.args.line c.args.to _ _ _ _ (ap arg_of c.in-MixPlace.is ∙ Views.mixplace_view _) c.emit_place-in-MixPlace.ensures.mix }
 
 pub call::emit_number-returns-clause-puts : goal.call::emit_number-returns-clause-puts
-call::emit_number-returns-clause-puts t c = value_arg_put (around c.args.scene.now) c.args.line _ _ _ _ _ _ _ _ c.in_ok-from.ensures.puts c.in_ok-from.ensures.value c.in_ok-put_fit.ensures c.in_ok-put.ensures.codes
+call::emit_number-returns-clause-puts t c = then_ok c.put_number.result c.put_number.ensures (λ two. value_arg_put (around c.args.scene.now) c.args.line _ _ _ _ _ _ _ _ c.in_ok-from.ensures.puts c.in_ok-from.ensures.value two.first two.second)
 
 pub call::emit_number-returns-clause-mix : goal.call::emit_number-returns-clause-mix
-call::emit_number-returns-clause-mix t c = mix_value_put (around c.args.scene.now) c.args.line _ _ _ _ _ _ _ _ c.in_ok-from.ensures.puts c.in_ok-from.ensures.value c.in_ok-put_fit.ensures c.in_ok-put.ensures.codes
+call::emit_number-returns-clause-mix t c = then_ok c.put_number.result c.put_number.ensures (λ two. mix_value_put (around c.args.scene.now) c.args.line _ _ _ _ _ _ _ _ c.in_ok-from.ensures.puts c.in_ok-from.ensures.value two.first two.second)
 
 pub call::emit_place-returns-clause-cells : goal.call::emit_place-returns-clause-cells
-call::emit_place-returns-clause-cells t c = cells_arg_put (around c.args.scene.now) c.args.line _ _ _ _ _ _ c.in_ok-from.ensures.puts c.in_ok-from.ensures.place c.in_ok-put.ensures.codes
+call::emit_place-returns-clause-cells t c = on_ok c.add.result (cells_arg_put (around c.args.scene.now) c.args.line _ _ _ _ _ _ c.in_ok-from.ensures.puts c.in_ok-from.ensures.place) c.add.ensures
 
 pub call::emit_place-returns-clause-puts : goal.call::emit_place-returns-clause-puts
-call::emit_place-returns-clause-puts t c = place_arg_put (around c.args.scene.now) c.args.line _ _ _ _ _ _ c.in_ok-from.ensures.puts c.in_ok-from.ensures.place c.in_ok-put.ensures.codes
+call::emit_place-returns-clause-puts t c = on_ok c.add.result (place_arg_put (around c.args.scene.now) c.args.line _ _ _ _ _ _ c.in_ok-from.ensures.puts c.in_ok-from.ensures.place) c.add.ensures
 
 pub call::emit_place-returns-clause-mix : goal.call::emit_place-returns-clause-mix
-call::emit_place-returns-clause-mix t c = mix_place_put (around c.args.scene.now) c.args.line _ _ _ _ _ _ c.in_ok-from.ensures.puts c.in_ok-from.ensures.place c.in_ok-put.ensures.codes
+call::emit_place-returns-clause-mix t c = on_ok c.add.result (mix_place_put (around c.args.scene.now) c.args.line _ _ _ _ _ _ c.in_ok-from.ensures.puts c.in_ok-from.ensures.place) c.add.ensures
 
 pub call::emit_call_test-returns : goal.call::emit_call_test-returns
-call::emit_call_test-returns t c = record { puts = test_is (around c.args.scene.now) c.args.line _ _ _ _ (ap (λ x. tree.CallTest c.args.call.now.routine (args_list x) c.args.call.now.up) c.deref.ensures.value) (call_test_put (around c.args.scene.now) c.args.line _ _ _ _ _ _ _ c.in_ok-first.ensures.puts c.in_ok-first.ensures.first c.in_ok-put.ensures.codes) }
+call::emit_call_test-returns t c = record { puts = on_ok c.add.result (λ h. test_is (around c.args.scene.now) c.args.line _ _ _ _ (ap (λ x. tree.CallTest c.args.call.now.routine (args_list x) c.args.call.now.up) c.deref.ensures.value) (call_test_put (around c.args.scene.now) c.args.line _ _ _ _ _ _ _ c.in_ok-first.ensures.puts c.in_ok-first.ensures.first h)) c.add.ensures }
 
-pub call::emit_call_value-returns-clause-puts : goal.call::emit_call_value-returns-clause-puts
-call::emit_call_value-returns-clause-puts t c = expr_is (around c.args.scene.now) c.args.line _ _ _ _ (ap (λ x. tree.CallExpr c.args.call.now.routine (args_list x) c.args.call.now.up) c.deref.ensures.value) (call_value_put (around c.args.scene.now) c.args.line _ _ _ _ _ _ _ _ _ _ _ c.in_ok-to.ensures.takes c.in_ok-to.ensures.slot c.in_ok-mark.ensures.takes c.in_ok-mark.ensures.slot c.in_ok-first.ensures.puts c.in_ok-first.ensures.first c.in_ok-put_function.ensures)
+pub call::emit_call_value-returns : goal.call::emit_call_value-returns
+call::emit_call_value-returns t c =
+    let takes = c.in_ok-to.ensures in
+    record {
+      slot = if_ok c.slot_of.result (λ given is. is ∙ takes.to_slot) c.slot_of.ensures.slot;
+      puts = on_ok c.slot_of.result (λ ok. expr_is (around c.args.scene.now) c.args.line _ _ _ _ (ap (λ x. tree.CallExpr c.args.call.now.routine (args_list x) c.args.call.now.up) c.deref.ensures.value) (call_value_put (around c.args.scene.now) c.args.line _ _ _ _ _ _ _ _ _ _ _ takes.takes_to takes.to_slot takes.takes_mark takes.mark_slot
+          c.in_ok-first.ensures.puts c.in_ok-first.ensures.first (said c.put_function.result ok c.put_function.ensures))) c.slot_of.ensures.done;
+    }
 
 pub case::emit_case-returns : goal.case::emit_case-returns
-case::emit_case-returns t c = record { puts = on_ok c.emit_all_arms.result (case_put (around c.args.scene.now) c.args.line _ _ _ _ _ _ _ _ _ _ c.in_ok-value.ensures.puts (c.in_ok-labels.ensures.value ∙ c.in_ok-value.ensures.slot) c.in_ok-emit_dead_arms.ensures.puts c.in_ok-labels.ensures.puts c.in_ok-labels.ensures.bound) (c.emit_all_arms.ensures.puts c.in_ok-labels.ensures.test) }
+case::emit_case-returns t c = record { puts = on_ok c.emit_all_arms.result (case_put (around c.args.scene.now) c.args.line _ _ _ _ _ _ _ _ _ _ c.in_ok-value.ensures.puts (c.in_ok-labels.ensures.value ∙ c.in_ok-value.ensures.slot) (said c.emit_dead_arms-done.result c.in_ok-labels.ensures.done c.emit_dead_arms-done.ensures.puts) c.in_ok-labels.ensures.puts c.in_ok-labels.ensures.bound) (c.emit_all_arms.ensures.puts c.in_ok-labels.ensures.test) }
 
 pub case::emit_dead_arms-returns-then-not-has_dead : goal.case::emit_dead_arms-returns-then-not-has_dead
 case::emit_dead_arms-returns-then-not-has_dead t c = record { puts = no_dead_put (around c.args.scene.now) c.args.line _ _ (sym c.if-not-has_dead.ensures) }
@@ -97,8 +103,8 @@ case::emit_dead_arms-returns-then-not-has_dead t c = record { puts = no_dead_put
 pub case::emit_dead_arms-returns : goal.case::emit_dead_arms-returns
 case::emit_dead_arms-returns t c =
     record {
-      puts = on_ok c.aim_behind.result (λ h. dead_joined (around c.args.scene.now) c.args.line _ _ _ _ _ _ _ _ (sym c.if-not-has_dead.ensures) c.position-before.ensures c.in_ok-over.ensures.address c.in_ok-over.ensures.codes c.in_ok-emit_dead_bodies.ensures.puts
-          c.go_to.ensures.code c.go_to.ensures.kinds c.go_to.ensures.next c.go_to.ensures.lines c.go_to.ensures.whole h) c.aim_behind.ensures;
+      puts = from_both c.end_dead.result c.end_dead.ensures.done c.end_dead.ensures.ends (λ ok e. dead_joined (around c.args.scene.now) c.args.line _ _ _ _ _ _ _ _ (sym c.if-not-has_dead.ensures) c.position-before.ensures c.in_ok-over.ensures.address c.in_ok-over.ensures.codes
+          (said c.emit_dead_bodies-done.result ok c.emit_dead_bodies-done.ensures.puts) e.code e.kinds e.next e.lines e.whole e.aims);
     }
 
 pub case::emit_dead_bodies-loop-arm-init : goal.case::emit_dead_bodies-loop-arm-init
@@ -132,101 +138,134 @@ pub case::emit_cases-returns : goal.case::emit_cases-returns
 case::emit_cases-returns t c = record { puts = λ test. c.loop-arm.invariant test _ (cases_is (around c.args.scene.now) c.args.line _ _ _ _ _ _ _ (ap cases_list (sym (drop_of_length-le c.args.arms.now (omega (arith, c.loop-arm-test.false))))) (no_cases_put (around c.args.scene.now) c.args.line _ _ _ _)) }
 
 pub case::emit_next_arm-returns : goal.case::emit_next_arm-returns
-case::emit_next_arm-returns t c = record { puts = λ test e rest h. next_arm (around c.args.scene.now) c.args.line _ _ _ _ _ _ _ _ _ _ (c.in_ok-emit_case_arm.ensures.puts test) c.in_ok-put.ensures.codes h }
+case::emit_next_arm-returns t c = record { puts = λ test. from_both c.then_add.result c.then_add.ensures.done c.then_add.ensures.codes (λ ok j e rest h. next_arm (around c.args.scene.now) c.args.line _ _ _ _ _ _ _ _ _ _ (said c.emit_case_arm-done.result ok (c.emit_case_arm-done.ensures.puts test)) j h) }
 
 pub case::emit_case_arm-returns : goal.case::emit_case_arm-returns
 case::emit_case_arm-returns t c =
-    record { puts = λ test. arm_is (around c.args.scene.now) c.args.line _ _ _ _ _ _ _ _ c.deref.ensures.value (ap stmts_list c.deref-2.ensures.value) (arm_of (around c.args.scene.now) c.args.line _ _ _ _ _ _ _ _ _ _ _ _ c.in_ok-miss.ensures.some (c.in_ok-miss.ensures.holes test) c.in_ok-emit_stmts.ensures.puts c.in_ok-behind.ensures c.aim.ensures c.aim-2.ensures) }
+    record {
+      puts = λ test. from_both c.end_arm.result c.end_arm.ensures.done c.end_arm.ensures.ends (λ ok e. arm_is (around c.args.scene.now) c.args.line _ _ _ _ _ _ _ _ c.deref.ensures.value (ap stmts_list c.deref-2.ensures.value) (arm_of (around c.args.scene.now) c.args.line _ _ _ _ _ _ _ _ _ _ _ _ c.in_ok-miss.ensures.some (c.in_ok-miss.ensures.holes test)
+          (said c.emit_stmts-done.result ok c.emit_stmts-done.ensures.puts) e.target_at e.aims_low e.aims_high));
+    }
 
 pub case::emit_else-returns-in-Some : goal.case::emit_else-returns-in-Some
 case::emit_else-returns-in-Some t c =
     let view : else_option c.args.rest.now ≡ tree.else_part (stmts_list c.deref.result.now) = ap else_option c.in-Some.is ∙ ap (λ x. tree.else_part (stmts_list x)) (sym c.deref.ensures.value) in
     record { puts = else_as c.emit_stmts.result (around c.args.scene.now) c.args.line _ _ _ _ view (on_ok c.emit_stmts.result (else_put (around c.args.scene.now) c.args.line _ _ _) c.emit_stmts.ensures.puts) }
 
-pub case::emit_else-returns-in_ok-put-in-None : goal.case::emit_else-returns-in_ok-put-in-None
-case::emit_else-returns-in_ok-put-in-None t c = record { puts = subst (λ x. PutsElse (around c.args.scene.now) c.args.line (front c.args.work.now) (front c.put.new.self) x) (sym (ap else_option c.in-None.is)) (no_else_put (around c.args.scene.now) c.args.line _ _ c.in_ok-put-in-None.ensures.codes) }
+pub case::emit_else-returns-in-None : goal.case::emit_else-returns-in-None
+case::emit_else-returns-in-None t c = record { puts = else_as c.add.result (around c.args.scene.now) c.args.line _ _ _ _ (ap else_option c.in-None.is) (on_ok c.add.result (no_else_put (around c.args.scene.now) c.args.line _ _) c.add.ensures) }
 
 pub choice::emit_chosen-returns : goal.choice::emit_chosen-returns
-choice::emit_chosen-returns t c = record { puts = on_ok c.aim_behind.result (λ h. chosen_put (around c.args.scene.now) c.args.line _ _ _ _ _ _ _ c.in_ok-choice.ensures.address c.in_ok-choice.ensures.codes c.in_ok-emit_stmts.ensures.puts h refl) c.aim_behind.ensures }
+choice::emit_chosen-returns t c = record { puts = from_both c.then_aim.result c.then_aim.ensures.done c.then_aim.ensures.aims (λ ok h. chosen_put (around c.args.scene.now) c.args.line _ _ _ _ _ _ _ c.in_ok-choice.ensures.address c.in_ok-choice.ensures.codes (said c.emit_stmts-done.result ok c.emit_stmts-done.ensures.puts) h refl) }
 
 pub choice::emit_forall-returns : goal.choice::emit_forall-returns
-choice::emit_forall-returns t c = record { puts = on_ok c.end_forall.result (forall_put (around c.args.scene.now) c.args.line _ _ _ _ _ _ _ _ _ _ _ _ _ c.in_ok-mark.ensures.holes c.in_ok-mark.ensures.mark c.in_ok-emit_stmts.ensures.puts c.in_ok-inner.ensures.holes c.in_ok-inner.ensures.mark c.in_ok-emit_stmts-2.ensures.puts c.in_ok-end_each.ensures) c.end_forall.ensures }
+choice::emit_forall-returns t c =
+    record {
+      puts = from_both c.end_both.result c.end_both.ensures.done c.end_both.ensures.ends (λ ok e. forall_put (around c.args.scene.now) c.args.line _ _ _ _ _ _ _ _ _ _ _ _ _ c.in_ok-mark.ensures.holes c.in_ok-mark.ensures.mark (said c.emit_stmts-done.result c.in_ok-each.ensures.done c.emit_stmts-done.ensures.puts)
+          c.in_ok-each.ensures.holes c.in_ok-each.ensures.mark (said c.emit_stmts-last.result ok c.emit_stmts-last.ensures.puts) e.each e.whole);
+    }
 
 pub choice::emit_commit-returns : goal.choice::emit_commit-returns
-choice::emit_commit-returns t c = record { puts = commit_put (around c.args.scene.now) c.args.line _ _ _ _ _ _ _ c.in_ok-mark.ensures.takes c.in_ok-mark.ensures.slot c.in_ok-put.ensures.codes c.in_ok-emit_stmts.ensures.puts c.in_ok-put-2.ensures.codes }
+choice::emit_commit-returns t c = record { puts = from_both c.then_add.result c.then_add.ensures.done c.then_add.ensures.codes (λ ok h. commit_put (around c.args.scene.now) c.args.line _ _ _ _ _ _ _ c.in_ok-mark.ensures.puts.takes c.in_ok-mark.ensures.slot c.in_ok-mark.ensures.puts.codes (said c.emit_stmts-done.result ok c.emit_stmts-done.ensures.puts) h) }
 
 pub designator::emit_desig-returns-clause-place : goal.designator::emit_desig-returns-clause-place
 designator::emit_desig-returns-clause-place t c =
     let sels = ap sels_list c.deref.ensures.value in
-    if_ok c.emit_sels.result (λ place h. desig_place (around c.args.scene.now) c.args.line _ _ _ _ place c.args.desig.now.root c.args.desig.now.cells (sels_list c.deref.result.now) c.in_ok-to.ensures.takes c.in_ok-to.ensures.slot (c.in_ok-put_root.ensures (c.in_ok-to.ensures.takes.next_slot ∙ ap (λ n. n + 1) (sym c.in_ok-to.ensures.slot))) h
+    let begins = c.in_ok-to.ensures in
+    if_ok c.emit_sels.result (λ place h. desig_place (around c.args.scene.now) c.args.line _ _ _ _ place c.args.desig.now.root c.args.desig.now.cells (sels_list c.deref.result.now) begins.takes begins.to_slot begins.root h
     ∙ ap (λ x. T.place_at (around c.args.scene.now).program (around c.args.scene.now).tables (around c.args.scene.now).routine (front c.args.work.now).next (desig_with (tree.a_desig c.args.desig.now.root c.args.desig.now.cells x) (front c.args.work.now).lines)) sels) c.emit_sels.ensures.place
 
 pub designator::emit_desig-returns-clause-puts : goal.designator::emit_desig-returns-clause-puts
 designator::emit_desig-returns-clause-puts t c =
-    on_ok c.emit_sels.result (λ h. desig_is (around c.args.scene.now) c.args.line _ _ _ _ (ap (tree.a_desig c.args.desig.now.root c.args.desig.now.cells) (ap sels_list c.deref.ensures.value)) (desig_put (around c.args.scene.now) c.args.line _ _ _ _ _ _ _ _ c.in_ok-to.ensures.takes c.in_ok-to.ensures.slot (c.in_ok-put_root.ensures (c.in_ok-to.ensures.takes.next_slot ∙ ap (λ n. n + 1) (sym c.in_ok-to.ensures.slot))) h)) c.emit_sels.ensures.puts
+    let begins = c.in_ok-to.ensures in
+    on_ok c.emit_sels.result (λ h. desig_is (around c.args.scene.now) c.args.line _ _ _ _ (ap (tree.a_desig c.args.desig.now.root c.args.desig.now.cells) (ap sels_list c.deref.ensures.value)) (desig_put (around c.args.scene.now) c.args.line _ _ _ _ _ _ _ _ begins.takes begins.to_slot begins.root h)) c.emit_sels.ensures.puts
 
-pub expression::emit_load-returns-clause-puts : goal.expression::emit_load-returns-clause-puts
-expression::emit_load-returns-clause-puts t c = load_put (around c.args.scene.now) c.args.line _ _ _ _ _ _ _ c.in_ok-to.ensures.takes c.in_ok-to.ensures.slot c.in_ok-stand.ensures.puts c.in_ok-stand.ensures.stand (codes_is _ _ c.args.line _ _ c.load.ensures c.in_ok-put.ensures.codes)
+pub expression::emit_load-returns : goal.expression::emit_load-returns
+expression::emit_load-returns t c =
+    record {
+      slot = if_ok c.slot_of.result (λ given is. is ∙ c.in_ok-to.ensures.slot) c.slot_of.ensures.slot;
+      puts = on_ok c.slot_of.result (λ ok. load_put (around c.args.scene.now) c.args.line _ _ _ _ _ _ _ c.in_ok-to.ensures.takes c.in_ok-to.ensures.slot c.in_ok-stand.ensures.puts c.in_ok-stand.ensures.stand (codes_is _ _ c.args.line _ _ c.load.ensures (said c.add.result ok c.add.ensures))) c.slot_of.ensures.done;
+    }
 
-pub expression::emit_chain-returns-clause-puts : goal.expression::emit_chain-returns-clause-puts
-expression::emit_chain-returns-clause-puts t c = chain_put (around c.args.scene.now) c.args.line _ _ _ _ _ _ _ _ c.in_ok-to.ensures.puts c.in_ok-to.ensures.slot c.in_ok-put_neg.ensures c.in_ok-emit_links.ensures.puts
+pub expression::emit_chain-returns : goal.expression::emit_chain-returns
+expression::emit_chain-returns t c =
+    record {
+      slot = if_ok c.slot_of.result (λ given is. is ∙ c.in_ok-to.ensures.slot) c.slot_of.ensures.slot;
+      puts = on_ok c.slot_of.result (λ ok. chain_put (around c.args.scene.now) c.args.line _ _ _ _ _ _ _ _ c.in_ok-to.ensures.puts c.in_ok-to.ensures.slot c.in_ok-put_neg.ensures (said c.emit_links.result ok c.emit_links.ensures.puts)) c.slot_of.ensures.done;
+    }
 
-pub expression::emit_compare-returns-clause-puts : goal.expression::emit_compare-returns-clause-puts
-expression::emit_compare-returns-clause-puts t c = compare_put (around c.args.scene.now) c.args.line _ _ _ _ _ _ _ _ _ c.in_ok-to.ensures.puts c.in_ok-to.ensures.slot c.in_ok-other.ensures.puts c.in_ok-other.ensures.value c.in_ok-put_cmp.ensures
+pub expression::emit_compare-returns : goal.expression::emit_compare-returns
+expression::emit_compare-returns t c =
+    record {
+      slot = if_ok c.slot_of.result (λ given is. is ∙ c.in_ok-to.ensures.slot) c.slot_of.ensures.slot;
+      puts = on_ok c.slot_of.result (λ ok. compare_put (around c.args.scene.now) c.args.line _ _ _ _ _ _ _ _ _ c.in_ok-to.ensures.puts c.in_ok-to.ensures.slot c.in_ok-other.ensures.puts c.in_ok-other.ensures.value (said c.put_cmp.result ok c.put_cmp.ensures)) c.slot_of.ensures.done;
+    }
 
-pub expression::emit_truth-returns-clause-puts : goal.expression::emit_truth-returns-clause-puts
-expression::emit_truth-returns-clause-puts t c = truth_put (around c.args.scene.now) c.args.line _ _ _ _ _ _ _ _ _ _ c.in_ok-to.ensures.takes c.in_ok-to.ensures.slot c.in_ok-jump.ensures.guard c.in_ok-aim_behind.ensures refl refl c.in_ok-put_truth.ensures
+pub expression::emit_truth-returns : goal.expression::emit_truth-returns
+expression::emit_truth-returns t c =
+    record {
+      slot = if_ok c.end_truth.result (λ given is. is ∙ c.in_ok-to.ensures.slot) c.end_truth.ensures.slot;
+      puts = then_ok c.end_truth.result c.end_truth.ensures.ends (λ e. truth_put (around c.args.scene.now) c.args.line _ _ _ _ _ _ _ _ _ _ c.in_ok-to.ensures.takes c.in_ok-to.ensures.slot c.in_ok-jump.ensures.guard e.aims refl refl e.codes);
+    }
 
-pub expression::emit_known-returns-clause-puts : goal.expression::emit_known-returns-clause-puts
-expression::emit_known-returns-clause-puts t c = known_put (around c.args.scene.now) c.args.line _ _ _ _ _ _ _ c.in_ok-to.ensures.takes c.in_ok-to.ensures.slot c.in_ok-of.ensures.puts c.in_ok-of.ensures.place c.in_ok-put.ensures.codes
+pub expression::emit_known-returns : goal.expression::emit_known-returns
+expression::emit_known-returns t c =
+    record {
+      slot = if_ok c.slot_of.result (λ given is. is ∙ c.in_ok-to.ensures.slot) c.slot_of.ensures.slot;
+      puts = on_ok c.slot_of.result (λ ok. known_put (around c.args.scene.now) c.args.line _ _ _ _ _ _ _ c.in_ok-to.ensures.takes c.in_ok-to.ensures.slot c.in_ok-of.ensures.puts c.in_ok-of.ensures.place (said c.add.result ok c.add.ensures)) c.slot_of.ensures.done;
+    }
 
-pub expression::emit_chr-returns-clause-puts : goal.expression::emit_chr-returns-clause-puts
-expression::emit_chr-returns-clause-puts t c = chr_put (around c.args.scene.now) c.args.line _ _ _ _ _ _ c.in_ok-value.ensures.puts c.in_ok-value.ensures.slot c.in_ok-range.ensures c.in_ok-put.ensures.codes
+pub expression::emit_chr-returns : goal.expression::emit_chr-returns
+expression::emit_chr-returns t c =
+    record {
+      slot = if_ok c.put_chr.result (λ given is. is ∙ c.in_ok-value.ensures.slot) c.put_chr.ensures.slot;
+      puts = on_ok c.put_chr.result (chr_put (around c.args.scene.now) c.args.line _ _ _ _ _ _ c.in_ok-value.ensures.puts c.in_ok-value.ensures.slot refl) c.put_chr.ensures.codes;
+    }
 
 pub guarded::emit_guarded-returns : goal.guarded::emit_guarded-returns
-guarded::emit_guarded-returns t c = record { puts = on_ok c.aim_behind.result (λ h. guarded_put (around c.args.scene.now) c.args.line _ _ _ _ _ _ _ _ _ c.in_ok-jump.ensures.guard c.in_ok-emit_stmts.ensures.puts h refl) c.aim_behind.ensures }
+guarded::emit_guarded-returns t c = record { puts = from_both c.then_aim.result c.then_aim.ensures.done c.then_aim.ensures.aims (λ ok h. guarded_put (around c.args.scene.now) c.args.line _ _ _ _ _ _ _ _ _ c.in_ok-jump.ensures.guard (said c.emit_stmts-done.result ok c.emit_stmts-done.ensures.puts) h refl) }
 
 pub guarded::emit_while-returns : goal.guarded::emit_while-returns
-guarded::emit_while-returns t c = record { puts = while_put (around c.args.scene.now) c.args.line _ _ _ _ _ _ _ c.in_ok-top.ensures c.in_ok-put.ensures.codes c.in_ok-emit_guarded.ensures.puts c.in_ok-put-2.ensures.codes }
+guarded::emit_while-returns t c = record { puts = from_both c.then_add.result c.then_add.ensures.done c.then_add.ensures.codes (λ ok h. while_put (around c.args.scene.now) c.args.line _ _ _ _ _ _ _ c.in_ok-top.ensures.top_at c.in_ok-top.ensures.codes (said c.emit_guarded-done.result ok c.emit_guarded-done.ensures.puts) h) }
 
 pub guarded::emit_repeat-returns : goal.guarded::emit_repeat-returns
-guarded::emit_repeat-returns t c = record { puts = repeat_put (around c.args.scene.now) c.args.line _ _ _ _ _ _ _ _ c.in_ok-top.ensures.address c.in_ok-emit_stmts.ensures.puts c.in_ok-jump.ensures.guard c.aim.ensures }
+guarded::emit_repeat-returns t c = record { puts = with_value c.emit_guard-jump.result c.end_repeat.result c.emit_guard-jump.ensures.guard c.end_repeat.ensures.done c.end_repeat.ensures.aims (λ jump guard h. repeat_put (around c.args.scene.now) c.args.line _ _ _ _ _ _ _ _ c.in_ok-top.ensures.address c.in_ok-emit_stmts.ensures.puts guard h) }
 
 pub statement::emit_assign-returns : goal.statement::emit_assign-returns
-statement::emit_assign-returns t c = record { puts = assign_put (around c.args.scene.now) c.args.line _ _ _ _ _ _ _ _ _ _ c.in_ok-stand.ensures.puts c.in_ok-stand.ensures.stand c.in_ok-value.ensures.puts c.in_ok-value.ensures.value c.in_ok-put_fit.ensures (codes_is _ _ c.args.line _ _ c.set.ensures c.in_ok-put.ensures.codes) }
+statement::emit_assign-returns t c = record { puts = then_ok c.put_set.result c.put_set.ensures (λ two. assign_put (around c.args.scene.now) c.args.line _ _ _ _ _ _ _ _ _ _ c.in_ok-stand.ensures.puts c.in_ok-stand.ensures.stand c.in_ok-value.ensures.puts c.in_ok-value.ensures.value two.first two.second) }
 
 pub statement::emit_copy-returns : goal.statement::emit_copy-returns
-statement::emit_copy-returns t c = record { puts = copy_put (around c.args.scene.now) c.args.line _ _ _ _ _ _ _ _ c.in_ok-to.ensures.puts c.in_ok-to.ensures.place c.in_ok-from.ensures.puts c.in_ok-from.ensures.place c.in_ok-put.ensures.codes }
+statement::emit_copy-returns t c = record { puts = on_ok c.add.result (copy_put (around c.args.scene.now) c.args.line _ _ _ _ _ _ _ _ c.in_ok-to.ensures.puts c.in_ok-to.ensures.place c.in_ok-from.ensures.puts c.in_ok-from.ensures.place) c.add.ensures }
 
 pub statement::emit_return_value-returns : goal.statement::emit_return_value-returns
-statement::emit_return_value-returns t c = record { puts = return_value_put (around c.args.scene.now) c.args.line _ _ _ _ _ _ c.in_ok-value.ensures.puts c.in_ok-value.ensures.value c.in_ok-put_result_fit.ensures c.in_ok-put.ensures.codes }
+statement::emit_return_value-returns t c = record { puts = then_ok c.put_return.result c.put_return.ensures (λ two. return_value_put (around c.args.scene.now) c.args.line _ _ _ _ _ _ c.in_ok-value.ensures.puts c.in_ok-value.ensures.value two.first two.second) }
 
 pub statement::emit_read-returns : goal.statement::emit_read-returns
-statement::emit_read-returns t c = record { puts = read_put (around c.args.scene.now) c.args.line _ _ _ _ _ _ _ _ c.in_ok-place.ensures.puts c.in_ok-place.ensures.place c.in_ok-range.ensures (codes_is _ _ c.args.line _ _ c.read_instr.ensures c.in_ok-put.ensures.codes) }
+statement::emit_read-returns t c = record { puts = on_ok c.put_read.result (read_put (around c.args.scene.now) c.args.line _ _ _ _ _ _ _ _ c.in_ok-place.ensures.puts c.in_ok-place.ensures.place refl) c.put_read.ensures }
 
 pub statement::emit_write-returns : goal.statement::emit_write-returns
-statement::emit_write-returns t c = record { puts = write_put (around c.args.scene.now) c.args.line _ _ _ _ _ _ c.in_ok-value.ensures.puts c.in_ok-value.ensures.value (codes_is _ _ c.args.line _ _ c.write_instr.ensures c.in_ok-put.ensures.codes) }
+statement::emit_write-returns t c = record { puts = on_ok c.add.result (λ h. write_put (around c.args.scene.now) c.args.line _ _ _ _ _ _ c.in_ok-value.ensures.puts c.in_ok-value.ensures.value (codes_is _ _ c.args.line _ _ c.write_instr.ensures h)) c.add.ensures }
 
 pub test::emit_check-returns : goal.test::emit_check-returns
-test::emit_check-returns t c = record { puts = value_test_put (around c.args.scene.now) c.args.line _ _ _ _ _ c.in_ok-value.ensures.puts c.in_ok-value.ensures.value c.in_ok-put.ensures.codes }
+test::emit_check-returns t c = record { puts = on_ok c.add.result (value_test_put (around c.args.scene.now) c.args.line _ _ _ _ _ c.in_ok-value.ensures.puts c.in_ok-value.ensures.value) c.add.ensures }
 
 pub test::emit_bind_left-returns : goal.test::emit_bind_left-returns
-test::emit_bind_left-returns t c = record { puts = bind_left_put (around c.args.scene.now) c.args.line _ _ _ _ _ _ _ _ _ _ c.in_ok-place.ensures.puts c.in_ok-place.ensures.place c.in_ok-value.ensures.puts c.in_ok-value.ensures.value c.in_ok-range.ensures c.in_ok-put.ensures.codes }
+test::emit_bind_left-returns t c = record { puts = on_ok c.put_bind.result (bind_left_put (around c.args.scene.now) c.args.line _ _ _ _ _ _ _ _ _ _ c.in_ok-place.ensures.puts c.in_ok-place.ensures.place c.in_ok-value.ensures.puts c.in_ok-value.ensures.value refl) c.put_bind.ensures }
 
 pub test::emit_bind_right-returns : goal.test::emit_bind_right-returns
-test::emit_bind_right-returns t c = record { puts = bind_right_put (around c.args.scene.now) c.args.line _ _ _ _ _ _ _ _ _ _ c.in_ok-value.ensures.puts c.in_ok-value.ensures.slot c.in_ok-place.ensures.puts c.in_ok-place.ensures.place c.in_ok-range.ensures c.in_ok-put.ensures.codes }
+test::emit_bind_right-returns t c = record { puts = on_ok c.put_bind.result (bind_right_put (around c.args.scene.now) c.args.line _ _ _ _ _ _ _ _ _ _ c.in_ok-value.ensures.puts c.in_ok-value.ensures.slot c.in_ok-place.ensures.puts c.in_ok-place.ensures.place refl) c.put_bind.ensures }
 
 pub test::emit_unify-returns : goal.test::emit_unify-returns
-test::emit_unify-returns t c = record { puts = unify_put (around c.args.scene.now) c.args.line _ _ _ _ _ _ _ _ _ _ _ _ c.in_ok-left.ensures.puts c.in_ok-left.ensures.place c.in_ok-right.ensures.puts c.in_ok-right.ensures.place c.in_ok-left_range.ensures c.in_ok-right_range.ensures c.in_ok-put.ensures.codes }
+test::emit_unify-returns t c = record { puts = on_ok c.put_unify.result (unify_put (around c.args.scene.now) c.args.line _ _ _ _ _ _ _ _ _ _ _ _ c.in_ok-left.ensures.puts c.in_ok-left.ensures.place c.in_ok-right.ensures.puts c.in_ok-right.ensures.place refl refl) c.put_unify.ensures }
 
 pub test::emit_same_cells-returns : goal.test::emit_same_cells-returns
-test::emit_same_cells-returns t c = record { puts = same_put (around c.args.scene.now) c.args.line _ _ _ _ _ _ _ _ c.in_ok-left.ensures.puts c.in_ok-left.ensures.place c.in_ok-right.ensures.puts c.in_ok-right.ensures.place c.in_ok-put.ensures.codes }
+test::emit_same_cells-returns t c = record { puts = on_ok c.add.result (same_put (around c.args.scene.now) c.args.line _ _ _ _ _ _ _ _ c.in_ok-left.ensures.puts c.in_ok-left.ensures.place c.in_ok-right.ensures.puts c.in_ok-right.ensures.place) c.add.ensures }
 
 pub test::emit_operand-returns : goal.test::emit_operand-returns
-test::emit_operand-returns t c = record { puts = on_ok c.aim_behind.result (λ h. first_put (around c.args.scene.now) c.args.line _ _ _ _ _ _ _ _ _ c.in_ok-mark.ensures.holes c.in_ok-mark.ensures.mark c.in_ok-emit_test.ensures.puts c.in_ok-put.ensures.codes h refl) c.aim_behind.ensures }
+test::emit_operand-returns t c = record { puts = from_both c.end_first.result c.end_first.ensures.done c.end_first.ensures.ends (λ ok e. first_put (around c.args.scene.now) c.args.line _ _ _ _ _ _ _ _ _ c.in_ok-mark.ensures.holes c.in_ok-mark.ensures.mark (said c.emit_test-done.result ok c.emit_test-done.ensures.puts) e.codes e.aims refl) }
 
 pub test::emit_not-returns : goal.test::emit_not-returns
-test::emit_not-returns t c = record { puts = on_ok c.aim_behind.result (λ h. not_put (around c.args.scene.now) c.args.line _ _ _ _ _ _ _ _ _ c.in_ok-mark.ensures.holes c.in_ok-mark.ensures.mark c.in_ok-emit_test.ensures.puts (code_code _ _ _ _ _ c.in_ok-put.ensures.codes c.in_ok-put-2.ensures.codes) h (add-zero _)) c.aim_behind.ensures }
+test::emit_not-returns t c = record { puts = from_both c.end_not.result c.end_not.ensures.done c.end_not.ensures.ends (λ ok e. not_put (around c.args.scene.now) c.args.line _ _ _ _ _ _ _ _ _ c.in_ok-mark.ensures.holes c.in_ok-mark.ensures.mark (said c.emit_test-done.result ok c.emit_test-done.ensures.puts) e.codes e.aims (add-zero _)) }
 
 pub expression::emit_expr-returns-in-Const : goal.expression::emit_expr-returns-in-Const
 expression::emit_expr-returns-in-Const t c =
@@ -412,8 +451,13 @@ designator::emit_sel-returns-in-Field t c =
 pub designator::emit_target-returns-in-Some : goal.designator::emit_target-returns-in-Some
 designator::emit_target-returns-in-Some t c = record { stand = own_stands (around c.args.scene.now) c.args.line _ _ _ _ (sym c.in-Some.is ∙ c.in_ok-slot.ensures); puts = own_target (around c.args.scene.now) c.args.line _ _ _ (sym c.in-Some.is ∙ c.in_ok-slot.ensures) }
 
-pub designator::emit_target-returns-in_ok-emit_desig-in-None : goal.designator::emit_target-returns-in_ok-emit_desig-in-None
-designator::emit_target-returns-in_ok-emit_desig-in-None t c = record { stand = made_stands (around c.args.scene.now) c.args.line _ _ _ _ (sym c.in-None.is ∙ c.in_ok-slot.ensures) c.in_ok-emit_desig-in-None.ensures.place; puts = made_target (around c.args.scene.now) c.args.line _ _ _ (sym c.in-None.is ∙ c.in_ok-slot.ensures) c.in_ok-emit_desig-in-None.ensures.puts }
+pub designator::emit_target-returns-in-None : goal.designator::emit_target-returns-in-None
+designator::emit_target-returns-in-None t c =
+    let none = sym c.in-None.is ∙ c.in_ok-slot.ensures in
+    record {
+      stand = through c.emit_desig.result c.stand_at.result c.emit_desig.ensures.place c.stand_at.ensures.done c.stand_at.ensures.stand (λ at stand place is. is ∙ made_stands (around c.args.scene.now) c.args.line _ _ _ at none place);
+      puts = on_ok c.stand_at.result (λ ok. made_target (around c.args.scene.now) c.args.line _ _ _ none (said c.emit_desig.result ok c.emit_desig.ensures.puts)) c.stand_at.ensures.done;
+    }
 
 pub designator::emit_sels-loop-sel-init : goal.designator::emit_sels-loop-sel-init
 designator::emit_sels-loop-sel-init t c = record { part = refl; completes = λ e h. h }
@@ -437,10 +481,11 @@ designator::emit_sels-returns t c =
     }
 
 pub designator::emit_index-returns : goal.designator::emit_index-returns
-designator::emit_index-returns t c = record {
-  part = index_part (around c.args.scene.now) c.args.line _ _ _ _ _ _ c.in_ok-index.ensures.puts c.in_ok-to.ensures.slot;
-  puts = index_put (around c.args.scene.now) c.args.line _ _ _ _ _ _ _ _ _ _ _ c.in_ok-index.ensures.puts c.in_ok-index.ensures.value c.in_ok-to.ensures.takes c.in_ok-to.ensures.slot c.in_ok-range.ensures c.in_ok-put.ensures.codes;
-}
+designator::emit_index-returns t c =
+    record {
+      part = if_ok c.put_index.result (λ to is. index_part (around c.args.scene.now) c.args.line _ _ _ _ _ _ c.in_ok-index.ensures.puts is) c.put_index.ensures.slot;
+      puts = ok_from c.put_index.result c.put_index.ensures.slot c.put_index.ensures.puts (λ to is h. index_put (around c.args.scene.now) c.args.line _ _ _ _ _ _ _ _ _ _ _ c.in_ok-index.ensures.puts c.in_ok-index.ensures.value h.takes is refl h.codes);
+    }
 
 pub expression::emit_links-loop-link-init : goal.expression::emit_links-loop-link-init
 expression::emit_links-loop-link-init t c = λ e h. h
@@ -449,7 +494,7 @@ pub expression::emit_links-loop-link-preserved : goal.expression::emit_links-loo
 expression::emit_links-loop-link-preserved t c =
     let l = c.loop-link in
     let one : links_list (drop l.link-index c.args.links.now) ≡ tree.more_links c.link-item.result.op (expr_of c.link-item.result.operand) (links_list (drop (l.link-index + 1) c.args.links.now)) = ap links_list (drop_one c.args.links.now l.link-index c.link-item.result c.loop-link-test.true c.link-item.is) in
-    λ e h. l.invariant e (links_is (around c.args.scene.now) c.args.line c.args.to _ _ _ _ (sym one) (links_put (around c.args.scene.now) c.args.line _ _ _ _ _ _ _ _ _ c.in_ok-operand.ensures.puts c.in_ok-operand.ensures.value (codes_is _ _ c.args.line _ _ c.op_instr.ensures c.in_ok-put.ensures.codes) h))
+    λ e h. l.invariant e (links_is (around c.args.scene.now) c.args.line c.args.to _ _ _ _ (sym one) (links_put (around c.args.scene.now) c.args.line _ _ _ _ _ _ _ _ _ c.in_ok-operand.ensures.puts c.in_ok-operand.ensures.value (codes_is _ _ c.args.line _ _ c.op_instr.ensures c.in_ok-add.ensures) h))
 
 pub expression::emit_links-returns : goal.expression::emit_links-returns
 expression::emit_links-returns t c = record { puts = c.loop-link.invariant _ (links_is (around c.args.scene.now) c.args.line c.args.to _ _ _ _ (ap links_list (sym (drop_of_length-le c.args.links.now (omega (arith, c.loop-link-test.false))))) (no_links_put (around c.args.scene.now) c.args.line _ _)) }
@@ -486,7 +531,7 @@ choice::emit_branches-loop-i-preserved t c =
     let l = c.loop-i in
     let x = c.index-branches-i.result in
     let one : branches_list (drop l.i c.args.branches.now) ≡ tree.more_branches (stmts_list x.body.items) (branches_list (drop (l.i + 1) c.args.branches.now)) = ap branches_list (drop_one c.args.branches.now l.i x (omega (arith, c.loop-i-test.true)) c.index-branches-i.is) in
-    λ e h. l.invariant e (branches_is (around c.args.scene.now) c.args.line c.args.exit _ _ _ _ (sym one) (more_chosen (around c.args.scene.now) c.args.line _ _ _ _ _ _ _ (omega (arith, c.loop-i-test.true, length-drop (c.loop-i.i + 1) c.args.branches.now)) (chosen_is (around c.args.scene.now) c.args.line _ _ _ _ (ap stmts_list c.deref.ensures.value) c.in_ok-emit_chosen.ensures.puts) c.in_ok-put.ensures.codes h))
+    λ e h. l.invariant e (branches_is (around c.args.scene.now) c.args.line c.args.exit _ _ _ _ (sym one) (more_chosen (around c.args.scene.now) c.args.line _ _ _ _ _ _ _ (omega (arith, c.loop-i-test.true, length-drop (c.loop-i.i + 1) c.args.branches.now)) (chosen_is (around c.args.scene.now) c.args.line _ _ _ _ (ap stmts_list c.deref.ensures.value) (said c.emit_chosen-done.result c.in_ok-then_add.ensures.done c.emit_chosen-done.ensures.puts)) c.in_ok-then_add.ensures.codes h))
 
 pub test::emit_operands-loop-i-init : goal.test::emit_operands-loop-i-init
 test::emit_operands-loop-i-init t c = λ e h. h
@@ -496,7 +541,7 @@ test::emit_operands-loop-i-preserved t c =
     let l = c.loop-i in
     let x = c.index-tests-i.result in
     let one : tests_list (drop l.i c.args.tests.now) ≡ tree.more_tests (test_of x) (tests_list (drop (l.i + 1) c.args.tests.now)) = ap tests_list (drop_one c.args.tests.now l.i x (omega (arith, c.loop-i-test.true)) c.index-tests-i.is) in
-    λ e h. l.invariant e (operands_is (around c.args.scene.now) c.args.line c.args.exit _ _ _ _ (sym one) (more_operands (around c.args.scene.now) c.args.line _ _ _ _ _ _ _ (omega (arith, c.loop-i-test.true, length-drop (c.loop-i.i + 1) c.args.tests.now)) c.in_ok-emit_operand.ensures.puts c.in_ok-put.ensures.codes h))
+    λ e h. l.invariant e (operands_is (around c.args.scene.now) c.args.line c.args.exit _ _ _ _ (sym one) (more_operands (around c.args.scene.now) c.args.line _ _ _ _ _ _ _ (omega (arith, c.loop-i-test.true, length-drop (c.loop-i.i + 1) c.args.tests.now)) (said c.emit_operand-done.result c.in_ok-then_add.ensures.done c.emit_operand-done.ensures.puts) c.in_ok-then_add.ensures.codes h))
 
 pub guarded::emit_arms-loop-i-init : goal.guarded::emit_arms-loop-i-init
 guarded::emit_arms-loop-i-init t c = λ e h. h
@@ -506,7 +551,7 @@ guarded::emit_arms-loop-i-preserved t c =
     let l = c.loop-i in
     let x = c.index-arms-i.result in
     let one : arms_list (drop l.i c.args.arms.now) ≡ tree.more_arms (test_of x.cond) (stmts_list x.body.items) (arms_list (drop (l.i + 1) c.args.arms.now)) = ap arms_list (drop_one c.args.arms.now l.i x (omega (arith, c.loop-i-test.true)) c.index-arms-i.is) in
-    λ e h. l.invariant e (arms_is (around c.args.scene.now) c.args.line c.args.exit _ _ _ _ (sym one) (arms_put (around c.args.scene.now) c.args.line _ _ _ _ _ _ _ _ (guarded_is (around c.args.scene.now) c.args.line _ _ _ _ _ (ap stmts_list c.deref.ensures.value) c.in_ok-emit_guarded.ensures.puts) c.in_ok-put.ensures.codes h))
+    λ e h. l.invariant e (arms_is (around c.args.scene.now) c.args.line c.args.exit _ _ _ _ (sym one) (arms_put (around c.args.scene.now) c.args.line _ _ _ _ _ _ _ _ (guarded_is (around c.args.scene.now) c.args.line _ _ _ _ _ (ap stmts_list c.deref.ensures.value) (said c.emit_guarded-done.result c.in_ok-then_add.ensures.done c.emit_guarded-done.ensures.puts)) c.in_ok-then_add.ensures.codes h))
 
 pub guarded::emit_arms-returns : goal.guarded::emit_arms-returns
 guarded::emit_arms-returns t c = record { puts = c.loop-i.invariant _ (arms_is (around c.args.scene.now) c.args.line _ _ _ _ _ (ap arms_list (sym (drop_of_length-le c.args.arms.now (omega (arith, c.loop-i-test.false))))) (no_arms_put (around c.args.scene.now) c.args.line _ _)) }
@@ -514,20 +559,25 @@ guarded::emit_arms-returns t c = record { puts = c.loop-i.invariant _ (arms_is (
 pub loops::emit_bounds-returns : goal.loops::emit_bounds-returns
 loops::emit_bounds-returns t c =
     let same : to_z w64 (of_z w64 c.args.by) ≡ c.args.by = to_z-of_z w64 c.args.by (search rules) in
+    let begins = c.in_ok-counts.ensures.begins in
     record {
-      counter = c.in_ok-counter.ensures;
-      limit = c.in_ok-limit.ensures;
+      counter = c.in_ok-counts.ensures.counter;
+      limit = c.in_ok-counts.ensures.limit;
       puts = record {
-        b = _;
-        c = _;
-        d = _;
-        takes = c.in_ok-step.ensures.takes;
-        step_slot = c.in_ok-step.ensures.slot;
-        codes = codes_is _ _ c.args.line _ _ (ap (I.Const c.in_ok-step.step) same) c.in_ok-put.ensures.codes;
-        from_put = c.in_ok-first.ensures.puts;
-        first_slot = c.in_ok-first.ensures.slot;
-        to_put = c.in_ok-last.ensures.puts;
-        last_slot = c.in_ok-last.ensures.slot;
+        b = begins.b;
+        passed = begins.passed;
+        bounds = record {
+          b = begins.puts.b;
+          c = _;
+          d = _;
+          takes = begins.puts.takes;
+          step_slot = begins.step_slot;
+          codes = codes_is _ _ c.args.line _ _ (ap (I.Const c.in_ok-counts.counts.step) same) begins.puts.codes;
+          from_put = c.in_ok-first.ensures.puts;
+          first_slot = c.in_ok-first.ensures.slot;
+          to_put = c.in_ok-last.ensures.puts;
+          last_slot = c.in_ok-last.ensures.slot;
+        };
       };
     }
 
@@ -545,7 +595,7 @@ loops::emit_turn-returns t c =
         count_slot = count_at_lined (around c.args.scene.now) c.args.line (front c.args.work.now) c.args.counter _ (desig_of c.args.each.now.var) c.in_ok-count.ensures.count;
         located = c.in_ok-stand.ensures.puts;
         stands = c.in_ok-stand.ensures.stand;
-        set = codes_is _ _ c.args.line _ _ c.set.ensures c.in_ok-put.ensures.codes;
+        set = codes_is _ _ c.args.line _ _ c.set.ensures c.in_ok-add.ensures;
         code = c.go_to.ensures.code;
         kinds = c.go_to.ensures.kinds;
         next = c.go_to.ensures.next;
@@ -557,19 +607,24 @@ loops::emit_turn-returns t c =
 
 pub loops::emit_for-returns : goal.loops::emit_for-returns
 loops::emit_for-returns t c =
-    let e = c.args.each.now in
-    let same : to_z w64 (of_z w64 e.by) ≡ e.by = to_z-of_z w64 e.by (search rules) in
+    let each = c.args.each.now in
+    let same : to_z w64 (of_z w64 each.by) ≡ each.by = to_z-of_z w64 each.by (search rules) in
+    let puts = c.in_ok-step.ensures.puts in
     record {
-      puts = on_ok c.aim_behind.result (λ h. stmt_is (around c.args.scene.now) c.args.line _ _ _ _ (ap (λ b. tree.ForTo (tree.a_loop (desig_of e.var) e.range e.counter e.limit (expr_of e.from) (expr_of e.to) b (stmts_list e.body.items))) same) (for_joined (around c.args.scene.now) c.args.line _ _ _ _ _ _ _ _ _ _ _ _ _ _ _ _ _ _ _ _ _ _ _ _ _ _ c.in_ok-step.ensures.counter c.in_ok-step.ensures.limit c.position-before.ensures c.in_ok-pass_desig.ensures c.in_ok-step.ensures.puts c.position-after.ensures
-          c.in_ok-jump.ensures c.in_ok-top.ensures.address c.go_to.ensures.code c.go_to.ensures.kinds c.go_to.ensures.next c.go_to.ensures.lines c.go_to.ensures.whole c.in_ok-emit_turn.ensures.puts c.in_ok-out.ensures c.in_ok-put_step.ensures h)) c.aim_behind.ensures;
+      puts = from_both c.end_for.result c.end_for.ensures.done c.end_for.ensures.ends (λ ok e. stmt_is (around c.args.scene.now) c.args.line _ _ _ _ (ap (λ b. tree.ForTo (tree.a_loop (desig_of each.var) each.range each.counter each.limit (expr_of each.from) (expr_of each.to) b (stmts_list each.body.items))) same)
+          (for_joined (around c.args.scene.now) c.args.line _ _ _ _ _ _ _ _ _ _ _ _ _ _ _ _ _ _ _ _ _ _ _ _ _ _ c.in_ok-step.ensures.counter c.in_ok-step.ensures.limit c.position-before.ensures puts.passed puts.bounds c.position-after.ensures
+          c.in_ok-jump.ensures.holes c.in_ok-jump.ensures.top c.go_to.ensures.code c.go_to.ensures.kinds c.go_to.ensures.next c.go_to.ensures.lines c.go_to.ensures.whole (said c.emit_turn-done.result ok c.emit_turn-done.ensures.puts) e.out_at e.codes e.aims));
     }
 
 pub loops::emit_some-returns : goal.loops::emit_some-returns
-loops::emit_some-returns t c = record {
-  puts = some_joined (around c.args.scene.now) c.args.line _ _ _ _ _ _ _ _ _ _ _ _ _ _ _ _ _ _ _ _ _ _ _ _ _ _ _ _ _ _ _ _ _ _ c.in_ok-step.ensures.counter c.in_ok-step.ensures.limit c.position-before.ensures c.in_ok-pass_desig.ensures c.in_ok-step.ensures.puts c.position-after.ensures
-      c.in_ok-more.ensures.takes c.in_ok-more.ensures.slot c.in_ok-jump.ensures c.in_ok-top.ensures.address c.in_ok-turn.ensures c.in_ok-put_more.ensures c.in_ok-choice.ensures.address c.in_ok-choice.ensures.codes c.go_to.ensures.code c.go_to.ensures.kinds c.go_to.ensures.next c.go_to.ensures.lines c.go_to.ensures.whole
-      c.in_ok-emit_turn.ensures.puts c.in_ok-over.ensures c.in_ok-aim_behind.ensures c.in_ok-put_next.ensures c.in_ok-aim_behind-2.ensures c.in_ok-put.ensures.codes;
-}
+loops::emit_some-returns t c =
+    let puts = c.in_ok-step.ensures.puts in
+    let begins = c.in_ok-aims.ensures in
+    record {
+      puts = from_both c.end_some.result c.end_some.ensures.done c.end_some.ensures.ends (λ ok e. some_joined (around c.args.scene.now) c.args.line _ _ _ _ _ _ _ _ _ _ _ _ _ _ _ _ _ _ _ _ _ _ _ _ _ _ _ _ _ _ _ _ _ _ c.in_ok-step.ensures.counter c.in_ok-step.ensures.limit c.position-before.ensures puts.passed puts.bounds c.position-after.ensures
+          begins.takes begins.more_slot begins.bounds begins.top_at begins.turn_at begins.tests begins.choice_at begins.chooses c.go_to.ensures.code c.go_to.ensures.kinds c.go_to.ensures.next c.go_to.ensures.lines c.go_to.ensures.whole
+          (said c.emit_turn-done.result ok c.emit_turn-done.ensures.puts) e.over_at e.aims_choice e.next e.aims_jump e.fails);
+    }
 
 pub expression::emit_expr-emit_load-requires : goal.expression::emit_expr-emit_load-requires
 expression::emit_expr-emit_load-requires t c =
@@ -796,7 +851,11 @@ pub condition::emit_guard-returns-else-is_plain : goal.condition::emit_guard-ret
 condition::emit_guard-returns-else-is_plain t c = record { guard = c.emit_barrier.ensures.guard (sym c.is_plain.ensures ∙ c.if-is_plain.false) }
 
 pub condition::emit_barrier-returns : goal.condition::emit_barrier-returns
-condition::emit_barrier-returns t c = record { guard = λ hard. barrier_guard (around c.args.scene.now) c.args.line _ _ _ _ _ _ _ hard c.in_ok-mark.ensures.holes c.in_ok-mark.ensures.mark c.in_ok-emit_test.ensures.puts c.in_ok-put.ensures.codes }
+condition::emit_barrier-returns t c =
+    record {
+      guard = λ hard. both_ok c.slot_of.result (λ given is ok. guard_is (around c.args.scene.now) c.args.line _ _ _ _ _ is (from_said c.then_add.result ok c.then_add.ensures.done c.then_add.ensures.codes (λ done h. barrier_guard (around c.args.scene.now) c.args.line _ _ _ _ _ _ _ hard c.in_ok-mark.ensures.holes c.in_ok-mark.ensures.mark
+          (said c.emit_test-done.result done c.emit_test-done.ensures.puts) h))) c.slot_of.ensures.slot c.slot_of.ensures.done;
+    }
 
 pub expression::emit_value-returns-in-Some : goal.expression::emit_value-returns-in-Some
 expression::emit_value-returns-in-Some t c = record { value = own_at (around c.args.scene.now) c.args.line _ _ _ _ (sym c.in-Some.is ∙ c.in_ok-slot.ensures); puts = own_value (around c.args.scene.now) c.args.line _ _ _ (sym c.in-Some.is ∙ c.in_ok-slot.ensures) }
@@ -807,8 +866,8 @@ expression::emit_value-returns-in-None t c = record { value = if_ok c.emit_expr.
 pub statement::emit_return-returns-in-Some : goal.statement::emit_return-returns-in-Some
 statement::emit_return-returns-in-Some t c = record { puts = stmt_as c.emit_return_value.result (around c.args.scene.now) c.args.line _ _ _ _ (ap (λ x. tree.Return (return_option x)) c.in-Some.is) c.emit_return_value.ensures.puts }
 
-pub statement::emit_return-returns-in_ok-put-in-None : goal.statement::emit_return-returns-in_ok-put-in-None
-statement::emit_return-returns-in_ok-put-in-None t c = record { puts = stmt_is (around c.args.scene.now) c.args.line _ _ _ _ (sym (ap (λ x. tree.Return (return_option x)) c.in-None.is)) (return_put (around c.args.scene.now) c.args.line _ _ c.in_ok-put-in-None.ensures.codes) }
+pub statement::emit_return-returns-in-None : goal.statement::emit_return-returns-in-None
+statement::emit_return-returns-in-None t c = record { puts = stmt_as c.add.result (around c.args.scene.now) c.args.line _ _ _ _ (ap (λ x. tree.Return (return_option x)) c.in-None.is) (on_ok c.add.result (return_put (around c.args.scene.now) c.args.line _ _) c.add.ensures) }
 
 pub test::emit_bind-returns-then-left : goal.test::emit_bind-returns-then-left
 test::emit_bind-returns-then-left t c = record { puts = test_as c.emit_bind_left.result (around c.args.scene.now) c.args.line _ _ _ _ (ap (tree.Bind (desig_of c.args.desig.now) (expr_of c.args.value.now) c.args.range) c.if-left.true) c.emit_bind_left.ensures.puts }
@@ -836,7 +895,7 @@ condition::emit_simple-returns-in_ok-value-in-Value t c =
     record { guard = λ simple. subst (λ x. IfOk c.put.result (λ jump. PutsGuard (around c.args.scene.now) c.args.line (front c.args.work.now) (front c.put.new.self) (λ to xs. aimed xs jump to) x)) (sym view) (both_ok c.put.result (λ jump here codes. simple_guard (around c.args.scene.now) c.args.line _ _ _ _ _ jump (sym (ap is_simple view) ∙ simple) c.in_ok-value-in-Value.ensures.puts c.in_ok-value-in-Value.ensures.value here codes) c.put.ensures.address c.put.ensures.codes) }
 
 pub test::emit_or-returns-then-is_empty : goal.test::emit_or-returns-then-is_empty
-test::emit_or-returns-then-is_empty t c = record { puts = or_none (around c.args.scene.now) c.args.line _ _ c.args.tests.now (no_elements _ c.if-is_empty.ensures) c.in_ok-put.ensures.codes }
+test::emit_or-returns-then-is_empty t c = record { puts = on_ok c.add.result (or_none (around c.args.scene.now) c.args.line _ _ c.args.tests.now (no_elements _ c.if-is_empty.ensures)) c.add.ensures }
 
 pub test::emit_or-returns-then-tests-eq1 : goal.test::emit_or-returns-then-tests-eq1
 test::emit_or-returns-then-tests-eq1 t c = record { puts = on_ok c.emit_test.result (or_one (around c.args.scene.now) c.args.line _ _ c.args.tests.now c.index-tests-0.result c.if-tests-eq1.true c.index-tests-0.is) c.emit_test.ensures.puts }
@@ -844,10 +903,13 @@ test::emit_or-returns-then-tests-eq1 t c = record { puts = on_ok c.emit_test.res
 pub test::emit_or-returns : goal.test::emit_or-returns
 test::emit_or-returns t c =
     let two : 2 ≤ length c.args.tests.now = omega (arith, some_elements _ c.if-is_empty.ensures, c.if-tests-eq1.false) in
-    record { puts = on_ok c.aim_behind.result (λ h. or_of (around c.args.scene.now) c.args.line _ _ _ _ _ _ c.args.tests.now c.index-tests-0.result two c.index-tests-0.is c.in_ok-emit_operand.ensures.puts c.in_ok-exit.ensures.address c.in_ok-exit.ensures.codes (c.in_ok-emit_operands.ensures.puts two) h) c.aim_behind.ensures }
+    record {
+      puts = from_both c.then_aim.result c.then_aim.ensures.done c.then_aim.ensures.aims (λ ok h. or_of (around c.args.scene.now) c.args.line _ _ _ _ _ _ c.args.tests.now c.index-tests-0.result two c.index-tests-0.is (said c.emit_operand-done.result c.in_ok-exit.ensures.done c.emit_operand-done.ensures.puts)
+          c.in_ok-exit.ensures.address c.in_ok-exit.ensures.codes (said c.emit_operands-done.result ok (c.emit_operands-done.ensures.puts two)) h);
+    }
 
 pub choice::emit_either-returns-then-is_empty : goal.choice::emit_either-returns-then-is_empty
-choice::emit_either-returns-then-is_empty t c = record { puts = either_none (around c.args.scene.now) c.args.line _ _ c.args.branches.now (no_elements _ c.if-is_empty.ensures) c.in_ok-put.ensures.codes }
+choice::emit_either-returns-then-is_empty t c = record { puts = on_ok c.add.result (either_none (around c.args.scene.now) c.args.line _ _ c.args.branches.now (no_elements _ c.if-is_empty.ensures)) c.add.ensures }
 
 pub choice::emit_either-returns-then-branches-eq1 : goal.choice::emit_either-returns-then-branches-eq1
 choice::emit_either-returns-then-branches-eq1 t c = record { puts = on_ok c.emit_stmts.result (λ h. either_one (around c.args.scene.now) c.args.line _ _ c.args.branches.now c.index-branches-0.result c.if-branches-eq1.true c.index-branches-0.is (stmts_is (around c.args.scene.now) 0 _ _ _ _ (ap stmts_list c.deref.ensures.value) h)) c.emit_stmts.ensures.puts }
@@ -855,16 +917,24 @@ choice::emit_either-returns-then-branches-eq1 t c = record { puts = on_ok c.emit
 pub choice::emit_either-returns : goal.choice::emit_either-returns
 choice::emit_either-returns t c =
     let two : 2 ≤ length c.args.branches.now = omega (arith, some_elements _ c.if-is_empty.ensures, c.if-branches-eq1.false) in
-    record { puts = on_ok c.aim_behind.result (λ h. either_of (around c.args.scene.now) c.args.line _ _ _ _ _ _ c.args.branches.now c.index-branches-0.result two c.index-branches-0.is (chosen_is (around c.args.scene.now) c.args.line _ _ _ _ (ap stmts_list c.deref-2.ensures.value) c.in_ok-emit_chosen.ensures.puts) c.in_ok-exit.ensures.address c.in_ok-exit.ensures.codes (c.in_ok-emit_branches.ensures.puts two) h) c.aim_behind.ensures }
+    record {
+      puts = from_both c.then_aim.result c.then_aim.ensures.done c.then_aim.ensures.aims (λ ok h. either_of (around c.args.scene.now) c.args.line _ _ _ _ _ _ c.args.branches.now c.index-branches-0.result two c.index-branches-0.is
+          (chosen_is (around c.args.scene.now) c.args.line _ _ _ _ (ap stmts_list c.deref-2.ensures.value) (said c.emit_chosen-done.result c.in_ok-exit.ensures.done c.emit_chosen-done.ensures.puts)) c.in_ok-exit.ensures.address c.in_ok-exit.ensures.codes (said c.emit_branches-done.result ok (c.emit_branches-done.ensures.puts two)) h);
+    }
 
 pub guarded::emit_if-returns-then-is_empty : goal.guarded::emit_if-returns-then-is_empty
 guarded::emit_if-returns-then-is_empty t c = record { puts = on_ok c.emit_stmts.result (if_none (around c.args.scene.now) c.args.line _ _ c.args.arms.now _ (no_elements _ c.if-is_empty.ensures)) c.emit_stmts.ensures.puts }
 
 pub guarded::emit_if-returns : goal.guarded::emit_if-returns
-guarded::emit_if-returns t c = record { puts = on_ok c.aim_behind.result (λ h. if_of (around c.args.scene.now) c.args.line _ _ _ _ _ _ _ c.args.arms.now c.index-arms-0.result _ (some_elements _ c.if-is_empty.ensures) c.index-arms-0.is (guarded_is (around c.args.scene.now) c.args.line _ _ _ _ _ (ap stmts_list c.deref.ensures.value) c.in_ok-emit_guarded.ensures.puts) c.in_ok-exit.ensures.address c.in_ok-exit.ensures.codes c.in_ok-emit_arms.ensures.puts c.in_ok-emit_stmts.ensures.puts h) c.aim_behind.ensures }
+guarded::emit_if-returns t c =
+    record {
+      puts = from_both c.then_aim.result c.then_aim.ensures.done c.then_aim.ensures.aims (λ ok h. if_of (around c.args.scene.now) c.args.line _ _ _ _ _ _ _ c.args.arms.now c.index-arms-0.result _ (some_elements _ c.if-is_empty.ensures) c.index-arms-0.is
+          (guarded_is (around c.args.scene.now) c.args.line _ _ _ _ _ (ap stmts_list c.deref.ensures.value) (said c.emit_guarded-done.result c.in_ok-exit.ensures.done c.emit_guarded-done.ensures.puts)) c.in_ok-exit.ensures.address c.in_ok-exit.ensures.codes c.in_ok-emit_arms.ensures.puts
+          (said c.emit_stmts-done.result ok c.emit_stmts-done.ensures.puts) h);
+    }
 
-pub case::emit_case_arm-emit_stmts-requires : goal.case::emit_case_arm-emit_stmts-requires
-case::emit_case_arm-emit_stmts-requires t c = (omega (arith, ap (λ x. stmts_nodes (stmts_list x)) c.deref-2.ensures.value), tt)
+pub case::emit_case_arm-emit_stmts-done-requires : goal.case::emit_case_arm-emit_stmts-done-requires
+case::emit_case_arm-emit_stmts-done-requires t c = (omega (arith, ap (λ x. stmts_nodes (stmts_list x)) c.deref-2.ensures.value), tt)
 
 pub case::emit_dead_body-emit_stmts-requires : goal.case::emit_dead_body-emit_stmts-requires
 case::emit_dead_body-emit_stmts-requires t c = (omega (arith, ap (λ x. stmts_nodes (stmts_list x)) c.deref-2.ensures.value), tt)
@@ -877,11 +947,11 @@ case::emit_else-emit_stmts-requires t c =
 pub choice::emit_either-emit_stmts-requires : goal.choice::emit_either-emit_stmts-requires
 choice::emit_either-emit_stmts-requires t c = (omega (arith, branch_at c.args.branches.now 0 c.index-branches-0.result (some_elements _ c.if-is_empty.ensures) c.index-branches-0.is, ap (λ x. stmts_nodes (stmts_list x)) c.deref.ensures.value), tt)
 
-pub choice::emit_either-emit_chosen-requires : goal.choice::emit_either-emit_chosen-requires
-choice::emit_either-emit_chosen-requires t c = (omega (arith, branch_at c.args.branches.now 0 c.index-branches-0.result (some_elements _ c.if-is_empty.ensures) c.index-branches-0.is, ap (λ x. stmts_nodes (stmts_list x)) c.deref-2.ensures.value), tt)
+pub choice::emit_either-emit_chosen-done-requires : goal.choice::emit_either-emit_chosen-done-requires
+choice::emit_either-emit_chosen-done-requires t c = (omega (arith, branch_at c.args.branches.now 0 c.index-branches-0.result (some_elements _ c.if-is_empty.ensures) c.index-branches-0.is, ap (λ x. stmts_nodes (stmts_list x)) c.deref-2.ensures.value), tt)
 
-pub choice::emit_branches-emit_chosen-requires : goal.choice::emit_branches-emit_chosen-requires
-choice::emit_branches-emit_chosen-requires t c = (omega (arith, branch_at c.args.branches.now c.loop-i.i c.index-branches-i.result (omega (arith, c.loop-i-test.true)) c.index-branches-i.is, ap (λ x. stmts_nodes (stmts_list x)) c.deref.ensures.value), tt)
+pub choice::emit_branches-emit_chosen-done-requires : goal.choice::emit_branches-emit_chosen-done-requires
+choice::emit_branches-emit_chosen-done-requires t c = (omega (arith, branch_at c.args.branches.now c.loop-i.i c.index-branches-i.result (omega (arith, c.loop-i-test.true)) c.index-branches-i.is, ap (λ x. stmts_nodes (stmts_list x)) c.deref.ensures.value), tt)
 
 pub choice::emit_branches-emit_stmts-requires : goal.choice::emit_branches-emit_stmts-requires
 choice::emit_branches-emit_stmts-requires t c = (omega (arith, branch_at c.args.branches.now (length c.args.branches.now - 1) c.index-branches-last.result (omega arith) c.index-branches-last.is, ap (λ x. stmts_nodes (stmts_list x)) c.deref-2.ensures.value), tt)
@@ -889,20 +959,20 @@ choice::emit_branches-emit_stmts-requires t c = (omega (arith, branch_at c.args.
 pub test::emit_or-emit_test-requires : goal.test::emit_or-emit_test-requires
 test::emit_or-emit_test-requires t c = (omega (arith, test_at c.args.tests.now 0 c.index-tests-0.result (some_elements _ c.if-is_empty.ensures) c.index-tests-0.is), tt)
 
-pub test::emit_or-emit_operand-requires : goal.test::emit_or-emit_operand-requires
-test::emit_or-emit_operand-requires t c = (omega (arith, test_at c.args.tests.now 0 c.index-tests-0.result (some_elements _ c.if-is_empty.ensures) c.index-tests-0.is), tt)
+pub test::emit_or-emit_operand-done-requires : goal.test::emit_or-emit_operand-done-requires
+test::emit_or-emit_operand-done-requires t c = (omega (arith, test_at c.args.tests.now 0 c.index-tests-0.result (some_elements _ c.if-is_empty.ensures) c.index-tests-0.is), tt)
 
-pub test::emit_operands-emit_operand-requires : goal.test::emit_operands-emit_operand-requires
-test::emit_operands-emit_operand-requires t c = (omega (arith, test_at c.args.tests.now c.loop-i.i c.index-tests-i.result (omega (arith, c.loop-i-test.true)) c.index-tests-i.is), tt)
+pub test::emit_operands-emit_operand-done-requires : goal.test::emit_operands-emit_operand-done-requires
+test::emit_operands-emit_operand-done-requires t c = (omega (arith, test_at c.args.tests.now c.loop-i.i c.index-tests-i.result (omega (arith, c.loop-i-test.true)) c.index-tests-i.is), tt)
 
 pub test::emit_operands-emit_test-requires : goal.test::emit_operands-emit_test-requires
 test::emit_operands-emit_test-requires t c = (omega (arith, test_at c.args.tests.now (length c.args.tests.now - 1) c.index-tests-last.result (omega arith) c.index-tests-last.is), tt)
 
-pub guarded::emit_if-emit_guarded-requires : goal.guarded::emit_if-emit_guarded-requires
-guarded::emit_if-emit_guarded-requires t c = (omega (arith, arm_at c.args.arms.now 0 c.index-arms-0.result (some_elements _ c.if-is_empty.ensures) c.index-arms-0.is, ap (λ x. stmts_nodes (stmts_list x)) c.deref.ensures.value), tt)
+pub guarded::emit_if-emit_guarded-done-requires : goal.guarded::emit_if-emit_guarded-done-requires
+guarded::emit_if-emit_guarded-done-requires t c = (omega (arith, arm_at c.args.arms.now 0 c.index-arms-0.result (some_elements _ c.if-is_empty.ensures) c.index-arms-0.is, ap (λ x. stmts_nodes (stmts_list x)) c.deref.ensures.value), tt)
 
-pub guarded::emit_arms-emit_guarded-requires : goal.guarded::emit_arms-emit_guarded-requires
-guarded::emit_arms-emit_guarded-requires t c = (omega (arith, arm_at c.args.arms.now c.loop-i.i c.index-arms-i.result (omega (arith, c.loop-i-test.true)) c.index-arms-i.is, ap (λ x. stmts_nodes (stmts_list x)) c.deref.ensures.value), tt)
+pub guarded::emit_arms-emit_guarded-done-requires : goal.guarded::emit_arms-emit_guarded-done-requires
+guarded::emit_arms-emit_guarded-done-requires t c = (omega (arith, arm_at c.args.arms.now c.loop-i.i c.index-arms-i.result (omega (arith, c.loop-i-test.true)) c.index-arms-i.is, ap (λ x. stmts_nodes (stmts_list x)) c.deref.ensures.value), tt)
 
 pub statement::emit_return-emit_return_value-requires : goal.statement::emit_return-emit_return_value-requires
 statement::emit_return-emit_return_value-requires t c = (omega (arith, ap (λ x. return_nodes (return_option x)) c.in-Some.is), tt)
@@ -921,13 +991,13 @@ case::emit_labelled-returns t c =
     let x = c.index-arms-0.result in
     let whole : tree.more_cases x.labels.items (stmts_list x.body.items) (cases_list (take (length c.args.arms.now - 1) (drop 1 c.args.arms.now))) ≡ cases_list c.args.arms.now =
     ap (λ ys. tree.more_cases x.labels.items (stmts_list x.body.items) (cases_list ys)) (slice_rest c.args.arms.now 1) ∙ sym (ap cases_list (drop_one c.args.arms.now 0 x (some_elements _ c.if-is_empty.ensures) c.index-arms-0.is)) in
-    record { puts = λ test. on_ok c.aim_behind.result (λ h. all_is (around c.args.scene.now) c.args.line _ _ _ _ _ _ _ whole (all_first (around c.args.scene.now) c.args.line _ _ _ _ _ _ _ _ _ _ _ _ _ _ (c.in_ok-emit_case_arm.ensures.puts test) c.in_ok-exit.ensures.address c.in_ok-exit.ensures.codes (c.in_ok-emit_cases.ensures.puts test) c.in_ok-emit_else.ensures.puts h (add-zero _))) c.aim_behind.ensures }
+    record { puts = λ test. from_both c.then_aim.result c.then_aim.ensures.done c.then_aim.ensures.aims (λ ok h. all_is (around c.args.scene.now) c.args.line _ _ _ _ _ _ _ whole (all_first (around c.args.scene.now) c.args.line _ _ _ _ _ _ _ _ _ _ _ _ _ _ (said c.emit_case_arm-done.result c.in_ok-exit.ensures.done (c.emit_case_arm-done.ensures.puts test)) c.in_ok-exit.ensures.address c.in_ok-exit.ensures.codes (c.in_ok-emit_cases.ensures.puts test) (said c.emit_else-done.result ok c.emit_else-done.ensures.puts) h (add-zero _))) }
 
 pub case::emit_next_arm-returns-then-is_empty : goal.case::emit_next_arm-returns-then-is_empty
 case::emit_next_arm-returns-then-is_empty t c = record { puts = λ test. on_ok c.pass_stmts.result (λ h e rest j. skipped_arm (around c.args.scene.now) c.args.line _ _ _ _ _ _ _ _ _ (omega (arith, no_elements _ c.if-is_empty.ensures, c.args.arm.now.labels.ok.0)) (turns_is (around c.args.scene.now) c.args.line _ _ _ _ (ap stmts_list c.deref.ensures.value) h) j) c.pass_stmts.ensures }
 
-pub case::emit_labelled-emit_case_arm-requires : goal.case::emit_labelled-emit_case_arm-requires
-case::emit_labelled-emit_case_arm-requires t c = (omega (arith, case_at c.args.arms.now 0 c.index-arms-0.result (some_elements _ c.if-is_empty.ensures) c.index-arms-0.is), tt)
+pub case::emit_labelled-emit_case_arm-done-requires : goal.case::emit_labelled-emit_case_arm-done-requires
+case::emit_labelled-emit_case_arm-done-requires t c = (omega (arith, case_at c.args.arms.now 0 c.index-arms-0.result (some_elements _ c.if-is_empty.ensures) c.index-arms-0.is), tt)
 
 pub case::emit_labelled-emit_cases-requires : goal.case::emit_labelled-emit_cases-requires
 case::emit_labelled-emit_cases-requires t c = (omega (arith, cases_behind c.args.arms.now 1, ap (λ ys. cases_nodes (cases_list ys)) (slice_rest c.args.arms.now 1)), tt)
