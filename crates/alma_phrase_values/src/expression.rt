@@ -31,6 +31,7 @@ use std::alloc::Global;
 /// What reading the statements inside a parenthesis gives.
 pub type StmtsRead<'t, 's> = Result<(Stmts, Cursor<'t, 's>), Fault<'t, 's>>;
 
+/// An expression.
 #[cycle(values)]
 pub fn expr<'t, 's, S>(
     alloc: Global,
@@ -390,6 +391,7 @@ where
     chr_of(numbered(followed_by(value, Kind::CloseParen)))
 }
 
+/// The arguments of a call, where an opening parenthesis stands.
 #[cycle(values)]
 pub fn args<'t, 's, S>(
     alloc: Global,
@@ -412,7 +414,7 @@ where
     Ok((None, at))
 }
 
-/// What stands behind the opening parenthesis of arguments, up to the closing one. The depth is that inside.
+/// Arguments behind the opening parenthesis, the closing one included. The depth is that inside.
 #[cycle(values)]
 fn args_values<'t, 's, S>(
     alloc: Global,
@@ -435,6 +437,7 @@ where
     present(followed_by(exprs(alloc, at, depth, inside), Kind::CloseParen))
 }
 
+/// Expressions with commas between them.
 #[cycle(values)]
 pub fn exprs<'t, 's, S>(
     alloc: Global,
@@ -477,6 +480,7 @@ where
     Ok((more, at))
 }
 
+/// A designator: a name, with indices and fields behind it.
 #[cycle(values)]
 pub fn desig<'t, 's, S>(
     alloc: Global,

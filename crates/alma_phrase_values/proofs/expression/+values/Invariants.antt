@@ -1,10 +1,8 @@
 use Rattle.std.proofs.Common.{◌+◌, ◌*◌, length}
-use Rattle.alma_tree.specs.Spelling.{spell_term_tail, spell_factor_tail, spell_expr_tail, spell_selector_tail, spell_stmt_tail, spell_elsif_tail}
-use Rattle.alma_tree.specs.Spelling.{spell_arm_tail, spell_label_tail, spell_orelse_tail, spell_desig_tail}
-use Rattle.alma_tree.specs.View.{terms_of, factors_of, exprs_of, selectors_of, stmts_of, elsifs_of, arms_of, labels_of, orelses_of, desigs_of}
-use Rattle.alma_tree.specs.Numbers.{numbers_of_terms, numbers_of_factors, numbers_of_exprs, numbers_of_selectors, numbers_of_stmts}
-use Rattle.alma_tree.specs.Numbers.{numbers_of_elsifs, numbers_of_arms, numbers_of_labels, numbers_of_orelses, numbers_of_desigs}
-use Rattle.alma_grammar.specs.Parts.{term_tail, factor_tail, expr_tail, selector_tail, stmt_tail, elsif_tail, arm_tail, label_tail, orelse_tail, desig_tail}
+use Rattle.alma_tree.specs.Spelling.{spell_term_tail, spell_factor_tail, spell_expr_tail, spell_selector_tail}
+use Rattle.alma_tree.specs.View.{terms_of, factors_of, exprs_of, selectors_of}
+use Rattle.alma_tree.specs.Numbers.{numbers_of_terms, numbers_of_factors, numbers_of_exprs, numbers_of_selectors}
+use Rattle.alma_grammar.specs.Parts.{term_tail, factor_tail, expr_tail, selector_tail}
 use Rattle.alma_cursor.specs.Parsing.{position_of}
 use Rattle.alma_cursor.proofs.Loops.{Loops}
 use Rattle.alma_phrase_values.proofs.expression.+values.Given as goal
