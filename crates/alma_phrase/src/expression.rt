@@ -1,33 +1,25 @@
-// Expressions and designators.
-ghost use Rattle.std.specs.Prelude.{◌∷◌, ◌<◌, pred, length, MatchResult, IfOk, Some, None};
-ghost use Rattle.alma_tree.specs.Spelling.{spell_expr, spell_compared, spell_simple, spell_term_tail, spell_term, spell_factor_tail};
-ghost use Rattle.alma_tree.specs.Spelling.{spell_factor, spell_primary, spell_args, spell_exprs, spell_expr_tail, spell_desig, spell_selector_tail};
-ghost use Rattle.alma_tree.specs.Spelling.{spell_selector};
-ghost use Rattle.alma_tree.specs.View.{view_expr, compared_of, view_simple, terms_of, view_term, factors_of, view_factor, view_primary, args_of};
-ghost use Rattle.alma_tree.specs.View.{args_values, view_exprs, exprs_of, view_desig, selectors_of, view_selector};
-ghost use Rattle.alma_tree.specs.Numbers.{number_expr, numbers_of_compared, number_simple, numbers_of_terms, number_term, numbers_of_factors};
-ghost use Rattle.alma_tree.specs.Numbers.{number_factor, number_primary, numbers_of_args, number_exprs, numbers_of_exprs, number_desig, numbers_of_selectors};
-ghost use Rattle.alma_tree.specs.Numbers.{number_selector};
-ghost use Rattle.alma_grammar.specs.Filling.{spell_inside_args};
-ghost use Rattle.alma_grammar.specs.Parts.{factor_part, primary_part, factor_tail, term_tail, compared_part, args_part, args_inside, expr_tail};
-ghost use Rattle.alma_grammar.specs.Parts.{selector_tail, term_parts, simple_parts, expr_parts, exprs_parts, desig_parts};
-ghost use Rattle.alma_cursor.specs.Forms.{paren_parts, known_parts, ord_parts, chr_parts, index_parts, selector_form_parts};
-ghost use Rattle.alma_phrase_steps.specs.Pieces.{inside_of, number_inside_args, spell_signed, number_signed};
+// Expressions and designators, whose parentheses hold statements.
+ghost use Rattle.std.specs.Prelude.{◌≡◌, ◌∷◌, length, MatchResult};
+ghost use Rattle.alma_tree.specs.Spelling.{spell_expr, spell_args, spell_exprs, spell_desig};
+ghost use Rattle.alma_tree.specs.View.{view_expr, args_of, view_exprs, view_desig};
+ghost use Rattle.alma_tree.specs.Numbers.{number_expr, numbers_of_args, number_exprs, number_desig};
+ghost use Rattle.alma_grammar.specs.Parts.{factor_tail, term_tail, compared_part, args_part, expr_parts, exprs_parts, desig_parts};
 ghost use Rattle.alma_cursor.specs.Parsing.{position_of, Reads, Extends, Fails};
+ghost use Rattle.alma_phrase_values.specs.Inside.{ReadsAt};
 
 use crate::statement::stmts;
-use alma_cursor::{Cursor, Fault, PrimaryForm, SelectorForm, followed_by, numbered};
-use alma_phrase_parts::{
-    add_link, arguments_of, boxed, chr_of, desig_of, expr_of, expressions_of, field, index_of,
-    known_of, literal, mul_link, named_of, not_of, number, open_after, ord_of, paren_of, plain_of,
-    present, pushed, relation_of, simple_of, term_of,
-};
-use alma_tree::{
-    AddLink, Args, Compared, Desig, Expr, Exprs, Factor, Kind, MulLink, Primary, Selector, Sign,
-    Simple, Term,
-};
+use alma_cursor::{Cursor, Fault};
+use alma_tree::{Args, Desig, Expr, Exprs, Stmts};
 use std::alloc::Global;
 
+/// How many tokens are left.
+fn tokens_left(at: Cursor<'_, '_>) -> usize
+    ensures counted { result ≡ length (position_of at.entry).kinds }
+{
+    at.rest.len()
+}
+
+/// An expression.
 #[cycle(phrases)]
 pub fn expr<'t, 's>(
     alloc: Global,
@@ -38,265 +30,18 @@ pub fn expr<'t, 's>(
         (number_expr t.0) expr_parts depth depth (position_of at.entry) (position_of t.1))
         (λ e. Fails e expr_parts depth (position_of at.entry)) }
 {
-    let (left, at) = simple(alloc, at, depth)?;
-    expr_from(alloc, left, at, depth)
+    let left = tokens_left(at);
+    alma_phrase_values::expr(
+        alloc,
+        at,
+        depth,
+        &|alloc: Global, at: Cursor<'_, '_>, depth: u32|
+            ensures { ReadsAt at.entry depth result }
+        { inside(alloc, at, depth, left) },
+    )
 }
 
-/// The expression whose left side has been read.
-#[cycle(phrases)]
-fn expr_from<'t, 's>(
-    alloc: Global,
-    left: Simple,
-    at: Cursor<'t, 's>,
-    depth: u32,
-) -> Result<(Expr, Cursor<'t, 's>), Fault<'t, 's>>
-    ensures read { MatchResult result
-        (λ t. Extends (spell_simple (view_simple left)) (number_simple left)
-        (λ o. compared_part ∷ o)
-        (spell_expr (view_expr t.0)) (number_expr t.0) depth (position_of at.entry)
-        (position_of t.1))
-        (λ e. Fails e (λ o. compared_part ∷ o) depth (position_of at.entry)) }
-{
-    expr_of(left, numbered(compared(alloc, at, depth)))
-}
-
-#[cycle(phrases)]
-fn compared<'t, 's>(
-    alloc: Global,
-    at: Cursor<'t, 's>,
-    depth: u32,
-) -> Result<(Option<Box<Compared>>, Cursor<'t, 's>), Fault<'t, 's>>
-    ensures read { MatchResult result
-        (λ t. Reads (spell_compared (compared_of t.0)) (numbers_of_compared t.0)
-        (λ o. compared_part ∷ o) depth depth (position_of at.entry) (position_of t.1))
-        (λ e. Fails e (λ o. compared_part ∷ o) depth (position_of at.entry)) }
-{
-    let Some((relation, at)) = at.relation() else {
-        return Ok((None, at));
-    };
-    relation_of(alloc, relation, simple(alloc, at, depth))
-}
-
-#[cycle(phrases)]
-fn simple<'t, 's>(
-    alloc: Global,
-    at: Cursor<'t, 's>,
-    depth: u32,
-) -> Result<(Simple, Cursor<'t, 's>), Fault<'t, 's>>
-    ensures read { MatchResult result (λ t. Reads (spell_simple (view_simple t.0))
-        (number_simple t.0) simple_parts depth depth (position_of at.entry) (position_of t.1))
-        (λ e. Fails e simple_parts depth (position_of at.entry)) }
-{
-    let (sign, at) = at.sign();
-    let (first, at) = term(alloc, at, depth)?;
-    simple_from(alloc, sign, first, at, depth)
-}
-
-/// The sum whose sign and first term have been read.
-#[cycle(phrases)]
-fn simple_from<'t, 's>(
-    alloc: Global,
-    sign: Option<Sign>,
-    first: Term,
-    at: Cursor<'t, 's>,
-    depth: u32,
-) -> Result<(Simple, Cursor<'t, 's>), Fault<'t, 's>>
-    ensures read { MatchResult result
-        (λ t. Extends (spell_signed sign first) (number_signed sign first) (λ o. term_tail ∷ o)
-        (spell_simple (view_simple t.0)) (number_simple t.0) depth (position_of at.entry)
-        (position_of t.1))
-        (λ e. Fails e (λ o. term_tail ∷ o) depth (position_of at.entry)) }
-{
-    simple_of(alloc, sign, first, numbered(terms(alloc, at, depth)))
-}
-
-#[cycle(phrases)]
-fn terms<'t, 's>(
-    alloc: Global,
-    mut at: Cursor<'t, 's>,
-    depth: u32,
-) -> Result<(Vec<AddLink>, Cursor<'t, 's>), Fault<'t, 's>>
-    ensures read { MatchResult result
-        (λ t. Reads (spell_term_tail (terms_of t.0.items)) (numbers_of_terms t.0.items)
-        (λ o. term_tail ∷ o) depth depth (position_of at.entry) (position_of t.1))
-        (λ e. Fails e (λ o. term_tail ∷ o) depth (position_of at.entry)) }
-{
-    let mut more = Vec::new(alloc);
-    while let Some((operator, after)) = at.add_operator() {
-        at = pushed(&mut more, add_link(operator, term(alloc, after, depth)))?;
-    }
-    Ok((more, at))
-}
-
-#[cycle(phrases)]
-fn term<'t, 's>(
-    alloc: Global,
-    at: Cursor<'t, 's>,
-    depth: u32,
-) -> Result<(Term, Cursor<'t, 's>), Fault<'t, 's>>
-    ensures read { MatchResult result (λ t. Reads (spell_term (view_term t.0))
-        (number_term t.0) term_parts depth depth (position_of at.entry) (position_of t.1))
-        (λ e. Fails e term_parts depth (position_of at.entry)) }
-{
-    let (first, at) = factor(alloc, at, depth)?;
-    term_from(alloc, first, at, depth)
-}
-
-/// The product whose first factor has been read.
-#[cycle(phrases)]
-fn term_from<'t, 's>(
-    alloc: Global,
-    first: Factor,
-    at: Cursor<'t, 's>,
-    depth: u32,
-) -> Result<(Term, Cursor<'t, 's>), Fault<'t, 's>>
-    ensures read { MatchResult result
-        (λ t. Extends (spell_factor (view_factor first)) (number_factor first)
-        (λ o. factor_tail ∷ o)
-        (spell_term (view_term t.0)) (number_term t.0) depth (position_of at.entry)
-        (position_of t.1))
-        (λ e. Fails e (λ o. factor_tail ∷ o) depth (position_of at.entry)) }
-{
-    term_of(first, numbered(factors(alloc, at, depth)))
-}
-
-#[cycle(phrases)]
-fn factors<'t, 's>(
-    alloc: Global,
-    mut at: Cursor<'t, 's>,
-    depth: u32,
-) -> Result<(Vec<MulLink>, Cursor<'t, 's>), Fault<'t, 's>>
-    ensures read { MatchResult result
-        (λ t. Reads (spell_factor_tail (factors_of t.0.items)) (numbers_of_factors t.0.items)
-        (λ o. factor_tail ∷ o) depth depth (position_of at.entry) (position_of t.1))
-        (λ e. Fails e (λ o. factor_tail ∷ o) depth (position_of at.entry)) }
-{
-    let mut more = Vec::new(alloc);
-    while let Some((operator, after)) = at.mul_operator() {
-        at = pushed(&mut more, mul_link(operator, factor(alloc, after, depth)))?;
-    }
-    Ok((more, at))
-}
-
-#[cycle(phrases)]
-fn factor<'t, 's>(
-    alloc: Global,
-    at: Cursor<'t, 's>,
-    depth: u32,
-) -> Result<(Factor, Cursor<'t, 's>), Fault<'t, 's>>
-    ensures read { MatchResult result
-        (λ t. Reads (spell_factor (view_factor t.0)) (number_factor t.0)
-        (λ o. factor_part ∷ o) depth depth (position_of at.entry) (position_of t.1))
-        (λ e. Fails e (λ o. factor_part ∷ o) depth (position_of at.entry)) }
-{
-    if let Some(after) = at.skip(Kind::Not) {
-        return not_of(numbered(primary(alloc, after, depth)));
-    }
-    plain_of(numbered(primary(alloc, at, depth)))
-}
-
-#[cycle(phrases)]
-fn primary<'t, 's>(
-    alloc: Global,
-    at: Cursor<'t, 's>,
-    depth: u32,
-) -> Result<(Primary, Cursor<'t, 's>), Fault<'t, 's>>
-    ensures read { MatchResult result
-        (λ t. Reads (spell_primary (view_primary t.0)) (number_primary t.0)
-        (λ o. primary_part ∷ o) depth depth (position_of at.entry) (position_of t.1))
-        (λ e. Fails e (λ o. primary_part ∷ o) depth (position_of at.entry)) }
-{
-    match at.primary_form()? {
-        PrimaryForm::Number => number(at),
-        PrimaryForm::Literal => literal(at),
-        PrimaryForm::Desig => {
-            let (desig, at) = desig(alloc, at, depth)?;
-            named(alloc, desig, at, depth)
-        }
-        PrimaryForm::Paren => paren(alloc, at, depth),
-        PrimaryForm::Known => known(alloc, at, depth),
-        PrimaryForm::Ord => ord(alloc, at, depth),
-        PrimaryForm::Chr => chr(alloc, at, depth),
-    }
-}
-
-/// The primary whose designator has been read.
-#[cycle(phrases)]
-fn named<'t, 's>(
-    alloc: Global,
-    desig: Desig,
-    at: Cursor<'t, 's>,
-    depth: u32,
-) -> Result<(Primary, Cursor<'t, 's>), Fault<'t, 's>>
-    ensures read { MatchResult result
-        (λ t. Extends (spell_desig (view_desig desig)) (number_desig desig) (λ o. args_part ∷ o)
-        (spell_primary (view_primary t.0)) (number_primary t.0) depth (position_of at.entry)
-        (position_of t.1))
-        (λ e. Fails e (λ o. args_part ∷ o) depth (position_of at.entry)) }
-{
-    let args = args(alloc, at, depth);
-    named_of(desig, numbered(args))
-}
-
-#[cycle(phrases)]
-fn paren<'t, 's>(
-    alloc: Global,
-    at: Cursor<'t, 's>,
-    depth: u32,
-) -> Result<(Primary, Cursor<'t, 's>), Fault<'t, 's>>
-    ensures read { MatchResult result (λ t. Reads (spell_primary (view_primary t.0))
-        (number_primary t.0) paren_parts depth depth (position_of at.entry) (position_of t.1))
-        (λ e. Fails e paren_parts depth (position_of at.entry)) }
-{
-    let (at, inner) = at.open(Kind::OpenParen, depth)?;
-    let body = boxed(alloc, stmts(alloc, at, inner));
-    paren_of(numbered(followed_by(body, Kind::CloseParen)))
-}
-
-#[cycle(phrases)]
-fn known<'t, 's>(
-    alloc: Global,
-    at: Cursor<'t, 's>,
-    depth: u32,
-) -> Result<(Primary, Cursor<'t, 's>), Fault<'t, 's>>
-    ensures read { MatchResult result (λ t. Reads (spell_primary (view_primary t.0))
-        (number_primary t.0) known_parts depth depth (position_of at.entry) (position_of t.1))
-        (λ e. Fails e known_parts depth (position_of at.entry)) }
-{
-    let (at, inner) = open_after(at, Kind::Known, Kind::OpenParen, depth)?;
-    known_of(numbered(followed_by(desig(alloc, at, inner), Kind::CloseParen)))
-}
-
-#[cycle(phrases)]
-fn ord<'t, 's>(
-    alloc: Global,
-    at: Cursor<'t, 's>,
-    depth: u32,
-) -> Result<(Primary, Cursor<'t, 's>), Fault<'t, 's>>
-    ensures read { MatchResult result (λ t. Reads (spell_primary (view_primary t.0))
-        (number_primary t.0) ord_parts depth depth (position_of at.entry) (position_of t.1))
-        (λ e. Fails e ord_parts depth (position_of at.entry)) }
-{
-    let (at, inner) = open_after(at, Kind::Ord, Kind::OpenParen, depth)?;
-    let value = boxed(alloc, expr(alloc, at, inner));
-    ord_of(numbered(followed_by(value, Kind::CloseParen)))
-}
-
-#[cycle(phrases)]
-fn chr<'t, 's>(
-    alloc: Global,
-    at: Cursor<'t, 's>,
-    depth: u32,
-) -> Result<(Primary, Cursor<'t, 's>), Fault<'t, 's>>
-    ensures read { MatchResult result (λ t. Reads (spell_primary (view_primary t.0))
-        (number_primary t.0) chr_parts depth depth (position_of at.entry) (position_of t.1))
-        (λ e. Fails e chr_parts depth (position_of at.entry)) }
-{
-    let (at, inner) = open_after(at, Kind::Chr, Kind::OpenParen, depth)?;
-    let value = boxed(alloc, expr(alloc, at, inner));
-    chr_of(numbered(followed_by(value, Kind::CloseParen)))
-}
-
+/// The arguments of a call, where an opening parenthesis stands.
 #[cycle(phrases)]
 pub fn args<'t, 's>(
     alloc: Global,
@@ -307,31 +52,18 @@ pub fn args<'t, 's>(
         (λ o. args_part ∷ o) depth depth (position_of at.entry) (position_of t.1))
         (λ e. Fails e (λ o. args_part ∷ o) depth (position_of at.entry)) }
 {
-    if at.is_at(Kind::OpenParen) {
-        let (at, inner) = at.open(Kind::OpenParen, depth)?;
-        return arguments_of(args_values(alloc, at, inner));
-    }
-    Ok((None, at))
+    let left = tokens_left(at);
+    alma_phrase_values::args(
+        alloc,
+        at,
+        depth,
+        &|alloc: Global, at: Cursor<'_, '_>, depth: u32|
+            ensures { ReadsAt at.entry depth result }
+        { inside(alloc, at, depth, left) },
+    )
 }
 
-/// What stands behind the opening parenthesis of arguments, up to the closing one. The depth is that inside.
-#[cycle(phrases)]
-fn args_values<'t, 's>(
-    alloc: Global,
-    at: Cursor<'t, 's>,
-    depth: u32,
-) -> Result<(Option<Exprs>, Cursor<'t, 's>), Fault<'t, 's>>
-    ensures read { MatchResult result
-        (λ t. Reads (spell_inside_args (inside_of t.0)) (number_inside_args t.0)
-        (λ o. args_inside ∷ o) depth (pred depth) (position_of at.entry) (position_of t.1))
-        (λ e. Fails e (λ o. args_inside ∷ o) depth (position_of at.entry)) }
-{
-    if let Some(after) = at.skip(Kind::CloseParen) {
-        return Ok((None, after));
-    }
-    present(followed_by(exprs(alloc, at, depth), Kind::CloseParen))
-}
-
+/// Expressions with commas between them.
 #[cycle(phrases)]
 pub fn exprs<'t, 's>(
     alloc: Global,
@@ -342,28 +74,18 @@ pub fn exprs<'t, 's>(
         (number_exprs t.0) exprs_parts depth depth (position_of at.entry) (position_of t.1))
         (λ e. Fails e exprs_parts depth (position_of at.entry)) }
 {
-    let (first, at) = boxed(alloc, expr(alloc, at, depth))?;
-    expressions_of(first, expr_list(alloc, at, depth))
+    let left = tokens_left(at);
+    alma_phrase_values::exprs(
+        alloc,
+        at,
+        depth,
+        &|alloc: Global, at: Cursor<'_, '_>, depth: u32|
+            ensures { ReadsAt at.entry depth result }
+        { inside(alloc, at, depth, left) },
+    )
 }
 
-#[cycle(phrases)]
-fn expr_list<'t, 's>(
-    alloc: Global,
-    mut at: Cursor<'t, 's>,
-    depth: u32,
-) -> Result<(Vec<Expr>, Cursor<'t, 's>), Fault<'t, 's>>
-    ensures read { MatchResult result
-        (λ t. Reads (spell_expr_tail (exprs_of t.0.items)) (numbers_of_exprs t.0.items)
-        (λ o. expr_tail ∷ o) depth depth (position_of at.entry) (position_of t.1))
-        (λ e. Fails e (λ o. expr_tail ∷ o) depth (position_of at.entry)) }
-{
-    let mut more = Vec::new(alloc);
-    while let Some(after) = at.skip(Kind::Comma) {
-        at = pushed(&mut more, expr(alloc, after, depth))?;
-    }
-    Ok((more, at))
-}
-
+/// A designator: a name, with indices and fields behind it.
 #[cycle(phrases)]
 pub fn desig<'t, 's>(
     alloc: Global,
@@ -374,62 +96,15 @@ pub fn desig<'t, 's>(
         (number_desig t.0) desig_parts depth depth (position_of at.entry) (position_of t.1))
         (λ e. Fails e desig_parts depth (position_of at.entry)) }
 {
-    let (name, at) = at.name()?;
-    desig_of(name, numbered(selectors(alloc, at, depth)))
-}
-
-#[cycle(phrases)]
-fn selectors<'t, 's>(
-    alloc: Global,
-    mut at: Cursor<'t, 's>,
-    depth: u32,
-) -> Result<(Vec<Selector>, Cursor<'t, 's>), Fault<'t, 's>>
-    ensures read { MatchResult result
-        (λ t. Reads (spell_selector_tail (selectors_of t.0.items)) (numbers_of_selectors t.0.items)
-        (λ o. selector_tail ∷ o) depth depth (position_of at.entry) (position_of t.1))
-        (λ e. Fails e (λ o. selector_tail ∷ o) depth (position_of at.entry)) }
-{
-    let mut more = Vec::new(alloc);
-    while let Some(form) = at.selector_form() {
-        at = pushed(&mut more, selector(alloc, form, at, depth))?;
-    }
-    Ok((more, at))
-}
-
-#[cycle(phrases)]
-fn selector<'t, 's>(
-    alloc: Global,
-    form: SelectorForm,
-    at: Cursor<'t, 's>,
-    depth: u32,
-) -> Result<(Selector, Cursor<'t, 's>), Fault<'t, 's>>
-    ensures read { MatchResult result
-        (λ t. Reads (spell_selector (view_selector t.0)) (number_selector t.0)
-        (selector_form_parts form) depth depth (position_of at.entry) (position_of t.1))
-        (λ e. Fails e (selector_form_parts form) depth (position_of at.entry)) }
-    ensures shorter { IfOk result (λ t. length (position_of t.1).kinds
-        < length (position_of at.entry).kinds) }
-{
-    match form {
-        SelectorForm::Field => field(at),
-        SelectorForm::Index => index(alloc, at, depth),
-    }
-}
-
-#[cycle(phrases)]
-fn index<'t, 's>(
-    alloc: Global,
-    at: Cursor<'t, 's>,
-    depth: u32,
-) -> Result<(Selector, Cursor<'t, 's>), Fault<'t, 's>>
-    ensures read { MatchResult result (λ t. Reads (spell_selector (view_selector t.0))
-        (number_selector t.0) index_parts depth depth (position_of at.entry) (position_of t.1))
-        (λ e. Fails e index_parts depth (position_of at.entry)) }
-    ensures shorter { IfOk result (λ t. length (position_of t.1).kinds
-        < length (position_of at.entry).kinds) }
-{
-    let (at, inner) = at.open(Kind::OpenBracket, depth)?;
-    index_of(numbered(followed_by(exprs(alloc, at, inner), Kind::CloseBracket)))
+    let left = tokens_left(at);
+    alma_phrase_values::desig(
+        alloc,
+        at,
+        depth,
+        &|alloc: Global, at: Cursor<'_, '_>, depth: u32|
+            ensures { ReadsAt at.entry depth result }
+        { inside(alloc, at, depth, left) },
+    )
 }
 
 /// The expression that begins with a designator, which has been read.
@@ -448,8 +123,30 @@ pub fn desig_value<'t, 's>(
         (λ e. Fails e (λ o. args_part ∷ factor_tail ∷ term_tail ∷ compared_part ∷ o) depth
         (position_of at.entry)) }
 {
-    let ((primary, node), at) = numbered(named(alloc, desig, at, depth))?;
-    let (first, at) = term_from(alloc, Factor::Plain { node, primary }, at, depth)?;
-    let (left, at) = simple_from(alloc, None, first, at, depth)?;
-    expr_from(alloc, left, at, depth)
+    let left = tokens_left(at);
+    alma_phrase_values::desig_value(
+        alloc,
+        desig,
+        at,
+        depth,
+        &|alloc: Global, at: Cursor<'_, '_>, depth: u32|
+            ensures { ReadsAt at.entry depth result }
+        { inside(alloc, at, depth, left) },
+    )
+}
+
+/// The statements in a parenthesis, where fewer than `left` tokens are left.
+#[cycle(phrases)]
+fn inside<'t, 's>(
+    alloc: Global,
+    at: Cursor<'t, 's>,
+    depth: u32,
+    left: usize,
+) -> Result<(Stmts, Cursor<'t, 's>), Fault<'t, 's>>
+    ensures read { ReadsAt at.entry depth result }
+{
+    if tokens_left(at) < left {
+        return stmts(alloc, at, depth);
+    }
+    Err(Fault::Memory)
 }

@@ -1,351 +1,36 @@
--- Answers of the cycle of expressions and statements.
-use Rattle.std.proofs.Common.{◌∷◌, Ok, Err, Some, length, refl, ap, sym, ◌∙◌, arith}
+-- Answers of the cycle of statements.
+use Rattle.std.proofs.Common.{◌∷◌, Ok, Err, Some, refl, ap, sym, ◌∙◌, arith}
 use Rattle.alma_tree.specs.declared.kind.Kind.TheVariants as kinds
-use Rattle.alma_tree.specs.declared.phrase.Expr as de
-use Rattle.alma_tree.specs.declared.phrase.Term as dm
-use Rattle.alma_tree.specs.declared.phrase.Factor as dr
-use Rattle.alma_tree.specs.declared.phrase.Primary as dp
-use Rattle.alma_tree.specs.declared.phrase.Exprs as dx
-use Rattle.alma_tree.specs.declared.phrase.Selector as dj
-use Rattle.alma_tree.specs.Spelling.{relation_kind, add_kind, mul_kind, spell_args, spell_expr_tail, spell_expr, spell_compared, spell_simple}
-use Rattle.alma_tree.specs.Spelling.{spell_term, spell_primary, spell_exprs, spell_desig, spell_selector, spell_stmt, spell_else, spell_by}
+use Rattle.alma_tree.specs.Spelling.{spell_args}
+use Rattle.alma_tree.specs.Spelling.{spell_desig, spell_stmt, spell_else, spell_by}
 use Rattle.alma_tree.specs.Spelling.{spell_returned, spell_arm, spell_label, spell_high}
-use Rattle.alma_tree.specs.View.{args_of, exprs_of, view_expr, compared_of, view_simple, view_term, view_primary, view_desig, view_selector}
+use Rattle.alma_tree.specs.View.{args_of, view_desig}
 use Rattle.alma_tree.specs.View.{view_stmt, else_of, by_of, returned_of, view_arm, high_of, view_label}
-use Rattle.alma_tree.specs.Numbers.{token, node, ◌>>◌, number_name, number_sign, number_stmts, number_stmt, number_arm, number_expr, number_simple}
-use Rattle.alma_tree.specs.Numbers.{number_term, number_primary, number_exprs, number_desig, number_selector, numbers_of_by, numbers_of_else}
-use Rattle.alma_tree.specs.Numbers.{number_factor, numbers_of_args, numbers_of_exprs, numbers_of_compared, numbers_of_high, numbers_of_returned}
+use Rattle.alma_tree.specs.Numbers.{token, node, ◌>>◌, number_stmts, number_stmt, number_arm, number_expr}
+use Rattle.alma_tree.specs.Numbers.{number_exprs, number_desig, numbers_of_by, numbers_of_else}
+use Rattle.alma_tree.specs.Numbers.{numbers_of_args, numbers_of_high, numbers_of_returned}
 use Rattle.alma_tree.specs.Numbers.{number_label}
 use Rattle.alma_tree.proofs.Rows as rows
 use Rattle.alma_tree.proofs.NumberRows as numbers
-use Rattle.alma_grammar.specs.Filling.{spell_inside_args}
-use Rattle.alma_grammar.specs.Parts.{factor_part, args_inside, expr_tail, selector_tail, simple_parts, term_parts, exprs_parts, one, primary_part}
+use Rattle.alma_grammar.specs.Parts.{one}
 use Rattle.alma_grammar.specs.Parts.{factor_tail, term_tail, compared_part, args_part, stmt_part, arm_part, after_desig, expr_parts, desig_parts}
 use Rattle.alma_grammar.specs.Parts.{stmts_parts, label_parts}
 use Rattle.alma_cursor.specs.Forms as forms
 use Rattle.alma_cursor.proofs.Joins.{followed, ended}
 use Rattle.alma_cursor.proofs.Loops as loops
-use Rattle.alma_cursor.proofs.Loops.{grouped}
-use Rattle.alma_cursor.proofs.Steps.{passed, opened, closed_any, then, skipped, becoming, twice, after, first, becoming_fails, beyond, instead}
-use Rattle.alma_cursor.proofs.Steps.{instead_any, extended, extended_twice, instead_extending}
-use Rattle.alma_phrase_parts.specs.Nodes.{ComparedWith, SumOf}
-use Rattle.alma_phrase_parts.proofs.Fewer.{behind_within, made_within, pushed_within, within_ok, ok_within}
-use Rattle.alma_phrase_parts.proofs.Growing.{pushed_turn}
+use Rattle.alma_cursor.proofs.Steps.{passed, opened, then, skipped, after, first, instead}
+use Rattle.alma_cursor.proofs.Steps.{instead_any, extended, instead_extending}
 use Rattle.alma_phrase_parts.proofs.Stopped.{stopped}
-use Rattle.alma_phrase_parts.proofs.Made.{made_gives, made_or_gives, behind_front, becoming_gives, made_extends, made_or_extends}
-use Rattle.alma_phrase_steps.specs.Pieces.{inside_of, number_inside_args}
-use Rattle.alma_phrase_steps.proofs.Chain.{plain, closing, matching, ended_behind, ended_extending, in_box, fewer}
+use Rattle.alma_phrase_parts.proofs.Made.{made_gives, becoming_gives, made_extends}
+use Rattle.alma_phrase_steps.proofs.Chain.{plain, matching, ended_behind, ended_extending, in_box, fewer}
 use Rattle.alma_phrase_steps.proofs.Heads as heads
-use Rattle.alma_phrase_steps.proofs.Links.{broken_turn, term_linked, factor_linked, shallower_gives}
 use Rattle.alma_phrase_steps.proofs.Lists as lists
-use Rattle.alma_phrase_steps.proofs.Values.{a_simple, a_term, a_factor, a_selector, a_primary, a_stmt, an_arm, an_expr, some_exprs, a_desig, some_stmts}
-use Rattle.alma_phrase_steps.proofs.Values.{more_terms, more_factors, more_selectors, more_stmts, more_labels, more_orelses, more_desigs, count_terms}
-use Rattle.alma_phrase_steps.proofs.Values.{count_factors, count_selectors, count_stmts, count_labels, count_orelses, count_desigs}
+use Rattle.alma_phrase_steps.proofs.Values.{a_stmt, an_arm, an_expr, some_exprs, a_desig, some_stmts}
+use Rattle.alma_phrase_steps.proofs.Values.{more_stmts, more_labels, more_orelses, more_desigs}
+use Rattle.alma_phrase_steps.proofs.Values.{count_stmts, count_labels, count_orelses, count_desigs}
 use Rattle.alma_tree.specs.declared.phrase.Stmt as dt
 use Rattle.alma_phrase_parts.proofs.Fronts.{part, part_and, and_then, whole, both, loop_front, loop_fewer, one_more, no_more}
 use Rattle.alma_phrase.proofs.+phrases.Goals as goal
-
-pub expression::expr_from-returns : goal.expression::expr_from-returns
-expression::expr_from-returns t c = record { read = made_extends (λ v. spell_compared (compared_of v.0)) (λ v. numbers_of_compared v.0 >> node v.1) an_expr number_expr _ _ (λ o. compared_part ∷ o) _ _ (λ v. de.roll-Expr (record { node = v.1; left = c.args.left; right = v.0 })) (λ v. ap spell_expr (rows.expr_rolled (record { node = v.1; left = c.args.left; right = v.0 }))) (λ v. numbers.expr_rolled (record { node = v.1; left = c.args.left; right = v.0 })) c.numbered.result c.expr_of.result c.expr_of.ensures.made (ended (λ v. spell_compared (compared_of v)) numbers_of_compared _ _ _ _ c.compared.result c.numbered.result c.numbered.ensures.numbered c.compared.ensures.read) }
-
-pub expression::term_from-returns : goal.expression::term_from-returns
-expression::term_from-returns t c = record { read = made_extends (λ v. more_factors v.0) (λ v. count_factors v.0 >> node v.1) a_term number_term _ _ (λ o. factor_tail ∷ o) _ _ (λ v. dm.roll-Term (record { node = v.1; first = c.args.first; more = v.0 })) (λ v. ap spell_term (rows.term_rolled (record { node = v.1; first = c.args.first; more = v.0 }))) (λ v. numbers.term_rolled (record { node = v.1; first = c.args.first; more = v.0 })) c.numbered.result c.term_of.result c.term_of.ensures.made (ended more_factors count_factors _ _ _ _ c.factors.result c.numbered.result c.numbered.ensures.numbered c.factors.ensures.read) }
-
-pub expression::simple_from-returns : goal.expression::simple_from-returns
-expression::simple_from-returns t c = record { read = made_or_extends (λ v. more_terms v.0) (λ v. count_terms v.0 >> node v.1) a_simple number_simple _ _ (λ o. term_tail ∷ o) _ _ (SumOf c.args.sign c.args.first) (λ v u h. ap spell_simple h.0) (λ v u h. h.1 ∙ sym (grouped (number_sign c.args.sign) (number_term c.args.first) (count_terms v.0 >> node v.1))) c.numbered.result c.simple_of.result c.simple_of.ensures.made (ended more_terms count_terms _ _ _ _ c.terms.result c.numbered.result c.numbered.ensures.numbered c.terms.ensures.read) }
-
-pub expression::named-returns : goal.expression::named-returns
-expression::named-returns t c = record { read = made_extends (λ v. spell_args (args_of v.0)) (λ v. numbers_of_args v.0 >> node v.1) a_primary number_primary _ _ (λ o. args_part ∷ o) _ _ (λ v. dp.Desig v.1 c.args.desig v.0) (λ v. ap spell_primary (rows.named_laid v.1 c.args.desig v.0)) (λ v. numbers.named_laid v.1 c.args.desig v.0) c.numbered.result c.named_of.result c.named_of.ensures.made (ended (λ v. spell_args (args_of v)) numbers_of_args _ _ _ _ c.args-args.result c.numbered.result c.numbered.ensures.numbered c.args-args.ensures.read) }
-
-pub expression::compared-returns : goal.expression::compared-returns
-expression::compared-returns t c = record { read = becoming_gives (λ v. spell_compared (compared_of v)) numbers_of_compared (λ o. compared_part ∷ o) (λ o. one (relation_kind c.in-Some.relation) ∷ simple_parts o) _ _ _ (heads.begins_relation c.in-Some.relation c.in-Some.ensures.passes) c.relation_of.result (made_or_gives (λ v ks. relation_kind c.in-Some.relation ∷ a_simple v ks) (λ v. token >> number_simple v) (λ v. spell_compared (compared_of v)) numbers_of_compared _ _ _ _ (ComparedWith c.in-Some.relation) (λ v u h. ap spell_compared h.0) (λ v u h. h.1) c.simple.result c.relation_of.result c.relation_of.ensures.made (behind_front a_simple number_simple (passed (heads.relation_opens c.in-Some.relation) (heads.relation_closes c.in-Some.relation) c.in-Some.ensures.passes) simple_parts _ c.simple.result c.simple.ensures.read)) }
-
-pub expression::terms-loop-operator-preserved : goal.expression::terms-loop-operator-preserved
-expression::terms-loop-operator-preserved t c = pushed_turn _ _ _ _ term_tail (λ o. one (add_kind c.in-Some.operator) ∷ term_parts o) _ _ _ lists.terms _ _ c.loop-operator.invariant (heads.begins_add c.in-Some.operator c.in-Some.ensures.passes) c.add_link.result _ c.in_ok-at.ensures.pushed (term_linked c.in-Some.operator _ c.in-Some.ensures.passes c.term.result c.add_link.result c.add_link.ensures.made c.term.ensures.read)
-
-pub expression::terms-returns-in_err-at : goal.expression::terms-returns-in_err-at
-expression::terms-returns-in_err-at t c = record { read = stopped _ _ _ _ c.from_residual.ensures.1 (broken_turn lists.terms term_tail (λ o. one (add_kind c.in-Some.operator) ∷ term_parts o) _ _ _ _ _ c.loop-operator.invariant (heads.begins_add c.in-Some.operator c.in-Some.ensures.passes) c.add_link.result _ c.in_err-at.ensures.pushed (term_linked c.in-Some.operator _ c.in-Some.ensures.passes c.term.result c.add_link.result c.add_link.ensures.made c.term.ensures.read)) }
-
-pub expression::terms-loop-operator-smaller : goal.expression::terms-loop-operator-smaller
-expression::terms-loop-operator-smaller t c = pushed_within _ c.add_link.result _ _ _ c.in_ok-at.ensures.pushed (made_within _ _ c.term.result c.add_link.result c.add_link.ensures.made (behind_within a_term number_term term_parts _ _ c.in-Some.ensures.passes c.term.result c.term.ensures.read))
-
-pub expression::factors-loop-operator-preserved : goal.expression::factors-loop-operator-preserved
-expression::factors-loop-operator-preserved t c = pushed_turn _ _ _ _ factor_tail (λ o. one (mul_kind c.in-Some.operator) ∷ factor_part ∷ o) _ _ _ lists.factors _ _ c.loop-operator.invariant (heads.begins_mul c.in-Some.operator c.in-Some.ensures.passes) c.mul_link.result _ c.in_ok-at.ensures.pushed (factor_linked c.in-Some.operator _ c.in-Some.ensures.passes c.factor.result c.mul_link.result c.mul_link.ensures.made c.factor.ensures.read)
-
-pub expression::factors-returns-in_err-at : goal.expression::factors-returns-in_err-at
-expression::factors-returns-in_err-at t c = record { read = stopped _ _ _ _ c.from_residual.ensures.1 (broken_turn lists.factors factor_tail (λ o. one (mul_kind c.in-Some.operator) ∷ factor_part ∷ o) _ _ _ _ _ c.loop-operator.invariant (heads.begins_mul c.in-Some.operator c.in-Some.ensures.passes) c.mul_link.result _ c.in_err-at.ensures.pushed (factor_linked c.in-Some.operator _ c.in-Some.ensures.passes c.factor.result c.mul_link.result c.mul_link.ensures.made c.factor.ensures.read)) }
-
-pub expression::factors-loop-operator-smaller : goal.expression::factors-loop-operator-smaller
-expression::factors-loop-operator-smaller t c = pushed_within _ c.mul_link.result _ _ _ c.in_ok-at.ensures.pushed (made_within _ _ c.factor.result c.mul_link.result c.mul_link.ensures.made (behind_within a_factor number_factor (λ o. factor_part ∷ o) _ _ c.in-Some.ensures.passes c.factor.result c.factor.ensures.read))
-
-pub expression::expr_list-loop-after-preserved : goal.expression::expr_list-loop-after-preserved
-expression::expr_list-loop-after-preserved t c = pushed_turn _ _ _ _ expr_tail (λ o. one kinds.Comma ∷ expr_parts o) _ _ _ lists.exprs _ _ c.loop-after.invariant (heads.begins_exprs c.in-Some.ensures.passes) c.expr.result _ c.in_ok-at.ensures.pushed (behind_front an_expr number_expr (passed refl refl c.in-Some.ensures.passes) expr_parts _ c.expr.result c.expr.ensures.read)
-
-pub expression::expr_list-returns-in_err-at : goal.expression::expr_list-returns-in_err-at
-expression::expr_list-returns-in_err-at t c = record { read = stopped _ _ _ _ c.from_residual.ensures.1 (broken_turn lists.exprs expr_tail (λ o. one kinds.Comma ∷ expr_parts o) _ _ _ _ _ c.loop-after.invariant (heads.begins_exprs c.in-Some.ensures.passes) c.expr.result _ c.in_err-at.ensures.pushed (behind_front an_expr number_expr (passed refl refl c.in-Some.ensures.passes) expr_parts _ c.expr.result c.expr.ensures.read)) }
-
-pub expression::expr_list-loop-after-smaller : goal.expression::expr_list-loop-after-smaller
-expression::expr_list-loop-after-smaller t c = pushed_within _ c.expr.result _ _ _ c.in_ok-at.ensures.pushed (behind_within an_expr number_expr expr_parts _ _ c.in-Some.ensures.passes c.expr.result c.expr.ensures.read)
-
-pub expression::selectors-loop-form-preserved : goal.expression::selectors-loop-form-preserved
-expression::selectors-loop-form-preserved t c = pushed_turn _ _ _ _ selector_tail (forms.selector_form_parts c.in-Some.form) _ _ _ lists.selectors _ _ c.loop-form.invariant c.in-Some.ensures.becomes c.selector.result _ c.in_ok-at.ensures.pushed c.selector.ensures.read
-
-pub expression::selectors-returns-in_err-at : goal.expression::selectors-returns-in_err-at
-expression::selectors-returns-in_err-at t c = record { read = stopped _ _ _ _ c.from_residual.ensures.1 (broken_turn lists.selectors selector_tail (forms.selector_form_parts c.in-Some.form) _ _ _ _ _ c.loop-form.invariant c.in-Some.ensures.becomes c.selector.result _ c.in_err-at.ensures.pushed c.selector.ensures.read) }
-
-pub expression::selectors-loop-form-smaller : goal.expression::selectors-loop-form-smaller
-expression::selectors-loop-form-smaller t c = pushed_within _ c.selector.result _ _ _ c.in_ok-at.ensures.pushed (ok_within _ c.selector.result c.selector.ensures.shorter)
-
-pub expression::factor-returns-in-Some : goal.expression::factor-returns-in-Some
-expression::factor-returns-in-Some t c = record { read = becoming_gives a_factor number_factor (λ o. factor_part ∷ o) (λ o. one kinds.Not ∷ primary_part ∷ o) _ _ _ (heads.begins_not c.in-Some.ensures.passes) c.not_of.result (made_gives (λ v ks. kinds.Not ∷ a_primary v.0 ks) (λ v. token >> number_primary v.0 >> node v.1) a_factor number_factor _ _ _ _ (λ v. dr.Not v.1 v.0) (λ v. refl) (λ v. refl) c.numbered.result c.not_of.result c.not_of.ensures.made (behind_front (λ v. a_primary v.0) (λ v. number_primary v.0 >> node v.1) (passed refl refl c.in-Some.ensures.passes) (λ o. primary_part ∷ o) _ c.numbered.result (ended a_primary number_primary _ _ _ _ c.primary.result c.numbered.result c.numbered.ensures.numbered c.primary.ensures.read))) }
-
-pub expression::factor-returns : goal.expression::factor-returns
-expression::factor-returns t c = record { read = becoming_gives a_factor number_factor (λ o. factor_part ∷ o) (λ o. primary_part ∷ o) _ _ _ (heads.no_not _ c.in_default.ensures.passes) c.plain_of.result (made_gives (λ v. a_primary v.0) (λ v. number_primary v.0 >> node v.1) a_factor number_factor _ _ _ _ (λ v. dr.Plain v.1 v.0) (λ v. refl) (λ v. refl) c.numbered-2.result c.plain_of.result c.plain_of.ensures.made (ended a_primary number_primary _ _ _ _ c.primary-2.result c.numbered-2.result c.numbered-2.ensures.numbered c.primary-2.ensures.read)) }
-
-pub expression::paren-returns : goal.expression::paren-returns
-expression::paren-returns t c = record { read = made_gives (λ v ks. kinds.OpenParen ∷ some_stmts v.0.value (kinds.CloseParen ∷ ks)) (λ v. token >> number_stmts v.0.value >> token >> node v.1) a_primary number_primary _ _ _ _ (λ v. dp.Paren v.1 v.0) (λ v. ap spell_primary (rows.paren_laid v.1 v.0)) (λ v. numbers.paren_laid v.1 v.0) c.numbered.result c.paren_of.result c.paren_of.ensures.made (behind_front (λ v ks. some_stmts v.0.value (kinds.CloseParen ∷ ks)) (λ v. number_stmts v.0.value >> token >> node v.1) (opened refl c.in_ok-at.ensures.opened) (λ o. stmts_parts (one kinds.CloseParen ∷ o)) _ c.numbered.result (ended_behind (λ v. some_stmts v.value) (λ v. number_stmts v.value) _ _ _ _ _ _ (matching kinds.CloseParen refl refl c.in_ok-at.ensures.opened) c.boxed-body.result c.followed_by.result c.followed_by.ensures.followed (in_box some_stmts number_stmts _ _ _ _ c.stmts.result c.boxed-body.result c.boxed-body.ensures.boxed c.stmts.ensures.read) c.numbered.result c.numbered.ensures.numbered)) }
-
-pub expression::known-returns-in_err-at : goal.expression::known-returns-in_err-at
-expression::known-returns-in_err-at t c = record { read = stopped _ _ _ _ c.from_residual.ensures.1 (first c.in_err-at.ensures.opened) }
-
-pub expression::known-returns : goal.expression::known-returns
-expression::known-returns t c = record { read = made_gives (λ v ks. kinds.Known ∷ kinds.OpenParen ∷ a_desig v.0 (kinds.CloseParen ∷ ks)) (λ v. token >> token >> number_desig v.0 >> token >> node v.1) a_primary number_primary _ _ _ _ (λ v. dp.Known v.1 v.0) (λ v. ap spell_primary (rows.known_laid v.1 v.0)) (λ v. numbers.known_laid v.1 v.0) c.numbered.result c.known_of.result c.known_of.ensures.made (behind_front (λ v ks. kinds.OpenParen ∷ a_desig v.0 (kinds.CloseParen ∷ ks)) (λ v. token >> number_desig v.0 >> token >> node v.1) (passed refl refl c.in_ok-at.ensures.opened.passes) (λ o. one kinds.OpenParen ∷ desig_parts (one kinds.CloseParen ∷ o)) _ c.numbered.result (behind_front (λ v ks. a_desig v.0 (kinds.CloseParen ∷ ks)) (λ v. number_desig v.0 >> token >> node v.1) (opened refl c.in_ok-at.ensures.opened.opens_behind) (λ o. desig_parts (one kinds.CloseParen ∷ o)) _ c.numbered.result (ended_behind a_desig number_desig _ _ _ _ _ _ (matching kinds.CloseParen refl refl c.in_ok-at.ensures.opened.opens_behind) c.desig.result c.followed_by.result c.followed_by.ensures.followed c.desig.ensures.read c.numbered.result c.numbered.ensures.numbered))) }
-
-pub expression::known-desig-requires : goal.expression::known-desig-requires
-expression::known-desig-requires t c = (omega (arith, c.in_ok-at.ensures.opened.passes.shorter, c.in_ok-at.ensures.opened.opens_behind.passes.shorter), tt)
-
-pub expression::ord-returns-in_err-at : goal.expression::ord-returns-in_err-at
-expression::ord-returns-in_err-at t c = record { read = stopped _ _ _ _ c.from_residual.ensures.1 (first c.in_err-at.ensures.opened) }
-
-pub expression::ord-returns : goal.expression::ord-returns
-expression::ord-returns t c = record { read = made_gives (λ v ks. kinds.Ord ∷ kinds.OpenParen ∷ an_expr v.0.value (kinds.CloseParen ∷ ks)) (λ v. token >> token >> number_expr v.0.value >> token >> node v.1) a_primary number_primary _ _ _ _ (λ v. dp.Ord v.1 v.0) (λ v. ap spell_primary (rows.ord_laid v.1 v.0)) (λ v. refl) c.numbered.result c.ord_of.result c.ord_of.ensures.made (behind_front (λ v ks. kinds.OpenParen ∷ an_expr v.0.value (kinds.CloseParen ∷ ks)) (λ v. token >> number_expr v.0.value >> token >> node v.1) (passed refl refl c.in_ok-at.ensures.opened.passes) (λ o. one kinds.OpenParen ∷ expr_parts (one kinds.CloseParen ∷ o)) _ c.numbered.result (behind_front (λ v ks. an_expr v.0.value (kinds.CloseParen ∷ ks)) (λ v. number_expr v.0.value >> token >> node v.1) (opened refl c.in_ok-at.ensures.opened.opens_behind) (λ o. expr_parts (one kinds.CloseParen ∷ o)) _ c.numbered.result (ended_behind (λ v. an_expr v.value) (λ v. number_expr v.value) _ _ _ _ _ _ (matching kinds.CloseParen refl refl c.in_ok-at.ensures.opened.opens_behind) c.boxed-value.result c.followed_by.result c.followed_by.ensures.followed (in_box an_expr number_expr _ _ _ _ c.expr.result c.boxed-value.result c.boxed-value.ensures.boxed c.expr.ensures.read) c.numbered.result c.numbered.ensures.numbered))) }
-
-pub expression::ord-expr-requires : goal.expression::ord-expr-requires
-expression::ord-expr-requires t c = (omega (arith, c.in_ok-at.ensures.opened.passes.shorter, c.in_ok-at.ensures.opened.opens_behind.passes.shorter), tt)
-
-pub expression::chr-returns-in_err-at : goal.expression::chr-returns-in_err-at
-expression::chr-returns-in_err-at t c = record { read = stopped _ _ _ _ c.from_residual.ensures.1 (first c.in_err-at.ensures.opened) }
-
-pub expression::chr-returns : goal.expression::chr-returns
-expression::chr-returns t c = record { read = made_gives (λ v ks. kinds.Chr ∷ kinds.OpenParen ∷ an_expr v.0.value (kinds.CloseParen ∷ ks)) (λ v. token >> token >> number_expr v.0.value >> token >> node v.1) a_primary number_primary _ _ _ _ (λ v. dp.Chr v.1 v.0) (λ v. ap spell_primary (rows.chr_laid v.1 v.0)) (λ v. refl) c.numbered.result c.chr_of.result c.chr_of.ensures.made (behind_front (λ v ks. kinds.OpenParen ∷ an_expr v.0.value (kinds.CloseParen ∷ ks)) (λ v. token >> number_expr v.0.value >> token >> node v.1) (passed refl refl c.in_ok-at.ensures.opened.passes) (λ o. one kinds.OpenParen ∷ expr_parts (one kinds.CloseParen ∷ o)) _ c.numbered.result (behind_front (λ v ks. an_expr v.0.value (kinds.CloseParen ∷ ks)) (λ v. number_expr v.0.value >> token >> node v.1) (opened refl c.in_ok-at.ensures.opened.opens_behind) (λ o. expr_parts (one kinds.CloseParen ∷ o)) _ c.numbered.result (ended_behind (λ v. an_expr v.value) (λ v. number_expr v.value) _ _ _ _ _ _ (matching kinds.CloseParen refl refl c.in_ok-at.ensures.opened.opens_behind) c.boxed-value.result c.followed_by.result c.followed_by.ensures.followed (in_box an_expr number_expr _ _ _ _ c.expr.result c.boxed-value.result c.boxed-value.ensures.boxed c.expr.ensures.read) c.numbered.result c.numbered.ensures.numbered))) }
-
-pub expression::chr-expr-requires : goal.expression::chr-expr-requires
-expression::chr-expr-requires t c = (omega (arith, c.in_ok-at.ensures.opened.passes.shorter, c.in_ok-at.ensures.opened.opens_behind.passes.shorter), tt)
-
-pub expression::known-open_after-requires : goal.expression::known-open_after-requires
-expression::known-open_after-requires t c = record { plain = refl; still = refl; opening = refl }
-
-pub expression::ord-open_after-requires : goal.expression::ord-open_after-requires
-expression::ord-open_after-requires t c = record { plain = refl; still = refl; opening = refl }
-
-pub expression::chr-open_after-requires : goal.expression::chr-open_after-requires
-expression::chr-open_after-requires t c = record { plain = refl; still = refl; opening = refl }
-
-pub expression::args-returns-then-is_at : goal.expression::args-returns-then-is_at
-expression::args-returns-then-is_at t c = record { read = becoming_gives (λ v. spell_args (args_of v)) numbers_of_args (λ o. args_part ∷ o) (λ o. one kinds.OpenParen ∷ args_inside ∷ o) _ _ _ (heads.at_args _ (sym c.is_at.ensures.starts ∙ c.if-is_at.true)) c.arguments_of.result (lists.args_given _ _ _ _ c.args_values.result c.arguments_of.result c.arguments_of.ensures.made (behind_front (λ v. spell_inside_args (inside_of v)) number_inside_args (opened refl c.in_ok-at.ensures.opened) (λ o. args_inside ∷ o) _ c.args_values.result (shallower_gives (λ v. spell_inside_args (inside_of v)) number_inside_args (λ o. args_inside ∷ o) c.in_ok-at.ensures.opened _ c.args_values.result c.args_values.ensures.read))) }
-
-pub expression::args_values-returns : goal.expression::args_values-returns
-expression::args_values-returns t c = record { read = becoming_gives (λ v. spell_inside_args (inside_of v)) number_inside_args (λ o. args_inside ∷ o) (λ o. exprs_parts (one kinds.CloseParen ∷ o)) _ _ _ (heads.some_args _ c.in_default.ensures.passes) c.present.result (made_gives (λ v ks. some_exprs v (kinds.CloseParen ∷ ks)) (λ v. number_exprs v >> token) (λ v. spell_inside_args (inside_of v)) number_inside_args _ _ _ _ (λ v. Some v) (λ v. refl) (λ v. refl) c.followed_by.result c.present.result c.present.ensures.made (followed some_exprs number_exprs _ _ _ _ _ (closing kinds.CloseParen _ refl refl) c.exprs.result c.followed_by.result c.followed_by.ensures.followed c.exprs.ensures.read)) }
-
-pub expression::exprs-returns : goal.expression::exprs-returns
-expression::exprs-returns t c = record { read = made_gives (λ v ks. an_expr c.in_ok-first.first.value (spell_expr_tail (exprs_of v.items) ks)) (λ v. number_expr c.in_ok-first.first.value >> numbers_of_exprs v.items) some_exprs number_exprs _ _ _ _ (λ v. dx.roll-Exprs (record { first = c.in_ok-first.first; more = v })) (λ v. ap spell_exprs (rows.exprs_rolled (record { first = c.in_ok-first.first; more = v }))) (λ v. numbers.exprs_rolled (record { first = c.in_ok-first.first; more = v })) c.expr_list.result c.expressions_of.result c.expressions_of.ensures.made (behind_front (λ v. spell_expr_tail (exprs_of v.items)) (λ v. numbers_of_exprs v.items) (in_box an_expr number_expr _ _ _ _ c.expr.result (Ok _) c.in_ok-first.ensures.boxed c.expr.ensures.read) (λ o. expr_tail ∷ o) _ c.expr_list.result c.expr_list.ensures.read) }
-
-pub expression::desig-returns : goal.expression::desig-returns
-expression::desig-returns t c = record { read = made_gives (λ v ks. kinds.Name ∷ more_selectors v.0 ks) (λ v. number_name c.in_ok-name.name >> count_selectors v.0 >> node v.1) a_desig number_desig _ _ _ _ (λ v. record { node = v.1; name = c.in_ok-name.name; more = v.0 }) (λ v. refl) (λ v. refl) c.numbered.result c.desig_of.result c.desig_of.ensures.made (behind_front (λ v. more_selectors v.0) (λ v. count_selectors v.0 >> node v.1) (c.in_ok-name.ensures.read _) (λ o. selector_tail ∷ o) _ c.numbered.result (ended more_selectors count_selectors _ _ _ _ c.selectors.result c.numbered.result c.numbered.ensures.numbered c.selectors.ensures.read)) }
-
-pub expression::index-returns-clause-read : goal.expression::index-returns-clause-read
-expression::index-returns-clause-read t c = made_gives (λ v ks. kinds.OpenBracket ∷ some_exprs v.0 (kinds.CloseBracket ∷ ks)) (λ v. token >> number_exprs v.0 >> token >> node v.1) a_selector number_selector _ _ _ _ (λ v. dj.Index v.1 v.0) (λ v. refl) (λ v. refl) c.numbered.result c.index_of.result c.index_of.ensures.made (behind_front (λ v ks. some_exprs v.0 (kinds.CloseBracket ∷ ks)) (λ v. number_exprs v.0 >> token >> node v.1) (opened refl c.in_ok-at.ensures.opened) (λ o. exprs_parts (one kinds.CloseBracket ∷ o)) _ c.numbered.result (ended_behind some_exprs number_exprs _ _ _ _ _ _ (matching kinds.CloseBracket refl refl c.in_ok-at.ensures.opened) c.exprs.result c.followed_by.result c.followed_by.ensures.followed c.exprs.ensures.read c.numbered.result c.numbered.ensures.numbered))
-
-pub expression::index-returns-clause-shorter : goal.expression::index-returns-clause-shorter
-expression::index-returns-clause-shorter t c = within_ok _ c.index_of.result (made_within _ _ c.numbered.result c.index_of.result c.index_of.ensures.made (behind_within (λ v ks. some_exprs v.0 (kinds.CloseBracket ∷ ks)) (λ v. number_exprs v.0 >> token >> node v.1) (λ o. exprs_parts (one kinds.CloseBracket ∷ o)) _ _ c.in_ok-at.ensures.opened.passes c.numbered.result (ended_behind some_exprs number_exprs _ _ _ _ _ _ (matching kinds.CloseBracket refl refl c.in_ok-at.ensures.opened) c.exprs.result c.followed_by.result c.followed_by.ensures.followed c.exprs.ensures.read c.numbered.result c.numbered.ensures.numbered)))
-
-pub expression::paren-returns-in_err-at : goal.expression::paren-returns-in_err-at
-expression::paren-returns-in_err-at t c = record { read = stopped _ _ _ _ c.from_residual.ensures.1 (first c.in_err-at.ensures.opened) }
-
-pub expression::args_values-returns-in-Some : goal.expression::args_values-returns-in-Some
-expression::args_values-returns-in-Some t c = record {
-  read = becoming (heads.begins_args_end c.in-Some.ensures.passes) (closed_any refl refl
-      c.in-Some.ensures.passes);
-}
-
-pub expression::desig-returns-in_err-name : goal.expression::desig-returns-in_err-name
-expression::desig-returns-in_err-name t c = record { read = stopped _ _ _ _ c.from_residual.ensures.1 (first (c.in_err-name.ensures.read _)) }
-
-pub expression::index-returns-in_err-at-clause-read : goal.expression::index-returns-in_err-at-clause-read
-expression::index-returns-in_err-at-clause-read t c = stopped _ _ _ _ c.from_residual.ensures.1 (first c.in_err-at.ensures.opened)
-
-pub expression::expr-returns-in_err-left : goal.expression::expr-returns-in_err-left
-expression::expr-returns-in_err-left t c = record { read = stopped _ _ _ _ c.from_residual.ensures.1 (first c.in_err-left.ensures.read) }
-
-pub expression::expr-returns : goal.expression::expr-returns
-expression::expr-returns t c = record {
-  read = extended c.expr_from.result (λ v. spell_expr (view_expr v)) number_expr (λ o. compared_part ∷ o)
-      c.in_ok-left.ensures.read c.expr_from.ensures.read;
-}
-
-pub expression::simple-returns-in_err-first : goal.expression::simple-returns-in_err-first
-expression::simple-returns-in_err-first t c = record {
-  read = stopped _ _ _ _ c.from_residual.ensures.1 (after (c.sign-sign.ensures.read _) (first
-      c.in_err-first.ensures.read));
-}
-
-pub expression::simple-returns : goal.expression::simple-returns
-expression::simple-returns t c = record {
-  read = extended c.simple_from.result (λ v. spell_simple (view_simple v)) number_simple (λ o. term_tail ∷ o)
-      (then (c.sign-sign.ensures.read _) c.in_ok-first.ensures.read) c.simple_from.ensures.read;
-}
-
-pub expression::term-returns-in_err-first : goal.expression::term-returns-in_err-first
-expression::term-returns-in_err-first t c = record { read = stopped _ _ _ _ c.from_residual.ensures.1 (first c.in_err-first.ensures.read) }
-
-pub expression::term-returns : goal.expression::term-returns
-expression::term-returns t c = record {
-  read = extended c.term_from.result (λ v. spell_term (view_term v)) number_term (λ o. factor_tail ∷ o)
-      c.in_ok-first.ensures.read c.term_from.ensures.read;
-}
-
-pub expression::desig_value-returns-in_err-primary : goal.expression::desig_value-returns-in_err-primary
-expression::desig_value-returns-in_err-primary t c = record { read = stopped _ _ _ _ c.from_residual.ensures.1 (first (ended_extending a_primary number_primary _ _ _ _ _ c.named.result (Err _) c.in_err-primary.ensures.numbered c.named.ensures.read)) }
-
-pub expression::desig_value-returns-in_err-first : goal.expression::desig_value-returns-in_err-first
-expression::desig_value-returns-in_err-first t c = record { read = stopped _ _ _ _ c.from_residual-in_err-first.ensures.1 (beyond (ended_extending a_primary number_primary _ _ _ _ _ c.named.result (Ok _) c.in_ok-primary.ensures.numbered c.named.ensures.read) (first c.in_err-first.ensures.read)) }
-
-pub expression::desig_value-returns-in_err-left : goal.expression::desig_value-returns-in_err-left
-expression::desig_value-returns-in_err-left t c = record { read = stopped _ _ _ _ c.from_residual-in_err-left.ensures.1 (beyond (twice (ended_extending a_primary number_primary _ _ _ _ _ c.named.result (Ok _) c.in_ok-primary.ensures.numbered c.named.ensures.read) c.in_ok-first.ensures.read) (first c.in_err-left.ensures.read)) }
-
-pub expression::desig_value-returns : goal.expression::desig_value-returns
-expression::desig_value-returns t c = record { read = extended_twice c.expr_from.result (λ v. spell_expr (view_expr v)) number_expr (λ o. compared_part ∷ o) (twice (ended_extending a_primary number_primary _ _ _ _ _ c.named.result (Ok _) c.in_ok-primary.ensures.numbered c.named.ensures.read) (twice c.in_ok-first.ensures.read c.in_ok-left.ensures.read)) c.expr_from.ensures.read }
-
-pub expression::desig_value-term_from-requires : goal.expression::desig_value-term_from-requires
-expression::desig_value-term_from-requires t c = (omega (arith, (ended_extending a_primary number_primary _ _ _ _ _ c.named.result (Ok _) c.in_ok-primary.ensures.numbered c.named.ensures.read).shorter), tt)
-
-pub expression::desig_value-simple_from-requires : goal.expression::desig_value-simple_from-requires
-expression::desig_value-simple_from-requires t c = (omega (arith, (ended_extending a_primary number_primary _ _ _ _ _ c.named.result (Ok _) c.in_ok-primary.ensures.numbered c.named.ensures.read).shorter, c.in_ok-first.ensures.read.shorter), tt)
-
-pub expression::desig_value-expr_from-requires : goal.expression::desig_value-expr_from-requires
-expression::desig_value-expr_from-requires t c = (omega (arith, (ended_extending a_primary number_primary _ _ _ _ _ c.named.result (Ok _) c.in_ok-primary.ensures.numbered c.named.ensures.read).shorter, c.in_ok-first.ensures.read.shorter, c.in_ok-left.ensures.read.shorter), tt)
-
-pub expression::compared-returns-in_default : goal.expression::compared-returns-in_default
-expression::compared-returns-in_default t c = record { read = skipped c.in_default.ensures.passes }
-
-pub expression::terms-loop-operator-init : goal.expression::terms-loop-operator-init
-expression::terms-loop-operator-init t c = rw c.new-more.ensures.items loops.loops_start
-
-pub expression::terms-returns : goal.expression::terms-returns
-expression::terms-returns t c = record { read = loops.ended c.loop-operator.invariant c.in_default.ensures.passes }
-
-pub expression::factors-loop-operator-init : goal.expression::factors-loop-operator-init
-expression::factors-loop-operator-init t c = rw c.new-more.ensures.items loops.loops_start
-
-pub expression::factors-returns : goal.expression::factors-returns
-expression::factors-returns t c = record { read = loops.ended c.loop-operator.invariant c.in_default.ensures.passes }
-
-pub expression::simple-term-requires : goal.expression::simple-term-requires
-expression::simple-term-requires t c = (omega (arith, (c.sign-sign.ensures.read 0).shorter), tt)
-
-pub expression::simple-simple_from-requires : goal.expression::simple-simple_from-requires
-expression::simple-simple_from-requires t c = (omega (arith, (c.sign-sign.ensures.read 0).shorter, c.in_ok-first.ensures.read.shorter), tt)
-
-pub expression::exprs-returns-in_err-first : goal.expression::exprs-returns-in_err-first
-expression::exprs-returns-in_err-first t c = record { read = stopped _ _ _ _ c.from_residual.ensures.1 (first (in_box an_expr number_expr _ _ _ _ c.expr.result (Err _) c.in_err-first.ensures.boxed c.expr.ensures.read)) }
-
-pub expression::exprs-expr_list-requires : goal.expression::exprs-expr_list-requires
-expression::exprs-expr_list-requires t c = (omega (arith, (in_box an_expr number_expr _ _ _ _ c.expr.result (Ok _) c.in_ok-first.ensures.boxed c.expr.ensures.read).shorter), tt)
-
-pub expression::expr_list-loop-after-init : goal.expression::expr_list-loop-after-init
-expression::expr_list-loop-after-init t c = rw c.new-more.ensures.items loops.loops_start
-
-pub expression::expr_list-returns : goal.expression::expr_list-returns
-expression::expr_list-returns t c = record { read = loops.ended c.loop-after.invariant (heads.skips_exprs _ c.in_default.ensures.passes) }
-
-pub expression::args-returns-in_err-at : goal.expression::args-returns-in_err-at
-expression::args-returns-in_err-at t c = record {
-  read = stopped _ _ _ _ c.from_residual.ensures.1 (becoming_fails (heads.at_args _ (sym
-      c.is_at.ensures.starts ∙ c.if-is_at.true)) (first c.in_err-at.ensures.opened));
-}
-
-pub expression::args-returns : goal.expression::args-returns
-expression::args-returns t c = record { read = skipped (heads.skips_args _ (sym c.is_at.ensures.starts ∙ c.if-is_at.false)) }
-
-pub expression::primary-returns-in_err-primary_form : goal.expression::primary-returns-in_err-primary_form
-expression::primary-returns-in_err-primary_form t c = record {
-  read = stopped _ _ _ _ c.from_residual.ensures.1 (c.in_err-primary_form.ensures.becomes
-      _);
-}
-
-pub expression::primary-returns-in-Number : goal.expression::primary-returns-in-Number
-expression::primary-returns-in-Number t c = record {
-  read = instead_any c.number.result (λ v. spell_primary (view_primary v)) number_primary (λ o.
-      primary_part ∷ o) (λ o. one kinds.Number ∷ o) c.args.depth _ (rw c.in-Number.is at c.in_ok-primary_form.ensures.becomes) c.number.ensures.read;
-}
-
-pub expression::primary-returns-in-Literal : goal.expression::primary-returns-in-Literal
-expression::primary-returns-in-Literal t c = record {
-  read = instead_any c.literal.result (λ v. spell_primary (view_primary v)) number_primary (λ o.
-      primary_part ∷ o) (λ o. one kinds.Literal ∷ o) c.args.depth _ (rw c.in-Literal.is at c.in_ok-primary_form.ensures.becomes) c.literal.ensures.read;
-}
-
-pub expression::primary-returns-in-Paren : goal.expression::primary-returns-in-Paren
-expression::primary-returns-in-Paren t c = record {
-  read = instead c.paren.result (λ v. spell_primary (view_primary v)) number_primary (λ o.
-      primary_part ∷ o) forms.paren_parts c.args.depth _ (rw c.in-Paren.is at c.in_ok-primary_form.ensures.becomes) c.paren.ensures.read;
-}
-
-pub expression::primary-returns-in-Known : goal.expression::primary-returns-in-Known
-expression::primary-returns-in-Known t c = record {
-  read = instead c.known.result (λ v. spell_primary (view_primary v)) number_primary (λ o.
-      primary_part ∷ o) forms.known_parts c.args.depth _ (rw c.in-Known.is at c.in_ok-primary_form.ensures.becomes) c.known.ensures.read;
-}
-
-pub expression::primary-returns-in-Ord : goal.expression::primary-returns-in-Ord
-expression::primary-returns-in-Ord t c = record {
-  read = instead c.ord.result (λ v. spell_primary (view_primary v)) number_primary (λ o. primary_part
-      ∷ o) forms.ord_parts c.args.depth _ (rw c.in-Ord.is at c.in_ok-primary_form.ensures.becomes) c.ord.ensures.read;
-}
-
-pub expression::primary-returns-in-Chr : goal.expression::primary-returns-in-Chr
-expression::primary-returns-in-Chr t c = record {
-  read = instead c.chr.result (λ v. spell_primary (view_primary v)) number_primary (λ o. primary_part
-      ∷ o) forms.chr_parts c.args.depth _ (rw c.in-Chr.is at c.in_ok-primary_form.ensures.becomes) c.chr.ensures.read;
-}
-
-pub expression::primary-returns-in_err-desig-in-Desig : goal.expression::primary-returns-in_err-desig-in-Desig
-expression::primary-returns-in_err-desig-in-Desig t c = record {
-  read = stopped _ _ _ _ c.from_residual-in_err-desig-in-Desig.ensures.1
-      (becoming_fails (rw c.in-Desig.is at c.in_ok-primary_form.ensures.becomes) (first c.in_err-desig-in-Desig.ensures.read));
-}
-
-pub expression::primary-returns-in_ok-desig-in-Desig : goal.expression::primary-returns-in_ok-desig-in-Desig
-expression::primary-returns-in_ok-desig-in-Desig t c = record {
-  read = instead c.named.result (λ v. spell_primary (view_primary v)) number_primary (λ
-      o. primary_part ∷ o) (λ o. desig_parts (args_part ∷ o)) c.args.depth _ (rw c.in-Desig.is at c.in_ok-primary_form.ensures.becomes) (extended
-      c.named.result (λ v. spell_primary (view_primary v)) number_primary (λ o. args_part ∷ o) c.in_ok-desig-in-Desig.ensures.read c.named.ensures.read);
-}
-
-pub expression::paren-open-requires : goal.expression::paren-open-requires
-expression::paren-open-requires t c = record { opening = refl }
-
-pub expression::args-open-requires : goal.expression::args-open-requires
-expression::args-open-requires t c = record { opening = refl }
-
-pub expression::selectors-loop-form-init : goal.expression::selectors-loop-form-init
-expression::selectors-loop-form-init t c = rw c.new-more.ensures.items loops.loops_start
-
-pub expression::selectors-returns : goal.expression::selectors-returns
-expression::selectors-returns t c = record { read = loops.ended c.loop-form.invariant c.in_default.ensures.becomes }
-
-pub expression::selector-returns-in-Field-clause-read : goal.expression::selector-returns-in-Field-clause-read
-expression::selector-returns-in-Field-clause-read t c = rw c.in-Field.is (instead_any c.field.result (λ v. spell_selector (view_selector v))
-    number_selector forms.field_parts forms.field_parts c.args.depth _ (record { becomes = λ d o. refl }) c.field.ensures.read)
-
-pub expression::selector-returns-in-Index-clause-read : goal.expression::selector-returns-in-Index-clause-read
-expression::selector-returns-in-Index-clause-read t c = rw c.in-Index.is c.index.ensures.read
-
-pub expression::desig-selectors-requires : goal.expression::desig-selectors-requires
-expression::desig-selectors-requires t c = (omega (arith, ap length (c.in_ok-name.ensures.read 0).spelled_so), tt)
-
-pub expression::index-open-requires : goal.expression::index-open-requires
-expression::index-open-requires t c = record { opening = refl }
 
 pub statement::stmts-returns-in_err-first : goal.statement::stmts-returns-in_err-first
 statement::stmts-returns-in_err-first t c = record { read = stopped _ _ _ _ c.from_residual.ensures.1 (first (in_box a_stmt number_stmt _ _ _ _ c.stmt.result (Err _) c.in_err-first.ensures.boxed c.stmt.ensures.read)) }
@@ -948,3 +633,6 @@ statement::forall_stmt-open-requires t c = record { opening = refl }
 
 pub statement::commit_stmt-open-requires : goal.statement::commit_stmt-open-requires
 statement::commit_stmt-open-requires t c = record { opening = refl }
+
+pub expression::inside-returns : goal.expression::inside-returns
+expression::inside-returns t c = record { read = record { ends = λ o. tt } }

@@ -1,10 +1,10 @@
 use Rattle.std.proofs.Common.{◌+◌, ◌*◌, length}
-use Rattle.alma_tree.specs.Spelling.{spell_term_tail, spell_factor_tail, spell_expr_tail, spell_selector_tail, spell_stmt_tail, spell_elsif_tail}
+use Rattle.alma_tree.specs.Spelling.{spell_stmt_tail, spell_elsif_tail}
 use Rattle.alma_tree.specs.Spelling.{spell_arm_tail, spell_label_tail, spell_orelse_tail, spell_desig_tail}
-use Rattle.alma_tree.specs.View.{terms_of, factors_of, exprs_of, selectors_of, stmts_of, elsifs_of, arms_of, labels_of, orelses_of, desigs_of}
-use Rattle.alma_tree.specs.Numbers.{numbers_of_terms, numbers_of_factors, numbers_of_exprs, numbers_of_selectors, numbers_of_stmts}
+use Rattle.alma_tree.specs.View.{stmts_of, elsifs_of, arms_of, labels_of, orelses_of, desigs_of}
+use Rattle.alma_tree.specs.Numbers.{numbers_of_stmts}
 use Rattle.alma_tree.specs.Numbers.{numbers_of_elsifs, numbers_of_arms, numbers_of_labels, numbers_of_orelses, numbers_of_desigs}
-use Rattle.alma_grammar.specs.Parts.{term_tail, factor_tail, expr_tail, selector_tail, stmt_tail, elsif_tail, arm_tail, label_tail, orelse_tail, desig_tail}
+use Rattle.alma_grammar.specs.Parts.{stmt_tail, elsif_tail, arm_tail, label_tail, orelse_tail, desig_tail}
 use Rattle.alma_cursor.specs.Parsing.{position_of}
 use Rattle.alma_cursor.proofs.Loops.{Loops}
 use Rattle.alma_phrase.proofs.+phrases.Given as goal
@@ -12,7 +12,7 @@ use Rattle.alma_phrase.proofs.+phrases.Given as goal
 -- Each call reads fewer tokens, or as many and comes before in the order of the numbers here.
 
 abbrev pub decreases-expression::args : goal.decreases-expression::args
-decreases-expression::args l = 16 * length (position_of l.at).kinds + 0
+decreases-expression::args l = 16 * length (position_of l.at).kinds + 2
 
 abbrev pub decreases-statement::arm_list : goal.decreases-statement::arm_list
 decreases-statement::arm_list l = 16 * length (position_of l.at).kinds + 1
@@ -23,17 +23,11 @@ decreases-statement::assign l = 16 * length (position_of l.at).kinds + 1
 abbrev pub decreases-statement::case_stmt : goal.decreases-statement::case_stmt
 decreases-statement::case_stmt l = 16 * length (position_of l.at).kinds + 1
 
-abbrev pub decreases-expression::chr : goal.decreases-expression::chr
-decreases-expression::chr l = 16 * length (position_of l.at).kinds + 1
-
 abbrev pub decreases-statement::commit_stmt : goal.decreases-statement::commit_stmt
 decreases-statement::commit_stmt l = 16 * length (position_of l.at).kinds + 1
 
-abbrev pub decreases-expression::compared : goal.decreases-expression::compared
-decreases-expression::compared l = 16 * length (position_of l.at).kinds + 1
-
 abbrev pub decreases-expression::desig : goal.decreases-expression::desig
-decreases-expression::desig l = 16 * length (position_of l.at).kinds + 1
+decreases-expression::desig l = 16 * length (position_of l.at).kinds + 2
 
 abbrev pub decreases-statement::desig_list : goal.decreases-statement::desig_list
 decreases-statement::desig_list l = 16 * length (position_of l.at).kinds + 1
@@ -43,12 +37,6 @@ decreases-statement::either_stmt l = 16 * length (position_of l.at).kinds + 1
 
 abbrev pub decreases-statement::elsif_list : goal.decreases-statement::elsif_list
 decreases-statement::elsif_list l = 16 * length (position_of l.at).kinds + 1
-
-abbrev pub decreases-expression::expr_list : goal.decreases-expression::expr_list
-decreases-expression::expr_list l = 16 * length (position_of l.at).kinds + 1
-
-abbrev pub decreases-expression::factors : goal.decreases-expression::factors
-decreases-expression::factors l = 16 * length (position_of l.at).kinds + 1
 
 abbrev pub decreases-statement::for_stmt : goal.decreases-statement::for_stmt
 decreases-statement::for_stmt l = 16 * length (position_of l.at).kinds + 1
@@ -62,29 +50,14 @@ decreases-statement::high l = 16 * length (position_of l.at).kinds + 1
 abbrev pub decreases-statement::if_stmt : goal.decreases-statement::if_stmt
 decreases-statement::if_stmt l = 16 * length (position_of l.at).kinds + 1
 
-abbrev pub decreases-expression::index : goal.decreases-expression::index
-decreases-expression::index l = 16 * length (position_of l.at).kinds + 1
-
-abbrev pub decreases-expression::known : goal.decreases-expression::known
-decreases-expression::known l = 16 * length (position_of l.at).kinds + 1
-
 abbrev pub decreases-statement::label_list : goal.decreases-statement::label_list
 decreases-statement::label_list l = 16 * length (position_of l.at).kinds + 1
-
-abbrev pub decreases-expression::named : goal.decreases-expression::named
-decreases-expression::named l = 16 * length (position_of l.at).kinds + 1
-
-abbrev pub decreases-expression::ord : goal.decreases-expression::ord
-decreases-expression::ord l = 16 * length (position_of l.at).kinds + 1
 
 abbrev pub decreases-statement::orelse_list : goal.decreases-statement::orelse_list
 decreases-statement::orelse_list l = 16 * length (position_of l.at).kinds + 1
 
 abbrev pub decreases-statement::otherwise : goal.decreases-statement::otherwise
 decreases-statement::otherwise l = 16 * length (position_of l.at).kinds + 1
-
-abbrev pub decreases-expression::paren : goal.decreases-expression::paren
-decreases-expression::paren l = 16 * length (position_of l.at).kinds + 1
 
 abbrev pub decreases-statement::read_stmt : goal.decreases-statement::read_stmt
 decreases-statement::read_stmt l = 16 * length (position_of l.at).kinds + 1
@@ -104,9 +77,6 @@ decreases-statement::step l = 16 * length (position_of l.at).kinds + 1
 abbrev pub decreases-statement::stmt_list : goal.decreases-statement::stmt_list
 decreases-statement::stmt_list l = 16 * length (position_of l.at).kinds + 1
 
-abbrev pub decreases-expression::terms : goal.decreases-expression::terms
-decreases-expression::terms l = 16 * length (position_of l.at).kinds + 1
-
 abbrev pub decreases-statement::while_stmt : goal.decreases-statement::while_stmt
 decreases-statement::while_stmt l = 16 * length (position_of l.at).kinds + 1
 
@@ -115,33 +85,6 @@ decreases-statement::write_stmt l = 16 * length (position_of l.at).kinds + 1
 
 abbrev pub decreases-statement::writeln_stmt : goal.decreases-statement::writeln_stmt
 decreases-statement::writeln_stmt l = 16 * length (position_of l.at).kinds + 1
-
-abbrev pub decreases-expression::expr_from : goal.decreases-expression::expr_from
-decreases-expression::expr_from l = 16 * length (position_of l.at).kinds + 2
-
-abbrev pub decreases-expression::primary : goal.decreases-expression::primary
-decreases-expression::primary l = 16 * length (position_of l.at).kinds + 2
-
-abbrev pub decreases-expression::selector : goal.decreases-expression::selector
-decreases-expression::selector l = 16 * length (position_of l.at).kinds + 2
-
-abbrev pub decreases-expression::simple_from : goal.decreases-expression::simple_from
-decreases-expression::simple_from l = 16 * length (position_of l.at).kinds + 2
-
-abbrev pub decreases-expression::term_from : goal.decreases-expression::term_from
-decreases-expression::term_from l = 16 * length (position_of l.at).kinds + 2
-
-abbrev pub decreases-expression::factor : goal.decreases-expression::factor
-decreases-expression::factor l = 16 * length (position_of l.at).kinds + 3
-
-abbrev pub decreases-expression::selectors : goal.decreases-expression::selectors
-decreases-expression::selectors l = 16 * length (position_of l.at).kinds + 3
-
-abbrev pub decreases-expression::term : goal.decreases-expression::term
-decreases-expression::term l = 16 * length (position_of l.at).kinds + 4
-
-abbrev pub decreases-expression::simple : goal.decreases-expression::simple
-decreases-expression::simple l = 16 * length (position_of l.at).kinds + 5
 
 abbrev pub decreases-expression::desig_value : goal.decreases-expression::desig_value
 decreases-expression::desig_value l = 16 * length (position_of l.at).kinds + 6
@@ -164,9 +107,6 @@ decreases-statement::returned l = 16 * length (position_of l.at).kinds + 7
 abbrev pub decreases-statement::value_stmt : goal.decreases-statement::value_stmt
 decreases-statement::value_stmt l = 16 * length (position_of l.at).kinds + 7
 
-abbrev pub decreases-expression::args_values : goal.decreases-expression::args_values
-decreases-expression::args_values l = 16 * length (position_of l.at).kinds + 8
-
 abbrev pub decreases-statement::labelled_arm : goal.decreases-statement::labelled_arm
 decreases-statement::labelled_arm l = 16 * length (position_of l.at).kinds + 8
 
@@ -178,34 +118,6 @@ decreases-statement::arm l = 16 * length (position_of l.at).kinds + 9
 
 abbrev pub decreases-statement::stmts : goal.decreases-statement::stmts
 decreases-statement::stmts l = 16 * length (position_of l.at).kinds + 9
-
-abbrev pub invariant-expression::terms-loop-operator : goal.invariant-expression::terms-loop-operator
-invariant-expression::terms-loop-operator l = Loops (spell_term_tail (terms_of l.more.items)) (numbers_of_terms l.more.items) term_tail l.depth
-    (position_of l.fn.at) (position_of l.at)
-
-abbrev pub decreases-expression::terms-loop-operator : goal.decreases-expression::terms-loop-operator
-decreases-expression::terms-loop-operator l = length (position_of l.at).kinds
-
-abbrev pub invariant-expression::factors-loop-operator : goal.invariant-expression::factors-loop-operator
-invariant-expression::factors-loop-operator l = Loops (spell_factor_tail (factors_of l.more.items)) (numbers_of_factors l.more.items) factor_tail l.depth
-    (position_of l.fn.at) (position_of l.at)
-
-abbrev pub decreases-expression::factors-loop-operator : goal.decreases-expression::factors-loop-operator
-decreases-expression::factors-loop-operator l = length (position_of l.at).kinds
-
-abbrev pub invariant-expression::expr_list-loop-after : goal.invariant-expression::expr_list-loop-after
-invariant-expression::expr_list-loop-after l = Loops (spell_expr_tail (exprs_of l.more.items)) (numbers_of_exprs l.more.items) expr_tail l.depth
-    (position_of l.fn.at) (position_of l.at)
-
-abbrev pub decreases-expression::expr_list-loop-after : goal.decreases-expression::expr_list-loop-after
-decreases-expression::expr_list-loop-after l = length (position_of l.at).kinds
-
-abbrev pub invariant-expression::selectors-loop-form : goal.invariant-expression::selectors-loop-form
-invariant-expression::selectors-loop-form l = Loops (spell_selector_tail (selectors_of l.more.items))
-    (numbers_of_selectors l.more.items) selector_tail l.depth (position_of l.fn.at) (position_of l.at)
-
-abbrev pub decreases-expression::selectors-loop-form : goal.decreases-expression::selectors-loop-form
-decreases-expression::selectors-loop-form l = length (position_of l.at).kinds
 
 abbrev pub invariant-statement::stmt_list-loop-after : goal.invariant-statement::stmt_list-loop-after
 invariant-statement::stmt_list-loop-after l = Loops (spell_stmt_tail (stmts_of l.more.items)) (numbers_of_stmts l.more.items) stmt_tail l.depth
@@ -248,3 +160,23 @@ invariant-statement::desig_list-loop-after l = Loops (spell_desig_tail (desigs_o
 
 abbrev pub decreases-statement::desig_list-loop-after : goal.decreases-statement::desig_list-loop-after
 decreases-statement::desig_list-loop-after l = length (position_of l.at).kinds
+
+-- What stands inside a parenthesis has fewer tokens.
+
+abbrev pub decreases-expression::inside : goal.decreases-expression::inside
+decreases-expression::inside l = 16 * l.left
+
+abbrev pub decreases-expression::expr-expr : goal.decreases-expression::expr-expr
+decreases-expression::expr-expr l = 16 * l.left + 1
+
+abbrev pub decreases-expression::args-args : goal.decreases-expression::args-args
+decreases-expression::args-args l = 16 * l.left + 1
+
+abbrev pub decreases-expression::exprs-exprs : goal.decreases-expression::exprs-exprs
+decreases-expression::exprs-exprs l = 16 * l.left + 1
+
+abbrev pub decreases-expression::desig-desig : goal.decreases-expression::desig-desig
+decreases-expression::desig-desig l = 16 * l.left + 1
+
+abbrev pub decreases-expression::desig_value-desig_value : goal.decreases-expression::desig_value-desig_value
+decreases-expression::desig_value-desig_value l = 16 * l.left + 1
