@@ -13,9 +13,10 @@ fn call(
     input: &[u8],
     devices: &Devices,
 ) -> Result<Answer, CaseError> {
-    let mut input = MemSource::new(alloc, input, devices.piece, &devices.input)?;
-    let mut out = MemSink::new(alloc, devices.room, devices.piece, &devices.out)?;
-    let mut err = MemSink::new(alloc, devices.room, devices.piece, &devices.err)?;
+    let piece = devices.piece.max(1);
+    let mut input = MemSource::new(alloc, input, piece, &devices.input)?;
+    let mut out = MemSink::new(alloc, devices.room, piece, &devices.out)?;
+    let mut err = MemSink::new(alloc, devices.room, piece, &devices.err)?;
     let status = alma(alloc, words, files, &mut input, &mut out, &mut err).0;
     Ok(Answer { status, out, err })
 }
