@@ -1,15 +1,16 @@
-// Expressions and designators, whose parentheses hold statements.
-ghost use Rattle.std.specs.Prelude.{◌≡◌, ◌∷◌, length, MatchResult};
-ghost use Rattle.alma_tree.specs.Spelling.{spell_expr, spell_args, spell_exprs, spell_desig};
-ghost use Rattle.alma_tree.specs.View.{view_expr, args_of, view_exprs, view_desig};
-ghost use Rattle.alma_tree.specs.Numbers.{number_expr, numbers_of_args, number_exprs, number_desig};
-ghost use Rattle.alma_grammar.specs.Parts.{factor_tail, term_tail, compared_part, args_part, expr_parts, exprs_parts, desig_parts};
-ghost use Rattle.alma_cursor.specs.Parsing.{position_of, Reads, Extends, Fails};
+// Expressions, and statements that hold none, whose parentheses hold statements.
+ghost use Rattle.std.specs.Prelude.{◌≡◌, length, MatchResult};
+ghost use Rattle.alma_tree.specs.Spelling.{spell_expr, spell_stmt};
+ghost use Rattle.alma_tree.specs.View.{view_expr, view_stmt};
+ghost use Rattle.alma_tree.specs.Numbers.{number_expr, number_stmt};
+ghost use Rattle.alma_grammar.specs.Parts.{expr_parts};
+ghost use Rattle.alma_cursor.specs.Forms.{stmt_form_parts};
+ghost use Rattle.alma_cursor.specs.Parsing.{position_of, Reads, Fails};
 ghost use Rattle.alma_phrase_values.specs.Inside.{ReadsAt};
 
 use crate::statement::stmts;
-use alma_cursor::{Cursor, Fault};
-use alma_tree::{Args, Desig, Expr, Exprs, Stmts};
+use alma_cursor::{Cursor, Fault, StmtForm};
+use alma_tree::{Expr, Stmt, Stmts};
 use std::alloc::Global;
 
 /// How many tokens are left.
@@ -41,92 +42,22 @@ pub fn expr<'t, 's>(
     )
 }
 
-/// The arguments of a call, where an opening parenthesis stands.
+/// The statement of this form, where it holds no statements.
 #[cycle(phrases)]
-pub fn args<'t, 's>(
+pub fn simple_stmt<'t, 's>(
     alloc: Global,
+    form: StmtForm,
     at: Cursor<'t, 's>,
     depth: u32,
-) -> Result<(Option<Args>, Cursor<'t, 's>), Fault<'t, 's>>
-    ensures read { MatchResult result (λ t. Reads (spell_args (args_of t.0)) (numbers_of_args t.0)
-        (λ o. args_part ∷ o) depth depth (position_of at.entry) (position_of t.1))
-        (λ e. Fails e (λ o. args_part ∷ o) depth (position_of at.entry)) }
+) -> Result<(Stmt, Cursor<'t, 's>), Fault<'t, 's>>
+    ensures read { MatchResult result (λ t. Reads (spell_stmt (view_stmt t.0)) (number_stmt t.0)
+        (stmt_form_parts form) depth depth (position_of at.entry) (position_of t.1))
+        (λ e. Fails e (stmt_form_parts form) depth (position_of at.entry)) }
 {
     let left = tokens_left(at);
-    alma_phrase_values::args(
+    alma_phrase_values::simple_stmt(
         alloc,
-        at,
-        depth,
-        &|alloc: Global, at: Cursor<'_, '_>, depth: u32|
-            ensures { ReadsAt at.entry depth result }
-        { inside(alloc, at, depth, left) },
-    )
-}
-
-/// Expressions with commas between them.
-#[cycle(phrases)]
-pub fn exprs<'t, 's>(
-    alloc: Global,
-    at: Cursor<'t, 's>,
-    depth: u32,
-) -> Result<(Exprs, Cursor<'t, 's>), Fault<'t, 's>>
-    ensures read { MatchResult result (λ t. Reads (spell_exprs (view_exprs t.0))
-        (number_exprs t.0) exprs_parts depth depth (position_of at.entry) (position_of t.1))
-        (λ e. Fails e exprs_parts depth (position_of at.entry)) }
-{
-    let left = tokens_left(at);
-    alma_phrase_values::exprs(
-        alloc,
-        at,
-        depth,
-        &|alloc: Global, at: Cursor<'_, '_>, depth: u32|
-            ensures { ReadsAt at.entry depth result }
-        { inside(alloc, at, depth, left) },
-    )
-}
-
-/// A designator: a name, with indices and fields behind it.
-#[cycle(phrases)]
-pub fn desig<'t, 's>(
-    alloc: Global,
-    at: Cursor<'t, 's>,
-    depth: u32,
-) -> Result<(Desig, Cursor<'t, 's>), Fault<'t, 's>>
-    ensures read { MatchResult result (λ t. Reads (spell_desig (view_desig t.0))
-        (number_desig t.0) desig_parts depth depth (position_of at.entry) (position_of t.1))
-        (λ e. Fails e desig_parts depth (position_of at.entry)) }
-{
-    let left = tokens_left(at);
-    alma_phrase_values::desig(
-        alloc,
-        at,
-        depth,
-        &|alloc: Global, at: Cursor<'_, '_>, depth: u32|
-            ensures { ReadsAt at.entry depth result }
-        { inside(alloc, at, depth, left) },
-    )
-}
-
-/// The expression that begins with a designator, which has been read.
-#[cycle(phrases)]
-pub fn desig_value<'t, 's>(
-    alloc: Global,
-    desig: Desig,
-    at: Cursor<'t, 's>,
-    depth: u32,
-) -> Result<(Expr, Cursor<'t, 's>), Fault<'t, 's>>
-    ensures read { MatchResult result
-        (λ t. Extends (spell_desig (view_desig desig)) (number_desig desig)
-        (λ o. args_part ∷ factor_tail ∷ term_tail ∷ compared_part ∷ o)
-        (spell_expr (view_expr t.0)) (number_expr t.0) depth (position_of at.entry)
-        (position_of t.1))
-        (λ e. Fails e (λ o. args_part ∷ factor_tail ∷ term_tail ∷ compared_part ∷ o) depth
-        (position_of at.entry)) }
-{
-    let left = tokens_left(at);
-    alma_phrase_values::desig_value(
-        alloc,
-        desig,
+        form,
         at,
         depth,
         &|alloc: Global, at: Cursor<'_, '_>, depth: u32|

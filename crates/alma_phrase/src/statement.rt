@@ -1,27 +1,25 @@
 // Statements.
-ghost use Rattle.std.specs.Prelude.{◌≡◌, ◌∷◌, ℕ, List, MatchResult, Some, None};
-ghost use Rattle.alma_tree.specs.declared.kind.Kind.TheVariants as kinds;
-ghost use Rattle.alma_tree.specs.Spelling.{spell_desig, spell_stmts, spell_stmt_tail, spell_stmt, spell_elsif_tail, spell_else, spell_by, spell_orelse_tail};
-ghost use Rattle.alma_tree.specs.Spelling.{spell_returned, spell_desig_tail, spell_arm, spell_arm_tail, spell_label, spell_high, spell_label_tail};
-ghost use Rattle.alma_tree.specs.View.{view_stmts, stmts_of, view_stmt, elsifs_of, else_of, by_of, orelses_of, returned_of, desigs_of, view_arm, arms_of};
-ghost use Rattle.alma_tree.specs.View.{view_label, high_of, labels_of, view_desig};
+ghost use Rattle.std.specs.Prelude.{◌∷◌, MatchResult, Some, None};
+ghost use Rattle.alma_tree.specs.Spelling.{spell_stmts, spell_stmt_tail, spell_stmt, spell_elsif_tail, spell_else, spell_by, spell_orelse_tail};
+ghost use Rattle.alma_tree.specs.Spelling.{spell_arm, spell_arm_tail, spell_label, spell_high, spell_label_tail};
+ghost use Rattle.alma_tree.specs.View.{view_stmts, stmts_of, view_stmt, elsifs_of, else_of, by_of, orelses_of, view_arm, arms_of};
+ghost use Rattle.alma_tree.specs.View.{view_label, high_of, labels_of};
 ghost use Rattle.alma_tree.specs.Numbers.{number_stmts, numbers_of_stmts, number_stmt, numbers_of_elsifs, numbers_of_else, numbers_of_by};
 ghost use Rattle.alma_tree.specs.Numbers.{numbers_of_high, numbers_of_orelses};
-ghost use Rattle.alma_tree.specs.Numbers.{numbers_of_returned, numbers_of_desigs, number_arm, numbers_of_arms, number_label, numbers_of_labels, number_desig};
-ghost use Rattle.alma_grammar.specs.Parts.{one, stmt_part, stmt_tail, elsif_tail, else_part, by_part, orelse_tail, returned_part, desig_tail, arm_part};
-ghost use Rattle.alma_grammar.specs.Parts.{arm_tail, high_part, label_tail, expr_parts, stmts_parts, label_parts};
+ghost use Rattle.alma_tree.specs.Numbers.{number_arm, numbers_of_arms, number_label, numbers_of_labels};
+ghost use Rattle.alma_grammar.specs.Parts.{stmt_part, stmt_tail, elsif_tail, else_part, by_part, orelse_tail, arm_part};
+ghost use Rattle.alma_grammar.specs.Parts.{arm_tail, high_part, label_tail, stmts_parts, label_parts};
 ghost use Rattle.alma_cursor.specs.Forms.{if_parts, while_parts, repeat_parts, for_parts, some_parts, case_parts, either_parts, forall_parts};
-ghost use Rattle.alma_cursor.specs.Forms.{commit_parts, return_parts, read_parts, write_parts, writeln_parts, desig_stmt_parts, labelled_parts};
-ghost use Rattle.alma_cursor.specs.Parsing.{position_of, Reads, Extends, Fails};
+ghost use Rattle.alma_cursor.specs.Forms.{commit_parts, labelled_parts};
+ghost use Rattle.alma_cursor.specs.Parsing.{position_of, Reads, Fails};
 
-use crate::expression::{args, desig, desig_value, expr, exprs};
+use crate::expression::{expr, simple_stmt};
 use alma_cursor::{Cursor, Fault, StmtForm, followed_by, numbered};
 use alma_phrase_parts::{
-    assign_of, boxed, case_of, commit_of, either_of, elsif_of, empty_arm, for_of, forall_of, if_of,
-    label_of, labelled_of, loop_head, nothing, open_after, present, pushed, read_of, repeat_of,
-    return_of, some_of, stmts_of, value_of, while_of, write_of, writeln_of,
+    boxed, case_of, commit_of, either_of, elsif_of, empty_arm, for_of, forall_of, if_of, label_of,
+    labelled_of, loop_head, present, pushed, repeat_of, some_of, stmts_of, while_of,
 };
-use alma_tree::{Arm, Desig, Elsif, Expr, Kind, Label, Stmt, Stmts};
+use alma_tree::{Arm, Elsif, Expr, Kind, Label, Stmt, Stmts};
 use std::alloc::Global;
 
 #[cycle(phrases)]
@@ -67,9 +65,6 @@ fn stmt<'t, 's>(
         (λ e. Fails e (λ o. stmt_part ∷ o) depth (position_of at.entry)) }
 {
     match at.stmt_form() {
-        StmtForm::Nothing => nothing(at),
-        StmtForm::Desig => desig_stmt(alloc, at, depth),
-        StmtForm::Value => value_stmt(alloc, at, depth),
         StmtForm::If => if_stmt(alloc, at, depth),
         StmtForm::While => while_stmt(alloc, at, depth),
         StmtForm::Repeat => repeat_stmt(alloc, at, depth),
@@ -79,61 +74,8 @@ fn stmt<'t, 's>(
         StmtForm::Either => either_stmt(alloc, at, depth),
         StmtForm::Forall => forall_stmt(alloc, at, depth),
         StmtForm::Commit => commit_stmt(alloc, at, depth),
-        StmtForm::Return => return_stmt(alloc, at, depth),
-        StmtForm::Read => read_stmt(alloc, at, depth),
-        StmtForm::Write => write_stmt(alloc, at, depth),
-        StmtForm::Writeln => writeln_stmt(alloc, at, depth),
+        form => simple_stmt(alloc, form, at, depth),
     }
-}
-
-/// An assignment, or an expression that begins with a designator.
-#[cycle(phrases)]
-fn desig_stmt<'t, 's>(
-    alloc: Global,
-    at: Cursor<'t, 's>,
-    depth: u32,
-) -> Result<(Stmt, Cursor<'t, 's>), Fault<'t, 's>>
-    ensures read { MatchResult result (λ t. Reads (spell_stmt (view_stmt t.0))
-        (number_stmt t.0) desig_stmt_parts depth depth (position_of at.entry) (position_of t.1))
-        (λ e. Fails e desig_stmt_parts depth (position_of at.entry)) }
-{
-    let (desig, at) = desig(alloc, at, depth)?;
-    if at.is_at(Kind::Assign) {
-        return assign(alloc, desig, at, depth);
-    }
-    value_of(numbered(desig_value(alloc, desig, at, depth)))
-}
-
-/// The assignment whose target has been read.
-#[cycle(phrases)]
-fn assign<'t, 's>(
-    alloc: Global,
-    target: Desig,
-    at: Cursor<'t, 's>,
-    depth: u32,
-) -> Result<(Stmt, Cursor<'t, 's>), Fault<'t, 's>>
-    ensures read { MatchResult result
-        (λ t. Extends (spell_desig (view_desig target)) (number_desig target)
-        (λ o. one kinds.Assign ∷ expr_parts o)
-        (spell_stmt (view_stmt t.0)) (number_stmt t.0) depth (position_of at.entry)
-        (position_of t.1))
-        (λ e. Fails e (λ o. one kinds.Assign ∷ expr_parts o) depth (position_of at.entry)) }
-{
-    let at = at.expect(Kind::Assign)?;
-    assign_of(target, numbered(expr(alloc, at, depth)))
-}
-
-#[cycle(phrases)]
-fn value_stmt<'t, 's>(
-    alloc: Global,
-    at: Cursor<'t, 's>,
-    depth: u32,
-) -> Result<(Stmt, Cursor<'t, 's>), Fault<'t, 's>>
-    ensures read { MatchResult result (λ t. Reads (spell_stmt (view_stmt t.0))
-        (number_stmt t.0) expr_parts depth depth (position_of at.entry) (position_of t.1))
-        (λ e. Fails e expr_parts depth (position_of at.entry)) }
-{
-    value_of(numbered(expr(alloc, at, depth)))
 }
 
 #[cycle(phrases)]
@@ -451,98 +393,4 @@ fn commit_stmt<'t, 's>(
 {
     let (at, inner) = at.open(Kind::Commit, depth)?;
     commit_of(numbered(followed_by(stmts(alloc, at, inner), Kind::End)))
-}
-
-#[cycle(phrases)]
-fn return_stmt<'t, 's>(
-    alloc: Global,
-    at: Cursor<'t, 's>,
-    depth: u32,
-) -> Result<(Stmt, Cursor<'t, 's>), Fault<'t, 's>>
-    ensures read { MatchResult result (λ t. Reads (spell_stmt (view_stmt t.0))
-        (number_stmt t.0) return_parts depth depth (position_of at.entry) (position_of t.1))
-        (λ e. Fails e return_parts depth (position_of at.entry)) }
-{
-    let at = at.expect(Kind::Return)?;
-    return_of(numbered(returned(alloc, at, depth)))
-}
-
-#[cycle(phrases)]
-fn returned<'t, 's>(
-    alloc: Global,
-    at: Cursor<'t, 's>,
-    depth: u32,
-) -> Result<(Option<Expr>, Cursor<'t, 's>), Fault<'t, 's>>
-    ensures read { MatchResult result
-        (λ t. Reads (spell_returned (returned_of t.0)) (numbers_of_returned t.0)
-        (λ o. returned_part ∷ o) depth depth (position_of at.entry) (position_of t.1))
-        (λ e. Fails e (λ o. returned_part ∷ o) depth (position_of at.entry)) }
-{
-    if at.begins_expr() {
-        return present(expr(alloc, at, depth));
-    }
-    Ok((None, at))
-}
-
-#[cycle(phrases)]
-fn read_stmt<'t, 's>(
-    alloc: Global,
-    at: Cursor<'t, 's>,
-    depth: u32,
-) -> Result<(Stmt, Cursor<'t, 's>), Fault<'t, 's>>
-    ensures read { MatchResult result (λ t. Reads (spell_stmt (view_stmt t.0))
-        (number_stmt t.0) read_parts depth depth (position_of at.entry) (position_of t.1))
-        (λ e. Fails e read_parts depth (position_of at.entry)) }
-{
-    let (at, inner) = open_after(at, Kind::Read, Kind::OpenParen, depth)?;
-    let (first, at) = desig(alloc, at, inner)?;
-    let more = followed_by(desig_list(alloc, at, inner), Kind::CloseParen);
-    read_of(first, numbered(more))
-}
-
-#[cycle(phrases)]
-fn desig_list<'t, 's>(
-    alloc: Global,
-    mut at: Cursor<'t, 's>,
-    depth: u32,
-) -> Result<(Vec<Desig>, Cursor<'t, 's>), Fault<'t, 's>>
-    ensures read { MatchResult result
-        (λ t. Reads (spell_desig_tail (desigs_of t.0.items)) (numbers_of_desigs t.0.items)
-        (λ o. desig_tail ∷ o) depth depth (position_of at.entry) (position_of t.1))
-        (λ e. Fails e (λ o. desig_tail ∷ o) depth (position_of at.entry)) }
-{
-    let mut more = Vec::new(alloc);
-    while let Some(after) = at.skip(Kind::Comma) {
-        at = pushed(&mut more, desig(alloc, after, depth))?;
-    }
-    Ok((more, at))
-}
-
-#[cycle(phrases)]
-fn write_stmt<'t, 's>(
-    alloc: Global,
-    at: Cursor<'t, 's>,
-    depth: u32,
-) -> Result<(Stmt, Cursor<'t, 's>), Fault<'t, 's>>
-    ensures read { MatchResult result (λ t. Reads (spell_stmt (view_stmt t.0))
-        (number_stmt t.0) write_parts depth depth (position_of at.entry) (position_of t.1))
-        (λ e. Fails e write_parts depth (position_of at.entry)) }
-{
-    let (at, inner) = open_after(at, Kind::Write, Kind::OpenParen, depth)?;
-    let items = followed_by(exprs(alloc, at, inner), Kind::CloseParen);
-    write_of(numbered(items))
-}
-
-#[cycle(phrases)]
-fn writeln_stmt<'t, 's>(
-    alloc: Global,
-    at: Cursor<'t, 's>,
-    depth: u32,
-) -> Result<(Stmt, Cursor<'t, 's>), Fault<'t, 's>>
-    ensures read { MatchResult result (λ t. Reads (spell_stmt (view_stmt t.0))
-        (number_stmt t.0) writeln_parts depth depth (position_of at.entry) (position_of t.1))
-        (λ e. Fails e writeln_parts depth (position_of at.entry)) }
-{
-    let at = at.expect(Kind::Writeln)?;
-    writeln_of(numbered(args(alloc, at, depth)))
 }

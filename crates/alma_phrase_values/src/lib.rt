@@ -1,6 +1,8 @@
-//! Reading expressions, over a reader of the statements that stand in a parenthesis.
+//! Reading expressions, and statements that hold none, over a reader of the statements that stand in a parenthesis.
 #![tactic(auto)]
 
 mod expression;
+mod statement;
 
-pub use expression::{args, desig, desig_value, expr, exprs};
+pub use expression::expr;
+pub use statement::simple_stmt;

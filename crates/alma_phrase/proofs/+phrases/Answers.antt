@@ -1,34 +1,31 @@
 -- Answers of the cycle of statements.
-use Rattle.std.proofs.Common.{◌∷◌, Ok, Err, Some, refl, ap, sym, ◌∙◌, arith}
+use Rattle.std.proofs.Common.{◌∷◌, Ok, Err, Some, refl, ap, arith}
 use Rattle.alma_tree.specs.declared.kind.Kind.TheVariants as kinds
-use Rattle.alma_tree.specs.Spelling.{spell_args}
-use Rattle.alma_tree.specs.Spelling.{spell_desig, spell_stmt, spell_else, spell_by}
-use Rattle.alma_tree.specs.Spelling.{spell_returned, spell_arm, spell_label, spell_high}
-use Rattle.alma_tree.specs.View.{args_of, view_desig}
-use Rattle.alma_tree.specs.View.{view_stmt, else_of, by_of, returned_of, view_arm, high_of, view_label}
+use Rattle.alma_tree.specs.Spelling.{spell_stmt, spell_else, spell_by}
+use Rattle.alma_tree.specs.Spelling.{spell_arm, spell_label, spell_high}
+use Rattle.alma_tree.specs.View.{view_stmt, else_of, by_of, view_arm, high_of, view_label}
 use Rattle.alma_tree.specs.Numbers.{token, node, ◌>>◌, number_stmts, number_stmt, number_arm, number_expr}
-use Rattle.alma_tree.specs.Numbers.{number_exprs, number_desig, numbers_of_by, numbers_of_else}
-use Rattle.alma_tree.specs.Numbers.{numbers_of_args, numbers_of_high, numbers_of_returned}
+use Rattle.alma_tree.specs.Numbers.{numbers_of_by, numbers_of_else}
+use Rattle.alma_tree.specs.Numbers.{numbers_of_high}
 use Rattle.alma_tree.specs.Numbers.{number_label}
 use Rattle.alma_tree.proofs.Rows as rows
 use Rattle.alma_tree.proofs.NumberRows as numbers
 use Rattle.alma_grammar.specs.Parts.{one}
-use Rattle.alma_grammar.specs.Parts.{factor_tail, term_tail, compared_part, args_part, stmt_part, arm_part, after_desig, expr_parts, desig_parts}
+use Rattle.alma_grammar.specs.Parts.{stmt_part, arm_part, expr_parts}
 use Rattle.alma_grammar.specs.Parts.{stmts_parts, label_parts}
 use Rattle.alma_cursor.specs.Forms as forms
 use Rattle.alma_cursor.proofs.Joins.{followed, ended}
 use Rattle.alma_cursor.proofs.Loops as loops
-use Rattle.alma_cursor.proofs.Steps.{passed, opened, then, skipped, after, first, instead}
-use Rattle.alma_cursor.proofs.Steps.{instead_any, extended, instead_extending}
+use Rattle.alma_cursor.proofs.Steps.{passed, opened, skipped, after, first, instead}
+use Rattle.alma_cursor.proofs.Steps.{instead_any}
 use Rattle.alma_phrase_parts.proofs.Stopped.{stopped}
-use Rattle.alma_phrase_parts.proofs.Made.{made_gives, becoming_gives, made_extends}
-use Rattle.alma_phrase_steps.proofs.Chain.{plain, matching, ended_behind, ended_extending, in_box, fewer}
+use Rattle.alma_phrase_parts.proofs.Made.{becoming_gives}
+use Rattle.alma_phrase_steps.proofs.Chain.{plain, matching, ended_behind, in_box, fewer}
 use Rattle.alma_phrase_steps.proofs.Heads as heads
 use Rattle.alma_phrase_steps.proofs.Lists as lists
-use Rattle.alma_phrase_steps.proofs.Values.{a_stmt, an_arm, an_expr, some_exprs, a_desig, some_stmts}
-use Rattle.alma_phrase_steps.proofs.Values.{more_stmts, more_labels, more_orelses, more_desigs}
-use Rattle.alma_phrase_steps.proofs.Values.{count_stmts, count_labels, count_orelses, count_desigs}
-use Rattle.alma_tree.specs.declared.phrase.Stmt as dt
+use Rattle.alma_phrase_steps.proofs.Values.{a_stmt, an_arm, an_expr, some_stmts}
+use Rattle.alma_phrase_steps.proofs.Values.{more_stmts, more_labels, more_orelses}
+use Rattle.alma_phrase_steps.proofs.Values.{count_stmts, count_labels, count_orelses}
 use Rattle.alma_phrase_parts.proofs.Fronts.{part, part_and, and_then, whole, both, loop_front, loop_fewer, one_more, no_more}
 use Rattle.alma_phrase.proofs.+phrases.Goals as goal
 
@@ -40,15 +37,6 @@ statement::stmts-returns t c = record { read = whole (λ v. more_stmts v.0) (λ 
 
 pub statement::stmts-stmt_list-requires : goal.statement::stmts-stmt_list-requires
 statement::stmts-stmt_list-requires t c = (omega (arith, (in_box a_stmt number_stmt _ _ _ _ c.stmt.result (Ok _) c.in_ok-first.ensures.boxed c.stmt.ensures.read).shorter), tt)
-
-pub statement::assign-returns-in_err-at : goal.statement::assign-returns-in_err-at
-statement::assign-returns-in_err-at t c = record { read = stopped _ _ _ _ c.from_residual.ensures.1 (first (c.in_err-at.ensures.passes _)) }
-
-pub statement::assign-returns : goal.statement::assign-returns
-statement::assign-returns t c = record { read = made_extends (λ v ks. kinds.Assign ∷ an_expr v.0 ks) (λ v. token >> number_expr v.0 >> node v.1) a_stmt number_stmt (spell_desig (view_desig c.args.target)) (number_desig c.args.target) _ _ _ (λ v. dt.Assign v.1 c.args.target v.0) (λ v. ap spell_stmt (rows.assign_laid v.1 c.args.target v.0)) (λ v. numbers.assign_laid v.1 c.args.target v.0) c.numbered.result _ c.assign_of.ensures.made (both (λ v. an_expr v.0) (λ v. number_expr v.0 >> node v.1) (part (passed refl refl c.in_ok-at.ensures.passes)) _ _ c.numbered.result (ended an_expr number_expr _ _ _ _ c.expr.result c.numbered.result c.numbered.ensures.numbered c.expr.ensures.read)) }
-
-pub statement::value_stmt-returns : goal.statement::value_stmt-returns
-statement::value_stmt-returns t c = record { read = made_gives (λ v. an_expr v.0) (λ v. number_expr v.0 >> node v.1) a_stmt number_stmt _ _ _ _ (λ v. dt.Value v.1 v.0) (λ v. refl) (λ v. refl) c.numbered.result _ c.value_of.ensures.made (ended an_expr number_expr _ _ _ _ c.expr.result c.numbered.result c.numbered.ensures.numbered c.expr.ensures.read) }
 
 pub statement::if_stmt-returns-in_err-at : goal.statement::if_stmt-returns-in_err-at
 statement::if_stmt-returns-in_err-at t c = record { read = stopped _ _ _ _ c.from_residual.ensures.1 (first c.in_err-at.ensures.opened) }
@@ -350,66 +338,6 @@ statement::commit_stmt-returns-in_err-at t c = record { read = stopped _ _ _ _ c
 pub statement::commit_stmt-returns : goal.statement::commit_stmt-returns
 statement::commit_stmt-returns t c = record { read = whole (λ v ks. some_stmts v.0 (kinds.End ∷ ks)) (λ v. number_stmts v.0 >> token >> node v.1) a_stmt number_stmt (part (opened refl c.in_ok-at.ensures.opened)) _ _ _ (λ v. ap spell_stmt (rows.commit_laid v.1 v.0)) (λ v. numbers.commit_laid v.1 v.0) c.numbered.result _ c.commit_of.ensures.made (ended_behind some_stmts number_stmts _ _ _ _ _ _ (matching kinds.End refl refl c.in_ok-at.ensures.opened) c.stmts.result c.followed_by.result c.followed_by.ensures.followed c.stmts.ensures.read c.numbered.result c.numbered.ensures.numbered) }
 
-pub statement::return_stmt-returns-in_err-at : goal.statement::return_stmt-returns-in_err-at
-statement::return_stmt-returns-in_err-at t c = record { read = stopped _ _ _ _ c.from_residual.ensures.1 (first (c.in_err-at.ensures.passes _)) }
-
-pub statement::return_stmt-returns : goal.statement::return_stmt-returns
-statement::return_stmt-returns t c = record { read = whole (λ v. spell_returned (returned_of v.0)) (λ v. numbers_of_returned v.0 >> node v.1) a_stmt number_stmt (part (passed refl refl c.in_ok-at.ensures.passes)) _ _ _ (λ v. ap spell_stmt (rows.return_laid v.1 v.0)) (λ v. numbers.return_laid v.1 v.0) c.numbered.result _ c.return_of.ensures.made (ended (λ v. spell_returned (returned_of v)) numbers_of_returned _ _ _ _ c.returned.result c.numbered.result c.numbered.ensures.numbered c.returned.ensures.read) }
-
-pub statement::read_stmt-returns-in_err-at : goal.statement::read_stmt-returns-in_err-at
-statement::read_stmt-returns-in_err-at t c = record { read = stopped _ _ _ _ c.from_residual.ensures.1 (first c.in_err-at.ensures.opened) }
-
-pub statement::read_stmt-returns-in_err-first : goal.statement::read_stmt-returns-in_err-first
-statement::read_stmt-returns-in_err-first t c = record { read = stopped _ _ _ _ c.from_residual-in_err-first.ensures.1 ((and_then (part (passed refl refl c.in_ok-at.ensures.opened.passes)) (part (opened refl c.in_ok-at.ensures.opened.opens_behind))).fails _ _ (first c.in_err-first.ensures.read)) }
-
-pub statement::read_stmt-returns : goal.statement::read_stmt-returns
-statement::read_stmt-returns t c = record { read = whole (λ v ks. more_desigs v.0 (kinds.CloseParen ∷ ks)) (λ v. count_desigs v.0 >> token >> node v.1) a_stmt number_stmt (and_then (part (passed refl refl c.in_ok-at.ensures.opened.passes)) (and_then (part (opened refl c.in_ok-at.ensures.opened.opens_behind)) (part c.in_ok-first.ensures.read))) _ _ _ (λ v. ap spell_stmt (rows.read_laid v.1 c.in_ok-first.first v.0)) (λ v. numbers.read_laid v.1 c.in_ok-first.first v.0) c.numbered.result _ c.read_of.ensures.made (ended_behind more_desigs count_desigs _ _ _ _ _ _ (matching kinds.CloseParen refl refl c.in_ok-at.ensures.opened.opens_behind) c.desig_list.result c.followed_by-more.result c.followed_by-more.ensures.followed c.desig_list.ensures.read c.numbered.result c.numbered.ensures.numbered) }
-
-pub statement::read_stmt-open_after-requires : goal.statement::read_stmt-open_after-requires
-statement::read_stmt-open_after-requires t c = record { plain = refl; still = refl; opening = refl }
-
-pub statement::read_stmt-desig-requires : goal.statement::read_stmt-desig-requires
-statement::read_stmt-desig-requires t c = (omega (arith, c.in_ok-at.ensures.opened.passes.shorter, c.in_ok-at.ensures.opened.opens_behind.passes.shorter), tt)
-
-pub statement::read_stmt-desig_list-requires : goal.statement::read_stmt-desig_list-requires
-statement::read_stmt-desig_list-requires t c = (omega (arith, c.in_ok-at.ensures.opened.passes.shorter, c.in_ok-at.ensures.opened.opens_behind.passes.shorter, c.in_ok-first.ensures.read.shorter), tt)
-
-pub statement::write_stmt-returns-in_err-at : goal.statement::write_stmt-returns-in_err-at
-statement::write_stmt-returns-in_err-at t c = record { read = stopped _ _ _ _ c.from_residual.ensures.1 (first c.in_err-at.ensures.opened) }
-
-pub statement::write_stmt-returns : goal.statement::write_stmt-returns
-statement::write_stmt-returns t c = record { read = whole (λ v ks. some_exprs v.0 (kinds.CloseParen ∷ ks)) (λ v. number_exprs v.0 >> token >> node v.1) a_stmt number_stmt (and_then (part (passed refl refl c.in_ok-at.ensures.opened.passes)) (part (opened refl c.in_ok-at.ensures.opened.opens_behind))) _ _ (λ v. dt.Write v.1 v.0) (λ v. refl) (λ v. refl) c.numbered.result _ c.write_of.ensures.made (ended_behind some_exprs number_exprs _ _ _ _ _ _ (matching kinds.CloseParen refl refl c.in_ok-at.ensures.opened.opens_behind) c.exprs.result c.followed_by-items.result c.followed_by-items.ensures.followed c.exprs.ensures.read c.numbered.result c.numbered.ensures.numbered) }
-
-pub statement::write_stmt-open_after-requires : goal.statement::write_stmt-open_after-requires
-statement::write_stmt-open_after-requires t c = record { plain = refl; still = refl; opening = refl }
-
-pub statement::write_stmt-exprs-requires : goal.statement::write_stmt-exprs-requires
-statement::write_stmt-exprs-requires t c = (omega (arith, c.in_ok-at.ensures.opened.passes.shorter, c.in_ok-at.ensures.opened.opens_behind.passes.shorter), tt)
-
-pub statement::writeln_stmt-returns-in_err-at : goal.statement::writeln_stmt-returns-in_err-at
-statement::writeln_stmt-returns-in_err-at t c = record { read = stopped _ _ _ _ c.from_residual.ensures.1 (first (c.in_err-at.ensures.passes _)) }
-
-pub statement::writeln_stmt-returns : goal.statement::writeln_stmt-returns
-statement::writeln_stmt-returns t c = record { read = whole (λ v. spell_args (args_of v.0)) (λ v. numbers_of_args v.0 >> node v.1) a_stmt number_stmt (part (passed refl refl c.in_ok-at.ensures.passes)) _ _ _ (λ v. ap spell_stmt (rows.writeln_laid v.1 v.0)) (λ v. numbers.writeln_laid v.1 v.0) c.numbered.result _ c.writeln_of.ensures.made (ended (λ v. spell_args (args_of v)) numbers_of_args _ _ _ _ c.args-2.result c.numbered.result c.numbered.ensures.numbered c.args-2.ensures.read) }
-
-pub statement::desig_list-loop-after-init : goal.statement::desig_list-loop-after-init
-statement::desig_list-loop-after-init t c = rw c.new-more.ensures.items loops.loops_start
-
-pub statement::desig_list-loop-after-preserved : goal.statement::desig_list-loop-after-preserved
-statement::desig_list-loop-after-preserved t c = one_more lists.desigs (λ o. one kinds.Comma ∷ desig_parts o) _ _ c.loop-after.invariant (heads.begins_desigs c.in-Some.ensures.passes) c.desig.result _ c.in_ok-at.ensures.pushed (both a_desig number_desig (part (passed refl refl c.in-Some.ensures.passes)) _ _ c.desig.result c.desig.ensures.read)
-
-pub statement::desig_list-returns : goal.statement::desig_list-returns
-statement::desig_list-returns t c = record { read = loops.ended c.loop-after.invariant (heads.skips_desigs _ c.in_default.ensures.passes) }
-
-pub statement::desig_list-returns-in_err-at : goal.statement::desig_list-returns-in_err-at
-statement::desig_list-returns-in_err-at t c = record { read = stopped _ _ _ _ c.from_residual.ensures.1 (no_more lists.desigs (λ o. one kinds.Comma ∷ desig_parts o) _ _ c.loop-after.invariant (heads.begins_desigs c.in-Some.ensures.passes) c.desig.result _ c.in_err-at.ensures.pushed (both a_desig number_desig (part (passed refl refl c.in-Some.ensures.passes)) _ _ c.desig.result c.desig.ensures.read)) }
-
-pub statement::returned-returns-then-begins_expr : goal.statement::returned-returns-then-begins_expr
-statement::returned-returns-then-begins_expr t c = record { read = becoming_gives (λ v. spell_returned (returned_of v)) numbers_of_returned _ _ _ _ _ (rw c.if-begins_expr.true at c.begins_expr.ensures.value) c.present.result (made_gives an_expr number_expr (λ v. spell_returned (returned_of v)) numbers_of_returned _ _ _ _ (λ v. Some v) (λ v. refl) (λ v. refl) c.expr.result _ c.present.ensures.made c.expr.ensures.read) }
-
-pub statement::returned-returns : goal.statement::returned-returns
-statement::returned-returns t c = record { read = skipped (rw c.if-begins_expr.false at c.begins_expr.ensures.value) }
-
 pub statement::stmt_list-loop-after-init : goal.statement::stmt_list-loop-after-init
 statement::stmt_list-loop-after-init t c = rw c.new-more.ensures.items loops.loops_start
 
@@ -421,24 +349,6 @@ statement::stmt_list-returns t c = record { read = loops.ended c.loop-after.inva
 
 pub statement::stmt_list-returns-in_err-at : goal.statement::stmt_list-returns-in_err-at
 statement::stmt_list-returns-in_err-at t c = record { read = stopped _ _ _ _ c.from_residual.ensures.1 (no_more lists.stmts (λ o. one kinds.Semicolon ∷ stmt_part ∷ o) _ _ c.loop-after.invariant (heads.begins_stmts c.in-Some.ensures.passes) c.stmt.result _ c.in_err-at.ensures.pushed (both a_stmt number_stmt (part (passed refl refl c.in-Some.ensures.passes)) _ _ c.stmt.result c.stmt.ensures.read)) }
-
-pub statement::stmt-returns-in-Nothing : goal.statement::stmt-returns-in-Nothing
-statement::stmt-returns-in-Nothing t c = record {
-  read = instead_any c.nothing.result (λ v. spell_stmt (view_stmt v)) number_stmt (λ o. stmt_part ∷ o)
-      (λ o. o) c.args.depth _ (rw c.in-Nothing.is at c.stmt_form.ensures.becomes) c.nothing.ensures.read;
-}
-
-pub statement::stmt-returns-in-Desig : goal.statement::stmt-returns-in-Desig
-statement::stmt-returns-in-Desig t c = record {
-  read = instead c.desig_stmt.result (λ v. spell_stmt (view_stmt v)) number_stmt (λ o. stmt_part ∷ o)
-      forms.desig_stmt_parts c.args.depth _ (rw c.in-Desig.is at c.stmt_form.ensures.becomes) c.desig_stmt.ensures.read;
-}
-
-pub statement::stmt-returns-in-Value : goal.statement::stmt-returns-in-Value
-statement::stmt-returns-in-Value t c = record {
-  read = instead c.value_stmt.result (λ v. spell_stmt (view_stmt v)) number_stmt (λ o. stmt_part ∷ o)
-      expr_parts c.args.depth _ (rw c.in-Value.is at c.stmt_form.ensures.becomes) c.value_stmt.ensures.read;
-}
 
 pub statement::stmt-returns-in-If : goal.statement::stmt-returns-in-If
 statement::stmt-returns-in-If t c = record {
@@ -494,43 +404,11 @@ statement::stmt-returns-in-Commit t c = record {
       forms.commit_parts c.args.depth _ (rw c.in-Commit.is at c.stmt_form.ensures.becomes) c.commit_stmt.ensures.read;
 }
 
-pub statement::stmt-returns-in-Return : goal.statement::stmt-returns-in-Return
-statement::stmt-returns-in-Return t c = record {
-  read = instead c.return_stmt.result (λ v. spell_stmt (view_stmt v)) number_stmt (λ o. stmt_part ∷ o)
-      forms.return_parts c.args.depth _ (rw c.in-Return.is at c.stmt_form.ensures.becomes) c.return_stmt.ensures.read;
+pub statement::stmt-returns-in_default : goal.statement::stmt-returns-in_default
+statement::stmt-returns-in_default t c = record {
+  read = instead c.simple_stmt.result (λ v. spell_stmt (view_stmt v)) number_stmt (λ o. stmt_part ∷ o)
+      (forms.stmt_form_parts c.stmt_form.result) c.args.depth _ c.stmt_form.ensures.becomes c.simple_stmt.ensures.read;
 }
-
-pub statement::stmt-returns-in-Read : goal.statement::stmt-returns-in-Read
-statement::stmt-returns-in-Read t c = record {
-  read = instead c.read_stmt.result (λ v. spell_stmt (view_stmt v)) number_stmt (λ o. stmt_part ∷ o)
-      forms.read_parts c.args.depth _ (rw c.in-Read.is at c.stmt_form.ensures.becomes) c.read_stmt.ensures.read;
-}
-
-pub statement::stmt-returns-in-Write : goal.statement::stmt-returns-in-Write
-statement::stmt-returns-in-Write t c = record {
-  read = instead c.write_stmt.result (λ v. spell_stmt (view_stmt v)) number_stmt (λ o. stmt_part ∷ o)
-      forms.write_parts c.args.depth _ (rw c.in-Write.is at c.stmt_form.ensures.becomes) c.write_stmt.ensures.read;
-}
-
-pub statement::stmt-returns-in-Writeln : goal.statement::stmt-returns-in-Writeln
-statement::stmt-returns-in-Writeln t c = record {
-  read = instead c.writeln_stmt.result (λ v. spell_stmt (view_stmt v)) number_stmt (λ o. stmt_part ∷
-      o) forms.writeln_parts c.args.depth _ (rw c.in-Writeln.is at c.stmt_form.ensures.becomes) c.writeln_stmt.ensures.read;
-}
-
-pub statement::desig_stmt-returns-in_err-desig : goal.statement::desig_stmt-returns-in_err-desig
-statement::desig_stmt-returns-in_err-desig t c = record { read = stopped _ _ _ _ c.from_residual.ensures.1 (first c.in_err-desig.ensures.read) }
-
-pub statement::desig_stmt-returns-then-is_at : goal.statement::desig_stmt-returns-then-is_at
-statement::desig_stmt-returns-then-is_at t c = record {
-  read = extended c.assign.result (λ v. spell_stmt (view_stmt v)) number_stmt (λ o. after_desig
-      ∷ o) c.in_ok-desig.ensures.read (instead_extending c.assign.result (λ v. spell_stmt (view_stmt v)) number_stmt (λ o. after_desig ∷ o) (λ o. one
-      kinds.Assign ∷ expr_parts o) c.args.depth _ (spell_desig (view_desig c.in_ok-desig.desig)) (number_desig c.in_ok-desig.desig) (heads.at_assign _
-      (sym c.is_at.ensures.starts ∙ c.if-is_at.true)) c.assign.ensures.read);
-}
-
-pub statement::desig_stmt-returns : goal.statement::desig_stmt-returns
-statement::desig_stmt-returns t c = record { read = made_gives (λ v. an_expr v.0) (λ v. number_expr v.0 >> node v.1) a_stmt number_stmt _ _ _ _ (λ v. dt.Value v.1 v.0) (λ v. refl) (λ v. refl) c.numbered.result _ c.value_of.ensures.made (extended c.numbered.result (λ v. an_expr v.0) (λ v. number_expr v.0 >> node v.1) (λ o. after_desig ∷ o) c.in_ok-desig.ensures.read (instead_extending c.numbered.result (λ v. an_expr v.0) (λ v. number_expr v.0 >> node v.1) (λ o. after_desig ∷ o) (λ o. args_part ∷ factor_tail ∷ term_tail ∷ compared_part ∷ o) c.args.depth _ (spell_desig (view_desig c.in_ok-desig.desig)) (number_desig c.in_ok-desig.desig) (heads.no_assign _ (sym c.is_at.ensures.starts ∙ c.if-is_at.false)) (ended_extending an_expr number_expr _ _ _ _ _ c.desig_value.result c.numbered.result c.numbered.ensures.numbered c.desig_value.ensures.read))) }
 
 pub statement::arm_list-loop-after-init : goal.statement::arm_list-loop-after-init
 statement::arm_list-loop-after-init t c = rw c.new-more.ensures.items loops.loops_start

@@ -1,36 +1,24 @@
 use Rattle.std.proofs.Common.{◌+◌, ◌*◌, length}
 use Rattle.alma_tree.specs.Spelling.{spell_stmt_tail, spell_elsif_tail}
-use Rattle.alma_tree.specs.Spelling.{spell_arm_tail, spell_label_tail, spell_orelse_tail, spell_desig_tail}
-use Rattle.alma_tree.specs.View.{stmts_of, elsifs_of, arms_of, labels_of, orelses_of, desigs_of}
+use Rattle.alma_tree.specs.Spelling.{spell_arm_tail, spell_label_tail, spell_orelse_tail}
+use Rattle.alma_tree.specs.View.{stmts_of, elsifs_of, arms_of, labels_of, orelses_of}
 use Rattle.alma_tree.specs.Numbers.{numbers_of_stmts}
-use Rattle.alma_tree.specs.Numbers.{numbers_of_elsifs, numbers_of_arms, numbers_of_labels, numbers_of_orelses, numbers_of_desigs}
-use Rattle.alma_grammar.specs.Parts.{stmt_tail, elsif_tail, arm_tail, label_tail, orelse_tail, desig_tail}
+use Rattle.alma_tree.specs.Numbers.{numbers_of_elsifs, numbers_of_arms, numbers_of_labels, numbers_of_orelses}
+use Rattle.alma_grammar.specs.Parts.{stmt_tail, elsif_tail, arm_tail, label_tail, orelse_tail}
 use Rattle.alma_cursor.specs.Parsing.{position_of}
 use Rattle.alma_cursor.proofs.Loops.{Loops}
 use Rattle.alma_phrase.proofs.+phrases.Given as goal
 
 -- Each call reads fewer tokens, or as many and comes before in the order of the numbers here.
 
-abbrev pub decreases-expression::args : goal.decreases-expression::args
-decreases-expression::args l = 16 * length (position_of l.at).kinds + 2
-
 abbrev pub decreases-statement::arm_list : goal.decreases-statement::arm_list
 decreases-statement::arm_list l = 16 * length (position_of l.at).kinds + 1
-
-abbrev pub decreases-statement::assign : goal.decreases-statement::assign
-decreases-statement::assign l = 16 * length (position_of l.at).kinds + 1
 
 abbrev pub decreases-statement::case_stmt : goal.decreases-statement::case_stmt
 decreases-statement::case_stmt l = 16 * length (position_of l.at).kinds + 1
 
 abbrev pub decreases-statement::commit_stmt : goal.decreases-statement::commit_stmt
 decreases-statement::commit_stmt l = 16 * length (position_of l.at).kinds + 1
-
-abbrev pub decreases-expression::desig : goal.decreases-expression::desig
-decreases-expression::desig l = 16 * length (position_of l.at).kinds + 2
-
-abbrev pub decreases-statement::desig_list : goal.decreases-statement::desig_list
-decreases-statement::desig_list l = 16 * length (position_of l.at).kinds + 1
 
 abbrev pub decreases-statement::either_stmt : goal.decreases-statement::either_stmt
 decreases-statement::either_stmt l = 16 * length (position_of l.at).kinds + 1
@@ -59,14 +47,8 @@ decreases-statement::orelse_list l = 16 * length (position_of l.at).kinds + 1
 abbrev pub decreases-statement::otherwise : goal.decreases-statement::otherwise
 decreases-statement::otherwise l = 16 * length (position_of l.at).kinds + 1
 
-abbrev pub decreases-statement::read_stmt : goal.decreases-statement::read_stmt
-decreases-statement::read_stmt l = 16 * length (position_of l.at).kinds + 1
-
 abbrev pub decreases-statement::repeat_stmt : goal.decreases-statement::repeat_stmt
 decreases-statement::repeat_stmt l = 16 * length (position_of l.at).kinds + 1
-
-abbrev pub decreases-statement::return_stmt : goal.decreases-statement::return_stmt
-decreases-statement::return_stmt l = 16 * length (position_of l.at).kinds + 1
 
 abbrev pub decreases-statement::some_stmt : goal.decreases-statement::some_stmt
 decreases-statement::some_stmt l = 16 * length (position_of l.at).kinds + 1
@@ -80,32 +62,14 @@ decreases-statement::stmt_list l = 16 * length (position_of l.at).kinds + 1
 abbrev pub decreases-statement::while_stmt : goal.decreases-statement::while_stmt
 decreases-statement::while_stmt l = 16 * length (position_of l.at).kinds + 1
 
-abbrev pub decreases-statement::write_stmt : goal.decreases-statement::write_stmt
-decreases-statement::write_stmt l = 16 * length (position_of l.at).kinds + 1
-
-abbrev pub decreases-statement::writeln_stmt : goal.decreases-statement::writeln_stmt
-decreases-statement::writeln_stmt l = 16 * length (position_of l.at).kinds + 1
-
-abbrev pub decreases-expression::desig_value : goal.decreases-expression::desig_value
-decreases-expression::desig_value l = 16 * length (position_of l.at).kinds + 6
-
 abbrev pub decreases-expression::expr : goal.decreases-expression::expr
 decreases-expression::expr l = 16 * length (position_of l.at).kinds + 6
 
-abbrev pub decreases-statement::desig_stmt : goal.decreases-statement::desig_stmt
-decreases-statement::desig_stmt l = 16 * length (position_of l.at).kinds + 7
-
-abbrev pub decreases-expression::exprs : goal.decreases-expression::exprs
-decreases-expression::exprs l = 16 * length (position_of l.at).kinds + 7
+abbrev pub decreases-expression::simple_stmt : goal.decreases-expression::simple_stmt
+decreases-expression::simple_stmt l = 16 * length (position_of l.at).kinds + 7
 
 abbrev pub decreases-statement::label : goal.decreases-statement::label
 decreases-statement::label l = 16 * length (position_of l.at).kinds + 7
-
-abbrev pub decreases-statement::returned : goal.decreases-statement::returned
-decreases-statement::returned l = 16 * length (position_of l.at).kinds + 7
-
-abbrev pub decreases-statement::value_stmt : goal.decreases-statement::value_stmt
-decreases-statement::value_stmt l = 16 * length (position_of l.at).kinds + 7
 
 abbrev pub decreases-statement::labelled_arm : goal.decreases-statement::labelled_arm
 decreases-statement::labelled_arm l = 16 * length (position_of l.at).kinds + 8
@@ -154,13 +118,6 @@ invariant-statement::orelse_list-loop-after l = Loops (spell_orelse_tail (orelse
 abbrev pub decreases-statement::orelse_list-loop-after : goal.decreases-statement::orelse_list-loop-after
 decreases-statement::orelse_list-loop-after l = length (position_of l.at).kinds
 
-abbrev pub invariant-statement::desig_list-loop-after : goal.invariant-statement::desig_list-loop-after
-invariant-statement::desig_list-loop-after l = Loops (spell_desig_tail (desigs_of l.more.items)) (numbers_of_desigs l.more.items) desig_tail l.depth
-    (position_of l.fn.at) (position_of l.at)
-
-abbrev pub decreases-statement::desig_list-loop-after : goal.decreases-statement::desig_list-loop-after
-decreases-statement::desig_list-loop-after l = length (position_of l.at).kinds
-
 -- What stands inside a parenthesis has fewer tokens.
 
 abbrev pub decreases-expression::inside : goal.decreases-expression::inside
@@ -169,14 +126,5 @@ decreases-expression::inside l = 16 * l.left
 abbrev pub decreases-expression::expr-expr : goal.decreases-expression::expr-expr
 decreases-expression::expr-expr l = 16 * l.left + 1
 
-abbrev pub decreases-expression::args-args : goal.decreases-expression::args-args
-decreases-expression::args-args l = 16 * l.left + 1
-
-abbrev pub decreases-expression::exprs-exprs : goal.decreases-expression::exprs-exprs
-decreases-expression::exprs-exprs l = 16 * l.left + 1
-
-abbrev pub decreases-expression::desig-desig : goal.decreases-expression::desig-desig
-decreases-expression::desig-desig l = 16 * l.left + 1
-
-abbrev pub decreases-expression::desig_value-desig_value : goal.decreases-expression::desig_value-desig_value
-decreases-expression::desig_value-desig_value l = 16 * l.left + 1
+abbrev pub decreases-expression::simple_stmt-simple_stmt : goal.decreases-expression::simple_stmt-simple_stmt
+decreases-expression::simple_stmt-simple_stmt l = 16 * l.left + 1
