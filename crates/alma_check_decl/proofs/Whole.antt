@@ -11,7 +11,7 @@ use Rattle.alma_rules.specs.Scene.{Scene, FormalOf, found, in_constant, inside_o
 use Rattle.alma_rules.specs.Parts.{Typing, Denoted, denoted, a_constant, a_variable, a_routine, no_array, Operands, Span, select_in, select_index, located_in, write_stmts, one_stmt}
 use Rattle.alma_rules.specs.ExprRules.{as_variable, as_value, as_procedure, Use, Operand, array_rules}
 use Rattle.alma_rules.specs.StmtRules.{write_rules}
-use Rattle.alma_rules.specs.Nodes.{condition_at, read_at, first_add, first_mul, indexed, in_parens, as_sequence, or_sequence, only_of, argument_count, formals_of, sum_at, product_at, loop_variable, text_item, item_of, item_literal, text_rules}
+use Rattle.alma_rules.specs.Nodes.{condition_at, read_at, first_add, first_mul, indexed, in_parens, as_sequence, or_sequence, only_of, sum_at, product_at, loop_variable, text_item, item_of, item_literal, text_rules}
 use Rattle.alma_rules.specs.Walk.{judge_stmts, judge_stmt_tail, judge_stmt, judge_elsifs, judge_else, judge_by, judge_arm, judge_arm_tail, judge_label, judge_high, judge_labels, judge_case_else, judge_orelses, judge_returned, judge_reads, judge_items, judge_item_tail, judge_line_items, judge_expr, judge_compared, judge_simple, judge_terms, judge_term, judge_factors, judge_factor, judge_primary, judge_only, judge_value, judge_arguments, judge_argument_tail, judge_desig, judge_selectors, judge_selector, judge_indices, judge_index_tail}
 
 -- there is a value

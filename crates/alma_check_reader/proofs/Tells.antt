@@ -1,15 +1,13 @@
 -- What is told, as parts are put together.
-use Rattle.std.proofs.Common.{◌≡◌, ℕ, List, [], ◌∷◌, ◌++◌, Option, None, Some, Bool, true, false, refl, sym, ap, subst, ◌∙◌, append_assoc, Vec, Global}
-use Rattle.std.specs.Prelude.{option_map, not, nat_eq, ◌&&◌}
+use Rattle.std.proofs.Common.{◌≡◌, ℕ, List, [], ◌∷◌, ◌++◌, Option, None, Some, refl, sym, ap, ◌∙◌, append_assoc}
+use Rattle.std.specs.Prelude.{option_map}
 use Rattle.alma_base.specs.declared.fault.CheckFault.{CheckFault}
-use Rattle.alma_rules.specs.Judged.{Broken, Judged, both_of, broken_at, unless}
+use Rattle.alma_rules.specs.Judged.{Broken, both_of, broken_at, unless}
 use Rattle.alma_rules.specs.Numbered as tree
-use Rattle.alma_rules.specs.Scene.{Scene, Found, absent, bad, constant, named, variable, routine, found}
-use Rattle.alma_rules.specs.Parts.{Typing}
+use Rattle.alma_rules.specs.Scene.{Scene, Found, found}
 use Rattle.alma_rules.specs.Answers.{first}
-use Rattle.alma_rules.specs.Types.{Reading, reading_then, reading_with, reading_at, reading_change, changed, type_name_rules, shape_in, subrange_rules, subrange_of, read_type_name, Formed, formed, number_in, cons_index, joined_indices}
-use Rattle.alma_check_reader.specs.declared.reading.Bound.{Bound}
-use Rattle.alma_check_reader.specs.Told.{Told, told, told_both, told_with, told_at, told_changed, told_change, told_sub, earlier, onward, join, alone, a_told}
+use Rattle.alma_rules.specs.Types.{Reading, reading_then, reading_at, reading_change, changed, type_name_rules, shape_in, read_type_name, Formed, cons_index}
+use Rattle.alma_check_reader.specs.Told.{Told, told, told_both, told_with, told_at, told_changed, told_change, earlier, onward, join, alone, a_told}
 
 -- ---- told of parts
 

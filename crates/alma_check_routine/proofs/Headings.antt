@@ -1,19 +1,18 @@
 -- The headings that the declarations of a block read, and those that its end forgets.
-use Rattle.std.proofs.Common.{◌≡◌, ◌≢◌, ℕ, zero, suc, ◌+◌, ◌-◌, ◌<◌, ◌≤◌, ◌⊎◌, inl, inr, Bool, true, false, List, [], ◌∷◌, ◌++◌, length, get_or, set, take, Option, None, Some, refl, sym, ap, subst, ◌∙◌, arith}
+use Rattle.std.proofs.Common.{◌≡◌, ◌≢◌, ℕ, zero, suc, ◌+◌, ◌-◌, ◌<◌, ◌≤◌, ◌⊎◌, inl, inr, Bool, true, false, List, [], ◌∷◌, ◌++◌, length, get_or, set, Option, None, refl, sym, ap, subst, ◌∙◌, arith}
 use Rattle.std.specs.Prelude.{nat_eq, nat_lt}
 use Rattle.std.proofs.lemmas.Bool.{ltb-true, ltb-false}
 use Rattle.std.proofs.lemmas.Bool.Decides.{eqb_tells}
 use Rattle.std.proofs.lemmas.List.{get_or-set_same, get_or-set_other, length-set, ext_get_or, take_at, get_or_at, length_push, set_past, get_or_past}
-use Rattle.alma_names.specs.Blocks.{DeclaredName}
 use Rattle.alma_names.specs.Scopes.{Blocks, without_top_block}
 use Rattle.alma_shapes.specs.Shapes.{PlainShape}
 use Rattle.alma_rules.specs.Numbered as tree
-use Rattle.alma_rules.specs.Scene.{Scene, Heading, Returns, nothing}
-use Rattle.alma_rules.specs.Decls.{Frame, read_consts, read_types, read_vars, block_routines, decls_routines, decl_routines, read_heading, read_decl, read_decls, formal_names, formals_of}
+use Rattle.alma_rules.specs.Scene.{Scene, Heading}
+use Rattle.alma_rules.specs.Decls.{Frame, decls_routines, decl_routines, read_heading, read_decl, read_decls}
 use Rattle.alma_rules.specs.Modules.{frame_of, with_shapes}
 use Rattle.alma_check_reader.specs.Around.{cleared, left, outer_of}
 use Rattle.alma_check_gathered.specs.Gathered.{AreEmpty, IsEmptyInside, AreEmptyInside}
-use Rattle.alma_check_routine.proofs.Stays.{consts_same, types_same, vars_same, head_same, ground, ground_steady, headings_steady, begun}
+use Rattle.alma_check_routine.proofs.Stays.{consts_same, types_same, vars_same, head_same, ground, ground_steady, headings_steady}
 
 -- ---- declarations
 

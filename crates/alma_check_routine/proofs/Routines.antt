@@ -1,5 +1,5 @@
 -- The routines of a block, put together of their parts.
-use Rattle.std.proofs.Common.{◌≡◌, ℕ, ◌+◌, ◌-◌, ◌<◌, ◌≤◌, List, [], ◌∷◌, ◌++◌, length, get_or, drop, Option, None, Some, refl, sym, ap, subst, ◌∙◌, arith, Vec, Global}
+use Rattle.std.proofs.Common.{◌≡◌, ℕ, ◌+◌, ◌-◌, ◌<◌, ◌≤◌, List, [], length, get_or, drop, Option, refl, sym, ap, subst, ◌∙◌, arith, Vec, Global}
 use Rattle.std.proofs.lemmas.List.{length_push, drop_all}
 use Rattle.alma_tree.specs.declared.leaf.Name.{Name}
 use Rattle.alma_tree.specs.declared.module.Block as db
@@ -9,15 +9,13 @@ use Rattle.alma_shapes.specs.Shapes.{PlainShape}
 use Rattle.alma_ir.specs.Tree as ir
 use Rattle.alma_rules.specs.Numbered as tree
 use Rattle.alma_rules.specs.View as view
-use Rattle.alma_rules.specs.Judged.{Broken, Judged, least, broken_at}
-use Rattle.alma_rules.specs.Answers.{first}
-use Rattle.alma_rules.specs.Scene.{Scene, Heading}
+use Rattle.alma_rules.specs.Judged.{Broken, broken_at}
+use Rattle.alma_rules.specs.Scene.{Scene}
 use Rattle.alma_rules.specs.Decls.{Frame, block_routines, decls_routines, decl_routines, read_heading, read_decls}
-use Rattle.alma_rules.specs.Modules.{judge_body, body_lines, judge_bodies, judge_decl, routine_of, with_shapes, frame_of, end_rules}
+use Rattle.alma_rules.specs.Modules.{judge_body, body_lines, judge_bodies, judge_decl, routine_of, with_shapes, end_rules}
 use Rattle.alma_walk.proofs.Exprs.{next_of}
 use Rattle.alma_check_reader.specs.Around.{cleared, left, outer_of}
-use Rattle.alma_check_gathered.specs.Gathered.{Stage, stage, through_decls, through_decl, through_block, through_read, read_stage, with_fault, with_least, counted, quiet, Adds, AreEmpty, IsEmptyInside, AreEmptyInside, AreRising, IsRisingBody, AreReady, IsReady, IsReadyInside}
-use Rattle.alma_check_routine.proofs.Stays.{ground, head_same, ground_steady}
+use Rattle.alma_check_gathered.specs.Gathered.{Stage, stage, through_decls, through_decl, through_block, through_read, read_stage, with_fault, with_least, counted, quiet, Adds, AreEmpty, AreEmptyInside, IsRisingBody, AreReady, IsReady, IsReadyInside}
 use Rattle.alma_check_routine.proofs.Headings.{inner_frame, inner_ground, heading_ground, heading_empty, scene_closed, decls_ground, read_inside}
 use Rattle.alma_check_routine.proofs.Gathering.{block_by, body_first, through_more, through_none, through_procedure, rising_rest, rising_procedure}
 

@@ -1,22 +1,21 @@
 -- What declarations and headings leave of a scene as it is, whatever rules are broken in them.
-use Rattle.std.proofs.Common.{◌≡◌, ℕ, ◌+◌, ℤ, Bool, true, false, List, [], ◌∷◌, ◌++◌, Option, None, Some, refl, sym, ap, ◌∙◌, length}
+use Rattle.std.proofs.Common.{◌≡◌, ℕ, ◌+◌, ℤ, Bool, true, false, List, [], ◌∷◌, ◌++◌, Option, None, Some, refl, ◌∙◌, length}
 use Rattle.std.specs.Prelude.{if◌then◌else◌, option_map}
 use Rattle.alma_base.specs.Choice.{if_true}
 use Rattle.alma_base.specs.declared.fault.CheckFault.{CheckFault}
 use Rattle.alma_tree.specs.declared.leaf.Mode.{Mode}
 use Rattle.alma_names.specs.declared.block.Entry.{Entry}
 use Rattle.alma_names.specs.declared.block.Entry.TheVariants as entry
-use Rattle.alma_shapes.specs.Shapes.{PlainShape, PlainField, is_too_large, placed_shape, cell_counts, listed, fields, sub, row}
+use Rattle.alma_shapes.specs.Shapes.{PlainShape, is_too_large, placed_shape, cell_counts, listed, fields, sub, row}
 use Rattle.alma_names.specs.Blocks.{shape_id}
 use Rattle.alma_names.specs.Scopes.{Blocks, with_declared, with_new_block}
 use Rattle.alma_scan.specs.Tokens.{Lexeme}
 use Rattle.alma_rules.specs.Numbered as tree
 use Rattle.alma_rules.specs.Judged.{Broken, broken_at}
-use Rattle.alma_rules.specs.Scene.{Scene, Heading, Returns, nothing, a_value, is_first, is_structured, text_at, base}
-use Rattle.alma_rules.specs.Parts.{Typing}
+use Rattle.alma_rules.specs.Scene.{Scene, Returns, nothing, a_value, is_first, is_structured, text_at, base}
 use Rattle.alma_rules.specs.Places.{width, mark_type}
 use Rattle.alma_rules.specs.Types.{Reading, reading_change, changed, reading_then, add_shape, Formed, formed, too_large, row_on, rows_on, rows_of, subrange_from, subrange_of, record_of, value_entry, declare_values, listed_in, all_first, redeclared_all, read_listed, all_names, last_token, declared, redeclared, read_constant, read_type, read_arrays, read_dimension_tail, read_dimensions, read_plains, read_plain, read_fields, read_field_tail, field_names, read_type_name, subrange_rules, reading_at, joined_fields, reading_with}
-use Rattle.alma_rules.specs.Decls.{Frame, with_faults, with_scene, limited, constant_in, read_consts, type_in, read_types, with_variable, variable_access, variable_in, variables_in, variables_of, read_vars, with_texts, block_names, with_block, with_routine, with_routines, with_routines_of, decl_routines, param_access, param_kind, with_param, param_in, params_in, formal_in, read_formals, formals_of, formal_names, too_deep, headed, with_depth, new_frame, read_heading, Headed}
+use Rattle.alma_rules.specs.Decls.{Frame, with_faults, with_scene, limited, constant_in, read_consts, type_in, read_types, with_variable, variable_access, variable_in, variables_in, variables_of, read_vars, with_texts, block_names, with_block, with_routine, with_routines, decl_routines, param_access, param_kind, with_param, param_in, params_in, formal_in, read_formals, formals_of, formal_names, too_deep, headed, with_depth, new_frame, read_heading}
 
 -- what is the same in scenes with other shapes, other names in the top block, and another RETURN
 pub record Steady {A : Type 0} (F : Scene → A) : Type 0 where

@@ -1,19 +1,18 @@
 -- A whole module, put together of its block and its end.
-use Rattle.std.proofs.Common.{◌≡◌, ℕ, ◌+◌, ◌-◌, ◌<◌, ◌≤◌, List, [], ◌∷◌, ◌++◌, get_or, replicate, Option, None, Some, refl, sym, ap, subst, ◌∙◌, arith, Vec, Global, length}
-use Rattle.std.specs.Prelude.{slice_get, bytes_eq, not, option_map, map}
+use Rattle.std.proofs.Common.{◌≡◌, ℕ, ◌+◌, ◌-◌, List, [], ◌∷◌, get_or, replicate, Option, None, Some, refl, sym, ap, subst, ◌∙◌, arith, Global}
+use Rattle.std.specs.Prelude.{slice_get, bytes_eq, not}
 use Rattle.std.proofs.lemmas.List.{get_or-replicate}
 use Rattle.alma_base.specs.declared.fault.CheckFault.TheVariants as fault
 use Rattle.alma_tree.specs.declared.module.Module.{Module}
 use Rattle.alma_scan.specs.Tokens.{Lexeme}
-use Rattle.alma_shapes.specs.Shapes.{PlainShape}
 use Rattle.alma_ir.specs.Tree as ir
 use Rattle.alma_rules.specs.Numbered as tree
-use Rattle.alma_rules.specs.Judged.{Broken, Judged, least, broken_at, when}
+use Rattle.alma_rules.specs.Judged.{Broken, least, broken_at, when}
 use Rattle.alma_rules.specs.Scene.{Scene, nothing, text_of, text_at}
 use Rattle.alma_rules.specs.Decls.{Frame, with_block, new_frame, block_routines, decls_routines, read_decls}
-use Rattle.alma_rules.specs.Modules.{Bodied, judge_block, judge_bodies, judge_body, judge_module, routine_at, first_scene, module_frame, program_of, broken, resolved, end_rules, with_shapes, joined_routines}
+use Rattle.alma_rules.specs.Modules.{Bodied, judge_block, judge_bodies, judge_body, judge_module, first_scene, module_frame, broken, resolved, end_rules, with_shapes}
 use Rattle.alma_rules.specs.Rising.{IsRising}
-use Rattle.alma_check_gathered.specs.Gathered.{Stage, stage, gathered, through_block, through_read, read_stage, with_least, counted, quiet, unless_broken, joined_lists, AreEmpty, IsReady}
+use Rattle.alma_check_gathered.specs.Gathered.{Stage, stage, through_read, with_least, quiet, unless_broken, joined_lists, IsReady}
 use Rattle.alma_check_stmt.specs.Whole.{IsJudged}
 use Rattle.alma_check_routine.proofs.Stays.{ground, ground_steady, headings_steady, block_same}
 use Rattle.alma_check_routine.proofs.Headings.{decls_ground}

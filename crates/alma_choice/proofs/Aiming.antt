@@ -1,12 +1,12 @@
 -- Code with a jump aimed late.
-use Rattle.std.proofs.Common.{◌≡◌, ℕ, zero, suc, ◌+◌, ◌<◌, ◌≤◌, List, [], ◌∷◌, ◌++◌, length, map, get_or, refl, sym, ap, ◌∙◌, arith, append_assoc, length-append}
+use Rattle.std.proofs.Common.{◌≡◌, ℕ, zero, suc, ◌+◌, ◌<◌, ◌≤◌, List, [], ◌∷◌, ◌++◌, length, map, get_or, refl, ap, ◌∙◌, arith, append_assoc, length-append}
 use Rattle.std.specs.Prelude.{slice_set}
 use Rattle.std.proofs.lemmas.List.{length-map}
 use Rattle.alma_code.specs.declared.cell.SlotKind.{SlotKind}
 use Rattle.alma_code.specs.declared.instr.Instr.{Instr}
 use Rattle.alma_choice.specs.declared.emit.Emit.{Emit}
-use Rattle.alma_templates.specs.Lined.{Lined, own}
-use Rattle.alma_choice.specs.Emitted.{lined, made, with_target, aimed, Appends, Aims}
+use Rattle.alma_templates.specs.Lined.{Lined}
+use Rattle.alma_choice.specs.Emitted.{lined, made, with_target, aimed, Appends}
 
 -- an instruction of the code is written anew with its target
 pub aimed_in : (xs : List (Instr × ℕ)) (at to : ℕ) (d : Instr × ℕ) → at < length xs

@@ -22,7 +22,7 @@ use Rattle.alma_code.specs.Plain.{PlainCode, kinds_at}
 use Rattle.alma_base.specs.Numbers.{within, is_integer, int_eq}
 use Rattle.alma_code.specs.Kinds.{is_number, is_place, is_mark, is_link}
 use Rattle.alma_code.specs.Rules.{place_length, link_routine, kind_in, is_free, is_address}
-use Rattle.alma_code.specs.Machine.{Mode, Going, Failing, Ended, State, Stepped, quiet_step, ends_run, ends_in_fault, fails_now, answers_with, top, slot_of, kind_of, as_number, as_place, as_mark, number, place, mark, with_cell, with_slot, to_number, to_place, to_mark, put_number, put_place, put_mark, integer_result, as_content, content, store, with_known_content, as_range, range_check, optional_range_check, equation_of_contents, equation}
+use Rattle.alma_code.specs.Machine.{Going, State, Stepped, quiet_step, ends_run, ends_in_fault, fails_now, answers_with, top, slot_of, kind_of, as_number, as_place, as_mark, number, place, mark, with_cell, with_slot, to_number, to_place, to_mark, put_number, put_place, put_mark, integer_result, as_content, content, store, with_known_content, as_range, range_check, optional_range_check, equation_of_contents, equation}
 use Rattle.alma_code.specs.Fits.{routines_of, IsContent, IsPosition, IsCell, IsPlace, FitsSlot, FitsFrame, FitsFrames, FitsHeld, FitsMode, Fits}
 use Rattle.alma_code.proofs.Heads.{number_is}
 use Rattle.alma_code_laws.proofs.Writes.{written-routines, frames-written}

@@ -1,5 +1,5 @@
 -- What is read behind a part, of what the part gave.
-use Rattle.std.proofs.Common.{◌≡◌, ℕ, List, ◌∷◌, Result, Ok, Err, MatchResult, refl, ap, sym, subst}
+use Rattle.std.proofs.Common.{ℕ, List, ◌∷◌, Result, Ok, Err, MatchResult, ap, sym, subst}
 use Rattle.alma_tree.specs.declared.kind.Kind.{Kind}
 use Rattle.alma_tree.specs.Numbers.{Step, token, node, ◌>>◌}
 use Rattle.alma_grammar.specs.Parts.{Part, one}
@@ -7,7 +7,6 @@ use Rattle.alma_cursor.specs.declared.cursor.Cursor as cursors
 use Rattle.alma_cursor.specs.declared.fault.Fault.{Fault}
 use Rattle.alma_cursor.specs.Parsing.{At, position_of, Passes, Reads, Fails}
 use Rattle.alma_cursor.specs.Joins.{Followed, Numbered}
-use Rattle.alma_cursor.proofs.Loops.{grouped}
 use Rattle.alma_cursor.proofs.Steps.{then, after, first, same, replaced, counted}
 use Rattle.alma_cursor.proofs.Turns.{want}
 

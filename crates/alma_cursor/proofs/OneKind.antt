@@ -1,5 +1,5 @@
 -- Kinds of one code are one kind.
-use Rattle.std.proofs.Common.{◌≡◌, Bool, true, refl, ap, sym, ◌∙◌, rules, nat_eq}
+use Rattle.std.proofs.Common.{◌≡◌, true, rules, nat_eq}
 use Rattle.alma_tree.specs.declared.kind.Kind.{Kind}
 use Rattle.alma_tree.specs.contracts.kind.Kind.{the_type}
 use Rattle.alma_tree.specs.Kinds.{code}

@@ -3,8 +3,8 @@ use Rattle.std.proofs.Common.{◌≡◌, ℕ, pred, true, List, [], ◌∷◌, �
 use Rattle.std.proofs.Common.{refl, ap, sym, ◌∙◌, subst, le_trans, le_refl}
 use Rattle.std.specs.Prelude.{MatchResult}
 use Rattle.alma_tree.specs.declared.kind.Kind.{Kind}
-use Rattle.alma_tree.specs.Numbers.{Cursor, Step, ◌>>◌, and_then, token}
-use Rattle.alma_grammar.specs.Parts.{Part, one}
+use Rattle.alma_tree.specs.Numbers.{Cursor, Step, ◌>>◌, and_then}
+use Rattle.alma_grammar.specs.Parts.{Part}
 use Rattle.alma_cursor.specs.declared.fault.Fault.{Fault}
 use Rattle.alma_cursor.specs.declared.fault.Fault.TheVariants as faults
 use Rattle.alma_cursor.specs.Parsing.{At, Passes, Opens, Reads, Fails, Becomes, starts_with}

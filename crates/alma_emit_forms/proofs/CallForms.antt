@@ -1,21 +1,18 @@
 -- What arguments and calls add.
-use Rattle.std.proofs.Common.{◌≡◌, ℕ, zero, suc, ◌+◌, Bool, true, false, List, [], ◌∷◌, ◌++◌, length, Some, None, refl, sym, ap, ◌∙◌, subst, arith, append_assoc, length-append, add-zero}
-use Rattle.std.specs.Prelude.{Option}
+use Rattle.std.proofs.Common.{◌≡◌, ℕ, ◌+◌, List, [], ◌∷◌, ◌++◌, length, refl, sym, ap, ◌∙◌, arith, add-zero}
 use Rattle.alma_base.specs.declared.number.Range.{Range}
-use Rattle.alma_code.specs.declared.cell.SlotKind.{SlotKind}
 use Rattle.alma_code.specs.declared.cell.SlotKind.TheVariants as slot
-use Rattle.alma_code.specs.declared.instr.Instr.{Instr}
 use Rattle.alma_code.specs.declared.instr.Instr.TheVariants as I
-use Rattle.alma_ir.specs.Tree.{Test, Expr, Args, Arg, Desig, CallTest, CallExpr, no_args, more_args, ByValue, ByCells, ByPlace, MixValue, MixPlace}
+use Rattle.alma_ir.specs.Tree.{Expr, Args, Arg, Desig, CallTest, CallExpr, no_args, more_args, ByValue, ByCells, ByPlace, MixValue, MixPlace}
 use Rattle.alma_ir.specs.Phrases.{stmts_phrases, args_phrases, arg_phrases, expr_phrases, desig_phrases}
-use Rattle.alma_ir.specs.Lines.{behind, stmts_with, args_with, arg_with, expr_with, desig_with}
+use Rattle.alma_ir.specs.Lines.{behind, stmts_with, args_with, expr_with, desig_with}
 use Rattle.alma_ir.proofs.LinesBack.{behind_two}
 use Rattle.alma_emit_work.specs.Front.{Around, Front, Adds, Codes, Takes}
 use Rattle.alma_emit_work.specs.Puts.{PutsExpr, PutsValue, PutsDesig, PutsArgs, PutsArg, PutsHanded, PutsTest, value_slot, first_slot}
-use Rattle.alma_emit_work.proofs.Joins.{nothing, then_adds, adds_as, code_code, code_adds, adds_code, only_code, slot_adds, own_two}
+use Rattle.alma_emit_work.proofs.Joins.{nothing, then_adds, adds_as, code_code, adds_code, slot_adds, own_two}
 use Rattle.alma_emit_forms.proofs.With.{same_handed}
 use Rattle.alma_templates.specs.Lined.{Lined, own, in_row}
-use Rattle.alma_templates.specs.Slots.{bare, unless_bare, shift_of, handed_slots, call_links, args_slots, arg_slots, expr_slots, desig_slots}
+use Rattle.alma_templates.specs.Slots.{bare, unless_bare, shift_of, handed_slots, call_links, args_slots, expr_slots, desig_slots}
 use Rattle.alma_templates.specs.Pieces.{fit_code, first_argument}
 use Rattle.alma_templates.specs.Templates as T
 

@@ -1,26 +1,23 @@
 -- What each form of expression adds.
-use Rattle.std.proofs.Common.{◌≡◌, ℕ, ℤ, ◌+◌, Bool, true, false, List, [], ◌∷◌, ◌++◌, length, Some, None, refl, sym, ap, ◌∙◌, subst, arith, append_assoc, length-append}
+use Rattle.std.proofs.Common.{◌≡◌, ℕ, ℤ, ◌+◌, Bool, List, [], ◌∷◌, ◌++◌, length, Some, None, refl, sym, ap, ◌∙◌}
 use Rattle.std.specs.Prelude.{Option}
-use Rattle.std.proofs.lemmas.List.{append-nil}
-use Rattle.alma_code.specs.declared.cell.SlotKind.{SlotKind}
 use Rattle.alma_code.specs.declared.cell.SlotKind.TheVariants as slot
-use Rattle.alma_code.specs.declared.instr.Instr.{Instr}
 use Rattle.alma_code.specs.declared.instr.Instr.TheVariants as I
 use Rattle.alma_ir.specs.declared.phrase.Op.{Op}
 use Rattle.alma_ir.specs.declared.phrase.Cmp.{Cmp}
-use Rattle.alma_ir.specs.Tree.{Expr, Links, Desig, Test, Const, Load, Chain, Compare, Truth, Known, Chr, no_links, more_links}
-use Rattle.alma_ir.specs.Phrases.{stmts_phrases, expr_phrases, links_phrases, desig_phrases, test_phrases}
-use Rattle.alma_ir.specs.Lines.{behind, stmts_with, expr_with, links_with, desig_with, test_with}
+use Rattle.alma_ir.specs.Tree.{Expr, Links, Desig, Const, Load, Chain, Compare, Known, Chr, no_links, more_links}
+use Rattle.alma_ir.specs.Phrases.{stmts_phrases, expr_phrases, links_phrases}
+use Rattle.alma_ir.specs.Lines.{behind, stmts_with, expr_with, links_with, desig_with}
 use Rattle.alma_ir.proofs.LinesBack.{behind_two}
 use Rattle.alma_emit_work.specs.declared.stand.Stand.{Stand}
-use Rattle.alma_emit_work.specs.Front.{Around, Front, Adds, Codes, Takes, Changes, Holes}
-use Rattle.alma_emit_work.specs.Puts.{PutsExpr, PutsValue, PutsLinks, PutsDesig, PutsTarget, PutsGuard, stand_by, stand_of, value_slot, load_instr, set_instr}
-use Rattle.alma_emit_work.proofs.Joins.{nothing, then_adds, adds_as, code_code, code_adds, adds_code, only_code, slot_adds, adds_slot, only_slot, own_two, filled}
+use Rattle.alma_emit_work.specs.Front.{Around, Front, Codes, Takes}
+use Rattle.alma_emit_work.specs.Puts.{PutsExpr, PutsValue, PutsLinks, PutsDesig, PutsTarget, stand_by, stand_of, value_slot, load_instr}
+use Rattle.alma_emit_work.proofs.Joins.{nothing, then_adds, adds_as, adds_code, only_code, slot_adds}
 use Rattle.alma_emit_forms.proofs.With.{own_desig, own_expr, own_desig_passes, own_expr_passes}
-use Rattle.alma_templates.specs.Lined.{Lined, own, in_row}
+use Rattle.alma_templates.specs.Lined.{own, in_row}
 use Rattle.alma_templates.specs.Tables.{range_number}
-use Rattle.alma_templates.specs.Slots.{bare_desig, bare, unless_bare, expr_slots, links_slots, desig_slots}
-use Rattle.alma_templates.specs.Pieces.{op_code, cmp_code, neg_code, truth_code}
+use Rattle.alma_templates.specs.Slots.{bare_desig, bare, unless_bare, expr_slots, desig_slots}
+use Rattle.alma_templates.specs.Pieces.{op_code, cmp_code, neg_code}
 use Rattle.alma_templates.specs.Templates as T
 
 module _ (s : Around) (line : ℕ) where

@@ -1,23 +1,21 @@
 -- What conditions add, and what is done where they have an alternative.
-use Rattle.std.proofs.Common.{◌≡◌, ℕ, zero, suc, ◌+◌, Bool, true, false, List, [], ◌∷◌, ◌++◌, length, refl, sym, ap, ◌∙◌, subst, arith, append_assoc, length-append, add-zero}
+use Rattle.std.proofs.Common.{◌≡◌, ℕ, ◌+◌, true, false, List, [], ◌∷◌, ◌++◌, length, refl, sym, ap, ◌∙◌, arith, append_assoc, length-append, add-zero}
 use Rattle.std.proofs.lemmas.List.{append-nil}
 use Rattle.alma_code.specs.declared.cell.SlotKind.{SlotKind}
 use Rattle.alma_code.specs.declared.cell.SlotKind.TheVariants as slot
-use Rattle.alma_code.specs.declared.instr.Instr.{Instr}
 use Rattle.alma_code.specs.declared.instr.Instr.TheVariants as I
 use Rattle.alma_choice.specs.Emitted.{aimed}
-use Rattle.alma_ir.specs.Tree.{Program, Stmts, Stmt, Arms, Test, Expr, Value, If, While, Repeat, Truth, no_arms, more_arms}
-use Rattle.alma_ir.specs.Phrases.{stmts_phrases, stmt_phrases, arms_phrases, test_phrases, expr_phrases}
-use Rattle.alma_ir.specs.Lines.{behind, stmts_with, stmt_with, arms_with, test_with, expr_with}
+use Rattle.alma_ir.specs.Tree.{Stmts, Arms, Test, Expr, Value, no_arms, more_arms}
+use Rattle.alma_ir.specs.Phrases.{stmts_phrases, arms_phrases, test_phrases}
+use Rattle.alma_ir.specs.Lines.{behind, stmts_with, arms_with, test_with, expr_with}
 use Rattle.alma_ir.proofs.LinesBack.{behind_two}
-use Rattle.alma_emit_work.specs.Front.{Around, Front, Adds, Codes, Takes, Changes, Holes}
-use Rattle.alma_emit_work.specs.Puts.{PutsExpr, PutsValue, PutsTest, PutsGuard, PutsGuarded, PutsStmts, PutsStmt, PutsArms, value_slot, inside}
-use Rattle.alma_emit_work.proofs.Joins.{nothing, then_adds, adds_as, code_adds, adds_code, only_code, slot_adds, hole_put, adds_holes, holes_adds, holes_code, holes_as, filled}
+use Rattle.alma_emit_work.specs.Front.{Around, Front, Codes, Changes, Holes}
+use Rattle.alma_emit_work.specs.Puts.{PutsValue, PutsTest, PutsGuard, PutsGuarded, PutsStmts, PutsArms, value_slot}
+use Rattle.alma_emit_work.proofs.Joins.{nothing, then_adds, adds_as, adds_code, hole_put, adds_holes, holes_adds, holes_code, holes_as, filled}
 use Rattle.alma_emit_forms.proofs.With.{simple_test}
-use Rattle.alma_templates.specs.Lined.{Lined, own, in_row, leaving, left_by}
-use Rattle.alma_templates.specs.Tables.{Tables}
-use Rattle.alma_templates.specs.Slots.{bare, unless_bare, is_simple, mark_slots, test_slots, stmts_slots, arms_slots, expr_slots, behind_condition, behind_stmts}
-use Rattle.alma_templates.specs.Pieces.{condition, guarded, begin_first, truth_code}
+use Rattle.alma_templates.specs.Lined.{Lined, own}
+use Rattle.alma_templates.specs.Slots.{bare, unless_bare, is_simple, mark_slots, test_slots, stmts_slots, arms_slots, behind_condition, behind_stmts}
+use Rattle.alma_templates.specs.Pieces.{condition, guarded, begin_first}
 use Rattle.alma_templates.specs.Templates as T
 
 module _ (s : Around) (line : ℕ) where

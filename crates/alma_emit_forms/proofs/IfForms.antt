@@ -1,22 +1,20 @@
 -- IF, WHILE, REPEAT, and a test as a number.
-use Rattle.std.proofs.Common.{◌≡◌, ℕ, zero, suc, ◌+◌, Bool, true, false, List, [], ◌∷◌, ◌++◌, length, pos, refl, sym, ap, ◌∙◌, subst, arith, append_assoc, length-append, add-zero}
+use Rattle.std.proofs.Common.{◌≡◌, ℕ, ◌+◌, List, [], ◌∷◌, ◌++◌, length, pos, refl, sym, ap, ◌∙◌, arith, append_assoc}
 use Rattle.std.proofs.lemmas.List.{append-nil}
-use Rattle.alma_code.specs.declared.cell.SlotKind.{SlotKind}
 use Rattle.alma_code.specs.declared.cell.SlotKind.TheVariants as slot
-use Rattle.alma_code.specs.declared.instr.Instr.{Instr}
 use Rattle.alma_code.specs.declared.instr.Instr.TheVariants as I
 use Rattle.alma_choice.specs.Emitted.{aimed}
-use Rattle.alma_ir.specs.Tree.{Stmts, Stmt, Arms, Test, If, While, Repeat, Truth, no_arms, more_arms}
-use Rattle.alma_ir.specs.Phrases.{stmts_phrases, stmt_phrases, arms_phrases, test_phrases}
-use Rattle.alma_ir.specs.Lines.{behind, stmts_with, stmt_with, arms_with, test_with}
+use Rattle.alma_ir.specs.Tree.{Stmts, Arms, Test, If, While, Repeat, Truth, no_arms, more_arms}
+use Rattle.alma_ir.specs.Phrases.{stmts_phrases, arms_phrases, test_phrases}
+use Rattle.alma_ir.specs.Lines.{behind, stmts_with, arms_with, test_with}
 use Rattle.alma_ir.proofs.LinesBack.{behind_two}
-use Rattle.alma_emit_work.specs.Front.{Around, Front, Adds, Codes, Takes, Changes, Holes}
-use Rattle.alma_emit_work.specs.Puts.{PutsExpr, PutsGuard, PutsGuarded, PutsStmts, PutsStmt, PutsArms, inside}
-use Rattle.alma_emit_work.proofs.Joins.{nothing, then_adds, adds_as, code_code, code_adds, adds_code, only_code, slot_adds, closed, over, address_behind}
-use Rattle.alma_emit_forms.proofs.GuardForms.{condition_code, condition_slots, guarded_code, arms_split, four_slots, four_long}
-use Rattle.alma_templates.specs.Lined.{Lined, own, in_row, leaving, left_by}
-use Rattle.alma_templates.specs.Slots.{is_simple, mark_slots, test_slots, stmts_slots, arms_slots, behind_condition, behind_stmts}
-use Rattle.alma_templates.specs.Pieces.{guarded, truth_code}
+use Rattle.alma_emit_work.specs.Front.{Around, Front, Codes, Takes, Changes}
+use Rattle.alma_emit_work.specs.Puts.{PutsExpr, PutsGuard, PutsGuarded, PutsStmts, PutsStmt, PutsArms}
+use Rattle.alma_emit_work.proofs.Joins.{then_adds, adds_as, code_adds, adds_code, slot_adds, closed, over, address_behind}
+use Rattle.alma_emit_forms.proofs.GuardForms.{condition_code, guarded_code, arms_split, four_long}
+use Rattle.alma_templates.specs.Lined.{Lined, own}
+use Rattle.alma_templates.specs.Slots.{is_simple, mark_slots, test_slots, stmts_slots, arms_slots}
+use Rattle.alma_templates.specs.Pieces.{guarded}
 use Rattle.alma_templates.specs.Templates as T
 
 module _ (s : Around) (line : ℕ) where

@@ -1,26 +1,24 @@
 -- FOR and SOME. The lines of the variable come before those of the bounds, while its code comes behind theirs: so what is added is said
 -- by lists that are written out, and not as it depends on the lines.
-use Rattle.std.proofs.Common.{◌≡◌, ℕ, ℤ, pos, zero, suc, ◌+◌, Bool, true, false, List, [], ◌∷◌, ◌++◌, length, Some, None, refl, sym, ap, ◌∙◌, subst, arith, append_assoc, length-append, add-zero}
+use Rattle.std.proofs.Common.{◌≡◌, ℕ, ℤ, pos, ◌+◌, List, [], ◌∷◌, ◌++◌, length, Some, None, refl, sym, ap, ◌∙◌, arith, append_assoc, length-append, add-zero}
 use Rattle.std.specs.Prelude.{Option}
-use Rattle.std.proofs.lemmas.List.{append-nil}
 use Rattle.alma_base.specs.declared.number.Range.{Range}
 use Rattle.alma_code.specs.declared.cell.SlotKind.{SlotKind}
 use Rattle.alma_code.specs.declared.cell.SlotKind.TheVariants as slot
-use Rattle.alma_code.specs.declared.instr.Instr.{Instr}
 use Rattle.alma_code.specs.declared.instr.Instr.TheVariants as I
 use Rattle.alma_choice.specs.Emitted.{aimed}
-use Rattle.alma_ir.specs.Tree.{Stmts, Stmt, Expr, Desig, Loop, ForTo, SomeOf, a_loop}
-use Rattle.alma_ir.specs.Phrases.{stmts_phrases, stmt_phrases, expr_phrases, desig_phrases}
-use Rattle.alma_ir.specs.Lines.{behind, stmts_with, stmt_with, expr_with, desig_with}
+use Rattle.alma_ir.specs.Tree.{Stmts, Expr, Desig, ForTo, SomeOf, a_loop}
+use Rattle.alma_ir.specs.Phrases.{stmts_phrases, expr_phrases, desig_phrases}
+use Rattle.alma_ir.specs.Lines.{behind, stmts_with, expr_with, desig_with}
 use Rattle.alma_ir.proofs.LinesBack.{behind_two}
 use Rattle.alma_emit_work.specs.declared.stand.Stand.{Stand}
 use Rattle.alma_emit_work.specs.Front.{Around, Front, Adds, Codes, Takes, Changes, Holes, Turns}
-use Rattle.alma_emit_work.specs.Puts.{PutsExpr, PutsTarget, PutsStmts, PutsStmt, stand_of, set_instr, inside}
-use Rattle.alma_emit_work.proofs.Joins.{nothing, then_adds, adds_as, code_code, code_adds, adds_code, only_code, slot_adds, adds_slot, only_slot, filled, hole_put, own_two, address_behind, address_after}
+use Rattle.alma_emit_work.specs.Puts.{PutsExpr, PutsTarget, PutsStmts, PutsStmt, stand_of, set_instr}
+use Rattle.alma_emit_work.proofs.Joins.{then_adds, adds_as, code_adds, adds_code, slot_adds, adds_slot, filled, hole_put, address_behind, address_after}
 use Rattle.alma_emit_forms.proofs.StmtForms.{set_is}
 use Rattle.alma_templates.specs.Lined.{Lined, own, in_row}
 use Rattle.alma_templates.specs.Slots.{bare_desig, unless_bare, expr_slots, desig_slots, stmts_slots}
-use Rattle.alma_templates.specs.Pieces.{fit_code, bounds_code, begin_loop, turn_code, for_turns, some_turns}
+use Rattle.alma_templates.specs.Pieces.{bounds_code, begin_loop, turn_code}
 use Rattle.alma_templates.specs.Templates as T
 
 module _ (s : Around) (line : ℕ) where

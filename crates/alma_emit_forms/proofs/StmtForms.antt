@@ -1,9 +1,8 @@
 -- What each form of statement adds that has no condition, no count and no labels.
-use Rattle.std.proofs.Common.{◌≡◌, ℕ, zero, suc, ◌+◌, Bool, true, false, List, [], ◌∷◌, ◌++◌, length, drop, get_or, Some, None, refl, sym, ap, ◌∙◌, subst, arith, append_assoc, length-append, add-zero}
+use Rattle.std.proofs.Common.{◌≡◌, ℕ, ◌+◌, List, [], ◌∷◌, ◌++◌, length, drop, get_or, Some, None, refl, sym, ap, ◌∙◌, arith, append_assoc, length-append}
 use Rattle.std.specs.Prelude.{Option}
 use Rattle.std.proofs.lemmas.List.{append-nil}
 use Rattle.alma_base.specs.declared.number.Range.{Range}
-use Rattle.alma_code.specs.declared.cell.SlotKind.{SlotKind}
 use Rattle.alma_code.specs.declared.cell.SlotKind.TheVariants as slot
 use Rattle.alma_code.specs.declared.instr.Instr.{Instr}
 use Rattle.alma_code.specs.declared.instr.Instr.TheVariants as I
@@ -11,8 +10,8 @@ use Rattle.alma_choice.specs.Emitted.{aimed}
 use Rattle.alma_ir.specs.declared.phrase.ReadAs.{ReadAs}
 use Rattle.alma_ir.specs.declared.phrase.WriteAs.{WriteAs}
 use Rattle.alma_ir.specs.Tree.{Stmts, Stmt, Branches, Test, Expr, Desig, no_stmts, more_stmts, TestStmt, Assign, CopyCells, If, While, Repeat, ForTo, SomeOf, Case, Either, Forall, Commit, Return, Read, WriteExpr, WriteText, WriteLine, no_branches, more_branches, no_result, some_result}
-use Rattle.alma_ir.specs.Phrases.{StmtPhrase, stmts_phrases, stmt_phrases, branches_phrases, expr_phrases, desig_phrases, test_phrases}
-use Rattle.alma_ir.specs.Lines.{stmt_count, behind, stmts_with, stmt_with, branches_with, expr_with, desig_with, test_with}
+use Rattle.alma_ir.specs.Phrases.{StmtPhrase, stmts_phrases, stmt_phrases, branches_phrases, expr_phrases, desig_phrases}
+use Rattle.alma_ir.specs.Lines.{stmt_count, behind, stmts_with, stmt_with, branches_with, expr_with, desig_with}
 use Rattle.alma_ir.proofs.LinesBack.{behind_two, drop_two}
 use Rattle.alma_emit_work.specs.declared.stand.Stand.{Stand}
 use Rattle.alma_emit_work.specs.Front.{Around, Front, Adds, Codes, Takes, Changes, Holes, EndsEach, EndsForall, result_of}
@@ -21,8 +20,8 @@ use Rattle.alma_emit_work.proofs.Joins.{nothing, then_adds, adds_as, code_code, 
 use Rattle.alma_emit_forms.proofs.TestForms.{two_places}
 use Rattle.alma_templates.specs.Lined.{Lined, own, in_row}
 use Rattle.alma_templates.specs.Tables.{range_number, text_number}
-use Rattle.alma_templates.specs.Slots.{bare, bare_desig, unless_bare, stmts_slots, stmt_slots, branches_slots, expr_slots, desig_slots}
-use Rattle.alma_templates.specs.Pieces.{fit_code, write_code, read_code, begin_forall, begin_each, end_each, each_body, forall_code, chosen}
+use Rattle.alma_templates.specs.Slots.{bare, bare_desig, unless_bare, stmts_slots, stmt_slots, desig_slots}
+use Rattle.alma_templates.specs.Pieces.{fit_code, write_code, read_code, begin_forall, begin_each, end_each, each_body, chosen}
 use Rattle.alma_templates.specs.Templates as T
 
 -- ---- lists of statements

@@ -1,8 +1,6 @@
 -- What each form of test adds.
-use Rattle.std.proofs.Common.{◌≡◌, ℕ, zero, suc, ◌+◌, Bool, true, false, List, [], ◌∷◌, ◌++◌, length, drop, refl, sym, ap, ◌∙◌, subst, arith, append_assoc, length-append, add-zero}
-use Rattle.std.proofs.lemmas.List.{append-nil}
+use Rattle.std.proofs.Common.{◌≡◌, ℕ, ◌+◌, true, false, List, [], ◌∷◌, ◌++◌, length, drop, refl, sym, ap, ◌∙◌, subst, arith, length-append}
 use Rattle.alma_base.specs.declared.number.Range.{Range}
-use Rattle.alma_code.specs.declared.cell.SlotKind.{SlotKind}
 use Rattle.alma_code.specs.declared.cell.SlotKind.TheVariants as slot
 use Rattle.alma_code.specs.declared.instr.Instr.{Instr}
 use Rattle.alma_code.specs.declared.instr.Instr.TheVariants as I
@@ -11,13 +9,13 @@ use Rattle.alma_ir.specs.Tree.{Stmts, Test, Tests, Expr, Desig, Value, Bind, Uni
 use Rattle.alma_ir.specs.Phrases.{stmts_phrases, test_phrases, tests_phrases, expr_phrases, desig_phrases}
 use Rattle.alma_ir.specs.Lines.{behind, stmts_with, test_with, tests_with, expr_with, desig_with}
 use Rattle.alma_ir.proofs.LinesBack.{behind_two, count_sum}
-use Rattle.alma_emit_work.specs.Front.{Around, Front, Adds, Codes, Takes, Changes, Holes}
+use Rattle.alma_emit_work.specs.Front.{Around, Front, Adds, Codes, Changes, Holes}
 use Rattle.alma_emit_work.specs.Puts.{PutsExpr, PutsValue, PutsDesig, PutsTest, PutsAnd, PutsOperands, PutsFirst, PutsStmts, value_slot}
-use Rattle.alma_emit_work.proofs.Joins.{nothing, then_adds, adds_as, code_code, code_adds, adds_code, only_code, slot_adds, adds_slot, hole_put, holes_adds, filled, over, address_behind}
-use Rattle.alma_templates.specs.Lined.{Lined, own, in_row, leaving, left_by}
+use Rattle.alma_emit_work.proofs.Joins.{nothing, then_adds, adds_as, adds_code, only_code, filled, over, address_behind}
+use Rattle.alma_templates.specs.Lined.{Lined, own, in_row}
 use Rattle.alma_templates.specs.Tables.{range_number}
-use Rattle.alma_templates.specs.Slots.{bare, unless_bare, test_slots, and_slots, or_slots, expr_slots, desig_slots, stmts_slots}
-use Rattle.alma_templates.specs.Pieces.{begin_first, first_of_two, refused}
+use Rattle.alma_templates.specs.Slots.{bare, unless_bare, test_slots, expr_slots, desig_slots}
+use Rattle.alma_templates.specs.Pieces.{begin_first, first_of_two}
 use Rattle.alma_templates.specs.Templates as T
 
 module _ (s : Around) (line : ℕ) where

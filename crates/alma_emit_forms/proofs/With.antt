@@ -1,11 +1,10 @@
 -- Phrases with lines have the form of the phrases without.
-use Rattle.std.proofs.Common.{◌≡◌, ℕ, ◌+◌, Bool, true, false, List, [], ◌∷◌, ◌++◌, length, Some, None, refl, sym, ap, ◌∙◌}
-use Rattle.std.specs.Prelude.{Option, ◌&&◌}
-use Rattle.alma_code.specs.declared.cell.SlotKind.{SlotKind}
+use Rattle.std.proofs.Common.{◌≡◌, ℕ, true, false, List, ◌∷◌, Some, refl, ap, ◌∙◌}
+use Rattle.std.specs.Prelude.{◌&&◌}
 use Rattle.alma_code.specs.declared.cell.SlotKind.TheVariants as slot
 use Rattle.alma_ir.specs.declared.phrase.Root.TheVariants as root
 use Rattle.alma_ir.specs.Tree.{Test, Expr, Links, Args, Arg, Desig, Sels, Sel, Value, Bind, Unify, SameCells, Seq, And, Or, Not, CallTest, Const, Load, Chain, Compare, Truth, Known, Chr, CallExpr, no_links, more_links, no_args, more_args, ByValue, ByCells, ByPlace, MixValue, MixPlace, a_desig, no_sels, more_sels, Field, Index}
-use Rattle.alma_ir.specs.Phrases.{stmts_phrases, expr_phrases, links_phrases, desig_phrases, sels_phrases, sel_phrases, arg_phrases}
+use Rattle.alma_ir.specs.Phrases.{stmts_phrases, expr_phrases, desig_phrases, sel_phrases, arg_phrases}
 use Rattle.alma_ir.specs.Lines.{behind, stmts_with, test_with, expr_with, links_with, args_with, arg_with, desig_with, sels_with, sel_with}
 use Rattle.alma_templates.specs.Slots.{bare_desig, bare, is_simple_expr, are_simple_links, is_simple_desig, are_simple_sels, is_simple_sel, is_simple, cells_behind, desig_cells, arg_kind, handed_slots}
 

@@ -1,24 +1,21 @@
 -- CASE: labels, arms, those that are never tried, and the ELSE part.
-use Rattle.std.proofs.Common.{◌≡◌, ℕ, zero, suc, ◌+◌, ◌*◌, ◌<◌, Bool, true, false, List, [], ◌∷◌, ◌++◌, length, drop, get_or, refl, sym, ap, ◌∙◌, subst, arith, append_assoc, length-append, add-zero}
-use Rattle.std.proofs.lemmas.List.{append-nil}
+use Rattle.std.proofs.Common.{◌≡◌, ℕ, suc, ◌+◌, ◌*◌, ◌<◌, Bool, true, false, List, [], ◌∷◌, ◌++◌, length, drop, get_or, refl, sym, ap, ◌∙◌, arith, append_assoc, length-append, add-zero}
 use Rattle.alma_base.specs.declared.number.Range.{Range}
-use Rattle.alma_code.specs.declared.cell.SlotKind.{SlotKind}
-use Rattle.alma_code.specs.declared.cell.SlotKind.TheVariants as slot
 use Rattle.alma_code.specs.declared.instr.Instr.{Instr}
 use Rattle.alma_code.specs.declared.instr.Instr.TheVariants as I
 use Rattle.alma_choice.specs.Emitted.{aimed}
 use Rattle.alma_ir.specs.declared.phrase.CaseArm.{CaseArm}
-use Rattle.alma_ir.specs.Tree.{Stmts, Stmt, CaseArms, Else, Expr, Case, no_cases, more_cases, no_else, else_part}
+use Rattle.alma_ir.specs.Tree.{Stmts, CaseArms, Else, no_cases, more_cases, no_else, else_part}
 use Rattle.alma_ir.specs.View.{cases_list, stmts_list}
-use Rattle.alma_ir.specs.Phrases.{stmts_phrases, stmt_phrases, cases_phrases, else_phrases, expr_phrases}
-use Rattle.alma_ir.specs.Lines.{behind, stmts_with, stmt_with, cases_with, else_with, expr_with}
+use Rattle.alma_ir.specs.Phrases.{stmts_phrases, cases_phrases, else_phrases}
+use Rattle.alma_ir.specs.Lines.{behind, stmts_with, cases_with, else_with}
 use Rattle.alma_ir.proofs.LinesBack.{behind_two}
-use Rattle.alma_emit_work.specs.Front.{Around, Front, Adds, Codes, Takes, Changes, Holes, Turns}
-use Rattle.alma_emit_work.specs.Puts.{PutsExpr, PutsStmts, PutsStmt, PutsCases, PutsCaseArm, PutsDead, PutsDeadBodies, PutsElse, inside}
+use Rattle.alma_emit_work.specs.Front.{Around, Front, Adds, Codes, Changes, Holes, Turns}
+use Rattle.alma_emit_work.specs.Puts.{PutsStmts, PutsCases, PutsCaseArm, PutsDead, PutsDeadBodies, PutsElse}
 use Rattle.alma_emit_work.proofs.Small.{drop_one}
-use Rattle.alma_emit_work.proofs.Joins.{nothing, then_adds, adds_as, turned_back, code_code, code_adds, adds_code, only_code, adds_slot, filled, over, address_behind}
-use Rattle.alma_templates.specs.Lined.{Lined, own, in_row}
-use Rattle.alma_templates.specs.Slots.{stmts_slots, dead_slots, cases_slots, else_slots, expr_slots}
+use Rattle.alma_emit_work.proofs.Joins.{nothing, then_adds, adds_as, turned_back, adds_code, only_code, filled, over, address_behind}
+use Rattle.alma_templates.specs.Lined.{Lined, own}
+use Rattle.alma_templates.specs.Slots.{stmts_slots, dead_slots, cases_slots, else_slots}
 use Rattle.alma_templates.specs.Pieces.{labels_code, behind_labels, case_arm, passed_over, has_dead}
 use Rattle.alma_templates.specs.Templates as T
 

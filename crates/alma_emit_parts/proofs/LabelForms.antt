@@ -1,13 +1,12 @@
 -- The labels of an arm of CASE: two jumps of each are aimed at one address.
-use Rattle.std.proofs.Common.{◌≡◌, ℕ, ℤ, ◌+◌, ◌<◌, List, [], ◌∷◌, ◌++◌, length, refl, sym, ap, ◌∙◌, subst, arith, append_assoc, length-append}
+use Rattle.std.proofs.Common.{◌≡◌, ℕ, ℤ, ◌+◌, ◌<◌, List, [], ◌∷◌, ◌++◌, length, refl, sym, ap, ◌∙◌, arith, append_assoc, length-append}
 use Rattle.std.proofs.lemmas.List.{append-nil}
 use Rattle.alma_base.specs.declared.number.Range.{Range}
-use Rattle.alma_code.specs.declared.instr.Instr.{Instr}
 use Rattle.alma_code.specs.declared.instr.Instr.TheVariants as I
 use Rattle.alma_choice.specs.Emitted.{aimed}
 use Rattle.alma_choice.proofs.Aiming.{aim_between}
 use Rattle.alma_emit_work.specs.Puts.{all_labels}
-use Rattle.alma_emit_work.specs.Front.{Front, Adds, Codes, Changes, Holes}
+use Rattle.alma_emit_work.specs.Front.{Front, Codes, Changes, Holes}
 use Rattle.alma_emit_work.proofs.Joins.{code_code, adds_code, code_holes, holes_as, own_two, closed, only_code, address_after, address_behind}
 use Rattle.alma_templates.specs.Lined.{Lined, own}
 use Rattle.alma_templates.specs.Pieces.{last_label_code, label_code, labels_code}

@@ -1,24 +1,20 @@
 -- What roots, selectors and designators add.
-use Rattle.std.proofs.Common.{◌≡◌, ℕ, zero, suc, ◌+◌, List, [], ◌∷◌, ◌++◌, length, refl, sym, ap, ◌∙◌, subst, arith, append_assoc, length-append, add-zero}
-use Rattle.std.proofs.lemmas.List.{append-nil}
+use Rattle.std.proofs.Common.{◌≡◌, ℕ, zero, suc, ◌+◌, List, [], ◌∷◌, ◌++◌, length, refl, sym, ap, ◌∙◌, arith, length-append}
 use Rattle.alma_base.specs.declared.number.Range.{Range}
-use Rattle.alma_code.specs.declared.cell.SlotKind.{SlotKind}
 use Rattle.alma_code.specs.declared.cell.SlotKind.TheVariants as slot
-use Rattle.alma_code.specs.declared.instr.Instr.{Instr}
 use Rattle.alma_code.specs.declared.instr.Instr.TheVariants as I
 use Rattle.alma_ir.specs.declared.phrase.Root.{Root}
-use Rattle.alma_ir.specs.declared.phrase.Root.TheVariants as root
-use Rattle.alma_ir.specs.Tree.{Program, Expr, Desig, Sels, Sel, routine_at, a_desig, no_sels, more_sels, Field, Index}
+use Rattle.alma_ir.specs.Tree.{Program, Expr, Sels, Sel, routine_at, a_desig, no_sels, more_sels, Field, Index}
 use Rattle.alma_ir.specs.Checked.{outer_at}
-use Rattle.alma_ir.specs.Phrases.{stmts_phrases, expr_phrases, desig_phrases, sels_phrases, sel_phrases}
+use Rattle.alma_ir.specs.Phrases.{stmts_phrases, sels_phrases, sel_phrases}
 use Rattle.alma_ir.specs.Lines.{behind, stmts_with, expr_with, desig_with, sels_with, sel_with}
 use Rattle.alma_ir.proofs.LinesBack.{behind_two}
 use Rattle.alma_emit_work.specs.Front.{Around, Front, Adds, Codes, Takes}
 use Rattle.alma_emit_work.specs.Puts.{PutsValue, PutsDesig, PutsSels, PutsSel, value_slot}
-use Rattle.alma_emit_work.proofs.Joins.{nothing, then_adds, adds_as, code_code, code_adds, adds_code, only_code, slot_adds, adds_slot, only_slot, own_two}
+use Rattle.alma_emit_work.proofs.Joins.{nothing, then_adds, adds_as, adds_code, only_code, slot_adds, adds_slot, own_two}
 use Rattle.alma_templates.specs.Lined.{Lined, own, in_row}
 use Rattle.alma_templates.specs.Tables.{range_number}
-use Rattle.alma_templates.specs.Slots.{bare, unless_bare, chain_slots, root_slots, expr_slots, sels_slots, sel_slots}
+use Rattle.alma_templates.specs.Slots.{bare, unless_bare, chain_slots, root_slots, expr_slots, sel_slots}
 use Rattle.alma_templates.specs.Pieces.{chain_code, link_code}
 use Rattle.alma_templates.specs.Templates as T
 

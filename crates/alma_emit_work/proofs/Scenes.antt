@@ -1,6 +1,6 @@
 -- What stands round a phrase.
-use Rattle.std.proofs.Common.{◌≡◌, ℕ, zero, suc, ◌<◌, ◌≤◌, List, [], ◌∷◌, map, length, get_or, Some, None, refl, sym, ap, ◌∙◌, arith, true, false}
-use Rattle.std.specs.Prelude.{slice_get, if◌then◌else◌, nat_le}
+use Rattle.std.proofs.Common.{◌≡◌, ℕ, zero, suc, ◌<◌, ◌≤◌, List, [], ◌∷◌, map, get_or, Some, None, refl, arith}
+use Rattle.std.specs.Prelude.{slice_get}
 use Rattle.alma_ir.specs.declared.program.Routine.{Routine}
 use Rattle.alma_ir.specs.Checked.{link_slots}
 use Rattle.alma_ir.specs.Tree.{no_routine}

@@ -17,7 +17,7 @@ use Rattle.alma_code.specs.Picture as picture
 use Rattle.alma_code.specs.Plain.{PlainCode, kinds_at}
 use Rattle.alma_code.specs.Machine.{State, Stepped, step, act, number, as_number, put_number, goes_to, ends_in_fault}
 use Rattle.alma_ir.specs.Tree.{Program, routine_at}
-use Rattle.alma_mean.specs.Store.{Store, Unknown, Number, At, with_cell, put, put_top, top, top_frame, top_cell}
+use Rattle.alma_mean.specs.Store.{Store, Unknown, Number, At, with_cell, put_top, top, top_frame, top_cell}
 use Rattle.alma_mean.specs.Store as store
 use Rattle.alma_implements.proofs.Frames.{shift, shift_in, SameContent, StandFor, Fits, IsAt}
 use Rattle.alma_implements.proofs.FrameLemmas.{top_same, fits_put, put_is}

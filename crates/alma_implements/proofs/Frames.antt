@@ -14,7 +14,7 @@ use Rattle.alma_code.specs.Plain.{PlainCode, kinds_at}
 use Rattle.alma_code.specs.Machine.{State, Going, link_to}
 use Rattle.alma_ir.specs.Tree.{Program, routine_at}
 use Rattle.alma_ir.specs.Checked.{link_slots}
-use Rattle.alma_mean.specs.Store.{Store, Place, Frame, Unknown, Number, At, top_frame}
+use Rattle.alma_mean.specs.Store.{Store, Place, Frame, Unknown, Number, At}
 use Rattle.alma_mean.specs.Store as store
 
 -- a machine that goes on at this address with these frames and entries

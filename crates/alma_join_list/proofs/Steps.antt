@@ -1,21 +1,20 @@
 -- What goes on as lists of parts are put together.
-use Rattle.std.proofs.Common.{◌≡◌, ℕ, Vec, Global, List, [], ◌∷◌, ◌++◌, Option, None, Some, refl, sym, ap, ◌∙◌, subst}
-use Rattle.std.specs.Prelude.{option_map, option_to_list}
+use Rattle.std.proofs.Common.{◌≡◌, ℕ, Vec, Global, List, [], ◌∷◌, ◌++◌, Option, None, Some, refl, sym, ap, ◌∙◌}
+use Rattle.std.specs.Prelude.{option_map}
 use Rattle.alma_ir.specs.Tree as ir
 use Rattle.alma_ir.specs.declared.phrase.Arg.{Arg}
 use Rattle.alma_ir.specs.declared.phrase.Arm.{Arm}
 use Rattle.alma_ir.specs.declared.phrase.CaseArm.{CaseArm}
 use Rattle.alma_ir.specs.declared.phrase.Branch.{Branch}
 use Rattle.alma_ir.specs.View.{args_list, arms_list, cases_list, branches_list, arg_of, test_of, stmts_list}
-use Rattle.alma_rules.specs.Judged.{Broken, Judged, of_value, at_node, and_then, both_of, with}
+use Rattle.alma_rules.specs.Judged.{Judged, of_value, and_then, both_of, with}
 use Rattle.alma_rules.specs.Parts as parts
 use Rattle.alma_check_env.specs.declared.part.Span.{Span}
 use Rattle.alma_check_rules.specs.Views.{span_view, spans_view, spans_in, args_in, gathered}
 use Rattle.alma_rules.specs.Nodes as nodes
 use Rattle.alma_check_build.specs.Lists.{arms_in, branches_in, guarded_of, items_in, pushed}
 use Rattle.alma_walk.specs.Appends.{append_args, append_arms, append_branches}
-use Rattle.alma_walk.specs.Onward.{Continues, onward}
-use Rattle.alma_walk.proofs.Onwards.{judged, onward_stops, onward_bad, onward_none, onward_some, passed_on, no_memory_on, append_more}
+use Rattle.alma_walk.proofs.Onwards.{onward_stops, onward_bad, onward_none, onward_some, passed_on, no_memory_on, append_more}
 use Rattle.alma_join_list.specs.Onward.{onward_operands, onward_args, onward_stmts, onward_arms, onward_cases, onward_branches, onward_spans}
 
 -- ---- lists put together

@@ -1,5 +1,5 @@
 -- A code of which each table is as it should be is that of the program.
-use Rattle.std.proofs.Common.{◌≡◌, ℕ, ◌<◌, List, [], length, get_or, refl, sym, ap, ◌∙◌, subst}
+use Rattle.std.proofs.Common.{◌≡◌, length, sym, ap, ◌∙◌, subst}
 use Rattle.std.specs.Prelude.{map}
 use Rattle.alma_code.specs.Plain.{PlainCode}
 use Rattle.alma_ir.specs.Tree.{Program}

@@ -1,5 +1,5 @@
 -- The declarations of a block, and the entries of its map.
-use Rattle.std.proofs.Common.{◌≡◌, ℕ, ◌+◌, ◌<◌, ◌≤◌, List, [], ◌∷◌, ◌++◌, Option, None, Some, Bool, true, false, cond, if◌then◌else◌, not, Vec, Global, length, map, position, slice_get, refl, ap, sym, ◌∙◌, arith, true≢false, is_some}
+use Rattle.std.proofs.Common.{◌≡◌, ℕ, ◌+◌, ◌<◌, ◌≤◌, List, [], ◌∷◌, ◌++◌, Option, None, Some, Bool, true, false, cond, not, Vec, Global, length, map, position, slice_get, refl, ap, sym, ◌∙◌, arith, true≢false, is_some}
 use Rattle.std.specs.Prelude.{bytes_eq}
 use Rattle.std.specs.Option.{option_map}
 use Rattle.std.specs.List.{position_or_len}

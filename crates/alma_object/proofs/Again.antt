@@ -1,8 +1,7 @@
 -- The code that is read from an object is the code that was written.
-use Rattle.std.proofs.Common.{◌≡◌, None, ℕ, zero, suc, ◌+◌, ◌-◌, ◌*◌, ◌^◌, ◌<◌, ◌≤◌, ℤ, Bool, true, false, List, [], ◌∷◌, ◌++◌, length, get_or, take, drop, map, refl, sym, ap, subst, ◌∙◌, arith}
-use Rattle.std.specs.Prelude.{nat_eq, if◌then◌else◌, sum_by, slice_range}
+use Rattle.std.proofs.Common.{◌≡◌, None, ℕ, suc, ◌+◌, ◌-◌, ◌*◌, ◌<◌, ◌≤◌, ℤ, Bool, true, false, List, [], ◌∷◌, length, get_or, take, map, refl, sym, ap, ◌∙◌, arith}
+use Rattle.std.specs.Prelude.{nat_eq, if◌then◌else◌, sum_by}
 use Rattle.std.specs.List.{flat_map, range_with_len}
-use Rattle.std.proofs.lemmas.List.FromFn.{get_or-map-range_with_len, length-map-range_with_len}
 use Rattle.alma_base.specs.declared.number.Range.{Range}
 use Rattle.alma_code.specs.declared.cell.SlotKind.{SlotKind}
 use Rattle.alma_code.specs.declared.cell.SlotKind.TheVariants as slot
@@ -11,26 +10,23 @@ use Rattle.alma_code.specs.declared.head.CodeParam.{CodeParam}
 use Rattle.alma_code.specs.declared.head.ParamKind.{ParamKind}
 use Rattle.alma_code.specs.declared.head.ParamKind.TheVariants as param
 use Rattle.alma_code.specs.declared.head.Run.{Run}
-use Rattle.alma_code.specs.declared.instr.Instr.{Instr}
 use Rattle.alma_code.specs.declared.instr.Instr.TheVariants as I
 use Rattle.alma_code.specs.Head.{PlainHead}
 use Rattle.alma_code.specs.Plain.{PlainCode, PlainRoutine, PlainGlobal, routine_at, head_at, no_routine}
-use Rattle.alma_code.specs.Records.{param_count, run_count}
-use Rattle.alma_format.specs.declared.header.Header.{Header}
-use Rattle.alma_format.specs.Bytes.{u32_at, i64_at}
+use Rattle.alma_format.specs.Bytes.{u32_at}
 use Rattle.alma_object.specs.Fields.{FitsFields, KeepsFormat}
-use Rattle.alma_format.specs.Header.{header_of, routines_at, globals_at, params_at, runs_at, ranges_at, texts_at, name_pool_at, text_pool_at, instrs_at, lines_at}
+use Rattle.alma_format.specs.Header.{header_of, params_at, runs_at, ranges_at, name_pool_at, text_pool_at, instrs_at, lines_at}
 use Rattle.alma_format.specs.Instrs.{instr_at}
-use Rattle.alma_format.specs.Object.{IsObject, object_bytes, end_of, no_global, param_number, slot_number, slot_size}
+use Rattle.alma_format.specs.Object.{IsObject, object_bytes, no_global, param_number, slot_number, slot_size}
 use Rattle.alma_format.specs.Reading.{items, param_kind, slot_kind, param_in, run_in, range_in, line_in, params_in, runs_in, name_in, text_in, routine_in, global_in, code_in}
 use Rattle.alma_object.specs.View.{no_line}
-use Rattle.alma_format.specs.Walk.{object_fault, start_of, routine_field, params_end, runs_end, code_end, text_end, name_end}
+use Rattle.alma_format.specs.Walk.{object_fault, start_of, params_end, runs_end, code_end, text_end, name_end}
 use Rattle.alma_object.proofs.Accepted.{header_for, header_is}
-use Rattle.alma_object.proofs.Clean.{object_clean, no_param, no_run, no_range, RoutineStands, routine_stands, global_stands, param_stands, run_stands, range_stands, text_end_is, line_stands, instr_stands, names_length, name_of_routine, name_of_global, name_in_pool, name_end_at, params_length, runs_length, runs_start}
+use Rattle.alma_object.proofs.Clean.{object_clean, no_param, no_run, no_range, routine_stands, global_stands, param_stands, run_stands, range_stands, text_end_is, line_stands, instr_stands, names_length, name_of_routine, name_of_global, name_in_pool, name_end_at, params_length, runs_length, runs_start}
 use Rattle.alma_object.proofs.Ends.{end_more, end_within, start_is, stands_part, flat_at}
-use Rattle.alma_object.proofs.Places.{SectionsStand, sections_stand, names_of}
+use Rattle.alma_object.proofs.Places.{sections_stand, names_of}
 use Rattle.alma_object.proofs.Whole.{code_same}
-use Rattle.alma_object.proofs.Stands.{Stands, stands_as, stands_slice, eq_test, ne_test}
+use Rattle.alma_object.proofs.Stands.{stands_as, stands_slice}
 
 -- a list is the list of its items
 pub items_again : {A : Type 0} (of : ℕ → A) (xs : List A) (d : A) → ((k : ℕ) → k < length xs → of k ≡ get_or xs k d) → items of (length xs) ≡ xs

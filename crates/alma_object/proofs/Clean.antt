@@ -1,36 +1,31 @@
 -- An object has no fault: its sections.
-use Rattle.std.proofs.Common.{◌≡◌, ◌⊎◌, ℕ, zero, suc, ◌+◌, ◌-◌, ◌*◌, ◌^◌, ◌<◌, ◌≤◌, ℤ, pos, SFits, Bool, true, false, ◌&&◌, not, Option, None, List, [], ◌∷◌, ◌++◌, length, get_or, take, map, refl, sym, ap, subst, ◌∙◌, arith, inl, inr}
-use Rattle.std.specs.Prelude.{nat_eq, nat_lt, nat_le, int_le, ◌||◌, if◌then◌else◌, sum_by, slice_index, FitsSigned}
-use Rattle.std.specs.List.{flat_map, range_with_len, list_all}
+use Rattle.std.proofs.Common.{◌≡◌, ℕ, zero, suc, ◌+◌, ◌-◌, ◌*◌, ◌^◌, ◌<◌, ◌≤◌, pos, Bool, true, false, ◌&&◌, not, None, List, [], ◌∷◌, length, get_or, take, map, refl, sym, ap, subst, ◌∙◌, arith, inl, inr}
+use Rattle.std.specs.Prelude.{nat_eq, nat_lt, nat_le, int_le, ◌||◌, if◌then◌else◌, sum_by, slice_index}
+use Rattle.std.specs.List.{flat_map, list_all}
 use Rattle.std.proofs.lemmas.Bool.{cases_lt}
 use Rattle.std.proofs.lemmas.List.{get_or-map, get_or_append_left, get_or-append-add, length-map, length-append}
 use Rattle.std.proofs.lemmas.List.Concat.{length-flat_map}
-use Rattle.std.proofs.lemmas.List.Sums.{sum_by-append, sum_by_more}
+use Rattle.std.proofs.lemmas.List.Sums.{sum_by-append}
 use Rattle.alma_base.specs.declared.number.Range.{Range}
 use Rattle.alma_code.specs.declared.cell.SlotKind.{SlotKind}
 use Rattle.alma_code.specs.declared.cell.SlotKind.TheVariants as slot
-use Rattle.alma_code.specs.declared.code.Line.{Line}
 use Rattle.alma_code.specs.declared.head.CodeParam.{CodeParam}
 use Rattle.alma_code.specs.declared.head.ParamKind.{ParamKind}
 use Rattle.alma_code.specs.declared.head.ParamKind.TheVariants as param
 use Rattle.alma_code.specs.declared.head.Run.{Run}
-use Rattle.alma_code.specs.declared.instr.Instr.{Instr}
 use Rattle.alma_code.specs.declared.instr.Instr.TheVariants as I
 use Rattle.alma_code.specs.Layout.{RunsRise}
-use Rattle.alma_code.specs.Lines.{lines_rise}
 use Rattle.alma_code.specs.Plain.{PlainCode, PlainRoutine, PlainGlobal, routine_at, head_at, start_at, end_at, no_routine}
-use Rattle.alma_code.specs.Records.{param_count, run_count, name_count, text_count, is_name, has_cells, same_kind, runs_differ, is_routine_record, is_first_kind, is_first_param, is_first_form, is_first_routine, IsFirst, KeepsVersion}
-use Rattle.alma_code.specs.Rules.{last_end}
+use Rattle.alma_code.specs.Records.{param_count, run_count, name_count, text_count, is_name, has_cells, same_kind, runs_differ, is_routine_record, is_first_kind, is_first_param, is_first_form, is_first_routine, IsFirst}
 use Rattle.alma_code.proofs.Tables.{end_inside}
-use Rattle.alma_format.specs.declared.fault.ObjectFault.{ObjectFault}
 use Rattle.alma_format.specs.declared.fault.ObjectFault.TheVariants as fault
 use Rattle.alma_format.specs.declared.header.Header.{Header}
-use Rattle.alma_format.specs.Bytes.{words_bytes, i64_bytes, u32_at, i64_at}
-use Rattle.alma_format.specs.Fault.{unless, whole, or_else, first_fault}
-use Rattle.alma_object.specs.Fields.{FitsFields, FitsRoutine, FitsGlobal, FitsRun, FitsRange, FitsInstr}
-use Rattle.alma_format.specs.Header.{header_of, routines_at, globals_at, params_at, runs_at, ranges_at, texts_at, name_pool_at, text_pool_at, instrs_at, lines_at, end_at as end_offset}
-use Rattle.alma_format.specs.Instrs.{instr_bytes, is_instr, instr_at}
-use Rattle.alma_format.specs.Object.{IsObject, end_of, no_global, param_number, slot_number, slot_size, routine_bytes, global_bytes, text_end_bytes, param_bytes, run_bytes, range_bytes, line_bytes, object_bytes}
+use Rattle.alma_format.specs.Bytes.{i64_bytes, u32_at, i64_at}
+use Rattle.alma_format.specs.Fault.{unless}
+use Rattle.alma_object.specs.Fields.{FitsFields}
+use Rattle.alma_format.specs.Header.{routines_at, globals_at, params_at, runs_at, ranges_at, texts_at, name_pool_at, text_pool_at, instrs_at, lines_at, end_at as end_offset}
+use Rattle.alma_format.specs.Instrs.{instr_bytes, is_instr}
+use Rattle.alma_format.specs.Object.{IsObject, end_of, no_global, param_number, slot_number, slot_size, routine_bytes, global_bytes, text_end_bytes, param_bytes, run_bytes, range_bytes, line_bytes}
 use Rattle.alma_object.specs.View.{no_line}
 use Rattle.alma_format.specs.Walk.{start_of, is_end, is_name_end, routine_field, params_end, runs_end, code_end, text_end, name_end, name_count as names_count, routine_fault, global_fault, param_fault, run_fault, routine_runs_fault, range_fault, text_fault, name_fault, pools_fault, instr_fault, line_fault, end_fault, sections_fault, object_fault, can_stand}
 use Rattle.alma_object.proofs.Accepted.{header_for, header_is, header_clean, or_clean}
@@ -40,7 +35,7 @@ use Rattle.alma_sections.proofs.Kept.{and_parts}
 use Rattle.alma_object.proofs.LineOrder.{below_from, next_line}
 use Rattle.alma_object.proofs.Places.{object_length, SectionsStand, sections_stand, names_of, instr_length, routine_length, global_length, text_length, param_length, run_length, range_length, line_length}
 use Rattle.alma_object.proofs.Sections.{name_end_routine, name_end_global}
-use Rattle.alma_object.proofs.Stands.{Stands, AreWords, no_words, more_words, stands_first, stands_second, stands_as, stands_within, stands_nth, stands_slice, i64_stands, i64_length, words_length, first_clean, unless_true, whole_true, le_test, lt_test, eq_test, ne_test}
+use Rattle.alma_object.proofs.Stands.{Stands, AreWords, no_words, more_words, stands_first, stands_second, stands_as, stands_within, stands_nth, i64_stands, i64_length, first_clean, unless_true, whole_true, le_test, lt_test, eq_test, ne_test}
 
 abbrev pub no_param : CodeParam
 no_param = record { kind = param.Value; cells = 0 }

@@ -1,5 +1,5 @@
 -- The record of an instruction that stands in bytes is read as that instruction.
-use Rattle.std.proofs.Common.{◌≡◌, ℕ, zero, suc, ◌+◌, ◌-◌, ◌*◌, ◌^◌, ◌<◌, ◌≤◌, ℤ, SFits, Bool, true, false, ◌&&◌, List, [], ◌∷◌, ◌++◌, length, get_or, drop, refl, sym, ap, subst, ◌∙◌, arith, inl, inr}
+use Rattle.std.proofs.Common.{◌≡◌, ℕ, ◌+◌, ◌-◌, ◌*◌, ◌^◌, ◌<◌, ◌≤◌, ℤ, Bool, true, false, ◌&&◌, List, [], ◌∷◌, ◌++◌, length, get_or, drop, refl, sym, ap, subst, ◌∙◌, arith, inl, inr}
 use Rattle.std.specs.Prelude.{nat_eq, nat_le, if◌then◌else◌, slice_index, All, FitsSigned}
 use Rattle.std.specs.List.{list_all}
 use Rattle.std.specs.Int.{w64}
@@ -8,12 +8,12 @@ use Rattle.std.proofs.lemmas.List.{get_or_past}
 use Rattle.alma_code.specs.declared.instr.Instr.{Instr}
 use Rattle.alma_code.specs.declared.instr.Instr.TheVariants as I
 use Rattle.alma_code.specs.Records.{is_first_form}
-use Rattle.alma_format.specs.Bytes.{u32_bytes, words_bytes, i64_bytes, u32_at, i64_at}
+use Rattle.alma_format.specs.Bytes.{words_bytes, i64_bytes, u32_at, i64_at}
 use Rattle.alma_object.specs.Fields.{FitsInstr, fields}
-use Rattle.alma_format.specs.Instrs.{record_bytes, const_bytes, instr_bytes, instrs_with, used_words, last_opcode, words_at, is_instr, instr_at}
+use Rattle.alma_format.specs.Instrs.{record_bytes, instr_bytes, instrs_with, used_words, last_opcode, words_at, is_instr, instr_at}
 use Rattle.alma_object.proofs.Accepted.{word_at}
 use Rattle.alma_object.proofs.Slices.{one_slice}
-use Rattle.alma_object.proofs.Stands.{Stands, AreWords, no_words, more_words, each_word, stands_first, stands_second, stands_as, stands_slice, stands_within, words_length, words_stand, u32_length, u32_stands, i64_length, i64_stands, le_test}
+use Rattle.alma_object.proofs.Stands.{Stands, AreWords, no_words, more_words, each_word, stands_first, stands_second, stands_slice, stands_within, words_length, words_stand, i64_length, i64_stands, le_test}
 
 -- what is read of an instruction's record
 pub record IsRead (bytes : List ℕ) (at : ℕ) (instr : Instr) : Type 0 where

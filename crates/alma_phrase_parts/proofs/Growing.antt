@@ -1,11 +1,11 @@
 -- A loop in which a part that a function has read is put at the end of a list.
-use Rattle.std.proofs.Common.{◌≡◌, ℕ, List, [], ◌∷◌, ◌++◌, Result, Ok, Err, MatchResult, refl, ap, sym, subst}
+use Rattle.std.proofs.Common.{ℕ, List, [], ◌∷◌, ◌++◌, Result, Ok, Err, MatchResult, sym, subst}
 use Rattle.alma_tree.specs.declared.kind.Kind.{Kind}
-use Rattle.alma_tree.specs.Numbers.{Step, ◌>>◌}
+use Rattle.alma_tree.specs.Numbers.{Step}
 use Rattle.alma_grammar.specs.Parts.{Part}
 use Rattle.alma_cursor.specs.declared.cursor.Cursor as cursors
 use Rattle.alma_cursor.specs.declared.fault.Fault.{Fault}
-use Rattle.alma_cursor.specs.Parsing.{At, position_of, Reads, Becomes, Fails}
+use Rattle.alma_cursor.specs.Parsing.{At, position_of, Becomes, Fails}
 use Rattle.alma_cursor.proofs.Joins.{Gives}
 use Rattle.alma_cursor.proofs.Loops.{Loops, broken}
 use Rattle.alma_cursor.proofs.Turns.{Lists, grown, want}

@@ -1,5 +1,5 @@
 -- What a call gave, and what is made of it.
-use Rattle.std.proofs.Common.{◌≡◌, ℕ, List, ◌∷◌, Result, Ok, Err, MatchResult, refl, ap, sym, subst}
+use Rattle.std.proofs.Common.{◌≡◌, ℕ, List, Result, Ok, Err, MatchResult, sym, subst}
 use Rattle.alma_tree.specs.declared.kind.Kind.{Kind}
 use Rattle.alma_tree.specs.Numbers.{Step, ◌>>◌}
 use Rattle.alma_grammar.specs.Parts.{Part}

@@ -13,7 +13,7 @@ use Rattle.alma_tree.specs.Numbers.{Step, token, ◌>>◌, number_term, number_f
 use Rattle.alma_grammar.specs.Parts.{Part, one, factor_part, term_parts}
 use Rattle.alma_cursor.specs.declared.cursor.Cursor as cursors
 use Rattle.alma_cursor.specs.declared.fault.Fault.{Fault}
-use Rattle.alma_cursor.specs.Parsing.{At, position_of, Passes, Opens, Becomes, Fails}
+use Rattle.alma_cursor.specs.Parsing.{At, Passes, Opens, Becomes, Fails}
 use Rattle.alma_cursor.proofs.Joins.{Gives}
 use Rattle.alma_cursor.proofs.Loops.{Loops}
 use Rattle.alma_cursor.proofs.Turns.{Lists}

@@ -1,5 +1,5 @@
 -- Lists of trees with one more at the end.
-use Rattle.std.proofs.Common.{◌≡◌, ℕ, List, [], ◌∷◌, ◌++◌, Option, None, Some, Result, refl, ap, sym, ◌∙◌}
+use Rattle.std.proofs.Common.{◌≡◌, ℕ, List, [], ◌∷◌, Option, None, Some, Result, refl, ap, ◌∙◌}
 use Rattle.alma_tree.specs.declared.kind.Kind.TheVariants as kinds
 use Rattle.alma_tree.specs.declared.phrase.Stmts as ds
 use Rattle.alma_tree.specs.declared.phrase.Stmt as dt
@@ -29,8 +29,7 @@ use Rattle.alma_tree.specs.Numbers.{numbers_of_args, numbers_of_values}
 use Rattle.alma_grammar.specs.Parts.{Part}
 use Rattle.alma_grammar.specs.Filling.{spell_inside_args}
 use Rattle.alma_phrase_steps.specs.Pieces.{inside_of, number_inside_args}
-use Rattle.alma_cursor.specs.Parsing.{At, Reads}
-use Rattle.alma_cursor.proofs.Steps.{same}
+use Rattle.alma_cursor.specs.Parsing.{At}
 use Rattle.alma_cursor.specs.declared.cursor.Cursor as cursors
 use Rattle.alma_cursor.specs.declared.fault.Fault.{Fault}
 use Rattle.alma_cursor.proofs.Joins.{Gives}

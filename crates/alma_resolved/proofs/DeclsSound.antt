@@ -17,7 +17,7 @@ use Rattle.alma_rules.specs.Scene.{Scene, Heading, Returns, is_first, in_constan
 use Rattle.alma_rules.specs.Parts.{Typing}
 use Rattle.alma_rules.specs.Types.{declared, redeclared, read_constant, read_type, all_names, last_token, type_names}
 use Rattle.alma_rules.specs.Places.{width, mark_expr, mark_type}
-use Rattle.alma_rules.specs.Decls.{Frame, with_faults, with_scene, limited, constant_entry, constant_from, constant_in, read_consts, type_entry, type_in, read_types, variable_access, with_variable, variable_in, variables_in, variables_of, read_vars, const_names, type_entry_names, var_names, decl_names, decls_names, block_names, with_texts, block_routines, decls_routines, decl_routines, with_routine, with_routines, with_block, read_heading, heading_in, read_decl, read_decls}
+use Rattle.alma_rules.specs.Decls.{Frame, with_faults, with_scene, limited, constant_entry, constant_from, constant_in, read_consts, type_entry, type_in, read_types, variable_access, with_variable, variable_in, variables_in, variables_of, read_vars, const_names, type_entry_names, var_names, decl_names, decls_names, decls_routines, decl_routines, with_routine, with_routines, with_block, read_heading, read_decl, read_decls}
 use Rattle.alma_rules.proofs.Sound.{IsThere, IsTyped, nil_left, nil_right}
 use Rattle.alma_resolved.specs.Stand.{DeclsStand, DeclStands}
 use Rattle.alma_resolved.proofs.Lookups.{Each, NotBad, HeadingThere, IsPlain, Grown, grown, grown_same, grown_twice, grown_each, grown_declared, plain_not_bad, each_new_block, each_more}

@@ -12,7 +12,7 @@ use Rattle.alma_rules.specs.Numbered as tree
 use Rattle.alma_rules.specs.Judged.{Judged, unless, both_of, both, and_then}
 use Rattle.alma_rules.specs.Scene.{Scene, Found, absent, bad, constant, named, variable, routine, found, inside_of, text_at, row_at, literal_at}
 use Rattle.alma_rules.specs.Parts.{Meaning, a_place, plain, a_test, Typing, no_place, without_place, boolean_typing, Denoted, a_constant, a_variable, a_routine, no_array, denoted, field_of, field_part, select_field, select_in, select_index, typing_in, called, Callee, callee_in, call_typing, related, relation_of, equation_of, Operator, arithmetic, logical, Operands, add_operator, mul_operator, desig_of, chain_of, chained}
-use Rattle.alma_rules.specs.ExprRules.{as_value, as_procedure, exactly, alone, argument_desig, argument_kind_of, literal_rules, not_rules, chain_rules, call_rules, Argument, other, of_bad, of_variable, argument_kind, argument_found, Operand, operand_rules, index_rules, name_rules, desig_rules}
+use Rattle.alma_rules.specs.ExprRules.{as_value, as_procedure, exactly, alone, argument_desig, argument_kind_of, literal_rules, not_rules, chain_rules, call_rules, Argument, other, of_variable, argument_kind, argument_found, Operand, operand_rules, name_rules, desig_rules}
 use Rattle.alma_rules.specs.Nodes.{is_selected, indexed, judge_name, or_sequence, in_parens, as_sequence, known_typing, ord_typing, chr_typing, not_typing, cons_operand, any_and, any_or, argument_count, formals_of, operand_behind, first_mul, first_add, sum_at, product_at}
 use Rattle.alma_rules.specs.Walk.{judge_expr, judge_term, judge_terms, judge_factor, judge_factors, judge_primary, judge_desig, judge_selectors, judge_selector, judge_indices, judge_index_tail, judge_only, judge_stmts, judge_arguments}
 use Rattle.alma_resolved.proofs.Fits.{When, when_some, when_none, when_all, when_map, when_then, when_both, when_node, when_weaker}

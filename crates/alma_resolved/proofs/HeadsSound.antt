@@ -12,7 +12,7 @@ use Rattle.alma_names.specs.Blocks.{shape_id}
 use Rattle.alma_ir.proofs.Each.{each_of_append, each_of_front, each_of_back}
 use Rattle.alma_rules.specs.Numbered as tree
 use Rattle.alma_rules.specs.Judged.{Broken, broken_at, unless, unbroken, when}
-use Rattle.alma_rules.specs.Scene.{Scene, Heading, FormalOf, Returns, nothing, a_value, Found, absent, bad, constant, named, variable, routine, found, is_first, is_structured}
+use Rattle.alma_rules.specs.Scene.{Scene, Heading, FormalOf, nothing, Found, absent, bad, constant, named, variable, routine, found, is_first, is_structured}
 use Rattle.alma_rules.specs.Types.{declared, redeclared, type_name_rules, shape_in, read_type_name, all_names}
 use Rattle.alma_rules.specs.Decls.{Frame, with_faults, limited, with_block, param_access, param_kind, with_param, param_in, params_in, formal_in, read_formals, formals_of, formal_names, result_rules, too_deep, all_formals, heading_with, function_heading, headed, with_depth, new_frame, read_heading}
 use Rattle.alma_rules.proofs.Sound.{IsThere, nil_left, nil_right}

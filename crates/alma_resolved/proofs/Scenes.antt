@@ -5,7 +5,7 @@ use Rattle.std.proofs.lemmas.Bool.{eqb-true}
 use Rattle.alma_base.specs.declared.fault.CheckFault.{CheckFault}
 use Rattle.alma_ir.specs.declared.program.Param.{Param}
 use Rattle.alma_ir.specs.Tree as ir
-use Rattle.alma_ir.specs.Tree.{Routine, routine_at}
+use Rattle.alma_ir.specs.Tree.{routine_at}
 use Rattle.alma_ir.specs.Phrases.{ExprPhrase, TestPhrase, DesigPhrase, expr_phrases, test_phrases, desig_phrases, sels_phrases, sel_phrases}
 use Rattle.alma_ir.specs.Checked.{desig_cells, cells_after, sel_cells, IsPart, ArePartsOf}
 use Rattle.alma_rules.specs.Judged.{when}

@@ -18,7 +18,7 @@ use Rattle.alma_rules.specs.Judged.{broken_at}
 use Rattle.alma_rules.specs.Scene.{Scene, cells, range, is_structured, is_first}
 use Rattle.alma_rules.specs.Types.{redeclared, read_type_name, read_type, read_constant, all_names, last_token}
 use Rattle.alma_rules.specs.Places.{width, mark_type}
-use Rattle.alma_rules.specs.Decls.{Frame, with_faults, with_scene, limited, param_kind, declared_cells, with_param, param_in, params_in, formal_in, read_formals, constant_in, read_consts, type_in, read_types, with_variable, variable_in, variables_in, variables_of, read_vars, read_heading, heading_in, read_decl, read_decls, decl_routines}
+use Rattle.alma_rules.specs.Decls.{Frame, with_faults, with_scene, limited, param_kind, declared_cells, with_param, param_in, params_in, formal_in, read_formals, constant_in, read_consts, type_in, read_types, with_variable, variable_in, variables_in, variables_of, read_vars, read_heading, read_decl, read_decls, decl_routines}
 use Rattle.alma_rules.specs.Decls as decls
 
 -- ---- simple shapes have one cell

@@ -8,7 +8,6 @@ use Rattle.alma_base.specs.declared.fault.CheckFault.TheVariants as fault
 use Rattle.alma_base.specs.Numbers.{is_zero}
 use Rattle.alma_base.specs.Choice.{if_true}
 use Rattle.alma_ir.specs.Tree as ir
-use Rattle.alma_ir.specs.Tree.{routine_at}
 use Rattle.alma_ir.specs.Phrases.{StmtPhrase, ExprPhrase, TestPhrase, test_phrases, sels_phrases, stmts_phrases, stmt_phrases, arms_phrases, cases_phrases, else_phrases, branches_phrases, loop_phrases}
 use Rattle.alma_ir.specs.Checked.{labels_of, IsOrdered}
 use Rattle.alma_ir.proofs.Each.{each_of_front, each_of_back, each_of_append}

@@ -19,7 +19,7 @@ use Rattle.alma_tree.specs.declared.phrase.Exprs as dx
 use Rattle.alma_tree.specs.declared.phrase.Desig as dd
 use Rattle.alma_tree.specs.declared.phrase.Selector as dj
 use Rattle.alma_tree.specs.Numbers as number
-use Rattle.alma_tree.specs.Numbers.{Cursor, Step, where_so, leaf, and_then, ◌>>◌}
+use Rattle.alma_tree.specs.Numbers.{Cursor, Step, where_so, leaf, ◌>>◌}
 use Rattle.alma_rules.specs.Numbered as tree
 use Rattle.alma_rules.specs.View as numbered
 use Rattle.alma_resolved_whole.proofs.Onward.{Up, same_token, parts, up_stay, up_token, up_node, up_leaf, up_then, name_up, sign_up}

@@ -19,7 +19,7 @@ use Rattle.alma_rules.specs.Numbered as tree
 use Rattle.alma_rules.specs.Judged.{Broken, broken_at, unless, unbroken, when}
 use Rattle.alma_rules.specs.Scene.{Scene, Heading, FormalOf, Returns, nothing, Found, absent, bad, constant, named, variable, routine, found, found_as, is_first, first_token, text_at, text_of, is_structured}
 use Rattle.alma_rules.specs.Types.{declared, redeclared, type_name_rules, shape_in, read_type_name, all_names}
-use Rattle.alma_rules.specs.Decls.{Frame, with_faults, limited, with_block, with_routine, with_routines, decl_routines, passes_limit, param_access, param_kind, with_param, param_in, params_in, formal_in, read_formals, formals_of, formal_names, structured_result, result_rules, too_deep, all_formals, heading_with, function_heading, proper_heading, headed, with_depth, new_frame, read_heading}
+use Rattle.alma_rules.specs.Decls.{Frame, with_faults, limited, with_block, with_routine, with_routines, decl_routines, param_access, param_kind, with_param, param_in, params_in, formal_in, read_formals, formals_of, formal_names, structured_result, result_rules, too_deep, all_formals, heading_with, function_heading, proper_heading, headed, with_depth, read_heading}
 use Rattle.alma_rules.specs.Decls as decls
 use Rattle.alma_rules.proofs.Sound.{IsThere, nil_left, nil_right, quiet}
 use Rattle.alma_resolved.specs.Scenes.{structured_in}

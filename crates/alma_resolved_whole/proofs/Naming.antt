@@ -24,7 +24,7 @@ use Rattle.alma_tree.specs.declared.module.Formals.{Formals}
 use Rattle.alma_tree.specs.declared.module.Formal.{Formal}
 use Rattle.alma_tree.specs.declared.module.Module.{Module}
 use Rattle.alma_tree.specs.Numbers as number
-use Rattle.alma_tree.specs.Numbers.{Cursor, Step, where_so, token, node, leaf, stay, and_then, ◌>>◌}
+use Rattle.alma_tree.specs.Numbers.{Cursor, Step, where_so, token, node, leaf, ◌>>◌}
 use Rattle.alma_tree.specs.Spelling as spell
 use Rattle.alma_tree.specs.View as view
 use Rattle.alma_ir.proofs.Each.{each_of_append}

@@ -22,7 +22,7 @@ use Rattle.alma_tree.specs.declared.phrase.Exprs as dx
 use Rattle.alma_tree.specs.declared.phrase.Desig as dd
 use Rattle.alma_tree.specs.declared.phrase.Selector as dj
 use Rattle.alma_tree.specs.Numbers as number
-use Rattle.alma_tree.specs.Numbers.{Cursor, Step, where_so, token, node, leaf, stay, and_then, ◌>>◌}
+use Rattle.alma_tree.specs.Numbers.{Cursor, Step, where_so, token, node, leaf, stay, ◌>>◌}
 use Rattle.alma_tree.specs.Spelling as spell
 use Rattle.alma_tree.specs.View as view
 use Rattle.alma_resolved_whole.proofs.Onward.{same_token, parts}

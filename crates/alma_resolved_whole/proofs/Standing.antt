@@ -21,7 +21,7 @@ use Rattle.alma_tree.specs.declared.module.Formals.{Formals}
 use Rattle.alma_tree.specs.declared.module.Formal.{Formal}
 use Rattle.alma_tree.specs.declared.module.Module.{Module}
 use Rattle.alma_tree.specs.Numbers as number
-use Rattle.alma_tree.specs.Numbers.{Cursor, Step, where_so, token, node, leaf, stay, and_then, ◌>>◌}
+use Rattle.alma_tree.specs.Numbers.{Cursor, Step, where_so, token, node, leaf, stay, ◌>>◌}
 use Rattle.alma_ir.proofs.Each.{each_of_append, each_follows}
 use Rattle.alma_rules.specs.Numbered as tree
 use Rattle.alma_rules.specs.View as view

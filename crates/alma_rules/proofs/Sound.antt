@@ -5,7 +5,7 @@ use Rattle.alma_base.specs.declared.fault.CheckFault.{CheckFault}
 use Rattle.alma_base.specs.declared.fault.CheckFault.TheVariants as fault
 use Rattle.alma_rules.specs.Numbered as tree
 use Rattle.alma_rules.specs.Judged.{Judged, Broken, at_node, broken_at, unless, both_of, when, holds, of_value}
-use Rattle.alma_rules.specs.Scene.{Scene, Found, absent, bad, constant, named, variable, routine, found, in_constant, inside_of, text_at, is_record_in, Heading}
+use Rattle.alma_rules.specs.Scene.{Scene, Found, absent, bad, constant, named, variable, routine, found, text_at, is_record_in}
 use Rattle.std.specs.Prelude.{slice_get}
 use Rattle.alma_rules.specs.Parts.{Typing, Denoted, a_constant, a_variable, a_routine, no_array, denoted, located_in, typing_in, callee_in, select_field, select_index, select_in, field_of, field_part}
 use Rattle.alma_rules.specs.ExprRules.{Use, as_variable, as_value, as_procedure, no_constant, not_variable, not_procedure, name_rules, desig_rules, field_rules, array_rules}

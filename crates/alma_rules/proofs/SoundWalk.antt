@@ -10,7 +10,7 @@ use Rattle.alma_ir.specs.Tree as ir
 use Rattle.alma_rules.specs.Numbered as tree
 use Rattle.alma_rules.specs.Judged.{Judged, Broken, at_node, broken_at, unless, both_of, both, with, with_some, when, fine}
 use Rattle.alma_rules.specs.Scene.{Scene, FormalOf, Found, absent, bad, constant, named, variable, routine, found, in_constant, inside_of, text_at, literal_at}
-use Rattle.alma_rules.specs.Parts.{Typing, Located, Denoted, denoted, located_in, typing_in, callee_in, Callee, called, Operands, folded, chained, related, Span, span_of, span_from, select_field, select_index, without_place, boolean_typing, a_test, one_stmt, write_stmts}
+use Rattle.alma_rules.specs.Parts.{Typing, Located, Denoted, denoted, located_in, typing_in, callee_in, Callee, called, Operands, folded, chained, related, Span, span_of, span_from, select_field, without_place, boolean_typing, a_test, one_stmt, write_stmts}
 use Rattle.alma_rules.specs.ExprRules.{as_variable, as_value, as_procedure, Operand, alone, chain_rules, not_rules, constant_rules, call_rules, field_rules, array_rules, index_rules, relation_rules, literal_rules, simple_rules, known_rules, chr_rules, test_rules}
 use Rattle.alma_rules.specs.StmtRules.{loop_name_rules, write_rules}
 use Rattle.alma_rules.specs.Nodes.{first_add, first_mul, indexed, literal_typing, in_parens, as_sequence, or_sequence, only_of, known_typing, ord_typing, chr_typing, not_typing, formals_of, argument_count, called_at, chain_at, any_or, any_and, sum_at, product_at, relation_at, constant_in, step_at, loop_variable, label_at, text_item, item_of, item_literal, text_rules}

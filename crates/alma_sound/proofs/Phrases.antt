@@ -19,7 +19,7 @@ use Rattle.alma_ir.proofs.Each.{each_of_front, each_of_back, each_of_append}
 use Rattle.alma_templates.specs.Lined.{Lined, own}
 use Rattle.alma_templates.specs.Tables.{Tables, range_number, text_number}
 use Rattle.alma_templates.specs.Pieces.{condition, guarded, chosen, first_of_two, truth_code, fit_code, neg_code, op_code, cmp_code, write_code, read_code, case_arm, passed_over, has_dead, behind_labels, begin_loop, for_turns, some_turns, turn_code, each_body}
-use Rattle.alma_templates.specs.Slots.{bare, bare_desig, unless_bare, is_simple, mark_slots, handed_slots, call_links, root_slots, arg_kind, stmts_slots, stmt_slots, arms_slots, dead_slots, cases_slots, else_slots, branches_slots, for_slots, some_slots, return_slots, test_slots, and_slots, or_slots, expr_slots, links_slots, args_slots, arg_slots, desig_slots, sels_slots, sel_slots, behind_expr, behind_dead, behind_value, behind_desig, behind_target, behind_variable, behind_test, behind_stmts, behind_stmt, behind_condition}
+use Rattle.alma_templates.specs.Slots.{bare, bare_desig, unless_bare, is_simple, mark_slots, handed_slots, call_links, root_slots, arg_kind, stmts_slots, stmt_slots, arms_slots, dead_slots, cases_slots, else_slots, branches_slots, for_slots, some_slots, test_slots, and_slots, or_slots, expr_slots, links_slots, args_slots, arg_slots, desig_slots, sels_slots, sel_slots, behind_expr, behind_dead, behind_value, behind_desig, behind_target, behind_variable, behind_test, behind_stmts, behind_stmt, behind_condition}
 use Rattle.alma_templates.specs.Slots as slots_of
 use Rattle.alma_templates.specs.Templates.{char_range, own_slot, value_at, part_slot, behind_root, place_at, root_code, call_link_code, arguments_from, call_code, set_code, load_code, count_at, count_code, fit_result, stmts_code, stmt_code, if_code, arms_code, for_code, some_code, dead_code, case_code, cases_code, else_code, either_code, branches_code, test_code, and_code, or_code, operands_code, jump_code, expr_code, links_code, args_code, arg_code, desig_code, sels_code, sel_code}
 use Rattle.alma_templates.specs.CodeOf.{HoldsChecked}
@@ -28,7 +28,7 @@ use Rattle.alma_templates.proofs.Args.{same_cells}
 use Rattle.alma_sound.proofs.Facts.{Facts}
 use Rattle.alma_sound.proofs.Needs.{HasKind, IsInside, Needs, IsRange, Number, Place, Mark}
 use Rattle.alma_sound.proofs.Pieces as pieces
-use Rattle.alma_sound.proofs.Pieces.{Room, Fits, LoopSlots}
+use Rattle.alma_sound.proofs.Pieces.{Fits}
 use Rattle.alma_sound.proofs.Roots as roots
 use Rattle.alma_sound.proofs.Roots.{Compiled, Slots}
 use Rattle.alma_sound.proofs.Values as values

@@ -12,7 +12,7 @@ use Rattle.alma_code.specs.declared.cell.SlotKind.TheVariants as slot
 use Rattle.alma_code.specs.declared.head.Run.{Run}
 use Rattle.alma_code.specs.declared.instr.Instr.TheVariants as I
 use Rattle.alma_code.specs.Kinds.{is_number, is_place_of, is_link_of, numbers_from}
-use Rattle.alma_code.specs.Layout.{RunsRise, kinds_of, hold_params, holds_param}
+use Rattle.alma_code.specs.Layout.{RunsRise, hold_params, holds_param}
 use Rattle.alma_code.specs.Layout as layout
 use Rattle.alma_code.specs.Plain.{PlainCode, head_at, start_at, end_at, kinds_at}
 use Rattle.alma_code.specs.Rules.{last_end, is_global, is_main, has_position, instr_fault, rule_1, rule_2, rule_3, IsTable, IsSound}

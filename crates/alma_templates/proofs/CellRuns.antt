@@ -18,7 +18,7 @@ use Rattle.alma_code.specs.Plain.{PlainCode}
 use Rattle.alma_code.specs.Machine.{State, Stepped, Failing, act, step, quiet_step, ends_in_fault, fails_now, gets_stuck, with_cell, as_content, place, content, store, equation_of_contents, equations, copies_cells}
 use Rattle.alma_ir.specs.Tree.{Program, Desig, CopyCells, SameCells}
 use Rattle.alma_ir.specs.Checked.{desig_cells}
-use Rattle.alma_mean.specs.Store.{Store, Place, Unknown, Number, put, put_all, cells_from, cell_of, put_at, part}
+use Rattle.alma_mean.specs.Store.{Store, Place, Unknown, Number, put, put_all, cells_from, cell_of}
 use Rattle.alma_mean.specs.Store as store_of
 use Rattle.alma_mean.specs.Events.{Events, NoYield, Fail, Fault, one, join, bind, node}
 use Rattle.alma_mean.specs.Rows.{match_cell, match_cells, copy_cells, succeed_if}

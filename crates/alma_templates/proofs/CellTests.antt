@@ -18,7 +18,7 @@ use Rattle.alma_code.specs.Lines.{line_at}
 use Rattle.alma_code.specs.Machine.{State, Stepped, Failing, act, step, quiet_step, ends_in_fault, fails_now, gets_stuck, with_cell, as_range, as_content, number, place, content, binds_content, store, equation_of_contents, equation}
 use Rattle.alma_ir.specs.Tree.{Program, Expr, Desig, Bind, Unify}
 use Rattle.alma_ir.specs.Checked.{desig_cells}
-use Rattle.alma_mean.specs.Store.{Store, Place, Unknown, Number, At, cell_of, put_at}
+use Rattle.alma_mean.specs.Store.{Store, Place, Unknown, Number, cell_of, put_at}
 use Rattle.alma_mean.specs.Store as store_of
 use Rattle.alma_mean.specs.Events.{Fail, one, bind}
 use Rattle.alma_mean.specs.Arithmetic.{check_range, fault_unless}

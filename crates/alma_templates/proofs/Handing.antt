@@ -12,7 +12,7 @@ use Rattle.alma_code.specs.declared.cell.SlotKind.TheVariants as slot
 use Rattle.alma_code.specs.declared.head.ParamKind.TheVariants as param
 use Rattle.alma_code.specs.Carries.{number_at}
 use Rattle.alma_code.specs.Kinds.{is_number}
-use Rattle.alma_code.specs.Picture.{PlainFrame, PlainEntry, last_frame, live_cells}
+use Rattle.alma_code.specs.Picture.{PlainFrame, PlainEntry, last_frame}
 use Rattle.alma_code.specs.Picture as picture
 use Rattle.alma_code.specs.Plain.{PlainCode, PlainRoutine}
 use Rattle.alma_code.specs.Machine.{State, Stepped, numbers_at, as_argument, arguments, slot_of, gets_stuck, link_to}

@@ -18,10 +18,10 @@ use Rattle.alma_code.specs.declared.step.End.TheVariants as end
 use Rattle.alma_ir.specs.Tree.{Program, routine_at, TestStmt, Assign, CopyCells, If, While, Repeat, ForTo, SomeOf, Case, Either, Forall, Commit, Return, Read, WriteExpr, WriteText, WriteLine, a_loop, Value, Bind, Unify, SameCells, Seq, And, Or, Not, CallTest, Const, Load, Chain, Compare, Truth, Known, Chr, CallExpr, ByValue, ByCells, ByPlace, MixValue, MixPlace, Field, Index}
 use Rattle.alma_ir.specs.Phrases.{Phrase, StmtPhrase, TestPhrase, ExprPhrase, ArgPhrase, DesigPhrase, SelPhrase, stmts_phrases}
 use Rattle.alma_ir.specs.Checked.{IsChecked}
-use Rattle.alma_mean.specs.Events.{Events, NoYield, Flow, Go, first, node, prints, end_of}
+use Rattle.alma_mean.specs.Events.{Events, NoYield, Go, first, end_of}
 use Rattle.alma_mean.specs.Events as events
 use Rattle.alma_mean.specs.Meaning as meaning
-use Rattle.alma_mean.specs.Meaning.{Level, level, level_0, ev_program, ev_stmts}
+use Rattle.alma_mean.specs.Meaning.{level, level_0, ev_program}
 use Rattle.alma_base.specs.Limits.{input_limit}
 use Rattle.alma_implements.specs.Implements.{ComesTo, Implements, line_in, state_after, printed_by}
 use Rattle.alma_implements.proofs.Follows.{AgreesFrom, EndsWell, follows}

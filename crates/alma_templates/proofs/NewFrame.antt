@@ -16,7 +16,7 @@ use Rattle.alma_code.specs.declared.head.CodeParam.{CodeParam}
 use Rattle.alma_code.specs.Layout.{blank_of, blank_cells, no_param, arg_cells, args_cells, frame_of_call, kinds_of}
 use Rattle.alma_code.specs.Picture.{PlainFrame}
 use Rattle.alma_code.specs.Picture as picture
-use Rattle.alma_code.specs.Plain.{PlainCode, PlainRoutine, kinds_at, head_at}
+use Rattle.alma_code.specs.Plain.{PlainCode, PlainRoutine, kinds_at}
 use Rattle.alma_code.specs.Plain as plain
 use Rattle.alma_code.specs.Machine.{link_to}
 use Rattle.alma_ir.specs.declared.program.ArgKind.{ArgKind}

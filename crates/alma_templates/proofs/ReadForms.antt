@@ -28,7 +28,7 @@ use Rattle.alma_ir.specs.declared.phrase.ReadAs.{ReadAs}
 use Rattle.alma_ir.specs.declared.phrase.ReadAs.TheVariants as read_as
 use Rattle.alma_ir.specs.Tree.{Program, Desig, Read}
 use Rattle.alma_ir.specs.Checked.{desig_cells}
-use Rattle.alma_mean.specs.Store.{Store, Place, Number, Unknown, put, put_at}
+use Rattle.alma_mean.specs.Store.{Store, Place, Number, Unknown, put_at}
 use Rattle.alma_mean.specs.Store as store
 use Rattle.alma_mean.specs.Events.{Events, NoYield, Fail, one, bind}
 use Rattle.alma_mean.specs.Arithmetic.{check_range, fault_unless}

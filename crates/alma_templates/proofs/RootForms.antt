@@ -17,7 +17,7 @@ use Rattle.alma_ir.specs.declared.phrase.Root.{Root}
 use Rattle.alma_ir.specs.declared.phrase.Root.TheVariants as root
 use Rattle.alma_ir.specs.Tree.{Program, routine_at}
 use Rattle.alma_ir.specs.Checked.{IsNested, outer_at}
-use Rattle.alma_mean.specs.Store.{Store, Place, Unknown, Number, At, top, top_frame, up, cell_at}
+use Rattle.alma_mean.specs.Store.{Store, Place, Unknown, Number, At, top, up, cell_at}
 use Rattle.alma_mean.specs.Store as store
 use Rattle.alma_mean.specs.Events.{Events, one, bind}
 use Rattle.alma_mean.specs.Rows.{root_place, place_held}

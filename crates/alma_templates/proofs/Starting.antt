@@ -13,7 +13,7 @@ use Rattle.alma_code.specs.Plain.{PlainCode, head_at, kinds_at}
 use Rattle.alma_ir.specs.Tree.{Program, routine_at}
 use Rattle.alma_ir.specs.Checked.{link_slots, IsChecked}
 use Rattle.alma_ir.specs.Lines.{body_with_lines}
-use Rattle.alma_mean.specs.Store.{Store, Unknown, Number}
+use Rattle.alma_mean.specs.Store.{Unknown, Number}
 use Rattle.alma_mean.specs.Store as store
 use Rattle.alma_mean.specs.Meaning.{start}
 use Rattle.alma_implements.proofs.Frames.{shift, SameContent, SameFrame, StandFor}

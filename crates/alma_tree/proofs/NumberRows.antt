@@ -25,7 +25,7 @@ use Rattle.alma_tree.specs.declared.type_node.FieldList as dw
 use Rattle.alma_tree.specs.declared.module.Block as db
 use Rattle.alma_tree.specs.declared.module.Decl as dh
 use Rattle.alma_tree.specs.declared.module.Params.{Params}
-use Rattle.alma_tree.specs.Numbers.{Step, token, node, ◌>>◌}
+use Rattle.alma_tree.specs.Numbers.{token, node, ◌>>◌}
 use Rattle.alma_tree.specs.Numbers as numbers
 
 -- ---- vectors as a tree holds them

@@ -1,5 +1,5 @@
 -- What the walk says of CASE, as the code meets it.
-use Rattle.std.proofs.Common.{◌≡◌, ℕ, ◌+◌, ◌<◌, ◌≤◌, List, [], ◌∷◌, ◌++◌, Option, None, Some, length, get_or, drop, Result, Ok, Err, refl, sym, subst, ap, ◌∙◌}
+use Rattle.std.proofs.Common.{◌≡◌, ℕ, ◌+◌, ◌<◌, ◌≤◌, List, [], ◌++◌, Option, None, Some, length, get_or, drop, Result, refl, sym, ap, ◌∙◌}
 use Rattle.std.specs.Prelude.{option_to_list, unwrap_or}
 use Rattle.std.proofs.lemmas.List.{drop_all}
 use Rattle.alma_tree.specs.declared.phrase.Arm as da
@@ -19,7 +19,7 @@ use Rattle.alma_walk.specs.Onward.{onward}
 use Rattle.alma_walk.specs.Arms.{arms_judged, labels_judged}
 use Rattle.alma_walk.proofs.Rows as rows
 use Rattle.alma_walk.proofs.Judging.{stops_more}
-use Rattle.alma_walk.proofs.Onwards.{first_fine, onward_first}
+use Rattle.alma_walk.proofs.Onwards.{onward_first}
 use Rattle.alma_walk.proofs.Exprs.{next_of}
 
 pub cases_last : (xs : ir.CaseArms) → parts.append_cases xs ir.no_cases ≡ xs

@@ -1,5 +1,5 @@
 -- What the walk says of designators, as the code meets them.
-use Rattle.std.proofs.Common.{◌≡◌, ℕ, ◌+◌, ◌<◌, ◌≤◌, List, [], ◌∷◌, ◌++◌, Option, None, Some, length, get_or, drop, Result, Ok, Err, refl, sym, subst, ap, ◌∙◌}
+use Rattle.std.proofs.Common.{◌≡◌, ℕ, ◌+◌, ◌<◌, ◌≤◌, List, Option, length, get_or, drop, refl, sym, ap, ◌∙◌}
 use Rattle.std.proofs.lemmas.List.{drop_all}
 use Rattle.alma_tree.specs.declared.phrase.Expr as de
 use Rattle.alma_tree.specs.declared.phrase.Exprs as dx
@@ -9,8 +9,8 @@ use Rattle.alma_tree.specs.declared.leaf.Name.{Name}
 use Rattle.alma_rules.specs.declared.error.Stop.{Stop}
 use Rattle.alma_rules.specs.Numbered as tree
 use Rattle.alma_rules.specs.View as view
-use Rattle.alma_rules.specs.Judged.{Judged, fine, of_value, at_node, with_some}
-use Rattle.alma_rules.specs.Answers.{Stops, Answers}
+use Rattle.alma_rules.specs.Judged.{Judged, of_value, at_node, with_some}
+use Rattle.alma_rules.specs.Answers.{Stops}
 use Rattle.alma_rules.specs.Scene.{Scene, Found, found, text_at}
 use Rattle.alma_rules.specs.Parts as parts
 use Rattle.alma_rules.specs.ExprRules as rules

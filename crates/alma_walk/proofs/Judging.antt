@@ -1,12 +1,12 @@
 -- What stays said of a fault, and what a node is, as parts are put together.
-use Rattle.std.proofs.Common.{◌≡◌, ℕ, List, [], ◌∷◌, ◌++◌, Option, None, Some, Result, Ok, Err, refl, sym, subst, ap, ◌∙◌}
+use Rattle.std.proofs.Common.{◌≡◌, ℕ, List, [], ◌∷◌, ◌++◌, Option, Result, Ok, Err, refl, sym, subst}
 use Rattle.std.specs.Prelude.{option_map, option_and_then}
 use Rattle.std.specs.Result.{IsErrAnd}
 use Rattle.alma_base.specs.declared.fault.CheckFault.{CheckFault}
 use Rattle.alma_rules.specs.declared.error.Stop.{Stop}
 use Rattle.alma_rules.specs.declared.error.Stop.TheVariants.{Fault, Memory}
-use Rattle.alma_rules.specs.Judged.{Broken, Judged, of_value, broken_at, at_node, both, both_of, and_then, with, with_some, unless}
-use Rattle.alma_rules.specs.Answers.{Stops, Answers, Passes}
+use Rattle.alma_rules.specs.Judged.{Broken, Judged, of_value, broken_at, at_node, both, both_of, and_then, with, with_some}
+use Rattle.alma_rules.specs.Answers.{Stops, Answers}
 
 pub stops_more : (xs ys : List Broken) (e : Stop) → Stops xs e → Stops (xs ++ ys) e
 stops_more [] ys (Fault f n) h = absurd (cc)

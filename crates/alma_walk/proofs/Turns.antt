@@ -1,11 +1,10 @@
 -- What the walk says of FOR and SOME, as the code meets it.
-use Rattle.std.proofs.Common.{◌≡◌, ℕ, ◌+◌, List, [], ◌∷◌, ◌++◌, Option, None, Some, Result, Ok, Err, refl, sym, subst, ap, ◌∙◌}
+use Rattle.std.proofs.Common.{◌≡◌, ℕ, ◌+◌, List, [], ◌++◌, Option, None, Result, refl}
 use Rattle.std.specs.Prelude.{ℤ, pos, option_and_then}
-use Rattle.alma_base.specs.declared.fault.CheckFault.{CheckFault}
 use Rattle.alma_ir.specs.Tree as ir
 use Rattle.alma_rules.specs.declared.error.Stop.{Stop}
 use Rattle.alma_rules.specs.Numbered as tree
-use Rattle.alma_rules.specs.Judged.{Broken, Judged, fine, of_value, broken_at, at_node, both, with}
+use Rattle.alma_rules.specs.Judged.{Broken, Judged, fine, of_value, broken_at, with}
 use Rattle.alma_rules.specs.Answers.{Stops, Answers}
 use Rattle.alma_rules.specs.Scene.{Scene, found}
 use Rattle.alma_rules.specs.Parts as parts

@@ -11,7 +11,7 @@ use Rattle.alma_scan.specs.Bytes.{value_of}
 use Rattle.alma_words.specs.declared.options.Allowance.{Allowance}
 use Rattle.alma_words.specs.declared.options.Options as read
 use Rattle.alma_words.specs.Words.{Setting, Steps, Stats, Watch, IsSetting, AreSettings, Allows, Options, texts, steps_named, stats_count, names_watched, steps_of, default_steps, greatest_steps, is_some}
-use Rattle.alma_words.specs.Inner.Settings.{list_of, count_of, Gathers, IsFree, Takes, AreOptions, AreGathered, IsBadOption}
+use Rattle.alma_words.specs.Inner.Settings.{list_of, count_of, Gathers, Takes, AreOptions, AreGathered, IsBadOption}
 
 -- ---- one option
 

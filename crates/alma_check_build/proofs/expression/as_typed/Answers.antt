@@ -1,4 +1,4 @@
-use Rattle.std.proofs.Common.{Some, ap, sym, ◌∙◌}
+use Rattle.std.proofs.Common.{Some, ap, ◌∙◌}
 use Rattle.alma_ir.specs.Tree as ir
 use Rattle.alma_rules.specs.Parts as parts
 use Rattle.alma_check_build.proofs.Steps.{no_arguments}

@@ -1,6 +1,5 @@
 use Rattle.std.proofs.Common.{refl, ap, ◌∙◌}
 use Rattle.alma_rules.specs.Places as places
-use Rattle.alma_rules.specs.Places.{◌>>◌}
 use Rattle.alma_rules.specs.View as view
 use Rattle.alma_walk.proofs.TypeRows as types
 use Rattle.alma_phrase_marks.proofs.Steps.{◌▹◌, ◌▸◌, ends, next, finish}

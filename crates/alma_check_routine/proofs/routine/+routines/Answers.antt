@@ -7,7 +7,7 @@ use Rattle.alma_rules.specs.View as view
 use Rattle.alma_rules.specs.Decls as frames
 use Rattle.alma_rules.specs.Modules as modules
 use Rattle.alma_check_reader.specs.Told.{fault_of}
-use Rattle.alma_check_gathered.specs.Gathered.{Stage, through_decls, through_decl, through_read, AreReady}
+use Rattle.alma_check_gathered.specs.Gathered.{Stage, through_decl, AreReady}
 use Rattle.alma_check_gathered.specs.Shown.{stand, routines_in}
 use Rattle.alma_check_routine.specs.Framed.{frame_in}
 use Rattle.alma_check_routine.proofs.Gathering.{decls_first, through_const, through_type, through_var}

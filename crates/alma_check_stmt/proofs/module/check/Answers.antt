@@ -1,4 +1,4 @@
-use Rattle.std.proofs.Common.{◌≡◌, map, length}
+use Rattle.std.proofs.Common.{map, length}
 use Rattle.alma_scan.specs.Scanned.{lexemes}
 use Rattle.alma_ir.specs.View.{routine_of, global_of}
 use Rattle.alma_rules.specs.View.{view_module}

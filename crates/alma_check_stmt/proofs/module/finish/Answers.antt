@@ -1,4 +1,4 @@
-use Rattle.std.proofs.Common.{◌≡◌, map}
+use Rattle.std.proofs.Common.{map}
 use Rattle.alma_ir.specs.View.{routine_of, global_of}
 use Rattle.alma_rules.specs.View.{view_module}
 use Rattle.alma_check_stmt.proofs.Judging.{fine_judged}

@@ -1,4 +1,4 @@
-use Rattle.std.proofs.Common.{◌≡◌, List, [], ◌∙◌, ap, map}
+use Rattle.std.proofs.Common.{[], ◌∙◌, ap, map}
 use Rattle.alma_scan.specs.Scanned.{lexemes}
 use Rattle.alma_ir.specs.View.{global_of}
 use Rattle.alma_rules.specs.Scene.{Scene, nothing, text_at}

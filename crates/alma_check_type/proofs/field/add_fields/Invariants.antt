@@ -1,4 +1,4 @@
-use Rattle.std.proofs.Common.{◌≡◌, List, ◌++◌, drop}
+use Rattle.std.proofs.Common.{List, drop}
 use Rattle.alma_rules.specs.Numbered as tree
 use Rattle.alma_rules.specs.View.{names_of}
 use Rattle.alma_check_type.specs.Fields as spec

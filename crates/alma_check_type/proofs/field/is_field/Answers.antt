@@ -1,4 +1,4 @@
-use Rattle.std.proofs.Common.{ap, sym, ◌∙◌}
+use Rattle.std.proofs.Common.{ap, ◌∙◌}
 use Rattle.alma_rules.specs.Scene.{Scene, text_at}
 use Rattle.alma_check_type.proofs.FieldSteps.{known_some, known_none}
 use Rattle.alma_check_type.proofs.field.is_field.Goals as goal

@@ -1,4 +1,4 @@
-use Rattle.std.proofs.Common.{◌≡◌, ap, sym, ◌∙◌}
+use Rattle.std.proofs.Common.{◌≡◌}
 use Rattle.alma_check_reader.specs.Told.{fault_of}
 use Rattle.alma_check_type.specs.Tables.{fields_view}
 use Rattle.alma_check_type.specs.Fields.{told_fields, told_list}

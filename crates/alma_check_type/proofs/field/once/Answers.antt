@@ -1,4 +1,4 @@
-use Rattle.std.proofs.Common.{ap, sym, ◌∙◌}
+use Rattle.std.proofs.Common.{ap, ◌∙◌}
 use Rattle.alma_rules.specs.Scene.{Scene, text_at}
 use Rattle.alma_rules.specs.View.{view_name}
 use Rattle.alma_check_reader.specs.Told.{fault_of}

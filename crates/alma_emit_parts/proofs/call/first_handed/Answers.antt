@@ -1,4 +1,4 @@
-use Rattle.std.proofs.Common.{rules, ◌≡◌, ◌∙◌, ap, sym}
+use Rattle.std.proofs.Common.{rules, ◌∙◌, ap, sym}
 use Rattle.alma_ir.specs.View.{args_list}
 use Rattle.alma_emit_work.specs.Puts.{first_of_call}
 use Rattle.alma_emit_parts.proofs.Calling.{some_args}

@@ -1,4 +1,3 @@
-use Rattle.std.proofs.Common.{◌≡◌}
 use Rattle.alma_emit_parts.proofs.Calling.{handed_one}
 use Rattle.alma_emit_parts.proofs.call.take_handed.Goals as goal
 

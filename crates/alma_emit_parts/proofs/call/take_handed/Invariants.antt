@@ -1,4 +1,4 @@
-use Rattle.std.proofs.Common.{◌≡◌, take, []}
+use Rattle.std.proofs.Common.{take, []}
 use Rattle.alma_ir.specs.View.{args_list}
 use Rattle.alma_templates.specs.Slots.{handed_slots}
 use Rattle.alma_emit_work.specs.Front.{front, Adds}

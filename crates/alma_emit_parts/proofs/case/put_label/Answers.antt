@@ -1,4 +1,3 @@
-use Rattle.std.proofs.Common.{◌≡◌, ◌∙◌, ap}
 use Rattle.alma_emit_parts.proofs.LabelForms.{label_done}
 use Rattle.alma_emit_parts.proofs.case.put_label.Goals as goal
 

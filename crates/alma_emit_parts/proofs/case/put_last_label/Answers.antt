@@ -1,4 +1,4 @@
-use Rattle.std.proofs.Common.{rules, ◌≡◌, ◌∙◌, refl, to_z, of_z, w64}
+use Rattle.std.proofs.Common.{rules, ◌≡◌, to_z, of_z, w64}
 use Rattle.std.proofs.lemmas.Int.{to_z-of_z}
 use Rattle.alma_emit_parts.proofs.LabelForms.{label_holes}
 use Rattle.alma_emit_parts.proofs.case.put_last_label.Goals as goal

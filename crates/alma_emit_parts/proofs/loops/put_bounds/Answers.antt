@@ -2,7 +2,6 @@ use Rattle.std.proofs.Common.{rules, ◌≡◌, ◌∙◌, ap, refl, ◌∷◌, 
 use Rattle.std.proofs.lemmas.Int.{to_z-of_z}
 use Rattle.alma_templates.specs.Pieces.{entry_code}
 use Rattle.alma_code.specs.declared.instr.Instr.TheVariants as I
-use Rattle.alma_emit_work.specs.Front.{front}
 use Rattle.alma_templates.specs.Lined.{own}
 use Rattle.alma_emit_parts.proofs.Beginning.{both_ok}
 use Rattle.alma_emit_work.proofs.Joins.{code_code, code_holes, hole_put, holes_as}

@@ -1,5 +1,5 @@
-use Rattle.std.proofs.Common.{◌≡◌, ◌∙◌, ap, sym, refl, add-zero}
-use Rattle.alma_emit_work.specs.Front.{around, front}
+use Rattle.std.proofs.Common.{◌∙◌, sym, refl, add-zero}
+use Rattle.alma_emit_work.specs.Front.{around}
 use Rattle.alma_emit_work.proofs.DesigForms.{links_start, links_step, next_link, outer_step}
 use Rattle.alma_emit_work.proofs.place.put_links.Goals as goal
 

@@ -1,11 +1,8 @@
-use Rattle.std.proofs.Common.{rules, ◌≡◌, ◌∙◌, ap, sym, refl, drop, true, false, []}
+use Rattle.std.proofs.Common.{◌≡◌, ◌∙◌, ap, sym, true, false}
 use Rattle.std.specs.Prelude.{◌&&◌}
-use Rattle.std.proofs.Math.ListN.{drop_of_length-le}
-use Rattle.std.proofs.Common.{arith}
-use Rattle.alma_ir.specs.View.{expr_of, links_list, sels_list, sel_of}
+use Rattle.alma_ir.specs.View.{expr_of, links_list}
 use Rattle.alma_ir.proofs.Views
-use Rattle.alma_templates.specs.Slots.{is_simple_expr, are_simple_links, are_simple_sels, is_simple_sel}
-use Rattle.alma_emit_work.proofs.Small.{drop_one}
+use Rattle.alma_templates.specs.Slots.{is_simple_expr, are_simple_links}
 use Rattle.alma_emit_work.proofs.simple.+simple.Goals as goal
 
 pub is_simple-returns-then-is_simple : goal.is_simple-returns-then-is_simple

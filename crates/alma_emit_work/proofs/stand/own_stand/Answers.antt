@@ -1,4 +1,4 @@
-use Rattle.std.proofs.Common.{◌≡◌, ◌∙◌, ap, sym, arith, length, rules}
+use Rattle.std.proofs.Common.{rules}
 use Rattle.alma_emit_work.proofs.Small.{selected}
 use Rattle.alma_emit_work.proofs.stand.own_stand.Goals as goal
 

@@ -1,11 +1,10 @@
-use Rattle.std.proofs.Common.{Option, refl, sym, ap, ◌∙◌, ◌++◌, List}
-use Rattle.std.specs.Prelude.{option_map, option_to_list}
-use Rattle.alma_rules.specs.Judged.{Judged, of_value}
+use Rattle.std.proofs.Common.{sym, ap, ◌∙◌, ◌++◌, List}
+use Rattle.std.specs.Prelude.{option_to_list}
+use Rattle.alma_rules.specs.Judged.{Judged}
 use Rattle.alma_rules.specs.Parts as parts
 use Rattle.alma_rules.specs.Nodes as nodes
-use Rattle.alma_check_rules.specs.Views.{span_view, spans_view, spans_in}
+use Rattle.alma_check_rules.specs.Views.{spans_view, spans_in}
 use Rattle.alma_walk.proofs.Onwards.{onward_stops, passed_on, no_memory_on}
-use Rattle.alma_join_list.specs.Onward.{onward_spans}
 use Rattle.alma_join_list.proofs.Labels.{label_grown}
 use Rattle.alma_join_list.proofs.Steps as steps
 use Rattle.alma_join_list.proofs.list.add_label.Goals as goal

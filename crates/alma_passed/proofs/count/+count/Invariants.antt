@@ -1,5 +1,5 @@
 -- The loops of the count: what was counted is the sum over the front of the list.
-use Rattle.std.proofs.Common.{◌≡◌, ◌+◌, take}
+use Rattle.std.proofs.Common.{◌≡◌, take}
 use Rattle.std.specs.Prelude.{sum_by}
 use Rattle.alma_ir.specs.Count.{saturate}
 use Rattle.alma_passed.proofs.Counted.{of_stmt, of_test, of_arg, of_sel, of_link, of_arm, of_case, of_branch}

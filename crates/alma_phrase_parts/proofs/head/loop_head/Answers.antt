@@ -1,4 +1,3 @@
-use Rattle.std.proofs.Common.{refl}
 use Rattle.alma_cursor.proofs.Steps as steps
 use Rattle.alma_phrase_parts.proofs.Stopped.{stopped}
 use Rattle.alma_phrase_parts.proofs.head.loop_head.Goals as goal

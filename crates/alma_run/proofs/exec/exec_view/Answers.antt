@@ -1,5 +1,4 @@
 use Rattle.std.proofs.Common.{ap, subst, ◌≡◌, ◌∙◌}
-use Rattle.std.specs.Prelude.{None}
 use Rattle.alma_code.specs.Plain.{PlainCode}
 use Rattle.alma_code.specs.Rules.{code_fault}
 use Rattle.alma_object.specs.View.{code_of_view}

@@ -1,4 +1,3 @@
-use Rattle.std.proofs.Common.{◌++◌, ◌∷◌, [], ap, ◌∙◌}
 use Rattle.alma_check_reader.proofs.BlockSteps.{counted_left}
 use Rattle.alma_check_reader.proofs.reader.Reader.close.Goals as goal
 

@@ -1,6 +1,6 @@
-use Rattle.std.proofs.Common.{◌≡◌, ◌∙◌, ap, sym, refl, arith, get_or, ◌∷◌, map}
+use Rattle.std.proofs.Common.{◌∙◌, ap, sym, refl, arith, map}
 use Rattle.std.specs.Prelude.{slice_set}
-use Rattle.alma_choice.specs.Emitted.{made, with_target, aimed, Aims, lined}
+use Rattle.alma_choice.specs.Emitted.{made, with_target, lined}
 use Rattle.alma_choice.proofs.Aiming.{aimed_in, aimed_out, made_long}
 use Rattle.alma_choice.proofs.emit.Emit.aim.Goals as goal
 

@@ -1,4 +1,4 @@
-use Rattle.std.proofs.Common.{rules, ◌≡◌, ◌∙◌, ◌+◌, ap, refl, drop}
+use Rattle.std.proofs.Common.{rules, ◌∙◌, ap, refl, drop}
 use Rattle.alma_ir.proofs.LinesBack.{drop_two}
 use Rattle.alma_emit_work.specs.Front.{front}
 use Rattle.alma_emit_work.proofs.work.Work.pass.Goals as goal

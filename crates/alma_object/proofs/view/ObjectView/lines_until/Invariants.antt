@@ -1,4 +1,4 @@
-use Rattle.std.proofs.Common.{◌≡◌, ◌≤◌, ◌<◌, ◌-◌, List, length, get_or}
+use Rattle.std.proofs.Common.{◌≤◌, ◌<◌, ◌-◌, List, length, get_or}
 use Rattle.alma_code.specs.declared.code.Line.{Line}
 use Rattle.alma_object.specs.View.{code_of_view, no_line}
 use Rattle.alma_object.proofs.view.ObjectView.lines_until.Given as goal
