@@ -16,7 +16,7 @@ use Rattle.alma_rules.specs.Types as types
 use Rattle.std.proofs.lemmas.List.{drop_all}
 use Rattle.alma_walk.proofs.Exprs.{next_of}
 use Rattle.alma_check_reader.specs.Told.{Told, told, told_both, told_with, told_at, told_index, told_type, onward, join, alone, a_told}
-use Rattle.alma_check_type.specs.Fields.{ToldFields, Knows, nothing_told, shaped, joined, told_on, told_list, told_record}
+use Rattle.alma_check_type.specs.Inner.Fields.{ToldFields, Knows, nothing_told, shaped, joined, told_on, told_list, told_record}
 use Rattle.alma_walk.proofs.TypeRows.{type_is, record_is}
 use Rattle.alma_check_decl.proofs.TypeTokens.{type_tokens}
 use Rattle.alma_check_type.proofs.FieldSteps.{fields_told}

@@ -42,31 +42,16 @@ pub fn check_named(
             let found = check_desig(alloc, env, place, slot, Use::Value, desig);
             join_value(alloc, env, found)
         }
-        Some(args) => check_call(alloc, env, place, slot, node, desig, &args.values),
-    }
-}
-
-#[cycle(check)]
-fn check_call(
-    alloc: Global,
-    env: &Env,
-    place: Place,
-    slot: &mut u32,
-    node: u32,
-    desig: &Desig,
-    values: &Option<Exprs>,
-) -> Result<Option<Typed>, Stop>
-    ensures { Answers (judge_primary (scene_of env.now place) slot.old
-        (tree.named node (view_desig desig.now) (args_values values.now))) typing_of
-        slot.new result }
-{
-    let found = check_desig(alloc, env, place, slot, Use::Procedure, desig);
-    let callee = join_callee(env, found)?;
-    match values {
-        None => join_call(env, place, node, callee, 0, Ok(Some(Vec::new(alloc)))),
-        Some(values) => {
-            let args = check_arguments(alloc, env, place, slot, callee, values);
-            join_call(env, place, node, callee, 1 + values.more.len(), args)
+        Some(args) => {
+            let found = check_desig(alloc, env, place, slot, Use::Procedure, desig);
+            let callee = join_callee(env, found)?;
+            match &args.values {
+                None => join_call(env, place, node, callee, 0, Ok(Some(Vec::new(alloc)))),
+                Some(values) => {
+                    let args = check_arguments(alloc, env, place, slot, callee, values);
+                    join_call(env, place, node, callee, 1 + values.more.len(), args)
+                }
+            }
         }
     }
 }
@@ -86,28 +71,9 @@ fn check_arguments(
 {
     let formal = formal_of(env, callee, 0);
     let first = check_argument(alloc, env, place, slot, formal, &values.first);
-    let kept = add_argument(Some(Vec::new(alloc)), first)?;
-    check_argument_tail(alloc, env, place, slot, callee, kept, &values.more)
-}
-
-#[cycle(check)]
-fn check_argument_tail(
-    alloc: Global,
-    env: &Env,
-    place: Place,
-    slot: &mut u32,
-    callee: Option<Callee>,
-    kept: Option<Vec<Arg>>,
-    more: &[Expr],
-) -> Result<Option<Vec<Arg>>, Stop>
-    ensures { Answers (onward_args (args_in kept)
-        (judge_argument_tail (scene_of env.now place) slot.old
-        (drop 1 (nodes.formals_of (callee_in (headings_in env.now) callee))) (exprs_of more.now)))
-        args_of slot.new result }
-{
-    let mut kept = kept;
+    let mut kept = add_argument(Some(Vec::new(alloc)), first)?;
     let mut index = 0;
-    for value in more {
+    for value in &values.more {
         index += 1;
         let formal = formal_of(env, callee, index);
         let arg = check_argument(alloc, env, place, slot, formal, value);

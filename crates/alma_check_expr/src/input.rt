@@ -14,15 +14,15 @@ ghost use Rattle.alma_check_rules.specs.Views.{scene_of, typing_of, typing_in, l
 ghost use Rattle.alma_check_build.specs.Lists.{guarded_of, arms_of, arms_in, cases_of, cases_in, branches_of, branches_in};
 ghost use Rattle.alma_join_list.specs.Onward.{onward_stmts, onward_arms, onward_cases, onward_branches, onward_spans};
 
+use crate::designator::check_desig;
 use crate::expression::check_expr;
-use crate::sequence::check_place;
 use alma_check_form::nothing;
 use alma_check_look::item_text;
-use alma_check_rules::{Env, Place};
+use alma_check_rules::{Env, Place, Use};
 use alma_ir::Stmt as IrStmt;
 use alma_join_list::add_stmts;
 use alma_join_statement::{
-    check_bare_return, check_text, join_item, join_line, join_read, join_return,
+    check_bare_return, check_text, join_item, join_line, join_place, join_read, join_return,
 };
 use alma_rules::Stop;
 use alma_tree::{Args, Desig, Expr, Exprs};
@@ -65,24 +65,7 @@ pub fn check_read(
         (tree.read_stmt node (view.view_desig first.now) (view.desigs_of more.now))) stmts_of
         slot.new result }
 {
-    let first = check_read_one(alloc, env, place, slot, first)?;
-    check_reads(alloc, env, place, slot, first, more)
-}
-
-#[cycle(check)]
-fn check_reads(
-    alloc: Global,
-    env: &Env,
-    place: Place,
-    slot: &mut u32,
-    kept: Option<Vec<IrStmt>>,
-    more: &[Desig],
-) -> Result<Option<Vec<IrStmt>>, Stop>
-    ensures { Answers (onward_stmts (stmts_in kept)
-        (walk.judge_reads (scene_of env.now place) slot.old (view.desigs_of more.now))) stmts_of
-        slot.new result }
-{
-    let mut kept = kept;
+    let mut kept = check_read_one(alloc, env, place, slot, first)?;
     for desig in more {
         let next = check_read_one(alloc, env, place, slot, desig);
         kept = add_stmts(kept, next)?;
@@ -102,28 +85,14 @@ fn check_read_one(
         (walk.judge_desig (scene_of env.now place) slot.old rules.as_variable
         (view.view_desig desig.now))) stmts_of slot.new result }
 {
-    let located = check_place(alloc, env, place, slot, desig);
+    let found = check_desig(alloc, env, place, slot, Use::Variable, desig);
+    let located = join_place(env, found);
     join_read(alloc, env, desig.node, located)
 }
 
-/// WRITE.
+/// The items of WRITE.
 #[cycle(check)]
-pub fn check_write(
-    alloc: Global,
-    env: &Env,
-    place: Place,
-    slot: &mut u32,
-    node: u32,
-    items: &Exprs,
-) -> Result<Option<Vec<IrStmt>>, Stop>
-    ensures { Answers (walk.judge_stmt (scene_of env.now place) slot.old
-        (tree.write_stmt node (view.view_exprs items.now))) stmts_of slot.new result }
-{
-    check_items(alloc, env, place, slot, items)
-}
-
-#[cycle(check)]
-fn check_items(
+pub fn check_items(
     alloc: Global,
     env: &Env,
     place: Place,
@@ -133,25 +102,8 @@ fn check_items(
     ensures { Answers (walk.judge_items (scene_of env.now place) slot.old
         (view.view_exprs items.now)) stmts_of slot.new result }
 {
-    let first = check_item(alloc, env, place, slot, &items.first)?;
-    check_item_tail(alloc, env, place, slot, first, &items.more)
-}
-
-#[cycle(check)]
-fn check_item_tail(
-    alloc: Global,
-    env: &Env,
-    place: Place,
-    slot: &mut u32,
-    kept: Option<Vec<IrStmt>>,
-    more: &[Expr],
-) -> Result<Option<Vec<IrStmt>>, Stop>
-    ensures { Answers (onward_stmts (stmts_in kept)
-        (walk.judge_item_tail (scene_of env.now place) slot.old (view.exprs_of more.now))) stmts_of
-        slot.new result }
-{
-    let mut kept = kept;
-    for item in more {
+    let mut kept = check_item(alloc, env, place, slot, &items.first)?;
+    for item in &items.more {
         let next = check_item(alloc, env, place, slot, item);
         kept = add_stmts(kept, next)?;
     }
@@ -195,26 +147,12 @@ pub fn check_writeln(
 {
     match items {
         None => join_line(Ok(nothing(alloc))),
-        Some(args) => {
-            let stmts = check_line_items(alloc, env, place, slot, &args.values);
-            join_line(stmts)
-        }
-    }
-}
-
-#[cycle(check)]
-fn check_line_items(
-    alloc: Global,
-    env: &Env,
-    place: Place,
-    slot: &mut u32,
-    values: &Option<Exprs>,
-) -> Result<Option<Vec<IrStmt>>, Stop>
-    ensures { Answers (walk.judge_line_items (scene_of env.now place) slot.old
-        (view.args_values values.now)) stmts_of slot.new result }
-{
-    match values {
-        None => Ok(nothing(alloc)),
-        Some(values) => check_items(alloc, env, place, slot, values),
+        Some(args) => match &args.values {
+            None => join_line(Ok(nothing(alloc))),
+            Some(values) => {
+                let stmts = check_items(alloc, env, place, slot, values);
+                join_line(stmts)
+            }
+        },
     }
 }

@@ -19,10 +19,10 @@ use crate::case::check_case;
 use crate::choice::{check_commit, check_either, check_forall};
 use crate::designator::check_desig;
 use crate::expression::check_expr;
-use crate::input::{check_read, check_return, check_write, check_writeln};
+use crate::input::{check_items, check_read, check_return, check_writeln};
 use crate::turns::{check_for, check_some};
 use alma_check_form::nothing;
-use alma_check_rules::{Env, Located, Place, Use};
+use alma_check_rules::{Env, Place, Use};
 use alma_ir::{Stmt as IrStmt, Test};
 use alma_join_list::add_stmts;
 use alma_join_statement::{join_assign, join_condition, join_place, join_test};
@@ -42,25 +42,8 @@ pub fn check_stmts(
     ensures { Answers (walk.judge_stmts (scene_of env.now place) slot.old
         (view.view_stmts stmts.now)) stmts_of slot.new result }
 {
-    let first = check_stmt(alloc, env, place, slot, &stmts.first)?;
-    check_more(alloc, env, place, slot, first, &stmts.more)
-}
-
-#[cycle(check)]
-fn check_more(
-    alloc: Global,
-    env: &Env,
-    place: Place,
-    slot: &mut u32,
-    kept: Option<Vec<IrStmt>>,
-    more: &[Stmt],
-) -> Result<Option<Vec<IrStmt>>, Stop>
-    ensures { Answers (onward_stmts (stmts_in kept)
-        (walk.judge_stmt_tail (scene_of env.now place) slot.old (view.stmts_of more.now))) stmts_of
-        slot.new result }
-{
-    let mut kept = kept;
-    for stmt in more {
+    let mut kept = check_stmt(alloc, env, place, slot, &stmts.first)?;
+    for stmt in &stmts.more {
         let next = check_stmt(alloc, env, place, slot, stmt);
         kept = add_stmts(kept, next)?;
     }
@@ -136,7 +119,7 @@ fn check_stmt(
         Stmt::Commit { node, body } => check_commit(alloc, env, place, slot, *node, body),
         Stmt::Return { node, value } => check_return(alloc, env, place, slot, *node, value),
         Stmt::Read { node, first, more } => check_read(alloc, env, place, slot, *node, first, more),
-        Stmt::Write { node, items } => check_write(alloc, env, place, slot, *node, items),
+        Stmt::Write { node: _, items } => check_items(alloc, env, place, slot, items),
         Stmt::Writeln { node, items } => check_writeln(alloc, env, place, slot, *node, items),
     }
 }
@@ -155,26 +138,10 @@ fn check_assign(
         (tree.assign node (view.view_desig target.now) (view.view_expr value.now))) stmts_of
         slot.new result }
 {
-    let located = check_place(alloc, env, place, slot, target)?;
+    let found = check_desig(alloc, env, place, slot, Use::Variable, target);
+    let located = join_place(env, found)?;
     let typed = check_expr(alloc, env, place, slot, value);
     join_assign(alloc, env, node, located, typed)
-}
-
-/// The variable that a designator names.
-#[cycle(check)]
-pub fn check_place(
-    alloc: Global,
-    env: &Env,
-    place: Place,
-    slot: &mut u32,
-    desig: &Desig,
-) -> Result<Option<Located>, Stop>
-    ensures { Answers (with_some parts.located_in
-        (walk.judge_desig (scene_of env.now place) slot.old rules.as_variable
-        (view.view_desig desig.now))) located_of slot.new result }
-{
-    let found = check_desig(alloc, env, place, slot, Use::Variable, desig);
-    join_place(env, found)
 }
 
 /// A condition.

@@ -11,29 +11,37 @@ ghost use Rattle.alma_rules.specs.Nodes as nodes;
 ghost use Rattle.alma_rules.specs.Walk as walk;
 ghost use Rattle.alma_check_rules.specs.Views.{scene_of, typing_of, typing_in, located_of, denoted_of, headings_in, stmts_of, stmts_in, span_view, spans_view, spans_of, spans_in};
 ghost use Rattle.alma_check_build.specs.Lists.{guarded_of, arms_of, arms_in, cases_of, cases_in, branches_of, branches_in};
-ghost use Rattle.alma_join_turns.specs.Bounded.{TakesLoop};
+ghost use Rattle.alma_join_turns.specs.Bounded.{Headed};
 ghost use Rattle.alma_join_list.specs.Onward.{onward_stmts, onward_arms, onward_cases, onward_branches, onward_spans};
 
 use crate::expression::check_expr;
 use crate::sequence::check_stmts;
 use alma_check_rules::{Env, Place};
 use alma_ir::Stmt as IrStmt;
-use alma_join_turns::{
-    check_loop_name, join_bounds, join_by, join_for, join_some, join_step, take_loop,
-};
+use alma_join_turns::{Head, join_by, join_for, join_head, join_some, join_step, start_loop};
 use alma_rules::Stop;
 use alma_tree::{Expr, Name, Stmts};
 use std::alloc::Global;
 
-// The first of a loop's two hidden slots. That the second has a number too is known since the slot
-// behind them, which is read here, has one.
-fn take_slots(slot: &mut u32) -> Result<u32, Stop>
-    ensures taken { TakesLoop slot.old slot.new result }
-    ensures limit { IfOk result (λ n. n + 1 < 2 ^ 32) }
+/// The head of FOR and of SOME.
+#[cycle(check)]
+fn check_head(
+    alloc: Global,
+    env: &Env,
+    place: Place,
+    slot: &mut u32,
+    variable: &Name,
+    from: &Expr,
+    to: &Expr,
+) -> Result<Head, Stop>
+    ensures judged { Headed env.now place (view.view_name variable.now) (view.view_expr from.now)
+        (view.view_expr to.now) slot.old slot.new result }
+    ensures limit { IfOk result (λ h. h.counter + 1 < 2 ^ 32) }
 {
-    let counter = take_loop(slot)?;
-    let _next = *slot;
-    Ok(counter)
+    let start = start_loop(env, place, slot, variable)?;
+    let low = check_expr(alloc, env, place, slot, from)?;
+    let high = check_expr(alloc, env, place, slot, to);
+    join_head(start, low, high)
 }
 
 /// FOR.
@@ -55,15 +63,11 @@ pub fn check_for(
         (view.view_expr to.now) (view.by_of by.now) (view.view_stmts body.now))) stmts_of
         slot.new result }
 {
-    let counter = take_slots(slot)?;
-    let found = check_loop_name(env, place, variable)?;
-    let low = check_expr(alloc, env, place, slot, from)?;
-    let high = check_expr(alloc, env, place, slot, to);
-    let bounds = join_bounds(low, high)?;
+    let head = check_head(alloc, env, place, slot, variable, from, to)?;
     let step = check_by(alloc, env, place, slot, by);
-    let turns = join_by(bounds, step)?;
+    let turns = join_by(head.bounds, step)?;
     let body = check_stmts(alloc, env, place, slot, body);
-    join_for(alloc, env, counter, node, found, turns, body)
+    join_for(alloc, env, head.counter, node, head.found, turns, body)
 }
 
 #[cycle(check)]
@@ -107,11 +111,7 @@ pub fn check_some(
         (tree.some_stmt node (view.view_name variable.now) (view.view_expr from.now)
         (view.view_expr to.now) (view.view_stmts body.now))) stmts_of slot.new result }
 {
-    let counter = take_slots(slot)?;
-    let found = check_loop_name(env, place, variable)?;
-    let low = check_expr(alloc, env, place, slot, from)?;
-    let high = check_expr(alloc, env, place, slot, to);
-    let bounds = join_bounds(low, high)?;
+    let head = check_head(alloc, env, place, slot, variable, from, to)?;
     let body = check_stmts(alloc, env, place, slot, body);
-    join_some(alloc, env, counter, node, found, bounds, body)
+    join_some(alloc, env, head.counter, node, head.found, head.bounds, body)
 }

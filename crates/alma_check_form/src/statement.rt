@@ -1,21 +1,20 @@
 // What statements stand for. A part is None where a name in use there is Bad, and then so is the whole.
-ghost use Rattle.std.specs.Prelude.{◌≡◌, ◌+◌, ◌<◌, ◌^◌, ℕ, List, Option, None, Some, option_map, IfOk};
-ghost use Rattle.alma_ir.specs.View.{expr_of, test_of, stmt_of, desig_of, return_option};
+ghost use Rattle.std.specs.Prelude.{◌≡◌, None, Some, option_map, IfOk};
+ghost use Rattle.alma_ir.specs.View.{stmt_of, return_option};
 ghost use Rattle.alma_ir.specs.Tree as ir;
 ghost use Rattle.alma_rules.specs.Judged.{both_of};
 ghost use Rattle.alma_rules.specs.Parts as parts;
 ghost use Rattle.alma_rules.specs.Nodes as nodes;
-ghost use Rattle.alma_check_rules.specs.Views.{scene_of, typing_in, typing_of, located_in, located_of, meaning_view, spans_in, spans_view, stmts_in, stmts_of, somewhere};
-ghost use Rattle.alma_check_build.specs.Lists.{test_in, arms_of, arms_in, cases_of, cases_in, branches_in, else_in, loop_in, guarded_in};
+ghost use Rattle.alma_check_rules.specs.Views.{scene_of, typing_in, located_in, located_of, meaning_view, stmts_in, stmts_of, somewhere};
+ghost use Rattle.alma_check_build.specs.Lists.{test_in, arms_in, branches_in, guarded_in};
 
-use alma_base::Range;
 use alma_check_build::{as_test, as_value, desig};
-use alma_check_rules::{Env, Located, Meaning, Span, Typed};
-use alma_ir::{Arm, Branch, CaseArm, Expr, Loop, ReadAs, Stmt, Test, WriteAs};
+use alma_check_rules::{Env, Located, Meaning, Typed};
+use alma_ir::{Arm, Branch, Expr, ReadAs, Stmt, Test, WriteAs};
 use std::alloc::{AllocError, Global};
 
-// A statement alone.
-fn one(alloc: Global, stmt: Stmt) -> Result<Vec<Stmt>, AllocError>
+/// A statement alone.
+pub fn single(alloc: Global, stmt: Stmt) -> Result<Vec<Stmt>, AllocError>
     ensures { IfOk result (λ v. stmts_of v ≡ parts.one_stmt (stmt_of stmt)) }
 {
     let mut stmts: Vec<Stmt> = Vec::with_capacity(alloc, 1)?;
@@ -47,7 +46,7 @@ pub fn test_stmt(alloc: Global, test: Option<Test>) -> Result<Option<Vec<Stmt>>,
 {
     match test {
         None => Ok(None),
-        Some(test) => Ok(Some(one(alloc, Stmt::Test(test))?)),
+        Some(test) => Ok(Some(single(alloc, Stmt::Test(test))?)),
     }
 }
 
@@ -96,7 +95,7 @@ pub fn assigned(
             None => Ok(None),
             Some(typed) => {
                 let stmt = assigned_to(alloc, env, located, typed.meaning)?;
-                Ok(Some(one(alloc, stmt)?))
+                Ok(Some(single(alloc, stmt)?))
             }
         },
     }
@@ -130,7 +129,7 @@ pub fn if_stmt(
         None => Ok(None),
         Some(arms) => match other {
             None => Ok(None),
-            Some(other) => Ok(Some(one(alloc, Stmt::If(arms, other))?)),
+            Some(other) => Ok(Some(single(alloc, Stmt::If(arms, other))?)),
         },
     }
 }
@@ -148,7 +147,7 @@ pub fn while_stmt(
         None => Ok(None),
         Some(test) => match body {
             None => Ok(None),
-            Some(body) => Ok(Some(one(alloc, Stmt::While(test, body))?)),
+            Some(body) => Ok(Some(single(alloc, Stmt::While(test, body))?)),
         },
     }
 }
@@ -166,136 +165,7 @@ pub fn repeat_stmt(
         None => Ok(None),
         Some(body) => match test {
             None => Ok(None),
-            Some(test) => Ok(Some(one(alloc, Stmt::Repeat(body, test))?)),
-        },
-    }
-}
-
-// ---- FOR and SOME
-
-/// What FOR and SOME share; the hidden slots are the first and the one behind it.
-pub fn loop_of(
-    alloc: Global,
-    env: &Env,
-    counter: u32,
-    variable: Option<Located>,
-    low: Option<Typed>,
-    high: Option<Typed>,
-    by: Option<i64>,
-    body: Option<Vec<Stmt>>,
-) -> Result<Option<Loop>, AllocError>
-    requires limit { counter + 1 < 2 ^ 32 }
-    ensures { IfOk result (λ l. loop_in l ≡ option_map (nodes.loop_of
-        (scene_of env.now somewhere) counter) (both_of (located_in variable)
-        (both_of (typing_in low) (both_of (typing_in high) (both_of by (stmts_in body)))))) }
-{
-    let Some(variable) = variable else {
-        return Ok(None);
-    };
-    let Some(low) = low else {
-        return Ok(None);
-    };
-    let Some(high) = high else {
-        return Ok(None);
-    };
-    let Some(by) = by else {
-        return Ok(None);
-    };
-    let Some(body) = body else {
-        return Ok(None);
-    };
-    let range = env.range(variable.shape);
-    Ok(Some(Loop {
-        var: desig(variable),
-        range,
-        counter,
-        limit: counter + 1,
-        from: as_value(alloc, low.meaning)?,
-        to: as_value(alloc, high.meaning)?,
-        by,
-        body,
-    }))
-}
-
-/// FOR.
-pub fn for_stmt(alloc: Global, turns: Option<Loop>) -> Result<Option<Vec<Stmt>>, AllocError>
-    ensures { IfOk result (λ v. stmts_in v ≡ option_map parts.one_stmt
-        (option_map ir.ForTo (loop_in turns))) }
-{
-    match turns {
-        None => Ok(None),
-        Some(turns) => Ok(Some(one(alloc, Stmt::ForTo(turns))?)),
-    }
-}
-
-/// SOME.
-pub fn some_stmt(alloc: Global, turns: Option<Loop>) -> Result<Option<Vec<Stmt>>, AllocError>
-    ensures { IfOk result (λ v. stmts_in v ≡ option_map parts.one_stmt
-        (option_map ir.SomeOf (loop_in turns))) }
-{
-    match turns {
-        None => Ok(None),
-        Some(turns) => Ok(Some(one(alloc, Stmt::SomeOf(turns))?)),
-    }
-}
-
-// ---- CASE
-
-fn ranges(alloc: Global, labels: &[Span]) -> Result<Vec<Range>, AllocError>
-    ensures { IfOk result (λ v. v.items ≡ parts.ranges_of (spans_view labels.now)) }
-{
-    let mut ranges: Vec<Range> = Vec::new(alloc);
-    for label in labels {
-        ranges.push(label.range)?;
-    }
-    Ok(ranges)
-}
-
-/// An arm of CASE.
-pub fn case_arm(
-    alloc: Global,
-    labels: Option<Vec<Span>>,
-    body: Option<Vec<Stmt>>,
-) -> Result<Option<Vec<CaseArm>>, AllocError>
-    ensures { IfOk result (λ v. cases_in v ≡ option_map nodes.arm_of
-        (both_of (spans_in labels) (stmts_in body))) }
-{
-    match labels {
-        None => Ok(None),
-        Some(labels) => match body {
-            None => Ok(None),
-            Some(body) => {
-                let labels = ranges(alloc, &labels)?;
-                let mut arms: Vec<CaseArm> = Vec::new(alloc);
-                arms.push(CaseArm { labels, body })?;
-                Ok(Some(arms))
-            }
-        },
-    }
-}
-
-/// CASE, with all its arms and the ELSE part.
-pub fn case_stmt(
-    alloc: Global,
-    typed: Option<Typed>,
-    arms: Option<Vec<CaseArm>>,
-    other: Option<Option<Vec<Stmt>>>,
-) -> Result<Option<Vec<Stmt>>, AllocError>
-    ensures { IfOk result (λ v. stmts_in v ≡ option_map parts.one_stmt
-        (option_map (λ p. ir.Case (parts.value_of p.0.meaning) p.1.0 p.1.1)
-        (both_of (typing_in typed) (both_of (cases_in arms) (else_in other))))) }
-{
-    match typed {
-        None => Ok(None),
-        Some(typed) => match arms {
-            None => Ok(None),
-            Some(arms) => match other {
-                None => Ok(None),
-                Some(other) => {
-                    let value = as_value(alloc, typed.meaning)?;
-                    Ok(Some(one(alloc, Stmt::Case(value, arms, other))?))
-                }
-            },
+            Some(test) => Ok(Some(single(alloc, Stmt::Repeat(body, test))?)),
         },
     }
 }
@@ -312,7 +182,7 @@ pub fn either_stmt(
 {
     match branches {
         None => Ok(None),
-        Some(branches) => Ok(Some(one(alloc, Stmt::Either(branches))?)),
+        Some(branches) => Ok(Some(single(alloc, Stmt::Either(branches))?)),
     }
 }
 
@@ -329,7 +199,7 @@ pub fn forall_stmt(
         None => Ok(None),
         Some(choice) => match body {
             None => Ok(None),
-            Some(body) => Ok(Some(one(alloc, Stmt::Forall(choice, body))?)),
+            Some(body) => Ok(Some(single(alloc, Stmt::Forall(choice, body))?)),
         },
     }
 }
@@ -341,7 +211,7 @@ pub fn commit_stmt(alloc: Global, body: Option<Vec<Stmt>>) -> Result<Option<Vec<
 {
     match body {
         None => Ok(None),
-        Some(body) => Ok(Some(one(alloc, Stmt::Commit(body))?)),
+        Some(body) => Ok(Some(single(alloc, Stmt::Commit(body))?)),
     }
 }
 
@@ -357,7 +227,7 @@ fn return_stmt(value: Option<Expr>) -> Stmt
 pub fn bare_return(alloc: Global) -> Result<Option<Vec<Stmt>>, AllocError>
     ensures { IfOk result (λ v. stmts_in v ≡ Some (parts.one_stmt (ir.Return ir.no_result))) }
 {
-    Ok(Some(one(alloc, return_stmt(None))?))
+    Ok(Some(single(alloc, return_stmt(None))?))
 }
 
 /// RETURN with an expression.
@@ -370,7 +240,7 @@ pub fn returned(alloc: Global, typed: Option<Typed>) -> Result<Option<Vec<Stmt>>
         None => Ok(None),
         Some(typed) => {
             let value = as_value(alloc, typed.meaning)?;
-            Ok(Some(one(alloc, return_stmt(Some(value)))?))
+            Ok(Some(single(alloc, return_stmt(Some(value)))?))
         }
     }
 }
@@ -399,7 +269,7 @@ pub fn read(
         Some(located) => {
             let how = read_as(env, located.shape);
             let range = env.range(located.shape);
-            Ok(Some(one(alloc, Stmt::Read(desig(located), how, range))?))
+            Ok(Some(single(alloc, Stmt::Read(desig(located), how, range))?))
         }
     }
 }
@@ -430,7 +300,7 @@ pub fn write(
         Some(typed) => {
             let how = write_as(env, typed.shape);
             let value = as_value(alloc, typed.meaning)?;
-            Ok(Some(one(alloc, Stmt::WriteExpr(value, how))?))
+            Ok(Some(single(alloc, Stmt::WriteExpr(value, how))?))
         }
     }
 }
@@ -440,7 +310,7 @@ pub fn text(alloc: Global, bytes: &[u8]) -> Result<Option<Vec<Stmt>>, AllocError
     ensures { IfOk result (λ v. stmts_in v ≡ Some (parts.one_stmt (ir.WriteText bytes.now))) }
 {
     let bytes = bytes.to_vec(alloc)?;
-    Ok(Some(one(alloc, Stmt::WriteText(bytes))?))
+    Ok(Some(single(alloc, Stmt::WriteText(bytes))?))
 }
 
 /// WRITELN, behind its items.

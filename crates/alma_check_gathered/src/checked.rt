@@ -3,8 +3,8 @@ ghost use Rattle.std.specs.Prelude.{◌≡◌, [], Some, None, OnOk};
 ghost use Rattle.alma_rules.specs.Judged as judged;
 ghost use Rattle.alma_rules.specs.Scene.{Scene};
 ghost use Rattle.alma_check_reader.specs.Told.{broken_of, fault_of};
-ghost use Rattle.alma_check_gathered.specs.Gathered.{stage, with_fault, counted};
-ghost use Rattle.alma_check_gathered.specs.Shown.{stand};
+ghost use Rattle.alma_check_gathered.specs.Inner.Gathered.{stage, with_fault, counted};
+ghost use Rattle.alma_check_gathered.specs.Inner.Shown.{stand};
 
 use alma_base::{CheckFault, NoMemory};
 use alma_check_reader::Broken;

@@ -13,9 +13,9 @@ use Rattle.alma_check_reader.specs.Around.{Outer, left, outer_of, cleared}
 use Rattle.alma_check_block.specs.declared.frame.Frame.{Frame as CodeFrame}
 use Rattle.alma_check_block.specs.Shown.{ToldFrame, shown, told_frame}
 use Rattle.alma_check_gathered.specs.declared.checked.Checked.{Checked}
-use Rattle.alma_check_gathered.specs.Gathered.{Stage, stage, through_block, through_read, read_stage, with_fault, counted, quiet}
-use Rattle.alma_check_gathered.specs.Shown.{stand, routines_in}
-use Rattle.alma_check_routine.specs.Framed.{frame_in}
+use Rattle.alma_check_gathered.specs.Inner.Gathered.{Stage, stage, through_block, through_read, read_stage, with_fault, counted, quiet}
+use Rattle.alma_check_gathered.specs.Inner.Shown.{stand, routines_in}
+use Rattle.alma_check_routine.specs.Inner.Framed.{frame_in}
 use Rattle.alma_check_routine.proofs.Headings.{inner_frame}
 use Rattle.alma_check_routine.proofs.Routines.{read_by}
 

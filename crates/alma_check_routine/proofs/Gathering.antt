@@ -14,7 +14,7 @@ use Rattle.alma_rules.proofs.Leasts as leasts
 use Rattle.alma_rules.proofs.Within.{Within, none}
 use Rattle.alma_rules.proofs.Ordered.{stmts_in}
 use Rattle.alma_rules.proofs.DeclsOrdered.{decls_in}
-use Rattle.alma_check_gathered.specs.Gathered.{unless_broken, Stage, stage, gathered, through_decls, through_decl, through_block, with_fault, with_least, quiet, through_read, counted, joined_lists, Adds, AreRising, IsRisingBody}
+use Rattle.alma_check_gathered.specs.Inner.Gathered.{unless_broken, Stage, stage, gathered, through_decls, through_decl, through_block, with_fault, with_least, quiet, through_read, counted, joined_lists, Adds, AreRising, IsRisingBody}
 use Rattle.alma_check_routine.proofs.Headings.{inner_frame}
 
 -- ---- broken rules

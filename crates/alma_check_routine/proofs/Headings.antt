@@ -11,7 +11,7 @@ use Rattle.alma_rules.specs.Scene.{Scene, Heading}
 use Rattle.alma_rules.specs.Decls.{Frame, decls_routines, decl_routines, read_heading, read_decl, read_decls}
 use Rattle.alma_rules.specs.Modules.{frame_of, with_shapes}
 use Rattle.alma_check_reader.specs.Around.{cleared, left, outer_of}
-use Rattle.alma_check_gathered.specs.Gathered.{AreEmpty, IsEmptyInside, AreEmptyInside}
+use Rattle.alma_check_gathered.specs.Inner.Gathered.{AreEmpty, IsEmptyInside, AreEmptyInside}
 use Rattle.alma_check_routine.proofs.Stays.{consts_same, types_same, vars_same, head_same, ground, ground_steady, headings_steady}
 
 -- ---- declarations

@@ -12,7 +12,7 @@ use Rattle.alma_rules.specs.Decls.{new_frame}
 use Rattle.alma_rules.specs.Modules.{judge_body}
 use Rattle.alma_check_rules.specs.Views.{stmts_of}
 use Rattle.alma_check_block.specs.declared.frame.Frame.{Frame}
-use Rattle.alma_check_routine.specs.Framed.{frame_in}
+use Rattle.alma_check_routine.specs.Inner.Framed.{frame_in}
 
 own_same : (s : Scene) (x : Frame) (n : ℕ) (b : Option tree.Stmts) → n ≡ x.slots → judge_body (new_frame s n) b ≡ judge_body (frame_in s x) b
 own_same s x n None e = rw e refl

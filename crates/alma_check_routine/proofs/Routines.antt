@@ -15,7 +15,7 @@ use Rattle.alma_rules.specs.Decls.{Frame, block_routines, decls_routines, decl_r
 use Rattle.alma_rules.specs.Modules.{judge_body, body_lines, judge_bodies, judge_decl, routine_of, with_shapes, end_rules}
 use Rattle.alma_walk.proofs.Exprs.{next_of}
 use Rattle.alma_check_reader.specs.Around.{cleared, left, outer_of}
-use Rattle.alma_check_gathered.specs.Gathered.{Stage, stage, through_decls, through_decl, through_block, through_read, read_stage, with_fault, with_least, counted, quiet, Adds, AreEmpty, AreEmptyInside, IsRisingBody, AreReady, IsReady, IsReadyInside}
+use Rattle.alma_check_gathered.specs.Inner.Gathered.{Stage, stage, through_decls, through_decl, through_block, through_read, read_stage, with_fault, with_least, counted, quiet, Adds, AreEmpty, AreEmptyInside, IsRisingBody, AreReady, IsReady, IsReadyInside}
 use Rattle.alma_check_routine.proofs.Headings.{inner_frame, inner_ground, heading_ground, heading_empty, scene_closed, decls_ground, read_inside}
 use Rattle.alma_check_routine.proofs.Gathering.{block_by, body_first, through_more, through_none, through_procedure, rising_rest, rising_procedure}
 

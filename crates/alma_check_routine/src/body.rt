@@ -11,9 +11,9 @@ ghost use Rattle.alma_rules.specs.Modules as modules;
 ghost use Rattle.alma_rules.specs.View as view;
 ghost use Rattle.alma_check_rules.specs.Views.{stmts_of};
 ghost use Rattle.alma_check_reader.specs.Told.{fault_of};
-ghost use Rattle.alma_check_gathered.specs.Gathered.{Adds};
-ghost use Rattle.alma_check_gathered.specs.Shown.{routines_in};
-ghost use Rattle.alma_check_routine.specs.Framed.{frame_in, IsOutline};
+ghost use Rattle.alma_check_gathered.specs.Inner.Gathered.{Adds};
+ghost use Rattle.alma_check_gathered.specs.Inner.Shown.{routines_in};
+ghost use Rattle.alma_check_routine.specs.Inner.Framed.{frame_in, IsOutline};
 
 use crate::line::{Lines, body_lines, line_of};
 use alma_base::{NoMemory, Range};

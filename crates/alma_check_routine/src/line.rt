@@ -5,7 +5,7 @@ ghost use Rattle.alma_scan.specs.Places.{line_at};
 ghost use Rattle.alma_rules.specs.Scene as scenes;
 ghost use Rattle.alma_rules.specs.Modules as modules;
 ghost use Rattle.alma_rules.specs.View as view;
-ghost use Rattle.alma_check_routine.specs.Lined.{AreLines};
+ghost use Rattle.alma_check_routine.specs.Inner.Lined.{AreLines};
 
 use alma_base::NoMemory;
 use alma_check_marks::statement_tokens;

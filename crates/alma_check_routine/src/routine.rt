@@ -8,9 +8,9 @@ ghost use Rattle.alma_rules.specs.Modules as modules;
 ghost use Rattle.alma_rules.specs.View as view;
 ghost use Rattle.alma_check_reader.specs.Told.{fault_of};
 ghost use Rattle.alma_check_reader.specs.Around.{outer_of};
-ghost use Rattle.alma_check_gathered.specs.Gathered.{through_decls, through_decl, through_block, through_read, with_least, AreReady, IsReady, IsReadyInside, IsRisingBody};
-ghost use Rattle.alma_check_gathered.specs.Shown.{stand};
-ghost use Rattle.alma_check_routine.specs.Framed.{frame_in};
+ghost use Rattle.alma_check_gathered.specs.Inner.Gathered.{through_decls, through_decl, through_block, through_read, with_least, AreReady, IsReady, IsReadyInside, IsRisingBody};
+ghost use Rattle.alma_check_gathered.specs.Inner.Shown.{stand};
+ghost use Rattle.alma_check_routine.specs.Inner.Framed.{frame_in};
 
 use crate::body::{Site, check_own};
 use crate::line::Lines;

@@ -12,7 +12,7 @@ use Rattle.alma_rules.specs.Numbered as tree
 use Rattle.alma_rules.specs.Modules.{broken, resolved}
 use Rattle.alma_check_reader.specs.declared.reading.Broken.{Broken as CodeBroken}
 use Rattle.alma_check_reader.specs.Told.{fault_of}
-use Rattle.alma_check_gathered.specs.Shown.{unless_bad}
+use Rattle.alma_check_gathered.specs.Inner.Shown.{unless_bad}
 use Rattle.alma_check_stmt.specs.Whole.{IsJudged}
 use Rattle.alma_check_stmt.proofs.Wholes.{unbroken_is_fine}
 

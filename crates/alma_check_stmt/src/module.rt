@@ -11,7 +11,7 @@ ghost use Rattle.alma_rules.specs.Modules as modules;
 ghost use Rattle.alma_rules.specs.Rising.{IsRising};
 ghost use Rattle.alma_resolved_whole.specs.Whole.{IsTreeOf};
 ghost use Rattle.alma_check_reader.specs.Told.{fault_of};
-ghost use Rattle.alma_check_gathered.specs.Shown.{routines_in};
+ghost use Rattle.alma_check_gathered.specs.Inner.Shown.{routines_in};
 ghost use Rattle.alma_check_stmt.specs.Whole.{IsJudged};
 
 use alma_base::NoMemory;

@@ -17,8 +17,8 @@ use Rattle.alma_rules.specs.Answers.{first}
 use Rattle.alma_rules.specs.Types.{Reading, Formed, add_shape, is_field, redeclared_fields, fields_with, fields_of_type}
 use Rattle.alma_walk.proofs.Exprs.{next_of}
 use Rattle.alma_check_reader.specs.Told.{Told, told, earlier, join, a_told}
-use Rattle.alma_check_type.specs.Tables.{field_view, fields_view}
-use Rattle.alma_check_type.specs.Fields.{text_in, among, Knows, ToldFields, unless_bad, field_at, field_as, with_field, with_fields, begun, shape_or_zero, shaped, joined, told_list, told_on, told_record}
+use Rattle.alma_check_type.specs.Inner.Tables.{field_view, fields_view}
+use Rattle.alma_check_type.specs.Inner.Fields.{text_in, among, Knows, ToldFields, unless_bad, field_at, field_as, with_field, with_fields, begun, shape_or_zero, shaped, joined, told_list, told_on, told_record}
 use Rattle.alma_check_reader.proofs.BlockSteps.{inserted}
 use Rattle.alma_check_reader.proofs.Tells.{first_joined, earlier_none, earlier_assoc, told_as}
 

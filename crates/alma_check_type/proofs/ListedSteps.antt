@@ -14,7 +14,7 @@ use Rattle.alma_rules.specs.Answers.{first}
 use Rattle.alma_rules.specs.Types.{redeclared, redeclared_all, all_first, last_token, declared, value_entry, declare_values, read_listed, listed_in, add_shape, Formed, formed, too_large}
 use Rattle.alma_walk.proofs.Exprs.{next_of}
 use Rattle.alma_check_reader.specs.Told.{Told, told, a_told}
-use Rattle.alma_check_type.specs.Tables.{shape_of_formed, last_of}
+use Rattle.alma_check_type.specs.Inner.Tables.{shape_of_formed, last_of}
 
 -- ---- names that are declared earlier
 

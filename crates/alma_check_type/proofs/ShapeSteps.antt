@@ -14,7 +14,7 @@ use Rattle.alma_rules.specs.Types.{Formed, number_in, size_rules, row_on, rows_o
 use Rattle.alma_check_reader.specs.Told.{Told, told_with, told_at, told_type, a_told}
 use Rattle.alma_check_env.specs.declared.env.Env.{Env}
 use Rattle.alma_check_rules.specs.Views.{scene_of, somewhere}
-use Rattle.alma_check_type.specs.Tables.{field_view, fields_view}
+use Rattle.alma_check_type.specs.Inner.Tables.{field_view, fields_view}
 
 -- ---- arrays
 

@@ -6,7 +6,7 @@ ghost use Rattle.alma_rules.specs.Numbered as tree;
 ghost use Rattle.alma_rules.specs.Types as types;
 ghost use Rattle.alma_rules.specs.View.{view_name, view_names, names_of};
 ghost use Rattle.alma_check_reader.specs.Told.{Told, tells, tells_of, fault_of, formed_of};
-ghost use Rattle.alma_check_type.specs.Fields as spec;
+ghost use Rattle.alma_check_type.specs.Inner.Fields as spec;
 
 use crate::shape::add_record;
 use alma_base::{CheckFault, NoMemory};

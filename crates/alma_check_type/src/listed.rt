@@ -6,7 +6,7 @@ ghost use Rattle.alma_rules.specs.Judged.{broken_at};
 ghost use Rattle.alma_rules.specs.Answers.{first};
 ghost use Rattle.alma_rules.specs.Types as types;
 ghost use Rattle.alma_rules.specs.View.{view_name, view_names, names_of};
-ghost use Rattle.alma_check_type.specs.Tables.{shape_of_formed};
+ghost use Rattle.alma_check_type.specs.Inner.Tables.{shape_of_formed};
 ghost use Rattle.alma_check_reader.specs.Told.{told, tells_of, broken_of, fault_of, formed_of};
 
 use crate::shape::add_listed;

@@ -5,7 +5,7 @@ ghost use Rattle.alma_rules.specs.Types as types;
 ghost use Rattle.alma_rules.specs.Scene as scenes;
 ghost use Rattle.alma_check_rules.specs.Views.{scene_of, somewhere};
 ghost use Rattle.alma_check_reader.specs.Told.{formed_of};
-ghost use Rattle.alma_check_type.specs.Tables.{Shows, may_index, field_view, fields_view};
+ghost use Rattle.alma_check_type.specs.Inner.Tables.{Shows, may_index, field_view, fields_view};
 
 use alma_base::{NoMemory, Range};
 use alma_check_reader::{Formed, Reader};

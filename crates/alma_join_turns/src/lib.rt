@@ -5,5 +5,5 @@
 mod turns;
 
 pub use turns::{
-    Bounds, Turns, check_loop_name, join_bounds, join_by, join_for, join_some, join_step, take_loop,
+    Bounds, Head, Start, Turns, join_by, join_for, join_head, join_some, join_step, start_loop,
 };

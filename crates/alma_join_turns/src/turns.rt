@@ -1,7 +1,7 @@
 // FOR and SOME, whose last part has been judged.
 #![tactic(auto, using(alma_walk::proofs::Judging::judging, std::proofs::lemmas::Grind::common_steps))]
 
-ghost use Rattle.std.specs.Prelude.{◌≡◌, ℤ, ◌+◌, ◌<◌, ◌^◌, ℕ, pos, None, option_and_then};
+ghost use Rattle.std.specs.Prelude.{◌≡◌, ℤ, ◌+◌, ◌<◌, ◌^◌, ℕ, pos, None, option_and_then, IfOk};
 ghost use Rattle.alma_ir.specs.Tree as ir;
 ghost use Rattle.alma_rules.specs.Judged.{Judged, fine, of_value, with, with_some, at_node};
 ghost use Rattle.alma_rules.specs.View.{view_name};
@@ -11,18 +11,18 @@ ghost use Rattle.alma_rules.specs.Parts as parts;
 ghost use Rattle.alma_rules.specs.StmtRules as stmt_rules;
 ghost use Rattle.alma_rules.specs.Nodes as nodes;
 ghost use Rattle.alma_check_rules.specs.Views.{scene_of, typing_in, typing_of, headings_in, found_view, stmts_of, somewhere};
-ghost use Rattle.alma_join_turns.specs.Bounded.{Finds, TakesLoop, Bounded, Turned};
+ghost use Rattle.alma_join_turns.specs.Bounded.{Finds, TakesLoop, Starts, HeadOf, Turned};
 
 use alma_check_build::as_located;
-use alma_check_form::{for_stmt, loop_of, some_stmt};
+use alma_check_ranges::{for_stmt, loop_of, some_stmt};
 use alma_check_rules::{Env, Found, Place, Typed, pass_by, pass_loop, pass_loop_name};
 use alma_ir::Stmt;
 use alma_rules::Stop;
 use alma_tree::Name;
 use std::alloc::Global;
 
-/// The name of a loop's variable.
-pub fn check_loop_name(env: &Env, place: Place, name: &Name) -> Result<Found, Stop>
+// The name of a loop's variable.
+fn check_loop_name(env: &Env, place: Place, name: &Name) -> Result<Found, Stop>
     ensures { Finds (headings_in env.now) name.now.node (λ f. stmt_rules.loop_name_rules (scene_of
         env.now place) f None) (found (scene_of env.now somewhere) (view_name name.now)) result }
 {
@@ -31,8 +31,8 @@ pub fn check_loop_name(env: &Env, place: Place, name: &Name) -> Result<Found, St
     Ok(found)
 }
 
-/// The two hidden slots of a loop: the first free one, and the one behind it.
-pub fn take_loop(slot: &mut u32) -> Result<u32, Stop>
+// The two hidden slots of a loop: the first free one, and the one behind it.
+fn take_loop(slot: &mut u32) -> Result<u32, Stop>
     ensures { TakesLoop slot.old slot.new result }
 {
     let counter = *slot;
@@ -45,11 +45,49 @@ pub fn take_loop(slot: &mut u32) -> Result<u32, Stop>
     }
 }
 
+// The first of a loop's two hidden slots. That the second has a number too is known since the slot
+// behind them, which is read here, has one.
+fn take_slots(slot: &mut u32) -> Result<u32, Stop>
+    ensures taken { TakesLoop slot.old slot.new result }
+    ensures limit { IfOk result (λ n. n + 1 < 2 ^ 32) }
+{
+    let counter = take_loop(slot)?;
+    let _next = *slot;
+    Ok(counter)
+}
+
+/// What a loop starts with: the first of its two hidden slots, and what the name of its variable stands for.
+#[derive(Clone, Copy)]
+pub struct Start {
+    pub counter: u32,
+    pub found: Found,
+}
+
+/// The start of a loop over the variable of this name.
+pub fn start_loop(env: &Env, place: Place, slot: &mut u32, name: &Name) -> Result<Start, Stop>
+    ensures started { Starts (headings_in env.now) name.now.node
+        (λ f. stmt_rules.loop_name_rules (scene_of env.now place) f None)
+        (found (scene_of env.now somewhere) (view_name name.now)) slot.old slot.new result }
+    ensures limit { IfOk result (λ s. s.counter + 1 < 2 ^ 32) }
+{
+    let counter = take_slots(slot)?;
+    let found = check_loop_name(env, place, name)?;
+    Ok(Start { counter, found })
+}
+
 /// The bounds of a loop.
 #[derive(Drop)]
 pub struct Bounds {
     pub low: Option<Typed>,
     pub high: Option<Typed>,
+}
+
+/// What stands in front of a loop's body, or of its step: what it starts with, and its bounds.
+#[derive(Drop)]
+pub struct Head {
+    pub counter: u32,
+    pub found: Found,
+    pub bounds: Bounds,
 }
 
 /// The bounds and the step of a loop.
@@ -60,13 +98,21 @@ pub struct Turns {
     pub by: Option<i64>,
 }
 
-/// The bounds of a loop, behind the second.
-pub fn join_bounds(low: Option<Typed>, high: Result<Option<Typed>, Stop>) -> Result<Bounds, Stop>
+/// The head of a loop, behind the second bound.
+pub fn join_head(
+    start: Start,
+    low: Option<Typed>,
+    high: Result<Option<Typed>, Stop>,
+) -> Result<Head, Stop>
     ensures { (j : Judged parts.Typing) (m : ℕ) → Answers j typing_of m high
-        → Bounded (typing_in low) j m result }
+        → HeadOf start (typing_in low) j m result }
 {
     let high = high?;
-    Ok(Bounds { low, high })
+    Ok(Head {
+        counter: start.counter,
+        found: start.found,
+        bounds: Bounds { low, high },
+    })
 }
 
 /// The bounds and the step of a loop, behind the step.

@@ -13,6 +13,7 @@ use Rattle.alma_walk_steps.proofs.Labels.{settled, spans_count, labels_begin, la
 use Rattle.alma_walk_steps.proofs.Loops as loops
 use Rattle.alma_walk_steps.proofs.Same.{kind_same, indexed_same}
 use Rattle.alma_tree.specs.declared.phrase.Compared as dc
+use Rattle.alma_tree.specs.declared.phrase.Args as dg
 use Rattle.alma_tree.specs.declared.phrase.Exprs as dx
 use Rattle.alma_ir.specs.Tree as ir
 use Rattle.alma_ir.specs.View.{arg_of, args_list, arms_list, branches_list}
@@ -227,22 +228,18 @@ pub call::check_named-returns-in-None : goal.call::check_named-returns-in-None
 call::check_named-returns-in-None t c =
     rw (c.in-None.is, exprs.value_at (scene_of c.args.env.now c.args.place) c.args.slot.now c.args.node (view.view_desig c.args.desig.now)) (c.join_value.ensures _ _ c.check_desig-found.ensures)
 
-pub call::check_named-returns-in-Some : goal.call::check_named-returns-in-Some
-call::check_named-returns-in-Some t c =
-    rw c.in-Some.is c.check_call.ensures
-
-pub call::check_call-returns-in_err-callee : goal.call::check_call-returns-in_err-callee
-call::check_call-returns-in_err-callee t c =
+pub call::check_named-returns-in_err-callee-in-Some : goal.call::check_named-returns-in_err-callee-in-Some
+call::check_named-returns-in_err-callee-in-Some t c =
     passed _ typing_of _ _ _ c.from_residual.ensures.1
-    (exprs.call_stops (scene_of c.args.env.now c.args.place) c.args.slot.now c.args.node (view.view_desig c.args.desig.now) c.args.values.now _ (c.in_err-callee.ensures _ _ c.check_desig-found.ensures))
+    (rw c.in-Some.is (exprs.call_stops (scene_of c.args.env.now c.args.place) c.args.slot.now c.args.node (view.view_desig c.args.desig.now) (dg.out-Args c.in-Some.args).values _ (c.in_err-callee-in-Some.ensures _ _ c.check_desig-found-in-Some.ensures)))
 
-pub call::check_call-returns-in-None : goal.call::check_call-returns-in-None
-call::check_call-returns-in-None t c =
-    rw (c.in-None.is, exprs.call_none (scene_of c.args.env.now c.args.place) c.args.slot.now c.args.node _ (view.view_desig c.args.desig.now) (callee_in (headings_in c.args.env.now) c.in_ok-callee.callee) (c.in_ok-callee.ensures (walk.judge_desig (scene_of c.args.env.now c.args.place) c.args.slot.now rules.as_procedure (view.view_desig c.args.desig.now)) _ c.check_desig-found.ensures)) (c.join_call.ensures (fine c.check_desig-found.new.slot ir.no_args) c.check_desig-found.new.slot c.check_desig-found.new.slot (ap (λ a. of_value c.check_desig-found.new.slot (Some (args_list a))) (sym c.new.ensures.items)))
+pub call::check_named-returns-in-None-in-Some : goal.call::check_named-returns-in-None-in-Some
+call::check_named-returns-in-None-in-Some t c =
+    rw (c.in-Some.is, c.in-None-in-Some.is, exprs.call_none (scene_of c.args.env.now c.args.place) c.args.slot.now c.args.node _ (view.view_desig c.args.desig.now) (callee_in (headings_in c.args.env.now) c.in_ok-callee-in-Some.callee) (c.in_ok-callee-in-Some.ensures (walk.judge_desig (scene_of c.args.env.now c.args.place) c.args.slot.now rules.as_procedure (view.view_desig c.args.desig.now)) _ c.check_desig-found-in-Some.ensures)) (c.join_call.ensures (fine c.check_desig-found-in-Some.new.slot ir.no_args) c.check_desig-found-in-Some.new.slot c.check_desig-found-in-Some.new.slot (ap (λ a. of_value c.check_desig-found-in-Some.new.slot (Some (args_list a))) (sym c.new.ensures.items)))
 
-pub call::check_call-returns-in-Some : goal.call::check_call-returns-in-Some
-call::check_call-returns-in-Some t c =
-    rw (c.in-Some.is, exprs.call_some (scene_of c.args.env.now c.args.place) c.args.slot.now c.args.node _ (view.view_desig c.args.desig.now) (view.view_exprs c.in-Some.values) (callee_in (headings_in c.args.env.now) c.in_ok-callee.callee) (c.in_ok-callee.ensures (walk.judge_desig (scene_of c.args.env.now c.args.place) c.args.slot.now rules.as_procedure (view.view_desig c.args.desig.now)) _ c.check_desig-found.ensures), calls.count_at (scene_of c.args.env.now c.args.place) c.in-Some.values, length_is (dx.out-Exprs c.in-Some.values).more ∙ sym c.len.ensures) (c.join_call-in-Some.ensures (walk.judge_arguments (scene_of c.args.env.now c.args.place) c.check_desig-found.new.slot (nodes.formals_of (callee_in (headings_in c.args.env.now) c.in_ok-callee.callee)) (view.view_exprs c.in-Some.values)) c.check_desig-found.new.slot c.check_arguments-args.new.slot c.check_arguments-args.ensures)
+pub call::check_named-returns-in-Some-in-Some : goal.call::check_named-returns-in-Some-in-Some
+call::check_named-returns-in-Some-in-Some t c =
+    rw (c.in-Some.is, c.in-Some-in-Some.is, exprs.call_some (scene_of c.args.env.now c.args.place) c.args.slot.now c.args.node _ (view.view_desig c.args.desig.now) (view.view_exprs c.in-Some-in-Some.values) (callee_in (headings_in c.args.env.now) c.in_ok-callee-in-Some.callee) (c.in_ok-callee-in-Some.ensures (walk.judge_desig (scene_of c.args.env.now c.args.place) c.args.slot.now rules.as_procedure (view.view_desig c.args.desig.now)) _ c.check_desig-found-in-Some.ensures), calls.count_at (scene_of c.args.env.now c.args.place) c.in-Some-in-Some.values, length_is (dx.out-Exprs c.in-Some-in-Some.values).more ∙ sym c.len.ensures) (c.join_call-in-Some.ensures (walk.judge_arguments (scene_of c.args.env.now c.args.place) c.check_desig-found-in-Some.new.slot (nodes.formals_of (callee_in (headings_in c.args.env.now) c.in_ok-callee-in-Some.callee)) (view.view_exprs c.in-Some-in-Some.values)) c.check_desig-found-in-Some.new.slot c.check_arguments-args.new.slot c.check_arguments-args.ensures)
 
 -- ---- Parens
 
@@ -326,60 +323,60 @@ sequence::check_stmt-returns-in-Value t c =
 
 pub sequence::check_stmt-returns-in-Write : goal.sequence::check_stmt-returns-in-Write
 sequence::check_stmt-returns-in-Write t c =
-    rw c.in-Write.is c.check_write.ensures
+    rw (c.in-Write.is, stmts.write_is (scene_of c.args.env.now c.args.place) c.args.slot.now c.in-Write.node (view.view_exprs c.in-Write.items)) c.check_items.ensures
 
-pub sequence::check_stmts-returns-in_err-first : goal.sequence::check_stmts-returns-in_err-first
-sequence::check_stmts-returns-in_err-first t c =
+pub sequence::check_stmts-returns-in_err-kept : goal.sequence::check_stmts-returns-in_err-kept
+sequence::check_stmts-returns-in_err-kept t c =
     passed _ stmts_of _ _ _ c.from_residual.ensures.1
-    (stmts.stmts_stops (scene_of c.args.env.now c.args.place) c.args.slot.now c.args.stmts.now _ (rw c.deref.ensures at c.in_err-first.ensures))
+    (stmts.stmts_stops (scene_of c.args.env.now c.args.place) c.args.slot.now c.args.stmts.now _ (rw c.deref.ensures at c.in_err-kept.ensures))
+
+pub sequence::check_stmts-loop-stmt-init : goal.sequence::check_stmts-loop-stmt-init
+sequence::check_stmts-loop-stmt-init t c =
+    stmts.stmts_fine (scene_of c.args.env.now c.args.place) c.args.slot.now c.args.stmts.now _ _ (rw c.deref.ensures at c.in_ok-kept.ensures)
+
+pub sequence::check_stmts-loop-stmt-preserved : goal.sequence::check_stmts-loop-stmt-preserved
+sequence::check_stmts-loop-stmt-preserved t c =
+    c.loop-stmt.invariant ∙ ap (onward_stmts (stmts_in c.loop-stmt.kept)) (stmts.stmts_next (scene_of c.args.env.now c.args.place) c.loop-stmt.slot c.loop-stmt.stmt-index c.args.stmts.now.more.items c.stmt-item.result (rw c.deref-stmt-items.ensures.value at c.loop-stmt-test.true) (rw c.deref-stmt-items.ensures.value at c.stmt-item.is))
+    ∙ c.in_ok-kept-2.ensures _ _ (λ m. walk.judge_stmt_tail (scene_of c.args.env.now c.args.place) m (view.stmts_of (drop (c.loop-stmt.stmt-index + 1) c.args.stmts.now.more.items))) c.check_stmt-next.ensures
+
+pub sequence::check_stmts-returns-in_err-kept-2 : goal.sequence::check_stmts-returns-in_err-kept-2
+sequence::check_stmts-returns-in_err-kept-2 t c =
+    passed _ stmts_of _ _ _ c.from_residual-in_err-kept-2.ensures.1
+    (stops_as _ _ _ (c.loop-stmt.invariant ∙ ap (onward_stmts (stmts_in c.loop-stmt.kept)) (stmts.stmts_next (scene_of c.args.env.now c.args.place) c.loop-stmt.slot c.loop-stmt.stmt-index c.args.stmts.now.more.items c.stmt-item.result (rw c.deref-stmt-items.ensures.value at c.loop-stmt-test.true) (rw c.deref-stmt-items.ensures.value at c.stmt-item.is))) (c.in_err-kept-2.ensures _ _ (λ m. walk.judge_stmt_tail (scene_of c.args.env.now c.args.place) m (view.stmts_of (drop (c.loop-stmt.stmt-index + 1) c.args.stmts.now.more.items))) c.check_stmt-next.ensures))
 
 pub sequence::check_stmts-returns : goal.sequence::check_stmts-returns
 sequence::check_stmts-returns t c =
-    answers_as _ _ stmts_of _ _ (stmts.stmts_fine (scene_of c.args.env.now c.args.place) c.args.slot.now c.args.stmts.now _ _ (rw c.deref.ensures at c.in_ok-first.ensures)) (rw c.deref-2.ensures.value at c.check_more.ensures)
-
-pub sequence::check_more-loop-stmt-preserved : goal.sequence::check_more-loop-stmt-preserved
-sequence::check_more-loop-stmt-preserved t c =
-    c.loop-stmt.invariant ∙ ap (onward_stmts (stmts_in c.loop-stmt.kept)) (stmts.stmts_next (scene_of c.args.env.now c.args.place) c.loop-stmt.slot c.loop-stmt.stmt-index c.args.more.now c.stmt-item.result c.loop-stmt-test.true c.stmt-item.is)
-    ∙ c.in_ok-kept.ensures _ _ (λ m. walk.judge_stmt_tail (scene_of c.args.env.now c.args.place) m (view.stmts_of (drop (c.loop-stmt.stmt-index + 1) c.args.more.now))) c.check_stmt-next.ensures
-
-pub sequence::check_more-returns-in_err-kept : goal.sequence::check_more-returns-in_err-kept
-sequence::check_more-returns-in_err-kept t c =
-    passed _ stmts_of _ _ _ c.from_residual.ensures.1
-    (stops_as _ _ _ (c.loop-stmt.invariant ∙ ap (onward_stmts (stmts_in c.loop-stmt.kept)) (stmts.stmts_next (scene_of c.args.env.now c.args.place) c.loop-stmt.slot c.loop-stmt.stmt-index c.args.more.now c.stmt-item.result c.loop-stmt-test.true c.stmt-item.is)) (c.in_err-kept.ensures _ _ (λ m. walk.judge_stmt_tail (scene_of c.args.env.now c.args.place) m (view.stmts_of (drop (c.loop-stmt.stmt-index + 1) c.args.more.now))) c.check_stmt-next.ensures))
-
-pub sequence::check_more-returns : goal.sequence::check_more-returns
-sequence::check_more-returns t c =
-    c.loop-stmt.invariant ∙ ap (onward_stmts (stmts_in c.loop-stmt.kept)) (stmts.stmts_end (scene_of c.args.env.now c.args.place) c.loop-stmt.slot c.loop-stmt.stmt-index c.args.more.now c.loop-stmt-test.false)
+    c.loop-stmt.invariant ∙ ap (onward_stmts (stmts_in c.loop-stmt.kept)) (stmts.stmts_end (scene_of c.args.env.now c.args.place) c.loop-stmt.slot c.loop-stmt.stmt-index c.args.stmts.now.more.items (rw c.deref-stmt-items.ensures.value at c.loop-stmt-test.false))
     ∙ onward_end parts.append_stmts ir.no_stmts (stmts_in c.loop-stmt.kept) c.loop-stmt.slot stmts.stmts_last
 
-pub input::check_reads-loop-desig-preserved : goal.input::check_reads-loop-desig-preserved
-input::check_reads-loop-desig-preserved t c =
+pub input::check_read-loop-desig-preserved : goal.input::check_read-loop-desig-preserved
+input::check_read-loop-desig-preserved t c =
     c.loop-desig.invariant ∙ ap (onward_stmts (stmts_in c.loop-desig.kept)) (stmts.reads_next (scene_of c.args.env.now c.args.place) c.loop-desig.slot c.loop-desig.desig-index c.args.more.now c.desig-item.result c.loop-desig-test.true c.desig-item.is)
-    ∙ c.in_ok-kept.ensures _ _ (λ m. walk.judge_reads (scene_of c.args.env.now c.args.place) m (view.desigs_of (drop (c.loop-desig.desig-index + 1) c.args.more.now))) c.check_read_one-next.ensures
+    ∙ c.in_ok-kept-2.ensures _ _ (λ m. walk.judge_reads (scene_of c.args.env.now c.args.place) m (view.desigs_of (drop (c.loop-desig.desig-index + 1) c.args.more.now))) c.check_read_one-next.ensures
 
-pub input::check_reads-returns-in_err-kept : goal.input::check_reads-returns-in_err-kept
-input::check_reads-returns-in_err-kept t c =
-    passed _ stmts_of _ _ _ c.from_residual.ensures.1
-    (stops_as _ _ _ (c.loop-desig.invariant ∙ ap (onward_stmts (stmts_in c.loop-desig.kept)) (stmts.reads_next (scene_of c.args.env.now c.args.place) c.loop-desig.slot c.loop-desig.desig-index c.args.more.now c.desig-item.result c.loop-desig-test.true c.desig-item.is)) (c.in_err-kept.ensures _ _ (λ m. walk.judge_reads (scene_of c.args.env.now c.args.place) m (view.desigs_of (drop (c.loop-desig.desig-index + 1) c.args.more.now))) c.check_read_one-next.ensures))
+pub input::check_read-returns-in_err-kept-2 : goal.input::check_read-returns-in_err-kept-2
+input::check_read-returns-in_err-kept-2 t c =
+    passed _ stmts_of _ _ _ c.from_residual-in_err-kept-2.ensures.1
+    (stops_as _ _ _ (c.loop-desig.invariant ∙ ap (onward_stmts (stmts_in c.loop-desig.kept)) (stmts.reads_next (scene_of c.args.env.now c.args.place) c.loop-desig.slot c.loop-desig.desig-index c.args.more.now c.desig-item.result c.loop-desig-test.true c.desig-item.is)) (c.in_err-kept-2.ensures _ _ (λ m. walk.judge_reads (scene_of c.args.env.now c.args.place) m (view.desigs_of (drop (c.loop-desig.desig-index + 1) c.args.more.now))) c.check_read_one-next.ensures))
 
-pub input::check_reads-returns : goal.input::check_reads-returns
-input::check_reads-returns t c =
+pub input::check_read-returns : goal.input::check_read-returns
+input::check_read-returns t c =
     c.loop-desig.invariant ∙ ap (onward_stmts (stmts_in c.loop-desig.kept)) (stmts.reads_end (scene_of c.args.env.now c.args.place) c.loop-desig.slot c.loop-desig.desig-index c.args.more.now c.loop-desig-test.false)
     ∙ onward_end parts.append_stmts ir.no_stmts (stmts_in c.loop-desig.kept) c.loop-desig.slot stmts.stmts_last
 
-pub input::check_item_tail-loop-item-preserved : goal.input::check_item_tail-loop-item-preserved
-input::check_item_tail-loop-item-preserved t c =
-    c.loop-item.invariant ∙ ap (onward_stmts (stmts_in c.loop-item.kept)) (stmts.items_next (scene_of c.args.env.now c.args.place) c.loop-item.slot c.loop-item.item-index c.args.more.now c.item-item.result c.loop-item-test.true c.item-item.is)
-    ∙ c.in_ok-kept.ensures _ _ (λ m. walk.judge_item_tail (scene_of c.args.env.now c.args.place) m (view.exprs_of (drop (c.loop-item.item-index + 1) c.args.more.now))) c.check_item-next.ensures
+pub input::check_items-loop-item-preserved : goal.input::check_items-loop-item-preserved
+input::check_items-loop-item-preserved t c =
+    c.loop-item.invariant ∙ ap (onward_stmts (stmts_in c.loop-item.kept)) (stmts.items_next (scene_of c.args.env.now c.args.place) c.loop-item.slot c.loop-item.item-index (dx.out-Exprs c.args.items.now).more.items c.item-item.result (rw c.deref-item-items.ensures.value at c.loop-item-test.true) (rw c.deref-item-items.ensures.value at c.item-item.is))
+    ∙ c.in_ok-kept-2.ensures _ _ (λ m. walk.judge_item_tail (scene_of c.args.env.now c.args.place) m (view.exprs_of (drop (c.loop-item.item-index + 1) (dx.out-Exprs c.args.items.now).more.items))) c.check_item-next.ensures
 
-pub input::check_item_tail-returns-in_err-kept : goal.input::check_item_tail-returns-in_err-kept
-input::check_item_tail-returns-in_err-kept t c =
-    passed _ stmts_of _ _ _ c.from_residual.ensures.1
-    (stops_as _ _ _ (c.loop-item.invariant ∙ ap (onward_stmts (stmts_in c.loop-item.kept)) (stmts.items_next (scene_of c.args.env.now c.args.place) c.loop-item.slot c.loop-item.item-index c.args.more.now c.item-item.result c.loop-item-test.true c.item-item.is)) (c.in_err-kept.ensures _ _ (λ m. walk.judge_item_tail (scene_of c.args.env.now c.args.place) m (view.exprs_of (drop (c.loop-item.item-index + 1) c.args.more.now))) c.check_item-next.ensures))
+pub input::check_items-returns-in_err-kept-2 : goal.input::check_items-returns-in_err-kept-2
+input::check_items-returns-in_err-kept-2 t c =
+    passed _ stmts_of _ _ _ c.from_residual-in_err-kept-2.ensures.1
+    (stops_as _ _ _ (c.loop-item.invariant ∙ ap (onward_stmts (stmts_in c.loop-item.kept)) (stmts.items_next (scene_of c.args.env.now c.args.place) c.loop-item.slot c.loop-item.item-index (dx.out-Exprs c.args.items.now).more.items c.item-item.result (rw c.deref-item-items.ensures.value at c.loop-item-test.true) (rw c.deref-item-items.ensures.value at c.item-item.is))) (c.in_err-kept-2.ensures _ _ (λ m. walk.judge_item_tail (scene_of c.args.env.now c.args.place) m (view.exprs_of (drop (c.loop-item.item-index + 1) (dx.out-Exprs c.args.items.now).more.items))) c.check_item-next.ensures))
 
-pub input::check_item_tail-returns : goal.input::check_item_tail-returns
-input::check_item_tail-returns t c =
-    c.loop-item.invariant ∙ ap (onward_stmts (stmts_in c.loop-item.kept)) (stmts.items_end (scene_of c.args.env.now c.args.place) c.loop-item.slot c.loop-item.item-index c.args.more.now c.loop-item-test.false)
+pub input::check_items-returns : goal.input::check_items-returns
+input::check_items-returns t c =
+    c.loop-item.invariant ∙ ap (onward_stmts (stmts_in c.loop-item.kept)) (stmts.items_end (scene_of c.args.env.now c.args.place) c.loop-item.slot c.loop-item.item-index (dx.out-Exprs c.args.items.now).more.items (rw c.deref-item-items.ensures.value at c.loop-item-test.false))
     ∙ onward_end parts.append_stmts ir.no_stmts (stmts_in c.loop-item.kept) c.loop-item.slot stmts.stmts_last
 
 pub branch::check_elsifs-loop-elsif-preserved : goal.branch::check_elsifs-loop-elsif-preserved
@@ -415,15 +412,11 @@ choice::check_orelses-returns t c =
 pub sequence::check_assign-returns-in_err-located : goal.sequence::check_assign-returns-in_err-located
 sequence::check_assign-returns-in_err-located t c =
     passed _ stmts_of _ _ _ c.from_residual.ensures.1
-    (stmts.assign_stops (scene_of c.args.env.now c.args.place) c.args.slot.now c.args.node (view.view_desig c.args.target.now) (view.view_expr c.args.value.now) _ c.in_err-located.ensures)
+    (stmts.assign_stops (scene_of c.args.env.now c.args.place) c.args.slot.now c.args.node (view.view_desig c.args.target.now) (view.view_expr c.args.value.now) _ (c.in_err-located.ensures (walk.judge_desig (scene_of c.args.env.now c.args.place) c.args.slot.now rules.as_variable (view.view_desig c.args.target.now)) _ c.check_desig-found.ensures))
 
 pub sequence::check_assign-returns : goal.sequence::check_assign-returns
 sequence::check_assign-returns t c =
-    stmts.assign_fine (scene_of c.args.env.now c.args.place) c.args.slot.now c.args.node (view.view_desig c.args.target.now) (view.view_expr c.args.value.now) stmts_of _ _ _ _ c.in_ok-located.ensures (c.join_assign.ensures _ c.check_place.new.slot _ c.check_expr-typed.ensures)
-
-pub sequence::check_place-returns : goal.sequence::check_place-returns
-sequence::check_place-returns t c =
-    c.join_place.ensures (walk.judge_desig (scene_of c.args.env.now c.args.place) c.args.slot.now rules.as_variable (view.view_desig c.args.desig.now)) _ c.check_desig-found.ensures
+    stmts.assign_fine (scene_of c.args.env.now c.args.place) c.args.slot.now c.args.node (view.view_desig c.args.target.now) (view.view_expr c.args.value.now) stmts_of _ _ _ _ (c.in_ok-located.ensures (walk.judge_desig (scene_of c.args.env.now c.args.place) c.args.slot.now rules.as_variable (view.view_desig c.args.target.now)) _ c.check_desig-found.ensures) (c.join_assign.ensures _ c.check_desig-found.new.slot _ c.check_expr-typed.ensures)
 
 pub sequence::check_condition-returns : goal.sequence::check_condition-returns
 sequence::check_condition-returns t c =
@@ -519,45 +512,37 @@ input::check_return-returns-in-Some t c =
 
 pub input::check_read_one-returns : goal.input::check_read_one-returns
 input::check_read_one-returns t c =
-    c.join_read.ensures _ _ c.check_place-located.ensures
+    c.join_read.ensures _ _ (c.join_place-located.ensures (walk.judge_desig (scene_of c.args.env.now c.args.place) c.args.slot.now rules.as_variable (view.view_desig c.args.desig.now)) _ c.check_desig-found.ensures)
 
-pub input::check_read-returns-in_err-first : goal.input::check_read-returns-in_err-first
-input::check_read-returns-in_err-first t c =
+pub input::check_read-returns-in_err-kept : goal.input::check_read-returns-in_err-kept
+input::check_read-returns-in_err-kept t c =
     passed _ stmts_of _ _ _ c.from_residual.ensures.1
-    (stmts.read_stops (scene_of c.args.env.now c.args.place) c.args.slot.now c.args.node (view.view_desig c.args.first.now) (view.desigs_of c.args.more.now) _ c.in_err-first.ensures)
+    (stmts.read_stops (scene_of c.args.env.now c.args.place) c.args.slot.now c.args.node (view.view_desig c.args.first.now) (view.desigs_of c.args.more.now) _ c.in_err-kept.ensures)
 
-pub input::check_read-returns : goal.input::check_read-returns
-input::check_read-returns t c =
-    answers_as _ _ stmts_of _ _ (stmts.read_fine (scene_of c.args.env.now c.args.place) c.args.slot.now c.args.node (view.view_desig c.args.first.now) (view.desigs_of c.args.more.now) _ _ c.in_ok-first.ensures) c.check_reads.ensures
+pub input::check_read-loop-desig-init : goal.input::check_read-loop-desig-init
+input::check_read-loop-desig-init t c =
+    stmts.read_fine (scene_of c.args.env.now c.args.place) c.args.slot.now c.args.node (view.view_desig c.args.first.now) (view.desigs_of c.args.more.now) _ _ c.in_ok-kept.ensures
 
-pub input::check_write-returns : goal.input::check_write-returns
-input::check_write-returns t c =
-    rw (stmts.write_is (scene_of c.args.env.now c.args.place) c.args.slot.now c.args.node (view.view_exprs c.args.items.now)) c.check_items.ensures
-
-pub input::check_items-returns-in_err-first : goal.input::check_items-returns-in_err-first
-input::check_items-returns-in_err-first t c =
+pub input::check_items-returns-in_err-kept : goal.input::check_items-returns-in_err-kept
+input::check_items-returns-in_err-kept t c =
     passed _ stmts_of _ _ _ c.from_residual.ensures.1
-    (stmts.items_stops (scene_of c.args.env.now c.args.place) c.args.slot.now c.args.items.now _ (rw c.deref.ensures at c.in_err-first.ensures))
+    (stmts.items_stops (scene_of c.args.env.now c.args.place) c.args.slot.now c.args.items.now _ (rw c.deref.ensures at c.in_err-kept.ensures))
 
-pub input::check_items-returns : goal.input::check_items-returns
-input::check_items-returns t c =
-    answers_as _ _ stmts_of _ _ (stmts.items_fine (scene_of c.args.env.now c.args.place) c.args.slot.now c.args.items.now _ _ (rw c.deref.ensures at c.in_ok-first.ensures)) (rw c.deref-2.ensures.value at c.check_item_tail.ensures)
+pub input::check_items-loop-item-init : goal.input::check_items-loop-item-init
+input::check_items-loop-item-init t c =
+    stmts.items_fine (scene_of c.args.env.now c.args.place) c.args.slot.now c.args.items.now _ _ (rw c.deref.ensures at c.in_ok-kept.ensures)
 
 pub input::check_writeln-returns-in-None : goal.input::check_writeln-returns-in-None
 input::check_writeln-returns-in-None t c =
     rw (c.in-None.is, stmts.writeln_is (scene_of c.args.env.now c.args.place) c.args.slot.now c.args.node tree.no_args) (c.join_line.ensures _ c.args.slot.now (stmts.line_none (scene_of c.args.env.now c.args.place) c.args.slot.now ∙ ap (of_value c.args.slot.now) (sym c.nothing.ensures)))
 
-pub input::check_writeln-returns-in-Some : goal.input::check_writeln-returns-in-Some
-input::check_writeln-returns-in-Some t c =
-    rw (c.in-Some.is, stmts.writeln_is (scene_of c.args.env.now c.args.place) c.args.slot.now c.args.node _) (c.join_line-in-Some.ensures _ _ c.check_line_items-stmts.ensures)
+pub input::check_writeln-returns-in-None-in-Some : goal.input::check_writeln-returns-in-None-in-Some
+input::check_writeln-returns-in-None-in-Some t c =
+    rw (c.in-Some.is, c.in-None-in-Some.is, stmts.writeln_is (scene_of c.args.env.now c.args.place) c.args.slot.now c.args.node _) (c.join_line-in-None-in-Some.ensures _ c.args.slot.now (stmts.line_empty (scene_of c.args.env.now c.args.place) c.args.slot.now ∙ ap (of_value c.args.slot.now) (sym c.nothing-in-None-in-Some.ensures)))
 
-pub input::check_line_items-returns-in-None : goal.input::check_line_items-returns-in-None
-input::check_line_items-returns-in-None t c =
-    rw (c.in-None.is, stmts.line_empty (scene_of c.args.env.now c.args.place) c.args.slot.now) (ap (of_value c.args.slot.now) (sym c.nothing.ensures))
-
-pub input::check_line_items-returns-in-Some : goal.input::check_line_items-returns-in-Some
-input::check_line_items-returns-in-Some t c =
-    rw (c.in-Some.is, stmts.line_some (scene_of c.args.env.now c.args.place) c.args.slot.now (view.view_exprs c.in-Some.values)) c.check_items.ensures
+pub input::check_writeln-returns-in-Some-in-Some : goal.input::check_writeln-returns-in-Some-in-Some
+input::check_writeln-returns-in-Some-in-Some t c =
+    rw (c.in-Some.is, c.in-Some-in-Some.is, stmts.writeln_is (scene_of c.args.env.now c.args.place) c.args.slot.now c.args.node _) (c.join_line-in-Some-in-Some.ensures _ _ (answers_as _ _ stmts_of _ _ (stmts.line_some (scene_of c.args.env.now c.args.place) c.args.slot.now (view.view_exprs c.in-Some-in-Some.values)) c.check_items-stmts.ensures))
 
 pub turns::check_by-returns-in-None : goal.turns::check_by-returns-in-None
 turns::check_by-returns-in-None t c =
@@ -576,32 +561,30 @@ call::check_arguments-returns-in_err-kept t c =
     (c.in_err-kept.ensures (calls.argument (scene_of c.args.env.now c.args.place) c.args.slot.now (option_map formal_view c.formal_of-formal.result) (dx.out-Exprs c.args.values.now).first.value) _
     (λ m. walk.judge_argument_tail (scene_of c.args.env.now c.args.place) m (drop 1 (nodes.formals_of (callee_in (headings_in c.args.env.now) c.args.callee))) (view.exprs_of (dx.out-Exprs c.args.values.now).more.items)) (rw c.deref.ensures at c.check_argument-first.ensures)))
 
-pub call::check_arguments-returns : goal.call::check_arguments-returns
-call::check_arguments-returns t c =
-    answers_as _ _ args_of _ _
-    (calls.arguments_begin (scene_of c.args.env.now c.args.place) c.args.slot.now (nodes.formals_of (callee_in (headings_in c.args.env.now) c.args.callee)) c.args.values.now (option_map formal_view c.formal_of-formal.result) (args_in (Some c.new.result)) c.formal_of-formal.ensures (ap (λ l. Some (args_list l)) c.new.ensures.items)
+pub call::check_arguments-loop-value-init : goal.call::check_arguments-loop-value-init
+call::check_arguments-loop-value-init t c =
+    (refl, calls.arguments_begin (scene_of c.args.env.now c.args.place) c.args.slot.now (nodes.formals_of (callee_in (headings_in c.args.env.now) c.args.callee)) c.args.values.now (option_map formal_view c.formal_of-formal.result) (args_in (Some c.new.result)) c.formal_of-formal.ensures (ap (λ l. Some (args_list l)) c.new.ensures.items)
     ∙ c.in_ok-kept.ensures (calls.argument (scene_of c.args.env.now c.args.place) c.args.slot.now (option_map formal_view c.formal_of-formal.result) (dx.out-Exprs c.args.values.now).first.value) _
     (λ m. walk.judge_argument_tail (scene_of c.args.env.now c.args.place) m (drop 1 (nodes.formals_of (callee_in (headings_in c.args.env.now) c.args.callee))) (view.exprs_of (dx.out-Exprs c.args.values.now).more.items)) (rw c.deref.ensures at c.check_argument-first.ensures))
-    (rw c.deref-2.ensures.value at c.check_argument_tail.ensures)
 
-pub call::check_argument_tail-loop-value-preserved : goal.call::check_argument_tail-loop-value-preserved
-call::check_argument_tail-loop-value-preserved t c = (
+pub call::check_arguments-loop-value-preserved : goal.call::check_arguments-loop-value-preserved
+call::check_arguments-loop-value-preserved t c = (
   omega arith,
-  c.loop-value.invariant.1 ∙ ap (onward_args (args_in c.loop-value.kept)) (calls.arguments_turn (scene_of c.args.env.now c.args.place) c.loop-value.slot c.loop-value.value-index (nodes.formals_of (callee_in (headings_in c.args.env.now) c.args.callee)) c.args.more.now c.value-item.result (option_map formal_view c.formal_of-formal.result) c.loop-value-test.true c.value-item.is (c.formal_of-formal.ensures ∙ ap (λ i. slice_get (nodes.formals_of (callee_in (headings_in c.args.env.now) c.args.callee)) (i + 1)) c.loop-value.invariant.0))
-      ∙ c.in_ok-kept.ensures (calls.argument (scene_of c.args.env.now c.args.place) c.loop-value.slot (option_map formal_view c.formal_of-formal.result) c.value-item.result) _
-      (λ m. walk.judge_argument_tail (scene_of c.args.env.now c.args.place) m (drop (c.loop-value.value-index + 1 + 1) (nodes.formals_of (callee_in (headings_in c.args.env.now) c.args.callee))) (view.exprs_of (drop (c.loop-value.value-index + 1) c.args.more.now))) c.check_argument-arg.ensures,
+  c.loop-value.invariant.1 ∙ ap (onward_args (args_in c.loop-value.kept)) (calls.arguments_turn (scene_of c.args.env.now c.args.place) c.loop-value.slot c.loop-value.value-index (nodes.formals_of (callee_in (headings_in c.args.env.now) c.args.callee)) (dx.out-Exprs c.args.values.now).more.items c.value-item.result (option_map formal_view c.formal_of-formal-in-loop-value.result) (rw c.deref-value-items.ensures.value at c.loop-value-test.true) (rw c.deref-value-items.ensures.value at c.value-item.is) (c.formal_of-formal-in-loop-value.ensures ∙ ap (λ i. slice_get (nodes.formals_of (callee_in (headings_in c.args.env.now) c.args.callee)) (i + 1)) c.loop-value.invariant.0))
+      ∙ c.in_ok-kept-2.ensures (calls.argument (scene_of c.args.env.now c.args.place) c.loop-value.slot (option_map formal_view c.formal_of-formal-in-loop-value.result) c.value-item.result) _
+      (λ m. walk.judge_argument_tail (scene_of c.args.env.now c.args.place) m (drop (c.loop-value.value-index + 1 + 1) (nodes.formals_of (callee_in (headings_in c.args.env.now) c.args.callee))) (view.exprs_of (drop (c.loop-value.value-index + 1) (dx.out-Exprs c.args.values.now).more.items))) c.check_argument-arg.ensures,
 )
 
-pub call::check_argument_tail-returns-in_err-kept : goal.call::check_argument_tail-returns-in_err-kept
-call::check_argument_tail-returns-in_err-kept t c =
-    passed _ args_of _ _ _ c.from_residual.ensures.1
-    (stops_as _ _ _ (c.loop-value.invariant.1 ∙ ap (onward_args (args_in c.loop-value.kept)) (calls.arguments_turn (scene_of c.args.env.now c.args.place) c.loop-value.slot c.loop-value.value-index (nodes.formals_of (callee_in (headings_in c.args.env.now) c.args.callee)) c.args.more.now c.value-item.result (option_map formal_view c.formal_of-formal.result) c.loop-value-test.true c.value-item.is (c.formal_of-formal.ensures ∙ ap (λ i. slice_get (nodes.formals_of (callee_in (headings_in c.args.env.now) c.args.callee)) (i + 1)) c.loop-value.invariant.0)))
-    (c.in_err-kept.ensures (calls.argument (scene_of c.args.env.now c.args.place) c.loop-value.slot (option_map formal_view c.formal_of-formal.result) c.value-item.result) _
-    (λ m. walk.judge_argument_tail (scene_of c.args.env.now c.args.place) m (drop (c.loop-value.value-index + 1 + 1) (nodes.formals_of (callee_in (headings_in c.args.env.now) c.args.callee))) (view.exprs_of (drop (c.loop-value.value-index + 1) c.args.more.now))) c.check_argument-arg.ensures))
+pub call::check_arguments-returns-in_err-kept-2 : goal.call::check_arguments-returns-in_err-kept-2
+call::check_arguments-returns-in_err-kept-2 t c =
+    passed _ args_of _ _ _ c.from_residual-in_err-kept-2.ensures.1
+    (stops_as _ _ _ (c.loop-value.invariant.1 ∙ ap (onward_args (args_in c.loop-value.kept)) (calls.arguments_turn (scene_of c.args.env.now c.args.place) c.loop-value.slot c.loop-value.value-index (nodes.formals_of (callee_in (headings_in c.args.env.now) c.args.callee)) (dx.out-Exprs c.args.values.now).more.items c.value-item.result (option_map formal_view c.formal_of-formal-in-loop-value.result) (rw c.deref-value-items.ensures.value at c.loop-value-test.true) (rw c.deref-value-items.ensures.value at c.value-item.is) (c.formal_of-formal-in-loop-value.ensures ∙ ap (λ i. slice_get (nodes.formals_of (callee_in (headings_in c.args.env.now) c.args.callee)) (i + 1)) c.loop-value.invariant.0)))
+    (c.in_err-kept-2.ensures (calls.argument (scene_of c.args.env.now c.args.place) c.loop-value.slot (option_map formal_view c.formal_of-formal-in-loop-value.result) c.value-item.result) _
+    (λ m. walk.judge_argument_tail (scene_of c.args.env.now c.args.place) m (drop (c.loop-value.value-index + 1 + 1) (nodes.formals_of (callee_in (headings_in c.args.env.now) c.args.callee))) (view.exprs_of (drop (c.loop-value.value-index + 1) (dx.out-Exprs c.args.values.now).more.items))) c.check_argument-arg.ensures))
 
-pub call::check_argument_tail-returns : goal.call::check_argument_tail-returns
-call::check_argument_tail-returns t c =
-    c.loop-value.invariant.1 ∙ ap (onward_args (args_in c.loop-value.kept)) (exprs.arguments_end (scene_of c.args.env.now c.args.place) c.loop-value.slot c.loop-value.value-index _ c.args.more.now c.loop-value-test.false)
+pub call::check_arguments-returns : goal.call::check_arguments-returns
+call::check_arguments-returns t c =
+    c.loop-value.invariant.1 ∙ ap (onward_args (args_in c.loop-value.kept)) (exprs.arguments_end (scene_of c.args.env.now c.args.place) c.loop-value.slot c.loop-value.value-index _ (dx.out-Exprs c.args.values.now).more.items (rw c.deref-value-items.ensures.value at c.loop-value-test.false))
     ∙ onward_end append_args ir.no_args (args_in c.loop-value.kept) c.loop-value.slot args_last
 
 pub call::check_argument-returns-in_err-kind : goal.call::check_argument-returns-in_err-kind
@@ -626,82 +609,52 @@ input::check_item-returns-in-Some t c =
 
 -- ---- FOR and SOME
 
+pub turns::check_head-returns-in_err-start-clause-judged : goal.turns::check_head-returns-in_err-start-clause-judged
+turns::check_head-returns-in_err-start-clause-judged t c =
+    loops.head_passed c.args.env.now c.args.place c.args.slot.now c.args.variable.now (view.view_expr c.args.from.now) (view.view_expr c.args.to.now) _ _ _ c.from_residual.ensures.1 (loops.start_stops c.args.env.now c.args.place c.args.slot.now c.args.variable.now (view.view_expr c.args.from.now) (view.view_expr c.args.to.now) _ c.in_err-start.ensures.started)
+
+pub turns::check_head-returns-in_err-low-clause-judged : goal.turns::check_head-returns-in_err-low-clause-judged
+turns::check_head-returns-in_err-low-clause-judged t c =
+    loops.head_passed c.args.env.now c.args.place c.args.slot.now c.args.variable.now (view.view_expr c.args.from.now) (view.view_expr c.args.to.now) _ _ _ c.from_residual-in_err-low.ensures.1
+    (loops.low_stops c.args.env.now c.args.place c.args.slot.now c.args.variable.now (view.view_expr c.args.from.now) (view.view_expr c.args.to.now) c.in_ok-start.start _ c.in_ok-start.ensures.started _ c.in_err-low.ensures)
+
+pub turns::check_head-returns : goal.turns::check_head-returns
+turns::check_head-returns t c =
+    let head = c.join_head.ensures (walk.judge_expr (scene_of c.args.env.now c.args.place) c.check_expr.new.slot (view.view_expr c.args.to.now)) _ c.check_expr-high.ensures in
+    record {
+      judged = loops.headed c.args.env.now c.args.place c.args.slot.now c.args.variable.now (view.view_expr c.args.from.now) (view.view_expr c.args.to.now) c.in_ok-start.start _ c.in_ok-start.ensures.started c.check_expr.new.slot _ _ _ c.in_ok-low.ensures head;
+      limit = loops.head_limit c.in_ok-start.start _ (walk.judge_expr (scene_of c.args.env.now c.args.place) c.check_expr.new.slot (view.view_expr c.args.to.now)) _ _ head c.in_ok-start.ensures.limit;
+    }
+
 pub turns::check_for-join_for-requires : goal.turns::check_for-join_for-requires
-turns::check_for-join_for-requires t c = record { limit = c.in_ok-counter.ensures.limit }
+turns::check_for-join_for-requires t c = record { limit = c.in_ok-head.ensures.limit }
 
-pub turns::check_for-returns-in_err-counter : goal.turns::check_for-returns-in_err-counter
-turns::check_for-returns-in_err-counter t c =
-    passed _ stmts_of _ _ _ c.from_residual.ensures.1 (rw c.in_err-counter.ensures.taken tt)
-
-pub turns::check_for-returns-in_err-found : goal.turns::check_for-returns-in_err-found
-turns::check_for-returns-in_err-found t c =
-    passed _ stmts_of _ _ _ c.from_residual-in_err-found.ensures.1
-    (turns.for_name_stops (scene_of c.args.env.now c.args.place) c.args.slot.now c.args.node (view.view_name c.args.variable.now) (view.view_expr c.args.from.now) (view.view_expr c.args.to.now) (view.by_of c.args.by.now) (view.view_stmts c.args.body.now) _
-    (loops.variable_stops c.args.env.now c.args.place c.args.slot.now c.args.node c.args.variable.now _ c.in_err-found.ensures))
-
-pub turns::check_for-returns-in_err-low : goal.turns::check_for-returns-in_err-low
-turns::check_for-returns-in_err-low t c =
-    passed _ stmts_of _ _ _ c.from_residual-in_err-low.ensures.1
-    (loops.for_low_stops c.args.env.now c.args.place c.args.slot.now c.args.node c.args.variable.now (view.view_expr c.args.from.now) (view.view_expr c.args.to.now) (view.by_of c.args.by.now) (view.view_stmts c.args.body.now)
-    c.in_ok-found.found c.take_slots.new.slot _ c.in_ok-counter.ensures.taken.1 (loops.variable_is c.args.env.now c.args.place c.args.slot.now c.args.node c.args.variable.now c.in_ok-found.found c.in_ok-found.ensures.0 c.in_ok-found.ensures.1) c.in_err-low.ensures)
-
-pub turns::check_for-returns-in_err-bounds : goal.turns::check_for-returns-in_err-bounds
-turns::check_for-returns-in_err-bounds t c =
-    passed _ stmts_of _ _ _ c.from_residual-in_err-bounds.ensures.1
-    (loops.for_high_stops c.args.env.now c.args.place c.args.slot.now c.args.node c.args.variable.now (view.view_expr c.args.from.now) (view.view_expr c.args.to.now) (view.by_of c.args.by.now) (view.view_stmts c.args.body.now)
-    c.in_ok-found.found c.take_slots.new.slot _ _ _ c.in_ok-counter.ensures.taken.1 (loops.variable_is c.args.env.now c.args.place c.args.slot.now c.args.node c.args.variable.now c.in_ok-found.found c.in_ok-found.ensures.0 c.in_ok-found.ensures.1) c.in_ok-low.ensures
-    (c.in_err-bounds.ensures (walk.judge_expr (scene_of c.args.env.now c.args.place) c.check_expr.new.slot (view.view_expr c.args.to.now)) _ c.check_expr-high.ensures))
+pub turns::check_for-returns-in_err-head : goal.turns::check_for-returns-in_err-head
+turns::check_for-returns-in_err-head t c =
+    passed _ stmts_of _ _ _ c.from_residual.ensures.1 (loops.for_head_stops c.args.env.now c.args.place c.args.slot.now c.args.node c.args.variable.now (view.view_expr c.args.from.now) (view.view_expr c.args.to.now) (view.by_of c.args.by.now) (view.view_stmts c.args.body.now) _ c.in_err-head.ensures.judged)
 
 pub turns::check_for-returns-in_err-turns : goal.turns::check_for-returns-in_err-turns
 turns::check_for-returns-in_err-turns t c =
-    let b = c.in_ok-bounds.ensures (walk.judge_expr (scene_of c.args.env.now c.args.place) c.check_expr.new.slot (view.view_expr c.args.to.now)) c.check_expr-high.new.slot c.check_expr-high.ensures in
     passed _ stmts_of _ _ _ c.from_residual-in_err-turns.ensures.1
-    (loops.for_by_stops c.args.env.now c.args.place c.args.slot.now c.args.node c.args.variable.now (view.view_expr c.args.from.now) (view.view_expr c.args.to.now) (view.by_of c.args.by.now) (view.view_stmts c.args.body.now)
-    c.in_ok-found.found c.take_slots.new.slot _ _ _ c.in_ok-bounds.bounds _ c.in_ok-counter.ensures.taken.1 (loops.variable_is c.args.env.now c.args.place c.args.slot.now c.args.node c.args.variable.now c.in_ok-found.found c.in_ok-found.ensures.0 c.in_ok-found.ensures.1) c.in_ok-low.ensures b.1
-    (c.in_err-turns.ensures (walk.judge_by (scene_of c.args.env.now c.args.place) c.check_expr-high.new.slot (view.by_of c.args.by.now)) _ c.check_by-step.ensures))
+    (loops.for_by_stops c.args.env.now c.args.place c.args.slot.now c.args.node c.args.variable.now (view.view_expr c.args.from.now) (view.view_expr c.args.to.now) (view.by_of c.args.by.now) (view.view_stmts c.args.body.now) _ c.in_ok-head.head c.in_ok-head.ensures.judged _ (c.in_err-turns.ensures (walk.judge_by (scene_of c.args.env.now c.args.place) c.check_head.new.slot (view.by_of c.args.by.now)) _ c.check_by-step.ensures))
 
 pub turns::check_for-returns : goal.turns::check_for-returns
 turns::check_for-returns t c =
-    let b = c.in_ok-bounds.ensures (walk.judge_expr (scene_of c.args.env.now c.args.place) c.check_expr.new.slot (view.view_expr c.args.to.now)) c.check_expr-high.new.slot c.check_expr-high.ensures in
-    let y = c.in_ok-turns.ensures (walk.judge_by (scene_of c.args.env.now c.args.place) c.check_expr-high.new.slot (view.by_of c.args.by.now)) c.check_by-step.new.slot c.check_by-step.ensures in
-    loops.for_joined c.args.env.now c.args.place c.args.slot.now c.args.node c.args.variable.now (view.view_expr c.args.from.now) (view.view_expr c.args.to.now) (view.by_of c.args.by.now) (view.view_stmts c.args.body.now)
-    c.in_ok-found.found c.in_ok-counter.counter c.take_slots.new.slot c.check_expr.new.slot c.check_expr-high.new.slot c.check_by-step.new.slot _ _ c.in_ok-bounds.bounds c.in_ok-turns.turns _
-    c.in_ok-counter.ensures.taken.0 c.in_ok-counter.ensures.taken.1 (loops.variable_is c.args.env.now c.args.place c.args.slot.now c.args.node c.args.variable.now c.in_ok-found.found c.in_ok-found.ensures.0 c.in_ok-found.ensures.1) c.in_ok-low.ensures b.0 b.1 y.0 y.1 y.2
-    (c.join_for.ensures (walk.judge_stmts (scene_of c.args.env.now c.args.place) c.check_by-step.new.slot (view.view_stmts c.args.body.now)) c.args.slot.now c.check_expr.new.slot c.check_expr-high.new.slot c.check_by-step.new.slot _ c.check_stmts-body.ensures)
+    let y = c.in_ok-turns.ensures (walk.judge_by (scene_of c.args.env.now c.args.place) c.check_head.new.slot (view.by_of c.args.by.now)) c.check_by-step.new.slot c.check_by-step.ensures in
+    loops.for_joined c.args.env.now c.args.place c.args.slot.now c.args.node c.args.variable.now (view.view_expr c.args.from.now) (view.view_expr c.args.to.now) (view.by_of c.args.by.now) (view.view_stmts c.args.body.now) c.check_head.new.slot c.in_ok-head.head c.in_ok-head.ensures.judged c.in_ok-turns.turns c.check_by-step.new.slot _ _ y.0 y.1 y.2
+    (c.join_for.ensures (walk.judge_stmts (scene_of c.args.env.now c.args.place) c.check_by-step.new.slot (view.view_stmts c.args.body.now)) c.args.slot.now (walk.judge_expr (scene_of c.args.env.now c.args.place) (c.args.slot.now + 2) (view.view_expr c.args.from.now)).next c.check_head.new.slot c.check_by-step.new.slot _ c.check_stmts-body.ensures)
 
 pub turns::check_some-join_some-requires : goal.turns::check_some-join_some-requires
-turns::check_some-join_some-requires t c = record { limit = c.in_ok-counter.ensures.limit }
+turns::check_some-join_some-requires t c = record { limit = c.in_ok-head.ensures.limit }
 
-pub turns::check_some-returns-in_err-counter : goal.turns::check_some-returns-in_err-counter
-turns::check_some-returns-in_err-counter t c =
-    passed _ stmts_of _ _ _ c.from_residual.ensures.1 (rw c.in_err-counter.ensures.taken tt)
-
-pub turns::check_some-returns-in_err-found : goal.turns::check_some-returns-in_err-found
-turns::check_some-returns-in_err-found t c =
-    passed _ stmts_of _ _ _ c.from_residual-in_err-found.ensures.1
-    (turns.some_name_stops (scene_of c.args.env.now c.args.place) c.args.slot.now c.args.node (view.view_name c.args.variable.now) (view.view_expr c.args.from.now) (view.view_expr c.args.to.now) (view.view_stmts c.args.body.now) _
-    (loops.variable_stops c.args.env.now c.args.place c.args.slot.now c.args.node c.args.variable.now _ c.in_err-found.ensures))
-
-pub turns::check_some-returns-in_err-low : goal.turns::check_some-returns-in_err-low
-turns::check_some-returns-in_err-low t c =
-    passed _ stmts_of _ _ _ c.from_residual-in_err-low.ensures.1
-    (loops.some_low_stops c.args.env.now c.args.place c.args.slot.now c.args.node c.args.variable.now (view.view_expr c.args.from.now) (view.view_expr c.args.to.now) (view.view_stmts c.args.body.now)
-    c.in_ok-found.found c.take_slots.new.slot _ c.in_ok-counter.ensures.taken.1 (loops.variable_is c.args.env.now c.args.place c.args.slot.now c.args.node c.args.variable.now c.in_ok-found.found c.in_ok-found.ensures.0 c.in_ok-found.ensures.1) c.in_err-low.ensures)
-
-pub turns::check_some-returns-in_err-bounds : goal.turns::check_some-returns-in_err-bounds
-turns::check_some-returns-in_err-bounds t c =
-    passed _ stmts_of _ _ _ c.from_residual-in_err-bounds.ensures.1
-    (loops.some_high_stops c.args.env.now c.args.place c.args.slot.now c.args.node c.args.variable.now (view.view_expr c.args.from.now) (view.view_expr c.args.to.now) (view.view_stmts c.args.body.now)
-    c.in_ok-found.found c.take_slots.new.slot _ _ _ c.in_ok-counter.ensures.taken.1 (loops.variable_is c.args.env.now c.args.place c.args.slot.now c.args.node c.args.variable.now c.in_ok-found.found c.in_ok-found.ensures.0 c.in_ok-found.ensures.1) c.in_ok-low.ensures
-    (c.in_err-bounds.ensures (walk.judge_expr (scene_of c.args.env.now c.args.place) c.check_expr.new.slot (view.view_expr c.args.to.now)) _ c.check_expr-high.ensures))
+pub turns::check_some-returns-in_err-head : goal.turns::check_some-returns-in_err-head
+turns::check_some-returns-in_err-head t c =
+    passed _ stmts_of _ _ _ c.from_residual.ensures.1 (loops.some_head_stops c.args.env.now c.args.place c.args.slot.now c.args.node c.args.variable.now (view.view_expr c.args.from.now) (view.view_expr c.args.to.now) (view.view_stmts c.args.body.now) _ c.in_err-head.ensures.judged)
 
 pub turns::check_some-returns : goal.turns::check_some-returns
 turns::check_some-returns t c =
-    let b = c.in_ok-bounds.ensures (walk.judge_expr (scene_of c.args.env.now c.args.place) c.check_expr.new.slot (view.view_expr c.args.to.now)) c.check_expr-high.new.slot c.check_expr-high.ensures in
-    loops.some_joined c.args.env.now c.args.place c.args.slot.now c.args.node c.args.variable.now (view.view_expr c.args.from.now) (view.view_expr c.args.to.now) (view.view_stmts c.args.body.now)
-    c.in_ok-found.found c.in_ok-counter.counter c.take_slots.new.slot c.check_expr.new.slot c.check_expr-high.new.slot _ _ c.in_ok-bounds.bounds _
-    c.in_ok-counter.ensures.taken.0 c.in_ok-counter.ensures.taken.1 (loops.variable_is c.args.env.now c.args.place c.args.slot.now c.args.node c.args.variable.now c.in_ok-found.found c.in_ok-found.ensures.0 c.in_ok-found.ensures.1) c.in_ok-low.ensures b.0 b.1
-    (c.join_some.ensures (walk.judge_stmts (scene_of c.args.env.now c.args.place) c.check_expr-high.new.slot (view.view_stmts c.args.body.now)) c.args.slot.now c.check_expr.new.slot c.check_expr-high.new.slot _ c.check_stmts-body.ensures)
+    loops.some_joined c.args.env.now c.args.place c.args.slot.now c.args.node c.args.variable.now (view.view_expr c.args.from.now) (view.view_expr c.args.to.now) (view.view_stmts c.args.body.now) c.check_head.new.slot _ c.in_ok-head.head _ c.in_ok-head.ensures.judged
+    (c.join_some.ensures (walk.judge_stmts (scene_of c.args.env.now c.args.place) c.check_head.new.slot (view.view_stmts c.args.body.now)) c.args.slot.now (walk.judge_expr (scene_of c.args.env.now c.args.place) (c.args.slot.now + 2) (view.view_expr c.args.from.now)).next c.check_head.new.slot _ c.check_stmts-body.ensures)
 
 -- ---- CASE
 

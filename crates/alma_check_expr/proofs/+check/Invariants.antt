@@ -17,6 +17,7 @@ use Rattle.alma_tree.specs.declared.phrase.Args as dg
 use Rattle.alma_tree.specs.declared.phrase.Exprs as dx
 use Rattle.alma_tree.specs.declared.phrase.Desig as dd
 use Rattle.alma_tree.specs.declared.phrase.Selector as dj
+use Rattle.alma_rules.specs.Numbered as tree
 use Rattle.alma_rules.specs.View as view
 use Rattle.alma_rules.specs.Judged.{of_value}
 use Rattle.alma_rules.specs.Nodes as nodes
@@ -54,14 +55,8 @@ decreases-expression::check_primary l = 8 * (dp.size-Primary l.primary.now)
 abbrev pub decreases-call::check_named : goal.decreases-call::check_named
 decreases-call::check_named l = 8 * (max (dd.size-Desig l.desig.now) (shapes.weighed-Primary-Desig-2.weight _ dg.size-Args l.args.now)) + 3
 
-abbrev pub decreases-call::check_call : goal.decreases-call::check_call
-decreases-call::check_call l = 8 * (max (dd.size-Desig l.desig.now) (shapes.weighed-Args-values.weight _ dx.size-Exprs l.values.now)) + 2
-
 abbrev pub decreases-call::check_arguments : goal.decreases-call::check_arguments
 decreases-call::check_arguments l = 8 * (dx.size-Exprs l.values.now) + 1
-
-abbrev pub decreases-call::check_argument_tail : goal.decreases-call::check_argument_tail
-decreases-call::check_argument_tail l = 8 * (most de.size-Expr l.more.now) + 2
 
 abbrev pub decreases-call::check_argument : goal.decreases-call::check_argument
 decreases-call::check_argument l = 8 * (de.size-Expr l.value.now) + 1
@@ -90,17 +85,11 @@ decreases-designator::check_index l = 8 * (de.size-Expr l.index.now) + 1
 abbrev pub decreases-sequence::check_stmts : goal.decreases-sequence::check_stmts
 decreases-sequence::check_stmts l = 8 * (ds.size-Stmts l.stmts.now)
 
-abbrev pub decreases-sequence::check_more : goal.decreases-sequence::check_more
-decreases-sequence::check_more l = 8 * (most dt.size-Stmt l.more.now) + 1
-
 abbrev pub decreases-sequence::check_stmt : goal.decreases-sequence::check_stmt
 decreases-sequence::check_stmt l = 8 * (dt.size-Stmt l.stmt.now)
 
 abbrev pub decreases-sequence::check_assign : goal.decreases-sequence::check_assign
 decreases-sequence::check_assign l = 8 * (max (dd.size-Desig l.target.now) (de.size-Expr l.value.now)) + 3
-
-abbrev pub decreases-sequence::check_place : goal.decreases-sequence::check_place
-decreases-sequence::check_place l = 8 * (dd.size-Desig l.desig.now) + 1
 
 abbrev pub decreases-sequence::check_condition : goal.decreases-sequence::check_condition
 decreases-sequence::check_condition l = 8 * (de.size-Expr l.test.now) + 1
@@ -125,6 +114,9 @@ decreases-branch::check_while l = 8 * (max (de.size-Expr l.test.now) (ds.size-St
 
 abbrev pub decreases-branch::check_repeat : goal.decreases-branch::check_repeat
 decreases-branch::check_repeat l = 8 * (max (ds.size-Stmts l.body.now) (de.size-Expr l.test.now)) + 3
+
+abbrev pub decreases-turns::check_head : goal.decreases-turns::check_head
+decreases-turns::check_head l = 8 * (max (de.size-Expr l.from.now) (de.size-Expr l.to.now)) + 2
 
 abbrev pub decreases-turns::check_for : goal.decreases-turns::check_for
 decreases-turns::check_for l = 8 * (max (de.size-Expr l.from.now) (max (de.size-Expr l.to.now) (max (shapes.weighed-Stmt-For-4.weight _ de.size-Expr l.by.now) (ds.size-Stmts l.body.now)))) + 3
@@ -171,29 +163,17 @@ decreases-input::check_return l = 8 * (shapes.weighed-Stmt-For-4.weight _ de.siz
 abbrev pub decreases-input::check_read : goal.decreases-input::check_read
 decreases-input::check_read l = 8 * (max (dd.size-Desig l.first.now) (most dd.size-Desig l.more.now)) + 4
 
-abbrev pub decreases-input::check_reads : goal.decreases-input::check_reads
-decreases-input::check_reads l = 8 * (most dd.size-Desig l.more.now) + 3
-
 abbrev pub decreases-input::check_read_one : goal.decreases-input::check_read_one
 decreases-input::check_read_one l = 8 * (dd.size-Desig l.desig.now) + 2
 
-abbrev pub decreases-input::check_write : goal.decreases-input::check_write
-decreases-input::check_write l = 8 * (dx.size-Exprs l.items.now) + 3
-
 abbrev pub decreases-input::check_items : goal.decreases-input::check_items
 decreases-input::check_items l = 8 * (dx.size-Exprs l.items.now) + 2
-
-abbrev pub decreases-input::check_item_tail : goal.decreases-input::check_item_tail
-decreases-input::check_item_tail l = 8 * (most de.size-Expr l.more.now) + 2
 
 abbrev pub decreases-input::check_item : goal.decreases-input::check_item
 decreases-input::check_item l = 8 * (de.size-Expr l.item.now) + 1
 
 abbrev pub decreases-input::check_writeln : goal.decreases-input::check_writeln
 decreases-input::check_writeln l = 8 * (shapes.weighed-Primary-Desig-2.weight _ dg.size-Args l.items.now) + 5
-
-abbrev pub decreases-input::check_line_items : goal.decreases-input::check_line_items
-decreases-input::check_line_items l = 8 * (shapes.weighed-Args-values.weight _ dx.size-Exprs l.values.now) + 4
 
 -- ---- loops: what is judged so far, in front of what is left to judge, is the whole
 
@@ -205,9 +185,10 @@ abbrev pub invariant-expression::check_factors-loop-link : goal.invariant-expres
 invariant-expression::check_factors-loop-link l =
     walk.judge_factors (scene_of l.env l.place) l.fn.slot l.sort (view.factors_of l.more) ≡ onward_operands (operands_in l.kept) (walk.judge_factors (scene_of l.env l.place) l.slot l.sort (view.factors_of (drop l.link-index l.more)))
 
-abbrev pub invariant-sequence::check_more-loop-stmt : goal.invariant-sequence::check_more-loop-stmt
-invariant-sequence::check_more-loop-stmt l =
-    onward_stmts (stmts_in l.fn.kept) (walk.judge_stmt_tail (scene_of l.env l.place) l.fn.slot (view.stmts_of l.more)) ≡ onward_stmts (stmts_in l.kept) (walk.judge_stmt_tail (scene_of l.env l.place) l.slot (view.stmts_of (drop l.stmt-index l.more)))
+abbrev pub invariant-sequence::check_stmts-loop-stmt : goal.invariant-sequence::check_stmts-loop-stmt
+invariant-sequence::check_stmts-loop-stmt l =
+    walk.judge_stmts (scene_of l.env l.place) l.fn.slot (view.view_stmts l.stmts)
+    ≡ onward_stmts (stmts_in l.kept) (walk.judge_stmt_tail (scene_of l.env l.place) l.slot (view.stmts_of (drop l.stmt-index l.stmts.more.items)))
 
 abbrev pub invariant-branch::check_elsifs-loop-elsif : goal.invariant-branch::check_elsifs-loop-elsif
 invariant-branch::check_elsifs-loop-elsif l =
@@ -217,18 +198,20 @@ abbrev pub invariant-choice::check_orelses-loop-body : goal.invariant-choice::ch
 invariant-choice::check_orelses-loop-body l =
     onward_branches (branches_in l.fn.kept) (walk.judge_orelses (scene_of l.env l.place) l.fn.slot (view.orelses_of l.more)) ≡ onward_branches (branches_in l.kept) (walk.judge_orelses (scene_of l.env l.place) l.slot (view.orelses_of (drop l.body-index l.more)))
 
-abbrev pub invariant-input::check_reads-loop-desig : goal.invariant-input::check_reads-loop-desig
-invariant-input::check_reads-loop-desig l =
-    onward_stmts (stmts_in l.fn.kept) (walk.judge_reads (scene_of l.env l.place) l.fn.slot (view.desigs_of l.more)) ≡ onward_stmts (stmts_in l.kept) (walk.judge_reads (scene_of l.env l.place) l.slot (view.desigs_of (drop l.desig-index l.more)))
+abbrev pub invariant-input::check_read-loop-desig : goal.invariant-input::check_read-loop-desig
+invariant-input::check_read-loop-desig l =
+    walk.judge_stmt (scene_of l.env l.place) l.fn.slot (tree.read_stmt l.node (view.view_desig l.first) (view.desigs_of l.more))
+    ≡ onward_stmts (stmts_in l.kept) (walk.judge_reads (scene_of l.env l.place) l.slot (view.desigs_of (drop l.desig-index l.more)))
 
-abbrev pub invariant-input::check_item_tail-loop-item : goal.invariant-input::check_item_tail-loop-item
-invariant-input::check_item_tail-loop-item l =
-    onward_stmts (stmts_in l.fn.kept) (walk.judge_item_tail (scene_of l.env l.place) l.fn.slot (view.exprs_of l.more)) ≡ onward_stmts (stmts_in l.kept) (walk.judge_item_tail (scene_of l.env l.place) l.slot (view.exprs_of (drop l.item-index l.more)))
+abbrev pub invariant-input::check_items-loop-item : goal.invariant-input::check_items-loop-item
+invariant-input::check_items-loop-item l =
+    walk.judge_items (scene_of l.env l.place) l.fn.slot (view.view_exprs l.items)
+    ≡ onward_stmts (stmts_in l.kept) (walk.judge_item_tail (scene_of l.env l.place) l.slot (view.exprs_of (drop l.item-index (dx.out-Exprs l.items).more.items)))
 
-abbrev pub invariant-call::check_argument_tail-loop-value : goal.invariant-call::check_argument_tail-loop-value
-invariant-call::check_argument_tail-loop-value l =
-    (l.index ≡ l.value-index) × (onward_args (args_in l.fn.kept) (walk.judge_argument_tail (scene_of l.env l.place) l.fn.slot (drop 1 (nodes.formals_of (callee_in (headings_in l.env) l.callee))) (view.exprs_of l.more))
-    ≡ onward_args (args_in l.kept) (walk.judge_argument_tail (scene_of l.env l.place) l.slot (drop (l.value-index + 1) (nodes.formals_of (callee_in (headings_in l.env) l.callee))) (view.exprs_of (drop l.value-index l.more))))
+abbrev pub invariant-call::check_arguments-loop-value : goal.invariant-call::check_arguments-loop-value
+invariant-call::check_arguments-loop-value l =
+    (l.index ≡ l.value-index) × (walk.judge_arguments (scene_of l.env l.place) l.fn.slot (nodes.formals_of (callee_in (headings_in l.env) l.callee)) (view.view_exprs l.values)
+    ≡ onward_args (args_in l.kept) (walk.judge_argument_tail (scene_of l.env l.place) l.slot (drop (l.value-index + 1) (nodes.formals_of (callee_in (headings_in l.env) l.callee))) (view.exprs_of (drop l.value-index (dx.out-Exprs l.values).more.items))))
 
 abbrev pub invariant-designator::check_selectors-loop-selector : goal.invariant-designator::check_selectors-loop-selector
 invariant-designator::check_selectors-loop-selector l =

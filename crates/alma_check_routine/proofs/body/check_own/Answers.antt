@@ -1,6 +1,6 @@
 use Rattle.alma_rules.specs.Modules as modules
 use Rattle.alma_rules.specs.View as view
-use Rattle.alma_check_routine.specs.Framed.{frame_in}
+use Rattle.alma_check_routine.specs.Inner.Framed.{frame_in}
 use Rattle.alma_check_routine.proofs.Own.{own_answers}
 use Rattle.alma_check_routine.proofs.body.check_own.Goals as goal
 

@@ -7,9 +7,9 @@ use Rattle.alma_rules.specs.View as view
 use Rattle.alma_rules.specs.Decls as frames
 use Rattle.alma_rules.specs.Modules as modules
 use Rattle.alma_check_reader.specs.Told.{fault_of}
-use Rattle.alma_check_gathered.specs.Gathered.{Stage, through_decl, AreReady}
-use Rattle.alma_check_gathered.specs.Shown.{stand, routines_in}
-use Rattle.alma_check_routine.specs.Framed.{frame_in}
+use Rattle.alma_check_gathered.specs.Inner.Gathered.{Stage, through_decl, AreReady}
+use Rattle.alma_check_gathered.specs.Inner.Shown.{stand, routines_in}
+use Rattle.alma_check_routine.specs.Inner.Framed.{frame_in}
 use Rattle.alma_check_routine.proofs.Gathering.{decls_first, through_const, through_type, through_var}
 use Rattle.alma_check_routine.proofs.Routines.{procedure_is, inside_ready, block_ready, declared_ready, first_of, rest_of, decls_next, decls_end, declared_by, is_open, procedure_by}
 use Rattle.alma_check_routine.proofs.Headings.{inner_frame}

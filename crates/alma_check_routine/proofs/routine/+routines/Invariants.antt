@@ -3,8 +3,8 @@ use denote.Param.Weighed.{most}
 use Rattle.alma_tree.specs.declared.module.Block as db
 use Rattle.alma_tree.specs.declared.module.Decl as dh
 use Rattle.alma_rules.specs.View as view
-use Rattle.alma_check_gathered.specs.Gathered.{through_decls, AreReady}
-use Rattle.alma_check_gathered.specs.Shown.{stand}
+use Rattle.alma_check_gathered.specs.Inner.Gathered.{through_decls, AreReady}
+use Rattle.alma_check_gathered.specs.Inner.Shown.{stand}
 use Rattle.alma_check_routine.proofs.routine.+routines.Given as goal
 
 -- ---- measures: four times the depth, and one more where a block is passed on as it is

@@ -1,6 +1,6 @@
 use Rattle.std.proofs.Common.{ap, ◌∙◌}
-use Rattle.alma_check_gathered.specs.Gathered.{with_fault}
-use Rattle.alma_check_gathered.specs.Shown.{stand}
+use Rattle.alma_check_gathered.specs.Inner.Gathered.{with_fault}
+use Rattle.alma_check_gathered.specs.Inner.Shown.{stand}
 use Rattle.alma_check_routine.proofs.routine.check_end.Goals as goal
 
 pub returns : goal.returns

@@ -1,6 +1,6 @@
 use Rattle.std.proofs.Common.{[], ◌∷◌, ◌++◌, sym, ◌∙◌}
 use Rattle.alma_rules.specs.View.{view_name}
-use Rattle.alma_check_type.specs.Fields.{Knows, told_fields}
+use Rattle.alma_check_type.specs.Inner.Fields.{Knows, told_fields}
 use Rattle.alma_check_type.proofs.FieldSteps.{field_by_twice, field_by_once}
 use Rattle.alma_check_type.proofs.field.add_field.Goals as goal
 

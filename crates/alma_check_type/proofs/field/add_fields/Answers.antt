@@ -2,7 +2,7 @@ use Rattle.std.proofs.Common.{get_or}
 use Rattle.std.proofs.lemmas.List.{get_or_default}
 use Rattle.alma_tree.specs.declared.leaf.Name.{Name}
 use Rattle.alma_rules.specs.View.{names_of}
-use Rattle.alma_check_type.specs.Fields.{told_fields}
+use Rattle.alma_check_type.specs.Inner.Fields.{told_fields}
 use Rattle.alma_check_type.proofs.FieldSteps.{goes_begin, goes_next, goes_stop}
 use Rattle.alma_check_type.proofs.field.add_fields.Goals as goal
 

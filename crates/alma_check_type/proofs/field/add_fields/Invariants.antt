@@ -1,7 +1,7 @@
 use Rattle.std.proofs.Common.{List, drop}
 use Rattle.alma_rules.specs.Numbered as tree
 use Rattle.alma_rules.specs.View.{names_of}
-use Rattle.alma_check_type.specs.Fields as spec
+use Rattle.alma_check_type.specs.Inner.Fields as spec
 use Rattle.alma_check_type.proofs.FieldSteps.{Goes}
 use Rattle.alma_check_type.proofs.field.add_fields.Given as goal
 

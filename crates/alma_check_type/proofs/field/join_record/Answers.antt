@@ -1,7 +1,7 @@
 use Rattle.std.proofs.Common.{◌≡◌}
 use Rattle.alma_check_reader.specs.Told.{fault_of}
-use Rattle.alma_check_type.specs.Tables.{fields_view}
-use Rattle.alma_check_type.specs.Fields.{told_fields, told_list}
+use Rattle.alma_check_type.specs.Inner.Tables.{fields_view}
+use Rattle.alma_check_type.specs.Inner.Fields.{told_fields, told_list}
 use Rattle.alma_check_type.proofs.FieldSteps.{opened, record_bad, record_fine}
 use Rattle.alma_check_type.proofs.field.join_record.Goals as goal
 

@@ -5,7 +5,7 @@ use Rattle.alma_ir.specs.View.{routine_of}
 use Rattle.alma_rules.specs.Scene.{Scene}
 use Rattle.alma_check_reader.specs.Told.{fault_of}
 use Rattle.alma_check_gathered.specs.declared.checked.Checked.{Checked}
-use Rattle.alma_check_gathered.specs.Gathered.{Stage, stage}
+use Rattle.alma_check_gathered.specs.Inner.Gathered.{Stage, stage}
 
 -- the routines, where none is Bad
 abbrev pub unless_bad : Bool → List ir.Routine → Option (List ir.Routine)

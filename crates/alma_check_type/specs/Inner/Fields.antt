@@ -11,7 +11,7 @@ use Rattle.alma_rules.specs.Scene.{Scene, text_of}
 use Rattle.alma_rules.specs.Types.{Formed, record_of}
 use Rattle.alma_check_type.specs.declared.field.Fields.{Fields}
 use Rattle.alma_check_reader.specs.Told.{Told, fault_of, earlier, onward, told_change}
-use Rattle.alma_check_type.specs.Tables.{fields_view}
+use Rattle.alma_check_type.specs.Inner.Tables.{fields_view}
 
 -- the text of a token
 abbrev pub text_in : List Lexeme → ℕ → List ℕ

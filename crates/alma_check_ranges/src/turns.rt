@@ -1,0 +1,80 @@
+// FOR and SOME. A part is None where a name in use there is Bad, and then so is the whole.
+ghost use Rattle.std.specs.Prelude.{◌≡◌, ◌+◌, ◌<◌, ◌^◌, option_map, IfOk};
+ghost use Rattle.alma_ir.specs.Tree as ir;
+ghost use Rattle.alma_rules.specs.Judged.{both_of};
+ghost use Rattle.alma_rules.specs.Parts as parts;
+ghost use Rattle.alma_rules.specs.Nodes as nodes;
+ghost use Rattle.alma_check_rules.specs.Views.{scene_of, typing_in, located_in, stmts_in, somewhere};
+ghost use Rattle.alma_check_build.specs.Lists.{loop_in};
+
+use alma_check_build::{as_value, desig};
+use alma_check_form::single;
+use alma_check_rules::{Env, Located, Typed};
+use alma_ir::{Loop, Stmt};
+use std::alloc::{AllocError, Global};
+
+/// What FOR and SOME share; the hidden slots are the first and the one behind it.
+pub fn loop_of(
+    alloc: Global,
+    env: &Env,
+    counter: u32,
+    variable: Option<Located>,
+    low: Option<Typed>,
+    high: Option<Typed>,
+    by: Option<i64>,
+    body: Option<Vec<Stmt>>,
+) -> Result<Option<Loop>, AllocError>
+    requires limit { counter + 1 < 2 ^ 32 }
+    ensures { IfOk result (λ l. loop_in l ≡ option_map (nodes.loop_of
+        (scene_of env.now somewhere) counter) (both_of (located_in variable)
+        (both_of (typing_in low) (both_of (typing_in high) (both_of by (stmts_in body)))))) }
+{
+    let Some(variable) = variable else {
+        return Ok(None);
+    };
+    let Some(low) = low else {
+        return Ok(None);
+    };
+    let Some(high) = high else {
+        return Ok(None);
+    };
+    let Some(by) = by else {
+        return Ok(None);
+    };
+    let Some(body) = body else {
+        return Ok(None);
+    };
+    let range = env.range(variable.shape);
+    Ok(Some(Loop {
+        var: desig(variable),
+        range,
+        counter,
+        limit: counter + 1,
+        from: as_value(alloc, low.meaning)?,
+        to: as_value(alloc, high.meaning)?,
+        by,
+        body,
+    }))
+}
+
+/// FOR.
+pub fn for_stmt(alloc: Global, turns: Option<Loop>) -> Result<Option<Vec<Stmt>>, AllocError>
+    ensures { IfOk result (λ v. stmts_in v ≡ option_map parts.one_stmt
+        (option_map ir.ForTo (loop_in turns))) }
+{
+    match turns {
+        None => Ok(None),
+        Some(turns) => Ok(Some(single(alloc, Stmt::ForTo(turns))?)),
+    }
+}
+
+/// SOME.
+pub fn some_stmt(alloc: Global, turns: Option<Loop>) -> Result<Option<Vec<Stmt>>, AllocError>
+    ensures { IfOk result (λ v. stmts_in v ≡ option_map parts.one_stmt
+        (option_map ir.SomeOf (loop_in turns))) }
+{
+    match turns {
+        None => Ok(None),
+        Some(turns) => Ok(Some(single(alloc, Stmt::SomeOf(turns))?)),
+    }
+}
