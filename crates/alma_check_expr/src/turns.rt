@@ -113,5 +113,13 @@ pub fn check_some(
 {
     let head = check_head(alloc, env, place, slot, variable, from, to)?;
     let body = check_stmts(alloc, env, place, slot, body);
-    join_some(alloc, env, head.counter, node, head.found, head.bounds, body)
+    join_some(
+        alloc,
+        env,
+        head.counter,
+        node,
+        head.found,
+        head.bounds,
+        body,
+    )
 }

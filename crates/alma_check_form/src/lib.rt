@@ -7,6 +7,6 @@ mod statement;
 
 pub use list::with_part;
 pub use statement::{
-    assigned, bare_return, commit_stmt, condition, either_stmt, forall_stmt, guarded, if_stmt, joined, line, nothing,
-    read, repeat_stmt, returned, single, test_stmt, text, while_stmt, write,
+    assigned, bare_return, commit_stmt, condition, either_stmt, forall_stmt, guarded, if_stmt,
+    joined, line, nothing, read, repeat_stmt, returned, single, test_stmt, text, while_stmt, write,
 };

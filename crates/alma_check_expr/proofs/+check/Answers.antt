@@ -562,10 +562,12 @@ call::check_arguments-returns-in_err-kept t c =
     (λ m. walk.judge_argument_tail (scene_of c.args.env.now c.args.place) m (drop 1 (nodes.formals_of (callee_in (headings_in c.args.env.now) c.args.callee))) (view.exprs_of (dx.out-Exprs c.args.values.now).more.items)) (rw c.deref.ensures at c.check_argument-first.ensures)))
 
 pub call::check_arguments-loop-value-init : goal.call::check_arguments-loop-value-init
-call::check_arguments-loop-value-init t c =
-    (refl, calls.arguments_begin (scene_of c.args.env.now c.args.place) c.args.slot.now (nodes.formals_of (callee_in (headings_in c.args.env.now) c.args.callee)) c.args.values.now (option_map formal_view c.formal_of-formal.result) (args_in (Some c.new.result)) c.formal_of-formal.ensures (ap (λ l. Some (args_list l)) c.new.ensures.items)
-    ∙ c.in_ok-kept.ensures (calls.argument (scene_of c.args.env.now c.args.place) c.args.slot.now (option_map formal_view c.formal_of-formal.result) (dx.out-Exprs c.args.values.now).first.value) _
-    (λ m. walk.judge_argument_tail (scene_of c.args.env.now c.args.place) m (drop 1 (nodes.formals_of (callee_in (headings_in c.args.env.now) c.args.callee))) (view.exprs_of (dx.out-Exprs c.args.values.now).more.items)) (rw c.deref.ensures at c.check_argument-first.ensures))
+call::check_arguments-loop-value-init t c = (
+  refl,
+  calls.arguments_begin (scene_of c.args.env.now c.args.place) c.args.slot.now (nodes.formals_of (callee_in (headings_in c.args.env.now) c.args.callee)) c.args.values.now (option_map formal_view c.formal_of-formal.result) (args_in (Some c.new.result)) c.formal_of-formal.ensures (ap (λ l. Some (args_list l)) c.new.ensures.items)
+      ∙ c.in_ok-kept.ensures (calls.argument (scene_of c.args.env.now c.args.place) c.args.slot.now (option_map formal_view c.formal_of-formal.result) (dx.out-Exprs c.args.values.now).first.value) _
+      (λ m. walk.judge_argument_tail (scene_of c.args.env.now c.args.place) m (drop 1 (nodes.formals_of (callee_in (headings_in c.args.env.now) c.args.callee))) (view.exprs_of (dx.out-Exprs c.args.values.now).more.items)) (rw c.deref.ensures at c.check_argument-first.ensures),
+)
 
 pub call::check_arguments-loop-value-preserved : goal.call::check_arguments-loop-value-preserved
 call::check_arguments-loop-value-preserved t c = (
