@@ -1,5 +1,5 @@
 -- FOR and SOME, by what the code knows of their parts.
-use Rattle.std.proofs.Common.{◌≡◌, ℕ, ◌+◌, ◌<◌, ◌^◌, List, [], ◌∷◌, ◌++◌, Option, None, Vec, Global, Result, Ok, Err, refl, sym, ap, ◌∙◌}
+use Rattle.std.proofs.Common.{◌≡◌, ℕ, ◌+◌, ◌<◌, ◌^◌, List, [], ◌∷◌, ◌++◌, Option, None, Vec, Global, Result, Ok, Err, refl, sym, subst, ap, ◌∙◌}
 use Rattle.std.specs.Prelude.{pos, option_and_then, IfOk}
 use Rattle.std.specs.Result.{IsErrAnd}
 use Rattle.alma_tree.specs.declared.leaf.Name.{Name}
@@ -32,9 +32,16 @@ use Rattle.alma_walk_steps.proofs.Same.{found_same}
 whole_of : {A : Type 0} (j : Judged A) → j.faults ≡ [] → j ≡ of_value j.next j.value
 whole_of j h = ap (λ fs. judged fs j.next j.value) h
 
+-- nothing is broken in front
+stops_behind : (xs ys : List Broken) (x : Stop) → xs ≡ [] → Stops ys x → Stops (xs ++ ys) x
+stops_behind xs ys x none h = rw none h
+
+none_of : {A : Type 0} (j : Judged A) (i : ℕ) (v : Option A) → j ≡ of_value i v → j.faults ≡ []
+none_of j i v h = ap (λ (k : Judged _). k.faults) h
+
 -- it goes on at the same slot, with a value by another name
 as_next : {A : Type 0} (j : Judged A) (i : ℕ) (v w : Option A) → j ≡ of_value i v → w ≡ v → j ≡ of_value j.next w
-as_next j i v w h is = whole_of j (ap (λ (k : Judged _). k.faults) h) ∙ ap (of_value j.next) (ap (λ (k : Judged _). k.value) h ∙ sym is)
+as_next j i v w h is = whole_of j (none_of j i v h) ∙ ap (of_value j.next) (ap (λ (k : Judged _). k.value) h ∙ sym is)
 
 -- the first of two lists that is not empty stops
 first_of : (xs ys : List Broken) (x : Stop) (P : Type 0) → (Stops xs x → P) → (xs ≡ [] → Stops ys x → P) → Stops (xs ++ ys) x → P
@@ -71,7 +78,8 @@ module _ (e : Env) (p : Place) (n : ℕ) (name : Name) where
       -- the first bound breaks a rule
       pub low_stops : (x : Stop) → Stops (walk.judge_expr (scene_of e p) first low).faults x → Stops (head_faults (scene_of e p) n (view_name name) low high) x
       low_stops x h =
-          rw (variable_is s started.2.0 started.2.1) (stops_more (walk.judge_expr (scene_of e p) (n + 2) low).faults _ x (rw started.1 at h))
+          stops_behind (nodes.loop_variable (scene_of e p) n (view_name name)).faults _ x (none_of _ _ _ (variable_is s started.2 started.3))
+          (stops_more (walk.judge_expr (scene_of e p) (n + 2) low).faults _ x (rw started.1 at h))
 
       -- behind the second bound
       pub headed : (i next : ℕ) (start : Option parts.Typing) (r : Result Head Stop) → walk.judge_expr (scene_of e p) first low ≡ of_value i start
@@ -80,12 +88,15 @@ module _ (e : Env) (p : Place) (n : ℕ) (name : Name) where
           let there = rw started.1 at is in
           record {
             counter = t.0 ∙ started.0;
-            variable = variable_is s started.2.0 started.2.1 ∙ ap (λ f. of_value n (variable_of e f)) (sym t.1);
-            low = as_next (walk.judge_expr (scene_of e p) (n + 2) low) i start (typing_in h.bounds.low) there t.2.0;
-            high = ap (λ (j : Judged parts.Typing). walk.judge_expr (scene_of e p) j.next high) there ∙ t.2.1;
+            variable = variable_is s started.2 started.3 ∙ ap (λ f. of_value n (variable_of e f)) (sym t.1);
+            low = as_next (walk.judge_expr (scene_of e p) (n + 2) low) i start (typing_in h.bounds.low) there t.2;
+            high = ap (λ (j : Judged parts.Typing). walk.judge_expr (scene_of e p) j.next high) there ∙ t.3;
           }
       headed i next start (Err x) is t =
-          rw (variable_is s started.2.0 started.2.1, rw started.1 at is) t
+          let there = rw started.1 at is in
+          stops_behind (nodes.loop_variable (scene_of e p) n (view_name name)).faults _ x (none_of _ _ _ (variable_is s started.2 started.3))
+          (stops_behind (walk.judge_expr (scene_of e p) (n + 2) low).faults _ x (none_of _ _ _ there)
+          (subst (λ (j : Judged parts.Typing). Stops (walk.judge_expr (scene_of e p) j.next high).faults x) (sym there) t))
 
 -- the slots of a loop that starts have numbers
 pub head_limit : (s : Start) (low : Option parts.Typing) (j : Judged parts.Typing) (m : ℕ) (r : Result Head Stop) → HeadOf s low j m r → s.counter + 1 < 2 ^ 32 → IfOk r (λ h. h.counter + 1 < 2 ^ 32)
