@@ -233,13 +233,13 @@ call::check_named-returns-in_err-callee-in-Some t c =
     passed _ typing_of _ _ _ c.from_residual.ensures.1
     (rw c.in-Some.is (exprs.call_stops (scene_of c.args.env.now c.args.place) c.args.slot.now c.args.node (view.view_desig c.args.desig.now) (dg.out-Args c.in-Some.args).values _ (c.in_err-callee-in-Some.ensures _ _ c.check_desig-found-in-Some.ensures)))
 
-pub call::check_named-returns-in-None-in-Some : goal.call::check_named-returns-in-None-in-Some
-call::check_named-returns-in-None-in-Some t c =
-    rw (c.in-Some.is, c.in-None-in-Some.is, exprs.call_none (scene_of c.args.env.now c.args.place) c.args.slot.now c.args.node _ (view.view_desig c.args.desig.now) (callee_in (headings_in c.args.env.now) c.in_ok-callee-in-Some.callee) (c.in_ok-callee-in-Some.ensures (walk.judge_desig (scene_of c.args.env.now c.args.place) c.args.slot.now rules.as_procedure (view.view_desig c.args.desig.now)) _ c.check_desig-found-in-Some.ensures)) (c.join_call.ensures (fine c.check_desig-found-in-Some.new.slot ir.no_args) c.check_desig-found-in-Some.new.slot c.check_desig-found-in-Some.new.slot (ap (λ a. of_value c.check_desig-found-in-Some.new.slot (Some (args_list a))) (sym c.new.ensures.items)))
+pub call::check_named-returns-in-None-values : goal.call::check_named-returns-in-None-values
+call::check_named-returns-in-None-values t c =
+    rw (c.in-Some.is, c.in-None-values.is, exprs.call_none (scene_of c.args.env.now c.args.place) c.args.slot.now c.args.node _ (view.view_desig c.args.desig.now) (callee_in (headings_in c.args.env.now) c.in_ok-callee-in-Some.callee) (c.in_ok-callee-in-Some.ensures (walk.judge_desig (scene_of c.args.env.now c.args.place) c.args.slot.now rules.as_procedure (view.view_desig c.args.desig.now)) _ c.check_desig-found-in-Some.ensures)) (c.join_call.ensures (fine c.check_desig-found-in-Some.new.slot ir.no_args) c.check_desig-found-in-Some.new.slot c.check_desig-found-in-Some.new.slot (ap (λ a. of_value c.check_desig-found-in-Some.new.slot (Some (args_list a))) (sym c.new.ensures.items)))
 
-pub call::check_named-returns-in-Some-in-Some : goal.call::check_named-returns-in-Some-in-Some
-call::check_named-returns-in-Some-in-Some t c =
-    rw (c.in-Some.is, c.in-Some-in-Some.is, exprs.call_some (scene_of c.args.env.now c.args.place) c.args.slot.now c.args.node _ (view.view_desig c.args.desig.now) (view.view_exprs c.in-Some-in-Some.values) (callee_in (headings_in c.args.env.now) c.in_ok-callee-in-Some.callee) (c.in_ok-callee-in-Some.ensures (walk.judge_desig (scene_of c.args.env.now c.args.place) c.args.slot.now rules.as_procedure (view.view_desig c.args.desig.now)) _ c.check_desig-found-in-Some.ensures), calls.count_at (scene_of c.args.env.now c.args.place) c.in-Some-in-Some.values, length_is (dx.out-Exprs c.in-Some-in-Some.values).more ∙ sym c.len.ensures) (c.join_call-in-Some.ensures (walk.judge_arguments (scene_of c.args.env.now c.args.place) c.check_desig-found-in-Some.new.slot (nodes.formals_of (callee_in (headings_in c.args.env.now) c.in_ok-callee-in-Some.callee)) (view.view_exprs c.in-Some-in-Some.values)) c.check_desig-found-in-Some.new.slot c.check_arguments-args.new.slot c.check_arguments-args.ensures)
+pub call::check_named-returns-in-Some-values : goal.call::check_named-returns-in-Some-values
+call::check_named-returns-in-Some-values t c =
+    rw (c.in-Some.is, c.in-Some-values.is, exprs.call_some (scene_of c.args.env.now c.args.place) c.args.slot.now c.args.node _ (view.view_desig c.args.desig.now) (view.view_exprs c.in-Some-values.values) (callee_in (headings_in c.args.env.now) c.in_ok-callee-in-Some.callee) (c.in_ok-callee-in-Some.ensures (walk.judge_desig (scene_of c.args.env.now c.args.place) c.args.slot.now rules.as_procedure (view.view_desig c.args.desig.now)) _ c.check_desig-found-in-Some.ensures), calls.count_at (scene_of c.args.env.now c.args.place) c.in-Some-values.values, length_is (dx.out-Exprs c.in-Some-values.values).more ∙ sym c.len.ensures) (c.join_call-in-Some-values.ensures (walk.judge_arguments (scene_of c.args.env.now c.args.place) c.check_desig-found-in-Some.new.slot (nodes.formals_of (callee_in (headings_in c.args.env.now) c.in_ok-callee-in-Some.callee)) (view.view_exprs c.in-Some-values.values)) c.check_desig-found-in-Some.new.slot c.check_arguments-args.new.slot c.check_arguments-args.ensures)
 
 -- ---- Parens
 
@@ -536,13 +536,13 @@ pub input::check_writeln-returns-in-None : goal.input::check_writeln-returns-in-
 input::check_writeln-returns-in-None t c =
     rw (c.in-None.is, stmts.writeln_is (scene_of c.args.env.now c.args.place) c.args.slot.now c.args.node tree.no_args) (c.join_line.ensures _ c.args.slot.now (stmts.line_none (scene_of c.args.env.now c.args.place) c.args.slot.now ∙ ap (of_value c.args.slot.now) (sym c.nothing.ensures)))
 
-pub input::check_writeln-returns-in-None-in-Some : goal.input::check_writeln-returns-in-None-in-Some
-input::check_writeln-returns-in-None-in-Some t c =
-    rw (c.in-Some.is, c.in-None-in-Some.is, stmts.writeln_is (scene_of c.args.env.now c.args.place) c.args.slot.now c.args.node _) (c.join_line-in-None-in-Some.ensures _ c.args.slot.now (stmts.line_empty (scene_of c.args.env.now c.args.place) c.args.slot.now ∙ ap (of_value c.args.slot.now) (sym c.nothing-in-None-in-Some.ensures)))
+pub input::check_writeln-returns-in-None-values : goal.input::check_writeln-returns-in-None-values
+input::check_writeln-returns-in-None-values t c =
+    rw (c.in-Some.is, c.in-None-values.is, stmts.writeln_is (scene_of c.args.env.now c.args.place) c.args.slot.now c.args.node _) (c.join_line-in-None-values.ensures _ c.args.slot.now (stmts.line_empty (scene_of c.args.env.now c.args.place) c.args.slot.now ∙ ap (of_value c.args.slot.now) (sym c.nothing-in-None-values.ensures)))
 
-pub input::check_writeln-returns-in-Some-in-Some : goal.input::check_writeln-returns-in-Some-in-Some
-input::check_writeln-returns-in-Some-in-Some t c =
-    rw (c.in-Some.is, c.in-Some-in-Some.is, stmts.writeln_is (scene_of c.args.env.now c.args.place) c.args.slot.now c.args.node _) (c.join_line-in-Some-in-Some.ensures _ _ (answers_as _ _ stmts_of _ _ (stmts.line_some (scene_of c.args.env.now c.args.place) c.args.slot.now (view.view_exprs c.in-Some-in-Some.values)) c.check_items-stmts.ensures))
+pub input::check_writeln-returns-in-Some-values : goal.input::check_writeln-returns-in-Some-values
+input::check_writeln-returns-in-Some-values t c =
+    rw (c.in-Some.is, c.in-Some-values.is, stmts.writeln_is (scene_of c.args.env.now c.args.place) c.args.slot.now c.args.node _) (c.join_line-in-Some-values.ensures _ _ (answers_as _ _ stmts_of _ _ (stmts.line_some (scene_of c.args.env.now c.args.place) c.args.slot.now (view.view_exprs c.in-Some-values.values)) c.check_items-stmts.ensures))
 
 pub turns::check_by-returns-in-None : goal.turns::check_by-returns-in-None
 turns::check_by-returns-in-None t c =
