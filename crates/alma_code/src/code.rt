@@ -6,7 +6,7 @@ use crate::instr::Instr;
 use alma_base::Range;
 
 /// A routine of a code. Its instructions begin where those of the routine before end, or at 0, and end before `code_end`.
-#[derive(Debug, Drop)]
+#[derive(Drop)]
 pub struct RoutineHead {
     pub name: Vec<u8>,
     pub slots: u32,
@@ -54,7 +54,7 @@ impl Head for RoutineHead {
 }
 
 /// A variable of the module, as a tool shows it.
-#[derive(Debug, Drop)]
+#[derive(Drop)]
 pub struct CodeGlobal {
     pub name: Vec<u8>,
     pub slot: u32,
@@ -69,7 +69,7 @@ pub struct Line {
 }
 
 /// A code. Instructions name routines, ranges and texts by their places here, and one another by address.
-#[derive(Debug, Drop)]
+#[derive(Drop)]
 pub struct Code {
     /// Of the format: 1, or 2 for a code that may have links and lines.
     pub version: u16,

@@ -1,7 +1,7 @@
 // The instructions, in the order of their opcodes from 1 on.
 
 /// An instruction. Slots are those of the top frame; ranges, texts and routines are numbers in the tables of the code.
-#[derive(Clone, Copy, Debug, PartialEq, Eq)]
+#[derive(Clone, Copy)]
 pub enum Instr {
     Const {
         to: u32,
@@ -209,7 +209,7 @@ pub enum Instr {
 }
 
 /// One word of an instruction, by what it names.
-#[derive(Clone, Copy, Debug, PartialEq, Eq)]
+#[derive(Clone, Copy)]
 pub enum Word {
     /// A number slot.
     Number(u32),

@@ -55,7 +55,7 @@ pub fn simple_stmt<'t, 's>(
         (λ e. Fails e (stmt_form_parts form) depth (position_of at.entry)) }
 {
     let left = tokens_left(at);
-    alma_phrase_values::simple_stmt(
+    alma_phrase_simple::simple_stmt(
         alloc,
         form,
         at,

@@ -13,7 +13,7 @@ use Rattle.alma_phrase_parts.proofs.Made.{made_extends}
 use Rattle.alma_phrase_steps.proofs.Values.{a_stmt, an_expr}
 use Rattle.alma_tree.specs.declared.phrase.Stmt as dt
 use Rattle.alma_phrase_parts.proofs.Fronts.{part, both}
-use Rattle.alma_phrase_values.proofs.statement.assign.Goals as goal
+use Rattle.alma_phrase_simple.proofs.statement.assign.Goals as goal
 
 pub returns-in_err-at : goal.returns-in_err-at
 returns-in_err-at g c = record { read = stopped _ _ _ _ c.from_residual.ensures.1 (first (c.in_err-at.ensures.passes _)) }

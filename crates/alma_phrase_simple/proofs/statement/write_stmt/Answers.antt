@@ -8,7 +8,7 @@ use Rattle.alma_phrase_steps.proofs.Chain.{matching, ended_behind}
 use Rattle.alma_phrase_steps.proofs.Values.{a_stmt, some_exprs}
 use Rattle.alma_tree.specs.declared.phrase.Stmt as dt
 use Rattle.alma_phrase_parts.proofs.Fronts.{part, and_then, whole}
-use Rattle.alma_phrase_values.proofs.statement.write_stmt.Goals as goal
+use Rattle.alma_phrase_simple.proofs.statement.write_stmt.Goals as goal
 
 pub returns-in_err-at : goal.returns-in_err-at
 returns-in_err-at g c = record { read = stopped _ _ _ _ c.from_residual.ensures.1 (first c.in_err-at.ensures.opened) }

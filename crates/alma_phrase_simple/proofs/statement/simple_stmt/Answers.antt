@@ -3,7 +3,7 @@ use Rattle.alma_tree.specs.Spelling.{spell_stmt}
 use Rattle.alma_tree.specs.View.{view_stmt}
 use Rattle.alma_tree.specs.Numbers.{number_stmt}
 use Rattle.alma_cursor.proofs.Steps.{instead_any}
-use Rattle.alma_phrase_values.proofs.statement.simple_stmt.Goals as goal
+use Rattle.alma_phrase_simple.proofs.statement.simple_stmt.Goals as goal
 
 pub returns-in-Nothing : goal.returns-in-Nothing
 returns-in-Nothing g c = record {

@@ -11,7 +11,7 @@ use Rattle.alma_phrase_steps.proofs.Values.{a_stmt}
 use Rattle.alma_phrase_steps.proofs.Values.{more_desigs}
 use Rattle.alma_phrase_steps.proofs.Values.{count_desigs}
 use Rattle.alma_phrase_parts.proofs.Fronts.{part, and_then, whole}
-use Rattle.alma_phrase_values.proofs.statement.read_stmt.Goals as goal
+use Rattle.alma_phrase_simple.proofs.statement.read_stmt.Goals as goal
 
 pub returns-in_err-at : goal.returns-in_err-at
 returns-in_err-at g c = record { read = stopped _ _ _ _ c.from_residual.ensures.1 (first c.in_err-at.ensures.opened) }

@@ -11,7 +11,7 @@ use Rattle.alma_cursor.proofs.Steps.{passed, first}
 use Rattle.alma_phrase_parts.proofs.Stopped.{stopped}
 use Rattle.alma_phrase_steps.proofs.Values.{a_stmt}
 use Rattle.alma_phrase_parts.proofs.Fronts.{part, whole}
-use Rattle.alma_phrase_values.proofs.statement.return_stmt.Goals as goal
+use Rattle.alma_phrase_simple.proofs.statement.return_stmt.Goals as goal
 
 pub returns-in_err-at : goal.returns-in_err-at
 returns-in_err-at g c = record { read = stopped _ _ _ _ c.from_residual.ensures.1 (first (c.in_err-at.ensures.passes _)) }

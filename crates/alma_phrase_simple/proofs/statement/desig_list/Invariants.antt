@@ -5,7 +5,7 @@ use Rattle.alma_tree.specs.Numbers.{numbers_of_desigs}
 use Rattle.alma_grammar.specs.Parts.{desig_tail}
 use Rattle.alma_cursor.specs.Parsing.{position_of}
 use Rattle.alma_cursor.proofs.Loops.{Loops}
-use Rattle.alma_phrase_values.proofs.statement.desig_list.Given as goal
+use Rattle.alma_phrase_simple.proofs.statement.desig_list.Given as goal
 
 abbrev pub invariant-loop-after : goal.invariant-loop-after
 invariant-loop-after g l = Loops (spell_desig_tail (desigs_of l.more.items)) (numbers_of_desigs l.more.items) desig_tail l.depth

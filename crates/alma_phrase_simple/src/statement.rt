@@ -9,12 +9,12 @@ ghost use Rattle.alma_cursor.specs.Forms.{return_parts, read_parts, write_parts,
 ghost use Rattle.alma_phrase_values.specs.Inside.{ReadsStmts};
 ghost use Rattle.alma_cursor.specs.Parsing.{position_of, Reads, Extends, Fails};
 
-use crate::expression::{StmtsRead, args, desig, desig_value, expr, exprs};
 use alma_cursor::{Cursor, Fault, StmtForm, followed_by, numbered};
 use alma_phrase_parts::{
     assign_of, nothing, open_after, present, pushed, read_of, return_of, value_of, write_of,
     writeln_of,
 };
+use alma_phrase_values::{StmtsRead, args, desig, desig_value, expr, exprs};
 use alma_tree::{Desig, Expr, Kind, Stmt};
 use std::alloc::Global;
 

@@ -10,7 +10,7 @@ use Rattle.alma_phrase_steps.proofs.Heads as heads
 use Rattle.alma_phrase_steps.proofs.Lists as lists
 use Rattle.alma_phrase_steps.proofs.Values.{a_desig}
 use Rattle.alma_phrase_parts.proofs.Fronts.{part, both, one_more, no_more}
-use Rattle.alma_phrase_values.proofs.statement.desig_list.Goals as goal
+use Rattle.alma_phrase_simple.proofs.statement.desig_list.Goals as goal
 
 pub loop-after-init : goal.loop-after-init
 loop-after-init g c = rw c.new-more.ensures.items loops.loops_start

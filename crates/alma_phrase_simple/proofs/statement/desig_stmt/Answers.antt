@@ -15,7 +15,7 @@ use Rattle.alma_phrase_steps.proofs.Chain.{ended_extending}
 use Rattle.alma_phrase_steps.proofs.Heads as heads
 use Rattle.alma_phrase_steps.proofs.Values.{a_stmt, an_expr}
 use Rattle.alma_tree.specs.declared.phrase.Stmt as dt
-use Rattle.alma_phrase_values.proofs.statement.desig_stmt.Goals as goal
+use Rattle.alma_phrase_simple.proofs.statement.desig_stmt.Goals as goal
 
 pub returns-in_err-desig : goal.returns-in_err-desig
 returns-in_err-desig g c = record { read = stopped _ _ _ _ c.from_residual.ensures.1 (first c.in_err-desig.ensures.read) }
