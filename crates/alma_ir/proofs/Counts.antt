@@ -16,7 +16,7 @@ use Rattle.alma_ir.specs.declared.phrase.Link.{Link}
 use Rattle.alma_ir.specs.declared.phrase.Call.{Call}
 use Rattle.alma_ir.specs.declared.program.Routine.{Routine}
 use Rattle.alma_ir.specs.View.{stmt_of, test_of, expr_of, arg_of, sel_of, desig_of, loop_of, routine_of, stmts_list, tests_list, args_list, sels_list, arms_list, cases_list, branches_list, links_list}
-use Rattle.alma_ir.specs.Count.{stmts_nodes, stmt_nodes, arms_nodes, cases_nodes, branches_nodes, test_nodes, tests_nodes, expr_nodes, links_nodes, args_nodes, arg_nodes, desig_nodes, sels_nodes, sel_nodes, loop_nodes, routines_nodes}
+use Rattle.alma_ir.specs.Count.{stmts_nodes, stmt_nodes, arms_nodes, cases_nodes, branches_nodes, test_nodes, tests_nodes, expr_nodes, links_nodes, args_nodes, arg_nodes, desig_nodes, sels_nodes, sel_nodes, loop_nodes, routines_nodes, saturate}
 use Rattle.alma_ir.proofs.Views
 use Rattle.std.proofs.lemmas.List.Recursion.{is_sum_by}
 
@@ -26,6 +26,9 @@ of_stmt x = stmt_nodes (stmt_of x)
 
 abbrev pub of_test : T.Test → ℕ
 of_test x = test_nodes (test_of x)
+
+abbrev pub of_expr : E.Expr → ℕ
+of_expr x = expr_nodes (expr_of x)
 
 abbrev pub of_arg : A.Arg → ℕ
 of_arg x = arg_nodes (arg_of x)
@@ -47,6 +50,34 @@ of_branch x = 1 + stmts_nodes (stmts_list x.body.items)
 
 abbrev pub of_routine : Routine → ℕ
 of_routine x = 1 + stmts_nodes (stmts_list x.body.items)
+
+-- what a part counts, stopped at 2^64-1
+abbrev pub by_expr : E.Expr → ℕ
+by_expr e = saturate (expr_nodes (expr_of e))
+
+abbrev pub by_test : T.Test → ℕ
+by_test t = saturate (test_nodes (test_of t))
+
+abbrev pub by_stmts : List S.Stmt → ℕ
+by_stmts xs = saturate (stmts_nodes (stmts_list xs))
+
+abbrev pub by_tests : List T.Test → ℕ
+by_tests xs = saturate (tests_nodes (tests_list xs))
+
+abbrev pub by_args : List A.Arg → ℕ
+by_args xs = saturate (args_nodes (args_list xs))
+
+abbrev pub by_arms : List Arm → ℕ
+by_arms xs = saturate (arms_nodes (arms_list xs))
+
+abbrev pub by_cases : List CaseArm → ℕ
+by_cases xs = saturate (cases_nodes (cases_list xs))
+
+abbrev pub by_branches : List Branch → ℕ
+by_branches xs = saturate (branches_nodes (branches_list xs))
+
+abbrev pub by_links : List Link → ℕ
+by_links xs = saturate (links_nodes (links_list xs))
 
 pub stmts_sum : (xs : List S.Stmt) → stmts_nodes (stmts_list xs) ≡ sum_by of_stmt xs
 stmts_sum = is_sum_by (λ xs. stmts_nodes (stmts_list xs)) of_stmt refl (λ _ _. refl)
@@ -205,6 +236,3 @@ field_nodes o c = ap sel_nodes (Views.field_view o c)
 
 pub index_nodes : (e : E.Expr) (r c : _) → sel_nodes (sel_of (L.Index e r c)) ≡ 1 + expr_nodes (expr_of e)
 index_nodes e r c = ap sel_nodes (Views.index_view e r c)
-
--- all of these, for tactics
-pub ruleset counted = (teststmt_nodes, assign_nodes, copycells_nodes, if_nodes, while_nodes, repeat_nodes, forto_nodes, someof_nodes, case_none_nodes, case_some_nodes, return_none_nodes, return_some_nodes, either_nodes, forall_nodes, commit_nodes, read_nodes, writeexpr_nodes, writetext_nodes, writeline_nodes, value_nodes, bind_nodes, unify_nodes, samecells_nodes, seq_nodes, and_nodes, or_nodes, not_nodes, calltest_nodes, const_nodes, load_nodes, chain_nodes, compare_nodes, truth_nodes, known_nodes, chr_nodes, callexpr_nodes, byvalue_nodes, bycells_nodes, byplace_nodes, mixvalue_nodes, mixplace_nodes, field_nodes, index_nodes, stmts_sum, tests_sum, args_sum, sels_sum, links_sum, arms_sum, cases_sum, branches_sum, routines_sum)

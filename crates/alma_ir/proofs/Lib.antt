@@ -1,4 +1,5 @@
 pub mod Views
 pub mod Counts
+pub mod Saturated
 pub mod Each
 pub mod LinesBack

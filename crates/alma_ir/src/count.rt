@@ -1,5 +1,4 @@
 // The size of a program.
-#![tactic(auto, using(crate::proofs::Counts::counted, std::proofs::lemmas::Grind::common_steps))]
 
 ghost use Rattle.std.specs.Prelude.{◌≡◌, ◌*◌};
 ghost use Rattle.alma_ir.specs.View.{program_of, stmts_list, stmt_of, arms_list, cases_list, branches_list, loop_of, tests_list, test_of, expr_of, links_list, args_list, arg_of, desig_of, sel_of};

@@ -1,0 +1,257 @@
+-- Each answer is the sum of its parts, stopped at 2^64-1, and the equation of what the value counts.
+use Rattle.std.proofs.Common.{◌≡◌, ◌⊎◌, inl, inr, Vec, Global, ℕ, ◌+◌, List, length, refl, sym, ap, ◌∙◌, arith}
+use Rattle.std.specs.Prelude.{sum_by}
+use Rattle.alma_ir.specs.declared.phrase.Stmt as S
+use Rattle.alma_ir.specs.declared.phrase.Test as T
+use Rattle.alma_ir.specs.declared.phrase.Expr as E
+use Rattle.alma_ir.specs.declared.phrase.Arg as A
+use Rattle.alma_ir.specs.declared.phrase.Arm.{Arm}
+use Rattle.alma_ir.specs.declared.phrase.CaseArm.{CaseArm}
+use Rattle.alma_ir.specs.declared.phrase.Branch.{Branch}
+use Rattle.alma_ir.specs.declared.phrase.Link.{Link}
+use Rattle.alma_ir.specs.View.{expr_of, test_of, stmts_list, tests_list, args_list, arms_list, cases_list, branches_list, links_list, sels_list}
+use Rattle.alma_ir.specs.Count.{saturate, expr_nodes, test_nodes, stmts_nodes, tests_nodes, args_nodes, arms_nodes, cases_nodes, branches_nodes, links_nodes, sels_nodes}
+use Rattle.alma_ir.proofs.Counts
+use Rattle.alma_ir.proofs.Counts.{of_stmt, of_test, of_expr, of_arg, of_sel, of_link, of_arm, of_case, of_branch, by_expr, by_test, by_stmts, by_tests, by_args, by_arms, by_cases, by_branches, by_links}
+use Rattle.alma_ir.proofs.Saturated.{both, same, small, with_part, with_two, leaf, one_part, two_parts, turn, turn_above_one, next, ended, ended_above_one}
+use Rattle.alma_ir.proofs.count.+count.Goals as goal
+
+-- a statement that writes a text or a line
+text_or_line : (s : S.Stmt) → ((v : Vec ℕ Global) × (s ≡ S.WriteText v)) ⊎ (s ≡ S.WriteLine) → of_stmt s ≡ 1
+text_or_line s (inl h) = ap of_stmt h.1 ∙ Counts.writetext_nodes h.0
+text_or_line s (inr h) = ap of_stmt h ∙ Counts.writeline_nodes
+
+pub count_arg-returns-in-Value : goal.count_arg-returns-in-Value
+count_arg-returns-in-Value t c =
+    one_part _ _ _ _ (ap of_arg c.in-Value.is ∙ Counts.byvalue_nodes _ _) c.count_expr.ensures c.saturating_add.ensures
+
+pub count_arg-returns-in-Cells : goal.count_arg-returns-in-Cells
+count_arg-returns-in-Cells t c =
+    one_part _ _ _ _ (ap of_arg c.in-Cells.is ∙ Counts.bycells_nodes _) c.count_desig.ensures c.saturating_add-in-Cells.ensures
+
+pub count_arg-returns-in-Place : goal.count_arg-returns-in-Place
+count_arg-returns-in-Place t c =
+    one_part _ _ _ _ (ap of_arg c.in-Place.is ∙ Counts.byplace_nodes _) c.count_desig-in-Place.ensures c.saturating_add-in-Place.ensures
+
+pub count_arg-returns-in-MixValue : goal.count_arg-returns-in-MixValue
+count_arg-returns-in-MixValue t c =
+    one_part _ _ _ _ (ap of_arg c.in-MixValue.is ∙ Counts.mixvalue_nodes _ _) c.count_expr-in-MixValue.ensures c.saturating_add-in-MixValue.ensures
+
+pub count_arg-returns-in-MixPlace : goal.count_arg-returns-in-MixPlace
+count_arg-returns-in-MixPlace t c =
+    one_part _ _ _ _ (ap of_arg c.in-MixPlace.is ∙ Counts.mixplace_nodes _) c.count_desig-in-MixPlace.ensures c.saturating_add-in-MixPlace.ensures
+
+pub count_expr-returns-in-Const : goal.count_expr-returns-in-Const
+count_expr-returns-in-Const t c = leaf _ (ap of_expr c.in-Const.is ∙ Counts.const_nodes _)
+
+pub count_expr-returns-in-Load : goal.count_expr-returns-in-Load
+count_expr-returns-in-Load t c =
+    one_part _ _ _ _ (ap of_expr c.in-Load.is ∙ Counts.load_nodes _) c.count_desig.ensures c.saturating_add.ensures
+
+pub count_expr-returns-in-Chain : goal.count_expr-returns-in-Chain
+count_expr-returns-in-Chain t c =
+    two_parts _ _ _ _ _ _ _ (ap of_expr c.in-Chain.is ∙ Counts.chain_nodes _ _ _) (c.count_expr.ensures ∙ ap by_expr c.deref.ensures) (c.count_links.ensures ∙ ap by_links c.deref-in-Chain.ensures.value) c.saturating_add-in-Chain.ensures c.saturating_add-in-Chain-2.ensures
+
+pub count_expr-returns-in-Compare : goal.count_expr-returns-in-Compare
+count_expr-returns-in-Compare t c =
+    two_parts _ _ _ _ _ _ _ (ap of_expr c.in-Compare.is ∙ Counts.compare_nodes _ _ _) (c.count_expr-in-Compare.ensures ∙ ap by_expr c.deref-in-Compare.ensures) (c.count_expr-in-Compare-2.ensures ∙ ap by_expr c.deref-in-Compare-2.ensures) c.saturating_add-in-Compare.ensures c.saturating_add-in-Compare-2.ensures
+
+pub count_expr-returns-in-Truth : goal.count_expr-returns-in-Truth
+count_expr-returns-in-Truth t c =
+    one_part _ _ _ _ (ap of_expr c.in-Truth.is ∙ Counts.truth_nodes _) (c.count_test.ensures ∙ ap by_test c.deref-in-Truth.ensures) c.saturating_add-in-Truth.ensures
+
+pub count_expr-returns-in-Known : goal.count_expr-returns-in-Known
+count_expr-returns-in-Known t c =
+    one_part _ _ _ _ (ap of_expr c.in-Known.is ∙ Counts.known_nodes _) c.count_desig-in-Known.ensures c.saturating_add-in-Known.ensures
+
+pub count_expr-returns-in-Chr : goal.count_expr-returns-in-Chr
+count_expr-returns-in-Chr t c =
+    one_part _ _ _ _ (ap of_expr c.in-Chr.is ∙ Counts.chr_nodes _) (c.count_expr-in-Chr.ensures ∙ ap by_expr c.deref-in-Chr.ensures) c.saturating_add-in-Chr.ensures
+
+pub count_expr-returns-in-Call : goal.count_expr-returns-in-Call
+count_expr-returns-in-Call t c =
+    one_part _ _ _ _ (ap of_expr c.in-Call.is ∙ Counts.callexpr_nodes _) (c.count_args.ensures ∙ ap by_args c.deref-in-Call.ensures.value) c.saturating_add-in-Call.ensures
+
+pub count_sel-returns-in-Field : goal.count_sel-returns-in-Field
+count_sel-returns-in-Field t c = leaf _ (ap of_sel c.in-Field.is ∙ Counts.field_nodes _ _)
+
+pub count_sel-returns-in-Index : goal.count_sel-returns-in-Index
+count_sel-returns-in-Index t c =
+    one_part _ _ _ _ (ap of_sel c.in-Index.is ∙ Counts.index_nodes _ _ _) c.count_expr.ensures c.saturating_add.ensures
+
+pub count_stmt-returns-in-Test : goal.count_stmt-returns-in-Test
+count_stmt-returns-in-Test t c =
+    one_part _ _ _ _ (ap of_stmt c.in-Test.is ∙ Counts.teststmt_nodes _) c.count_test.ensures c.saturating_add.ensures
+
+pub count_stmt-returns-in-Assign : goal.count_stmt-returns-in-Assign
+count_stmt-returns-in-Assign t c =
+    two_parts _ _ _ _ _ _ _ (ap of_stmt c.in-Assign.is ∙ Counts.assign_nodes _ _ _) c.count_desig.ensures c.count_expr.ensures c.saturating_add-in-Assign.ensures c.saturating_add-in-Assign-2.ensures
+
+pub count_stmt-returns-in-CopyCells : goal.count_stmt-returns-in-CopyCells
+count_stmt-returns-in-CopyCells t c =
+    two_parts _ _ _ _ _ _ _ (ap of_stmt c.in-CopyCells.is ∙ Counts.copycells_nodes _ _) c.count_desig-in-CopyCells.ensures c.count_desig-in-CopyCells-2.ensures c.saturating_add-in-CopyCells.ensures c.saturating_add-in-CopyCells-2.ensures
+
+pub count_stmt-returns-in-If : goal.count_stmt-returns-in-If
+count_stmt-returns-in-If t c =
+    two_parts _ _ _ _ _ _ _ (ap of_stmt c.in-If.is ∙ Counts.if_nodes _ _) (c.count_arms.ensures ∙ ap by_arms c.deref.ensures.value) (c.count_stmts.ensures ∙ ap by_stmts c.deref-in-If.ensures.value) c.saturating_add-in-If.ensures c.saturating_add-in-If-2.ensures
+
+pub count_stmt-returns-in-While : goal.count_stmt-returns-in-While
+count_stmt-returns-in-While t c =
+    two_parts _ _ _ _ _ _ _ (ap of_stmt c.in-While.is ∙ Counts.while_nodes _ _) c.count_test-in-While.ensures (c.count_stmts-in-While.ensures ∙ ap by_stmts c.deref-in-While.ensures.value) c.saturating_add-in-While.ensures c.saturating_add-in-While-2.ensures
+
+pub count_stmt-returns-in-Repeat : goal.count_stmt-returns-in-Repeat
+count_stmt-returns-in-Repeat t c =
+    two_parts _ _ _ _ _ _ _ (ap of_stmt c.in-Repeat.is ∙ Counts.repeat_nodes _ _) (c.count_stmts-in-Repeat.ensures ∙ ap by_stmts c.deref-in-Repeat.ensures.value) c.count_test-in-Repeat.ensures c.saturating_add-in-Repeat.ensures c.saturating_add-in-Repeat-2.ensures
+
+pub count_stmt-returns-in-ForTo : goal.count_stmt-returns-in-ForTo
+count_stmt-returns-in-ForTo t c =
+    one_part _ _ _ _ (ap of_stmt c.in-ForTo.is ∙ Counts.forto_nodes _) c.count_loop.ensures c.saturating_add-in-ForTo.ensures
+
+pub count_stmt-returns-in-SomeOf : goal.count_stmt-returns-in-SomeOf
+count_stmt-returns-in-SomeOf t c =
+    one_part _ _ _ _ (ap of_stmt c.in-SomeOf.is ∙ Counts.someof_nodes _) c.count_loop-in-SomeOf.ensures c.saturating_add-in-SomeOf.ensures
+
+pub count_stmt-returns-in-Either : goal.count_stmt-returns-in-Either
+count_stmt-returns-in-Either t c =
+    one_part _ _ _ _ (ap of_stmt c.in-Either.is ∙ Counts.either_nodes _) (c.count_branches.ensures ∙ ap by_branches c.deref-in-Either.ensures.value) c.saturating_add-in-Either.ensures
+
+pub count_stmt-returns-in-Forall : goal.count_stmt-returns-in-Forall
+count_stmt-returns-in-Forall t c =
+    two_parts _ _ _ _ _ _ _ (ap of_stmt c.in-Forall.is ∙ Counts.forall_nodes _ _) (c.count_stmts-in-Forall.ensures ∙ ap by_stmts c.deref-in-Forall.ensures.value) (c.count_stmts-in-Forall-2.ensures ∙ ap by_stmts c.deref-in-Forall-2.ensures.value) c.saturating_add-in-Forall.ensures c.saturating_add-in-Forall-2.ensures
+
+pub count_stmt-returns-in-Commit : goal.count_stmt-returns-in-Commit
+count_stmt-returns-in-Commit t c =
+    one_part _ _ _ _ (ap of_stmt c.in-Commit.is ∙ Counts.commit_nodes _) (c.count_stmts-in-Commit.ensures ∙ ap by_stmts c.deref-in-Commit.ensures.value) c.saturating_add-in-Commit.ensures
+
+pub count_stmt-returns-in-Read : goal.count_stmt-returns-in-Read
+count_stmt-returns-in-Read t c =
+    one_part _ _ _ _ (ap of_stmt c.in-Read.is ∙ Counts.read_nodes _ _ _) c.count_desig-in-Read.ensures c.saturating_add-in-Read.ensures
+
+pub count_stmt-returns-in-WriteExpr : goal.count_stmt-returns-in-WriteExpr
+count_stmt-returns-in-WriteExpr t c =
+    one_part _ _ _ _ (ap of_stmt c.in-WriteExpr.is ∙ Counts.writeexpr_nodes _ _) c.count_expr-in-WriteExpr.ensures c.saturating_add-in-WriteExpr.ensures
+
+pub count_stmt-returns-in-WriteText : goal.count_stmt-returns-in-WriteText
+count_stmt-returns-in-WriteText t c = leaf _ (text_or_line _ c.in-WriteText.is)
+
+pub count_stmt-returns-in-WriteText-2 : goal.count_stmt-returns-in-WriteText-2
+count_stmt-returns-in-WriteText-2 t c = leaf _ (text_or_line _ c.in-WriteText.is)
+
+pub count_stmt-returns-in-None : goal.count_stmt-returns-in-None
+count_stmt-returns-in-None t c =
+    two_parts _ _ _ _ _ _ _ (ap of_stmt (c.in-Case.is ∙ ap (λ o. S.Case c.in-Case.value c.in-Case.arms o) c.in-None.is) ∙ Counts.case_none_nodes _ _) c.count_expr-in-Case.ensures (c.count_cases.ensures ∙ ap by_cases c.deref-in-Case.ensures.value) c.saturating_add-in-Case.ensures c.saturating_add-total.ensures
+
+pub count_stmt-returns-in-Some : goal.count_stmt-returns-in-Some
+count_stmt-returns-in-Some t c =
+    same _ _ _ (sym (ap of_stmt (c.in-Case.is ∙ ap (λ o. S.Case c.in-Case.value c.in-Case.arms o) c.in-Some.is) ∙ Counts.case_some_nodes _ _ _)) (both _ _ _ _ _ (two_parts _ _ _ _ _ _ _ refl c.count_expr-in-Case.ensures (c.count_cases.ensures ∙ ap by_cases c.deref-in-Case.ensures.value) c.saturating_add-in-Case.ensures c.saturating_add-total.ensures) (c.count_stmts-in-Some.ensures ∙ ap by_stmts c.deref-in-Some.ensures.value) c.saturating_add-in-Some.ensures)
+
+pub count_stmt-returns-in-None-value : goal.count_stmt-returns-in-None-value
+count_stmt-returns-in-None-value t c = leaf _ (ap of_stmt (c.in-Return.is ∙ ap S.Return c.in-None-value.is) ∙ Counts.return_none_nodes)
+
+pub count_stmt-returns-in-Some-value : goal.count_stmt-returns-in-Some-value
+count_stmt-returns-in-Some-value t c =
+    one_part _ _ _ _ (ap of_stmt (c.in-Return.is ∙ ap S.Return c.in-Some-value.is) ∙ Counts.return_some_nodes _) c.count_expr-in-Some-value.ensures c.saturating_add-in-Some-value.ensures
+
+pub count_test-returns-in-Value : goal.count_test-returns-in-Value
+count_test-returns-in-Value t c =
+    one_part _ _ _ _ (ap of_test c.in-Value.is ∙ Counts.value_nodes _) c.count_expr.ensures c.saturating_add.ensures
+
+pub count_test-returns-in-Bind : goal.count_test-returns-in-Bind
+count_test-returns-in-Bind t c =
+    two_parts _ _ _ _ _ _ _ (ap of_test c.in-Bind.is ∙ Counts.bind_nodes _ _ _ _) c.count_desig.ensures c.count_expr-in-Bind.ensures c.saturating_add-in-Bind.ensures c.saturating_add-in-Bind-2.ensures
+
+pub count_test-returns-in-Unify : goal.count_test-returns-in-Unify
+count_test-returns-in-Unify t c =
+    two_parts _ _ _ _ _ _ _ (ap of_test c.in-Unify.is ∙ Counts.unify_nodes _ _ _ _) c.count_desig-in-Unify.ensures c.count_desig-in-Unify-2.ensures c.saturating_add-in-Unify.ensures c.saturating_add-in-Unify-2.ensures
+
+pub count_test-returns-in-SameCells : goal.count_test-returns-in-SameCells
+count_test-returns-in-SameCells t c =
+    two_parts _ _ _ _ _ _ _ (ap of_test c.in-SameCells.is ∙ Counts.samecells_nodes _ _) c.count_desig-in-SameCells.ensures c.count_desig-in-SameCells-2.ensures c.saturating_add-in-SameCells.ensures c.saturating_add-in-SameCells-2.ensures
+
+pub count_test-returns-in-Seq : goal.count_test-returns-in-Seq
+count_test-returns-in-Seq t c =
+    one_part _ _ _ _ (ap of_test c.in-Seq.is ∙ Counts.seq_nodes _) (c.count_stmts.ensures ∙ ap by_stmts c.deref.ensures.value) c.saturating_add-in-Seq.ensures
+
+pub count_test-returns-in-And : goal.count_test-returns-in-And
+count_test-returns-in-And t c =
+    one_part _ _ _ _ (ap of_test c.in-And.is ∙ Counts.and_nodes _) (c.count_tests.ensures ∙ ap by_tests c.deref-in-And.ensures.value) c.saturating_add-in-And.ensures
+
+pub count_test-returns-in-Or : goal.count_test-returns-in-Or
+count_test-returns-in-Or t c =
+    one_part _ _ _ _ (ap of_test c.in-Or.is ∙ Counts.or_nodes _) (c.count_tests-in-Or.ensures ∙ ap by_tests c.deref-in-Or.ensures.value) c.saturating_add-in-Or.ensures
+
+pub count_test-returns-in-Not : goal.count_test-returns-in-Not
+count_test-returns-in-Not t c =
+    one_part _ _ _ _ (ap of_test c.in-Not.is ∙ Counts.not_nodes _) (c.count_test.ensures ∙ ap by_test c.deref-in-Not.ensures) c.saturating_add-in-Not.ensures
+
+pub count_test-returns-in-Call : goal.count_test-returns-in-Call
+count_test-returns-in-Call t c =
+    one_part _ _ _ _ (ap of_test c.in-Call.is ∙ Counts.calltest_nodes _) (c.count_args.ensures ∙ ap by_args c.deref-in-Call.ensures.value) c.saturating_add-in-Call.ensures
+
+pub count_loop-returns : goal.count_loop-returns
+count_loop-returns t c =
+    both _ _ _ _ _ (both _ _ _ _ _ (both _ _ _ _ _ c.count_desig.ensures c.count_expr.ensures c.saturating_add.ensures) c.count_expr-2.ensures c.saturating_add-2.ensures) (c.count_stmts.ensures ∙ ap by_stmts c.deref.ensures.value) c.saturating_add-3.ensures
+
+pub count_args-loop-arg-preserved : goal.count_args-loop-arg-preserved
+count_args-loop-arg-preserved t c =
+    next of_arg c.args.args.now c.loop-arg.arg-index _ _ _ _ c.loop-arg-test.true c.arg-item.is c.loop-arg.invariant c.count_arg.ensures c.saturating_add-total.ensures
+
+pub count_args-returns : goal.count_args-returns
+count_args-returns t c =
+    ended of_arg c.args.args.now c.loop-arg.arg-index _ _ c.loop-arg-test.false (Counts.args_sum _) c.loop-arg.invariant
+
+pub count_stmts-loop-stmt-preserved : goal.count_stmts-loop-stmt-preserved
+count_stmts-loop-stmt-preserved t c =
+    next of_stmt c.args.body.now c.loop-stmt.stmt-index _ _ _ _ c.loop-stmt-test.true c.stmt-item.is c.loop-stmt.invariant c.count_stmt.ensures c.saturating_add-total.ensures
+
+pub count_stmts-returns : goal.count_stmts-returns
+count_stmts-returns t c =
+    ended of_stmt c.args.body.now c.loop-stmt.stmt-index _ _ c.loop-stmt-test.false (Counts.stmts_sum _) c.loop-stmt.invariant
+
+pub count_tests-loop-test-preserved : goal.count_tests-loop-test-preserved
+count_tests-loop-test-preserved t c =
+    next of_test c.args.tests.now c.loop-test.test-index _ _ _ _ c.loop-test-test.true c.test-item.is c.loop-test.invariant c.count_test.ensures c.saturating_add-total.ensures
+
+pub count_tests-returns : goal.count_tests-returns
+count_tests-returns t c =
+    ended of_test c.args.tests.now c.loop-test.test-index _ _ c.loop-test-test.false (Counts.tests_sum _) c.loop-test.invariant
+
+pub count_links-loop-link-preserved : goal.count_links-loop-link-preserved
+count_links-loop-link-preserved t c =
+    next of_link c.args.links.now c.loop-link.link-index _ _ _ _ c.loop-link-test.true c.link-item.is c.loop-link.invariant c.count_expr.ensures c.saturating_add-total.ensures
+
+pub count_links-returns : goal.count_links-returns
+count_links-returns t c =
+    ended of_link c.args.links.now c.loop-link.link-index _ _ c.loop-link-test.false (Counts.links_sum _) c.loop-link.invariant
+
+pub count_arms-loop-arm-preserved : goal.count_arms-loop-arm-preserved
+count_arms-loop-arm-preserved t c =
+    turn of_arm c.args.arms.now c.loop-arm.arm-index _ _ _ c.loop-arm-test.true c.arm-item.is (with_two _ _ _) (both _ _ _ _ _ (both _ _ _ _ _ (both _ _ _ _ _ c.loop-arm.invariant (small 1 (omega arith)) c.saturating_add.ensures) c.count_test.ensures c.saturating_add-in-loop-arm.ensures) (c.count_stmts.ensures ∙ ap by_stmts c.deref.ensures.value) c.saturating_add-total.ensures)
+
+pub count_arms-returns : goal.count_arms-returns
+count_arms-returns t c =
+    ended of_arm c.args.arms.now c.loop-arm.arm-index _ _ c.loop-arm-test.false (Counts.arms_sum _) c.loop-arm.invariant
+
+pub count_cases-loop-arm-preserved : goal.count_cases-loop-arm-preserved
+count_cases-loop-arm-preserved t c =
+    turn of_case c.args.arms.now c.loop-arm.arm-index _ _ _ c.loop-arm-test.true c.arm-item.is (with_two _ _ _) (both _ _ _ _ _ (both _ _ _ _ _ (both _ _ _ _ _ c.loop-arm.invariant (small 1 (omega arith)) c.saturating_add.ensures) (same c.len.result (length c.arm-item.result.labels.items) _ (omega (arith, c.len.ensures, c.arm-item.result.labels.ok)) (small _ c.len.type_inv)) c.saturating_add-in-loop-arm.ensures) (c.count_stmts.ensures ∙ ap by_stmts c.deref.ensures.value) c.saturating_add-total.ensures)
+
+pub count_cases-returns : goal.count_cases-returns
+count_cases-returns t c =
+    ended of_case c.args.arms.now c.loop-arm.arm-index _ _ c.loop-arm-test.false (Counts.cases_sum _) c.loop-arm.invariant
+
+pub count_branches-loop-branch-preserved : goal.count_branches-loop-branch-preserved
+count_branches-loop-branch-preserved t c =
+    turn of_branch c.args.branches.now c.loop-branch.branch-index _ _ _ c.loop-branch-test.true c.branch-item.is (with_part _ _) (both _ _ _ _ _ (both _ _ _ _ _ c.loop-branch.invariant (small 1 (omega arith)) c.saturating_add.ensures) (c.count_stmts.ensures ∙ ap by_stmts c.deref.ensures.value) c.saturating_add-total.ensures)
+
+pub count_branches-returns : goal.count_branches-returns
+count_branches-returns t c =
+    ended of_branch c.args.branches.now c.loop-branch.branch-index _ _ c.loop-branch-test.false (Counts.branches_sum _) c.loop-branch.invariant
+
+pub count_desig-loop-sel-preserved : goal.count_desig-loop-sel-preserved
+count_desig-loop-sel-preserved t c =
+    turn_above_one of_sel c.deref-sel-items.result.now c.loop-sel.sel-index _ _ _ _ c.loop-sel-test.true c.sel-item.is c.loop-sel.invariant c.count_sel.ensures c.saturating_add-total.ensures
+
+pub count_desig-returns : goal.count_desig-returns
+count_desig-returns t c =
+    same _ _ _ (ap (λ xs. 1 + sels_nodes (sels_list xs)) c.deref-sel-items.ensures.value) (ended_above_one of_sel c.deref-sel-items.result.now c.loop-sel.sel-index _ _ c.loop-sel-test.false (Counts.sels_sum _) c.loop-sel.invariant)
