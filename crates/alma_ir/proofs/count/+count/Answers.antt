@@ -14,6 +14,8 @@ use Rattle.alma_ir.specs.Count.{saturate, expr_nodes, test_nodes, stmts_nodes, t
 use Rattle.alma_ir.proofs.Counts
 use Rattle.alma_ir.proofs.Counts.{of_stmt, of_test, of_expr, of_arg, of_sel, of_link, of_arm, of_case, of_branch, by_expr, by_test, by_stmts, by_tests, by_args, by_arms, by_cases, by_branches, by_links}
 use Rattle.alma_ir.proofs.Saturated.{both, same, small, with_part, with_two, leaf, one_part, two_parts, turn, turn_above_one, next, ended, ended_above_one}
+use Rattle.alma_ir.specs.declared.phrase.Arg.TheViews as views
+use denote.Param.Weighed.{most, at_most}
 use Rattle.alma_ir.proofs.count.+count.Goals as goal
 
 -- a statement that writes a text or a line
@@ -255,3 +257,183 @@ count_desig-loop-sel-preserved t c =
 pub count_desig-returns : goal.count_desig-returns
 count_desig-returns t c =
     same _ _ _ (ap (λ xs. 1 + sels_nodes (sels_list xs)) c.deref-sel-items.ensures.value) (ended_above_one of_sel c.deref-sel-items.result.now c.loop-sel.sel-index _ _ c.loop-sel-test.false (Counts.sels_sum _) c.loop-sel.invariant)
+
+-- ---- the measure of each call
+
+pub count_arg-count_expr-requires : goal.count_arg-count_expr-requires
+count_arg-count_expr-requires t c = (omega (arith, c.decreases, ap views.size-Arg c.in-Value.is ∙ views.sized-Arg::Value _ _), tt)
+
+pub count_arg-count_desig-requires : goal.count_arg-count_desig-requires
+count_arg-count_desig-requires t c = (omega (arith, c.decreases, ap views.size-Arg c.in-Cells.is ∙ views.sized-Cells _), tt)
+
+pub count_arg-count_desig-requires-in-Place : goal.count_arg-count_desig-requires-in-Place
+count_arg-count_desig-requires-in-Place t c = (omega (arith, c.decreases, ap views.size-Arg c.in-Place.is ∙ views.sized-Place _), tt)
+
+pub count_arg-count_expr-requires-in-MixValue : goal.count_arg-count_expr-requires-in-MixValue
+count_arg-count_expr-requires-in-MixValue t c =
+    (omega (arith, c.decreases, ap views.size-Arg c.in-MixValue.is ∙ views.sized-MixValue _ _), tt)
+
+pub count_arg-count_desig-requires-in-MixPlace : goal.count_arg-count_desig-requires-in-MixPlace
+count_arg-count_desig-requires-in-MixPlace t c =
+    (omega (arith, c.decreases, ap views.size-Arg c.in-MixPlace.is ∙ views.sized-MixPlace _), tt)
+
+pub count_expr-count_desig-requires : goal.count_expr-count_desig-requires
+count_expr-count_desig-requires t c = (omega (arith, c.decreases, ap views.size-Expr c.in-Load.is ∙ views.sized-Load _), tt)
+
+pub count_expr-count_expr-requires : goal.count_expr-count_expr-requires
+count_expr-count_expr-requires t c =
+    (omega (arith, c.decreases, ap views.size-Expr c.in-Chain.is ∙ views.sized-Chain _ _ _, ap views.size-Expr c.deref.ensures), tt)
+
+pub count_expr-count_links-requires : goal.count_expr-count_links-requires
+count_expr-count_links-requires t c =
+    (omega (arith, c.decreases, ap views.size-Expr c.in-Chain.is ∙ views.sized-Chain _ _ _, ap (most views.size-Link) c.deref-in-Chain.ensures.value), tt)
+
+pub count_expr-count_expr-requires-in-Compare : goal.count_expr-count_expr-requires-in-Compare
+count_expr-count_expr-requires-in-Compare t c =
+    (omega (arith, c.decreases, ap views.size-Expr c.in-Compare.is ∙ views.sized-Compare _ _ _, ap views.size-Expr c.deref-in-Compare.ensures), tt)
+
+pub count_expr-count_expr-requires-in-Compare-2 : goal.count_expr-count_expr-requires-in-Compare-2
+count_expr-count_expr-requires-in-Compare-2 t c =
+    (omega (arith, c.decreases, ap views.size-Expr c.in-Compare.is ∙ views.sized-Compare _ _ _, ap views.size-Expr c.deref-in-Compare-2.ensures), tt)
+
+pub count_expr-count_test-requires : goal.count_expr-count_test-requires
+count_expr-count_test-requires t c =
+    (omega (arith, c.decreases, ap views.size-Expr c.in-Truth.is ∙ views.sized-Truth _, ap views.size-Test c.deref-in-Truth.ensures), tt)
+
+pub count_expr-count_desig-requires-in-Known : goal.count_expr-count_desig-requires-in-Known
+count_expr-count_desig-requires-in-Known t c = (omega (arith, c.decreases, ap views.size-Expr c.in-Known.is ∙ views.sized-Known _), tt)
+
+pub count_expr-count_expr-requires-in-Chr : goal.count_expr-count_expr-requires-in-Chr
+count_expr-count_expr-requires-in-Chr t c =
+    (omega (arith, c.decreases, ap views.size-Expr c.in-Chr.is ∙ views.sized-Chr _, ap views.size-Expr c.deref-in-Chr.ensures), tt)
+
+pub count_sel-count_expr-requires : goal.count_sel-count_expr-requires
+count_sel-count_expr-requires t c = (omega (arith, c.decreases, ap views.size-Sel c.in-Index.is ∙ views.sized-Index _ _ _), tt)
+
+pub count_stmt-count_test-requires : goal.count_stmt-count_test-requires
+count_stmt-count_test-requires t c = (omega (arith, c.decreases, ap views.size-Stmt c.in-Test.is ∙ views.sized-Test _), tt)
+
+pub count_stmt-count_desig-requires : goal.count_stmt-count_desig-requires
+count_stmt-count_desig-requires t c = (omega (arith, c.decreases, ap views.size-Stmt c.in-Assign.is ∙ views.sized-Assign _ _ _), tt)
+
+pub count_stmt-count_expr-requires : goal.count_stmt-count_expr-requires
+count_stmt-count_expr-requires t c = (omega (arith, c.decreases, ap views.size-Stmt c.in-Assign.is ∙ views.sized-Assign _ _ _), tt)
+
+pub count_stmt-count_desig-requires-in-CopyCells : goal.count_stmt-count_desig-requires-in-CopyCells
+count_stmt-count_desig-requires-in-CopyCells t c =
+    (omega (arith, c.decreases, ap views.size-Stmt c.in-CopyCells.is ∙ views.sized-CopyCells _ _), tt)
+
+pub count_stmt-count_desig-requires-in-CopyCells-2 : goal.count_stmt-count_desig-requires-in-CopyCells-2
+count_stmt-count_desig-requires-in-CopyCells-2 t c =
+    (omega (arith, c.decreases, ap views.size-Stmt c.in-CopyCells.is ∙ views.sized-CopyCells _ _), tt)
+
+pub count_stmt-count_arms-requires : goal.count_stmt-count_arms-requires
+count_stmt-count_arms-requires t c =
+    (omega (arith, c.decreases, ap views.size-Stmt c.in-If.is ∙ views.sized-If _ _, ap (most views.size-Arm) c.deref.ensures.value), tt)
+
+pub count_stmt-count_stmts-requires : goal.count_stmt-count_stmts-requires
+count_stmt-count_stmts-requires t c =
+    (omega (arith, c.decreases, ap views.size-Stmt c.in-If.is ∙ views.sized-If _ _, ap (most views.size-Stmt) c.deref-in-If.ensures.value), tt)
+
+pub count_stmt-count_test-requires-in-While : goal.count_stmt-count_test-requires-in-While
+count_stmt-count_test-requires-in-While t c = (omega (arith, c.decreases, ap views.size-Stmt c.in-While.is ∙ views.sized-While _ _), tt)
+
+pub count_stmt-count_stmts-requires-in-While : goal.count_stmt-count_stmts-requires-in-While
+count_stmt-count_stmts-requires-in-While t c =
+    (omega (arith, c.decreases, ap views.size-Stmt c.in-While.is ∙ views.sized-While _ _, ap (most views.size-Stmt) c.deref-in-While.ensures.value), tt)
+
+pub count_stmt-count_stmts-requires-in-Repeat : goal.count_stmt-count_stmts-requires-in-Repeat
+count_stmt-count_stmts-requires-in-Repeat t c =
+    (omega (arith, c.decreases, ap views.size-Stmt c.in-Repeat.is ∙ views.sized-Repeat _ _, ap (most views.size-Stmt) c.deref-in-Repeat.ensures.value), tt)
+
+pub count_stmt-count_test-requires-in-Repeat : goal.count_stmt-count_test-requires-in-Repeat
+count_stmt-count_test-requires-in-Repeat t c = (omega (arith, c.decreases, ap views.size-Stmt c.in-Repeat.is ∙ views.sized-Repeat _ _), tt)
+
+pub count_stmt-count_loop-requires : goal.count_stmt-count_loop-requires
+count_stmt-count_loop-requires t c = (omega (arith, c.decreases, ap views.size-Stmt c.in-ForTo.is ∙ views.sized-ForTo _), tt)
+
+pub count_stmt-count_loop-requires-in-SomeOf : goal.count_stmt-count_loop-requires-in-SomeOf
+count_stmt-count_loop-requires-in-SomeOf t c = (omega (arith, c.decreases, ap views.size-Stmt c.in-SomeOf.is ∙ views.sized-SomeOf _), tt)
+
+pub count_stmt-count_expr-requires-in-Case : goal.count_stmt-count_expr-requires-in-Case
+count_stmt-count_expr-requires-in-Case t c = (omega (arith, c.decreases, ap views.size-Stmt c.in-Case.is ∙ views.sized-Case _ _ _), tt)
+
+pub count_stmt-count_cases-requires : goal.count_stmt-count_cases-requires
+count_stmt-count_cases-requires t c =
+    (omega (arith, c.decreases, ap views.size-Stmt c.in-Case.is ∙ views.sized-Case _ _ _, ap (most views.size-CaseArm) c.deref-in-Case.ensures.value), tt)
+
+pub count_stmt-count_branches-requires : goal.count_stmt-count_branches-requires
+count_stmt-count_branches-requires t c =
+    (omega (arith, c.decreases, ap views.size-Stmt c.in-Either.is ∙ views.sized-Either _, ap (most views.size-Branch) c.deref-in-Either.ensures.value), tt)
+
+pub count_stmt-count_stmts-requires-in-Forall : goal.count_stmt-count_stmts-requires-in-Forall
+count_stmt-count_stmts-requires-in-Forall t c =
+    (omega (arith, c.decreases, ap views.size-Stmt c.in-Forall.is ∙ views.sized-Forall _ _, ap (most views.size-Stmt) c.deref-in-Forall.ensures.value), tt)
+
+pub count_stmt-count_stmts-requires-in-Forall-2 : goal.count_stmt-count_stmts-requires-in-Forall-2
+count_stmt-count_stmts-requires-in-Forall-2 t c =
+    (omega (arith, c.decreases, ap views.size-Stmt c.in-Forall.is ∙ views.sized-Forall _ _, ap (most views.size-Stmt) c.deref-in-Forall-2.ensures.value), tt)
+
+pub count_stmt-count_stmts-requires-in-Commit : goal.count_stmt-count_stmts-requires-in-Commit
+count_stmt-count_stmts-requires-in-Commit t c =
+    (omega (arith, c.decreases, ap views.size-Stmt c.in-Commit.is ∙ views.sized-Commit _, ap (most views.size-Stmt) c.deref-in-Commit.ensures.value), tt)
+
+pub count_stmt-count_desig-requires-in-Read : goal.count_stmt-count_desig-requires-in-Read
+count_stmt-count_desig-requires-in-Read t c = (omega (arith, c.decreases, ap views.size-Stmt c.in-Read.is ∙ views.sized-Read _ _ _), tt)
+
+pub count_stmt-count_expr-requires-in-WriteExpr : goal.count_stmt-count_expr-requires-in-WriteExpr
+count_stmt-count_expr-requires-in-WriteExpr t c =
+    (omega (arith, c.decreases, ap views.size-Stmt c.in-WriteExpr.is ∙ views.sized-WriteExpr _ _), tt)
+
+pub count_test-count_expr-requires : goal.count_test-count_expr-requires
+count_test-count_expr-requires t c = (omega (arith, c.decreases, ap views.size-Test c.in-Value.is ∙ views.sized-Test::Value _), tt)
+
+pub count_test-count_desig-requires : goal.count_test-count_desig-requires
+count_test-count_desig-requires t c = (omega (arith, c.decreases, ap views.size-Test c.in-Bind.is ∙ views.sized-Bind _ _ _ _), tt)
+
+pub count_test-count_expr-requires-in-Bind : goal.count_test-count_expr-requires-in-Bind
+count_test-count_expr-requires-in-Bind t c = (omega (arith, c.decreases, ap views.size-Test c.in-Bind.is ∙ views.sized-Bind _ _ _ _), tt)
+
+pub count_test-count_desig-requires-in-Unify : goal.count_test-count_desig-requires-in-Unify
+count_test-count_desig-requires-in-Unify t c =
+    (omega (arith, c.decreases, ap views.size-Test c.in-Unify.is ∙ views.sized-Unify _ _ _ _), tt)
+
+pub count_test-count_desig-requires-in-Unify-2 : goal.count_test-count_desig-requires-in-Unify-2
+count_test-count_desig-requires-in-Unify-2 t c =
+    (omega (arith, c.decreases, ap views.size-Test c.in-Unify.is ∙ views.sized-Unify _ _ _ _), tt)
+
+pub count_test-count_desig-requires-in-SameCells : goal.count_test-count_desig-requires-in-SameCells
+count_test-count_desig-requires-in-SameCells t c =
+    (omega (arith, c.decreases, ap views.size-Test c.in-SameCells.is ∙ views.sized-SameCells _ _), tt)
+
+pub count_test-count_desig-requires-in-SameCells-2 : goal.count_test-count_desig-requires-in-SameCells-2
+count_test-count_desig-requires-in-SameCells-2 t c =
+    (omega (arith, c.decreases, ap views.size-Test c.in-SameCells.is ∙ views.sized-SameCells _ _), tt)
+
+pub count_test-count_stmts-requires : goal.count_test-count_stmts-requires
+count_test-count_stmts-requires t c =
+    (omega (arith, c.decreases, ap views.size-Test c.in-Seq.is ∙ views.sized-Seq _, ap (most views.size-Stmt) c.deref.ensures.value), tt)
+
+pub count_test-count_tests-requires : goal.count_test-count_tests-requires
+count_test-count_tests-requires t c =
+    (omega (arith, c.decreases, ap views.size-Test c.in-And.is ∙ views.sized-And _, ap (most views.size-Test) c.deref-in-And.ensures.value), tt)
+
+pub count_test-count_tests-requires-in-Or : goal.count_test-count_tests-requires-in-Or
+count_test-count_tests-requires-in-Or t c =
+    (omega (arith, c.decreases, ap views.size-Test c.in-Or.is ∙ views.sized-Or _, ap (most views.size-Test) c.deref-in-Or.ensures.value), tt)
+
+pub count_test-count_test-requires : goal.count_test-count_test-requires
+count_test-count_test-requires t c =
+    (omega (arith, c.decreases, ap views.size-Test c.in-Not.is ∙ views.sized-Not _, ap views.size-Test c.deref-in-Not.ensures), tt)
+
+pub count_args-count_arg-requires : goal.count_args-count_arg-requires
+count_args-count_arg-requires t c =
+    (omega (arith, c.decreases, at_most views.size-Arg c.args.args.now c.loop-arg.arg-index c.arg-item.result c.loop-arg-test.true, ap views.size-Arg c.arg-item.is), tt)
+
+pub count_stmts-count_stmt-requires : goal.count_stmts-count_stmt-requires
+count_stmts-count_stmt-requires t c =
+    (omega (arith, c.decreases, at_most views.size-Stmt c.args.body.now c.loop-stmt.stmt-index c.stmt-item.result c.loop-stmt-test.true, ap views.size-Stmt c.stmt-item.is), tt)
+
+pub count_tests-count_test-requires : goal.count_tests-count_test-requires
+count_tests-count_test-requires t c =
+    (omega (arith, c.decreases, at_most views.size-Test c.args.tests.now c.loop-test.test-index c.test-item.result c.loop-test-test.true, ap views.size-Test c.test-item.is), tt)
