@@ -43,27 +43,32 @@ pub with_two : (s a b : ℕ) → s + 1 + a + b ≡ s + (1 + a + b)
 with_two s a b = omega arith
 
 -- a turn of a loop adds what its item counts
-pub turn : {X : Type 0} (f : X → ℕ) (xs : List X) (i : ℕ) (x : X) (k r : ℕ) → i < length xs → x ≡ get_or xs i x → k ≡ sum_by f (take i xs) + f x → r ≡ saturate k → r ≡ saturate (sum_by f (take (i + 1) xs))
+pub turn : {X : Type 0} (f : X → ℕ) (xs : List X) (i : ℕ) (x : X) (k r : ℕ) → i < length xs → x ≡ get_or xs i x →
+    k ≡ sum_by f (take i xs) + f x → r ≡ saturate k → r ≡ saturate (sum_by f (take (i + 1) xs))
 turn f xs i x k r within is e h =
     same k _ r (e ∙ ap (λ y. sum_by f (take i xs) + f y) is ∙ sym (sum_by_more f xs i x within)) h
 
 -- the same over one that is counted before
-pub turn_above_one : {X : Type 0} (f : X → ℕ) (xs : List X) (i : ℕ) (x : X) (y s r : ℕ) → i < length xs → x ≡ get_or xs i x → s ≡ saturate (1 + sum_by f (take i xs)) → y ≡ saturate (f x) → r ≡ saturate (s + y) → r ≡ saturate (1 + sum_by f (take (i + 1) xs))
+pub turn_above_one : {X : Type 0} (f : X → ℕ) (xs : List X) (i : ℕ) (x : X) (y s r : ℕ) → i < length xs → x ≡ get_or xs i x →
+    s ≡ saturate (1 + sum_by f (take i xs)) → y ≡ saturate (f x) → r ≡ saturate (s + y) → r ≡ saturate (1 + sum_by f (take (i + 1) xs))
 turn_above_one f xs i x y s r within is before one sum =
     let more : sum_by f (take (i + 1) xs) ≡ sum_by f (take i xs) + f x = sum_by_more f xs i x within ∙ ap (λ y. sum_by f (take i xs) + f y) (sym is) in
     same _ _ r (omega (arith, more)) (both (1 + sum_by f (take i xs)) (f x) s y r before one sum)
 
 -- a turn whose item counts as one number
-pub next : {X : Type 0} (f : X → ℕ) (xs : List X) (i : ℕ) (x : X) (y s r : ℕ) → i < length xs → x ≡ get_or xs i x → s ≡ saturate (sum_by f (take i xs)) → y ≡ saturate (f x) → r ≡ saturate (s + y) → r ≡ saturate (sum_by f (take (i + 1) xs))
+pub next : {X : Type 0} (f : X → ℕ) (xs : List X) (i : ℕ) (x : X) (y s r : ℕ) → i < length xs → x ≡ get_or xs i x →
+    s ≡ saturate (sum_by f (take i xs)) → y ≡ saturate (f x) → r ≡ saturate (s + y) → r ≡ saturate (sum_by f (take (i + 1) xs))
 next f xs i x y s r within is before one sum =
     turn f xs i x (sum_by f (take i xs) + f x) r within is refl (both (sum_by f (take i xs)) (f x) s y r before one sum)
 
 -- behind the last turn all are counted
-pub ended : {X : Type 0} (f : X → ℕ) (xs : List X) (i n r : ℕ) → length xs ≤ i → n ≡ sum_by f xs → r ≡ saturate (sum_by f (take i xs)) → r ≡ saturate n
+pub ended : {X : Type 0} (f : X → ℕ) (xs : List X) (i n r : ℕ) → length xs ≤ i → n ≡ sum_by f xs → r ≡ saturate (sum_by f (take i xs)) →
+    r ≡ saturate n
 ended f xs i n r end e h = same _ n r (ap (sum_by f) (take_all i xs end) ∙ sym e) h
 
 -- the same over one that is counted before
-pub ended_above_one : {X : Type 0} (f : X → ℕ) (xs : List X) (i n r : ℕ) → length xs ≤ i → n ≡ sum_by f xs → r ≡ saturate (1 + sum_by f (take i xs)) → r ≡ saturate (1 + n)
+pub ended_above_one : {X : Type 0} (f : X → ℕ) (xs : List X) (i n r : ℕ) → length xs ≤ i → n ≡ sum_by f xs →
+    r ≡ saturate (1 + sum_by f (take i xs)) → r ≡ saturate (1 + n)
 ended_above_one f xs i n r end e h =
     same _ (1 + n) r (ap (λ k. 1 + k) (ap (sum_by f) (take_all i xs end) ∙ sym e)) h
 
