@@ -1,16 +1,8 @@
 -- Each answer is the sum of its parts, stopped at 2^64-1, and the equation of what the value counts.
-use Rattle.std.proofs.Common.{◌≡◌, ◌⊎◌, inl, inr, Vec, Global, ℕ, ◌+◌, List, length, refl, sym, ap, ◌∙◌, arith}
-use Rattle.std.specs.Prelude.{sum_by}
+use Rattle.std.proofs.Common.{◌≡◌, ◌⊎◌, inl, inr, Vec, Global, ℕ, ◌+◌, length, refl, sym, ap, ◌∙◌, arith}
 use Rattle.alma_ir.specs.declared.phrase.Stmt as S
-use Rattle.alma_ir.specs.declared.phrase.Test as T
-use Rattle.alma_ir.specs.declared.phrase.Expr as E
-use Rattle.alma_ir.specs.declared.phrase.Arg as A
-use Rattle.alma_ir.specs.declared.phrase.Arm.{Arm}
-use Rattle.alma_ir.specs.declared.phrase.CaseArm.{CaseArm}
-use Rattle.alma_ir.specs.declared.phrase.Branch.{Branch}
-use Rattle.alma_ir.specs.declared.phrase.Link.{Link}
-use Rattle.alma_ir.specs.View.{expr_of, test_of, stmts_list, tests_list, args_list, arms_list, cases_list, branches_list, links_list, sels_list}
-use Rattle.alma_ir.specs.Count.{saturate, expr_nodes, test_nodes, stmts_nodes, tests_nodes, args_nodes, arms_nodes, cases_nodes, branches_nodes, links_nodes, sels_nodes}
+use Rattle.alma_ir.specs.View.{sels_list}
+use Rattle.alma_ir.specs.Count.{sels_nodes}
 use Rattle.alma_ir.proofs.Counts
 use Rattle.alma_ir.proofs.Counts.{of_stmt, of_test, of_expr, of_arg, of_sel, of_link, of_arm, of_case, of_branch, by_expr, by_test, by_stmts, by_tests, by_args, by_arms, by_cases, by_branches, by_links}
 use Rattle.alma_ir.proofs.Saturated.{both, same, small, with_part, with_two, leaf, one_part, two_parts, turn, turn_above_one, next, ended, ended_above_one}
