@@ -52,6 +52,31 @@ quotient_above_less_fits (pos (suc n)) (negsuc b) fits positive negative =
     let size : negsuc 0 -ℤ pos (n / suc b) ≡ negsuc (n / suc b) = omega (arith, ints) in
     rw (less_one n, quotient_of_negative n b, size) (record { sfits = omega (arith, fits.sfits, div-le_self n (suc b)) })
 
+-- what is written for the quotient of a negative number by a positive one
+pub quotient_below : (a b : ℤ) → a <ℤ pos 0 → pos 0 <ℤ b → negsuc 0 -ℤ int_div (negsuc 0 -ℤ a) b ≡ div_down_of a b
+quotient_below (pos a) b negative positive = absurd (omega (arith, ints))
+quotient_below (negsuc m) (negsuc b) negative positive = absurd (omega (arith, ints))
+quotient_below (negsuc m) (pos k) negative positive =
+    let shifted : negsuc 0 -ℤ negsuc m ≡ pos m = omega (arith, ints) in
+    let less : negsuc 0 -ℤ pos (m / k) ≡ negsuc (m / k) = omega (arith, ints) in
+    rw shifted less
+
+-- and it is computed within 64 bits
+pub quotient_below_fits : (a b : ℤ) → FitsSigned w64 a → a <ℤ pos 0 → pos 0 <ℤ b → FitsSigned w64 (int_div (negsuc 0 -ℤ a) b)
+quotient_below_fits (pos a) b fits negative positive = absurd (omega (arith, ints))
+quotient_below_fits (negsuc m) (negsuc b) fits negative positive = absurd (omega (arith, ints))
+quotient_below_fits (negsuc m) (pos k) fits negative positive =
+    let shifted : negsuc 0 -ℤ negsuc m ≡ pos m = omega (arith, ints) in
+    rw shifted (record { sfits = omega (arith, fits.sfits, div-le_self m k) })
+
+pub quotient_below_less_fits : (a b : ℤ) → FitsSigned w64 a → a <ℤ pos 0 → pos 0 <ℤ b → FitsSigned w64 (negsuc 0 -ℤ int_div (negsuc 0 -ℤ a) b)
+quotient_below_less_fits (pos a) b fits negative positive = absurd (omega (arith, ints))
+quotient_below_less_fits (negsuc m) (negsuc b) fits negative positive = absurd (omega (arith, ints))
+quotient_below_less_fits (negsuc m) (pos k) fits negative positive =
+    let shifted : negsuc 0 -ℤ negsuc m ≡ pos m = omega (arith, ints) in
+    let size : negsuc 0 -ℤ pos (m / k) ≡ negsuc (m / k) = omega (arith, ints) in
+    rw (shifted, size) (record { sfits = omega (arith, fits.sfits, div-le_self m k) })
+
 -- what is written for the remainder of a positive number by a negative one
 pub remainder_above : (a b : ℤ) → pos 0 <ℤ a → b <ℤ pos 0 → (b +ℤ pos 1) -ℤ int_rem (pos 1 -ℤ a) b ≡ mod_down_of a b
 remainder_above (pos zero) b positive negative = absurd (omega (arith, ints))
@@ -122,6 +147,19 @@ remainder_below_fits (negsuc m) (pos (suc k)) fits negative positive =
     let size : (pos (suc k) -ℤ pos 1) -ℤ pos (m % suc k) ≡ pos (k - m % suc k) = omega (arith, ints, less) in
     rw (shifted, size) (record { sfits = omega (arith, fits.sfits) })
 
+-- the steps before them are too
+pub below_shifted_fits : (a : ℤ) → FitsSigned w64 a → a <ℤ pos 0 → FitsSigned w64 (negsuc 0 -ℤ a)
+below_shifted_fits a fits negative = omega (arith, ints)
+
+pub above_shifted_fits : (a : ℤ) → FitsSigned w64 a → pos 0 <ℤ a → FitsSigned w64 (pos 1 -ℤ a)
+above_shifted_fits a fits positive = omega (arith, ints)
+
+pub one_less_fits : (b : ℤ) → FitsSigned w64 b → pos 0 <ℤ b → FitsSigned w64 (b -ℤ pos 1)
+one_less_fits b fits positive = omega (arith, ints)
+
+pub one_more_fits : (b : ℤ) → FitsSigned w64 b → b <ℤ pos 0 → FitsSigned w64 (b +ℤ pos 1)
+one_more_fits b fits negative = omega (arith, ints)
+
 -- of numbers of one sign, or of 0, the quotient is the machine's
 alike_quotient : (a b : ℤ) → b ≢ pos 0 → (a <ℤ pos 0 → b <ℤ pos 0) → (pos 0 <ℤ a → pos 0 <ℤ b) → div_down_of a b ≡ int_div a b
 alike_quotient (pos a) (pos b) nonzero below above = refl
@@ -132,12 +170,30 @@ alike_quotient (pos (suc a)) (negsuc b) nonzero below above = absurd (let bad : 
 alike_quotient (negsuc a) (pos b) nonzero below above = absurd (let bad : pos b <ℤ pos 0 = below (omega (arith, ints)) in omega (arith, ints))
 alike_quotient (negsuc a) (negsuc b) nonzero below above = refl
 
+-- and the remainder is
+pub alike_rest : (a b : ℤ) → b ≢ pos 0 → (a <ℤ pos 0 → b <ℤ pos 0) → (pos 0 <ℤ a → pos 0 <ℤ b) → int_rem a b ≡ mod_down_of a b
+alike_rest (pos a) (pos zero) nonzero below above = absurd (nonzero refl)
+alike_rest (pos a) (pos (suc b)) nonzero below above =
+    let parts : suc b * (a / suc b) + a % suc b ≡ a = div-add-mod a (suc b) in
+    let product : pos (suc b) *ℤ pos (a / suc b) ≡ pos (suc b * (a / suc b)) = refl in
+    rw product (omega (arith, ints, parts))
+alike_rest (pos zero) (negsuc b) nonzero below above =
+    let nothing : (0 + b) / suc b ≡ 0 = div-eq_of_lt (omega arith) in
+    rw (nothing, zero-mod (suc b)) (omega (arith, ints))
+alike_rest (pos (suc a)) (negsuc b) nonzero below above = absurd (let bad : pos 0 <ℤ negsuc b = above (omega (arith, ints)) in omega (arith, ints))
+alike_rest (negsuc a) (pos b) nonzero below above = absurd (let bad : pos b <ℤ pos 0 = below (omega (arith, ints)) in omega (arith, ints))
+alike_rest (negsuc a) (negsuc b) nonzero below above =
+    let q = suc a / suc b in
+    let parts : suc b * q + suc a % suc b ≡ suc a = div-add-mod (suc a) (suc b) in
+    let product : negsuc b *ℤ pos q ≡ neg_ℤ (pos (suc b * q)) = refl in
+    rw product (omega (arith, ints, parts))
+
 -- a number of INTEGER has 64 bits
 integer_fits : (n : ℤ) → is_integer n ≡ true → FitsSigned w64 n
 integer_fits (pos n) h = record { sfits = grind (arith, nat_tests) }
 integer_fits (negsuc n) h = record { sfits = grind (arith, nat_tests) }
 
-nonzero_divides : (b : ℤ) → FitsSigned w64 b → b ≢ pos 0 → IsNonZero w64 b
+pub nonzero_divides : (b : ℤ) → FitsSigned w64 b → b ≢ pos 0 → IsNonZero w64 b
 nonzero_divides (pos zero) fits nonzero = absurd (nonzero refl)
 nonzero_divides (pos (suc n)) fits nonzero = omega arith
 nonzero_divides (negsuc n) fits nonzero = omega (arith, fits.sfits)

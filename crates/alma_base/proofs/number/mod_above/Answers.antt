@@ -1,25 +1,47 @@
-use Rattle.std.proofs.Common.{rules, pos, ◌+ℤ◌, ◌-ℤ◌, w64, FitsSigned, arith}
+use Rattle.std.proofs.Common.{pos, ◌+ℤ◌, ◌-ℤ◌, w64, arith}
 use Rattle.std.proofs.lemmas.Int.{ints, to_z-of_z}
 use Rattle.std.specs.Prelude.{int_rem}
-use Rattle.alma_base.proofs.Division.{remainder_above, rest_above_fits, remainder_above_fits}
+use Rattle.alma_base.proofs.Division.{remainder_above, nonzero_divides, one_more_fits, above_shifted_fits, quotient_above_fits, rest_above_fits, remainder_above_fits}
 use Rattle.alma_base.proofs.number.mod_above.Goals as goal
+
+pub overflow_add-result : goal.overflow_add-result
+overflow_add-result c = rw (to_z-of_z w64 c.args.b c.ranges.b) (one_more_fits c.args.b c.ranges.b c.requires.negative)
+
+pub overflow_sub-result : goal.overflow_sub-result
+overflow_sub-result c = rw (to_z-of_z w64 c.args.a c.ranges.a) (above_shifted_fits c.args.a c.ranges.a c.requires.positive)
+
+pub nonzero_rem-result : goal.nonzero_rem-result
+nonzero_rem-result c =
+    let a = c.args.a in
+    let b = c.args.b in (
+      nonzero_divides b c.ranges.b (λ e. omega (arith, ints)),
+      rw (to_z-of_z w64 a c.ranges.a, to_z-of_z w64 (pos 1 -ℤ a) (above_shifted_fits a c.ranges.a c.requires.positive), to_z-of_z w64 b c.ranges.b)
+          (quotient_above_fits a b c.ranges.a c.requires.positive c.requires.negative),
+    )
+
+pub overflow_sub-result-2 : goal.overflow_sub-result-2
+overflow_sub-result-2 c =
+    let a = c.args.a in
+    let b = c.args.b in
+    rw (
+      to_z-of_z w64 a c.ranges.a,
+      to_z-of_z w64 b c.ranges.b,
+      to_z-of_z w64 (pos 1 -ℤ a) (above_shifted_fits a c.ranges.a c.requires.positive),
+      to_z-of_z w64 (b +ℤ pos 1) (one_more_fits b c.ranges.b c.requires.negative),
+      to_z-of_z w64 (int_rem (pos 1 -ℤ a) b) (rest_above_fits a b c.ranges.a c.requires.positive c.requires.negative),
+    )
+    (remainder_above_fits a b c.ranges.b c.requires.positive c.requires.negative)
 
 pub returns : goal.returns
 returns c =
     let a = c.args.a in
     let b = c.args.b in
-    let fits_a : FitsSigned w64 a = search rules in
-    let fits_b : FitsSigned w64 b = search rules in
-    let fits_less : FitsSigned w64 (pos 1 -ℤ a) = omega (arith, ints) in
-    let fits_more : FitsSigned w64 (b +ℤ pos 1) = omega (arith, ints) in
-    let fits_rest : FitsSigned w64 (int_rem (pos 1 -ℤ a) b) = rest_above_fits a b fits_a c.requires.positive c.requires.negative in
-    let fits : FitsSigned w64 ((b +ℤ pos 1) -ℤ int_rem (pos 1 -ℤ a) b) = remainder_above_fits a b fits_b c.requires.positive c.requires.negative in
     rw (
-      to_z-of_z w64 a fits_a,
-      to_z-of_z w64 b fits_b,
-      to_z-of_z w64 (pos 1 -ℤ a) fits_less,
-      to_z-of_z w64 (b +ℤ pos 1) fits_more,
-      to_z-of_z w64 (int_rem (pos 1 -ℤ a) b) fits_rest,
-      to_z-of_z w64 ((b +ℤ pos 1) -ℤ int_rem (pos 1 -ℤ a) b) fits,
+      to_z-of_z w64 a c.ranges.a,
+      to_z-of_z w64 b c.ranges.b,
+      to_z-of_z w64 (pos 1 -ℤ a) (above_shifted_fits a c.ranges.a c.requires.positive),
+      to_z-of_z w64 (b +ℤ pos 1) (one_more_fits b c.ranges.b c.requires.negative),
+      to_z-of_z w64 (int_rem (pos 1 -ℤ a) b) (rest_above_fits a b c.ranges.a c.requires.positive c.requires.negative),
+      to_z-of_z w64 ((b +ℤ pos 1) -ℤ int_rem (pos 1 -ℤ a) b) (remainder_above_fits a b c.ranges.b c.requires.positive c.requires.negative),
     )
     (remainder_above a b c.requires.positive c.requires.negative)
