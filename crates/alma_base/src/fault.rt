@@ -5,7 +5,7 @@ ghost use Rattle.alma_base.specs.Fault.{lex_fault_text, syntax_fault_text, check
 use std::alloc::{AllocError, AllocFailed};
 
 /// Memory ran out.
-#[derive(Clone, Copy, Debug, PartialEq, Eq)]
+#[derive(Clone, Copy, Debug)]
 pub struct NoMemory;
 
 impl From<AllocError> for NoMemory {

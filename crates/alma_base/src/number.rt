@@ -3,7 +3,7 @@ ghost use Rattle.std.specs.Prelude.{◌≡◌, ◌≢◌, ◌<ℤ◌, pos, false
 ghost use Rattle.alma_base.specs.Numbers.{whole_range, is_integer, div_down_of, mod_down_of};
 
 /// The numbers from `low` to `high`. Whoever makes one keeps `low` at most `high`.
-#[derive(Clone, Copy, Debug, PartialEq, Eq)]
+#[derive(Clone, Copy)]
 pub struct Range {
     pub low: i64,
     pub high: i64,

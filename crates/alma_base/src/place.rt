@@ -8,5 +8,5 @@ pub struct Place {
 }
 
 /// The exit status of the program.
-#[derive(Clone, Copy, Debug, PartialEq, Eq)]
+#[derive(Clone, Copy)]
 pub struct Status(pub u8);

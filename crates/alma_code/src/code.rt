@@ -62,7 +62,7 @@ pub struct CodeGlobal {
 }
 
 /// From this address on up to that of the next record, the line of the source; 0 where none is known.
-#[derive(Clone, Copy, Debug, PartialEq, Eq)]
+#[derive(Clone, Copy)]
 pub struct Line {
     pub at: u32,
     pub line: u32,

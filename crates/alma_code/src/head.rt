@@ -20,7 +20,7 @@ pub enum ParamKind {
 }
 
 /// A parameter. `cells` is 1 for Value and Mix, and for Link the routine to whose frame it links.
-#[derive(Clone, Copy, Debug, PartialEq, Eq)]
+#[derive(Clone, Copy)]
 pub struct CodeParam {
     pub kind: ParamKind,
     pub cells: u32,

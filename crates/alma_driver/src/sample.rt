@@ -77,7 +77,7 @@ fn write_summary<O: Sink>(
 }
 
 /// What is told of the run of a sample: how many bytes it printed, and its status.
-#[derive(Clone, Copy, Debug)]
+#[derive(Clone, Copy)]
 struct Summary {
     printed: usize,
     status: u8,

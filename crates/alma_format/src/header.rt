@@ -8,7 +8,7 @@ use crate::bytes::{u16_at, u32_at};
 use crate::fault::ObjectFault;
 
 /// The version, and how many records or bytes each section has.
-#[derive(Clone, Copy, Debug, PartialEq, Eq)]
+#[derive(Clone, Copy)]
 pub struct Header {
     pub version: u16,
     pub routines: u32,

@@ -153,7 +153,7 @@ pub enum Sel {
 }
 
 /// Where a variable stands.
-#[derive(Clone, Copy, Debug, PartialEq, Eq)]
+#[derive(Clone, Copy)]
 pub enum Root {
     /// In the slots of the routine itself, from this one on.
     Local(u32),
@@ -168,7 +168,7 @@ pub enum Root {
 }
 
 /// An operator on two numbers.
-#[derive(Clone, Copy, Debug, PartialEq, Eq)]
+#[derive(Clone, Copy)]
 pub enum Op {
     Add,
     Sub,
@@ -178,7 +178,7 @@ pub enum Op {
 }
 
 /// A comparison of two numbers.
-#[derive(Clone, Copy, Debug, PartialEq, Eq)]
+#[derive(Clone, Copy)]
 pub enum Cmp {
     Equal,
     Unequal,
@@ -189,14 +189,14 @@ pub enum Cmp {
 }
 
 /// What READ takes: a number, or one byte.
-#[derive(Clone, Copy, Debug, PartialEq, Eq)]
+#[derive(Clone, Copy)]
 pub enum ReadAs {
     Int,
     Char,
 }
 
 /// How WRITE prints a number.
-#[derive(Clone, Copy, Debug, PartialEq, Eq)]
+#[derive(Clone, Copy)]
 pub enum WriteAs {
     Int,
     Char,

@@ -44,7 +44,7 @@ pub struct Routine {
 }
 
 /// A parameter. One of kind Mix has a slot for a place and, behind it, one for a number.
-#[derive(Clone, Copy, Debug, PartialEq, Eq)]
+#[derive(Clone, Copy)]
 pub struct Param {
     pub kind: ArgKind,
     /// Its first slot.
@@ -55,7 +55,7 @@ pub struct Param {
 }
 
 /// How an argument is handed over.
-#[derive(Clone, Copy, Debug, PartialEq, Eq)]
+#[derive(Clone, Copy)]
 pub enum ArgKind {
     /// As a number.
     Value,

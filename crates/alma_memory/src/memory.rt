@@ -28,7 +28,7 @@ pub struct Resumed {
 }
 
 /// Why a frame is not entered.
-#[derive(Clone, Copy, Debug, PartialEq, Eq)]
+#[derive(Clone, Copy, Debug)]
 pub enum EnterError {
     /// 10,000 frames are live.
     DepthFull,

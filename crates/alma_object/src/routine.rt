@@ -5,7 +5,7 @@ use alma_code::{CodeParam, Head, Run};
 use alma_format::{param_in, run_in};
 
 /// A routine of an object. It lends the bytes of the object.
-#[derive(Clone, Copy, Debug)]
+#[derive(Clone, Copy)]
 pub struct RoutineView<'b> {
     pub(crate) bytes: &'b [u8],
     pub(crate) name: &'b [u8],

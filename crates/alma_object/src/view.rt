@@ -10,7 +10,7 @@ use alma_format::Header;
 pub use readers::GlobalView;
 
 /// A view of the bytes of an object. It lends them, and each reader takes what it gives straight from them.
-#[derive(Clone, Copy, Debug)]
+#[derive(Clone, Copy)]
 pub struct ObjectView<'b> {
     bytes: &'b [u8],
     header: Header,

@@ -1,7 +1,7 @@
 // What a run shows.
 
 /// What a run shows.
-#[derive(Clone, Copy, Debug)]
+#[derive(Clone, Copy)]
 pub enum Showing<'n> {
     /// Its prints, and its counts where they are asked for.
     Prints(bool),

@@ -7,7 +7,7 @@ use alma_base::NoMemory;
 use std::alloc::Global;
 
 /// A node with its first token, or the first token of a statement of the resolved program.
-#[derive(Clone, Copy, Debug, PartialEq, Eq)]
+#[derive(Clone, Copy)]
 pub enum Mark {
     Node { node: u32, token: u32 },
     Statement { token: u32 },

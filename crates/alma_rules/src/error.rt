@@ -6,7 +6,7 @@ use alma_base::CheckFault;
 use std::alloc::{AllocError, AllocFailed};
 
 /// The first broken rule with the number of its node, or want of memory.
-#[derive(Clone, Copy, Debug, PartialEq, Eq)]
+#[derive(Clone, Copy)]
 pub enum Stop {
     Fault(CheckFault, u32),
     Memory,
@@ -29,7 +29,7 @@ impl<T: Drop> From<AllocFailed<T>> for Stop {
 }
 
 /// The broken rule with the number of its node and the index of that node's first token, or want of memory.
-#[derive(Clone, Copy, Debug, PartialEq, Eq)]
+#[derive(Clone, Copy)]
 pub enum CheckError {
     Fault(CheckFault, u32, usize),
     Memory,

@@ -6,7 +6,7 @@ ghost use Rattle.alma_scan.specs.Bytes.{is_quote, AllIn, Stops};
 ghost use Rattle.alma_scan.specs.Inner.Classes.{in_class};
 
 /// A class of bytes.
-#[derive(Clone, Copy, Debug, PartialEq, Eq)]
+#[derive(Clone, Copy)]
 pub enum Class {
     Blank,
     Digit,

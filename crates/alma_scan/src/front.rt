@@ -13,7 +13,7 @@ use alma_base::LexFault;
 use alma_tree::Kind;
 
 /// A token, and the bytes behind it.
-#[derive(Clone, Copy, Debug, PartialEq, Eq)]
+#[derive(Clone, Copy)]
 pub struct Front<'s> {
     pub kind: Kind,
     pub text: &'s [u8],

@@ -17,7 +17,7 @@ use std::marker::Model;
 pub struct ShapeId(pub u32);
 
 /// A field of a record. Its offset, in cells, is set by the table to which its record is added.
-#[derive(Debug, Drop)]
+#[derive(Drop)]
 pub struct FieldOf {
     pub name: Vec<u8>,
     pub offset: u32,
@@ -25,7 +25,7 @@ pub struct FieldOf {
 }
 
 /// The shape of a type.
-#[derive(Debug, Drop)]
+#[derive(Drop)]
 pub enum Shape {
     Integer,
     Char,

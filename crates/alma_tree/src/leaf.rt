@@ -22,7 +22,7 @@ pub struct Names {
 }
 
 /// What stands between the two sides of a comparison.
-#[derive(Clone, Copy, Debug, PartialEq, Eq)]
+#[derive(Clone, Copy)]
 pub enum Relation {
     Equal,
     Unequal,
@@ -33,14 +33,14 @@ pub enum Relation {
 }
 
 /// A sign before the first term of a sum.
-#[derive(Clone, Copy, Debug, PartialEq, Eq)]
+#[derive(Clone, Copy)]
 pub enum Sign {
     Plus,
     Minus,
 }
 
 /// What stands between two terms.
-#[derive(Clone, Copy, Debug, PartialEq, Eq)]
+#[derive(Clone, Copy)]
 pub enum AddOperator {
     Plus,
     Minus,
@@ -48,7 +48,7 @@ pub enum AddOperator {
 }
 
 /// What stands between two factors.
-#[derive(Clone, Copy, Debug, PartialEq, Eq)]
+#[derive(Clone, Copy)]
 pub enum MulOperator {
     Star,
     Div,
@@ -57,7 +57,7 @@ pub enum MulOperator {
 }
 
 /// How a parameter is passed where it is not by value.
-#[derive(Clone, Copy, Debug, PartialEq, Eq)]
+#[derive(Clone, Copy)]
 pub enum Mode {
     Var,
     Mix,

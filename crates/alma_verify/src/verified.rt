@@ -8,7 +8,7 @@ use alma_code::VerifyFault;
 use alma_object::ObjectView;
 
 /// A view of an object whose code is sound.
-#[derive(Clone, Copy, Debug)]
+#[derive(Clone, Copy)]
 pub struct Verified<'b> {
     view: ObjectView<'b>,
     ghost clean: { code_fault_of (code_of_view view) ≡ None },

@@ -11,7 +11,7 @@ use alma_memory::Memory;
 use itoa::Buffer;
 
 /// A watched name, and the slot and the number of cells of the global that it names.
-#[derive(Clone, Copy, Debug)]
+#[derive(Clone, Copy)]
 pub struct Watch<'w> {
     pub name: &'w [u8],
     pub at: Option<(u32, u32)>,

@@ -22,7 +22,7 @@ const TRACE_OPTIONS: Allowance = Allowance {
 };
 
 /// What the words ask for.
-#[derive(Debug, PartialEq, Eq, Drop)]
+#[derive(Drop)]
 pub enum Request<'w> {
     /// `check FILE`: whether the source of this name has a fault.
     Check(&'w str),
@@ -41,7 +41,7 @@ pub enum Request<'w> {
 }
 
 /// Why words are no request.
-#[derive(Clone, Copy, Debug, PartialEq, Eq)]
+#[derive(Clone, Copy)]
 pub enum WordsError {
     /// The first word, from 1, that cannot stand where it is, or one more than there are.
     Bad(usize),

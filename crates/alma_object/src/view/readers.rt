@@ -19,7 +19,7 @@ use alma_sections::{
 };
 
 /// A global of an object. It lends its name.
-#[derive(Clone, Copy, Debug)]
+#[derive(Clone, Copy)]
 pub struct GlobalView<'b> {
     pub name: &'b [u8],
     pub slot: u32,
