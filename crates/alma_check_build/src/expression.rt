@@ -311,6 +311,30 @@ pub fn select_field(
     }
 }
 
+// An element of a variable, where it is an array and the index has a value.
+fn select_element(
+    alloc: Global,
+    env: &Env,
+    located: Located,
+    typed: Option<Typed>,
+) -> Result<Option<Denoted>, AllocError>
+    ensures { IfOk result (λ d. denoted_in (headings_in env.now) d ≡ parts.select_index
+        (scene_of env.now somewhere) (Some (parts.a_variable (located_of located)))
+        (typing_in typed)) }
+{
+    match env.row(located.shape) {
+        None => Ok(Some(Denoted::NoArray)),
+        Some((index, element)) => match typed {
+            None => Ok(None),
+            Some(typed) => {
+                let value = as_value(alloc, typed.meaning)?;
+                let sel = Sel::Index(value, env.range(index), env.cells(element));
+                Ok(Some(Denoted::Variable(narrowed(located, element, sel)?)))
+            }
+        },
+    }
+}
+
 pub fn select_index(
     alloc: Global,
     env: &Env,
@@ -323,17 +347,7 @@ pub fn select_index(
     match found {
         None => Ok(None),
         Some(Denoted::NoArray) => Ok(Some(Denoted::NoArray)),
-        Some(Denoted::Variable(located)) => match env.row(located.shape) {
-            None => Ok(Some(Denoted::NoArray)),
-            Some((index, element)) => match typed {
-                None => Ok(None),
-                Some(typed) => {
-                    let value = as_value(alloc, typed.meaning)?;
-                    let sel = Sel::Index(value, env.range(index), env.cells(element));
-                    Ok(Some(Denoted::Variable(narrowed(located, element, sel)?)))
-                }
-            },
-        },
+        Some(Denoted::Variable(located)) => select_element(alloc, env, located, typed),
         Some(Denoted::Constant(shape, value)) => match typed {
             None => Ok(None),
             Some(_typed) => Ok(Some(Denoted::Constant(shape, value))),
@@ -360,13 +374,20 @@ fn comparison(relation: Relation) -> Cmp
     }
 }
 
+// An expression as a value, in a box.
+fn boxed_value(alloc: Global, meaning: Meaning) -> Result<Box<Expr>, AllocError>
+    ensures { IfOk result (λ e. expr_of e.value ≡ parts.value_of (meaning_view meaning)) }
+{
+    Ok(Box::new(alloc, as_value(alloc, meaning)?)?)
+}
+
 fn compare(alloc: Global, cmp: Cmp, left: Meaning, right: Meaning) -> Result<Meaning, AllocError>
     ensures { IfOk result (λ m. meaning_view m ≡ parts.plain
         (ir.Compare cmp (parts.value_of (meaning_view left))
         (parts.value_of (meaning_view right)))) }
 {
-    let first = Box::new(alloc, as_value(alloc, left)?)?;
-    let second = Box::new(alloc, as_value(alloc, right)?)?;
+    let first = boxed_value(alloc, left)?;
+    let second = boxed_value(alloc, right)?;
     Ok(Meaning::Plain(Expr::Compare(cmp, first, second)))
 }
 
@@ -460,6 +481,24 @@ fn relation_of(
     }
 }
 
+// A relation whose left side has a value.
+fn relate_to(
+    alloc: Global,
+    env: &Env,
+    relation: Relation,
+    left: Typed,
+    right: Option<Typed>,
+) -> Result<Option<Typed>, AllocError>
+    ensures { IfOk result (λ t. typing_in t ≡ option_map
+        (parts.related (scene_of env.now somewhere) relation)
+        (both_of (Some (typing_of left)) (typing_in right))) }
+{
+    match right {
+        None => Ok(None),
+        Some(right) => Ok(Some(boolean(relation_of(alloc, env, relation, left, right)?))),
+    }
+}
+
 pub fn relate(
     alloc: Global,
     env: &Env,
@@ -473,10 +512,7 @@ pub fn relate(
 {
     match left {
         None => Ok(None),
-        Some(left) => match right {
-            None => Ok(None),
-            Some(right) => Ok(Some(boolean(relation_of(alloc, env, relation, left, right)?))),
-        },
+        Some(left) => relate_to(alloc, env, relation, left, right),
     }
 }
 
