@@ -1,8 +1,8 @@
 -- Phrases walked one behind another.
-use Rattle.std.proofs.Common.{◌≡◌, ℕ, ◌+◌, ◌<◌, ◌≤◌, List, [], ◌∷◌, length, get_or, drop, Result, Ok, Err, OnOk, refl, ap, sym, subst, ◌∙◌, append_assoc, append-nil}
+use Rattle.std.proofs.Common.{◌≡◌, ℕ, ◌+◌, ◌<◌, ◌≤◌, List, [], ◌∷◌, length, get_or, drop, Result, Ok, Err, IsOk, OnOk, refl, ap, sym, subst, ◌∙◌, append_assoc, append-nil}
 use Rattle.std.proofs.lemmas.List.{drop_more, drop_all}
 use Rattle.alma_rules.specs.Places.{Marked, Step, stay, followed, ◌>>◌, whole, token, statement, statement_of, from_here, marked_node, node_at}
-use Rattle.alma_phrase_marks.specs.Marking.{begun, Goes, Noted}
+use Rattle.alma_phrase_marks.specs.Marking.{begun, opened, two_words, one_more, Goes, Noted}
 
 followed_on : (a : Marked) (f g : Step) → followed (followed a f) g ≡ followed a (f >> g)
 followed_on a f g = ap (λ xs. record { marks = xs; end = (g (f a.end).end).end }) (append_assoc a.marks (f a.end).marks (g (f a.end).end).marks)
@@ -35,6 +35,47 @@ pub ends_in : {T E : Type 0} {a m : Marked} {f : Step} (r : Result T E) (new : M
 ends_in (Ok x) new g e h = e ▹ h
 ends_in (Err x) new g e h = tt
 
+-- where what came behind a part was reached, the part has been walked
+pub went : {T E : Type 0} {a m : Marked} {f : Step} (w : Result T E) → IsOk w → OnOk w (Goes a m f) → Goes a m f
+went (Ok x) is h = h
+went (Err x) is h = absurd (cc)
+
+-- the part is a node with what it is behind, and was looked at by who put the node
+pub closes : {T E U F : Type 0} {a m k : Marked} {f g : Step} (r : Result T E) (w : Result U F) (new : Marked) (n : ℕ)
+    → OnOk w (Goes m k g) → OnOk r (IsOk w) → OnOk r (Noted k new n a.end) → (Goes m k g → Goes a k f) → OnOk r (Goes a new (whole n f))
+closes (Ok x) w new n h is noted last = wholly (last (went w is h)) noted
+closes (Err x) w new n h is noted last = tt
+
+-- one phrase that nothing is known of
+next_of : (k : Marked) (f : Step) → Goes k (followed k f) f
+next_of k f = record { same = refl }
+
+-- the same, with a token behind the part
+pub closes_in : {T E U F : Type 0} {a m : Marked} {f : Step} (r : Result T E) (w : Result U F) (new : Marked) (n : ℕ) (k : Marked) (g : Step)
+    → OnOk w (Goes m k g) → OnOk r (IsOk w) → OnOk r (Noted (followed k token) new n a.end)
+    → (Goes m (followed k token) (g >> token) → Goes a (followed k token) f) → OnOk r (Goes a new (whole n f))
+closes_in (Ok x) w new n k g h is noted last = wholly (last (went w is h ▹ next_of k token)) noted
+closes_in (Err x) w new n k g h is noted last = tt
+
+-- the part and a token behind it, which looked at it
+pub passes : {T E U F : Type 0} (r : Result T E) (w : Result U F) (a m new : Marked) (f : Step)
+    → OnOk w (Goes a m f) → OnOk r (IsOk w) → OnOk r (Goes m new token) → OnOk r (Goes a new (f >> token))
+passes (Ok x) w a m new f h is g = went w is h ▹ g
+passes (Err x) w a m new f h is g = tt
+
+-- a node behind a phrase, as it is behind what the phrase makes of the marks
+pub noted_in : {a m r : Marked} {f : Step} {n at : ℕ} → Goes a m f → Noted m r n at → Noted (followed a f) r n at
+noted_in {a} {m} {r} {f} {n} {at} x y = record { same = y.same ∙ ap (marked_node n at) x.same }
+
+-- two tokens, and what is behind them
+pub words : {a m r : Marked} {g : Step} → Goes a m two_words → Goes m r g → Goes a r (token >> token >> g)
+words x y = record { same = (x ▹ y).same }
+
+-- the head of a FOR or SOME, and what is behind it
+pub opens : {a m r : Marked} {g : Step} (v : ℕ) → Goes a m (opened v) → Goes m r g
+    → Goes a r (statement >> token >> whole v token >> token >> g)
+opens v x y = record { same = (x ▹ y).same }
+
 -- a statement that begins here
 pub stated : {a r : Marked} → Goes a r (statement_of a.end) → Goes a r statement
 stated g = record { same = g.same }
@@ -62,6 +103,12 @@ rests_all a f = record { same = refl }
 infixl 10 ◌▸◌
 pub ◌▸◌ : {start now m : Marked} {all f rest : Step} → Rests start now all (f >> rest) → Goes now m f → Rests start m all rest
 ◌▸◌ {start} {now} {m} {all} {f} {rest} h g = record { same = ap (λ u. followed u rest) g.same ∙ followed_on now f rest ∙ h.same }
+
+-- a comma and a statement at a token, as one step of a loop
+pub item : {start now m : Marked} {all rest : Step} (at : ℕ) → Rests start now all (token >> statement_of at >> rest)
+    → Goes now m (one_more at) → Rests start m all rest
+item {start} {now} {m} {all} {rest} at h g =
+    record { same = ap (λ u. followed u rest) g.same ∙ followed_on now (one_more at) rest ∙ h.same }
 
 pub next_at : {X : Type 0} {start now : Marked} {all : Step} (p : List X → Step) (i : ℕ) (xs : List X) (d : X) → i < length xs
     → Rests start now all (p (drop i xs)) → Rests start now all (p (get_or xs i d ∷ drop (i + 1) xs))

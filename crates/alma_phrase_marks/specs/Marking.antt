@@ -30,3 +30,15 @@ Walks r old new f = OnOk r (Goes (marked old) (marked new) f)
 -- a statement, and its first word
 abbrev pub begun : places.Step
 begun = places.statement >> places.token
+
+-- the head of a FOR or SOME: a statement with its first word, the variable and the word behind it
+abbrev pub opened : ℕ → places.Step
+opened variable = places.statement >> places.token >> places.whole variable places.token >> places.token
+
+-- a word and the bracket behind it
+abbrev pub two_words : places.Step
+two_words = places.token >> places.token
+
+-- a comma, and one more statement that begins at a token
+abbrev pub one_more : ℕ → places.Step
+one_more t = places.token >> places.statement_of t

@@ -4,7 +4,7 @@ ghost use Rattle.alma_rules.specs.Places as places;
 ghost use Rattle.alma_rules.specs.View as view;
 ghost use Rattle.alma_phrase_marks.specs.Marking.{Walks};
 
-use crate::mark::Marks;
+use crate::mark::{Marks, closed, node_behind, token_behind};
 use crate::statement::mark_stmts;
 use alma_base::NoMemory;
 use alma_tree::{
@@ -19,8 +19,7 @@ pub fn mark_expr(marks: &mut Marks, expr: &Expr) -> Result<(), NoMemory>
 {
     let at = marks.end;
     mark_simple(marks, &expr.left)?;
-    mark_compared(marks, &expr.right)?;
-    marks.node(expr.node, at)
+    node_behind(mark_compared(marks, &expr.right), marks, expr.node, at)
 }
 
 #[cycle(marks)]
@@ -44,8 +43,7 @@ fn mark_simple(marks: &mut Marks, simple: &Simple) -> Result<(), NoMemory>
     let at = marks.end;
     mark_sign(marks, simple.sign)?;
     mark_term(marks, &simple.first)?;
-    mark_terms(marks, &simple.more)?;
-    marks.node(simple.node, at)
+    node_behind(mark_terms(marks, &simple.more), marks, simple.node, at)
 }
 
 fn mark_sign(marks: &mut Marks, sign: Option<Sign>) -> Result<(), NoMemory>
@@ -74,8 +72,7 @@ fn mark_term(marks: &mut Marks, term: &Term) -> Result<(), NoMemory>
 {
     let at = marks.end;
     mark_factor(marks, &term.first)?;
-    mark_factors(marks, &term.more)?;
-    marks.node(term.node, at)
+    node_behind(mark_factors(marks, &term.more), marks, term.node, at)
 }
 
 #[cycle(marks)]
@@ -97,12 +94,10 @@ fn mark_factor(marks: &mut Marks, factor: &Factor) -> Result<(), NoMemory>
     match factor {
         Factor::Not { node, primary } => {
             marks.token()?;
-            mark_primary(marks, primary)?;
-            marks.node(*node, at)
+            node_behind(mark_primary(marks, primary), marks, *node, at)
         }
         Factor::Plain { node, primary } => {
-            mark_primary(marks, primary)?;
-            marks.node(*node, at)
+            node_behind(mark_primary(marks, primary), marks, *node, at)
         }
     }
 }
@@ -135,8 +130,7 @@ fn mark_named(
 {
     let at = marks.end;
     mark_desig(marks, desig)?;
-    mark_args(marks, args)?;
-    marks.node(node, at)
+    node_behind(mark_args(marks, args), marks, node, at)
 }
 
 #[cycle(marks)]
@@ -146,9 +140,7 @@ fn mark_paren(marks: &mut Marks, node: u32, body: &Stmts) -> Result<(), NoMemory
 {
     let at = marks.end;
     marks.token()?;
-    mark_inside(marks, body)?;
-    marks.token()?;
-    marks.node(node, at)
+    closed(mark_inside(marks, body), marks, node, at)
 }
 
 // What stands in parentheses: one expression, or statements.
@@ -174,9 +166,8 @@ fn mark_only(marks: &mut Marks, outer: u32, node: u32, value: &Expr) -> Result<(
         (places.whole node (places.mark_expr (view.view_expr value.now)))) }
 {
     let at = marks.end;
-    mark_expr(marks, value)?;
-    marks.node(node, at)?;
-    marks.node(outer, at)
+    let inner = node_behind(mark_expr(marks, value), marks, node, at);
+    node_behind(inner, marks, outer, at)
 }
 
 #[cycle(marks)]
@@ -185,11 +176,8 @@ fn mark_known(marks: &mut Marks, node: u32, desig: &Desig) -> Result<(), NoMemor
         (places.mark_primary (tree.known node (view.view_desig desig.now))) }
 {
     let at = marks.end;
-    marks.token()?;
-    marks.token()?;
-    mark_desig(marks, desig)?;
-    marks.token()?;
-    marks.node(node, at)
+    marks.tokens()?;
+    closed(mark_desig(marks, desig), marks, node, at)
 }
 
 // ORD or CHR of an expression.
@@ -199,11 +187,8 @@ fn mark_converted(marks: &mut Marks, node: u32, value: &Expr) -> Result<(), NoMe
         (places.mark_primary (tree.ord node (view.view_expr value.now))) }
 {
     let at = marks.end;
-    marks.token()?;
-    marks.token()?;
-    mark_expr(marks, value)?;
-    marks.token()?;
-    marks.node(node, at)
+    marks.tokens()?;
+    closed(mark_expr(marks, value), marks, node, at)
 }
 
 #[cycle(marks)]
@@ -224,10 +209,7 @@ fn mark_values(marks: &mut Marks, values: &Option<Exprs>) -> Result<(), NoMemory
     marks.token()?;
     match values {
         None => marks.token(),
-        Some(values) => {
-            mark_exprs(marks, values)?;
-            marks.token()
-        }
+        Some(values) => token_behind(mark_exprs(marks, values), marks),
     }
 }
 
@@ -257,8 +239,7 @@ pub(crate) fn mark_desig(marks: &mut Marks, desig: &Desig) -> Result<(), NoMemor
 {
     let at = marks.end;
     marks.leaf(desig.name.node)?;
-    mark_selectors(marks, &desig.more)?;
-    marks.node(desig.node, at)
+    node_behind(mark_selectors(marks, &desig.more), marks, desig.node, at)
 }
 
 #[cycle(marks)]
@@ -280,14 +261,7 @@ fn mark_selector(marks: &mut Marks, selector: &Selector) -> Result<(), NoMemory>
     let at = marks.end;
     marks.token()?;
     match selector {
-        Selector::Field { node, name } => {
-            marks.leaf(name.node)?;
-            marks.node(*node, at)
-        }
-        Selector::Index { node, indices } => {
-            mark_exprs(marks, indices)?;
-            marks.token()?;
-            marks.node(*node, at)
-        }
+        Selector::Field { node, name } => node_behind(marks.leaf(name.node), marks, *node, at),
+        Selector::Index { node, indices } => closed(mark_exprs(marks, indices), marks, *node, at),
     }
 }

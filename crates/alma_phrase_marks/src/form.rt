@@ -5,7 +5,7 @@ ghost use Rattle.alma_rules.specs.View as view;
 ghost use Rattle.alma_phrase_marks.specs.Marking.{Walks};
 
 use crate::expression::mark_expr;
-use crate::mark::Marks;
+use crate::mark::{Marks, closed, node_behind, token_behind};
 use crate::statement::mark_stmts;
 use alma_base::NoMemory;
 use alma_tree::{Arm, Elsif, Expr, Label, Name, Stmts};
@@ -26,13 +26,10 @@ pub(crate) fn mark_if(
 {
     let at = marks.end;
     marks.begin()?;
-    mark_expr(marks, test)?;
-    marks.token()?;
+    token_behind(mark_expr(marks, test), marks)?;
     mark_stmts(marks, then)?;
     mark_elsifs(marks, elsifs)?;
-    mark_else(marks, otherwise)?;
-    marks.token()?;
-    marks.node(node, at)
+    closed(mark_else(marks, otherwise), marks, node, at)
 }
 
 #[cycle(marks)]
@@ -41,8 +38,7 @@ fn mark_elsifs(marks: &mut Marks, elsifs: &[Elsif]) -> Result<(), NoMemory>
 {
     for elsif in elsifs {
         marks.token()?;
-        mark_expr(marks, &elsif.test)?;
-        marks.token()?;
+        token_behind(mark_expr(marks, &elsif.test), marks)?;
         mark_stmts(marks, &elsif.then)?;
     }
     Ok(())
@@ -74,11 +70,8 @@ pub(crate) fn mark_while(
 {
     let at = marks.end;
     marks.begin()?;
-    mark_expr(marks, test)?;
-    marks.token()?;
-    mark_stmts(marks, body)?;
-    marks.token()?;
-    marks.node(node, at)
+    token_behind(mark_expr(marks, test), marks)?;
+    closed(mark_stmts(marks, body), marks, node, at)
 }
 
 /// REPEAT.
@@ -94,10 +87,8 @@ pub(crate) fn mark_repeat(
 {
     let at = marks.end;
     marks.begin()?;
-    mark_stmts(marks, body)?;
-    marks.token()?;
-    mark_expr(marks, test)?;
-    marks.node(node, at)
+    token_behind(mark_stmts(marks, body), marks)?;
+    node_behind(mark_expr(marks, test), marks, node, at)
 }
 
 /// FOR.
@@ -116,17 +107,11 @@ pub(crate) fn mark_for(
         (view.by_of by.now) (view.view_stmts body.now))) }
 {
     let at = marks.end;
-    marks.begin()?;
-    marks.leaf(variable.node)?;
-    marks.token()?;
-    mark_expr(marks, from)?;
-    marks.token()?;
+    marks.opening(variable.node)?;
+    token_behind(mark_expr(marks, from), marks)?;
     mark_expr(marks, to)?;
-    mark_by(marks, by)?;
-    marks.token()?;
-    mark_stmts(marks, body)?;
-    marks.token()?;
-    marks.node(node, at)
+    token_behind(mark_by(marks, by), marks)?;
+    closed(mark_stmts(marks, body), marks, node, at)
 }
 
 #[cycle(marks)]
@@ -157,16 +142,10 @@ pub(crate) fn mark_some(
         (view.view_stmts body.now))) }
 {
     let at = marks.end;
-    marks.begin()?;
-    marks.leaf(variable.node)?;
-    marks.token()?;
-    mark_expr(marks, from)?;
-    marks.token()?;
-    mark_expr(marks, to)?;
-    marks.token()?;
-    mark_stmts(marks, body)?;
-    marks.token()?;
-    marks.node(node, at)
+    marks.opening(variable.node)?;
+    token_behind(mark_expr(marks, from), marks)?;
+    token_behind(mark_expr(marks, to), marks)?;
+    closed(mark_stmts(marks, body), marks, node, at)
 }
 
 /// CASE.
@@ -185,13 +164,10 @@ pub(crate) fn mark_case(
 {
     let at = marks.end;
     marks.begin()?;
-    mark_expr(marks, value)?;
-    marks.token()?;
+    token_behind(mark_expr(marks, value), marks)?;
     mark_arm(marks, first)?;
     mark_arms(marks, more)?;
-    mark_else(marks, otherwise)?;
-    marks.token()?;
-    marks.node(node, at)
+    closed(mark_else(marks, otherwise), marks, node, at)
 }
 
 #[cycle(marks)]
@@ -233,10 +209,8 @@ fn mark_labelled(
 {
     let at = marks.end;
     mark_label(marks, first)?;
-    mark_labels(marks, more)?;
-    marks.token()?;
-    mark_stmts(marks, body)?;
-    marks.node(node, at)
+    token_behind(mark_labels(marks, more), marks)?;
+    node_behind(mark_stmts(marks, body), marks, node, at)
 }
 
 #[cycle(marks)]
@@ -256,8 +230,7 @@ fn mark_label(marks: &mut Marks, label: &Label) -> Result<(), NoMemory>
 {
     let at = marks.end;
     mark_expr(marks, &label.low)?;
-    mark_high(marks, &label.high)?;
-    marks.node(label.node, at)
+    node_behind(mark_high(marks, &label.high), marks, label.node, at)
 }
 
 #[cycle(marks)]
@@ -287,9 +260,7 @@ pub(crate) fn mark_either(
     let at = marks.end;
     marks.begin()?;
     mark_stmts(marks, first)?;
-    mark_orelses(marks, more)?;
-    marks.token()?;
-    marks.node(node, at)
+    closed(mark_orelses(marks, more), marks, node, at)
 }
 
 #[cycle(marks)]
@@ -316,11 +287,8 @@ pub(crate) fn mark_forall(
 {
     let at = marks.end;
     marks.begin()?;
-    mark_stmts(marks, choice)?;
-    marks.token()?;
-    mark_stmts(marks, body)?;
-    marks.token()?;
-    marks.node(node, at)
+    token_behind(mark_stmts(marks, choice), marks)?;
+    closed(mark_stmts(marks, body), marks, node, at)
 }
 
 /// COMMIT.
@@ -331,7 +299,5 @@ pub(crate) fn mark_commit(marks: &mut Marks, node: u32, body: &Stmts) -> Result<
 {
     let at = marks.end;
     marks.begin()?;
-    mark_stmts(marks, body)?;
-    marks.token()?;
-    marks.node(node, at)
+    closed(mark_stmts(marks, body), marks, node, at)
 }

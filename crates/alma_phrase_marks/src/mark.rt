@@ -1,7 +1,7 @@
 // Marks, one behind another.
-ghost use Rattle.std.specs.Prelude.{◌≡◌, OnOk};
+ghost use Rattle.std.specs.Prelude.{◌≡◌, IsOk, OnOk};
 ghost use Rattle.alma_rules.specs.Places as places;
-ghost use Rattle.alma_phrase_marks.specs.Marking.{begun, marked, Noted, Walks};
+ghost use Rattle.alma_phrase_marks.specs.Marking.{begun, marked, one_more, opened, two_words, Noted, Walks};
 
 use alma_base::NoMemory;
 use std::alloc::Global;
@@ -69,6 +69,31 @@ impl Marks {
         self.token()
     }
 
+    // The head of a FOR or SOME: what begins it, the variable and the word behind it.
+    pub(crate) fn opening(&mut self, variable: u32) -> Result<(), NoMemory>
+        ensures { Walks result self.old self.new (opened variable) }
+    {
+        self.begin()?;
+        self.leaf(variable)?;
+        self.token()
+    }
+
+    // A word and the bracket behind it.
+    pub(crate) fn tokens(&mut self) -> Result<(), NoMemory>
+        ensures { Walks result self.old self.new two_words }
+    {
+        self.token()?;
+        self.token()
+    }
+
+    // A comma, and behind it one more statement of a READ, WRITE or WRITELN.
+    pub(crate) fn item(&mut self, token: u32) -> Result<(), NoMemory>
+        ensures { Walks result self.old self.new (one_more token) }
+    {
+        self.token()?;
+        self.statement(token)
+    }
+
     /// A node of nothing.
     pub fn empty(&mut self, node: u32) -> Result<(), NoMemory>
         ensures { Walks result self.old self.new (places.whole node places.stay) }
@@ -85,6 +110,48 @@ impl Marks {
         self.token()?;
         self.node(node, at)
     }
+}
+
+// One token behind a part, which is looked at here.
+pub(crate) fn token_behind(walked: Result<(), NoMemory>, marks: &mut Marks) -> Result<(), NoMemory>
+    ensures done { OnOk result (IsOk walked) }
+    ensures walks { Walks result marks.old marks.new places.token }
+{
+    walked?;
+    marks.token()?;
+    Ok(())
+}
+
+// A node that ends behind its last part.
+pub(crate) fn node_behind(
+    walked: Result<(), NoMemory>,
+    marks: &mut Marks,
+    node: u32,
+    token: u32,
+) -> Result<(), NoMemory>
+    ensures done { OnOk result (IsOk walked) }
+    ensures noted { OnOk result (Noted (marked marks.old) (marked marks.new) node token) }
+{
+    walked?;
+    marks.node(node, token)?;
+    Ok(())
+}
+
+// A node that ends with a token behind its last part.
+pub(crate) fn closed(
+    walked: Result<(), NoMemory>,
+    marks: &mut Marks,
+    node: u32,
+    token: u32,
+) -> Result<(), NoMemory>
+    ensures done { OnOk result (IsOk walked) }
+    ensures noted { OnOk result
+        (Noted (places.followed (marked marks.old) places.token) (marked marks.new) node token) }
+{
+    walked?;
+    marks.token()?;
+    marks.node(node, token)?;
+    Ok(())
 }
 
 /// The first token of a node.

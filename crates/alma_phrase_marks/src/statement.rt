@@ -9,7 +9,7 @@ use crate::form::{
     mark_case, mark_commit, mark_either, mark_for, mark_forall, mark_if, mark_repeat, mark_some,
     mark_while,
 };
-use crate::mark::Marks;
+use crate::mark::{Marks, closed, node_behind, token_behind};
 use alma_base::NoMemory;
 use alma_tree::{Args, Desig, Expr, Exprs, Stmt, Stmts};
 
@@ -20,8 +20,7 @@ pub fn mark_stmts(marks: &mut Marks, stmts: &Stmts) -> Result<(), NoMemory>
 {
     let at = marks.end;
     mark_stmt(marks, &stmts.first)?;
-    mark_stmt_tail(marks, &stmts.more)?;
-    marks.node(stmts.node, at)
+    node_behind(mark_stmt_tail(marks, &stmts.more), marks, stmts.node, at)
 }
 
 #[cycle(marks)]
@@ -95,10 +94,8 @@ fn mark_assign(marks: &mut Marks, node: u32, target: &Desig, value: &Expr) -> Re
 {
     let at = marks.end;
     marks.statement(at)?;
-    mark_desig(marks, target)?;
-    marks.token()?;
-    mark_expr(marks, value)?;
-    marks.node(node, at)
+    token_behind(mark_desig(marks, target), marks)?;
+    node_behind(mark_expr(marks, value), marks, node, at)
 }
 
 #[cycle(marks)]
@@ -108,8 +105,7 @@ fn mark_value(marks: &mut Marks, node: u32, value: &Expr) -> Result<(), NoMemory
 {
     let at = marks.end;
     marks.statement(at)?;
-    mark_expr(marks, value)?;
-    marks.node(node, at)
+    node_behind(mark_expr(marks, value), marks, node, at)
 }
 
 #[cycle(marks)]
@@ -119,8 +115,7 @@ fn mark_return(marks: &mut Marks, node: u32, value: &Option<Expr>) -> Result<(),
 {
     let at = marks.end;
     marks.begin()?;
-    mark_returned(marks, value)?;
-    marks.node(node, at)
+    node_behind(mark_returned(marks, value), marks, node, at)
 }
 
 #[cycle(marks)]
@@ -140,13 +135,10 @@ fn mark_read(marks: &mut Marks, node: u32, first: &Desig, more: &[Desig]) -> Res
         (tree.read_stmt node (view.view_desig first.now) (view.desigs_of more.now))) }
 {
     let at = marks.end;
-    marks.token()?;
-    marks.token()?;
+    marks.tokens()?;
     marks.statement(at)?;
     mark_desig(marks, first)?;
-    mark_desigs(marks, at, more)?;
-    marks.token()?;
-    marks.node(node, at)
+    closed(mark_desigs(marks, at, more), marks, node, at)
 }
 
 #[cycle(marks)]
@@ -155,8 +147,7 @@ fn mark_desigs(marks: &mut Marks, at: u32, more: &[Desig]) -> Result<(), NoMemor
         (places.mark_desigs at (view.desigs_of more.now)) }
 {
     for desig in more {
-        marks.token()?;
-        marks.statement(at)?;
+        marks.item(at)?;
         mark_desig(marks, desig)?;
     }
     Ok(())
@@ -168,11 +159,8 @@ fn mark_write(marks: &mut Marks, node: u32, items: &Exprs) -> Result<(), NoMemor
         (places.mark_stmt (tree.write_stmt node (view.view_exprs items.now))) }
 {
     let at = marks.end;
-    marks.token()?;
-    marks.token()?;
-    mark_items(marks, at, items)?;
-    marks.token()?;
-    marks.node(node, at)
+    marks.tokens()?;
+    closed(mark_items(marks, at, items), marks, node, at)
 }
 
 #[cycle(marks)]
@@ -183,8 +171,7 @@ fn mark_writeln(marks: &mut Marks, node: u32, items: &Option<Args>) -> Result<()
     let at = marks.end;
     marks.token()?;
     mark_line_items(marks, at, items)?;
-    marks.statement(at)?;
-    marks.node(node, at)
+    node_behind(marks.statement(at), marks, node, at)
 }
 
 #[cycle(marks)]
@@ -207,10 +194,7 @@ fn mark_line_values(marks: &mut Marks, at: u32, values: &Option<Exprs>) -> Resul
     marks.token()?;
     match values {
         None => marks.token(),
-        Some(values) => {
-            mark_items(marks, at, values)?;
-            marks.token()
-        }
+        Some(values) => token_behind(mark_items(marks, at, values), marks),
     }
 }
 
@@ -230,8 +214,7 @@ fn mark_item_tail(marks: &mut Marks, at: u32, more: &[Expr]) -> Result<(), NoMem
         (places.mark_item_tail at (view.exprs_of more.now)) }
 {
     for item in more {
-        marks.token()?;
-        marks.statement(at)?;
+        marks.item(at)?;
         mark_expr(marks, item)?;
     }
     Ok(())
