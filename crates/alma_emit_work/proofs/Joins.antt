@@ -83,6 +83,10 @@ code_code a b c xs ys h j = record {
   whole = j.whole ∙ h.whole;
 }
 
+-- the same code, said in another way
+pub codes_as : (a b : Front) (xs ys : List Lined) → xs ≡ ys → Codes a b xs → Codes a b ys
+codes_as a b xs ys e h = record { instrs = h.instrs ∙ ap (λ y. a.code ++ y) e; taken = h.taken; next_slot = h.next_slot; left = h.left; whole = h.whole }
+
 pub code_adds : (a b c : Front) (xs : List Lined) (g : Code) (l : Slots) (q : Pass) → Codes a b xs → Adds b c g l q → Adds a c (λ at lo ls. xs ++ g (at + length xs) lo ls) l q
 code_adds a b c xs g l q h j =
     let at = length a.code in
