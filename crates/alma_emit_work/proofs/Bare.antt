@@ -1,5 +1,5 @@
 -- Variables that stand in a slot of their own, and what stands in none.
-use Rattle.std.proofs.Common.{◌≡◌, ℕ, ◌⊎◌, inl, inr, List, [], ◌∷◌, length, refl, sym, ap, ◌∙◌, None, Some, arith}
+use Rattle.std.proofs.Common.{◌≡◌, ℕ, ◌⊎◌, inl, inr, List, [], ◌∷◌, length, sym, ap, ◌∙◌, None, Some, arith}
 use Rattle.std.specs.Prelude.{option_map, Option, Result, Ok, Err, IfOk}
 use Rattle.alma_ir.specs.declared.phrase.Desig.{Desig}
 use Rattle.alma_ir.specs.declared.phrase.Expr as E
