@@ -142,9 +142,9 @@ pub fn put_truth(work: &mut Work, line: u32, to: u32) -> Result<(), NoMemory>
         (pieces.truth_code line to (length (front work.old).code))) }
 {
     let behind = work.behind(3)?;
-    work.put(line, Instr::Const { to, value: 1 })?;
-    work.put(line, Instr::Jump { to: behind })?;
-    work.add(line, Instr::Const { to, value: 0 })
+    let yes = work.add(line, Instr::Const { to, value: 1 });
+    let past = work.then_add(yes, line, Instr::Jump { to: behind });
+    work.then_add(past, line, Instr::Const { to, value: 0 })
 }
 
 /// A call of a function behind its mark, and the cut.
@@ -159,7 +159,7 @@ pub fn put_function(
     ensures { OnOk result (Codes (front work.old) (front work.new) (own line
         (instr.Mark mark ∷ instr.Call routine first to ∷ instr.Cut mark ∷ []))) }
 {
-    work.put(line, Instr::Mark { to: mark })?;
-    work.put(line, Instr::Call { routine, first, to })?;
-    work.add(line, Instr::Cut { mark })
+    let marked = work.add(line, Instr::Mark { to: mark });
+    let called = work.then_add(marked, line, Instr::Call { routine, first, to });
+    work.then_add(called, line, Instr::Cut { mark })
 }

@@ -1,6 +1,8 @@
-use Rattle.alma_emit_work.proofs.Joins.{code_code, on_ok_map}
+use Rattle.alma_emit_work.proofs.Joins.{then_code}
 use Rattle.alma_emit_work.proofs.value.put_function.Goals as goal
 
 pub returns : goal.returns
 returns c =
-    on_ok_map _ (λ h. code_code _ _ _ _ _ (code_code _ _ _ _ _ c.in_ok-put.ensures.codes c.in_ok-put-2.ensures.codes) h) c.add.ensures
+    then_code _ c.then_add.result _ _ _ _ _ c.then_add.ensures.done
+    (then_code _ c.then_add-called.result _ _ _ _ _ c.then_add-called.ensures.done c.add-marked.ensures c.then_add-called.ensures.codes)
+    c.then_add.ensures.codes
