@@ -9,15 +9,18 @@ use Rattle.alma_emit_work.proofs.place.put_root.Goals as goal
 
 pub returns-in_ok-first-in-Local : goal.returns-in_ok-first-in-Local
 returns-in_ok-first-in-Local c next =
-    one_root (around c.args.scene.now) c.args.line _ _ _ c.args.to c.args.root _ _ c.in-Local.is (ap (λ n. I.Local c.args.to n ∷ []) c.in_ok-first-in-Local.ensures) refl
+    one_root (around c.args.scene.now) c.args.line _ _ _ c.args.to c.args.root _ _ c.in-Local.is
+    (ap (λ n. I.Local c.args.to n ∷ []) c.in_ok-first-in-Local.ensures) refl
     c.add.ensures
 
 pub returns-in-Global : goal.returns-in-Global
-returns-in-Global c next = one_root (around c.args.scene.now) c.args.line _ _ _ c.args.to c.args.root _ _ c.in-Global.is refl refl c.add-in-Global.ensures
+returns-in-Global c next =
+    one_root (around c.args.scene.now) c.args.line _ _ _ c.args.to c.args.root _ _ c.in-Global.is refl refl c.add-in-Global.ensures
 
 pub returns-in_ok-from-in-Param : goal.returns-in_ok-from-in-Param
 returns-in_ok-from-in-Param c next =
-    one_root (around c.args.scene.now) c.args.line _ _ _ c.args.to c.args.root _ _ c.in-Param.is (ap (λ n. I.Same c.args.to n ∷ []) c.in_ok-from-in-Param.ensures) refl
+    one_root (around c.args.scene.now) c.args.line _ _ _ c.args.to c.args.root _ _ c.in-Param.is
+    (ap (λ n. I.Same c.args.to n ∷ []) c.in_ok-from-in-Param.ensures) refl
     c.add-in-Param.ensures
 
 pub returns-in_ok-link-in-Outer : goal.returns-in_ok-link-in-Outer
@@ -26,8 +29,10 @@ returns-in_ok-link-in-Outer c next =
     let to = c.args.to in
     let links = c.in-Outer.links in
     linked_root s c.args.line _ _ _ _ to links c.args.root _ _ c.in-Outer.is next
-    (ap (λ n. link_code (to + 1) links ++ (I.Outer to n c.in_ok-first-in-Outer.first ∷ [])) (c.in_ok-link-in-Outer.ensures.slot ∙ ap (λ n. n + links) next)
-    ∙ ap (λ n. link_code (to + 1) links ++ (I.Outer to (to + 1 + links) n ∷ [])) (c.in_ok-first-in-Outer.ensures ∙ ap (λ n. shift_of s.program n + c.in-Outer.from) c.outermost.ensures))
+    (ap (λ n. link_code (to + 1) links ++ (I.Outer to n c.in_ok-first-in-Outer.first ∷ []))
+    (c.in_ok-link-in-Outer.ensures.slot ∙ ap (λ n. n + links) next)
+    ∙ ap (λ n. link_code (to + 1) links ++ (I.Outer to (to + 1 + links) n ∷ []))
+    (c.in_ok-first-in-Outer.ensures ∙ ap (λ n. shift_of s.program n + c.in-Outer.from) c.outermost.ensures))
     refl c.in_ok-link-in-Outer.ensures.puts c.add-in-Outer.ensures
 
 pub returns-in_ok-link-in-OuterParam : goal.returns-in_ok-link-in-OuterParam
@@ -36,6 +41,8 @@ returns-in_ok-link-in-OuterParam c next =
     let to = c.args.to in
     let links = c.in-OuterParam.links in
     linked_root s c.args.line _ _ _ _ to links c.args.root _ _ c.in-OuterParam.is next
-    (ap (λ n. link_code (to + 1) links ++ (I.OuterSame to n c.in_ok-slot-in-OuterParam.slot ∷ [])) (c.in_ok-link-in-OuterParam.ensures.slot ∙ ap (λ n. n + links) next)
-    ∙ ap (λ n. link_code (to + 1) links ++ (I.OuterSame to (to + 1 + links) n ∷ [])) (c.in_ok-slot-in-OuterParam.ensures ∙ ap (λ n. shift_of s.program n + c.in-OuterParam.from) c.outermost-in-OuterParam.ensures))
+    (ap (λ n. link_code (to + 1) links ++ (I.OuterSame to n c.in_ok-slot-in-OuterParam.slot ∷ []))
+    (c.in_ok-link-in-OuterParam.ensures.slot ∙ ap (λ n. n + links) next)
+    ∙ ap (λ n. link_code (to + 1) links ++ (I.OuterSame to (to + 1 + links) n ∷ []))
+    (c.in_ok-slot-in-OuterParam.ensures ∙ ap (λ n. shift_of s.program n + c.in-OuterParam.from) c.outermost-in-OuterParam.ensures))
     refl c.in_ok-link-in-OuterParam.ensures.puts c.add-in-OuterParam.ensures
