@@ -1,7 +1,9 @@
 -- What roots, selectors and designators add.
+use Rattle.std.specs.Prelude.{Result, OnOk}
 use Rattle.std.proofs.Common.{◌≡◌, ℕ, zero, suc, ◌+◌, List, [], ◌∷◌, ◌++◌, length, refl, sym, ap, ◌∙◌, arith, length-append}
 use Rattle.alma_base.specs.declared.number.Range.{Range}
 use Rattle.alma_code.specs.declared.cell.SlotKind.TheVariants as slot
+use Rattle.alma_code.specs.declared.instr.Instr.{Instr}
 use Rattle.alma_code.specs.declared.instr.Instr.TheVariants as I
 use Rattle.alma_ir.specs.declared.phrase.Root.{Root}
 use Rattle.alma_ir.specs.Tree.{Program, Expr, Sels, Sel, routine_at, a_desig, no_sels, more_sels, Field, Index}
@@ -11,7 +13,7 @@ use Rattle.alma_ir.specs.Lines.{behind, stmts_with, expr_with, desig_with, sels_
 use Rattle.alma_ir.proofs.LinesBack.{behind_two}
 use Rattle.alma_emit_work.specs.Front.{Around, Front, Adds, Codes, Takes}
 use Rattle.alma_emit_work.specs.Puts.{PutsValue, PutsDesig, PutsSels, PutsSel, value_slot}
-use Rattle.alma_emit_work.proofs.Joins.{nothing, then_adds, adds_as, adds_code, only_code, slot_adds, adds_slot, own_two}
+use Rattle.alma_emit_work.proofs.Joins.{on_ok_map, nothing, then_adds, adds_as, adds_code, only_code, slot_adds, adds_slot, own_two}
 use Rattle.alma_templates.specs.Lined.{Lined, own, in_row}
 use Rattle.alma_templates.specs.Tables.{range_number}
 use Rattle.alma_templates.specs.Slots.{bare, unless_bare, chain_slots, root_slots, expr_slots, sel_slots}
@@ -70,6 +72,26 @@ module _ (s : Around) (line : ℕ) where
 
   abbrev pub PutsRoot : (to : ℕ) (a b : Front) → Root → Type 0
   PutsRoot to a b r = Adds a b (λ at lo ls. own line (T.root_code s.program s.tables s.routine to r)) (λ ls. root_slots s.program s.routine r) (λ ls. ls)
+
+  -- the place of a root by one instruction
+  pub one_root : {U X : Type 0} (res : Result U X) (a b : Front) (to : ℕ) (r known : Root) (i : Instr) → r ≡ known
+      → i ∷ [] ≡ T.root_code s.program s.tables s.routine to known → [] ≡ root_slots s.program s.routine known
+      → OnOk res (Codes a b (own line (i ∷ []))) → OnOk res (PutsRoot to a b r)
+  one_root res a b to r known i is code slots = on_ok_map res (λ h.
+      adds_as a b _ _ _ _ _ _ (only_code a b _ h) (ap (own line) (code ∙ ap (T.root_code s.program s.tables s.routine to) (sym is)))
+      (slots ∙ ap (root_slots s.program s.routine) (sym is)) refl)
+
+  -- the place of a root by links to its frame, and one instruction
+  pub linked_root : {U X : Type 0} (res : Result U X) (a b c : Front) (to links : ℕ) (r known : Root) (i : Instr) → r ≡ known → a.next ≡ to + 1
+      → link_code (to + 1) links ++ (i ∷ []) ≡ T.root_code s.program s.tables s.routine to known
+      → chain_slots s.program s.routine links ≡ root_slots s.program s.routine known
+      → Adds a b (λ at lo ls. own line (link_code lo links)) (λ ls. chain_slots s.program s.routine links) (λ ls. ls)
+      → OnOk res (Codes b c (own line (i ∷ []))) → OnOk res (PutsRoot to a c r)
+  linked_root res a b c to links r known i is next code slots puts = on_ok_map res (λ h.
+      adds_as a c _ _ _ _ _ _ (adds_code a b c _ _ _ _ puts h)
+      (ap (λ n. own line (link_code n links) ++ own line (i ∷ [])) next ∙ sym (own_two line (link_code (to + 1) links) (i ∷ []))
+      ∙ ap (own line) (code ∙ ap (T.root_code s.program s.tables s.routine to) (sym is)))
+      (slots ∙ ap (root_slots s.program s.routine) (sym is)) refl)
 
   -- ---- selectors
 

@@ -1,6 +1,7 @@
 -- What was added, one after another.
 use Rattle.std.proofs.Common.{◌≡◌, ℕ, ◌+◌, List, [], ◌∷◌, ◌++◌, length, refl, sym, ap, ◌∙◌, arith, append_assoc, length-append}
-use Rattle.std.specs.Prelude.{Result, Ok, Err, OnOk}
+use Rattle.std.specs.Prelude.{Result, Ok, Err, IsOk, OnOk}
+use Rattle.std.proofs.lemmas.Bool.{false≢true}
 use Rattle.std.proofs.lemmas.List.{append-nil}
 use Rattle.alma_code.specs.declared.cell.SlotKind.{SlotKind}
 use Rattle.alma_code.specs.declared.instr.Instr.{Instr}
@@ -82,6 +83,17 @@ code_code a b c xs ys h j = record {
   left = j.left ∙ h.left;
   whole = j.whole ∙ h.whole;
 }
+
+-- code behind what was done before
+pub then_code : {A B X : Type 0} (q : Result A X) (r : Result B X) (a b c : Front) (xs ys : List Lined) → OnOk r (IsOk q) → OnOk q (Codes a b xs)
+    → OnOk r (Codes b c ys) → OnOk r (Codes a c (xs ++ ys))
+then_code (Ok y) (Ok x) a b c xs ys done h j = code_code a b c xs ys h j
+then_code (Err e) (Ok x) a b c xs ys done h j = absurd (false≢true done)
+then_code q (Err e) a b c xs ys done h j = j
+
+-- the same code, said in another way
+pub codes_as : (a b : Front) (xs ys : List Lined) → xs ≡ ys → Codes a b xs → Codes a b ys
+codes_as a b xs ys e h = record { instrs = h.instrs ∙ ap (λ y. a.code ++ y) e; taken = h.taken; next_slot = h.next_slot; left = h.left; whole = h.whole }
 
 pub code_adds : (a b c : Front) (xs : List Lined) (g : Code) (l : Slots) (q : Pass) → Codes a b xs → Adds b c g l q → Adds a c (λ at lo ls. xs ++ g (at + length xs) lo ls) l q
 code_adds a b c xs g l q h j =

@@ -2,3 +2,4 @@ pub mod Joins
 pub mod Scenes
 pub mod DesigForms
 pub mod Small
+pub mod Bare

@@ -54,25 +54,22 @@ pub fn put_root(
     match root {
         Root::Local(from) => {
             let first = scene.own_slot(from)?;
-            work.put(line, Instr::Local { to, first })?;
+            work.add(line, Instr::Local { to, first })
         }
-        Root::Global(first) => {
-            work.put(line, Instr::Global { to, first })?;
-        }
+        Root::Global(first) => work.add(line, Instr::Global { to, first }),
         Root::Param(from) => {
             let from = scene.own_slot(from)?;
-            work.put(line, Instr::Same { to, from })?;
+            work.add(line, Instr::Same { to, from })
         }
         Root::Outer(links, from) => {
             let first = scene.slot_in(scene.outermost(links), from)?;
             let link = put_links(work, scene, line, links)?;
-            work.put(line, Instr::Outer { to, link, first })?;
+            work.add(line, Instr::Outer { to, link, first })
         }
         Root::OuterParam(links, from) => {
             let slot = scene.slot_in(scene.outermost(links), from)?;
             let link = put_links(work, scene, line, links)?;
-            work.put(line, Instr::OuterSame { to, link, slot })?;
+            work.add(line, Instr::OuterSame { to, link, slot })
         }
     }
-    Ok(())
 }

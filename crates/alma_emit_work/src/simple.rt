@@ -1,6 +1,4 @@
 // Conditions that are tested by a jump: the value of an expression without a call and without a truth.
-#![tactic(auto, using(alma_ir::proofs::Views::viewed))]
-
 ghost use Rattle.std.specs.Prelude.{◌≡◌};
 ghost use Rattle.alma_ir.specs.View.{expr_of, links_list, sel_of, sels_list};
 ghost use Rattle.alma_templates.specs.Slots.{is_simple_expr, are_simple_links, are_simple_sels, is_simple_sel};

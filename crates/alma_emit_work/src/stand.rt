@@ -58,7 +58,6 @@ pub fn own_stand(scene: &Scene<'_>, desig: &Desig) -> Result<Option<u32>, NoMemo
 }
 
 /// The slot in which an expression's value stands already.
-#[tactic(auto, using(alma_ir::proofs::Views::load_view, alma_ir::proofs::Views::const_view, alma_ir::proofs::Views::chain_view, alma_ir::proofs::Views::compare_view, alma_ir::proofs::Views::truth_view, alma_ir::proofs::Views::known_view, alma_ir::proofs::Views::chr_view, alma_ir::proofs::Views::callexpr_view))]
 pub fn own_value(scene: &Scene<'_>, expr: &Expr) -> Result<Option<u32>, NoMemory>
     ensures { IfOk result (λ o. o ≡ option_map (own_slot (around scene.now).program
         (around scene.now).tables (around scene.now).routine) (bare (expr_of expr.now))) }

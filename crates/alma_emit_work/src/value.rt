@@ -56,7 +56,7 @@ pub fn put_cmp(work: &mut Work, line: u32, cmp: Cmp, to: u32, other: u32) -> Res
 {
     work.put(line, cmp_instr(cmp, to, other))?;
     if let Cmp::Unequal = cmp {
-        work.put(line, Instr::Flip { to, from: to })?;
+        return work.add(line, Instr::Flip { to, from: to });
     }
     Ok(())
 }
@@ -91,8 +91,7 @@ pub fn put_neg(work: &mut Work, line: u32, negated: bool, to: u32) -> Result<(),
     if !negated {
         return Ok(());
     }
-    work.put(line, Instr::Neg { to, from: to })?;
-    Ok(())
+    work.add(line, Instr::Neg { to, from: to })
 }
 
 // Whether a range holds all numbers of INTEGER.
@@ -117,8 +116,7 @@ pub fn put_fit(
         return Ok(());
     }
     let range = scene.range_number(range)?;
-    work.put(line, Instr::InRange { value, range })?;
-    Ok(())
+    work.add(line, Instr::InRange { value, range })
 }
 
 /// The check of what a RETURN gives.
@@ -144,10 +142,9 @@ pub fn put_truth(work: &mut Work, line: u32, to: u32) -> Result<(), NoMemory>
         (pieces.truth_code line to (length (front work.old).code))) }
 {
     let behind = work.behind(3)?;
-    work.put(line, Instr::Const { to, value: 1 })?;
-    work.put(line, Instr::Jump { to: behind })?;
-    work.put(line, Instr::Const { to, value: 0 })?;
-    Ok(())
+    let yes = work.add(line, Instr::Const { to, value: 1 });
+    let past = work.then_add(yes, line, Instr::Jump { to: behind });
+    work.then_add(past, line, Instr::Const { to, value: 0 })
 }
 
 /// A call of a function behind its mark, and the cut.
@@ -162,8 +159,7 @@ pub fn put_function(
     ensures { OnOk result (Codes (front work.old) (front work.new) (own line
         (instr.Mark mark ∷ instr.Call routine first to ∷ instr.Cut mark ∷ []))) }
 {
-    work.put(line, Instr::Mark { to: mark })?;
-    work.put(line, Instr::Call { routine, first, to })?;
-    work.put(line, Instr::Cut { mark })?;
-    Ok(())
+    let marked = work.add(line, Instr::Mark { to: mark });
+    let called = work.then_add(marked, line, Instr::Call { routine, first, to });
+    work.then_add(called, line, Instr::Cut { mark })
 }
