@@ -1,12 +1,14 @@
-//! Runs files of cases, which lie where it runs: each line is a call of the program with what it must answer, in JSON.
+//! Runs files of cases, which lie where it runs: each line is a call of the program with what it must answer, in JSON. Behind them it runs the examples.
 #![tactic(auto)]
 
 mod call;
+mod example;
 
 use alma_case::name_of;
 use alma_io::{Files, StdFiles};
 use anyhow::{Result, anyhow};
 use call::is_answered;
+use example::run_examples;
 use serde_json::Value;
 use std::alloc::Global;
 
@@ -47,7 +49,7 @@ fn main(rt: HostRuntime) -> Result<()> {
         let count = run_cases(&rt, &text)?;
         println!(rt; "{name}: {} cases, {} differ", count.all, count.differ)?;
     }
-    Ok(())
+    run_examples(&rt)
 }
 
 // Runs the case of each line, and prints the names of those that are not answered as they must be.
