@@ -17,7 +17,8 @@ ghost use Rattle.alma_join_list.specs.Onward.{onward_stmts, onward_arms, onward_
 
 use crate::expression::check_expr;
 use crate::sequence::check_stmts;
-use alma_check_rules::{Env, Labels, Place, Span, Typed};
+use alma_check_labels::Labels;
+use alma_check_rules::{Env, Place, Span, Typed};
 use alma_ir::{CaseArm, Stmt as IrStmt};
 use alma_join_case::{join_arm, join_arms, join_case, join_else, join_label, join_single};
 use alma_join_list::{add_cases, add_label, settle};

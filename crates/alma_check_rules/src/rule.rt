@@ -202,7 +202,8 @@ fn not_test(env: &Env, typed: &Option<Typed>) -> bool
     }
 }
 
-pub(crate) fn no_integer(env: &Env, typed: &Option<Typed>) -> bool
+/// Whether a value that is known to have a type is no integer.
+pub fn no_integer(env: &Env, typed: &Option<Typed>) -> bool
     ensures { result ≡ holds (rules.no_integer (scene_of env.now somewhere)) (typing_in typed.now) }
 {
     match typed {
@@ -211,7 +212,8 @@ pub(crate) fn no_integer(env: &Env, typed: &Option<Typed>) -> bool
     }
 }
 
-pub(crate) fn structured(env: &Env, typed: &Option<Typed>) -> bool
+/// Whether a value that is known to have a type is an array or a record.
+pub fn structured(env: &Env, typed: &Option<Typed>) -> bool
     ensures { result ≡ holds (rules.structured (scene_of env.now somewhere)) (typing_in typed.now) }
 {
     match typed {

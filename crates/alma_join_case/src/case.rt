@@ -12,8 +12,10 @@ ghost use Rattle.alma_check_rules.specs.Views.{scene_of, typing_in, typing_of, s
 ghost use Rattle.alma_check_build.specs.Lists.{cases_of, cases_in, else_in};
 ghost use Rattle.alma_join_case.specs.Armed.{Armed};
 
+use alma_check_labels::Labels;
 use alma_check_ranges::{case_arm, case_stmt};
-use alma_check_rules::{Env, Labels, Span, Typed, pass_case, pass_label, span_of};
+use alma_check_rules::{Env, Span, Typed};
+use alma_check_stmt_rules::{pass_case, pass_label, span_of};
 use alma_ir::{CaseArm, Stmt};
 use alma_rules::Stop;
 use std::alloc::Global;

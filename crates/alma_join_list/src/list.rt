@@ -15,8 +15,9 @@ ghost use Rattle.alma_join_list.specs.Onward.{onward_operands, onward_args, onwa
 ghost use Rattle.alma_join_list.specs.Noted.{Grown, trail_for_entries};
 
 use alma_check_form::{joined, with_part};
+use alma_check_labels::Labels;
 use alma_check_operators::add;
-use alma_check_rules::{Behind, Labels, Operator, Span, Typed};
+use alma_check_rules::{Behind, Operator, Span, Typed};
 use alma_ir::{Arg, Arm, Branch, CaseArm, Stmt};
 use alma_rules::Stop;
 use std::alloc::AllocError;

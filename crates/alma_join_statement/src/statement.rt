@@ -18,10 +18,8 @@ use alma_check_form::{
     assigned, bare_return, commit_stmt, condition, either_stmt, forall_stmt, guarded, if_stmt,
     line, read, repeat_stmt, returned, test_stmt, text, while_stmt, write,
 };
-use alma_check_rules::{
-    Denoted, Env, Located, Place, Typed, pass_assign, pass_bare_return, pass_constant, pass_read,
-    pass_return, pass_test, pass_write,
-};
+use alma_check_rules::{Denoted, Env, Located, Place, Typed, pass_constant, pass_test};
+use alma_check_stmt_rules::{pass_assign, pass_bare_return, pass_read, pass_return, pass_write};
 use alma_ir::{Arm, Branch, Stmt, Test};
 use alma_rules::Stop;
 use std::alloc::Global;

@@ -15,7 +15,8 @@ ghost use Rattle.alma_join_turns.specs.Bounded.{Finds, TakesLoop, Starts, HeadOf
 
 use alma_check_build::as_located;
 use alma_check_ranges::{for_stmt, loop_of, some_stmt};
-use alma_check_rules::{Env, Found, Place, Typed, pass_by, pass_loop, pass_loop_name};
+use alma_check_rules::{Env, Found, Place, Typed};
+use alma_check_stmt_rules::{pass_by, pass_loop, pass_loop_name};
 use alma_ir::Stmt;
 use alma_rules::Stop;
 use alma_tree::Name;

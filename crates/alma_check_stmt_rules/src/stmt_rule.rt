@@ -7,10 +7,10 @@ ghost use Rattle.alma_rules.specs.Parts as parts;
 ghost use Rattle.alma_rules.specs.StmtRules as rules;
 ghost use Rattle.alma_check_env.specs.Views.{scene_of, found_view, headings_in, typing_in, typing_of, located_in, returns_view, somewhere, span_view, spans_view};
 
-use crate::rule::{no_integer, structured};
 use alma_base::{CheckFault, Range};
 use alma_check_env::{Env, Found, Located, Place, Returns, Span, Typed};
 use alma_check_labels::Labels;
+use alma_check_rules::{no_integer, structured};
 use alma_rules::Stop;
 
 /// `:=`, behind both sides.
