@@ -5,7 +5,7 @@
 mod expression;
 
 pub use expression::{
-    argument, as_callee, as_located, as_test, as_typed, as_value, call, character, chr, desig,
-    integer, known, negate, no_place, ord, relate, select_field, select_index, sequence,
+    argument, as_callee, as_located, as_test, as_typed, as_value, boolean, call, character, chr,
+    desig, integer, known, negate, no_place, ord, select_field, select_index, sequence,
     without_place,
 };

@@ -14,8 +14,9 @@ ghost use Rattle.alma_check_rules.specs.Views.{scene_of, typing_in, typing_of, d
 
 use alma_check_build::{
     argument, as_callee, as_located, as_typed, call, character, chr, integer, known, negate, ord,
-    relate, select_field, select_index, sequence, without_place,
+    select_field, select_index, sequence, without_place,
 };
+use alma_check_relation::relate;
 use alma_check_rules::{
     Argument, Callee, Denoted, Env, Formal, Found, Operand, Place, Typed, Use, pass_argument,
     pass_array, pass_call, pass_chr, pass_constant, pass_desig, pass_field, pass_index, pass_known,
