@@ -9,8 +9,9 @@ ghost use Rattle.alma_code.specs.Rules.{IsTable, instr_fault as instr_fault_spec
 use crate::heads::{rule_1, rule_2, rule_3};
 use alma_code::VerifyFault;
 use alma_verify_rules::{
-    CodeReader, rule_4, rule_5, rule_6, rule_7, rule_8, rule_9, rule_10, rule_11, rule_12, start_of,
+    rule_4, rule_5, rule_6, rule_7, rule_8, rule_9, rule_10, rule_11, rule_12,
 };
+use alma_verify_slots::{CodeReader, start_of};
 
 /// The least broken rule of the instruction at an address of a routine.
 #[tactic(auto, unfolding(alma_code::specs::Rules::instr_fault))]

@@ -1,8 +1,8 @@
 use Rattle.std.proofs.Common.{◌≡◌, ◌≤◌, ◌<◌, ◌-◌, List, length, get_or}
 use Rattle.alma_code.specs.declared.head.Run.{Run}
 use Rattle.alma_code.specs.Plain.{head_at}
-use Rattle.alma_verify_rules.specs.Runs.{begin_from, no_run}
-use Rattle.alma_verify_rules.proofs.rules.run_over.Given as goal
+use Rattle.alma_verify_slots.specs.Runs.{begin_from, no_run}
+use Rattle.alma_verify_slots.proofs.slots.run_over.Given as goal
 
 abbrev pub invariant-halve : goal.invariant-halve
 invariant-halve g l =

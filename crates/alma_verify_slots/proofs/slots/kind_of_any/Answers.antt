@@ -1,6 +1,6 @@
 use Rattle.std.proofs.Common.{arith, ◌≤◌, length, sym}
-use Rattle.alma_verify_rules.proofs.Starts.{no_kind}
-use Rattle.alma_verify_rules.proofs.rules.kind_of_any.Goals as goal
+use Rattle.alma_verify_slots.proofs.Starts.{no_kind}
+use Rattle.alma_verify_slots.proofs.slots.kind_of_any.Goals as goal
 
 pub returns-else-routine-routine_count : goal.returns-else-routine-routine_count
 returns-else-routine-routine_count g c =

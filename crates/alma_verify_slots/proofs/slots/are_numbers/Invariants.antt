@@ -1,7 +1,7 @@
 use Rattle.std.proofs.Common.{◌≡◌, ◌+◌, ◌-◌}
 use Rattle.alma_code.specs.Plain.{kinds_at}
 use Rattle.alma_code.specs.Kinds.{numbers_from}
-use Rattle.alma_verify_rules.proofs.rules.are_numbers.Given as goal
+use Rattle.alma_verify_slots.proofs.slots.are_numbers.Given as goal
 
 abbrev pub invariant-walk : goal.invariant-walk
 invariant-walk g l =

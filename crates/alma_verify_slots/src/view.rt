@@ -2,7 +2,7 @@
 ghost use Rattle.std.specs.Prelude.{◌≡◌, ◌<◌, length, get_or};
 ghost use Rattle.alma_code.specs.Plain.{routine_at};
 ghost use Rattle.alma_object.specs.View.{code_of_view, routine_of_view, global_of_view};
-ghost use Rattle.alma_verify_rules.specs.Runs.{no_global};
+ghost use Rattle.alma_verify_slots.specs.Runs.{no_global};
 
 use crate::reader::CodeReader;
 use alma_base::Range;

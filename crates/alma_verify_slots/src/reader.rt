@@ -1,7 +1,7 @@
 // What the verifier reads of a code.
 ghost use Rattle.std.specs.Prelude.{◌≡◌, ◌<◌, nat_lt, length, get_or, slice_get, slice_index_or};
 ghost use Rattle.alma_code.specs.Plain.{PlainCode, head_at, end_at};
-ghost use Rattle.alma_verify_rules.specs.Runs.{no_global};
+ghost use Rattle.alma_verify_slots.specs.Runs.{no_global};
 
 use alma_base::Range;
 use alma_code::{CodeParam, Instr, Run};

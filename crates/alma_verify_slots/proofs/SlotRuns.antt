@@ -7,7 +7,7 @@ use Rattle.alma_code.specs.declared.cell.SlotKind.TheVariants as slot
 use Rattle.alma_code.specs.declared.head.Run.{Run}
 use Rattle.alma_code.specs.Layout.{RunsRise, kinds_of}
 use Rattle.alma_code.specs.Kinds.{numbers_from, is_number}
-use Rattle.alma_verify_rules.specs.Runs.{begin_from, no_run}
+use Rattle.alma_verify_slots.specs.Runs.{begin_from, no_run}
 
 slice_get-left : (xs ys : List SlotKind) (i : ℕ) → i < length xs → slice_get (xs ++ ys) i ≡ slice_get xs i
 slice_get-left [] ys i lt = absurd (omega arith)

@@ -4,8 +4,8 @@ use Rattle.alma_code.specs.declared.cell.SlotKind.{SlotKind}
 use Rattle.alma_code.specs.Plain.{kinds_at}
 use Rattle.alma_code.specs.Kinds.{numbers_from, is_number}
 use Rattle.alma_code.proofs.Heads.{number_is}
-use Rattle.alma_verify_rules.proofs.SlotRuns.{numbers_skip}
-use Rattle.alma_verify_rules.proofs.rules.are_numbers.Goals as goal
+use Rattle.alma_verify_slots.proofs.SlotRuns.{numbers_skip}
+use Rattle.alma_verify_slots.proofs.slots.are_numbers.Goals as goal
 
 pub walk-preserved : goal.walk-preserved
 walk-preserved g c =

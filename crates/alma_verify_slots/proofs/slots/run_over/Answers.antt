@@ -5,9 +5,9 @@ use Rattle.alma_code.specs.declared.head.Run.{Run}
 use Rattle.alma_code.specs.Layout.{kinds_of}
 use Rattle.alma_code.specs.Plain.{head_at}
 use Rattle.alma_code.specs.Rules.{last_end}
-use Rattle.alma_verify_rules.specs.Runs.{begin_from, no_run}
-use Rattle.alma_verify_rules.proofs.SlotRuns.{kind_found, kind_past, begin_next}
-use Rattle.alma_verify_rules.proofs.rules.run_over.Goals as goal
+use Rattle.alma_verify_slots.specs.Runs.{begin_from, no_run}
+use Rattle.alma_verify_slots.proofs.SlotRuns.{kind_found, kind_past, begin_next}
+use Rattle.alma_verify_slots.proofs.slots.run_over.Goals as goal
 
 pub halve-preserved : goal.halve-preserved
 halve-preserved g c =

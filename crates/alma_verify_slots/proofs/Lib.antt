@@ -1,0 +1,2 @@
+pub mod SlotRuns
+pub mod Starts
