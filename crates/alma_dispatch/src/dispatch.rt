@@ -8,11 +8,11 @@ ghost use Rattle.alma_registers.specs.Rows.{state_of, HasNumber, KeepsOn, put_or
 ghost use Rattle.alma_registers.specs.Steps.{stepped, PrintsOnly};
 
 use alma_base::{NoMemory, RunFault};
+use alma_choice_points::choices::{begin_body, choose, cut, finish, forall, keep, set_mark};
 use alma_code::{ChoiceKind, End, Instr, Step};
 use alma_registers::Registers;
 use alma_transfers::CodeView;
 use alma_transfers::calls::{call, leave, leave_with};
-use alma_transfers::choices::{begin_body, choose, cut, finish, forall, keep, set_mark};
 use alma_transfers::copies::copy_cells;
 use alma_transfers::input::{read_char, read_number};
 use alma_transfers::output::{numbered, print_character, print_number, print_text, print_truth};

@@ -18,6 +18,7 @@ ghost use Rattle.std.specs.Io.KnownBytes.{Appends};
 
 use crate::quick::dash;
 use alma_base::{NoMemory, RunFault};
+use alma_choice_points::choices::pop;
 use alma_code::{End, Step};
 use alma_dispatch::act;
 use alma_io::{Sink, WriteFault, write_all};
@@ -25,7 +26,6 @@ use alma_memory::Memory;
 use alma_object::{ObjectView, RoutineView};
 use alma_registers::{Mode, Registers};
 use alma_transfers::CodeView;
-use alma_transfers::choices::pop;
 use alma_verify::Verified;
 use std::alloc::Global;
 use std::marker::Model;

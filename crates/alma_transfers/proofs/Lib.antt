@@ -1,5 +1,4 @@
 pub mod Back
 pub mod Copying
-pub mod Entries
 pub mod Given
 pub mod Reading

@@ -1,8 +1,7 @@
-//! What instructions do beyond single cells: choices, calls, copies, reads and prints.
+//! What instructions do beyond single cells and choice points: calls, copies, reads and prints.
 #![tactic(auto)]
 
 pub mod calls;
-pub mod choices;
 mod codes;
 pub mod copies;
 pub mod input;

@@ -2,7 +2,7 @@ use Rattle.std.proofs.Common.{[], refl, sym}
 use Rattle.alma_code.specs.Machine.{mark, keep}
 use Rattle.alma_registers.specs.Rows.{state_of}
 use Rattle.alma_registers.proofs.Words.{ok_is}
-use Rattle.alma_transfers.proofs.choices.keep.Goals as goal
+use Rattle.alma_choice_points.proofs.choices.keep.Goals as goal
 
 pub returns-in-Ok-clause-ok : goal.returns-in-Ok-clause-ok
 returns-in-Ok-clause-ok c =
