@@ -10,7 +10,7 @@ use Rattle.alma_code.specs.declared.step.Step.TheVariants as answer
 use Rattle.alma_code.specs.Machine.{Mode, Going, Failing, Ended, Stuck, State, step, step_in, after, prints}
 use Rattle.alma_code.specs.Plain.{PlainCode}
 use Rattle.alma_io.specs.Fronts.{AppendsFront}
-use Rattle.alma_io.proofs.Known.{appends_trans}
+use Rattle.alma_outside.proofs.Known.{appends_trans}
 use Rattle.alma_engine.specs.declared.machine.RunEnd.{RunEnd}
 use Rattle.alma_engine.specs.declared.machine.RunEnd.TheVariants as run
 use Rattle.alma_engine.specs.Runs.{OnWhole, ShowsLast, end_of, run_end_of, made, last_print}

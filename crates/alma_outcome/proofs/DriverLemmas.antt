@@ -9,15 +9,15 @@ use Rattle.std.proofs.lemmas.Bool.{cases_lt}
 use Rattle.alma_base.specs.Limits.{size_limit, input_limit}
 use Rattle.std.specs.Io.KnownBytes.{Consumes, IsAtEnd}
 use Rattle.alma_io.specs.Whole.{MayHaveMore, LosesAtMost, HasReadCause}
-use Rattle.alma_io.specs.declared.whole.ReadAll.{ReadAll}
-use Rattle.alma_io.specs.declared.whole.ReadAll.TheVariants as reading
+use Rattle.alma_outside.specs.declared.whole.ReadAll.{ReadAll}
+use Rattle.alma_outside.specs.declared.whole.ReadAll.TheVariants as reading
 use Rattle.alma_io.specs.Causes.{Rose}
 use Rattle.alma_io.specs.Files.{Told, MayHave, NowHas, IsFetched, IsStored}
-use Rattle.alma_io.specs.declared.files.Fetch.{Fetch}
-use Rattle.alma_io.specs.declared.files.Fetch.TheVariants as fetch
-use Rattle.alma_io.specs.declared.files.StoreFault.{StoreFault}
-use Rattle.alma_io.specs.declared.files.StoreFault.TheVariants as store
-use Rattle.alma_io.proofs.Known.{appends_none}
+use Rattle.alma_outside.specs.declared.files.Fetch.{Fetch}
+use Rattle.alma_outside.specs.declared.files.Fetch.TheVariants as fetch
+use Rattle.alma_outside.specs.declared.files.StoreFault.{StoreFault}
+use Rattle.alma_outside.specs.declared.files.StoreFault.TheVariants as store
+use Rattle.alma_outside.proofs.Known.{appends_none}
 use Rattle.alma_ir.specs.Tree.{Program}
 use Rattle.alma_code.specs.declared.code.Code.{Code}
 use Rattle.alma_code.specs.ListText.{list_text}

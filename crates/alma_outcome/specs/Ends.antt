@@ -2,10 +2,10 @@
 use Rattle.std.specs.Prelude.{Bool, true, false, List, ℕ, [], ◌++◌, codes, decimal, Option, Some, None}
 use Rattle.alma_base.specs.Fault.{lex_fault_text, syntax_fault_text, check_fault_text, run_fault_text}
 use Rattle.alma_base.specs.declared.place.Place.{Place}
-use Rattle.alma_io.specs.declared.files.Fetch.{Fetch}
-use Rattle.alma_io.specs.declared.files.Fetch.TheVariants as fetch
-use Rattle.alma_io.specs.declared.files.StoreFault.{StoreFault}
-use Rattle.alma_io.specs.declared.files.StoreFault.TheVariants as store
+use Rattle.alma_outside.specs.declared.files.Fetch.{Fetch}
+use Rattle.alma_outside.specs.declared.files.Fetch.TheVariants as fetch
+use Rattle.alma_outside.specs.declared.files.StoreFault.{StoreFault}
+use Rattle.alma_outside.specs.declared.files.StoreFault.TheVariants as store
 use Rattle.alma_format.specs.declared.fault.ObjectFault.{ObjectFault}
 use Rattle.alma_format.specs.declared.fault.ObjectFault.TheVariants as object
 use Rattle.alma_lower.specs.declared.lowering.LowerError.{LowerError}
@@ -18,8 +18,8 @@ use Rattle.alma_base.specs.declared.fault.RunFault.{RunFault}
 use Rattle.alma_code.specs.Machine.{Mode, Going, Failing, Ended, Stuck, State}
 use Rattle.alma_engine.specs.declared.machine.RunEnd.{RunEnd}
 use Rattle.alma_engine.specs.declared.machine.RunEnd.TheVariants as run
-use Rattle.alma_io.specs.declared.whole.ReadAll.{ReadAll}
-use Rattle.alma_io.specs.declared.whole.ReadAll.TheVariants as whole
+use Rattle.alma_outside.specs.declared.whole.ReadAll.{ReadAll}
+use Rattle.alma_outside.specs.declared.whole.ReadAll.TheVariants as whole
 use Rattle.alma_words.specs.declared.words.WordsError.{WordsError}
 use Rattle.alma_words.specs.declared.words.WordsError.TheVariants as words
 use Rattle.alma_outcome.specs.declared.fault.SourceFault.{SourceFault}

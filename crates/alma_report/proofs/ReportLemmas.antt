@@ -11,7 +11,7 @@ use Rattle.alma_outcome.specs.Ends.{line_text, fault_text, object_fault_name, ob
 use Rattle.std.specs.Borrow.{Bor}
 use Rattle.std.specs.Io.KnownBytes.{Appends}
 use Rattle.alma_io.specs.Fronts.{AppendsFront}
-use Rattle.alma_io.proofs.Known.{appends_trans}
+use Rattle.alma_outside.proofs.Known.{appends_trans}
 
 -- all parts, by those before one of them, that one, and those behind it
 pub parts_at : (parts : List (Bor (List ℕ))) (i : ℕ) (d : Bor (List ℕ)) → i < length parts

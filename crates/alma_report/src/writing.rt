@@ -186,7 +186,7 @@ fn write_known_counts<E: Sink>(err: &mut E, counts: Counts) -> Result<(), WriteF
 }
 
 // Writes the line of counts, where there are any.
-#[tactic(auto, using(alma_io::proofs::Known::appends_none))]
+#[tactic(auto, using(alma_outside::proofs::Known::appends_none))]
 fn write_counts<E: Sink>(err: &mut E, counts: Option<Counts>) -> Result<(), WriteFault>
     ensures ok { OnOk result (Appends (E.written err.old) (E.written err.new)
         (counts_text counts)) }

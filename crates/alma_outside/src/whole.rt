@@ -1,7 +1,7 @@
 // A source that is read to its end.
 ghost use Rattle.std.specs.Prelude.{◌≡◌, ◌≤◌, ◌<◌, ◌+◌, ◌^◌, length, vec_len, IfOk, OnErr, IsErrOf};
 ghost use Rattle.std.specs.Io.KnownBytes.{Consumes, IsAtEnd};
-ghost use Rattle.alma_io.specs.Whole.{LosesAtMost, LosesBytes, MayHaveMore, HasReadCause};
+ghost use Rattle.alma_outside.specs.Whole.{LosesAtMost, LosesBytes, MayHaveMore, HasReadCause};
 
 use crate::{Failed, Source};
 use alma_base::NoMemory;

@@ -1,6 +1,6 @@
 use Rattle.std.proofs.Common.{◌≡◌, ◌≤◌, ◌<◌, ◌-◌, vec_len}
 use Rattle.std.specs.Io.KnownBytes.{Consumes}
-use Rattle.alma_io.proofs.whole.read_all.Given as goal
+use Rattle.alma_outside.proofs.whole.read_all.Given as goal
 
 -- what was read so far is the front of what was left, and nothing has failed
 abbrev pub invariant-loop-count : goal.invariant-loop-count

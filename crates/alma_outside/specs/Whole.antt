@@ -2,9 +2,9 @@
 use Rattle.std.specs.Prelude.{◌≡◌, ◌≤◌, ◌<◌, List, ℕ, length, Option, None, Some, Result, Ok, Err}
 use Rattle.std.specs.Global.{Vec}
 use Rattle.std.specs.Io.KnownBytes.{Consumes}
-use Rattle.alma_io.specs.Causes.{Rose}
-use Rattle.alma_io.specs.declared.whole.ReadAll.{ReadAll}
-use Rattle.alma_io.specs.declared.whole.ReadAll.TheVariants.{Fault, TooLong, Memory}
+use Rattle.alma_outside.specs.Causes.{Rose}
+use Rattle.alma_outside.specs.declared.whole.ReadAll.{ReadAll}
+use Rattle.alma_outside.specs.declared.whole.ReadAll.TheVariants.{Fault, TooLong, Memory}
 
 -- known bytes lose a prefix of so many bytes
 abbrev pub LosesBytes : Option (List ℕ) → Option (List ℕ) → ℕ → Type 0

@@ -2,8 +2,8 @@
 use Rattle.std.proofs.Common.{◌≡◌, ◌≤◌, ◌<◌, ◌+◌, ◌-◌, ℕ, List, [], ◌∷◌, ◌++◌, length, min, ap, ◌∙◌, length-append, arith}
 use Rattle.std.specs.Prelude.{Option, None, Some}
 use Rattle.std.specs.Io.KnownBytes.{Consumes}
-use Rattle.alma_io.proofs.Known.{consumes_trans}
-use Rattle.alma_io.specs.Whole.{LosesAtMost, LosesBytes, MayHaveMore}
+use Rattle.alma_outside.proofs.Known.{consumes_trans}
+use Rattle.alma_outside.specs.Whole.{LosesAtMost, LosesBytes, MayHaveMore}
 
 -- what was read and one more piece, that may be one byte longer than the room, are a prefix
 pub prefix_read : (a b c : Option (List ℕ)) (bytes piece : List ℕ) (most : ℕ) → Consumes a b bytes → Consumes b c piece

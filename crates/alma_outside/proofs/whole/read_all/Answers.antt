@@ -1,7 +1,7 @@
 use Rattle.std.proofs.Common.{◌≡◌, ◌≤◌, ◌+◌, ◌∙◌, length, take, sym, length-take-le}
-use Rattle.alma_io.proofs.Known.{consumes_trans}
-use Rattle.alma_io.proofs.ReadLemmas.{prefix_read, bytes_read, kept_within, piece_in, piece_some, more_left, ended_front, one_past, none_past, at_most}
-use Rattle.alma_io.proofs.whole.read_all.Goals as goal
+use Rattle.alma_outside.proofs.Known.{consumes_trans}
+use Rattle.alma_outside.proofs.ReadLemmas.{prefix_read, bytes_read, kept_within, piece_in, piece_some, more_left, ended_front, one_past, none_past, at_most}
+use Rattle.alma_outside.proofs.whole.read_all.Goals as goal
 
 pub returns-then-count-room-clause-prefix : goal.returns-then-count-room-clause-prefix
 returns-then-count-room-clause-prefix g c =
