@@ -1,10 +1,13 @@
 -- What a module that is judged shows of its program.
-use Rattle.std.proofs.Common.{◌≡◌, List, [], Option, None, Some, Bool, true, false, refl, ap, subst, Result, Ok, Err}
+use Rattle.std.proofs.Common.{◌≡◌, List, [], Option, None, Some, Bool, true, false, refl, ap, subst, Result, Ok, Err, Vec, Global, map}
 use Rattle.std.specs.Prelude.{ℕ, IfOk}
 use Rattle.alma_scan.specs.Tokens.{Lexeme}
 use Rattle.alma_ir.specs.Tree as ir
 use Rattle.alma_ir.specs.declared.program.Program.{Program}
-use Rattle.alma_ir.specs.View.{program_of}
+use Rattle.alma_ir.specs.View.{program_of, global_of}
+use Rattle.alma_ir.specs.declared.program.Global.{Global as Variable}
+use Rattle.alma_base.specs.declared.fault.NoMemory.{NoMemory}
+use Rattle.alma_check_gathered.specs.declared.checked.Checked.{Checked}
 use Rattle.alma_ir.specs.Checked.{IsChecked}
 use Rattle.alma_rules.specs.declared.error.CheckError.{CheckError}
 use Rattle.alma_rules.specs.Answers.{Resolves}
@@ -12,9 +15,18 @@ use Rattle.alma_rules.specs.Numbered as tree
 use Rattle.alma_rules.specs.Modules.{broken, resolved}
 use Rattle.alma_check_reader.specs.declared.reading.Broken.{Broken as CodeBroken}
 use Rattle.alma_check_reader.specs.Told.{fault_of}
-use Rattle.alma_check_gathered.specs.Inner.Shown.{unless_bad}
+use Rattle.alma_check_gathered.specs.Inner.Shown.{unless_bad, routines_in}
+use Rattle.alma_check_stmt.specs.declared.module.Whole.{Whole}
 use Rattle.alma_check_stmt.specs.Whole.{IsJudged}
 use Rattle.alma_check_stmt.proofs.Wholes.{unbroken_is_fine}
+
+-- what was found of a module stays what it is under its name
+pub named_judged : (source : List ℕ) (tokens : List Lexeme) (m : tree.Module) (name : List ℕ) (globals : Vec Variable Global) (checked : Checked) (r : Result Whole NoMemory)
+    → IfOk r (λ w. w.name.items ≡ name) → IfOk r (λ w. w.globals ≡ globals) → IfOk r (λ w. w.checked ≡ checked)
+    → IsJudged source tokens m (fault_of checked.fault) (routines_in checked) name (map global_of globals.items)
+    → IfOk r (λ w. IsJudged source tokens m (fault_of w.checked.fault) (routines_in w.checked) w.name.items (map global_of w.globals.items))
+named_judged source tokens m name globals checked (Ok w) a b d h = rw (a, b, d) h
+named_judged source tokens m name globals checked (Err e) a b d h = tt
 
 pub resolved_checked : (source : List ℕ) (tokens : List Lexeme) (m : tree.Module) (r : Result Program CheckError) → Resolves source tokens m program_of r → ((p : ir.Program) → resolved source tokens m ≡ Some p → IsChecked p) → IfOk r (λ p. IsChecked (program_of p))
 resolved_checked source tokens m (Ok p) h f = f (program_of p) h.1

@@ -1,11 +1,13 @@
 // The whole check.
-ghost use Rattle.std.specs.Prelude.{◌≡◌, ◌≤◌, ℕ, List, length, map, false, None, IfOk};
+ghost use Rattle.std.specs.Prelude.{◌≡◌, ◌≤◌, ℕ, List, [], length, map, false, None, IfOk};
 ghost use Rattle.alma_base.specs.Limits.{source_limit};
 ghost use Rattle.alma_scan.specs.Tokens.{Lexeme};
 ghost use Rattle.alma_scan.specs.Scanned.{lexemes};
 ghost use Rattle.alma_ir.specs.View.{program_of, global_of};
 ghost use Rattle.alma_ir.specs.Checked.{IsChecked};
-ghost use Rattle.alma_rules.specs.View.{view_module};
+ghost use Rattle.alma_rules.specs.View.{view_module, view_block};
+ghost use Rattle.alma_rules.specs.Scene.{nothing};
+ghost use Rattle.alma_rules.specs.Decls.{with_block};
 ghost use Rattle.alma_rules.specs.Answers.{Resolves};
 ghost use Rattle.alma_rules.specs.Modules as modules;
 ghost use Rattle.alma_rules.specs.Rising.{IsRising};
@@ -56,6 +58,40 @@ fn outermost<'e, 's>(
     Reader::new(alloc, source, tokens, all)
 }
 
+// The reader where the block of a module begins.
+fn opened<'e, 's>(
+    alloc: Global,
+    module: &Module,
+    tokens: &'e [Token<'s>],
+    source: &'e [u8],
+) -> Result<Reader<'e, 's>, NoMemory>
+    ensures { IfOk result (λ reader. reader ≡ with_block (modules.first_scene source.now
+        (lexemes tokens.now) (view_module module.now)) 0 nothing []
+        (view_block module.now.block)) }
+{
+    let mut reader = outermost(alloc, module, tokens, source)?;
+    open_block(alloc, &mut reader, 0, &None, &module.block)?;
+    Ok(reader)
+}
+
+// What was found of a module of this name.
+fn named(
+    alloc: Global,
+    name: &[u8],
+    globals: Vec<alma_ir::Global>,
+    checked: Checked,
+) -> Result<Whole, NoMemory>
+    ensures name { IfOk result (λ w. w.name.items ≡ name.now) }
+    ensures globals { IfOk result (λ w. w.globals ≡ globals) }
+    ensures checked { IfOk result (λ w. w.checked ≡ checked) }
+{
+    Ok(Whole {
+        name: name.to_vec(alloc)?,
+        globals,
+        checked,
+    })
+}
+
 // Judges a module.
 fn judge_whole(
     alloc: Global,
@@ -70,10 +106,9 @@ fn judge_whole(
         (map global_of w.globals.items)) }
 {
     let lines = Lines::new(alloc, source)?;
-    let mut reader = outermost(alloc, module, tokens, source)?;
+    let mut reader = opened(alloc, module, tokens, source)?;
     let mut frame = new_frame(alloc, 1);
     let mut checked = nothing_checked(alloc);
-    open_block(alloc, &mut reader, 0, &None, &module.block)?;
     let site = Site {
         name: &module.name,
         outer: 0,
@@ -89,12 +124,8 @@ fn judge_whole(
         &module.block,
     )?;
     check_end(&reader, &mut checked, &module.name, &module.end_name);
-    let name = reader.env().text(module.name.token).to_vec(alloc)?;
-    Ok(Whole {
-        name,
-        globals: frame.variables,
-        checked,
-    })
+    let name = reader.env().text(module.name.token);
+    named(alloc, name, frame.variables, checked)
 }
 
 // The least of the broken rules, with the first token of its node.

@@ -10,11 +10,11 @@ ghost use Rattle.alma_outcome.specs.Outside.{SinkSide, files_side};
 ghost use Rattle.alma_outcome.specs.Outcome.{storing, CompileOutcome, SourceOutcome};
 ghost use Rattle.alma_outcome.specs.Course.{Works};
 
-use crate::load::load_source;
 use alma_base::NoMemory;
 use alma_code::Code;
 use alma_io::Files;
 use alma_ir::Program;
+use alma_load::load_source;
 use alma_lower::lower;
 use alma_object::encode;
 use alma_outcome::End;

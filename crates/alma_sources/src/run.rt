@@ -9,9 +9,9 @@ ghost use Rattle.alma_outcome.specs.Outcome.{ProgramOutcome, SourceOutcome};
 ghost use Rattle.alma_outcome.specs.Showing.{Traces, shown_of};
 ghost use Rattle.alma_outcome.specs.Course.{Runs};
 
-use crate::load::load_source;
 use alma_io::{Sink, Source};
 use alma_ir::Program;
+use alma_load::load_source;
 use alma_lower::lower;
 use alma_outcome::{End, Showing};
 use alma_run::run_code;

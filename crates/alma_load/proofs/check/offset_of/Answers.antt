@@ -1,7 +1,7 @@
 use Rattle.std.proofs.Common.{length, ap, sym, ◌∙◌}
 use Rattle.alma_scan.specs.declared.scanner.Token.{Token}
 use Rattle.alma_outcome.proofs.RefusalLemmas.{offset_at, offset_behind}
-use Rattle.alma_sources.proofs.check.offset_of.Goals as goal
+use Rattle.alma_load.proofs.check.offset_of.Goals as goal
 
 pub returns-in-Some : goal.returns-in-Some
 returns-in-Some c =

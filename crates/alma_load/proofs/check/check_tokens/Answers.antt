@@ -1,5 +1,5 @@
 use Rattle.alma_outcome.proofs.RefusalLemmas.{parsed_of, refused_at}
-use Rattle.alma_sources.proofs.check.check_tokens.Goals as goal
+use Rattle.alma_load.proofs.check.check_tokens.Goals as goal
 
 pub check_tree-requires-clause-parsed : goal.check_tree-requires-clause-parsed
 check_tree-requires-clause-parsed c =

@@ -1,6 +1,6 @@
 use Rattle.alma_scan.specs.Scanned.{lexemes}
 use Rattle.alma_outcome.proofs.RefusalLemmas.{refused_by_check}
-use Rattle.alma_sources.proofs.check.check_tree.Goals as goal
+use Rattle.alma_load.proofs.check.check_tree.Goals as goal
 
 pub returns-in-Err-Fault-clause-refused : goal.returns-in-Err-Fault-clause-refused
 returns-in-Err-Fault-clause-refused c =

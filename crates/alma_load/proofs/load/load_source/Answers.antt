@@ -1,6 +1,6 @@
 use Rattle.alma_outcome.proofs.DriverLemmas.{stop_refused}
 use Rattle.alma_outcome.proofs.RefusalLemmas.{refused_within}
-use Rattle.alma_sources.proofs.load.load_source.Goals as goal
+use Rattle.alma_load.proofs.load.load_source.Goals as goal
 
 pub place-requires-clause-inside : goal.place-requires-clause-inside
 place-requires-clause-inside c =

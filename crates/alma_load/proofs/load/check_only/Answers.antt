@@ -1,7 +1,7 @@
 use Rattle.alma_ir.specs.View.{program_of}
 use Rattle.alma_outcome.specs.Outcome.{CheckOutcome}
 use Rattle.alma_outcome.proofs.DriverLemmas.{goes_checked, goes_stopped}
-use Rattle.alma_sources.proofs.load.check_only.Goals as goal
+use Rattle.alma_load.proofs.load.check_only.Goals as goal
 
 pub returns-in-Ok : goal.returns-in-Ok
 returns-in-Ok c = λ out. goes_checked c.args.source.now (program_of c.in-Ok._program) out c.in-Ok.ensures.program
