@@ -1,11 +1,11 @@
 // The kinds of statements, expressions and designators.
 ghost use Rattle.std.specs.Prelude.{OnOk};
-ghost use Rattle.alma_spell_phrase.specs.Pushed.{Pushes};
+ghost use Rattle.alma_spell_phrase.specs.Pushed.{Pushes, Puts};
 ghost use Rattle.alma_tree.specs.Spelling.{spell_args, spell_arm, spell_arm_tail, spell_by, spell_compared, spell_desig, spell_desig_tail, spell_else, spell_elsif_tail, spell_expr, spell_expr_tail, spell_exprs, spell_factor, spell_factor_tail, spell_high, spell_label, spell_label_tail, spell_orelse_tail, spell_primary, spell_returned, spell_selector, spell_selector_tail, spell_simple, spell_stmt, spell_stmt_tail, spell_stmts, spell_term, spell_term_tail};
 ghost use Rattle.alma_tree.specs.Tree.{assign, case_stmt, commit_stmt, either_stmt, for_stmt, forall_stmt, if_stmt, read_stmt, repeat_stmt, return_stmt, some_stmt, while_stmt, write_stmt, writeln_stmt};
 ghost use Rattle.alma_tree.specs.View.{args_of, arms_of, by_of, compared_of, desigs_of, else_of, elsifs_of, exprs_of, factors_of, high_of, labels_of, orelses_of, returned_of, selectors_of, stmts_of, terms_of, view_arm, view_desig, view_expr, view_exprs, view_factor, view_label, view_primary, view_selector, view_simple, view_stmt, view_stmts, view_term};
 
-use crate::word::{add_kind, mul_kind, push, push_sign, relation_kind};
+use crate::word::{Spelled, add_kind, mul_kind, put_sign, relation_kind};
 use alma_base::NoMemory;
 use alma_tree::{
     AddLink, Args, Arm, Compared, Desig, Elsif, Expr, Exprs, Factor, Kind, Label, MulLink, Primary,
@@ -13,595 +13,541 @@ use alma_tree::{
 };
 
 /// Appends the kinds of the tokens that a list of statements stands for.
-#[cycle(spell)]
 pub fn push_stmts(tree: &Stmts, out: &mut Vec<Kind>) -> Result<(), NoMemory>
     ensures pushed { OnOk result (Pushes out.old.items out.new.items
         (spell_stmts (view_stmts tree.now))) }
 {
-    push_stmt(&tree.first, out)?;
-    push_stmt_tail(&tree.more, out)
+    let mut spelled = Spelled::behind(out);
+    put_stmts(tree, &mut spelled);
+    spelled.finish(out)
+}
+
+/// Appends the kinds of the tokens that an expression stands for.
+pub fn push_expr(tree: &Expr, out: &mut Vec<Kind>) -> Result<(), NoMemory>
+    ensures pushed { OnOk result (Pushes out.old.items out.new.items
+        (spell_expr (view_expr tree.now))) }
+{
+    let mut spelled = Spelled::behind(out);
+    put_expr(tree, &mut spelled);
+    spelled.finish(out)
 }
 
 #[cycle(spell)]
-fn push_stmt_tail(trees: &[Stmt], out: &mut Vec<Kind>) -> Result<(), NoMemory>
-    ensures pushed { OnOk result (Pushes out.old.items out.new.items
-        (spell_stmt_tail (stmts_of trees.now))) }
+fn put_stmts(tree: &Stmts, out: &mut Spelled)
+    ensures { Puts out.old out.new (spell_stmts (view_stmts tree.now)) }
+{
+    put_stmt(&tree.first, out);
+    put_stmt_tail(&tree.more, out);
+}
+
+#[cycle(spell)]
+fn put_stmt_tail(trees: &[Stmt], out: &mut Spelled)
+    ensures { Puts out.old out.new (spell_stmt_tail (stmts_of trees.now)) }
 {
     for tree in trees {
-        push(Kind::Semicolon, out)?;
-        push_stmt(tree, out)?;
+        out.put(Kind::Semicolon);
+        put_stmt(tree, out);
     }
-    Ok(())
 }
 
 #[cycle(spell)]
-fn push_stmt(tree: &Stmt, out: &mut Vec<Kind>) -> Result<(), NoMemory>
-    ensures pushed { OnOk result (Pushes out.old.items out.new.items
-        (spell_stmt (view_stmt tree.now))) }
+fn put_stmt(tree: &Stmt, out: &mut Spelled)
+    ensures { Puts out.old out.new (spell_stmt (view_stmt tree.now)) }
 {
     match tree {
-        Stmt::Nothing { .. } => Ok(()),
-        Stmt::Assign { target, value, .. } => push_assign(target, value, out),
-        Stmt::Value { value, .. } => push_expr(value, out),
+        Stmt::Nothing { .. } => {}
+        Stmt::Assign { target, value, .. } => put_assign(target, value, out),
+        Stmt::Value { value, .. } => put_expr(value, out),
         Stmt::If {
             test,
             then,
             elsifs,
             otherwise,
             ..
-        } => push_if(test, then, elsifs, otherwise, out),
-        Stmt::While { test, body, .. } => push_while(test, body, out),
-        Stmt::Repeat { body, test, .. } => push_repeat(body, test, out),
+        } => put_if(test, then, elsifs, otherwise, out),
+        Stmt::While { test, body, .. } => put_while(test, body, out),
+        Stmt::Repeat { body, test, .. } => put_repeat(body, test, out),
         Stmt::For {
             from,
             to,
             by,
             body,
             ..
-        } => push_for(from, to, by, body, out),
-        Stmt::Some { from, to, body, .. } => push_some(from, to, body, out),
+        } => put_for(from, to, by, body, out),
+        Stmt::Some { from, to, body, .. } => put_some(from, to, body, out),
         Stmt::Case {
             value,
             first,
             more,
             otherwise,
             ..
-        } => push_case(value, first, more, otherwise, out),
-        Stmt::Either { first, more, .. } => push_either(first, more, out),
-        Stmt::Forall { choice, body, .. } => push_forall(choice, body, out),
-        Stmt::Commit { body, .. } => push_commit(body, out),
-        Stmt::Return { value, .. } => push_return(value, out),
-        Stmt::Read { first, more, .. } => push_read(first, more, out),
-        Stmt::Write { items, .. } => push_write(items, out),
-        Stmt::Writeln { items, .. } => push_writeln(items, out),
+        } => put_case(value, first, more, otherwise, out),
+        Stmt::Either { first, more, .. } => put_either(first, more, out),
+        Stmt::Forall { choice, body, .. } => put_forall(choice, body, out),
+        Stmt::Commit { body, .. } => put_commit(body, out),
+        Stmt::Return { value, .. } => put_return(value, out),
+        Stmt::Read { first, more, .. } => put_read(first, more, out),
+        Stmt::Write { items, .. } => put_write(items, out),
+        Stmt::Writeln { items, .. } => put_writeln(items, out),
     }
 }
 
 #[cycle(spell)]
-fn push_assign(target: &Desig, value: &Expr, out: &mut Vec<Kind>) -> Result<(), NoMemory>
-    ensures pushed { OnOk result (Pushes out.old.items out.new.items
-        (spell_stmt (assign (view_desig target.now) (view_expr value.now)))) }
+fn put_assign(target: &Desig, value: &Expr, out: &mut Spelled)
+    ensures { Puts out.old out.new
+        (spell_stmt (assign (view_desig target.now) (view_expr value.now))) }
 {
-    push_desig(target, out)?;
-    push(Kind::Assign, out)?;
-    push_expr(value, out)
+    put_desig(target, out);
+    out.put(Kind::Assign);
+    put_expr(value, out);
 }
 
 #[cycle(spell)]
-fn push_if(
-    test: &Expr,
-    then: &Stmts,
-    elsifs: &[Elsif],
-    otherwise: &Option<Stmts>,
-    out: &mut Vec<Kind>,
-) -> Result<(), NoMemory>
-    ensures pushed { OnOk result (Pushes out.old.items out.new.items
+fn put_if(test: &Expr, then: &Stmts, elsifs: &[Elsif], otherwise: &Option<Stmts>, out: &mut Spelled)
+    ensures { Puts out.old out.new
         (spell_stmt (if_stmt (view_expr test.now) (view_stmts then.now) (elsifs_of elsifs.now)
-        (else_of otherwise.now)))) }
+        (else_of otherwise.now))) }
 {
-    push(Kind::If, out)?;
-    push_expr(test, out)?;
-    push(Kind::Then, out)?;
-    push_stmts(then, out)?;
-    push_elsif_tail(elsifs, out)?;
-    push_else(otherwise, out)?;
-    push(Kind::End, out)
+    out.put(Kind::If);
+    put_expr(test, out);
+    out.put(Kind::Then);
+    put_stmts(then, out);
+    put_elsif_tail(elsifs, out);
+    put_else(otherwise, out);
+    out.put(Kind::End);
 }
 
 #[cycle(spell)]
-fn push_while(test: &Expr, body: &Stmts, out: &mut Vec<Kind>) -> Result<(), NoMemory>
-    ensures pushed { OnOk result (Pushes out.old.items out.new.items
-        (spell_stmt (while_stmt (view_expr test.now) (view_stmts body.now)))) }
+fn put_while(test: &Expr, body: &Stmts, out: &mut Spelled)
+    ensures { Puts out.old out.new
+        (spell_stmt (while_stmt (view_expr test.now) (view_stmts body.now))) }
 {
-    push(Kind::While, out)?;
-    push_expr(test, out)?;
-    push(Kind::Do, out)?;
-    push_stmts(body, out)?;
-    push(Kind::End, out)
+    out.put(Kind::While);
+    put_expr(test, out);
+    out.put(Kind::Do);
+    put_stmts(body, out);
+    out.put(Kind::End);
 }
 
 #[cycle(spell)]
-fn push_repeat(body: &Stmts, test: &Expr, out: &mut Vec<Kind>) -> Result<(), NoMemory>
-    ensures pushed { OnOk result (Pushes out.old.items out.new.items
-        (spell_stmt (repeat_stmt (view_stmts body.now) (view_expr test.now)))) }
+fn put_repeat(body: &Stmts, test: &Expr, out: &mut Spelled)
+    ensures { Puts out.old out.new
+        (spell_stmt (repeat_stmt (view_stmts body.now) (view_expr test.now))) }
 {
-    push(Kind::Repeat, out)?;
-    push_stmts(body, out)?;
-    push(Kind::Until, out)?;
-    push_expr(test, out)
+    out.put(Kind::Repeat);
+    put_stmts(body, out);
+    out.put(Kind::Until);
+    put_expr(test, out);
 }
 
 #[cycle(spell)]
-fn push_for(
-    from: &Expr,
-    to: &Expr,
-    by: &Option<Expr>,
-    body: &Stmts,
-    out: &mut Vec<Kind>,
-) -> Result<(), NoMemory>
-    ensures pushed { OnOk result (Pushes out.old.items out.new.items
-        (spell_stmt (for_stmt (view_expr from.now) (view_expr to.now) (by_of by.now)
-        (view_stmts body.now)))) }
+fn put_for(from: &Expr, to: &Expr, by: &Option<Expr>, body: &Stmts, out: &mut Spelled)
+    ensures { Puts out.old out.new
+        (spell_stmt (for_stmt (view_expr from.now) (view_expr to.now) (by_of by.now) (view_stmts
+        body.now))) }
 {
-    push(Kind::For, out)?;
-    push(Kind::Name, out)?;
-    push(Kind::Assign, out)?;
-    push_expr(from, out)?;
-    push(Kind::To, out)?;
-    push_expr(to, out)?;
-    push_by(by, out)?;
-    push(Kind::Do, out)?;
-    push_stmts(body, out)?;
-    push(Kind::End, out)
+    out.put(Kind::For);
+    out.put(Kind::Name);
+    out.put(Kind::Assign);
+    put_expr(from, out);
+    out.put(Kind::To);
+    put_expr(to, out);
+    put_by(by, out);
+    out.put(Kind::Do);
+    put_stmts(body, out);
+    out.put(Kind::End);
 }
 
 #[cycle(spell)]
-fn push_some(from: &Expr, to: &Expr, body: &Stmts, out: &mut Vec<Kind>) -> Result<(), NoMemory>
-    ensures pushed { OnOk result (Pushes out.old.items out.new.items
-        (spell_stmt (some_stmt (view_expr from.now) (view_expr to.now) (view_stmts body.now)))) }
+fn put_some(from: &Expr, to: &Expr, body: &Stmts, out: &mut Spelled)
+    ensures { Puts out.old out.new
+        (spell_stmt (some_stmt (view_expr from.now) (view_expr to.now) (view_stmts body.now))) }
 {
-    push(Kind::Some, out)?;
-    push(Kind::Name, out)?;
-    push(Kind::Assign, out)?;
-    push_expr(from, out)?;
-    push(Kind::To, out)?;
-    push_expr(to, out)?;
-    push(Kind::Do, out)?;
-    push_stmts(body, out)?;
-    push(Kind::End, out)
+    out.put(Kind::Some);
+    out.put(Kind::Name);
+    out.put(Kind::Assign);
+    put_expr(from, out);
+    out.put(Kind::To);
+    put_expr(to, out);
+    out.put(Kind::Do);
+    put_stmts(body, out);
+    out.put(Kind::End);
 }
 
 #[cycle(spell)]
-fn push_case(
-    value: &Expr,
-    first: &Arm,
-    more: &[Arm],
-    otherwise: &Option<Stmts>,
-    out: &mut Vec<Kind>,
-) -> Result<(), NoMemory>
-    ensures pushed { OnOk result (Pushes out.old.items out.new.items
+fn put_case(value: &Expr, first: &Arm, more: &[Arm], otherwise: &Option<Stmts>, out: &mut Spelled)
+    ensures { Puts out.old out.new
         (spell_stmt (case_stmt (view_expr value.now) (view_arm first.now) (arms_of more.now)
-        (else_of otherwise.now)))) }
+        (else_of otherwise.now))) }
 {
-    push(Kind::Case, out)?;
-    push_expr(value, out)?;
-    push(Kind::Of, out)?;
-    push_arm(first, out)?;
-    push_arm_tail(more, out)?;
-    push_else(otherwise, out)?;
-    push(Kind::End, out)
+    out.put(Kind::Case);
+    put_expr(value, out);
+    out.put(Kind::Of);
+    put_arm(first, out);
+    put_arm_tail(more, out);
+    put_else(otherwise, out);
+    out.put(Kind::End);
 }
 
 #[cycle(spell)]
-fn push_either(first: &Stmts, more: &[Stmts], out: &mut Vec<Kind>) -> Result<(), NoMemory>
-    ensures pushed { OnOk result (Pushes out.old.items out.new.items
-        (spell_stmt (either_stmt (view_stmts first.now) (orelses_of more.now)))) }
+fn put_either(first: &Stmts, more: &[Stmts], out: &mut Spelled)
+    ensures { Puts out.old out.new
+        (spell_stmt (either_stmt (view_stmts first.now) (orelses_of more.now))) }
 {
-    push(Kind::Either, out)?;
-    push_stmts(first, out)?;
-    push_orelse_tail(more, out)?;
-    push(Kind::End, out)
+    out.put(Kind::Either);
+    put_stmts(first, out);
+    put_orelse_tail(more, out);
+    out.put(Kind::End);
 }
 
 #[cycle(spell)]
-fn push_forall(choice: &Stmts, body: &Stmts, out: &mut Vec<Kind>) -> Result<(), NoMemory>
-    ensures pushed { OnOk result (Pushes out.old.items out.new.items
-        (spell_stmt (forall_stmt (view_stmts choice.now) (view_stmts body.now)))) }
+fn put_forall(choice: &Stmts, body: &Stmts, out: &mut Spelled)
+    ensures { Puts out.old out.new
+        (spell_stmt (forall_stmt (view_stmts choice.now) (view_stmts body.now))) }
 {
-    push(Kind::Forall, out)?;
-    push_stmts(choice, out)?;
-    push(Kind::Do, out)?;
-    push_stmts(body, out)?;
-    push(Kind::End, out)
+    out.put(Kind::Forall);
+    put_stmts(choice, out);
+    out.put(Kind::Do);
+    put_stmts(body, out);
+    out.put(Kind::End);
 }
 
 #[cycle(spell)]
-fn push_commit(body: &Stmts, out: &mut Vec<Kind>) -> Result<(), NoMemory>
-    ensures pushed { OnOk result (Pushes out.old.items out.new.items
-        (spell_stmt (commit_stmt (view_stmts body.now)))) }
+fn put_commit(body: &Stmts, out: &mut Spelled)
+    ensures { Puts out.old out.new (spell_stmt (commit_stmt (view_stmts body.now))) }
 {
-    push(Kind::Commit, out)?;
-    push_stmts(body, out)?;
-    push(Kind::End, out)
+    out.put(Kind::Commit);
+    put_stmts(body, out);
+    out.put(Kind::End);
 }
 
 #[cycle(spell)]
-fn push_return(value: &Option<Expr>, out: &mut Vec<Kind>) -> Result<(), NoMemory>
-    ensures pushed { OnOk result (Pushes out.old.items out.new.items
-        (spell_stmt (return_stmt (returned_of value.now)))) }
+fn put_return(value: &Option<Expr>, out: &mut Spelled)
+    ensures { Puts out.old out.new (spell_stmt (return_stmt (returned_of value.now))) }
 {
-    push(Kind::Return, out)?;
-    push_returned(value, out)
+    out.put(Kind::Return);
+    put_returned(value, out);
 }
 
 #[cycle(spell)]
-fn push_read(first: &Desig, more: &[Desig], out: &mut Vec<Kind>) -> Result<(), NoMemory>
-    ensures pushed { OnOk result (Pushes out.old.items out.new.items
-        (spell_stmt (read_stmt (view_desig first.now) (desigs_of more.now)))) }
+fn put_read(first: &Desig, more: &[Desig], out: &mut Spelled)
+    ensures { Puts out.old out.new
+        (spell_stmt (read_stmt (view_desig first.now) (desigs_of more.now))) }
 {
-    push(Kind::Read, out)?;
-    push(Kind::OpenParen, out)?;
-    push_desig(first, out)?;
-    push_desig_tail(more, out)?;
-    push(Kind::CloseParen, out)
+    out.put(Kind::Read);
+    out.put(Kind::OpenParen);
+    put_desig(first, out);
+    put_desig_tail(more, out);
+    out.put(Kind::CloseParen);
 }
 
 #[cycle(spell)]
-fn push_write(items: &Exprs, out: &mut Vec<Kind>) -> Result<(), NoMemory>
-    ensures pushed { OnOk result (Pushes out.old.items out.new.items
-        (spell_stmt (write_stmt (view_exprs items.now)))) }
+fn put_write(items: &Exprs, out: &mut Spelled)
+    ensures { Puts out.old out.new (spell_stmt (write_stmt (view_exprs items.now))) }
 {
-    push(Kind::Write, out)?;
-    push(Kind::OpenParen, out)?;
-    push_exprs(items, out)?;
-    push(Kind::CloseParen, out)
+    out.put(Kind::Write);
+    out.put(Kind::OpenParen);
+    put_exprs(items, out);
+    out.put(Kind::CloseParen);
 }
 
 #[cycle(spell)]
-fn push_writeln(items: &Option<Args>, out: &mut Vec<Kind>) -> Result<(), NoMemory>
-    ensures pushed { OnOk result (Pushes out.old.items out.new.items
-        (spell_stmt (writeln_stmt (args_of items.now)))) }
+fn put_writeln(items: &Option<Args>, out: &mut Spelled)
+    ensures { Puts out.old out.new (spell_stmt (writeln_stmt (args_of items.now))) }
 {
-    push(Kind::Writeln, out)?;
-    push_args(items, out)
+    out.put(Kind::Writeln);
+    put_args(items, out);
 }
 
 #[cycle(spell)]
-fn push_elsif_tail(trees: &[Elsif], out: &mut Vec<Kind>) -> Result<(), NoMemory>
-    ensures pushed { OnOk result (Pushes out.old.items out.new.items
-        (spell_elsif_tail (elsifs_of trees.now))) }
+fn put_elsif_tail(trees: &[Elsif], out: &mut Spelled)
+    ensures { Puts out.old out.new (spell_elsif_tail (elsifs_of trees.now)) }
 {
     for tree in trees {
-        push(Kind::Elsif, out)?;
-        push_expr(&tree.test, out)?;
-        push(Kind::Then, out)?;
-        push_stmts(&tree.then, out)?;
+        out.put(Kind::Elsif);
+        put_expr(&tree.test, out);
+        out.put(Kind::Then);
+        put_stmts(&tree.then, out);
     }
-    Ok(())
 }
 
 #[cycle(spell)]
-fn push_else(tree: &Option<Stmts>, out: &mut Vec<Kind>) -> Result<(), NoMemory>
-    ensures pushed { OnOk result (Pushes out.old.items out.new.items
-        (spell_else (else_of tree.now))) }
+fn put_else(tree: &Option<Stmts>, out: &mut Spelled)
+    ensures { Puts out.old out.new (spell_else (else_of tree.now)) }
 {
-    match tree {
-        None => Ok(()),
-        Some(body) => {
-            push(Kind::Else, out)?;
-            push_stmts(body, out)
-        }
+    if let Some(body) = tree {
+        out.put(Kind::Else);
+        put_stmts(body, out);
     }
 }
 
 #[cycle(spell)]
-fn push_by(tree: &Option<Expr>, out: &mut Vec<Kind>) -> Result<(), NoMemory>
-    ensures pushed { OnOk result (Pushes out.old.items out.new.items (spell_by (by_of tree.now))) }
+fn put_by(tree: &Option<Expr>, out: &mut Spelled)
+    ensures { Puts out.old out.new (spell_by (by_of tree.now)) }
 {
-    match tree {
-        None => Ok(()),
-        Some(step) => {
-            push(Kind::By, out)?;
-            push_expr(step, out)
-        }
+    if let Some(step) = tree {
+        out.put(Kind::By);
+        put_expr(step, out);
     }
 }
 
 #[cycle(spell)]
-fn push_orelse_tail(trees: &[Stmts], out: &mut Vec<Kind>) -> Result<(), NoMemory>
-    ensures pushed { OnOk result (Pushes out.old.items out.new.items
-        (spell_orelse_tail (orelses_of trees.now))) }
+fn put_orelse_tail(trees: &[Stmts], out: &mut Spelled)
+    ensures { Puts out.old out.new (spell_orelse_tail (orelses_of trees.now)) }
 {
     for tree in trees {
-        push(Kind::Orelse, out)?;
-        push_stmts(tree, out)?;
+        out.put(Kind::Orelse);
+        put_stmts(tree, out);
     }
-    Ok(())
 }
 
 #[cycle(spell)]
-fn push_returned(tree: &Option<Expr>, out: &mut Vec<Kind>) -> Result<(), NoMemory>
-    ensures pushed { OnOk result (Pushes out.old.items out.new.items
-        (spell_returned (returned_of tree.now))) }
+fn put_returned(tree: &Option<Expr>, out: &mut Spelled)
+    ensures { Puts out.old out.new (spell_returned (returned_of tree.now)) }
 {
-    match tree {
-        None => Ok(()),
-        Some(value) => push_expr(value, out),
+    if let Some(value) = tree {
+        put_expr(value, out);
     }
 }
 
 #[cycle(spell)]
-fn push_desig_tail(trees: &[Desig], out: &mut Vec<Kind>) -> Result<(), NoMemory>
-    ensures pushed { OnOk result (Pushes out.old.items out.new.items
-        (spell_desig_tail (desigs_of trees.now))) }
+fn put_desig_tail(trees: &[Desig], out: &mut Spelled)
+    ensures { Puts out.old out.new (spell_desig_tail (desigs_of trees.now)) }
 {
     for tree in trees {
-        push(Kind::Comma, out)?;
-        push_desig(tree, out)?;
+        out.put(Kind::Comma);
+        put_desig(tree, out);
     }
-    Ok(())
 }
 
 #[cycle(spell)]
-fn push_arm(tree: &Arm, out: &mut Vec<Kind>) -> Result<(), NoMemory>
-    ensures pushed { OnOk result (Pushes out.old.items out.new.items
-        (spell_arm (view_arm tree.now))) }
+fn put_arm(tree: &Arm, out: &mut Spelled)
+    ensures { Puts out.old out.new (spell_arm (view_arm tree.now)) }
 {
     match tree {
-        Arm::Empty { .. } => Ok(()),
+        Arm::Empty { .. } => {}
         Arm::Labelled {
             first,
             more,
             body,
             ..
         } => {
-            push_label(first, out)?;
-            push_label_tail(more, out)?;
-            push(Kind::Colon, out)?;
-            push_stmts(body, out)
+            put_label(first, out);
+            put_label_tail(more, out);
+            out.put(Kind::Colon);
+            put_stmts(body, out);
         }
     }
 }
 
 #[cycle(spell)]
-fn push_arm_tail(trees: &[Arm], out: &mut Vec<Kind>) -> Result<(), NoMemory>
-    ensures pushed { OnOk result (Pushes out.old.items out.new.items
-        (spell_arm_tail (arms_of trees.now))) }
+fn put_arm_tail(trees: &[Arm], out: &mut Spelled)
+    ensures { Puts out.old out.new (spell_arm_tail (arms_of trees.now)) }
 {
     for tree in trees {
-        push(Kind::Bar, out)?;
-        push_arm(tree, out)?;
-    }
-    Ok(())
-}
-
-#[cycle(spell)]
-fn push_label(tree: &Label, out: &mut Vec<Kind>) -> Result<(), NoMemory>
-    ensures pushed { OnOk result (Pushes out.old.items out.new.items
-        (spell_label (view_label tree.now))) }
-{
-    push_expr(&tree.low, out)?;
-    push_high(&tree.high, out)
-}
-
-#[cycle(spell)]
-fn push_high(tree: &Option<Expr>, out: &mut Vec<Kind>) -> Result<(), NoMemory>
-    ensures pushed { OnOk result (Pushes out.old.items out.new.items
-        (spell_high (high_of tree.now))) }
-{
-    match tree {
-        None => Ok(()),
-        Some(high) => {
-            push(Kind::DotDot, out)?;
-            push_expr(high, out)
-        }
+        out.put(Kind::Bar);
+        put_arm(tree, out);
     }
 }
 
 #[cycle(spell)]
-fn push_label_tail(trees: &[Label], out: &mut Vec<Kind>) -> Result<(), NoMemory>
-    ensures pushed { OnOk result (Pushes out.old.items out.new.items
-        (spell_label_tail (labels_of trees.now))) }
+fn put_label(tree: &Label, out: &mut Spelled)
+    ensures { Puts out.old out.new (spell_label (view_label tree.now)) }
+{
+    put_expr(&tree.low, out);
+    put_high(&tree.high, out);
+}
+
+#[cycle(spell)]
+fn put_high(tree: &Option<Expr>, out: &mut Spelled)
+    ensures { Puts out.old out.new (spell_high (high_of tree.now)) }
+{
+    if let Some(high) = tree {
+        out.put(Kind::DotDot);
+        put_expr(high, out);
+    }
+}
+
+#[cycle(spell)]
+fn put_label_tail(trees: &[Label], out: &mut Spelled)
+    ensures { Puts out.old out.new (spell_label_tail (labels_of trees.now)) }
 {
     for tree in trees {
-        push(Kind::Comma, out)?;
-        push_label(tree, out)?;
-    }
-    Ok(())
-}
-
-/// Appends the kinds of the tokens that an expression stands for.
-#[cycle(spell)]
-pub fn push_expr(tree: &Expr, out: &mut Vec<Kind>) -> Result<(), NoMemory>
-    ensures pushed { OnOk result (Pushes out.old.items out.new.items
-        (spell_expr (view_expr tree.now))) }
-{
-    push_simple(&tree.left, out)?;
-    push_compared(&tree.right, out)
-}
-
-#[cycle(spell)]
-fn push_compared(tree: &Option<Box<Compared>>, out: &mut Vec<Kind>) -> Result<(), NoMemory>
-    ensures pushed { OnOk result (Pushes out.old.items out.new.items
-        (spell_compared (compared_of tree.now))) }
-{
-    match tree {
-        None => Ok(()),
-        Some(compared) => {
-            push(relation_kind(compared.relation), out)?;
-            push_simple(&compared.right, out)
-        }
+        out.put(Kind::Comma);
+        put_label(tree, out);
     }
 }
 
 #[cycle(spell)]
-fn push_simple(tree: &Simple, out: &mut Vec<Kind>) -> Result<(), NoMemory>
-    ensures pushed { OnOk result (Pushes out.old.items out.new.items
-        (spell_simple (view_simple tree.now))) }
+fn put_expr(tree: &Expr, out: &mut Spelled)
+    ensures { Puts out.old out.new (spell_expr (view_expr tree.now)) }
 {
-    push_sign(tree.sign, out)?;
-    push_term(&tree.first, out)?;
-    push_term_tail(&tree.more, out)
+    put_simple(&tree.left, out);
+    put_compared(&tree.right, out);
 }
 
 #[cycle(spell)]
-fn push_term_tail(trees: &[AddLink], out: &mut Vec<Kind>) -> Result<(), NoMemory>
-    ensures pushed { OnOk result (Pushes out.old.items out.new.items
-        (spell_term_tail (terms_of trees.now))) }
+fn put_compared(tree: &Option<Box<Compared>>, out: &mut Spelled)
+    ensures { Puts out.old out.new (spell_compared (compared_of tree.now)) }
+{
+    if let Some(compared) = tree {
+        out.put(relation_kind(compared.relation));
+        put_simple(&compared.right, out);
+    }
+}
+
+#[cycle(spell)]
+fn put_simple(tree: &Simple, out: &mut Spelled)
+    ensures { Puts out.old out.new (spell_simple (view_simple tree.now)) }
+{
+    put_sign(tree.sign, out);
+    put_term(&tree.first, out);
+    put_term_tail(&tree.more, out);
+}
+
+#[cycle(spell)]
+fn put_term_tail(trees: &[AddLink], out: &mut Spelled)
+    ensures { Puts out.old out.new (spell_term_tail (terms_of trees.now)) }
 {
     for tree in trees {
-        push(add_kind(tree.operator), out)?;
-        push_term(&tree.operand, out)?;
+        out.put(add_kind(tree.operator));
+        put_term(&tree.operand, out);
     }
-    Ok(())
 }
 
 #[cycle(spell)]
-fn push_term(tree: &Term, out: &mut Vec<Kind>) -> Result<(), NoMemory>
-    ensures pushed { OnOk result (Pushes out.old.items out.new.items
-        (spell_term (view_term tree.now))) }
+fn put_term(tree: &Term, out: &mut Spelled)
+    ensures { Puts out.old out.new (spell_term (view_term tree.now)) }
 {
-    push_factor(&tree.first, out)?;
-    push_factor_tail(&tree.more, out)
+    put_factor(&tree.first, out);
+    put_factor_tail(&tree.more, out);
 }
 
 #[cycle(spell)]
-fn push_factor_tail(trees: &[MulLink], out: &mut Vec<Kind>) -> Result<(), NoMemory>
-    ensures pushed { OnOk result (Pushes out.old.items out.new.items
-        (spell_factor_tail (factors_of trees.now))) }
+fn put_factor_tail(trees: &[MulLink], out: &mut Spelled)
+    ensures { Puts out.old out.new (spell_factor_tail (factors_of trees.now)) }
 {
     for tree in trees {
-        push(mul_kind(tree.operator), out)?;
-        push_factor(&tree.operand, out)?;
+        out.put(mul_kind(tree.operator));
+        put_factor(&tree.operand, out);
     }
-    Ok(())
 }
 
 #[cycle(spell)]
-fn push_factor(tree: &Factor, out: &mut Vec<Kind>) -> Result<(), NoMemory>
-    ensures pushed { OnOk result (Pushes out.old.items out.new.items
-        (spell_factor (view_factor tree.now))) }
+fn put_factor(tree: &Factor, out: &mut Spelled)
+    ensures { Puts out.old out.new (spell_factor (view_factor tree.now)) }
 {
     match tree {
         Factor::Not { primary, .. } => {
-            push(Kind::Not, out)?;
-            push_primary(primary, out)
+            out.put(Kind::Not);
+            put_primary(primary, out);
         }
-        Factor::Plain { primary, .. } => push_primary(primary, out),
+        Factor::Plain { primary, .. } => put_primary(primary, out),
     }
 }
 
 #[cycle(spell)]
-fn push_primary(tree: &Primary, out: &mut Vec<Kind>) -> Result<(), NoMemory>
-    ensures pushed { OnOk result (Pushes out.old.items out.new.items
-        (spell_primary (view_primary tree.now))) }
+fn put_primary(tree: &Primary, out: &mut Spelled)
+    ensures { Puts out.old out.new (spell_primary (view_primary tree.now)) }
 {
     match tree {
-        Primary::Number { .. } => push(Kind::Number, out),
-        Primary::Literal { .. } => push(Kind::Literal, out),
+        Primary::Number { .. } => out.put(Kind::Number),
+        Primary::Literal { .. } => out.put(Kind::Literal),
         Primary::Desig { desig, args, .. } => {
-            push_desig(desig, out)?;
-            push_args(args, out)
+            put_desig(desig, out);
+            put_args(args, out);
         }
         Primary::Paren { body, .. } => {
-            push(Kind::OpenParen, out)?;
-            push_stmts(body, out)?;
-            push(Kind::CloseParen, out)
+            out.put(Kind::OpenParen);
+            put_stmts(body, out);
+            out.put(Kind::CloseParen);
         }
         Primary::Known { desig, .. } => {
-            push(Kind::Known, out)?;
-            push(Kind::OpenParen, out)?;
-            push_desig(desig, out)?;
-            push(Kind::CloseParen, out)
+            out.put(Kind::Known);
+            out.put(Kind::OpenParen);
+            put_desig(desig, out);
+            out.put(Kind::CloseParen);
         }
         Primary::Ord { value, .. } => {
-            push(Kind::Ord, out)?;
-            push(Kind::OpenParen, out)?;
-            push_expr(value, out)?;
-            push(Kind::CloseParen, out)
+            out.put(Kind::Ord);
+            out.put(Kind::OpenParen);
+            put_expr(value, out);
+            out.put(Kind::CloseParen);
         }
         Primary::Chr { value, .. } => {
-            push(Kind::Chr, out)?;
-            push(Kind::OpenParen, out)?;
-            push_expr(value, out)?;
-            push(Kind::CloseParen, out)
+            out.put(Kind::Chr);
+            out.put(Kind::OpenParen);
+            put_expr(value, out);
+            out.put(Kind::CloseParen);
         }
     }
 }
 
 #[cycle(spell)]
-fn push_args(tree: &Option<Args>, out: &mut Vec<Kind>) -> Result<(), NoMemory>
-    ensures pushed { OnOk result (Pushes out.old.items out.new.items
-        (spell_args (args_of tree.now))) }
+fn put_args(tree: &Option<Args>, out: &mut Spelled)
+    ensures { Puts out.old out.new (spell_args (args_of tree.now)) }
 {
     let Some(args) = tree else {
-        return Ok(());
+        return;
     };
-    push(Kind::OpenParen, out)?;
+    out.put(Kind::OpenParen);
     match &args.values {
-        None => push(Kind::CloseParen, out),
+        None => out.put(Kind::CloseParen),
         Some(values) => {
-            push_exprs(values, out)?;
-            push(Kind::CloseParen, out)
+            put_exprs(values, out);
+            out.put(Kind::CloseParen);
         }
     }
 }
 
 #[cycle(spell)]
-fn push_exprs(tree: &Exprs, out: &mut Vec<Kind>) -> Result<(), NoMemory>
-    ensures pushed { OnOk result (Pushes out.old.items out.new.items
-        (spell_exprs (view_exprs tree.now))) }
+fn put_exprs(tree: &Exprs, out: &mut Spelled)
+    ensures { Puts out.old out.new (spell_exprs (view_exprs tree.now)) }
 {
-    push_expr(&tree.first, out)?;
-    push_expr_tail(&tree.more, out)
+    put_expr(&tree.first, out);
+    put_expr_tail(&tree.more, out);
 }
 
 #[cycle(spell)]
-fn push_expr_tail(trees: &[Expr], out: &mut Vec<Kind>) -> Result<(), NoMemory>
-    ensures pushed { OnOk result (Pushes out.old.items out.new.items
-        (spell_expr_tail (exprs_of trees.now))) }
+fn put_expr_tail(trees: &[Expr], out: &mut Spelled)
+    ensures { Puts out.old out.new (spell_expr_tail (exprs_of trees.now)) }
 {
     for tree in trees {
-        push(Kind::Comma, out)?;
-        push_expr(tree, out)?;
+        out.put(Kind::Comma);
+        put_expr(tree, out);
     }
-    Ok(())
 }
 
 #[cycle(spell)]
-fn push_desig(tree: &Desig, out: &mut Vec<Kind>) -> Result<(), NoMemory>
-    ensures pushed { OnOk result (Pushes out.old.items out.new.items
-        (spell_desig (view_desig tree.now))) }
+fn put_desig(tree: &Desig, out: &mut Spelled)
+    ensures { Puts out.old out.new (spell_desig (view_desig tree.now)) }
 {
-    push(Kind::Name, out)?;
-    push_selector_tail(&tree.more, out)
+    out.put(Kind::Name);
+    put_selector_tail(&tree.more, out);
 }
 
 #[cycle(spell)]
-fn push_selector_tail(trees: &[Selector], out: &mut Vec<Kind>) -> Result<(), NoMemory>
-    ensures pushed { OnOk result (Pushes out.old.items out.new.items
-        (spell_selector_tail (selectors_of trees.now))) }
+fn put_selector_tail(trees: &[Selector], out: &mut Spelled)
+    ensures { Puts out.old out.new (spell_selector_tail (selectors_of trees.now)) }
 {
     for tree in trees {
-        push_selector(tree, out)?;
+        put_selector(tree, out);
     }
-    Ok(())
 }
 
 #[cycle(spell)]
-fn push_selector(tree: &Selector, out: &mut Vec<Kind>) -> Result<(), NoMemory>
-    ensures pushed { OnOk result (Pushes out.old.items out.new.items
-        (spell_selector (view_selector tree.now))) }
+fn put_selector(tree: &Selector, out: &mut Spelled)
+    ensures { Puts out.old out.new (spell_selector (view_selector tree.now)) }
 {
     match tree {
         Selector::Field { .. } => {
-            push(Kind::Dot, out)?;
-            push(Kind::Name, out)
+            out.put(Kind::Dot);
+            out.put(Kind::Name);
         }
         Selector::Index { indices, .. } => {
-            push(Kind::OpenBracket, out)?;
-            push_exprs(indices, out)?;
-            push(Kind::CloseBracket, out)
+            out.put(Kind::OpenBracket);
+            put_exprs(indices, out);
+            out.put(Kind::CloseBracket);
         }
     }
 }

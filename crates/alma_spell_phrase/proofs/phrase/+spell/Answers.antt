@@ -1,374 +1,629 @@
-use Rattle.std.proofs.Common.{◌≡◌, ◌∷◌, ◌++◌, ◌∙◌, ap, sym}
-use Rattle.alma_tree.specs.declared.kind.Kind.TheVariants as kinds
+use Rattle.std.proofs.Common.{◌≡◌, ◌∙◌, refl, ap, arith}
+use denote.Param.Weighed.{most, at_most}
+use Rattle.alma_tree.specs.declared.phrase.Stmts as ds
+use Rattle.alma_tree.specs.declared.phrase.Stmt as dt
+use Rattle.alma_tree.specs.declared.phrase.Arm as da
+use Rattle.alma_tree.specs.declared.phrase.Arm.TheViews as views
+use Rattle.alma_tree.specs.declared.phrase.Label as dl
+use Rattle.alma_tree.specs.declared.phrase.Expr as de
 use Rattle.alma_tree.specs.declared.phrase.Simple as di
 use Rattle.alma_tree.specs.declared.phrase.Term as dm
+use Rattle.alma_tree.specs.declared.phrase.Exprs as dx
+use Rattle.alma_tree.specs.declared.phrase.Desig as dd
+use Rattle.alma_tree.specs.declared.phrase.Selector as dj
 use Rattle.alma_tree.specs.Spelling as spells
 use Rattle.alma_tree.specs.View as view
 use Rattle.alma_tree.specs.Tree as tree
 use Rattle.alma_tree.proofs.Rows as rows
 use Rattle.alma_spell_phrase.proofs.Ends as ends
+use Rattle.alma_spell_phrase.proofs.Steps.{◌▹◌, stays, alike, rests_all, turn, finish}
 use Rattle.alma_spell_phrase.proofs.phrase.+spell.Goals as goal
 
-pub push_stmt-returns-in-Assign : goal.push_stmt-returns-in-Assign
-push_stmt-returns-in-Assign t c =
+pub put_stmts-returns : goal.put_stmts-returns
+put_stmts-returns t c = (rw c.deref.ensures at c.put_stmt.ensures) ▹ (rw c.deref-2.ensures.value at c.put_stmt_tail.ensures)
+
+pub put_stmt_tail-loop-tree-init : goal.put_stmt_tail-loop-tree-init
+put_stmt_tail-loop-tree-init t c = rests_all _ _
+
+pub put_stmt_tail-loop-tree-preserved : goal.put_stmt_tail-loop-tree-preserved
+put_stmt_tail-loop-tree-preserved t c =
+    turn (λ xs. spells.spell_stmt_tail (view.stmts_of xs)) c.loop-tree.tree-index c.args.trees.now c.tree-item.result c.loop-tree-test.true c.tree-item.is c.loop-tree.invariant
+    (c.put.ensures ▹ c.put_stmt.ensures) (λ rest. refl)
+
+pub put_stmt_tail-returns : goal.put_stmt_tail-returns
+put_stmt_tail-returns t c =
+    finish (λ xs. spells.spell_stmt_tail (view.stmts_of xs)) c.loop-tree.tree-index c.args.trees.now c.loop-tree-test.false (λ rest. refl) c.loop-tree.invariant
+
+pub put_stmt-returns-in-Nothing : goal.put_stmt-returns-in-Nothing
+put_stmt-returns-in-Nothing t c = alike spells.spell_stmt (ap view.view_stmt c.in-Nothing.is) (stays _)
+
+pub put_stmt-returns-in-Value : goal.put_stmt-returns-in-Value
+put_stmt-returns-in-Value t c = alike spells.spell_stmt (ap view.view_stmt c.in-Value.is) c.put_expr.ensures
+
+pub put_stmt-returns-in-Write : goal.put_stmt-returns-in-Write
+put_stmt-returns-in-Write t c = alike spells.spell_stmt (ap view.view_stmt c.in-Write.is) c.put_write.ensures
+
+pub put_stmt-returns-in-Assign : goal.put_stmt-returns-in-Assign
+put_stmt-returns-in-Assign t c =
     let x0 = ap view.view_stmt c.in-Assign.is in
     let x1 = rows.assign_laid c.in-Assign.node c.in-Assign.target c.in-Assign.value in
     let l : view.view_stmt c.args.tree.now ≡ tree.assign (view.view_desig c.in-Assign.target) (view.view_expr c.in-Assign.value) = cc in
-    record {
-      pushed = ends.pushed_same c.push_assign.result c.args.out.now.items c.push_assign.new.out.items (view.view_stmt c.args.tree.now) (tree.assign (view.view_desig c.in-Assign.target) (view.view_expr c.in-Assign.value)) l
-          c.push_assign.ensures.pushed;
-    }
+    alike spells.spell_stmt l c.put_assign.ensures
 
-pub push_stmt-returns-in-If : goal.push_stmt-returns-in-If
-push_stmt-returns-in-If t c =
+pub put_stmt-returns-in-If : goal.put_stmt-returns-in-If
+put_stmt-returns-in-If t c =
     let x0 = ap view.view_stmt c.in-If.is in
     let x1 = rows.if_laid c.in-If.node c.in-If.test c.in-If.then c.in-If.elsifs c.in-If.otherwise in
     let x2 = ap view.elsifs_of c.deref.ensures.value in
     let l : view.view_stmt c.args.tree.now ≡ tree.if_stmt (view.view_expr c.in-If.test) (view.view_stmts c.in-If.then) (view.elsifs_of c.deref.result.now) (view.else_of c.in-If.otherwise) = cc in
-    record {
-      pushed = ends.pushed_same c.push_if.result c.args.out.now.items c.push_if.new.out.items (view.view_stmt c.args.tree.now) (tree.if_stmt (view.view_expr c.in-If.test) (view.view_stmts c.in-If.then) (view.elsifs_of c.deref.result.now) (view.else_of c.in-If.otherwise)) l
-          c.push_if.ensures.pushed;
-    }
+    alike spells.spell_stmt l c.put_if.ensures
 
-pub push_stmt-returns-in-While : goal.push_stmt-returns-in-While
-push_stmt-returns-in-While t c =
+pub put_stmt-returns-in-While : goal.put_stmt-returns-in-While
+put_stmt-returns-in-While t c =
     let x0 = ap view.view_stmt c.in-While.is in
     let x1 = rows.while_laid c.in-While.node c.in-While.test c.in-While.body in
     let l : view.view_stmt c.args.tree.now ≡ tree.while_stmt (view.view_expr c.in-While.test) (view.view_stmts c.in-While.body) = cc in
-    record {
-      pushed = ends.pushed_same c.push_while.result c.args.out.now.items c.push_while.new.out.items (view.view_stmt c.args.tree.now) (tree.while_stmt (view.view_expr c.in-While.test) (view.view_stmts c.in-While.body)) l
-          c.push_while.ensures.pushed;
-    }
+    alike spells.spell_stmt l c.put_while.ensures
 
-pub push_stmt-returns-in-Repeat : goal.push_stmt-returns-in-Repeat
-push_stmt-returns-in-Repeat t c =
+pub put_stmt-returns-in-Repeat : goal.put_stmt-returns-in-Repeat
+put_stmt-returns-in-Repeat t c =
     let x0 = ap view.view_stmt c.in-Repeat.is in
     let x1 = rows.repeat_laid c.in-Repeat.node c.in-Repeat.body c.in-Repeat.test in
     let l : view.view_stmt c.args.tree.now ≡ tree.repeat_stmt (view.view_stmts c.in-Repeat.body) (view.view_expr c.in-Repeat.test) = cc in
-    record {
-      pushed = ends.pushed_same c.push_repeat.result c.args.out.now.items c.push_repeat.new.out.items (view.view_stmt c.args.tree.now) (tree.repeat_stmt (view.view_stmts c.in-Repeat.body) (view.view_expr c.in-Repeat.test)) l
-          c.push_repeat.ensures.pushed;
-    }
+    alike spells.spell_stmt l c.put_repeat.ensures
 
-pub push_stmt-returns-in-For : goal.push_stmt-returns-in-For
-push_stmt-returns-in-For t c =
+pub put_stmt-returns-in-For : goal.put_stmt-returns-in-For
+put_stmt-returns-in-For t c =
     let x0 = ap view.view_stmt c.in-For.is in
     let x1 = rows.for_laid c.in-For.node c.in-For.variable c.in-For.from c.in-For.to c.in-For.by c.in-For.body in
     let l : view.view_stmt c.args.tree.now ≡ tree.for_stmt (view.view_expr c.in-For.from) (view.view_expr c.in-For.to) (view.by_of c.in-For.by) (view.view_stmts c.in-For.body) = cc in
-    record {
-      pushed = ends.pushed_same c.push_for.result c.args.out.now.items c.push_for.new.out.items (view.view_stmt c.args.tree.now) (tree.for_stmt (view.view_expr c.in-For.from) (view.view_expr c.in-For.to) (view.by_of c.in-For.by) (view.view_stmts c.in-For.body)) l
-          c.push_for.ensures.pushed;
-    }
+    alike spells.spell_stmt l c.put_for.ensures
 
-pub push_stmt-returns-in-Some : goal.push_stmt-returns-in-Some
-push_stmt-returns-in-Some t c =
+pub put_stmt-returns-in-Some : goal.put_stmt-returns-in-Some
+put_stmt-returns-in-Some t c =
     let x0 = ap view.view_stmt c.in-Some.is in
     let x1 = rows.some_laid c.in-Some.node c.in-Some.variable c.in-Some.from c.in-Some.to c.in-Some.body in
     let l : view.view_stmt c.args.tree.now ≡ tree.some_stmt (view.view_expr c.in-Some.from) (view.view_expr c.in-Some.to) (view.view_stmts c.in-Some.body) = cc in
-    record {
-      pushed = ends.pushed_same c.push_some.result c.args.out.now.items c.push_some.new.out.items (view.view_stmt c.args.tree.now) (tree.some_stmt (view.view_expr c.in-Some.from) (view.view_expr c.in-Some.to) (view.view_stmts c.in-Some.body)) l
-          c.push_some.ensures.pushed;
-    }
+    alike spells.spell_stmt l c.put_some.ensures
 
-pub push_stmt-returns-in-Case : goal.push_stmt-returns-in-Case
-push_stmt-returns-in-Case t c =
+pub put_stmt-returns-in-Case : goal.put_stmt-returns-in-Case
+put_stmt-returns-in-Case t c =
     let x0 = ap view.view_stmt c.in-Case.is in
     let x1 = rows.case_laid c.in-Case.node c.in-Case.value c.in-Case.first c.in-Case.more c.in-Case.otherwise in
     let x2 = ap view.view_arm c.deref-in-Case.ensures in
     let x3 = ap view.arms_of c.deref-in-Case-2.ensures.value in
     let l : view.view_stmt c.args.tree.now ≡ tree.case_stmt (view.view_expr c.in-Case.value) (view.view_arm c.deref-in-Case.result.now) (view.arms_of c.deref-in-Case-2.result.now) (view.else_of c.in-Case.otherwise) = cc in
-    record {
-      pushed = ends.pushed_same c.push_case.result c.args.out.now.items c.push_case.new.out.items (view.view_stmt c.args.tree.now) (tree.case_stmt (view.view_expr c.in-Case.value) (view.view_arm c.deref-in-Case.result.now) (view.arms_of c.deref-in-Case-2.result.now) (view.else_of c.in-Case.otherwise)) l
-          c.push_case.ensures.pushed;
-    }
+    alike spells.spell_stmt l c.put_case.ensures
 
-pub push_stmt-returns-in-Either : goal.push_stmt-returns-in-Either
-push_stmt-returns-in-Either t c =
+pub put_stmt-returns-in-Either : goal.put_stmt-returns-in-Either
+put_stmt-returns-in-Either t c =
     let x0 = ap view.view_stmt c.in-Either.is in
     let x1 = rows.either_laid c.in-Either.node c.in-Either.first c.in-Either.more in
     let x2 = ap view.orelses_of c.deref-in-Either.ensures.value in
     let l : view.view_stmt c.args.tree.now ≡ tree.either_stmt (view.view_stmts c.in-Either.first) (view.orelses_of c.deref-in-Either.result.now) = cc in
-    record {
-      pushed = ends.pushed_same c.push_either.result c.args.out.now.items c.push_either.new.out.items (view.view_stmt c.args.tree.now) (tree.either_stmt (view.view_stmts c.in-Either.first) (view.orelses_of c.deref-in-Either.result.now)) l
-          c.push_either.ensures.pushed;
-    }
+    alike spells.spell_stmt l c.put_either.ensures
 
-pub push_stmt-returns-in-Forall : goal.push_stmt-returns-in-Forall
-push_stmt-returns-in-Forall t c =
+pub put_stmt-returns-in-Forall : goal.put_stmt-returns-in-Forall
+put_stmt-returns-in-Forall t c =
     let x0 = ap view.view_stmt c.in-Forall.is in
     let x1 = rows.forall_laid c.in-Forall.node c.in-Forall.choice c.in-Forall.body in
     let l : view.view_stmt c.args.tree.now ≡ tree.forall_stmt (view.view_stmts c.in-Forall.choice) (view.view_stmts c.in-Forall.body) = cc in
-    record {
-      pushed = ends.pushed_same c.push_forall.result c.args.out.now.items c.push_forall.new.out.items (view.view_stmt c.args.tree.now) (tree.forall_stmt (view.view_stmts c.in-Forall.choice) (view.view_stmts c.in-Forall.body)) l
-          c.push_forall.ensures.pushed;
-    }
+    alike spells.spell_stmt l c.put_forall.ensures
 
-pub push_stmt-returns-in-Commit : goal.push_stmt-returns-in-Commit
-push_stmt-returns-in-Commit t c =
+pub put_stmt-returns-in-Commit : goal.put_stmt-returns-in-Commit
+put_stmt-returns-in-Commit t c =
     let x0 = ap view.view_stmt c.in-Commit.is in
     let x1 = rows.commit_laid c.in-Commit.node c.in-Commit.body in
     let l : view.view_stmt c.args.tree.now ≡ tree.commit_stmt (view.view_stmts c.in-Commit.body) = cc in
-    record {
-      pushed = ends.pushed_same c.push_commit.result c.args.out.now.items c.push_commit.new.out.items (view.view_stmt c.args.tree.now) (tree.commit_stmt (view.view_stmts c.in-Commit.body)) l
-          c.push_commit.ensures.pushed;
-    }
+    alike spells.spell_stmt l c.put_commit.ensures
 
-pub push_stmt-returns-in-Return : goal.push_stmt-returns-in-Return
-push_stmt-returns-in-Return t c =
+pub put_stmt-returns-in-Return : goal.put_stmt-returns-in-Return
+put_stmt-returns-in-Return t c =
     let x0 = ap view.view_stmt c.in-Return.is in
     let x1 = rows.return_laid c.in-Return.node c.in-Return.value in
     let l : view.view_stmt c.args.tree.now ≡ tree.return_stmt (view.returned_of c.in-Return.value) = cc in
-    record {
-      pushed = ends.pushed_same c.push_return.result c.args.out.now.items c.push_return.new.out.items (view.view_stmt c.args.tree.now) (tree.return_stmt (view.returned_of c.in-Return.value)) l
-          c.push_return.ensures.pushed;
-    }
+    alike spells.spell_stmt l c.put_return.ensures
 
-pub push_stmt-returns-in-Read : goal.push_stmt-returns-in-Read
-push_stmt-returns-in-Read t c =
+pub put_stmt-returns-in-Read : goal.put_stmt-returns-in-Read
+put_stmt-returns-in-Read t c =
     let x0 = ap view.view_stmt c.in-Read.is in
     let x1 = rows.read_laid c.in-Read.node c.in-Read.first c.in-Read.more in
     let x2 = ap view.desigs_of c.deref-in-Read.ensures.value in
     let l : view.view_stmt c.args.tree.now ≡ tree.read_stmt (view.view_desig c.in-Read.first) (view.desigs_of c.deref-in-Read.result.now) = cc in
-    record {
-      pushed = ends.pushed_same c.push_read.result c.args.out.now.items c.push_read.new.out.items (view.view_stmt c.args.tree.now) (tree.read_stmt (view.view_desig c.in-Read.first) (view.desigs_of c.deref-in-Read.result.now)) l
-          c.push_read.ensures.pushed;
-    }
+    alike spells.spell_stmt l c.put_read.ensures
 
-pub push_stmt-returns-in-Writeln : goal.push_stmt-returns-in-Writeln
-push_stmt-returns-in-Writeln t c =
+pub put_stmt-returns-in-Writeln : goal.put_stmt-returns-in-Writeln
+put_stmt-returns-in-Writeln t c =
     let x0 = ap view.view_stmt c.in-Writeln.is in
     let x1 = rows.writeln_laid c.in-Writeln.node c.in-Writeln.items in
     let l : view.view_stmt c.args.tree.now ≡ tree.writeln_stmt (view.args_of c.in-Writeln.items) = cc in
-    record {
-      pushed = ends.pushed_same c.push_writeln.result c.args.out.now.items c.push_writeln.new.out.items (view.view_stmt c.args.tree.now) (tree.writeln_stmt (view.args_of c.in-Writeln.items)) l
-          c.push_writeln.ensures.pushed;
-    }
+    alike spells.spell_stmt l c.put_writeln.ensures
 
-pub push_assign-returns : goal.push_assign-returns
-push_assign-returns t c =
-    record {
-      pushed = ends.pushed_last c.push_expr.result c.push_expr.new.out.items c.push.new.out.items c.args.out.now.items (spells.spell_expr (view.view_expr c.args.value.now))
-          (spells.spell_stmt (tree.assign (view.view_desig c.args.target.now) (view.view_expr c.args.value.now)))
-          c.push_expr.ensures.pushed (λ rest.
-          c.in_ok-push.ensures.pushed (spells.spell_expr (view.view_expr c.args.value.now) rest)
-          ∙ c.in_ok-push_desig.ensures.pushed (kinds.Assign ∷ (spells.spell_expr (view.view_expr c.args.value.now) rest)));
-    }
+pub put_assign-returns : goal.put_assign-returns
+put_assign-returns t c = c.put_desig.ensures ▹ c.put.ensures ▹ c.put_expr.ensures
 
-pub push_if-returns : goal.push_if-returns
-push_if-returns t c =
-    record {
-      pushed = ends.pushed_last c.push-3.result c.push-3.new.out.items c.push_else.new.out.items c.args.out.now.items (λ r. kinds.End ∷ r)
-          (spells.spell_stmt (tree.if_stmt (view.view_expr c.args.test.now) (view.view_stmts c.args.then.now) (view.elsifs_of c.args.elsifs.now) (view.else_of c.args.otherwise.now)))
-          c.push-3.ensures.pushed (λ rest.
-          c.in_ok-push_else.ensures.pushed (kinds.End ∷ rest)
-          ∙ c.in_ok-push_elsif_tail.ensures.pushed (spells.spell_else (view.else_of c.args.otherwise.now) (kinds.End ∷ rest))
-          ∙ c.in_ok-push_stmts.ensures.pushed (spells.spell_elsif_tail (view.elsifs_of c.args.elsifs.now) (spells.spell_else (view.else_of c.args.otherwise.now) (kinds.End ∷ rest)))
-          ∙ c.in_ok-push-2.ensures.pushed (spells.spell_stmts (view.view_stmts c.args.then.now) (spells.spell_elsif_tail (view.elsifs_of c.args.elsifs.now) (spells.spell_else (view.else_of c.args.otherwise.now) (kinds.End ∷ rest))))
-          ∙ c.in_ok-push_expr.ensures.pushed (kinds.Then ∷ (spells.spell_stmts (view.view_stmts c.args.then.now) (spells.spell_elsif_tail (view.elsifs_of c.args.elsifs.now) (spells.spell_else (view.else_of c.args.otherwise.now) (kinds.End ∷ rest)))))
-          ∙ c.in_ok-push.ensures.pushed (spells.spell_expr (view.view_expr c.args.test.now) (kinds.Then ∷ (spells.spell_stmts (view.view_stmts c.args.then.now) (spells.spell_elsif_tail (view.elsifs_of c.args.elsifs.now) (spells.spell_else (view.else_of c.args.otherwise.now) (kinds.End ∷ rest)))))));
-    }
+pub put_if-returns : goal.put_if-returns
+put_if-returns t c = c.put.ensures ▹ c.put_expr.ensures ▹ c.put-2.ensures ▹ c.put_stmts.ensures ▹ c.put_elsif_tail.ensures ▹ c.put_else.ensures ▹ c.put-3.ensures
 
-pub push_while-returns : goal.push_while-returns
-push_while-returns t c =
-    record {
-      pushed = ends.pushed_last c.push-3.result c.push-3.new.out.items c.push_stmts.new.out.items c.args.out.now.items (λ r. kinds.End ∷ r)
-          (spells.spell_stmt (tree.while_stmt (view.view_expr c.args.test.now) (view.view_stmts c.args.body.now)))
-          c.push-3.ensures.pushed (λ rest.
-          c.in_ok-push_stmts.ensures.pushed (kinds.End ∷ rest)
-          ∙ c.in_ok-push-2.ensures.pushed (spells.spell_stmts (view.view_stmts c.args.body.now) (kinds.End ∷ rest))
-          ∙ c.in_ok-push_expr.ensures.pushed (kinds.Do ∷ (spells.spell_stmts (view.view_stmts c.args.body.now) (kinds.End ∷ rest)))
-          ∙ c.in_ok-push.ensures.pushed (spells.spell_expr (view.view_expr c.args.test.now) (kinds.Do ∷ (spells.spell_stmts (view.view_stmts c.args.body.now) (kinds.End ∷ rest)))));
-    }
+pub put_while-returns : goal.put_while-returns
+put_while-returns t c = c.put.ensures ▹ c.put_expr.ensures ▹ c.put-2.ensures ▹ c.put_stmts.ensures ▹ c.put-3.ensures
 
-pub push_repeat-returns : goal.push_repeat-returns
-push_repeat-returns t c =
-    record {
-      pushed = ends.pushed_last c.push_expr.result c.push_expr.new.out.items c.push-2.new.out.items c.args.out.now.items (spells.spell_expr (view.view_expr c.args.test.now))
-          (spells.spell_stmt (tree.repeat_stmt (view.view_stmts c.args.body.now) (view.view_expr c.args.test.now)))
-          c.push_expr.ensures.pushed (λ rest.
-          c.in_ok-push-2.ensures.pushed (spells.spell_expr (view.view_expr c.args.test.now) rest)
-          ∙ c.in_ok-push_stmts.ensures.pushed (kinds.Until ∷ (spells.spell_expr (view.view_expr c.args.test.now) rest))
-          ∙ c.in_ok-push.ensures.pushed (spells.spell_stmts (view.view_stmts c.args.body.now) (kinds.Until ∷ (spells.spell_expr (view.view_expr c.args.test.now) rest))));
-    }
+pub put_repeat-returns : goal.put_repeat-returns
+put_repeat-returns t c = c.put.ensures ▹ c.put_stmts.ensures ▹ c.put-2.ensures ▹ c.put_expr.ensures
 
-pub push_for-returns : goal.push_for-returns
-push_for-returns t c =
-    record {
-      pushed = ends.pushed_last c.push-6.result c.push-6.new.out.items c.push_stmts.new.out.items c.args.out.now.items (λ r. kinds.End ∷ r)
-          (spells.spell_stmt (tree.for_stmt (view.view_expr c.args.from.now) (view.view_expr c.args.to.now) (view.by_of c.args.by.now) (view.view_stmts c.args.body.now)))
-          c.push-6.ensures.pushed (λ rest.
-          c.in_ok-push_stmts.ensures.pushed (kinds.End ∷ rest)
-          ∙ c.in_ok-push-5.ensures.pushed (spells.spell_stmts (view.view_stmts c.args.body.now) (kinds.End ∷ rest))
-          ∙ c.in_ok-push_by.ensures.pushed (kinds.Do ∷ (spells.spell_stmts (view.view_stmts c.args.body.now) (kinds.End ∷ rest)))
-          ∙ c.in_ok-push_expr-2.ensures.pushed (spells.spell_by (view.by_of c.args.by.now) (kinds.Do ∷ (spells.spell_stmts (view.view_stmts c.args.body.now) (kinds.End ∷ rest))))
-          ∙ c.in_ok-push-4.ensures.pushed (spells.spell_expr (view.view_expr c.args.to.now) (spells.spell_by (view.by_of c.args.by.now) (kinds.Do ∷ (spells.spell_stmts (view.view_stmts c.args.body.now) (kinds.End ∷ rest)))))
-          ∙ c.in_ok-push_expr.ensures.pushed (kinds.To ∷ (spells.spell_expr (view.view_expr c.args.to.now) (spells.spell_by (view.by_of c.args.by.now) (kinds.Do ∷ (spells.spell_stmts (view.view_stmts c.args.body.now) (kinds.End ∷ rest))))))
-          ∙ c.in_ok-push-3.ensures.pushed (spells.spell_expr (view.view_expr c.args.from.now) (kinds.To ∷ (spells.spell_expr (view.view_expr c.args.to.now) (spells.spell_by (view.by_of c.args.by.now) (kinds.Do ∷ (spells.spell_stmts (view.view_stmts c.args.body.now) (kinds.End ∷ rest)))))))
-          ∙ c.in_ok-push-2.ensures.pushed (kinds.Assign ∷ (spells.spell_expr (view.view_expr c.args.from.now) (kinds.To ∷ (spells.spell_expr (view.view_expr c.args.to.now) (spells.spell_by (view.by_of c.args.by.now) (kinds.Do ∷ (spells.spell_stmts (view.view_stmts c.args.body.now) (kinds.End ∷ rest))))))))
-          ∙ c.in_ok-push.ensures.pushed (kinds.Name ∷ (kinds.Assign ∷ (spells.spell_expr (view.view_expr c.args.from.now) (kinds.To ∷ (spells.spell_expr (view.view_expr c.args.to.now) (spells.spell_by (view.by_of c.args.by.now) (kinds.Do ∷ (spells.spell_stmts (view.view_stmts c.args.body.now) (kinds.End ∷ rest))))))))));
-    }
+pub put_for-returns : goal.put_for-returns
+put_for-returns t c = c.put.ensures ▹ c.put-2.ensures ▹ c.put-3.ensures ▹ c.put_expr.ensures ▹ c.put-4.ensures ▹ c.put_expr-2.ensures ▹ c.put_by.ensures ▹ c.put-5.ensures ▹ c.put_stmts.ensures ▹ c.put-6.ensures
 
-pub push_some-returns : goal.push_some-returns
-push_some-returns t c =
-    record {
-      pushed = ends.pushed_last c.push-6.result c.push-6.new.out.items c.push_stmts.new.out.items c.args.out.now.items (λ r. kinds.End ∷ r)
-          (spells.spell_stmt (tree.some_stmt (view.view_expr c.args.from.now) (view.view_expr c.args.to.now) (view.view_stmts c.args.body.now)))
-          c.push-6.ensures.pushed (λ rest.
-          c.in_ok-push_stmts.ensures.pushed (kinds.End ∷ rest)
-          ∙ c.in_ok-push-5.ensures.pushed (spells.spell_stmts (view.view_stmts c.args.body.now) (kinds.End ∷ rest))
-          ∙ c.in_ok-push_expr-2.ensures.pushed (kinds.Do ∷ (spells.spell_stmts (view.view_stmts c.args.body.now) (kinds.End ∷ rest)))
-          ∙ c.in_ok-push-4.ensures.pushed (spells.spell_expr (view.view_expr c.args.to.now) (kinds.Do ∷ (spells.spell_stmts (view.view_stmts c.args.body.now) (kinds.End ∷ rest))))
-          ∙ c.in_ok-push_expr.ensures.pushed (kinds.To ∷ (spells.spell_expr (view.view_expr c.args.to.now) (kinds.Do ∷ (spells.spell_stmts (view.view_stmts c.args.body.now) (kinds.End ∷ rest)))))
-          ∙ c.in_ok-push-3.ensures.pushed (spells.spell_expr (view.view_expr c.args.from.now) (kinds.To ∷ (spells.spell_expr (view.view_expr c.args.to.now) (kinds.Do ∷ (spells.spell_stmts (view.view_stmts c.args.body.now) (kinds.End ∷ rest))))))
-          ∙ c.in_ok-push-2.ensures.pushed (kinds.Assign ∷ (spells.spell_expr (view.view_expr c.args.from.now) (kinds.To ∷ (spells.spell_expr (view.view_expr c.args.to.now) (kinds.Do ∷ (spells.spell_stmts (view.view_stmts c.args.body.now) (kinds.End ∷ rest)))))))
-          ∙ c.in_ok-push.ensures.pushed (kinds.Name ∷ (kinds.Assign ∷ (spells.spell_expr (view.view_expr c.args.from.now) (kinds.To ∷ (spells.spell_expr (view.view_expr c.args.to.now) (kinds.Do ∷ (spells.spell_stmts (view.view_stmts c.args.body.now) (kinds.End ∷ rest)))))))));
-    }
+pub put_some-returns : goal.put_some-returns
+put_some-returns t c = c.put.ensures ▹ c.put-2.ensures ▹ c.put-3.ensures ▹ c.put_expr.ensures ▹ c.put-4.ensures ▹ c.put_expr-2.ensures ▹ c.put-5.ensures ▹ c.put_stmts.ensures ▹ c.put-6.ensures
 
-pub push_case-returns : goal.push_case-returns
-push_case-returns t c =
-    record {
-      pushed = ends.pushed_last c.push-3.result c.push-3.new.out.items c.push_else.new.out.items c.args.out.now.items (λ r. kinds.End ∷ r)
-          (spells.spell_stmt (tree.case_stmt (view.view_expr c.args.value.now) (view.view_arm c.args.first.now) (view.arms_of c.args.more.now) (view.else_of c.args.otherwise.now)))
-          c.push-3.ensures.pushed (λ rest.
-          c.in_ok-push_else.ensures.pushed (kinds.End ∷ rest)
-          ∙ c.in_ok-push_arm_tail.ensures.pushed (spells.spell_else (view.else_of c.args.otherwise.now) (kinds.End ∷ rest))
-          ∙ c.in_ok-push_arm.ensures.pushed (spells.spell_arm_tail (view.arms_of c.args.more.now) (spells.spell_else (view.else_of c.args.otherwise.now) (kinds.End ∷ rest)))
-          ∙ c.in_ok-push-2.ensures.pushed (spells.spell_arm (view.view_arm c.args.first.now) (spells.spell_arm_tail (view.arms_of c.args.more.now) (spells.spell_else (view.else_of c.args.otherwise.now) (kinds.End ∷ rest))))
-          ∙ c.in_ok-push_expr.ensures.pushed (kinds.Of ∷ (spells.spell_arm (view.view_arm c.args.first.now) (spells.spell_arm_tail (view.arms_of c.args.more.now) (spells.spell_else (view.else_of c.args.otherwise.now) (kinds.End ∷ rest)))))
-          ∙ c.in_ok-push.ensures.pushed (spells.spell_expr (view.view_expr c.args.value.now) (kinds.Of ∷ (spells.spell_arm (view.view_arm c.args.first.now) (spells.spell_arm_tail (view.arms_of c.args.more.now) (spells.spell_else (view.else_of c.args.otherwise.now) (kinds.End ∷ rest)))))));
-    }
+pub put_case-returns : goal.put_case-returns
+put_case-returns t c = c.put.ensures ▹ c.put_expr.ensures ▹ c.put-2.ensures ▹ c.put_arm.ensures ▹ c.put_arm_tail.ensures ▹ c.put_else.ensures ▹ c.put-3.ensures
 
-pub push_either-returns : goal.push_either-returns
-push_either-returns t c =
-    record {
-      pushed = ends.pushed_last c.push-2.result c.push-2.new.out.items c.push_orelse_tail.new.out.items c.args.out.now.items (λ r. kinds.End ∷ r)
-          (spells.spell_stmt (tree.either_stmt (view.view_stmts c.args.first.now) (view.orelses_of c.args.more.now)))
-          c.push-2.ensures.pushed (λ rest.
-          c.in_ok-push_orelse_tail.ensures.pushed (kinds.End ∷ rest)
-          ∙ c.in_ok-push_stmts.ensures.pushed (spells.spell_orelse_tail (view.orelses_of c.args.more.now) (kinds.End ∷ rest))
-          ∙ c.in_ok-push.ensures.pushed (spells.spell_stmts (view.view_stmts c.args.first.now) (spells.spell_orelse_tail (view.orelses_of c.args.more.now) (kinds.End ∷ rest))));
-    }
+pub put_either-returns : goal.put_either-returns
+put_either-returns t c = c.put.ensures ▹ c.put_stmts.ensures ▹ c.put_orelse_tail.ensures ▹ c.put-2.ensures
 
-pub push_forall-returns : goal.push_forall-returns
-push_forall-returns t c =
-    record {
-      pushed = ends.pushed_last c.push-3.result c.push-3.new.out.items c.push_stmts-2.new.out.items c.args.out.now.items (λ r. kinds.End ∷ r)
-          (spells.spell_stmt (tree.forall_stmt (view.view_stmts c.args.choice.now) (view.view_stmts c.args.body.now)))
-          c.push-3.ensures.pushed (λ rest.
-          c.in_ok-push_stmts-2.ensures.pushed (kinds.End ∷ rest)
-          ∙ c.in_ok-push-2.ensures.pushed (spells.spell_stmts (view.view_stmts c.args.body.now) (kinds.End ∷ rest))
-          ∙ c.in_ok-push_stmts.ensures.pushed (kinds.Do ∷ (spells.spell_stmts (view.view_stmts c.args.body.now) (kinds.End ∷ rest)))
-          ∙ c.in_ok-push.ensures.pushed (spells.spell_stmts (view.view_stmts c.args.choice.now) (kinds.Do ∷ (spells.spell_stmts (view.view_stmts c.args.body.now) (kinds.End ∷ rest)))));
-    }
+pub put_forall-returns : goal.put_forall-returns
+put_forall-returns t c = c.put.ensures ▹ c.put_stmts.ensures ▹ c.put-2.ensures ▹ c.put_stmts-2.ensures ▹ c.put-3.ensures
 
-pub push_read-returns : goal.push_read-returns
-push_read-returns t c =
-    record {
-      pushed = ends.pushed_last c.push-3.result c.push-3.new.out.items c.push_desig_tail.new.out.items c.args.out.now.items (λ r. kinds.CloseParen ∷ r)
-          (spells.spell_stmt (tree.read_stmt (view.view_desig c.args.first.now) (view.desigs_of c.args.more.now)))
-          c.push-3.ensures.pushed (λ rest.
-          c.in_ok-push_desig_tail.ensures.pushed (kinds.CloseParen ∷ rest)
-          ∙ c.in_ok-push_desig.ensures.pushed (spells.spell_desig_tail (view.desigs_of c.args.more.now) (kinds.CloseParen ∷ rest))
-          ∙ c.in_ok-push-2.ensures.pushed (spells.spell_desig (view.view_desig c.args.first.now) (spells.spell_desig_tail (view.desigs_of c.args.more.now) (kinds.CloseParen ∷ rest)))
-          ∙ c.in_ok-push.ensures.pushed (kinds.OpenParen ∷ (spells.spell_desig (view.view_desig c.args.first.now) (spells.spell_desig_tail (view.desigs_of c.args.more.now) (kinds.CloseParen ∷ rest)))));
-    }
+pub put_commit-returns : goal.put_commit-returns
+put_commit-returns t c = c.put.ensures ▹ c.put_stmts.ensures ▹ c.put-2.ensures
 
-pub push_arm-returns-in_ok-push-in-Labelled : goal.push_arm-returns-in_ok-push-in-Labelled
-push_arm-returns-in_ok-push-in-Labelled t c =
+pub put_return-returns : goal.put_return-returns
+put_return-returns t c = c.put.ensures ▹ c.put_returned.ensures
+
+pub put_read-returns : goal.put_read-returns
+put_read-returns t c = c.put.ensures ▹ c.put-2.ensures ▹ c.put_desig.ensures ▹ c.put_desig_tail.ensures ▹ c.put-3.ensures
+
+pub put_write-returns : goal.put_write-returns
+put_write-returns t c = c.put.ensures ▹ c.put-2.ensures ▹ c.put_exprs.ensures ▹ c.put-3.ensures
+
+pub put_writeln-returns : goal.put_writeln-returns
+put_writeln-returns t c = c.put.ensures ▹ c.put_args.ensures
+
+pub put_elsif_tail-loop-tree-init : goal.put_elsif_tail-loop-tree-init
+put_elsif_tail-loop-tree-init t c = rests_all _ _
+
+pub put_elsif_tail-loop-tree-preserved : goal.put_elsif_tail-loop-tree-preserved
+put_elsif_tail-loop-tree-preserved t c =
+    turn (λ xs. spells.spell_elsif_tail (view.elsifs_of xs)) c.loop-tree.tree-index c.args.trees.now c.tree-item.result c.loop-tree-test.true c.tree-item.is c.loop-tree.invariant
+    (c.put.ensures ▹ c.put_expr.ensures ▹ c.put-in-loop-tree.ensures ▹ c.put_stmts.ensures) (λ rest. refl)
+
+pub put_elsif_tail-returns : goal.put_elsif_tail-returns
+put_elsif_tail-returns t c =
+    finish (λ xs. spells.spell_elsif_tail (view.elsifs_of xs)) c.loop-tree.tree-index c.args.trees.now c.loop-tree-test.false (λ rest. refl) c.loop-tree.invariant
+
+pub put_else-returns-in-Some : goal.put_else-returns-in-Some
+put_else-returns-in-Some t c = alike (λ x. spells.spell_else (view.else_of x)) c.in-Some.is (c.put.ensures ▹ c.put_stmts.ensures)
+
+pub put_else-returns-in_default : goal.put_else-returns-in_default
+put_else-returns-in_default t c = alike (λ x. spells.spell_else (view.else_of x)) c.in_default.is (stays _)
+
+pub put_by-returns-in-Some : goal.put_by-returns-in-Some
+put_by-returns-in-Some t c = alike (λ x. spells.spell_by (view.by_of x)) c.in-Some.is (c.put.ensures ▹ c.put_expr.ensures)
+
+pub put_by-returns-in_default : goal.put_by-returns-in_default
+put_by-returns-in_default t c = alike (λ x. spells.spell_by (view.by_of x)) c.in_default.is (stays _)
+
+pub put_orelse_tail-loop-tree-init : goal.put_orelse_tail-loop-tree-init
+put_orelse_tail-loop-tree-init t c = rests_all _ _
+
+pub put_orelse_tail-loop-tree-preserved : goal.put_orelse_tail-loop-tree-preserved
+put_orelse_tail-loop-tree-preserved t c =
+    turn (λ xs. spells.spell_orelse_tail (view.orelses_of xs)) c.loop-tree.tree-index c.args.trees.now c.tree-item.result c.loop-tree-test.true c.tree-item.is c.loop-tree.invariant
+    (c.put.ensures ▹ c.put_stmts.ensures) (λ rest. refl)
+
+pub put_orelse_tail-returns : goal.put_orelse_tail-returns
+put_orelse_tail-returns t c =
+    finish (λ xs. spells.spell_orelse_tail (view.orelses_of xs)) c.loop-tree.tree-index c.args.trees.now c.loop-tree-test.false (λ rest. refl) c.loop-tree.invariant
+
+pub put_returned-returns-in-Some : goal.put_returned-returns-in-Some
+put_returned-returns-in-Some t c = alike (λ x. spells.spell_returned (view.returned_of x)) c.in-Some.is (c.put_expr.ensures)
+
+pub put_returned-returns-in_default : goal.put_returned-returns-in_default
+put_returned-returns-in_default t c = alike (λ x. spells.spell_returned (view.returned_of x)) c.in_default.is (stays _)
+
+pub put_desig_tail-loop-tree-init : goal.put_desig_tail-loop-tree-init
+put_desig_tail-loop-tree-init t c = rests_all _ _
+
+pub put_desig_tail-loop-tree-preserved : goal.put_desig_tail-loop-tree-preserved
+put_desig_tail-loop-tree-preserved t c =
+    turn (λ xs. spells.spell_desig_tail (view.desigs_of xs)) c.loop-tree.tree-index c.args.trees.now c.tree-item.result c.loop-tree-test.true c.tree-item.is c.loop-tree.invariant
+    (c.put.ensures ▹ c.put_desig.ensures) (λ rest. refl)
+
+pub put_desig_tail-returns : goal.put_desig_tail-returns
+put_desig_tail-returns t c =
+    finish (λ xs. spells.spell_desig_tail (view.desigs_of xs)) c.loop-tree.tree-index c.args.trees.now c.loop-tree-test.false (λ rest. refl) c.loop-tree.invariant
+
+pub put_arm-returns-in-Empty : goal.put_arm-returns-in-Empty
+put_arm-returns-in-Empty t c = alike spells.spell_arm (ap view.view_arm c.in-Empty.is) (stays _)
+
+pub put_arm-returns-in-Labelled : goal.put_arm-returns-in-Labelled
+put_arm-returns-in-Labelled t c =
     let x0 = ap view.view_arm c.in-Labelled.is in
     let x1 = rows.labelled_laid c.in-Labelled.node c.in-Labelled.first c.in-Labelled.more c.in-Labelled.body in
     let x2 = ap view.labels_of c.deref.ensures.value in
     let l : view.view_arm c.args.tree.now ≡ tree.arm (view.view_label c.in-Labelled.first) (view.labels_of c.deref.result.now) (view.view_stmts
     c.in-Labelled.body) = cc in
-    record {
-      pushed = ends.pushed_last c.push_stmts.result c.push_stmts.new.out.items c.push.new.out.items c.args.out.now.items (spells.spell_stmts
-          (view.view_stmts c.in-Labelled.body)) (spells.spell_arm (view.view_arm c.args.tree.now))
-          c.push_stmts.ensures.pushed (λ rest.
-          c.in_ok-push-in-Labelled.ensures.pushed (spells.spell_stmts (view.view_stmts c.in-Labelled.body) rest)
-          ∙ c.in_ok-push_label_tail-in-Labelled.ensures.pushed (kinds.Colon ∷ (spells.spell_stmts (view.view_stmts c.in-Labelled.body) rest))
-          ∙ c.in_ok-push_label-in-Labelled.ensures.pushed (spells.spell_label_tail (view.labels_of c.deref.result.now) (kinds.Colon ∷
-          (spells.spell_stmts (view.view_stmts c.in-Labelled.body) rest)))
-          ∙ ap (λ v. c.args.out.now.items ++ spells.spell_arm v rest) (sym l));
-    }
+    alike spells.spell_arm l (c.put_label.ensures ▹ c.put_label_tail.ensures ▹ c.put.ensures ▹ c.put_stmts.ensures)
 
-pub push_primary-returns-in_ok-push_desig-in-Desig : goal.push_primary-returns-in_ok-push_desig-in-Desig
-push_primary-returns-in_ok-push_desig-in-Desig t c =
-    let x0 = ap view.view_primary c.in-Desig.is in
-    let x1 = rows.named_laid c.in-Desig.node c.in-Desig.desig c.in-Desig.args in
-    let l : view.view_primary c.args.tree.now ≡ tree.named (view.view_desig c.in-Desig.desig) (view.args_of c.in-Desig.args) = cc in
-    record {
-      pushed = ends.pushed_last c.push_args.result c.push_args.new.out.items c.push_desig.new.out.items c.args.out.now.items (spells.spell_args
-          (view.args_of c.in-Desig.args)) (spells.spell_primary (view.view_primary c.args.tree.now))
-          c.push_args.ensures.pushed (λ rest.
-          c.in_ok-push_desig-in-Desig.ensures.pushed (spells.spell_args (view.args_of c.in-Desig.args) rest)
-          ∙ ap (λ v. c.args.out.now.items ++ spells.spell_primary v rest) (sym l));
-    }
+pub put_arm_tail-loop-tree-init : goal.put_arm_tail-loop-tree-init
+put_arm_tail-loop-tree-init t c = rests_all _ _
 
-pub push_primary-returns-in_ok-push_stmts-in-Paren : goal.push_primary-returns-in_ok-push_stmts-in-Paren
-push_primary-returns-in_ok-push_stmts-in-Paren t c =
-    let x0 = ap view.view_primary c.in-Paren.is in
-    let x1 = rows.paren_laid c.in-Paren.node c.in-Paren.body in
-    let x2 = ap view.view_stmts c.deref.ensures in
-    let l : view.view_primary c.args.tree.now ≡ tree.paren (view.view_stmts c.deref.result.now) = cc in
-    record {
-      pushed = ends.pushed_last c.push-in-Paren-2.result c.push-in-Paren-2.new.out.items c.push_stmts.new.out.items c.args.out.now.items (λ r.
-          kinds.CloseParen ∷ r) (spells.spell_primary (view.view_primary c.args.tree.now))
-          c.push-in-Paren-2.ensures.pushed (λ rest.
-          c.in_ok-push_stmts-in-Paren.ensures.pushed (kinds.CloseParen ∷ rest)
-          ∙ c.in_ok-push-in-Paren.ensures.pushed (spells.spell_stmts (view.view_stmts c.deref.result.now) (kinds.CloseParen ∷ rest))
-          ∙ ap (λ v. c.args.out.now.items ++ spells.spell_primary v rest) (sym l));
-    }
+pub put_arm_tail-loop-tree-preserved : goal.put_arm_tail-loop-tree-preserved
+put_arm_tail-loop-tree-preserved t c =
+    turn (λ xs. spells.spell_arm_tail (view.arms_of xs)) c.loop-tree.tree-index c.args.trees.now c.tree-item.result c.loop-tree-test.true c.tree-item.is c.loop-tree.invariant
+    (c.put.ensures ▹ c.put_arm.ensures) (λ rest. refl)
 
-pub push_primary-returns-in_ok-push_desig-in-Known : goal.push_primary-returns-in_ok-push_desig-in-Known
-push_primary-returns-in_ok-push_desig-in-Known t c =
-    let x0 = ap view.view_primary c.in-Known.is in
-    let x1 = rows.known_laid c.in-Known.node c.in-Known.desig in
-    let l : view.view_primary c.args.tree.now ≡ tree.known (view.view_desig c.in-Known.desig) = cc in
-    record {
-      pushed = ends.pushed_last c.push-in-Known-3.result c.push-in-Known-3.new.out.items c.push_desig-in-Known.new.out.items c.args.out.now.items (λ
-          r. kinds.CloseParen ∷ r) (spells.spell_primary (view.view_primary c.args.tree.now))
-          c.push-in-Known-3.ensures.pushed (λ rest.
-          c.in_ok-push_desig-in-Known.ensures.pushed (kinds.CloseParen ∷ rest)
-          ∙ c.in_ok-push-in-Known-2.ensures.pushed (spells.spell_desig (view.view_desig c.in-Known.desig) (kinds.CloseParen ∷ rest))
-          ∙ c.in_ok-push-in-Known.ensures.pushed (kinds.OpenParen ∷ (spells.spell_desig (view.view_desig c.in-Known.desig) (kinds.CloseParen ∷ rest)))
-          ∙ ap (λ v. c.args.out.now.items ++ spells.spell_primary v rest) (sym l));
-    }
+pub put_arm_tail-returns : goal.put_arm_tail-returns
+put_arm_tail-returns t c =
+    finish (λ xs. spells.spell_arm_tail (view.arms_of xs)) c.loop-tree.tree-index c.args.trees.now c.loop-tree-test.false (λ rest. refl) c.loop-tree.invariant
 
-pub push_exprs-returns : goal.push_exprs-returns
-push_exprs-returns t c =
-    let x0 = ends.exprs_laid c.args.tree.now in
-    let l : view.view_exprs c.args.tree.now ≡ tree.exprs (view.view_expr c.deref.result.now) (view.exprs_of c.deref-2.result.now) = cc in
-    record {
-      pushed = ends.pushed_last c.push_expr_tail.result c.push_expr_tail.new.out.items c.push_expr.new.out.items c.args.out.now.items
-          (spells.spell_expr_tail (view.exprs_of c.deref-2.result.now)) (spells.spell_exprs (view.view_exprs c.args.tree.now))
-          c.push_expr_tail.ensures.pushed (λ rest.
-          c.in_ok-push_expr.ensures.pushed (spells.spell_expr_tail (view.exprs_of c.deref-2.result.now) rest)
-          ∙ ap (λ v. c.args.out.now.items ++ spells.spell_exprs v rest) (sym l));
-    }
+pub put_label-returns : goal.put_label-returns
+put_label-returns t c = alike spells.spell_label (ends.label_laid c.args.tree.now) (c.put_expr.ensures ▹ c.put_high.ensures)
 
-pub push_simple-returns : goal.push_simple-returns
-push_simple-returns t c =
-    let x0 = ends.simple_laid c.args.tree.now in
-    let l : view.view_simple c.args.tree.now ≡ tree.simple (di.out-Simple c.args.tree.now).sign (view.view_term c.deref.result.now) (view.terms_of
-    c.deref-2.result.now) = cc in
-    record {
-      pushed = ends.pushed_last c.push_term_tail.result c.push_term_tail.new.out.items c.push_term.new.out.items c.args.out.now.items
-          (spells.spell_term_tail (view.terms_of c.deref-2.result.now)) (spells.spell_simple (view.view_simple c.args.tree.now))
-          c.push_term_tail.ensures.pushed (λ rest.
-          c.in_ok-push_term.ensures.pushed (spells.spell_term_tail (view.terms_of c.deref-2.result.now) rest)
-          ∙ c.in_ok-push_sign.ensures.pushed (spells.spell_term (view.view_term c.deref.result.now) (spells.spell_term_tail (view.terms_of
-          c.deref-2.result.now) rest))
-          ∙ ap (λ v. c.args.out.now.items ++ spells.spell_simple v rest) (sym l));
-    }
+pub put_high-returns-in-Some : goal.put_high-returns-in-Some
+put_high-returns-in-Some t c = alike (λ x. spells.spell_high (view.high_of x)) c.in-Some.is (c.put.ensures ▹ c.put_expr.ensures)
 
-pub push_term-returns : goal.push_term-returns
-push_term-returns t c =
-    let x0 = ends.term_laid c.args.tree.now in
-    let l : view.view_term c.args.tree.now ≡ tree.term (view.view_factor (dm.out-Term c.args.tree.now).first) (view.factors_of c.deref.result.now) = cc in
-    record {
-      pushed = ends.pushed_last c.push_factor_tail.result c.push_factor_tail.new.out.items c.push_factor.new.out.items c.args.out.now.items
-          (spells.spell_factor_tail (view.factors_of c.deref.result.now)) (spells.spell_term (view.view_term c.args.tree.now))
-          c.push_factor_tail.ensures.pushed (λ rest.
-          c.in_ok-push_factor.ensures.pushed (spells.spell_factor_tail (view.factors_of c.deref.result.now) rest)
-          ∙ ap (λ v. c.args.out.now.items ++ spells.spell_term v rest) (sym l));
-    }
+pub put_high-returns-in_default : goal.put_high-returns-in_default
+put_high-returns-in_default t c = alike (λ x. spells.spell_high (view.high_of x)) c.in_default.is (stays _)
+
+pub put_label_tail-loop-tree-init : goal.put_label_tail-loop-tree-init
+put_label_tail-loop-tree-init t c = rests_all _ _
+
+pub put_label_tail-loop-tree-preserved : goal.put_label_tail-loop-tree-preserved
+put_label_tail-loop-tree-preserved t c =
+    turn (λ xs. spells.spell_label_tail (view.labels_of xs)) c.loop-tree.tree-index c.args.trees.now c.tree-item.result c.loop-tree-test.true c.tree-item.is c.loop-tree.invariant
+    (c.put.ensures ▹ c.put_label.ensures) (λ rest. refl)
+
+pub put_label_tail-returns : goal.put_label_tail-returns
+put_label_tail-returns t c =
+    finish (λ xs. spells.spell_label_tail (view.labels_of xs)) c.loop-tree.tree-index c.args.trees.now c.loop-tree-test.false (λ rest. refl) c.loop-tree.invariant
+
+pub put_expr-returns : goal.put_expr-returns
+put_expr-returns t c = alike spells.spell_expr (ends.expr_laid c.args.tree.now) (c.put_simple.ensures ▹ c.put_compared.ensures)
+
+pub put_compared-returns-in-Some : goal.put_compared-returns-in-Some
+put_compared-returns-in-Some t c = alike (λ x. spells.spell_compared (view.compared_of x)) c.in-Some.is ((rw c.deref.ensures at (rw c.relation_kind.ensures.same at c.put.ensures)) ▹ (rw c.deref-in-Some.ensures at c.put_simple.ensures))
+
+pub put_compared-returns-in_default : goal.put_compared-returns-in_default
+put_compared-returns-in_default t c = alike (λ x. spells.spell_compared (view.compared_of x)) c.in_default.is (stays _)
+
+pub put_simple-returns : goal.put_simple-returns
+put_simple-returns t c =
+    alike spells.spell_simple (ends.simple_laid c.args.tree.now)
+    (c.put_sign.ensures ▹ (rw c.deref.ensures at c.put_term.ensures) ▹ (rw c.deref-2.ensures.value at c.put_term_tail.ensures))
+
+pub put_term_tail-loop-tree-init : goal.put_term_tail-loop-tree-init
+put_term_tail-loop-tree-init t c = rests_all _ _
+
+pub put_term_tail-loop-tree-preserved : goal.put_term_tail-loop-tree-preserved
+put_term_tail-loop-tree-preserved t c =
+    turn (λ xs. spells.spell_term_tail (view.terms_of xs)) c.loop-tree.tree-index c.args.trees.now c.tree-item.result c.loop-tree-test.true c.tree-item.is c.loop-tree.invariant
+    ((rw c.add_kind.ensures.same at c.put.ensures) ▹ c.put_term.ensures) (λ rest. refl)
+
+pub put_term_tail-returns : goal.put_term_tail-returns
+put_term_tail-returns t c =
+    finish (λ xs. spells.spell_term_tail (view.terms_of xs)) c.loop-tree.tree-index c.args.trees.now c.loop-tree-test.false (λ rest. refl) c.loop-tree.invariant
+
+pub put_term-returns : goal.put_term-returns
+put_term-returns t c =
+    alike spells.spell_term (ends.term_laid c.args.tree.now)
+    (c.put_factor.ensures ▹ (rw c.deref.ensures.value at c.put_factor_tail.ensures))
+
+pub put_factor_tail-loop-tree-init : goal.put_factor_tail-loop-tree-init
+put_factor_tail-loop-tree-init t c = rests_all _ _
+
+pub put_factor_tail-loop-tree-preserved : goal.put_factor_tail-loop-tree-preserved
+put_factor_tail-loop-tree-preserved t c =
+    turn (λ xs. spells.spell_factor_tail (view.factors_of xs)) c.loop-tree.tree-index c.args.trees.now c.tree-item.result c.loop-tree-test.true c.tree-item.is c.loop-tree.invariant
+    ((rw c.mul_kind.ensures.same at c.put.ensures) ▹ c.put_factor.ensures) (λ rest. refl)
+
+pub put_factor_tail-returns : goal.put_factor_tail-returns
+put_factor_tail-returns t c =
+    finish (λ xs. spells.spell_factor_tail (view.factors_of xs)) c.loop-tree.tree-index c.args.trees.now c.loop-tree-test.false (λ rest. refl) c.loop-tree.invariant
+
+pub put_factor-returns-in-Not : goal.put_factor-returns-in-Not
+put_factor-returns-in-Not t c = alike spells.spell_factor (ap view.view_factor c.in-Not.is) (c.put.ensures ▹ c.put_primary.ensures)
+
+pub put_factor-returns-in-Plain : goal.put_factor-returns-in-Plain
+put_factor-returns-in-Plain t c = alike spells.spell_factor (ap view.view_factor c.in-Plain.is) c.put_primary-in-Plain.ensures
+
+pub put_primary-returns-in-Number : goal.put_primary-returns-in-Number
+put_primary-returns-in-Number t c = alike spells.spell_primary (ap view.view_primary c.in-Number.is) c.put.ensures
+
+pub put_primary-returns-in-Literal : goal.put_primary-returns-in-Literal
+put_primary-returns-in-Literal t c = alike spells.spell_primary (ap view.view_primary c.in-Literal.is) c.put-in-Literal.ensures
+
+pub put_primary-returns-in-Desig : goal.put_primary-returns-in-Desig
+put_primary-returns-in-Desig t c =
+    alike spells.spell_primary (ap view.view_primary c.in-Desig.is ∙ rows.named_laid c.in-Desig.node c.in-Desig.desig c.in-Desig.args)
+    (c.put_desig.ensures ▹ c.put_args.ensures)
+
+pub put_primary-returns-in-Paren : goal.put_primary-returns-in-Paren
+put_primary-returns-in-Paren t c =
+    alike spells.spell_primary (ap view.view_primary c.in-Paren.is ∙ rows.paren_laid c.in-Paren.node c.in-Paren.body)
+    (c.put-in-Paren.ensures ▹ (rw c.deref.ensures at c.put_stmts.ensures) ▹ c.put-in-Paren-2.ensures)
+
+pub put_primary-returns-in-Known : goal.put_primary-returns-in-Known
+put_primary-returns-in-Known t c =
+    alike spells.spell_primary (ap view.view_primary c.in-Known.is ∙ rows.known_laid c.in-Known.node c.in-Known.desig)
+    (c.put-in-Known.ensures ▹ c.put-in-Known-2.ensures ▹ c.put_desig-in-Known.ensures ▹ c.put-in-Known-3.ensures)
+
+pub put_primary-returns-in-Ord : goal.put_primary-returns-in-Ord
+put_primary-returns-in-Ord t c =
+    alike spells.spell_primary (ap view.view_primary c.in-Ord.is)
+    (c.put-in-Ord.ensures ▹ c.put-in-Ord-2.ensures ▹ (rw c.deref-in-Ord.ensures at c.put_expr.ensures) ▹ c.put-in-Ord-3.ensures)
+
+pub put_primary-returns-in-Chr : goal.put_primary-returns-in-Chr
+put_primary-returns-in-Chr t c =
+    alike spells.spell_primary (ap view.view_primary c.in-Chr.is)
+    (c.put-in-Chr.ensures ▹ c.put-in-Chr-2.ensures ▹ (rw c.deref-in-Chr.ensures at c.put_expr-in-Chr.ensures) ▹ c.put-in-Chr-3.ensures)
+
+pub put_exprs-returns : goal.put_exprs-returns
+put_exprs-returns t c = alike spells.spell_exprs (ends.exprs_laid c.args.tree.now) ((rw c.deref.ensures at c.put_expr.ensures) ▹ (rw c.deref-2.ensures.value at c.put_expr_tail.ensures))
+
+pub put_expr_tail-loop-tree-init : goal.put_expr_tail-loop-tree-init
+put_expr_tail-loop-tree-init t c = rests_all _ _
+
+pub put_expr_tail-loop-tree-preserved : goal.put_expr_tail-loop-tree-preserved
+put_expr_tail-loop-tree-preserved t c =
+    turn (λ xs. spells.spell_expr_tail (view.exprs_of xs)) c.loop-tree.tree-index c.args.trees.now c.tree-item.result c.loop-tree-test.true c.tree-item.is c.loop-tree.invariant
+    (c.put.ensures ▹ c.put_expr.ensures) (λ rest. refl)
+
+pub put_expr_tail-returns : goal.put_expr_tail-returns
+put_expr_tail-returns t c =
+    finish (λ xs. spells.spell_expr_tail (view.exprs_of xs)) c.loop-tree.tree-index c.args.trees.now c.loop-tree-test.false (λ rest. refl) c.loop-tree.invariant
+
+pub put_desig-returns : goal.put_desig-returns
+put_desig-returns t c = c.put.ensures ▹ (rw c.deref.ensures.value at c.put_selector_tail.ensures)
+
+pub put_selector_tail-loop-tree-init : goal.put_selector_tail-loop-tree-init
+put_selector_tail-loop-tree-init t c = rests_all _ _
+
+pub put_selector_tail-loop-tree-preserved : goal.put_selector_tail-loop-tree-preserved
+put_selector_tail-loop-tree-preserved t c =
+    turn (λ xs. spells.spell_selector_tail (view.selectors_of xs)) c.loop-tree.tree-index c.args.trees.now c.tree-item.result c.loop-tree-test.true c.tree-item.is c.loop-tree.invariant
+    (c.put_selector.ensures) (λ rest. refl)
+
+pub put_selector_tail-returns : goal.put_selector_tail-returns
+put_selector_tail-returns t c =
+    finish (λ xs. spells.spell_selector_tail (view.selectors_of xs)) c.loop-tree.tree-index c.args.trees.now c.loop-tree-test.false (λ rest. refl) c.loop-tree.invariant
+
+pub put_selector-returns-in-Field : goal.put_selector-returns-in-Field
+put_selector-returns-in-Field t c = alike spells.spell_selector (ap view.view_selector c.in-Field.is) (c.put.ensures ▹ c.put-in-Field.ensures)
+
+pub put_selector-returns-in-Index : goal.put_selector-returns-in-Index
+put_selector-returns-in-Index t c = alike spells.spell_selector (ap view.view_selector c.in-Index.is) (c.put-in-Index.ensures ▹ c.put_exprs.ensures ▹ c.put-in-Index-2.ensures)
+
+pub put_assign-put_desig-requires : goal.put_assign-put_desig-requires
+put_assign-put_desig-requires t c = (omega (arith, c.decreases), tt)
+
+pub put_assign-put_expr-requires : goal.put_assign-put_expr-requires
+put_assign-put_expr-requires t c = (omega (arith, c.decreases), tt)
+
+pub put_if-put_expr-requires : goal.put_if-put_expr-requires
+put_if-put_expr-requires t c = (omega (arith, c.decreases), tt)
+
+pub put_if-put_stmts-requires : goal.put_if-put_stmts-requires
+put_if-put_stmts-requires t c = (omega (arith, c.decreases), tt)
+
+pub put_if-put_elsif_tail-requires : goal.put_if-put_elsif_tail-requires
+put_if-put_elsif_tail-requires t c = (omega (arith, c.decreases), tt)
+
+pub put_if-put_else-requires : goal.put_if-put_else-requires
+put_if-put_else-requires t c = (omega (arith, c.decreases), tt)
+
+pub put_while-put_expr-requires : goal.put_while-put_expr-requires
+put_while-put_expr-requires t c = (omega (arith, c.decreases), tt)
+
+pub put_while-put_stmts-requires : goal.put_while-put_stmts-requires
+put_while-put_stmts-requires t c = (omega (arith, c.decreases), tt)
+
+pub put_repeat-put_stmts-requires : goal.put_repeat-put_stmts-requires
+put_repeat-put_stmts-requires t c = (omega (arith, c.decreases), tt)
+
+pub put_repeat-put_expr-requires : goal.put_repeat-put_expr-requires
+put_repeat-put_expr-requires t c = (omega (arith, c.decreases), tt)
+
+pub put_for-put_expr-requires : goal.put_for-put_expr-requires
+put_for-put_expr-requires t c = (omega (arith, c.decreases), tt)
+
+pub put_for-put_expr-requires-2 : goal.put_for-put_expr-requires-2
+put_for-put_expr-requires-2 t c = (omega (arith, c.decreases), tt)
+
+pub put_for-put_by-requires : goal.put_for-put_by-requires
+put_for-put_by-requires t c = (omega (arith, c.decreases), tt)
+
+pub put_for-put_stmts-requires : goal.put_for-put_stmts-requires
+put_for-put_stmts-requires t c = (omega (arith, c.decreases), tt)
+
+pub put_some-put_expr-requires : goal.put_some-put_expr-requires
+put_some-put_expr-requires t c = (omega (arith, c.decreases), tt)
+
+pub put_some-put_expr-requires-2 : goal.put_some-put_expr-requires-2
+put_some-put_expr-requires-2 t c = (omega (arith, c.decreases), tt)
+
+pub put_some-put_stmts-requires : goal.put_some-put_stmts-requires
+put_some-put_stmts-requires t c = (omega (arith, c.decreases), tt)
+
+pub put_case-put_expr-requires : goal.put_case-put_expr-requires
+put_case-put_expr-requires t c = (omega (arith, c.decreases), tt)
+
+pub put_case-put_arm-requires : goal.put_case-put_arm-requires
+put_case-put_arm-requires t c = (omega (arith, c.decreases), tt)
+
+pub put_case-put_arm_tail-requires : goal.put_case-put_arm_tail-requires
+put_case-put_arm_tail-requires t c = (omega (arith, c.decreases), tt)
+
+pub put_case-put_else-requires : goal.put_case-put_else-requires
+put_case-put_else-requires t c = (omega (arith, c.decreases), tt)
+
+pub put_either-put_stmts-requires : goal.put_either-put_stmts-requires
+put_either-put_stmts-requires t c = (omega (arith, c.decreases), tt)
+
+pub put_either-put_orelse_tail-requires : goal.put_either-put_orelse_tail-requires
+put_either-put_orelse_tail-requires t c = (omega (arith, c.decreases), tt)
+
+pub put_forall-put_stmts-requires : goal.put_forall-put_stmts-requires
+put_forall-put_stmts-requires t c = (omega (arith, c.decreases), tt)
+
+pub put_forall-put_stmts-requires-2 : goal.put_forall-put_stmts-requires-2
+put_forall-put_stmts-requires-2 t c = (omega (arith, c.decreases), tt)
+
+pub put_commit-put_stmts-requires : goal.put_commit-put_stmts-requires
+put_commit-put_stmts-requires t c = (omega (arith, c.decreases), tt)
+
+pub put_return-put_returned-requires : goal.put_return-put_returned-requires
+put_return-put_returned-requires t c = (omega (arith, c.decreases), tt)
+
+pub put_read-put_desig-requires : goal.put_read-put_desig-requires
+put_read-put_desig-requires t c = (omega (arith, c.decreases), tt)
+
+pub put_read-put_desig_tail-requires : goal.put_read-put_desig_tail-requires
+put_read-put_desig_tail-requires t c = (omega (arith, c.decreases), tt)
+
+pub put_write-put_exprs-requires : goal.put_write-put_exprs-requires
+put_write-put_exprs-requires t c = (omega (arith, c.decreases), tt)
+
+pub put_writeln-put_args-requires : goal.put_writeln-put_args-requires
+put_writeln-put_args-requires t c = (omega (arith, c.decreases), tt)
+
+pub put_stmt_tail-put_stmt-requires : goal.put_stmt_tail-put_stmt-requires
+put_stmt_tail-put_stmt-requires t c =
+    (omega (arith, c.decreases, at_most dt.size-Stmt c.args.trees.now c.loop-tree.tree-index c.tree-item.result c.loop-tree-test.true, ap dt.size-Stmt c.tree-item.is), tt)
+
+pub put_orelse_tail-put_stmts-requires : goal.put_orelse_tail-put_stmts-requires
+put_orelse_tail-put_stmts-requires t c =
+    (omega (arith, c.decreases, at_most ds.size-Stmts c.args.trees.now c.loop-tree.tree-index c.tree-item.result c.loop-tree-test.true, ap ds.size-Stmts c.tree-item.is), tt)
+
+pub put_desig_tail-put_desig-requires : goal.put_desig_tail-put_desig-requires
+put_desig_tail-put_desig-requires t c =
+    (omega (arith, c.decreases, at_most dd.size-Desig c.args.trees.now c.loop-tree.tree-index c.tree-item.result c.loop-tree-test.true, ap dd.size-Desig c.tree-item.is), tt)
+
+pub put_arm_tail-put_arm-requires : goal.put_arm_tail-put_arm-requires
+put_arm_tail-put_arm-requires t c =
+    (omega (arith, c.decreases, at_most da.size-Arm c.args.trees.now c.loop-tree.tree-index c.tree-item.result c.loop-tree-test.true, ap da.size-Arm c.tree-item.is), tt)
+
+pub put_label_tail-put_label-requires : goal.put_label_tail-put_label-requires
+put_label_tail-put_label-requires t c =
+    (omega (arith, c.decreases, at_most dl.size-Label c.args.trees.now c.loop-tree.tree-index c.tree-item.result c.loop-tree-test.true, ap dl.size-Label c.tree-item.is), tt)
+
+pub put_expr_tail-put_expr-requires : goal.put_expr_tail-put_expr-requires
+put_expr_tail-put_expr-requires t c =
+    (omega (arith, c.decreases, at_most de.size-Expr c.args.trees.now c.loop-tree.tree-index c.tree-item.result c.loop-tree-test.true, ap de.size-Expr c.tree-item.is), tt)
+
+pub put_selector_tail-put_selector-requires : goal.put_selector_tail-put_selector-requires
+put_selector_tail-put_selector-requires t c =
+    (omega (arith, c.decreases, at_most dj.size-Selector c.args.trees.now c.loop-tree.tree-index c.tree-item.result c.loop-tree-test.true, ap dj.size-Selector c.tree-item.is), tt)
+
+pub put_stmt-put_assign-requires : goal.put_stmt-put_assign-requires
+put_stmt-put_assign-requires t c = (omega (arith, c.decreases, ap views.size-Stmt c.in-Assign.is ∙ views.sized-Assign _ _ _), tt)
+
+pub put_stmt-put_expr-requires : goal.put_stmt-put_expr-requires
+put_stmt-put_expr-requires t c = (omega (arith, c.decreases, ap views.size-Stmt c.in-Value.is ∙ views.sized-Value _ _), tt)
+
+pub put_stmt-put_if-requires : goal.put_stmt-put_if-requires
+put_stmt-put_if-requires t c = (omega (arith, c.decreases, ap views.size-Stmt c.in-If.is ∙ views.sized-If _ _ _ _ _, ap (most views.size-Elsif) c.deref.ensures.value), tt)
+
+pub put_stmt-put_while-requires : goal.put_stmt-put_while-requires
+put_stmt-put_while-requires t c = (omega (arith, c.decreases, ap views.size-Stmt c.in-While.is ∙ views.sized-While _ _ _), tt)
+
+pub put_stmt-put_repeat-requires : goal.put_stmt-put_repeat-requires
+put_stmt-put_repeat-requires t c = (omega (arith, c.decreases, ap views.size-Stmt c.in-Repeat.is ∙ views.sized-Repeat _ _ _), tt)
+
+pub put_stmt-put_for-requires : goal.put_stmt-put_for-requires
+put_stmt-put_for-requires t c = (omega (arith, c.decreases, ap views.size-Stmt c.in-For.is ∙ views.sized-For _ _ _ _ _ _), tt)
+
+pub put_stmt-put_some-requires : goal.put_stmt-put_some-requires
+put_stmt-put_some-requires t c = (omega (arith, c.decreases, ap views.size-Stmt c.in-Some.is ∙ views.sized-Some _ _ _ _ _), tt)
+
+pub put_stmt-put_case-requires : goal.put_stmt-put_case-requires
+put_stmt-put_case-requires t c = (omega (arith, c.decreases, ap views.size-Stmt c.in-Case.is ∙ views.sized-Case _ _ _ _ _, ap views.size-Arm c.deref-in-Case.ensures, ap (most views.size-Arm) c.deref-in-Case-2.ensures.value), tt)
+
+pub put_stmt-put_either-requires : goal.put_stmt-put_either-requires
+put_stmt-put_either-requires t c = (omega (arith, c.decreases, ap views.size-Stmt c.in-Either.is ∙ views.sized-Either _ _ _, ap (most views.size-Stmts) c.deref-in-Either.ensures.value), tt)
+
+pub put_stmt-put_forall-requires : goal.put_stmt-put_forall-requires
+put_stmt-put_forall-requires t c = (omega (arith, c.decreases, ap views.size-Stmt c.in-Forall.is ∙ views.sized-Forall _ _ _), tt)
+
+pub put_stmt-put_commit-requires : goal.put_stmt-put_commit-requires
+put_stmt-put_commit-requires t c = (omega (arith, c.decreases, ap views.size-Stmt c.in-Commit.is ∙ views.sized-Commit _ _), tt)
+
+pub put_stmt-put_return-requires : goal.put_stmt-put_return-requires
+put_stmt-put_return-requires t c = (omega (arith, c.decreases, ap views.size-Stmt c.in-Return.is ∙ views.sized-Return _ _), tt)
+
+pub put_stmt-put_read-requires : goal.put_stmt-put_read-requires
+put_stmt-put_read-requires t c = (omega (arith, c.decreases, ap views.size-Stmt c.in-Read.is ∙ views.sized-Read _ _ _, ap (most views.size-Desig) c.deref-in-Read.ensures.value), tt)
+
+pub put_stmt-put_write-requires : goal.put_stmt-put_write-requires
+put_stmt-put_write-requires t c = (omega (arith, c.decreases, ap views.size-Stmt c.in-Write.is ∙ views.sized-Write _ _), tt)
+
+pub put_stmt-put_writeln-requires : goal.put_stmt-put_writeln-requires
+put_stmt-put_writeln-requires t c = (omega (arith, c.decreases, ap views.size-Stmt c.in-Writeln.is ∙ views.sized-Writeln _ _), tt)
+
+pub put_arm-put_label-requires : goal.put_arm-put_label-requires
+put_arm-put_label-requires t c = (omega (arith, c.decreases, ap views.size-Arm c.in-Labelled.is ∙ views.sized-Labelled _ _ _ _), tt)
+
+pub put_arm-put_label_tail-requires : goal.put_arm-put_label_tail-requires
+put_arm-put_label_tail-requires t c = (omega (arith, c.decreases, ap views.size-Arm c.in-Labelled.is ∙ views.sized-Labelled _ _ _ _, ap (most views.size-Label) c.deref.ensures.value), tt)
+
+pub put_arm-put_stmts-requires : goal.put_arm-put_stmts-requires
+put_arm-put_stmts-requires t c = (omega (arith, c.decreases, ap views.size-Arm c.in-Labelled.is ∙ views.sized-Labelled _ _ _ _), tt)
+
+pub put_factor-put_primary-requires : goal.put_factor-put_primary-requires
+put_factor-put_primary-requires t c = (omega (arith, c.decreases, ap views.size-Factor c.in-Not.is ∙ views.sized-Not _ _), tt)
+
+pub put_factor-put_primary-requires-in-Plain : goal.put_factor-put_primary-requires-in-Plain
+put_factor-put_primary-requires-in-Plain t c = (omega (arith, c.decreases, ap views.size-Factor c.in-Plain.is ∙ views.sized-Plain _ _), tt)
+
+pub put_primary-put_desig-requires : goal.put_primary-put_desig-requires
+put_primary-put_desig-requires t c = (omega (arith, c.decreases, ap views.size-Primary c.in-Desig.is ∙ views.sized-Desig _ _ _), tt)
+
+pub put_primary-put_args-requires : goal.put_primary-put_args-requires
+put_primary-put_args-requires t c = (omega (arith, c.decreases, ap views.size-Primary c.in-Desig.is ∙ views.sized-Desig _ _ _), tt)
+
+pub put_primary-put_stmts-requires : goal.put_primary-put_stmts-requires
+put_primary-put_stmts-requires t c = (omega (arith, c.decreases, ap views.size-Primary c.in-Paren.is ∙ views.sized-Paren _ _, ap views.size-Stmts c.deref.ensures), tt)
+
+pub put_primary-put_desig-requires-in-Known : goal.put_primary-put_desig-requires-in-Known
+put_primary-put_desig-requires-in-Known t c = (omega (arith, c.decreases, ap views.size-Primary c.in-Known.is ∙ views.sized-Known _ _), tt)
+
+pub put_primary-put_expr-requires : goal.put_primary-put_expr-requires
+put_primary-put_expr-requires t c = (omega (arith, c.decreases, ap views.size-Primary c.in-Ord.is ∙ views.sized-Ord _ _, ap views.size-Expr c.deref-in-Ord.ensures), tt)
+
+pub put_primary-put_expr-requires-in-Chr : goal.put_primary-put_expr-requires-in-Chr
+put_primary-put_expr-requires-in-Chr t c = (omega (arith, c.decreases, ap views.size-Primary c.in-Chr.is ∙ views.sized-Chr _ _, ap views.size-Expr c.deref-in-Chr.ensures), tt)
+
+pub put_selector-put_exprs-requires : goal.put_selector-put_exprs-requires
+put_selector-put_exprs-requires t c = (omega (arith, c.decreases, ap views.size-Selector c.in-Index.is ∙ views.sized-Index _ _), tt)
+
+pub put_label-put_expr-requires : goal.put_label-put_expr-requires
+put_label-put_expr-requires t c = (omega (arith, c.decreases, views.size_roll-Label (dl.out-Label c.args.tree.now), ap views.size-Label (dl.roll-out-Label c.args.tree.now)), tt)
+
+pub put_label-put_high-requires : goal.put_label-put_high-requires
+put_label-put_high-requires t c = (omega (arith, c.decreases, views.size_roll-Label (dl.out-Label c.args.tree.now), ap views.size-Label (dl.roll-out-Label c.args.tree.now)), tt)
+
+pub put_expr-put_simple-requires : goal.put_expr-put_simple-requires
+put_expr-put_simple-requires t c = (omega (arith, c.decreases, views.size_roll-Expr (de.out-Expr c.args.tree.now), ap views.size-Expr (de.roll-out-Expr c.args.tree.now)), tt)
+
+pub put_expr-put_compared-requires : goal.put_expr-put_compared-requires
+put_expr-put_compared-requires t c = (omega (arith, c.decreases, views.size_roll-Expr (de.out-Expr c.args.tree.now), ap views.size-Expr (de.roll-out-Expr c.args.tree.now)), tt)
+
+pub put_simple-put_term-requires : goal.put_simple-put_term-requires
+put_simple-put_term-requires t c = (omega (arith, c.decreases, views.size_roll-Simple (di.out-Simple c.args.tree.now), ap views.size-Simple (di.roll-out-Simple c.args.tree.now), ap views.size-Term c.deref.ensures), tt)
+
+pub put_simple-put_term_tail-requires : goal.put_simple-put_term_tail-requires
+put_simple-put_term_tail-requires t c = (omega (arith, c.decreases, views.size_roll-Simple (di.out-Simple c.args.tree.now), ap views.size-Simple (di.roll-out-Simple c.args.tree.now), ap (most views.size-AddLink) c.deref-2.ensures.value), tt)
+
+pub put_term-put_factor-requires : goal.put_term-put_factor-requires
+put_term-put_factor-requires t c = (omega (arith, c.decreases, views.size_roll-Term (dm.out-Term c.args.tree.now), ap views.size-Term (dm.roll-out-Term c.args.tree.now)), tt)
+
+pub put_term-put_factor_tail-requires : goal.put_term-put_factor_tail-requires
+put_term-put_factor_tail-requires t c = (omega (arith, c.decreases, views.size_roll-Term (dm.out-Term c.args.tree.now), ap views.size-Term (dm.roll-out-Term c.args.tree.now), ap (most views.size-MulLink) c.deref.ensures.value), tt)
+
+pub put_exprs-put_expr-requires : goal.put_exprs-put_expr-requires
+put_exprs-put_expr-requires t c = (omega (arith, c.decreases, views.size_roll-Exprs (dx.out-Exprs c.args.tree.now), ap views.size-Exprs (dx.roll-out-Exprs c.args.tree.now), ap views.size-Expr c.deref.ensures), tt)
+
+pub put_exprs-put_expr_tail-requires : goal.put_exprs-put_expr_tail-requires
+put_exprs-put_expr_tail-requires t c = (omega (arith, c.decreases, views.size_roll-Exprs (dx.out-Exprs c.args.tree.now), ap views.size-Exprs (dx.roll-out-Exprs c.args.tree.now), ap (most views.size-Expr) c.deref-2.ensures.value), tt)
