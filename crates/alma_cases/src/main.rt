@@ -1,13 +1,12 @@
 //! Runs files of cases, which lie where it runs: each line is a call of the program with what it must answer, in JSON. Behind them it runs the examples.
 #![tactic(auto)]
 
-mod call;
 mod example;
 
+use alma_calls::is_answered;
 use alma_case::name_of;
 use alma_io::{Files, StdFiles};
 use anyhow::{Result, anyhow};
-use call::is_answered;
 use example::run_examples;
 use serde_json::Value;
 use std::alloc::Global;
