@@ -2,8 +2,6 @@
 #![tactic(auto)]
 
 mod driver;
-mod request;
-mod sample;
 
 pub use alma_promise::laws;
 pub use alma_sample::sample_source;

@@ -1,8 +1,8 @@
 use Rattle.alma_outcome.specs.Outcome.{SampleOutcome}
 use Rattle.alma_outcome.specs.Outside.{sink_side}
 use Rattle.alma_outcome.proofs.DriverLemmas.{goes_starved}
-use Rattle.alma_driver.proofs.SampleLemmas.{goes_summed}
-use Rattle.alma_driver.proofs.sample.sum_up.Goals as goal
+use Rattle.alma_serve.proofs.SampleLemmas.{goes_summed}
+use Rattle.alma_serve.proofs.sample.sum_up.Goals as goal
 
 pub returns-in-Ok : goal.returns-in-Ok
 returns-in-Ok g c =

@@ -3,7 +3,7 @@ use Rattle.std.specs.Borrow.{Bor}
 use Rattle.alma_outcome.specs.Outside.{files_side, source_side, sink_side}
 use Rattle.alma_outcome.specs.Showing.{Prints, Traces}
 use Rattle.alma_outcome.proofs.DriverLemmas.{serves_check, serves_source, serves_compile, serves_list, serves_exec, serves_sample}
-use Rattle.alma_driver.proofs.driver.serve_file.Goals as goal
+use Rattle.alma_serve.proofs.serve.serve_file.Goals as goal
 
 pub check_only-requires : goal.check_only-requires
 check_only-requires g c = record { short = rw c.in-Check.is at c.requires.short }

@@ -2,7 +2,7 @@ use Rattle.alma_words.specs.Words.{asked, texts}
 use Rattle.alma_words.proofs.WordLemmas.{within_limits}
 use Rattle.alma_outcome.specs.Outside.{files_side, source_side, sink_side}
 use Rattle.alma_outcome.proofs.DriverLemmas.{performs_bad, performs_asked}
-use Rattle.alma_driver.proofs.driver.perform.Goals as goal
+use Rattle.alma_serve.proofs.serve.perform.Goals as goal
 
 pub serve-requires : goal.serve-requires
 serve-requires g c = within_limits (texts c.args.words.now) (asked c.in-Ok.request) c.in-Ok.ensures

@@ -1,7 +1,7 @@
 use Rattle.alma_words.specs.Words.{asked}
 use Rattle.alma_outcome.specs.Outside.{files_side, source_side, sink_side}
 use Rattle.alma_outcome.proofs.DriverLemmas.{limit_small, fetch_of, performs_fetched, performs_unfetched}
-use Rattle.alma_driver.proofs.driver.serve_named.Goals as goal
+use Rattle.alma_serve.proofs.serve.serve_named.Goals as goal
 
 pub fetch-requires : goal.fetch-requires
 fetch-requires g c = rw c.read_limit.ensures (limit_small (asked c.args.request.now))

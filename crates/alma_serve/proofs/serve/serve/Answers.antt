@@ -1,7 +1,7 @@
 use Rattle.alma_words.specs.Words.{asked}
 use Rattle.alma_outcome.specs.Outside.{files_side, source_side, sink_side}
 use Rattle.alma_outcome.proofs.DriverLemmas.{performs_alone}
-use Rattle.alma_driver.proofs.driver.serve.Goals as goal
+use Rattle.alma_serve.proofs.serve.serve.Goals as goal
 
 pub returns-in-None : goal.returns-in-None
 returns-in-None g c =

@@ -2,7 +2,7 @@ use Rattle.std.proofs.Common.{◌∙◌}
 use Rattle.alma_outcome.specs.Outcome.{SampleOutcome}
 use Rattle.alma_outcome.specs.Outside.{sink_side}
 use Rattle.alma_outcome.proofs.DriverLemmas.{goes_starved}
-use Rattle.alma_driver.proofs.sample.sample.Goals as goal
+use Rattle.alma_serve.proofs.sample.sample.Goals as goal
 
 pub sum_up-requires-clause-text : goal.sum_up-requires-clause-text
 sum_up-requires-clause-text g c = c.deref.ensures.value ∙ c.in-Ok.ensures.text

@@ -2,8 +2,8 @@ use Rattle.std.proofs.Common.{ap}
 use Rattle.std.specs.Prelude.{Some}
 use Rattle.alma_io.specs.Memory.{SourceState, SinkState}
 use Rattle.alma_outcome.specs.Outside.{source_side}
-use Rattle.alma_driver.proofs.SampleLemmas.{IsOwn, sampled_by}
-use Rattle.alma_driver.proofs.sample.run_aside.Goals as goal
+use Rattle.alma_serve.proofs.SampleLemmas.{IsOwn, sampled_by}
+use Rattle.alma_serve.proofs.sample.run_aside.Goals as goal
 
 pub returns : goal.returns
 returns c =

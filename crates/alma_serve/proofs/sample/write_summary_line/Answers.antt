@@ -2,8 +2,8 @@ use Rattle.std.proofs.Common.{List, ℕ, subst}
 use Rattle.std.specs.Prelude.{OnOk, OnErr}
 use Rattle.std.specs.Io.KnownBytes.{Appends}
 use Rattle.alma_io.specs.Fronts.{AppendsFront}
-use Rattle.alma_driver.proofs.SampleLemmas.{summary_parts}
-use Rattle.alma_driver.proofs.sample.write_summary_line.Goals as goal
+use Rattle.alma_serve.proofs.SampleLemmas.{summary_parts}
+use Rattle.alma_serve.proofs.sample.write_summary_line.Goals as goal
 
 pub returns-clause-ok : goal.returns-clause-ok
 returns-clause-ok g c =

@@ -3,7 +3,7 @@ use Rattle.std.specs.Prelude.{None}
 use Rattle.alma_outcome.specs.Ends.{sample_line}
 use Rattle.alma_outcome.specs.Outcome.{due_of}
 use Rattle.alma_outcome.specs.declared.end.End.TheVariants.{Succeeded}
-use Rattle.alma_driver.proofs.sample.tell.Goals as goal
+use Rattle.alma_serve.proofs.sample.tell.Goals as goal
 
 pub returns-in-Ok : goal.returns-in-Ok
 returns-in-Ok g c =
