@@ -1,4 +1,4 @@
-//! Reading declarations, blocks and the module: constants, types, variables, and procedures with the blocks in them.
+//! Reading declarations, blocks and the module: procedures with the blocks in them.
 #![tactic(auto)]
 
 mod declarations;
