@@ -8,7 +8,6 @@ use Rattle.alma_tree.specs.declared.phrase.Simple as di
 use Rattle.alma_tree.specs.declared.phrase.Term as dm
 use Rattle.alma_tree.specs.declared.phrase.Exprs as dx
 use Rattle.alma_tree.specs.declared.type_node.TypeNode as dy
-use Rattle.alma_tree.specs.Spelling as spells
 use Rattle.alma_tree.specs.Tree as tree
 use Rattle.alma_tree.specs.View as view
 use Rattle.alma_spell_phrase.specs.Pushed.{Pushes}
@@ -39,10 +38,3 @@ label_laid t = ap view.view_label (sym (dl.roll-out-Label t)) ∙ rows.label_rol
 pub type_laid : (t : dy.TypeNode)
     → view.view_type_node t ≡ tree.type_node (view.arrays_of (dy.out-TypeNode t).arrays) (view.view_plain_type (dy.out-TypeNode t).element)
 type_laid t = ap view.view_type_node (sym (dy.roll-out-TypeNode t)) ∙ rows.type_rolled (dy.out-TypeNode t)
-
--- what was spelled of one statement was spelled of another that is the same
-pub pushed_same : {T E : Type 0} (r : Result T E) (old new : List Kind) (s t : tree.Stmt) → s ≡ t → OnOk r (Pushes old new (spells.spell_stmt t))
-    → OnOk r (Pushes old new (spells.spell_stmt s))
-pushed_same r old new s t e h =
-    on_ok_weaker {P = Pushes old new (spells.spell_stmt t)} {Q = Pushes old new (spells.spell_stmt s)} r (λ k rest.
-    k rest ∙ ap (λ v. old ++ spells.spell_stmt v rest) (sym e)) h

@@ -2,7 +2,12 @@ use Rattle.std.proofs.Common.{◌≡◌, ◌∙◌, refl, ap, arith}
 use denote.Param.Weighed.{most, at_most}
 use Rattle.alma_tree.specs.declared.phrase.Stmts as ds
 use Rattle.alma_tree.specs.declared.phrase.Stmt as dt
+use Rattle.alma_tree.specs.declared.phrase.Elsif as df
 use Rattle.alma_tree.specs.declared.phrase.Arm as da
+use Rattle.alma_tree.specs.declared.phrase.Arm.TheShapes as shapes
+use Rattle.alma_tree.specs.declared.phrase.AddLink as dk
+use Rattle.alma_tree.specs.declared.phrase.Compared as dc
+use Rattle.alma_tree.specs.declared.phrase.MulLink as dn
 use Rattle.alma_tree.specs.declared.phrase.Arm.TheViews as views
 use Rattle.alma_tree.specs.declared.phrase.Label as dl
 use Rattle.alma_tree.specs.declared.phrase.Expr as de
@@ -45,105 +50,62 @@ put_stmt-returns-in-Write t c = alike spells.spell_stmt (ap view.view_stmt c.in-
 
 pub put_stmt-returns-in-Assign : goal.put_stmt-returns-in-Assign
 put_stmt-returns-in-Assign t c =
-    let x0 = ap view.view_stmt c.in-Assign.is in
-    let x1 = rows.assign_laid c.in-Assign.node c.in-Assign.target c.in-Assign.value in
-    let l : view.view_stmt c.args.tree.now ≡ tree.assign (view.view_desig c.in-Assign.target) (view.view_expr c.in-Assign.value) = cc in
-    alike spells.spell_stmt l c.put_assign.ensures
+    alike spells.spell_stmt (ap view.view_stmt c.in-Assign.is ∙ rows.assign_laid c.in-Assign.node c.in-Assign.target c.in-Assign.value) c.put_assign.ensures
 
 pub put_stmt-returns-in-If : goal.put_stmt-returns-in-If
 put_stmt-returns-in-If t c =
-    let x0 = ap view.view_stmt c.in-If.is in
-    let x1 = rows.if_laid c.in-If.node c.in-If.test c.in-If.then c.in-If.elsifs c.in-If.otherwise in
-    let x2 = ap view.elsifs_of c.deref.ensures.value in
-    let l : view.view_stmt c.args.tree.now ≡ tree.if_stmt (view.view_expr c.in-If.test) (view.view_stmts c.in-If.then) (view.elsifs_of c.deref.result.now) (view.else_of c.in-If.otherwise) = cc in
-    alike spells.spell_stmt l c.put_if.ensures
+    alike spells.spell_stmt (ap view.view_stmt c.in-If.is ∙ rows.if_laid c.in-If.node c.in-If.test c.in-If.then c.in-If.elsifs c.in-If.otherwise) (rw c.deref.ensures.value at c.put_if.ensures)
 
 pub put_stmt-returns-in-While : goal.put_stmt-returns-in-While
 put_stmt-returns-in-While t c =
-    let x0 = ap view.view_stmt c.in-While.is in
-    let x1 = rows.while_laid c.in-While.node c.in-While.test c.in-While.body in
-    let l : view.view_stmt c.args.tree.now ≡ tree.while_stmt (view.view_expr c.in-While.test) (view.view_stmts c.in-While.body) = cc in
-    alike spells.spell_stmt l c.put_while.ensures
+    alike spells.spell_stmt (ap view.view_stmt c.in-While.is ∙ rows.while_laid c.in-While.node c.in-While.test c.in-While.body) c.put_while.ensures
 
 pub put_stmt-returns-in-Repeat : goal.put_stmt-returns-in-Repeat
 put_stmt-returns-in-Repeat t c =
-    let x0 = ap view.view_stmt c.in-Repeat.is in
-    let x1 = rows.repeat_laid c.in-Repeat.node c.in-Repeat.body c.in-Repeat.test in
-    let l : view.view_stmt c.args.tree.now ≡ tree.repeat_stmt (view.view_stmts c.in-Repeat.body) (view.view_expr c.in-Repeat.test) = cc in
-    alike spells.spell_stmt l c.put_repeat.ensures
+    alike spells.spell_stmt (ap view.view_stmt c.in-Repeat.is ∙ rows.repeat_laid c.in-Repeat.node c.in-Repeat.body c.in-Repeat.test) c.put_repeat.ensures
 
 pub put_stmt-returns-in-For : goal.put_stmt-returns-in-For
 put_stmt-returns-in-For t c =
-    let x0 = ap view.view_stmt c.in-For.is in
-    let x1 = rows.for_laid c.in-For.node c.in-For.variable c.in-For.from c.in-For.to c.in-For.by c.in-For.body in
-    let l : view.view_stmt c.args.tree.now ≡ tree.for_stmt (view.view_expr c.in-For.from) (view.view_expr c.in-For.to) (view.by_of c.in-For.by) (view.view_stmts c.in-For.body) = cc in
-    alike spells.spell_stmt l c.put_for.ensures
+    alike spells.spell_stmt (ap view.view_stmt c.in-For.is ∙ rows.for_laid c.in-For.node c.in-For.variable c.in-For.from c.in-For.to c.in-For.by c.in-For.body) c.put_for.ensures
 
 pub put_stmt-returns-in-Some : goal.put_stmt-returns-in-Some
 put_stmt-returns-in-Some t c =
-    let x0 = ap view.view_stmt c.in-Some.is in
-    let x1 = rows.some_laid c.in-Some.node c.in-Some.variable c.in-Some.from c.in-Some.to c.in-Some.body in
-    let l : view.view_stmt c.args.tree.now ≡ tree.some_stmt (view.view_expr c.in-Some.from) (view.view_expr c.in-Some.to) (view.view_stmts c.in-Some.body) = cc in
-    alike spells.spell_stmt l c.put_some.ensures
+    alike spells.spell_stmt (ap view.view_stmt c.in-Some.is ∙ rows.some_laid c.in-Some.node c.in-Some.variable c.in-Some.from c.in-Some.to c.in-Some.body) c.put_some.ensures
 
 pub put_stmt-returns-in-Case : goal.put_stmt-returns-in-Case
 put_stmt-returns-in-Case t c =
-    let x0 = ap view.view_stmt c.in-Case.is in
-    let x1 = rows.case_laid c.in-Case.node c.in-Case.value c.in-Case.first c.in-Case.more c.in-Case.otherwise in
-    let x2 = ap view.view_arm c.deref-in-Case.ensures in
-    let x3 = ap view.arms_of c.deref-in-Case-2.ensures.value in
-    let l : view.view_stmt c.args.tree.now ≡ tree.case_stmt (view.view_expr c.in-Case.value) (view.view_arm c.deref-in-Case.result.now) (view.arms_of c.deref-in-Case-2.result.now) (view.else_of c.in-Case.otherwise) = cc in
-    alike spells.spell_stmt l c.put_case.ensures
+    alike spells.spell_stmt (ap view.view_stmt c.in-Case.is ∙ rows.case_laid c.in-Case.node c.in-Case.value c.in-Case.first c.in-Case.more c.in-Case.otherwise) (rw (c.deref-in-Case.ensures, c.deref-in-Case-2.ensures.value) at c.put_case.ensures)
 
 pub put_stmt-returns-in-Either : goal.put_stmt-returns-in-Either
 put_stmt-returns-in-Either t c =
-    let x0 = ap view.view_stmt c.in-Either.is in
-    let x1 = rows.either_laid c.in-Either.node c.in-Either.first c.in-Either.more in
-    let x2 = ap view.orelses_of c.deref-in-Either.ensures.value in
-    let l : view.view_stmt c.args.tree.now ≡ tree.either_stmt (view.view_stmts c.in-Either.first) (view.orelses_of c.deref-in-Either.result.now) = cc in
-    alike spells.spell_stmt l c.put_either.ensures
+    alike spells.spell_stmt (ap view.view_stmt c.in-Either.is ∙ rows.either_laid c.in-Either.node c.in-Either.first c.in-Either.more) (rw c.deref-in-Either.ensures.value at c.put_either.ensures)
 
 pub put_stmt-returns-in-Forall : goal.put_stmt-returns-in-Forall
 put_stmt-returns-in-Forall t c =
-    let x0 = ap view.view_stmt c.in-Forall.is in
-    let x1 = rows.forall_laid c.in-Forall.node c.in-Forall.choice c.in-Forall.body in
-    let l : view.view_stmt c.args.tree.now ≡ tree.forall_stmt (view.view_stmts c.in-Forall.choice) (view.view_stmts c.in-Forall.body) = cc in
-    alike spells.spell_stmt l c.put_forall.ensures
+    alike spells.spell_stmt (ap view.view_stmt c.in-Forall.is ∙ rows.forall_laid c.in-Forall.node c.in-Forall.choice c.in-Forall.body) c.put_forall.ensures
 
 pub put_stmt-returns-in-Commit : goal.put_stmt-returns-in-Commit
 put_stmt-returns-in-Commit t c =
-    let x0 = ap view.view_stmt c.in-Commit.is in
-    let x1 = rows.commit_laid c.in-Commit.node c.in-Commit.body in
-    let l : view.view_stmt c.args.tree.now ≡ tree.commit_stmt (view.view_stmts c.in-Commit.body) = cc in
-    alike spells.spell_stmt l c.put_commit.ensures
+    alike spells.spell_stmt (ap view.view_stmt c.in-Commit.is ∙ rows.commit_laid c.in-Commit.node c.in-Commit.body) c.put_commit.ensures
 
 pub put_stmt-returns-in-Return : goal.put_stmt-returns-in-Return
 put_stmt-returns-in-Return t c =
-    let x0 = ap view.view_stmt c.in-Return.is in
-    let x1 = rows.return_laid c.in-Return.node c.in-Return.value in
-    let l : view.view_stmt c.args.tree.now ≡ tree.return_stmt (view.returned_of c.in-Return.value) = cc in
-    alike spells.spell_stmt l c.put_return.ensures
+    alike spells.spell_stmt (ap view.view_stmt c.in-Return.is ∙ rows.return_laid c.in-Return.node c.in-Return.value) c.put_return.ensures
 
 pub put_stmt-returns-in-Read : goal.put_stmt-returns-in-Read
 put_stmt-returns-in-Read t c =
-    let x0 = ap view.view_stmt c.in-Read.is in
-    let x1 = rows.read_laid c.in-Read.node c.in-Read.first c.in-Read.more in
-    let x2 = ap view.desigs_of c.deref-in-Read.ensures.value in
-    let l : view.view_stmt c.args.tree.now ≡ tree.read_stmt (view.view_desig c.in-Read.first) (view.desigs_of c.deref-in-Read.result.now) = cc in
-    alike spells.spell_stmt l c.put_read.ensures
+    alike spells.spell_stmt (ap view.view_stmt c.in-Read.is ∙ rows.read_laid c.in-Read.node c.in-Read.first c.in-Read.more) (rw c.deref-in-Read.ensures.value at c.put_read.ensures)
 
 pub put_stmt-returns-in-Writeln : goal.put_stmt-returns-in-Writeln
 put_stmt-returns-in-Writeln t c =
-    let x0 = ap view.view_stmt c.in-Writeln.is in
-    let x1 = rows.writeln_laid c.in-Writeln.node c.in-Writeln.items in
-    let l : view.view_stmt c.args.tree.now ≡ tree.writeln_stmt (view.args_of c.in-Writeln.items) = cc in
-    alike spells.spell_stmt l c.put_writeln.ensures
+    alike spells.spell_stmt (ap view.view_stmt c.in-Writeln.is ∙ rows.writeln_laid c.in-Writeln.node c.in-Writeln.items) c.put_writeln.ensures
 
 pub put_assign-returns : goal.put_assign-returns
 put_assign-returns t c = c.put_desig.ensures ▹ c.put.ensures ▹ c.put_expr.ensures
 
 pub put_if-returns : goal.put_if-returns
-put_if-returns t c = c.put.ensures ▹ c.put_expr.ensures ▹ c.put-2.ensures ▹ c.put_stmts.ensures ▹ c.put_elsif_tail.ensures ▹ c.put_else.ensures ▹ c.put-3.ensures
+put_if-returns t c =
+    c.put.ensures ▹ c.put_expr.ensures ▹ c.put-2.ensures ▹ c.put_stmts.ensures ▹ c.put_elsif_tail.ensures ▹ c.put_else.ensures ▹ c.put-3.ensures
 
 pub put_while-returns : goal.put_while-returns
 put_while-returns t c = c.put.ensures ▹ c.put_expr.ensures ▹ c.put-2.ensures ▹ c.put_stmts.ensures ▹ c.put-3.ensures
@@ -152,13 +114,16 @@ pub put_repeat-returns : goal.put_repeat-returns
 put_repeat-returns t c = c.put.ensures ▹ c.put_stmts.ensures ▹ c.put-2.ensures ▹ c.put_expr.ensures
 
 pub put_for-returns : goal.put_for-returns
-put_for-returns t c = c.put.ensures ▹ c.put-2.ensures ▹ c.put-3.ensures ▹ c.put_expr.ensures ▹ c.put-4.ensures ▹ c.put_expr-2.ensures ▹ c.put_by.ensures ▹ c.put-5.ensures ▹ c.put_stmts.ensures ▹ c.put-6.ensures
+put_for-returns t c =
+    c.put.ensures ▹ c.put-2.ensures ▹ c.put-3.ensures ▹ c.put_expr.ensures ▹ c.put-4.ensures ▹ c.put_expr-2.ensures ▹ c.put_by.ensures ▹ c.put-5.ensures ▹ c.put_stmts.ensures ▹ c.put-6.ensures
 
 pub put_some-returns : goal.put_some-returns
-put_some-returns t c = c.put.ensures ▹ c.put-2.ensures ▹ c.put-3.ensures ▹ c.put_expr.ensures ▹ c.put-4.ensures ▹ c.put_expr-2.ensures ▹ c.put-5.ensures ▹ c.put_stmts.ensures ▹ c.put-6.ensures
+put_some-returns t c =
+    c.put.ensures ▹ c.put-2.ensures ▹ c.put-3.ensures ▹ c.put_expr.ensures ▹ c.put-4.ensures ▹ c.put_expr-2.ensures ▹ c.put-5.ensures ▹ c.put_stmts.ensures ▹ c.put-6.ensures
 
 pub put_case-returns : goal.put_case-returns
-put_case-returns t c = c.put.ensures ▹ c.put_expr.ensures ▹ c.put-2.ensures ▹ c.put_arm.ensures ▹ c.put_arm_tail.ensures ▹ c.put_else.ensures ▹ c.put-3.ensures
+put_case-returns t c =
+    c.put.ensures ▹ c.put_expr.ensures ▹ c.put-2.ensures ▹ c.put_arm.ensures ▹ c.put_arm_tail.ensures ▹ c.put_else.ensures ▹ c.put-3.ensures
 
 pub put_either-returns : goal.put_either-returns
 put_either-returns t c = c.put.ensures ▹ c.put_stmts.ensures ▹ c.put_orelse_tail.ensures ▹ c.put-2.ensures
@@ -240,12 +205,8 @@ put_arm-returns-in-Empty t c = alike spells.spell_arm (ap view.view_arm c.in-Emp
 
 pub put_arm-returns-in-Labelled : goal.put_arm-returns-in-Labelled
 put_arm-returns-in-Labelled t c =
-    let x0 = ap view.view_arm c.in-Labelled.is in
-    let x1 = rows.labelled_laid c.in-Labelled.node c.in-Labelled.first c.in-Labelled.more c.in-Labelled.body in
-    let x2 = ap view.labels_of c.deref.ensures.value in
-    let l : view.view_arm c.args.tree.now ≡ tree.arm (view.view_label c.in-Labelled.first) (view.labels_of c.deref.result.now) (view.view_stmts
-    c.in-Labelled.body) = cc in
-    alike spells.spell_arm l (c.put_label.ensures ▹ c.put_label_tail.ensures ▹ c.put.ensures ▹ c.put_stmts.ensures)
+    alike spells.spell_arm (ap view.view_arm c.in-Labelled.is ∙ rows.labelled_laid c.in-Labelled.node c.in-Labelled.first c.in-Labelled.more c.in-Labelled.body)
+    (c.put_label.ensures ▹ (rw c.deref.ensures.value at c.put_label_tail.ensures) ▹ c.put.ensures ▹ c.put_stmts.ensures)
 
 pub put_arm_tail-loop-tree-init : goal.put_arm_tail-loop-tree-init
 put_arm_tail-loop-tree-init t c = rests_all _ _
@@ -284,7 +245,8 @@ pub put_expr-returns : goal.put_expr-returns
 put_expr-returns t c = alike spells.spell_expr (ends.expr_laid c.args.tree.now) (c.put_simple.ensures ▹ c.put_compared.ensures)
 
 pub put_compared-returns-in-Some : goal.put_compared-returns-in-Some
-put_compared-returns-in-Some t c = alike (λ x. spells.spell_compared (view.compared_of x)) c.in-Some.is ((rw c.deref.ensures at (rw c.relation_kind.ensures.same at c.put.ensures)) ▹ (rw c.deref-in-Some.ensures at c.put_simple.ensures))
+put_compared-returns-in-Some t c =
+    alike (λ x. spells.spell_compared (view.compared_of x)) c.in-Some.is ((rw c.deref.ensures at (rw c.relation_kind.ensures.same at c.put.ensures)) ▹ (rw c.deref-in-Some.ensures at c.put_simple.ensures))
 
 pub put_compared-returns-in_default : goal.put_compared-returns-in_default
 put_compared-returns-in_default t c = alike (λ x. spells.spell_compared (view.compared_of x)) c.in_default.is (stays _)
@@ -360,8 +322,22 @@ put_primary-returns-in-Chr t c =
     alike spells.spell_primary (ap view.view_primary c.in-Chr.is)
     (c.put-in-Chr.ensures ▹ c.put-in-Chr-2.ensures ▹ (rw c.deref-in-Chr.ensures at c.put_expr-in-Chr.ensures) ▹ c.put-in-Chr-3.ensures)
 
+pub put_args-returns-in_default : goal.put_args-returns-in_default
+put_args-returns-in_default t c = alike (λ x. spells.spell_args (view.args_of x)) c.in_default.is (stays _)
+
+pub put_args-returns-in-None : goal.put_args-returns-in-None
+put_args-returns-in-None t c =
+    alike (λ x. spells.spell_args (view.args_of x)) c.in-Some.is (alike (λ v. spells.spell_args (view.args_values v)) c.in-None.is
+    (c.put.ensures ▹ c.put-in-None.ensures))
+
+pub put_args-returns-in-Some-values : goal.put_args-returns-in-Some-values
+put_args-returns-in-Some-values t c =
+    alike (λ x. spells.spell_args (view.args_of x)) c.in-Some.is (alike (λ v. spells.spell_args (view.args_values v)) c.in-Some-values.is
+    (c.put.ensures ▹ c.put_exprs.ensures ▹ c.put-in-Some-values.ensures))
+
 pub put_exprs-returns : goal.put_exprs-returns
-put_exprs-returns t c = alike spells.spell_exprs (ends.exprs_laid c.args.tree.now) ((rw c.deref.ensures at c.put_expr.ensures) ▹ (rw c.deref-2.ensures.value at c.put_expr_tail.ensures))
+put_exprs-returns t c =
+    alike spells.spell_exprs (ends.exprs_laid c.args.tree.now) ((rw c.deref.ensures at c.put_expr.ensures) ▹ (rw c.deref-2.ensures.value at c.put_expr_tail.ensures))
 
 pub put_expr_tail-loop-tree-init : goal.put_expr_tail-loop-tree-init
 put_expr_tail-loop-tree-init t c = rests_all _ _
@@ -394,7 +370,10 @@ pub put_selector-returns-in-Field : goal.put_selector-returns-in-Field
 put_selector-returns-in-Field t c = alike spells.spell_selector (ap view.view_selector c.in-Field.is) (c.put.ensures ▹ c.put-in-Field.ensures)
 
 pub put_selector-returns-in-Index : goal.put_selector-returns-in-Index
-put_selector-returns-in-Index t c = alike spells.spell_selector (ap view.view_selector c.in-Index.is) (c.put-in-Index.ensures ▹ c.put_exprs.ensures ▹ c.put-in-Index-2.ensures)
+put_selector-returns-in-Index t c =
+    alike spells.spell_selector (ap view.view_selector c.in-Index.is) (c.put-in-Index.ensures ▹ c.put_exprs.ensures ▹ c.put-in-Index-2.ensures)
+
+-- ---- the measure of each call
 
 pub put_assign-put_desig-requires : goal.put_assign-put_desig-requires
 put_assign-put_desig-requires t c = (omega (arith, c.decreases), tt)
@@ -524,7 +503,8 @@ pub put_stmt-put_expr-requires : goal.put_stmt-put_expr-requires
 put_stmt-put_expr-requires t c = (omega (arith, c.decreases, ap views.size-Stmt c.in-Value.is ∙ views.sized-Value _ _), tt)
 
 pub put_stmt-put_if-requires : goal.put_stmt-put_if-requires
-put_stmt-put_if-requires t c = (omega (arith, c.decreases, ap views.size-Stmt c.in-If.is ∙ views.sized-If _ _ _ _ _, ap (most views.size-Elsif) c.deref.ensures.value), tt)
+put_stmt-put_if-requires t c =
+    (omega (arith, c.decreases, ap views.size-Stmt c.in-If.is ∙ views.sized-If _ _ _ _ _, ap (most views.size-Elsif) c.deref.ensures.value), tt)
 
 pub put_stmt-put_while-requires : goal.put_stmt-put_while-requires
 put_stmt-put_while-requires t c = (omega (arith, c.decreases, ap views.size-Stmt c.in-While.is ∙ views.sized-While _ _ _), tt)
@@ -539,10 +519,12 @@ pub put_stmt-put_some-requires : goal.put_stmt-put_some-requires
 put_stmt-put_some-requires t c = (omega (arith, c.decreases, ap views.size-Stmt c.in-Some.is ∙ views.sized-Some _ _ _ _ _), tt)
 
 pub put_stmt-put_case-requires : goal.put_stmt-put_case-requires
-put_stmt-put_case-requires t c = (omega (arith, c.decreases, ap views.size-Stmt c.in-Case.is ∙ views.sized-Case _ _ _ _ _, ap views.size-Arm c.deref-in-Case.ensures, ap (most views.size-Arm) c.deref-in-Case-2.ensures.value), tt)
+put_stmt-put_case-requires t c =
+    (omega (arith, c.decreases, ap views.size-Stmt c.in-Case.is ∙ views.sized-Case _ _ _ _ _, ap views.size-Arm c.deref-in-Case.ensures, ap (most views.size-Arm) c.deref-in-Case-2.ensures.value), tt)
 
 pub put_stmt-put_either-requires : goal.put_stmt-put_either-requires
-put_stmt-put_either-requires t c = (omega (arith, c.decreases, ap views.size-Stmt c.in-Either.is ∙ views.sized-Either _ _ _, ap (most views.size-Stmts) c.deref-in-Either.ensures.value), tt)
+put_stmt-put_either-requires t c =
+    (omega (arith, c.decreases, ap views.size-Stmt c.in-Either.is ∙ views.sized-Either _ _ _, ap (most views.size-Stmts) c.deref-in-Either.ensures.value), tt)
 
 pub put_stmt-put_forall-requires : goal.put_stmt-put_forall-requires
 put_stmt-put_forall-requires t c = (omega (arith, c.decreases, ap views.size-Stmt c.in-Forall.is ∙ views.sized-Forall _ _ _), tt)
@@ -554,7 +536,8 @@ pub put_stmt-put_return-requires : goal.put_stmt-put_return-requires
 put_stmt-put_return-requires t c = (omega (arith, c.decreases, ap views.size-Stmt c.in-Return.is ∙ views.sized-Return _ _), tt)
 
 pub put_stmt-put_read-requires : goal.put_stmt-put_read-requires
-put_stmt-put_read-requires t c = (omega (arith, c.decreases, ap views.size-Stmt c.in-Read.is ∙ views.sized-Read _ _ _, ap (most views.size-Desig) c.deref-in-Read.ensures.value), tt)
+put_stmt-put_read-requires t c =
+    (omega (arith, c.decreases, ap views.size-Stmt c.in-Read.is ∙ views.sized-Read _ _ _, ap (most views.size-Desig) c.deref-in-Read.ensures.value), tt)
 
 pub put_stmt-put_write-requires : goal.put_stmt-put_write-requires
 put_stmt-put_write-requires t c = (omega (arith, c.decreases, ap views.size-Stmt c.in-Write.is ∙ views.sized-Write _ _), tt)
@@ -566,7 +549,8 @@ pub put_arm-put_label-requires : goal.put_arm-put_label-requires
 put_arm-put_label-requires t c = (omega (arith, c.decreases, ap views.size-Arm c.in-Labelled.is ∙ views.sized-Labelled _ _ _ _), tt)
 
 pub put_arm-put_label_tail-requires : goal.put_arm-put_label_tail-requires
-put_arm-put_label_tail-requires t c = (omega (arith, c.decreases, ap views.size-Arm c.in-Labelled.is ∙ views.sized-Labelled _ _ _ _, ap (most views.size-Label) c.deref.ensures.value), tt)
+put_arm-put_label_tail-requires t c =
+    (omega (arith, c.decreases, ap views.size-Arm c.in-Labelled.is ∙ views.sized-Labelled _ _ _ _, ap (most views.size-Label) c.deref.ensures.value), tt)
 
 pub put_arm-put_stmts-requires : goal.put_arm-put_stmts-requires
 put_arm-put_stmts-requires t c = (omega (arith, c.decreases, ap views.size-Arm c.in-Labelled.is ∙ views.sized-Labelled _ _ _ _), tt)
@@ -584,46 +568,102 @@ pub put_primary-put_args-requires : goal.put_primary-put_args-requires
 put_primary-put_args-requires t c = (omega (arith, c.decreases, ap views.size-Primary c.in-Desig.is ∙ views.sized-Desig _ _ _), tt)
 
 pub put_primary-put_stmts-requires : goal.put_primary-put_stmts-requires
-put_primary-put_stmts-requires t c = (omega (arith, c.decreases, ap views.size-Primary c.in-Paren.is ∙ views.sized-Paren _ _, ap views.size-Stmts c.deref.ensures), tt)
+put_primary-put_stmts-requires t c =
+    (omega (arith, c.decreases, ap views.size-Primary c.in-Paren.is ∙ views.sized-Paren _ _, ap views.size-Stmts c.deref.ensures), tt)
 
 pub put_primary-put_desig-requires-in-Known : goal.put_primary-put_desig-requires-in-Known
 put_primary-put_desig-requires-in-Known t c = (omega (arith, c.decreases, ap views.size-Primary c.in-Known.is ∙ views.sized-Known _ _), tt)
 
 pub put_primary-put_expr-requires : goal.put_primary-put_expr-requires
-put_primary-put_expr-requires t c = (omega (arith, c.decreases, ap views.size-Primary c.in-Ord.is ∙ views.sized-Ord _ _, ap views.size-Expr c.deref-in-Ord.ensures), tt)
+put_primary-put_expr-requires t c =
+    (omega (arith, c.decreases, ap views.size-Primary c.in-Ord.is ∙ views.sized-Ord _ _, ap views.size-Expr c.deref-in-Ord.ensures), tt)
 
 pub put_primary-put_expr-requires-in-Chr : goal.put_primary-put_expr-requires-in-Chr
-put_primary-put_expr-requires-in-Chr t c = (omega (arith, c.decreases, ap views.size-Primary c.in-Chr.is ∙ views.sized-Chr _ _, ap views.size-Expr c.deref-in-Chr.ensures), tt)
+put_primary-put_expr-requires-in-Chr t c =
+    (omega (arith, c.decreases, ap views.size-Primary c.in-Chr.is ∙ views.sized-Chr _ _, ap views.size-Expr c.deref-in-Chr.ensures), tt)
 
 pub put_selector-put_exprs-requires : goal.put_selector-put_exprs-requires
 put_selector-put_exprs-requires t c = (omega (arith, c.decreases, ap views.size-Selector c.in-Index.is ∙ views.sized-Index _ _), tt)
 
 pub put_label-put_expr-requires : goal.put_label-put_expr-requires
-put_label-put_expr-requires t c = (omega (arith, c.decreases, views.size_roll-Label (dl.out-Label c.args.tree.now), ap views.size-Label (dl.roll-out-Label c.args.tree.now)), tt)
+put_label-put_expr-requires t c =
+    (omega (arith, c.decreases, views.size_roll-Label (dl.out-Label c.args.tree.now), ap views.size-Label (dl.roll-out-Label c.args.tree.now)), tt)
 
 pub put_label-put_high-requires : goal.put_label-put_high-requires
-put_label-put_high-requires t c = (omega (arith, c.decreases, views.size_roll-Label (dl.out-Label c.args.tree.now), ap views.size-Label (dl.roll-out-Label c.args.tree.now)), tt)
+put_label-put_high-requires t c =
+    (omega (arith, c.decreases, views.size_roll-Label (dl.out-Label c.args.tree.now), ap views.size-Label (dl.roll-out-Label c.args.tree.now)), tt)
 
 pub put_expr-put_simple-requires : goal.put_expr-put_simple-requires
-put_expr-put_simple-requires t c = (omega (arith, c.decreases, views.size_roll-Expr (de.out-Expr c.args.tree.now), ap views.size-Expr (de.roll-out-Expr c.args.tree.now)), tt)
+put_expr-put_simple-requires t c =
+    (omega (arith, c.decreases, views.size_roll-Expr (de.out-Expr c.args.tree.now), ap views.size-Expr (de.roll-out-Expr c.args.tree.now)), tt)
 
 pub put_expr-put_compared-requires : goal.put_expr-put_compared-requires
-put_expr-put_compared-requires t c = (omega (arith, c.decreases, views.size_roll-Expr (de.out-Expr c.args.tree.now), ap views.size-Expr (de.roll-out-Expr c.args.tree.now)), tt)
+put_expr-put_compared-requires t c =
+    (omega (arith, c.decreases, views.size_roll-Expr (de.out-Expr c.args.tree.now), ap views.size-Expr (de.roll-out-Expr c.args.tree.now)), tt)
 
 pub put_simple-put_term-requires : goal.put_simple-put_term-requires
-put_simple-put_term-requires t c = (omega (arith, c.decreases, views.size_roll-Simple (di.out-Simple c.args.tree.now), ap views.size-Simple (di.roll-out-Simple c.args.tree.now), ap views.size-Term c.deref.ensures), tt)
+put_simple-put_term-requires t c =
+    (omega (arith, c.decreases, views.size_roll-Simple (di.out-Simple c.args.tree.now), ap views.size-Simple (di.roll-out-Simple c.args.tree.now), ap views.size-Term c.deref.ensures), tt)
 
 pub put_simple-put_term_tail-requires : goal.put_simple-put_term_tail-requires
-put_simple-put_term_tail-requires t c = (omega (arith, c.decreases, views.size_roll-Simple (di.out-Simple c.args.tree.now), ap views.size-Simple (di.roll-out-Simple c.args.tree.now), ap (most views.size-AddLink) c.deref-2.ensures.value), tt)
+put_simple-put_term_tail-requires t c =
+    (omega (arith, c.decreases, views.size_roll-Simple (di.out-Simple c.args.tree.now), ap views.size-Simple (di.roll-out-Simple c.args.tree.now), ap (most views.size-AddLink) c.deref-2.ensures.value), tt)
 
 pub put_term-put_factor-requires : goal.put_term-put_factor-requires
-put_term-put_factor-requires t c = (omega (arith, c.decreases, views.size_roll-Term (dm.out-Term c.args.tree.now), ap views.size-Term (dm.roll-out-Term c.args.tree.now)), tt)
+put_term-put_factor-requires t c =
+    (omega (arith, c.decreases, views.size_roll-Term (dm.out-Term c.args.tree.now), ap views.size-Term (dm.roll-out-Term c.args.tree.now)), tt)
 
 pub put_term-put_factor_tail-requires : goal.put_term-put_factor_tail-requires
-put_term-put_factor_tail-requires t c = (omega (arith, c.decreases, views.size_roll-Term (dm.out-Term c.args.tree.now), ap views.size-Term (dm.roll-out-Term c.args.tree.now), ap (most views.size-MulLink) c.deref.ensures.value), tt)
+put_term-put_factor_tail-requires t c =
+    (omega (arith, c.decreases, views.size_roll-Term (dm.out-Term c.args.tree.now), ap views.size-Term (dm.roll-out-Term c.args.tree.now), ap (most views.size-MulLink) c.deref.ensures.value), tt)
 
 pub put_exprs-put_expr-requires : goal.put_exprs-put_expr-requires
-put_exprs-put_expr-requires t c = (omega (arith, c.decreases, views.size_roll-Exprs (dx.out-Exprs c.args.tree.now), ap views.size-Exprs (dx.roll-out-Exprs c.args.tree.now), ap views.size-Expr c.deref.ensures), tt)
+put_exprs-put_expr-requires t c =
+    (omega (arith, c.decreases, views.size_roll-Exprs (dx.out-Exprs c.args.tree.now), ap views.size-Exprs (dx.roll-out-Exprs c.args.tree.now), ap views.size-Expr c.deref.ensures), tt)
 
 pub put_exprs-put_expr_tail-requires : goal.put_exprs-put_expr_tail-requires
-put_exprs-put_expr_tail-requires t c = (omega (arith, c.decreases, views.size_roll-Exprs (dx.out-Exprs c.args.tree.now), ap views.size-Exprs (dx.roll-out-Exprs c.args.tree.now), ap (most views.size-Expr) c.deref-2.ensures.value), tt)
+put_exprs-put_expr_tail-requires t c =
+    (omega (arith, c.decreases, views.size_roll-Exprs (dx.out-Exprs c.args.tree.now), ap views.size-Exprs (dx.roll-out-Exprs c.args.tree.now), ap (most views.size-Expr) c.deref-2.ensures.value), tt)
+
+pub put_else-put_stmts-requires : goal.put_else-put_stmts-requires
+put_else-put_stmts-requires t c = (omega (arith, c.decreases, ap (shapes.weighed-Stmt-If-4.weight _ ds.size-Stmts) c.in-Some.is), tt)
+
+pub put_by-put_expr-requires : goal.put_by-put_expr-requires
+put_by-put_expr-requires t c = (omega (arith, c.decreases, ap (shapes.weighed-Stmt-For-4.weight _ de.size-Expr) c.in-Some.is), tt)
+
+pub put_returned-put_expr-requires : goal.put_returned-put_expr-requires
+put_returned-put_expr-requires t c = (omega (arith, c.decreases, ap (shapes.weighed-Stmt-For-4.weight _ de.size-Expr) c.in-Some.is), tt)
+
+pub put_high-put_expr-requires : goal.put_high-put_expr-requires
+put_high-put_expr-requires t c = (omega (arith, c.decreases, ap (shapes.weighed-Stmt-For-4.weight _ de.size-Expr) c.in-Some.is), tt)
+
+pub put_elsif_tail-put_expr-requires : goal.put_elsif_tail-put_expr-requires
+put_elsif_tail-put_expr-requires t c =
+    (omega (arith, c.decreases, at_most df.size-Elsif c.args.trees.now c.loop-tree.tree-index c.tree-item.result c.loop-tree-test.true, ap df.size-Elsif c.tree-item.is, views.size_roll-Elsif (df.out-Elsif c.tree-item.result), ap views.size-Elsif (df.roll-out-Elsif c.tree-item.result)), tt)
+
+pub put_elsif_tail-put_stmts-requires : goal.put_elsif_tail-put_stmts-requires
+put_elsif_tail-put_stmts-requires t c =
+    (omega (arith, c.decreases, at_most df.size-Elsif c.args.trees.now c.loop-tree.tree-index c.tree-item.result c.loop-tree-test.true, ap df.size-Elsif c.tree-item.is, views.size_roll-Elsif (df.out-Elsif c.tree-item.result), ap views.size-Elsif (df.roll-out-Elsif c.tree-item.result)), tt)
+
+pub put_term_tail-put_term-requires : goal.put_term_tail-put_term-requires
+put_term_tail-put_term-requires t c =
+    (omega (arith, c.decreases, at_most dk.size-AddLink c.args.trees.now c.loop-tree.tree-index c.tree-item.result c.loop-tree-test.true, ap dk.size-AddLink c.tree-item.is, views.size_roll-AddLink (dk.out-AddLink c.tree-item.result), ap views.size-AddLink (dk.roll-out-AddLink c.tree-item.result)), tt)
+
+pub put_stmts-put_stmt-requires : goal.put_stmts-put_stmt-requires
+put_stmts-put_stmt-requires t c = (omega (arith, c.decreases, ap views.size-Stmt c.deref.ensures, ds.size_is-Stmts c.args.tree.now), tt)
+
+pub put_stmts-put_stmt_tail-requires : goal.put_stmts-put_stmt_tail-requires
+put_stmts-put_stmt_tail-requires t c =
+    (omega (arith, c.decreases, ap (most views.size-Stmt) c.deref-2.ensures.value, ds.size_is-Stmts c.args.tree.now), tt)
+
+pub put_desig-put_selector_tail-requires : goal.put_desig-put_selector_tail-requires
+put_desig-put_selector_tail-requires t c =
+    (omega (arith, c.decreases, ap (most views.size-Selector) c.deref.ensures.value, dd.size_is-Desig c.args.tree.now), tt)
+
+pub put_factor_tail-put_factor-requires : goal.put_factor_tail-put_factor-requires
+put_factor_tail-put_factor-requires t c =
+    (omega (arith, c.decreases, at_most dn.size-MulLink c.args.trees.now c.loop-tree.tree-index c.tree-item.result c.loop-tree-test.true, ap dn.size-MulLink c.tree-item.is, dn.size_is-MulLink c.tree-item.result), tt)
+
+pub put_compared-put_simple-requires : goal.put_compared-put_simple-requires
+put_compared-put_simple-requires t c =
+    (omega (arith, c.decreases, ap (shapes.weighed-Expr-right.weight _ dc.size-Compared) c.in-Some.is, ap dc.size-Compared c.deref-in-Some.ensures, views.size_roll-Compared (dc.out-Compared c.deref-in-Some.result.now), ap dc.size-Compared (dc.roll-out-Compared c.deref-in-Some.result.now)), tt)
