@@ -1,4 +1,4 @@
-use Rattle.std.proofs.Common.{◌≡◌, ◌∙◌, refl, ap, arith}
+use Rattle.std.proofs.Common.{◌∙◌, refl, ap, arith}
 use denote.Param.Weighed.{most, at_most}
 use Rattle.alma_tree.specs.declared.phrase.Stmts as ds
 use Rattle.alma_tree.specs.declared.phrase.Stmt as dt
@@ -18,7 +18,6 @@ use Rattle.alma_tree.specs.declared.phrase.Desig as dd
 use Rattle.alma_tree.specs.declared.phrase.Selector as dj
 use Rattle.alma_tree.specs.Spelling as spells
 use Rattle.alma_tree.specs.View as view
-use Rattle.alma_tree.specs.Tree as tree
 use Rattle.alma_tree.proofs.Rows as rows
 use Rattle.alma_spell_phrase.proofs.Ends as ends
 use Rattle.alma_spell_phrase.proofs.Steps.{◌▹◌, stays, alike, rests_all, turn, finish}
