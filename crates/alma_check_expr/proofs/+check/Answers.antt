@@ -36,6 +36,23 @@ use Rattle.alma_walk.proofs.Stmts as stmts
 use Rattle.alma_walk.proofs.Turns as turns
 use Rattle.alma_walk.specs.Appends.{append_args, append_arms, append_branches}
 use Rattle.alma_join_list.specs.Onward.{onward_operands, onward_args, onward_stmts, onward_arms, onward_cases, onward_branches, onward_spans}
+use denote.Param.Weighed.{most, at_most}
+use Rattle.alma_tree.specs.declared.phrase.Arm.TheViews as views
+use Rattle.alma_tree.specs.declared.phrase.Arm.TheShapes as shapes
+use Rattle.alma_tree.specs.declared.phrase.Stmts as ds
+use Rattle.alma_tree.specs.declared.phrase.Stmt as dt
+use Rattle.alma_tree.specs.declared.phrase.Elsif as df
+use Rattle.alma_tree.specs.declared.phrase.Arm as da
+use Rattle.alma_tree.specs.declared.phrase.Expr as de
+use Rattle.alma_tree.specs.declared.phrase.Simple as di
+use Rattle.alma_tree.specs.declared.phrase.AddLink as dk
+use Rattle.alma_tree.specs.declared.phrase.Term as dm
+use Rattle.alma_tree.specs.declared.phrase.MulLink as dn
+use Rattle.alma_tree.specs.declared.phrase.Factor as dr
+use Rattle.alma_tree.specs.declared.phrase.Primary as dp
+use Rattle.alma_tree.specs.declared.phrase.Desig as dd
+use Rattle.alma_tree.specs.declared.phrase.Selector as dj
+use Rattle.alma_check_expr.proofs.Sizes as sizes
 use Rattle.alma_check_expr.proofs.+check.Goals as goal
 
 -- ---- Expressions
@@ -789,3 +806,326 @@ pub case::check_label-returns-in_ok-low-in-Some : goal.case::check_label-returns
 case::check_label-returns-in_ok-low-in-Some t c =
     rw (cases.label_two (scene_of c.args.env.now c.args.place) c.args.slot.now (typing_in c.args.case.now) (spans_view c.args.spans.now) c.args.label.now c.in-Some.high _ _ c.in-Some.is c.in_ok-low-in-Some.ensures)
     (c.join_label.ensures (walk.judge_expr (in_constant (scene_of c.args.env.now c.args.place)) c.check_expr.new.slot (view.view_expr c.in-Some.high)) c.check_expr.new.slot _ c.check_expr-high.ensures)
+
+-- ---- the measure of each call
+
+pub expression::check_expr-check_simple-requires : goal.expression::check_expr-check_simple-requires
+expression::check_expr-check_simple-requires t c = (omega (arith, c.decreases, sizes.expr_left c.args.expr.now), tt)
+
+pub expression::check_expr-check_simple-right-requires : goal.expression::check_expr-check_simple-right-requires
+expression::check_expr-check_simple-right-requires t c =
+    (omega (arith, c.decreases, sizes.expr_right c.args.expr.now c.in-Some.compared c.in-Some.is, ap (λ k. di.size-Simple (dc.out-Compared k).right) c.deref.ensures), tt)
+
+pub expression::check_simple-check_term-requires : goal.expression::check_simple-check_term-requires
+expression::check_simple-check_term-requires t c = (omega (arith, c.decreases, sizes.simple_first c.args.simple.now, ap dm.size-Term c.deref-2.ensures), tt)
+
+pub expression::check_simple-check_terms-rest-requires : goal.expression::check_simple-check_terms-rest-requires
+expression::check_simple-check_terms-rest-requires t c =
+    (omega (arith, c.decreases, sizes.simple_more c.args.simple.now, ap (most dk.size-AddLink) c.deref-3.ensures.value), tt)
+
+pub expression::check_terms-check_term-typed-requires : goal.expression::check_terms-check_term-typed-requires
+expression::check_terms-check_term-typed-requires t c =
+    (omega (arith, c.decreases, at_most dk.size-AddLink c.args.more.now c.loop-link.link-index c.link-item.result c.loop-link-test.true, ap dk.size-AddLink c.link-item.is, sizes.add_operand c.link-item.result), tt)
+
+pub expression::check_term-check_factor-requires : goal.expression::check_term-check_factor-requires
+expression::check_term-check_factor-requires t c = (omega (arith, c.decreases, sizes.term_first c.args.term.now), tt)
+
+pub expression::check_term-check_factors-rest-requires : goal.expression::check_term-check_factors-rest-requires
+expression::check_term-check_factors-rest-requires t c =
+    (omega (arith, c.decreases, sizes.term_more c.args.term.now, ap (most dn.size-MulLink) c.deref-2.ensures.value), tt)
+
+pub expression::check_factors-check_factor-typed-requires : goal.expression::check_factors-check_factor-typed-requires
+expression::check_factors-check_factor-typed-requires t c =
+    (omega (arith, c.decreases, at_most dn.size-MulLink c.args.more.now c.loop-link.link-index c.link-item.result c.loop-link-test.true, ap dn.size-MulLink c.link-item.is, sizes.mul_operand c.link-item.result), tt)
+
+pub expression::check_factor-check_primary-typed-requires : goal.expression::check_factor-check_primary-typed-requires
+expression::check_factor-check_primary-typed-requires t c = (omega (arith, c.decreases, ap dr.size-Factor c.in-Not.is ∙ views.sized-Not _ _), tt)
+
+pub expression::check_factor-check_primary-typed-requires-in-Plain : goal.expression::check_factor-check_primary-typed-requires-in-Plain
+expression::check_factor-check_primary-typed-requires-in-Plain t c = (omega (arith, c.decreases, ap dr.size-Factor c.in-Plain.is ∙ views.sized-Plain _ _), tt)
+
+pub expression::check_primary-check_named-requires : goal.expression::check_primary-check_named-requires
+expression::check_primary-check_named-requires t c = (omega (arith, c.decreases, ap dp.size-Primary c.in-Desig.is ∙ views.sized-Desig _ _ _), tt)
+
+pub expression::check_primary-check_parens-requires : goal.expression::check_primary-check_parens-requires
+expression::check_primary-check_parens-requires t c =
+    (omega (arith, c.decreases, ap dp.size-Primary c.in-Paren.is ∙ views.sized-Paren _ _, ap ds.size-Stmts c.deref.ensures), tt)
+
+pub expression::check_primary-check_desig-found-requires : goal.expression::check_primary-check_desig-found-requires
+expression::check_primary-check_desig-found-requires t c = (omega (arith, c.decreases, ap dp.size-Primary c.in-Known.is ∙ views.sized-Known _ _), tt)
+
+pub expression::check_primary-check_expr-typed-requires : goal.expression::check_primary-check_expr-typed-requires
+expression::check_primary-check_expr-typed-requires t c =
+    (omega (arith, c.decreases, ap dp.size-Primary c.in-Ord.is ∙ views.sized-Ord _ _, ap de.size-Expr c.deref-in-Ord.ensures), tt)
+
+pub expression::check_primary-check_expr-typed-requires-in-Chr : goal.expression::check_primary-check_expr-typed-requires-in-Chr
+expression::check_primary-check_expr-typed-requires-in-Chr t c =
+    (omega (arith, c.decreases, ap dp.size-Primary c.in-Chr.is ∙ views.sized-Chr _ _, ap de.size-Expr c.deref-in-Chr.ensures), tt)
+
+pub call::check_named-check_desig-found-requires : goal.call::check_named-check_desig-found-requires
+call::check_named-check_desig-found-requires t c = (omega (arith, c.decreases), tt)
+
+pub call::check_named-check_desig-found-requires-in-Some : goal.call::check_named-check_desig-found-requires-in-Some
+call::check_named-check_desig-found-requires-in-Some t c = (omega (arith, c.decreases), tt)
+
+pub call::check_named-check_arguments-args-requires : goal.call::check_named-check_arguments-args-requires
+call::check_named-check_arguments-args-requires t c =
+    (omega (arith, c.decreases, ap (shapes.weighed-Primary-Desig-2.weight _ dg.size-Args) c.in-Some.is, sizes.args_values c.in-Some.args c.in-Some-values.values c.in-Some-values.is), tt)
+
+pub call::check_arguments-check_argument-first-requires : goal.call::check_arguments-check_argument-first-requires
+call::check_arguments-check_argument-first-requires t c = (omega (arith, c.decreases, sizes.exprs_first c.args.values.now, ap de.size-Expr c.deref.ensures), tt)
+
+pub call::check_arguments-check_argument-arg-requires : goal.call::check_arguments-check_argument-arg-requires
+call::check_arguments-check_argument-arg-requires t c =
+    (omega (arith, c.decreases, at_most de.size-Expr c.deref-value-items.result.now c.loop-value.value-index c.value-item.result c.loop-value-test.true, ap de.size-Expr c.value-item.is, ap (most de.size-Expr) c.deref-value-items.ensures.value, sizes.exprs_more c.args.values.now), tt)
+
+pub call::check_argument-check_expr-typed-requires : goal.call::check_argument-check_expr-typed-requires
+call::check_argument-check_expr-typed-requires t c = (omega (arith, c.decreases), tt)
+
+pub parens::check_parens-check_sequence-requires : goal.parens::check_parens-check_sequence-requires
+parens::check_parens-check_sequence-requires t c = (omega (arith, c.decreases), tt)
+
+pub parens::check_parens-check_expr-typed-requires : goal.parens::check_parens-check_expr-typed-requires
+parens::check_parens-check_expr-typed-requires t c =
+    (omega (arith, c.decreases, sizes.stmts_first c.args.body.now, ap dt.size-Stmt c.deref.ensures, ap dt.size-Stmt c.in-Value.is ∙ views.sized-Value _ _), tt)
+
+pub parens::check_parens-check_sequence-requires-in_default : goal.parens::check_parens-check_sequence-requires-in_default
+parens::check_parens-check_sequence-requires-in_default t c = (omega (arith, c.decreases), tt)
+
+pub parens::check_sequence-check_stmts-stmts-requires : goal.parens::check_sequence-check_stmts-stmts-requires
+parens::check_sequence-check_stmts-stmts-requires t c = (omega (arith, c.decreases), tt)
+
+pub designator::check_desig-check_selectors-part-requires : goal.designator::check_desig-check_selectors-part-requires
+designator::check_desig-check_selectors-part-requires t c =
+    (omega (arith, c.decreases, sizes.desig_more c.args.desig.now, ap (most dj.size-Selector) c.deref.ensures.value), tt)
+
+pub designator::check_selectors-check_selector-requires : goal.designator::check_selectors-check_selector-requires
+designator::check_selectors-check_selector-requires t c =
+    (omega (arith, c.decreases, at_most dj.size-Selector c.args.more.now c.loop-selector.selector-index c.selector-item.result c.loop-selector-test.true, ap dj.size-Selector c.selector-item.is), tt)
+
+pub designator::check_selector-check_indices-part-requires : goal.designator::check_selector-check_indices-part-requires
+designator::check_selector-check_indices-part-requires t c = (omega (arith, c.decreases, ap dj.size-Selector c.in-Index.is ∙ views.sized-Index _ _), tt)
+
+pub designator::check_indices-check_index-requires : goal.designator::check_indices-check_index-requires
+designator::check_indices-check_index-requires t c = (omega (arith, c.decreases, sizes.exprs_first c.args.indices.now, ap de.size-Expr c.deref.ensures), tt)
+
+pub designator::check_indices-check_index-requires-in-loop-index : goal.designator::check_indices-check_index-requires-in-loop-index
+designator::check_indices-check_index-requires-in-loop-index t c =
+    (omega (arith, c.decreases, at_most de.size-Expr c.deref-index-items.result.now c.loop-index.index-index c.index-item.result c.loop-index-test.true, ap de.size-Expr c.index-item.is, ap (most de.size-Expr) c.deref-index-items.ensures.value, sizes.exprs_more c.args.indices.now), tt)
+
+pub designator::check_index-check_expr-typed-requires : goal.designator::check_index-check_expr-typed-requires
+designator::check_index-check_expr-typed-requires t c = (omega (arith, c.decreases), tt)
+
+pub sequence::check_stmts-check_stmt-requires : goal.sequence::check_stmts-check_stmt-requires
+sequence::check_stmts-check_stmt-requires t c = (omega (arith, c.decreases, sizes.stmts_first c.args.stmts.now, ap dt.size-Stmt c.deref.ensures), tt)
+
+pub sequence::check_stmts-check_stmt-next-requires : goal.sequence::check_stmts-check_stmt-next-requires
+sequence::check_stmts-check_stmt-next-requires t c =
+    (omega (arith, c.decreases, at_most dt.size-Stmt c.deref-stmt-items.result.now c.loop-stmt.stmt-index c.stmt-item.result c.loop-stmt-test.true, ap dt.size-Stmt c.stmt-item.is, ap (most dt.size-Stmt) c.deref-stmt-items.ensures.value, sizes.stmts_more c.args.stmts.now), tt)
+
+pub sequence::check_stmt-check_assign-requires : goal.sequence::check_stmt-check_assign-requires
+sequence::check_stmt-check_assign-requires t c = (omega (arith, c.decreases, ap dt.size-Stmt c.in-Assign.is ∙ views.sized-Assign _ _ _), tt)
+
+pub sequence::check_stmt-check_value-requires : goal.sequence::check_stmt-check_value-requires
+sequence::check_stmt-check_value-requires t c = (omega (arith, c.decreases, ap dt.size-Stmt c.in-Value.is ∙ views.sized-Value _ _), tt)
+
+pub sequence::check_stmt-check_if-requires : goal.sequence::check_stmt-check_if-requires
+sequence::check_stmt-check_if-requires t c =
+    (omega (arith, c.decreases, ap dt.size-Stmt c.in-If.is ∙ views.sized-If _ _ _ _ _, ap (most df.size-Elsif) c.deref.ensures.value), tt)
+
+pub sequence::check_stmt-check_while-requires : goal.sequence::check_stmt-check_while-requires
+sequence::check_stmt-check_while-requires t c = (omega (arith, c.decreases, ap dt.size-Stmt c.in-While.is ∙ views.sized-While _ _ _), tt)
+
+pub sequence::check_stmt-check_repeat-requires : goal.sequence::check_stmt-check_repeat-requires
+sequence::check_stmt-check_repeat-requires t c = (omega (arith, c.decreases, ap dt.size-Stmt c.in-Repeat.is ∙ views.sized-Repeat _ _ _), tt)
+
+pub sequence::check_stmt-check_for-requires : goal.sequence::check_stmt-check_for-requires
+sequence::check_stmt-check_for-requires t c = (omega (arith, c.decreases, ap dt.size-Stmt c.in-For.is ∙ views.sized-For _ _ _ _ _ _), tt)
+
+pub sequence::check_stmt-check_some-requires : goal.sequence::check_stmt-check_some-requires
+sequence::check_stmt-check_some-requires t c = (omega (arith, c.decreases, ap dt.size-Stmt c.in-Some.is ∙ views.sized-Some _ _ _ _ _), tt)
+
+pub sequence::check_stmt-check_case-requires : goal.sequence::check_stmt-check_case-requires
+sequence::check_stmt-check_case-requires t c =
+    (omega (arith, c.decreases, ap dt.size-Stmt c.in-Case.is ∙ views.sized-Case _ _ _ _ _, ap da.size-Arm c.deref-in-Case.ensures, ap (most da.size-Arm) c.deref-in-Case-2.ensures.value), tt)
+
+pub sequence::check_stmt-check_either-requires : goal.sequence::check_stmt-check_either-requires
+sequence::check_stmt-check_either-requires t c =
+    (omega (arith, c.decreases, ap dt.size-Stmt c.in-Either.is ∙ views.sized-Either _ _ _, ap (most ds.size-Stmts) c.deref-in-Either.ensures.value), tt)
+
+pub sequence::check_stmt-check_forall-requires : goal.sequence::check_stmt-check_forall-requires
+sequence::check_stmt-check_forall-requires t c = (omega (arith, c.decreases, ap dt.size-Stmt c.in-Forall.is ∙ views.sized-Forall _ _ _), tt)
+
+pub sequence::check_stmt-check_commit-requires : goal.sequence::check_stmt-check_commit-requires
+sequence::check_stmt-check_commit-requires t c = (omega (arith, c.decreases, ap dt.size-Stmt c.in-Commit.is ∙ views.sized-Commit _ _), tt)
+
+pub sequence::check_stmt-check_return-requires : goal.sequence::check_stmt-check_return-requires
+sequence::check_stmt-check_return-requires t c = (omega (arith, c.decreases, ap dt.size-Stmt c.in-Return.is ∙ views.sized-Return _ _), tt)
+
+pub sequence::check_stmt-check_read-requires : goal.sequence::check_stmt-check_read-requires
+sequence::check_stmt-check_read-requires t c =
+    (omega (arith, c.decreases, ap dt.size-Stmt c.in-Read.is ∙ views.sized-Read _ _ _, ap (most dd.size-Desig) c.deref-in-Read.ensures.value), tt)
+
+pub sequence::check_stmt-check_items-requires : goal.sequence::check_stmt-check_items-requires
+sequence::check_stmt-check_items-requires t c = (omega (arith, c.decreases, ap dt.size-Stmt c.in-Write.is ∙ views.sized-Write _ _), tt)
+
+pub sequence::check_stmt-check_writeln-requires : goal.sequence::check_stmt-check_writeln-requires
+sequence::check_stmt-check_writeln-requires t c = (omega (arith, c.decreases, ap dt.size-Stmt c.in-Writeln.is ∙ views.sized-Writeln _ _), tt)
+
+pub sequence::check_assign-check_desig-found-requires : goal.sequence::check_assign-check_desig-found-requires
+sequence::check_assign-check_desig-found-requires t c = (omega (arith, c.decreases), tt)
+
+pub sequence::check_assign-check_expr-typed-requires : goal.sequence::check_assign-check_expr-typed-requires
+sequence::check_assign-check_expr-typed-requires t c = (omega (arith, c.decreases), tt)
+
+pub sequence::check_condition-check_expr-typed-requires : goal.sequence::check_condition-check_expr-typed-requires
+sequence::check_condition-check_expr-typed-requires t c = (omega (arith, c.decreases), tt)
+
+pub sequence::check_value-check_condition-test-requires : goal.sequence::check_value-check_condition-test-requires
+sequence::check_value-check_condition-test-requires t c = (omega (arith, c.decreases), tt)
+
+pub branch::check_if-check_guarded-first-requires : goal.branch::check_if-check_guarded-first-requires
+branch::check_if-check_guarded-first-requires t c = (omega (arith, c.decreases), tt)
+
+pub branch::check_if-check_elsifs-requires : goal.branch::check_if-check_elsifs-requires
+branch::check_if-check_elsifs-requires t c = (omega (arith, c.decreases), tt)
+
+pub branch::check_if-check_else-other-requires : goal.branch::check_if-check_else-other-requires
+branch::check_if-check_else-other-requires t c = (omega (arith, c.decreases), tt)
+
+pub branch::check_guarded-check_condition-requires : goal.branch::check_guarded-check_condition-requires
+branch::check_guarded-check_condition-requires t c = (omega (arith, c.decreases), tt)
+
+pub branch::check_guarded-check_stmts-body-requires : goal.branch::check_guarded-check_stmts-body-requires
+branch::check_guarded-check_stmts-body-requires t c = (omega (arith, c.decreases), tt)
+
+pub branch::check_elsifs-check_guarded-arm-requires : goal.branch::check_elsifs-check_guarded-arm-requires
+branch::check_elsifs-check_guarded-arm-requires t c =
+    (omega (arith, c.decreases, at_most df.size-Elsif c.args.elsifs.now c.loop-elsif.elsif-index c.elsif-item.result c.loop-elsif-test.true, ap df.size-Elsif c.elsif-item.is, sizes.elsif_test c.elsif-item.result, sizes.elsif_then c.elsif-item.result), tt)
+
+pub branch::check_else-check_stmts-requires : goal.branch::check_else-check_stmts-requires
+branch::check_else-check_stmts-requires t c = (omega (arith, c.decreases, ap (shapes.weighed-Stmt-If-4.weight _ ds.size-Stmts) c.in-Some.is), tt)
+
+pub branch::check_while-check_condition-requires : goal.branch::check_while-check_condition-requires
+branch::check_while-check_condition-requires t c = (omega (arith, c.decreases), tt)
+
+pub branch::check_while-check_stmts-body-requires : goal.branch::check_while-check_stmts-body-requires
+branch::check_while-check_stmts-body-requires t c = (omega (arith, c.decreases), tt)
+
+pub branch::check_repeat-check_stmts-requires : goal.branch::check_repeat-check_stmts-requires
+branch::check_repeat-check_stmts-requires t c = (omega (arith, c.decreases), tt)
+
+pub branch::check_repeat-check_condition-test-requires : goal.branch::check_repeat-check_condition-test-requires
+branch::check_repeat-check_condition-test-requires t c = (omega (arith, c.decreases), tt)
+
+pub turns::check_head-check_expr-requires : goal.turns::check_head-check_expr-requires
+turns::check_head-check_expr-requires t c = (omega (arith, c.decreases), tt)
+
+pub turns::check_head-check_expr-high-requires : goal.turns::check_head-check_expr-high-requires
+turns::check_head-check_expr-high-requires t c = (omega (arith, c.decreases), tt)
+
+pub turns::check_for-check_head-requires : goal.turns::check_for-check_head-requires
+turns::check_for-check_head-requires t c = (omega (arith, c.decreases), tt)
+
+pub turns::check_for-check_by-step-requires : goal.turns::check_for-check_by-step-requires
+turns::check_for-check_by-step-requires t c = (omega (arith, c.decreases), tt)
+
+pub turns::check_for-check_stmts-body-requires : goal.turns::check_for-check_stmts-body-requires
+turns::check_for-check_stmts-body-requires t c = (omega (arith, c.decreases), tt)
+
+pub turns::check_by-check_expr-typed-requires : goal.turns::check_by-check_expr-typed-requires
+turns::check_by-check_expr-typed-requires t c = (omega (arith, c.decreases, ap (shapes.weighed-Stmt-For-4.weight _ de.size-Expr) c.in-Some.is), tt)
+
+pub turns::check_some-check_head-requires : goal.turns::check_some-check_head-requires
+turns::check_some-check_head-requires t c = (omega (arith, c.decreases), tt)
+
+pub turns::check_some-check_stmts-body-requires : goal.turns::check_some-check_stmts-body-requires
+turns::check_some-check_stmts-body-requires t c = (omega (arith, c.decreases), tt)
+
+pub case::check_case-check_expr-requires : goal.case::check_case-check_expr-requires
+case::check_case-check_expr-requires t c = (omega (arith, c.decreases), tt)
+
+pub case::check_case-check_arms-arms-requires : goal.case::check_case-check_arms-arms-requires
+case::check_case-check_arms-arms-requires t c = (omega (arith, c.decreases), tt)
+
+pub case::check_case-check_case_else-other-requires : goal.case::check_case-check_case_else-other-requires
+case::check_case-check_case_else-other-requires t c = (omega (arith, c.decreases), tt)
+
+pub case::check_arms-check_arm-requires : goal.case::check_arms-check_arm-requires
+case::check_arms-check_arm-requires t c = (omega (arith, c.decreases), tt)
+
+pub case::check_arms-check_arm-next-requires : goal.case::check_arms-check_arm-next-requires
+case::check_arms-check_arm-next-requires t c =
+    (omega (arith, c.decreases, at_most da.size-Arm c.args.more.now c.loop-arm.arm-index c.arm-item.result c.loop-arm-test.true, ap da.size-Arm c.arm-item.is), tt)
+
+pub case::check_arm-check_labels-requires : goal.case::check_arm-check_labels-requires
+case::check_arm-check_labels-requires t c =
+    (omega (arith, c.decreases, ap da.size-Arm c.in-Labelled.is ∙ views.sized-Labelled _ _ _ _, ap (most dl.size-Label) c.deref.ensures.value), tt)
+
+pub case::check_arm-check_stmts-body-requires : goal.case::check_arm-check_stmts-body-requires
+case::check_arm-check_stmts-body-requires t c = (omega (arith, c.decreases, ap da.size-Arm c.in-Labelled.is ∙ views.sized-Labelled _ _ _ _), tt)
+
+pub case::check_case_else-check_stmts-stmts-requires : goal.case::check_case_else-check_stmts-stmts-requires
+case::check_case_else-check_stmts-stmts-requires t c = (omega (arith, c.decreases, ap (shapes.weighed-Stmt-If-4.weight _ ds.size-Stmts) c.in-Some.is), tt)
+
+pub case::check_labels-check_label-span-requires : goal.case::check_labels-check_label-span-requires
+case::check_labels-check_label-span-requires t c = (omega (arith, c.decreases), tt)
+
+pub case::check_labels-check_label-span-requires-in-loop-label : goal.case::check_labels-check_label-span-requires-in-loop-label
+case::check_labels-check_label-span-requires-in-loop-label t c =
+    (omega (arith, c.decreases, at_most dl.size-Label c.args.more.now c.loop-label.label-index c.label-item.result c.loop-label-test.true, ap dl.size-Label c.label-item.is), tt)
+
+pub case::check_label-check_expr-low-requires : goal.case::check_label-check_expr-low-requires
+case::check_label-check_expr-low-requires t c = (omega (arith, c.decreases, sizes.label_low c.args.label.now), tt)
+
+pub case::check_label-check_expr-requires : goal.case::check_label-check_expr-requires
+case::check_label-check_expr-requires t c = (omega (arith, c.decreases, sizes.label_low c.args.label.now), tt)
+
+pub case::check_label-check_expr-high-requires : goal.case::check_label-check_expr-high-requires
+case::check_label-check_expr-high-requires t c = (omega (arith, c.decreases, sizes.label_high c.args.label.now c.in-Some.high c.in-Some.is), tt)
+
+pub choice::check_either-check_stmts-first-requires : goal.choice::check_either-check_stmts-first-requires
+choice::check_either-check_stmts-first-requires t c = (omega (arith, c.decreases), tt)
+
+pub choice::check_either-check_orelses-branches-requires : goal.choice::check_either-check_orelses-branches-requires
+choice::check_either-check_orelses-branches-requires t c = (omega (arith, c.decreases), tt)
+
+pub choice::check_orelses-check_stmts-stmts-requires : goal.choice::check_orelses-check_stmts-stmts-requires
+choice::check_orelses-check_stmts-stmts-requires t c =
+    (omega (arith, c.decreases, at_most ds.size-Stmts c.args.more.now c.loop-body.body-index c.body-item.result c.loop-body-test.true, ap ds.size-Stmts c.body-item.is), tt)
+
+pub choice::check_forall-check_stmts-requires : goal.choice::check_forall-check_stmts-requires
+choice::check_forall-check_stmts-requires t c = (omega (arith, c.decreases), tt)
+
+pub choice::check_forall-check_stmts-body-requires : goal.choice::check_forall-check_stmts-body-requires
+choice::check_forall-check_stmts-body-requires t c = (omega (arith, c.decreases), tt)
+
+pub choice::check_commit-check_stmts-body-requires : goal.choice::check_commit-check_stmts-body-requires
+choice::check_commit-check_stmts-body-requires t c = (omega (arith, c.decreases), tt)
+
+pub input::check_return-check_expr-typed-requires : goal.input::check_return-check_expr-typed-requires
+input::check_return-check_expr-typed-requires t c = (omega (arith, c.decreases, ap (shapes.weighed-Stmt-For-4.weight _ de.size-Expr) c.in-Some.is), tt)
+
+pub input::check_read-check_read_one-requires : goal.input::check_read-check_read_one-requires
+input::check_read-check_read_one-requires t c = (omega (arith, c.decreases), tt)
+
+pub input::check_read-check_read_one-next-requires : goal.input::check_read-check_read_one-next-requires
+input::check_read-check_read_one-next-requires t c =
+    (omega (arith, c.decreases, at_most dd.size-Desig c.args.more.now c.loop-desig.desig-index c.desig-item.result c.loop-desig-test.true, ap dd.size-Desig c.desig-item.is), tt)
+
+pub input::check_read_one-check_desig-found-requires : goal.input::check_read_one-check_desig-found-requires
+input::check_read_one-check_desig-found-requires t c = (omega (arith, c.decreases), tt)
+
+pub input::check_items-check_item-requires : goal.input::check_items-check_item-requires
+input::check_items-check_item-requires t c = (omega (arith, c.decreases, sizes.exprs_first c.args.items.now, ap de.size-Expr c.deref.ensures), tt)
+
+pub input::check_items-check_item-next-requires : goal.input::check_items-check_item-next-requires
+input::check_items-check_item-next-requires t c =
+    (omega (arith, c.decreases, at_most de.size-Expr c.deref-item-items.result.now c.loop-item.item-index c.item-item.result c.loop-item-test.true, ap de.size-Expr c.item-item.is, ap (most de.size-Expr) c.deref-item-items.ensures.value, sizes.exprs_more c.args.items.now), tt)
+
+pub input::check_item-check_expr-typed-requires : goal.input::check_item-check_expr-typed-requires
+input::check_item-check_expr-typed-requires t c = (omega (arith, c.decreases), tt)
+
+pub input::check_writeln-check_items-stmts-requires : goal.input::check_writeln-check_items-stmts-requires
+input::check_writeln-check_items-stmts-requires t c =
+    (omega (arith, c.decreases, ap (shapes.weighed-Primary-Desig-2.weight _ dg.size-Args) c.in-Some.is, sizes.args_values c.in-Some.args c.in-Some-values.values c.in-Some-values.is), tt)
