@@ -1,8 +1,7 @@
 //! Reading statements and expressions: one recursion, since a parenthesis holds statements.
 #![tactic(auto)]
 
-mod expression;
+mod phrase;
 mod statement;
 
-pub use expression::expr;
-pub use statement::stmts;
+pub use phrase::{expr, stmts};

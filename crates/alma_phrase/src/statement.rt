@@ -11,37 +11,48 @@ ghost use Rattle.alma_grammar.specs.Parts.{stmt_part, stmt_tail, elsif_tail, els
 ghost use Rattle.alma_grammar.specs.Parts.{arm_tail, high_part, label_tail, stmts_parts, label_parts};
 ghost use Rattle.alma_cursor.specs.Forms.{if_parts, while_parts, repeat_parts, for_parts, some_parts, case_parts, either_parts, forall_parts};
 ghost use Rattle.alma_cursor.specs.Forms.{commit_parts, labelled_parts};
+ghost use Rattle.alma_phrase_values.specs.Inside.{ReadsAt, ReadsStmts};
 ghost use Rattle.alma_cursor.specs.Parsing.{position_of, Reads, Fails};
 
-use crate::expression::{expr, simple_stmt};
 use alma_cursor::{Cursor, Fault, StmtForm, followed_by, numbered};
 use alma_phrase_parts::{
     boxed, case_of, commit_of, either_of, elsif_of, empty_arm, for_of, forall_of, if_of, label_of,
     labelled_of, loop_head, present, pushed, repeat_of, some_of, stmts_of, while_of,
 };
+use alma_phrase_simple::simple_stmt;
+use alma_phrase_values::{StmtsRead, expr};
 use alma_tree::{Arm, Elsif, Expr, Kind, Label, Stmt, Stmts};
 use std::alloc::Global;
 
-#[cycle(phrases)]
-pub fn stmts<'t, 's>(
+/// Statements.
+pub(crate) fn statements<'t, 's, S>(
     alloc: Global,
     at: Cursor<'t, 's>,
     depth: u32,
+    inside: &S,
 ) -> Result<(Stmts, Cursor<'t, 's>), Fault<'t, 's>>
+where
+    S: for<'a, 'b> Fn(Global, Cursor<'a, 'b>, u32) -> StmtsRead<'a, 'b>,
+    requires callable { S.IsAlwaysCallable inside.now }
+    requires reads { ReadsStmts (λ a t d r. S.post inside.now a t d r) }
     ensures read { MatchResult result (λ t. Reads (spell_stmts (view_stmts t.0))
         (number_stmts t.0) stmts_parts depth depth (position_of at.entry) (position_of t.1))
         (λ e. Fails e stmts_parts depth (position_of at.entry)) }
 {
-    let (first, at) = boxed(alloc, stmt(alloc, at, depth))?;
-    stmts_of(first, numbered(stmt_list(alloc, at, depth)))
+    let (first, at) = boxed(alloc, stmt(alloc, at, depth, inside))?;
+    stmts_of(first, numbered(stmt_list(alloc, at, depth, inside)))
 }
 
-#[cycle(phrases)]
-fn stmt_list<'t, 's>(
+fn stmt_list<'t, 's, S>(
     alloc: Global,
     mut at: Cursor<'t, 's>,
     depth: u32,
+    inside: &S,
 ) -> Result<(Vec<Stmt>, Cursor<'t, 's>), Fault<'t, 's>>
+where
+    S: for<'a, 'b> Fn(Global, Cursor<'a, 'b>, u32) -> StmtsRead<'a, 'b>,
+    requires callable { S.IsAlwaysCallable inside.now }
+    requires reads { ReadsStmts (λ a t d r. S.post inside.now a t d r) }
     ensures read { MatchResult result
         (λ t. Reads (spell_stmt_tail (stmts_of t.0.items)) (numbers_of_stmts t.0.items)
         (λ o. stmt_tail ∷ o) depth depth (position_of at.entry) (position_of t.1))
@@ -49,59 +60,71 @@ fn stmt_list<'t, 's>(
 {
     let mut more = Vec::new(alloc);
     while let Some(after) = at.skip(Kind::Semicolon) {
-        at = pushed(&mut more, stmt(alloc, after, depth))?;
+        at = pushed(&mut more, stmt(alloc, after, depth, inside))?;
     }
     Ok((more, at))
 }
 
-#[cycle(phrases)]
-fn stmt<'t, 's>(
+fn stmt<'t, 's, S>(
     alloc: Global,
     at: Cursor<'t, 's>,
     depth: u32,
+    inside: &S,
 ) -> Result<(Stmt, Cursor<'t, 's>), Fault<'t, 's>>
+where
+    S: for<'a, 'b> Fn(Global, Cursor<'a, 'b>, u32) -> StmtsRead<'a, 'b>,
+    requires callable { S.IsAlwaysCallable inside.now }
+    requires reads { ReadsStmts (λ a t d r. S.post inside.now a t d r) }
     ensures read { MatchResult result (λ t. Reads (spell_stmt (view_stmt t.0)) (number_stmt t.0)
         (λ o. stmt_part ∷ o) depth depth (position_of at.entry) (position_of t.1))
         (λ e. Fails e (λ o. stmt_part ∷ o) depth (position_of at.entry)) }
 {
     match at.stmt_form() {
-        StmtForm::If => if_stmt(alloc, at, depth),
-        StmtForm::While => while_stmt(alloc, at, depth),
-        StmtForm::Repeat => repeat_stmt(alloc, at, depth),
-        StmtForm::For => for_stmt(alloc, at, depth),
-        StmtForm::Some => some_stmt(alloc, at, depth),
-        StmtForm::Case => case_stmt(alloc, at, depth),
-        StmtForm::Either => either_stmt(alloc, at, depth),
-        StmtForm::Forall => forall_stmt(alloc, at, depth),
-        StmtForm::Commit => commit_stmt(alloc, at, depth),
-        form => simple_stmt(alloc, form, at, depth),
+        StmtForm::If => if_stmt(alloc, at, depth, inside),
+        StmtForm::While => while_stmt(alloc, at, depth, inside),
+        StmtForm::Repeat => repeat_stmt(alloc, at, depth, inside),
+        StmtForm::For => for_stmt(alloc, at, depth, inside),
+        StmtForm::Some => some_stmt(alloc, at, depth, inside),
+        StmtForm::Case => case_stmt(alloc, at, depth, inside),
+        StmtForm::Either => either_stmt(alloc, at, depth, inside),
+        StmtForm::Forall => forall_stmt(alloc, at, depth, inside),
+        StmtForm::Commit => commit_stmt(alloc, at, depth, inside),
+        form => simple_stmt(alloc, form, at, depth, inside),
     }
 }
 
-#[cycle(phrases)]
-fn if_stmt<'t, 's>(
+fn if_stmt<'t, 's, S>(
     alloc: Global,
     at: Cursor<'t, 's>,
     depth: u32,
+    inside: &S,
 ) -> Result<(Stmt, Cursor<'t, 's>), Fault<'t, 's>>
+where
+    S: for<'a, 'b> Fn(Global, Cursor<'a, 'b>, u32) -> StmtsRead<'a, 'b>,
+    requires callable { S.IsAlwaysCallable inside.now }
+    requires reads { ReadsStmts (λ a t d r. S.post inside.now a t d r) }
     ensures read { MatchResult result (λ t. Reads (spell_stmt (view_stmt t.0))
         (number_stmt t.0) if_parts depth depth (position_of at.entry) (position_of t.1))
         (λ e. Fails e if_parts depth (position_of at.entry)) }
 {
     let (at, inner) = at.open(Kind::If, depth)?;
-    let (test, at) = followed_by(expr(alloc, at, inner), Kind::Then)?;
-    let (then, at) = stmts(alloc, at, inner)?;
-    let (elsifs, at) = elsif_list(alloc, at, inner)?;
-    let otherwise = followed_by(otherwise(alloc, at, inner), Kind::End);
+    let (test, at) = followed_by(expr(alloc, at, inner, inside), Kind::Then)?;
+    let (then, at) = nested(alloc, at, inner, inside)?;
+    let (elsifs, at) = elsif_list(alloc, at, inner, inside)?;
+    let otherwise = followed_by(otherwise(alloc, at, inner, inside), Kind::End);
     if_of(test, then, elsifs, numbered(otherwise))
 }
 
-#[cycle(phrases)]
-fn elsif_list<'t, 's>(
+fn elsif_list<'t, 's, S>(
     alloc: Global,
     mut at: Cursor<'t, 's>,
     depth: u32,
+    inside: &S,
 ) -> Result<(Vec<Elsif>, Cursor<'t, 's>), Fault<'t, 's>>
+where
+    S: for<'a, 'b> Fn(Global, Cursor<'a, 'b>, u32) -> StmtsRead<'a, 'b>,
+    requires callable { S.IsAlwaysCallable inside.now }
+    requires reads { ReadsStmts (λ a t d r. S.post inside.now a t d r) }
     ensures read { MatchResult result
         (λ t. Reads (spell_elsif_tail (elsifs_of t.0.items)) (numbers_of_elsifs t.0.items)
         (λ o. elsif_tail ∷ o) depth depth (position_of at.entry) (position_of t.1))
@@ -109,18 +132,22 @@ fn elsif_list<'t, 's>(
 {
     let mut more = Vec::new(alloc);
     while let Some(after) = at.skip(Kind::Elsif) {
-        let (test, after) = followed_by(expr(alloc, after, depth), Kind::Then)?;
-        at = pushed(&mut more, elsif_of(test, stmts(alloc, after, depth)))?;
+        let (test, after) = followed_by(expr(alloc, after, depth, inside), Kind::Then)?;
+        at = pushed(&mut more, elsif_of(test, nested(alloc, after, depth, inside)))?;
     }
     Ok((more, at))
 }
 
-#[cycle(phrases)]
-fn otherwise<'t, 's>(
+fn otherwise<'t, 's, S>(
     alloc: Global,
     at: Cursor<'t, 's>,
     depth: u32,
+    inside: &S,
 ) -> Result<(Option<Stmts>, Cursor<'t, 's>), Fault<'t, 's>>
+where
+    S: for<'a, 'b> Fn(Global, Cursor<'a, 'b>, u32) -> StmtsRead<'a, 'b>,
+    requires callable { S.IsAlwaysCallable inside.now }
+    requires reads { ReadsStmts (λ a t d r. S.post inside.now a t d r) }
     ensures read { MatchResult result (λ t. Reads (spell_else (else_of t.0)) (numbers_of_else t.0)
         (λ o. else_part ∷ o) depth depth (position_of at.entry) (position_of t.1))
         (λ e. Fails e (λ o. else_part ∷ o) depth (position_of at.entry)) }
@@ -128,67 +155,83 @@ fn otherwise<'t, 's>(
     let Some(at) = at.skip(Kind::Else) else {
         return Ok((None, at));
     };
-    present(stmts(alloc, at, depth))
+    present(nested(alloc, at, depth, inside))
 }
 
-#[cycle(phrases)]
-fn while_stmt<'t, 's>(
+fn while_stmt<'t, 's, S>(
     alloc: Global,
     at: Cursor<'t, 's>,
     depth: u32,
+    inside: &S,
 ) -> Result<(Stmt, Cursor<'t, 's>), Fault<'t, 's>>
+where
+    S: for<'a, 'b> Fn(Global, Cursor<'a, 'b>, u32) -> StmtsRead<'a, 'b>,
+    requires callable { S.IsAlwaysCallable inside.now }
+    requires reads { ReadsStmts (λ a t d r. S.post inside.now a t d r) }
     ensures read { MatchResult result (λ t. Reads (spell_stmt (view_stmt t.0))
         (number_stmt t.0) while_parts depth depth (position_of at.entry) (position_of t.1))
         (λ e. Fails e while_parts depth (position_of at.entry)) }
 {
     let (at, inner) = at.open(Kind::While, depth)?;
-    let (test, at) = followed_by(expr(alloc, at, inner), Kind::Do)?;
+    let (test, at) = followed_by(expr(alloc, at, inner, inside), Kind::Do)?;
     while_of(
         test,
-        numbered(followed_by(stmts(alloc, at, inner), Kind::End)),
+        numbered(followed_by(nested(alloc, at, inner, inside), Kind::End)),
     )
 }
 
-#[cycle(phrases)]
-fn repeat_stmt<'t, 's>(
+fn repeat_stmt<'t, 's, S>(
     alloc: Global,
     at: Cursor<'t, 's>,
     depth: u32,
+    inside: &S,
 ) -> Result<(Stmt, Cursor<'t, 's>), Fault<'t, 's>>
+where
+    S: for<'a, 'b> Fn(Global, Cursor<'a, 'b>, u32) -> StmtsRead<'a, 'b>,
+    requires callable { S.IsAlwaysCallable inside.now }
+    requires reads { ReadsStmts (λ a t d r. S.post inside.now a t d r) }
     ensures read { MatchResult result (λ t. Reads (spell_stmt (view_stmt t.0))
         (number_stmt t.0) repeat_parts depth depth (position_of at.entry) (position_of t.1))
         (λ e. Fails e repeat_parts depth (position_of at.entry)) }
 {
     let (at, inner) = at.open(Kind::Repeat, depth)?;
-    let (body, at) = followed_by(stmts(alloc, at, inner), Kind::Until)?;
-    repeat_of(body, numbered(expr(alloc, at, depth)))
+    let (body, at) = followed_by(nested(alloc, at, inner, inside), Kind::Until)?;
+    repeat_of(body, numbered(expr(alloc, at, depth, inside)))
 }
 
-#[cycle(phrases)]
-fn for_stmt<'t, 's>(
+fn for_stmt<'t, 's, S>(
     alloc: Global,
     at: Cursor<'t, 's>,
     depth: u32,
+    inside: &S,
 ) -> Result<(Stmt, Cursor<'t, 's>), Fault<'t, 's>>
+where
+    S: for<'a, 'b> Fn(Global, Cursor<'a, 'b>, u32) -> StmtsRead<'a, 'b>,
+    requires callable { S.IsAlwaysCallable inside.now }
+    requires reads { ReadsStmts (λ a t d r. S.post inside.now a t d r) }
     ensures read { MatchResult result (λ t. Reads (spell_stmt (view_stmt t.0))
         (number_stmt t.0) for_parts depth depth (position_of at.entry) (position_of t.1))
         (λ e. Fails e for_parts depth (position_of at.entry)) }
 {
     let ((variable, inner), at) = loop_head(at, Kind::For, depth)?;
-    let (from, at) = followed_by(expr(alloc, at, inner), Kind::To)?;
-    let (to, at) = expr(alloc, at, inner)?;
-    let (by, at) = followed_by(step(alloc, at, inner), Kind::Do)?;
-    let body = followed_by(stmts(alloc, at, inner), Kind::End);
+    let (from, at) = followed_by(expr(alloc, at, inner, inside), Kind::To)?;
+    let (to, at) = expr(alloc, at, inner, inside)?;
+    let (by, at) = followed_by(step(alloc, at, inner, inside), Kind::Do)?;
+    let body = followed_by(nested(alloc, at, inner, inside), Kind::End);
     for_of(variable, from, to, by, numbered(body))
 }
 
 /// The step of a FOR loop.
-#[cycle(phrases)]
-fn step<'t, 's>(
+fn step<'t, 's, S>(
     alloc: Global,
     at: Cursor<'t, 's>,
     depth: u32,
+    inside: &S,
 ) -> Result<(Option<Expr>, Cursor<'t, 's>), Fault<'t, 's>>
+where
+    S: for<'a, 'b> Fn(Global, Cursor<'a, 'b>, u32) -> StmtsRead<'a, 'b>,
+    requires callable { S.IsAlwaysCallable inside.now }
+    requires reads { ReadsStmts (λ a t d r. S.post inside.now a t d r) }
     ensures read { MatchResult result (λ t. Reads (spell_by (by_of t.0)) (numbers_of_by t.0)
         (λ o. by_part ∷ o) depth depth (position_of at.entry) (position_of t.1))
         (λ e. Fails e (λ o. by_part ∷ o) depth (position_of at.entry)) }
@@ -196,81 +239,101 @@ fn step<'t, 's>(
     let Some(at) = at.skip(Kind::By) else {
         return Ok((None, at));
     };
-    present(expr(alloc, at, depth))
+    present(expr(alloc, at, depth, inside))
 }
 
-#[cycle(phrases)]
-fn some_stmt<'t, 's>(
+fn some_stmt<'t, 's, S>(
     alloc: Global,
     at: Cursor<'t, 's>,
     depth: u32,
+    inside: &S,
 ) -> Result<(Stmt, Cursor<'t, 's>), Fault<'t, 's>>
+where
+    S: for<'a, 'b> Fn(Global, Cursor<'a, 'b>, u32) -> StmtsRead<'a, 'b>,
+    requires callable { S.IsAlwaysCallable inside.now }
+    requires reads { ReadsStmts (λ a t d r. S.post inside.now a t d r) }
     ensures read { MatchResult result (λ t. Reads (spell_stmt (view_stmt t.0))
         (number_stmt t.0) some_parts depth depth (position_of at.entry) (position_of t.1))
         (λ e. Fails e some_parts depth (position_of at.entry)) }
 {
     let ((variable, inner), at) = loop_head(at, Kind::Some, depth)?;
-    let (from, at) = followed_by(expr(alloc, at, inner), Kind::To)?;
-    let (to, at) = followed_by(expr(alloc, at, inner), Kind::Do)?;
-    let body = followed_by(stmts(alloc, at, inner), Kind::End);
+    let (from, at) = followed_by(expr(alloc, at, inner, inside), Kind::To)?;
+    let (to, at) = followed_by(expr(alloc, at, inner, inside), Kind::Do)?;
+    let body = followed_by(nested(alloc, at, inner, inside), Kind::End);
     some_of(variable, from, to, numbered(body))
 }
 
-#[cycle(phrases)]
-fn case_stmt<'t, 's>(
+fn case_stmt<'t, 's, S>(
     alloc: Global,
     at: Cursor<'t, 's>,
     depth: u32,
+    inside: &S,
 ) -> Result<(Stmt, Cursor<'t, 's>), Fault<'t, 's>>
+where
+    S: for<'a, 'b> Fn(Global, Cursor<'a, 'b>, u32) -> StmtsRead<'a, 'b>,
+    requires callable { S.IsAlwaysCallable inside.now }
+    requires reads { ReadsStmts (λ a t d r. S.post inside.now a t d r) }
     ensures read { MatchResult result (λ t. Reads (spell_stmt (view_stmt t.0))
         (number_stmt t.0) case_parts depth depth (position_of at.entry) (position_of t.1))
         (λ e. Fails e case_parts depth (position_of at.entry)) }
 {
     let (at, inner) = at.open(Kind::Case, depth)?;
-    let (value, at) = followed_by(expr(alloc, at, inner), Kind::Of)?;
-    let (first, at) = boxed(alloc, arm(alloc, at, inner))?;
-    let (more, at) = arm_list(alloc, at, inner)?;
-    let otherwise = followed_by(otherwise(alloc, at, inner), Kind::End);
+    let (value, at) = followed_by(expr(alloc, at, inner, inside), Kind::Of)?;
+    let (first, at) = boxed(alloc, arm(alloc, at, inner, inside))?;
+    let (more, at) = arm_list(alloc, at, inner, inside)?;
+    let otherwise = followed_by(otherwise(alloc, at, inner, inside), Kind::End);
     case_of(value, first, more, numbered(otherwise))
 }
 
-#[cycle(phrases)]
-fn arm<'t, 's>(
+fn arm<'t, 's, S>(
     alloc: Global,
     at: Cursor<'t, 's>,
     depth: u32,
+    inside: &S,
 ) -> Result<(Arm, Cursor<'t, 's>), Fault<'t, 's>>
+where
+    S: for<'a, 'b> Fn(Global, Cursor<'a, 'b>, u32) -> StmtsRead<'a, 'b>,
+    requires callable { S.IsAlwaysCallable inside.now }
+    requires reads { ReadsStmts (λ a t d r. S.post inside.now a t d r) }
     ensures read { MatchResult result (λ t. Reads (spell_arm (view_arm t.0)) (number_arm t.0)
         (λ o. arm_part ∷ o) depth depth (position_of at.entry) (position_of t.1))
         (λ e. Fails e (λ o. arm_part ∷ o) depth (position_of at.entry)) }
 {
     if at.begins_expr() {
-        return labelled_arm(alloc, at, depth);
+        return labelled_arm(alloc, at, depth, inside);
     }
     empty_arm(at)
 }
 
-#[cycle(phrases)]
-fn labelled_arm<'t, 's>(
+fn labelled_arm<'t, 's, S>(
     alloc: Global,
     at: Cursor<'t, 's>,
     depth: u32,
+    inside: &S,
 ) -> Result<(Arm, Cursor<'t, 's>), Fault<'t, 's>>
+where
+    S: for<'a, 'b> Fn(Global, Cursor<'a, 'b>, u32) -> StmtsRead<'a, 'b>,
+    requires callable { S.IsAlwaysCallable inside.now }
+    requires reads { ReadsStmts (λ a t d r. S.post inside.now a t d r) }
     ensures read { MatchResult result (λ t. Reads (spell_arm (view_arm t.0))
         (number_arm t.0) labelled_parts depth depth (position_of at.entry) (position_of t.1))
         (λ e. Fails e labelled_parts depth (position_of at.entry)) }
 {
-    let (first, at) = label(alloc, at, depth)?;
-    let (more, at) = followed_by(label_list(alloc, at, depth), Kind::Colon)?;
-    labelled_of(first, more, numbered(stmts(alloc, at, depth)))
+    let (first, at) = label(alloc, at, depth, inside)?;
+    let (more, at) = followed_by(label_list(alloc, at, depth, inside), Kind::Colon)?;
+    labelled_of(first, more, numbered(nested(alloc, at, depth, inside)))
 }
 
-#[cycle(phrases)]
-fn arm_list<'t, 's>(
+fn arm_list<'t, 's, S>(
     alloc: Global,
     mut at: Cursor<'t, 's>,
     depth: u32,
+    inside: &S,
 ) -> Result<(Vec<Arm>, Cursor<'t, 's>), Fault<'t, 's>>
+where
+    S: for<'a, 'b> Fn(Global, Cursor<'a, 'b>, u32) -> StmtsRead<'a, 'b>,
+    requires callable { S.IsAlwaysCallable inside.now }
+    requires reads { ReadsStmts (λ a t d r. S.post inside.now a t d r) }
     ensures read { MatchResult result (λ t. Reads (spell_arm_tail (arms_of t.0.items))
         (numbers_of_arms t.0.items)
         (λ o. arm_tail ∷ o) depth depth (position_of at.entry) (position_of t.1))
@@ -278,31 +341,39 @@ fn arm_list<'t, 's>(
 {
     let mut more = Vec::new(alloc);
     while let Some(after) = at.skip(Kind::Bar) {
-        at = pushed(&mut more, arm(alloc, after, depth))?;
+        at = pushed(&mut more, arm(alloc, after, depth, inside))?;
     }
     Ok((more, at))
 }
 
-#[cycle(phrases)]
-fn label<'t, 's>(
+fn label<'t, 's, S>(
     alloc: Global,
     at: Cursor<'t, 's>,
     depth: u32,
+    inside: &S,
 ) -> Result<(Label, Cursor<'t, 's>), Fault<'t, 's>>
+where
+    S: for<'a, 'b> Fn(Global, Cursor<'a, 'b>, u32) -> StmtsRead<'a, 'b>,
+    requires callable { S.IsAlwaysCallable inside.now }
+    requires reads { ReadsStmts (λ a t d r. S.post inside.now a t d r) }
     ensures read { MatchResult result (λ t. Reads (spell_label (view_label t.0))
         (number_label t.0) label_parts depth depth (position_of at.entry) (position_of t.1))
         (λ e. Fails e label_parts depth (position_of at.entry)) }
 {
-    let (low, at) = expr(alloc, at, depth)?;
-    label_of(low, numbered(high(alloc, at, depth)))
+    let (low, at) = expr(alloc, at, depth, inside)?;
+    label_of(low, numbered(high(alloc, at, depth, inside)))
 }
 
-#[cycle(phrases)]
-fn high<'t, 's>(
+fn high<'t, 's, S>(
     alloc: Global,
     at: Cursor<'t, 's>,
     depth: u32,
+    inside: &S,
 ) -> Result<(Option<Expr>, Cursor<'t, 's>), Fault<'t, 's>>
+where
+    S: for<'a, 'b> Fn(Global, Cursor<'a, 'b>, u32) -> StmtsRead<'a, 'b>,
+    requires callable { S.IsAlwaysCallable inside.now }
+    requires reads { ReadsStmts (λ a t d r. S.post inside.now a t d r) }
     ensures read { MatchResult result (λ t. Reads (spell_high (high_of t.0)) (numbers_of_high t.0)
         (λ o. high_part ∷ o) depth depth (position_of at.entry) (position_of t.1))
         (λ e. Fails e (λ o. high_part ∷ o) depth (position_of at.entry)) }
@@ -310,15 +381,19 @@ fn high<'t, 's>(
     let Some(at) = at.skip(Kind::DotDot) else {
         return Ok((None, at));
     };
-    present(expr(alloc, at, depth))
+    present(expr(alloc, at, depth, inside))
 }
 
-#[cycle(phrases)]
-fn label_list<'t, 's>(
+fn label_list<'t, 's, S>(
     alloc: Global,
     mut at: Cursor<'t, 's>,
     depth: u32,
+    inside: &S,
 ) -> Result<(Vec<Label>, Cursor<'t, 's>), Fault<'t, 's>>
+where
+    S: for<'a, 'b> Fn(Global, Cursor<'a, 'b>, u32) -> StmtsRead<'a, 'b>,
+    requires callable { S.IsAlwaysCallable inside.now }
+    requires reads { ReadsStmts (λ a t d r. S.post inside.now a t d r) }
     ensures read { MatchResult result
         (λ t. Reads (spell_label_tail (labels_of t.0.items)) (numbers_of_labels t.0.items)
         (λ o. label_tail ∷ o) depth depth (position_of at.entry) (position_of t.1))
@@ -326,33 +401,41 @@ fn label_list<'t, 's>(
 {
     let mut more = Vec::new(alloc);
     while let Some(after) = at.skip(Kind::Comma) {
-        at = pushed(&mut more, label(alloc, after, depth))?;
+        at = pushed(&mut more, label(alloc, after, depth, inside))?;
     }
     Ok((more, at))
 }
 
-#[cycle(phrases)]
-fn either_stmt<'t, 's>(
+fn either_stmt<'t, 's, S>(
     alloc: Global,
     at: Cursor<'t, 's>,
     depth: u32,
+    inside: &S,
 ) -> Result<(Stmt, Cursor<'t, 's>), Fault<'t, 's>>
+where
+    S: for<'a, 'b> Fn(Global, Cursor<'a, 'b>, u32) -> StmtsRead<'a, 'b>,
+    requires callable { S.IsAlwaysCallable inside.now }
+    requires reads { ReadsStmts (λ a t d r. S.post inside.now a t d r) }
     ensures read { MatchResult result (λ t. Reads (spell_stmt (view_stmt t.0))
         (number_stmt t.0) either_parts depth depth (position_of at.entry) (position_of t.1))
         (λ e. Fails e either_parts depth (position_of at.entry)) }
 {
     let (at, inner) = at.open(Kind::Either, depth)?;
-    let (first, at) = stmts(alloc, at, inner)?;
-    let more = followed_by(orelse_list(alloc, at, inner), Kind::End);
+    let (first, at) = nested(alloc, at, inner, inside)?;
+    let more = followed_by(orelse_list(alloc, at, inner, inside), Kind::End);
     either_of(first, numbered(more))
 }
 
-#[cycle(phrases)]
-fn orelse_list<'t, 's>(
+fn orelse_list<'t, 's, S>(
     alloc: Global,
     mut at: Cursor<'t, 's>,
     depth: u32,
+    inside: &S,
 ) -> Result<(Vec<Stmts>, Cursor<'t, 's>), Fault<'t, 's>>
+where
+    S: for<'a, 'b> Fn(Global, Cursor<'a, 'b>, u32) -> StmtsRead<'a, 'b>,
+    requires callable { S.IsAlwaysCallable inside.now }
+    requires reads { ReadsStmts (λ a t d r. S.post inside.now a t d r) }
     ensures read { MatchResult result
         (λ t. Reads (spell_orelse_tail (orelses_of t.0.items)) (numbers_of_orelses t.0.items)
         (λ o. orelse_tail ∷ o) depth depth (position_of at.entry) (position_of t.1))
@@ -360,37 +443,61 @@ fn orelse_list<'t, 's>(
 {
     let mut more = Vec::new(alloc);
     while let Some(after) = at.skip(Kind::Orelse) {
-        at = pushed(&mut more, stmts(alloc, after, depth))?;
+        at = pushed(&mut more, nested(alloc, after, depth, inside))?;
     }
     Ok((more, at))
 }
 
-#[cycle(phrases)]
-fn forall_stmt<'t, 's>(
+fn forall_stmt<'t, 's, S>(
     alloc: Global,
     at: Cursor<'t, 's>,
     depth: u32,
+    inside: &S,
 ) -> Result<(Stmt, Cursor<'t, 's>), Fault<'t, 's>>
+where
+    S: for<'a, 'b> Fn(Global, Cursor<'a, 'b>, u32) -> StmtsRead<'a, 'b>,
+    requires callable { S.IsAlwaysCallable inside.now }
+    requires reads { ReadsStmts (λ a t d r. S.post inside.now a t d r) }
     ensures read { MatchResult result (λ t. Reads (spell_stmt (view_stmt t.0))
         (number_stmt t.0) forall_parts depth depth (position_of at.entry) (position_of t.1))
         (λ e. Fails e forall_parts depth (position_of at.entry)) }
 {
     let (at, inner) = at.open(Kind::Forall, depth)?;
-    let (choice, at) = followed_by(stmts(alloc, at, inner), Kind::Do)?;
-    let body = followed_by(stmts(alloc, at, inner), Kind::End);
+    let (choice, at) = followed_by(nested(alloc, at, inner, inside), Kind::Do)?;
+    let body = followed_by(nested(alloc, at, inner, inside), Kind::End);
     forall_of(choice, numbered(body))
 }
 
-#[cycle(phrases)]
-fn commit_stmt<'t, 's>(
+fn commit_stmt<'t, 's, S>(
     alloc: Global,
     at: Cursor<'t, 's>,
     depth: u32,
+    inside: &S,
 ) -> Result<(Stmt, Cursor<'t, 's>), Fault<'t, 's>>
+where
+    S: for<'a, 'b> Fn(Global, Cursor<'a, 'b>, u32) -> StmtsRead<'a, 'b>,
+    requires callable { S.IsAlwaysCallable inside.now }
+    requires reads { ReadsStmts (λ a t d r. S.post inside.now a t d r) }
     ensures read { MatchResult result (λ t. Reads (spell_stmt (view_stmt t.0))
         (number_stmt t.0) commit_parts depth depth (position_of at.entry) (position_of t.1))
         (λ e. Fails e commit_parts depth (position_of at.entry)) }
 {
     let (at, inner) = at.open(Kind::Commit, depth)?;
-    commit_of(numbered(followed_by(stmts(alloc, at, inner), Kind::End)))
+    commit_of(numbered(followed_by(nested(alloc, at, inner, inside), Kind::End)))
+}
+
+/// The statements that stand in a statement.
+fn nested<'t, 's, S>(
+    alloc: Global,
+    at: Cursor<'t, 's>,
+    depth: u32,
+    inside: &S,
+) -> StmtsRead<'t, 's>
+where
+    S: for<'a, 'b> Fn(Global, Cursor<'a, 'b>, u32) -> StmtsRead<'a, 'b>,
+    requires callable { S.IsAlwaysCallable inside.now }
+    requires reads { ReadsStmts (λ a t d r. S.post inside.now a t d r) }
+    ensures read { ReadsAt at.entry depth result }
+{
+    inside(alloc, at, depth)
 }

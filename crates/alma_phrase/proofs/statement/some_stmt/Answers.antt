@@ -1,0 +1,53 @@
+use Rattle.std.proofs.Common.{◌∷◌, Ok, Err, Some, refl, ap, arith}
+use Rattle.alma_tree.specs.declared.kind.Kind.TheVariants as kinds
+use Rattle.alma_tree.specs.Spelling.{spell_stmt, spell_else, spell_by}
+use Rattle.alma_tree.specs.Spelling.{spell_arm, spell_label, spell_high}
+use Rattle.alma_tree.specs.View.{view_stmt, else_of, by_of, view_arm, high_of, view_label}
+use Rattle.alma_tree.specs.Numbers.{token, node, ◌>>◌, number_stmts, number_stmt, number_arm, number_expr}
+use Rattle.alma_tree.specs.Numbers.{numbers_of_by, numbers_of_else}
+use Rattle.alma_tree.specs.Numbers.{numbers_of_high}
+use Rattle.alma_tree.specs.Numbers.{number_label}
+use Rattle.alma_tree.proofs.Rows as rows
+use Rattle.alma_tree.proofs.NumberRows as numbers
+use Rattle.alma_grammar.specs.Parts.{one}
+use Rattle.alma_grammar.specs.Parts.{stmt_part, arm_part, expr_parts}
+use Rattle.alma_grammar.specs.Parts.{stmts_parts, label_parts}
+use Rattle.alma_cursor.specs.Forms as forms
+use Rattle.alma_cursor.proofs.Joins.{followed, ended}
+use Rattle.alma_cursor.proofs.Loops as loops
+use Rattle.alma_cursor.proofs.Steps.{passed, opened, skipped, after, first, instead}
+use Rattle.alma_cursor.proofs.Steps.{instead_any}
+use Rattle.alma_phrase_parts.proofs.Stopped.{stopped}
+use Rattle.alma_phrase_parts.proofs.Made.{becoming_gives}
+use Rattle.alma_phrase_steps.proofs.Chain.{plain, matching, ended_behind, in_box, fewer}
+use Rattle.alma_phrase_steps.proofs.Heads as heads
+use Rattle.alma_phrase_steps.proofs.Lists as lists
+use Rattle.alma_phrase_steps.proofs.Values.{a_stmt, an_arm, an_expr, some_stmts}
+use Rattle.alma_phrase_steps.proofs.Values.{more_stmts, more_labels, more_orelses}
+use Rattle.alma_phrase_steps.proofs.Values.{count_stmts, count_labels, count_orelses}
+use Rattle.alma_phrase_parts.proofs.Fronts.{part, part_and, and_then, whole, both, loop_front, loop_fewer, one_more, no_more}
+use Rattle.alma_phrase.proofs.statement.some_stmt.Goals as goal
+
+pub returns-in_err-variable : goal.returns-in_err-variable
+returns-in_err-variable g c = record { read = stopped _ _ _ _ c.from_residual.ensures.1 (first c.in_err-variable.ensures.begins) }
+
+pub returns-in_err-from : goal.returns-in_err-from
+returns-in_err-from g c = record { read = stopped _ _ _ _ c.from_residual-in_err-from.ensures.1 ((loop_front refl c.in_ok-variable.ensures.begins).fails _ _ (first (followed an_expr number_expr _ _ _ _ _ (plain kinds.To _ refl refl) c.expr.result (Err _) c.in_err-from.ensures.followed c.expr.ensures.read))) }
+
+pub returns-in_err-to : goal.returns-in_err-to
+returns-in_err-to g c = record { read = stopped _ _ _ _ c.from_residual-in_err-to.ensures.1 ((and_then (loop_front refl c.in_ok-variable.ensures.begins) (part_and an_expr number_expr kinds.To _ _ _ _ _ (plain kinds.To _ refl refl) c.expr.result _ c.in_ok-from.ensures.followed c.expr.ensures.read)).fails _ _ (first (followed an_expr number_expr _ _ _ _ _ (plain kinds.Do _ refl refl) c.expr-2.result (Err _) c.in_err-to.ensures.followed c.expr-2.ensures.read))) }
+
+pub returns : goal.returns
+returns g c = record { read = whole (λ v ks. some_stmts v.0 (kinds.End ∷ ks)) (λ v. number_stmts v.0 >> token >> node v.1) a_stmt number_stmt (and_then (loop_front refl c.in_ok-variable.ensures.begins) (and_then (part_and an_expr number_expr kinds.To _ _ _ _ _ (plain kinds.To _ refl refl) c.expr.result _ c.in_ok-from.ensures.followed c.expr.ensures.read) (part_and an_expr number_expr kinds.Do _ _ _ _ _ (plain kinds.Do _ refl refl) c.expr-2.result _ c.in_ok-to.ensures.followed c.expr-2.ensures.read))) _ _ _ (λ v. ap spell_stmt (rows.some_laid v.1 c.in_ok-variable.variable c.in_ok-from.from c.in_ok-to.to v.0)) (λ v. numbers.some_laid v.1 c.in_ok-variable.variable c.in_ok-from.from c.in_ok-to.to v.0) c.numbered.result _ c.some_of.ensures.made (ended_behind some_stmts number_stmts _ _ _ _ _ _ (matching kinds.End refl refl c.in_ok-variable.ensures.begins.opens_first) c.nested.result c.followed_by-body.result c.followed_by-body.ensures.followed c.nested.ensures.read c.numbered.result c.numbered.ensures.numbered) }
+
+pub loop_head-requires : goal.loop_head-requires
+loop_head-requires g c = record { opening = refl }
+
+pub expr-requires : goal.expr-requires
+expr-requires g c = record { callable = c.requires.callable; reads = c.requires.reads }
+
+pub expr-requires-2 : goal.expr-requires-2
+expr-requires-2 g c = record { callable = c.requires.callable; reads = c.requires.reads }
+
+pub nested-requires : goal.nested-requires
+nested-requires g c = record { callable = c.requires.callable; reads = c.requires.reads }
