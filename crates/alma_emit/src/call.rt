@@ -1,21 +1,21 @@
 // The code of calls and of their arguments.
 ghost use Rattle.std.specs.Prelude.{◌≡◌, IfOk, OnOk};
-ghost use Rattle.alma_ir.specs.View.{arg_of, args_list, desig_of, expr_of};
+ghost use Rattle.alma_ir.specs.View.{arg_of, args_list};
 ghost use Rattle.alma_ir.specs.Tree as tree;
 ghost use Rattle.alma_emit_work.specs.Front.{around, front};
-ghost use Rattle.alma_emit_work.specs.Puts.{PutsExpr, PutsArgs, PutsArg, PutsHanded, PutsTest, first_slot};
+ghost use Rattle.alma_emit_work.specs.Puts.{PutsExpr, PutsArgs, PutsArg, PutsHanded, first_slot};
 
 use crate::designator::emit_desig;
 use crate::expression::emit_value;
-use alma_base::{NoMemory, Range};
-use alma_code::Instr;
+use crate::leaf::{number_of, place_of};
+use alma_base::NoMemory;
 use alma_emit_forms::slot_past;
-use alma_emit_parts::{Scene, Work, begin_call, put_function, put_number, slot_of, take_result};
-use alma_ir::{Arg, Call, Desig, Expr};
+use alma_emit_parts::{Scene, Work, begin_call, put_function, slot_of, take_result};
+use alma_ir::{Arg, Call};
 
 // The link and the arguments of a call; the slot of the first of them, or 0 where nothing is handed over.
 #[cycle(emit)]
-fn emit_call(
+pub(crate) fn emit_call(
     work: &mut Work,
     scene: &Scene<'_>,
     line: u32,
@@ -64,74 +64,27 @@ fn emit_arg(
         (front work.old) (front work.new) (arg_of arg.now)) }
 {
     match arg {
-        Arg::Value(value, range) => emit_number(work, scene, line, to, value, *range),
-        Arg::MixValue(value, range) => emit_number(work, scene, line, to, value, *range),
-        Arg::Cells(desig) => emit_place(work, scene, line, to, desig),
-        Arg::Place(desig) => emit_place(work, scene, line, to, desig),
-        Arg::MixPlace(desig) => emit_place(work, scene, line, to, desig),
+        Arg::Value(value, range) => {
+            let from = emit_value(work, scene, line, value);
+            number_of(work, scene, line, *range, to, from)
+        }
+        Arg::MixValue(value, range) => {
+            let from = emit_value(work, scene, line, value);
+            number_of(work, scene, line, *range, to, from)
+        }
+        Arg::Cells(desig) => {
+            let from = emit_desig(work, scene, line, desig);
+            place_of(work, line, to, from)
+        }
+        Arg::Place(desig) => {
+            let from = emit_desig(work, scene, line, desig);
+            place_of(work, line, to, from)
+        }
+        Arg::MixPlace(desig) => {
+            let from = emit_desig(work, scene, line, desig);
+            place_of(work, line, to, from)
+        }
     }
-}
-
-// A number, into a slot.
-#[cycle(emit)]
-fn emit_number(
-    work: &mut Work,
-    scene: &Scene<'_>,
-    line: u32,
-    to: u32,
-    value: &Expr,
-    range: Range,
-) -> Result<(), NoMemory>
-    ensures puts { OnOk result (PutsArg (around scene.now) line to
-        (front work.old) (front work.new) (tree.ByValue (expr_of value.now) range)) }
-    ensures mix { OnOk result (PutsArg (around scene.now) line to
-        (front work.old) (front work.new) (tree.MixValue (expr_of value.now) range)) }
-{
-    let from = emit_value(work, scene, line, value)?;
-    put_number(work, scene, line, range, to, from)
-}
-
-// A place, into a slot.
-#[cycle(emit)]
-fn emit_place(
-    work: &mut Work,
-    scene: &Scene<'_>,
-    line: u32,
-    to: u32,
-    desig: &Desig,
-) -> Result<(), NoMemory>
-    ensures cells { OnOk result (PutsArg (around scene.now) line to
-        (front work.old) (front work.new) (tree.ByCells (desig_of desig.now))) }
-    ensures puts { OnOk result (PutsArg (around scene.now) line to
-        (front work.old) (front work.new) (tree.ByPlace (desig_of desig.now))) }
-    ensures mix { OnOk result (PutsArg (around scene.now) line to
-        (front work.old) (front work.new) (tree.MixPlace (desig_of desig.now))) }
-{
-    let from = emit_desig(work, scene, line, desig)?;
-    work.add(line, Instr::Same { to, from })
-}
-
-// A call of a procedure.
-#[cycle(emit)]
-pub(crate) fn emit_call_test(
-    work: &mut Work,
-    scene: &Scene<'_>,
-    line: u32,
-    call: &Call,
-) -> Result<(), NoMemory>
-    ensures puts { OnOk result (PutsTest (around scene.now) line
-        (front work.old) (front work.new)
-        (tree.CallTest call.now.routine (args_list call.now.args.items) call.now.up)) }
-{
-    let first = emit_call(work, scene, line, call.routine, call.up, &call.args)?;
-    work.add(
-        line,
-        Instr::Call {
-            routine: call.routine,
-            first,
-            to: 0,
-        },
-    )
 }
 
 // A call of a function, and the slot of its result.

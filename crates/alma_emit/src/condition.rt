@@ -1,5 +1,5 @@
 // The code of conditions.
-ghost use Rattle.std.specs.Prelude.{◌≡◌, true, false, IfOk};
+ghost use Rattle.std.specs.Prelude.{◌≡◌, false, IfOk};
 ghost use Rattle.alma_ir.specs.View.{test_of};
 ghost use Rattle.alma_choice.specs.Emitted.{aimed};
 ghost use Rattle.alma_templates.specs.Slots.{is_simple};
@@ -7,6 +7,7 @@ ghost use Rattle.alma_emit_work.specs.Front.{around, front};
 ghost use Rattle.alma_emit_work.specs.Puts.{PutsGuard};
 
 use crate::expression::emit_value;
+use crate::leaf::jump_of;
 use crate::test::emit_test;
 use alma_base::NoMemory;
 use alma_code::Instr;
@@ -14,7 +15,8 @@ use alma_emit_forms::is_plain;
 use alma_emit_parts::{Scene, Work, begin_first, slot_of};
 use alma_ir::Test;
 
-// A condition; the address of the jump where it has no alternative, which is still to be aimed.
+// A condition; the address of the jump where it has no alternative, which is still to be aimed. One that cannot leave an
+// alternative behind is tested by a jump.
 #[cycle(emit)]
 pub(crate) fn emit_guard(
     work: &mut Work,
@@ -25,24 +27,13 @@ pub(crate) fn emit_guard(
     ensures guard { IfOk result (λ jump. PutsGuard (around scene.now) line (front work.old)
         (front work.new) (λ to xs. aimed xs jump to) (test_of test.now)) }
 {
-    if is_plain(test) {
-        emit_simple(work, scene, line, test)
-    } else {
-        emit_barrier(work, scene, line, test)
+    if !is_plain(test) {
+        return emit_barrier(work, scene, line, test);
     }
-}
-
-// A condition that is tested by a jump.
-#[cycle(emit)]
-fn emit_simple(work: &mut Work, scene: &Scene<'_>, line: u32, test: &Test) -> Result<u32, NoMemory>
-    ensures guard { is_simple (test_of test.now) ≡ true → IfOk result (λ jump. PutsGuard
-        (around scene.now) line (front work.old) (front work.new) (λ to xs. aimed xs jump to)
-        (test_of test.now)) }
-{
     match test {
         Test::Value(value) => {
-            let value = emit_value(work, scene, line, value)?;
-            work.put(line, Instr::JumpZero { value, to: 0 })
+            let number = emit_value(work, scene, line, value);
+            jump_of(work, line, number)
         }
         _ => Err(NoMemory),
     }

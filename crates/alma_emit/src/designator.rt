@@ -1,17 +1,17 @@
 // The code of designators.
 ghost use Rattle.std.specs.Prelude.{◌≡◌, IfOk, OnOk};
-ghost use Rattle.alma_ir.specs.View.{desig_of, expr_of, sel_of, sels_list};
+ghost use Rattle.alma_ir.specs.View.{desig_of, sel_of, sels_list};
 ghost use Rattle.alma_ir.specs.Lines.{desig_with, sels_with, sel_with};
-ghost use Rattle.alma_ir.specs.Tree as tree;
 ghost use Rattle.alma_templates.specs.Templates.{place_at, part_at, part_slot};
 ghost use Rattle.alma_emit_work.specs.Front.{around, front};
 ghost use Rattle.alma_emit_work.specs.Puts.{PutsDesig, PutsTarget, PutsSels, PutsSel, stand_of};
 
 use crate::expression::emit_value;
-use alma_base::{NoMemory, Range};
+use crate::leaf::element_of;
+use alma_base::NoMemory;
 use alma_emit_forms::{emit_field, stand_at};
-use alma_emit_parts::{Scene, Stand, Work, begin_place, own_stand, put_index};
-use alma_ir::{Desig, Expr, Sel};
+use alma_emit_parts::{Scene, Stand, Work, begin_place, own_stand};
+use alma_ir::{Desig, Sel};
 
 // The place of a designator.
 #[cycle(emit)]
@@ -90,28 +90,8 @@ fn emit_sel(
     match sel {
         Sel::Field(offset, cells) => emit_field(work, scene, line, from, *offset, *cells),
         Sel::Index(index, range, cells) => {
-            emit_index(work, scene, line, from, index, *range, *cells)
+            let number = emit_value(work, scene, line, index);
+            element_of(work, scene, line, from, number, *range, *cells)
         }
     }
-}
-
-// An element of an array.
-#[cycle(emit)]
-fn emit_index(
-    work: &mut Work,
-    scene: &Scene<'_>,
-    line: u32,
-    from: u32,
-    index: &Expr,
-    range: Range,
-    cells: u32,
-) -> Result<u32, NoMemory>
-    ensures part { IfOk result (λ part. part ≡ part_slot (around scene.now).program
-        (around scene.now).tables (around scene.now).routine (front work.old).next (sel_with
-        (tree.Index (expr_of index.now) range cells) (front work.old).lines)) }
-    ensures puts { OnOk result (PutsSel (around scene.now) line from
-        (front work.old) (front work.new) (tree.Index (expr_of index.now) range cells)) }
-{
-    let index = emit_value(work, scene, line, index)?;
-    put_index(work, scene, line, from, index, range, cells)
 }

@@ -9,12 +9,11 @@ ghost use Rattle.alma_emit_work.specs.Puts.{PutsExpr, PutsValue, PutsLinks, valu
 use crate::call::emit_call_value;
 use crate::condition::emit_guard;
 use crate::designator::{emit_desig, emit_target};
+use crate::leaf::chr_of;
 use alma_base::NoMemory;
 use alma_code::{Instr, SlotKind};
 use alma_emit_forms::emit_const;
-use alma_emit_parts::{
-    Scene, Work, end_truth, op_instr, own_value, put_chr, put_cmp, put_neg, slot_of,
-};
+use alma_emit_parts::{Scene, Work, end_truth, op_instr, own_value, put_cmp, put_neg, slot_of};
 use alma_ir::{Cmp, Desig, Expr, Link, Test};
 
 // An expression, and the slot of its number.
@@ -38,7 +37,10 @@ pub(crate) fn emit_expr(
         Expr::Compare(cmp, left, right) => emit_compare(work, scene, line, *cmp, left, right),
         Expr::Truth(test) => emit_truth(work, scene, line, test),
         Expr::Known(desig) => emit_known(work, scene, line, desig),
-        Expr::Chr(inner) => emit_chr(work, scene, line, inner),
+        Expr::Chr(inner) => {
+            let number = emit_expr(work, scene, line, inner);
+            chr_of(work, scene, line, number)
+        }
         Expr::Call(call) => emit_call_value(work, scene, line, call),
     }
 }
@@ -136,17 +138,6 @@ fn emit_known(work: &mut Work, scene: &Scene<'_>, line: u32, desig: &Desig) -> R
     let to = work.slot(SlotKind::Number)?;
     let of = emit_desig(work, scene, line, desig)?;
     slot_of(work.add(line, Instr::Known { to, of }), to)
-}
-
-// CHR.
-#[cycle(emit)]
-fn emit_chr(work: &mut Work, scene: &Scene<'_>, line: u32, inner: &Expr) -> Result<u32, NoMemory>
-    ensures slot { IfOk result (λ slot. slot ≡ (front work.old).next) }
-    ensures puts { OnOk result (PutsExpr (around scene.now) line
-        (front work.old) (front work.new) (tree.Chr (expr_of inner.now))) }
-{
-    let value = emit_expr(work, scene, line, inner)?;
-    put_chr(work, scene, line, value)
 }
 
 // A value that is used at once: a variable of the routine stands for itself.

@@ -8,6 +8,7 @@ mod condition;
 mod designator;
 mod expression;
 mod guarded;
+mod leaf;
 mod loops;
 mod statement;
 mod test;

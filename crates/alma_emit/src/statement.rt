@@ -10,13 +10,14 @@ use crate::choice::{emit_commit, emit_either, emit_forall};
 use crate::designator::{emit_desig, emit_target};
 use crate::expression::emit_value;
 use crate::guarded::{emit_if, emit_repeat, emit_while};
+use crate::leaf::{read_of, return_of, write_of};
 use crate::loops::{emit_for, emit_some};
 use crate::test::emit_test;
 use alma_base::{NoMemory, Range};
 use alma_code::Instr;
 use alma_emit_forms::{emit_line, emit_text};
-use alma_emit_parts::{Scene, Work, put_read, put_return, put_set, write_instr};
-use alma_ir::{Desig, Expr, ReadAs, Stmt, WriteAs};
+use alma_emit_parts::{Scene, Work, put_set};
+use alma_ir::{Desig, Expr, Stmt};
 
 // Statements in order, each at its line.
 #[cycle(emit)]
@@ -53,8 +54,14 @@ fn emit_stmt(work: &mut Work, scene: &Scene<'_>, line: u32, stmt: &Stmt) -> Resu
         Stmt::Forall(first, second) => emit_forall(work, scene, line, first, second),
         Stmt::Commit(body) => emit_commit(work, scene, line, body),
         Stmt::Return(value) => emit_return(work, scene, line, value),
-        Stmt::Read(desig, how, range) => emit_read(work, scene, line, desig, *how, *range),
-        Stmt::WriteExpr(value, how) => emit_write(work, scene, line, value, *how),
+        Stmt::Read(desig, how, range) => {
+            let place = emit_desig(work, scene, line, desig);
+            read_of(work, scene, line, *how, place, *range)
+        }
+        Stmt::WriteExpr(value, how) => {
+            let number = emit_value(work, scene, line, value);
+            write_of(work, line, *how, number)
+        }
         Stmt::WriteText(text) => emit_text(work, scene, line, text),
         Stmt::WriteLine => emit_line(work, scene, line),
     }
@@ -109,55 +116,10 @@ fn emit_return(
         (front work.old) (front work.new) (tree.Return (return_option value.now))) }
 {
     match value {
-        Some(value) => emit_return_value(work, scene, line, value),
+        Some(value) => {
+            let number = emit_value(work, scene, line, value);
+            return_of(work, scene, line, number)
+        }
         None => work.add(line, Instr::Return),
     }
-}
-
-// RETURN of a function.
-#[cycle(emit)]
-fn emit_return_value(
-    work: &mut Work,
-    scene: &Scene<'_>,
-    line: u32,
-    value: &Expr,
-) -> Result<(), NoMemory>
-    ensures puts { OnOk result (PutsStmt (around scene.now) line
-        (front work.old) (front work.new) (tree.Return (tree.some_result (expr_of value.now)))) }
-{
-    let value = emit_value(work, scene, line, value)?;
-    put_return(work, scene, line, value)
-}
-
-// READ.
-#[cycle(emit)]
-fn emit_read(
-    work: &mut Work,
-    scene: &Scene<'_>,
-    line: u32,
-    desig: &Desig,
-    how: ReadAs,
-    range: Range,
-) -> Result<(), NoMemory>
-    ensures puts { OnOk result (PutsStmt (around scene.now) line
-        (front work.old) (front work.new) (tree.Read (desig_of desig.now) how range)) }
-{
-    let place = emit_desig(work, scene, line, desig)?;
-    put_read(work, scene, line, how, place, range)
-}
-
-// WRITE of a number.
-#[cycle(emit)]
-fn emit_write(
-    work: &mut Work,
-    scene: &Scene<'_>,
-    line: u32,
-    value: &Expr,
-    how: WriteAs,
-) -> Result<(), NoMemory>
-    ensures puts { OnOk result (PutsStmt (around scene.now) line
-        (front work.old) (front work.new) (tree.WriteExpr (expr_of value.now) how)) }
-{
-    let value = emit_value(work, scene, line, value)?;
-    work.add(line, write_instr(how, value))
 }

@@ -5,13 +5,14 @@ ghost use Rattle.alma_ir.specs.Tree as tree;
 ghost use Rattle.alma_emit_work.specs.Front.{around, front};
 ghost use Rattle.alma_emit_work.specs.Puts.{PutsTest, PutsOperands, PutsFirst};
 
-use crate::call::emit_call_test;
+use crate::call::emit_call;
 use crate::designator::emit_desig;
 use crate::expression::{emit_expr, emit_value};
+use crate::leaf::{bind_place, bind_value, call_of, check_of};
 use crate::statement::emit_stmts;
 use alma_base::{NoMemory, Range};
 use alma_code::Instr;
-use alma_emit_parts::{Scene, Work, begin_first, end_first, end_not, put_bind, put_unify};
+use alma_emit_parts::{Scene, Work, begin_first, end_first, end_not, put_unify};
 use alma_ir::{Desig, Expr, Test};
 
 // A test.
@@ -26,7 +27,10 @@ pub(crate) fn emit_test(
         (front work.old) (front work.new) (test_of test.now)) }
 {
     match test {
-        Test::Value(value) => emit_check(work, scene, line, value),
+        Test::Value(value) => {
+            let number = emit_value(work, scene, line, value);
+            check_of(work, line, number)
+        }
         Test::Bind(desig, value, range, left) => {
             emit_bind(work, scene, line, desig, value, *range, *left)
         }
@@ -38,18 +42,11 @@ pub(crate) fn emit_test(
         Test::And(tests) => emit_and(work, scene, line, tests),
         Test::Or(tests) => emit_or(work, scene, line, tests),
         Test::Not(test) => emit_not(work, scene, line, test),
-        Test::Call(call) => emit_call_test(work, scene, line, call),
+        Test::Call(call) => {
+            let first = emit_call(work, scene, line, call.routine, call.up, &call.args);
+            call_of(work, line, call.routine, first)
+        }
     }
-}
-
-// An expression that fails where it is 0.
-#[cycle(emit)]
-fn emit_check(work: &mut Work, scene: &Scene<'_>, line: u32, value: &Expr) -> Result<(), NoMemory>
-    ensures puts { OnOk result (PutsTest (around scene.now) line
-        (front work.old) (front work.new) (tree.Value (expr_of value.now))) }
-{
-    let value = emit_value(work, scene, line, value)?;
-    work.add(line, Instr::Check { value })
 }
 
 // An equation of a variable and an expression, of which the one on the left comes first.
@@ -89,8 +86,8 @@ fn emit_bind_left(
         (tree.Bind (desig_of desig.now) (expr_of value.now) range true)) }
 {
     let place = emit_desig(work, scene, line, desig)?;
-    let value = emit_value(work, scene, line, value)?;
-    put_bind(work, scene, line, place, value, range)
+    let number = emit_value(work, scene, line, value);
+    bind_value(work, scene, line, place, number, range)
 }
 
 // An equation whose variable stands on the right.
@@ -108,8 +105,8 @@ fn emit_bind_right(
         (tree.Bind (desig_of desig.now) (expr_of value.now) range false)) }
 {
     let value = emit_expr(work, scene, line, value)?;
-    let place = emit_desig(work, scene, line, desig)?;
-    put_bind(work, scene, line, place, value, range)
+    let place = emit_desig(work, scene, line, desig);
+    bind_place(work, scene, line, place, value, range)
 }
 
 // An equation of two variables.

@@ -28,6 +28,7 @@ use Rattle.alma_emit_forms.proofs.Arms.{all_none, all_first, next_arm, skipped_a
 use Rattle.alma_emit_forms.proofs.Rows.{more_operands, more_chosen, chosen_is, guarded_is, either_none, either_one, either_of, or_none, or_one, or_of, if_none, if_of}
 use Rattle.alma_emit_forms.proofs.Turns.{for_joined, some_joined, count_lined, count_at_lined}
 use Rattle.alma_emit_forms.proofs.Sizes.{stmt_at, test_at, arg_at, sel_at, link_at, arm_at, case_at, branch_at, cases_behind}
+use Rattle.alma_emit.proofs.Behind.{put_behind, value_behind, slot_behind, jump_behind}
 use Rattle.alma_emit.proofs.+emit.Goals as goal
 use Rattle.alma_templates.specs.Templates as T
 
@@ -53,37 +54,29 @@ pub call::emit_args-returns : goal.call::emit_args-returns
 call::emit_args-returns t c = record { puts = c.loop-arg.invariant _ (args_is (around c.args.scene.now) c.args.line c.loop-arg.slot _ _ _ _ (ap args_list (sym (drop_of_length-le c.args.args.now (omega (arith, c.loop-arg-test.false))))) (no_args_put (around c.args.scene.now) c.args.line _ _)) }
 
 pub call::emit_arg-returns-in-Value : goal.call::emit_arg-returns-in-Value
-call::emit_arg-returns-in-Value t c = record { puts = arg_as c.emit_number.result (around c.args.scene.now) c.args.line c.args.to _ _ _ _ (ap arg_of c.in-Value.is ∙ Views.byvalue_view _ _) c.emit_number.ensures.puts }
+call::emit_arg-returns-in-Value t c =
+    let view : arg_of c.args.arg.now ≡ tree.ByValue (expr_of c.in-Value.value) c.in-Value.range = ap arg_of c.in-Value.is ∙ Views.byvalue_view _ _ in
+    record { puts = arg_as c.number_of.result (around c.args.scene.now) c.args.line c.args.to _ _ _ _ view (put_behind c.emit_value-from.result c.number_of.result c.emit_value-from.ensures.puts c.emit_value-from.ensures.value c.number_of.ensures.done c.number_of.ensures.puts (λ at puts is h. value_arg_put (around c.args.scene.now) c.args.line _ _ _ _ _ _ _ _ puts is h.first h.second)) }
 
 pub call::emit_arg-returns-in-MixValue : goal.call::emit_arg-returns-in-MixValue
-call::emit_arg-returns-in-MixValue t c = record { puts = arg_as c.emit_number-in-MixValue.result (around c.args.scene.now) c.args.line c.args.to _ _ _ _ (ap arg_of c.in-MixValue.is ∙ Views.mixvalue_view _ _) c.emit_number-in-MixValue.ensures.mix }
+call::emit_arg-returns-in-MixValue t c =
+    let view : arg_of c.args.arg.now ≡ tree.MixValue (expr_of c.in-MixValue.value) c.in-MixValue.range = ap arg_of c.in-MixValue.is ∙ Views.mixvalue_view _ _ in
+    record { puts = arg_as c.number_of-in-MixValue.result (around c.args.scene.now) c.args.line c.args.to _ _ _ _ view (put_behind c.emit_value-from-in-MixValue.result c.number_of-in-MixValue.result c.emit_value-from-in-MixValue.ensures.puts c.emit_value-from-in-MixValue.ensures.value c.number_of-in-MixValue.ensures.done c.number_of-in-MixValue.ensures.puts (λ at puts is h. mix_value_put (around c.args.scene.now) c.args.line _ _ _ _ _ _ _ _ puts is h.first h.second)) }
 
 pub call::emit_arg-returns-in-Cells : goal.call::emit_arg-returns-in-Cells
-call::emit_arg-returns-in-Cells t c = record { puts = arg_as c.emit_place.result (around c.args.scene.now) c.args.line c.args.to _ _ _ _ (ap arg_of c.in-Cells.is ∙ Views.bycells_view _) c.emit_place.ensures.cells }
+call::emit_arg-returns-in-Cells t c =
+    let view : arg_of c.args.arg.now ≡ tree.ByCells (desig_of c.in-Cells.desig) = ap arg_of c.in-Cells.is ∙ Views.bycells_view _ in
+    record { puts = arg_as c.place_of.result (around c.args.scene.now) c.args.line c.args.to _ _ _ _ view (put_behind c.emit_desig-from.result c.place_of.result c.emit_desig-from.ensures.puts c.emit_desig-from.ensures.place c.place_of.ensures.done c.place_of.ensures.codes (λ at puts is h. cells_arg_put (around c.args.scene.now) c.args.line _ _ _ _ _ _ puts is h)) }
 
 pub call::emit_arg-returns-in-Place : goal.call::emit_arg-returns-in-Place
-call::emit_arg-returns-in-Place t c = record { puts = arg_as c.emit_place-in-Place.result (around c.args.scene.now) c.args.line c.args.to _ _ _ _ (ap arg_of c.in-Place.is ∙ Views.byplace_view _) c.emit_place-in-Place.ensures.puts }
+call::emit_arg-returns-in-Place t c =
+    let view : arg_of c.args.arg.now ≡ tree.ByPlace (desig_of c.in-Place.desig) = ap arg_of c.in-Place.is ∙ Views.byplace_view _ in
+    record { puts = arg_as c.place_of-in-Place.result (around c.args.scene.now) c.args.line c.args.to _ _ _ _ view (put_behind c.emit_desig-from-in-Place.result c.place_of-in-Place.result c.emit_desig-from-in-Place.ensures.puts c.emit_desig-from-in-Place.ensures.place c.place_of-in-Place.ensures.done c.place_of-in-Place.ensures.codes (λ at puts is h. place_arg_put (around c.args.scene.now) c.args.line _ _ _ _ _ _ puts is h)) }
 
 pub call::emit_arg-returns-in-MixPlace : goal.call::emit_arg-returns-in-MixPlace
-call::emit_arg-returns-in-MixPlace t c = record { puts = arg_as c.emit_place-in-MixPlace.result (around c.args.scene.now) c.args.line c.args.to _ _ _ _ (ap arg_of c.in-MixPlace.is ∙ Views.mixplace_view _) c.emit_place-in-MixPlace.ensures.mix }
-
-pub call::emit_number-returns-clause-puts : goal.call::emit_number-returns-clause-puts
-call::emit_number-returns-clause-puts t c = then_ok c.put_number.result c.put_number.ensures (λ two. value_arg_put (around c.args.scene.now) c.args.line _ _ _ _ _ _ _ _ c.in_ok-from.ensures.puts c.in_ok-from.ensures.value two.first two.second)
-
-pub call::emit_number-returns-clause-mix : goal.call::emit_number-returns-clause-mix
-call::emit_number-returns-clause-mix t c = then_ok c.put_number.result c.put_number.ensures (λ two. mix_value_put (around c.args.scene.now) c.args.line _ _ _ _ _ _ _ _ c.in_ok-from.ensures.puts c.in_ok-from.ensures.value two.first two.second)
-
-pub call::emit_place-returns-clause-cells : goal.call::emit_place-returns-clause-cells
-call::emit_place-returns-clause-cells t c = on_ok c.add.result (cells_arg_put (around c.args.scene.now) c.args.line _ _ _ _ _ _ c.in_ok-from.ensures.puts c.in_ok-from.ensures.place) c.add.ensures
-
-pub call::emit_place-returns-clause-puts : goal.call::emit_place-returns-clause-puts
-call::emit_place-returns-clause-puts t c = on_ok c.add.result (place_arg_put (around c.args.scene.now) c.args.line _ _ _ _ _ _ c.in_ok-from.ensures.puts c.in_ok-from.ensures.place) c.add.ensures
-
-pub call::emit_place-returns-clause-mix : goal.call::emit_place-returns-clause-mix
-call::emit_place-returns-clause-mix t c = on_ok c.add.result (mix_place_put (around c.args.scene.now) c.args.line _ _ _ _ _ _ c.in_ok-from.ensures.puts c.in_ok-from.ensures.place) c.add.ensures
-
-pub call::emit_call_test-returns : goal.call::emit_call_test-returns
-call::emit_call_test-returns t c = record { puts = on_ok c.add.result (λ h. test_is (around c.args.scene.now) c.args.line _ _ _ _ (ap (λ x. tree.CallTest c.args.call.now.routine (args_list x) c.args.call.now.up) c.deref.ensures.value) (call_test_put (around c.args.scene.now) c.args.line _ _ _ _ _ _ _ c.in_ok-first.ensures.puts c.in_ok-first.ensures.first h)) c.add.ensures }
+call::emit_arg-returns-in-MixPlace t c =
+    let view : arg_of c.args.arg.now ≡ tree.MixPlace (desig_of c.in-MixPlace.desig) = ap arg_of c.in-MixPlace.is ∙ Views.mixplace_view _ in
+    record { puts = arg_as c.place_of-in-MixPlace.result (around c.args.scene.now) c.args.line c.args.to _ _ _ _ view (put_behind c.emit_desig-from-in-MixPlace.result c.place_of-in-MixPlace.result c.emit_desig-from-in-MixPlace.ensures.puts c.emit_desig-from-in-MixPlace.ensures.place c.place_of-in-MixPlace.ensures.done c.place_of-in-MixPlace.ensures.codes (λ at puts is h. mix_place_put (around c.args.scene.now) c.args.line _ _ _ _ _ _ puts is h)) }
 
 pub call::emit_call_value-returns : goal.call::emit_call_value-returns
 call::emit_call_value-returns t c =
@@ -215,13 +208,6 @@ expression::emit_known-returns t c =
       puts = on_ok c.slot_of.result (λ ok. known_put (around c.args.scene.now) c.args.line _ _ _ _ _ _ _ c.in_ok-to.ensures.takes c.in_ok-to.ensures.slot c.in_ok-of.ensures.puts c.in_ok-of.ensures.place (said c.add.result ok c.add.ensures)) c.slot_of.ensures.done;
     }
 
-pub expression::emit_chr-returns : goal.expression::emit_chr-returns
-expression::emit_chr-returns t c =
-    record {
-      slot = if_ok c.put_chr.result (λ given is. is ∙ c.in_ok-value.ensures.slot) c.put_chr.ensures.slot;
-      puts = on_ok c.put_chr.result (chr_put (around c.args.scene.now) c.args.line _ _ _ _ _ _ c.in_ok-value.ensures.puts c.in_ok-value.ensures.slot refl) c.put_chr.ensures.codes;
-    }
-
 pub guarded::emit_guarded-returns : goal.guarded::emit_guarded-returns
 guarded::emit_guarded-returns t c = record { puts = from_both c.then_aim.result c.then_aim.ensures.done c.then_aim.ensures.aims (λ ok h. guarded_put (around c.args.scene.now) c.args.line _ _ _ _ _ _ _ _ _ c.in_ok-jump.ensures.guard (said c.emit_stmts-done.result ok c.emit_stmts-done.ensures.puts) h refl) }
 
@@ -237,23 +223,11 @@ statement::emit_assign-returns t c = record { puts = then_ok c.put_set.result c.
 pub statement::emit_copy-returns : goal.statement::emit_copy-returns
 statement::emit_copy-returns t c = record { puts = on_ok c.add.result (copy_put (around c.args.scene.now) c.args.line _ _ _ _ _ _ _ _ c.in_ok-to.ensures.puts c.in_ok-to.ensures.place c.in_ok-from.ensures.puts c.in_ok-from.ensures.place) c.add.ensures }
 
-pub statement::emit_return_value-returns : goal.statement::emit_return_value-returns
-statement::emit_return_value-returns t c = record { puts = then_ok c.put_return.result c.put_return.ensures (λ two. return_value_put (around c.args.scene.now) c.args.line _ _ _ _ _ _ c.in_ok-value.ensures.puts c.in_ok-value.ensures.value two.first two.second) }
-
-pub statement::emit_read-returns : goal.statement::emit_read-returns
-statement::emit_read-returns t c = record { puts = on_ok c.put_read.result (read_put (around c.args.scene.now) c.args.line _ _ _ _ _ _ _ _ c.in_ok-place.ensures.puts c.in_ok-place.ensures.place refl) c.put_read.ensures }
-
-pub statement::emit_write-returns : goal.statement::emit_write-returns
-statement::emit_write-returns t c = record { puts = on_ok c.add.result (λ h. write_put (around c.args.scene.now) c.args.line _ _ _ _ _ _ c.in_ok-value.ensures.puts c.in_ok-value.ensures.value (codes_is _ _ c.args.line _ _ c.write_instr.ensures h)) c.add.ensures }
-
-pub test::emit_check-returns : goal.test::emit_check-returns
-test::emit_check-returns t c = record { puts = on_ok c.add.result (value_test_put (around c.args.scene.now) c.args.line _ _ _ _ _ c.in_ok-value.ensures.puts c.in_ok-value.ensures.value) c.add.ensures }
-
 pub test::emit_bind_left-returns : goal.test::emit_bind_left-returns
-test::emit_bind_left-returns t c = record { puts = on_ok c.put_bind.result (bind_left_put (around c.args.scene.now) c.args.line _ _ _ _ _ _ _ _ _ _ c.in_ok-place.ensures.puts c.in_ok-place.ensures.place c.in_ok-value.ensures.puts c.in_ok-value.ensures.value refl) c.put_bind.ensures }
+test::emit_bind_left-returns t c = record { puts = put_behind c.emit_value-number.result c.bind_value.result c.emit_value-number.ensures.puts c.emit_value-number.ensures.value c.bind_value.ensures.done c.bind_value.ensures.codes (λ at puts is h. bind_left_put (around c.args.scene.now) c.args.line _ _ _ _ _ _ _ _ _ _ c.in_ok-place.ensures.puts c.in_ok-place.ensures.place puts is refl h) }
 
 pub test::emit_bind_right-returns : goal.test::emit_bind_right-returns
-test::emit_bind_right-returns t c = record { puts = on_ok c.put_bind.result (bind_right_put (around c.args.scene.now) c.args.line _ _ _ _ _ _ _ _ _ _ c.in_ok-value.ensures.puts c.in_ok-value.ensures.slot c.in_ok-place.ensures.puts c.in_ok-place.ensures.place refl) c.put_bind.ensures }
+test::emit_bind_right-returns t c = record { puts = put_behind c.emit_desig-place.result c.bind_place.result c.emit_desig-place.ensures.puts c.emit_desig-place.ensures.place c.bind_place.ensures.done c.bind_place.ensures.codes (λ at puts is h. bind_right_put (around c.args.scene.now) c.args.line _ _ _ _ _ _ _ _ _ _ c.in_ok-value.ensures.puts c.in_ok-value.ensures.slot puts is refl h) }
 
 pub test::emit_unify-returns : goal.test::emit_unify-returns
 test::emit_unify-returns t c = record { puts = on_ok c.put_unify.result (unify_put (around c.args.scene.now) c.args.line _ _ _ _ _ _ _ _ _ _ _ _ c.in_ok-left.ensures.puts c.in_ok-left.ensures.place c.in_ok-right.ensures.puts c.in_ok-right.ensures.place refl refl) c.put_unify.ensures }
@@ -301,7 +275,7 @@ expression::emit_expr-returns-in-Known t c =
 pub expression::emit_expr-returns-in-Chr : goal.expression::emit_expr-returns-in-Chr
 expression::emit_expr-returns-in-Chr t c =
     let view : expr_of c.args.expr.now ≡ tree.Chr (expr_of c.deref-in-Chr.result.now) = ap expr_of c.in-Chr.is ∙ Views.chr_view _ ∙ ap (λ x. tree.Chr (expr_of x)) (sym c.deref-in-Chr.ensures) in
-    record { slot = c.emit_chr.ensures.slot; puts = expr_as c.emit_chr.result (around c.args.scene.now) c.args.line _ _ _ _ view c.emit_chr.ensures.puts }
+    record { slot = through c.emit_expr-number.result c.chr_of.result c.emit_expr-number.ensures.slot c.chr_of.ensures.done c.chr_of.ensures.slot (λ at given h is. is ∙ h); puts = expr_as c.chr_of.result (around c.args.scene.now) c.args.line _ _ _ _ view (put_behind c.emit_expr-number.result c.chr_of.result c.emit_expr-number.ensures.puts c.emit_expr-number.ensures.slot c.chr_of.ensures.done c.chr_of.ensures.codes (λ at puts is h. chr_put (around c.args.scene.now) c.args.line _ _ _ _ _ _ puts is refl h)) }
 
 pub expression::emit_expr-returns-in-Call : goal.expression::emit_expr-returns-in-Call
 expression::emit_expr-returns-in-Call t c =
@@ -311,7 +285,7 @@ expression::emit_expr-returns-in-Call t c =
 pub test::emit_test-returns-in-Value : goal.test::emit_test-returns-in-Value
 test::emit_test-returns-in-Value t c =
     let view : test_of c.args.test.now ≡ tree.Value (expr_of c.in-Value.value) = ap test_of c.in-Value.is ∙ Views.value_view _ in
-    record { puts = test_as c.emit_check.result (around c.args.scene.now) c.args.line _ _ _ _ view c.emit_check.ensures.puts }
+    record { puts = test_as c.check_of.result (around c.args.scene.now) c.args.line _ _ _ _ view (put_behind c.emit_value-number.result c.check_of.result c.emit_value-number.ensures.puts c.emit_value-number.ensures.value c.check_of.ensures.done c.check_of.ensures.codes (λ at puts is h. value_test_put (around c.args.scene.now) c.args.line _ _ _ _ _ puts is h)) }
 
 pub test::emit_test-returns-in-Bind : goal.test::emit_test-returns-in-Bind
 test::emit_test-returns-in-Bind t c =
@@ -345,8 +319,8 @@ test::emit_test-returns-in-Not t c =
 
 pub test::emit_test-returns-in-Call : goal.test::emit_test-returns-in-Call
 test::emit_test-returns-in-Call t c =
-    let view : test_of c.args.test.now ≡ tree.CallTest c.in-Call.call.routine (args_list c.in-Call.call.args.items) c.in-Call.call.up = ap test_of c.in-Call.is ∙ Views.calltest_view _ in
-    record { puts = test_as c.emit_call_test.result (around c.args.scene.now) c.args.line _ _ _ _ view c.emit_call_test.ensures.puts }
+    let view : test_of c.args.test.now ≡ tree.CallTest c.in-Call.call.routine (args_list c.deref-in-Call.result.now) c.in-Call.call.up = ap test_of c.in-Call.is ∙ Views.calltest_view _ ∙ ap (λ x. tree.CallTest c.in-Call.call.routine (args_list x) c.in-Call.call.up) (sym c.deref-in-Call.ensures.value) in
+    record { puts = test_as c.call_of.result (around c.args.scene.now) c.args.line _ _ _ _ view (put_behind c.emit_call-first.result c.call_of.result c.emit_call-first.ensures.puts c.emit_call-first.ensures.first c.call_of.ensures.done c.call_of.ensures.codes (λ at puts is h. call_test_put (around c.args.scene.now) c.args.line _ _ _ _ _ _ _ puts is h)) }
 
 pub statement::emit_stmt-returns-in-Assign : goal.statement::emit_stmt-returns-in-Assign
 statement::emit_stmt-returns-in-Assign t c =
@@ -411,12 +385,12 @@ statement::emit_stmt-returns-in-Return t c =
 pub statement::emit_stmt-returns-in-Read : goal.statement::emit_stmt-returns-in-Read
 statement::emit_stmt-returns-in-Read t c =
     let view : stmt_of c.args.stmt.now ≡ tree.Read (desig_of c.in-Read.desig) c.in-Read.how c.in-Read.range = ap stmt_of c.in-Read.is ∙ Views.read_view _ _ _ in
-    record { puts = stmt_as c.emit_read.result (around c.args.scene.now) c.args.line _ _ _ _ view c.emit_read.ensures.puts }
+    record { puts = stmt_as c.read_of.result (around c.args.scene.now) c.args.line _ _ _ _ view (put_behind c.emit_desig-place.result c.read_of.result c.emit_desig-place.ensures.puts c.emit_desig-place.ensures.place c.read_of.ensures.done c.read_of.ensures.codes (λ at puts is h. read_put (around c.args.scene.now) c.args.line _ _ _ _ _ _ _ _ puts is refl h)) }
 
 pub statement::emit_stmt-returns-in-WriteExpr : goal.statement::emit_stmt-returns-in-WriteExpr
 statement::emit_stmt-returns-in-WriteExpr t c =
     let view : stmt_of c.args.stmt.now ≡ tree.WriteExpr (expr_of c.in-WriteExpr.value) c.in-WriteExpr.how = ap stmt_of c.in-WriteExpr.is ∙ Views.writeexpr_view _ _ in
-    record { puts = stmt_as c.emit_write.result (around c.args.scene.now) c.args.line _ _ _ _ view c.emit_write.ensures.puts }
+    record { puts = stmt_as c.write_of.result (around c.args.scene.now) c.args.line _ _ _ _ view (put_behind c.emit_value-number.result c.write_of.result c.emit_value-number.ensures.puts c.emit_value-number.ensures.value c.write_of.ensures.done c.write_of.ensures.codes (λ at puts is h. write_put (around c.args.scene.now) c.args.line _ _ _ _ _ _ puts is h)) }
 
 pub statement::emit_stmt-returns-in-WriteText : goal.statement::emit_stmt-returns-in-WriteText
 statement::emit_stmt-returns-in-WriteText t c =
@@ -441,7 +415,10 @@ statement::emit_stmt-returns-in-Test t c =
 pub designator::emit_sel-returns-in-Index : goal.designator::emit_sel-returns-in-Index
 designator::emit_sel-returns-in-Index t c =
     let view : sel_of c.args.sel.now ≡ tree.Index (expr_of c.in-Index.index) c.in-Index.range c.in-Index.cells = ap sel_of c.in-Index.is ∙ Views.index_view _ _ _ in
-    record { part = if_ok c.emit_index.result (λ part h. h ∙ ap (λ x. T.part_slot (around c.args.scene.now).program (around c.args.scene.now).tables (around c.args.scene.now).routine (front c.args.work.now).next (sel_with x (front c.args.work.now).lines)) (sym view)) c.emit_index.ensures.part; puts = sel_as c.emit_index.result (around c.args.scene.now) c.args.line c.args.from _ _ _ _ view c.emit_index.ensures.puts }
+    record {
+      part = value_behind c.emit_value-number.result c.element_of.result c.emit_value-number.ensures.puts c.element_of.ensures.done c.element_of.ensures.slot (λ to puts is. index_part (around c.args.scene.now) c.args.line _ _ _ _ _ _ puts is ∙ (ap (λ x. T.part_slot (around c.args.scene.now).program (around c.args.scene.now).tables (around c.args.scene.now).routine (front c.args.work.now).next (sel_with x (front c.args.work.now).lines)) (sym view)));
+      puts = sel_as c.element_of.result (around c.args.scene.now) c.args.line c.args.from _ _ _ _ view (slot_behind c.emit_value-number.result c.element_of.result c.emit_value-number.ensures.puts c.emit_value-number.ensures.value c.element_of.ensures.done c.element_of.ensures.slot c.element_of.ensures.puts (λ at to puts value is h. index_put (around c.args.scene.now) c.args.line _ _ _ _ _ _ _ _ _ _ _ puts value h.takes is refl h.codes));
+    }
 
 pub designator::emit_sel-returns-in-Field : goal.designator::emit_sel-returns-in-Field
 designator::emit_sel-returns-in-Field t c =
@@ -478,13 +455,6 @@ designator::emit_sels-returns t c =
     record {
       place = sym (l.invariant.part ∙ ap (λ x. T.part_at (around c.args.scene.now).program (around c.args.scene.now).tables (around c.args.scene.now).routine l.place (front l.work).next (sels_with (sels_list x) (front l.work).lines)) none ∙ no_parts (around c.args.scene.now) c.args.line _ _ _);
       puts = l.invariant.completes _ (sels_is (around c.args.scene.now) c.args.line l.place _ _ _ _ (ap sels_list (sym none)) (no_sels_put (around c.args.scene.now) c.args.line _ _));
-    }
-
-pub designator::emit_index-returns : goal.designator::emit_index-returns
-designator::emit_index-returns t c =
-    record {
-      part = if_ok c.put_index.result (λ to is. index_part (around c.args.scene.now) c.args.line _ _ _ _ _ _ c.in_ok-index.ensures.puts is) c.put_index.ensures.slot;
-      puts = ok_from c.put_index.result c.put_index.ensures.slot c.put_index.ensures.puts (λ to is h. index_put (around c.args.scene.now) c.args.line _ _ _ _ _ _ _ _ _ _ _ c.in_ok-index.ensures.puts c.in_ok-index.ensures.value h.takes is refl h.codes);
     }
 
 pub expression::emit_links-loop-link-init : goal.expression::emit_links-loop-link-init
@@ -651,20 +621,10 @@ expression::emit_expr-emit_known-requires t c =
     let view : expr_of c.args.expr.now ≡ tree.Known (desig_of c.in-Known.desig) = ap expr_of c.in-Known.is ∙ Views.known_view _ in
     (omega (arith, ap expr_nodes view), tt)
 
-pub expression::emit_expr-emit_chr-requires : goal.expression::emit_expr-emit_chr-requires
-expression::emit_expr-emit_chr-requires t c =
-    let view : expr_of c.args.expr.now ≡ tree.Chr (expr_of c.deref-in-Chr.result.now) = ap expr_of c.in-Chr.is ∙ Views.chr_view _ ∙ ap (λ x. tree.Chr (expr_of x)) (sym c.deref-in-Chr.ensures) in
-    (omega (arith, ap expr_nodes view), tt)
-
 pub expression::emit_expr-emit_call_value-requires : goal.expression::emit_expr-emit_call_value-requires
 expression::emit_expr-emit_call_value-requires t c =
     let view : expr_of c.args.expr.now ≡ tree.CallExpr c.in-Call.call.routine (args_list c.in-Call.call.args.items) c.in-Call.call.up = ap expr_of c.in-Call.is ∙ Views.callexpr_view _ in
     (omega (arith, ap expr_nodes view), tt)
-
-pub test::emit_test-emit_check-requires : goal.test::emit_test-emit_check-requires
-test::emit_test-emit_check-requires t c =
-    let view : test_of c.args.test.now ≡ tree.Value (expr_of c.in-Value.value) = ap test_of c.in-Value.is ∙ Views.value_view _ in
-    (omega (arith, ap test_nodes view), tt)
 
 pub test::emit_test-emit_bind-requires : goal.test::emit_test-emit_bind-requires
 test::emit_test-emit_bind-requires t c =
@@ -694,11 +654,6 @@ test::emit_test-emit_or-requires t c =
 pub test::emit_test-emit_not-requires : goal.test::emit_test-emit_not-requires
 test::emit_test-emit_not-requires t c =
     let view : test_of c.args.test.now ≡ tree.Not (test_of c.deref-in-Not.result.now) = ap test_of c.in-Not.is ∙ Views.not_view _ ∙ ap (λ x. tree.Not (test_of x)) (sym c.deref-in-Not.ensures) in
-    (omega (arith, ap test_nodes view), tt)
-
-pub test::emit_test-emit_call_test-requires : goal.test::emit_test-emit_call_test-requires
-test::emit_test-emit_call_test-requires t c =
-    let view : test_of c.args.test.now ≡ tree.CallTest c.in-Call.call.routine (args_list c.in-Call.call.args.items) c.in-Call.call.up = ap test_of c.in-Call.is ∙ Views.calltest_view _ in
     (omega (arith, ap test_nodes view), tt)
 
 pub statement::emit_stmt-emit_assign-requires : goal.statement::emit_stmt-emit_assign-requires
@@ -761,16 +716,6 @@ statement::emit_stmt-emit_return-requires t c =
     let view : stmt_of c.args.stmt.now ≡ tree.Return (return_option c.in-Return.value) = ap stmt_of c.in-Return.is ∙ Views.return_view _ in
     (omega (arith, ap stmt_nodes view), tt)
 
-pub statement::emit_stmt-emit_read-requires : goal.statement::emit_stmt-emit_read-requires
-statement::emit_stmt-emit_read-requires t c =
-    let view : stmt_of c.args.stmt.now ≡ tree.Read (desig_of c.in-Read.desig) c.in-Read.how c.in-Read.range = ap stmt_of c.in-Read.is ∙ Views.read_view _ _ _ in
-    (omega (arith, ap stmt_nodes view), tt)
-
-pub statement::emit_stmt-emit_write-requires : goal.statement::emit_stmt-emit_write-requires
-statement::emit_stmt-emit_write-requires t c =
-    let view : stmt_of c.args.stmt.now ≡ tree.WriteExpr (expr_of c.in-WriteExpr.value) c.in-WriteExpr.how = ap stmt_of c.in-WriteExpr.is ∙ Views.writeexpr_view _ _ in
-    (omega (arith, ap stmt_nodes view), tt)
-
 pub test::emit_test-emit_stmts-requires : goal.test::emit_test-emit_stmts-requires
 test::emit_test-emit_stmts-requires t c =
     let view : test_of c.args.test.now ≡ tree.Seq (stmts_list c.deref.result.now) = ap test_of c.in-Seq.is ∙ Views.seq_view _ ∙ ap (λ x. tree.Seq (stmts_list x)) (sym c.deref.ensures.value) in
@@ -781,41 +726,8 @@ statement::emit_stmt-emit_test-requires t c =
     let view : stmt_of c.args.stmt.now ≡ tree.TestStmt (test_of c.in-Test.test) = ap stmt_of c.in-Test.is ∙ Views.teststmt_view _ in
     (omega (arith, ap stmt_nodes view), tt)
 
-pub designator::emit_sel-emit_index-requires : goal.designator::emit_sel-emit_index-requires
-designator::emit_sel-emit_index-requires t c =
-    let view : sel_of c.args.sel.now ≡ tree.Index (expr_of c.in-Index.index) c.in-Index.range c.in-Index.cells = ap sel_of c.in-Index.is ∙ Views.index_view _ _ _ in
-    (omega (arith, ap sel_nodes view), tt)
-
-pub call::emit_arg-emit_number-requires : goal.call::emit_arg-emit_number-requires
-call::emit_arg-emit_number-requires t c =
-    let view : arg_of c.args.arg.now ≡ tree.ByValue (expr_of c.in-Value.value) c.in-Value.range = ap arg_of c.in-Value.is ∙ Views.byvalue_view _ _ in
-    (omega (arith, ap arg_nodes view), tt)
-
-pub call::emit_arg-emit_number-requires-in-MixValue : goal.call::emit_arg-emit_number-requires-in-MixValue
-call::emit_arg-emit_number-requires-in-MixValue t c =
-    let view : arg_of c.args.arg.now ≡ tree.MixValue (expr_of c.in-MixValue.value) c.in-MixValue.range = ap arg_of c.in-MixValue.is ∙ Views.mixvalue_view _ _ in
-    (omega (arith, ap arg_nodes view), tt)
-
-pub call::emit_arg-emit_place-requires : goal.call::emit_arg-emit_place-requires
-call::emit_arg-emit_place-requires t c =
-    let view : arg_of c.args.arg.now ≡ tree.ByCells (desig_of c.in-Cells.desig) = ap arg_of c.in-Cells.is ∙ Views.bycells_view _ in
-    (omega (arith, ap arg_nodes view), tt)
-
-pub call::emit_arg-emit_place-requires-in-Place : goal.call::emit_arg-emit_place-requires-in-Place
-call::emit_arg-emit_place-requires-in-Place t c =
-    let view : arg_of c.args.arg.now ≡ tree.ByPlace (desig_of c.in-Place.desig) = ap arg_of c.in-Place.is ∙ Views.byplace_view _ in
-    (omega (arith, ap arg_nodes view), tt)
-
-pub call::emit_arg-emit_place-requires-in-MixPlace : goal.call::emit_arg-emit_place-requires-in-MixPlace
-call::emit_arg-emit_place-requires-in-MixPlace t c =
-    let view : arg_of c.args.arg.now ≡ tree.MixPlace (desig_of c.in-MixPlace.desig) = ap arg_of c.in-MixPlace.is ∙ Views.mixplace_view _ in
-    (omega (arith, ap arg_nodes view), tt)
-
 pub call::emit_args-emit_arg-requires : goal.call::emit_args-emit_arg-requires
 call::emit_args-emit_arg-requires t c = (omega (arith, arg_at _ _ _ c.loop-arg-test.true c.arg-item.is), tt)
-
-pub call::emit_call_test-emit_call-requires : goal.call::emit_call_test-emit_call-requires
-call::emit_call_test-emit_call-requires t c = (omega (arith, ap (λ x. args_nodes (args_list x)) c.deref.ensures.value), tt)
 
 pub call::emit_call_value-emit_call-requires : goal.call::emit_call_value-emit_call-requires
 call::emit_call_value-emit_call-requires t c = (omega (arith, ap (λ x. args_nodes (args_list x)) c.deref.ensures.value), tt)
@@ -844,12 +756,6 @@ test::emit_and-emit_test-requires t c = (omega (arith, test_at _ _ _ c.loop-test
 pub loops::emit_turn-emit_stmts-requires : goal.loops::emit_turn-emit_stmts-requires
 loops::emit_turn-emit_stmts-requires t c = (omega (arith, ap (λ x. stmts_nodes (stmts_list x)) c.deref.ensures.value), tt)
 
-pub condition::emit_guard-returns-then-is_plain : goal.condition::emit_guard-returns-then-is_plain
-condition::emit_guard-returns-then-is_plain t c = record { guard = c.emit_simple.ensures.guard (sym c.is_plain.ensures ∙ c.if-is_plain.true) }
-
-pub condition::emit_guard-returns-else-is_plain : goal.condition::emit_guard-returns-else-is_plain
-condition::emit_guard-returns-else-is_plain t c = record { guard = c.emit_barrier.ensures.guard (sym c.is_plain.ensures ∙ c.if-is_plain.false) }
-
 pub condition::emit_barrier-returns : goal.condition::emit_barrier-returns
 condition::emit_barrier-returns t c =
     record {
@@ -864,7 +770,7 @@ pub expression::emit_value-returns-in-None : goal.expression::emit_value-returns
 expression::emit_value-returns-in-None t c = record { value = if_ok c.emit_expr.result (λ slot h. made_at (around c.args.scene.now) c.args.line _ _ _ _ (sym c.in-None.is ∙ c.in_ok-slot.ensures) h) c.emit_expr.ensures.slot; puts = on_ok c.emit_expr.result (made_value (around c.args.scene.now) c.args.line _ _ _ (sym c.in-None.is ∙ c.in_ok-slot.ensures)) c.emit_expr.ensures.puts }
 
 pub statement::emit_return-returns-in-Some : goal.statement::emit_return-returns-in-Some
-statement::emit_return-returns-in-Some t c = record { puts = stmt_as c.emit_return_value.result (around c.args.scene.now) c.args.line _ _ _ _ (ap (λ x. tree.Return (return_option x)) c.in-Some.is) c.emit_return_value.ensures.puts }
+statement::emit_return-returns-in-Some t c = record { puts = stmt_as c.return_of.result (around c.args.scene.now) c.args.line _ _ _ _ (ap (λ x. tree.Return (return_option x)) c.in-Some.is) (put_behind c.emit_value-number.result c.return_of.result c.emit_value-number.ensures.puts c.emit_value-number.ensures.value c.return_of.ensures.done c.return_of.ensures.puts (λ at puts is h. return_value_put (around c.args.scene.now) c.args.line _ _ _ _ _ _ puts is h.first h.second)) }
 
 pub statement::emit_return-returns-in-None : goal.statement::emit_return-returns-in-None
 statement::emit_return-returns-in-None t c = record { puts = stmt_as c.add.result (around c.args.scene.now) c.args.line _ _ _ _ (ap (λ x. tree.Return (return_option x)) c.in-None.is) (on_ok c.add.result (return_put (around c.args.scene.now) c.args.line _ _) c.add.ensures) }
@@ -888,11 +794,6 @@ test::emit_operands-returns t c =
     let xs = c.args.tests.now in
     let at : l.i ≡ length xs - 1 = omega (arith, c.loop-i-test.false, c.loop-i.auto.i-end) in
     record { puts = λ two. on_ok c.emit_test.result (λ h. l.invariant _ (operands_is (around c.args.scene.now) c.args.line c.args.exit _ _ _ _ (sym (ap (λ n. tests_list (drop n xs)) at ∙ ap tests_list (drop_last xs (length xs - 1) c.index-tests-last.result (omega (arith, two)) c.index-tests-last.is))) (last_put (around c.args.scene.now) c.args.line _ _ _ _ h))) c.emit_test.ensures.puts }
-
-pub condition::emit_simple-returns-in_ok-value-in-Value : goal.condition::emit_simple-returns-in_ok-value-in-Value
-condition::emit_simple-returns-in_ok-value-in-Value t c =
-    let view : test_of c.args.test.now ≡ tree.Value (expr_of c.in-Value.value) = ap test_of c.in-Value.is ∙ Views.value_view _ in
-    record { guard = λ simple. subst (λ x. IfOk c.put.result (λ jump. PutsGuard (around c.args.scene.now) c.args.line (front c.args.work.now) (front c.put.new.self) (λ to xs. aimed xs jump to) x)) (sym view) (both_ok c.put.result (λ jump here codes. simple_guard (around c.args.scene.now) c.args.line _ _ _ _ _ jump (sym (ap is_simple view) ∙ simple) c.in_ok-value-in-Value.ensures.puts c.in_ok-value-in-Value.ensures.value here codes) c.put.ensures.address c.put.ensures.codes) }
 
 pub test::emit_or-returns-then-is_empty : goal.test::emit_or-returns-then-is_empty
 test::emit_or-returns-then-is_empty t c = record { puts = on_ok c.add.result (or_none (around c.args.scene.now) c.args.line _ _ c.args.tests.now (no_elements _ c.if-is_empty.ensures)) c.add.ensures }
@@ -974,12 +875,6 @@ guarded::emit_if-emit_guarded-done-requires t c = (omega (arith, arm_at c.args.a
 pub guarded::emit_arms-emit_guarded-done-requires : goal.guarded::emit_arms-emit_guarded-done-requires
 guarded::emit_arms-emit_guarded-done-requires t c = (omega (arith, arm_at c.args.arms.now c.loop-i.i c.index-arms-i.result (omega (arith, c.loop-i-test.true)) c.index-arms-i.is, ap (λ x. stmts_nodes (stmts_list x)) c.deref.ensures.value), tt)
 
-pub statement::emit_return-emit_return_value-requires : goal.statement::emit_return-emit_return_value-requires
-statement::emit_return-emit_return_value-requires t c = (omega (arith, ap (λ x. return_nodes (return_option x)) c.in-Some.is), tt)
-
-pub condition::emit_simple-emit_value-requires : goal.condition::emit_simple-emit_value-requires
-condition::emit_simple-emit_value-requires t c = (omega (arith, ap (λ x. test_nodes (test_of x)) c.in-Value.is, ap test_nodes (Views.value_view c.in-Value.value)), tt)
-
 pub case::emit_all_arms-returns-then-first-arms : goal.case::emit_all_arms-returns-then-first-arms
 case::emit_all_arms-returns-then-first-arms t c = record { puts = λ test. on_ok c.emit_else.result (λ h. c.in_ok-first.ensures (around c.args.scene.now) c.args.line _ _ _ _ (all_is (around c.args.scene.now) c.args.line _ _ _ _ _ _ _ (ap cases_list (sym (drop_of_length-le c.args.arms.now c.if-first-arms.true))) (all_none (around c.args.scene.now) c.args.line _ _ _ _ _ h))) c.emit_else.ensures.puts }
 
@@ -1004,3 +899,231 @@ case::emit_labelled-emit_cases-requires t c = (omega (arith, cases_behind c.args
 
 pub case::emit_all_arms-emit_labelled-requires : goal.case::emit_all_arms-emit_labelled-requires
 case::emit_all_arms-emit_labelled-requires t c = (omega (arith, cases_behind c.args.arms.now c.in_ok-first.first, ap (λ ys. cases_nodes (cases_list ys)) (slice_rest c.args.arms.now c.in_ok-first.first)), tt)
+
+pub call::emit_arg-emit_value-from-requires : goal.call::emit_arg-emit_value-from-requires
+call::emit_arg-emit_value-from-requires t c =
+    let view : arg_of c.args.arg.now ≡ tree.ByValue (expr_of c.in-Value.value) c.in-Value.range = ap arg_of c.in-Value.is ∙ Views.byvalue_view _ _ in
+    (omega (arith, ap arg_nodes view), tt)
+
+pub call::emit_arg-emit_value-from-requires-in-MixValue : goal.call::emit_arg-emit_value-from-requires-in-MixValue
+call::emit_arg-emit_value-from-requires-in-MixValue t c =
+    let view : arg_of c.args.arg.now ≡ tree.MixValue (expr_of c.in-MixValue.value) c.in-MixValue.range = ap arg_of c.in-MixValue.is ∙ Views.mixvalue_view _ _ in
+    (omega (arith, ap arg_nodes view), tt)
+
+pub call::emit_arg-emit_desig-from-requires : goal.call::emit_arg-emit_desig-from-requires
+call::emit_arg-emit_desig-from-requires t c =
+    let view : arg_of c.args.arg.now ≡ tree.ByCells (desig_of c.in-Cells.desig) = ap arg_of c.in-Cells.is ∙ Views.bycells_view _ in
+    (omega (arith, ap arg_nodes view), tt)
+
+pub call::emit_arg-emit_desig-from-requires-in-Place : goal.call::emit_arg-emit_desig-from-requires-in-Place
+call::emit_arg-emit_desig-from-requires-in-Place t c =
+    let view : arg_of c.args.arg.now ≡ tree.ByPlace (desig_of c.in-Place.desig) = ap arg_of c.in-Place.is ∙ Views.byplace_view _ in
+    (omega (arith, ap arg_nodes view), tt)
+
+pub call::emit_arg-emit_desig-from-requires-in-MixPlace : goal.call::emit_arg-emit_desig-from-requires-in-MixPlace
+call::emit_arg-emit_desig-from-requires-in-MixPlace t c =
+    let view : arg_of c.args.arg.now ≡ tree.MixPlace (desig_of c.in-MixPlace.desig) = ap arg_of c.in-MixPlace.is ∙ Views.mixplace_view _ in
+    (omega (arith, ap arg_nodes view), tt)
+
+pub test::emit_test-emit_value-number-requires : goal.test::emit_test-emit_value-number-requires
+test::emit_test-emit_value-number-requires t c =
+    let view : test_of c.args.test.now ≡ tree.Value (expr_of c.in-Value.value) = ap test_of c.in-Value.is ∙ Views.value_view _ in
+    (omega (arith, ap test_nodes view), tt)
+
+pub test::emit_test-emit_call-first-requires : goal.test::emit_test-emit_call-first-requires
+test::emit_test-emit_call-first-requires t c =
+    let view : test_of c.args.test.now ≡ tree.CallTest c.in-Call.call.routine (args_list c.deref-in-Call.result.now) c.in-Call.call.up = ap test_of c.in-Call.is ∙ Views.calltest_view _ ∙ ap (λ x. tree.CallTest c.in-Call.call.routine (args_list x) c.in-Call.call.up) (sym c.deref-in-Call.ensures.value) in
+    (omega (arith, ap test_nodes view), tt)
+
+pub expression::emit_expr-emit_expr-number-requires : goal.expression::emit_expr-emit_expr-number-requires
+expression::emit_expr-emit_expr-number-requires t c =
+    let view : expr_of c.args.expr.now ≡ tree.Chr (expr_of c.deref-in-Chr.result.now) = ap expr_of c.in-Chr.is ∙ Views.chr_view _ ∙ ap (λ x. tree.Chr (expr_of x)) (sym c.deref-in-Chr.ensures) in
+    (omega (arith, ap expr_nodes view), tt)
+
+pub statement::emit_stmt-emit_desig-place-requires : goal.statement::emit_stmt-emit_desig-place-requires
+statement::emit_stmt-emit_desig-place-requires t c =
+    let view : stmt_of c.args.stmt.now ≡ tree.Read (desig_of c.in-Read.desig) c.in-Read.how c.in-Read.range = ap stmt_of c.in-Read.is ∙ Views.read_view _ _ _ in
+    (omega (arith, ap stmt_nodes view), tt)
+
+pub statement::emit_stmt-emit_value-number-requires : goal.statement::emit_stmt-emit_value-number-requires
+statement::emit_stmt-emit_value-number-requires t c =
+    let view : stmt_of c.args.stmt.now ≡ tree.WriteExpr (expr_of c.in-WriteExpr.value) c.in-WriteExpr.how = ap stmt_of c.in-WriteExpr.is ∙ Views.writeexpr_view _ _ in
+    (omega (arith, ap stmt_nodes view), tt)
+
+pub statement::emit_return-emit_value-number-requires : goal.statement::emit_return-emit_value-number-requires
+statement::emit_return-emit_value-number-requires t c = (omega (arith, ap (λ x. return_nodes (return_option x)) c.in-Some.is), tt)
+
+pub designator::emit_sel-emit_value-number-requires : goal.designator::emit_sel-emit_value-number-requires
+designator::emit_sel-emit_value-number-requires t c =
+    let view : sel_of c.args.sel.now ≡ tree.Index (expr_of c.in-Index.index) c.in-Index.range c.in-Index.cells = ap sel_of c.in-Index.is ∙ Views.index_view _ _ _ in
+    (omega (arith, ap sel_nodes view), tt)
+
+pub condition::emit_guard-returns-then-not-is_plain : goal.condition::emit_guard-returns-then-not-is_plain
+condition::emit_guard-returns-then-not-is_plain t c = record { guard = c.emit_barrier.ensures.guard (sym c.if-not-is_plain.ensures) }
+
+pub condition::emit_guard-returns-in-Value : goal.condition::emit_guard-returns-in-Value
+condition::emit_guard-returns-in-Value t c =
+    let view : test_of c.args.test.now ≡ tree.Value (expr_of c.in-Value.value) = ap test_of c.in-Value.is ∙ Views.value_view _ in
+    record { guard = subst (λ x. IfOk c.jump_of.result (λ jump. PutsGuard (around c.args.scene.now) c.args.line (front c.args.work.now) (front c.jump_of.new.work) (λ to xs. aimed xs jump to) x)) (sym view) (jump_behind c.emit_value-number.result c.jump_of.result c.emit_value-number.ensures.puts c.emit_value-number.ensures.value c.jump_of.ensures.done c.jump_of.ensures.address c.jump_of.ensures.codes (λ at jump puts is here h. simple_guard (around c.args.scene.now) c.args.line _ _ _ _ _ jump (sym (ap is_simple view) ∙ sym c.if-not-is_plain.ensures) puts is here h)) }
+
+pub condition::emit_guard-emit_value-number-requires : goal.condition::emit_guard-emit_value-number-requires
+condition::emit_guard-emit_value-number-requires t c = (omega (arith, ap (λ x. test_nodes (test_of x)) c.in-Value.is, ap test_nodes (Views.value_view c.in-Value.value)), tt)
+
+pub call::emit_call-emit_args-requires : goal.call::emit_call-emit_args-requires
+call::emit_call-emit_args-requires t c = (omega arith, tt)
+
+pub case::emit_case-emit_expr-requires : goal.case::emit_case-emit_expr-requires
+case::emit_case-emit_expr-requires t c = (omega arith, tt)
+
+pub case::emit_case-emit_dead_arms-done-requires : goal.case::emit_case-emit_dead_arms-done-requires
+case::emit_case-emit_dead_arms-done-requires t c = (omega arith, tt)
+
+pub case::emit_case-emit_all_arms-requires : goal.case::emit_case-emit_all_arms-requires
+case::emit_case-emit_all_arms-requires t c = (omega arith, tt)
+
+pub case::emit_dead_arms-emit_dead_bodies-done-requires : goal.case::emit_dead_arms-emit_dead_bodies-done-requires
+case::emit_dead_arms-emit_dead_bodies-done-requires t c = (omega arith, tt)
+
+pub case::emit_all_arms-emit_else-requires : goal.case::emit_all_arms-emit_else-requires
+case::emit_all_arms-emit_else-requires t c = (omega arith, tt)
+
+pub case::emit_labelled-emit_else-done-requires : goal.case::emit_labelled-emit_else-done-requires
+case::emit_labelled-emit_else-done-requires t c = (omega arith, tt)
+
+pub case::emit_next_arm-emit_case_arm-done-requires : goal.case::emit_next_arm-emit_case_arm-done-requires
+case::emit_next_arm-emit_case_arm-done-requires t c = (omega arith, tt)
+
+pub choice::emit_either-emit_branches-done-requires : goal.choice::emit_either-emit_branches-done-requires
+choice::emit_either-emit_branches-done-requires t c = (omega arith, tt)
+
+pub choice::emit_chosen-emit_stmts-done-requires : goal.choice::emit_chosen-emit_stmts-done-requires
+choice::emit_chosen-emit_stmts-done-requires t c = (omega arith, tt)
+
+pub choice::emit_forall-emit_stmts-done-requires : goal.choice::emit_forall-emit_stmts-done-requires
+choice::emit_forall-emit_stmts-done-requires t c = (omega arith, tt)
+
+pub choice::emit_forall-emit_stmts-last-requires : goal.choice::emit_forall-emit_stmts-last-requires
+choice::emit_forall-emit_stmts-last-requires t c = (omega arith, tt)
+
+pub choice::emit_commit-emit_stmts-done-requires : goal.choice::emit_commit-emit_stmts-done-requires
+choice::emit_commit-emit_stmts-done-requires t c = (omega arith, tt)
+
+pub condition::emit_guard-emit_barrier-requires : goal.condition::emit_guard-emit_barrier-requires
+condition::emit_guard-emit_barrier-requires t c = (omega arith, tt)
+
+pub condition::emit_barrier-emit_test-done-requires : goal.condition::emit_barrier-emit_test-done-requires
+condition::emit_barrier-emit_test-done-requires t c = (omega arith, tt)
+
+pub designator::emit_target-emit_desig-requires : goal.designator::emit_target-emit_desig-requires
+designator::emit_target-emit_desig-requires t c = (omega arith, tt)
+
+pub expression::emit_load-emit_target-requires : goal.expression::emit_load-emit_target-requires
+expression::emit_load-emit_target-requires t c = (omega arith, tt)
+
+pub expression::emit_chain-emit_expr-requires : goal.expression::emit_chain-emit_expr-requires
+expression::emit_chain-emit_expr-requires t c = (omega arith, tt)
+
+pub expression::emit_chain-emit_links-requires : goal.expression::emit_chain-emit_links-requires
+expression::emit_chain-emit_links-requires t c = (omega arith, tt)
+
+pub expression::emit_compare-emit_expr-requires : goal.expression::emit_compare-emit_expr-requires
+expression::emit_compare-emit_expr-requires t c = (omega arith, tt)
+
+pub expression::emit_compare-emit_value-requires : goal.expression::emit_compare-emit_value-requires
+expression::emit_compare-emit_value-requires t c = (omega arith, tt)
+
+pub expression::emit_truth-emit_guard-requires : goal.expression::emit_truth-emit_guard-requires
+expression::emit_truth-emit_guard-requires t c = (omega arith, tt)
+
+pub expression::emit_known-emit_desig-requires : goal.expression::emit_known-emit_desig-requires
+expression::emit_known-emit_desig-requires t c = (omega arith, tt)
+
+pub expression::emit_value-emit_expr-requires : goal.expression::emit_value-emit_expr-requires
+expression::emit_value-emit_expr-requires t c = (omega arith, tt)
+
+pub guarded::emit_guarded-emit_guard-requires : goal.guarded::emit_guarded-emit_guard-requires
+guarded::emit_guarded-emit_guard-requires t c = (omega arith, tt)
+
+pub guarded::emit_guarded-emit_stmts-done-requires : goal.guarded::emit_guarded-emit_stmts-done-requires
+guarded::emit_guarded-emit_stmts-done-requires t c = (omega arith, tt)
+
+pub guarded::emit_if-emit_stmts-requires : goal.guarded::emit_if-emit_stmts-requires
+guarded::emit_if-emit_stmts-requires t c = (omega arith, tt)
+
+pub guarded::emit_if-emit_arms-requires : goal.guarded::emit_if-emit_arms-requires
+guarded::emit_if-emit_arms-requires t c = (omega arith, tt)
+
+pub guarded::emit_if-emit_stmts-done-requires : goal.guarded::emit_if-emit_stmts-done-requires
+guarded::emit_if-emit_stmts-done-requires t c = (omega arith, tt)
+
+pub guarded::emit_while-emit_guarded-done-requires : goal.guarded::emit_while-emit_guarded-done-requires
+guarded::emit_while-emit_guarded-done-requires t c = (omega arith, tt)
+
+pub guarded::emit_repeat-emit_stmts-requires : goal.guarded::emit_repeat-emit_stmts-requires
+guarded::emit_repeat-emit_stmts-requires t c = (omega arith, tt)
+
+pub guarded::emit_repeat-emit_guard-jump-requires : goal.guarded::emit_repeat-emit_guard-jump-requires
+guarded::emit_repeat-emit_guard-jump-requires t c = (omega arith, tt)
+
+pub loops::emit_for-emit_bounds-requires : goal.loops::emit_for-emit_bounds-requires
+loops::emit_for-emit_bounds-requires t c = (omega arith, tt)
+
+pub loops::emit_for-emit_turn-done-requires : goal.loops::emit_for-emit_turn-done-requires
+loops::emit_for-emit_turn-done-requires t c = (omega arith, tt)
+
+pub loops::emit_some-emit_bounds-requires : goal.loops::emit_some-emit_bounds-requires
+loops::emit_some-emit_bounds-requires t c = (omega arith, tt)
+
+pub loops::emit_some-emit_turn-done-requires : goal.loops::emit_some-emit_turn-done-requires
+loops::emit_some-emit_turn-done-requires t c = (omega arith, tt)
+
+pub statement::emit_assign-emit_target-requires : goal.statement::emit_assign-emit_target-requires
+statement::emit_assign-emit_target-requires t c = (omega arith, tt)
+
+pub statement::emit_assign-emit_value-requires : goal.statement::emit_assign-emit_value-requires
+statement::emit_assign-emit_value-requires t c = (omega arith, tt)
+
+pub statement::emit_copy-emit_desig-requires : goal.statement::emit_copy-emit_desig-requires
+statement::emit_copy-emit_desig-requires t c = (omega arith, tt)
+
+pub statement::emit_copy-emit_desig-requires-2 : goal.statement::emit_copy-emit_desig-requires-2
+statement::emit_copy-emit_desig-requires-2 t c = (omega arith, tt)
+
+pub test::emit_bind-emit_bind_left-requires : goal.test::emit_bind-emit_bind_left-requires
+test::emit_bind-emit_bind_left-requires t c = (omega arith, tt)
+
+pub test::emit_bind-emit_bind_right-requires : goal.test::emit_bind-emit_bind_right-requires
+test::emit_bind-emit_bind_right-requires t c = (omega arith, tt)
+
+pub test::emit_bind_left-emit_desig-requires : goal.test::emit_bind_left-emit_desig-requires
+test::emit_bind_left-emit_desig-requires t c = (omega arith, tt)
+
+pub test::emit_bind_left-emit_value-number-requires : goal.test::emit_bind_left-emit_value-number-requires
+test::emit_bind_left-emit_value-number-requires t c = (omega arith, tt)
+
+pub test::emit_bind_right-emit_expr-requires : goal.test::emit_bind_right-emit_expr-requires
+test::emit_bind_right-emit_expr-requires t c = (omega arith, tt)
+
+pub test::emit_bind_right-emit_desig-place-requires : goal.test::emit_bind_right-emit_desig-place-requires
+test::emit_bind_right-emit_desig-place-requires t c = (omega arith, tt)
+
+pub test::emit_unify-emit_desig-requires : goal.test::emit_unify-emit_desig-requires
+test::emit_unify-emit_desig-requires t c = (omega arith, tt)
+
+pub test::emit_unify-emit_desig-requires-2 : goal.test::emit_unify-emit_desig-requires-2
+test::emit_unify-emit_desig-requires-2 t c = (omega arith, tt)
+
+pub test::emit_same_cells-emit_desig-requires : goal.test::emit_same_cells-emit_desig-requires
+test::emit_same_cells-emit_desig-requires t c = (omega arith, tt)
+
+pub test::emit_same_cells-emit_desig-requires-2 : goal.test::emit_same_cells-emit_desig-requires-2
+test::emit_same_cells-emit_desig-requires-2 t c = (omega arith, tt)
+
+pub test::emit_or-emit_operands-done-requires : goal.test::emit_or-emit_operands-done-requires
+test::emit_or-emit_operands-done-requires t c = (omega arith, tt)
+
+pub test::emit_operand-emit_test-done-requires : goal.test::emit_operand-emit_test-done-requires
+test::emit_operand-emit_test-done-requires t c = (omega arith, tt)
+
+pub test::emit_not-emit_test-done-requires : goal.test::emit_not-emit_test-done-requires
+test::emit_not-emit_test-done-requires t c = (omega arith, tt)

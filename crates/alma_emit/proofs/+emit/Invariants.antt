@@ -17,15 +17,6 @@ decreases-call::emit_args l = 16 * (args_nodes (args_list l.args.now)) + 2
 abbrev pub decreases-call::emit_arg : goal.decreases-call::emit_arg
 decreases-call::emit_arg l = 16 * (arg_nodes (arg_of l.arg.now)) + 0
 
-abbrev pub decreases-call::emit_number : goal.decreases-call::emit_number
-decreases-call::emit_number l = 16 * (expr_nodes (expr_of l.value.now)) + 2
-
-abbrev pub decreases-call::emit_place : goal.decreases-call::emit_place
-decreases-call::emit_place l = 16 * (desig_nodes (desig_of l.desig.now)) + 1
-
-abbrev pub decreases-call::emit_call_test : goal.decreases-call::emit_call_test
-decreases-call::emit_call_test l = 16 * (args_nodes (args_list l.call.now.args.items)) + 4
-
 abbrev pub decreases-call::emit_call_value : goal.decreases-call::emit_call_value
 decreases-call::emit_call_value l = 16 * (args_nodes (args_list l.call.now.args.items)) + 4
 
@@ -77,9 +68,6 @@ decreases-choice::emit_commit l = 16 * (stmts_nodes (stmts_list l.body.now)) + 2
 abbrev pub decreases-condition::emit_guard : goal.decreases-condition::emit_guard
 decreases-condition::emit_guard l = 16 * (test_nodes (test_of l.test.now)) + 2
 
-abbrev pub decreases-condition::emit_simple : goal.decreases-condition::emit_simple
-decreases-condition::emit_simple l = 16 * (test_nodes (test_of l.test.now)) + 1
-
 abbrev pub decreases-condition::emit_barrier : goal.decreases-condition::emit_barrier
 decreases-condition::emit_barrier l = 16 * (test_nodes (test_of l.test.now)) + 1
 
@@ -94,9 +82,6 @@ decreases-designator::emit_sels l = 16 * (sels_nodes (sels_list l.sels.now)) + 1
 
 abbrev pub decreases-designator::emit_sel : goal.decreases-designator::emit_sel
 decreases-designator::emit_sel l = 16 * (sel_nodes (sel_of l.sel.now)) + 0
-
-abbrev pub decreases-designator::emit_index : goal.decreases-designator::emit_index
-decreases-designator::emit_index l = 16 * (expr_nodes (expr_of l.index.now)) + 2
 
 abbrev pub decreases-expression::emit_expr : goal.decreases-expression::emit_expr
 decreases-expression::emit_expr l = 16 * (expr_nodes (expr_of l.expr.now)) + 0
@@ -118,9 +103,6 @@ decreases-expression::emit_truth l = 16 * (test_nodes (test_of l.test.now)) + 3
 
 abbrev pub decreases-expression::emit_known : goal.decreases-expression::emit_known
 decreases-expression::emit_known l = 16 * (desig_nodes (desig_of l.desig.now)) + 1
-
-abbrev pub decreases-expression::emit_chr : goal.decreases-expression::emit_chr
-decreases-expression::emit_chr l = 16 * (expr_nodes (expr_of l.inner.now)) + 1
 
 abbrev pub decreases-expression::emit_value : goal.decreases-expression::emit_value
 decreases-expression::emit_value l = 16 * (expr_nodes (expr_of l.expr.now)) + 1
@@ -167,20 +149,8 @@ decreases-statement::emit_copy l = 16 * (desig_nodes (desig_of l.desig.now) + de
 abbrev pub decreases-statement::emit_return : goal.decreases-statement::emit_return
 decreases-statement::emit_return l = 16 * (return_nodes (return_option l.value.now)) + 3
 
-abbrev pub decreases-statement::emit_return_value : goal.decreases-statement::emit_return_value
-decreases-statement::emit_return_value l = 16 * (expr_nodes (expr_of l.value.now)) + 2
-
-abbrev pub decreases-statement::emit_read : goal.decreases-statement::emit_read
-decreases-statement::emit_read l = 16 * (desig_nodes (desig_of l.desig.now)) + 1
-
-abbrev pub decreases-statement::emit_write : goal.decreases-statement::emit_write
-decreases-statement::emit_write l = 16 * (expr_nodes (expr_of l.value.now)) + 2
-
 abbrev pub decreases-test::emit_test : goal.decreases-test::emit_test
 decreases-test::emit_test l = 16 * (test_nodes (test_of l.test.now)) + 0
-
-abbrev pub decreases-test::emit_check : goal.decreases-test::emit_check
-decreases-test::emit_check l = 16 * (expr_nodes (expr_of l.value.now)) + 2
 
 abbrev pub decreases-test::emit_bind : goal.decreases-test::emit_bind
 decreases-test::emit_bind l = 16 * (desig_nodes (desig_of l.desig.now) + expr_nodes (expr_of l.value.now)) + 3
