@@ -133,7 +133,10 @@ where
     let mut more = Vec::new(alloc);
     while let Some(after) = at.skip(Kind::Elsif) {
         let (test, after) = followed_by(expr(alloc, after, depth, inside), Kind::Then)?;
-        at = pushed(&mut more, elsif_of(test, nested(alloc, after, depth, inside)))?;
+        at = pushed(
+            &mut more,
+            elsif_of(test, nested(alloc, after, depth, inside)),
+        )?;
     }
     Ok((more, at))
 }
@@ -487,12 +490,7 @@ where
 }
 
 /// The statements that stand in a statement.
-fn nested<'t, 's, S>(
-    alloc: Global,
-    at: Cursor<'t, 's>,
-    depth: u32,
-    inside: &S,
-) -> StmtsRead<'t, 's>
+fn nested<'t, 's, S>(alloc: Global, at: Cursor<'t, 's>, depth: u32, inside: &S) -> StmtsRead<'t, 's>
 where
     S: for<'a, 'b> Fn(Global, Cursor<'a, 'b>, u32) -> StmtsRead<'a, 'b>,
     requires callable { S.IsAlwaysCallable inside.now }

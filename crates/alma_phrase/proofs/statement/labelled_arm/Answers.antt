@@ -1,31 +1,15 @@
-use Rattle.std.proofs.Common.{◌∷◌, Ok, Err, Some, refl, ap, arith}
+use Rattle.std.proofs.Common.{Err, refl, ap}
 use Rattle.alma_tree.specs.declared.kind.Kind.TheVariants as kinds
-use Rattle.alma_tree.specs.Spelling.{spell_stmt, spell_else, spell_by}
-use Rattle.alma_tree.specs.Spelling.{spell_arm, spell_label, spell_high}
-use Rattle.alma_tree.specs.View.{view_stmt, else_of, by_of, view_arm, high_of, view_label}
-use Rattle.alma_tree.specs.Numbers.{token, node, ◌>>◌, number_stmts, number_stmt, number_arm, number_expr}
-use Rattle.alma_tree.specs.Numbers.{numbers_of_by, numbers_of_else}
-use Rattle.alma_tree.specs.Numbers.{numbers_of_high}
-use Rattle.alma_tree.specs.Numbers.{number_label}
+use Rattle.alma_tree.specs.Spelling.{spell_arm}
+use Rattle.alma_tree.specs.Numbers.{node, ◌>>◌, number_stmts, number_arm}
 use Rattle.alma_tree.proofs.Rows as rows
 use Rattle.alma_tree.proofs.NumberRows as numbers
-use Rattle.alma_grammar.specs.Parts.{one}
-use Rattle.alma_grammar.specs.Parts.{stmt_part, arm_part, expr_parts}
-use Rattle.alma_grammar.specs.Parts.{stmts_parts, label_parts}
-use Rattle.alma_cursor.specs.Forms as forms
 use Rattle.alma_cursor.proofs.Joins.{followed, ended}
-use Rattle.alma_cursor.proofs.Loops as loops
-use Rattle.alma_cursor.proofs.Steps.{passed, opened, skipped, after, first, instead}
-use Rattle.alma_cursor.proofs.Steps.{instead_any}
+use Rattle.alma_cursor.proofs.Steps.{after, first}
 use Rattle.alma_phrase_parts.proofs.Stopped.{stopped}
-use Rattle.alma_phrase_parts.proofs.Made.{becoming_gives}
-use Rattle.alma_phrase_steps.proofs.Chain.{plain, matching, ended_behind, in_box, fewer}
-use Rattle.alma_phrase_steps.proofs.Heads as heads
-use Rattle.alma_phrase_steps.proofs.Lists as lists
-use Rattle.alma_phrase_steps.proofs.Values.{a_stmt, an_arm, an_expr, some_stmts}
-use Rattle.alma_phrase_steps.proofs.Values.{more_stmts, more_labels, more_orelses}
-use Rattle.alma_phrase_steps.proofs.Values.{count_stmts, count_labels, count_orelses}
-use Rattle.alma_phrase_parts.proofs.Fronts.{part, part_and, and_then, whole, both, loop_front, loop_fewer, one_more, no_more}
+use Rattle.alma_phrase_steps.proofs.Chain.{plain}
+use Rattle.alma_phrase_steps.proofs.Values.{an_arm, some_stmts, more_labels, count_labels}
+use Rattle.alma_phrase_parts.proofs.Fronts.{part, part_and, and_then, whole}
 use Rattle.alma_phrase.proofs.statement.labelled_arm.Goals as goal
 
 pub returns-in_err-first : goal.returns-in_err-first

@@ -1,10 +1,8 @@
-use Rattle.std.proofs.Common.{◌+◌, ◌*◌, length}
-use Rattle.alma_tree.specs.Spelling.{spell_stmt_tail, spell_elsif_tail}
-use Rattle.alma_tree.specs.Spelling.{spell_arm_tail, spell_label_tail, spell_orelse_tail}
-use Rattle.alma_tree.specs.View.{stmts_of, elsifs_of, arms_of, labels_of, orelses_of}
+use Rattle.std.proofs.Common.{length}
+use Rattle.alma_tree.specs.Spelling.{spell_stmt_tail}
+use Rattle.alma_tree.specs.View.{stmts_of}
 use Rattle.alma_tree.specs.Numbers.{numbers_of_stmts}
-use Rattle.alma_tree.specs.Numbers.{numbers_of_elsifs, numbers_of_arms, numbers_of_labels, numbers_of_orelses}
-use Rattle.alma_grammar.specs.Parts.{stmt_tail, elsif_tail, arm_tail, label_tail, orelse_tail}
+use Rattle.alma_grammar.specs.Parts.{stmt_tail}
 use Rattle.alma_cursor.specs.Parsing.{position_of}
 use Rattle.alma_cursor.proofs.Loops.{Loops}
 use Rattle.alma_phrase.proofs.statement.stmt_list.Given as goal
