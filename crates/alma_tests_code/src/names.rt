@@ -1,10 +1,11 @@
 // What each table answers on its happy path and at its limits.
-ghost use Rattle.std.specs.Prelude.{◌≡◌, ◌+◌, ◌^◌, ◌<◌, ◌≤◌, ◌≤ℤ◌, pos, Some, slice_get, length, IfOk};
+ghost use Rattle.std.specs.Prelude.{◌≡◌, ◌+◌, ◌^◌, ◌<◌, ◌≤◌, ◌≤ℤ◌, pos, Some, slice_get, length, IfOk, OnOk};
+ghost use Rattle.alma_names.specs.Scopes.{first_blocks, with_new_block, entry_count};
 ghost use Rattle.alma_shapes.specs.Shapes.{integer};
 
-use alma_base::Range;
+use alma_base::{NoMemory, Range};
 use alma_names::{
-    Access, DeclareError, Entry, FieldOf, Scopes, Shape, ShapeError, ShapeId, Shapes,
+    Access, DeclareError, Entry, FieldOf, Id, Scopes, Shape, ShapeError, ShapeId, Shapes,
 };
 use std::alloc::{AllocError, Global};
 use std::test::Fail;
@@ -186,10 +187,18 @@ fn make_colours(alloc: Global) -> Result<Colours, Fail> {
     })
 }
 
+// The least and the greatest value of a shape, and its base.
+fn bounds(shapes: &Shapes, id: ShapeId) -> (Option<(i64, i64)>, ShapeId)
+    requires { id.0 < length shapes.now }
+{
+    let range = shapes.range(id).map(|range| (range.low, range.high));
+    (range, shapes.base(id))
+}
+
 #[test]
 fn ranges_and_bases(rt: HostRuntime) -> Result<(), Fail> {
     let made = make_colours(rt.alloc())?;
-    for (id, want, base) in [
+    for (id, range, base) in [
         (INTEGER, Some((i64::MIN, i64::MAX)), INTEGER),
         (CHAR, Some((0, 255)), CHAR),
         (BOOLEAN, Some((0, 1)), BOOLEAN),
@@ -197,12 +206,10 @@ fn ranges_and_bases(rt: HostRuntime) -> Result<(), Fail> {
         (made.some, Some((1, 2)), made.all),
         (made.row, None, made.row),
     ] {
-        let range = made.shapes.range(id).map(|range| (range.low, range.high));
-        assert_eq!(rt; range, want, "at {id:?}");
-        assert_eq!(rt; made.shapes.base(id), base, "at {id:?}");
+        assert_eq!(rt; bounds(&made.shapes, id), (range, base), "at {id:?}");
     }
-    assert_eq!(rt; made.shapes.cells(made.row), 2);
-    assert!(rt; matches!(made.shapes.get(made.row), Shape::Row { .. }));
+    let is_row = matches!(made.shapes.get(made.row), Shape::Row { .. });
+    assert_eq!(rt; (made.shapes.cells(made.row), is_row), (2, true));
     Ok(())
 }
 
@@ -218,80 +225,119 @@ const OUTER: Entry = Entry::Routine(1);
 
 const INNER: Entry = Entry::Variable(CHAR, Access::Local(2));
 
-// A block with `x` from `outer` on, and on it one with `x` from `inner` on.
-fn two_blocks(alloc: Global, outer: u32, inner: u32) -> Result<Scopes, Fail>
-    ensures { IfOk result (λ scopes. 0 < length scopes.below) }
+// One empty block on the lowest.
+fn one_block(alloc: Global) -> Result<Scopes, NoMemory>
+    ensures { IfOk result (λ scopes. scopes ≡ with_new_block first_blocks) }
 {
     let mut scopes = Scopes::new(alloc)?;
     scopes.push_block(alloc)?;
-    scopes.declare(alloc, b"x", outer, OUTER)?;
-    scopes.push_block(alloc)?;
-    scopes.declare(alloc, b"x", inner, INNER)?;
     Ok(scopes)
 }
 
+// Declares `x` from `outer` on, and in a block on that from `inner` on.
+fn declare_in_two(alloc: Global, scopes: &mut Scopes, outer: u32, inner: u32) -> Result<(), Fail>
+    requires { scopes.old ≡ with_new_block first_blocks }
+    ensures { OnOk result (0 < length scopes.new.below) }
+{
+    scopes.declare(alloc, b"x", outer, OUTER)?;
+    scopes.push_block(alloc)?;
+    scopes.declare(alloc, b"x", inner, INNER)?;
+    Ok(())
+}
+
+// What `x` stands for at a token in both blocks, and at the token 9 where the higher one is closed.
+fn meanings(
+    alloc: Global,
+    outer: u32,
+    inner: u32,
+    at: u32,
+) -> Result<(Option<Entry>, Option<Entry>), Fail> {
+    let mut scopes = one_block(alloc)?;
+    declare_in_two(alloc, &mut scopes, outer, inner)?;
+    let both = meaning(&scopes, b"x", at);
+    scopes.pop_block();
+    Ok((both, meaning(&scopes, b"x", 9)))
+}
+
+const TWO_BLOCKS: [(u32, u32, u32, Option<Entry>); 9] = [
+    (3, 7, 2, None),
+    (3, 7, 3, Some(OUTER)),
+    (3, 7, 6, Some(OUTER)),
+    (3, 7, 7, Some(INNER)),
+    (7, 3, 2, None),
+    (7, 3, 3, Some(INNER)),
+    (7, 3, 9, Some(INNER)),
+    (5, 5, 4, None),
+    (5, 5, 5, Some(INNER)),
+];
+
 #[test]
 fn the_highest_block_in_which_a_name_is_visible_counts(rt: HostRuntime) -> Result<(), Fail> {
-    for (outer, inner, at, want) in [
-        (3, 7, 2, None),
-        (3, 7, 3, Some(OUTER)),
-        (3, 7, 6, Some(OUTER)),
-        (3, 7, 7, Some(INNER)),
-        (7, 3, 2, None),
-        (7, 3, 3, Some(INNER)),
-        (7, 3, 9, Some(INNER)),
-        (5, 5, 4, None),
-        (5, 5, 5, Some(INNER)),
-    ] {
-        let mut scopes = two_blocks(rt.alloc(), outer, inner)?;
+    for (outer, inner, at, want) in &TWO_BLOCKS {
+        let found = meanings(rt.alloc(), *outer, *inner, *at)?;
         assert_eq!(rt;
-            meaning(&scopes, b"x", at),
-            want,
+            found,
+            (*want, Some(OUTER)),
             "from {outer} and {inner} at {at}"
         );
-        scopes.pop_block();
-        assert_eq!(rt; meaning(&scopes, b"x", 9), Some(OUTER));
     }
     Ok(())
+}
+
+// Declares `x` and `X`.
+fn declare_both(alloc: Global, scopes: &mut Scopes) -> Result<(Id, Id), DeclareError>
+    requires { scopes.old ≡ with_new_block first_blocks }
+    ensures { OnOk result (entry_count scopes.new < 2 ^ 32) }
+{
+    let small = scopes.declare(alloc, b"x", 0, OUTER)?;
+    let large = scopes.declare(alloc, b"X", 0, INNER)?;
+    Ok((small, large))
 }
 
 #[test]
 fn names_that_differ_in_case_are_two(rt: HostRuntime) -> Result<(), Fail> {
     let alloc = rt.alloc();
-    let mut scopes = Scopes::new(alloc)?;
-    scopes.push_block(alloc)?;
-    let first = scopes.declare(alloc, b"x", 0, OUTER)?;
-    let second = scopes.declare(alloc, b"X", 0, INNER)?;
-    assert_eq!(rt; scopes.find(b"x", 0), Some(first));
-    assert_eq!(rt; scopes.find(b"X", 0), Some(second));
+    let mut scopes = one_block(alloc)?;
+    let (small, large) = declare_both(alloc, &mut scopes)?;
+    let found = (scopes.find(b"x", 0), scopes.find(b"X", 0));
+    let again = scopes.declare(alloc, b"X", 0, Entry::Bad);
     assert_eq!(rt;
-        scopes.declare(alloc, b"X", 0, Entry::Bad),
-        Err(DeclareError::Twice(second))
+        (found, again, meaning(&scopes, b"X", 0)),
+        (
+            (Some(small), Some(large)),
+            Err(DeclareError::Twice(large)),
+            Some(INNER)
+        )
     );
-    assert_eq!(rt; meaning(&scopes, b"X", 0), Some(INNER));
+    Ok(())
+}
+
+const PREDECLARED: [(&str, Option<Entry>); 6] = [
+    ("INTEGER", Some(Entry::Named(INTEGER))),
+    ("CHAR", Some(Entry::Named(CHAR))),
+    ("BOOLEAN", Some(Entry::Named(BOOLEAN))),
+    ("TRUE", Some(Entry::Constant(BOOLEAN, 1))),
+    ("FALSE", Some(Entry::Constant(BOOLEAN, 0))),
+    ("true", None),
+];
+
+#[test]
+fn predeclared_names_stand_for_types_and_truths(rt: HostRuntime) -> Result<(), Fail> {
+    let scopes = Scopes::new(rt.alloc())?;
+    for (name, want) in &PREDECLARED {
+        assert_eq!(rt; meaning(&scopes, name.as_bytes(), 0), *want, "at {name}");
+    }
     Ok(())
 }
 
 #[test]
 fn predeclared_names_may_be_declared_again(rt: HostRuntime) -> Result<(), Fail> {
     let alloc = rt.alloc();
-    let mut scopes = Scopes::new(alloc)?;
-    for (name, want) in [
-        ("INTEGER", Some(Entry::Named(INTEGER))),
-        ("CHAR", Some(Entry::Named(CHAR))),
-        ("BOOLEAN", Some(Entry::Named(BOOLEAN))),
-        ("TRUE", Some(Entry::Constant(BOOLEAN, 1))),
-        ("FALSE", Some(Entry::Constant(BOOLEAN, 0))),
-        ("true", None),
-    ] {
-        assert_eq!(rt; meaning(&scopes, name.as_bytes(), 0), want, "at {name}");
-    }
-    scopes.push_block(alloc)?;
+    let mut scopes = one_block(alloc)?;
     scopes.declare(alloc, b"TRUE", 4, OUTER)?;
     assert_eq!(rt;
-        meaning(&scopes, b"TRUE", 3),
-        Some(Entry::Constant(BOOLEAN, 1))
+        (meaning(&scopes, b"TRUE", 3), meaning(&scopes, b"TRUE", 4)),
+        (Some(Entry::Constant(BOOLEAN, 1)), Some(OUTER))
     );
-    assert_eq!(rt; meaning(&scopes, b"TRUE", 4), Some(OUTER));
     Ok(())
 }
