@@ -30,14 +30,14 @@ returns c =
     let m = c.args.module.now in
     let source = c.args.source.now in
     let tokens = lexemes c.args.tokens.now in
-    named_judged source tokens (view.view_module m) c.text.result.now c.check_block.new.frame.variables c.check_end.new.checked c.named.result c.named.ensures.name c.named.ensures.globals c.named.ensures.checked
+    named_judged source tokens (view.view_module m) c.text-name.result.now c.check_block.new.frame.variables c.check_end.new.checked c.named.result c.named.ensures.name c.named.ensures.globals c.named.ensures.checked
     (module_by source tokens m.node (view.view_name m.name) m.block.node (view.decls_of m.block.decls.items) (view.body_of m.block.body) (view.view_name m.end_name)
     c.in_ok-reader.reader c.check_block.new.reader (frame_in c.in_ok-reader.reader c.new_frame-frame.result) (stand c.nothing_checked-checked.result c.in_ok-reader.reader) c.nothing_checked-checked.result.next
     c.check_block.new.checked.next c.check_end.new.checked.next (fault_of c.check_block.new.checked.fault) (fault_of c.check_end.new.checked.fault) (routines_in c.check_block.new.checked) (routines_in c.check_end.new.checked)
-    (map global_of c.check_block.new.frame.variables.items) c.text.result.now
+    (map global_of c.check_block.new.frame.variables.items) c.text-name.result.now
     c.in_ok-reader.ensures
     (frame_told c.in_ok-reader.reader c.new_frame-frame.result (new_frame c.in_ok-reader.reader 1) (c.new_frame-frame.ensures c.in_ok-reader.reader))
     (ap (λ (y : Stage). y.next) (c.nothing_checked-checked.ensures c.in_ok-reader.reader))
     (c.nothing_checked-checked.ensures c.in_ok-reader.reader)
     (rw c.saturating_sub.ensures at c.in_ok-check_block.ensures.stands) c.check_end.ensures c.in_ok-check_block.ensures.variables
-    (c.text.ensures ∙ ap (λ s. text_at s m.name.token) c.env.ensures))
+    (c.text-name.ensures ∙ ap (λ s. text_at s m.name.token) c.env.ensures))
