@@ -1,6 +1,7 @@
 // The bytes of two small objects: what is read of them, and what is refused.
 ghost use Rattle.std.specs.Prelude.{◌<◌};
 
+use alma_base::NoMemory;
 use alma_code::{Head, Instr, Run, SlotKind};
 use alma_object::{ObjectFault, ObjectView, encode};
 use std::alloc::Global;
@@ -30,40 +31,49 @@ fn with_byte(at: usize, byte: u8) -> [u8; 104]
     bytes
 }
 
+pub(crate) fn opened(bytes: &[u8]) -> Result<ObjectView<'_>, &'static str> {
+    ObjectView::new(bytes).ok().ok_or("an object")
+}
+
 #[test]
 fn an_object_is_read(rt: HostRuntime) -> Result<(), Fail> {
-    let view = ObjectView::new(&FIRST).ok().ok_or("an object")?;
+    let view = opened(&FIRST)?;
     assert_eq!(rt; view.version(), 1);
     assert_eq!(rt;
         (view.routine_count(), view.code_count(), view.global_count()),
         (1, 1, 0)
     );
     assert!(rt; matches!(view.instr(0), Instr::Return));
+    let more = [
+        view.routine(1).is_some(),
+        view.global(0).is_some(),
+        view.range(0).is_some(),
+        view.text(0).is_some(),
+        view.has_read(),
+    ];
+    assert_eq!(rt; more, [false; 5]);
+    Ok(())
+}
+
+#[test]
+fn a_routine_of_an_object_is_read(rt: HostRuntime) -> Result<(), Fail> {
+    let view = opened(&FIRST)?;
     let routine = view.routine(0).ok_or("a routine")?;
     assert_eq!(rt; routine.name(), b"A".as_slice());
-    assert_eq!(rt; (routine.code_start(), routine.code_end()), (0, 1));
-    assert_eq!(rt;
-        (
-            routine.slots(),
-            routine.declared(),
-            routine.param_count(),
-            routine.has_result()
-        ),
-        (1, 0, 0, false)
-    );
-    assert_eq!(rt; routine.run_count(), 1);
-    assert_eq!(rt;
-        routine.run(0),
-        Run {
-            kind: SlotKind::Number,
-            end: 1
-        }
-    );
-    assert!(rt; view.routine(1).is_none());
-    assert!(rt; view.global(0).is_none());
-    assert!(rt; view.range(0).is_none());
-    assert!(rt; view.text(0).is_none());
-    assert!(rt; !view.has_read());
+    let ends = [routine.code_start(), routine.code_end()];
+    assert_eq!(rt; ends, [0, 1]);
+    let counts = [
+        routine.slots(),
+        routine.declared(),
+        routine.param_count(),
+        routine.run_count(),
+    ];
+    assert_eq!(rt; (counts, routine.has_result()), ([1, 0, 0, 1], false));
+    let run = Run {
+        kind: SlotKind::Number,
+        end: 1,
+    };
+    assert_eq!(rt; routine.run(0), run);
     Ok(())
 }
 
@@ -86,23 +96,28 @@ fn fault_with(at: usize, byte: u8) -> Option<ObjectFault>
 
 #[test]
 fn one_byte_altered(rt: HostRuntime) {
-    assert_eq!(rt; fault_with(0, 0), Some(ObjectFault::Magic));
-    assert_eq!(rt; fault_with(8, 3), Some(ObjectFault::Version(3)));
-    assert_eq!(rt; fault_with(10, 0), Some(ObjectFault::BadCount(10)));
-    assert_eq!(rt; fault_with(42, 2), Some(ObjectFault::BadCount(58)));
-    assert_eq!(rt; fault_with(46, 2), Some(ObjectFault::BadName(46)));
-    assert_eq!(rt; fault_with(50, 1), Some(ObjectFault::BadCount(50)));
-    assert_eq!(rt; fault_with(86, 0x31), Some(ObjectFault::BadName(86)));
-    assert_eq!(rt; fault_with(88, 1), Some(ObjectFault::BadOpcode(87)));
-    assert_eq!(rt; fault_with(87, 0), Some(ObjectFault::BadOpcode(87)));
-    assert_eq!(rt; fault_with(87, 0x31), Some(ObjectFault::BadOpcode(87)));
-    // These break rules of sound code alone.
-    assert_eq!(rt; fault_with(66, 2), None);
-    assert_eq!(rt; fault_with(70, 1), None);
-    assert_eq!(rt; fault_with(74, 2), None);
-    assert_eq!(rt; fault_with(82, 2), None);
-    assert_eq!(rt; fault_with(87, 0x1a), None);
-    assert_eq!(rt; fault_with(87, 0x2f), None);
+    for (at, byte, want) in [
+        (0, 0, Some(ObjectFault::Magic)),
+        (8, 3, Some(ObjectFault::Version(3))),
+        (10, 0, Some(ObjectFault::BadCount(10))),
+        (42, 2, Some(ObjectFault::BadCount(58))),
+        (46, 2, Some(ObjectFault::BadName(46))),
+        (50, 1, Some(ObjectFault::BadCount(50))),
+        (86, 0x31, Some(ObjectFault::BadName(86))),
+        (88, 1, Some(ObjectFault::BadOpcode(87))),
+        (87, 0, Some(ObjectFault::BadOpcode(87))),
+        (87, 0x31, Some(ObjectFault::BadOpcode(87))),
+        // These break rules of sound code alone.
+        (66, 2, None),
+        (70, 1, None),
+        (74, 2, None),
+        (82, 2, None),
+        (87, 0x1a, None),
+        (87, 0x2f, None),
+    ] {
+        assert!(rt; at < 104);
+        assert_eq!(rt; fault_with(at, byte), want, "{byte} at {at}");
+    }
 }
 
 #[test]
@@ -117,26 +132,36 @@ fn a_byte_after_the_object(rt: HostRuntime) {
 
 #[test]
 fn version_two(rt: HostRuntime) -> Result<(), Fail> {
-    let view = ObjectView::new(&SECOND).ok().ok_or("an object")?;
-    assert_eq!(rt; view.code_count(), 1);
-    assert!(rt; matches!((view.version(), view.instr(0)), (2, Instr::Return)));
+    let view = opened(&SECOND)?;
+    assert_eq!(rt; (view.version(), view.code_count()), (2, 1));
+    assert!(rt; matches!(view.instr(0), Instr::Return));
     assert_eq!(rt;
         ObjectView::new(&SECOND[..107]).err(),
         Some(ObjectFault::Cut(107))
     );
+    Ok(())
+}
+
+#[test]
+fn version_two_has_own_links(rt: HostRuntime) -> Result<(), Fail> {
     let mut own = SECOND;
     own[91] = 0x31;
-    let view = ObjectView::new(&own).ok().ok_or("an object")?;
+    let view = opened(&own)?;
     assert_eq!(rt; view.code_count(), 1);
     assert!(rt; matches!(view.instr(0), Instr::Own { to: 0 }));
     Ok(())
 }
 
+// The object of the code that is read of an object.
+fn spelled_again(alloc: Global, view: ObjectView<'_>) -> Result<Vec<u8>, NoMemory> {
+    let code = view.to_code(alloc)?;
+    encode(alloc, &code)
+}
+
 #[test]
 fn a_code_that_is_copied_has_the_same_object(rt: HostRuntime) -> Result<(), Fail> {
-    let view = ObjectView::new(&SECOND).ok().ok_or("an object")?;
-    let code = view.to_code(rt.alloc()).ok().ok_or("memory")?;
-    let object = encode(rt.alloc(), &code).ok().ok_or("memory")?;
+    let view = opened(&SECOND)?;
+    let object = spelled_again(rt.alloc(), view)?;
     assert_eq!(rt; object.as_slice(), SECOND.as_slice());
     Ok(())
 }
@@ -146,10 +171,7 @@ fn is_one_spelling(alloc: Global, bytes: &[u8]) -> bool {
     let Ok(view) = ObjectView::new(bytes) else {
         return true;
     };
-    let Ok(code) = view.to_code(alloc) else {
-        return false;
-    };
-    match encode(alloc, &code) {
+    match spelled_again(alloc, view) {
         Ok(object) => object.as_slice() == bytes,
         Err(_) => false,
     }

@@ -1,7 +1,7 @@
 // The same objects, and which rule they break with one byte altered.
 ghost use Rattle.std.specs.Prelude.{◌<◌};
 
-use crate::object::{FIRST, SECOND};
+use crate::object::{FIRST, SECOND, opened};
 use alma_object::ObjectView;
 use alma_verify::{VerifyFault, verify};
 use std::test::Fail;
@@ -29,29 +29,33 @@ fn with_byte(at: usize, byte: u8) -> Option<Result<(), VerifyFault>>
 
 #[test]
 fn objects_of_both_versions_are_sound(rt: HostRuntime) -> Result<(), Fail> {
-    assert_eq!(rt; verdict(&FIRST), Some(Ok(())));
-    assert_eq!(rt; verdict(&SECOND), Some(Ok(())));
-    let view = ObjectView::new(&SECOND).ok().ok_or("an object")?;
-    let verified = verify(view).ok().ok_or("sound")?;
-    assert_eq!(rt; verified.view().version(), 2);
-    assert_eq!(rt; verified.view().code_count(), 1);
+    let verdicts = [verdict(&FIRST), verdict(&SECOND)];
+    assert_eq!(rt; verdicts, [Some(Ok(())); 2]);
+    let verified = verify(opened(&SECOND)?).ok().ok_or("sound")?;
+    let view = verified.view();
+    assert_eq!(rt; (view.version(), view.code_count()), (2, 1));
     Ok(())
 }
 
 #[test]
 fn one_byte_altered(rt: HostRuntime) {
-    assert_eq!(rt; with_byte(66, 2), broken(2, 0));
-    assert_eq!(rt; with_byte(70, 1), broken(1, 0));
-    assert_eq!(rt; with_byte(74, 2), broken(3, 0));
-    assert_eq!(rt; with_byte(82, 2), broken(2, 0));
-    assert_eq!(rt; with_byte(87, 0x25), broken(10, 0));
-    assert_eq!(rt; with_byte(87, 0x27), broken(4, 0));
-    assert_eq!(rt; with_byte(87, 0x2e), broken(11, 0));
-    assert_eq!(rt; with_byte(87, 0x2f), broken(12, 0));
-    // A jump to itself.
-    assert_eq!(rt; with_byte(87, 0x1a), Some(Ok(())));
-    // No object.
-    assert_eq!(rt; with_byte(87, 0x31), None);
+    for (at, byte, want) in [
+        (66, 2, broken(2, 0)),
+        (70, 1, broken(1, 0)),
+        (74, 2, broken(3, 0)),
+        (82, 2, broken(2, 0)),
+        (87, 0x25, broken(10, 0)),
+        (87, 0x27, broken(4, 0)),
+        (87, 0x2e, broken(11, 0)),
+        (87, 0x2f, broken(12, 0)),
+        // A jump to itself.
+        (87, 0x1a, Some(Ok(()))),
+        // No object.
+        (87, 0x31, None),
+    ] {
+        assert!(rt; at < 104);
+        assert_eq!(rt; with_byte(at, byte), want, "{byte} at {at}");
+    }
 }
 
 #[test]
