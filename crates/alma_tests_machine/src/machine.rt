@@ -1,7 +1,7 @@
 // The machine, run on the verified objects of small codes.
-ghost use Rattle.std.specs.Prelude.{◌≡◌, ◌≤◌, ◌<◌, ◌^◌, length, IfOk};
-ghost use Rattle.alma_code.specs.Plain.{code_of};
-ghost use Rattle.alma_tests_machine.specs.Small.{small_code};
+ghost use Rattle.std.specs.Prelude.{◌≡◌, ◌≤◌, ◌<◌, ◌^◌, ◌∷◌, [], length, map, codes, IfOk};
+ghost use Rattle.alma_code.specs.Plain.{code_of, routine_of};
+ghost use Rattle.alma_tests_machine.specs.Small.{small_routine, small_code};
 
 use alma_base::{NoMemory, Range, RunFault};
 use alma_code::{Code, Instr, RoutineHead, Run, SlotKind};
@@ -190,51 +190,72 @@ const ROWS: [Row; 8] = [
     },
 ];
 
-// The code of a module body with nine number slots, place slots for one, four and two cells, a range and a text.
-fn small(alloc: Global, instrs: &[Instr]) -> Result<Code, NoMemory>
-    requires { length instrs.now < 2 ^ 32 }
-    ensures { IfOk result (λ code. code_of code ≡ small_code instrs.now) }
-{
-    let mut kinds = Vec::new(alloc);
-    kinds.push(Run {
+const KINDS: [Run; 5] = [
+    Run {
         kind: SlotKind::Number,
         end: 5,
-    })?;
-    kinds.push(Run {
+    },
+    Run {
         kind: SlotKind::Place(1),
         end: 6,
-    })?;
-    kinds.push(Run {
+    },
+    Run {
         kind: SlotKind::Number,
         end: 10,
-    })?;
-    kinds.push(Run {
+    },
+    Run {
         kind: SlotKind::Place(4),
         end: 11,
-    })?;
-    kinds.push(Run {
+    },
+    Run {
         kind: SlotKind::Place(2),
         end: 13,
-    })?;
+    },
+];
+
+// A module body with nine number slots, and place slots for one, four and two cells.
+fn small_routines(alloc: Global, code_end: u32) -> Result<Vec<RoutineHead>, NoMemory>
+    ensures { IfOk result (λ routines. map routine_of routines.items ≡ small_routine code_end ∷ []) }
+{
+    let kinds = Vec::from_slice(alloc, &KINDS)?;
+    let name = Vec::from_slice(alloc, b"A")?;
     let mut routines = Vec::new(alloc);
     routines.push(RoutineHead {
-        name: Vec::from_slice(alloc, b"A")?,
+        name,
         slots: 13,
         declared: 2,
         kinds,
         params: Vec::new(alloc),
         result: false,
-        code_end: instrs.len() as u32,
+        code_end,
     })?;
+    Ok(routines)
+}
+
+// The text `ok`.
+fn small_texts(alloc: Global) -> Result<Vec<Vec<u8>>, NoMemory>
+    ensures { IfOk result (λ texts. map (λ text. text.items) texts.items ≡ codes "ok" ∷ []) }
+{
     let mut texts = Vec::new(alloc);
     texts.push(Vec::from_slice(alloc, b"ok")?)?;
+    Ok(texts)
+}
+
+// The code of such a module body, with a range and a text.
+fn small(alloc: Global, instrs: &[Instr]) -> Result<Code, NoMemory>
+    requires { length instrs.now < 2 ^ 32 }
+    ensures { IfOk result (λ code. code_of code ≡ small_code instrs.now) }
+{
+    let ranges = Vec::from_slice(alloc, &[Range { low: 1, high: 2 }])?;
+    let code = Vec::from_slice(alloc, instrs)?;
+    let texts = small_texts(alloc)?;
     Ok(Code {
         version: 1,
-        routines,
+        routines: small_routines(alloc, instrs.len() as u32)?,
         globals: Vec::new(alloc),
-        ranges: Vec::from_slice(alloc, &[Range { low: 1, high: 2 }])?,
+        ranges,
         texts,
-        code: Vec::from_slice(alloc, instrs)?,
+        code,
         lines: Vec::new(alloc),
     })
 }
@@ -277,17 +298,49 @@ fn a_run_ends_as_its_code_says(rt: HostRuntime) -> Result<(), Fail> {
     Ok(())
 }
 
+// How a run of the code ends, its steps, choices and fails, and whether it prints this.
+fn run_of(
+    alloc: Global,
+    code: Verified<'_>,
+    print: &[u8],
+) -> Result<(RunEnd, [u64; 3], bool), NoMemory> {
+    let mut machine = Machine::new(alloc, code, b"")?;
+    let mut out = MemSink::new(alloc, 99, 99, &[])?;
+    let end = machine.run(99, &mut out);
+    let counts = [machine.steps(), machine.choices(), machine.fails()];
+    Ok((end, counts, out.bytes() == print))
+}
+
 #[test]
 fn parts_are_copied_and_a_loop_counts(rt: HostRuntime) -> Result<(), Fail> {
     let object = object(rt.alloc(), &PARTS)?;
     let code = opened(&object).ok_or("sound")?;
-    let mut machine = Machine::new(rt.alloc(), code, b"")?;
-    let mut out = MemSink::new(rt.alloc(), 99, 99, &[])?;
-    let end = machine.run(99, &mut out);
-    assert_eq!(rt; end, RunEnd::Fault(RunFault::NoCase));
-    assert_eq!(rt; machine.steps(), 24);
-    assert_eq!(rt; out.bytes(), b"BAok\n12".as_slice());
+    let (end, [steps, _, _], is_printed) = run_of(rt.alloc(), code, b"BAok\n12")?;
+    assert_eq!(rt;
+        (end, steps, is_printed),
+        (RunEnd::Fault(RunFault::NoCase), 24, true)
+    );
     Ok(())
+}
+
+// How a run of so many steps ends, and one of the rest of 31, with whether all is printed then and the machine runs on;
+// no second run where the first took other steps.
+fn two_runs(
+    alloc: Global,
+    code: Verified<'_>,
+    budget: u64,
+) -> Result<(RunEnd, Option<(RunEnd, bool, bool)>), NoMemory>
+    requires { budget ≤ 31 }
+{
+    let mut machine = Machine::new(alloc, code, b"")?;
+    let mut out = MemSink::new(alloc, 99, 99, &[])?;
+    let end = machine.run(budget, &mut out);
+    if !machine.is_running() || machine.steps() != budget {
+        return Ok((end, None));
+    }
+    let rest = machine.run(31 - budget, &mut out);
+    let is_printed = out.bytes() == b"123FALSE".as_slice();
+    Ok((end, Some((rest, is_printed, machine.is_running()))))
 }
 
 #[test]
@@ -295,30 +348,41 @@ fn steps_run_out_at_each_budget_below_the_whole(rt: HostRuntime) -> Result<(), F
     let object = object(rt.alloc(), &COUNT)?;
     let code = opened(&object).ok_or("sound")?;
     for budget in 0..31 {
-        let mut machine = Machine::new(rt.alloc(), code, b"")?;
-        let mut out = MemSink::new(rt.alloc(), 99, 99, &[])?;
-        assert_eq!(rt; machine.run(budget, &mut out), RunEnd::StepsOut);
-        assert_eq!(rt; machine.steps(), budget);
-        assert!(rt; machine.is_running());
-        let rest = machine.run(31 - budget, &mut out);
-        assert_eq!(rt; rest, RunEnd::Succeeded);
-        assert_eq!(rt; out.bytes(), b"123FALSE".as_slice());
-        assert!(rt; !machine.is_running());
+        let ends = two_runs(rt.alloc(), code, budget)?;
+        assert_eq!(rt;
+            ends,
+            (RunEnd::StepsOut, Some((RunEnd::Succeeded, true, false))),
+            "after {budget}"
+        );
     }
     Ok(())
+}
+
+// How a run ends whose write of this number fails, whether it prints this, and whether the machine runs on.
+fn faulty_run(
+    alloc: Global,
+    code: Verified<'_>,
+    number: u64,
+    print: &[u8],
+) -> Result<(RunEnd, bool, bool), NoMemory> {
+    let mut machine = Machine::new(alloc, code, b"")?;
+    let mut out = MemSink::new(alloc, 99, 99, &[number])?;
+    let end = machine.run(99, &mut out);
+    Ok((end, out.bytes() == print, machine.is_running()))
 }
 
 #[test]
 fn a_write_fault_stops_the_machine(rt: HostRuntime) -> Result<(), Fail> {
     let object = object(rt.alloc(), &COUNT)?;
     let code = opened(&object).ok_or("sound")?;
-    let written: [&[u8]; 4] = [b"", b"1", b"12", b"123"];
-    for (k, bytes) in written.iter().enumerate() {
-        let mut machine = Machine::new(rt.alloc(), code, b"")?;
-        let mut out = MemSink::new(rt.alloc(), 99, 99, &[k as u64 + 1])?;
-        assert_eq!(rt; machine.run(99, &mut out), RunEnd::WriteFault);
-        assert_eq!(rt; out.bytes(), *bytes);
-        assert!(rt; !machine.is_running());
+    for (number, print) in [
+        (1, b"".as_slice()),
+        (2, b"1".as_slice()),
+        (3, b"12".as_slice()),
+        (4, b"123".as_slice()),
+    ] {
+        let end = faulty_run(rt.alloc(), code, number, print)?;
+        assert_eq!(rt; end, (RunEnd::WriteFault, true, false), "write {number}");
     }
     Ok(())
 }
@@ -374,13 +438,7 @@ const TWO_WAYS: [Instr; 13] = [
 fn a_failed_alternative_leaves_no_trace(rt: HostRuntime) -> Result<(), Fail> {
     let object = object(rt.alloc(), &TWO_WAYS)?;
     let code = opened(&object).ok_or("sound")?;
-    let mut machine = Machine::new(rt.alloc(), code, b"")?;
-    let mut out = MemSink::new(rt.alloc(), 99, 99, &[])?;
-    assert_eq!(rt; machine.run(99, &mut out), RunEnd::Succeeded);
-    assert_eq!(rt; out.bytes(), b"12\n".as_slice());
-    assert_eq!(rt;
-        (machine.steps(), machine.choices(), machine.fails()),
-        (14, 1, 1)
-    );
+    let run = run_of(rt.alloc(), code, b"12\n")?;
+    assert_eq!(rt; run, (RunEnd::Succeeded, [14, 1, 1], true));
     Ok(())
 }

@@ -1,4 +1,6 @@
 // The first sources of a sample.
+ghost use Rattle.std.specs.Prelude.{◌≤◌};
+
 use alma_sample::sample_source;
 use std::alloc::Global;
 use std::test::Fail;
@@ -22,18 +24,24 @@ fn with_lines(alloc: Global, lines: &[u8]) -> Result<Vec<u8>, Fail> {
     Ok(source)
 }
 
+/// Whether a sample of so many lines has these lines, and is so long.
+fn is_sample(alloc: Global, count: u32, lines: &[u8], len: usize) -> Result<bool, Fail>
+    requires { count ≤ 5000 }
+{
+    let sample = sample_source(alloc, count)?;
+    let want = with_lines(alloc, lines)?;
+    Ok(sample == want && sample.len() == len)
+}
+
 #[test]
 fn samples_have_the_lines_of_their_numbers(rt: HostRuntime) -> Result<(), Fail> {
-    let none = sample_source(rt.alloc(), 0)?;
-    assert_eq!(rt; none, with_lines(rt.alloc(), b"")?);
-    assert_eq!(rt; none.len(), 128);
-    let one = sample_source(rt.alloc(), 1)?;
-    assert_eq!(rt; one, with_lines(rt.alloc(), FIRST)?);
-    assert_eq!(rt; one.len(), 140);
-    let two = sample_source(rt.alloc(), 2)?;
-    assert_eq!(rt; two, with_lines(rt.alloc(), TWO)?);
-    assert_eq!(rt; two.len(), 152);
-    let six = sample_source(rt.alloc(), 6)?;
-    assert_eq!(rt; six, with_lines(rt.alloc(), SIX)?);
+    for (count, lines, len) in [
+        (0, b"".as_slice(), 128),
+        (1, FIRST, 140),
+        (2, TWO, 152),
+        (6, SIX, 306),
+    ] {
+        assert!(rt; is_sample(rt.alloc(), count, lines, len)?, "{count} lines");
+    }
     Ok(())
 }

@@ -275,13 +275,16 @@ fn kinds(alloc: Global, source: &[u8]) -> Result<Vec<Kind>, Fail> {
     Ok(kinds)
 }
 
+/// Whether a source has tokens of these kinds, and no other.
+fn has_kinds(alloc: Global, source: &[u8], want: &[Kind]) -> Result<bool, Fail> {
+    let kinds = kinds(alloc, source)?;
+    Ok(kinds.as_slice() == want)
+}
+
 #[test]
 fn spellings(rt: HostRuntime) -> Result<(), Fail> {
-    assert_eq!(rt;
-        kinds(rt.alloc(), SYMBOLS)?.as_slice(),
-        SYMBOL_KINDS.as_slice()
-    );
-    assert_eq!(rt; kinds(rt.alloc(), WORDS)?.as_slice(), WORD_KINDS.as_slice());
+    assert!(rt; has_kinds(rt.alloc(), SYMBOLS, &SYMBOL_KINDS)?, "symbols");
+    assert!(rt; has_kinds(rt.alloc(), WORDS, &WORD_KINDS)?, "words");
     Ok(())
 }
 
@@ -316,31 +319,42 @@ fn outcome(alloc: Global, source: &[u8]) -> Result<usize, ScanError> {
     Ok(scan(alloc, source)?.len())
 }
 
+/// The number of tokens, or the fault, of so many copies of a pattern and an end.
+fn repeated_outcome(
+    alloc: Global,
+    pattern: &[u8],
+    count: usize,
+    end: &[u8],
+) -> Result<Result<usize, ScanError>, Fail> {
+    let source = repeated(alloc, pattern, count, end)?;
+    Ok(outcome(alloc, &source))
+}
+
 #[test]
 fn long_sources(rt: HostRuntime) -> Result<(), Fail> {
-    let alloc = rt.alloc();
-    let nines = repeated(alloc, b"9", 1_000_000, b"")?;
-    assert_eq!(rt;
-        outcome(alloc, &nines),
-        Err(ScanError::Lex(LexFault::NumberTooLarge, 0))
-    );
-    let zeros = repeated(alloc, b"0", 1_000_000, b"7;")?;
-    assert_eq!(rt; outcome(alloc, &zeros), Ok(2));
-    let open = repeated(alloc, b"(*", 524_288, b"")?;
-    assert_eq!(rt;
-        outcome(alloc, &open),
-        Err(ScanError::Lex(LexFault::OpenComment, 0))
-    );
+    let too_large = Err(ScanError::Lex(LexFault::NumberTooLarge, 0));
+    let open = Err(ScanError::Lex(LexFault::OpenComment, 0));
+    for (pattern, count, end, want) in [
+        (b"9".as_slice(), 1_000_000, b"".as_slice(), too_large),
+        (b"0".as_slice(), 1_000_000, b"7;".as_slice(), Ok(2)),
+        (b"(*".as_slice(), 524_288, b"".as_slice(), open),
+    ] {
+        let found = repeated_outcome(rt.alloc(), pattern, count, end)?;
+        assert_eq!(rt; found, want, "{count} times {pattern:?}");
+    }
     Ok(())
+}
+
+/// A comment in so many others, and a word behind them.
+fn nested(alloc: Global, depth: usize) -> Result<Vec<u8>, Fail> {
+    let closings = repeated(alloc, b"*)", depth, b" END")?;
+    repeated(alloc, b"(*", depth, &closings)
 }
 
 #[test]
 fn deep_comment(rt: HostRuntime) -> Result<(), Fail> {
-    let alloc = rt.alloc();
-    let mut nested = repeated(alloc, b"(*", 262_143, b"")?;
-    let closings = repeated(alloc, b"*)", 262_143, b" END")?;
-    nested.extend_from_slice(&closings)?;
-    assert_eq!(rt; outcome(alloc, &nested), Ok(1));
+    let source = nested(rt.alloc(), 262_143)?;
+    assert_eq!(rt; outcome(rt.alloc(), &source), Ok(1));
     Ok(())
 }
 

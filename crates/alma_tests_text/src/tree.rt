@@ -66,21 +66,21 @@ fn the_empty_module(rt: HostRuntime) -> Result<(), Fail> {
     Ok(())
 }
 
-#[test]
-fn a_statement(rt: HostRuntime) -> Result<(), Fail> {
+/// A module that returns a number.
+fn returning(alloc: Global) -> Result<Module, NoMemory> {
     let number = Primary::Number {
         node: 0,
         number: Leaf { token: 5 },
     };
-    let value = expr_of(rt.alloc(), number)?;
-    let body = stmts_of(
-        rt.alloc(),
-        Stmt::Return {
-            node: 0,
-            value: Some(value),
-        },
-    )?;
-    let spelling = spell(rt.alloc(), &module_of(rt.alloc(), Some(body)))?;
+    let value = Some(expr_of(alloc, number)?);
+    let body = stmts_of(alloc, Stmt::Return { node: 0, value })?;
+    Ok(module_of(alloc, Some(body)))
+}
+
+#[test]
+fn a_statement(rt: HostRuntime) -> Result<(), Fail> {
+    let module = returning(rt.alloc())?;
+    let spelling = spell(rt.alloc(), &module)?;
     let front = [
         Kind::Module,
         Kind::Name,
@@ -90,27 +90,24 @@ fn a_statement(rt: HostRuntime) -> Result<(), Fail> {
         Kind::Number,
     ];
     assert_eq!(rt; spelling.len(), 9);
-    assert_eq!(rt; &spelling[..6], front.as_slice());
-    assert_eq!(rt; depth(&spelling), 1);
+    assert_eq!(rt; (&spelling[..6], depth(&spelling)), (front.as_slice(), 1));
     Ok(())
 }
 
 #[test]
 fn depths(rt: HostRuntime) {
-    assert_eq!(rt; depth(&[]), 0);
-    assert_eq!(rt;
+    let crossed = [
+        Kind::Repeat,
+        Kind::OpenBracket,
+        Kind::CloseBracket,
+        Kind::Until,
+    ];
+    let depths = [
+        depth(&[]),
         depth(&[Kind::CloseParen, Kind::OpenParen, Kind::OpenParen]),
-        1
-    );
-    assert_eq!(rt;
-        depth(&[
-            Kind::Repeat,
-            Kind::OpenBracket,
-            Kind::CloseBracket,
-            Kind::Until
-        ]),
-        2
-    );
-    assert!(rt; Kind::Name.is(Kind::Name));
-    assert!(rt; !Kind::Less.is(Kind::LessEq));
+        depth(&crossed),
+    ];
+    assert_eq!(rt; depths, [0, 1, 2]);
+    let same = [Kind::Name.is(Kind::Name), Kind::Less.is(Kind::LessEq)];
+    assert_eq!(rt; same, [true, false]);
 }
