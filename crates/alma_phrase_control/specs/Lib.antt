@@ -1,0 +1,1 @@
+pub use Rattle.alma_phrase_steps.specs.Pieces
