@@ -23,24 +23,24 @@ abbrev pub whole : ℕ → tree.Name → ℕ → tree.DeclTail → Option tree.S
 whole n name k decls body end_name = record { node = n; name = name; block = tree.block k decls body; end_name = end_name }
 
 -- the scene in which its block is read
-abbrev pub opened : List ℕ → List Lexeme → ℕ → tree.Name → ℕ → tree.DeclTail → Option tree.Stmts → tree.Name → Scene
-opened source tokens n name k decls body end_name = with_block (first_scene source tokens (whole n name k decls body end_name)) 0 nothing [] (tree.block k decls body)
+abbrev pub entry_scene : List ℕ → List Lexeme → ℕ → tree.Name → ℕ → tree.DeclTail → Option tree.Stmts → tree.Name → Scene
+entry_scene source tokens n name k decls body end_name = with_block (first_scene source tokens (whole n name k decls body end_name)) 0 nothing [] (tree.block k decls body)
 
-opened_ground : (source : List ℕ) (tokens : List Lexeme) (n : ℕ) (name : tree.Name) (k : ℕ) (decls : tree.DeclTail) (body : Option tree.Stmts) (end_name : tree.Name)
-    → record { of_source : (opened source tokens n name k decls body end_name).source ≡ source; of_tokens : (opened source tokens n name k decls body end_name).tokens ≡ tokens }
-opened_ground source tokens n name k decls body end_name =
+entry_ground : (source : List ℕ) (tokens : List Lexeme) (n : ℕ) (name : tree.Name) (k : ℕ) (decls : tree.DeclTail) (body : Option tree.Stmts) (end_name : tree.Name)
+    → record { of_source : (entry_scene source tokens n name k decls body end_name).source ≡ source; of_tokens : (entry_scene source tokens n name k decls body end_name).tokens ≡ tokens }
+entry_ground source tokens n name k decls body end_name =
     let e = block_same ground ground_steady (first_scene source tokens (whole n name k decls body end_name)) 0 nothing [] (tree.block k decls body) in
     record { of_source = ap (λ g. g.source) e; of_tokens = ap (λ g. g.tokens) e }
 
 pub module_ready : (source : List ℕ) (tokens : List Lexeme) (n : ℕ) (name : tree.Name) (k : ℕ) (decls : tree.DeclTail) (body : Option tree.Stmts) (end_name : tree.Name) (lines : List ℕ) (s : Scene) (next : ℕ)
-    → IsRising (whole n name k decls body end_name) → lines ≡ source → s ≡ opened source tokens n name k decls body end_name → next ≡ 1 → IsReady lines s next decls body
+    → IsRising (whole n name k decls body end_name) → lines ≡ source → s ≡ entry_scene source tokens n name k decls body end_name → next ≡ 1 → IsReady lines s next decls body
 unfolding block_routines
 module_ready source tokens n name k decls body end_name lines s next h l e is =
     let r = rising_module (whole n name k decls body end_name) k decls body refl h in
-    let heads : (opened source tokens n name k decls body end_name).headings ≡ replicate (1 + decls_routines decls) None =
+    let heads : (entry_scene source tokens n name k decls body end_name).headings ≡ replicate (1 + decls_routines decls) None =
     block_same (λ (x : Scene). x.headings) headings_steady (first_scene source tokens (whole n name k decls body end_name)) 0 nothing [] (tree.block k decls body) in
     rw (l, e, is) (record {
-      lined = sym (opened_ground source tokens n name k decls body end_name).of_source;
+      lined = sym (entry_ground source tokens n name k decls body end_name).of_source;
       empty = λ i le lt. ap (λ hs. get_or hs i None) heads ∙ get_or-replicate (1 + decls_routines decls) i None None (omega (arith, lt));
       rising = r.in_decls;
       rising_body = r.in_body;
@@ -80,7 +80,7 @@ module_rest source tokens n name k decls body end_name =
 
 pub module_by : (source : List ℕ) (tokens : List Lexeme) (n : ℕ) (name : tree.Name) (k : ℕ) (decls : tree.DeclTail) (body : Option tree.Stmts) (end_name : tree.Name)
     (s1 s2 : Scene) (f : Frame) (t0 : Stage) (next n2 n3 : ℕ) (f2 f3 : Option Broken) (v2 v3 : Option (List ir.Routine)) (globals : List ir.Global) (text : List ℕ)
-    → s1 ≡ opened source tokens n name k decls body end_name → f ≡ new_frame s1 1 → next ≡ 1 → t0 ≡ stage None (Some []) 1 s1
+    → s1 ≡ entry_scene source tokens n name k decls body end_name → f ≡ new_frame s1 1 → next ≡ 1 → t0 ≡ stage None (Some []) 1 s1
     → through_read t0 (read_decls f next decls) name 0 (end_name.token - 1) decls body ≡ stage f2 v2 n2 s2
     → stage f3 v3 n3 s2 ≡ with_least (stage f2 v2 n2 s2) (broken_at end_name.node (end_rules s2 name end_name))
     → globals ≡ (read_decls f next decls).variables → text ≡ text_at s2 name.token
@@ -94,7 +94,7 @@ module_by source tokens n name k decls body end_name s1 s2 f t0 next n2 n3 f2 f3
     let e1 = subst (λ (y : Stage). through_read y (read_decls f next decls) name 0 (end_name.token - 1) decls body ≡ stage f2 v2 n2 s2) t' e in
     let e2 = subst (λ (y : Frame). through_read (stage None (Some []) 1 (module_frame source tokens m).scene) y name 0 (end_name.token - 1) decls body ≡ stage f2 v2 n2 s2) g' e1 in
     let is : s2 ≡ with_shapes g.scene (judge_bodies g.scene 1 decls).shapes = sym (ap (λ (y : Stage). y.scene) e2) in
-    let toks : s2.tokens ≡ tokens = ap (λ (y : Scene). y.tokens) is ∙ (ap (λ y. y.tokens) (decls_ground (module_frame source tokens m) 1 decls) ∙ (opened_ground source tokens n name k decls body end_name).of_tokens) in
+    let toks : s2.tokens ≡ tokens = ap (λ (y : Scene). y.tokens) is ∙ (ap (λ y. y.tokens) (decls_ground (module_frame source tokens m) 1 decls) ∙ (entry_ground source tokens n name k decls body end_name).of_tokens) in
     let ends : broken_at end_name.node (end_rules s2 name end_name) ≡ broken_at end_name.node (end_rules (first_scene source tokens m) name end_name) = ap (broken_at end_name.node) (end_same s2 (first_scene source tokens m) name end_name toks) in
     let all : rest (stage f3 v3 n3 s2) ≡ record { fault = least (broken source tokens m); routines = unless_broken (least (broken source tokens m)) (judge_module source tokens m).value } =
     ap rest (w ∙ (ap (with_least (stage f2 v2 n2 s2)) ends ∙ ap (λ (y : Stage). with_least y (broken_at end_name.node (end_rules (first_scene source tokens m) name end_name))) (sym e2)))

@@ -59,7 +59,7 @@ fn outermost<'e, 's>(
 }
 
 // The reader where the block of a module begins.
-fn opened<'e, 's>(
+fn open_module<'e, 's>(
     alloc: Global,
     module: &Module,
     tokens: &'e [Token<'s>],
@@ -75,7 +75,7 @@ fn opened<'e, 's>(
 }
 
 // What was found of a module of this name.
-fn named(
+fn with_name(
     alloc: Global,
     name: &[u8],
     globals: Vec<alma_ir::Global>,
@@ -106,7 +106,7 @@ fn judge_whole(
         (map global_of w.globals.items)) }
 {
     let lines = Lines::new(alloc, source)?;
-    let mut reader = opened(alloc, module, tokens, source)?;
+    let mut reader = open_module(alloc, module, tokens, source)?;
     let mut frame = new_frame(alloc, 1);
     let mut checked = nothing_checked(alloc);
     let site = Site {
@@ -125,7 +125,7 @@ fn judge_whole(
     )?;
     check_end(&reader, &mut checked, &module.name, &module.end_name);
     let name = reader.env().text(module.name.token);
-    named(alloc, name, frame.variables, checked)
+    with_name(alloc, name, frame.variables, checked)
 }
 
 // The least of the broken rules, with the first token of its node.

@@ -2,7 +2,7 @@ use Rattle.std.proofs.Common.{[], ◌∙◌, ap}
 use Rattle.alma_rules.specs.Scene.{Scene, nothing}
 use Rattle.alma_rules.specs.Decls.{with_block}
 use Rattle.alma_rules.specs.View as view
-use Rattle.alma_check_stmt.proofs.module.opened.Goals as goal
+use Rattle.alma_check_stmt.proofs.module.open_module.Goals as goal
 
 pub returns : goal.returns
 returns c =
