@@ -6,64 +6,75 @@ ghost use Rattle.alma_emit_work.specs.Front.{around, front};
 ghost use Rattle.alma_emit_work.specs.Puts.{PutsStmt};
 ghost use Rattle.alma_emit_forms.specs.Loops.{PassesAndBounds, PutsTurn};
 ghost use Rattle.alma_templates.specs.Templates.{own_slot};
+ghost use Rattle.alma_emit_values.specs.Inside.{EmitsStmts};
 
-use crate::designator::emit_target;
-use crate::expression::emit_expr;
-use crate::statement::emit_stmts;
 use alma_base::NoMemory;
 use alma_emit_forms::begin_loop;
 use alma_emit_parts::{Bounds, Scene, Work, begin_for, begin_some, end_for, end_some, put_count};
-use alma_ir::Loop;
+use alma_emit_values::{emit_expr, emit_inside, emit_target};
+use alma_ir::{Loop, Stmt};
 
 // FOR. The lines of the variable come first, and its code behind that of the bounds.
-#[cycle(emit)]
-pub(crate) fn emit_for(
+pub(crate) fn emit_for<S>(
     work: &mut Work,
     scene: &Scene<'_>,
     line: u32,
     each: &Loop,
+    inside: &S,
 ) -> Result<(), NoMemory>
+where
+    S: for<'a, 'b, 'c, 'd> Fn(&'a mut Work, &'b Scene<'c>, &'d [Stmt]) -> Result<(), NoMemory>,
+    requires callable { S.IsAlwaysCallable inside.now }
+    requires emits { EmitsStmts (λ w s b r n. S.post inside.now w s b r n) }
     ensures puts { OnOk result (PutsStmt (around scene.now) line
         (front work.old) (front work.new) (tree.ForTo (loop_of each.now))) }
 {
     let before = work.position();
-    let (step, bounds) = emit_bounds(work, scene, line, each, each.by)?;
+    let (step, bounds) = emit_bounds(work, scene, line, each, each.by, inside)?;
     let after = work.position();
     let (jump, top) = begin_for(work, line, each.by, bounds)?;
     work.go_to(before);
-    let done = emit_turn(work, scene, line, each, bounds.counter, after);
+    let done = emit_turn(work, scene, line, each, bounds.counter, after, inside);
     end_for(work, done, line, bounds, step, jump, top)
 }
 
 // SOME.
-#[cycle(emit)]
-pub(crate) fn emit_some(
+pub(crate) fn emit_some<S>(
     work: &mut Work,
     scene: &Scene<'_>,
     line: u32,
     each: &Loop,
+    inside: &S,
 ) -> Result<(), NoMemory>
+where
+    S: for<'a, 'b, 'c, 'd> Fn(&'a mut Work, &'b Scene<'c>, &'d [Stmt]) -> Result<(), NoMemory>,
+    requires callable { S.IsAlwaysCallable inside.now }
+    requires emits { EmitsStmts (λ w s b r n. S.post inside.now w s b r n) }
     ensures puts { OnOk result (PutsStmt (around scene.now) line
         (front work.old) (front work.new) (tree.SomeOf (loop_of each.now))) }
 {
     let before = work.position();
-    let (step, bounds) = emit_bounds(work, scene, line, each, 1)?;
+    let (step, bounds) = emit_bounds(work, scene, line, each, 1, inside)?;
     let after = work.position();
     let aims = begin_some(work, line, bounds)?;
     work.go_to(before);
-    let done = emit_turn(work, scene, line, each, bounds.counter, after);
+    let done = emit_turn(work, scene, line, each, bounds.counter, after, inside);
     end_some(work, done, line, bounds.counter, step, aims)
 }
 
 // The step of a loop, and both bounds, behind the lines of its variable.
-#[cycle(emit)]
-fn emit_bounds(
+fn emit_bounds<S>(
     work: &mut Work,
     scene: &Scene<'_>,
     line: u32,
     each: &Loop,
     by: i64,
+    inside: &S,
 ) -> Result<(u32, Bounds), NoMemory>
+where
+    S: for<'a, 'b, 'c, 'd> Fn(&'a mut Work, &'b Scene<'c>, &'d [Stmt]) -> Result<(), NoMemory>,
+    requires callable { S.IsAlwaysCallable inside.now }
+    requires emits { EmitsStmts (λ w s b r n. S.post inside.now w s b r n) }
     ensures counter { IfOk result (λ r. r.1.counter ≡ own_slot (around scene.now).program
         (around scene.now).tables (around scene.now).routine each.now.counter) }
     ensures limit { IfOk result (λ r. r.1.limit ≡ own_slot (around scene.now).program
@@ -73,8 +84,8 @@ fn emit_bounds(
         r.1.first r.1.last) }
 {
     let counts = begin_loop(work, scene, line, each, by)?;
-    let first = emit_expr(work, scene, line, &each.from)?;
-    let last = emit_expr(work, scene, line, &each.to)?;
+    let first = emit_expr(work, scene, line, &each.from, inside)?;
+    let last = emit_expr(work, scene, line, &each.to, inside)?;
     Ok((
         counts.step,
         Bounds {
@@ -87,22 +98,26 @@ fn emit_bounds(
 }
 
 // A turn: the count is checked, the variable is set, and the body follows with the lines behind those of the bounds.
-#[cycle(emit)]
-fn emit_turn(
+fn emit_turn<S>(
     work: &mut Work,
     scene: &Scene<'_>,
     line: u32,
     each: &Loop,
     counter: u32,
     after: usize,
+    inside: &S,
 ) -> Result<(), NoMemory>
+where
+    S: for<'a, 'b, 'c, 'd> Fn(&'a mut Work, &'b Scene<'c>, &'d [Stmt]) -> Result<(), NoMemory>,
+    requires callable { S.IsAlwaysCallable inside.now }
+    requires emits { EmitsStmts (λ w s b r n. S.post inside.now w s b r n) }
     ensures puts { OnOk result (PutsTurn (around scene.now) line after each.now.range counter
         (front work.old) (front work.new) (desig_of each.now.var)
         (stmts_list each.now.body.items)) }
 {
     let count = put_count(work, scene, line, &each.var, each.range, counter)?;
-    let stand = emit_target(work, scene, line, &each.var)?;
+    let stand = emit_target(work, scene, line, &each.var, inside)?;
     work.add(line, stand.set(count))?;
     work.go_to(after);
-    emit_stmts(work, scene, &each.body)
+    emit_inside(work, scene, &each.body, inside)
 }

@@ -5,6 +5,7 @@ ghost use Rattle.alma_choice.specs.Emitted.{aimed};
 ghost use Rattle.alma_templates.specs.Slots.{is_simple};
 ghost use Rattle.alma_emit_work.specs.Front.{around, front};
 ghost use Rattle.alma_emit_work.specs.Puts.{PutsGuard};
+ghost use Rattle.alma_emit_values.specs.Inside.{EmitsStmts};
 
 use crate::expression::emit_value;
 use crate::leaf::jump_of;
@@ -13,26 +14,31 @@ use alma_base::NoMemory;
 use alma_code::Instr;
 use alma_emit_forms::is_plain;
 use alma_emit_parts::{Scene, Work, begin_first, slot_of};
-use alma_ir::Test;
+use alma_ir::{Stmt, Test};
 
-// A condition; the address of the jump where it has no alternative, which is still to be aimed. One that cannot leave an
-// alternative behind is tested by a jump.
+/// A condition; the address of the jump where it has no alternative, which is still to be aimed. One that cannot leave an
+/// alternative behind is tested by a jump.
 #[cycle(emit)]
-pub(crate) fn emit_guard(
+pub fn emit_guard<S>(
     work: &mut Work,
     scene: &Scene<'_>,
     line: u32,
     test: &Test,
+    inside: &S,
 ) -> Result<u32, NoMemory>
+where
+    S: for<'a, 'b, 'c, 'd> Fn(&'a mut Work, &'b Scene<'c>, &'d [Stmt]) -> Result<(), NoMemory>,
+    requires callable { S.IsAlwaysCallable inside.now }
+    requires emits { EmitsStmts (λ w s b r n. S.post inside.now w s b r n) }
     ensures guard { IfOk result (λ jump. PutsGuard (around scene.now) line (front work.old)
         (front work.new) (λ to xs. aimed xs jump to) (test_of test.now)) }
 {
     if !is_plain(test) {
-        return emit_barrier(work, scene, line, test);
+        return emit_barrier(work, scene, line, test, inside);
     }
     match test {
         Test::Value(value) => {
-            let number = emit_value(work, scene, line, value);
+            let number = emit_value(work, scene, line, value, inside);
             jump_of(work, line, number)
         }
         _ => Err(NoMemory),
@@ -41,12 +47,22 @@ pub(crate) fn emit_guard(
 
 // A condition behind a mark, of which the first alternative is taken.
 #[cycle(emit)]
-fn emit_barrier(work: &mut Work, scene: &Scene<'_>, line: u32, test: &Test) -> Result<u32, NoMemory>
+fn emit_barrier<S>(
+    work: &mut Work,
+    scene: &Scene<'_>,
+    line: u32,
+    test: &Test,
+    inside: &S,
+) -> Result<u32, NoMemory>
+where
+    S: for<'a, 'b, 'c, 'd> Fn(&'a mut Work, &'b Scene<'c>, &'d [Stmt]) -> Result<(), NoMemory>,
+    requires callable { S.IsAlwaysCallable inside.now }
+    requires emits { EmitsStmts (λ w s b r n. S.post inside.now w s b r n) }
     ensures guard { is_simple (test_of test.now) ≡ false → IfOk result (λ jump. PutsGuard
         (around scene.now) line (front work.old) (front work.new) (λ to xs. aimed xs jump to)
         (test_of test.now)) }
 {
     let (mark, choice) = begin_first(work, line)?;
-    let done = emit_test(work, scene, line, test);
+    let done = emit_test(work, scene, line, test, inside);
     slot_of(work.then_add(done, line, Instr::Cut { mark }), choice)
 }

@@ -5,22 +5,28 @@ ghost use Rattle.alma_ir.specs.Lines.{desig_with, sels_with, sel_with};
 ghost use Rattle.alma_templates.specs.Templates.{place_at, part_at, part_slot};
 ghost use Rattle.alma_emit_work.specs.Front.{around, front};
 ghost use Rattle.alma_emit_work.specs.Puts.{PutsDesig, PutsTarget, PutsSels, PutsSel, stand_of};
+ghost use Rattle.alma_emit_values.specs.Inside.{EmitsStmts};
 
 use crate::expression::emit_value;
 use crate::leaf::element_of;
 use alma_base::NoMemory;
 use alma_emit_forms::{emit_field, stand_at};
 use alma_emit_parts::{Scene, Stand, Work, begin_place, own_stand};
-use alma_ir::{Desig, Sel};
+use alma_ir::{Desig, Sel, Stmt};
 
-// The place of a designator.
+/// The place of a designator.
 #[cycle(emit)]
-pub(crate) fn emit_desig(
+pub fn emit_desig<S>(
     work: &mut Work,
     scene: &Scene<'_>,
     line: u32,
     desig: &Desig,
+    inside: &S,
 ) -> Result<u32, NoMemory>
+where
+    S: for<'a, 'b, 'c, 'd> Fn(&'a mut Work, &'b Scene<'c>, &'d [Stmt]) -> Result<(), NoMemory>,
+    requires callable { S.IsAlwaysCallable inside.now }
+    requires emits { EmitsStmts (λ w s b r n. S.post inside.now w s b r n) }
     ensures place { IfOk result (λ place. place ≡ place_at (around scene.now).program
         (around scene.now).tables (around scene.now).routine (front work.old).next (desig_with
         (desig_of desig.now) (front work.old).lines)) }
@@ -28,17 +34,22 @@ pub(crate) fn emit_desig(
         (front work.old) (front work.new) (desig_of desig.now)) }
 {
     let to = begin_place(work, scene, line, desig.cells, desig.root)?;
-    emit_sels(work, scene, line, to, &desig.sels)
+    emit_sels(work, scene, line, to, &desig.sels, inside)
 }
 
-// Where a variable stands that is read or written.
+/// Where a variable stands that is read or written.
 #[cycle(emit)]
-pub(crate) fn emit_target(
+pub fn emit_target<S>(
     work: &mut Work,
     scene: &Scene<'_>,
     line: u32,
     desig: &Desig,
+    inside: &S,
 ) -> Result<Stand, NoMemory>
+where
+    S: for<'a, 'b, 'c, 'd> Fn(&'a mut Work, &'b Scene<'c>, &'d [Stmt]) -> Result<(), NoMemory>,
+    requires callable { S.IsAlwaysCallable inside.now }
+    requires emits { EmitsStmts (λ w s b r n. S.post inside.now w s b r n) }
     ensures stand { IfOk result (λ stand. stand ≡ stand_of (around scene.now)
         (front work.old).next (desig_with (desig_of desig.now) (front work.old).lines)) }
     ensures puts { OnOk result (PutsTarget (around scene.now) line
@@ -46,19 +57,24 @@ pub(crate) fn emit_target(
 {
     match own_stand(scene, desig)? {
         Some(slot) => Ok(Stand::Own(slot)),
-        None => stand_at(emit_desig(work, scene, line, desig)),
+        None => stand_at(emit_desig(work, scene, line, desig, inside)),
     }
 }
 
 // Selectors, from a place on; the place of the last part.
 #[cycle(emit)]
-fn emit_sels(
+fn emit_sels<S>(
     work: &mut Work,
     scene: &Scene<'_>,
     line: u32,
     from: u32,
     sels: &[Sel],
+    inside: &S,
 ) -> Result<u32, NoMemory>
+where
+    S: for<'a, 'b, 'c, 'd> Fn(&'a mut Work, &'b Scene<'c>, &'d [Stmt]) -> Result<(), NoMemory>,
+    requires callable { S.IsAlwaysCallable inside.now }
+    requires emits { EmitsStmts (λ w s b r n. S.post inside.now w s b r n) }
     ensures place { IfOk result (λ place. place ≡ part_at (around scene.now).program
         (around scene.now).tables (around scene.now).routine from (front work.old).next (sels_with
         (sels_list sels.now) (front work.old).lines)) }
@@ -67,20 +83,25 @@ fn emit_sels(
 {
     let mut place = from;
     for sel in sels {
-        place = emit_sel(work, scene, line, place, sel)?;
+        place = emit_sel(work, scene, line, place, sel, inside)?;
     }
     Ok(place)
 }
 
 // A selector; the place of its part.
 #[cycle(emit)]
-fn emit_sel(
+fn emit_sel<S>(
     work: &mut Work,
     scene: &Scene<'_>,
     line: u32,
     from: u32,
     sel: &Sel,
+    inside: &S,
 ) -> Result<u32, NoMemory>
+where
+    S: for<'a, 'b, 'c, 'd> Fn(&'a mut Work, &'b Scene<'c>, &'d [Stmt]) -> Result<(), NoMemory>,
+    requires callable { S.IsAlwaysCallable inside.now }
+    requires emits { EmitsStmts (λ w s b r n. S.post inside.now w s b r n) }
     ensures part { IfOk result (λ part. part ≡ part_slot (around scene.now).program
         (around scene.now).tables (around scene.now).routine (front work.old).next (sel_with
         (sel_of sel.now) (front work.old).lines)) }
@@ -90,7 +111,7 @@ fn emit_sel(
     match sel {
         Sel::Field(offset, cells) => emit_field(work, scene, line, from, *offset, *cells),
         Sel::Index(index, range, cells) => {
-            let number = emit_value(work, scene, line, index);
+            let number = emit_value(work, scene, line, index, inside);
             element_of(work, scene, line, from, number, *range, *cells)
         }
     }
