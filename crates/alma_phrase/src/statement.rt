@@ -10,7 +10,9 @@ ghost use Rattle.alma_cursor.specs.Parsing.{position_of, Reads, Fails};
 
 use alma_cursor::{Cursor, Fault, StmtForm, followed_by, numbered};
 use alma_phrase_control::{case_stmt, for_stmt, if_stmt, nested, repeat_stmt, while_stmt};
-use alma_phrase_parts::{boxed, commit_of, either_of, forall_of, loop_head, pushed, some_of, stmts_of};
+use alma_phrase_parts::{
+    boxed, commit_of, either_of, forall_of, loop_head, pushed, some_of, stmts_of,
+};
 use alma_phrase_simple::simple_stmt;
 use alma_phrase_values::{StmtsRead, expr};
 use alma_tree::{Kind, Stmt, Stmts};

@@ -12,7 +12,10 @@ ghost use Rattle.alma_phrase_values.specs.Inside.{ReadsAt, ReadsStmts};
 ghost use Rattle.alma_cursor.specs.Parsing.{position_of, Reads, Fails};
 
 use alma_cursor::{Cursor, Fault, followed_by, numbered};
-use alma_phrase_parts::{boxed, case_of, elsif_of, empty_arm, for_of, if_of, label_of, labelled_of, loop_head, present, pushed, repeat_of, while_of};
+use alma_phrase_parts::{
+    boxed, case_of, elsif_of, empty_arm, for_of, if_of, label_of, labelled_of, loop_head, present,
+    pushed, repeat_of, while_of,
+};
 use alma_phrase_values::{StmtsRead, expr};
 use alma_tree::{Arm, Elsif, Expr, Kind, Label, Stmt, Stmts};
 use std::alloc::Global;
@@ -313,7 +316,12 @@ where
 }
 
 /// The statements that stand in a statement.
-pub fn nested<'t, 's, S>(alloc: Global, at: Cursor<'t, 's>, depth: u32, inside: &S) -> StmtsRead<'t, 's>
+pub fn nested<'t, 's, S>(
+    alloc: Global,
+    at: Cursor<'t, 's>,
+    depth: u32,
+    inside: &S,
+) -> StmtsRead<'t, 's>
 where
     S: for<'a, 'b> Fn(Global, Cursor<'a, 'b>, u32) -> StmtsRead<'a, 'b>,
     requires callable { S.IsAlwaysCallable inside.now }
