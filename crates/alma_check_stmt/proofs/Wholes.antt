@@ -1,9 +1,8 @@
 -- A whole module, put together of its block and its end.
-use Rattle.std.proofs.Common.{◌≡◌, ℕ, ◌+◌, ◌-◌, List, [], ◌∷◌, get_or, replicate, Option, None, Some, refl, sym, ap, subst, ◌∙◌, arith, Global}
+use Rattle.std.proofs.Common.{◌≡◌, ℕ, ◌+◌, ◌-◌, List, [], ◌∷◌, get_or, replicate, Option, None, Some, refl, sym, ap, subst, ◌∙◌, arith}
 use Rattle.std.specs.Prelude.{slice_get, bytes_eq, not}
 use Rattle.std.proofs.lemmas.List.{get_or-replicate}
 use Rattle.alma_base.specs.declared.fault.CheckFault.TheVariants as fault
-use Rattle.alma_tree.specs.declared.module.Module.{Module}
 use Rattle.alma_scan.specs.Tokens.{Lexeme}
 use Rattle.alma_ir.specs.Tree as ir
 use Rattle.alma_rules.specs.Numbered as tree
@@ -12,7 +11,7 @@ use Rattle.alma_rules.specs.Scene.{Scene, nothing, text_of, text_at}
 use Rattle.alma_rules.specs.Decls.{Frame, with_block, new_frame, block_routines, decls_routines, read_decls}
 use Rattle.alma_rules.specs.Modules.{Bodied, judge_block, judge_bodies, judge_body, judge_module, first_scene, module_frame, broken, resolved, end_rules, with_shapes}
 use Rattle.alma_rules.specs.Rising.{IsRising}
-use Rattle.alma_check_gathered.specs.Inner.Gathered.{Stage, stage, through_read, with_least, quiet, unless_broken, joined_lists, IsReady}
+use Rattle.alma_check_gathered.specs.Inner.Gathered.{Stage, stage, through_read, with_least, unless_broken, joined_lists, IsReady}
 use Rattle.alma_check_stmt.specs.Whole.{IsJudged}
 use Rattle.alma_check_routine.proofs.Stays.{ground, ground_steady, headings_steady, block_same}
 use Rattle.alma_check_routine.proofs.Headings.{decls_ground}

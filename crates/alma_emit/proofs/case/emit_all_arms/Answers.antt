@@ -1,4 +1,4 @@
-use Rattle.std.proofs.Common.{◌-◌, sym, ap}
+use Rattle.std.proofs.Common.{sym, ap}
 use Rattle.std.proofs.Math.ListN.{drop_of_length-le}
 use Rattle.alma_ir.specs.View.{cases_list}
 use Rattle.alma_emit_work.specs.Front.{around}

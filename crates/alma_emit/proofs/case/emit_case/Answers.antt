@@ -1,4 +1,4 @@
-use Rattle.std.proofs.Common.{◌∙◌, ◌-◌}
+use Rattle.std.proofs.Common.{◌∙◌}
 use Rattle.alma_emit_work.specs.Front.{around}
 use Rattle.alma_emit_forms.proofs.Said.{on_ok, said}
 use Rattle.alma_emit_forms.proofs.Arms.{case_put}

@@ -1,4 +1,4 @@
-use Rattle.std.proofs.Common.{◌-◌, sym}
+use Rattle.std.proofs.Common.{sym}
 use Rattle.alma_emit_work.specs.Front.{around}
 use Rattle.alma_emit_parts.proofs.CaseForms.{no_dead_put}
 use Rattle.alma_emit_forms.proofs.Said.{from_both, said}

@@ -1,4 +1,4 @@
-use Rattle.std.proofs.Common.{◌-◌, ap, arith}
+use Rattle.std.proofs.Common.{ap, arith}
 use Rattle.alma_ir.specs.View.{stmts_list}
 use Rattle.alma_emit_work.specs.Front.{around}
 use Rattle.alma_emit_forms.proofs.Said.{on_ok, from_both, said, no_elements}

@@ -1,4 +1,4 @@
-use Rattle.std.proofs.Common.{◌-◌, refl}
+use Rattle.std.proofs.Common.{refl}
 use Rattle.alma_emit_work.specs.Front.{around}
 use Rattle.alma_emit_forms.proofs.GuardForms.{guarded_put}
 use Rattle.alma_emit_forms.proofs.Said.{from_both, said}

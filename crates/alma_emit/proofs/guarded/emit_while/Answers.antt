@@ -1,4 +1,3 @@
-use Rattle.std.proofs.Common.{◌-◌}
 use Rattle.alma_emit_work.specs.Front.{around}
 use Rattle.alma_emit_forms.proofs.IfForms.{while_put}
 use Rattle.alma_emit_forms.proofs.Said.{from_both, said}

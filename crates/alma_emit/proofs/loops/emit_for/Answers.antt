@@ -1,4 +1,4 @@
-use Rattle.std.proofs.Common.{◌≡◌, ◌-◌, ap}
+use Rattle.std.proofs.Common.{◌≡◌, ap}
 use Rattle.std.proofs.Common.{rules, to_z, of_z, w64}
 use Rattle.std.proofs.lemmas.Int.{to_z-of_z}
 use Rattle.alma_ir.specs.Tree as tree

@@ -1,4 +1,4 @@
-use Rattle.std.proofs.Common.{◌-◌, ap}
+use Rattle.std.proofs.Common.{ap}
 use Rattle.alma_ir.specs.View.{stmts_list, desig_of}
 use Rattle.alma_emit_work.specs.Front.{around, front}
 use Rattle.alma_emit_forms.proofs.Said.{on_ok, stmts_is, codes_is}

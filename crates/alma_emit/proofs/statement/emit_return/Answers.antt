@@ -1,4 +1,4 @@
-use Rattle.std.proofs.Common.{◌-◌, ap}
+use Rattle.std.proofs.Common.{ap}
 use Rattle.alma_ir.specs.Tree as tree
 use Rattle.alma_ir.specs.View.{return_option}
 use Rattle.alma_emit_work.specs.Front.{around}
