@@ -8,6 +8,7 @@ ghost use Rattle.alma_rules.specs.Nodes as nodes;
 ghost use Rattle.alma_check_rules.specs.Views.{scene_of, typing_in, located_in, located_of, meaning_view, stmts_in, stmts_of, somewhere};
 ghost use Rattle.alma_check_build.specs.Lists.{test_in, arms_in, branches_in, guarded_in};
 
+use crate::list::one;
 use alma_check_build::{as_test, as_value, desig};
 use alma_check_rules::{Env, Located, Meaning, Typed};
 use alma_ir::{Arm, Branch, Expr, ReadAs, Stmt, Test, WriteAs};
@@ -17,9 +18,7 @@ use std::alloc::{AllocError, Global};
 pub fn single(alloc: Global, stmt: Stmt) -> Result<Vec<Stmt>, AllocError>
     ensures { IfOk result (λ v. stmts_of v ≡ parts.one_stmt (stmt_of stmt)) }
 {
-    let mut stmts: Vec<Stmt> = Vec::with_capacity(alloc, 1)?;
-    stmts.push(stmt)?;
-    Ok(stmts)
+    one(alloc, stmt)
 }
 
 /// No statement.
