@@ -6,5 +6,5 @@ use Rattle.alma_check_expr.proofs.walk.+walk.Given as goal
 abbrev pub decreases-deeper : goal.decreases-deeper
 decreases-deeper l = 2 * l.left
 
-abbrev pub decreases-deeper-statements : goal.decreases-deeper-statements
-decreases-deeper-statements l = 2 * l.left + 1
+abbrev pub decreases-statements : goal.decreases-statements
+decreases-statements l = 2 * l.left + 1
