@@ -10,11 +10,10 @@ ghost use Rattle.alma_check_build.specs.Lists.{guarded_of, arms_of, arms_in};
 ghost use Rattle.alma_join_list.specs.Onward.{onward_arms};
 ghost use Rattle.alma_check_values.specs.Inside.{JudgesStmts};
 
-use crate::sequence::check_condition;
 use crate::walk::nested;
 use alma_check_form::nothing;
 use alma_check_rules::{Env, Place};
-use alma_check_values::StmtsJudged;
+use alma_check_values::{StmtsJudged, check_condition};
 use alma_ir::{Arm, Stmt as IrStmt};
 use alma_join_list::add_guarded;
 use alma_join_statement::{join_guarded, join_if, join_repeat, join_while};

@@ -5,7 +5,6 @@
 mod branch;
 mod case;
 mod choice;
-mod input;
 mod sequence;
 mod turns;
 mod walk;

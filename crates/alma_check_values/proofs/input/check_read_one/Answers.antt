@@ -2,7 +2,7 @@ use Rattle.alma_rules.specs.View as view
 use Rattle.alma_rules.specs.ExprRules as rules
 use Rattle.alma_rules.specs.Walk as walk
 use Rattle.alma_check_rules.specs.Views.{scene_of}
-use Rattle.alma_check_expr.proofs.input.check_read_one.Goals as goal
+use Rattle.alma_check_values.proofs.input.check_read_one.Goals as goal
 
 pub returns : goal.returns
 returns g c =

@@ -8,10 +8,11 @@ ghost use Rattle.alma_rules.specs.Walk as walk;
 ghost use Rattle.alma_check_rules.specs.Views.{scene_of, stmts_of};
 ghost use Rattle.alma_check_values.specs.Inside.{JudgesStmts};
 
+use crate::designator::check_desig;
+use crate::expression::{StmtsJudged, check_expr};
 use alma_check_form::nothing;
 use alma_check_look::item_text;
 use alma_check_rules::{Env, Place, Use};
-use alma_check_values::{StmtsJudged, check_desig, check_expr};
 use alma_ir::Stmt as IrStmt;
 use alma_join_list::add_stmts;
 use alma_join_statement::{

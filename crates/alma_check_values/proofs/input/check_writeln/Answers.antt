@@ -5,7 +5,7 @@ use Rattle.alma_rules.specs.Judged.{of_value}
 use Rattle.alma_check_rules.specs.Views.{scene_of, stmts_of}
 use Rattle.alma_walk.proofs.Judging.{answers_as}
 use Rattle.alma_walk.proofs.Stmts as stmts
-use Rattle.alma_check_expr.proofs.input.check_writeln.Goals as goal
+use Rattle.alma_check_values.proofs.input.check_writeln.Goals as goal
 
 pub returns-in-None : goal.returns-in-None
 returns-in-None g c =

@@ -4,7 +4,7 @@ use Rattle.alma_rules.specs.View as view
 use Rattle.alma_rules.specs.Walk as walk
 use Rattle.alma_check_rules.specs.Views.{scene_of, stmts_in}
 use Rattle.alma_join_list.specs.Onward.{onward_stmts}
-use Rattle.alma_check_expr.proofs.input.check_read.Given as goal
+use Rattle.alma_check_values.proofs.input.check_read.Given as goal
 
 abbrev pub invariant-loop-desig : goal.invariant-loop-desig
 invariant-loop-desig g l =

@@ -1,7 +1,7 @@
 use Rattle.alma_rules.specs.View as view
 use Rattle.alma_check_rules.specs.Views.{scene_of}
 use Rattle.alma_walk.proofs.Stmts as stmts
-use Rattle.alma_check_expr.proofs.input.check_return.Goals as goal
+use Rattle.alma_check_values.proofs.input.check_return.Goals as goal
 
 pub returns-in-None : goal.returns-in-None
 returns-in-None g c =

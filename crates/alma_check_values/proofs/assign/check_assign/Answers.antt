@@ -4,7 +4,7 @@ use Rattle.alma_rules.specs.Walk as walk
 use Rattle.alma_check_rules.specs.Views.{scene_of, stmts_of}
 use Rattle.alma_walk.proofs.Judging.{passed}
 use Rattle.alma_walk.proofs.Stmts as stmts
-use Rattle.alma_check_expr.proofs.sequence.check_assign.Goals as goal
+use Rattle.alma_check_values.proofs.assign.check_assign.Goals as goal
 
 pub returns-in_err-located : goal.returns-in_err-located
 returns-in_err-located g c =

@@ -6,7 +6,7 @@ use Rattle.alma_rules.specs.View as view
 use Rattle.alma_rules.specs.Nodes as nodes
 use Rattle.alma_rules.specs.Walk as walk
 use Rattle.alma_check_rules.specs.Views.{scene_of}
-use Rattle.alma_check_expr.proofs.input.check_item.Goals as goal
+use Rattle.alma_check_values.proofs.input.check_item.Goals as goal
 
 pub returns-in-None : goal.returns-in-None
 returns-in-None g c =

@@ -4,7 +4,7 @@ use Rattle.alma_rules.specs.View as view
 use Rattle.alma_rules.specs.Walk as walk
 use Rattle.alma_check_rules.specs.Views.{scene_of, stmts_in}
 use Rattle.alma_join_list.specs.Onward.{onward_stmts}
-use Rattle.alma_check_expr.proofs.input.check_items.Given as goal
+use Rattle.alma_check_values.proofs.input.check_items.Given as goal
 
 abbrev pub invariant-loop-item : goal.invariant-loop-item
 invariant-loop-item g l =

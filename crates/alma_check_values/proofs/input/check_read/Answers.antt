@@ -9,7 +9,7 @@ use Rattle.alma_walk.proofs.Judging.{passed}
 use Rattle.alma_walk.proofs.Onwards.{onward_end}
 use Rattle.alma_walk.proofs.Stmts as stmts
 use Rattle.alma_join_list.specs.Onward.{onward_stmts}
-use Rattle.alma_check_expr.proofs.input.check_read.Goals as goal
+use Rattle.alma_check_values.proofs.input.check_read.Goals as goal
 
 pub loop-desig-preserved : goal.loop-desig-preserved
 loop-desig-preserved g c =

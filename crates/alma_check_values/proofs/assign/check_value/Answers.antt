@@ -1,7 +1,7 @@
 use Rattle.alma_rules.specs.View as view
 use Rattle.alma_check_rules.specs.Views.{scene_of}
 use Rattle.alma_walk.proofs.Stmts as stmts
-use Rattle.alma_check_expr.proofs.sequence.check_value.Goals as goal
+use Rattle.alma_check_values.proofs.assign.check_value.Goals as goal
 
 pub returns : goal.returns
 returns g c =
