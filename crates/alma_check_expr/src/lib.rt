@@ -3,15 +3,10 @@
 #![tactic(auto)]
 
 mod branch;
-mod call;
 mod case;
 mod choice;
-mod designator;
-mod expression;
-mod input;
-mod parens;
 mod sequence;
 mod turns;
+mod walk;
 
-pub use expression::check_expr;
-pub use sequence::check_stmts;
+pub use walk::{check_expr, check_stmts};

@@ -1,22 +1,16 @@
 // FOR and SOME.
-ghost use Rattle.std.specs.Prelude.{◌≡◌, ◌+◌, ◌<◌, ◌^◌, ◌++◌, List, [], option_map, OnOk, IfOk};
-ghost use Rattle.alma_ir.specs.View.{test_of, else_option};
+ghost use Rattle.std.specs.Prelude.{◌+◌, ◌<◌, ◌^◌, IfOk};
 ghost use Rattle.alma_rules.specs.Numbered as tree;
 ghost use Rattle.alma_rules.specs.View as view;
-ghost use Rattle.alma_rules.specs.Scene.{inside_of, in_constant};
-ghost use Rattle.alma_rules.specs.Judged.{of_value, and_then, with_some};
 ghost use Rattle.alma_rules.specs.Answers.{Answers};
-ghost use Rattle.alma_rules.specs.Parts as parts;
-ghost use Rattle.alma_rules.specs.Nodes as nodes;
 ghost use Rattle.alma_rules.specs.Walk as walk;
-ghost use Rattle.alma_check_rules.specs.Views.{scene_of, typing_of, typing_in, located_of, denoted_of, headings_in, stmts_of, stmts_in, span_view, spans_view, spans_of, spans_in};
-ghost use Rattle.alma_check_build.specs.Lists.{guarded_of, arms_of, arms_in, cases_of, cases_in, branches_of, branches_in};
+ghost use Rattle.alma_check_rules.specs.Views.{scene_of, stmts_of};
 ghost use Rattle.alma_join_turns.specs.Bounded.{Headed};
-ghost use Rattle.alma_join_list.specs.Onward.{onward_stmts, onward_arms, onward_cases, onward_branches, onward_spans};
+ghost use Rattle.alma_check_values.specs.Inside.{JudgesStmts};
 
-use crate::expression::check_expr;
-use crate::sequence::check_stmts;
+use crate::walk::nested;
 use alma_check_rules::{Env, Place};
+use alma_check_values::{StmtsJudged, check_expr};
 use alma_ir::Stmt as IrStmt;
 use alma_join_turns::{Head, join_by, join_for, join_head, join_some, join_step, start_loop};
 use alma_rules::Stop;
@@ -24,8 +18,7 @@ use alma_tree::{Expr, Name, Stmts};
 use std::alloc::Global;
 
 /// The head of FOR and of SOME.
-#[cycle(check)]
-fn check_head(
+fn check_head<S>(
     alloc: Global,
     env: &Env,
     place: Place,
@@ -33,20 +26,24 @@ fn check_head(
     variable: &Name,
     from: &Expr,
     to: &Expr,
+    inside: &S,
 ) -> Result<Head, Stop>
+where
+    S: Fn(Global, &Env, Place, &mut u32, &Stmts) -> StmtsJudged,
+    requires callable { S.IsAlwaysCallable inside.now }
+    requires judges { JudgesStmts (λ a e p s b r t. S.post inside.now a e p s b r t) }
     ensures judged { Headed env.now place (view.view_name variable.now) (view.view_expr from.now)
         (view.view_expr to.now) slot.old slot.new result }
     ensures limit { IfOk result (λ h. h.counter + 1 < 2 ^ 32) }
 {
     let start = start_loop(env, place, slot, variable)?;
-    let low = check_expr(alloc, env, place, slot, from)?;
-    let high = check_expr(alloc, env, place, slot, to);
+    let low = check_expr(alloc, env, place, slot, from, inside)?;
+    let high = check_expr(alloc, env, place, slot, to, inside);
     join_head(start, low, high)
 }
 
 /// FOR.
-#[cycle(check)]
-pub fn check_for(
+pub fn check_for<S>(
     alloc: Global,
     env: &Env,
     place: Place,
@@ -57,27 +54,36 @@ pub fn check_for(
     to: &Expr,
     by: &Option<Expr>,
     body: &Stmts,
+    inside: &S,
 ) -> Result<Option<Vec<IrStmt>>, Stop>
+where
+    S: Fn(Global, &Env, Place, &mut u32, &Stmts) -> StmtsJudged,
+    requires callable { S.IsAlwaysCallable inside.now }
+    requires judges { JudgesStmts (λ a e p s b r t. S.post inside.now a e p s b r t) }
     ensures { Answers (walk.judge_stmt (scene_of env.now place) slot.old
         (tree.for_stmt node (view.view_name variable.now) (view.view_expr from.now)
         (view.view_expr to.now) (view.by_of by.now) (view.view_stmts body.now))) stmts_of
         slot.new result }
 {
-    let head = check_head(alloc, env, place, slot, variable, from, to)?;
-    let step = check_by(alloc, env, place, slot, by);
+    let head = check_head(alloc, env, place, slot, variable, from, to, inside)?;
+    let step = check_by(alloc, env, place, slot, by, inside);
     let turns = join_by(head.bounds, step)?;
-    let body = check_stmts(alloc, env, place, slot, body);
+    let body = nested(alloc, env, place, slot, body, inside);
     join_for(alloc, env, head.counter, node, head.found, turns, body)
 }
 
-#[cycle(check)]
-fn check_by(
+fn check_by<S>(
     alloc: Global,
     env: &Env,
     place: Place,
     slot: &mut u32,
     by: &Option<Expr>,
+    inside: &S,
 ) -> Result<Option<i64>, Stop>
+where
+    S: Fn(Global, &Env, Place, &mut u32, &Stmts) -> StmtsJudged,
+    requires callable { S.IsAlwaysCallable inside.now }
+    requires judges { JudgesStmts (λ a e p s b r t. S.post inside.now a e p s b r t) }
     ensures { Answers (walk.judge_by (scene_of env.now place) slot.old (view.by_of by.now))
         (λ v. v) slot.new result }
 {
@@ -88,15 +94,14 @@ fn check_by(
                 constant: true,
                 inside: place.inside,
             };
-            let typed = check_expr(alloc, env, within, slot, by);
+            let typed = check_expr(alloc, env, within, slot, by, inside);
             join_step(env, by.node, typed)
         }
     }
 }
 
 /// SOME.
-#[cycle(check)]
-pub fn check_some(
+pub fn check_some<S>(
     alloc: Global,
     env: &Env,
     place: Place,
@@ -106,13 +111,18 @@ pub fn check_some(
     from: &Expr,
     to: &Expr,
     body: &Stmts,
+    inside: &S,
 ) -> Result<Option<Vec<IrStmt>>, Stop>
+where
+    S: Fn(Global, &Env, Place, &mut u32, &Stmts) -> StmtsJudged,
+    requires callable { S.IsAlwaysCallable inside.now }
+    requires judges { JudgesStmts (λ a e p s b r t. S.post inside.now a e p s b r t) }
     ensures { Answers (walk.judge_stmt (scene_of env.now place) slot.old
         (tree.some_stmt node (view.view_name variable.now) (view.view_expr from.now)
         (view.view_expr to.now) (view.view_stmts body.now))) stmts_of slot.new result }
 {
-    let head = check_head(alloc, env, place, slot, variable, from, to)?;
-    let body = check_stmts(alloc, env, place, slot, body);
+    let head = check_head(alloc, env, place, slot, variable, from, to, inside)?;
+    let body = nested(alloc, env, place, slot, body, inside);
     join_some(
         alloc,
         env,

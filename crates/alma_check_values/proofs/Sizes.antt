@@ -4,8 +4,6 @@ use denote.Param.Weighed.{most}
 use Rattle.alma_tree.specs.declared.phrase.Arm.TheViews as views
 use Rattle.alma_tree.specs.declared.phrase.Stmts as ds
 use Rattle.alma_tree.specs.declared.phrase.Stmt as dt
-use Rattle.alma_tree.specs.declared.phrase.Elsif as df
-use Rattle.alma_tree.specs.declared.phrase.Label as dl
 use Rattle.alma_tree.specs.declared.phrase.Expr as de
 use Rattle.alma_tree.specs.declared.phrase.Compared as dc
 use Rattle.alma_tree.specs.declared.phrase.Simple as di
@@ -47,21 +45,6 @@ mul_operand l = omega (arith, views.size_roll-MulLink (dn.out-MulLink l), ap dn.
 
 pub stmts_first : (s : ds.Stmts) → dt.size-Stmt s.first.value < ds.size-Stmts s
 stmts_first s = omega (arith, views.size_roll-Stmts (ds.out-Stmts s), ap ds.size-Stmts (views.roll-out-Stmts s))
-
-pub stmts_more : (s : ds.Stmts) → most dt.size-Stmt s.more.items < ds.size-Stmts s
-stmts_more s = omega (arith, views.size_roll-Stmts (ds.out-Stmts s), ap ds.size-Stmts (views.roll-out-Stmts s))
-
-pub elsif_test : (s : df.Elsif) → de.size-Expr (df.out-Elsif s).test < df.size-Elsif s
-elsif_test s = omega (arith, views.size_roll-Elsif (df.out-Elsif s), ap df.size-Elsif (views.roll-out-Elsif s))
-
-pub elsif_then : (s : df.Elsif) → ds.size-Stmts (df.out-Elsif s).then < df.size-Elsif s
-elsif_then s = omega (arith, views.size_roll-Elsif (df.out-Elsif s), ap df.size-Elsif (views.roll-out-Elsif s))
-
-pub label_low : (e : dl.Label) → de.size-Expr (dl.out-Label e).low < dl.size-Label e
-label_low e = omega (arith, views.size_roll-Label (dl.out-Label e), ap dl.size-Label (views.roll-out-Label e))
-
-pub label_high : (e : dl.Label) (h : de.Expr) → (dl.out-Label e).high ≡ Some h → de.size-Expr h < dl.size-Label e
-label_high e h x = omega (arith, rw x at (views.size_roll-Label (dl.out-Label e)), ap dl.size-Label (rw x at (views.roll-out-Label e)))
 
 pub exprs_first : (e : dx.Exprs) → de.size-Expr (dx.out-Exprs e).first.value < dx.size-Exprs e
 exprs_first e = omega (arith, views.size_roll-Exprs (dx.out-Exprs e), ap dx.size-Exprs (views.roll-out-Exprs e))
